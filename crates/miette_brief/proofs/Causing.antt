@@ -16,18 +16,25 @@ use Rattle.miette_brief.specs.steps.AppendedParts.{AppendsCauses}
 pub record CausesSoFar (at : Place) (source : Option Source) (all left : Cause) (old now : List ℕ) : Type 0 where
   pub with_rest : Answers → Answers
   pub possible : (more : Answers) → AreCauseAnswers source more left → AreCauseAnswers source (with_rest more) all
-  pub joined : (more : Answers) → now ++ rows_text (cause_rows at source more left) ≡ old ++ rows_text (cause_rows at source (with_rest more) all)
+  pub joined : (more : Answers) → now ++ rows_text (cause_rows at source more left) ≡ old
+      ++ rows_text (cause_rows at source (with_rest more) all)
 
-pub none_so_far : (at : Place) (source : Option Source) (all : Cause) (old : List ℕ) → CausesSoFar at source all all old old
+pub none_so_far : (at : Place) (source : Option Source) (all : Cause) (old : List ℕ)
+    → CausesSoFar at source all all old old
 none_so_far at source all old = record { with_rest = λ more. more; possible = λ more p. p; joined = λ more. refl }
 
-pub one_more : (at : Place) (source : Option Source) (all left : Cause) (t : Tree) (own : Option Source) (labels : List Label) (place : Place) (text old now new : List ℕ)
-    → CausesSoFar at source all left old now → diagnostic t ≡ left → own ≡ effective (source_of t) source → labels ≡ given_labels (head t).labels → text ≡ (head t).message
-    → IsCausePlace at own (in_order labels) place → new ≡ now ++ rows_text (cause_row place text ∷ []) → CausesSoFar at source all (cause_of t) old new
+pub one_more : (at : Place) (source : Option Source) (all left : Cause) (t : Tree) (own : Option Source)
+    (labels : List Label) (place : Place) (text old now new : List ℕ)
+    → CausesSoFar at source all left old now → diagnostic t ≡ left → own ≡ effective (source_of t) source → labels
+    ≡ given_labels (head t).labels → text ≡ (head t).message
+    → IsCausePlace at own (in_order labels) place → new ≡ now ++ rows_text (cause_row place text ∷ [])
+    → CausesSoFar at source all (cause_of t) old new
 one_more at source all left (tree m s c r) own labels place text old now new so_far is es el et h e =
     let placed : IsCausePlace at (effective s source) (in_order (given_labels m.labels)) place =
-    subst (λ (ls : List Label). IsCausePlace at (effective s source) (in_order ls) place) el (subst (λ (o : Option Source). IsCausePlace at o (in_order labels) place) es h) in
-    let here : CausesSoFar at source all (diagnostic (tree m s c r)) old now = subst (λ (l : Cause). CausesSoFar at source all l old now) (sym is) so_far in
+    subst (λ (ls : List Label). IsCausePlace at (effective s source) (in_order ls) place) el
+    (subst (λ (o : Option Source). IsCausePlace at o (in_order labels) place) es h) in
+    let here : CausesSoFar at source all (diagnostic (tree m s c r)) old now =
+    subst (λ (l : Cause). CausesSoFar at source all l old now) (sym is) so_far in
     let row : List ℕ = rows_text (cause_row place m.message ∷ []) in
     let told : new ≡ now ++ row = e ∙ ap (λ x. now ++ rows_text (cause_row place x ∷ [])) et in
     record {
@@ -42,7 +49,14 @@ one_more at source all left (tree m s c r) own labels place text old now new so_
 
 -- the texts behind the last report
 pub all_told : (at : Place) (source : Option Source) (all left : Cause) (ts : List (List ℕ)) (old now new : List ℕ)
-    → CausesSoFar at source all left old now → left ≡ texts ts → new ≡ now ++ rows_text (cause_rows at source unlisted (texts ts)) → AppendsCauses true at source all old new
+    → CausesSoFar at source all left old now → left ≡ texts ts → new ≡ now
+    ++ rows_text (cause_rows at source unlisted (texts ts)) → AppendsCauses true at source all old new
 all_told at source all left ts old now new so_far is e =
-    let here : CausesSoFar at source all (texts ts) old now = subst (λ (l : Cause). CausesSoFar at source all l old now) is so_far in
-    record { answers = here.with_rest unlisted; possible = here.possible unlisted tt; appended = e ∙ here.joined unlisted }
+    let here : CausesSoFar at source all (texts ts) old now =
+    subst (λ (l : Cause). CausesSoFar at source all l old now) is so_far in
+    record {
+      answers = here.with_rest unlisted;
+      possible = here.possible unlisted tt;
+      appended = e
+          ∙ here.joined unlisted;
+    }

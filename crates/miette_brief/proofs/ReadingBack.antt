@@ -1,5 +1,6 @@
 -- The place of a row, read back.
-use Rattle.std.proofs.Common.{◌≡◌, ℕ, ◌+◌, ◌<◌, ◌^◌, ◌==◌, List, [], ◌∷◌, ◌++◌, true, not, Option, Some, None, IfSome, length, subst, refl, sym, ap, ◌∙◌, append_assoc, arith}
+use Rattle.std.proofs.Common.{◌≡◌, ℕ, ◌+◌, ◌<◌, ◌^◌, ◌==◌, List, [], ◌∷◌, ◌++◌, true, not, Option, Some, None, IfSome}
+use Rattle.std.proofs.Common.{length, subst, refl, sym, ap, ◌∙◌, append_assoc, arith}
 use Rattle.std.specs.Prelude.{decimal}
 use Rattle.std.specs.List.{list_all}
 use Rattle.std.specs.Str.Parse.{digits_value}
@@ -8,7 +9,8 @@ use Rattle.std.proofs.lemmas.Bool.Decides.{nat_tests}
 use Rattle.std.proofs.lemmas.Fmt.{decimal_is_IsNumeral, decimal_nonempty}
 use Rattle.miette_brief.specs.declared.rows.Position.{Position}
 use Rattle.miette_brief.specs.rules.Rows.{ReportRow, one_row, place_text, kind_text, row_text}
-use Rattle.miette_brief.specs.laws.ReadBack.{has_no_colon, before_colon, after_colon, number_before, position_in, ReadsBack}
+use Rattle.miette_brief.specs.laws.ReadBack.{has_no_colon, before_colon, after_colon, number_before, position_in}
+use Rattle.miette_brief.specs.laws.ReadBack.{ReadsBack}
 use Rattle.miette_brief.proofs.Counting.{decimal_all}
 
 before_past : (xs ys : List ℕ) → has_no_colon xs ≡ true → before_colon (xs ++ (58 ∷ ys)) ≡ xs
@@ -30,11 +32,13 @@ decimal_no_colon : (n : ℕ) → has_no_colon (decimal n) ≡ true
 decimal_no_colon n = decimal_all (λ b. not (b == 58)) digit_no_colon n
 
 number_past : (n : ℕ) (ys : List ℕ) → n < 2 ^ 64 → number_before (decimal n ++ (58 ∷ ys)) ≡ n
-number_past n ys h = ap (digits_value 10) (before_past (decimal n) ys (decimal_no_colon n)) ∙ (decimal_is_IsNumeral n h).1
+number_past n ys h = ap (digits_value 10) (before_past (decimal n) ys (decimal_no_colon n))
+    ∙ (decimal_is_IsNumeral n h).1
 
 -- ---- positions
 
-shape : (n l c rest : List ℕ) → (n ++ ((58 ∷ (l ++ (58 ∷ c))) ++ (58 ∷ 32 ∷ []))) ++ rest ≡ n ++ (58 ∷ (l ++ (58 ∷ (c ++ (58 ∷ (32 ∷ rest))))))
+shape : (n l c rest : List ℕ) → (n ++ ((58 ∷ (l ++ (58 ∷ c))) ++ (58 ∷ 32 ∷ []))) ++ rest ≡ n
+    ++ (58 ∷ (l ++ (58 ∷ (c ++ (58 ∷ (32 ∷ rest))))))
 shape n l c rest = simp append_assoc
 
 shape_alone : (n rest : List ℕ) → (n ++ (58 ∷ 32 ∷ [])) ++ rest ≡ n ++ (58 ∷ 32 ∷ rest)
@@ -45,11 +49,17 @@ digit_no_space d h = grind (arith, nat_tests)
 
 -- no position stands behind a space, and one behind anything else
 position_there : (ds rest : List ℕ) → 0 < length ds → list_all (λ b. not (b == 32)) ds ≡ true
-    → position_in (ds ++ rest) ≡ Some (record { line = number_before (ds ++ rest); column = number_before (after_colon (ds ++ rest)) })
+    → position_in (ds ++ rest) ≡ Some (record {
+      line = number_before (ds ++ rest);
+      column =
+          number_before (after_colon (ds ++ rest));
+    })
 position_there [] rest some h = absurd (omega arith)
-position_there (d ∷ ds) rest some h = rw (not-true (d == 32) (and_parts (not (d == 32)) (list_all (λ b. not (b == 32)) ds) h).0) refl
+position_there (d ∷ ds) rest some h = rw (not-true (d == 32)
+    (and_parts (not (d == 32)) (list_all (λ b. not (b == 32)) ds) h).0) refl
 
-same_position : (l c : ℕ) (at : Position) → l ≡ at.line → c ≡ at.column → Some (record { line = l; column = c }) ≡ Some at
+same_position : (l c : ℕ) (at : Position) → l ≡ at.line → c ≡ at.column → Some (record { line = l; column = c })
+    ≡ Some at
 same_position l c at p q = rw (p, q) refl
 
 position_past : (at : Position) (rest : List ℕ) → at.line < 2 ^ 64 → at.column < 2 ^ 64
@@ -57,9 +67,11 @@ position_past : (at : Position) (rest : List ℕ) → at.line < 2 ^ 64 → at.co
 position_past at rest line column =
     let last = decimal at.column ++ (58 ∷ rest) in
     let behind = decimal at.line ++ (58 ∷ last) in
-    position_there (decimal at.line) (58 ∷ last) (decimal_nonempty at.line line) (decimal_all (λ b. not (b == 32)) digit_no_space at.line)
+    position_there (decimal at.line) (58 ∷ last) (decimal_nonempty at.line line)
+    (decimal_all (λ b. not (b == 32)) digit_no_space at.line)
     ∙ same_position (number_before behind) (number_before (after_colon behind)) at (number_past at.line last line)
-    (ap number_before (after_past (decimal at.line) last (decimal_no_colon at.line)) ∙ number_past at.column rest column)
+    (ap number_before (after_past (decimal at.line) last (decimal_no_colon at.line))
+    ∙ number_past at.column rest column)
 
 -- ---- rows
 
@@ -70,17 +82,21 @@ back n behind row position free e p = record {
   position_is = ap (λ bs. position_in (after_colon bs)) e ∙ (ap position_in (after_past n behind free) ∙ p);
 }
 
-pub text_back : (name rest : List ℕ) (position : Option Position) → has_no_colon (one_row name) ≡ true → IfSome position (λ at. (at.line < 2 ^ 64) × (at.column < 2 ^ 64))
+pub text_back : (name rest : List ℕ) (position : Option Position) → has_no_colon (one_row name) ≡ true
+    → IfSome position (λ at. (at.line < 2 ^ 64) × (at.column < 2 ^ 64))
     → ReadsBack (one_row name) position (place_text (Some name) position ++ rest)
-text_back name rest None free fits = back (one_row name) (32 ∷ rest) (place_text (Some name) None ++ rest) None free (shape_alone (one_row name) rest) refl
+text_back name rest None free fits = back (one_row name) (32 ∷ rest) (place_text (Some name) None ++ rest) None free
+    (shape_alone (one_row name) rest) refl
 text_back name rest (Some at) free fits =
     let line = decimal at.line in
     let column = decimal at.column in
-    back (one_row name) (line ++ (58 ∷ (column ++ (58 ∷ (32 ∷ rest))))) (place_text (Some name) (Some at) ++ rest) (Some at) free
+    back (one_row name) (line ++ (58 ∷ (column ++ (58 ∷ (32 ∷ rest))))) (place_text (Some name) (Some at) ++ rest)
+    (Some at) free
     (shape (one_row name) line column rest) (position_past at (32 ∷ rest) fits.0 fits.1)
 
 pub place_back : (row : ReportRow) (name : List ℕ) → row.place.name ≡ Some name → has_no_colon (one_row name) ≡ true
-    → IfSome row.place.position (λ at. (at.line < 2 ^ 64) × (at.column < 2 ^ 64)) → ReadsBack (one_row name) row.place.position (row_text row)
+    → IfSome row.place.position (λ at. (at.line < 2 ^ 64) × (at.column < 2 ^ 64))
+    → ReadsBack (one_row name) row.place.position (row_text row)
 place_back row name en free fits =
     let rest = kind_text row.kind ++ one_row row.text in
     subst (λ n. ReadsBack (one_row name) row.place.position (place_text n row.place.position ++ rest)) (sym en)

@@ -1,11 +1,14 @@
 -- The rows and the answers of a tree, put together from those of its parts.
-use Rattle.std.proofs.Common.{◌≡◌, ℕ, ◌≤◌, List, [], ◌∷◌, ◌++◌, length, map, drop, Bool, true, false, ◌&&◌, ◌||◌, Option, Some, None, refl, sym, ap, ap₂, subst, ◌∙◌, append_assoc, append-nil}
+use Rattle.std.proofs.Common.{◌≡◌, ℕ, ◌≤◌, List, [], ◌∷◌, ◌++◌, length, map, drop, Bool, true, false, ◌&&◌, ◌||◌}
+use Rattle.std.proofs.Common.{Option, Some, None, refl, sym, ap, ap₂, subst, ◌∙◌, append_assoc, append-nil}
 use Rattle.std.proofs.lemmas.List.{drop_all}
 use Rattle.miette_protocol.specs.rules.Reading.{Source, is_accepted}
 use Rattle.miette_protocol.specs.views.Meaning.{Label}
-use Rattle.miette_tree.specs.rules.Tree.{Tree, tree, Cause, diagnostic, texts, Trees, no_trees, more_trees, trees, effective, head, source_of, cause_of, related_of}
+use Rattle.miette_tree.specs.rules.Tree.{Tree, tree, Cause, diagnostic, texts, Trees, no_trees, more_trees, trees}
+use Rattle.miette_tree.specs.rules.Tree.{effective, head, source_of, cause_of, related_of}
 use Rattle.miette_tree.specs.rules.DiagnosticParts.{given_labels}
-use Rattle.miette_tree.specs.rules.Reads.{AlwaysReads, CauseAlwaysReads, AllAlwaysRead, holds_of, holds_of_all, accepts, MayMeet}
+use Rattle.miette_tree.specs.rules.Reads.{AlwaysReads, CauseAlwaysReads, AllAlwaysRead, holds_of, holds_of_all, accepts}
+use Rattle.miette_tree.specs.rules.Reads.{MayMeet}
 use Rattle.miette_tree.specs.rules.Answers.{own_fault}
 use Rattle.miette_tree.proofs.Nesting.{Reads, effective_reads}
 use Rattle.miette_tree.proofs.Readings.{fault_free}
@@ -13,11 +16,16 @@ use Rattle.miette_labels.specs.rules.Groups.{in_order}
 use Rattle.miette_labels.proofs.Owning.{order_all, order_nil}
 use Rattle.miette_brief.specs.rules.Rows.{Place, ReportRow, rows_text}
 use Rattle.miette_brief.specs.rules.Places.{diagnostic_place, cause_place}
-use Rattle.miette_brief.specs.rules.Report.{BriefSettings, Answers, RelatedAnswers, unlisted, listed, no_more, and_more, cause_answers, related_answers, first_answers, later_answers, finding_row, note_rows, cause_row, cause_rows, caused_rows, cause_rows_if, help_rows, rows_at, own_rows, report_rows, related_rows, brief}
-use Rattle.miette_brief.specs.rules.PossibleAnswers.{HasAccepted, AreCauseAnswers, AreCausedAnswers, AreAnswers, AllAnswers, IsBrief}
+use Rattle.miette_brief.specs.rules.Report.{BriefSettings, Answers, RelatedAnswers, unlisted, listed, no_more, and_more}
+use Rattle.miette_brief.specs.rules.Report.{cause_answers, related_answers, first_answers, later_answers, finding_row}
+use Rattle.miette_brief.specs.rules.Report.{note_rows, cause_row, cause_rows, caused_rows, cause_rows_if, help_rows}
+use Rattle.miette_brief.specs.rules.Report.{rows_at, own_rows, report_rows, related_rows, brief}
+use Rattle.miette_brief.specs.rules.PossibleAnswers.{HasAccepted, AreCauseAnswers, AreCausedAnswers, AreAnswers}
+use Rattle.miette_brief.specs.rules.PossibleAnswers.{AllAnswers, IsBrief}
 use Rattle.miette_brief.specs.steps.Reads.{IsDiagnosticPlace}
 use Rattle.miette_brief.proofs.Putting.{rows_joined}
-use Rattle.miette_brief.specs.steps.AppendedParts.{AppendsCauses, AppendsBelow, AppendsOwn, AppendsReport, AppendsRelated}
+use Rattle.miette_brief.specs.steps.AppendedParts.{AppendsCauses, AppendsBelow, AppendsOwn, AppendsReport}
+use Rattle.miette_brief.specs.steps.AppendedParts.{AppendsRelated}
 
 -- ---- causes that aren't told
 
@@ -33,22 +41,35 @@ mutual
   none_met_in : (source : Option Source) (t : Tree) → AreCausedAnswers source unlisted t
   none_met_in source (tree m own c r) = (nothing_met (effective own source), none_met source c)
 
-pub untold : (at : Place) (source : Option Source) (c : Cause) (old new : List ℕ) → new ≡ old → AppendsCauses false at source c old new
-untold at source c old new e = record { answers = unlisted; possible = none_met source c; appended = e ∙ sym (append-nil old) }
+pub untold : (at : Place) (source : Option Source) (c : Cause) (old new : List ℕ) → new ≡ old
+    → AppendsCauses false at source c old new
+untold at source c old new e = record {
+  answers = unlisted;
+  possible = none_met source c;
+  appended = e
+      ∙ sym (append-nil old);
+}
 
 -- ---- one diagnostic
 
-four : (old a b p new x y z w : List ℕ) → a ≡ old ++ x → b ≡ a ++ y → p ≡ b ++ z → new ≡ p ++ w → new ≡ old ++ (x ++ (y ++ (z ++ w)))
-four old a b p new x y z w e f g h = h ∙ ap (λ l. l ++ w) (g ∙ ap (λ l. l ++ z) (f ∙ ap (λ l. l ++ y) e)) ∙ simp append_assoc
+four : (old a b p new x y z w : List ℕ) → a ≡ old ++ x → b ≡ a ++ y → p ≡ b ++ z → new ≡ p ++ w → new ≡ old
+    ++ (x ++ (y ++ (z ++ w)))
+four old a b p new x y z w e f g h = h ∙ ap (λ l. l ++ w) (g ∙ ap (λ l. l ++ z) (f ∙ ap (λ l. l ++ y) e))
+    ∙ simp append_assoc
 
-rows_of_four : (row : ReportRow) (notes causes help : List ReportRow) → rows_text (row ∷ (notes ++ (causes ++ help))) ≡ rows_text (row ∷ []) ++ (rows_text notes ++ (rows_text causes ++ rows_text help))
+rows_of_four : (row : ReportRow) (notes causes help : List ReportRow) → rows_text (row ∷ (notes ++ (causes ++ help)))
+    ≡ rows_text (row ∷ []) ++ (rows_text notes ++ (rows_text causes ++ rows_text help))
 rows_of_four row notes causes help =
-    rows_joined (row ∷ []) (notes ++ (causes ++ help)) ∙ ap (λ l. rows_text (row ∷ []) ++ l) (rows_joined notes (causes ++ help) ∙ ap (λ l. rows_text notes ++ l) (rows_joined causes help))
+    rows_joined (row ∷ []) (notes ++ (causes ++ help)) ∙ ap (λ l. rows_text (row ∷ []) ++ l)
+    (rows_joined notes (causes ++ help) ∙ ap (λ l. rows_text notes ++ l) (rows_joined causes help))
 
-pub own_told : (chain : Bool) (source : Option Source) (t : Tree) (labels order : List Label) (at : Place) (old a b new : List ℕ)
+pub own_told : (chain : Bool) (source : Option Source) (t : Tree) (labels order : List Label) (at : Place)
+    (old a b new : List ℕ)
     → labels ≡ given_labels (head t).labels → order ≡ in_order labels → IsDiagnosticPlace source order at
-    → a ≡ old ++ rows_text (finding_row at (head t) ∷ []) → b ≡ a ++ rows_text (note_rows source order) → HasAccepted source order
-    → AppendsBelow chain at source (cause_of t) (head t).help b new → AppendsOwn chain source (head t) (cause_of t) old new
+    → a ≡ old ++ rows_text (finding_row at (head t) ∷ []) → b ≡ a ++ rows_text (note_rows source order)
+    → HasAccepted source order
+    → AppendsBelow chain at source (cause_of t) (head t).help b new
+    → AppendsOwn chain source (head t) (cause_of t) old new
 own_told chain source t labels order at old a b new el eo placed e f accepted below =
     let m = head t in
     let c = cause_of t in
@@ -63,26 +84,34 @@ own_told chain source t labels order at old a b new el eo placed e f accepted be
       accepted = subst (λ (l : List Label). HasAccepted source l) same accepted;
       possible = here.possible;
       causes = causes.possible;
-      appended = four old a b below.caused new (rows_text (finding_row at m ∷ [])) (rows_text (note_rows source ls)) (rows_text (cause_rows_if chain at source causes.answers c)) (rows_text (help_rows at m.help)) e notes causes.appended below.appended
-          ∙ ap (λ l. old ++ l) (sym (rows_of_four (finding_row at m) (note_rows source ls) (cause_rows_if chain at source causes.answers c) (help_rows at m.help)))
+      appended = four old a b below.caused new (rows_text (finding_row at m ∷ [])) (rows_text (note_rows source ls))
+          (rows_text (cause_rows_if chain at source causes.answers c)) (rows_text (help_rows at m.help)) e notes
+          causes.appended below.appended
+          ∙ ap (λ l. old ++ l) (sym (rows_of_four (finding_row at m) (note_rows source ls)
+          (cause_rows_if chain at source causes.answers c) (help_rows at m.help)))
           ∙ ap (λ q. old ++ rows_text (rows_at chain q source answers m c)) here.is;
     }
 
 -- ---- a report
 
-pub report_told : (chain : Bool) (inherited : Option Source) (t : Tree) (source : Option Source) (related : Trees) (old mid new : List ℕ)
-    → source ≡ effective (source_of t) inherited → related ≡ related_of t → AppendsOwn chain source (head t) (cause_of t) old mid
+pub report_told : (chain : Bool) (inherited : Option Source) (t : Tree) (source : Option Source) (related : Trees)
+    (old mid new : List ℕ)
+    → source ≡ effective (source_of t) inherited → related ≡ related_of t
+    → AppendsOwn chain source (head t) (cause_of t) old mid
     → AppendsRelated chain source related mid new → AppendsReport chain inherited t old new
 report_told chain inherited (tree m s c rs) source related old mid new es er own others =
     let from = effective s inherited in
-    let here : AppendsOwn chain from m c old mid = subst (λ (o : Option Source). AppendsOwn chain o m c old mid) es own in
-    let there : AppendsRelated chain from rs mid new = subst (λ (ts : Trees). AppendsRelated chain from ts mid new) er (subst (λ (o : Option Source). AppendsRelated chain o related mid new) es others) in
+    let here : AppendsOwn chain from m c old mid = subst (λ (o : Option Source). AppendsOwn chain o m c old mid) es own
+    in
+    let there : AppendsRelated chain from rs mid new = subst (λ (ts : Trees). AppendsRelated chain from ts mid new) er
+    (subst (λ (o : Option Source). AppendsRelated chain o related mid new) es others) in
     let rows : List ReportRow = own_rows chain from here.answers m c in
     let more : List ReportRow = related_rows chain from there.answers rs in
     record {
       answers = listed (own_fault here.answers) (cause_answers here.answers) there.answers;
       possible = (here.accepted, here.possible, here.causes, there.possible);
-      appended = there.appended ∙ ap (λ l. l ++ rows_text more) here.appended ∙ append_assoc old (rows_text rows) (rows_text more) ∙ ap (λ l. old ++ l) (sym (rows_joined rows more));
+      appended = there.appended ∙ ap (λ l. l ++ rows_text more) here.appended
+          ∙ append_assoc old (rows_text rows) (rows_text more) ∙ ap (λ l. old ++ l) (sym (rows_joined rows more));
     }
 
 -- ---- related reports, one after the other
@@ -91,77 +120,107 @@ report_told chain inherited (tree m s c rs) source related old mid new es er own
 pub record RelatedSoFar (chain : Bool) (inherited : Option Source) (all left : Trees) (old now : List ℕ) : Type 0 where
   pub with_rest : RelatedAnswers → RelatedAnswers
   pub possible : (more : RelatedAnswers) → AllAnswers inherited more left → AllAnswers inherited (with_rest more) all
-  pub joined : (more : RelatedAnswers) → now ++ rows_text (related_rows chain inherited more left) ≡ old ++ rows_text (related_rows chain inherited (with_rest more) all)
+  pub joined : (more : RelatedAnswers) → now ++ rows_text (related_rows chain inherited more left) ≡ old
+      ++ rows_text (related_rows chain inherited (with_rest more) all)
 
-pub none_so_far : (chain : Bool) (inherited : Option Source) (all : Trees) (old : List ℕ) → RelatedSoFar chain inherited all all old old
+pub none_so_far : (chain : Bool) (inherited : Option Source) (all : Trees) (old : List ℕ)
+    → RelatedSoFar chain inherited all all old old
 none_so_far chain inherited all old = record { with_rest = λ more. more; possible = λ more p. p; joined = λ more. refl }
 
 pub one_more : (chain : Bool) (inherited : Option Source) (all : Trees) (t : Tree) (ts : Trees) (old now new : List ℕ)
-    → RelatedSoFar chain inherited all (more_trees t ts) old now → AppendsReport chain inherited t now new → RelatedSoFar chain inherited all ts old new
+    → RelatedSoFar chain inherited all (more_trees t ts) old now → AppendsReport chain inherited t now new
+    → RelatedSoFar chain inherited all ts old new
 one_more chain inherited all t ts old now new r a = record {
   with_rest = λ more. r.with_rest (and_more a.answers more);
   possible = λ more p. r.possible (and_more a.answers more) (a.possible, p);
   joined = λ more. ap (λ l. l ++ rows_text (related_rows chain inherited more ts)) a.appended
-      ∙ append_assoc now (rows_text (report_rows chain inherited a.answers t)) (rows_text (related_rows chain inherited more ts))
-      ∙ ap (λ l. now ++ l) (sym (rows_joined (report_rows chain inherited a.answers t) (related_rows chain inherited more ts)))
+      ∙ append_assoc now (rows_text (report_rows chain inherited a.answers t))
+      (rows_text (related_rows chain inherited more ts))
+      ∙ ap (λ l. now ++ l) (sym (rows_joined (report_rows chain inherited a.answers t)
+      (related_rows chain inherited more ts)))
       ∙ r.joined (and_more a.answers more);
 }
 
-pub all_told : (chain : Bool) (inherited : Option Source) (all : Trees) (old now : List ℕ) → RelatedSoFar chain inherited all no_trees old now → AppendsRelated chain inherited all old now
-all_told chain inherited all old now r = record { answers = r.with_rest no_more; possible = r.possible no_more tt; appended = sym (append-nil now) ∙ r.joined no_more }
+pub all_told : (chain : Bool) (inherited : Option Source) (all : Trees) (old now : List ℕ)
+    → RelatedSoFar chain inherited all no_trees old now → AppendsRelated chain inherited all old now
+all_told chain inherited all old now r = record {
+  answers = r.with_rest no_more;
+  possible =
+      r.possible no_more tt;
+  appended = sym (append-nil now) ∙ r.joined no_more;
+}
 
-pub at_the_end : {R : Type 0} (value : R → Tree) (chain : Bool) (inherited : Option Source) (rs : List R) (all : Trees) (i : ℕ) (old now : List ℕ) → length rs ≤ i
-    → RelatedSoFar chain inherited all (trees (map value (drop i rs))) old now → RelatedSoFar chain inherited all no_trees old now
-at_the_end value chain inherited rs all i old now h r = subst (λ l. RelatedSoFar chain inherited all (trees (map value l)) old now) (drop_all i rs h) r
+pub at_the_end : {R : Type 0} (value : R → Tree) (chain : Bool) (inherited : Option Source) (rs : List R) (all : Trees)
+    (i : ℕ) (old now : List ℕ) → length rs ≤ i
+    → RelatedSoFar chain inherited all (trees (map value (drop i rs))) old now
+    → RelatedSoFar chain inherited all no_trees old now
+at_the_end value chain inherited rs all i old now h r =
+    subst (λ l. RelatedSoFar chain inherited all (trees (map value l)) old now) (drop_all i rs h) r
 
 -- ---- where something is refused
 
-accepts_order : (source : Option Source) (labels : List Label) → accepts source (in_order labels) ≡ accepts source labels
+accepts_order : (source : Option Source) (labels : List Label) → accepts source (in_order labels)
+    ≡ accepts source labels
 accepts_order None labels = refl
-accepts_order (Some s) labels = ap₂ (λ all nil. all && (nil || s.always_reads)) (order_all (λ label. is_accepted s.bytes label.span) labels) (order_nil labels)
+accepts_order (Some s) labels = ap₂ (λ all nil. all && (nil || s.always_reads))
+    (order_all (λ label. is_accepted s.bytes label.span) labels) (order_nil labels)
 
 pub refused_here : (t : Tree) (inherited source : Option Source) → source ≡ effective (source_of t) inherited →
     accepts source (in_order (given_labels (head t).labels)) ≡ false → holds_of accepts inherited t ≡ false
 refused_here (tree m s c r) inherited source es e =
-    ap (λ b. b && holds_of_all accepts (effective s inherited) r) (sym (ap (λ o. accepts o (given_labels m.labels)) es) ∙ (sym (accepts_order source (given_labels m.labels)) ∙ e))
+    ap (λ b. b && holds_of_all accepts (effective s inherited) r)
+    (sym (ap (λ o. accepts o (given_labels m.labels)) es) ∙ (sym (accepts_order source (given_labels m.labels)) ∙ e))
 
 -- ---- where every source always reads
 
 mutual
-  same_causes : (at : Place) (inherited : Option Source) (a : Answers) (c : Cause) → AreCauseAnswers inherited a c → Reads inherited → CauseAlwaysReads c → cause_rows at inherited a c ≡ cause_rows at inherited unlisted c
+  same_causes : (at : Place) (inherited : Option Source) (a : Answers) (c : Cause) → AreCauseAnswers inherited a c
+      → Reads inherited → CauseAlwaysReads c → cause_rows at inherited a c ≡ cause_rows at inherited unlisted c
   same_causes at inherited a (diagnostic t) p i reads = same_caused at inherited a t p i reads
   same_causes at inherited a (texts ts) p i reads = refl
 
-  same_caused : (at : Place) (inherited : Option Source) (a : Answers) (t : Tree) → AreCausedAnswers inherited a t → Reads inherited → AlwaysReads t → caused_rows at inherited a t ≡ caused_rows at inherited unlisted t
+  same_caused : (at : Place) (inherited : Option Source) (a : Answers) (t : Tree) → AreCausedAnswers inherited a t
+      → Reads inherited → AlwaysReads t → caused_rows at inherited a t ≡ caused_rows at inherited unlisted t
   same_caused at inherited a (tree m own c r) p i reads =
       let from = effective own inherited in
       let from_reads : Reads from = effective_reads own inherited reads.0 i in
       ap₂ (λ b rows. cause_row (cause_place at from b (in_order (given_labels m.labels))) m.message ∷ rows)
       (fault_free from (own_fault a) p.0 from_reads) (same_causes at inherited (cause_answers a) c p.1 i reads.1)
 
-same_if : (chain : Bool) (at : Place) (inherited : Option Source) (a : Answers) (c : Cause) → AreCauseAnswers inherited a c → Reads inherited → CauseAlwaysReads c → cause_rows_if chain at inherited a c ≡ cause_rows_if chain at inherited unlisted c
+same_if : (chain : Bool) (at : Place) (inherited : Option Source) (a : Answers) (c : Cause)
+    → AreCauseAnswers inherited a c → Reads inherited → CauseAlwaysReads c → cause_rows_if chain at inherited a c
+    ≡ cause_rows_if chain at inherited unlisted c
 same_if true at inherited a c p i reads = same_causes at inherited a c p i reads
 same_if false at inherited a c p i reads = refl
 
 mutual
-  same_report : (chain : Bool) (inherited : Option Source) (a : Answers) (t : Tree) → AreAnswers inherited a t → Reads inherited → AlwaysReads t → report_rows chain inherited a t ≡ report_rows chain inherited unlisted t
+  same_report : (chain : Bool) (inherited : Option Source) (a : Answers) (t : Tree) → AreAnswers inherited a t
+      → Reads inherited → AlwaysReads t → report_rows chain inherited a t ≡ report_rows chain inherited unlisted t
   same_report chain inherited a (tree m own c r) p i reads =
       let from = effective own inherited in
       let from_reads : Reads from = effective_reads own inherited reads.0 i in
       let ls : List Label = in_order (given_labels m.labels) in
       let at : Place = diagnostic_place from false ls in
-      let placed : diagnostic_place from (own_fault a) ls ≡ at = ap (λ b. diagnostic_place from b ls) (fault_free from (own_fault a) p.1 from_reads) in
+      let placed : diagnostic_place from (own_fault a) ls ≡ at =
+      ap (λ b. diagnostic_place from b ls) (fault_free from (own_fault a) p.1 from_reads) in
       ap (λ q. rows_at chain q from a m c ++ related_rows chain from (related_answers a) r) placed
       ∙ ap₂ (λ causes others. (finding_row at m ∷ (note_rows from ls ++ (causes ++ help_rows at m.help))) ++ others)
-      (same_if chain at from (cause_answers a) c p.2 from_reads reads.1) (same_related chain from (related_answers a) r p.3 from_reads reads.2)
+      (same_if chain at from (cause_answers a) c p.2 from_reads reads.1)
+      (same_related chain from (related_answers a) r p.3 from_reads reads.2)
 
-  same_related : (chain : Bool) (inherited : Option Source) (more : RelatedAnswers) (ts : Trees) → AllAnswers inherited more ts → Reads inherited → AllAlwaysRead ts → related_rows chain inherited more ts ≡ related_rows chain inherited no_more ts
+  same_related : (chain : Bool) (inherited : Option Source) (more : RelatedAnswers) (ts : Trees)
+      → AllAnswers inherited more ts → Reads inherited → AllAlwaysRead ts → related_rows chain inherited more ts
+      ≡ related_rows chain inherited no_more ts
   same_related chain inherited more no_trees p i reads = refl
   same_related chain inherited more (more_trees t ts) p i reads =
-      ap₂ (λ x y. x ++ y) (same_report chain inherited (first_answers more) t p.0 i reads.0) (same_related chain inherited (later_answers more) ts p.1 i reads.1)
+      ap₂ (λ x y. x ++ y) (same_report chain inherited (first_answers more) t p.0 i reads.0)
+      (same_related chain inherited (later_answers more) ts p.1 i reads.1)
 
-pub is_brief : (chain : Bool) (t : Tree) (text : List ℕ) → AppendsReport chain None t [] text → IsBrief (record { chain = chain }) t text
+pub is_brief : (chain : Bool) (t : Tree) (text : List ℕ) → AppendsReport chain None t [] text
+    → IsBrief (record { chain = chain }) t text
 is_brief chain t text a = record { answers = a.answers; possible = a.possible; is = a.appended }
 
-pub only_brief : (s : BriefSettings) (t : Tree) (text old new : List ℕ) → IsBrief s t text → new ≡ old ++ text → AlwaysReads t → new ≡ old ++ brief s t unlisted
-only_brief s t text old new h e reads = e ∙ ap (λ x. old ++ x) (h.is ∙ ap rows_text (same_report s.chain None h.answers t h.possible tt reads))
+pub only_brief : (s : BriefSettings) (t : Tree) (text old new : List ℕ) → IsBrief s t text → new ≡ old ++ text
+    → AlwaysReads t → new ≡ old ++ brief s t unlisted
+only_brief s t text old new h e reads = e ∙ ap (λ x. old ++ x)
+    (h.is ∙ ap rows_text (same_report s.chain None h.answers t h.possible tt reads))

@@ -15,11 +15,11 @@ ghost use Rattle.miette_labels.specs.views.GivenLabels.{label_at};
 ghost use Rattle.miette_brief.specs.steps.Conversions.{place_of};
 
 use crate::rows::{Place, Position};
+use miette_basics::sums::sum;
 use miette_labels::order::{Turn, by_offset};
 use miette_protocol::error::RenderError;
 use miette_protocol::protocol::{LabeledSpan, SourceOffset, SourceSpan};
 use miette_protocol::source::{MietteSpanContents, SourceCode};
-use miette_basics::sums::sum;
 use miette_tree::report::SourceRef;
 use std::alloc::{AllocError, Global};
 

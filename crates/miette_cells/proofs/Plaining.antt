@@ -1,5 +1,6 @@
 -- Texts of printable ASCII characters.
-use Rattle.std.proofs.Common.{ℕ, ◌<◌, ◌≤◌, ◌≡◌, true, false, leb, ltb, eqb, List, ◌∷◌, length, refl, sym, ap, arith, zero, suc, [], take}
+use Rattle.std.proofs.Common.{ℕ, ◌<◌, ◌≤◌, ◌≡◌, true, false, leb, ltb, eqb, List, ◌∷◌, length, refl, sym, ap, arith}
+use Rattle.std.proofs.Common.{zero, suc, [], take}
 use Rattle.std.specs.Prelude.{slice_index}
 use Rattle.std.specs.List.{list_all}
 use Rattle.std.specs.Int.{is_in_range}
@@ -35,14 +36,21 @@ one_column b h =
     rw (parts.1, parts.0) refl
 
 pub ascii_decoded : (b : ℕ) (bs : List ℕ) → b < 128 → decoded (b ∷ bs) ≡ good b 1
-ascii_decoded b bs h = value-1 (length (b ∷ bs)) b (slice_index (b ∷ bs) 1) (slice_index (b ∷ bs) 2) (slice_index (b ∷ bs) 3) (omega arith, h)
+ascii_decoded b bs h = value-1 (length (b ∷ bs)) b (slice_index (b ∷ bs) 1) (slice_index (b ∷ bs) 2)
+    (slice_index (b ∷ bs) 3) (omega arith, h)
 
 -- each is a character of one byte
 pub printable_character : (b : ℕ) (bs : List ℕ) → is_printable b ≡ true → characters (b ∷ bs) ≡ made b 1 ∷ characters bs
 printable_character b bs h =
     let p = plain_byte b h in
     let is = ascii_decoded b bs (omega (arith, p.high)) in
-    characters_step (b ∷ bs) bs b 1 (record { some = omega arith; left_is = refl; code_is = sym (ap (λ d. or_replacement d.char) is); size_is = sym (ap (λ d. d.size) is) })
+    characters_step (b ∷ bs) bs b 1 (record {
+      some = omega arith;
+      left_is = refl;
+      code_is =
+          sym (ap (λ d. or_replacement d.char) is);
+      size_is = sym (ap (λ d. d.size) is);
+    })
 
 pub printable_in_range : (b : ℕ) → is_printable b ≡ true → is_in_range 0x20 0x7E b ≡ true
 printable_in_range b h = grind (arith, nat_tests)
@@ -50,4 +58,5 @@ printable_in_range b h = grind (arith, nat_tests)
 pub printable_taken : (n : ℕ) (bs : List ℕ) → list_all is_printable bs ≡ true → list_all is_printable (take n bs) ≡ true
 printable_taken zero bs h = refl
 printable_taken (suc n) [] h = refl
-printable_taken (suc n) (b ∷ bs) h = let parts = and_parts (is_printable b) (list_all is_printable bs) h in rw (parts.0) (printable_taken n bs parts.1)
+printable_taken (suc n) (b ∷ bs) h = let parts = and_parts (is_printable b) (list_all is_printable bs) h in
+    rw (parts.0) (printable_taken n bs parts.1)

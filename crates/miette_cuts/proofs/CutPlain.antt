@@ -1,11 +1,14 @@
 -- Lines of printable ASCII that are cut: their stretches by the ends alone, and what they print.
 use Rattle.miette_page.specs.views.Printouts.{Printout, ◌⊕◌}
-use Rattle.std.proofs.Common.{ℕ, zero, suc, ◌+◌, ◌-◌, ◌<◌, ◌≤◌, ◌≡◌, ◌/◌, min, Bool, true, false, cond, ltb, leb, eqb, List, [], ◌∷◌, ◌++◌, map, length, take, drop, get_or, replicate, refl, sym, ap, ap₂, ◌∙◌, append-nil, Some, None, option_map, arith}
+use Rattle.std.proofs.Common.{ℕ, zero, suc, ◌+◌, ◌-◌, ◌<◌, ◌≤◌, ◌≡◌, ◌/◌, min, Bool, true, false, cond, ltb, leb, eqb}
+use Rattle.std.proofs.Common.{List, [], ◌∷◌, ◌++◌, map, length, take, drop, get_or, replicate, refl, sym, ap, ap₂, ◌∙◌}
+use Rattle.std.proofs.Common.{append-nil, Some, None, option_map, arith}
 use Rattle.std.specs.List.{list_all, list_any}
 use Rattle.std.specs.Str.{IsAscii}
 use Rattle.std.proofs.lemmas.Bool.{and_parts, lt-ltb, le-ltb, le-leb, lt-leb}
 use Rattle.std.proofs.lemmas.Bool.Decides.{nat_tests}
-use Rattle.std.proofs.lemmas.List.{at_drop_more, at_drop_all, drop-drop, drop_all, length-drop, map-append, nil_from_length}
+use Rattle.std.proofs.lemmas.List.{at_drop_more, at_drop_all, drop-drop, drop_all, length-drop, map-append}
+use Rattle.std.proofs.lemmas.List.{nil_from_length}
 use Rattle.std.proofs.Math.Bool.{and-false}
 use Rattle.miette_style.specs.rules.Styles.{plain}
 use Rattle.miette_page.specs.rules.Rows.{Glyph, Run}
@@ -17,12 +20,14 @@ use Rattle.miette_cells.specs.views.Printable.{is_printable, plain_cells}
 use Rattle.miette_basics.proofs.Cases.{by_cases}
 use Rattle.miette_cells.proofs.Plaining.{plain_byte, printable_taken}
 use Rattle.miette_snippet_rules.specs.rules.PrintedCells.{line_runs, printed_glyphs, printed_cells, text_bytes}
-use Rattle.miette_snippet_rules.specs.rules.CutLines.{agree, cut_line, dots, ends, is_near, is_near_after, is_within, stretches}
+use Rattle.miette_snippet_rules.specs.rules.CutLines.{agree, cut_line, dots, ends, is_near, is_near_after, is_within}
+use Rattle.miette_snippet_rules.specs.rules.CutLines.{stretches}
 use Rattle.miette_snippet_rules.proofs.Telling.{then, told-append}
 use Rattle.miette_cuts.specs.declared.stretch.Stretch.{Stretch as MadeStretch}
 use Rattle.miette_cuts.specs.views.Cuts.{measure, is_kept, cut_cells}
 use Rattle.miette_cuts.specs.steps.Cut.{lone, onto_made, even, cell_at, plain_run, plain_told}
-use Rattle.miette_cuts.proofs.CutStretches.{cut_is, cut_none, first_stretch, near_found, near_later, near_nowhere, onto-same}
+use Rattle.miette_cuts.proofs.CutStretches.{cut_is, cut_none, first_stretch, near_found, near_later, near_nowhere}
+use Rattle.miette_cuts.proofs.CutStretches.{onto-same}
 use Rattle.miette_cuts.proofs.Plaining.{plain_columns, printable_cells}
 use Rattle.miette_snippet_rules.specs.rules.Highlighting.{highlight_of}
 use Rattle.miette_snippet_rules.specs.rules.Marks.{Mark}
@@ -34,28 +39,35 @@ use Rattle.miette_cuts.proofs.Untabbing.{printed_code}
 abbrev cell_of_byte : ℕ → ℕ → ℕ → Cell
 cell_of_byte b o c = record { code = b; start = o; after = o + 1; from = c; until = c + 1 }
 
-near_column : (limit : ℕ) (es : List ℕ) (b o c : ℕ) → is_near limit es (cell_of_byte b o c) ≡ is_near limit es (cell_at c)
+near_column : (limit : ℕ) (es : List ℕ) (b o c : ℕ) → is_near limit es (cell_of_byte b o c)
+    ≡ is_near limit es (cell_at c)
 near_column limit [] b o c = refl
 near_column limit (e ∷ es) b o c = refl
 
 one_byte : (b : ℕ) → is_printable b ≡ true → text_bytes b ≡ 1
-one_byte b h = let p = plain_byte b h in let low : ltb b 128 ≡ true = lt-ltb b 128 (omega (arith, p.high)) in rw low refl
+one_byte b h = let p = plain_byte b h in let low : ltb b 128 ≡ true = lt-ltb b 128 (omega (arith, p.high)) in
+    rw low refl
 
 agree_own : (v : Bool) → agree v v ≡ true
 agree_own true = refl
 agree_own false = refl
 
 -- the first of them
-even_cell : (limit : ℕ) (es : List ℕ) (v before : Bool) (b o c : ℕ) (bs : List ℕ) → is_printable b ≡ true → is_near limit es (cell_at c) ≡ v →
-    map measure (stretches (is_near limit es) before (plain_cells o c (b ∷ bs))) ≡ onto_made (even v 1) (map measure (stretches (is_near limit es) v (plain_cells (o + 1) (c + 1) bs)))
+even_cell : (limit : ℕ) (es : List ℕ) (v before : Bool) (b o c : ℕ) (bs : List ℕ) → is_printable b ≡ true
+    → is_near limit es (cell_at c) ≡ v →
+    map measure (stretches (is_near limit es) before (plain_cells o c (b ∷ bs)))
+    ≡ onto_made (even v 1) (map measure (stretches (is_near limit es) v (plain_cells (o + 1) (c + 1) bs)))
 even_cell limit es v before b o c bs h near =
     let cell : Cell = cell_of_byte b o c in
     let wide : eqb c (c + 1) ≡ false = apart c in
-    let here : is_near_after (is_near limit es) before cell ≡ v = ap (λ x. cond x before (is_near limit es cell)) wide ∙ near_column limit es b o c ∙ near in
+    let here : is_near_after (is_near limit es) before cell ≡ v = ap (λ x. cond x before (is_near limit es cell)) wide
+    ∙ near_column limit es b o c ∙ near in
     let one : (c + 1) - c ≡ 1 = omega arith in
     let first : even v 1 ≡ lone (is_near_after (is_near limit es) before cell) cell =
-    sym (ap (λ x. lone x cell) here ∙ ap (λ n. made v 1 n (text_bytes b)) one ∙ ap (λ n. made v 1 1 n) (one_byte b h)) in
-    sym (first_stretch (is_near limit es) before cell (cell ∷ plain_cells (o + 1) (c + 1) bs) (plain_cells (o + 1) (c + 1) bs) (even v 1) refl first)
+    sym (ap (λ x. lone x cell) here ∙ ap (λ n. made v 1 n (text_bytes b)) one ∙ ap (λ n. made v 1 1 n) (one_byte b h))
+    in
+    sym (first_stretch (is_near limit es) before cell (cell ∷ plain_cells (o + 1) (c + 1) bs)
+    (plain_cells (o + 1) (c + 1) bs) (even v 1) refl first)
   where
     apart : (n : ℕ) → eqb n (n + 1) ≡ false
     apart n = grind (arith, nat_tests)
@@ -64,9 +76,11 @@ even_cell limit es v before b o c bs h near =
     made near cells columns bytes = record { near = near; cells = cells; columns = columns; bytes = bytes }
 
 -- as many of them as are as near as the first
-pub even_cells : (limit : ℕ) (es : List ℕ) (v before : Bool) (n o c : ℕ) (bs : List ℕ) → list_all is_printable bs ≡ true → 0 < n → n ≤ length bs →
+pub even_cells : (limit : ℕ) (es : List ℕ) (v before : Bool) (n o c : ℕ) (bs : List ℕ) → list_all is_printable bs ≡ true
+    → 0 < n → n ≤ length bs →
     ((x : ℕ) → c ≤ x → x < c + n → is_near limit es (cell_at x) ≡ v) →
-    map measure (stretches (is_near limit es) before (plain_cells o c bs)) ≡ onto_made (even v n) (map measure (stretches (is_near limit es) v (plain_cells (o + n) (c + n) (drop n bs))))
+    map measure (stretches (is_near limit es) before (plain_cells o c bs))
+    ≡ onto_made (even v n) (map measure (stretches (is_near limit es) v (plain_cells (o + n) (c + n) (drop n bs))))
 even_cells limit es v before zero o c bs h some le near = absurd (omega (arith, some))
 even_cells limit es v before (suc n) o c [] h some le near = absurd (omega (arith, le))
 even_cells limit es v before (suc zero) o c (b ∷ bs) h some le near =
@@ -74,12 +88,14 @@ even_cells limit es v before (suc zero) o c (b ∷ bs) h some le near =
     even_cell limit es v before b o c bs parts.0 (near c (omega arith) (omega arith))
 even_cells limit es v before (suc (suc n)) o c (b ∷ bs) h some le near =
     let parts = and_parts (is_printable b) (list_all is_printable bs) h in
-    let rest : ℕ → ℕ → List MadeStretch = λ p q. map measure (stretches (is_near limit es) v (plain_cells p q (drop (suc n) bs))) in
+    let rest : ℕ → ℕ → List MadeStretch = λ p q. map measure
+    (stretches (is_near limit es) v (plain_cells p q (drop (suc n) bs))) in
     let at : o + 1 + suc n ≡ o + suc (suc n) = omega arith in
     let column : c + 1 + suc n ≡ c + suc (suc n) = omega arith in
     let many : 1 + suc n ≡ suc (suc n) = omega arith in
     even_cell limit es v before b o c bs parts.0 (near c (omega arith) (omega arith))
-    ∙ ap (onto_made (even v 1)) (even_cells limit es v v (suc n) (o + 1) (c + 1) bs parts.1 (omega arith) (omega (arith, le)) (λ x lo lt. near x (omega (arith, lo)) (omega (arith, lt))))
+    ∙ ap (onto_made (even v 1)) (even_cells limit es v v (suc n) (o + 1) (c + 1) bs parts.1 (omega arith)
+    (omega (arith, le)) (λ x lo lt. near x (omega (arith, lo)) (omega (arith, lt))))
     ∙ onto-same (even v 1) (even v (suc n)) (rest (o + 1 + suc n) (c + 1 + suc n)) (agree_own v)
     ∙ ap (λ k. onto_made (even v k) (rest (o + 1 + suc n) (c + 1 + suc n))) many
     ∙ ap₂ (λ p q. onto_made (even v (suc (suc n))) (rest p q)) at column
@@ -107,17 +123,20 @@ dropped zero bs h = h
 dropped (suc n) [] h = refl
 dropped (suc n) (b ∷ bs) h = dropped n bs (and_parts (is_printable b) (list_all is_printable bs) h).1
 
-plain_codes : (o c : ℕ) (bs : List ℕ) → list_all is_printable bs ≡ true → map (λ (p : Glyph). p.code) (printed_cells (plain_cells o c bs)) ≡ bs
+plain_codes : (o c : ℕ) (bs : List ℕ) → list_all is_printable bs ≡ true
+    → map (λ (p : Glyph). p.code) (printed_cells (plain_cells o c bs)) ≡ bs
 plain_codes o c [] h = refl
 plain_codes o c (b ∷ bs) h =
     let parts = and_parts (is_printable b) (list_all is_printable bs) h in
     let cell : Cell = cell_of_byte b o c in
     map-append (λ (p : Glyph). p.code) (printed_glyphs cell) (printed_cells (plain_cells (o + 1) (c + 1) bs))
-    ∙ ap (λ r. r ++ map (λ (p : Glyph). p.code) (printed_cells (plain_cells (o + 1) (c + 1) bs))) (printed_code cell (plain_byte b parts.0).tab)
+    ∙ ap (λ r. r ++ map (λ (p : Glyph). p.code) (printed_cells (plain_cells (o + 1) (c + 1) bs)))
+    (printed_code cell (plain_byte b parts.0).tab)
     ∙ ap (λ r. b ∷ r) (plain_codes (o + 1) (c + 1) bs parts.1)
 
 -- all that is shown of a text of printable ASCII
-pub plain_shown : (o c before : ℕ) (cut : List MadeStretch) (bs : List ℕ) → list_all is_printable bs ≡ true → plain_told cut bs ≡ row_tokens (cut_cells [] before cut (plain_cells o c bs))
+pub plain_shown : (o c before : ℕ) (cut : List MadeStretch) (bs : List ℕ) → list_all is_printable bs ≡ true
+    → plain_told cut bs ≡ row_tokens (cut_cells [] before cut (plain_cells o c bs))
 plain_shown o c before [] bs h = refl
 plain_shown o c before (s ∷ later) bs h =
     let rest : List Run = cut_cells [] (before + s.bytes) later (drop s.cells (plain_cells o c bs)) in
@@ -127,8 +146,10 @@ plain_shown o c before (s ∷ later) bs h =
     ∙ ap (λ cells. row_tokens (cut_cells [] (before + s.bytes) later cells)) (sym (drop_plain s.cells o c bs)) in
     let here : plain_run s bs ≡ row_tokens own =
     by_cases {C = plain_run s bs ≡ row_tokens own} (is_kept s)
-    (λ y. rw y (ap (styled_tokens plain) (sym (plain_codes o c (take s.cells bs) (printable_taken s.cells bs h)) ∙ ap (λ cells. map (λ (p : Glyph). p.code) (printed_cells cells)) (sym (take_plain s.cells o c bs)))
-    ∙ sym (append-nil (styled_tokens plain (map (λ (p : Glyph). p.code) (printed_cells (take s.cells (plain_cells o c bs)))))))
+    (λ y. rw y (ap (styled_tokens plain) (sym (plain_codes o c (take s.cells bs) (printable_taken s.cells bs h))
+    ∙ ap (λ cells. map (λ (p : Glyph). p.code) (printed_cells cells)) (sym (take_plain s.cells o c bs)))
+    ∙ sym (append-nil (styled_tokens plain (map (λ (p : Glyph). p.code)
+    (printed_cells (take s.cells (plain_cells o c bs)))))))
     )
     (λ n. rw n refl) in
     ap₂ (λ a b. a ++ b) here below ∙ sym (told-append own rest)
@@ -146,21 +167,33 @@ column_past limit e x lt = rw (lt-leb x (e + limit / 4) lt) refl
 
 -- no end that was looked at is near these columns
 abbrev pub NoneYet : ℕ → List ℕ → ℕ → ℕ → ℕ → Type 0
-NoneYet limit es i column until = (x : ℕ) → column ≤ x → x < until → list_any (is_within (limit / 4) (cell_at x)) (drop i es) ≡ list_any (is_within (limit / 4) (cell_at x)) es
+NoneYet limit es i column until = (x : ℕ) → column ≤ x → x < until
+    → list_any (is_within (limit / 4) (cell_at x)) (drop i es) ≡ list_any (is_within (limit / 4) (cell_at x)) es
 
-pub end_behind : (limit : ℕ) (es : List ℕ) (i d column until less : ℕ) → i < length es → less ≤ until → less ≤ get_or es i d - limit / 4 → NoneYet limit es i column until → NoneYet limit es (i + 1) column less
-end_behind limit es i d column until less lt a b none = λ x lo hi. near_later limit es (cell_at x) i d lt (column_before limit (get_or es i d) x (omega (arith, hi, b))) (none x lo (omega (arith, hi, a)))
+pub end_behind : (limit : ℕ) (es : List ℕ) (i d column until less : ℕ) → i < length es → less ≤ until → less
+    ≤ get_or es i d - limit / 4 → NoneYet limit es i column until → NoneYet limit es (i + 1) column less
+end_behind limit es i d column until less lt a b none =
+    λ x lo hi. near_later limit es (cell_at x) i d lt (column_before limit (get_or es i d) x (omega (arith, hi, b)))
+    (none x lo (omega (arith, hi, a)))
 
-pub end_before : (limit : ℕ) (es : List ℕ) (i d column until less : ℕ) → i < length es → less ≤ until → get_or es i d + limit / 4 < column → NoneYet limit es i column until → NoneYet limit es (i + 1) column less
-end_before limit es i d column until less lt a b none = λ x lo hi. near_later limit es (cell_at x) i d lt (column_past limit (get_or es i d) x (omega (arith, lo, b))) (none x lo (omega (arith, hi, a)))
+pub end_before : (limit : ℕ) (es : List ℕ) (i d column until less : ℕ) → i < length es → less ≤ until → get_or es i d
+    + limit / 4 < column → NoneYet limit es i column until → NoneYet limit es (i + 1) column less
+end_before limit es i d column until less lt a b none =
+    λ x lo hi. near_later limit es (cell_at x) i d lt (column_past limit (get_or es i d) x (omega (arith, lo, b)))
+    (none x lo (omega (arith, hi, a)))
 
-pub end_near : (limit : ℕ) (es : List ℕ) (i d column until less : ℕ) → (length es ≡ 0 → ⊥) → i < length es → less ≤ until → get_or es i d - limit / 4 ≤ column → less ≤ get_or es i d + limit / 4 + 1 → NoneYet limit es i column until →
+pub end_near : (limit : ℕ) (es : List ℕ) (i d column until less : ℕ) → (length es ≡ 0 → ⊥) → i < length es → less
+    ≤ until → get_or es i d - limit / 4 ≤ column → less ≤ get_or es i d + limit / 4 + 1
+    → NoneYet limit es i column until →
     (x : ℕ) → column ≤ x → x < less → is_near limit es (cell_at x) ≡ true
 end_near limit es i d column until less some lt a b h none x lo hi =
-    sym (near_found limit es (cell_at x) i d some lt (column_near limit (get_or es i d) x (omega (arith, lo, b)) (omega (arith, hi, h))) (none x lo (omega (arith, hi, a))))
+    sym (near_found limit es (cell_at x) i d some lt (column_near limit (get_or es i d) x (omega (arith, lo, b))
+    (omega (arith, hi, h))) (none x lo (omega (arith, hi, a))))
 
-pub ends_passed : (limit : ℕ) (es : List ℕ) (i column until : ℕ) → (length es ≡ 0 → ⊥) → length es ≤ i → NoneYet limit es i column until → (x : ℕ) → column ≤ x → x < until → is_near limit es (cell_at x) ≡ false
-ends_passed limit es i column until some le none x lo hi = sym (near_nowhere limit es (cell_at x) i some le (none x lo hi))
+pub ends_passed : (limit : ℕ) (es : List ℕ) (i column until : ℕ) → (length es ≡ 0 → ⊥) → length es ≤ i
+    → NoneYet limit es i column until → (x : ℕ) → column ≤ x → x < until → is_near limit es (cell_at x) ≡ false
+ends_passed limit es i column until some le none x lo hi =
+    sym (near_nowhere limit es (cell_at x) i some le (none x lo hi))
 
 -- ---- stretch by stretch
 
@@ -172,20 +205,27 @@ pub record IsEven (limit : ℕ) (es : List ℕ) (column most : ℕ) (s : MadeStr
   pub alike : (x : ℕ) → column ≤ x → x < column + s.cells → is_near limit es (cell_at x) ≡ s.near
 
 abbrev behind : ℕ → List ℕ → Bool → ℕ → ℕ → List ℕ → List MadeStretch
-behind limit es near start column bs = map measure (stretches (is_near limit es) near (plain_cells (start + column) column (drop column bs)))
+behind limit es near start column bs = map measure (stretches (is_near limit es) near
+    (plain_cells (start + column) column (drop column bs)))
 
-found_even : (limit : ℕ) (es : List ℕ) (before : Bool) (start column : ℕ) (bs : List ℕ) (s : MadeStretch) → list_all is_printable bs ≡ true → IsEven limit es column (length bs) s →
+found_even : (limit : ℕ) (es : List ℕ) (before : Bool) (start column : ℕ) (bs : List ℕ) (s : MadeStretch)
+    → list_all is_printable bs ≡ true → IsEven limit es column (length bs) s →
     behind limit es before start column bs ≡ onto_made s (behind limit es s.near start (column + s.cells) bs)
 found_even limit es before start column bs s h is =
     let many : length (drop column bs) ≡ length bs - column = length-drop column bs in
     let left : drop s.cells (drop column bs) ≡ drop (column + s.cells) bs = drop-drop s.cells column bs in
     let at : start + column + s.cells ≡ start + (column + s.cells) = omega arith in
-    even_cells limit es s.near before s.cells (start + column) column (drop column bs) (dropped column bs h) is.some (omega (arith, is.within, many)) is.alike
-    ∙ ap₂ (λ p xs. onto_made (even s.near s.cells) (map measure (stretches (is_near limit es) s.near (plain_cells p (column + s.cells) xs)))) at left
+    even_cells limit es s.near before s.cells (start + column) column (drop column bs) (dropped column bs h) is.some
+    (omega (arith, is.within, many)) is.alike
+    ∙ ap₂ (λ p xs. onto_made (even s.near s.cells) (map measure
+    (stretches (is_near limit es) s.near (plain_cells p (column + s.cells) xs)))) at left
     ∙ ap (λ (m : MadeStretch). onto_made m (behind limit es s.near start (column + s.cells) bs)) (sym is.even)
 
-pub even_first : (limit : ℕ) (es : List ℕ) (start : ℕ) (bs : List ℕ) (made : List MadeStretch) (s : MadeStretch) → list_all is_printable bs ≡ true → IsEven limit es 0 (length bs) s → made ≡ [] →
-    made ++ onto_made s (map measure (stretches (is_near limit es) s.near (plain_cells (start + s.cells) s.cells (drop s.cells bs)))) ≡ map measure (stretches (is_near limit es) false (plain_cells start 0 bs))
+pub even_first : (limit : ℕ) (es : List ℕ) (start : ℕ) (bs : List ℕ) (made : List MadeStretch) (s : MadeStretch)
+    → list_all is_printable bs ≡ true → IsEven limit es 0 (length bs) s → made ≡ [] →
+    made ++ onto_made s (map measure (stretches (is_near limit es) s.near
+    (plain_cells (start + s.cells) s.cells (drop s.cells bs))))
+    ≡ map measure (stretches (is_near limit es) false (plain_cells start 0 bs))
 even_first limit es start bs made s h is none =
     let zero_start : start + 0 ≡ start = omega arith in
     let own : 0 + s.cells ≡ s.cells = omega arith in
@@ -194,37 +234,49 @@ even_first limit es start bs made s h is none =
     ∙ sym (found_even limit es false start 0 bs s h is)
     ∙ ap (λ p. map measure (stretches (is_near limit es) false (plain_cells p 0 bs))) zero_start
 
-pub even_more : (limit : ℕ) (es : List ℕ) (start column : ℕ) (bs : List ℕ) (made new whole : List MadeStretch) (reached next later : MadeStretch) → list_all is_printable bs ≡ true → IsEven limit es column (length bs) next → later.near ≡ next.near →
+pub even_more : (limit : ℕ) (es : List ℕ) (start column : ℕ) (bs : List ℕ) (made new whole : List MadeStretch)
+    (reached next later : MadeStretch) → list_all is_printable bs ≡ true → IsEven limit es column (length bs) next
+    → later.near ≡ next.near →
     ((rest : List MadeStretch) → new ++ onto_made later rest ≡ made ++ onto_made reached (onto_made next rest)) →
-    made ++ onto_made reached (map measure (stretches (is_near limit es) reached.near (plain_cells (start + column) column (drop column bs)))) ≡ whole →
-    new ++ onto_made later (map measure (stretches (is_near limit es) later.near (plain_cells (start + (column + next.cells)) (column + next.cells) (drop (column + next.cells) bs)))) ≡ whole
+    made ++ onto_made reached (map measure (stretches (is_near limit es) reached.near
+    (plain_cells (start + column) column (drop column bs)))) ≡ whole →
+    new ++ onto_made later (map measure (stretches (is_near limit es) later.near
+    (plain_cells (start + (column + next.cells)) (column + next.cells) (drop (column + next.cells) bs)))) ≡ whole
 even_more limit es start column bs made new whole reached next later h is same put inv =
     ap (λ n. new ++ onto_made later (behind limit es n start (column + next.cells) bs)) same
     ∙ put (behind limit es next.near start (column + next.cells) bs)
     ∙ ap (λ r. made ++ onto_made reached r) (sym (found_even limit es reached.near start column bs next h is)) ∙ inv
 
-pub even_end : (limit : ℕ) (es : List ℕ) (start column : ℕ) (bs : List ℕ) (made new whole : List MadeStretch) (reached : MadeStretch) → length bs ≤ column → new ≡ made ++ reached ∷ [] →
-    made ++ onto_made reached (map measure (stretches (is_near limit es) reached.near (plain_cells (start + column) column (drop column bs)))) ≡ whole → new ≡ whole
+pub even_end : (limit : ℕ) (es : List ℕ) (start column : ℕ) (bs : List ℕ) (made new whole : List MadeStretch)
+    (reached : MadeStretch) → length bs ≤ column → new ≡ made ++ reached ∷ [] →
+    made ++ onto_made reached (map measure (stretches (is_near limit es) reached.near
+    (plain_cells (start + column) column (drop column bs)))) ≡ whole → new ≡ whole
 even_end limit es start column bs made new whole reached le n inv =
-    n ∙ ap (λ xs. made ++ onto_made reached (map measure (stretches (is_near limit es) reached.near (plain_cells (start + column) column xs)))) (sym (drop_all column bs le)) ∙ inv
+    n ∙ ap (λ xs. made ++ onto_made reached (map measure (stretches (is_near limit es) reached.near
+    (plain_cells (start + column) column xs)))) (sym (drop_all column bs le)) ∙ inv
 
-pub even_none : (limit : ℕ) (es : List ℕ) (start : ℕ) (bs : List ℕ) (made : List MadeStretch) → length bs ≡ 0 → made ≡ [] → made ≡ map measure (stretches (is_near limit es) false (plain_cells start 0 bs))
-even_none limit es start bs made z none = none ∙ ap (λ xs. map measure (stretches (is_near limit es) false (plain_cells start 0 xs))) (sym (nil_from_length bs z))
+pub even_none : (limit : ℕ) (es : List ℕ) (start : ℕ) (bs : List ℕ) (made : List MadeStretch) → length bs ≡ 0 → made
+    ≡ [] → made ≡ map measure (stretches (is_near limit es) false (plain_cells start 0 bs))
+even_none limit es start bs made z none = none ∙ ap (λ xs. map measure
+    (stretches (is_near limit es) false (plain_cells start 0 xs))) (sym (nil_from_length bs z))
 
 -- ---- printing
 
 pub printable_ascii : (bs : List ℕ) → list_all is_printable bs ≡ true → IsAscii bs
 printable_ascii [] h zero = omega arith
 printable_ascii [] h (suc i) = omega arith
-printable_ascii (b ∷ bs) h zero = let p = plain_byte b (and_parts (is_printable b) (list_all is_printable bs) h).0 in omega (arith, p.high)
+printable_ascii (b ∷ bs) h zero = let p = plain_byte b (and_parts (is_printable b) (list_all is_printable bs) h).0 in
+    omega (arith, p.high)
 printable_ascii (b ∷ bs) h (suc i) = printable_ascii bs (and_parts (is_printable b) (list_all is_printable bs) h).1 i
 
-pub stretch_plain : (s : MadeStretch) (own bytes : List ℕ) (p q r : Printout) → is_kept s ≡ true → own ≡ take s.cells bytes → q ≡ p ⊕ begins plain ∷ [] → r ≡ q ⊕ text_tokens own → r ≡ p ⊕ plain_run s bytes
+pub stretch_plain : (s : MadeStretch) (own bytes : List ℕ) (p q r : Printout) → is_kept s ≡ true → own
+    ≡ take s.cells bytes → q ≡ p ⊕ begins plain ∷ [] → r ≡ q ⊕ text_tokens own → r ≡ p ⊕ plain_run s bytes
 stretch_plain s own bytes p q r kept o hq hr =
     then p (begins plain ∷ []) (text_tokens own) hq hr ∙ ap (λ xs. p ⊕ styled_tokens plain xs) o
     ∙ ap (λ b. p ⊕ styled_tokens plain (cond b (take s.cells bytes) (replicate 3 46))) (sym kept)
 
-pub stretch_dotted : (s : MadeStretch) (bytes : List ℕ) (p q r : Printout) → is_kept s ≡ false → q ≡ p ⊕ begins plain ∷ [] → r ≡ q ⊕ text_tokens (replicate 3 46) → r ≡ p ⊕ plain_run s bytes
+pub stretch_dotted : (s : MadeStretch) (bytes : List ℕ) (p q r : Printout) → is_kept s ≡ false → q ≡ p ⊕ begins plain
+    ∷ [] → r ≡ q ⊕ text_tokens (replicate 3 46) → r ≡ p ⊕ plain_run s bytes
 stretch_dotted s bytes p q r left hq hr =
     then p (begins plain ∷ []) (text_tokens (replicate 3 46)) hq hr
     ∙ ap (λ b. p ⊕ styled_tokens plain (cond b (take s.cells bytes) (replicate 3 46))) (sym left)
@@ -232,14 +284,17 @@ stretch_dotted s bytes p q r left hq hr =
 pub take_least : (n : ℕ) (bs : List ℕ) → take (min n (length bs)) bs ≡ take n bs
 take_least zero bs = let none : min 0 (length bs) ≡ 0 = omega arith in ap (λ k. take k bs) none
 take_least (suc n) [] = let none : min (suc n) 0 ≡ 0 = omega arith in ap (λ (k : ℕ). take k []) none
-take_least (suc n) (b ∷ bs) = let less : min (suc n) (suc (length bs)) ≡ suc (min n (length bs)) = omega arith in ap (λ k. take k (b ∷ bs)) less ∙ ap (λ xs. b ∷ xs) (take_least n bs)
+take_least (suc n) (b ∷ bs) = let less : min (suc n) (suc (length bs)) ≡ suc (min n (length bs)) = omega arith in
+    ap (λ k. take k (b ∷ bs)) less ∙ ap (λ xs. b ∷ xs) (take_least n bs)
 
 pub drop_least : (n : ℕ) (bs : List ℕ) → drop (min n (length bs)) bs ≡ drop n bs
 drop_least zero bs = let none : min 0 (length bs) ≡ 0 = omega arith in ap (λ k. drop k bs) none
 drop_least (suc n) [] = let none : min (suc n) 0 ≡ 0 = omega arith in ap (λ (k : ℕ). drop k []) none
-drop_least (suc n) (b ∷ bs) = let less : min (suc n) (suc (length bs)) ≡ suc (min n (length bs)) = omega arith in ap (λ k. drop k (b ∷ bs)) less ∙ drop_least n bs
+drop_least (suc n) (b ∷ bs) = let less : min (suc n) (suc (length bs)) ≡ suc (min n (length bs)) = omega arith in
+    ap (λ k. drop k (b ∷ bs)) less ∙ drop_least n bs
 
-pub plain_more : (cut : List MadeStretch) (i : ℕ) (d : MadeStretch) (rest later : List ℕ) (p q whole : Printout) → i < length cut → later ≡ drop (get_or cut i d).cells rest → q ≡ p ⊕ plain_run (get_or cut i d) rest →
+pub plain_more : (cut : List MadeStretch) (i : ℕ) (d : MadeStretch) (rest later : List ℕ) (p q whole : Printout) → i
+    < length cut → later ≡ drop (get_or cut i d).cells rest → q ≡ p ⊕ plain_run (get_or cut i d) rest →
     p ⊕ plain_told (drop i cut) rest ≡ whole → q ⊕ plain_told (drop (i + 1) cut) later ≡ whole
 plain_more cut i d rest later p q whole lt l hq inv =
     let s : MadeStretch = get_or cut i d in
@@ -248,21 +303,30 @@ plain_more cut i d rest later p q whole lt l hq inv =
     ∙ put_append p (plain_run s rest) (plain_told (drop (i + 1) cut) (drop s.cells rest))
     ∙ ap (λ xs. p ⊕ plain_told xs rest) (sym (at_drop_more (λ (xs : List MadeStretch). xs) cut i d lt)) ∙ inv
 
-pub plain_end : (cut : List MadeStretch) (i : ℕ) (rest : List ℕ) (p whole : Printout) → length cut ≤ i → p ⊕ plain_told (drop i cut) rest ≡ whole → p ≡ whole
-plain_end cut i rest p whole le inv = sym (put_nil p) ∙ ap (λ xs. p ⊕ plain_told xs rest) (sym (at_drop_all (λ (xs : List MadeStretch). xs) cut i le)) ∙ inv
+pub plain_end : (cut : List MadeStretch) (i : ℕ) (rest : List ℕ) (p whole : Printout) → length cut ≤ i → p
+    ⊕ plain_told (drop i cut) rest ≡ whole → p ≡ whole
+plain_end cut i rest p whole le inv = sym (put_nil p) ∙ ap (λ xs. p ⊕ plain_told xs rest)
+    (sym (at_drop_all (λ (xs : List MadeStretch). xs) cut i le)) ∙ inv
 
 -- ---- in a line
 
-pub plain_cut_is : (limit start : ℕ) (ms : List Mark) (bs : List ℕ) (made : List MadeStretch) → limit < length bs → made ≡ map measure (stretches (is_near limit (ends ms)) false (plain_cells start 0 bs)) →
+pub plain_cut_is : (limit start : ℕ) (ms : List Mark) (bs : List ℕ) (made : List MadeStretch) → limit < length bs → made
+    ≡ map measure (stretches (is_near limit (ends ms)) false (plain_cells start 0 bs)) →
     Some made ≡ option_map (map measure) (cut_line (Some limit) ms (plain_cells start 0 bs))
-plain_cut_is limit start ms bs made lt h = cut_is limit (length bs) ms (plain_cells start 0 bs) made (omega (arith, plain_columns start 0 bs)) lt h
+plain_cut_is limit start ms bs made lt h = cut_is limit (length bs) ms (plain_cells start 0 bs) made
+    (omega (arith, plain_columns start 0 bs)) lt h
 
-pub plain_cut_none : (limit start : ℕ) (ms : List Mark) (bs : List ℕ) → length bs ≤ limit → None ≡ option_map (map measure) (cut_line (Some limit) ms (plain_cells start 0 bs))
-plain_cut_none limit start ms bs le = cut_none limit (length bs) ms (plain_cells start 0 bs) (omega (arith, plain_columns start 0 bs)) le
+pub plain_cut_none : (limit start : ℕ) (ms : List Mark) (bs : List ℕ) → length bs ≤ limit → None
+    ≡ option_map (map measure) (cut_line (Some limit) ms (plain_cells start 0 bs))
+plain_cut_none limit start ms bs le = cut_none limit (length bs) ms (plain_cells start 0 bs)
+    (omega (arith, plain_columns start 0 bs)) le
 
-pub plain_cut_put : (tab start : ℕ) (pieces : List (ℕ × Style)) (cut : List MadeStretch) (bs : List ℕ) (p q : Printout) → length pieces ≡ 0 → list_all is_printable bs ≡ true → q ≡ p ⊕ plain_told cut bs →
-    q ≡ p ⊕ row_tokens (cut_cells (map highlight_of pieces) 0 cut (cells_from width_of tab false start 0 (characters bs)))
+pub plain_cut_put : (tab start : ℕ) (pieces : List (ℕ × Style)) (cut : List MadeStretch) (bs : List ℕ) (p q : Printout)
+    → length pieces ≡ 0 → list_all is_printable bs ≡ true → q ≡ p ⊕ plain_told cut bs →
+    q ≡ p ⊕ row_tokens (cut_cells (map highlight_of pieces) 0 cut
+    (cells_from width_of tab false start 0 (characters bs)))
 plain_cut_put tab start pieces cut bs p q none h hq =
     hq ∙ ap (λ ts. p ⊕ ts) (plain_shown start 0 0 cut bs h)
     ∙ ap (λ cells. p ⊕ row_tokens (cut_cells [] 0 cut cells)) (sym (printable_cells tab start 0 bs h))
-    ∙ ap (λ ps. p ⊕ row_tokens (cut_cells (map highlight_of ps) 0 cut (cells_from width_of tab false start 0 (characters bs)))) (sym (nil_from_length pieces none))
+    ∙ ap (λ ps. p ⊕ row_tokens (cut_cells (map highlight_of ps) 0 cut
+    (cells_from width_of tab false start 0 (characters bs)))) (sym (nil_from_length pieces none))

@@ -1,6 +1,8 @@
 -- What the text of a line that is cut tells.
 use Rattle.miette_page.specs.views.Printouts.{Printout, ◌⊕◌}
-use Rattle.std.proofs.Common.{ℕ, zero, suc, ◌+◌, ◌-◌, ◌<◌, ◌≤◌, ◌≡◌, min, Bool, true, false, cond, ltb, List, [], ◌∷◌, ◌++◌, map, length, take, drop, get_or, replicate, refl, sym, ap, ◌∙◌, append_assoc, append-nil, Option, Some, None, option_map, arith}
+use Rattle.std.proofs.Common.{ℕ, zero, suc, ◌+◌, ◌-◌, ◌<◌, ◌≤◌, ◌≡◌, min, Bool, true, false, cond, ltb, List, [], ◌∷◌}
+use Rattle.std.proofs.Common.{◌++◌, map, length, take, drop, get_or, replicate, refl, sym, ap, ◌∙◌, append_assoc}
+use Rattle.std.proofs.Common.{append-nil, Option, Some, None, option_map, arith}
 use Rattle.std.proofs.lemmas.List.{at_drop_more, at_drop_all, drop_at, take_at}
 use Rattle.miette_style.specs.declared.style.Style.{Style}
 use Rattle.miette_style.specs.rules.Styles.{plain}
@@ -13,7 +15,9 @@ use Rattle.miette_basics.proofs.Cases.{by_cases}
 use Rattle.miette_snippet_rules.specs.rules.Highlighting.{highlight_of}
 use Rattle.miette_snippet_rules.specs.rules.Marks.{Mark}
 use Rattle.miette_snippet_rules.specs.rules.PrintedCells.{cells_width, cells_within, cells_beyond, line_runs}
-use Rattle.miette_snippet_rules.specs.rules.CutLines.{Stretch, agree, bytes_in, cut_line, cut_runs, dots, ends, is_near, is_near_after, onto_stretches, pieces_within, shown_runs, stretches}
+use Rattle.miette_snippet_rules.specs.rules.CutLines.{Stretch, agree, bytes_in, cut_line, cut_runs, dots, ends, is_near}
+use Rattle.miette_snippet_rules.specs.rules.CutLines.{is_near_after, onto_stretches, pieces_within, shown_runs}
+use Rattle.miette_snippet_rules.specs.rules.CutLines.{stretches}
 use Rattle.miette_snippet_rules.proofs.Telling.{then, told-append}
 use Rattle.miette_cuts.specs.declared.stretch.Stretch.{Stretch as MadeStretch}
 use Rattle.miette_cuts.specs.views.Cuts.{measure, is_kept, cut_cells, made_runs}
@@ -21,13 +25,17 @@ use Rattle.miette_cuts.specs.steps.CellTokens.{cells_tokens}
 
 -- ---- so many cells
 
-pub take_cell : (many : ℕ) (cell : Cell) (walk later : List Cell) → walk ≡ cell ∷ later → 0 < many → take many walk ≡ cell ∷ take (many - 1) later
+pub take_cell : (many : ℕ) (cell : Cell) (walk later : List Cell) → walk ≡ cell ∷ later → 0 < many → take many walk
+    ≡ cell ∷ take (many - 1) later
 take_cell zero cell walk later e h = absurd (omega (arith, h))
-take_cell (suc n) cell walk later e h = let less : suc n - 1 ≡ n = omega arith in ap (take (suc n)) e ∙ ap (λ k. cell ∷ take k later) (sym less)
+take_cell (suc n) cell walk later e h = let less : suc n - 1 ≡ n = omega arith in ap (take (suc n)) e
+    ∙ ap (λ k. cell ∷ take k later) (sym less)
 
-pub drop_cell : (many : ℕ) (cell : Cell) (walk later : List Cell) → walk ≡ cell ∷ later → 0 < many → drop (many - 1) later ≡ drop many walk
+pub drop_cell : (many : ℕ) (cell : Cell) (walk later : List Cell) → walk ≡ cell ∷ later → 0 < many
+    → drop (many - 1) later ≡ drop many walk
 drop_cell zero cell walk later e h = absurd (omega (arith, h))
-drop_cell (suc n) cell walk later e h = let less : suc n - 1 ≡ n = omega arith in ap (λ k. drop k later) less ∙ ap (drop (suc n)) (sym e)
+drop_cell (suc n) cell walk later e h = let less : suc n - 1 ≡ n = omega arith in ap (λ k. drop k later) less
+    ∙ ap (drop (suc n)) (sym e)
 
 pub take_none : (many : ℕ) (walk : List Cell) → walk ≡ [] → take many walk ≡ []
 take_none zero walk e = refl
@@ -44,7 +52,8 @@ pub drop_zero : (many : ℕ) (walk : List Cell) → many ≤ 0 → walk ≡ drop
 drop_zero many walk h = let z : 0 ≡ many = omega (arith, h) in ap (λ n. drop n walk) z
 
 -- no cell is left, or no byte
-pub within_stop : (left : ℕ) (cells : List Cell) (p whole : Printout) → cells ≡ [] → p ⊕ cells_tokens (cells_within left cells) ≡ whole → p ≡ whole
+pub within_stop : (left : ℕ) (cells : List Cell) (p whole : Printout) → cells ≡ [] → p
+    ⊕ cells_tokens (cells_within left cells) ≡ whole → p ≡ whole
 within_stop left cells p whole e h = sym (put_nil p) ∙ ap (λ xs. p ⊕ cells_tokens (cells_within left xs)) (sym e) ∙ h
 
 pub beyond_stop : (left : ℕ) (cells whole : List Cell) → cells ≡ [] → cells_beyond left cells ≡ whole → cells ≡ whole
@@ -55,9 +64,12 @@ told_stop cells p whole e h = sym (put_nil p) ∙ ap (λ xs. p ⊕ cells_tokens 
 
 -- ---- a stretch in a highlighter's pieces
 
-pub piece_cut : (pieces : List (ℕ × Style)) (i before bytes behind own : ℕ) (d : ℕ × Style) (cells later : List Cell) (p q r whole : Printout) (next less : ℕ) → i < length pieces →
-    behind ≡ (get_or pieces i d).0 - before → own ≡ min behind bytes → next ≡ before - (get_or pieces i d).0 → less ≡ bytes - behind →
-    q ≡ p ⊕ begins (get_or pieces i d).1 ∷ [] → r ≡ q ⊕ cells_tokens (cells_within own cells) → later ≡ cells_beyond own cells →
+pub piece_cut : (pieces : List (ℕ × Style)) (i before bytes behind own : ℕ) (d : ℕ × Style) (cells later : List Cell)
+    (p q r whole : Printout) (next less : ℕ) → i < length pieces →
+    behind ≡ (get_or pieces i d).0 - before → own ≡ min behind bytes → next ≡ before - (get_or pieces i d).0 → less
+    ≡ bytes - behind →
+    q ≡ p ⊕ begins (get_or pieces i d).1 ∷ [] → r ≡ q ⊕ cells_tokens (cells_within own cells) → later
+    ≡ cells_beyond own cells →
     p ⊕ row_tokens (line_runs (pieces_within before bytes (map highlight_of (drop i pieces))) cells) ≡ whole →
     r ⊕ row_tokens (line_runs (pieces_within next less (map highlight_of (drop (i + 1) pieces))) later) ≡ whole
 piece_cut pieces i before bytes behind own d cells later p q r whole next less lt b o n l hq hr hl inv =
@@ -68,45 +80,65 @@ piece_cut pieces i before bytes behind own d cells later p q r whole next less l
     let less_is : less ≡ bytes - (h.0 - before) = l ∙ ap (λ k. bytes - k) b in
     ap (λ k. r ⊕ row_tokens (line_runs (pieces_within k less hs) later)) n
     ∙ ap (λ k. r ⊕ row_tokens (line_runs (pieces_within (before - h.0) k hs) later)) less_is
-    ∙ ap (λ x. r ⊕ row_tokens (line_runs (pieces_within (before - h.0) (bytes - (h.0 - before)) hs) x)) (hl ∙ ap (λ k. cells_beyond k cells) own_is)
-    ∙ ap (λ x. x ⊕ row_tokens (line_runs (pieces_within (before - h.0) (bytes - (h.0 - before)) hs) (cells_beyond mine cells)))
-    (then p (begins h.1 ∷ []) (cells_tokens (cells_within own cells)) hq hr ∙ ap (λ k. p ⊕ (begins h.1 ∷ cells_tokens (cells_within k cells))) own_is)
-    ∙ put_append p (begins h.1 ∷ cells_tokens (cells_within mine cells)) (row_tokens (line_runs (pieces_within (before - h.0) (bytes - (h.0 - before)) hs) (cells_beyond mine cells)))
-    ∙ ap (λ xs. p ⊕ row_tokens (line_runs (pieces_within before bytes xs) cells)) (sym (at_drop_more (map highlight_of) pieces i d lt)) ∙ inv
+    ∙ ap (λ x. r ⊕ row_tokens (line_runs (pieces_within (before - h.0) (bytes - (h.0 - before)) hs) x))
+    (hl ∙ ap (λ k. cells_beyond k cells) own_is)
+    ∙ ap (λ x. x ⊕ row_tokens (line_runs (pieces_within (before - h.0) (bytes - (h.0 - before)) hs)
+    (cells_beyond mine cells)))
+    (then p (begins h.1 ∷ []) (cells_tokens (cells_within own cells)) hq hr
+    ∙ ap (λ k. p ⊕ (begins h.1 ∷ cells_tokens (cells_within k cells))) own_is)
+    ∙ put_append p (begins h.1 ∷ cells_tokens (cells_within mine cells))
+    (row_tokens (line_runs (pieces_within (before - h.0) (bytes - (h.0 - before)) hs) (cells_beyond mine cells)))
+    ∙ ap (λ xs. p ⊕ row_tokens (line_runs (pieces_within before bytes xs) cells))
+    (sym (at_drop_more (map highlight_of) pieces i d lt)) ∙ inv
 
-pub pieces_end : (pieces : List (ℕ × Style)) (i before bytes : ℕ) (cells : List Cell) (p q r whole : Printout) → length pieces ≤ i → q ≡ p ⊕ begins plain ∷ [] → r ≡ q ⊕ cells_tokens cells →
+pub pieces_end : (pieces : List (ℕ × Style)) (i before bytes : ℕ) (cells : List Cell) (p q r whole : Printout)
+    → length pieces ≤ i → q ≡ p ⊕ begins plain ∷ [] → r ≡ q ⊕ cells_tokens cells →
     p ⊕ row_tokens (line_runs (pieces_within before bytes (map highlight_of (drop i pieces))) cells) ≡ whole → r ≡ whole
 pieces_end pieces i before bytes cells p q r whole le hq hr inv =
-    then p (begins plain ∷ []) (cells_tokens cells) hq hr ∙ ap (λ x. p ⊕ x) (sym (append-nil (begins plain ∷ cells_tokens cells)))
-    ∙ ap (λ xs. p ⊕ row_tokens (line_runs (pieces_within before bytes xs) cells)) (sym (at_drop_all (map highlight_of) pieces i le)) ∙ inv
+    then p (begins plain ∷ []) (cells_tokens cells) hq hr
+    ∙ ap (λ x. p ⊕ x) (sym (append-nil (begins plain ∷ cells_tokens cells)))
+    ∙ ap (λ xs. p ⊕ row_tokens (line_runs (pieces_within before bytes xs) cells))
+    (sym (at_drop_all (map highlight_of) pieces i le)) ∙ inv
 
 -- ---- a stretch, or its dots
 
-pub stretch_shown : (b : Bool) (runs : List Run) (p q : Printout) → b ≡ true → q ≡ p ⊕ row_tokens runs → q ≡ p ⊕ row_tokens (cond b runs (dots ∷ []))
+pub stretch_shown : (b : Bool) (runs : List Run) (p q : Printout) → b ≡ true → q ≡ p ⊕ row_tokens runs → q ≡ p
+    ⊕ row_tokens (cond b runs (dots ∷ []))
 stretch_shown b runs p q e h = h ∙ ap (λ c. p ⊕ row_tokens (cond c runs (dots ∷ []))) (sym e)
 
-pub stretch_dots : (b : Bool) (runs : List Run) (p q r : Printout) → b ≡ false → q ≡ p ⊕ begins plain ∷ [] → r ≡ q ⊕ text_tokens (replicate 3 46) → r ≡ p ⊕ row_tokens (cond b runs (dots ∷ []))
+pub stretch_dots : (b : Bool) (runs : List Run) (p q r : Printout) → b ≡ false → q ≡ p ⊕ begins plain ∷ [] → r ≡ q
+    ⊕ text_tokens (replicate 3 46) → r ≡ p ⊕ row_tokens (cond b runs (dots ∷ []))
 stretch_dots b runs p q r e hq hr =
-    then p (begins plain ∷ []) (text_tokens (replicate 3 46)) hq hr ∙ ap (λ x. p ⊕ x) (sym (append-nil (begins plain ∷ text_tokens (replicate 3 46))))
+    then p (begins plain ∷ []) (text_tokens (replicate 3 46)) hq hr
+    ∙ ap (λ x. p ⊕ x) (sym (append-nil (begins plain ∷ text_tokens (replicate 3 46))))
     ∙ ap (λ c. p ⊕ row_tokens (cond c runs (dots ∷ []))) (sym e)
 
 -- ---- all stretches
 
-pub cut_more : (pieces : List Highlight) (cut : List MadeStretch) (i before next : ℕ) (d : MadeStretch) (walk later : List Cell) (p q whole : Printout) → i < length cut →
-    q ≡ p ⊕ row_tokens (cond (is_kept (get_or cut i d)) (line_runs (pieces_within before (get_or cut i d).bytes pieces) (take (get_or cut i d).cells walk)) (dots ∷ [])) →
+pub cut_more : (pieces : List Highlight) (cut : List MadeStretch) (i before next : ℕ) (d : MadeStretch)
+    (walk later : List Cell) (p q whole : Printout) → i < length cut →
+    q ≡ p ⊕ row_tokens (cond (is_kept (get_or cut i d)) (line_runs (pieces_within before (get_or cut i d).bytes pieces)
+    (take (get_or cut i d).cells walk)) (dots ∷ [])) →
     later ≡ drop (get_or cut i d).cells walk → next ≡ before + (get_or cut i d).bytes →
-    p ⊕ row_tokens (cut_cells pieces before (drop i cut) walk) ≡ whole → q ⊕ row_tokens (cut_cells pieces next (drop (i + 1) cut) later) ≡ whole
+    p ⊕ row_tokens (cut_cells pieces before (drop i cut) walk) ≡ whole → q
+    ⊕ row_tokens (cut_cells pieces next (drop (i + 1) cut) later) ≡ whole
 cut_more pieces cut i before next d walk later p q whole lt hq l n inv =
     let s : MadeStretch = get_or cut i d in
-    let own : List Run = cond (is_kept s) (line_runs (pieces_within before s.bytes pieces) (take s.cells walk)) (dots ∷ []) in
+    let own : List Run = cond (is_kept s) (line_runs (pieces_within before s.bytes pieces) (take s.cells walk))
+    (dots ∷ []) in
     let rest : List Run = cut_cells pieces (before + s.bytes) (drop (i + 1) cut) (drop s.cells walk) in
     ap (λ k. q ⊕ row_tokens (cut_cells pieces k (drop (i + 1) cut) later)) n
     ∙ ap (λ x. q ⊕ row_tokens (cut_cells pieces (before + s.bytes) (drop (i + 1) cut) x)) l
-    ∙ ap (λ x. x ⊕ row_tokens rest) hq ∙ put_append p (row_tokens own) (row_tokens rest) ∙ ap (λ x. p ⊕ x) (sym (told-append own rest))
-    ∙ ap (λ xs. p ⊕ row_tokens (cut_cells pieces before xs walk)) (sym (at_drop_more (λ (xs : List MadeStretch). xs) cut i d lt)) ∙ inv
+    ∙ ap (λ x. x ⊕ row_tokens rest) hq ∙ put_append p (row_tokens own) (row_tokens rest)
+    ∙ ap (λ x. p ⊕ x) (sym (told-append own rest))
+    ∙ ap (λ xs. p ⊕ row_tokens (cut_cells pieces before xs walk))
+    (sym (at_drop_more (λ (xs : List MadeStretch). xs) cut i d lt)) ∙ inv
 
-pub cut_end : (pieces : List Highlight) (cut : List MadeStretch) (i before : ℕ) (walk : List Cell) (p whole : Printout) → length cut ≤ i → p ⊕ row_tokens (cut_cells pieces before (drop i cut) walk) ≡ whole → p ≡ whole
-cut_end pieces cut i before walk p whole le inv = sym (put_nil p) ∙ ap (λ xs. p ⊕ row_tokens (cut_cells pieces before xs walk)) (sym (at_drop_all (λ (xs : List MadeStretch). xs) cut i le)) ∙ inv
+pub cut_end : (pieces : List Highlight) (cut : List MadeStretch) (i before : ℕ) (walk : List Cell) (p whole : Printout)
+    → length cut ≤ i → p ⊕ row_tokens (cut_cells pieces before (drop i cut) walk) ≡ whole → p ≡ whole
+cut_end pieces cut i before walk p whole le inv = sym (put_nil p)
+    ∙ ap (λ xs. p ⊕ row_tokens (cut_cells pieces before xs walk))
+    (sym (at_drop_all (λ (xs : List MadeStretch). xs) cut i le)) ∙ inv
 
 -- ---- the stretches of a line make it up
 
@@ -117,7 +149,8 @@ all_cells (s ∷ later) = s.cells ++ all_cells later
 onto_cells : (s : Stretch) (ss : List Stretch) → all_cells (onto_stretches s ss) ≡ s.cells ++ all_cells ss
 onto_cells s [] = refl
 onto_cells s (next ∷ later) =
-    by_cases {C = all_cells (onto_stretches s (next ∷ later)) ≡ s.cells ++ all_cells (next ∷ later)} (agree s.near next.near)
+    by_cases {C = all_cells (onto_stretches s (next ∷ later)) ≡ s.cells ++ all_cells (next ∷ later)}
+    (agree s.near next.near)
     (λ y. rw y (append_assoc s.cells next.cells (all_cells later)))
     (λ n. rw n refl)
 
@@ -125,24 +158,33 @@ cells_kept : (near : Cell → Bool) (before : Bool) (cells : List Cell) → all_
 cells_kept near before [] = refl
 cells_kept near before (c ∷ cs) =
     let here : Bool = is_near_after near before c in
-    onto_cells (record { near = here; cells = c ∷ [] }) (stretches near here cs) ∙ ap (λ xs. c ∷ xs) (cells_kept near here cs)
+    onto_cells (record { near = here; cells = c ∷ [] }) (stretches near here cs)
+    ∙ ap (λ xs. c ∷ xs) (cells_kept near here cs)
 
-runs_measured : (pieces : List Highlight) (before : ℕ) (ss : List Stretch) → cut_cells pieces before (map measure ss) (all_cells ss) ≡ cut_runs pieces before ss
+runs_measured : (pieces : List Highlight) (before : ℕ) (ss : List Stretch)
+    → cut_cells pieces before (map measure ss) (all_cells ss) ≡ cut_runs pieces before ss
 runs_measured pieces before [] = refl
 runs_measured pieces before (s ∷ later) =
     let own : List Highlight = pieces_within before (bytes_in s.cells) pieces in
-    ap (λ cells. cond (is_kept (measure s)) (line_runs own cells) (dots ∷ []) ++ cut_cells pieces (before + bytes_in s.cells) (map measure later) (drop (length s.cells) (s.cells ++ all_cells later)))
+    ap (λ cells. cond (is_kept (measure s)) (line_runs own cells) (dots ∷ [])
+    ++ cut_cells pieces (before + bytes_in s.cells) (map measure later)
+    (drop (length s.cells) (s.cells ++ all_cells later)))
     (take_at s.cells (all_cells later) (length s.cells) refl)
-    ∙ ap (λ cells. cond (is_kept (measure s)) (line_runs own s.cells) (dots ∷ []) ++ cut_cells pieces (before + bytes_in s.cells) (map measure later) cells)
+    ∙ ap (λ cells. cond (is_kept (measure s)) (line_runs own s.cells) (dots ∷ [])
+    ++ cut_cells pieces (before + bytes_in s.cells) (map measure later) cells)
     (drop_at s.cells (all_cells later) (length s.cells) refl)
-    ∙ ap (λ runs. cond (is_kept (measure s)) (line_runs own s.cells) (dots ∷ []) ++ runs) (runs_measured pieces (before + bytes_in s.cells) later)
+    ∙ ap (λ runs. cond (is_kept (measure s)) (line_runs own s.cells) (dots ∷ []) ++ runs)
+    (runs_measured pieces (before + bytes_in s.cells) later)
 
 -- what is shown of a line, by its counts
 pub shown_made : (limit : Option ℕ) (ms : List Mark) (cells : List Cell) (pieces : List Highlight) →
-    made_runs (option_map (map measure) (cut_line limit ms cells)) pieces cells ≡ shown_runs (cut_line limit ms cells) pieces cells
+    made_runs (option_map (map measure) (cut_line limit ms cells)) pieces cells
+    ≡ shown_runs (cut_line limit ms cells) pieces cells
 shown_made None ms cells pieces = refl
 shown_made (Some limit) ms cells pieces =
     let near : Cell → Bool = is_near limit (ends ms) in
-    by_cases {C = made_runs (option_map (map measure) (cut_line (Some limit) ms cells)) pieces cells ≡ shown_runs (cut_line (Some limit) ms cells) pieces cells} (ltb limit (cells_width 0 cells))
-    (λ y. rw y (ap (λ xs. cut_cells pieces 0 (map measure (stretches near false cells)) xs) (sym (cells_kept near false cells)) ∙ runs_measured pieces 0 (stretches near false cells)))
+    by_cases {C = made_runs (option_map (map measure) (cut_line (Some limit) ms cells)) pieces cells
+    ≡ shown_runs (cut_line (Some limit) ms cells) pieces cells} (ltb limit (cells_width 0 cells))
+    (λ y. rw y (ap (λ xs. cut_cells pieces 0 (map measure (stretches near false cells)) xs)
+    (sym (cells_kept near false cells)) ∙ runs_measured pieces 0 (stretches near false cells)))
     (λ n. rw n refl)

@@ -1,5 +1,6 @@
 -- Columns of offsets.
-use Rattle.std.proofs.Common.{ℕ, ◌+◌, ◌<◌, ◌≤◌, ◌≡◌, List, [], ◌∷◌, ◌++◌, map, length, drop, get_or, append_assoc, append-nil, sym, ap, ◌∙◌}
+use Rattle.std.proofs.Common.{ℕ, ◌+◌, ◌<◌, ◌≤◌, ◌≡◌, List, [], ◌∷◌, ◌++◌, map, length, drop, get_or, append_assoc}
+use Rattle.std.proofs.Common.{append-nil, sym, ap, ◌∙◌}
 use Rattle.std.proofs.lemmas.List.{at_drop_more, at_drop_all, map-append}
 use Rattle.miette_protocol.specs.views.Meaning.{Label}
 use Rattle.miette_labels.specs.declared.sweep.PlacedLabel.{PlacedLabel}
@@ -14,22 +15,56 @@ abbrev pub no_mark : MadeMark
 no_mark = record { from = 0; until = 0; anchor = 0; label = nothing }
 
 -- one more mark
-pub mark_more : (ls : List Label) (made new : List MadeMark) (mark : MadeMark) (text : Text) (reached : ℕ) (placed : List PlacedLabel) (i : ℕ) → i < length placed → new ≡ made ++ mark ∷ [] →
-    mark.from ≡ mark_from text reached (label_of (get_or placed i nothing)) → mark.until ≡ mark_until text reached (label_of (get_or placed i nothing)) → mark.anchor ≡ mark_anchor text reached (label_of (get_or placed i nothing)) → mark.label ≡ get_or placed i nothing →
-    (whole : List Mark) → map (mark_of ls) made ++ marks_from text reached (map (drawn_of ls) (drop i placed)) ≡ whole → map (mark_of ls) new ++ marks_from text mark.until (map (drawn_of ls) (drop (i + 1) placed)) ≡ whole
+pub mark_more : (ls : List Label) (made new : List MadeMark) (mark : MadeMark) (text : Text) (reached : ℕ)
+    (placed : List PlacedLabel) (i : ℕ) → i < length placed → new ≡ made ++ mark ∷ [] →
+    mark.from ≡ mark_from text reached (label_of (get_or placed i nothing)) → mark.until
+    ≡ mark_until text reached (label_of (get_or placed i nothing)) → mark.anchor
+    ≡ mark_anchor text reached (label_of (get_or placed i nothing)) → mark.label ≡ get_or placed i nothing →
+    (whole : List Mark) → map (mark_of ls) made ++ marks_from text reached (map (drawn_of ls) (drop i placed)) ≡ whole
+    → map (mark_of ls) new ++ marks_from text mark.until (map (drawn_of ls) (drop (i + 1) placed)) ≡ whole
 mark_more ls made new mark text reached placed i lt n f u a l whole h =
     let p : PlacedLabel = get_or placed i nothing in
     let rest : List DrawnLabel = map (drawn_of ls) (drop (i + 1) placed) in
     ap (λ xs. map (mark_of ls) xs ++ marks_from text mark.until rest) n
     ∙ ap (λ xs. xs ++ marks_from text mark.until rest) (map-append (mark_of ls) made (mark ∷ []))
     ∙ append_assoc (map (mark_of ls) made) (mark_of ls mark ∷ []) (marks_from text mark.until rest)
-    ∙ ap (λ x. map (mark_of ls) made ++ record { from = x; until = mark.until; anchor = mark.anchor; label = drawn_of ls mark.label } ∷ marks_from text mark.until rest) f
-    ∙ ap (λ x. map (mark_of ls) made ++ record { from = mark_from text reached (label_of p); until = x; anchor = mark.anchor; label = drawn_of ls mark.label } ∷ marks_from text x rest) u
-    ∙ ap (λ x. map (mark_of ls) made ++ record { from = mark_from text reached (label_of p); until = mark_until text reached (label_of p); anchor = x; label = drawn_of ls mark.label } ∷ marks_from text (mark_until text reached (label_of p)) rest) a
-    ∙ ap (λ x. map (mark_of ls) made ++ record { from = mark_from text reached (label_of p); until = mark_until text reached (label_of p); anchor = mark_anchor text reached (label_of p); label = drawn_of ls x } ∷ marks_from text (mark_until text reached (label_of p)) rest) l
-    ∙ ap (λ xs. map (mark_of ls) made ++ marks_from text reached xs) (sym (at_drop_more (map (drawn_of ls)) placed i nothing lt)) ∙ h
+    ∙ ap (λ x. map (mark_of ls) made ++ record {
+      from = x;
+      until = mark.until;
+      anchor = mark.anchor;
+      label =
+          drawn_of ls mark.label;
+    } ∷ marks_from text mark.until rest) f
+    ∙ ap (λ x. map (mark_of ls) made ++ record {
+      from = mark_from text reached (label_of p);
+      until = x;
+      anchor =
+          mark.anchor;
+      label = drawn_of ls mark.label;
+    } ∷ marks_from text x rest) u
+    ∙ ap (λ x. map (mark_of ls) made ++ record {
+      from = mark_from text reached (label_of p);
+      until =
+          mark_until text reached (label_of p);
+      anchor = x;
+      label = drawn_of ls mark.label;
+    }
+    ∷ marks_from text (mark_until text reached (label_of p)) rest) a
+    ∙ ap (λ x. map (mark_of ls) made ++ record {
+      from = mark_from text reached (label_of p);
+      until =
+          mark_until text reached (label_of p);
+      anchor = mark_anchor text reached (label_of p);
+      label = drawn_of ls x;
+    }
+    ∷ marks_from text (mark_until text reached (label_of p)) rest) l
+    ∙ ap (λ xs. map (mark_of ls) made ++ marks_from text reached xs)
+    (sym (at_drop_more (map (drawn_of ls)) placed i nothing lt)) ∙ h
 
-pub mark_end : (ls : List Label) (made : List MadeMark) (text : Text) (reached : ℕ) (placed : List PlacedLabel) (i : ℕ) → length placed ≤ i →
-    (whole : List Mark) → map (mark_of ls) made ++ marks_from text reached (map (drawn_of ls) (drop i placed)) ≡ whole → map (mark_of ls) made ≡ whole
+pub mark_end : (ls : List Label) (made : List MadeMark) (text : Text) (reached : ℕ) (placed : List PlacedLabel) (i : ℕ)
+    → length placed ≤ i →
+    (whole : List Mark) → map (mark_of ls) made ++ marks_from text reached (map (drawn_of ls) (drop i placed)) ≡ whole
+    → map (mark_of ls) made ≡ whole
 mark_end ls made text reached placed i le whole h =
-    sym (append-nil (map (mark_of ls) made)) ∙ ap (λ xs. map (mark_of ls) made ++ marks_from text reached xs) (sym (at_drop_all (map (drawn_of ls)) placed i le)) ∙ h
+    sym (append-nil (map (mark_of ls) made)) ∙ ap (λ xs. map (mark_of ls) made ++ marks_from text reached xs)
+    (sym (at_drop_all (map (drawn_of ls)) placed i le)) ∙ h

@@ -1,6 +1,7 @@
 -- Texts without tabs.
 use Rattle.miette_page.specs.views.Printouts.{Printout, ◌⊕◌}
-use Rattle.std.proofs.Common.{ℕ, suc, ◌+◌, ◌≡◌, true, false, Bool, not, eqb, List, [], ◌∷◌, ◌++◌, map, length, refl, sym, ap, subst, ◌∙◌, append-nil, arith, Option, Some, None}
+use Rattle.std.proofs.Common.{ℕ, suc, ◌+◌, ◌≡◌, true, false, Bool, not, eqb, List, [], ◌∷◌, ◌++◌, map, length, refl}
+use Rattle.std.proofs.Common.{sym, ap, subst, ◌∙◌, append-nil, arith, Option, Some, None}
 use Rattle.std.specs.Prelude.{IsUtf8, chars, encode_utf8, encode_utf8_all}
 use Rattle.std.specs.Option.{is_some, IfSome}
 use Rattle.std.specs.List.{list_all}
@@ -28,7 +29,8 @@ use Rattle.miette_cuts.specs.steps.Tabs.{is_untabbed}
 abbrev codes : List Character → List ℕ
 codes cs = map (λ (c : Character). c.code) cs
 
-codes_of_pieces : (ps : List Decoded) → codes (map (λ (p : Decoded). made (or_replacement p.char) p.size) ps) ≡ map (λ (p : Decoded). or_replacement p.char) ps
+codes_of_pieces : (ps : List Decoded) → codes (map (λ (p : Decoded). made (or_replacement p.char) p.size) ps)
+    ≡ map (λ (p : Decoded). or_replacement p.char) ps
 codes_of_pieces [] = refl
 codes_of_pieces (p ∷ ps) = ap (λ cs. or_replacement p.char ∷ cs) (codes_of_pieces ps)
 
@@ -49,54 +51,68 @@ character_untabbed c h =
     by_cases {C = is_untabbed c ≡ true} (eqb c 9)
     (λ y.
     let e : c ≡ 9 = eqb-true c 9 y in
-    let none : list_all is_untabbed (9 ∷ []) ≡ true = sym (ap (list_all is_untabbed) (ap encode_utf8 e ∙ encode_ascii 9 (omega arith))) ∙ h in
+    let none : list_all is_untabbed (9 ∷ []) ≡ true = sym
+    (ap (list_all is_untabbed) (ap encode_utf8 e ∙ encode_ascii 9 (omega arith))) ∙ h in
     absurd (cc))
     (λ n. ap not n)
 
 characters_untabbed : (cs : List ℕ) → list_all is_untabbed (encode_utf8_all cs) ≡ true → list_all is_untabbed cs ≡ true
 characters_untabbed [] h = refl
 characters_untabbed (c ∷ cs) h =
-    let parts = and_parts (list_all is_untabbed (encode_utf8 c)) (list_all is_untabbed (encode_utf8_all cs)) (sym (list_all-append is_untabbed (encode_utf8 c) (encode_utf8_all cs)) ∙ h) in
+    let parts = and_parts (list_all is_untabbed (encode_utf8 c)) (list_all is_untabbed (encode_utf8_all cs))
+    (sym (list_all-append is_untabbed (encode_utf8 c) (encode_utf8_all cs)) ∙ h) in
     rw (character_untabbed c parts.0) (characters_untabbed cs parts.1)
 
 -- characters print as they are
-pub printed_code : (cell : Cell) → eqb cell.code 9 ≡ false → map (λ (p : Glyph). p.code) (printed_glyphs cell) ≡ cell.code ∷ []
+pub printed_code : (cell : Cell) → eqb cell.code 9 ≡ false → map (λ (p : Glyph). p.code) (printed_glyphs cell)
+    ≡ cell.code ∷ []
 printed_code cell h = rw h refl
 
-untabbed_codes : (tab offset column : ℕ) (hidden : Bool) (cs : List Character) → list_all is_untabbed (codes cs) ≡ true →
+untabbed_codes : (tab offset column : ℕ) (hidden : Bool) (cs : List Character) → list_all is_untabbed (codes cs) ≡ true
+    →
     map (λ (p : Glyph). p.code) (printed_cells (cells_from width_of tab hidden offset column cs)) ≡ codes cs
 untabbed_codes tab offset column hidden [] h = refl
 untabbed_codes tab offset column hidden (c ∷ cs) h =
     let parts = and_parts (is_untabbed c.code) (list_all is_untabbed (codes cs)) h in
     let until : ℕ = column + width_at width_of tab hidden column c.code in
-    let cell : Cell = record { code = c.code; start = offset; after = offset + c.bytes; from = column; until = until } in
+    let cell : Cell = record { code = c.code; start = offset; after = offset + c.bytes; from = column; until = until }
+    in
     let cells : List Cell = cells_from width_of tab (hides_next hidden c.code) (offset + c.bytes) until cs in
     map-append (λ (p : Glyph). p.code) (printed_glyphs cell) (printed_cells cells)
     ∙ ap (λ r. r ++ map (λ (p : Glyph). p.code) (printed_cells cells)) (printed_code cell (no_tab c.code parts.0))
     ∙ ap (λ r. c.code ∷ r) (untabbed_codes tab (offset + c.bytes) until (hides_next hidden c.code) cs parts.1)
 
-untabbed_told : (tab offset : ℕ) (bs : List ℕ) → IsUtf8 bs → list_all is_untabbed bs ≡ true → text_tokens (chars bs) ≡ cells_tokens (cells_from width_of tab false offset 0 (characters bs))
+untabbed_told : (tab offset : ℕ) (bs : List ℕ) → IsUtf8 bs → list_all is_untabbed bs ≡ true → text_tokens (chars bs)
+    ≡ cells_tokens (cells_from width_of tab false offset 0 (characters bs))
 untabbed_told tab offset bs u h =
-    let spelled_untabbed : list_all is_untabbed (chars bs) ≡ true = characters_untabbed (chars bs) (ap (list_all is_untabbed) (encodes-chars bs u) ∙ h) in
-    ap text_tokens (sym (untabbed_codes tab offset 0 false (characters bs) (ap (list_all is_untabbed) (spelled bs u) ∙ spelled_untabbed) ∙ spelled bs u))
+    let spelled_untabbed : list_all is_untabbed (chars bs) ≡ true =
+    characters_untabbed (chars bs) (ap (list_all is_untabbed) (encodes-chars bs u) ∙ h) in
+    ap text_tokens (sym (untabbed_codes tab offset 0 false (characters bs)
+    (ap (list_all is_untabbed) (spelled bs u) ∙ spelled_untabbed) ∙ spelled bs u))
 
 -- a text without tabs
-pub untabbed_put : (tab offset : ℕ) (bs text : List ℕ) (pieces : List (ℕ × Style)) (p q r : Printout) → length pieces ≡ 0 → text ≡ bs → IsUtf8 bs → list_all is_untabbed bs ≡ true →
-    q ≡ p ⊕ begins plain ∷ [] → r ≡ q ⊕ text_tokens (chars text) → r ≡ p ⊕ row_tokens (line_runs (map highlight_of pieces) (cells_from width_of tab false offset 0 (characters bs)))
+pub untabbed_put : (tab offset : ℕ) (bs text : List ℕ) (pieces : List (ℕ × Style)) (p q r : Printout) → length pieces
+    ≡ 0 → text ≡ bs → IsUtf8 bs → list_all is_untabbed bs ≡ true →
+    q ≡ p ⊕ begins plain ∷ [] → r ≡ q ⊕ text_tokens (chars text) → r ≡ p
+    ⊕ row_tokens (line_runs (map highlight_of pieces) (cells_from width_of tab false offset 0 (characters bs)))
 untabbed_put tab offset bs text pieces p q r none same u h hq hr =
     then p (begins plain ∷ []) (text_tokens (chars text)) hq hr
     ∙ ap (λ x. p ⊕ begins plain ∷ text_tokens (chars x)) same
     ∙ ap (λ x. p ⊕ begins plain ∷ x) (untabbed_told tab offset bs u h)
-    ∙ ap (λ x. p ⊕ x) (sym (append-nil (begins plain ∷ cells_tokens (cells_from width_of tab false offset 0 (characters bs)))))
-    ∙ ap (λ ps. p ⊕ row_tokens (line_runs (map highlight_of ps) (cells_from width_of tab false offset 0 (characters bs)))) (sym (nil_from_length pieces none))
+    ∙ ap (λ x. p ⊕ x) (sym (append-nil (begins plain ∷ cells_tokens
+    (cells_from width_of tab false offset 0 (characters bs)))))
+    ∙ ap (λ ps. p ⊕ row_tokens (line_runs (map highlight_of ps)
+    (cells_from width_of tab false offset 0 (characters bs)))) (sym (nil_from_length pieces none))
 
 -- the search for a tab that finds none
 nowhere_untabbed : (bs : List ℕ) → Nowhere (Passes (is_byte 9) bs) 0 (length bs) → list_all is_untabbed bs ≡ true
 nowhere_untabbed [] h = refl
 nowhere_untabbed (b ∷ bs) h =
-    rw (false_from_ne_true (eqb b 9) (h 0 (omega arith) (omega arith))) (nowhere_untabbed bs (λ k lo lt. h (suc k) (omega arith) (omega (arith, lt))))
+    rw (false_from_ne_true (eqb b 9) (h 0 (omega arith) (omega arith)))
+    (nowhere_untabbed bs (λ k lo lt. h (suc k) (omega arith) (omega (arith, lt))))
 
-pub none_found : (bs : List ℕ) (r : Option ℕ) → IsFirstByte (is_byte 9) bs r → is_some r ≡ false → list_all is_untabbed bs ≡ true
+pub none_found : (bs : List ℕ) (r : Option ℕ) → IsFirstByte (is_byte 9) bs r → is_some r ≡ false
+    → list_all is_untabbed bs ≡ true
 none_found bs None h e = nowhere_untabbed bs h
 none_found bs (Some k) h e = absurd (cc)
 

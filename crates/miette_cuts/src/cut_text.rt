@@ -11,11 +11,11 @@ ghost use Rattle.miette_cuts.specs.steps.CellTokens.{cells_tokens};
 
 use crate::cells::push_cell;
 use crate::stretch::{Stretch, is_shown};
+use miette_basics::sums::sum;
 use miette_cells::cells::Walk;
 use miette_page::canvas::Canvas;
 use miette_page::page::{PLAIN, Page};
 use miette_style::style::Style;
-use miette_basics::sums::sum;
 use std::alloc::AllocError;
 
 // Of so many cells, those whose characters fill so many bytes; gives how many of them are left.

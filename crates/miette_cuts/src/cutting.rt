@@ -22,9 +22,9 @@ use crate::line_text::LineText;
 use crate::marks::Mark;
 use crate::plain_cut::plain_stretches;
 use crate::stretch::{Cut, Stretch, is_shown, put_stretch};
+use miette_basics::sums::sum;
 use miette_cells::cells::{Cell, Walk};
 use miette_cells::plain::all_printable;
-use miette_basics::sums::sum;
 use std::alloc::{AllocError, Global};
 
 // Whether some column of a cell is at most so many columns away from this one.

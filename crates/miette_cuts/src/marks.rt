@@ -14,11 +14,11 @@ ghost use Rattle.miette_cells.specs.rules.Widths.{width_of};
 ghost use Rattle.miette_cuts.specs.views.Marks.{mark_of, IsAnchored};
 ghost use Rattle.miette_cuts.specs.steps.Stops.{ComeFrom, IsStop};
 
+use miette_basics::sums::sum;
 use miette_cells::cells::Walk;
 use miette_cells::plain::all_printable;
 use miette_labels::sweep::PlacedLabel;
 use miette_source_lines::lines::LineOfText;
-use miette_basics::sums::sum;
 use std::alloc::{AllocError, Global};
 use std::marker::Model;
 

@@ -1,7 +1,8 @@
 -- What gutters tell.
 use Rattle.miette_page.proofs.Paging.{put_append}
 use Rattle.miette_page.specs.views.Printouts.{Printout, ◌⊕◌}
-use Rattle.std.proofs.Common.{ℕ, ◌+◌, ◌-◌, ◌<◌, ◌≤◌, ◌≡◌, Bool, true, false, cond, List, [], ◌∷◌, ◌++◌, map, length, drop, get_or, replicate, refl, sym, ap, ◌∙◌}
+use Rattle.std.proofs.Common.{ℕ, ◌+◌, ◌-◌, ◌<◌, ◌≤◌, ◌≡◌, Bool, true, false, cond, List, [], ◌∷◌, ◌++◌, map, length}
+use Rattle.std.proofs.Common.{drop, get_or, replicate, refl, sym, ap, ◌∙◌}
 use Rattle.std.specs.Prelude.{chars, ◌==◌, Option, Some}
 use Rattle.std.proofs.lemmas.List.{at_drop_more, at_drop_all}
 use Rattle.miette_source_lines.specs.rules.Lines.{Line}
@@ -25,53 +26,75 @@ use Rattle.miette_basics.specs.rules.Lists.{onto}
 abbrev Gutter : Type 0
 Gutter = List DrawnLabel → Row
 
-pub at_end : (f : Gutter) (ls : List Label) (placed : List PlacedLabel) (i : ℕ) (row new whole : Printout) (own : List Token) → length placed ≤ i →
-    row_tokens (f []) ≡ own → new ≡ row ⊕ own → row ⊕ row_tokens (f (map (drawn_of ls) (drop i placed))) ≡ whole → new ≡ whole
+pub at_end : (f : Gutter) (ls : List Label) (placed : List PlacedLabel) (i : ℕ) (row new whole : Printout)
+    (own : List Token) → length placed ≤ i →
+    row_tokens (f []) ≡ own → new ≡ row ⊕ own → row ⊕ row_tokens (f (map (drawn_of ls) (drop i placed))) ≡ whole → new
+    ≡ whole
 at_end f ls placed i row new whole own le e n h =
-    n ∙ ap (λ r. row ⊕ r) (sym e) ∙ ap (λ r. row ⊕ row_tokens (f r)) (sym (at_drop_all (map (drawn_of ls)) placed i le)) ∙ h
+    n ∙ ap (λ r. row ⊕ r) (sym e) ∙ ap (λ r. row ⊕ row_tokens (f r)) (sym (at_drop_all (map (drawn_of ls)) placed i le))
+    ∙ h
 
-pub at_last : (f : Gutter) (ls : List Label) (placed : List PlacedLabel) (i : ℕ) (row new whole : Printout) (own : List Token) → i < length placed →
-    row_tokens (f (drawn_of ls (get_or placed i nothing) ∷ map (drawn_of ls) (drop (i + 1) placed))) ≡ own → new ≡ row ⊕ own → row ⊕ row_tokens (f (map (drawn_of ls) (drop i placed))) ≡ whole → new ≡ whole
+pub at_last : (f : Gutter) (ls : List Label) (placed : List PlacedLabel) (i : ℕ) (row new whole : Printout)
+    (own : List Token) → i < length placed →
+    row_tokens (f (drawn_of ls (get_or placed i nothing) ∷ map (drawn_of ls) (drop (i + 1) placed))) ≡ own → new ≡ row
+    ⊕ own → row ⊕ row_tokens (f (map (drawn_of ls) (drop i placed))) ≡ whole → new ≡ whole
 at_last f ls placed i row new whole own lt e n h =
-    n ∙ ap (λ r. row ⊕ r) (sym e) ∙ ap (λ r. row ⊕ row_tokens (f r)) (sym (at_drop_more (map (drawn_of ls)) placed i nothing lt)) ∙ h
+    n ∙ ap (λ r. row ⊕ r) (sym e) ∙ ap (λ r. row ⊕ row_tokens (f r))
+    (sym (at_drop_more (map (drawn_of ls)) placed i nothing lt)) ∙ h
 
 abbrev more_of_other : (ℕ → ℕ) → Characters → Line → ℕ → DrawnLabel → List DrawnLabel → Bool → Row
-more_of_other w t line left l ls b = cond b (styled_run w l.style (t.lbot ∷ replicate (left - 1) t.hbar) ∷ []) (styled_run w l.style (t.vbar ∷ []) ∷ other_gutter w t line (left - 1) ls)
+more_of_other w t line left l ls b = cond b (styled_run w l.style (t.lbot ∷ replicate (left - 1) t.hbar) ∷ [])
+    (styled_run w l.style (t.vbar ∷ []) ∷ other_gutter w t line (left - 1) ls)
 
-pub other_last : (w : ℕ → ℕ) (t : Characters) (line : Line) (left less : ℕ) (l : DrawnLabel) (ls : List DrawnLabel) → ends_on line l ≡ true → less ≡ left - 1 →
+pub other_last : (w : ℕ → ℕ) (t : Characters) (line : Line) (left less : ℕ) (l : DrawnLabel) (ls : List DrawnLabel)
+    → ends_on line l ≡ true → less ≡ left - 1 →
     row_tokens (other_gutter w t line left (l ∷ ls)) ≡ styled_tokens l.style (t.lbot ∷ replicate less t.hbar)
 other_last w t line left less l ls e z =
-    ap (λ b. row_tokens (more_of_other w t line left l ls b)) e ∙ styled_row w l.style (t.lbot ∷ replicate (left - 1) t.hbar) ∙ ap (λ k. styled_tokens l.style (t.lbot ∷ replicate k t.hbar)) (sym z)
+    ap (λ b. row_tokens (more_of_other w t line left l ls b)) e
+    ∙ styled_row w l.style (t.lbot ∷ replicate (left - 1) t.hbar)
+    ∙ ap (λ k. styled_tokens l.style (t.lbot ∷ replicate k t.hbar)) (sym z)
 
 abbrev more_of_open : (ℕ → ℕ) → Characters → Line → ℕ → DrawnLabel → List DrawnLabel → Bool → Row
-more_of_open w t line left l ls b = cond b (blank w left ∷ []) (styled_run w l.style (t.vbar ∷ []) ∷ open_gutter w t line (left - 1) ls)
+more_of_open w t line left l ls b = cond b (blank w left ∷ [])
+    (styled_run w l.style (t.vbar ∷ []) ∷ open_gutter w t line (left - 1) ls)
 
-pub open_last : (w : ℕ → ℕ) (t : Characters) (line : Line) (left : ℕ) (l : DrawnLabel) (ls : List DrawnLabel) → ends_on line l ≡ true →
+pub open_last : (w : ℕ → ℕ) (t : Characters) (line : Line) (left : ℕ) (l : DrawnLabel) (ls : List DrawnLabel)
+    → ends_on line l ≡ true →
     row_tokens (open_gutter w t line left (l ∷ ls)) ≡ styled_tokens plain (replicate left 32)
 open_last w t line left l ls e = ap (λ b. row_tokens (more_of_open w t line left l ls b)) e ∙ blank_row w left
 
 -- an arrow and a space
 abbrev pub arrow_told : Characters → Style → ℕ → ℕ → List Token
-arrow_told t style corner left = styled_tokens style (corner ∷ replicate (left - 3) t.hbar ++ t.rarrow ∷ []) ++ styled_tokens plain (32 ∷ [])
+arrow_told t style corner left = styled_tokens style (corner ∷ replicate (left - 3) t.hbar ++ t.rarrow ∷ [])
+    ++ styled_tokens plain (32 ∷ [])
 
-arrow_row : (w : ℕ → ℕ) (t : Characters) (l : DrawnLabel) (corner left : ℕ) → row_tokens (arrow w t l corner left ∷ blank w 1 ∷ []) ≡ arrow_told t l.style corner left
+arrow_row : (w : ℕ → ℕ) (t : Characters) (l : DrawnLabel) (corner left : ℕ)
+    → row_tokens (arrow w t l corner left ∷ blank w 1 ∷ []) ≡ arrow_told t l.style corner left
 arrow_row w t l corner left =
-    ap (λ r. r ++ row_tokens (blank w 1 ∷ [])) (styled_told w l.style (corner ∷ replicate (left - 3) t.hbar ++ t.rarrow ∷ []))
+    ap (λ r. r ++ row_tokens (blank w 1 ∷ [])) (styled_told w l.style
+    (corner ∷ replicate (left - 3) t.hbar ++ t.rarrow ∷ []))
     ∙ ap (λ r. styled_tokens l.style (corner ∷ replicate (left - 3) t.hbar ++ t.rarrow ∷ []) ++ r) (blank_row w 1)
 
 abbrev unless_starts : (ℕ → ℕ) → Characters → Line → ℕ → DrawnLabel → List DrawnLabel → Bool → Row
-unless_starts w t line left l ls b = cond b (arrow w t l (ending_corner t l.parts) left ∷ blank w 1 ∷ []) (styled_run w l.style (t.vbar ∷ []) ∷ number_gutter w t line (left - 1) ls)
+unless_starts w t line left l ls b = cond b (arrow w t l (ending_corner t l.parts) left ∷ blank w 1 ∷ [])
+    (styled_run w l.style (t.vbar ∷ []) ∷ number_gutter w t line (left - 1) ls)
 
 abbrev more_of_number : (ℕ → ℕ) → Characters → Line → ℕ → DrawnLabel → List DrawnLabel → Bool → Row
-more_of_number w t line left l ls b = cond b (arrow w t l t.ltop left ∷ blank w 1 ∷ []) (unless_starts w t line left l ls (ends_on line l))
+more_of_number w t line left l ls b = cond b (arrow w t l t.ltop left ∷ blank w 1 ∷ [])
+    (unless_starts w t line left l ls (ends_on line l))
 
-pub number_starts : (w : ℕ → ℕ) (t : Characters) (line : Line) (left : ℕ) (l : DrawnLabel) (ls : List DrawnLabel) → starts_on line l ≡ true → row_tokens (number_gutter w t line left (l ∷ ls)) ≡ arrow_told t l.style t.ltop left
-number_starts w t line left l ls s = ap (λ b. row_tokens (more_of_number w t line left l ls b)) s ∙ arrow_row w t l t.ltop left
+pub number_starts : (w : ℕ → ℕ) (t : Characters) (line : Line) (left : ℕ) (l : DrawnLabel) (ls : List DrawnLabel)
+    → starts_on line l ≡ true → row_tokens (number_gutter w t line left (l ∷ ls)) ≡ arrow_told t l.style t.ltop left
+number_starts w t line left l ls s = ap (λ b. row_tokens (more_of_number w t line left l ls b)) s
+    ∙ arrow_row w t l t.ltop left
 
-pub number_ends : (w : ℕ → ℕ) (t : Characters) (line : Line) (left corner : ℕ) (l : DrawnLabel) (ls : List DrawnLabel) → starts_on line l ≡ false → ends_on line l ≡ true → corner ≡ ending_corner t l.parts →
+pub number_ends : (w : ℕ → ℕ) (t : Characters) (line : Line) (left corner : ℕ) (l : DrawnLabel) (ls : List DrawnLabel)
+    → starts_on line l ≡ false → ends_on line l ≡ true → corner ≡ ending_corner t l.parts →
     row_tokens (number_gutter w t line left (l ∷ ls)) ≡ arrow_told t l.style corner left
 number_ends w t line left corner l ls s e k =
-    ap (λ b. row_tokens (more_of_number w t line left l ls b)) s ∙ ap (λ b. row_tokens (unless_starts w t line left l ls b)) e ∙ arrow_row w t l (ending_corner t l.parts) left ∙ ap (λ c. arrow_told t l.style c left) (sym k)
+    ap (λ b. row_tokens (more_of_number w t line left l ls b)) s
+    ∙ ap (λ b. row_tokens (unless_starts w t line left l ls b)) e ∙ arrow_row w t l (ending_corner t l.parts) left
+    ∙ ap (λ c. arrow_told t l.style c left) (sym k)
 
 corner_onto : (t : Characters) (code : ℕ) (parts : List (List ℕ)) → t.lcross ≡ ending_corner t (onto code parts)
 corner_onto t code [] = refl
@@ -79,13 +102,18 @@ corner_onto t code (part ∷ parts) = refl
 
 corner_of_cut : (t : Characters) (codes : List ℕ) → t.lcross ≡ ending_corner t (cut_at_lf codes)
 corner_of_cut t [] = refl
-corner_of_cut t (c ∷ cs) = by_cases (c == 10) (λ e. ap (λ b. ending_corner t (cond b ([] ∷ cut_at_lf cs) (onto c (cut_at_lf cs)))) (sym e))
-    (λ e. corner_onto t c (cut_at_lf cs) ∙ ap (λ b. ending_corner t (cond b ([] ∷ cut_at_lf cs) (onto c (cut_at_lf cs)))) (sym e))
+corner_of_cut t (c ∷ cs) = by_cases (c == 10) (λ e. ap (λ b. ending_corner t
+    (cond b ([] ∷ cut_at_lf cs) (onto c (cut_at_lf cs)))) (sym e))
+    (λ e. corner_onto t c (cut_at_lf cs) ∙ ap (λ b. ending_corner t
+    (cond b ([] ∷ cut_at_lf cs) (onto c (cut_at_lf cs)))) (sym e))
 
-pub corner_of_some : (t : Characters) (text : Option (List ℕ)) (bytes : List ℕ) → text ≡ Some bytes → t.lcross ≡ ending_corner t (parts_of text)
+pub corner_of_some : (t : Characters) (text : Option (List ℕ)) (bytes : List ℕ) → text ≡ Some bytes → t.lcross
+    ≡ ending_corner t (parts_of text)
 corner_of_some t text bytes e = corner_of_cut t (chars bytes) ∙ ap (λ x. ending_corner t (parts_of x)) (sym e)
 
-pub arrow_put : (t : Characters) (style : Style) (corner left less : ℕ) (p q r n : Printout) → less ≡ left - 3 → q ≡ p ⊕ styled_tokens style (corner ∷ replicate less t.hbar) → r ≡ q ⊕ text_tokens (t.rarrow ∷ []) → n ≡ r ⊕ styled_tokens plain (32 ∷ []) →
+pub arrow_put : (t : Characters) (style : Style) (corner left less : ℕ) (p q r n : Printout) → less ≡ left - 3 → q ≡ p
+    ⊕ styled_tokens style (corner ∷ replicate less t.hbar) → r ≡ q ⊕ text_tokens (t.rarrow ∷ []) → n ≡ r
+    ⊕ styled_tokens plain (32 ∷ []) →
     n ≡ p ⊕ arrow_told t style corner left
 arrow_put t style corner left less p q r n z e f g =
     let bars : List ℕ = corner ∷ replicate less t.hbar in

@@ -1,7 +1,8 @@
 -- The rows that are drawn from what a read lent are those of the definition, which has the whole source.
 use Rattle.miette_page.proofs.Paging.{put_append, put_nil}
 use Rattle.miette_page.specs.views.Printouts.{Printout, ◌⊕◌}
-use Rattle.std.proofs.Common.{ℕ, zero, suc, ◌+◌, ◌-◌, ◌^◌, ◌<◌, ◌≤◌, ◌≡◌, max, Bool, true, false, cond, eqb, ltb, List, [], ◌∷◌, ◌++◌, length, map, take, drop, Option, refl, sym, ap, ◌∙◌, subst, arith, All}
+use Rattle.std.proofs.Common.{ℕ, zero, suc, ◌+◌, ◌-◌, ◌^◌, ◌<◌, ◌≤◌, ◌≡◌, max, Bool, true, false, cond, eqb, ltb, List}
+use Rattle.std.proofs.Common.{[], ◌∷◌, ◌++◌, length, map, take, drop, Option, refl, sym, ap, ◌∙◌, subst, arith, All}
 use Rattle.std.specs.Prelude.{slice_range, slice_index_or}
 use Rattle.std.specs.List.{AllByRecursion, filter}
 use Rattle.std.proofs.lemmas.List.{drop-take, length-take, length-map, drop_all}
@@ -22,13 +23,16 @@ use Rattle.miette_page.specs.rules.Rows.{Row}
 use Rattle.miette_cells.specs.rules.Cells.{Cell, characters, cells_from}
 use Rattle.miette_labels.specs.rules.Contexts.{contents, lines_of_contents}
 use Rattle.miette_snippet_rules.specs.rules.Folds.{Spread}
-use Rattle.miette_snippet_rules.specs.rules.Frames.{SnippetSettings, Place, top_row, top_row_of, bottom_row, number_width, width_of_lines}
+use Rattle.miette_snippet_rules.specs.rules.Frames.{SnippetSettings, Place, top_row, top_row_of, bottom_row}
+use Rattle.miette_snippet_rules.specs.rules.Frames.{number_width, width_of_lines}
 use Rattle.miette_labels.specs.views.GivenLabels.{drawn_of, label_at}
 use Rattle.miette_labels.specs.rules.Groups.{in_order, spans_of}
 use Rattle.miette_snippet_rules.specs.rules.Gutters.{gutter_columns, most_labels}
 use Rattle.miette_labels.specs.rules.Labels.{DrawnLabel, is_one_line, is_multi_line, one_line, multi_line}
-use Rattle.miette_snippet_rules.specs.rules.SnippetLayout.{cells_of, line_or_break, line_or_break_of, rows_of_lines, left_out, body_rows}
-use Rattle.miette_snippet_rules.specs.rules.Highlighting.{EachHasPieces, ArePieces, decoded_text, texts_of, line_calls, piece_of}
+use Rattle.miette_snippet_rules.specs.rules.SnippetLayout.{cells_of, line_or_break, line_or_break_of, rows_of_lines}
+use Rattle.miette_snippet_rules.specs.rules.SnippetLayout.{left_out, body_rows}
+use Rattle.miette_snippet_rules.specs.rules.Highlighting.{EachHasPieces, ArePieces, decoded_text, texts_of, line_calls}
+use Rattle.miette_snippet_rules.specs.rules.Highlighting.{piece_of}
 use Rattle.miette_drawing.specs.views.SnippetRows.{cells_in, text_in, texts_in, lent_rows, lent_snippet, PutsRows}
 use Rattle.miette_drawing.specs.steps.Widths.{width_of_count, gutter_of}
 use Rattle.miette_labels.specs.views.Placing.{end_drawn, is_told, placed_from}
@@ -50,7 +54,8 @@ use Rattle.miette_labels.proofs.Refusing.{read_of}
 use Rattle.miette_snippet_rules.proofs.Telling.{told_rows-append}
 
 -- a part of a part
-pub slices : (bytes : List ℕ) (from to a b : ℕ) → from ≤ a → a ≤ b → b ≤ from + (to - from) → slice_range (slice_range bytes from to) (a - from) (b - from) ≡ slice_range bytes a b
+pub slices : (bytes : List ℕ) (from to a b : ℕ) → from ≤ a → a ≤ b → b ≤ from + (to - from)
+    → slice_range (slice_range bytes from to) (a - from) (b - from) ≡ slice_range bytes a b
 slices bytes from to a b low le high =
     let k : ℕ = a - from in
     let m : ℕ = to - from - k in
@@ -66,79 +71,111 @@ slices bytes from to a b low le high =
 abbrev Inside : ℕ → ℕ → Line → Type 0
 Inside low high line = (low ≤ line.start) × (line.start ≤ line.text_end) × (line.text_end ≤ high)
 
-cut_inside : (low at n high : ℕ) (ls : List Line) → IsCut at n ls → low ≤ at → n ≤ high → AllByRecursion (Inside low high) ls
+cut_inside : (low at n high : ℕ) (ls : List Line) → IsCut at n ls → low ≤ at → n ≤ high
+    → AllByRecursion (Inside low high) ls
 cut_inside low at n high [] h le top = tt
-cut_inside low at n high (l ∷ ls) h le top =
-    ((omega (arith, h.0), omega (arith, h.0, h.1), omega (arith, h.2, top, cut-le l.end n ls h.5)), cut_inside low l.end n high ls h.5 (omega (arith, h.3)) top)
+cut_inside low at n high (l ∷ ls) h le top = (
+  (omega (arith, h.0), omega (arith, h.0, h.1), omega (arith, h.2, top, cut-le l.end n ls h.5)),
+  cut_inside low l.end n high ls h.5 (omega (arith, h.3)) top,
+)
 
-lent_from : (out : ℕ → Line → Bool) (gap : Bool) (s : SnippetSettings) (w columns : ℕ) (drawn : List DrawnLabel) (bytes : List ℕ) (from to number : ℕ) (pieces : List (List Highlight)) (ls : List Line) → AllByRecursion (Inside from (from + (to - from))) ls →
-    lent_rows out gap s w columns drawn from (slice_range bytes from to) number pieces ls ≡ rows_of_lines out gap s w columns drawn bytes number pieces ls
+lent_from : (out : ℕ → Line → Bool) (gap : Bool) (s : SnippetSettings) (w columns : ℕ) (drawn : List DrawnLabel)
+    (bytes : List ℕ) (from to number : ℕ) (pieces : List (List Highlight)) (ls : List Line)
+    → AllByRecursion (Inside from (from + (to - from))) ls →
+    lent_rows out gap s w columns drawn from (slice_range bytes from to) number pieces ls
+    ≡ rows_of_lines out gap s w columns drawn bytes number pieces ls
 lent_from out gap s w columns drawn bytes from to number pieces [] h = refl
 lent_from out gap s w columns drawn bytes from to number pieces (l ∷ ls) h =
-    ap (λ text. line_or_break gap (out number l) s w columns drawn l number (cells_from s.width s.tab false l.start 0 (characters text)) (first_of pieces) ++ lent_rows out (out number l) s w columns drawn from (slice_range bytes from to) (number + 1) (drop 1 pieces) ls)
+    ap (λ text. line_or_break gap (out number l) s w columns drawn l number
+    (cells_from s.width s.tab false l.start 0 (characters text)) (first_of pieces)
+    ++ lent_rows out (out number l) s w columns drawn from (slice_range bytes from to) (number + 1) (drop 1 pieces)
+    ls)
     (slices bytes from to l.start l.text_end h.0.0 h.0.1 h.0.2)
-    ∙ ap (λ r. line_or_break gap (out number l) s w columns drawn l number (cells_of s bytes l) (first_of pieces) ++ r) (lent_from out (out number l) s w columns drawn bytes from to (number + 1) (drop 1 pieces) ls h.1)
+    ∙ ap (λ r. line_or_break gap (out number l) s w columns drawn l number (cells_of s bytes l) (first_of pieces) ++ r)
+    (lent_from out (out number l) s w columns drawn bytes from to (number + 1) (drop 1 pieces) ls h.1)
 
-texts_from : (bytes : List ℕ) (from to : ℕ) (ls : List Line) → AllByRecursion (Inside from (from + (to - from))) ls → texts_in from (slice_range bytes from to) ls ≡ texts_of bytes ls
+texts_from : (bytes : List ℕ) (from to : ℕ) (ls : List Line) → AllByRecursion (Inside from (from + (to - from))) ls
+    → texts_in from (slice_range bytes from to) ls ≡ texts_of bytes ls
 texts_from bytes from to [] h = refl
 texts_from bytes from to (l ∷ ls) h =
-    ap (λ text. decoded_text text ∷ texts_in from (slice_range bytes from to) ls) (slices bytes from to l.start l.text_end h.0.0 h.0.1 h.0.2)
+    ap (λ text. decoded_text text ∷ texts_in from (slice_range bytes from to) ls)
+    (slices bytes from to l.start l.text_end h.0.0 h.0.1 h.0.2)
     ∙ ap (λ r. decoded_text (slice_range bytes l.start l.text_end) ∷ r) (texts_from bytes from to ls h.1)
 
-lines_inside : (bytes : List ℕ) (from to : ℕ) → AllByRecursion (Inside from (from + (to - from))) (P.lines_from from (slice_range bytes from to))
+lines_inside : (bytes : List ℕ) (from to : ℕ) → AllByRecursion (Inside from (from + (to - from)))
+    (P.lines_from from (slice_range bytes from to))
 lines_inside bytes from to =
     let bits : List ℕ = slice_range bytes from to in
     subst (λ (ls : List Line). AllByRecursion (Inside from (from + (to - from))) ls) (sym (lines_same from bits))
-    (cut_inside from from (from + length bits) (from + (to - from)) (lines_from from bits) (cut_lines from (from + length bits) bits refl) (omega arith) (omega (arith, length-take (to - from) (drop from bytes))))
+    (cut_inside from from (from + length bits) (from + (to - from)) (lines_from from bits)
+    (cut_lines from (from + length bits) bits refl) (omega arith)
+    (omega (arith, length-take (to - from) (drop from bytes))))
 
 -- a snippet from what its read lent
 abbrev pub lent_lines : SnippetSettings → List Spread → List DrawnLabel → Contents → List (List Highlight) → List Row
-lent_lines s spreads drawn lent pieces = lent_rows (left_out s lent.line (lines_of_contents lent) spreads) false s (number_width lent) (gutter_columns drawn (lines_of_contents lent)) drawn lent.span.offset lent.bytes (lent.line + 1) pieces (lines_of_contents lent)
+lent_lines s spreads drawn lent pieces = lent_rows (left_out s lent.line (lines_of_contents lent) spreads) false s
+    (number_width lent) (gutter_columns drawn (lines_of_contents lent)) drawn lent.span.offset lent.bytes
+    (lent.line + 1) pieces (lines_of_contents lent)
 
-pub lent_body : (s : SnippetSettings) (spreads : List Spread) (drawn : List DrawnLabel) (context : ℕ) (source : Source) (span : Span) (pieces : List (List Highlight)) →
-    lent_lines s spreads drawn (contents context source span) pieces ≡ body_rows s spreads drawn source.bytes (contents context source span) pieces
+pub lent_body : (s : SnippetSettings) (spreads : List Spread) (drawn : List DrawnLabel) (context : ℕ) (source : Source)
+    (span : Span) (pieces : List (List Highlight)) →
+    lent_lines s spreads drawn (contents context source span) pieces
+    ≡ body_rows s spreads drawn source.bytes (contents context source span) pieces
 lent_body s spreads drawn context source span pieces =
     let lent : Contents = contents context source span in
-    lent_from (left_out s lent.line (lines_of_contents lent) spreads) false s (number_width lent) (gutter_columns drawn (lines_of_contents lent)) drawn source.bytes (data_start source.bytes span context) (data_end source.bytes span context) (lent.line + 1) pieces (lines_of_contents lent)
+    lent_from (left_out s lent.line (lines_of_contents lent) spreads) false s (number_width lent)
+    (gutter_columns drawn (lines_of_contents lent)) drawn source.bytes (data_start source.bytes span context)
+    (data_end source.bytes span context) (lent.line + 1) pieces (lines_of_contents lent)
     (lines_inside source.bytes (data_start source.bytes span context) (data_end source.bytes span context))
 
 -- the texts of its lines
 abbrev pub lent_texts : Contents → List (List ℕ)
 lent_texts lent = texts_in lent.span.offset lent.bytes (lines_of_contents lent)
 
-pub lent_texts_are : (context : ℕ) (source : Source) (span : Span) → lent_texts (contents context source span) ≡ texts_of source.bytes (lines_of_contents (contents context source span))
+pub lent_texts_are : (context : ℕ) (source : Source) (span : Span) → lent_texts (contents context source span)
+    ≡ texts_of source.bytes (lines_of_contents (contents context source span))
 lent_texts_are context source span =
-    texts_from source.bytes (data_start source.bytes span context) (data_end source.bytes span context) (lines_of_contents (contents context source span))
+    texts_from source.bytes (data_start source.bytes span context) (data_end source.bytes span context)
+    (lines_of_contents (contents context source span))
     (lines_inside source.bytes (data_start source.bytes span context) (data_end source.bytes span context))
 
 -- labels that are placed, and labels that are drawn
 
-filter_mapped : (f : PlacedLabel → DrawnLabel) (p : DrawnLabel → Bool) (q : PlacedLabel → Bool) (xs : List PlacedLabel) → ((x : PlacedLabel) → p (f x) ≡ q x) → filter p (map f xs) ≡ map f (filter q xs)
+filter_mapped : (f : PlacedLabel → DrawnLabel) (p : DrawnLabel → Bool) (q : PlacedLabel → Bool) (xs : List PlacedLabel)
+    → ((x : PlacedLabel) → p (f x) ≡ q x) → filter p (map f xs) ≡ map f (filter q xs)
 filter_mapped f p q [] same = refl
 filter_mapped f p q (x ∷ xs) same =
     by_cases {C = filter p (map f (x ∷ xs)) ≡ map f (filter q (x ∷ xs))} (q x)
     (λ t. let u : p (f x) ≡ true = same x ∙ t in rw (u, t) (ap (λ r. f x ∷ r) (filter_mapped f p q xs same)))
     (λ g. let u : p (f x) ≡ false = same x ∙ g in rw (u, g) (filter_mapped f p q xs same))
 
-one_same : (labels : List Label) (placed : List PlacedLabel) (line : Line) → map (drawn_of labels) (filter (is_one line) placed) ≡ one_line line (map (drawn_of labels) placed)
+one_same : (labels : List Label) (placed : List PlacedLabel) (line : Line)
+    → map (drawn_of labels) (filter (is_one line) placed) ≡ one_line line (map (drawn_of labels) placed)
 one_same labels placed line = sym (filter_mapped (drawn_of labels) (is_one_line line) (is_one line) placed (λ x. refl))
 
-multi_same : (labels : List Label) (placed : List PlacedLabel) (line : Line) → map (drawn_of labels) (filter (is_multi line) placed) ≡ multi_line line (map (drawn_of labels) placed)
-multi_same labels placed line = sym (filter_mapped (drawn_of labels) (is_multi_line line) (is_multi line) placed (λ x. refl))
+multi_same : (labels : List Label) (placed : List PlacedLabel) (line : Line)
+    → map (drawn_of labels) (filter (is_multi line) placed) ≡ multi_line line (map (drawn_of labels) placed)
+multi_same labels placed line = sym (filter_mapped (drawn_of labels) (is_multi_line line) (is_multi line) placed
+    (λ x. refl))
 
-pub most_is : (labels : List Label) (placed : List PlacedLabel) (lines : List Line) → most_multi placed lines ≡ most_labels (map (drawn_of labels) placed) lines
+pub most_is : (labels : List Label) (placed : List PlacedLabel) (lines : List Line) → most_multi placed lines
+    ≡ most_labels (map (drawn_of labels) placed) lines
 most_is labels placed [] = refl
 most_is labels placed (line ∷ lines) =
-    let many : length (filter (is_multi line) placed) ≡ length (multi_line line (map (drawn_of labels) placed)) = sym (length-map (filter (is_multi line) placed) (drawn_of labels)) ∙ ap length (multi_same labels placed line) in
+    let many : length (filter (is_multi line) placed) ≡ length (multi_line line (map (drawn_of labels) placed)) =
+    sym (length-map (filter (is_multi line) placed) (drawn_of labels)) ∙ ap length (multi_same labels placed line) in
     ap (λ n. max n (most_multi placed lines)) many
     ∙ ap (max (length (multi_line line (map (drawn_of labels) placed)))) (most_is labels placed lines)
 
 width_is : (line : ℕ) (ls : List Line) → width_of_lines line ls ≡ width_of_count line (length ls)
 width_is line [] = refl
-width_is line (l ∷ ls) = let no : eqb (length (l ∷ ls)) 0 ≡ false = ne_eqb (length (l ∷ ls)) 0 (λ e. omega (arith, e)) in rw no refl
+width_is line (l ∷ ls) = let no : eqb (length (l ∷ ls)) 0 ≡ false = ne_eqb (length (l ∷ ls)) 0 (λ e. omega (arith, e))
+    in rw no refl
 
 -- what the page holds after the three parts of a snippet
-pub told_snippet : (before : Printout) (top bottom : Row) (body : List Row) → ((before ⊕ rows_tokens (top ∷ [])) ⊕ rows_tokens body) ⊕ rows_tokens (bottom ∷ []) ≡ before ⊕ rows_tokens (top ∷ body ++ bottom ∷ [])
+pub told_snippet : (before : Printout) (top bottom : Row) (body : List Row)
+    → ((before ⊕ rows_tokens (top ∷ [])) ⊕ rows_tokens body) ⊕ rows_tokens (bottom ∷ []) ≡ before
+    ⊕ rows_tokens (top ∷ body ++ bottom ∷ [])
 told_snippet before top bottom body =
     put_append (before ⊕ rows_tokens (top ∷ [])) (rows_tokens body) (rows_tokens (bottom ∷ []))
     ∙ ap (λ r. (before ⊕ rows_tokens (top ∷ [])) ⊕ r) (sym (told_rows-append body (bottom ∷ [])))
@@ -156,46 +193,59 @@ ascends-low from k [] h lt = absurd (omega (arith, lt))
 ascends-low from zero (p ∷ ps) h lt = h.0
 ascends-low from (suc k) (p ∷ ps) h lt = omega (arith, h.0, ascends-low p.start k ps h.2 (omega (arith, lt)))
 
-ascends-order : (from j k : ℕ) (ps : List PlacedLabel) → Ascends from ps → j ≤ k → k < length ps → start_at ps j ≤ start_at ps k
+ascends-order : (from j k : ℕ) (ps : List PlacedLabel) → Ascends from ps → j ≤ k → k < length ps → start_at ps j
+    ≤ start_at ps k
 ascends-order from j k [] h le lt = absurd (omega (arith, lt))
 ascends-order from zero zero (p ∷ ps) h le lt = omega arith
 ascends-order from zero (suc k) (p ∷ ps) h le lt = ascends-low p.start k ps h.2 (omega (arith, lt))
 ascends-order from (suc j) zero (p ∷ ps) h le lt = absurd (omega (arith, le))
-ascends-order from (suc j) (suc k) (p ∷ ps) h le lt = ascends-order p.start j k ps h.2 (omega (arith, le)) (omega (arith, lt))
+ascends-order from (suc j) (suc k) (p ∷ ps) h le lt = ascends-order p.start j k ps h.2 (omega (arith, le))
+    (omega (arith, lt))
 
-ascends-drawn : (from k : ℕ) (ps : List PlacedLabel) → Ascends from ps → k < length ps → start_at ps k ≤ (slice_index_or ps k nothing).after
+ascends-drawn : (from k : ℕ) (ps : List PlacedLabel) → Ascends from ps → k < length ps → start_at ps k
+    ≤ (slice_index_or ps k nothing).after
 ascends-drawn from k [] h lt = absurd (omega (arith, lt))
 ascends-drawn from zero (p ∷ ps) h lt = h.1
 ascends-drawn from (suc k) (p ∷ ps) h lt = ascends-drawn p.start k ps h.2 (omega (arith, lt))
 
 -- a label further on is placed further on
-lower_le : (ends : Bool) (n a b : ℕ) → a ≤ b → b ≤ n → cond (is_told (end_told ends n) a) (a - 1) a ≤ cond (is_told (end_told ends n) b) (b - 1) b
+lower_le : (ends : Bool) (n a b : ℕ) → a ≤ b → b ≤ n → cond (is_told (end_told ends n) a) (a - 1) a
+    ≤ cond (is_told (end_told ends n) b) (b - 1) b
 lower_le false n a b le top = le
 lower_le true n a b le top =
     by_cases {C = cond (eqb a n) (a - 1) a ≤ cond (eqb b n) (b - 1) b} (eqb a n)
-    (λ t. by_cases {C = cond (eqb a n) (a - 1) a ≤ cond (eqb b n) (b - 1) b} (eqb b n) (λ u. rw (t, u) (omega (arith, le))) (λ u. rw (t, u) (omega (arith, le))))
+    (λ t. by_cases {C = cond (eqb a n) (a - 1) a ≤ cond (eqb b n) (b - 1) b} (eqb b n)
+    (λ u. rw (t, u) (omega (arith, le))) (λ u. rw (t, u) (omega (arith, le))))
     (λ f. by_cases {C = cond (eqb a n) (a - 1) a ≤ cond (eqb b n) (b - 1) b} (eqb b n)
     (λ u. rw (f, u) (omega (arith, le, eqb-true b n u, eqb-false a n f))) (λ u. rw (f, u) le))
 
-placed_after : (behind : Bool) (offset after : ℕ) → offset ≤ after → cond behind (offset - 1) offset ≤ cond behind (offset - 1) after
+placed_after : (behind : Bool) (offset after : ℕ) → offset ≤ after → cond behind (offset - 1) offset
+    ≤ cond behind (offset - 1) after
 placed_after true offset after le = omega arith
 placed_after false offset after le = le
 
-placed_ascends : (ends : Bool) (styles : List Style) (context : ℕ) (source : Source) (labels : List Label) (from i : ℕ) (reads : List ReadLabel) → All (IsRead context source labels) reads →
+placed_ascends : (ends : Bool) (styles : List Style) (context : ℕ) (source : Source) (labels : List Label) (from i : ℕ)
+    (reads : List ReadLabel) → All (IsRead context source labels) reads →
     IsAscending from (spans_of (map (read_of labels) reads)) →
-    Ascends (cond (is_told (end_told ends (length source.bytes)) from) (from - 1) from) (placed_from (end_told ends (length source.bytes)) styles i reads)
+    Ascends (cond (is_told (end_told ends (length source.bytes)) from) (from - 1) from)
+    (placed_from (end_told ends (length source.bytes)) styles i reads)
 placed_ascends ends styles context source labels from i [] h up = tt
 placed_ascends ends styles context source labels from i (r ∷ rs) h up =
     let own : IsRead context source labels r = h 0 r (omega arith) in
     let at : r.span.offset ≡ (label_at labels r.index).span.offset = ap (λ s. s.offset) own.span in
-    let next : IsAscending r.span.offset (spans_of (map (read_of labels) rs)) = subst (λ (n : ℕ). IsAscending n (spans_of (map (read_of labels) rs))) (sym at) up.1 in (
+    let next : IsAscending r.span.offset (spans_of (map (read_of labels) rs)) =
+    subst (λ (n : ℕ). IsAscending n (spans_of (map (read_of labels) rs))) (sym at) up.1 in (
       lower_le ends (length source.bytes) from r.span.offset (omega (arith, at, up.0)) own.accepted.begins,
-      placed_after (is_told (end_told ends (length source.bytes)) r.span.offset) r.span.offset (end_drawn r) (omega arith),
-      placed_ascends ends styles context source labels r.span.offset (i + 1) rs (All-tail (IsRead context source labels) r rs h) next,
+      placed_after (is_told (end_told ends (length source.bytes)) r.span.offset) r.span.offset (end_drawn r)
+          (omega arith),
+      placed_ascends ends styles context source labels r.span.offset (i + 1) rs
+          (All-tail (IsRead context source labels) r rs h) next,
     )
 
-pub placed_sorted : (ends : Bool) (styles : List Style) (context : ℕ) (source : Source) (labels : List Label) (reads : List ReadLabel) → All (IsRead context source labels) reads →
-    map (read_of labels) reads ≡ in_order labels → AreSorted (placed_from (end_told ends (length source.bytes)) styles 0 reads)
+pub placed_sorted : (ends : Bool) (styles : List Style) (context : ℕ) (source : Source) (labels : List Label)
+    (reads : List ReadLabel) → All (IsRead context source labels) reads →
+    map (read_of labels) reads ≡ in_order labels → AreSorted
+    (placed_from (end_told ends (length source.bytes)) styles 0 reads)
 placed_sorted ends styles context source labels reads h e =
     let up : IsAscending 0 (spans_of (map (read_of labels) reads)) =
     subst (λ (ss : List Span). IsAscending 0 ss) (sym (ap spans_of e ∙ order_same labels)) (sorted (spans_of labels)) in
@@ -204,7 +254,8 @@ placed_sorted ends styles context source labels reads h e =
     let k : Ascends from ps = placed_ascends ends styles context source labels 0 0 reads h up in
     record { order = λ i j le lt. ascends-order from i j ps k le lt; drawn = λ i lt. ascends-drawn from i ps k lt }
 
-pub told_parts : (p0 p1 p2 p3 : Printout) (top bottom : Row) (body : List Row) → p1 ≡ p0 ⊕ rows_tokens (top ∷ []) → p2 ≡ p1 ⊕ rows_tokens body → p3 ≡ p2 ⊕ rows_tokens (bottom ∷ []) →
+pub told_parts : (p0 p1 p2 p3 : Printout) (top bottom : Row) (body : List Row) → p1 ≡ p0 ⊕ rows_tokens (top ∷ []) → p2
+    ≡ p1 ⊕ rows_tokens body → p3 ≡ p2 ⊕ rows_tokens (bottom ∷ []) →
     p3 ≡ p0 ⊕ rows_tokens (top ∷ body ++ bottom ∷ [])
 told_parts p0 p1 p2 p3 top bottom body a b c =
     c ∙ ap (λ p. p ⊕ rows_tokens (bottom ∷ [])) (b ∙ ap (λ p. p ⊕ rows_tokens body) a) ∙ told_snippet p0 top bottom body
@@ -212,132 +263,227 @@ told_parts p0 p1 p2 p3 top bottom body a b c =
 -- the loop over a snippet's lines
 
 -- the text of a line of the bytes ends before they do
-pub text_fits : (start : ℕ) (bytes : List ℕ) (line : LineOfText) → start ≤ line.start → line.start ≤ line.text_end → line.text_end ≤ line.end → line.end ≤ start + length bytes → start + length bytes < 2 ^ 64 →
+pub text_fits : (start : ℕ) (bytes : List ℕ) (line : LineOfText) → start ≤ line.start → line.start ≤ line.text_end
+    → line.text_end ≤ line.end → line.end ≤ start + length bytes → start + length bytes < 2 ^ 64 →
     line.start + length (take (line.text_end - start - (line.start - start)) (drop (line.start - start) bytes)) < 2 ^ 64
 text_fits start bytes line from text ending to small =
-    omega (arith, from, text, ending, to, small, length-take (line.text_end - start - (line.start - start)) (drop (line.start - start) bytes))
+    omega (
+      arith,
+      from,
+      text,
+      ending,
+      to,
+      small,
+      length-take (line.text_end - start - (line.start - start))
+          (drop (line.start - start) bytes),
+    )
 
 -- the lines before some are drawn, and whether the last of them is left out: whatever pieces the others have, there are
 -- pieces for all, and calls that bring a highlighter from its first state over the state now
-abbrev pub AreLinedBefore : (ℕ → Line → Bool) → Bool → SnippetSettings → ℕ → ℕ → List DrawnLabel → ℕ → List ℕ → ℕ → Bool → (List Call → Type 0) → (List Call → Type 0) → List Line → ℕ → Printout → Printout → Type 0
+abbrev pub AreLinedBefore : (ℕ → Line → Bool) → Bool → SnippetSettings → ℕ → ℕ → List DrawnLabel → ℕ → List ℕ → ℕ → Bool
+    → (List Call → Type 0) → (List Call → Type 0) → List Line → ℕ → Printout → Printout → Type 0
 AreLinedBefore out gap s w columns drawn start bytes first blank begun now left number before page =
     (more : List (List Highlight)) → EachHasPieces blank (texts_in start bytes left) more →
     (all : List (List Highlight)) × EachHasPieces blank (texts_in start bytes (P.lines_from start bytes)) all
-    × ((later : List Call) → now (line_calls (texts_in start bytes left) more ++ later) → begun (line_calls (texts_in start bytes (P.lines_from start bytes)) all ++ later))
-    × (page ⊕ rows_tokens (lent_rows out gap s w columns drawn start bytes number more left) ≡ before ⊕ rows_tokens (lent_rows out false s w columns drawn start bytes first all (P.lines_from start bytes)))
+    × ((later : List Call) → now (line_calls (texts_in start bytes left) more ++ later)
+    → begun (line_calls (texts_in start bytes (P.lines_from start bytes)) all ++ later))
+    × (page ⊕ rows_tokens (lent_rows out gap s w columns drawn start bytes number more left) ≡ before
+    ⊕ rows_tokens (lent_rows out false s w columns drawn start bytes first all (P.lines_from start bytes)))
 
 -- the same of the lines from a place on
-abbrev pub AreLined : (ℕ → Line → Bool) → Bool → SnippetSettings → ℕ → ℕ → List DrawnLabel → ℕ → List ℕ → ℕ → Bool → (List Call → Type 0) → (List Call → Type 0) → ℕ → ℕ → Printout → Printout → Type 0
+abbrev pub AreLined : (ℕ → Line → Bool) → Bool → SnippetSettings → ℕ → ℕ → List DrawnLabel → ℕ → List ℕ → ℕ → Bool
+    → (List Call → Type 0) → (List Call → Type 0) → ℕ → ℕ → Printout → Printout → Type 0
 AreLined out gap s w columns drawn start bytes first blank begun now at number before page =
-    AreLinedBefore out gap s w columns drawn start bytes first blank begun now (P.lines_from (start + at) (drop at bytes)) number before page
+    AreLinedBefore out gap s w columns drawn start bytes first blank begun now
+    (P.lines_from (start + at) (drop at bytes)) number before page
 
-pub lines_first : (out : ℕ → Line → Bool) (s : SnippetSettings) (w columns : ℕ) (drawn : List DrawnLabel) (start : ℕ) (bytes : List ℕ) (first : ℕ) (blank : Bool) (begun : List Call → Type 0) (page : Printout) → AreLined out false s w columns drawn start bytes first blank begun begun 0 first page page
+pub lines_first : (out : ℕ → Line → Bool) (s : SnippetSettings) (w columns : ℕ) (drawn : List DrawnLabel) (start : ℕ)
+    (bytes : List ℕ) (first : ℕ) (blank : Bool) (begun : List Call → Type 0) (page : Printout)
+    → AreLined out false s w columns drawn start bytes first blank begun begun 0 first page page
 lines_first out s w columns drawn start bytes first blank begun page = λ more h.
-    let e : start + 0 ≡ start = omega arith in
-    (more, subst (λ (n : ℕ). EachHasPieces blank (texts_in start bytes (P.lines_from n bytes)) more) e h, (λ later k. subst (λ (n : ℕ). begun (line_calls (texts_in start bytes (P.lines_from n bytes)) more ++ later)) e k), ap (λ n. page ⊕ rows_tokens (lent_rows out false s w columns drawn start bytes first more (P.lines_from n bytes))) e)
+    let e : start + 0 ≡ start = omega arith in (
+      more,
+      subst (λ (n : ℕ). EachHasPieces blank (texts_in start bytes (P.lines_from n bytes)) more) e h,
+      (λ later k. subst (λ (n : ℕ). begun (line_calls (texts_in start bytes (P.lines_from n bytes)) more ++ later)) e
+          k),
+      ap (λ n. page ⊕ rows_tokens (lent_rows out false s w columns drawn start bytes first more
+          (P.lines_from n bytes))) e,
+    )
 
 -- the rows of one line more
-lines_more_of : (out : ℕ → Line → Bool) (gap left : Bool) (s : SnippetSettings) (w columns : ℕ) (drawn : List DrawnLabel) (start : ℕ) (bytes : List ℕ) (first : ℕ) (blank : Bool) (begun was now : List Call → Type 0) (at number : ℕ) (line : LineOfText) (pieces : List Highlight) (before page more : Printout) →
-    AreLined out gap s w columns drawn start bytes first blank begun was at number before page → left ≡ out number (line_of_text line) →
-    P.lines_from (start + at) (drop at bytes) ≡ line_of_text line ∷ P.lines_from line.end (drop (line.end - start) bytes) → start ≤ line.end →
+lines_more_of : (out : ℕ → Line → Bool) (gap left : Bool) (s : SnippetSettings) (w columns : ℕ)
+    (drawn : List DrawnLabel) (start : ℕ) (bytes : List ℕ) (first : ℕ) (blank : Bool)
+    (begun was now : List Call → Type 0) (at number : ℕ) (line : LineOfText) (pieces : List Highlight)
+    (before page more : Printout) →
+    AreLined out gap s w columns drawn start bytes first blank begun was at number before page → left
+    ≡ out number (line_of_text line) →
+    P.lines_from (start + at) (drop at bytes) ≡ line_of_text line
+    ∷ P.lines_from line.end (drop (line.end - start) bytes) → start ≤ line.end →
     ArePieces blank (decoded_text (text_in start bytes (line_of_text line))) pieces →
     Leads was (asked (decoded_text (text_in start bytes (line_of_text line))) (map piece_of pieces) ∷ []) now →
-    more ≡ page ⊕ rows_tokens (line_or_break gap left s w columns drawn (line_of_text line) number (cells_in s start bytes (line_of_text line)) pieces) →
+    more ≡ page ⊕ rows_tokens (line_or_break gap left s w columns drawn (line_of_text line) number
+    (cells_in s start bytes (line_of_text line)) pieces) →
     AreLined out left s w columns drawn start bytes first blank begun now (line.end - start) (number + 1) before more
-lines_more_of out gap left s w columns drawn start bytes first blank begun was now at number line pieces before page more h leaves part low p call e = λ later own.
+lines_more_of out gap left s w columns drawn start bytes first blank begun was now at number line pieces before page
+    more h leaves part low p call e = λ later own.
     let sums : start + (line.end - start) ≡ line.end = omega (arith, low) in
     let behind : List Line = P.lines_from line.end (drop (line.end - start) bytes) in
-    let here : Bool → List Row = λ o. line_or_break gap o s w columns drawn (line_of_text line) number (cells_in s start bytes (line_of_text line)) pieces in
+    let here : Bool → List Row = λ o. line_or_break gap o s w columns drawn (line_of_text line) number
+    (cells_in s start bytes (line_of_text line)) pieces in
     let there : Bool → List Row = λ o. lent_rows out o s w columns drawn start bytes (number + 1) later behind in
-    let others : EachHasPieces blank (texts_in start bytes behind) later = subst (λ (n : ℕ). EachHasPieces blank (texts_in start bytes (P.lines_from n (drop (line.end - start) bytes))) later) sums own in
-    let rest = h (pieces ∷ later) (subst (λ (ls : List Line). EachHasPieces blank (texts_in start bytes ls) (pieces ∷ later)) (sym part) (p, others)) in (
+    let others : EachHasPieces blank (texts_in start bytes behind) later =
+    subst (λ (n : ℕ). EachHasPieces blank (texts_in start bytes (P.lines_from n (drop (line.end - start) bytes)))
+    later) sums own in
+    let rest = h (pieces ∷ later) (subst (λ (ls : List Line). EachHasPieces blank (texts_in start bytes ls)
+    (pieces ∷ later)) (sym part) (p, others)) in (
       rest.0,
       rest.1,
-      (λ calls k. rest.2 calls (subst (λ (ls : List Line). was (line_calls (texts_in start bytes ls) (pieces ∷ later) ++ calls)) (sym part)
-          (call (line_calls (texts_in start bytes behind) later ++ calls) (subst (λ (n : ℕ). now (line_calls (texts_in start bytes (P.lines_from n (drop (line.end - start) bytes))) later ++ calls)) sums k)))),
-      ap (λ n. more ⊕ rows_tokens (lent_rows out left s w columns drawn start bytes (number + 1) later (P.lines_from n (drop (line.end - start) bytes)))) sums
+      (λ calls k. rest.2 calls (subst (λ (ls : List Line). was
+          (line_calls (texts_in start bytes ls) (pieces ∷ later) ++ calls)) (sym part)
+          (call (line_calls (texts_in start bytes behind) later ++ calls)
+          (subst (λ (n : ℕ). now (line_calls (texts_in start bytes (P.lines_from n (drop (line.end - start) bytes)))
+          later ++ calls)) sums k)))),
+      ap (λ n. more ⊕ rows_tokens (lent_rows out left s w columns drawn start bytes (number + 1) later
+          (P.lines_from n (drop (line.end - start) bytes)))) sums
           ∙ ap (λ m. m ⊕ rows_tokens (there left)) e
           ∙ put_append page (rows_tokens (here left)) (rows_tokens (there left))
           ∙ ap (λ t. page ⊕ t) (sym (told_rows-append (here left) (there left)))
           ∙ ap (λ o. page ⊕ rows_tokens (here o ++ there o)) leaves
-          ∙ ap (λ ls. page ⊕ rows_tokens (lent_rows out gap s w columns drawn start bytes number (pieces ∷ later) ls)) (sym part)
+          ∙ ap (λ ls. page ⊕ rows_tokens (lent_rows out gap s w columns drawn start bytes number (pieces ∷ later) ls))
+          (sym part)
           ∙ rest.3,
     )
 
-pub lines_more : (out : ℕ → Line → Bool) (gap left : Bool) (s : SnippetSettings) (w columns : ℕ) (labels : List Label) (placed : List PlacedLabel) (start : ℕ) (bytes : List ℕ) (first : ℕ) (blank : Bool) (begun was now : List Call → Type 0) (at number : ℕ) (line : LineOfText) (one multi : List PlacedLabel) (pieces : List Highlight) (before page more : Printout) →
-    AreLined out gap s w columns (map (drawn_of labels) placed) start bytes first blank begun was at number before page → left ≡ out number (line_of_text line) →
-    P.lines_from (start + at) (drop at bytes) ≡ line_of_text line ∷ P.lines_from line.end (drop (line.end - start) bytes) → start ≤ line.end →
+pub lines_more : (out : ℕ → Line → Bool) (gap left : Bool) (s : SnippetSettings) (w columns : ℕ) (labels : List Label)
+    (placed : List PlacedLabel) (start : ℕ) (bytes : List ℕ) (first : ℕ) (blank : Bool)
+    (begun was now : List Call → Type 0) (at number : ℕ) (line : LineOfText) (one multi : List PlacedLabel)
+    (pieces : List Highlight) (before page more : Printout) →
+    AreLined out gap s w columns (map (drawn_of labels) placed) start bytes first blank begun was at number before page
+    → left ≡ out number (line_of_text line) →
+    P.lines_from (start + at) (drop at bytes) ≡ line_of_text line
+    ∷ P.lines_from line.end (drop (line.end - start) bytes) → start ≤ line.end →
     one ≡ filter (is_one (line_of_text line)) placed → multi ≡ filter (is_multi (line_of_text line)) placed →
     ArePieces blank (decoded_text (text_in start bytes (line_of_text line))) pieces →
     Leads was (asked (decoded_text (text_in start bytes (line_of_text line))) (map piece_of pieces) ∷ []) now →
-    more ≡ page ⊕ rows_tokens (line_or_break_of gap left s w columns (map (drawn_of labels) one) (map (drawn_of labels) multi) (line_of_text line) number (cells_in s start bytes (line_of_text line)) pieces) →
-    AreLined out left s w columns (map (drawn_of labels) placed) start bytes first blank begun now (line.end - start) (number + 1) before more
-lines_more out gap left s w columns labels placed start bytes first blank begun was now at number line one multi pieces before page more h leaves part low a b p call e =
+    more ≡ page ⊕ rows_tokens (line_or_break_of gap left s w columns (map (drawn_of labels) one)
+    (map (drawn_of labels) multi) (line_of_text line) number (cells_in s start bytes (line_of_text line)) pieces) →
+    AreLined out left s w columns (map (drawn_of labels) placed) start bytes first blank begun now (line.end - start)
+    (number + 1) before more
+lines_more out gap left s w columns labels placed start bytes first blank begun was now at number line one multi pieces
+    before page more h leaves part low a b p call e =
     let drawn : List DrawnLabel = map (drawn_of labels) placed in
     let cells : List Cell = cells_in s start bytes (line_of_text line) in
-    lines_more_of out gap left s w columns drawn start bytes first blank begun was now at number line pieces before page more h leaves part low p call
-    (e ∙ ap (λ x. page ⊕ rows_tokens (line_or_break_of gap left s w columns x (map (drawn_of labels) multi) (line_of_text line) number cells pieces)) (ap (map (drawn_of labels)) a ∙ one_same labels placed (line_of_text line))
-    ∙ ap (λ x. page ⊕ rows_tokens (line_or_break_of gap left s w columns (one_line (line_of_text line) drawn) x (line_of_text line) number cells pieces)) (ap (map (drawn_of labels)) b ∙ multi_same labels placed (line_of_text line)))
+    lines_more_of out gap left s w columns drawn start bytes first blank begun was now at number line pieces before page
+    more h leaves part low p call
+    (e ∙ ap (λ x. page ⊕ rows_tokens (line_or_break_of gap left s w columns x (map (drawn_of labels) multi)
+    (line_of_text line) number cells pieces)) (ap (map (drawn_of labels)) a
+    ∙ one_same labels placed (line_of_text line))
+    ∙ ap (λ x. page ⊕ rows_tokens (line_or_break_of gap left s w columns (one_line (line_of_text line) drawn) x
+    (line_of_text line) number cells pieces)) (ap (map (drawn_of labels)) b
+    ∙ multi_same labels placed (line_of_text line)))
 
 -- all lines are drawn
-pub lines_all : (out : ℕ → Line → Bool) (gap : Bool) (s : SnippetSettings) (w columns : ℕ) (drawn : List DrawnLabel) (start : ℕ) (bytes : List ℕ) (first : ℕ) (blank : Bool) (begun now : List Call → Type 0) (at number : ℕ) (before page : Printout) →
+pub lines_all : (out : ℕ → Line → Bool) (gap : Bool) (s : SnippetSettings) (w columns : ℕ) (drawn : List DrawnLabel)
+    (start : ℕ) (bytes : List ℕ) (first : ℕ) (blank : Bool) (begun now : List Call → Type 0) (at number : ℕ)
+    (before page : Printout) →
     AreLined out gap s w columns drawn start bytes first blank begun now at number before page → length bytes ≤ at →
-    PutsRows blank (λ calls. Leads begun calls now) (texts_in start bytes (P.lines_from start bytes)) (λ pieces. lent_rows out false s w columns drawn start bytes first pieces (P.lines_from start bytes)) before page
+    PutsRows blank (λ calls. Leads begun calls now) (texts_in start bytes (P.lines_from start bytes))
+    (λ pieces. lent_rows out false s w columns drawn start bytes first pieces (P.lines_from start bytes)) before page
 lines_all out gap s w columns drawn start bytes first blank begun now at number before page h le =
     let none : drop at bytes ≡ [] = drop_all at bytes le in
-    let all = h [] (subst (λ (xs : List ℕ). EachHasPieces blank (texts_in start bytes (P.lines_from (start + at) xs)) []) (sym none) tt) in
+    let all = h [] (subst (λ (xs : List ℕ). EachHasPieces blank (texts_in start bytes (P.lines_from (start + at) xs))
+    []) (sym none) tt) in
     record {
       pieces = all.0;
       are = all.1;
-      calls = λ later k. all.2 later (subst (λ (xs : List ℕ). now (line_calls (texts_in start bytes (P.lines_from (start + at) xs)) [] ++ later)) (sym none) k);
-      is = sym (put_nil page) ∙ ap (λ xs. page ⊕ rows_tokens (lent_rows out gap s w columns drawn start bytes number [] (P.lines_from (start + at) xs))) (sym none) ∙ all.3;
+      calls = λ later k. all.2 later (subst (λ (xs : List ℕ). now
+          (line_calls (texts_in start bytes (P.lines_from (start + at) xs)) [] ++ later)) (sym none) k);
+      is = sym (put_nil page) ∙ ap (λ xs. page ⊕ rows_tokens
+          (lent_rows out gap s w columns drawn start bytes number [] (P.lines_from (start + at) xs))) (sym none)
+          ∙ all.3;
     }
 
 -- the rows of a snippet whose lines are counted
-told_counted : (s : SnippetSettings) (spreads : List Spread) (labels : List Label) (placed : List PlacedLabel) (lent : Contents) (place : Option Place) (pieces : List (List Highlight)) (w columns lines most : ℕ) (p0 p1 p2 p3 : Printout) →
-    lines ≡ length (lines_of_contents lent) → most ≡ most_multi placed (lines_of_contents lent) → w ≡ width_of_count lent.line lines → columns ≡ gutter_of most →
+told_counted : (s : SnippetSettings) (spreads : List Spread) (labels : List Label) (placed : List PlacedLabel)
+    (lent : Contents) (place : Option Place) (pieces : List (List Highlight)) (w columns lines most : ℕ)
+    (p0 p1 p2 p3 : Printout) →
+    lines ≡ length (lines_of_contents lent) → most ≡ most_multi placed (lines_of_contents lent) → w
+    ≡ width_of_count lent.line lines → columns ≡ gutter_of most →
     p1 ≡ p0 ⊕ rows_tokens (top_row_of s w lent.name (ltb 1 lines) place ∷ []) →
-    p2 ≡ p1 ⊕ rows_tokens (lent_rows (left_out s lent.line (lines_of_contents lent) spreads) false s w columns (map (drawn_of labels) placed) lent.span.offset lent.bytes (lent.line + 1) pieces (lines_of_contents lent)) →
-    p3 ≡ p2 ⊕ rows_tokens (bottom_row s w ∷ []) → p3 ≡ p0 ⊕ rows_tokens (lent_snippet s spreads (map (drawn_of labels) placed) lent place pieces)
+    p2 ≡ p1 ⊕ rows_tokens (lent_rows (left_out s lent.line (lines_of_contents lent) spreads) false s w columns
+    (map (drawn_of labels) placed) lent.span.offset lent.bytes (lent.line + 1) pieces (lines_of_contents lent)) →
+    p3 ≡ p2 ⊕ rows_tokens (bottom_row s w ∷ []) → p3 ≡ p0
+    ⊕ rows_tokens (lent_snippet s spreads (map (drawn_of labels) placed) lent place pieces)
 told_counted s spreads labels placed lent place pieces w columns lines most p0 p1 p2 p3 many widest width gutter a b c =
     let drawn : List DrawnLabel = map (drawn_of labels) placed in
     let real : List Line = lines_of_contents lent in
     let out : ℕ → Line → Bool = left_out s lent.line real spreads in
     let whole : w ≡ number_width lent = width ∙ ap (width_of_count lent.line) many ∙ sym (width_is lent.line real) in
     let room : columns ≡ gutter_columns drawn real = gutter ∙ ap gutter_of (widest ∙ most_is labels placed real) in
-    told_parts p0 p1 p2 p3 (top_row_of s w lent.name (ltb 1 lines) place) (bottom_row s w) (lent_rows out false s w columns drawn lent.span.offset lent.bytes (lent.line + 1) pieces real) a b c
-    ∙ ap (λ n. p0 ⊕ rows_tokens (top_row_of s n lent.name (ltb 1 lines) place ∷ lent_rows out false s n columns drawn lent.span.offset lent.bytes (lent.line + 1) pieces real ++ bottom_row s n ∷ [])) whole
-    ∙ ap (λ n. p0 ⊕ rows_tokens (top_row_of s (number_width lent) lent.name (ltb 1 n) place ∷ lent_rows out false s (number_width lent) columns drawn lent.span.offset lent.bytes (lent.line + 1) pieces real ++ bottom_row s (number_width lent) ∷ [])) many
-    ∙ ap (λ n. p0 ⊕ rows_tokens (top_row s lent place ∷ lent_rows out false s (number_width lent) n drawn lent.span.offset lent.bytes (lent.line + 1) pieces real ++ bottom_row s (number_width lent) ∷ [])) room
+    told_parts p0 p1 p2 p3 (top_row_of s w lent.name (ltb 1 lines) place) (bottom_row s w)
+    (lent_rows out false s w columns drawn lent.span.offset lent.bytes (lent.line + 1) pieces real) a b c
+    ∙ ap (λ n. p0 ⊕ rows_tokens (top_row_of s n lent.name (ltb 1 lines) place
+    ∷ lent_rows out false s n columns drawn lent.span.offset lent.bytes (lent.line + 1) pieces real
+    ++ bottom_row s n ∷ [])) whole
+    ∙ ap (λ n. p0 ⊕ rows_tokens (top_row_of s (number_width lent) lent.name (ltb 1 n) place
+    ∷ lent_rows out false s (number_width lent) columns drawn lent.span.offset lent.bytes (lent.line + 1) pieces
+    real ++ bottom_row s (number_width lent) ∷ [])) many
+    ∙ ap (λ n. p0 ⊕ rows_tokens (top_row s lent place ∷ lent_rows out false s (number_width lent) n drawn
+    lent.span.offset lent.bytes (lent.line + 1) pieces real ++ bottom_row s (number_width lent) ∷ [])) room
 
 -- what the getters of a read gave stands for its parts
-pub told_lent : (s : SnippetSettings) (spreads : List Spread) (labels : List Label) (placed : List PlacedLabel) (lent : Contents) (place : Option Place) (blank : Bool) (happen : List Call → Type 0) (w columns lines most line start : ℕ) (name : Option (List ℕ)) (bytes : List ℕ) (p0 p1 p2 p3 : Printout) →
+pub told_lent : (s : SnippetSettings) (spreads : List Spread) (labels : List Label) (placed : List PlacedLabel)
+    (lent : Contents) (place : Option Place) (blank : Bool) (happen : List Call → Type 0)
+    (w columns lines most line start : ℕ) (name : Option (List ℕ)) (bytes : List ℕ) (p0 p1 p2 p3 : Printout) →
     line ≡ lent.line → start ≡ lent.span.offset → name ≡ lent.name → bytes ≡ lent.bytes →
-    lines ≡ length (P.lines_from start bytes) → most ≡ most_multi placed (P.lines_from start bytes) → w ≡ width_of_count line lines → columns ≡ gutter_of most →
+    lines ≡ length (P.lines_from start bytes) → most ≡ most_multi placed (P.lines_from start bytes) → w
+    ≡ width_of_count line lines → columns ≡ gutter_of most →
     p1 ≡ p0 ⊕ rows_tokens (top_row_of s w name (ltb 1 lines) place ∷ []) →
-    PutsRows blank happen (texts_in start bytes (P.lines_from start bytes)) (λ pieces. lent_rows (left_out s line (P.lines_from start bytes) spreads) false s w columns (map (drawn_of labels) placed) start bytes (line + 1) pieces (P.lines_from start bytes)) p1 p2 →
+    PutsRows blank happen (texts_in start bytes (P.lines_from start bytes))
+    (λ pieces. lent_rows (left_out s line (P.lines_from start bytes) spreads) false s w columns
+    (map (drawn_of labels) placed) start bytes (line + 1) pieces (P.lines_from start bytes)) p1 p2 →
     p3 ≡ p2 ⊕ rows_tokens (bottom_row s w ∷ []) →
     PutsRows blank happen (lent_texts lent) (lent_snippet s spreads (map (drawn_of labels) placed) lent place) p0 p3
-told_lent s spreads labels placed lent place blank happen w columns lines most line start name bytes p0 p1 p2 p3 la at named data' many widest width gutter a b c =
+told_lent s spreads labels placed lent place blank happen w columns lines most line start name bytes p0 p1 p2 p3 la at
+    named data' many widest width gutter a b c =
     let drawn : List DrawnLabel = map (drawn_of labels) placed in
-    let same : P.lines_from start bytes ≡ lines_of_contents lent = ap (λ n. P.lines_from n bytes) at ∙ ap (P.lines_from lent.span.offset) data' in
+    let same : P.lines_from start bytes ≡ lines_of_contents lent = ap (λ n. P.lines_from n bytes) at
+    ∙ ap (P.lines_from lent.span.offset) data' in
     record {
       pieces = b.pieces;
       calls = subst (λ (ls : List Line). happen (line_calls (texts_in lent.span.offset lent.bytes ls) b.pieces)) same
-          (subst (λ (n : ℕ). happen (line_calls (texts_in n lent.bytes (P.lines_from start bytes)) b.pieces)) at (subst (λ (bs : List ℕ). happen (line_calls (texts_in start bs (P.lines_from start bytes)) b.pieces)) data' b.calls));
+          (subst (λ (n : ℕ). happen (line_calls (texts_in n lent.bytes (P.lines_from start bytes)) b.pieces)) at
+          (subst (λ (bs : List ℕ). happen (line_calls (texts_in start bs (P.lines_from start bytes)) b.pieces))
+          data' b.calls));
       are = subst (λ (ls : List Line). EachHasPieces blank (texts_in lent.span.offset lent.bytes ls) b.pieces) same
-          (subst (λ (n : ℕ). EachHasPieces blank (texts_in n lent.bytes (P.lines_from start bytes)) b.pieces) at (subst (λ (bs : List ℕ). EachHasPieces blank (texts_in start bs (P.lines_from start bytes)) b.pieces) data' b.are));
-      is = told_counted s spreads labels placed lent place b.pieces w columns lines most p0 p1 p2 p3 (many ∙ ap length same) (widest ∙ ap (most_multi placed) same) (width ∙ ap (λ n. width_of_count n lines) la) gutter
+          (subst (λ (n : ℕ). EachHasPieces blank (texts_in n lent.bytes (P.lines_from start bytes)) b.pieces) at
+          (subst (λ (bs : List ℕ). EachHasPieces blank (texts_in start bs (P.lines_from start bytes)) b.pieces)
+          data' b.are));
+      is = told_counted s spreads labels placed lent place b.pieces w columns lines most p0 p1 p2 p3
+          (many ∙ ap length same) (widest ∙ ap (most_multi placed) same) (width ∙ ap (λ n. width_of_count n lines) la)
+          gutter
           (a ∙ ap (λ n. p0 ⊕ rows_tokens (top_row_of s w n (ltb 1 lines) place ∷ [])) named)
-          (b.is ∙ ap (λ ls. p1 ⊕ rows_tokens (lent_rows (left_out s line ls spreads) false s w columns drawn start bytes (line + 1) b.pieces ls)) same
-          ∙ ap (λ n. p1 ⊕ rows_tokens (lent_rows (left_out s line (lines_of_contents lent) spreads) false s w columns drawn n bytes (line + 1) b.pieces (lines_of_contents lent))) at
-          ∙ ap (λ n. p1 ⊕ rows_tokens (lent_rows (left_out s line (lines_of_contents lent) spreads) false s w columns drawn lent.span.offset n (line + 1) b.pieces (lines_of_contents lent))) data'
-          ∙ ap (λ n. p1 ⊕ rows_tokens (lent_rows (left_out s n (lines_of_contents lent) spreads) false s w columns drawn lent.span.offset lent.bytes (n + 1) b.pieces (lines_of_contents lent))) la)
+          (b.is ∙ ap (λ ls. p1 ⊕ rows_tokens (lent_rows (left_out s line ls spreads) false s w columns drawn start bytes
+          (line + 1) b.pieces ls)) same
+          ∙ ap (λ n. p1 ⊕ rows_tokens (lent_rows (left_out s line (lines_of_contents lent) spreads) false s w columns
+          drawn n bytes (line + 1) b.pieces (lines_of_contents lent))) at
+          ∙ ap (λ n. p1 ⊕ rows_tokens (lent_rows (left_out s line (lines_of_contents lent) spreads) false s w columns
+          drawn lent.span.offset n (line + 1) b.pieces (lines_of_contents lent))) data'
+          ∙ ap (λ n. p1 ⊕ rows_tokens (lent_rows (left_out s n (lines_of_contents lent) spreads) false s w columns drawn
+          lent.span.offset lent.bytes (n + 1) b.pieces (lines_of_contents lent))) la)
           c;
     }
 
 -- a restart before the calls for lines
-pub restarted_first : (blank : Bool) (had begun now : List Call → Type 0) (texts : List (List ℕ)) (rows : List (List Highlight) → List Row) (read : Contents) (before after : Printout) →
-    Leads had (restarted read ∷ []) begun → PutsRows blank (λ calls. Leads begun calls now) texts rows before after → PutsRows blank (λ calls. Leads had (restarted read ∷ calls) now) texts rows before after
+pub restarted_first : (blank : Bool) (had begun now : List Call → Type 0) (texts : List (List ℕ))
+    (rows : List (List Highlight) → List Row) (read : Contents) (before after : Printout) →
+    Leads had (restarted read ∷ []) begun → PutsRows blank (λ calls. Leads begun calls now) texts rows before after
+    → PutsRows blank (λ calls. Leads had (restarted read ∷ calls) now) texts rows before after
 restarted_first blank had begun now texts rows read before after first h =
-    record { pieces = h.pieces; are = h.are; calls = λ later k. first (line_calls texts h.pieces ++ later) (h.calls later k); is = h.is }
+    record {
+      pieces = h.pieces;
+      are = h.are;
+      calls = λ later k. first (line_calls texts h.pieces ++ later)
+          (h.calls later k);
+      is = h.is;
+    }

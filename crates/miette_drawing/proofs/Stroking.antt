@@ -1,7 +1,8 @@
 -- What mark rows tell.
 use Rattle.miette_page.proofs.Paging.{put_append}
 use Rattle.miette_page.specs.views.Printouts.{Printout, ◌⊕◌}
-use Rattle.std.proofs.Common.{ℕ, zero, suc, ◌+◌, ◌-◌, ◌<◌, ◌≤◌, ◌≡◌, false, cond, eqb, List, [], ◌∷◌, ◌++◌, map, length, drop, get_or, replicate, refl, sym, ap, ◌∙◌, append_assoc, arith, Option, Some}
+use Rattle.std.proofs.Common.{ℕ, zero, suc, ◌+◌, ◌-◌, ◌<◌, ◌≤◌, ◌≡◌, false, cond, eqb, List, [], ◌∷◌, ◌++◌, map, length}
+use Rattle.std.proofs.Common.{drop, get_or, replicate, refl, sym, ap, ◌∙◌, append_assoc, arith, Option, Some}
 use Rattle.std.specs.Prelude.{chars}
 use Rattle.std.proofs.lemmas.List.{at_drop_more, map-append}
 use Rattle.std.proofs.lemmas.Bool.{eq-eqb, ne_eqb}
@@ -26,18 +27,25 @@ mapped_codes : (w f : ℕ → ℕ) (ks : List ℕ) → map (λ p. p.code) (map (
 mapped_codes w f [] = refl
 mapped_codes w f (k ∷ ks) = ap (λ r. f k ∷ r) (mapped_codes w f ks)
 
-constant : (f : ℕ → ℕ) (u from n : ℕ) → ((k : ℕ) → from ≤ k → k < from + n → f k ≡ u) → map f (range_with_len from n) ≡ replicate n u
+constant : (f : ℕ → ℕ) (u from n : ℕ) → ((k : ℕ) → from ≤ k → k < from + n → f k ≡ u) → map f (range_with_len from n)
+    ≡ replicate n u
 constant f u from zero h = refl
-constant f u from (suc n) h = rw (h from (omega arith) (omega arith)) (ap (λ r. u ∷ r) (constant f u (from + 1) n (λ k a b. h k (omega arith) (omega arith))))
+constant f u from (suc n) h = rw (h from (omega arith) (omega arith))
+    (ap (λ r. u ∷ r) (constant f u (from + 1) n (λ k a b. h k (omega arith) (omega arith))))
 
 abbrev pub middle : Characters → Mark → ℕ
 middle t m = cond (is_empty m.label) t.uarrow (code_with_parts t m.label.parts)
 
 -- a mark's characters, where its anchor is so many columns behind its start and before its end
-codes_by : (t : Characters) (m : Mark) (x y : ℕ) → m.anchor ≡ m.from + x → map (mark_code t m) (range_with_len m.from (x + suc y)) ≡ (replicate x t.underline ++ middle t m ∷ []) ++ replicate y t.underline
+codes_by : (t : Characters) (m : Mark) (x y : ℕ) → m.anchor ≡ m.from + x
+    → map (mark_code t m) (range_with_len m.from (x + suc y)) ≡ (replicate x t.underline ++ middle t m ∷ [])
+    ++ replicate y t.underline
 codes_by t m x y e =
-    let before : map (mark_code t m) (range_with_len m.from x) ≡ replicate x t.underline = constant (mark_code t m) t.underline m.from x (λ k a b. elsewhere t m k (ne_eqb k m.anchor (omega arith))) in
-    let after : map (mark_code t m) (range_with_len (m.from + x + 1) y) ≡ replicate y t.underline = constant (mark_code t m) t.underline (m.from + x + 1) y (λ k a b. elsewhere t m k (ne_eqb k m.anchor (omega arith))) in
+    let before : map (mark_code t m) (range_with_len m.from x) ≡ replicate x t.underline =
+    constant (mark_code t m) t.underline m.from x (λ k a b. elsewhere t m k (ne_eqb k m.anchor (omega arith))) in
+    let after : map (mark_code t m) (range_with_len (m.from + x + 1) y) ≡ replicate y t.underline =
+    constant (mark_code t m) t.underline (m.from + x + 1) y
+    (λ k a b. elsewhere t m k (ne_eqb k m.anchor (omega arith))) in
     ap (map (mark_code t m)) (range_with_len-append m.from x (suc y))
     ∙ map-append (mark_code t m) (range_with_len m.from x) ((m.from + x) ∷ range_with_len (m.from + x + 1) y)
     ∙ ap (λ r. r ++ mark_code t m (m.from + x) ∷ map (mark_code t m) (range_with_len (m.from + x + 1) y)) before
@@ -51,16 +59,21 @@ codes_by t m x y e =
     here : (t : Characters) (m : Mark) (k : ℕ) → k ≡ m.anchor → mark_code t m k ≡ middle t m
     here t m k h = ap (λ b. cond b (middle t m) t.underline) (eq-eqb k m.anchor h)
 
-pub mark_put : (w : ℕ → ℕ) (t : Characters) (m : Mark) (at x y c : ℕ) (p q r s n : Printout) → at ≡ m.anchor → m.from ≤ at → at < m.until → x ≡ at - m.from → y ≡ m.until - at - 1 → c ≡ middle t m →
-    q ≡ p ⊕ begins m.label.style ∷ [] → r ≡ q ⊕ text_tokens (replicate x t.underline) → s ≡ r ⊕ text_tokens (c ∷ []) → n ≡ s ⊕ text_tokens (replicate y t.underline) → n ≡ p ⊕ run_tokens (mark_run w t m)
+pub mark_put : (w : ℕ → ℕ) (t : Characters) (m : Mark) (at x y c : ℕ) (p q r s n : Printout) → at ≡ m.anchor → m.from
+    ≤ at → at < m.until → x ≡ at - m.from → y ≡ m.until - at - 1 → c ≡ middle t m →
+    q ≡ p ⊕ begins m.label.style ∷ [] → r ≡ q ⊕ text_tokens (replicate x t.underline) → s ≡ r ⊕ text_tokens (c ∷ []) → n
+    ≡ s ⊕ text_tokens (replicate y t.underline) → n ≡ p ⊕ run_tokens (mark_run w t m)
 mark_put w t m at x y c p q r s n a le lt ex ey ec hq hr hs hn =
     let style : Style = m.label.style in
     let xs : List ℕ = replicate x t.underline in
     let ys : List ℕ = replicate y t.underline in
     let many : m.until - m.from ≡ x + suc y = omega arith in
     let begun : r ≡ p ⊕ styled_tokens style xs = then p (begins style ∷ []) (text_tokens xs) hq hr in
-    let middled : s ≡ p ⊕ styled_tokens style (xs ++ c ∷ []) = told_as p (styled_tokens style xs ++ text_tokens (c ∷ [])) (styled_tokens style (xs ++ c ∷ [])) (then p (styled_tokens style xs) (text_tokens (c ∷ [])) begun hs) (run_one style xs c) in
-    told_as p (styled_tokens style (xs ++ c ∷ []) ++ text_tokens ys) (run_tokens (mark_run w t m)) (then p (styled_tokens style (xs ++ c ∷ [])) (text_tokens ys) middled hn)
+    let middled : s ≡ p ⊕ styled_tokens style (xs ++ c ∷ []) =
+    told_as p (styled_tokens style xs ++ text_tokens (c ∷ [])) (styled_tokens style (xs ++ c ∷ []))
+    (then p (styled_tokens style xs) (text_tokens (c ∷ [])) begun hs) (run_one style xs c) in
+    told_as p (styled_tokens style (xs ++ c ∷ []) ++ text_tokens ys) (run_tokens (mark_run w t m))
+    (then p (styled_tokens style (xs ++ c ∷ [])) (text_tokens ys) middled hn)
     (run_more style (xs ++ c ∷ []) ys
     ∙ ap (λ k. styled_tokens style ((xs ++ k ∷ []) ++ ys)) ec
     ∙ ap (styled_tokens style) (sym (codes_by t m x y (omega arith)))
@@ -68,13 +81,17 @@ mark_put w t m at x y c p q r s n a le lt ex ey ec hq hr hs hn =
     ∙ ap (styled_tokens style) (sym (mapped_codes w (mark_code t m) (range_with_len m.from (m.until - m.from)))))
 
 -- one more mark
-pub mark_more : (w : ℕ → ℕ) (t : Characters) (ls : List Label) (marks : List MadeMark) (i reached gap : ℕ) (d : MadeMark) (row spaced new whole : Printout) → i < length marks → gap ≡ (get_or marks i d).from - reached →
-    spaced ≡ row ⊕ styled_tokens plain (replicate gap 32) → new ≡ spaced ⊕ run_tokens (mark_run w t (mark_of ls (get_or marks i d))) →
-    row ⊕ row_tokens (mark_runs w t reached (map (mark_of ls) (drop i marks))) ≡ whole → new ⊕ row_tokens (mark_runs w t (get_or marks i d).until (map (mark_of ls) (drop (i + 1) marks))) ≡ whole
+pub mark_more : (w : ℕ → ℕ) (t : Characters) (ls : List Label) (marks : List MadeMark) (i reached gap : ℕ)
+    (d : MadeMark) (row spaced new whole : Printout) → i < length marks → gap ≡ (get_or marks i d).from - reached →
+    spaced ≡ row ⊕ styled_tokens plain (replicate gap 32) → new ≡ spaced
+    ⊕ run_tokens (mark_run w t (mark_of ls (get_or marks i d))) →
+    row ⊕ row_tokens (mark_runs w t reached (map (mark_of ls) (drop i marks))) ≡ whole → new
+    ⊕ row_tokens (mark_runs w t (get_or marks i d).until (map (mark_of ls) (drop (i + 1) marks))) ≡ whole
 mark_more w t ls marks i reached gap d row spaced new whole lt z s n h =
     let m : Mark = mark_of ls (get_or marks i d) in
     let rest : List Token = row_tokens (mark_runs w t m.until (map (mark_of ls) (drop (i + 1) marks))) in
-    ap (λ r. r ⊕ rest) (n ∙ ap (λ r. r ⊕ run_tokens (mark_run w t m)) (s ∙ ap (λ k. row ⊕ styled_tokens plain (replicate k 32)) z))
+    ap (λ r. r ⊕ rest) (n ∙ ap (λ r. r ⊕ run_tokens (mark_run w t m))
+    (s ∙ ap (λ k. row ⊕ styled_tokens plain (replicate k 32)) z))
     ∙ put_append (row ⊕ styled_tokens plain (replicate (m.from - reached) 32)) (run_tokens (mark_run w t m)) rest
     ∙ put_append row (styled_tokens plain (replicate (m.from - reached) 32)) (run_tokens (mark_run w t m) ++ rest)
     ∙ ap (λ r. row ⊕ (r ++ (run_tokens (mark_run w t m) ++ rest))) (sym (blank_told w (m.from - reached)))
@@ -87,11 +104,16 @@ middle_onto t code (part ∷ parts) = refl
 
 middle_of_cut : (t : Characters) (codes : List ℕ) → t.underbar ≡ code_with_parts t (cut_at_lf codes)
 middle_of_cut t [] = refl
-middle_of_cut t (c ∷ cs) = by_cases (eqb c 10) (λ e. ap (λ b. code_with_parts t (cond b ([] ∷ cut_at_lf cs) (onto c (cut_at_lf cs)))) (sym e))
-    (λ e. middle_onto t c (cut_at_lf cs) ∙ ap (λ b. code_with_parts t (cond b ([] ∷ cut_at_lf cs) (onto c (cut_at_lf cs)))) (sym e))
+middle_of_cut t (c ∷ cs) = by_cases (eqb c 10) (λ e. ap (λ b. code_with_parts t
+    (cond b ([] ∷ cut_at_lf cs) (onto c (cut_at_lf cs)))) (sym e))
+    (λ e. middle_onto t c (cut_at_lf cs) ∙ ap (λ b. code_with_parts t
+    (cond b ([] ∷ cut_at_lf cs) (onto c (cut_at_lf cs)))) (sym e))
 
-pub middle_of_some : (t : Characters) (text : Option (List ℕ)) (bytes : List ℕ) → text ≡ Some bytes → t.underbar ≡ code_with_parts t (parts_of text)
+pub middle_of_some : (t : Characters) (text : Option (List ℕ)) (bytes : List ℕ) → text ≡ Some bytes → t.underbar
+    ≡ code_with_parts t (parts_of text)
 middle_of_some t text bytes e = middle_of_cut t (chars bytes) ∙ ap (λ x. code_with_parts t (parts_of x)) (sym e)
 
-pub middle_of_full : (t : Characters) (start after : ℕ) (text : Option (List ℕ)) (bytes : List ℕ) → (start ≡ after → ⊥) → text ≡ Some bytes → t.underbar ≡ cond (eqb start after) t.uarrow (code_with_parts t (parts_of text))
-middle_of_full t start after text bytes h e = middle_of_some t text bytes e ∙ ap (λ b. cond b t.uarrow (code_with_parts t (parts_of text))) (sym (ne_eqb start after h))
+pub middle_of_full : (t : Characters) (start after : ℕ) (text : Option (List ℕ)) (bytes : List ℕ) → (start ≡ after → ⊥)
+    → text ≡ Some bytes → t.underbar ≡ cond (eqb start after) t.uarrow (code_with_parts t (parts_of text))
+middle_of_full t start after text bytes h e = middle_of_some t text bytes e
+    ∙ ap (λ b. cond b t.uarrow (code_with_parts t (parts_of text))) (sym (ne_eqb start after h))

@@ -1,5 +1,6 @@
 -- Pieces of a highlighter, and rows of lines that are left plain.
-use Rattle.std.proofs.Common.{ℕ, ◌+◌, ◌≡◌, ◌∙◌, ◌++◌, length, Bool, true, false, List, [], ◌∷◌, map, refl, sym, ap, ap₂, subst, drop}
+use Rattle.std.proofs.Common.{ℕ, ◌+◌, ◌≡◌, ◌∙◌, ◌++◌, length, Bool, true, false, List, [], ◌∷◌, map, refl, sym, ap, ap₂}
+use Rattle.std.proofs.Common.{subst, drop}
 use Rattle.miette_source_lines.specs.rules.Lines.{Line}
 use Rattle.miette_protocol.specs.views.Meaning.{Label}
 use Rattle.miette_protocol.specs.rules.Reading.{Span, Source, Contents}
@@ -10,54 +11,73 @@ use Rattle.miette_labels.specs.rules.Contexts.{contents, lines_of_contents}
 use Rattle.miette_snippet_rules.specs.rules.Folds.{Spread}
 use Rattle.miette_snippet_rules.specs.rules.Frames.{SnippetSettings, top_row, bottom_row, number_width}
 use Rattle.miette_snippet_rules.specs.rules.Gutters.{gutter_columns}
-use Rattle.miette_snippet_rules.specs.rules.Highlighting.{ArePieces, EachHasPieces, SnippetsHavePieces, highlight_of, piece_of, texts_of, line_calls, group_calls}
+use Rattle.miette_snippet_rules.specs.rules.Highlighting.{ArePieces, EachHasPieces, SnippetsHavePieces, highlight_of}
+use Rattle.miette_snippet_rules.specs.rules.Highlighting.{piece_of, texts_of, line_calls, group_calls}
 use Rattle.miette_labels.specs.rules.Labels.{DrawnLabel}
-use Rattle.miette_snippet_rules.specs.rules.SnippetLayout.{line_or_break, rows_of_lines, left_out, cells_of, drawn_labels, all_snippets, place_of}
+use Rattle.miette_snippet_rules.specs.rules.SnippetLayout.{line_or_break, rows_of_lines, left_out, cells_of}
+use Rattle.miette_snippet_rules.specs.rules.SnippetLayout.{drawn_labels, all_snippets, place_of}
 
 pub same_pieces : (ps : List Piece) → map piece_of (map highlight_of ps) ≡ ps
 same_pieces [] = refl
 same_pieces (p ∷ ps) = ap (λ r. p ∷ r) (same_pieces ps)
 
 -- pieces that were answered
-pub cut_pieces : (blank : Bool) (text : List ℕ) (ps : List Piece) → CutsLine text ps → (blank ≡ true → ps ≡ []) → ArePieces blank text (map highlight_of ps)
+pub cut_pieces : (blank : Bool) (text : List ℕ) (ps : List Piece) → CutsLine text ps → (blank ≡ true → ps ≡ [])
+    → ArePieces blank text (map highlight_of ps)
 cut_pieces blank text ps h n = record {
   cut = λ some. subst (λ (qs : List Piece). CutsLine text qs) (sym (same_pieces ps)) h;
   none = λ b. ap (map highlight_of) (n b);
 }
 
 -- rows of lines that are left plain
-rows_plain : (out : ℕ → Line → Bool) (gap : Bool) (s : SnippetSettings) (w columns : ℕ) (labels : List DrawnLabel) (source : List ℕ) (number : ℕ) (pieces : List (List Highlight)) (ls : List Line) → EachHasPieces true (texts_of source ls) pieces →
-    rows_of_lines out gap s w columns labels source number pieces ls ≡ rows_of_lines out gap s w columns labels source number [] ls
+rows_plain : (out : ℕ → Line → Bool) (gap : Bool) (s : SnippetSettings) (w columns : ℕ) (labels : List DrawnLabel)
+    (source : List ℕ) (number : ℕ) (pieces : List (List Highlight)) (ls : List Line)
+    → EachHasPieces true (texts_of source ls) pieces →
+    rows_of_lines out gap s w columns labels source number pieces ls
+    ≡ rows_of_lines out gap s w columns labels source number [] ls
 rows_plain out gap s w columns labels source number pieces [] h = refl
 rows_plain out gap s w columns labels source number pieces (l ∷ ls) h =
-    ap₂ (λ p r. line_or_break gap (out number l) s w columns labels l number (cells_of s source l) p ++ r) (h.0.none refl) (rows_plain out (out number l) s w columns labels source (number + 1) (drop 1 pieces) ls h.1)
+    ap₂ (λ p r. line_or_break gap (out number l) s w columns labels l number (cells_of s source l) p ++ r)
+    (h.0.none refl) (rows_plain out (out number l) s w columns labels source (number + 1) (drop 1 pieces) ls h.1)
 
-pub snippets_plain : (s : SnippetSettings) (spreads : List Spread) (source : Source) (labels : List Label) (pieces : List (List (List Highlight))) (groups : List Span) → SnippetsHavePieces s.context true source groups pieces →
+pub snippets_plain : (s : SnippetSettings) (spreads : List Spread) (source : Source) (labels : List Label)
+    (pieces : List (List (List Highlight))) (groups : List Span)
+    → SnippetsHavePieces s.context true source groups pieces →
     all_snippets s spreads source labels pieces groups ≡ all_snippets s spreads source labels [] groups
 snippets_plain s spreads source labels pieces [] h = refl
 snippets_plain s spreads source labels pieces (group ∷ groups) h =
     let lent : Contents = contents s.context source group in
     let drawn : List DrawnLabel = drawn_labels s (length source.bytes) labels in
-    ap₂ (λ rows more. (top_row s lent (place_of source group labels) ∷ rows ++ bottom_row s (number_width lent) ∷ []) ++ more)
-    (rows_plain (left_out s lent.line (lines_of_contents lent) spreads) false s (number_width lent) (gutter_columns drawn (lines_of_contents lent)) drawn source.bytes (lent.line + 1) (first_of pieces) (lines_of_contents lent) h.0)
+    ap₂ (λ rows more. (top_row s lent (place_of source group labels) ∷ rows ++ bottom_row s (number_width lent) ∷ [])
+    ++ more)
+    (rows_plain (left_out s lent.line (lines_of_contents lent) spreads) false s (number_width lent)
+    (gutter_columns drawn (lines_of_contents lent)) drawn source.bytes (lent.line + 1) (first_of pieces)
+    (lines_of_contents lent) h.0)
     (snippets_plain s spreads source labels (drop 1 pieces) groups h.1)
 
 -- ---- calls
 
 -- a call for a line, by the pieces as they are listed
-pub call_for : (before after : List Call → Type 0) (text : List ℕ) (got ps : List Piece) → got ≡ ps → Leads before (asked text ps ∷ []) after → Leads before (asked text (map piece_of (map highlight_of got)) ∷ []) after
-call_for before after text got ps e h = subst (λ (qs : List Piece). Leads before (asked text qs ∷ []) after) (sym (same_pieces got ∙ e)) h
+pub call_for : (before after : List Call → Type 0) (text : List ℕ) (got ps : List Piece) → got ≡ ps
+    → Leads before (asked text ps ∷ []) after → Leads before (asked text (map piece_of (map highlight_of got)) ∷ [])
+    after
+call_for before after text got ps e h = subst (λ (qs : List Piece). Leads before (asked text qs ∷ []) after)
+    (sym (same_pieces got ∙ e)) h
 
-lines_plain : (texts : List (List ℕ)) (pieces : List (List Highlight)) → EachHasPieces true texts pieces → line_calls texts pieces ≡ line_calls texts []
+lines_plain : (texts : List (List ℕ)) (pieces : List (List Highlight)) → EachHasPieces true texts pieces
+    → line_calls texts pieces ≡ line_calls texts []
 lines_plain [] pieces h = refl
-lines_plain (text ∷ texts) pieces h = ap₂ (λ ps calls. asked text (map piece_of ps) ∷ calls) (h.0.none refl) (lines_plain texts (drop 1 pieces) h.1)
+lines_plain (text ∷ texts) pieces h = ap₂ (λ ps calls. asked text (map piece_of ps) ∷ calls) (h.0.none refl)
+    (lines_plain texts (drop 1 pieces) h.1)
 
 -- the calls where lines are left plain
-pub calls_plain : (context : ℕ) (source : Source) (groups : List Span) (pieces : List (List (List Highlight))) → SnippetsHavePieces context true source groups pieces →
+pub calls_plain : (context : ℕ) (source : Source) (groups : List Span) (pieces : List (List (List Highlight)))
+    → SnippetsHavePieces context true source groups pieces →
     group_calls context source groups pieces ≡ group_calls context source groups []
 calls_plain context source [] pieces h = refl
 calls_plain context source (group ∷ groups) pieces h =
     let read : Contents = contents context source group in
-    ap₂ (λ own more. restarted read ∷ own ++ more) (lines_plain (texts_of source.bytes (lines_of_contents read)) (first_of pieces) h.0) (calls_plain context source groups (drop 1 pieces) h.1)
+    ap₂ (λ own more. restarted read ∷ own ++ more) (lines_plain (texts_of source.bytes (lines_of_contents read))
+    (first_of pieces) h.0) (calls_plain context source groups (drop 1 pieces) h.1)
 
 -- ---- what counts of an answer

@@ -1,7 +1,8 @@
 -- What the rows of texts tell.
 use Rattle.miette_page.proofs.Paging.{put_append}
 use Rattle.miette_page.specs.views.Printouts.{Printout, ◌⊕◌}
-use Rattle.std.proofs.Common.{ℕ, ◌+◌, ◌-◌, ◌<◌, ◌≤◌, ◌≡◌, List, [], ◌∷◌, ◌++◌, map, length, drop, take, get_or, replicate, refl, sym, ap, ◌∙◌, append_assoc}
+use Rattle.std.proofs.Common.{ℕ, ◌+◌, ◌-◌, ◌<◌, ◌≤◌, ◌≡◌, List, [], ◌∷◌, ◌++◌, map, length, drop, take, get_or}
+use Rattle.std.proofs.Common.{replicate, refl, sym, ap, ◌∙◌, append_assoc}
 use Rattle.std.proofs.lemmas.List.{at_drop_more, at_drop_all, map-append, take_more}
 use Rattle.miette_protocol.specs.views.Meaning.{Label}
 use Rattle.miette_style.specs.declared.style.Style.{Style}
@@ -10,32 +11,42 @@ use Rattle.miette_page.specs.rules.Rows.{Row, styled_run}
 use Rattle.miette_style.specs.rules.Styles.{plain}
 use Rattle.miette_labels.specs.rules.Labels.{cut_at_lf}
 use Rattle.miette_snippet_rules.specs.rules.Marks.{Mark}
-use Rattle.miette_snippet_rules.specs.rules.Drawing.{blank, lead_runs, text_row, beside, corner_of_several, rows_of_parts, rows_below}
+use Rattle.miette_snippet_rules.specs.rules.Drawing.{blank, lead_runs, text_row, beside, corner_of_several}
+use Rattle.miette_snippet_rules.specs.rules.Drawing.{rows_of_parts, rows_below}
 use Rattle.miette_snippet_rules.specs.rules.SnippetLayout.{before_each}
 use Rattle.miette_cuts.specs.views.Marks.{mark_of}
-use Rattle.miette_page.specs.views.Tokens.{Token, row_end, row_tokens, run_tokens, rows_tokens, styled_tokens, text_tokens}
-use Rattle.miette_snippet_rules.proofs.Telling.{then, told_as, run_one, run_more, blank_told, blank_row, styled_told, styled_row, told-append, told_rows-append}
+use Rattle.miette_page.specs.views.Tokens.{Token, row_end, row_tokens, run_tokens, rows_tokens, styled_tokens}
+use Rattle.miette_page.specs.views.Tokens.{text_tokens}
+use Rattle.miette_snippet_rules.proofs.Telling.{then, told_as, run_one, run_more, blank_told, blank_row, styled_told}
+use Rattle.miette_snippet_rules.proofs.Telling.{styled_row, told-append, told_rows-append}
 use Rattle.miette_drawing.proofs.Parting.{cut_some}
 use Rattle.miette_style.specs.rules.Themes.{Characters}
 
 -- a row's end
-pub row_done : (row : Row) (p q r : Printout) → q ≡ p ⊕ row_tokens row → r ≡ q ⊕ row_end ∷ [] → r ≡ p ⊕ rows_tokens (row ∷ [])
+pub row_done : (row : Row) (p q r : Printout) → q ≡ p ⊕ row_tokens row → r ≡ q ⊕ row_end ∷ [] → r ≡ p
+    ⊕ rows_tokens (row ∷ [])
 row_done row p q r hq hr = then p (row_tokens row) (row_end ∷ []) hq hr
 
 pub row_then : (row : Row) (rows : List Row) → rows_tokens (row ∷ []) ++ rows_tokens rows ≡ rows_tokens (row ∷ rows)
 row_then row rows = append_assoc (row_tokens row) (row_end ∷ []) (rows_tokens rows)
 
-pub rows_then : (a b : List Row) (p q r : Printout) → q ≡ p ⊕ rows_tokens a → r ≡ q ⊕ rows_tokens b → r ≡ p ⊕ rows_tokens (a ++ b)
-rows_then a b p q r hq hr = told_as p (rows_tokens a ++ rows_tokens b) (rows_tokens (a ++ b)) (then p (rows_tokens a) (rows_tokens b) hq hr) (sym (told_rows-append a b))
+pub rows_then : (a b : List Row) (p q r : Printout) → q ≡ p ⊕ rows_tokens a → r ≡ q ⊕ rows_tokens b → r ≡ p
+    ⊕ rows_tokens (a ++ b)
+rows_then a b p q r hq hr = told_as p (rows_tokens a ++ rows_tokens b) (rows_tokens (a ++ b))
+    (then p (rows_tokens a) (rows_tokens b) hq hr) (sym (told_rows-append a b))
 
-pub parts_then : (a b : Row) (p q r : Printout) → q ≡ p ⊕ row_tokens a → r ≡ q ⊕ row_tokens b → r ≡ p ⊕ row_tokens (a ++ b)
-parts_then a b p q r hq hr = told_as p (row_tokens a ++ row_tokens b) (row_tokens (a ++ b)) (then p (row_tokens a) (row_tokens b) hq hr) (sym (told-append a b))
+pub parts_then : (a b : Row) (p q r : Printout) → q ≡ p ⊕ row_tokens a → r ≡ q ⊕ row_tokens b → r ≡ p
+    ⊕ row_tokens (a ++ b)
+parts_then a b p q r hq hr = told_as p (row_tokens a ++ row_tokens b) (row_tokens (a ++ b))
+    (then p (row_tokens a) (row_tokens b) hq hr) (sym (told-append a b))
 
 -- the start of other rows
-pub start_put : (w : ℕ → ℕ) (t : Characters) (columns many : ℕ) (p q r : Printout) → columns ≡ many → q ≡ p ⊕ styled_tokens plain (replicate columns 32) → r ≡ q ⊕ styled_tokens plain (t.vbar_break ∷ 32 ∷ []) →
+pub start_put : (w : ℕ → ℕ) (t : Characters) (columns many : ℕ) (p q r : Printout) → columns ≡ many → q ≡ p
+    ⊕ styled_tokens plain (replicate columns 32) → r ≡ q ⊕ styled_tokens plain (t.vbar_break ∷ 32 ∷ []) →
     r ≡ p ⊕ row_tokens (blank w many ∷ styled_run w plain (t.vbar_break ∷ 32 ∷ []) ∷ [])
 start_put w t columns many p q r e hq hr =
-    told_as p (styled_tokens plain (replicate columns 32) ++ styled_tokens plain (t.vbar_break ∷ 32 ∷ [])) (row_tokens (blank w many ∷ styled_run w plain (t.vbar_break ∷ 32 ∷ []) ∷ []))
+    told_as p (styled_tokens plain (replicate columns 32) ++ styled_tokens plain (t.vbar_break ∷ 32 ∷ []))
+    (row_tokens (blank w many ∷ styled_run w plain (t.vbar_break ∷ 32 ∷ []) ∷ []))
     (then p (styled_tokens plain (replicate columns 32)) (styled_tokens plain (t.vbar_break ∷ 32 ∷ [])) hq hr)
     (ap (λ k. styled_tokens plain (replicate k 32) ++ styled_tokens plain (t.vbar_break ∷ 32 ∷ [])) e
     ∙ ap (λ x. x ++ styled_tokens plain (t.vbar_break ∷ 32 ∷ [])) (sym (blank_row w many))
@@ -43,85 +54,122 @@ start_put w t columns many p q r e hq hr =
     ∙ sym (told-append (blank w many ∷ []) (styled_run w plain (t.vbar_break ∷ 32 ∷ []) ∷ [])))
 
 -- leads
-pub lead_more : (w : ℕ → ℕ) (t : Characters) (ls : List Label) (marks : List MadeMark) (i reached gap at column : ℕ) (d : MadeMark) (row spaced new whole : Printout) → i < length marks → at ≡ (mark_of ls (get_or marks i d)).anchor → gap ≡ at - reached →
-    spaced ≡ row ⊕ styled_tokens plain (replicate gap 32) → new ≡ spaced ⊕ styled_tokens (get_or marks i d).label.style (t.vbar ∷ []) →
-    row ⊕ row_tokens (lead_runs w t reached (map (mark_of ls) (drop i marks)) column) ≡ whole → new ⊕ row_tokens (lead_runs w t (at + 1) (map (mark_of ls) (drop (i + 1) marks)) column) ≡ whole
+pub lead_more : (w : ℕ → ℕ) (t : Characters) (ls : List Label) (marks : List MadeMark) (i reached gap at column : ℕ)
+    (d : MadeMark) (row spaced new whole : Printout) → i < length marks → at ≡ (mark_of ls (get_or marks i d)).anchor
+    → gap ≡ at - reached →
+    spaced ≡ row ⊕ styled_tokens plain (replicate gap 32) → new ≡ spaced
+    ⊕ styled_tokens (get_or marks i d).label.style (t.vbar ∷ []) →
+    row ⊕ row_tokens (lead_runs w t reached (map (mark_of ls) (drop i marks)) column) ≡ whole → new
+    ⊕ row_tokens (lead_runs w t (at + 1) (map (mark_of ls) (drop (i + 1) marks)) column) ≡ whole
 lead_more w t ls marks i reached gap at column d row spaced new whole lt a z s n h =
     let m : Mark = mark_of ls (get_or marks i d) in
     let bar : List Token = styled_tokens m.label.style (t.vbar ∷ []) in
     let rest : List Token = row_tokens (lead_runs w t (m.anchor + 1) (map (mark_of ls) (drop (i + 1) marks)) column) in
     ap (λ k. new ⊕ row_tokens (lead_runs w t (k + 1) (map (mark_of ls) (drop (i + 1) marks)) column)) a
-    ∙ ap (λ r. r ⊕ rest) (n ∙ ap (λ r. r ⊕ bar) (s ∙ ap (λ k. row ⊕ styled_tokens plain (replicate k 32)) (z ∙ ap (λ k. k - reached) a)))
+    ∙ ap (λ r. r ⊕ rest) (n ∙ ap (λ r. r ⊕ bar) (s ∙ ap (λ k. row ⊕ styled_tokens plain (replicate k 32))
+    (z ∙ ap (λ k. k - reached) a)))
     ∙ put_append (row ⊕ styled_tokens plain (replicate (m.anchor - reached) 32)) bar rest
     ∙ put_append row (styled_tokens plain (replicate (m.anchor - reached) 32)) (bar ++ rest)
     ∙ ap (λ r. row ⊕ (r ++ (bar ++ rest))) (sym (blank_told w (m.anchor - reached)))
-    ∙ ap (λ r. row ⊕ (run_tokens (blank w (m.anchor - reached)) ++ (r ++ rest))) (sym (styled_told w m.label.style (t.vbar ∷ [])))
-    ∙ ap (λ xs. row ⊕ row_tokens (lead_runs w t reached xs column)) (sym (at_drop_more (map (mark_of ls)) marks i d lt)) ∙ h
+    ∙ ap (λ r. row ⊕ (run_tokens (blank w (m.anchor - reached)) ++ (r ++ rest)))
+    (sym (styled_told w m.label.style (t.vbar ∷ [])))
+    ∙ ap (λ xs. row ⊕ row_tokens (lead_runs w t reached xs column)) (sym (at_drop_more (map (mark_of ls)) marks i d lt))
+    ∙ h
 
-pub lead_end : (w : ℕ → ℕ) (t : Characters) (ls : List Label) (marks : List MadeMark) (i reached gap column : ℕ) (row new whole : Printout) → length marks ≤ i → gap ≡ column - reached → new ≡ row ⊕ styled_tokens plain (replicate gap 32) →
+pub lead_end : (w : ℕ → ℕ) (t : Characters) (ls : List Label) (marks : List MadeMark) (i reached gap column : ℕ)
+    (row new whole : Printout) → length marks ≤ i → gap ≡ column - reached → new ≡ row
+    ⊕ styled_tokens plain (replicate gap 32) →
     row ⊕ row_tokens (lead_runs w t reached (map (mark_of ls) (drop i marks)) column) ≡ whole → new ≡ whole
 lead_end w t ls marks i reached gap column row new whole le z n h =
-    n ∙ ap (λ k. row ⊕ styled_tokens plain (replicate k 32)) z ∙ ap (λ r. row ⊕ r) (sym (blank_row w (column - reached)))
-    ∙ ap (λ xs. row ⊕ row_tokens (lead_runs w t reached xs column)) (sym (at_drop_all (map (mark_of ls)) marks i le)) ∙ h
+    n ∙ ap (λ k. row ⊕ styled_tokens plain (replicate k 32)) z
+    ∙ ap (λ r. row ⊕ r) (sym (blank_row w (column - reached)))
+    ∙ ap (λ xs. row ⊕ row_tokens (lead_runs w t reached xs column)) (sym (at_drop_all (map (mark_of ls)) marks i le))
+    ∙ h
 
 -- a row of a text: what stands before the marks, the leads, and a run
-pub run_put : (style : Style) (a b c : ℕ) (part : List ℕ) (p q r s n : Printout) → q ≡ p ⊕ styled_tokens style (a ∷ b ∷ []) → r ≡ q ⊕ text_tokens (c ∷ []) → s ≡ r ⊕ text_tokens (32 ∷ []) → n ≡ s ⊕ text_tokens part →
+pub run_put : (style : Style) (a b c : ℕ) (part : List ℕ) (p q r s n : Printout) → q ≡ p
+    ⊕ styled_tokens style (a ∷ b ∷ []) → r ≡ q ⊕ text_tokens (c ∷ []) → s ≡ r ⊕ text_tokens (32 ∷ []) → n ≡ s
+    ⊕ text_tokens part →
     n ≡ p ⊕ styled_tokens style ((a ∷ b ∷ c ∷ 32 ∷ []) ++ part)
 run_put style a b c part p q r s n hq hr hs hn =
     let two : List ℕ = a ∷ b ∷ [] in
     let three : List ℕ = a ∷ b ∷ c ∷ [] in
     let four : List ℕ = a ∷ b ∷ c ∷ 32 ∷ [] in
-    let third : r ≡ p ⊕ styled_tokens style three = told_as p (styled_tokens style two ++ text_tokens (c ∷ [])) (styled_tokens style three) (then p (styled_tokens style two) (text_tokens (c ∷ [])) hq hr) (run_one style two c) in
-    let fourth : s ≡ p ⊕ styled_tokens style four = told_as p (styled_tokens style three ++ text_tokens (32 ∷ [])) (styled_tokens style four) (then p (styled_tokens style three) (text_tokens (32 ∷ [])) third hs) (run_one style three 32) in
-    told_as p (styled_tokens style four ++ text_tokens part) (styled_tokens style (four ++ part)) (then p (styled_tokens style four) (text_tokens part) fourth hn) (run_more style four part)
+    let third : r ≡ p ⊕ styled_tokens style three = told_as p (styled_tokens style two ++ text_tokens (c ∷ []))
+    (styled_tokens style three) (then p (styled_tokens style two) (text_tokens (c ∷ [])) hq hr) (run_one style two c)
+    in
+    let fourth : s ≡ p ⊕ styled_tokens style four = told_as p (styled_tokens style three ++ text_tokens (32 ∷ []))
+    (styled_tokens style four) (then p (styled_tokens style three) (text_tokens (32 ∷ [])) third hs)
+    (run_one style three 32) in
+    told_as p (styled_tokens style four ++ text_tokens part) (styled_tokens style (four ++ part))
+    (then p (styled_tokens style four) (text_tokens part) fourth hn) (run_more style four part)
 
-pub text_put : (w : ℕ → ℕ) (t : Characters) (before : Row) (earlier : List Mark) (m : Mark) (at x y z : ℕ) (part : List ℕ) (p b l q r s k n : Printout) → at ≡ m.anchor →
-    b ≡ p ⊕ row_tokens before → l ≡ b ⊕ row_tokens (lead_runs w t 0 earlier at) → q ≡ l ⊕ styled_tokens m.label.style (x ∷ y ∷ []) → r ≡ q ⊕ text_tokens (z ∷ []) → s ≡ r ⊕ text_tokens (32 ∷ []) → k ≡ s ⊕ text_tokens part → n ≡ k ⊕ row_end ∷ [] →
+pub text_put : (w : ℕ → ℕ) (t : Characters) (before : Row) (earlier : List Mark) (m : Mark) (at x y z : ℕ)
+    (part : List ℕ) (p b l q r s k n : Printout) → at ≡ m.anchor →
+    b ≡ p ⊕ row_tokens before → l ≡ b ⊕ row_tokens (lead_runs w t 0 earlier at) → q ≡ l
+    ⊕ styled_tokens m.label.style (x ∷ y ∷ []) → r ≡ q ⊕ text_tokens (z ∷ []) → s ≡ r ⊕ text_tokens (32 ∷ []) → k ≡ s
+    ⊕ text_tokens part → n ≡ k ⊕ row_end ∷ [] →
     n ≡ p ⊕ rows_tokens ((before ++ text_row w t earlier m (x ∷ y ∷ z ∷ 32 ∷ []) part) ∷ [])
 text_put w t before earlier m at x y z part p b l q r s k n a hb hl hq hr hs hk hn =
     let front : List ℕ = x ∷ y ∷ z ∷ 32 ∷ [] in
     let leads : Row = lead_runs w t 0 earlier m.anchor in
     let own : Row = styled_run w m.label.style (front ++ part) ∷ [] in
     let led : l ≡ b ⊕ row_tokens leads = hl ∙ ap (λ c. b ⊕ row_tokens (lead_runs w t 0 earlier c)) a in
-    let run : k ≡ l ⊕ row_tokens own = run_put m.label.style x y z part l q r s k hq hr hs hk ∙ ap (λ c. l ⊕ c) (sym (styled_row w m.label.style (front ++ part))) in
+    let run : k ≡ l ⊕ row_tokens own = run_put m.label.style x y z part l q r s k hq hr hs hk
+    ∙ ap (λ c. l ⊕ c) (sym (styled_row w m.label.style (front ++ part))) in
     let below : k ≡ b ⊕ row_tokens (leads ++ own) = parts_then leads own b l k led run in
     row_done (before ++ text_row w t earlier m front part) p k n (parts_then before (leads ++ own) p b k hb below) hn
 
 -- one more part of a text
-pub part_more : (f : List ℕ → Row) (parts left : List (List ℕ)) (part : List ℕ) (p q whole : Printout) → parts ≡ part ∷ left → q ≡ p ⊕ rows_tokens (f part ∷ []) →
+pub part_more : (f : List ℕ → Row) (parts left : List (List ℕ)) (part : List ℕ) (p q whole : Printout) → parts ≡ part
+    ∷ left → q ≡ p ⊕ rows_tokens (f part ∷ []) →
     p ⊕ rows_tokens (map f parts) ≡ whole → q ⊕ rows_tokens (map f left) ≡ whole
 part_more f parts left part p q whole e hq h =
-    ap (λ x. x ⊕ rows_tokens (map f left)) hq ∙ put_append p (rows_tokens (f part ∷ [])) (rows_tokens (map f left)) ∙ ap (λ x. p ⊕ x) (row_then (f part) (map f left))
+    ap (λ x. x ⊕ rows_tokens (map f left)) hq ∙ put_append p (rows_tokens (f part ∷ [])) (rows_tokens (map f left))
+    ∙ ap (λ x. p ⊕ x) (row_then (f part) (map f left))
     ∙ ap (λ xs. p ⊕ rows_tokens (map f xs)) (sym e) ∙ h
 
-pub before_mapped : (before : Row) (g : List ℕ → Row) (parts : List (List ℕ)) → before_each before (map g parts) ≡ map (λ p. before ++ g p) parts
+pub before_mapped : (before : Row) (g : List ℕ → Row) (parts : List (List ℕ)) → before_each before (map g parts)
+    ≡ map (λ p. before ++ g p) parts
 before_mapped before g [] = refl
 before_mapped before g (part ∷ parts) = ap (λ r. (before ++ g part) ∷ r) (before_mapped before g parts)
 
-several_at : (w : ℕ → ℕ) (t : Characters) (earlier : List Mark) (m : Mark) (part : List ℕ) (more : List (List ℕ)) (next : List ℕ) (others : List (List ℕ)) → more ≡ next ∷ others →
-    text_row w t earlier m (corner_of_several t) part ∷ map (text_row w t earlier m (beside t)) more ≡ rows_of_parts w t earlier m (part ∷ more)
+several_at : (w : ℕ → ℕ) (t : Characters) (earlier : List Mark) (m : Mark) (part : List ℕ) (more : List (List ℕ))
+    (next : List ℕ) (others : List (List ℕ)) → more ≡ next ∷ others →
+    text_row w t earlier m (corner_of_several t) part ∷ map (text_row w t earlier m (beside t)) more
+    ≡ rows_of_parts w t earlier m (part ∷ more)
 several_at w t earlier m part more next others e =
-    ap (λ xs. text_row w t earlier m (corner_of_several t) part ∷ map (text_row w t earlier m (beside t)) xs) e ∙ ap (λ xs. rows_of_parts w t earlier m (part ∷ xs)) (sym e)
+    ap (λ xs. text_row w t earlier m (corner_of_several t) part ∷ map (text_row w t earlier m (beside t)) xs) e
+    ∙ ap (λ xs. rows_of_parts w t earlier m (part ∷ xs)) (sym e)
 
-pub several_parts : (w : ℕ → ℕ) (t : Characters) (before : Row) (earlier : List Mark) (m : Mark) (parts : List (List ℕ)) (part codes : List ℕ) (p q r : Printout) → parts ≡ part ∷ cut_at_lf codes →
-    q ≡ p ⊕ rows_tokens ((before ++ text_row w t earlier m (corner_of_several t) part) ∷ []) → r ≡ q ⊕ rows_tokens (map (λ x. before ++ text_row w t earlier m (beside t) x) (cut_at_lf codes)) →
+pub several_parts : (w : ℕ → ℕ) (t : Characters) (before : Row) (earlier : List Mark) (m : Mark) (parts : List (List ℕ))
+    (part codes : List ℕ) (p q r : Printout) → parts ≡ part ∷ cut_at_lf codes →
+    q ≡ p ⊕ rows_tokens ((before ++ text_row w t earlier m (corner_of_several t) part) ∷ []) → r ≡ q
+    ⊕ rows_tokens (map (λ x. before ++ text_row w t earlier m (beside t) x) (cut_at_lf codes)) →
     r ≡ p ⊕ rows_tokens (before_each before (rows_of_parts w t earlier m parts))
 several_parts w t before earlier m parts part codes p q r e hq hr =
     let more = cut_some codes in
     let first : Row = before ++ text_row w t earlier m (corner_of_several t) part in
     rows_then (first ∷ []) (map (λ x. before ++ text_row w t earlier m (beside t) x) (cut_at_lf codes)) p q r hq hr
-    ∙ ap (λ xs. p ⊕ rows_tokens (first ∷ xs)) (sym (before_mapped before (text_row w t earlier m (beside t)) (cut_at_lf codes)))
-    ∙ ap (λ xs. p ⊕ rows_tokens (before_each before xs)) (several_at w t earlier m part (cut_at_lf codes) more.0 more.1.0 more.1.1)
+    ∙ ap (λ xs. p ⊕ rows_tokens (first ∷ xs)) (sym (before_mapped before (text_row w t earlier m (beside t))
+    (cut_at_lf codes)))
+    ∙ ap (λ xs. p ⊕ rows_tokens (before_each before xs)) (several_at w t earlier m part (cut_at_lf codes) more.0
+    more.1.0 more.1.1)
     ∙ ap (λ xs. p ⊕ rows_tokens (before_each before (rows_of_parts w t earlier m xs))) (sym e)
 
-before-append : (before : Row) (a b : List Row) → before_each before (a ++ b) ≡ before_each before a ++ before_each before b
+before-append : (before : Row) (a b : List Row) → before_each before (a ++ b) ≡ before_each before a
+    ++ before_each before b
 before-append before a b = map-append _ a b
 
 -- the texts of one more mark, from the last to the first
-pub below_more : (w : ℕ → ℕ) (t : Characters) (ls : List Label) (before : Row) (marks : List MadeMark) (next k : ℕ) (d : MadeMark) (p q r : Printout) → k < length marks → next ≡ k + 1 →
-    q ≡ p ⊕ rows_tokens (before_each before (rows_below w t (map (mark_of ls) (take next marks)) (map (mark_of ls) (drop next marks)))) →
-    r ≡ q ⊕ rows_tokens (before_each before (rows_of_parts w t (map (mark_of ls) (take k marks)) (mark_of ls (get_or marks k d)) (mark_of ls (get_or marks k d)).label.parts)) →
-    r ≡ p ⊕ rows_tokens (before_each before (rows_below w t (map (mark_of ls) (take k marks)) (map (mark_of ls) (drop k marks))))
+pub below_more : (w : ℕ → ℕ) (t : Characters) (ls : List Label) (before : Row) (marks : List MadeMark) (next k : ℕ)
+    (d : MadeMark) (p q r : Printout) → k < length marks → next ≡ k + 1 →
+    q ≡ p ⊕ rows_tokens (before_each before (rows_below w t (map (mark_of ls) (take next marks))
+    (map (mark_of ls) (drop next marks)))) →
+    r ≡ q ⊕ rows_tokens (before_each before (rows_of_parts w t (map (mark_of ls) (take k marks))
+    (mark_of ls (get_or marks k d)) (mark_of ls (get_or marks k d)).label.parts)) →
+    r ≡ p ⊕ rows_tokens (before_each before (rows_below w t (map (mark_of ls) (take k marks))
+    (map (mark_of ls) (drop k marks))))
 below_more w t ls before marks next k d p q r lt z hq hr =
     let m : Mark = mark_of ls (get_or marks k d) in
     let earlier : List Mark = map (mark_of ls) (take k marks) in
@@ -129,9 +177,13 @@ below_more w t ls before marks next k d p q r lt z hq hr =
     let a : List Row = rows_below w t (earlier ++ m ∷ []) later in
     let b : List Row = rows_of_parts w t earlier m m.label.parts in
     let h : q ≡ p ⊕ rows_tokens (before_each before a) =
-    hq ∙ ap (λ n. p ⊕ rows_tokens (before_each before (rows_below w t (map (mark_of ls) (take n marks)) (map (mark_of ls) (drop n marks))))) z
-    ∙ ap (λ xs. p ⊕ rows_tokens (before_each before (rows_below w t (map (mark_of ls) xs) later))) (take_more marks k d lt)
-    ∙ ap (λ xs. p ⊕ rows_tokens (before_each before (rows_below w t xs later))) (map-append (mark_of ls) (take k marks) (get_or marks k d ∷ [])) in
+    hq ∙ ap (λ n. p ⊕ rows_tokens (before_each before (rows_below w t (map (mark_of ls) (take n marks))
+    (map (mark_of ls) (drop n marks))))) z
+    ∙ ap (λ xs. p ⊕ rows_tokens (before_each before (rows_below w t (map (mark_of ls) xs) later)))
+    (take_more marks k d lt)
+    ∙ ap (λ xs. p ⊕ rows_tokens (before_each before (rows_below w t xs later)))
+    (map-append (mark_of ls) (take k marks) (get_or marks k d ∷ [])) in
     rows_then (before_each before a) (before_each before b) p q r h hr
     ∙ ap (λ xs. p ⊕ rows_tokens xs) (sym (before-append before a b))
-    ∙ ap (λ xs. p ⊕ rows_tokens (before_each before (rows_below w t earlier xs))) (sym (at_drop_more (map (mark_of ls)) marks k d lt))
+    ∙ ap (λ xs. p ⊕ rows_tokens (before_each before (rows_below w t earlier xs)))
+    (sym (at_drop_more (map (mark_of ls)) marks k d lt))

@@ -18,9 +18,9 @@ use crate::sheet::{Outcome, Sheet};
 use crate::texts::push_other_start;
 use miette_labels::drawn_labels::text_of;
 use miette_labels::sweep::PlacedLabel;
-use miette_source_lines::lines::LineOfText;
 use miette_page::canvas::Canvas;
 use miette_page::page::Page;
+use miette_source_lines::lines::LineOfText;
 
 // Whether a label ends on a line and began before it.
 fn closes(line: &LineOfText, label: &PlacedLabel) -> bool

@@ -13,12 +13,12 @@ ghost use Rattle.miette_drawing.specs.steps.FrameParts.{corner_row};
 ghost use Rattle.miette_drawing.specs.views.SnippetRows.{place_at};
 
 use crate::sheet::Outcome;
+use miette_basics::sums::sum;
 use miette_page::canvas::Canvas;
 use miette_page::page::{PLAIN, Page};
 use miette_protocol::protocol::LabeledSpan;
 use miette_snippet_rules::options::LayoutOptions;
 use miette_style::style::Style;
-use miette_basics::sums::sum;
 use miette_style::theme::GraphicalTheme;
 use std::alloc::AllocError;
 

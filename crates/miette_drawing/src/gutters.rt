@@ -14,9 +14,9 @@ ghost use Rattle.miette_source_lines.specs.views.Walking.{line_of_text};
 use crate::sheet::{Outcome, Sheet};
 use miette_labels::drawn_labels::text_of;
 use miette_labels::sweep::PlacedLabel;
-use miette_source_lines::lines::LineOfText;
 use miette_page::canvas::Canvas;
 use miette_page::page::{PLAIN, Page};
+use miette_source_lines::lines::LineOfText;
 use miette_style::style::Style;
 
 // Whether a label starts on a line.

@@ -1,9 +1,9 @@
 //! What the rows of one line are drawn with.
 
 use miette_labels::sweep::PlacedLabel;
-use miette_source_lines::lines::LineOfText;
 use miette_protocol::protocol::LabeledSpan;
 use miette_snippet_rules::options::LayoutOptions;
+use miette_source_lines::lines::LineOfText;
 use miette_style::style::Style;
 use miette_style::theme::GraphicalTheme;
 use std::alloc::AllocError;

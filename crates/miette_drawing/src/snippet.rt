@@ -41,6 +41,7 @@ use crate::highlighting::{may_pass, pieces_of, restart};
 use crate::line::push_line_or_break;
 use crate::sheet::{Outcome, Sheet, ShownLine};
 use itoa::Buffer;
+use miette_basics::sums::sum;
 use miette_folds::extent::extent_of;
 use miette_folds::folds::{Fold, Spread, folds_in, leaves_out};
 use miette_folds::gaps::{enter_line, next_start, pass_over};
@@ -52,7 +53,6 @@ use miette_page::page::Page;
 use miette_protocol::protocol::LabeledSpan;
 use miette_protocol::source::MietteSpanContents;
 use miette_snippet_rules::options::LayoutOptions;
-use miette_basics::sums::sum;
 use miette_style::theme::GraphicalTheme;
 use std::alloc::{AllocError, Global};
 

@@ -1,5 +1,6 @@
 -- Which lines a program leaves out.
-use Rattle.std.proofs.Common.{ℕ, ◌-◌, ◌≡◌, min, Bool, true, false, not, ◌&&◌, ◌||◌, List, [], ◌∷◌, length, map, Some, refl, sym, ap, ◌∙◌}
+use Rattle.std.proofs.Common.{ℕ, ◌-◌, ◌≡◌, min, Bool, true, false, not, ◌&&◌, ◌||◌, List, [], ◌∷◌, length, map, Some}
+use Rattle.std.proofs.Common.{refl, sym, ap, ◌∙◌}
 use Rattle.std.specs.List.{list_any}
 use Rattle.miette_source_lines.specs.rules.Lines as P
 use Rattle.miette_source_lines.specs.rules.Lines.{Line, line_of, line_start}
@@ -15,21 +16,29 @@ use Rattle.miette_folds.proofs.Starts.{place_shifted}
 -- ---- a label among lines
 
 -- a line begins where a scan back from an offset, or from the end of the bytes, comes to
-pub started : (start : ℕ) (bytes : List ℕ) (offset place lines at begin : ℕ) → place ≡ place_among (P.lines_from start bytes) offset → at ≡ min (length bytes) (offset - start) →
+pub started : (start : ℕ) (bytes : List ℕ) (offset place lines at begin : ℕ) → place
+    ≡ place_among (P.lines_from start bytes) offset → at ≡ min (length bytes) (offset - start) →
     begin ≡ line_start bytes (line_of bytes at - lines) → begin ≡ line_start bytes (place - lines)
 started start bytes offset place lines at begin is cut found =
-    found ∙ ap (λ n. line_start bytes (n - lines)) (line_of_cut bytes (offset - start) at cut ∙ sym (place_shifted start bytes offset) ∙ sym is)
+    found ∙ ap (λ n. line_start bytes (n - lines)) (line_of_cut bytes (offset - start) at cut
+    ∙ sym (place_shifted start bytes offset) ∙ sym is)
 
 -- ---- what is left out
 
-pub any_around : (start : ℕ) (bytes : List ℕ) (line : Line) (labels : List MadeSpread) → list_any (is_around_fold line) (map (fold_in start bytes) labels) ≡ list_any (is_around line) (map spread_of labels)
+pub any_around : (start : ℕ) (bytes : List ℕ) (line : Line) (labels : List MadeSpread)
+    → list_any (is_around_fold line) (map (fold_in start bytes) labels)
+    ≡ list_any (is_around line) (map spread_of labels)
 any_around start bytes line [] = refl
-any_around start bytes line (label ∷ labels) = ap (λ r. is_around line (spread_of label) || r) (any_around start bytes line labels)
+any_around start bytes line (label ∷ labels) = ap (λ r. is_around line (spread_of label) || r)
+    (any_around start bytes line labels)
 
 pub any_near : (limit place start : ℕ) (bytes : List ℕ) (line : Line) (labels : List MadeSpread) →
-    list_any (is_near_fold limit place line) (map (fold_in start bytes) labels) ≡ list_any (is_near limit (P.lines_from start bytes) place line) (map spread_of labels)
+    list_any (is_near_fold limit place line) (map (fold_in start bytes) labels)
+    ≡ list_any (is_near limit (P.lines_from start bytes) place line) (map spread_of labels)
 any_near limit place start bytes line [] = refl
-any_near limit place start bytes line (label ∷ labels) = ap (λ r. is_near limit (P.lines_from start bytes) place line (spread_of label) || r) (any_near limit place start bytes line labels)
+any_near limit place start bytes line (label ∷ labels) =
+    ap (λ r. is_near limit (P.lines_from start bytes) place line (spread_of label) || r)
+    (any_near limit place start bytes line labels)
 
 and_none : (b : Bool) → false ≡ (b && not true)
 and_none true = refl
@@ -40,18 +49,28 @@ and_all true = refl
 and_all false = refl
 
 -- a label is near, so the line is shown
-pub left_near : (limit place : ℕ) (line : Line) (folds : List Fold) → list_any (is_near_fold limit place line) folds ≡ true →
-    (start : ℕ) (bytes : List ℕ) (labels : List MadeSpread) → folds ≡ map (fold_in start bytes) labels → false ≡ leaves_out (Some limit) (P.lines_from start bytes) (map spread_of labels) place line
+pub left_near : (limit place : ℕ) (line : Line) (folds : List Fold) → list_any (is_near_fold limit place line) folds
+    ≡ true →
+    (start : ℕ) (bytes : List ℕ) (labels : List MadeSpread) → folds ≡ map (fold_in start bytes) labels → false
+    ≡ leaves_out (Some limit) (P.lines_from start bytes) (map spread_of labels) place line
 left_near limit place line folds near start bytes labels e =
     let lines : List Line = P.lines_from start bytes in
-    let is : list_any (is_near limit lines place line) (map spread_of labels) ≡ true = sym (any_near limit place start bytes line labels) ∙ ap (list_any (is_near_fold limit place line)) (sym e) ∙ near in
-    and_none (list_any (is_around line) (map spread_of labels)) ∙ ap (λ b. list_any (is_around line) (map spread_of labels) && not b) (sym is)
+    let is : list_any (is_near limit lines place line) (map spread_of labels) ≡ true =
+    sym (any_near limit place start bytes line labels) ∙ ap (list_any (is_near_fold limit place line)) (sym e) ∙ near
+    in
+    and_none (list_any (is_around line) (map spread_of labels))
+    ∙ ap (λ b. list_any (is_around line) (map spread_of labels) && not b) (sym is)
 
 -- none is near: it is left out where it lies in a context
-pub left_far : (limit place : ℕ) (line : Line) (folds : List Fold) (result : Bool) → list_any (is_near_fold limit place line) folds ≡ false → result ≡ list_any (is_around_fold line) folds →
-    (start : ℕ) (bytes : List ℕ) (labels : List MadeSpread) → folds ≡ map (fold_in start bytes) labels → result ≡ leaves_out (Some limit) (P.lines_from start bytes) (map spread_of labels) place line
+pub left_far : (limit place : ℕ) (line : Line) (folds : List Fold) (result : Bool)
+    → list_any (is_near_fold limit place line) folds ≡ false → result ≡ list_any (is_around_fold line) folds →
+    (start : ℕ) (bytes : List ℕ) (labels : List MadeSpread) → folds ≡ map (fold_in start bytes) labels → result
+    ≡ leaves_out (Some limit) (P.lines_from start bytes) (map spread_of labels) place line
 left_far limit place line folds result far around start bytes labels e =
     let lines : List Line = P.lines_from start bytes in
-    let is : list_any (is_near limit lines place line) (map spread_of labels) ≡ false = sym (any_near limit place start bytes line labels) ∙ ap (list_any (is_near_fold limit place line)) (sym e) ∙ far in
-    around ∙ ap (list_any (is_around_fold line)) e ∙ any_around start bytes line labels ∙ and_all (list_any (is_around line) (map spread_of labels))
+    let is : list_any (is_near limit lines place line) (map spread_of labels) ≡ false =
+    sym (any_near limit place start bytes line labels) ∙ ap (list_any (is_near_fold limit place line)) (sym e) ∙ far
+    in
+    around ∙ ap (list_any (is_around_fold line)) e ∙ any_around start bytes line labels
+    ∙ and_all (list_any (is_around line) (map spread_of labels))
     ∙ ap (λ b. list_any (is_around line) (map spread_of labels) && not b) (sym is)

@@ -1,12 +1,15 @@
 -- The lines of a part of some bytes, by their numbers among the lines of all of these.
-use Rattle.std.proofs.Common.{ℕ, zero, suc, ◌+◌, ◌-◌, ◌<◌, ◌≤◌, ◌≡◌, min, max, Bool, true, false, cond, not, ◌&&◌, ◌||◌, List, [], ◌∷◌, length, take, drop, refl, sym, ap, ap₂, ◌∙◌, inl, inr, arith}
+use Rattle.std.proofs.Common.{ℕ, zero, suc, ◌+◌, ◌-◌, ◌<◌, ◌≤◌, ◌≡◌, min, max, Bool, true, false, cond, not, ◌&&◌, ◌||◌}
+use Rattle.std.proofs.Common.{List, [], ◌∷◌, length, take, drop, refl, sym, ap, ap₂, ◌∙◌, inl, inr, arith}
 use Rattle.std.specs.Prelude.{◌==◌, nat_le, count_by, slice_index, slice_range}
 use Rattle.std.proofs.lemmas.Bool.{cases_lt, eqb-true}
-use Rattle.std.proofs.lemmas.List.{drop-drop, drop-take, get_or-drop, get_or_past, length-drop, length-take-le, take_rest}
+use Rattle.std.proofs.lemmas.List.{drop-drop, drop-take, get_or-drop, get_or_past, length-drop, length-take-le}
+use Rattle.std.proofs.lemmas.List.{take_rest}
 use Rattle.std.proofs.lemmas.List.Sums.{sum_by-cons}
 use Rattle.miette_source_lines.specs.rules.Lines.{Line, LF, CR, ends_line, is_terminated, lines_from, line_of, line_end}
 use Rattle.miette_source_lines.proofs.Scans.{ends_before, ends_by, ends_count, ends_count-lines_from}
-use Rattle.miette_source_lines.proofs.Places.{line_of-is, line_of_no, line_of_end, line_end_past, line_start_next, line_start_le, ends_by-le}
+use Rattle.miette_source_lines.proofs.Places.{line_of-is, line_of_no, line_of_end, line_end_past, line_start_next}
+use Rattle.miette_source_lines.proofs.Places.{line_start_le, ends_by-le}
 use Rattle.miette_snippet_rules.specs.rules.Folds.{place_among}
 
 -- ---- terminators of a part
@@ -31,7 +34,8 @@ ends_drop (suc from) j [] =
 ends_drop (suc from) j (b ∷ bs) =
     let e : suc from + j ≡ suc (from + j) = omega arith in
     ap (λ (n : ℕ). ends_before n (b ∷ bs)) e
-    ∙ sum_more (ends_line b (slice_index bs 0)) (ends_before (from + j) bs) (ends_before from bs) (ends_before j (drop from bs)) (ends_drop from j bs)
+    ∙ sum_more (ends_line b (slice_index bs 0)) (ends_before (from + j) bs) (ends_before from bs)
+    (ends_before j (drop from bs)) (ends_drop from j bs)
 
 -- no CRLF is parted at an offset
 abbrev pub IsWhole : List ℕ → ℕ → Type 0
@@ -44,7 +48,8 @@ whole_drop : (from at : ℕ) (bs : List ℕ) → from ≤ at → IsWhole bs at �
 whole_drop from at bs le w = λ k e.
     let s : from + suc k ≡ suc (from + k) = omega arith in
     let here : slice_index (drop from bs) k ≡ slice_index bs (from + k) = get_or-drop from bs k 0 in
-    let next : slice_index (drop from bs) (suc k) ≡ slice_index bs (suc (from + k)) = get_or-drop from bs (suc k) 0 ∙ ap (λ (n : ℕ). slice_index bs n) s in
+    let next : slice_index (drop from bs) (suc k) ≡ slice_index bs (suc (from + k)) = get_or-drop from bs (suc k) 0
+    ∙ ap (λ (n : ℕ). slice_index bs n) s in
     ap₂ (λ a b. (a == CR) && (b == LF)) here next ∙ w (from + k) (omega (arith, e, le))
 
 alone_or : (x y z : Bool) → (y && z) ≡ false → (x || (y && true)) ≡ (x || (y && not z))
@@ -58,7 +63,8 @@ unfolding ends_line
 last_same b next h = alone_or (b == LF) (b == CR) (next == LF) h
 
 -- a byte that ends a line in front of the bytes ends one in front of the first of them
-next_same : (b m : ℕ) (bs : List ℕ) → IsWhole (b ∷ bs) (suc m) → ends_line b (slice_index (take m bs) 0) ≡ ends_line b (slice_index bs 0)
+next_same : (b m : ℕ) (bs : List ℕ) → IsWhole (b ∷ bs) (suc m) → ends_line b (slice_index (take m bs) 0)
+    ≡ ends_line b (slice_index bs 0)
 next_same b zero bs w = last_same b (slice_index bs 0) (w 0 refl)
 next_same b (suc m) [] w = refl
 next_same b (suc m) (c ∷ cs) w = refl
@@ -83,8 +89,10 @@ ends_part : (bs : List ℕ) (from to o : ℕ) → from ≤ to → IsWhole bs to 
     ends_before (o - from) (slice_range bs from to) + ends_before from bs ≡ ends_before (max from (min o to)) bs
 ends_part bs from to o le w =
     let many : ℕ = min (o - from) (to - from) in
-    let a : ends_before (o - from) (slice_range bs from to) ≡ ends_before many (drop from bs) = ends_take (to - from) (o - from) (drop from bs) (whole_drop from to bs le w) in
-    let b : ends_before (from + many) bs ≡ ends_before from bs + ends_before many (drop from bs) = ends_drop from many bs in
+    let a : ends_before (o - from) (slice_range bs from to) ≡ ends_before many (drop from bs) =
+    ends_take (to - from) (o - from) (drop from bs) (whole_drop from to bs le w) in
+    let b : ends_before (from + many) bs ≡ ends_before from bs + ends_before many (drop from bs) =
+    ends_drop from many bs in
     let s : from + many ≡ max from (min o to) = omega (arith, le) in
     let c : ends_before (from + many) bs ≡ ends_before (max from (min o to)) bs = ap (λ (n : ℕ). ends_before n bs) s in
     omega (arith, a, b, c)
@@ -96,13 +104,15 @@ pub part_line : (bs : List ℕ) (from to o : ℕ) → from ≤ o → o ≤ to �
     line_of (slice_range bs from to) (o - from) + line_of bs from ≡ line_of bs o
 part_line bs from to o low high w =
     let part : List ℕ = slice_range bs from to in
-    let a : ends_before (o - from) part + ends_before from bs ≡ ends_before (max from (min o to)) bs = ends_part bs from to o (omega (arith, low, high)) w in
+    let a : ends_before (o - from) part + ends_before from bs ≡ ends_before (max from (min o to)) bs =
+    ends_part bs from to o (omega (arith, low, high)) w in
     let s : max from (min o to) ≡ o = omega (arith, low, high) in
     let b : ends_before (max from (min o to)) bs ≡ ends_before o bs = ap (λ (n : ℕ). ends_before n bs) s in
     omega (arith, a, b, line_of-is part (o - from), line_of-is bs from, line_of-is bs o)
 
 -- what is left of a part from an offset on is a part
-part_rest : (bs : List ℕ) (from to o : ℕ) → from ≤ o → o ≤ to → drop (o - from) (slice_range bs from to) ≡ slice_range bs o to
+part_rest : (bs : List ℕ) (from to o : ℕ) → from ≤ o → o ≤ to → drop (o - from) (slice_range bs from to)
+    ≡ slice_range bs o to
 part_rest bs from to o low high =
     let s : to - from ≡ o - from + (to - o) = omega (arith, low, high) in
     let t : from + (o - from) ≡ o = omega (arith, low) in
@@ -115,11 +125,14 @@ pub part_length : (bs : List ℕ) (from to : ℕ) → to ≤ length bs → lengt
 part_length bs from to within = length-take-le (to - from) (drop from bs) (omega (arith, within, length-drop from bs))
 
 -- by the line where the part ends, and the lines from the offset on
-pub rest_line : (bs : List ℕ) (from to o at : ℕ) (rest : List ℕ) → from ≤ o → o ≤ to → to ≤ length bs → IsWhole bs to → at ≡ o - from →
-    rest ≡ take (length (slice_range bs from to) - at) (drop at (slice_range bs from to)) → line_of rest (length rest) + line_of bs o ≡ line_of bs to
+pub rest_line : (bs : List ℕ) (from to o at : ℕ) (rest : List ℕ) → from ≤ o → o ≤ to → to ≤ length bs → IsWhole bs to
+    → at ≡ o - from →
+    rest ≡ take (length (slice_range bs from to) - at) (drop at (slice_range bs from to)) → line_of rest (length rest)
+    + line_of bs o ≡ line_of bs to
 rest_line bs from to o at rest low high within w here is =
     let e : rest ≡ slice_range bs o to =
-    is ∙ take_rest (slice_range bs from to) at ∙ ap (λ (n : ℕ). drop n (slice_range bs from to)) here ∙ part_rest bs from to o low high in
+    is ∙ take_rest (slice_range bs from to) at ∙ ap (λ (n : ℕ). drop n (slice_range bs from to)) here
+    ∙ part_rest bs from to o low high in
     let size : length rest ≡ to - o = ap length e ∙ part_length bs o to within in
     let a : line_of rest (length rest) ≡ line_of (slice_range bs o to) (to - o) = ap₂ (λ xs n. line_of xs n) e size in
     omega (arith, a, part_line bs o to to high (omega arith) w)
@@ -132,7 +145,13 @@ place_is at bs o = ends_count-lines_from (λ e. nat_le e o) at bs ∙ ends_by-le
 pub part_place : (bs : List ℕ) (from to o : ℕ) → from ≤ to → IsWhole bs to →
     place_among (lines_from from (slice_range bs from to)) o + line_of bs from ≡ line_of bs (max from (min o to))
 part_place bs from to o le w =
-    omega (arith, place_is from (slice_range bs from to) o, ends_part bs from to o le w, line_of-is bs from, line_of-is bs (max from (min o to)))
+    omega (
+      arith,
+      place_is from (slice_range bs from to) o,
+      ends_part bs from to o le w,
+      line_of-is bs from,
+      line_of-is bs (max from (min o to)),
+    )
 
 -- ---- how many lines of a part have a terminator
 
@@ -154,13 +173,15 @@ one_more false m n e = e
 ends_by_all : (at : ℕ) (bs : List ℕ) → ends_by (λ e. true) at bs ≡ ends_before (length bs) bs
 ends_by_all at [] = refl
 ends_by_all at (b ∷ bs) =
-    one_more (ends_line b (slice_index bs 0)) (ends_by (λ e. true) (at + 1) bs) (ends_before (length bs) bs) (ends_by_all (at + 1) bs)
+    one_more (ends_line b (slice_index bs 0)) (ends_by (λ e. true) (at + 1) bs) (ends_before (length bs) bs)
+    (ends_by_all (at + 1) bs)
 
 pub part_count : (bs : List ℕ) (from to : ℕ) → from ≤ to → to ≤ length bs → IsWhole bs to →
     count_by is_terminated (lines_from from (slice_range bs from to)) + line_of bs from ≡ line_of bs to
 part_count bs from to le within w =
     let part : List ℕ = slice_range bs from to in
-    let a : count_by is_terminated (lines_from from part) ≡ ends_before (length part) part = all_counted (lines_from from part) ∙ ends_count-lines_from (λ e. true) from part ∙ ends_by_all from part in
+    let a : count_by is_terminated (lines_from from part) ≡ ends_before (length part) part =
+    all_counted (lines_from from part) ∙ ends_count-lines_from (λ e. true) from part ∙ ends_by_all from part in
     let b : line_of part (length part) ≡ line_of part (to - from) = ap (line_of part) (part_length bs from to within) in
     omega (arith, a, b, line_of-is part (length part), part_line bs from to to le (omega arith) w)
 
@@ -192,12 +213,14 @@ pair_goes_on b next t =
     let p : ((b == CR) ≡ true) × ((next == LF) ≡ true) = both (b == CR) (next == LF) t in
     ap₂ (λ c n. ends_line c n) (eqb-true b 13 p.0) (eqb-true next 10 p.1)
 
-ended_whole : (bytes : List ℕ) (i k : ℕ) → i < line_of bytes (length bytes) → suc k ≡ line_end bytes i → ((slice_index bytes k == CR) && (slice_index bytes (suc k) == LF)) ≡ false
+ended_whole : (bytes : List ℕ) (i k : ℕ) → i < line_of bytes (length bytes) → suc k ≡ line_end bytes i
+    → ((slice_index bytes k == CR) && (slice_index bytes (suc k) == LF)) ≡ false
 ended_whole bytes i k h e =
     not_so ((slice_index bytes k == CR) && (slice_index bytes (suc k) == LF)) (λ t.
     let one : k + 1 ≡ suc k = omega arith in
     let no : ends_line (slice_index bytes k) (slice_index bytes (k + 1)) ≡ false =
-    ap (λ (n : ℕ). ends_line (slice_index bytes k) (slice_index bytes n)) one ∙ pair_goes_on (slice_index bytes k) (slice_index bytes (suc k)) t in
+    ap (λ (n : ℕ). ends_line (slice_index bytes k) (slice_index bytes n)) one
+    ∙ pair_goes_on (slice_index bytes k) (slice_index bytes (suc k)) t in
     let same : line_of bytes (k + 1) ≡ line_of bytes k = line_of_no bytes k no in
     let here : line_end bytes i ≡ k + 1 = omega (arith, e) in
     let next : i + 1 ≡ line_of bytes (k + 1) = line_of_end bytes i h ∙ ap (line_of bytes) here in

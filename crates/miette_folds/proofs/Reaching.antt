@@ -1,11 +1,15 @@
--- What a read lent is a part of its source's bytes, so the numbers of the lines of labels are true among the lines that it lent.
-use Rattle.std.proofs.Common.{ℕ, zero, suc, ◌+◌, ◌-◌, ◌≤◌, ◌≡◌, min, max, Bool, true, false, cond, ◌&&◌, List, length, take, drop, get_or, refl, sym, ap, ap₂, ◌∙◌, inl, inr, subst, arith, All}
+-- What a read lent is a part of its source's bytes, so the numbers of the lines of labels are true among the lines that
+-- it lent.
+use Rattle.std.proofs.Common.{ℕ, zero, suc, ◌+◌, ◌-◌, ◌≤◌, ◌≡◌, min, max, Bool, true, false, cond, ◌&&◌, List, length}
+use Rattle.std.proofs.Common.{take, drop, get_or, refl, sym, ap, ap₂, ◌∙◌, inl, inr, subst, arith, All}
 use Rattle.std.specs.Prelude.{◌==◌, count_by, slice_index, slice_range}
 use Rattle.std.proofs.lemmas.Bool.{cases_lt, eqb-true}
 use Rattle.miette_source_lines.specs.rules.Lines.{LF, CR, is_terminated, lines_from, line_of, line_start, line_end}
-use Rattle.miette_source_lines.proofs.Places.{line_of_mono, line_of_start_before, line_start_le, line_end_le, line_end_after, terminators_in-line_of}
+use Rattle.miette_source_lines.proofs.Places.{line_of_mono, line_of_start_before, line_start_le, line_end_le}
+use Rattle.miette_source_lines.proofs.Places.{line_end_after, terminators_in-line_of}
 use Rattle.miette_protocol.specs.views.Meaning.{Label}
-use Rattle.miette_protocol.specs.rules.Reading.{Span, Source, Contents, IsAccepted, span_end, splits_crlf, reading_end, data_start, data_end}
+use Rattle.miette_protocol.specs.rules.Reading.{Span, Source, Contents, IsAccepted, span_end, splits_crlf, reading_end}
+use Rattle.miette_protocol.specs.rules.Reading.{data_start, data_end}
 use Rattle.miette_protocol.proofs.Wholes.{offset-le-reading, before_le, after_ge}
 use Rattle.miette_labels.specs.declared.reading.ReadLabel.{ReadLabel}
 use Rattle.miette_labels.specs.rules.Around.{lines_around}
@@ -19,7 +23,8 @@ use Rattle.miette_folds.specs.declared.folds.Spread.{Spread as MadeSpread}
 use Rattle.miette_folds.specs.views.Spreads.{IsNumbered, AreNumbered}
 use Rattle.miette_folds.specs.steps.LineNumbers.{IsLineIn}
 use Rattle.miette_folds.specs.views.ReadSpreads.{HasLines}
-use Rattle.miette_folds.proofs.Numbering.{IsWhole, both, past_whole, line_whole, part_line, part_length, rest_line, part_place, part_count}
+use Rattle.miette_folds.proofs.Numbering.{IsWhole, both, past_whole, line_whole, part_line, part_length, rest_line}
+use Rattle.miette_folds.proofs.Numbering.{part_place, part_count}
 
 -- ---- where the data of a read begin and end
 
@@ -28,10 +33,12 @@ begins bytes span c =
     before_le (c == 0) span.offset (line_start bytes (line_of bytes span.offset - c)) span.offset (omega arith)
     (line_start_le bytes (line_of bytes span.offset - c) span.offset (omega arith))
 
-begins_with : (bytes : List ℕ) (span : Span) (c : ℕ) → 1 ≤ c → line_of bytes span.offset - c ≡ line_of bytes (data_start bytes span c)
+begins_with : (bytes : List ℕ) (span : Span) (c : ℕ) → 1 ≤ c → line_of bytes span.offset - c
+    ≡ line_of bytes (data_start bytes span c)
 begins_with bytes span c one = rw (some-context c one) (line_of_start_before bytes span.offset c)
 
-begins_at : (bytes : List ℕ) (span : Span) (c : ℕ) → line_of bytes span.offset - c ≡ line_of bytes (data_start bytes span c)
+begins_at : (bytes : List ℕ) (span : Span) (c : ℕ) → line_of bytes span.offset - c
+    ≡ line_of bytes (data_start bytes span c)
 begins_at bytes span zero = omega arith
 begins_at bytes span (suc c) = begins_with bytes span (suc c) (omega arith)
 
@@ -39,12 +46,15 @@ ends : (bytes : List ℕ) (span : Span) (c : ℕ) → IsAccepted bytes span → 
 ends bytes span c ok =
     let r : ℕ = reading_end bytes span in
     let reach : span.offset ≤ r = offset-le-reading bytes span in
-    after_ge (c == 0) (min (length bytes) r) (line_end bytes (line_of bytes r + c)) span.offset (omega (arith, ok.begins, reach))
-    (line_end_after bytes span.offset (line_of bytes r + c) ok.begins (omega (arith, line_of_mono bytes span.offset r reach)))
+    after_ge (c == 0) (min (length bytes) r) (line_end bytes (line_of bytes r + c)) span.offset
+    (omega (arith, ok.begins, reach))
+    (line_end_after bytes span.offset (line_of bytes r + c) ok.begins
+    (omega (arith, line_of_mono bytes span.offset r reach)))
 
 ends_in : (bytes : List ℕ) (span : Span) (c : ℕ) → data_end bytes span c ≤ length bytes
 ends_in bytes span c =
-    before_le (c == 0) (min (length bytes) (reading_end bytes span)) (line_end bytes (line_of bytes (reading_end bytes span) + c)) (length bytes)
+    before_le (c == 0) (min (length bytes) (reading_end bytes span))
+    (line_end bytes (line_of bytes (reading_end bytes span) + c)) (length bytes)
     (omega arith) (line_end_le bytes (line_of bytes (reading_end bytes span) + c))
 
 -- ---- a read parts no CRLF at its end
@@ -52,7 +62,8 @@ ends_in bytes span c =
 behind_lf : (bytes : List ℕ) (e : ℕ) → splits_crlf bytes e ≡ true → IsWhole bytes (e + 1)
 behind_lf bytes e t = λ k s.
     let here : k ≡ e = omega (arith, s) in
-    let lf : slice_index bytes k ≡ 10 = ap (slice_index bytes) here ∙ eqb-true (slice_index bytes e) 10 ((both (slice_index bytes (e - 1) == CR) (slice_index bytes e == LF) t).1) in
+    let lf : slice_index bytes k ≡ 10 = ap (slice_index bytes) here
+    ∙ eqb-true (slice_index bytes e) 10 ((both (slice_index bytes (e - 1) == CR) (slice_index bytes e == LF) t).1) in
     ap (λ (b : ℕ). (b == CR) && (slice_index bytes (suc k) == LF)) lf
 
 not_parted : (bytes : List ℕ) (e : ℕ) → splits_crlf bytes e ≡ false → IsWhole bytes e
@@ -60,13 +71,15 @@ not_parted bytes e f = λ k s.
     let before : k ≡ e - 1 = omega (arith, s) in
     ap₂ (λ a b. (slice_index bytes a == CR) && (slice_index bytes b == LF)) before s ∙ f
 
-whole_if : (bytes : List ℕ) (e : ℕ) (x : Bool) → (x ≡ true → IsWhole bytes (e + 1)) → (x ≡ false → IsWhole bytes e) → IsWhole bytes (cond x (e + 1) e)
+whole_if : (bytes : List ℕ) (e : ℕ) (x : Bool) → (x ≡ true → IsWhole bytes (e + 1)) → (x ≡ false → IsWhole bytes e)
+    → IsWhole bytes (cond x (e + 1) e)
 whole_if bytes e true f g = f refl
 whole_if bytes e false f g = g refl
 
 reading_whole : (bytes : List ℕ) (span : Span) → IsWhole bytes (reading_end bytes span)
 reading_whole bytes span =
-    whole_if bytes (span_end span) (splits_crlf bytes (span_end span)) (behind_lf bytes (span_end span)) (not_parted bytes (span_end span))
+    whole_if bytes (span_end span) (splits_crlf bytes (span_end span)) (behind_lf bytes (span_end span))
+    (not_parted bytes (span_end span))
 
 bare_whole : (bytes : List ℕ) (span : Span) → IsWhole bytes (min (length bytes) (reading_end bytes span))
 bare_whole bytes span =
@@ -79,7 +92,8 @@ bare_whole bytes span =
 
 lined_whole : (bytes : List ℕ) (span : Span) (c : ℕ) → 1 ≤ c → IsWhole bytes (data_end bytes span c)
 lined_whole bytes span c one =
-    let e : line_end bytes (line_of bytes (reading_end bytes span) + c) ≡ data_end bytes span c = rw (some-context c one) refl in
+    let e : line_end bytes (line_of bytes (reading_end bytes span) + c) ≡ data_end bytes span c =
+    rw (some-context c one) refl in
     subst (λ (n : ℕ). IsWhole bytes n) e (line_whole bytes (line_of bytes (reading_end bytes span) + c))
 
 ends_whole : (bytes : List ℕ) (span : Span) (c : ℕ) → IsWhole bytes (data_end bytes span c)
@@ -88,7 +102,8 @@ ends_whole bytes span (suc c) = lined_whole bytes span (suc c) (omega arith)
 
 -- ---- a part of the bytes
 
--- what was lent is a part of the bytes that the span's offset lies in, parts no CRLF at its end, and says which lines it has
+-- what was lent is a part of the bytes that the span's offset lies in, parts no CRLF at its end, and says which lines
+-- it has
 pub record IsPart (bytes : List ℕ) (span : Span) (lent : Contents) : Type 0 where
   pub from : lent.span.offset ≤ span.offset
   pub to : span.offset ≤ end_of_span lent.span
@@ -98,7 +113,8 @@ pub record IsPart (bytes : List ℕ) (span : Span) (lent : Contents) : Type 0 wh
   pub line : lent.line ≡ line_of bytes lent.span.offset
   pub count : lent.line_count + lent.line ≡ line_of bytes (end_of_span lent.span)
 
-part_of : (c : ℕ) (source : Source) (span : Span) → IsAccepted source.bytes span → IsPart source.bytes span (contents c source span)
+part_of : (c : ℕ) (source : Source) (span : Span) → IsAccepted source.bytes span
+    → IsPart source.bytes span (contents c source span)
 part_of c source span ok =
     let bytes : List ℕ = source.bytes in
     let from : ℕ = data_start bytes span c in
@@ -113,15 +129,24 @@ part_of c source span ok =
       whole = subst (λ (n : ℕ). IsWhole bytes n) sums (ends_whole bytes span c);
       data_are = ap (λ (n : ℕ). slice_range bytes from n) sums;
       line = begins_at bytes span c;
-      count = omega (arith, terminators_in-line_of bytes from to (omega (arith, low, high)), begins_at bytes span c, ap (line_of bytes) sums);
+      count = omega (
+        arith,
+        terminators_in-line_of bytes from to (omega (arith, low, high)),
+        begins_at bytes span c,
+        ap (line_of bytes) sums,
+      );
     }
 
-pub part_lent : (context : ℕ) (source : Source) (span : Span) (lent : Contents) → IsLent context source span lent → IsPart source.bytes span lent
-part_lent context source span lent h = subst (λ (c : Contents). IsPart source.bytes span c) (sym h.is) (part_of context source span h.accepted)
+pub part_lent : (context : ℕ) (source : Source) (span : Span) (lent : Contents) → IsLent context source span lent
+    → IsPart source.bytes span lent
+part_lent context source span lent h = subst (λ (c : Contents). IsPart source.bytes span c) (sym h.is)
+    (part_of context source span h.accepted)
 
 -- ---- the line of an offset that a read reaches
 
-pub front_is : (lent : Contents) (offset before lines line : ℕ) → before ≡ min (offset - lent.span.offset) (length lent.bytes) → lines ≡ line_of lent.bytes before → line ≡ lent.line + lines → IsLineIn lent offset line
+pub front_is : (lent : Contents) (offset before lines line : ℕ) → before
+    ≡ min (offset - lent.span.offset) (length lent.bytes) → lines ≡ line_of lent.bytes before → line ≡ lent.line + lines
+    → IsLineIn lent offset line
 front_is lent offset before lines line b l e = λ context source span h low high.
     let bytes : List ℕ = source.bytes in
     let from : ℕ = lent.span.offset in
@@ -129,11 +154,14 @@ front_is lent offset before lines line b l e = λ context source span h low high
     let p : IsPart bytes span lent = part_lent context source span lent h in
     let size : length lent.bytes ≡ to - from = ap length p.data_are ∙ part_length bytes from to p.within in
     let here : before ≡ offset - from = omega (arith, b, size, high) in
-    let own : lines ≡ line_of (slice_range bytes from to) (offset - from) = l ∙ ap₂ (λ xs n. line_of xs n) p.data_are here in
+    let own : lines ≡ line_of (slice_range bytes from to) (offset - from) = l
+    ∙ ap₂ (λ xs n. line_of xs n) p.data_are here in
     omega (arith, e, own, p.line, part_line bytes from to offset low high p.whole)
 
-pub back_is : (lent : Contents) (offset before ended lines line : ℕ) (held rest : List ℕ) → before ≡ min (offset - lent.span.offset) (length lent.bytes) → held ≡ lent.bytes →
-    rest ≡ take (length held - before) (drop before held) → ended ≡ line_of rest (length rest) → lines ≡ lent.line_count - ended → line ≡ lent.line + lines → IsLineIn lent offset line
+pub back_is : (lent : Contents) (offset before ended lines line : ℕ) (held rest : List ℕ) → before
+    ≡ min (offset - lent.span.offset) (length lent.bytes) → held ≡ lent.bytes →
+    rest ≡ take (length held - before) (drop before held) → ended ≡ line_of rest (length rest) → lines ≡ lent.line_count
+    - ended → line ≡ lent.line + lines → IsLineIn lent offset line
 back_is lent offset before ended lines line held rest b d r l m e = λ context source span h low high.
     let bytes : List ℕ = source.bytes in
     let from : ℕ = lent.span.offset in
@@ -143,56 +171,76 @@ back_is lent offset before ended lines line held rest b d r l m e = λ context s
     let here : before ≡ offset - from = omega (arith, b, size, high) in
     let is : rest ≡ take (length (slice_range bytes from to) - before) (drop before (slice_range bytes from to)) =
     r ∙ ap (λ (xs : List ℕ). take (length xs - before) (drop before xs)) (d ∙ p.data_are) in
-    let left : line_of rest (length rest) + line_of bytes offset ≡ line_of bytes to = rest_line bytes from to offset before rest low high p.within p.whole here is in
+    let left : line_of rest (length rest) + line_of bytes offset ≡ line_of bytes to =
+    rest_line bytes from to offset before rest low high p.within p.whole here is in
     omega (arith, e, m, l, left, p.line, p.count, line_of_mono bytes from offset low)
 
 -- ---- the numbers of a label's lines
 
 -- a label's read
-pub lent_read : (context : ℕ) (source : Source) (labels : List Label) (r : ReadLabel) → IsRead context source labels r → IsLent (lines_around context labels (label_at labels r.index)) source r.span r.contents
+pub lent_read : (context : ℕ) (source : Source) (labels : List Label) (r : ReadLabel) → IsRead context source labels r
+    → IsLent (lines_around context labels (label_at labels r.index)) source r.span r.contents
 lent_read context source labels r h = record {
   accepted = h.accepted;
-  is = h.contents_are ∙ ap (λ (s : Span). contents (lines_around context labels (label_at labels r.index)) source s) (sym h.span);
+  is = h.contents_are ∙ ap (λ (s : Span). contents (lines_around context labels (label_at labels r.index)) source s)
+      (sym h.span);
 }
 
 last_within : (o e t last : ℕ) → last ≡ max o (max o (min e t) - 1) → o ≤ t → last ≤ t
 last_within o e t last l h = omega (arith, l, h)
 
-pub label_lines : (context : ℕ) (source : Source) (labels : List Label) (r : ReadLabel) (label : MadeSpread) → IsRead context source labels r →
-    label.first ≡ r.span.offset → label.last ≡ max r.span.offset (end_drawn r - 1) → label.from ≡ r.contents.span.offset →
-    IsLineIn r.contents label.first label.first_line → IsLineIn r.contents label.last label.last_line → label.from_line ≡ r.contents.line → HasLines source.bytes label
+pub label_lines : (context : ℕ) (source : Source) (labels : List Label) (r : ReadLabel) (label : MadeSpread)
+    → IsRead context source labels r →
+    label.first ≡ r.span.offset → label.last ≡ max r.span.offset (end_drawn r - 1) → label.from ≡ r.contents.span.offset
+    →
+    IsLineIn r.contents label.first label.first_line → IsLineIn r.contents label.last label.last_line → label.from_line
+    ≡ r.contents.line → HasLines source.bytes label
 label_lines context source labels r label h f l b first last from =
     let c : ℕ = lines_around context labels (label_at labels r.index) in
     let lent : IsLent c source r.span r.contents = lent_read context source labels r h in
     let p : IsPart source.bytes r.span r.contents = part_lent c source r.span r.contents lent in
     record {
       first = first c source r.span lent (omega (arith, f, p.from)) (omega (arith, f, p.to));
-      last = last c source r.span lent (omega (arith, l, p.from)) (last_within r.span.offset (end_of_span r.span) (end_of_span r.contents.span) label.last l p.to);
+      last = last c source r.span lent (omega (arith, l, p.from))
+          (last_within r.span.offset (end_of_span r.span) (end_of_span r.contents.span) label.last l p.to);
       from = from ∙ p.line ∙ ap (line_of source.bytes) (sym b);
     }
 
 -- ---- among the lines that a read lent
 
 lent_place : (bytes : List ℕ) (span : Span) (lent : Contents) (o : ℕ) → IsPart bytes span lent →
-    place_among (lines_of_contents lent) o + lent.line ≡ line_of bytes (max lent.span.offset (min o (end_of_span lent.span)))
+    place_among (lines_of_contents lent) o + lent.line ≡ line_of bytes
+    (max lent.span.offset (min o (end_of_span lent.span)))
 lent_place bytes span lent o p =
     let from : ℕ = lent.span.offset in
     let to : ℕ = end_of_span lent.span in
-    let a : place_among (lines_of_contents lent) o ≡ place_among (lines_from from (slice_range bytes from to)) o = ap (λ (xs : List ℕ). place_among (lines_from lent.span.offset xs) o) p.data_are in
+    let a : place_among (lines_of_contents lent) o ≡ place_among (lines_from from (slice_range bytes from to)) o =
+    ap (λ (xs : List ℕ). place_among (lines_from lent.span.offset xs) o) p.data_are in
     omega (arith, a, p.line, part_place bytes from to o (omega (arith, p.from, p.to)) p.whole)
 
-pub lent_placed : (bytes : List ℕ) (span : Span) (lent : Contents) (o line : ℕ) → IsPart bytes span lent → line ≡ line_of bytes o →
+pub lent_placed : (bytes : List ℕ) (span : Span) (lent : Contents) (o line : ℕ) → IsPart bytes span lent → line
+    ≡ line_of bytes o →
     place_among (lines_of_contents lent) o ≡ min (line - lent.line) lent.line_count
 lent_placed bytes span lent o line p e =
     let from : ℕ = lent.span.offset in
     let to : ℕ = end_of_span lent.span in
     let order : from ≤ to = omega (arith, p.from, p.to) in
-    let is : place_among (lines_of_contents lent) o + lent.line ≡ line_of bytes (max from (min o to)) = lent_place bytes span lent o p in
+    let is : place_among (lines_of_contents lent) o + lent.line ≡ line_of bytes (max from (min o to)) =
+    lent_place bytes span lent o p in
     elim (cases_lt from o) [
       | inl g ↦ (elim (cases_lt o to) [
         | inl l ↦
             (let at : max from (min o to) ≡ o = omega (arith, g, l) in
-            omega (arith, is, ap (line_of bytes) at, e, p.line, p.count, line_of_mono bytes from o (omega (arith, g)), line_of_mono bytes o to (omega (arith, l))))
+            omega (
+              arith,
+              is,
+              ap (line_of bytes) at,
+              e,
+              p.line,
+              p.count,
+              line_of_mono bytes from o (omega (arith, g)),
+              line_of_mono bytes o to (omega (arith, l)),
+            ))
         | inr l ↦
             (let at : max from (min o to) ≡ to = omega (arith, order, l) in
             omega (arith, is, ap (line_of bytes) at, e, p.line, p.count, line_of_mono bytes to o l))
@@ -202,15 +250,18 @@ lent_placed bytes span lent o line p e =
           omega (arith, is, ap (line_of bytes) at, e, p.line, line_of_mono bytes o from g))
     ]
 
-pub lent_counted : (bytes : List ℕ) (span : Span) (lent : Contents) → IsPart bytes span lent → lent.line_count ≡ count_by is_terminated (lines_of_contents lent)
+pub lent_counted : (bytes : List ℕ) (span : Span) (lent : Contents) → IsPart bytes span lent → lent.line_count
+    ≡ count_by is_terminated (lines_of_contents lent)
 lent_counted bytes span lent p =
     let from : ℕ = lent.span.offset in
     let to : ℕ = end_of_span lent.span in
-    let a : count_by is_terminated (lines_of_contents lent) ≡ count_by is_terminated (lines_from from (slice_range bytes from to)) =
+    let a : count_by is_terminated (lines_of_contents lent)
+    ≡ count_by is_terminated (lines_from from (slice_range bytes from to)) =
     ap (λ (xs : List ℕ). count_by is_terminated (lines_from lent.span.offset xs)) p.data_are in
     omega (arith, a, p.line, p.count, part_count bytes from to (omega (arith, p.from, p.to)) p.within p.whole)
 
-label_numbered : (bytes : List ℕ) (span : Span) (lent : Contents) (label : MadeSpread) → IsPart bytes span lent → HasLines bytes label → IsNumbered lent label
+label_numbered : (bytes : List ℕ) (span : Span) (lent : Contents) (label : MadeSpread) → IsPart bytes span lent
+    → HasLines bytes label → IsNumbered lent label
 label_numbered bytes span lent label p h = record {
   first = lent_placed bytes span lent label.first label.first_line p h.first;
   last = lent_placed bytes span lent label.last label.last_line p h.last;
@@ -218,7 +269,8 @@ label_numbered bytes span lent label p h = record {
 }
 
 -- the labels' numbers are true among the lines that the read of a group lent
-pub are_numbered : (context : ℕ) (source : Source) (span : Span) (lent : Contents) (labels : List MadeSpread) → IsLent context source span lent → All (HasLines source.bytes) labels → AreNumbered lent labels
+pub are_numbered : (context : ℕ) (source : Source) (span : Span) (lent : Contents) (labels : List MadeSpread)
+    → IsLent context source span lent → All (HasLines source.bytes) labels → AreNumbered lent labels
 are_numbered context source span lent labels h all =
     let p : IsPart source.bytes span lent = part_lent context source span lent h in
     record {

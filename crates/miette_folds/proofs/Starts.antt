@@ -1,5 +1,6 @@
 -- Where lines begin, and the lines from one beginning to another.
-use Rattle.std.proofs.Common.{ℕ, zero, suc, ◌+◌, ◌-◌, ◌≤◌, ◌≡◌, min, max, Bool, true, false, cond, nat_le, ◌&&◌, List, [], ◌∷◌, ◌++◌, length, take, drop, ⊎_elim, refl, sym, ap, ◌∙◌, subst, arith}
+use Rattle.std.proofs.Common.{ℕ, zero, suc, ◌+◌, ◌-◌, ◌≤◌, ◌≡◌, min, max, Bool, true, false, cond, nat_le, ◌&&◌, List}
+use Rattle.std.proofs.Common.{[], ◌∷◌, ◌++◌, length, take, drop, ⊎_elim, refl, sym, ap, ◌∙◌, subst, arith}
 use Rattle.std.specs.Prelude.{slice_index}
 use Rattle.std.proofs.lemmas.Bool.{cases_lt}
 use Rattle.std.proofs.lemmas.List.{drop-drop, drop_all, length-drop, length-take-le, take-append-drop}
@@ -10,7 +11,8 @@ use Rattle.miette_source_lines.specs.rules.Lines.{Line, ends_line, with_byte, li
 use Rattle.miette_source_lines.specs.declared.lines.LineOfText.{LineOfText}
 use Rattle.miette_source_lines.specs.views.Walking.{line_of_text}
 use Rattle.miette_source_lines.proofs.Scans.{after, ends_count-lines_from}
-use Rattle.miette_source_lines.proofs.Places.{ends_by-le, line_of-is, line_start-is, line_start_first, line_start_after, line_start_le, line_end_le}
+use Rattle.miette_source_lines.proofs.Places.{ends_by-le, line_of-is, line_start-is, line_start_first, line_start_after}
+use Rattle.miette_source_lines.proofs.Places.{line_start_le, line_end_le}
 use Rattle.miette_labels.proofs.Sources.{IsCut}
 use Rattle.miette_labels.proofs.Lines.{cut_lines, cut-le}
 use Rattle.miette_labels.proofs.Bridge.{lines_same}
@@ -26,15 +28,20 @@ pub few_among : (offset : ℕ) (ls : List Line) → place_among ls offset ≤ le
 few_among offset ls = count_by-le-length (λ line. P.is_terminated line && nat_le line.end offset) ls
 
 -- the place of an offset among lines that begin further on
-pub place_shifted : (start : ℕ) (bytes : List ℕ) (offset : ℕ) → place_among (P.lines_from start bytes) offset ≡ line_of bytes (offset - start)
+pub place_shifted : (start : ℕ) (bytes : List ℕ) (offset : ℕ) → place_among (P.lines_from start bytes) offset
+    ≡ line_of bytes (offset - start)
 place_shifted start bytes offset =
-    ends_count-lines_from (λ e. nat_le e offset) start bytes ∙ ends_by-le offset start bytes (offset - start) refl ∙ sym (line_of-is bytes (offset - start))
+    ends_count-lines_from (λ e. nat_le e offset) start bytes ∙ ends_by-le offset start bytes (offset - start) refl
+    ∙ sym (line_of-is bytes (offset - start))
 
 -- the line that an offset lies on begins there or before
-pub begun_low : (start : ℕ) (bytes : List ℕ) (offset : ℕ) → start ≤ offset → start + line_start bytes (place_among (P.lines_from start bytes) offset) ≤ offset
+pub begun_low : (start : ℕ) (bytes : List ℕ) (offset : ℕ) → start ≤ offset → start
+    + line_start bytes (place_among (P.lines_from start bytes) offset) ≤ offset
 begun_low start bytes offset low =
-    let same : place_among (P.lines_from start bytes) offset ≡ line_of bytes (offset - start) = place_shifted start bytes offset in
-    let le : line_start bytes (place_among (P.lines_from start bytes) offset) ≤ offset - start = line_start_le bytes (place_among (P.lines_from start bytes) offset) (offset - start) (omega (arith, same)) in
+    let same : place_among (P.lines_from start bytes) offset ≡ line_of bytes (offset - start) =
+    place_shifted start bytes offset in
+    let le : line_start bytes (place_among (P.lines_from start bytes) offset) ≤ offset - start =
+    line_start_le bytes (place_among (P.lines_from start bytes) offset) (offset - start) (omega (arith, same)) in
     omega (arith, le, low)
 
 -- a line begins within the bytes
@@ -48,7 +55,8 @@ drop_with_byte : (b at k : ℕ) (ls : List Line) → drop (suc k) (with_byte b a
 drop_with_byte b at k [] = drop-nil k ∙ sym (drop-nil (suc k))
 drop_with_byte b at k (l ∷ ls) = refl
 
-drop_step : (x : Bool) (b at k : ℕ) (bs : List ℕ) (ls : List Line) → ((j : ℕ) → drop j ls ≡ P.lines_from (at + 1 + after j bs) (drop (after j bs) bs)) →
+drop_step : (x : Bool) (b at k : ℕ) (bs : List ℕ) (ls : List Line)
+    → ((j : ℕ) → drop j ls ≡ P.lines_from (at + 1 + after j bs) (drop (after j bs) bs)) →
     drop (suc k) (cond x (record { start = at; text_end = at; end = at + 1 } ∷ ls) (with_byte b at ls))
     ≡ P.lines_from (at + suc (after (cond x k (suc k)) bs)) (drop (suc (after (cond x k (suc k)) bs)) (b ∷ bs))
 drop_step true b at k bs ls ih =
@@ -58,10 +66,12 @@ drop_step false b at k bs ls ih =
     let sums : at + 1 + after (suc k) bs ≡ at + suc (after (suc k) bs) = omega arith in
     drop_with_byte b at k ls ∙ ih (suc k) ∙ ap (λ n. P.lines_from n (drop (after (suc k) bs) bs)) sums
 
-drop_lines : (at : ℕ) (bs : List ℕ) (k : ℕ) → drop k (P.lines_from at bs) ≡ P.lines_from (at + after k bs) (drop (after k bs) bs)
+drop_lines : (at : ℕ) (bs : List ℕ) (k : ℕ) → drop k (P.lines_from at bs)
+    ≡ P.lines_from (at + after k bs) (drop (after k bs) bs)
 drop_lines at bs zero = let sums : at ≡ at + 0 = omega arith in ap (λ n. P.lines_from n bs) sums
 drop_lines at [] (suc k) = drop-nil (suc k)
-drop_lines at (b ∷ bs) (suc k) = drop_step (ends_line b (slice_index bs 0)) b at k bs (P.lines_from (at + 1) bs) (λ j. drop_lines (at + 1) bs j)
+drop_lines at (b ∷ bs) (suc k) = drop_step (ends_line b (slice_index bs 0)) b at k bs (P.lines_from (at + 1) bs)
+    (λ j. drop_lines (at + 1) bs j)
 
 -- one of the lines of some bytes begins at an offset, or all of them end there, and so many stand before it
 pub record Begins (start : ℕ) (bytes : List ℕ) (offset place : ℕ) : Type 0 where
@@ -83,14 +93,17 @@ begins_first start bytes =
     }
 
 -- the line behind one
-pub begins_next : (start : ℕ) (bytes : List ℕ) (at place : ℕ) (line : LineOfText) → Begins start bytes (start + at) place →
-    P.lines_from (start + at) (drop at bytes) ≡ line_of_text line ∷ P.lines_from line.end (drop (line.end - start) bytes) → start ≤ line.end → line.end ≤ start + length bytes →
+pub begins_next : (start : ℕ) (bytes : List ℕ) (at place : ℕ) (line : LineOfText)
+    → Begins start bytes (start + at) place →
+    P.lines_from (start + at) (drop at bytes) ≡ line_of_text line
+    ∷ P.lines_from line.end (drop (line.end - start) bytes) → start ≤ line.end → line.end ≤ start + length bytes →
     Begins start bytes line.end (place + 1)
 begins_next start bytes at place line h part low to =
     let ls : List Line = P.lines_from start bytes in
     let rest : List Line = P.lines_from line.end (drop (line.end - start) bytes) in
     let same : start + at - start ≡ at = omega arith in
-    let here : drop place ls ≡ line_of_text line ∷ rest = h.lines ∙ ap (λ n. P.lines_from (start + at) (drop n bytes)) same ∙ part in
+    let here : drop place ls ≡ line_of_text line ∷ rest = h.lines
+    ∙ ap (λ n. P.lines_from (start + at) (drop n bytes)) same ∙ part in
     let some : length (drop place ls) ≡ length ls - place = length-drop place ls in
     let one : length (drop place ls) ≡ suc (length rest) = ap length here in
     record {
@@ -101,7 +114,8 @@ begins_next start bytes at place line h part low to =
     }
 
 -- behind the last line
-pub begins_end : (start : ℕ) (bytes : List ℕ) (offset place : ℕ) → offset ≡ start + length bytes → place ≡ length (P.lines_from start bytes) → Begins start bytes offset place
+pub begins_end : (start : ℕ) (bytes : List ℕ) (offset place : ℕ) → offset ≡ start + length bytes → place
+    ≡ length (P.lines_from start bytes) → Begins start bytes offset place
 begins_end start bytes offset place end all =
     let none : drop (offset - start) bytes ≡ [] = drop_all (offset - start) bytes (omega (arith, end)) in
     record {
@@ -112,7 +126,8 @@ begins_end start bytes offset place end all =
     }
 
 -- the line with a place
-pub begins_start : (start : ℕ) (bytes : List ℕ) (place : ℕ) → place ≤ length (P.lines_from start bytes) → Begins start bytes (start_in start bytes place).offset place
+pub begins_start : (start : ℕ) (bytes : List ℕ) (place : ℕ) → place ≤ length (P.lines_from start bytes)
+    → Begins start bytes (start_in start bytes place).offset place
 begins_start start bytes place few =
     let is : after place bytes ≡ line_start bytes place = sym (line_start-is bytes place) in
     let sums : line_start bytes place ≡ start + line_start bytes place - start = omega arith in
@@ -120,12 +135,14 @@ begins_start start bytes place few =
       low = omega arith;
       high = omega (arith, start_within bytes place);
       count = few;
-      lines = drop_lines start bytes place ∙ ap (λ n. P.lines_from (start + n) (drop n bytes)) is ∙ ap (λ n. P.lines_from (start + line_start bytes place) (drop n bytes)) sums;
+      lines = drop_lines start bytes place ∙ ap (λ n. P.lines_from (start + n) (drop n bytes)) is
+          ∙ ap (λ n. P.lines_from (start + line_start bytes place) (drop n bytes)) sums;
     }
 
 -- ---- the lines from one beginning to another
 
-begins_cut : (start : ℕ) (bytes : List ℕ) (offset place : ℕ) → Begins start bytes offset place → IsCut offset (start + length bytes) (P.lines_from offset (drop (offset - start) bytes))
+begins_cut : (start : ℕ) (bytes : List ℕ) (offset place : ℕ) → Begins start bytes offset place
+    → IsCut offset (start + length bytes) (P.lines_from offset (drop (offset - start) bytes))
 begins_cut start bytes offset place h =
     let bits : List ℕ = drop (offset - start) bytes in
     subst (λ (ls : List Line). IsCut offset (start + length bytes) ls) (sym (lines_same offset bits))
@@ -134,7 +151,14 @@ begins_cut start bytes offset place h =
 cut_part : (at to n : ℕ) (xs ys : List Line) → IsCut at n (xs ++ ys) → IsCut to n ys → IsCut at to xs
 cut_part at to n [] [] h k = omega (arith, h, k)
 cut_part at to n [] (y ∷ ys) h k = omega (arith, h.0, k.0)
-cut_part at to n (x ∷ xs) ys h k = (h.0, h.1, h.2, h.3, λ e. h.4 (omega (arith, e, cut-le to n ys k)), cut_part x.end to n xs ys h.5 k)
+cut_part at to n (x ∷ xs) ys h k = (
+  h.0,
+  h.1,
+  h.2,
+  h.3,
+  λ e. h.4 (omega (arith, e, cut-le to n ys k)),
+  cut_part x.end to n xs ys h.5 k,
+)
 
 cut_length : (at n : ℕ) (ls : List Line) → IsCut at n ls → at + length ls ≤ n
 cut_length at n [] h = omega (arith, h)
@@ -142,11 +166,13 @@ cut_length at n (l ∷ ls) h = omega (arith, h.3, cut_length l.end n ls h.5)
 
 pub record RunOf (start : ℕ) (bytes : List ℕ) (from to : LineStart) : Type 0 where
   pub run : List Line
-  pub parts : P.lines_from from.offset (drop (from.offset - start) bytes) ≡ run ++ P.lines_from to.offset (drop (to.offset - start) bytes)
+  pub parts : P.lines_from from.offset (drop (from.offset - start) bytes) ≡ run
+      ++ P.lines_from to.offset (drop (to.offset - start) bytes)
   pub cut : IsCut from.offset to.offset run
   pub size : from.place + length run ≡ to.place
 
-run_by_place : (start : ℕ) (bytes : List ℕ) (from to : LineStart) → Begins start bytes from.offset from.place → Begins start bytes to.offset to.place → from.place ≤ to.place → RunOf start bytes from to
+run_by_place : (start : ℕ) (bytes : List ℕ) (from to : LineStart) → Begins start bytes from.offset from.place
+    → Begins start bytes to.offset to.place → from.place ≤ to.place → RunOf start bytes from to
 run_by_place start bytes from to a b le =
     let ls : List Line = P.lines_from start bytes in
     let d : ℕ = to.place - from.place in
@@ -154,18 +180,22 @@ run_by_place start bytes from to a b le =
     let behind : List Line = P.lines_from to.offset (drop (to.offset - start) bytes) in
     let sums : from.place + d ≡ to.place = omega (arith, le) in
     let there : drop d left ≡ behind = drop-drop d from.place ls ∙ ap (λ n. drop n ls) sums ∙ b.lines in
-    let parts : P.lines_from from.offset (drop (from.offset - start) bytes) ≡ take d left ++ behind = sym a.lines ∙ sym (take-append-drop d left) ∙ ap (λ xs. take d left ++ xs) there in
-    let size : length (take d left) ≡ d = length-take-le d left (omega (arith, le, b.count, length-drop from.place ls)) in
+    let parts : P.lines_from from.offset (drop (from.offset - start) bytes) ≡ take d left ++ behind = sym a.lines
+    ∙ sym (take-append-drop d left) ∙ ap (λ xs. take d left ++ xs) there in
+    let size : length (take d left) ≡ d = length-take-le d left (omega (arith, le, b.count, length-drop from.place ls))
+    in
     record {
       run = take d left;
       parts = parts;
       cut = cut_part from.offset to.offset (start + length bytes) (take d left) behind
-          (subst (λ (xs : List Line). IsCut from.offset (start + length bytes) xs) parts (begins_cut start bytes from.offset from.place a)) (begins_cut start bytes to.offset to.place b);
+          (subst (λ (xs : List Line). IsCut from.offset (start + length bytes) xs) parts
+          (begins_cut start bytes from.offset from.place a)) (begins_cut start bytes to.offset to.place b);
       size = omega (arith, size, le);
     }
 
 -- a line that begins further on has no smaller place
-pub places_by : (start : ℕ) (bytes : List ℕ) (from to : LineStart) → Begins start bytes from.offset from.place → Begins start bytes to.offset to.place → from.offset ≤ to.offset → from.place ≤ to.place
+pub places_by : (start : ℕ) (bytes : List ℕ) (from to : LineStart) → Begins start bytes from.offset from.place
+    → Begins start bytes to.offset to.place → from.offset ≤ to.offset → from.place ≤ to.place
 places_by start bytes from to a b le =
     ⊎_elim {C = from.place ≤ to.place}
     (λ lt.
@@ -174,11 +204,13 @@ places_by start bytes from to a b le =
     absurd (omega (arith, grows, r.size, lt, le)))
     (λ ge. ge) (cases_lt to.place from.place)
 
-pub run_of : (start : ℕ) (bytes : List ℕ) (from to : LineStart) → Begins start bytes from.offset from.place → Begins start bytes to.offset to.place → from.offset ≤ to.offset → RunOf start bytes from to
+pub run_of : (start : ℕ) (bytes : List ℕ) (from to : LineStart) → Begins start bytes from.offset from.place
+    → Begins start bytes to.offset to.place → from.offset ≤ to.offset → RunOf start bytes from to
 run_of start bytes from to a b le = run_by_place start bytes from to a b (places_by start bytes from to a b le)
 
 -- no more lines stand before a place than bytes
-pub begins_few : (start : ℕ) (bytes : List ℕ) (offset place : ℕ) → Begins start bytes offset place → start + place ≤ offset
+pub begins_few : (start : ℕ) (bytes : List ℕ) (offset place : ℕ) → Begins start bytes offset place → start + place
+    ≤ offset
 begins_few start bytes offset place h =
     let from : LineStart = record { offset = start + 0; place = 0 } in
     let to : LineStart = record { offset = offset; place = place } in
@@ -190,32 +222,38 @@ begins_few start bytes offset place h =
 
 -- the nearer and the further one of two beginnings
 
-pub begins_nearer : (start : ℕ) (bytes : List ℕ) (a b : LineStart) → Begins start bytes a.offset a.place → Begins start bytes b.offset b.place → Begins start bytes (nearer a b).offset (nearer a b).place
+pub begins_nearer : (start : ℕ) (bytes : List ℕ) (a b : LineStart) → Begins start bytes a.offset a.place
+    → Begins start bytes b.offset b.place → Begins start bytes (nearer a b).offset (nearer a b).place
 begins_nearer start bytes a b h k =
     ⊎_elim {C = Begins start bytes (nearer a b).offset (nearer a b).place}
     (λ lt.
     let le : a.place ≤ b.place = places_by start bytes a b h k (omega (arith, lt)) in
     let p : a.offset ≡ min a.offset b.offset = omega (arith, lt) in
     let q : a.place ≡ min a.place b.place = omega (arith, le) in
-    subst (λ (n : ℕ). Begins start bytes n (min a.place b.place)) p (subst (λ (n : ℕ). Begins start bytes a.offset n) q h))
+    subst (λ (n : ℕ). Begins start bytes n (min a.place b.place)) p
+    (subst (λ (n : ℕ). Begins start bytes a.offset n) q h))
     (λ ge.
     let le : b.place ≤ a.place = places_by start bytes b a k h ge in
     let p : b.offset ≡ min a.offset b.offset = omega (arith, ge) in
     let q : b.place ≡ min a.place b.place = omega (arith, le) in
-    subst (λ (n : ℕ). Begins start bytes n (min a.place b.place)) p (subst (λ (n : ℕ). Begins start bytes b.offset n) q k))
+    subst (λ (n : ℕ). Begins start bytes n (min a.place b.place)) p
+    (subst (λ (n : ℕ). Begins start bytes b.offset n) q k))
     (cases_lt a.offset b.offset)
 
-pub begins_further : (start : ℕ) (bytes : List ℕ) (a b : LineStart) → Begins start bytes a.offset a.place → Begins start bytes b.offset b.place → Begins start bytes (further a b).offset (further a b).place
+pub begins_further : (start : ℕ) (bytes : List ℕ) (a b : LineStart) → Begins start bytes a.offset a.place
+    → Begins start bytes b.offset b.place → Begins start bytes (further a b).offset (further a b).place
 begins_further start bytes a b h k =
     ⊎_elim {C = Begins start bytes (further a b).offset (further a b).place}
     (λ lt.
     let le : a.place ≤ b.place = places_by start bytes a b h k (omega (arith, lt)) in
     let p : b.offset ≡ max a.offset b.offset = omega (arith, lt) in
     let q : b.place ≡ max a.place b.place = omega (arith, le) in
-    subst (λ (n : ℕ). Begins start bytes n (max a.place b.place)) p (subst (λ (n : ℕ). Begins start bytes b.offset n) q k))
+    subst (λ (n : ℕ). Begins start bytes n (max a.place b.place)) p
+    (subst (λ (n : ℕ). Begins start bytes b.offset n) q k))
     (λ ge.
     let le : b.place ≤ a.place = places_by start bytes b a k h ge in
     let p : a.offset ≡ max a.offset b.offset = omega (arith, ge) in
     let q : a.place ≡ max a.place b.place = omega (arith, le) in
-    subst (λ (n : ℕ). Begins start bytes n (max a.place b.place)) p (subst (λ (n : ℕ). Begins start bytes a.offset n) q h))
+    subst (λ (n : ℕ). Begins start bytes n (max a.place b.place)) p
+    (subst (λ (n : ℕ). Begins start bytes a.offset n) q h))
     (cases_lt a.offset b.offset)

@@ -9,9 +9,9 @@ ghost use Rattle.miette_folds.specs.views.Spreads.{spread_of, place_in, IsNumber
 ghost use Rattle.miette_folds.specs.views.Folding.{start_in, fold_in, is_around_fold};
 ghost use Rattle.miette_folds.specs.steps.Nearness.{is_near_fold};
 
+use miette_protocol::source::MietteSpanContents;
 use miette_source_lines::lines::LineOfText;
 use miette_source_lines::scan::start_before;
-use miette_protocol::source::MietteSpanContents;
 use std::alloc::{AllocError, Global};
 
 /// A label as it may be folded.

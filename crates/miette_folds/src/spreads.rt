@@ -16,11 +16,11 @@ ghost use Rattle.miette_folds.specs.steps.LineNumbers.{IsLineIn};
 use crate::folds::Spread;
 use miette_labels::grouping::end_of;
 use miette_labels::reading::{ReadLabel, lines_around, some_own, usual_lines};
-use miette_source_lines::find::FindLines;
-use miette_source_lines::scan::Scan;
 use miette_protocol::protocol::{LabeledSpan, SourceSpan};
 use miette_protocol::source::MietteSpanContents;
 use miette_snippet_rules::options::Look;
+use miette_source_lines::find::FindLines;
+use miette_source_lines::scan::Scan;
 use std::alloc::{AllocError, Global};
 
 // The lines around the label at an index.

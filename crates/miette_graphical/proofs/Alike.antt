@@ -1,5 +1,6 @@
 -- Rows and answers that agree wherever a diagnostic is printed give the same text.
-use Rattle.std.proofs.Common.{◌≡◌, ℕ, zero, suc, inl, inr, Bool, true, false, List, [], ◌∷◌, ◌++◌, Option, Some, None, refl, ap, ap₂, ◌∙◌, subst, if◌then◌else◌}
+use Rattle.std.proofs.Common.{◌≡◌, ℕ, zero, suc, inl, inr, Bool, true, false, List, [], ◌∷◌, ◌++◌, Option, Some, None}
+use Rattle.std.proofs.Common.{refl, ap, ap₂, ◌∙◌, subst, if◌then◌else◌}
 use Rattle.std.specs.List.{AllByRecursion, Contains}
 use Rattle.miette_runs.specs.rules.Cutting.{without_trailing}
 use Rattle.miette_protocol.specs.views.Meaning.{Meaning}
@@ -7,34 +8,41 @@ use Rattle.miette_protocol.specs.rules.Reading.{Source}
 use Rattle.miette_protocol.specs.declared.protocol.Severity.{Severity}
 use Rattle.miette_tree.specs.rules.DiagnosticParts.{given_labels}
 use Rattle.miette_tree.specs.rules.Tree.{effective, Tree, tree, Cause, diagnostic, texts, Trees, no_trees, more_trees}
-use Rattle.miette_graphical.specs.rules.Answers.{Answer, Answers, RelatedAnswers, own_answer, cause_answers, related_answers, first_answers, later_answers}
+use Rattle.miette_graphical.specs.rules.Answers.{Answer, Answers, RelatedAnswers, own_answer, cause_answers}
+use Rattle.miette_graphical.specs.rules.Answers.{related_answers, first_answers, later_answers}
 use Rattle.miette_graphical.specs.rules.Indents.{narrow_settings}
 use Rattle.miette_graphical.specs.rules.DiagnosticText.{SnippetRows, rows_text, under_arrow, title_text}
 use Rattle.miette_graphical.specs.rules.PrintedDiagnostics.{PrintedDiagnostic, over}
 use Rattle.miette_graphical.specs.rules.Settings.{Settings}
-use Rattle.miette_graphical.specs.rules.Text.{are_last, body_over, causes_text, ends_there, inner_over, only_if, related_text, report_text}
+use Rattle.miette_graphical.specs.rules.Text.{are_last, body_over, causes_text, ends_there, inner_over, only_if}
+use Rattle.miette_graphical.specs.rules.Text.{related_text, report_text}
 use Rattle.miette_graphical.specs.laws.Alike.{answer_at, numbered_answers}
 use Rattle.miette_graphical.specs.laws.Paths.{Step, to_cause, to_related, at_cause, at_related, printed_at}
 use Rattle.miette_graphical.proofs.Outermost.{if_same, report_over}
 use Rattle.miette_graphical.proofs.Paths.{first_or_later, none}
 
 -- what holds of each of a list holds of one that is in it
-pub holds_there : (P : PrintedDiagnostic → Type 0) (ps : List PrintedDiagnostic) (p : PrintedDiagnostic) → AllByRecursion P ps → Contains ps p → P p
+pub holds_there : (P : PrintedDiagnostic → Type 0) (ps : List PrintedDiagnostic) (p : PrintedDiagnostic)
+    → AllByRecursion P ps → Contains ps p → P p
 holds_there P [] p all h = absurd (none p h)
-holds_there P (q ∷ ps) p all h = elim (first_or_later q ps p h) [ inl same ↦ subst P same all.0 | inr there ↦ holds_there P ps p all.1 there ]
+holds_there P (q ∷ ps) p all h = elim (first_or_later q ps p h)
+    [ inl same ↦ subst P same all.0 | inr there ↦ holds_there P ps p all.1 there ]
 
 module _ (rows others : SnippetRows) where
   -- the rows of a printed diagnostic, under an answer and under another one
   abbrev AreSame : PrintedDiagnostic → Answer → Answer → Type 0
-  AreSame p a b = (u : Settings) → rows u p.source (given_labels p.meaning.labels) a ≡ others u p.source (given_labels p.meaning.labels) b
+  AreSame p a b = (u : Settings) → rows u p.source (given_labels p.meaning.labels) a
+      ≡ others u p.source (given_labels p.meaning.labels) b
 
   same_drawn : (u : Settings) (source : Option Source) (m : Meaning) (a b : Answer) → AreSame (over source m) a b →
       rows_text (rows u source (given_labels m.labels) a) ≡ rows_text (others u source (given_labels m.labels) b)
   same_drawn u source m a b h = ap rows_text (h u)
 
   mutual
-    causes_alike : (s : Settings) (outer : Option Severity) (inherited : Option Source) (c : Cause) (a b : Answers) (nested : Bool) → s.nested ≡ nested →
-        ((path : List Step) (p : PrintedDiagnostic) → at_cause nested inherited c path ≡ Some p → AreSame p (answer_at a path) (answer_at b path)) →
+    causes_alike : (s : Settings) (outer : Option Severity) (inherited : Option Source) (c : Cause) (a b : Answers)
+        (nested : Bool) → s.nested ≡ nested →
+        ((path : List Step) (p : PrintedDiagnostic) → at_cause nested inherited c path ≡ Some p
+        → AreSame p (answer_at a path) (answer_at b path)) →
         causes_text rows s outer inherited c a ≡ causes_text others s outer inherited c b
     causes_alike s outer inherited (texts ts) a b nested w h = refl
     causes_alike s outer inherited (diagnostic (tree m own c r)) a b nested w h =
@@ -43,11 +51,14 @@ module _ (rows others : SnippetRows) where
         ap₂ (λ x y. x ++ y)
         (ap (under_arrow s outer (ends_there c))
         (ap₂ (inner_over n m) (same_drawn n source m (own_answer a) (own_answer b) (h [] (over source m) refl))
-        (related_alike n m.severity source r (related_answers a) (related_answers b) nested w (λ k path. h (to_related k ∷ path)))))
+        (related_alike n m.severity source r (related_answers a) (related_answers b) nested w
+        (λ k path. h (to_related k ∷ path)))))
         (causes_alike s outer inherited c (cause_answers a) (cause_answers b) nested w (λ path. h (to_cause ∷ path)))
 
-    related_alike : (s : Settings) (outer : Option Severity) (inherited : Option Source) (ts : Trees) (a b : RelatedAnswers) (nested : Bool) → s.nested ≡ nested →
-        ((k : ℕ) (path : List Step) (p : PrintedDiagnostic) → at_related nested inherited ts k path ≡ Some p → AreSame p (answer_at (numbered_answers a k) path) (answer_at (numbered_answers b k) path)) →
+    related_alike : (s : Settings) (outer : Option Severity) (inherited : Option Source) (ts : Trees)
+        (a b : RelatedAnswers) (nested : Bool) → s.nested ≡ nested →
+        ((k : ℕ) (path : List Step) (p : PrintedDiagnostic) → at_related nested inherited ts k path ≡ Some p
+        → AreSame p (answer_at (numbered_answers a k) path) (answer_at (numbered_answers b k) path)) →
         related_text rows s outer inherited ts a ≡ related_text others s outer inherited ts b
     related_alike s outer inherited no_trees a b nested w h = refl
     related_alike s outer inherited (more_trees (tree m own c r) ts) a b true w h =
@@ -56,8 +67,10 @@ module _ (rows others : SnippetRows) where
         ap₂ (λ x y. x ++ y)
         (if_same s.nested _ _ _ _
         (λ y. ap (λ x. under_arrow s outer (are_last ts) (without_trailing x))
-        (ap₂ (inner_over n m) (same_drawn n source m (own_answer (first_answers a)) (own_answer (first_answers b)) (h zero [] (over source m) refl))
-        (related_alike n m.severity source r (related_answers (first_answers a)) (related_answers (first_answers b)) true w (λ k path. h zero (to_related k ∷ path)))))
+        (ap₂ (inner_over n m) (same_drawn n source m (own_answer (first_answers a)) (own_answer (first_answers b))
+        (h zero [] (over source m) refl))
+        (related_alike n m.severity source r (related_answers (first_answers a)) (related_answers (first_answers b))
+        true w (λ k path. h zero (to_related k ∷ path)))))
         (λ y. absurd (cc)))
         (related_alike s outer inherited ts (later_answers a) (later_answers b) true w (λ k path. h (suc k) path))
     related_alike s outer inherited (more_trees (tree m own c r) ts) a b false w h =
@@ -65,24 +78,34 @@ module _ (rows others : SnippetRows) where
         ap₂ (λ x y. x ++ y)
         (if_same s.nested _ _ _ _
         (λ y. absurd (cc))
-        (λ y. ap (λ x. title_text s m ++ body_over s m x (causes_text rows s m.severity source c (cause_answers (first_answers a))) (related_text rows s m.severity source r (related_answers (first_answers a))))
-        (same_drawn s source m (own_answer (first_answers a)) (own_answer (first_answers b)) (h zero [] (over source m) refl))
-        ∙ ap₂ (λ x z. title_text s m ++ body_over s m (rows_text (others s source (given_labels m.labels) (own_answer (first_answers b)))) x z)
-        (causes_alike s m.severity source c (cause_answers (first_answers a)) (cause_answers (first_answers b)) false w (λ path. h zero (to_cause ∷ path)))
-        (related_alike s m.severity source r (related_answers (first_answers a)) (related_answers (first_answers b)) false w (λ k path. h zero (to_related k ∷ path)))))
+        (λ y. ap (λ x. title_text s m ++ body_over s m x (causes_text rows s m.severity source c
+        (cause_answers (first_answers a))) (related_text rows s m.severity source r
+        (related_answers (first_answers a))))
+        (same_drawn s source m (own_answer (first_answers a)) (own_answer (first_answers b))
+        (h zero [] (over source m) refl))
+        ∙ ap₂ (λ x z. title_text s m ++ body_over s m (rows_text
+        (others s source (given_labels m.labels) (own_answer (first_answers b)))) x z)
+        (causes_alike s m.severity source c (cause_answers (first_answers a)) (cause_answers (first_answers b)) false w
+        (λ path. h zero (to_cause ∷ path)))
+        (related_alike s m.severity source r (related_answers (first_answers a)) (related_answers (first_answers b))
+        false w (λ k path. h zero (to_related k ∷ path)))))
         (related_alike s outer inherited ts (later_answers a) (later_answers b) false w (λ k path. h (suc k) path))
 
   root_alike : (chain : Bool) (s : Settings) (m : Meaning) (own : Option Source) (c : Cause) (a b : Answers) →
-      ((path : List Step) (p : PrintedDiagnostic) → (if chain then at_cause s.nested own c path else None) ≡ Some p → AreSame p (answer_at a path) (answer_at b path)) →
+      ((path : List Step) (p : PrintedDiagnostic) → (if chain then at_cause s.nested own c path else None) ≡ Some p
+      → AreSame p (answer_at a path) (answer_at b path)) →
       only_if chain (causes_text rows s m.severity own c a) ≡ only_if chain (causes_text others s m.severity own c b)
   root_alike true s m own c a b h = causes_alike s m.severity own c a b s.nested refl h
   root_alike false s m own c a b h = refl
 
   pub report_alike : (s : Settings) (t : Tree) (a b : Answers) →
-      ((path : List Step) (p : PrintedDiagnostic) → printed_at s t path ≡ Some p → AreSame p (answer_at a path) (answer_at b path)) → report_text rows s t a ≡ report_text others s t b
+      ((path : List Step) (p : PrintedDiagnostic) → printed_at s t path ≡ Some p
+      → AreSame p (answer_at a path) (answer_at b path)) → report_text rows s t a ≡ report_text others s t b
   report_alike s (tree m own c r) a b h =
-      ap (λ x. report_over s m x (only_if s.chain (causes_text rows s m.severity own c (cause_answers a))) (related_text rows s m.severity own r (related_answers a)))
+      ap (λ x. report_over s m x (only_if s.chain (causes_text rows s m.severity own c (cause_answers a)))
+      (related_text rows s m.severity own r (related_answers a)))
       (same_drawn s own m (own_answer a) (own_answer b) (h [] (over own m) refl))
       ∙ ap₂ (report_over s m (rows_text (others s own (given_labels m.labels) (own_answer b))))
       (root_alike s.chain s m own c (cause_answers a) (cause_answers b) (λ path. h (to_cause ∷ path)))
-      (related_alike s m.severity own r (related_answers a) (related_answers b) s.nested refl (λ k path. h (to_related k ∷ path)))
+      (related_alike s m.severity own r (related_answers a) (related_answers b) s.nested refl
+      (λ k path. h (to_related k ∷ path)))

@@ -1,5 +1,7 @@
 -- The rows of snippets under answers: where nothing fails, they are those in which nothing is listed.
-use Rattle.std.proofs.Common.{◌≡◌, ◌≢◌, ℕ, Bool, true, false, ◌||◌, if◌then◌else◌, inl, inr, List, [], ◌∷◌, refl, sym, ap, ap₂, ◌∙◌, subst, Option, Some, None, is_some, option_map, codes, length, ◌<◌, arith, ◌++◌, drop}
+use Rattle.std.proofs.Common.{◌≡◌, ◌≢◌, ℕ, Bool, true, false, ◌||◌, if◌then◌else◌, inl, inr, List, [], ◌∷◌, refl, sym}
+use Rattle.std.proofs.Common.{ap, ap₂, ◌∙◌, subst, Option, Some, None, is_some, option_map, codes, length, ◌<◌, arith}
+use Rattle.std.proofs.Common.{◌++◌, drop}
 use Rattle.std.proofs.lemmas.Bool.{cases_Bool}
 use Rattle.miette_protocol.specs.views.Meaning.{Label, Meaning}
 use Rattle.miette_protocol.specs.rules.Reading.{Source, is_accepted}
@@ -12,7 +14,8 @@ use Rattle.miette_snippet_rules.specs.rules.Frames.{refused_row}
 use Rattle.miette_labels.specs.rules.Around.{group_context}
 use Rattle.miette_labels.specs.rules.Groups.{refusal, groups_of, in_order}
 use Rattle.miette_snippet_rules.specs.rules.Highlighting.{SnippetsHavePieces, group_calls, snippet_calls}
-use Rattle.miette_snippet_rules.specs.rules.SnippetLayout.{snippet_rows, rows_unless, rows_of_groups, settings_around, all_snippets}
+use Rattle.miette_snippet_rules.specs.rules.SnippetLayout.{snippet_rows, rows_unless, rows_of_groups, settings_around}
+use Rattle.miette_snippet_rules.specs.rules.SnippetLayout.{all_snippets}
 use Rattle.miette_snippet_rules.proofs.NoPieces.{none_have}
 use Rattle.miette_page.specs.rules.Rows.{Row}
 use Rattle.miette_page.specs.views.Tokens.{rows_tokens}
@@ -30,83 +33,123 @@ use Rattle.miette_graphical.specs.steps.PartTexts.{AreDrawn, IsDrawn}
 use Rattle.miette_labels.proofs.Bodies.{next_none, later_none, some_none}
 use Rattle.miette_labels.proofs.NoFailures.{none_unread, grouped_none}
 
-refusal_none : (bytes : List ℕ) (fails : List Bool) (labels : List Label) → NoneFails fails → refusal bytes fails labels ≡ refusal bytes [] labels
+refusal_none : (bytes : List ℕ) (fails : List Bool) (labels : List Label) → NoneFails fails → refusal bytes fails labels
+    ≡ refusal bytes [] labels
 refusal_none bytes fails [] h = refl
 refusal_none bytes fails (label ∷ labels) h =
-    ap (λ b. if b then Some (record { label = label; name = codes "IoError" }) else if is_accepted bytes label.span then refusal bytes (drop 1 fails) labels
+    ap (λ b. if b then Some (record { label = label; name = codes "IoError" }) else if is_accepted bytes label.span then
+    refusal bytes (drop 1 fails) labels
     else Some (record { label = label; name = codes "OutOfBounds" })) (next_none fails h)
-    ∙ ap (λ r. if is_accepted bytes label.span then r else Some (record { label = label; name = codes "OutOfBounds" })) (refusal_none bytes (drop 1 fails) labels (later_none fails h))
+    ∙ ap (λ r. if is_accepted bytes label.span then r else Some (record { label = label; name = codes "OutOfBounds" }))
+    (refusal_none bytes (drop 1 fails) labels (later_none fails h))
 
 -- the rows of groups where nothing fails
 pub groups_given : (s : frames.SnippetSettings) (source : Source) (labels : List Label) (a : Answer) → AlwaysReads a →
     rows_of_groups s source labels a (groups_of s.context source a.join_fails labels)
-    ≡ Some (all_snippets (settings_around s labels) (spreads_of s.label_lines s.context source labels) source labels a.pieces (groups_of s.context source [] labels))
+    ≡ Some (all_snippets (settings_around s labels) (spreads_of s.label_lines s.context source labels) source labels
+    a.pieces (groups_of s.context source [] labels))
 groups_given s source labels a h =
     ap (λ g. rows_of_groups s source labels a g) (grouped_none s.context source a.join_fails labels h.joins)
-    ∙ ap₂ (λ x y. if x || y then None else Some (all_snippets (settings_around s labels) (spreads_of s.label_lines s.context source labels) source labels a.pieces (groups_of s.context source [] labels)))
-    (none_unread s.context source a.join_fails labels h.joins) (some_none a.place_fails (groups_of s.context source [] labels) h.places)
+    ∙ ap₂ (λ x y. if x || y then None else Some (all_snippets (settings_around s labels)
+    (spreads_of s.label_lines s.context source labels) source labels a.pieces
+    (groups_of s.context source [] labels)))
+    (none_unread s.context source a.join_fails labels h.joins)
+    (some_none a.place_fails (groups_of s.context source [] labels) h.places)
 
 pub none_listed : (pieces : List (List (List Highlight))) → AlwaysReads (pieces_listed pieces)
 none_listed pieces = record { labels = tt; joins = tt; places = tt }
 
-unless_same : (s : frames.SnippetSettings) (source : Source) (labels : List Label) (a : Answer) (refused : Option Row) → AlwaysReads a →
+unless_same : (s : frames.SnippetSettings) (source : Source) (labels : List Label) (a : Answer) (refused : Option Row)
+    → AlwaysReads a →
     rows_unless s source labels a refused ≡ rows_unless s source labels (pieces_listed a.pieces) refused
 unless_same s source labels a (Some row) h = refl
-unless_same s source labels a None h = groups_given s source labels a h ∙ sym (groups_given s source labels (pieces_listed a.pieces) (none_listed a.pieces))
+unless_same s source labels a None h = groups_given s source labels a h
+    ∙ sym (groups_given s source labels (pieces_listed a.pieces) (none_listed a.pieces))
 
 pub rows_same : (s : frames.SnippetSettings) (source : Source) (labels : List Label) (a : Answer) → AlwaysReads a →
     snippet_rows s source labels a ≡ snippet_rows s source labels (pieces_listed a.pieces)
 rows_same s source labels a h =
-    ap (λ r. rows_unless s source (in_order labels) a (option_map (refused_row s) r)) (refusal_none source.bytes a.label_fails (in_order labels) h.labels)
-    ∙ unless_same s source (in_order labels) a (option_map (refused_row s) (refusal source.bytes [] (in_order labels))) h
+    ap (λ r. rows_unless s source (in_order labels) a (option_map (refused_row s) r))
+    (refusal_none source.bytes a.label_fails (in_order labels) h.labels)
+    ∙ unless_same s source (in_order labels) a (option_map (refused_row s) (refusal source.bytes [] (in_order labels)))
+    h
 
-some_unless : (s : frames.SnippetSettings) (source : Source) (labels : List Label) (pieces : List (List (List Highlight))) (refused : Option Row) → is_some (rows_unless s source labels (pieces_listed pieces) refused) ≡ true
+some_unless : (s : frames.SnippetSettings) (source : Source) (labels : List Label)
+    (pieces : List (List (List Highlight))) (refused : Option Row)
+    → is_some (rows_unless s source labels (pieces_listed pieces) refused) ≡ true
 some_unless s source labels pieces (Some row) = refl
-some_unless s source labels pieces None = ap is_some (groups_given s source labels (pieces_listed pieces) (none_listed pieces))
+some_unless s source labels pieces None = ap is_some (groups_given s source labels (pieces_listed pieces)
+    (none_listed pieces))
 
 -- where no read failed there are rows
-pub always_rows : (s : frames.SnippetSettings) (source : Option Source) (labels : List Label) (pieces : List (List (List Highlight))) → HasRows s source labels (pieces_listed pieces)
+pub always_rows : (s : frames.SnippetSettings) (source : Option Source) (labels : List Label)
+    (pieces : List (List (List Highlight))) → HasRows s source labels (pieces_listed pieces)
 always_rows s None labels pieces = tt
-always_rows s (Some source) labels pieces = some_unless s source (in_order labels) pieces (option_map (refused_row s) (refusal source.bytes [] (in_order labels)))
+always_rows s (Some source) labels pieces = some_unless s source (in_order labels) pieces
+    (option_map (refused_row s) (refusal source.bytes [] (in_order labels)))
 
-never_none : (s : frames.SnippetSettings) (source : Source) (labels : List Label) (pieces : List (List (List Highlight))) (refused : Option Row) → rows_unless s source labels (pieces_listed pieces) refused ≢ None
+never_none : (s : frames.SnippetSettings) (source : Source) (labels : List Label)
+    (pieces : List (List (List Highlight))) (refused : Option Row)
+    → rows_unless s source labels (pieces_listed pieces) refused ≢ None
 never_none s source labels pieces (Some row) e = absurd (cc)
-never_none s source labels pieces None e = let k = sym (groups_given s source labels (pieces_listed pieces) (none_listed pieces)) ∙ e in absurd (cc)
+never_none s source labels pieces None e = let k = sym
+    (groups_given s source labels (pieces_listed pieces) (none_listed pieces)) ∙ e in absurd (cc)
 
-no_rows_fail : (s : frames.SnippetSettings) (source : Source) (labels : List Label) (a : Answer) → AlwaysReads a → snippet_rows s source labels a ≡ None → ⊥
+no_rows_fail : (s : frames.SnippetSettings) (source : Source) (labels : List Label) (a : Answer) → AlwaysReads a
+    → snippet_rows s source labels a ≡ None → ⊥
 no_rows_fail s source labels a h n =
-    never_none s source (in_order labels) a.pieces (option_map (refused_row s) (refusal source.bytes [] (in_order labels))) (sym (rows_same s source labels a h) ∙ n)
+    never_none s source (in_order labels) a.pieces (option_map (refused_row s)
+    (refusal source.bytes [] (in_order labels))) (sym (rows_same s source labels a h) ∙ n)
 
 -- ---- no pieces
 
-no_pieces : (s : frames.SnippetSettings) (blank : Bool) (source : Option Source) (labels : List Label) → HasPieces s blank source labels nothing_listed
+no_pieces : (s : frames.SnippetSettings) (blank : Bool) (source : Option Source) (labels : List Label)
+    → HasPieces s blank source labels nothing_listed
 no_pieces s blank None labels = tt
-no_pieces s blank (Some source) labels = none_have (group_context s.context (in_order labels)) blank source (groups_of s.context source [] (in_order labels))
+no_pieces s blank (Some source) labels = none_have (group_context s.context (in_order labels)) blank source
+    (groups_of s.context source [] (in_order labels))
 
 -- where nothing is listed, nothing failed
-pub unlisted_is : (s : frames.SnippetSettings) (blank : Bool) (source : Option Source) (labels : List Label) (reads : Bool) → IsAnswerOf s blank source labels reads nothing_listed
-unlisted_is s blank source labels reads = record { read = λ h. refl; plain = λ b. refl; pieces = no_pieces s blank source labels; rows = always_rows s source labels [] }
+pub unlisted_is : (s : frames.SnippetSettings) (blank : Bool) (source : Option Source) (labels : List Label)
+    (reads : Bool) → IsAnswerOf s blank source labels reads nothing_listed
+unlisted_is s blank source labels reads = record {
+  read = λ h. refl;
+  plain = λ b. refl;
+  pieces =
+      no_pieces s blank source labels;
+  rows = always_rows s source labels [];
+}
 
-page_given : (text : List ℕ) (rows : Option (List Row)) (page : Printout) → Some page ≡ option_map (λ rows. printout_of text ⊕ rows_tokens rows) rows → ended_text page ≡ text ++ rows_text (shown_rows rows)
+page_given : (text : List ℕ) (rows : Option (List Row)) (page : Printout) → Some page
+    ≡ option_map (λ rows. printout_of text ⊕ rows_tokens rows) rows → ended_text page ≡ text
+    ++ rows_text (shown_rows rows)
 page_given text None page e = absurd (cc)
-page_given text (Some rows) page e = let same : page ≡ printout_of text ⊕ rows_tokens rows = cc in ap ended_text same ∙ rows_printed text rows
+page_given text (Some rows) page e = let same : page ≡ printout_of text ⊕ rows_tokens rows = cc in ap ended_text same
+    ∙ rows_printed text rows
 
-rows_some : (before : Printout) (rows : Option (List Row)) (page : Printout) → Some page ≡ option_map (λ rows. before ⊕ rows_tokens rows) rows → is_some rows ≡ true
+rows_some : (before : Printout) (rows : Option (List Row)) (page : Printout) → Some page
+    ≡ option_map (λ rows. before ⊕ rows_tokens rows) rows → is_some rows ≡ true
 rows_some before None page e = absurd (cc)
 rows_some before (Some rows) page e = refl
 
-rows_none : (before : Printout) (rows : Option (List Row)) → None ≡ option_map (λ rows. before ⊕ rows_tokens rows) rows → rows ≡ None
+rows_none : (before : Printout) (rows : Option (List Row)) → None ≡ option_map (λ rows. before ⊕ rows_tokens rows) rows
+    → rows ≡ None
 rows_none before None e = refl
 rows_none before (Some rows) e = absurd (cc)
 
 -- the calls for the snippets of some labels where no read failed
-calls_same : (context : ℕ) (source : Source) (labels : List Label) (a : Answer) → AlwaysReads a → snippet_calls context source labels a ≡ snippet_calls context source labels (pieces_listed a.pieces)
+calls_same : (context : ℕ) (source : Source) (labels : List Label) (a : Answer) → AlwaysReads a
+    → snippet_calls context source labels a ≡ snippet_calls context source labels (pieces_listed a.pieces)
 calls_same context source labels a h =
-    ap₂ (λ r groups. if is_some r then [] else group_calls (group_context context (in_order labels)) source groups a.pieces)
-    (refusal_none source.bytes a.label_fails (in_order labels) h.labels) (grouped_none context source a.join_fails (in_order labels) h.joins)
+    ap₂ (λ r groups. if is_some r then [] else group_calls (group_context context (in_order labels)) source groups
+    a.pieces)
+    (refusal_none source.bytes a.label_fails (in_order labels) h.labels)
+    (grouped_none context source a.join_fails (in_order labels) h.joins)
 
-drawn_text : {happen : List Call → Type 0} (s : Settings) (source : Source) (labels : List Label) (blank : Bool) (before : List ℕ) (page : Printout) →
-    (g : MayGive (snippet_settings s) source labels blank happen (printout_of before) (Some page)) → AreDrawn s blank happen source labels (rows_text (drawn_rows s (Some source) labels g.answers))
+drawn_text : {happen : List Call → Type 0} (s : Settings) (source : Source) (labels : List Label) (blank : Bool)
+    (before : List ℕ) (page : Printout) →
+    (g : MayGive (snippet_settings s) source labels blank happen (printout_of before) (Some page))
+    → AreDrawn s blank happen source labels (rows_text (drawn_rows s (Some source) labels g.answers))
 drawn_text {happen} s source labels blank before page g =
     let l = snippet_settings s in
     let a = g.answers in
@@ -116,7 +159,8 @@ drawn_text {happen} s source labels blank before page g =
         record {
           read = λ h. refl;
           plain = g.plain;
-          pieces = subst (λ groups. SnippetsHavePieces (group_context l.context (in_order labels)) blank source groups a.pieces) (grouped_none l.context source a.join_fails (in_order labels) (g.always reads).joins) g.pieces;
+          pieces = subst (λ groups. SnippetsHavePieces (group_context l.context (in_order labels)) blank source groups
+              a.pieces) (grouped_none l.context source a.join_fails (in_order labels) (g.always reads).joins) g.pieces;
           rows = always_rows l (Some source) labels a.pieces;
         },
         subst happen (calls_same s.context source labels a (g.always reads)) g.calls,
@@ -124,37 +168,62 @@ drawn_text {happen} s source labels blank before page g =
       )
       | inr fails ↦ (
         a,
-        record { read = λ h. absurd (cc); plain = g.plain; pieces = g.pieces; rows = rows_some (printout_of before) (snippet_rows l source labels a) page g.is },
+        record {
+          read = λ h. absurd (cc);
+          plain = g.plain;
+          pieces = g.pieces;
+          rows =
+              rows_some (printout_of before) (snippet_rows l source labels a) page g.is;
+        },
         g.calls,
         refl,
       )
     ]
 
-pub drawn_page : {happen : List Call → Type 0} (s : Settings) (source : Source) (labels : List Label) (blank : Bool) (before : List ℕ) (page : Printout) →
-    MayGive (snippet_settings s) source labels blank happen (printout_of before) (Some page) → AppendsOne (AreDrawn s blank happen source labels) before (ended_text page)
+pub drawn_page : {happen : List Call → Type 0} (s : Settings) (source : Source) (labels : List Label) (blank : Bool)
+    (before : List ℕ) (page : Printout) →
+    MayGive (snippet_settings s) source labels blank happen (printout_of before) (Some page)
+    → AppendsOne (AreDrawn s blank happen source labels) before (ended_text page)
 drawn_page {happen} s source labels blank before page g =
     let l = snippet_settings s in
     let a = g.answers in
     let text : List ℕ = rows_text (drawn_rows s (Some source) labels a) in
-    record { text = text; is_given = drawn_text s source labels blank before page g; appended = page_given before (snippet_rows l source labels a) page g.is }
+    record {
+      text = text;
+      is_given = drawn_text s source labels blank before page g;
+      appended =
+          page_given before (snippet_rows l source labels a) page g.is;
+    }
 
-pub refused_page : {happen : List Call → Type 0} (s : Settings) (source : Source) (labels : List Label) (blank : Bool) (before : Printout) → MayGive (snippet_settings s) source labels blank happen before None → source.always_reads ≡ false
+pub refused_page : {happen : List Call → Type 0} (s : Settings) (source : Source) (labels : List Label) (blank : Bool)
+    (before : Printout) → MayGive (snippet_settings s) source labels blank happen before None → source.always_reads
+    ≡ false
 refused_page s source labels blank before g =
     elim (cases_Bool source.always_reads) [
-      | inl reads ↦ absurd (no_rows_fail (snippet_settings s) source labels g.answers (g.always reads) (rows_none before (snippet_rows (snippet_settings s) source labels g.answers) g.is))
+      | inl reads ↦ absurd (no_rows_fail (snippet_settings s) source labels g.answers (g.always reads)
+          (rows_none before (snippet_rows (snippet_settings s) source labels g.answers) g.is))
       | inr fails ↦ fails
     ]
 
 -- ---- a diagnostic's snippets
 
-pub drawn_nowhere : (s : Settings) (blank : Bool) (now : List Call → Type 0) (m : Meaning) (text : List ℕ) → text ≡ [] → IsDrawn drawn_rows s blank (λ calls. Leads now calls now) None m text
-drawn_nowhere s blank now m text e = (nothing_listed, unlisted_is (snippet_settings s) blank None (given_labels m.labels) (always_reads None (given_labels m.labels)), (λ later h. h), e)
+pub drawn_nowhere : (s : Settings) (blank : Bool) (now : List Call → Type 0) (m : Meaning) (text : List ℕ) → text ≡ []
+    → IsDrawn drawn_rows s blank (λ calls. Leads now calls now) None m text
+drawn_nowhere s blank now m text e = (
+  nothing_listed,
+  unlisted_is (snippet_settings s) blank None
+      (given_labels m.labels) (always_reads None (given_labels m.labels)),
+  (λ later h. h),
+  e,
+)
 
-pub drawn_unlabelled : (s : Settings) (blank : Bool) (now : List Call → Type 0) (source : Source) (m : Meaning) (text : List ℕ) → given_labels m.labels ≡ [] → text ≡ [] →
+pub drawn_unlabelled : (s : Settings) (blank : Bool) (now : List Call → Type 0) (source : Source) (m : Meaning)
+    (text : List ℕ) → given_labels m.labels ≡ [] → text ≡ [] →
     IsDrawn drawn_rows s blank (λ calls. Leads now calls now) (Some source) m text
 drawn_unlabelled s blank now source m text e t = (
   nothing_listed,
-  unlisted_is (snippet_settings s) blank (Some source) (given_labels m.labels) (always_reads (Some source) (given_labels m.labels)),
+  unlisted_is (snippet_settings s) blank (Some source) (given_labels m.labels)
+      (always_reads (Some source) (given_labels m.labels)),
   subst (λ (ls : List Label). Leads now (snippet_calls s.context source ls nothing_listed) now) (sym e) (λ later h. h),
   t ∙ ap (λ ls. rows_text (drawn_rows s (Some source) ls nothing_listed)) (sym e),
 )

@@ -1,5 +1,6 @@
 -- Texts that are tame, and the same texts without their colours.
-use Rattle.std.proofs.Common.{◌≡◌, ℕ, ◌-◌, Bool, true, false, List, [], ◌∷◌, ◌++◌, map, refl, sym, ap, ap₂, ◌∙◌, if◌then◌else◌}
+use Rattle.std.proofs.Common.{◌≡◌, ℕ, ◌-◌, Bool, true, false, List, [], ◌∷◌, ◌++◌, map, refl, sym, ap, ap₂, ◌∙◌}
+use Rattle.std.proofs.Common.{if◌then◌else◌}
 use Rattle.miette_runs.specs.rules.Sequences.{tokens, erase}
 use Rattle.miette_text.specs.laws.Tame.{IsTame, AllTame}
 use Rattle.miette_runs.specs.rules.Runs.{Fragment, HaveNoEscape, plain_run, print}
@@ -30,19 +31,35 @@ fades-to h e = record { tame = h.tame; same = h.same ∙ e }
 
 module _ (laws : TextLaws) where
   pub fades-append : (x y u v : List ℕ) → Fades x y → Fades u v → Fades (x ++ u) (y ++ v)
-  fades-append x y u v h k = record { tame = laws.append-tame x u h.tame k.tame; same = laws.erase-append x u h.tame k.tame ∙ ap₂ (λ a b. a ++ b) h.same k.same }
+  fades-append x y u v h k = record {
+    tame = laws.append-tame x u h.tame k.tame;
+    same =
+        laws.erase-append x u h.tame k.tame ∙ ap₂ (λ a b. a ++ b) h.same k.same;
+  }
 
   pub fades-clean : (x : List ℕ) → IsClean x → Fades x x
   fades-clean x h = record { tame = plain-tame laws x h; same = plain-erase laws x h }
 
   pub fades-print : (xs ys : List Fragment) → Pales xs ys → Fades (print xs) (print ys)
-  fades-print xs ys h = record { tame = laws.print-tame xs h.clean; same = laws.print-erase xs h.clean ∙ ap print h.same }
+  fades-print xs ys h = record {
+    tame = laws.print-tame xs h.clean;
+    same = laws.print-erase xs h.clean
+        ∙ ap print h.same;
+  }
 
   pub fades-leading : (x y : List ℕ) → Fades x y → Fades (without_leading x) (without_leading y)
-  fades-leading x y h = record { tame = laws.leading-tame x h.tame; same = laws.leading-erase x h.tame ∙ ap without_leading h.same }
+  fades-leading x y h = record {
+    tame = laws.leading-tame x h.tame;
+    same = laws.leading-erase x h.tame
+        ∙ ap without_leading h.same;
+  }
 
   pub fades-trailing : (x y : List ℕ) → Fades x y → Fades (without_trailing x) (without_trailing y)
-  fades-trailing x y h = record { tame = laws.trailing-tame x h.tame; same = laws.trailing-erase x h.tame ∙ ap without_trailing h.same }
+  fades-trailing x y h = record {
+    tame = laws.trailing-tame x h.tame;
+    same = laws.trailing-erase x h.tame
+        ∙ ap without_trailing h.same;
+  }
 
   pub fades-if : (b : Bool) (x y u v : List ℕ) → Fades x y → Fades u v → Fades (if b then x else u) (if b then y else v)
   fades-if true x y u v h k = h
@@ -53,7 +70,15 @@ module _ (laws : TextLaws) where
   fades-only_if false x y h = fades-clean [] refl
 
   abbrev plan : Settings → List ℕ → List ℕ → Plan (List ℕ)
-  plan s first further = record { room = s.width - 2; first = first; further = further; breaks = s.breaks; wraps = s.wraps; hyphens = s.hyphens }
+  plan s first further = record {
+    room = s.width - 2;
+    first = first;
+    further = further;
+    breaks = s.breaks;
+    wraps =
+        s.wraps;
+    hyphens = s.hyphens;
+  }
 
   pub fades-under : (s : Settings) (f f2 g g2 : List Fragment) (x y : List ℕ) → Pales f f2 → Pales g g2 → Fades x y →
       Fades (wrapped_under s f g x) (wrapped_under (colourless s) f2 g2 y)
@@ -71,7 +96,8 @@ module _ (laws : TextLaws) where
       }
 
   -- Colours have no columns.
-  pub columns-pale : (xs ys : List Fragment) → Pales xs ys → columns_of (tokens (print ys)) ≡ columns_of (tokens (print xs))
+  pub columns-pale : (xs ys : List Fragment) → Pales xs ys → columns_of (tokens (print ys))
+      ≡ columns_of (tokens (print xs))
   columns-pale xs ys h =
       let p = fades-print xs ys h in
       ap (λ t. columns_of (tokens t)) (sym p.same) ∙ laws.erase-columns (print xs) p.tame
@@ -79,9 +105,12 @@ module _ (laws : TextLaws) where
   pub fades-feed : Fades line_feed line_feed
   fades-feed = fades-clean line_feed refl
 
-  pub fades-rows : (rs : List (List Fragment)) → HaveNoEscapes rs → Fades (rows_text rs) (rows_text (map (map plain_run) rs))
+  pub fades-rows : (rs : List (List Fragment)) → HaveNoEscapes rs
+      → Fades (rows_text rs) (rows_text (map (map plain_run) rs))
   fades-rows [] h = fades-clean [] refl
   fades-rows (r ∷ rs) h =
-      fades-append (print r ++ line_feed) (print (map plain_run r) ++ line_feed) (rows_text rs) (rows_text (map (map plain_run) rs))
-      (fades-append (print r) (print (map plain_run r)) line_feed line_feed (fades-print r (map plain_run r) (record { clean = h.0; same = refl })) fades-feed)
+      fades-append (print r ++ line_feed) (print (map plain_run r) ++ line_feed) (rows_text rs)
+      (rows_text (map (map plain_run) rs))
+      (fades-append (print r) (print (map plain_run r)) line_feed line_feed
+      (fades-print r (map plain_run r) (record { clean = h.0; same = refl })) fades-feed)
       (fades-rows rs h.1)

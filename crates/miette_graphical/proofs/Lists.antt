@@ -9,9 +9,11 @@ use Rattle.miette_tree.specs.rules.Reads.{always_reads}
 read_append : (ps qs : List PrintedDiagnostic) → all_read (ps ++ qs) ≡ (all_read ps && all_read qs)
 read_append [] qs = refl
 read_append (p ∷ ps) qs =
-    ap (λ b. always_reads p.source (given_labels p.meaning.labels) && b) (read_append ps qs) ∙ sym (and_assoc (always_reads p.source (given_labels p.meaning.labels)) (all_read ps) (all_read qs))
+    ap (λ b. always_reads p.source (given_labels p.meaning.labels) && b) (read_append ps qs)
+    ∙ sym (and_assoc (always_reads p.source (given_labels p.meaning.labels)) (all_read ps) (all_read qs))
 
-pub both_read : (ps qs : List PrintedDiagnostic) → all_read (ps ++ qs) ≡ true → (all_read ps ≡ true) × (all_read qs ≡ true)
+pub both_read : (ps qs : List PrintedDiagnostic) → all_read (ps ++ qs) ≡ true → (all_read ps ≡ true)
+    × (all_read qs ≡ true)
 both_read ps qs h = let p = and_parts (all_read ps) (all_read qs) (sym (read_append ps qs) ∙ h) in (p.0, p.1)
 
 pub first_fails : (ps qs : List PrintedDiagnostic) → all_read ps ≡ false → all_read (ps ++ qs) ≡ false

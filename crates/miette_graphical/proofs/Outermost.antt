@@ -10,6 +10,7 @@ use Rattle.miette_graphical.specs.rules.Text.{body_over}
 abbrev pub report_over : Settings → Meaning → List ℕ → List ℕ → List ℕ → List ℕ
 report_over s m drawn causes related = print (header s m) ++ body_over s m drawn causes related ++ footer_text s
 
-pub if_same : (nested : Bool) (x u y v : List ℕ) → (nested ≡ true → x ≡ u) → (nested ≡ false → y ≡ v) → (if nested then x else y) ≡ (if nested then u else v)
+pub if_same : (nested : Bool) (x u y v : List ℕ) → (nested ≡ true → x ≡ u) → (nested ≡ false → y ≡ v)
+    → (if nested then x else y) ≡ (if nested then u else v)
 if_same true x u y v p q = p refl
 if_same false x u y v p q = q refl

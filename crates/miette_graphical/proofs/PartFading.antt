@@ -1,5 +1,6 @@
 -- The parts of a diagnostic's text, without their colours.
-use Rattle.std.proofs.Common.{◌≡◌, ℕ, ◌-◌, Bool, true, false, List, [], ◌∷◌, ◌++◌, refl, sym, ap, ap₂, ◌∙◌, chars, Option, Some, None, IfSome}
+use Rattle.std.proofs.Common.{◌≡◌, ℕ, ◌-◌, Bool, true, false, List, [], ◌∷◌, ◌++◌, refl, sym, ap, ap₂, ◌∙◌, chars}
+use Rattle.std.proofs.Common.{Option, Some, None, IfSome}
 use Rattle.miette_basics.specs.rules.Lists.{is_nil}
 use Rattle.miette_runs.specs.rules.Runs.{Fragment, Styled, print}
 use Rattle.miette_style.specs.rules.Styles.{plain}
@@ -7,12 +8,17 @@ use Rattle.miette_protocol.specs.views.Meaning.{Meaning, Label}
 use Rattle.miette_protocol.specs.rules.Reading.{Source}
 use Rattle.miette_protocol.specs.declared.protocol.Severity.{Severity}
 use Rattle.miette_protocol.specs.declared.protocol.Severity.TheVariants.{Advice, Warning, Error}
-use Rattle.miette_graphical.specs.rules.Settings.{Settings, Urls, AsLinks, AsText, Hidden, icon, icon_in, style_in, severity_style}
+use Rattle.miette_graphical.specs.rules.Settings.{Settings, Urls, AsLinks, AsText, Hidden, icon, icon_in, style_in}
+use Rattle.miette_graphical.specs.rules.Settings.{severity_style}
 use Rattle.miette_style.specs.rules.Themes.{Characters, Styles}
 use Rattle.miette_graphical.proofs.TextLaws.{TextLaws}
 use Rattle.miette_graphical.specs.rules.Answers.{Answer}
-use Rattle.miette_graphical.specs.rules.Indents.{bare_text, spaces, wrapped_under, icon_indent, bar_indent, arrow_text, stem_text, arrow_indent, stem_indent, help_indent, further_help_indent, footer_indent, narrow_settings}
-use Rattle.miette_graphical.specs.rules.DiagnosticText.{footer_of, line_feed, header, header_by, message_text, help_text, footer_text, under_arrow, header_or_end, title_text, SnippetRows, rows_text}
+use Rattle.miette_graphical.specs.rules.Indents.{bare_text, spaces, wrapped_under, icon_indent, bar_indent, arrow_text}
+use Rattle.miette_graphical.specs.rules.Indents.{stem_text, arrow_indent, stem_indent, help_indent, further_help_indent}
+use Rattle.miette_graphical.specs.rules.Indents.{footer_indent, narrow_settings}
+use Rattle.miette_graphical.specs.rules.DiagnosticText.{footer_of, line_feed, header, header_by, message_text}
+use Rattle.miette_graphical.specs.rules.DiagnosticText.{help_text, footer_text, under_arrow, header_or_end, title_text}
+use Rattle.miette_graphical.specs.rules.DiagnosticText.{SnippetRows, rows_text}
 use Rattle.miette_tree.specs.rules.DiagnosticParts.{given_labels, severity_title}
 use Rattle.miette_graphical.specs.rules.Text.{cause_texts, body, inner_text}
 use Rattle.miette_tree.specs.rules.Tree.{effective}
@@ -23,7 +29,8 @@ use Rattle.miette_snippet_laws.proofs.CleanTexts.{clean_cons, clean_append}
 use Rattle.miette_snippet_laws.specs.laws.Fading.{unhighlighted_answer}
 use Rattle.miette_graphical.specs.laws.Clean.{AreCleanCharacters, AreCleanSettings, AreCleanLabels, IsCleanMeaning}
 use Rattle.miette_graphical.specs.laws.Colourless.{colourless, AreSnippets}
-use Rattle.miette_graphical.proofs.Fading.{Fades, Pales, fades-to, fades-append, fades-clean, fades-print, fades-leading, fades-under, fades-feed, fades-rows, columns-pale}
+use Rattle.miette_graphical.proofs.Fading.{Fades, Pales, fades-to, fades-append, fades-clean, fades-print}
+use Rattle.miette_graphical.proofs.Fading.{fades-leading, fades-under, fades-feed, fades-rows, columns-pale}
 
 module _ (laws : TextLaws) where
   -- ---- texts
@@ -45,10 +52,12 @@ module _ (laws : TextLaws) where
   arrow-clean : (s : Settings) (b : Bool) → AreCleanSettings s → IsClean (arrow_text s b)
   arrow-clean s true h = let k = h.0.drawings in
       clean_cons s.characters.lbot (s.characters.hbar ∷ s.characters.rarrow ∷ spaces 1) k.lbot
-      (clean_cons s.characters.hbar (s.characters.rarrow ∷ spaces 1) k.hbar (clean_cons s.characters.rarrow (spaces 1) k.rarrow refl))
+      (clean_cons s.characters.hbar (s.characters.rarrow ∷ spaces 1) k.hbar
+      (clean_cons s.characters.rarrow (spaces 1) k.rarrow refl))
   arrow-clean s false h = let k = h.0.drawings in
       clean_cons s.characters.lcross (s.characters.hbar ∷ s.characters.rarrow ∷ spaces 1) k.lcross
-      (clean_cons s.characters.hbar (s.characters.rarrow ∷ spaces 1) k.hbar (clean_cons s.characters.rarrow (spaces 1) k.rarrow refl))
+      (clean_cons s.characters.hbar (s.characters.rarrow ∷ spaces 1) k.hbar
+      (clean_cons s.characters.rarrow (spaces 1) k.rarrow refl))
 
   stem-clean : (s : Settings) (b : Bool) → AreCleanSettings s → IsClean (stem_text s b)
   stem-clean s true h = refl
@@ -56,16 +65,19 @@ module _ (laws : TextLaws) where
 
   -- ---- indents
 
-  pale-icon : (s : Settings) (v : Option Severity) → AreCleanSettings s → Pales (icon_indent s v) (icon_indent (colourless s) v)
+  pale-icon : (s : Settings) (v : Option Severity) → AreCleanSettings s
+      → Pales (icon_indent s v) (icon_indent (colourless s) v)
   pale-icon s v h = record {
     clean = (refl, (icon-clean s.characters v h.0, (refl, tt)));
     same = ap (λ st. bare_text (spaces 2) ∷ Styled st (icon s v) ∷ bare_text (spaces 1) ∷ []) (style-faded s.styles v);
   }
 
-  pale-bar : (s : Settings) (v : Option Severity) → AreCleanSettings s → Pales (bar_indent s v) (bar_indent (colourless s) v)
+  pale-bar : (s : Settings) (v : Option Severity) → AreCleanSettings s
+      → Pales (bar_indent s v) (bar_indent (colourless s) v)
   pale-bar s v h = let k = h.0.drawings in record {
     clean = (refl, (clean_cons s.characters.vbar [] k.vbar refl, (refl, tt)));
-    same = ap (λ st. bare_text (spaces 2) ∷ Styled st (s.characters.vbar ∷ []) ∷ bare_text (spaces 1) ∷ []) (style-faded s.styles v);
+    same = ap (λ st. bare_text (spaces 2) ∷ Styled st (s.characters.vbar ∷ []) ∷ bare_text (spaces 1) ∷ [])
+        (style-faded s.styles v);
   }
 
   -- what an arrow draws is the same in all styles
@@ -77,41 +89,53 @@ module _ (laws : TextLaws) where
   stem-same s true = refl
   stem-same s false = refl
 
-  pale-arrow : (s : Settings) (v : Option Severity) (b : Bool) → AreCleanSettings s → Pales (arrow_indent s v b) (arrow_indent (colourless s) v b)
+  pale-arrow : (s : Settings) (v : Option Severity) (b : Bool) → AreCleanSettings s
+      → Pales (arrow_indent s v b) (arrow_indent (colourless s) v b)
   pale-arrow s v b h = record {
     clean = (arrow-clean s b h, tt);
     same = ap₂ (λ st t. Styled st t ∷ []) (style-faded s.styles v) (arrow-same s b);
   }
 
-  pale-stem : (s : Settings) (v : Option Severity) (b : Bool) → AreCleanSettings s → Pales (stem_indent s v b) (stem_indent (colourless s) v b)
+  pale-stem : (s : Settings) (v : Option Severity) (b : Bool) → AreCleanSettings s
+      → Pales (stem_indent s v b) (stem_indent (colourless s) v b)
   pale-stem s v b h = record {
     clean = (stem-clean s b h, tt);
     same = ap₂ (λ st t. Styled st t ∷ []) (style-faded s.styles v) (stem-same s b);
   }
 
   -- Colours change no inner width.
-  pub narrowed-faded : (s : Settings) (v : Option Severity) (b : Bool) → AreCleanSettings s → colourless (narrow_settings s v b) ≡ narrow_settings (colourless s) v b
-  narrowed-faded s v b h = ap (λ n. record (colourless s) { width = s.width - n }) (sym (columns-pale laws (stem_indent s v b) (stem_indent (colourless s) v b) (pale-stem s v b h)))
+  pub narrowed-faded : (s : Settings) (v : Option Severity) (b : Bool) → AreCleanSettings s
+      → colourless (narrow_settings s v b) ≡ narrow_settings (colourless s) v b
+  narrowed-faded s v b h = ap (λ n. record (colourless s) { width = s.width - n })
+      (sym (columns-pale laws (stem_indent s v b) (stem_indent (colourless s) v b) (pale-stem s v b h)))
 
   -- ---- header
 
-  pale-header_by : (u : Urls) (s : Settings) (v : Option Severity) (url code : Option (List ℕ)) → AreCleanSettings s → IfSome url IsCleanText → IfSome code IsCleanText →
+  pale-header_by : (u : Urls) (s : Settings) (v : Option Severity) (url code : Option (List ℕ)) → AreCleanSettings s
+      → IfSome url IsCleanText → IfSome code IsCleanText →
       Pales (header_by u s (severity_style s v) url code) (header_by u (colourless s) plain url code)
-  pale-header_by AsLinks s v (Some url) (Some code) h k j = record { clean = (k, (clean_append (chars code) (32 ∷ []) j refl, (h.1, (tt, (refl, tt))))); same = refl }
+  pale-header_by AsLinks s v (Some url) (Some code) h k j =
+      record { clean = (k, (clean_append (chars code) (32 ∷ []) j refl, (h.1, (tt, (refl, tt))))); same = refl }
   pale-header_by AsLinks s v (Some url) None h k j = record { clean = (k, (h.1, (tt, (refl, tt)))); same = refl }
   pale-header_by AsLinks s v None (Some code) h k j = record { clean = (j, (refl, tt)); same = refl }
   pale-header_by AsLinks s v None None h k j = record { clean = tt; same = refl }
-  pale-header_by AsText s v (Some url) (Some code) h k j = record { clean = (j, (refl, (k, (refl, (refl, tt))))); same = refl }
+  pale-header_by AsText s v (Some url) (Some code) h k j =
+      record { clean = (j, (refl, (k, (refl, (refl, tt))))); same = refl }
   pale-header_by AsText s v (Some url) None h k j = record { clean = tt; same = refl }
   pale-header_by AsText s v None (Some code) h k j = record { clean = (j, (refl, tt)); same = refl }
   pale-header_by AsText s v None None h k j = record { clean = tt; same = refl }
   pale-header_by Hidden s v url (Some code) h k j = record { clean = (j, (refl, tt)); same = refl }
   pale-header_by Hidden s v url None h k j = record { clean = tt; same = refl }
 
-  pale-header : (s : Settings) (m : Meaning) → AreCleanSettings s → IsCleanMeaning m → Pales (header s m) (header (colourless s) m)
+  pale-header : (s : Settings) (m : Meaning) → AreCleanSettings s → IsCleanMeaning m
+      → Pales (header s m) (header (colourless s) m)
   pale-header s m h k =
       let p = pale-header_by s.urls s m.severity m.url m.code h k.url k.code in
-      record { clean = p.clean; same = p.same ∙ ap (λ st. header_by s.urls (colourless s) st m.url m.code) (style-faded s.styles m.severity) }
+      record {
+        clean = p.clean;
+        same = p.same ∙ ap (λ st. header_by s.urls (colourless s) st m.url m.code)
+            (style-faded s.styles m.severity);
+      }
 
   pale-or_end : (xs ys : List Fragment) → Pales xs ys → Pales (header_or_end xs) (header_or_end ys)
   pale-or_end [] ys h = record { clean = (refl, tt); same = ap header_or_end h.same }
@@ -119,7 +143,8 @@ module _ (laws : TextLaws) where
 
   -- ---- message, help, footer
 
-  pub fades-header : (s : Settings) (m : Meaning) → AreCleanSettings s → IsCleanMeaning m → Fades (print (header s m)) (print (header (colourless s) m))
+  pub fades-header : (s : Settings) (m : Meaning) → AreCleanSettings s → IsCleanMeaning m
+      → Fades (print (header s m)) (print (header (colourless s) m))
   fades-header s m h k = fades-print laws (header s m) (header (colourless s) m) (pale-header s m h k)
 
   title-clean : (v : Option Severity) → IsClean (severity_title v)
@@ -128,19 +153,26 @@ module _ (laws : TextLaws) where
   title-clean (Some Warning) = refl
   title-clean (Some Advice) = refl
 
-  pub fades-title : (s : Settings) (m : Meaning) → AreCleanSettings s → IsCleanMeaning m → Fades (title_text s m) (title_text (colourless s) m)
+  pub fades-title : (s : Settings) (m : Meaning) → AreCleanSettings s → IsCleanMeaning m
+      → Fades (title_text s m) (title_text (colourless s) m)
   fades-title s m h k =
-      fades-append laws (line_feed ++ severity_title m.severity) (line_feed ++ severity_title m.severity) (print (header_or_end (header s m))) (print (header_or_end (header (colourless s) m)))
+      fades-append laws (line_feed ++ severity_title m.severity) (line_feed ++ severity_title m.severity)
+      (print (header_or_end (header s m))) (print (header_or_end (header (colourless s) m)))
       (fades-clean laws (line_feed ++ severity_title m.severity) (title-clean m.severity))
-      (fades-print laws (header_or_end (header s m)) (header_or_end (header (colourless s) m)) (pale-or_end (header s m) (header (colourless s) m) (pale-header s m h k)))
+      (fades-print laws (header_or_end (header s m)) (header_or_end (header (colourless s) m))
+      (pale-or_end (header s m) (header (colourless s) m) (pale-header s m h k)))
 
   fades-line : (x y : List ℕ) → Fades x y → Fades (x ++ line_feed) (y ++ line_feed)
   fades-line x y h = fades-append laws x y line_feed line_feed h (fades-feed laws)
 
-  fades-message : (s : Settings) (m : Meaning) → AreCleanSettings s → IsCleanMeaning m → Fades (message_text s m) (message_text (colourless s) m)
+  fades-message : (s : Settings) (m : Meaning) → AreCleanSettings s → IsCleanMeaning m
+      → Fades (message_text s m) (message_text (colourless s) m)
   fades-message s m h k =
-      fades-line (wrapped_under s (icon_indent s m.severity) (bar_indent s m.severity) (chars m.message)) (wrapped_under (colourless s) (icon_indent (colourless s) m.severity) (bar_indent (colourless s) m.severity) (chars m.message))
-      (fades-under laws s (icon_indent s m.severity) (icon_indent (colourless s) m.severity) (bar_indent s m.severity) (bar_indent (colourless s) m.severity) (chars m.message) (chars m.message)
+      fades-line (wrapped_under s (icon_indent s m.severity) (bar_indent s m.severity) (chars m.message))
+      (wrapped_under (colourless s) (icon_indent (colourless s) m.severity) (bar_indent (colourless s) m.severity)
+      (chars m.message))
+      (fades-under laws s (icon_indent s m.severity) (icon_indent (colourless s) m.severity) (bar_indent s m.severity)
+      (bar_indent (colourless s) m.severity) (chars m.message) (chars m.message)
       (pale-icon s m.severity h) (pale-bar s m.severity h) (fades-clean laws (chars m.message) k.message))
 
   pale-help : (s : Settings) → AreCleanSettings s → Pales (help_indent s) (help_indent (colourless s))
@@ -152,63 +184,93 @@ module _ (laws : TextLaws) where
   pale-footer : Pales footer_indent footer_indent
   pale-footer = record { clean = (refl, tt); same = refl }
 
-  fades-help : (s : Settings) (help : Option (List ℕ)) → AreCleanSettings s → IfSome help IsCleanText → Fades (help_text s help) (help_text (colourless s) help)
+  fades-help : (s : Settings) (help : Option (List ℕ)) → AreCleanSettings s → IfSome help IsCleanText
+      → Fades (help_text s help) (help_text (colourless s) help)
   fades-help s None h k = fades-clean laws [] refl
   fades-help s (Some help) h k =
-      fades-line (wrapped_under s (help_indent s) further_help_indent (chars help)) (wrapped_under (colourless s) (help_indent (colourless s)) further_help_indent (chars help))
-      (fades-under laws s (help_indent s) (help_indent (colourless s)) further_help_indent further_help_indent (chars help) (chars help) (pale-help s h) pale-spaces (fades-clean laws (chars help) k))
+      fades-line (wrapped_under s (help_indent s) further_help_indent (chars help))
+      (wrapped_under (colourless s) (help_indent (colourless s)) further_help_indent (chars help))
+      (fades-under laws s (help_indent s) (help_indent (colourless s)) further_help_indent further_help_indent
+      (chars help) (chars help) (pale-help s h) pale-spaces (fades-clean laws (chars help) k))
 
-  fades-footer_of : (s : Settings) (footer : Option (List ℕ)) → IfSome footer IsClean → Fades (footer_of s footer) (footer_of (colourless s) footer)
+  fades-footer_of : (s : Settings) (footer : Option (List ℕ)) → IfSome footer IsClean
+      → Fades (footer_of s footer) (footer_of (colourless s) footer)
   fades-footer_of s None k = fades-clean laws [] refl
   fades-footer_of s (Some footer) k =
-      fades-line (line_feed ++ wrapped_under s footer_indent footer_indent footer) (line_feed ++ wrapped_under (colourless s) footer_indent footer_indent footer)
-      (fades-append laws line_feed line_feed (wrapped_under s footer_indent footer_indent footer) (wrapped_under (colourless s) footer_indent footer_indent footer) (fades-feed laws)
-      (fades-under laws s footer_indent footer_indent footer_indent footer_indent footer footer pale-footer pale-footer (fades-clean laws footer k)))
+      fades-line (line_feed ++ wrapped_under s footer_indent footer_indent footer)
+      (line_feed ++ wrapped_under (colourless s) footer_indent footer_indent footer)
+      (fades-append laws line_feed line_feed (wrapped_under s footer_indent footer_indent footer)
+      (wrapped_under (colourless s) footer_indent footer_indent footer) (fades-feed laws)
+      (fades-under laws s footer_indent footer_indent footer_indent footer_indent footer footer pale-footer pale-footer
+      (fades-clean laws footer k)))
 
   pub fades-footer : (s : Settings) → AreCleanSettings s → Fades (footer_text s) (footer_text (colourless s))
   fades-footer s h = fades-footer_of s s.footer h.2
 
   -- ---- causes
 
-  pub fades-under_arrow : (s : Settings) (v : Option Severity) (b : Bool) (x y : List ℕ) → AreCleanSettings s → Fades x y → Fades (under_arrow s v b x) (under_arrow (colourless s) v b y)
+  pub fades-under_arrow : (s : Settings) (v : Option Severity) (b : Bool) (x y : List ℕ) → AreCleanSettings s
+      → Fades x y → Fades (under_arrow s v b x) (under_arrow (colourless s) v b y)
   fades-under_arrow s v b x y h k =
-      fades-line (wrapped_under s (arrow_indent s v b) (stem_indent s v b) x) (wrapped_under (colourless s) (arrow_indent (colourless s) v b) (stem_indent (colourless s) v b) y)
-      (fades-under laws s (arrow_indent s v b) (arrow_indent (colourless s) v b) (stem_indent s v b) (stem_indent (colourless s) v b) x y (pale-arrow s v b h) (pale-stem s v b h) k)
+      fades-line (wrapped_under s (arrow_indent s v b) (stem_indent s v b) x)
+      (wrapped_under (colourless s) (arrow_indent (colourless s) v b) (stem_indent (colourless s) v b) y)
+      (fades-under laws s (arrow_indent s v b) (arrow_indent (colourless s) v b) (stem_indent s v b)
+      (stem_indent (colourless s) v b) x y (pale-arrow s v b h) (pale-stem s v b h) k)
 
-  pub fades-cause_texts : (s : Settings) (v : Option Severity) (ts : List (List ℕ)) → AreCleanSettings s → AllByRecursion IsCleanText ts → Fades (cause_texts s v ts) (cause_texts (colourless s) v ts)
+  pub fades-cause_texts : (s : Settings) (v : Option Severity) (ts : List (List ℕ)) → AreCleanSettings s
+      → AllByRecursion IsCleanText ts → Fades (cause_texts s v ts) (cause_texts (colourless s) v ts)
   fades-cause_texts s v [] h k = fades-clean laws [] refl
   fades-cause_texts s v (t ∷ ts) h k =
-      fades-append laws (under_arrow s v (is_nil ts) (chars t)) (under_arrow (colourless s) v (is_nil ts) (chars t)) (cause_texts s v ts) (cause_texts (colourless s) v ts)
-      (fades-under_arrow s v (is_nil ts) (chars t) (chars t) h (fades-clean laws (chars t) k.0)) (fades-cause_texts s v ts h k.1)
+      fades-append laws (under_arrow s v (is_nil ts) (chars t)) (under_arrow (colourless s) v (is_nil ts) (chars t))
+      (cause_texts s v ts) (cause_texts (colourless s) v ts)
+      (fades-under_arrow s v (is_nil ts) (chars t) (chars t) h (fades-clean laws (chars t) k.0))
+      (fades-cause_texts s v ts h k.1)
 
   -- ---- snippets, and a diagnostic's text
 
-  labels-clean : (labels : Option (List Label)) → AreCleanLabels labels → AllByRecursion IsCleanLabel (given_labels labels)
+  labels-clean : (labels : Option (List Label)) → AreCleanLabels labels
+      → AllByRecursion IsCleanLabel (given_labels labels)
   labels-clean None h = tt
   labels-clean (Some ls) h = h
 
-  pub effective-clean : (own inherited : Option Source) → IfSome own IsCleanSource → IfSome inherited IsCleanSource → IfSome (effective own inherited) IsCleanSource
+  pub effective-clean : (own inherited : Option Source) → IfSome own IsCleanSource → IfSome inherited IsCleanSource
+      → IfSome (effective own inherited) IsCleanSource
   effective-clean None inherited h k = k
   effective-clean (Some s) inherited h k = h
 
-  pub fades-body : (rows : SnippetRows) → AreSnippets rows → (s : Settings) (m : Meaning) (source : Option Source) (a : Answer) (causes causes2 related related2 : List ℕ) →
-      AreCleanSettings s → IsCleanMeaning m → IfSome source IsCleanSource → Fades causes causes2 → Fades related related2 →
-      Fades (body rows s m source a causes related) (body rows (colourless s) m source (unhighlighted_answer a) causes2 related2)
+  pub fades-body : (rows : SnippetRows) → AreSnippets rows
+      → (s : Settings) (m : Meaning) (source : Option Source) (a : Answer) (causes causes2 related related2 : List ℕ) →
+      AreCleanSettings s → IsCleanMeaning m → IfSome source IsCleanSource → Fades causes causes2
+      → Fades related related2 →
+      Fades (body rows s m source a causes related) (body rows (colourless s) m source (unhighlighted_answer a) causes2
+      related2)
   fades-body rows law s m source a causes causes2 related related2 h k j p q =
       let ls = given_labels m.labels in
       let rs = rows s source ls a in
       let rs2 = rows (colourless s) source ls (unhighlighted_answer a) in
       let snippets : Fades (rows_text rs) (rows_text rs2) =
-      fades-to (fades-rows laws rs (law.clean s source ls a h j (labels-clean m.labels k.labels))) (sym (law.fade s source ls a)) in
-      let one = fades-append laws (message_text s m) (message_text (colourless s) m) causes causes2 (fades-message s m h k) p in
-      let two = fades-append laws (message_text s m ++ causes) (message_text (colourless s) m ++ causes2) (rows_text rs) (rows_text rs2) one snippets in
-      let three = fades-append laws (message_text s m ++ causes ++ rows_text rs) (message_text (colourless s) m ++ causes2 ++ rows_text rs2) (help_text s m.help) (help_text (colourless s) m.help) two (fades-help s m.help h k.help) in
-      fades-append laws (message_text s m ++ causes ++ rows_text rs ++ help_text s m.help) (message_text (colourless s) m ++ causes2 ++ rows_text rs2 ++ help_text (colourless s) m.help) related related2 three q
+      fades-to (fades-rows laws rs (law.clean s source ls a h j (labels-clean m.labels k.labels)))
+      (sym (law.fade s source ls a)) in
+      let one = fades-append laws (message_text s m) (message_text (colourless s) m) causes causes2
+      (fades-message s m h k) p in
+      let two = fades-append laws (message_text s m ++ causes) (message_text (colourless s) m ++ causes2) (rows_text rs)
+      (rows_text rs2) one snippets in
+      let three = fades-append laws (message_text s m ++ causes ++ rows_text rs)
+      (message_text (colourless s) m ++ causes2 ++ rows_text rs2) (help_text s m.help)
+      (help_text (colourless s) m.help) two (fades-help s m.help h k.help) in
+      fades-append laws (message_text s m ++ causes ++ rows_text rs ++ help_text s m.help)
+      (message_text (colourless s) m ++ causes2 ++ rows_text rs2 ++ help_text (colourless s) m.help) related related2
+      three q
 
-  pub fades-inner : (rows : SnippetRows) → AreSnippets rows → (s : Settings) (m : Meaning) (source : Option Source) (a : Answer) (related related2 : List ℕ) →
+  pub fades-inner : (rows : SnippetRows) → AreSnippets rows
+      → (s : Settings) (m : Meaning) (source : Option Source) (a : Answer) (related related2 : List ℕ) →
       AreCleanSettings s → IsCleanMeaning m → IfSome source IsCleanSource → Fades related related2 →
-      Fades (inner_text rows s m source a related) (inner_text rows (colourless s) m source (unhighlighted_answer a) related2)
+      Fades (inner_text rows s m source a related) (inner_text rows (colourless s) m source (unhighlighted_answer a)
+      related2)
   fades-inner rows law s m source a related related2 h k j q =
-      fades-leading laws (print (header s m) ++ body rows s m source a [] related) (print (header (colourless s) m) ++ body rows (colourless s) m source (unhighlighted_answer a) [] related2)
-      (fades-append laws (print (header s m)) (print (header (colourless s) m)) (body rows s m source a [] related) (body rows (colourless s) m source (unhighlighted_answer a) [] related2)
-      (fades-header s m h k) (fades-body rows law s m source a [] [] related related2 h k j (fades-clean laws [] refl) q))
+      fades-leading laws (print (header s m) ++ body rows s m source a [] related)
+      (print (header (colourless s) m) ++ body rows (colourless s) m source (unhighlighted_answer a) [] related2)
+      (fades-append laws (print (header s m)) (print (header (colourless s) m)) (body rows s m source a [] related)
+      (body rows (colourless s) m source (unhighlighted_answer a) [] related2)
+      (fades-header s m h k) (fades-body rows law s m source a [] [] related related2 h k j (fades-clean laws [] refl)
+      q))

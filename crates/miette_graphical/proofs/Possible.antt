@@ -15,8 +15,10 @@ use Rattle.miette_snippet_rules.proofs.NoPieces.{none_have}
 use Rattle.miette_page.specs.rules.Rows.{Row, glyphs_of}
 use Rattle.miette_graphical.specs.rules.Settings.{Settings}
 use Rattle.miette_graphical.specs.rules.Snippets.{snippet_settings}
-use Rattle.miette_graphical.specs.rules.Answers.{Answer, Answers, unlisted, RelatedAnswers, no_more, and_more, own_answer, cause_answers, related_answers}
-use Rattle.miette_graphical.specs.rules.PossibleAnswers.{AreAnswers, AreCauseAnswers, AreRelatedAnswers, HasPieces, HasRows, IsAnswer, IsAnswerOf}
+use Rattle.miette_graphical.specs.rules.Answers.{Answer, Answers, unlisted, RelatedAnswers, no_more, and_more}
+use Rattle.miette_graphical.specs.rules.Answers.{own_answer, cause_answers, related_answers}
+use Rattle.miette_graphical.specs.rules.PossibleAnswers.{AreAnswers, AreCauseAnswers, AreRelatedAnswers, HasPieces}
+use Rattle.miette_graphical.specs.rules.PossibleAnswers.{HasRows, IsAnswer, IsAnswerOf}
 use Rattle.miette_tree.specs.rules.Reads.{always_reads}
 use Rattle.miette_graphical.specs.laws.Colourless.{colourless, unhighlighted_answers, unhighlighted_related_answers}
 use Rattle.miette_graphical.proofs.Bare.{own-bare, cause-bare, related-bare}
@@ -24,23 +26,29 @@ use Rattle.miette_graphical.proofs.Bare.{own-bare, cause-bare, related-bare}
 -- in plain styles the rows have the same characters, which the layer of snippets promises
 abbrev pub AreRowsKept : Type 0
 AreRowsKept = (s : frames.SnippetSettings) (source : Source) (labels : List Label) (answers : snippet_answers.Answers) →
-    option_map (map glyphs_of) (snippet_rows (fading.colourless s) source labels (fading.unhighlighted_answer answers)) ≡ option_map (map glyphs_of) (snippet_rows s source labels answers)
+    option_map (map glyphs_of) (snippet_rows (fading.colourless s) source labels (fading.unhighlighted_answer answers))
+    ≡ option_map (map glyphs_of) (snippet_rows s source labels answers)
 
-some_kept : (plain rows : Option (List Row)) → option_map (map glyphs_of) plain ≡ option_map (map glyphs_of) rows → is_some rows ≡ true → is_some plain ≡ true
+some_kept : (plain rows : Option (List Row)) → option_map (map glyphs_of) plain ≡ option_map (map glyphs_of) rows
+    → is_some rows ≡ true → is_some plain ≡ true
 some_kept None None e h = h
 some_kept None (Some rows) e h = absurd (cc)
 some_kept (Some plain) rows e h = refl
 
 module _ (kept : AreRowsKept) where
-  rows_kept : (l : frames.SnippetSettings) (source : Option Source) (labels : List Label) (a : Answer) → HasRows l source labels a → HasRows (fading.colourless l) source labels (unhighlighted_answer a)
+  rows_kept : (l : frames.SnippetSettings) (source : Option Source) (labels : List Label) (a : Answer)
+      → HasRows l source labels a → HasRows (fading.colourless l) source labels (unhighlighted_answer a)
   rows_kept l None labels a h = tt
   rows_kept l (Some source) labels a h = some_kept _ _ (kept l source labels a) h
 
-  no_pieces : (l : frames.SnippetSettings) (source : Option Source) (labels : List Label) (a : Answer) → HasPieces (fading.colourless l) true source labels (unhighlighted_answer a)
+  no_pieces : (l : frames.SnippetSettings) (source : Option Source) (labels : List Label) (a : Answer)
+      → HasPieces (fading.colourless l) true source labels (unhighlighted_answer a)
   no_pieces l None labels a = tt
-  no_pieces l (Some source) labels a = none_have (group_context l.context (in_order labels)) true source (groups_of l.context source a.join_fails (in_order labels))
+  no_pieces l (Some source) labels a = none_have (group_context l.context (in_order labels)) true source
+      (groups_of l.context source a.join_fails (in_order labels))
 
-  answer_possible : (l : frames.SnippetSettings) (blank : Bool) (source : Option Source) (labels : List Label) (reads : Bool) (a : Answer) → IsAnswerOf l blank source labels reads a →
+  answer_possible : (l : frames.SnippetSettings) (blank : Bool) (source : Option Source) (labels : List Label)
+      (reads : Bool) (a : Answer) → IsAnswerOf l blank source labels reads a →
       IsAnswerOf (fading.colourless l) true source labels reads (unhighlighted_answer a)
   answer_possible l blank source labels reads a h = record {
     read = λ e. ap unhighlighted_answer (h.read e);
@@ -49,23 +57,30 @@ module _ (kept : AreRowsKept) where
     rows = rows_kept l source labels a h.rows;
   }
 
-  own_possible : (l : frames.SnippetSettings) (blank : Bool) (source : Option Source) (m : Meaning) (a : Answers) → IsAnswer l blank source m (own_answer a) →
+  own_possible : (l : frames.SnippetSettings) (blank : Bool) (source : Option Source) (m : Meaning) (a : Answers)
+      → IsAnswer l blank source m (own_answer a) →
       IsAnswer (fading.colourless l) true source m (own_answer (unhighlighted_answers a))
   own_possible l blank source m a h =
-      subst (IsAnswer (fading.colourless l) true source m) (own-bare a) (answer_possible l blank source (given_labels m.labels) (always_reads source (given_labels m.labels)) (own_answer a) h)
+      subst (IsAnswer (fading.colourless l) true source m) (own-bare a)
+      (answer_possible l blank source (given_labels m.labels) (always_reads source (given_labels m.labels))
+      (own_answer a) h)
 
   mutual
-    causes_possible : (l : frames.SnippetSettings) (blank : Bool) (inherited : Option Source) (c : Cause) (a : Answers) → AreCauseAnswers l blank inherited c a →
+    causes_possible : (l : frames.SnippetSettings) (blank : Bool) (inherited : Option Source) (c : Cause) (a : Answers)
+        → AreCauseAnswers l blank inherited c a →
         AreCauseAnswers (fading.colourless l) true inherited c (unhighlighted_answers a)
     causes_possible l blank inherited (texts ts) a h = tt
     causes_possible l blank inherited (diagnostic (tree m own c r)) a h =
         let source = effective own inherited in (
           own_possible l blank source m a h.0,
-          subst (AreRelatedAnswers (fading.colourless l) true source r) (related-bare a) (related_possible l blank source r (related_answers a) h.1),
-          subst (AreCauseAnswers (fading.colourless l) true inherited c) (cause-bare a) (causes_possible l blank inherited c (cause_answers a) h.2),
+          subst (AreRelatedAnswers (fading.colourless l) true source r) (related-bare a)
+              (related_possible l blank source r (related_answers a) h.1),
+          subst (AreCauseAnswers (fading.colourless l) true inherited c) (cause-bare a)
+              (causes_possible l blank inherited c (cause_answers a) h.2),
         )
 
-    related_possible : (l : frames.SnippetSettings) (blank : Bool) (inherited : Option Source) (ts : Trees) (more : RelatedAnswers) → AreRelatedAnswers l blank inherited ts more →
+    related_possible : (l : frames.SnippetSettings) (blank : Bool) (inherited : Option Source) (ts : Trees)
+        (more : RelatedAnswers) → AreRelatedAnswers l blank inherited ts more →
         AreRelatedAnswers (fading.colourless l) true inherited ts (unhighlighted_related_answers more)
     related_possible l blank inherited no_trees more h = tt
     related_possible l blank inherited (more_trees (tree m own c r) ts) no_more h =
@@ -78,15 +93,20 @@ module _ (kept : AreRowsKept) where
     related_possible l blank inherited (more_trees (tree m own c r) ts) (and_more a later) h =
         let source = effective own inherited in (
           own_possible l blank source m a h.0,
-          subst (AreCauseAnswers (fading.colourless l) true source c) (cause-bare a) (causes_possible l blank source c (cause_answers a) h.1),
-          subst (AreRelatedAnswers (fading.colourless l) true source r) (related-bare a) (related_possible l blank source r (related_answers a) h.2),
+          subst (AreCauseAnswers (fading.colourless l) true source c) (cause-bare a)
+              (causes_possible l blank source c (cause_answers a) h.1),
+          subst (AreRelatedAnswers (fading.colourless l) true source r) (related-bare a)
+              (related_possible l blank source r (related_answers a) h.2),
           related_possible l blank inherited ts later h.3,
         )
 
-  pub answers_possible : (s : Settings) (blank : Bool) (t : Tree) (a : Answers) → AreAnswers s blank t a → AreAnswers (colourless s) true t (unhighlighted_answers a)
+  pub answers_possible : (s : Settings) (blank : Bool) (t : Tree) (a : Answers) → AreAnswers s blank t a
+      → AreAnswers (colourless s) true t (unhighlighted_answers a)
   answers_possible s blank (tree m own c r) a h =
       let l = snippet_settings s in (
         own_possible l blank own m a h.0,
-        λ chain. subst (AreCauseAnswers (fading.colourless l) true own c) (cause-bare a) (causes_possible l blank own c (cause_answers a) (h.1 chain)),
-        subst (AreRelatedAnswers (fading.colourless l) true own r) (related-bare a) (related_possible l blank own r (related_answers a) h.2),
+        λ chain. subst (AreCauseAnswers (fading.colourless l) true own c) (cause-bare a)
+            (causes_possible l blank own c (cause_answers a) (h.1 chain)),
+        subst (AreRelatedAnswers (fading.colourless l) true own r) (related-bare a)
+            (related_possible l blank own r (related_answers a) h.2),
       )

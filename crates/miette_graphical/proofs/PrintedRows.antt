@@ -16,16 +16,19 @@ grouped a b c d = ap (λ x. x ++ d) (append_assoc a b c) ∙ append_assoc a (b +
 
 -- the characters of a run between what begins and ends its style
 between_by : (text : List ℕ) (style : Style) (c : ℕ) (cs : List ℕ) (codes : List (List ℕ)) →
-    ((text ++ elim codes [ [] ↦ [] | x ∷ xs ↦ colour_start style ]) ++ c ∷ cs) ++ elim codes [ [] ↦ [] | x ∷ xs ↦ colour_stop ]
+    ((text ++ elim codes [ [] ↦ [] | x ∷ xs ↦ colour_start style ]) ++ c ∷ cs)
+    ++ elim codes [ [] ↦ [] | x ∷ xs ↦ colour_stop ]
     ≡ text ++ elim codes [ [] ↦ c ∷ cs | x ∷ xs ↦ colour_start style ++ (c ∷ cs) ++ colour_stop ]
 between_by text style c cs [] = append-nil ((text ++ []) ++ c ∷ cs) ∙ ap (λ t. t ++ c ∷ cs) (append-nil text)
 between_by text style c cs (x ∷ xs) = grouped text (colour_start style) (c ∷ cs) colour_stop
 
-between : (text : List ℕ) (style : Style) (c : ℕ) (cs : List ℕ) → ((text ++ start_of style) ++ c ∷ cs) ++ stop_of style ≡ text ++ printed_run style (c ∷ cs)
+between : (text : List ℕ) (style : Style) (c : ℕ) (cs : List ℕ) → ((text ++ start_of style) ++ c ∷ cs) ++ stop_of style
+    ≡ text ++ printed_run style (c ∷ cs)
 between text style c cs = between_by text style c cs (style_codes style)
 
 -- a run
-run_put : (p : Printout) (style : Style) (codes : List ℕ) → ended_text (p ⊕ styled_tokens style codes) ≡ ended_text p ++ printed_run style codes
+run_put : (p : Printout) (style : Style) (codes : List ℕ) → ended_text (p ⊕ styled_tokens style codes) ≡ ended_text p
+    ++ printed_run style codes
 run_put p style [] = sym (append-nil (ended_text p))
 run_put p style (c ∷ cs) = ap ended_text (text_put (put p (begins style)) c cs) ∙ between (ended_text p) style c cs
 
@@ -35,11 +38,13 @@ row_put p [] = sym (append-nil (ended_text p))
 row_put p (run ∷ row) =
     ap ended_text (sym (put_append p (run_tokens run) (row_tokens row)))
     ∙ row_put (p ⊕ run_tokens run) row
-    ∙ ap (λ t. t ++ print (runs_of_row row)) (run_put p run.style (map (λ p. p.code) run.glyphs) ∙ ap (λ codes. ended_text p ++ printed_run run.style codes) (sym (run_codes run)))
+    ∙ ap (λ t. t ++ print (runs_of_row row)) (run_put p run.style (map (λ p. p.code) run.glyphs)
+    ∙ ap (λ codes. ended_text p ++ printed_run run.style codes) (sym (run_codes run)))
     ∙ append_assoc (ended_text p) (printed_run run.style (run_text run)) (print (runs_of_row row))
 
 -- rows, where a row begins
-pub rows_printed : (text : List ℕ) (rows : List Row) → ended_text (printout_of text ⊕ rows_tokens rows) ≡ text ++ rows_text (map runs_of_row rows)
+pub rows_printed : (text : List ℕ) (rows : List Row) → ended_text (printout_of text ⊕ rows_tokens rows) ≡ text
+    ++ rows_text (map runs_of_row rows)
 rows_printed text [] = sym (append-nil text)
 rows_printed text (row ∷ rows) =
     ap ended_text (sym (put_append (printout_of text) (row_tokens row) (row_end ∷ rows_tokens rows)))

@@ -16,7 +16,8 @@ use Rattle.miette_tree.specs.views.Handler.{AppendsOne}
 use Rattle.miette_graphical.proofs.Only.{same-report}
 
 -- by whatever calls
-pub unasked : (s : Settings) (blank : Bool) (happen : List Call → Type 0) (t : Tree) (old new : List ℕ) → AppendsAsked drawn_rows s blank happen t old new → Appends drawn_rows s blank t old new
+pub unasked : (s : Settings) (blank : Bool) (happen : List Call → Type 0) (t : Tree) (old new : List ℕ)
+    → AppendsAsked drawn_rows s blank happen t old new → Appends drawn_rows s blank t old new
 unasked s blank happen t old new ok =
     let given = ok.is_given.1 in record {
       text = ok.text;
@@ -24,26 +25,34 @@ unasked s blank happen t old new ok =
       appended = ok.appended;
     }
 
-pub rendered-ok : {A E : Type 0} (r : Result A E) (s : Settings) (blank : Bool) (happen : List Call → Type 0) (t : Tree) (old new : List ℕ) → OnOk r (AppendsAsked drawn_rows s blank happen t old new)
+pub rendered-ok : {A E : Type 0} (r : Result A E) (s : Settings) (blank : Bool) (happen : List Call → Type 0) (t : Tree)
+    (old new : List ℕ) → OnOk r (AppendsAsked drawn_rows s blank happen t old new)
     → OnOk r (Appends drawn_rows s blank t old new)
 rendered-ok (Err e) s blank happen t old new ok = tt
 rendered-ok (Ok x) s blank happen t old new ok = unasked s blank happen t old new ok
 
-only-text : (s : Settings) (blank : Bool) (t : Tree) (old new : List ℕ) → Appends drawn_rows s blank t old new → blank ≡ true → all_read (diagnostics_of s t) ≡ true
+only-text : (s : Settings) (blank : Bool) (t : Tree) (old new : List ℕ) → Appends drawn_rows s blank t old new → blank
+    ≡ true → all_read (diagnostics_of s t) ≡ true
     → new ≡ old ++ encode_utf8_all (report_text drawn_rows s t unlisted)
 only-text s blank t old new ok plain reads =
-    let answered : IsReport drawn_rows s true t ok.is_given.0 = subst (λ b. IsReport drawn_rows s b t ok.is_given.0) plain ok.is_given.1 in
-    let only : ok.is_given.0 ≡ report_text drawn_rows s t unlisted = answered.2 ∙ same-report drawn_rows s t answered.0 answered.1 reads in
+    let answered : IsReport drawn_rows s true t ok.is_given.0 =
+    subst (λ b. IsReport drawn_rows s b t ok.is_given.0) plain ok.is_given.1 in
+    let only : ok.is_given.0 ≡ report_text drawn_rows s t unlisted = answered.2
+    ∙ same-report drawn_rows s t answered.0 answered.1 reads in
     ok.appended ∙ ap (λ x. old ++ x) (ok.is_given.2 ∙ ap encode_utf8_all only)
 
-pub rendered-only : {A E : Type 0} (r : Result A E) (s : Settings) (blank : Bool) (t : Tree) (old new : List ℕ) → OnOk r (Appends drawn_rows s blank t old new)
-    → OnOk r (blank ≡ true → all_read (diagnostics_of s t) ≡ true → new ≡ old ++ encode_utf8_all (report_text drawn_rows s t unlisted))
+pub rendered-only : {A E : Type 0} (r : Result A E) (s : Settings) (blank : Bool) (t : Tree) (old new : List ℕ)
+    → OnOk r (Appends drawn_rows s blank t old new)
+    → OnOk r (blank ≡ true → all_read (diagnostics_of s t) ≡ true → new ≡ old
+    ++ encode_utf8_all (report_text drawn_rows s t unlisted))
 rendered-only (Err e) s blank t old new ok = tt
 rendered-only (Ok x) s blank t old new ok = only-text s blank t old new ok
 
 pub rendered-colours : {A E : Type 0} (r : Result A E) (s : Settings) (blank : Bool) (t : Tree) (old new : List ℕ)
-    → ((s : Settings) (blank : Bool) (t : Tree) (bytes : List ℕ) → AreCleanSettings s → IsCleanTree t → IsTextOf drawn_rows s blank t bytes → IsColouredText drawn_rows s blank t bytes)
-    → OnOk r (Appends drawn_rows s blank t old new) → OnOk r (AreCleanSettings s → IsCleanTree t → AppendsOne (IsColouredText drawn_rows s blank t) old new)
+    → ((s : Settings) (blank : Bool) (t : Tree) (bytes : List ℕ) → AreCleanSettings s → IsCleanTree t
+    → IsTextOf drawn_rows s blank t bytes → IsColouredText drawn_rows s blank t bytes)
+    → OnOk r (Appends drawn_rows s blank t old new) → OnOk r
+    (AreCleanSettings s → IsCleanTree t → AppendsOne (IsColouredText drawn_rows s blank t) old new)
 rendered-colours (Err e) s blank t old new law ok = tt
 rendered-colours (Ok x) s blank t old new law ok = λ settings tree.
     let bytes : List ℕ = ok.text in record {
@@ -53,18 +62,23 @@ rendered-colours (Ok x) s blank t old new law ok = λ settings tree.
     }
 
 pub rendered-colourless : {A E : Type 0} (r : Result A E) (s : Settings) (blank : Bool) (t : Tree) (old new : List ℕ)
-    → ((s : Settings) (blank : Bool) (t : Tree) (bytes : List ℕ) → AreCleanSettings s → IsCleanTree t → IsTextOf drawn_rows s blank t bytes → all_read (diagnostics_of s t) ≡ true
+    → ((s : Settings) (blank : Bool) (t : Tree) (bytes : List ℕ) → AreCleanSettings s → IsCleanTree t
+    → IsTextOf drawn_rows s blank t bytes → all_read (diagnostics_of s t) ≡ true
     → erase bytes ≡ encode_utf8_all (report_text drawn_rows (colourless s) t unlisted))
     → OnOk r (Appends drawn_rows s blank t old new)
-    → OnOk r (all_read (diagnostics_of s t) ≡ true → AreCleanSettings s → IsCleanTree t → AppendsErasing old new (encode_utf8_all (report_text drawn_rows (colourless s) t unlisted)))
+    → OnOk r (all_read (diagnostics_of s t) ≡ true → AreCleanSettings s → IsCleanTree t
+    → AppendsErasing old new (encode_utf8_all (report_text drawn_rows (colourless s) t unlisted)))
 rendered-colourless (Err e) s blank t old new law ok = tt
-rendered-colourless (Ok x) s blank t old new law ok = λ reads settings tree. (ok.text, ok.appended, law s blank t ok.text settings tree ok.is_given reads)
+rendered-colourless (Ok x) s blank t old new law ok = λ reads settings tree.
+    (ok.text, ok.appended, law s blank t ok.text settings tree ok.is_given reads)
 
 pub rendered-themes : {A E : Type 0} (r : Result A E) (s : Settings) (blank : Bool) (t : Tree) (old new : List ℕ)
-    → ((s : Settings) (blank : Bool) (t : Tree) (bytes others : List ℕ) → AreCleanSettings s → IsCleanTree t → IsTextOf drawn_rows s blank t bytes → all_read (diagnostics_of s t) ≡ true
+    → ((s : Settings) (blank : Bool) (t : Tree) (bytes others : List ℕ) → AreCleanSettings s → IsCleanTree t
+    → IsTextOf drawn_rows s blank t bytes → all_read (diagnostics_of s t) ≡ true
     → IsRestyledText drawn_rows s t others → erase bytes ≡ erase others)
     → OnOk r (Appends drawn_rows s blank t old new)
-    → OnOk r (all_read (diagnostics_of s t) ≡ true → AreCleanSettings s → IsCleanTree t → (others : List ℕ) → IsRestyledText drawn_rows s t others → AppendsErasing old new (erase others))
+    → OnOk r (all_read (diagnostics_of s t) ≡ true → AreCleanSettings s → IsCleanTree t → (others : List ℕ)
+    → IsRestyledText drawn_rows s t others → AppendsErasing old new (erase others))
 rendered-themes (Err e) s blank t old new law ok = tt
 rendered-themes (Ok x) s blank t old new law ok = λ reads settings tree others again.
     (ok.text, ok.appended, law s blank t ok.text others settings tree ok.is_given reads again)

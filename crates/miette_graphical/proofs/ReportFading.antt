@@ -8,18 +8,25 @@ use Rattle.miette_tree.specs.rules.Tree.{Tree, tree, Cause, diagnostic, texts, T
 use Rattle.miette_protocol.specs.declared.protocol.Severity.{Severity}
 use Rattle.miette_graphical.proofs.TextLaws.{TextLaws}
 use Rattle.miette_graphical.specs.rules.Settings.{Settings}
-use Rattle.miette_graphical.specs.rules.Answers.{Answer, Answers, RelatedAnswers, own_answer, cause_answers, related_answers, first_answers, later_answers}
+use Rattle.miette_graphical.specs.rules.Answers.{Answer, Answers, RelatedAnswers, own_answer, cause_answers}
+use Rattle.miette_graphical.specs.rules.Answers.{related_answers, first_answers, later_answers}
 use Rattle.miette_graphical.specs.rules.Indents.{narrow_settings}
 use Rattle.miette_graphical.specs.rules.DiagnosticText.{SnippetRows, header, footer_text, under_arrow, title_text}
-use Rattle.miette_graphical.specs.rules.Text.{ends_there, are_last, only_if, body, inner_text, causes_text, related_text, report_text}
+use Rattle.miette_graphical.specs.rules.Text.{ends_there, are_last, only_if, body, inner_text, causes_text}
+use Rattle.miette_graphical.specs.rules.Text.{related_text, report_text}
 use Rattle.miette_tree.specs.rules.Tree.{effective}
 use Rattle.miette_snippet_laws.specs.laws.Clean.{IsCleanSource}
 use Rattle.miette_snippet_laws.specs.laws.Fading.{unhighlighted_answer}
-use Rattle.miette_graphical.specs.laws.Clean.{AreCleanSettings, IsCleanMeaning, IsCleanTree, IsCleanCause, AreCleanTrees}
-use Rattle.miette_graphical.specs.laws.Colourless.{colourless, unhighlighted_answers, unhighlighted_related_answers, AreSnippets}
+use Rattle.miette_graphical.specs.laws.Clean.{AreCleanSettings, IsCleanMeaning, IsCleanTree, IsCleanCause}
+use Rattle.miette_graphical.specs.laws.Clean.{AreCleanTrees}
+use Rattle.miette_graphical.specs.laws.Colourless.{colourless, unhighlighted_answers, unhighlighted_related_answers}
+use Rattle.miette_graphical.specs.laws.Colourless.{AreSnippets}
 use Rattle.miette_graphical.proofs.Bare.{own-bare, cause-bare, related-bare, first-bare, later-bare}
-use Rattle.miette_graphical.proofs.Fading.{Fades, fades-to, fades-append, fades-trailing, fades-if, fades-only_if, fades-clean}
-use Rattle.miette_graphical.proofs.PartFading.{narrowed-faded, fades-header, fades-title, fades-footer, fades-under_arrow, fades-cause_texts, effective-clean, fades-body, fades-inner}
+use Rattle.miette_graphical.proofs.Fading.{Fades, fades-to, fades-append, fades-trailing, fades-if, fades-only_if}
+use Rattle.miette_graphical.proofs.Fading.{fades-clean}
+use Rattle.miette_graphical.proofs.PartFading.{narrowed-faded, fades-header, fades-title, fades-footer}
+use Rattle.miette_graphical.proofs.PartFading.{fades-under_arrow, fades-cause_texts, effective-clean, fades-body}
+use Rattle.miette_graphical.proofs.PartFading.{fades-inner}
 
 module _ (laws : TextLaws) where
   -- ---- what stands under an arrow
@@ -29,18 +36,26 @@ module _ (laws : TextLaws) where
     inner : (s : Settings) (v : Option Severity) (b : Bool) (m : Meaning) (source : Option Source) (a : Answers)
         (related : Settings → RelatedAnswers → List ℕ) →
         AreCleanSettings s → IsCleanMeaning m → IfSome source IsCleanSource →
-        Fades (related (narrow_settings s v b) (related_answers a)) (related (colourless (narrow_settings s v b)) (unhighlighted_related_answers (related_answers a))) →
-        Fades (inner_text rows (narrow_settings s v b) m source (own_answer a) (related (narrow_settings s v b) (related_answers a)))
-        (inner_text rows (narrow_settings (colourless s) v b) m source (own_answer (unhighlighted_answers a)) (related (narrow_settings (colourless s) v b) (related_answers (unhighlighted_answers a))))
+        Fades (related (narrow_settings s v b) (related_answers a))
+        (related (colourless (narrow_settings s v b)) (unhighlighted_related_answers (related_answers a))) →
+        Fades (inner_text rows (narrow_settings s v b) m source (own_answer a)
+        (related (narrow_settings s v b) (related_answers a)))
+        (inner_text rows (narrow_settings (colourless s) v b) m source (own_answer (unhighlighted_answers a))
+        (related (narrow_settings (colourless s) v b) (related_answers (unhighlighted_answers a))))
     inner s v b m source a related h k j q =
         fades-to
-        (fades-inner laws rows law (narrow_settings s v b) m source (own_answer a) (related (narrow_settings s v b) (related_answers a)) (related (colourless (narrow_settings s v b)) (unhighlighted_related_answers (related_answers a))) h k j q)
-        (ap (λ n. inner_text rows n m source (unhighlighted_answer (own_answer a)) (related n (unhighlighted_related_answers (related_answers a)))) (narrowed-faded laws s v b h)
-        ∙ ap₂ (λ o r. inner_text rows (narrow_settings (colourless s) v b) m source o (related (narrow_settings (colourless s) v b) r)) (own-bare a) (related-bare a))
+        (fades-inner laws rows law (narrow_settings s v b) m source (own_answer a)
+        (related (narrow_settings s v b) (related_answers a))
+        (related (colourless (narrow_settings s v b)) (unhighlighted_related_answers (related_answers a))) h k j q)
+        (ap (λ n. inner_text rows n m source (unhighlighted_answer (own_answer a))
+        (related n (unhighlighted_related_answers (related_answers a)))) (narrowed-faded laws s v b h)
+        ∙ ap₂ (λ o r. inner_text rows (narrow_settings (colourless s) v b) m source o
+        (related (narrow_settings (colourless s) v b) r)) (own-bare a) (related-bare a))
 
   -- ---- what is printed without colours, over the answers without pieces
 
-  report-end : (rows : SnippetRows) (s : Settings) (m : Meaning) (own : Option Source) (c : Cause) (r : Trees) (a : Answers) →
+  report-end : (rows : SnippetRows) (s : Settings) (m : Meaning) (own : Option Source) (c : Cause) (r : Trees)
+      (a : Answers) →
       print (header (colourless s) m)
       ++ body rows (colourless s) m own (unhighlighted_answer (own_answer a))
       (only_if s.chain (causes_text rows (colourless s) m.severity own c (unhighlighted_answers (cause_answers a))))
@@ -50,34 +65,47 @@ module _ (laws : TextLaws) where
   report-end rows s m own c r a =
       let f = λ (o : Answer) (below : Answers) (beside : RelatedAnswers).
       print (header (colourless s) m)
-      ++ body rows (colourless s) m own o (only_if s.chain (causes_text rows (colourless s) m.severity own c below)) (related_text rows (colourless s) m.severity own r beside)
+      ++ body rows (colourless s) m own o (only_if s.chain (causes_text rows (colourless s) m.severity own c below))
+      (related_text rows (colourless s) m.severity own r beside)
       ++ footer_text (colourless s) in
       ap₂ (λ o below. f o below (unhighlighted_related_answers (related_answers a))) (own-bare a) (cause-bare a)
       ∙ ap (f (own_answer (unhighlighted_answers a)) (cause_answers (unhighlighted_answers a))) (related-bare a)
 
-  related-end : (rows : SnippetRows) (s : Settings) (m : Meaning) (outer : Option Severity) (source inherited : Option Source) (c : Cause) (r ts : Trees) (more : RelatedAnswers) →
+  related-end : (rows : SnippetRows) (s : Settings) (m : Meaning) (outer : Option Severity)
+      (source inherited : Option Source) (c : Cause) (r ts : Trees) (more : RelatedAnswers) →
       (if s.nested then
       under_arrow (colourless s) outer (are_last ts)
-      (without_trailing (inner_text rows (narrow_settings (colourless s) outer (are_last ts)) m source (own_answer (unhighlighted_answers (first_answers more)))
-      (related_text rows (narrow_settings (colourless s) outer (are_last ts)) m.severity source r (related_answers (unhighlighted_answers (first_answers more))))))
-      else title_text (colourless s) m ++ body rows (colourless s) m source (unhighlighted_answer (own_answer (first_answers more)))
+      (without_trailing (inner_text rows (narrow_settings (colourless s) outer (are_last ts)) m source
+      (own_answer (unhighlighted_answers (first_answers more)))
+      (related_text rows (narrow_settings (colourless s) outer (are_last ts)) m.severity source r
+      (related_answers (unhighlighted_answers (first_answers more))))))
+      else title_text (colourless s) m ++ body rows (colourless s) m source
+      (unhighlighted_answer (own_answer (first_answers more)))
       (causes_text rows (colourless s) m.severity source c (unhighlighted_answers (cause_answers (first_answers more))))
-      (related_text rows (colourless s) m.severity source r (unhighlighted_related_answers (related_answers (first_answers more)))))
+      (related_text rows (colourless s) m.severity source r
+      (unhighlighted_related_answers (related_answers (first_answers more)))))
       ++ related_text rows (colourless s) outer inherited ts (unhighlighted_related_answers (later_answers more))
       ≡ (if s.nested then
       under_arrow (colourless s) outer (are_last ts)
-      (without_trailing (inner_text rows (narrow_settings (colourless s) outer (are_last ts)) m source (own_answer (first_answers (unhighlighted_related_answers more)))
-      (related_text rows (narrow_settings (colourless s) outer (are_last ts)) m.severity source r (related_answers (first_answers (unhighlighted_related_answers more))))))
-      else title_text (colourless s) m ++ body rows (colourless s) m source (own_answer (first_answers (unhighlighted_related_answers more)))
-      (causes_text rows (colourless s) m.severity source c (cause_answers (first_answers (unhighlighted_related_answers more))))
-      (related_text rows (colourless s) m.severity source r (related_answers (first_answers (unhighlighted_related_answers more)))))
+      (without_trailing (inner_text rows (narrow_settings (colourless s) outer (are_last ts)) m source
+      (own_answer (first_answers (unhighlighted_related_answers more)))
+      (related_text rows (narrow_settings (colourless s) outer (are_last ts)) m.severity source r
+      (related_answers (first_answers (unhighlighted_related_answers more))))))
+      else title_text (colourless s) m ++ body rows (colourless s) m source
+      (own_answer (first_answers (unhighlighted_related_answers more)))
+      (causes_text rows (colourless s) m.severity source c
+      (cause_answers (first_answers (unhighlighted_related_answers more))))
+      (related_text rows (colourless s) m.severity source r
+      (related_answers (first_answers (unhighlighted_related_answers more)))))
       ++ related_text rows (colourless s) outer inherited ts (later_answers (unhighlighted_related_answers more))
   related-end rows s m outer source inherited c r ts more =
       let f = λ (o : Answer) (below : Answers) (beside : RelatedAnswers) (nested : Answers) (later : RelatedAnswers).
       (if s.nested then
       under_arrow (colourless s) outer (are_last ts)
-      (without_trailing (inner_text rows (narrow_settings (colourless s) outer (are_last ts)) m source (own_answer nested)
-      (related_text rows (narrow_settings (colourless s) outer (are_last ts)) m.severity source r (related_answers nested))))
+      (without_trailing (inner_text rows (narrow_settings (colourless s) outer (are_last ts)) m source
+      (own_answer nested)
+      (related_text rows (narrow_settings (colourless s) outer (are_last ts)) m.severity source r
+      (related_answers nested))))
       else title_text (colourless s) m ++ body rows (colourless s) m source o
       (causes_text rows (colourless s) m.severity source c below)
       (related_text rows (colourless s) m.severity source r beside))
@@ -85,16 +113,19 @@ module _ (laws : TextLaws) where
       let a = first_answers more in
       let bare = unhighlighted_answers a in
       let later = unhighlighted_related_answers (later_answers more) in
-      ap₂ (λ o below. f o below (unhighlighted_related_answers (related_answers a)) bare later) (own-bare a) (cause-bare a)
+      ap₂ (λ o below. f o below (unhighlighted_related_answers (related_answers a)) bare later) (own-bare a)
+      (cause-bare a)
       ∙ ap (λ beside. f (own_answer bare) (cause_answers bare) beside bare later) (related-bare a)
       ∙ ap₂ (λ u l. f (own_answer u) (cause_answers u) (related_answers u) u l) (first-bare more) (later-bare more)
 
   -- ---- the induction
 
   mutual
-    fades-causes : (rows : SnippetRows) → AreSnippets rows → (s : Settings) (outer : Option Severity) (inherited : Option Source) (c : Cause) (a : Answers) →
+    fades-causes : (rows : SnippetRows) → AreSnippets rows
+        → (s : Settings) (outer : Option Severity) (inherited : Option Source) (c : Cause) (a : Answers) →
         AreCleanSettings s → IfSome inherited IsCleanSource → IsCleanCause c →
-        Fades (causes_text rows s outer inherited c a) (causes_text rows (colourless s) outer inherited c (unhighlighted_answers a))
+        Fades (causes_text rows s outer inherited c a) (causes_text rows (colourless s) outer inherited c
+        (unhighlighted_answers a))
     fades-causes rows law s outer inherited (texts ts) a h j k = fades-cause_texts laws s outer ts h k
     fades-causes rows law s outer inherited (diagnostic (tree m own c r)) a h j k =
         let source = effective own inherited in
@@ -107,9 +138,11 @@ module _ (laws : TextLaws) where
         (fades-to (fades-causes rows law s outer inherited c (cause_answers a) h j k.2)
         (ap (causes_text rows (colourless s) outer inherited c) (cause-bare a)))
 
-    fades-related : (rows : SnippetRows) → AreSnippets rows → (s : Settings) (outer : Option Severity) (inherited : Option Source) (ts : Trees) (more : RelatedAnswers) →
+    fades-related : (rows : SnippetRows) → AreSnippets rows
+        → (s : Settings) (outer : Option Severity) (inherited : Option Source) (ts : Trees) (more : RelatedAnswers) →
         AreCleanSettings s → IfSome inherited IsCleanSource → AreCleanTrees ts →
-        Fades (related_text rows s outer inherited ts more) (related_text rows (colourless s) outer inherited ts (unhighlighted_related_answers more))
+        Fades (related_text rows s outer inherited ts more)
+        (related_text rows (colourless s) outer inherited ts (unhighlighted_related_answers more))
     fades-related rows law s outer inherited no_trees more h j k = fades-clean laws [] refl
     fades-related rows law s outer inherited (more_trees (tree m own c r) ts) more h j k =
         let source = effective own inherited in

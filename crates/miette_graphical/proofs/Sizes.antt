@@ -1,6 +1,7 @@
 -- A number that falls on the way down a tree.
 use Rattle.std.proofs.Common.{ℕ, suc, ◌+◌, ◌<◌, arith}
-use Rattle.miette_tree.specs.rules.Tree.{Tree, tree, Cause, diagnostic, texts, Trees, no_trees, more_trees, cause_of, related_of}
+use Rattle.miette_tree.specs.rules.Tree.{Tree, tree, Cause, diagnostic, texts, Trees, no_trees, more_trees, cause_of}
+use Rattle.miette_tree.specs.rules.Tree.{related_of}
 
 abbrev mutual
   pub tree_size : Tree → ℕ

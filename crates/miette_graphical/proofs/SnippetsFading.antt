@@ -1,5 +1,7 @@
 -- The rows of snippets fade, and hold no escape: from what the layer of snippets promises of them.
-use Rattle.std.proofs.Common.{◌≡◌, ℕ, zero, suc, ◌+◌, ◌-◌, ◌*◌, ◌/◌, ◌%◌, ◌<◌, ◌≤◌, List, [], ◌∷◌, ◌++◌, map, refl, sym, ap, ap₂, ◌∙◌, arith, encode_utf8_all, Option, Some, None, IfSome, option_map, unwrap_or, le-ltb, lt-ltb, ⊎_elim}
+use Rattle.std.proofs.Common.{◌≡◌, ℕ, zero, suc, ◌+◌, ◌-◌, ◌*◌, ◌/◌, ◌%◌, ◌<◌, ◌≤◌, List, [], ◌∷◌, ◌++◌, map, refl, sym}
+use Rattle.std.proofs.Common.{ap, ap₂, ◌∙◌, arith, encode_utf8_all, Option, Some, None, IfSome, option_map, unwrap_or}
+use Rattle.std.proofs.Common.{le-ltb, lt-ltb, ⊎_elim}
 use Rattle.std.specs.Char.{encode_utf8}
 use Rattle.std.specs.Str.{chars, chars_after, continuation_len, lead_bits}
 use Rattle.std.specs.List.{AllByRecursion}
@@ -28,11 +30,14 @@ use Rattle.miette_graphical.specs.rules.Snippets.{drawn_rows, snippet_settings, 
 -- the clauses of the laws of that layer
 pub record LayoutLaws : Type 0 where
   pub same : (s : frames.SnippetSettings) (source : Source) (labels : List Label) (answers : snippet_answers.Answers) →
-      option_map (map glyphs_of) (snippet_rows (fading.colourless s) source labels (fading.unhighlighted_answer answers)) ≡ option_map (map glyphs_of) (snippet_rows s source labels answers)
+      option_map (map glyphs_of) (snippet_rows (fading.colourless s) source labels
+      (fading.unhighlighted_answer answers)) ≡ option_map (map glyphs_of) (snippet_rows s source labels answers)
   pub plain : (s : frames.SnippetSettings) (source : Source) (labels : List Label) (answers : snippet_answers.Answers) →
-      IfSome (snippet_rows (fading.colourless s) source labels (fading.unhighlighted_answer answers)) (AllByRecursion IsPlainRow)
+      IfSome (snippet_rows (fading.colourless s) source labels (fading.unhighlighted_answer answers))
+      (AllByRecursion IsPlainRow)
   pub clean : (s : frames.SnippetSettings) (source : Source) (labels : List Label) (answers : snippet_answers.Answers) →
-      AreCleanDrawings s.characters → IsCleanSource source → AllByRecursion IsCleanLabel labels → IfSome (snippet_rows s source labels answers) (AllByRecursion IsCleanRow)
+      AreCleanDrawings s.characters → IsCleanSource source → AllByRecursion IsCleanLabel labels
+      → IfSome (snippet_rows s source labels answers) (AllByRecursion IsCleanRow)
 
 -- ---- the bytes of any codes read as these codes
 
@@ -55,7 +60,8 @@ two_bytes c rest l h =
     let a = 192 + c / 64 in
     let is : (a - 192) * 64 + ((128 + c % 64) - 128) ≡ c = omega arith in
     let low : a < 224 = omega arith in
-    rw (le-ltb c 128 l, lt-ltb c 2048 h) (led a (suc zero) (a - 192) ((128 + c % 64) ∷ rest) (grind arith) (grind arith) ∙ whole ((a - 192) * 64 + ((128 + c % 64) - 128)) rest ∙ ap (λ x. x ∷ chars rest) is)
+    rw (le-ltb c 128 l, lt-ltb c 2048 h) (led a (suc zero) (a - 192) ((128 + c % 64) ∷ rest) (grind arith) (grind arith)
+    ∙ whole ((a - 192) * 64 + ((128 + c % 64) - 128)) rest ∙ ap (λ x. x ∷ chars rest) is)
 
 three_bytes : (c : ℕ) (rest : List ℕ) → 2048 ≤ c → c < 65536 → chars (encode_utf8 c ++ rest) ≡ c ∷ chars rest
 unfolding encode_utf8
@@ -66,7 +72,8 @@ three_bytes c rest l h =
     let is : ((a - 224) * 64 + (b - 128)) * 64 + (d - 128) ≡ c = omega arith in
     let low : a < 240 = omega arith in
     rw (le-ltb c 128 (omega arith), le-ltb c 2048 l, lt-ltb c 65536 h)
-    (led a (suc (suc zero)) (a - 224) (b ∷ d ∷ rest) (grind arith) (grind arith) ∙ whole (((a - 224) * 64 + (b - 128)) * 64 + (d - 128)) rest ∙ ap (λ x. x ∷ chars rest) is)
+    (led a (suc (suc zero)) (a - 224) (b ∷ d ∷ rest) (grind arith) (grind arith)
+    ∙ whole (((a - 224) * 64 + (b - 128)) * 64 + (d - 128)) rest ∙ ap (λ x. x ∷ chars rest) is)
 
 four_bytes : (c : ℕ) (rest : List ℕ) → 65536 ≤ c → chars (encode_utf8 c ++ rest) ≡ c ∷ chars rest
 unfolding encode_utf8
@@ -77,10 +84,12 @@ four_bytes c rest l =
     let e = 128 + c % 64 in
     let is : (((a - 240) * 64 + (b - 128)) * 64 + (d - 128)) * 64 + (e - 128) ≡ c = omega arith in
     rw (le-ltb c 128 (omega arith), le-ltb c 2048 (omega arith), le-ltb c 65536 l)
-    (led a (suc (suc (suc zero))) (a - 240) (b ∷ d ∷ e ∷ rest) (grind arith) (grind arith) ∙ whole ((((a - 240) * 64 + (b - 128)) * 64 + (d - 128)) * 64 + (e - 128)) rest ∙ ap (λ x. x ∷ chars rest) is)
+    (led a (suc (suc (suc zero))) (a - 240) (b ∷ d ∷ e ∷ rest) (grind arith) (grind arith)
+    ∙ whole ((((a - 240) * 64 + (b - 128)) * 64 + (d - 128)) * 64 + (e - 128)) rest ∙ ap (λ x. x ∷ chars rest) is)
 
 reads : (c : ℕ) (rest : List ℕ) → chars (encode_utf8 c ++ rest) ≡ c ∷ chars rest
-reads c rest = ⊎_elim (one_byte c rest) (λ l. ⊎_elim (two_bytes c rest l) (λ m. ⊎_elim (three_bytes c rest m) (four_bytes c rest) (cases_lt c 65536)) (cases_lt c 2048)) (cases_lt c 128)
+reads c rest = ⊎_elim (one_byte c rest) (λ l. ⊎_elim (two_bytes c rest l)
+    (λ m. ⊎_elim (three_bytes c rest m) (four_bytes c rest) (cases_lt c 65536)) (cases_lt c 2048)) (cases_lt c 128)
 
 encoded : (cs : List ℕ) → chars (encode_utf8_all cs) ≡ cs
 encoded [] = chars-nil
@@ -101,12 +110,14 @@ plain_print (c ∷ text) = refl
 -- in plain, a row prints its characters
 bare_row : (row : Row) → print (map plain_run (runs_of_row row)) ≡ codes_of (glyphs_of row)
 bare_row [] = refl
-bare_row (run ∷ row) = ap₂ (λ x y. x ++ y) (plain_print (run_text run) ∙ run_codes run) (bare_row row) ∙ sym (map-append (λ p. p.code) run.glyphs (glyphs_of row))
+bare_row (run ∷ row) = ap₂ (λ x y. x ++ y) (plain_print (run_text run) ∙ run_codes run) (bare_row row)
+    ∙ sym (map-append (λ p. p.code) run.glyphs (glyphs_of row))
 
 plain_row : (row : Row) → IsPlainRow row → print (runs_of_row row) ≡ codes_of (glyphs_of row)
 plain_row [] h = refl
 plain_row (run ∷ row) h =
-    ap₂ (λ x y. x ++ y) (ap (λ style. printed_run style (run_text run)) h.0 ∙ plain_print (run_text run) ∙ run_codes run) (plain_row row h.1)
+    ap₂ (λ x y. x ++ y) (ap (λ style. printed_run style (run_text run)) h.0 ∙ plain_print (run_text run)
+    ∙ run_codes run) (plain_row row h.1)
     ∙ sym (map-append (λ p. p.code) run.glyphs (glyphs_of row))
 
 -- rows by their characters
@@ -118,18 +129,21 @@ bare_rows : (rows : List Row) → rows_text (map (map plain_run) (map runs_of_ro
 bare_rows [] = refl
 bare_rows (row ∷ rows) = ap₂ (λ x y. x ++ line_feed ++ y) (bare_row row) (bare_rows rows)
 
-plain_rows : (rows : List Row) → AllByRecursion IsPlainRow rows → rows_text (map runs_of_row rows) ≡ text_of (map glyphs_of rows)
+plain_rows : (rows : List Row) → AllByRecursion IsPlainRow rows → rows_text (map runs_of_row rows)
+    ≡ text_of (map glyphs_of rows)
 plain_rows [] h = refl
 plain_rows (row ∷ rows) h = ap₂ (λ x y. x ++ line_feed ++ y) (plain_row row h.0) (plain_rows rows h.1)
 
 abbrev shown_text : Option (List (List Glyph)) → List ℕ
 shown_text rows = text_of (unwrap_or rows [])
 
-bare_shown : (rows : Option (List Row)) → rows_text (map (map plain_run) (shown_rows rows)) ≡ shown_text (option_map (map glyphs_of) rows)
+bare_shown : (rows : Option (List Row)) → rows_text (map (map plain_run) (shown_rows rows))
+    ≡ shown_text (option_map (map glyphs_of) rows)
 bare_shown None = refl
 bare_shown (Some rows) = bare_rows rows
 
-plain_shown : (rows : Option (List Row)) → IfSome rows (AllByRecursion IsPlainRow) → rows_text (shown_rows rows) ≡ shown_text (option_map (map glyphs_of) rows)
+plain_shown : (rows : Option (List Row)) → IfSome rows (AllByRecursion IsPlainRow) → rows_text (shown_rows rows)
+    ≡ shown_text (option_map (map glyphs_of) rows)
 plain_shown None h = refl
 plain_shown (Some rows) h = plain_rows rows h
 
@@ -150,17 +164,21 @@ clean_shown (Some rows) h = clean_rows rows h
 -- ---- the rows of a diagnostic's snippets
 
 drawn_fade : LayoutLaws → (s : Settings) (source : Option Source) (labels : List Label) (a : Answer) →
-    rows_text (drawn_rows (colourless s) source labels (unhighlighted_answer a)) ≡ rows_text (map (map plain_run) (drawn_rows s source labels a))
+    rows_text (drawn_rows (colourless s) source labels (unhighlighted_answer a))
+    ≡ rows_text (map (map plain_run) (drawn_rows s source labels a))
 drawn_fade laws s None labels a = refl
 drawn_fade laws s (Some source) labels a =
     let l = snippet_settings s in
-    plain_shown (snippet_rows (fading.colourless l) source labels (fading.unhighlighted_answer a)) (laws.plain l source labels a)
+    plain_shown (snippet_rows (fading.colourless l) source labels (fading.unhighlighted_answer a))
+    (laws.plain l source labels a)
     ∙ ap shown_text (laws.same l source labels a) ∙ sym (bare_shown (snippet_rows l source labels a))
 
 drawn_clean : LayoutLaws → (s : Settings) (source : Option Source) (labels : List Label) (a : Answer) →
-    AreCleanSettings s → IfSome source IsCleanSource → AllByRecursion IsCleanLabel labels → HaveNoEscapes (drawn_rows s source labels a)
+    AreCleanSettings s → IfSome source IsCleanSource → AllByRecursion IsCleanLabel labels
+    → HaveNoEscapes (drawn_rows s source labels a)
 drawn_clean laws s None labels a h k j = tt
-drawn_clean laws s (Some source) labels a h k j = clean_shown (snippet_rows (snippet_settings s) source labels a) (laws.clean (snippet_settings s) source labels a h.0.drawings k j)
+drawn_clean laws s (Some source) labels a h k j = clean_shown (snippet_rows (snippet_settings s) source labels a)
+    (laws.clean (snippet_settings s) source labels a h.0.drawings k j)
 
 pub drawn_snippets : LayoutLaws → AreSnippets drawn_rows
 drawn_snippets laws = record { fade = drawn_fade laws; clean = drawn_clean laws }

@@ -1,21 +1,28 @@
 -- Printing a report, step by step: the answers of a whole are put together from those of its parts.
-use Rattle.std.proofs.Common.{◌≡◌, ◌≤◌, ◌<◌, Bool, true, false, ◌&&◌, List, [], ◌∷◌, ◌++◌, ℕ, length, map, drop, take, ◌-◌, get_or, refl, sym, subst, ap, ap₂, ◌∙◌, append_assoc, append-nil, arith, Option, MatchBool, if◌then◌else◌}
+use Rattle.std.proofs.Common.{◌≡◌, ◌≤◌, ◌<◌, Bool, true, false, ◌&&◌, List, [], ◌∷◌, ◌++◌, ℕ, length, map, drop, take}
+use Rattle.std.proofs.Common.{◌-◌, get_or, refl, sym, subst, ap, ap₂, ◌∙◌, append_assoc, append-nil, arith, Option}
+use Rattle.std.proofs.Common.{MatchBool, if◌then◌else◌}
 use Rattle.std.proofs.lemmas.List.{take_rest}
 use Rattle.miette_runs.specs.rules.Cutting.{without_leading, without_trailing}
 use Rattle.miette_runs.specs.rules.Runs.{print}
 use Rattle.miette_protocol.specs.views.Meaning.{Meaning}
 use Rattle.miette_protocol.specs.rules.Reading.{Source}
-use Rattle.miette_tree.specs.rules.Tree.{Tree, tree, Cause, diagnostic, texts, Trees, no_trees, more_trees, head, source_of, cause_of, related_of, trees}
+use Rattle.miette_tree.specs.rules.Tree.{Tree, tree, Cause, diagnostic, texts, Trees, no_trees, more_trees, head}
+use Rattle.miette_tree.specs.rules.Tree.{source_of, cause_of, related_of, trees}
 use Rattle.miette_protocol.specs.declared.protocol.Severity.{Severity}
 use Rattle.miette_graphical.specs.rules.Settings.{Settings}
-use Rattle.miette_graphical.specs.rules.Answers.{Answers, unlisted, listed, no_more, and_more, own_answer, cause_answers, related_answers}
+use Rattle.miette_graphical.specs.rules.Answers.{Answers, unlisted, listed, no_more, and_more, own_answer}
+use Rattle.miette_graphical.specs.rules.Answers.{cause_answers, related_answers}
 use Rattle.miette_graphical.specs.rules.Indents.{narrow_settings}
-use Rattle.miette_graphical.specs.rules.DiagnosticText.{SnippetRows, rows_text, under_arrow, header, message_text, help_text, footer_text, title_text}
+use Rattle.miette_graphical.specs.rules.DiagnosticText.{SnippetRows, rows_text, under_arrow, header, message_text}
+use Rattle.miette_graphical.specs.rules.DiagnosticText.{help_text, footer_text, title_text}
 use Rattle.miette_tree.specs.rules.DiagnosticParts.{given_labels}
-use Rattle.miette_graphical.specs.rules.Text.{cause_texts, ends_there, are_last, body, body_over, inner_over, inner_text, causes_text, related_text, only_if}
+use Rattle.miette_graphical.specs.rules.Text.{cause_texts, ends_there, are_last, body, body_over, inner_over}
+use Rattle.miette_graphical.specs.rules.Text.{inner_text, causes_text, related_text, only_if}
 use Rattle.miette_tree.specs.rules.Tree.{effective}
 use Rattle.miette_snippet_rules.specs.rules.Frames as frames
-use Rattle.miette_graphical.specs.rules.PrintedDiagnostics.{all_read, over, diagnostics_of, printed_causes, printed_related}
+use Rattle.miette_graphical.specs.rules.PrintedDiagnostics.{all_read, over, diagnostics_of, printed_causes}
+use Rattle.miette_graphical.specs.rules.PrintedDiagnostics.{printed_related}
 use Rattle.miette_graphical.specs.rules.Snippets.{snippet_settings}
 use Rattle.miette_graphical.proofs.DrawnRows.{unlisted_is}
 use Rattle.miette_graphical.proofs.Lists.{first_fails, later_fails}
@@ -24,7 +31,8 @@ use Rattle.miette_tree.specs.views.Handler.{AppendsOne}
 use Rattle.miette_tree.specs.rules.Reads.{always_reads}
 use Rattle.miette_graphical.specs.rules.PossibleAnswers.{IsAnswer, AreCauseAnswers, AreRelatedAnswers, IsAskedReport}
 use Rattle.miette_graphical.specs.rules.Calls.{own_calls, cause_calls, related_calls}
-use Rattle.miette_graphical.specs.steps.PartTexts.{IsDrawn, AreCauses, AreRelated, IsInner, IsSibling, IsOneCause, IsNested, IsOneRelated, AreRootCauses, IsBelow}
+use Rattle.miette_graphical.specs.steps.PartTexts.{IsDrawn, AreCauses, AreRelated, IsInner, IsSibling, IsOneCause}
+use Rattle.miette_graphical.specs.steps.PartTexts.{IsNested, IsOneRelated, AreRootCauses, IsBelow}
 use Rattle.miette_graphical.specs.steps.PrintedParts.{printed_inner, printed_sibling, printed_one, printed_root_causes}
 use Rattle.miette_highlight.specs.rules.HighlighterCalls.{Call, Leads}
 
@@ -40,18 +48,22 @@ first_and_more value (r ∷ rs) d h = ap (λ t. more_trees (value r) (trees (map
 -- ---- where nothing is listed, nothing failed
 
 mutual
-  causes-unlisted : (l : frames.SnippetSettings) (blank : Bool) (inherited : Option Source) (c : Cause) → AreCauseAnswers l blank inherited c unlisted
+  causes-unlisted : (l : frames.SnippetSettings) (blank : Bool) (inherited : Option Source) (c : Cause)
+      → AreCauseAnswers l blank inherited c unlisted
   causes-unlisted l blank inherited (texts ts) = tt
   causes-unlisted l blank inherited (diagnostic (tree m own c r)) = (
-    unlisted_is l blank (effective own inherited) (given_labels m.labels) (always_reads (effective own inherited) (given_labels m.labels)),
+    unlisted_is l blank (effective own inherited) (given_labels m.labels)
+        (always_reads (effective own inherited) (given_labels m.labels)),
     related-unlisted l blank (effective own inherited) r,
     causes-unlisted l blank inherited c,
   )
 
-  related-unlisted : (l : frames.SnippetSettings) (blank : Bool) (inherited : Option Source) (ts : Trees) → AreRelatedAnswers l blank inherited ts no_more
+  related-unlisted : (l : frames.SnippetSettings) (blank : Bool) (inherited : Option Source) (ts : Trees)
+      → AreRelatedAnswers l blank inherited ts no_more
   related-unlisted l blank inherited no_trees = tt
   related-unlisted l blank inherited (more_trees (tree m own c r) ts) = (
-    unlisted_is l blank (effective own inherited) (given_labels m.labels) (always_reads (effective own inherited) (given_labels m.labels)),
+    unlisted_is l blank (effective own inherited) (given_labels m.labels)
+        (always_reads (effective own inherited) (given_labels m.labels)),
     causes-unlisted l blank (effective own inherited) c,
     related-unlisted l blank (effective own inherited) r,
     related-unlisted l blank inherited ts,
@@ -67,40 +79,55 @@ leads_on a b c xs ys h k = λ later n. subst a (sym (append_assoc xs ys later)) 
 
 -- ---- texts
 
-pub causes_none : (rows : SnippetRows) (s : Settings) (blank : Bool) (now : List Call → Type 0) (outer : Option Severity) (inherited : Option Source) (ts : List (List ℕ)) (text : List ℕ) →
-    text ≡ causes_text rows s outer inherited (texts ts) unlisted → AreCauses rows s blank (λ calls. Leads now calls now) outer inherited (texts ts) text
+pub causes_none : (rows : SnippetRows) (s : Settings) (blank : Bool) (now : List Call → Type 0)
+    (outer : Option Severity) (inherited : Option Source) (ts : List (List ℕ)) (text : List ℕ) →
+    text ≡ causes_text rows s outer inherited (texts ts) unlisted
+    → AreCauses rows s blank (λ calls. Leads now calls now) outer inherited (texts ts) text
 causes_none rows s blank now outer inherited ts text e = (unlisted, tt, leads_none now, e)
 
-pub cause_step : (rows : SnippetRows) (s : Settings) (blank : Bool) (begun mid now : List Call → Type 0) (outer : Option Severity) (inherited : Option Source) (t : Tree) (one more : List ℕ) →
-    IsOneCause rows s blank (λ calls. Leads begun calls mid) outer inherited t one → AreCauses rows s blank (λ calls. Leads mid calls now) outer inherited (cause_of t) more →
+pub cause_step : (rows : SnippetRows) (s : Settings) (blank : Bool) (begun mid now : List Call → Type 0)
+    (outer : Option Severity) (inherited : Option Source) (t : Tree) (one more : List ℕ) →
+    IsOneCause rows s blank (λ calls. Leads begun calls mid) outer inherited t one
+    → AreCauses rows s blank (λ calls. Leads mid calls now) outer inherited (cause_of t) more →
     AreCauses rows s blank (λ calls. Leads begun calls now) outer inherited (diagnostic t) (one ++ more)
 cause_step rows s blank begun mid now outer inherited (tree m own c r) one more p q = (
   listed p.1.0 q.0 p.1.1,
   (p.1.2, p.1.3, q.1),
-  leads_on begun mid now (own_calls s.context (effective own inherited) m p.1.0 ++ related_calls s.context s.nested (effective own inherited) r p.1.1) (cause_calls s.context s.nested inherited c q.0) p.1.4 q.2,
+  leads_on begun mid now (own_calls s.context (effective own inherited) m p.1.0
+      ++ related_calls s.context s.nested (effective own inherited) r p.1.1)
+      (cause_calls s.context s.nested inherited c q.0) p.1.4 q.2,
   ap₂ (λ x y. x ++ y) (p.2 ∙ ap (under_arrow s outer (ends_there c)) p.1.5) q.3,
 )
 
-pub none_related : {R : Type 0} (rows : SnippetRows) (s : Settings) (blank : Bool) (now : List Call → Type 0) (outer : Option Severity) (inherited : Option Source) (value : R → Tree) (rs : List R) (text : List ℕ) →
-    length rs < 1 → text ≡ [] → AreRelated rows s blank (λ calls. Leads now calls now) outer inherited (trees (map value rs)) text
+pub none_related : {R : Type 0} (rows : SnippetRows) (s : Settings) (blank : Bool) (now : List Call → Type 0)
+    (outer : Option Severity) (inherited : Option Source) (value : R → Tree) (rs : List R) (text : List ℕ) →
+    length rs < 1 → text ≡ [] → AreRelated rows s blank (λ calls. Leads now calls now) outer inherited
+    (trees (map value rs)) text
 none_related rows s blank now outer inherited value [] text h e = (no_more, tt, leads_none now, e)
 none_related rows s blank now outer inherited value (r ∷ rs) text h e = absurd (omega arith)
 
 -- the texts of what stands below a tree's causes
-abbrev pub below_drawn : (rows : SnippetRows) (s : Settings) (blank : Bool) (happen : List Call → Type 0) (source : Option Source) (t : Tree) (text : List ℕ) → IsBelow rows s blank happen source t text → List ℕ
+abbrev pub below_drawn : (rows : SnippetRows) (s : Settings) (blank : Bool) (happen : List Call → Type 0)
+    (source : Option Source) (t : Tree) (text : List ℕ) → IsBelow rows s blank happen source t text → List ℕ
 below_drawn rows s blank happen source t text p = rows_text (rows s source (given_labels (head t).labels) p.0)
 
-abbrev pub below_related : (rows : SnippetRows) (s : Settings) (blank : Bool) (happen : List Call → Type 0) (source : Option Source) (t : Tree) (text : List ℕ) → IsBelow rows s blank happen source t text → List ℕ
+abbrev pub below_related : (rows : SnippetRows) (s : Settings) (blank : Bool) (happen : List Call → Type 0)
+    (source : Option Source) (t : Tree) (text : List ℕ) → IsBelow rows s blank happen source t text → List ℕ
 below_related rows s blank happen source t text p = related_text rows s (head t).severity source (related_of t) p.1
 
-pub inner_step : (rows : SnippetRows) (s : Settings) (blank : Bool) (happen : List Call → Type 0) (source : Option Source) (t : Tree) (text : List ℕ) (p : IsBelow rows s blank happen source t text) →
-    IsInner rows s blank happen source t (inner_over s (head t) (below_drawn rows s blank happen source t text p) (below_related rows s blank happen source t text p))
+pub inner_step : (rows : SnippetRows) (s : Settings) (blank : Bool) (happen : List Call → Type 0)
+    (source : Option Source) (t : Tree) (text : List ℕ) (p : IsBelow rows s blank happen source t text) →
+    IsInner rows s blank happen source t (inner_over s (head t) (below_drawn rows s blank happen source t text p)
+    (below_related rows s blank happen source t text p))
 inner_step rows s blank happen source (tree m own c r) text p = (p.0, p.1, p.2, p.3, p.4, refl)
 
-pub sibling_step : (rows : SnippetRows) (s : Settings) (blank : Bool) (begun mid now : List Call → Type 0) (source : Option Source) (t : Tree) (causes text : List ℕ) →
-    AreCauses rows s blank (λ calls. Leads begun calls mid) (head t).severity source (cause_of t) causes → (p : IsBelow rows s blank (λ calls. Leads mid calls now) source t text) →
+pub sibling_step : (rows : SnippetRows) (s : Settings) (blank : Bool) (begun mid now : List Call → Type 0)
+    (source : Option Source) (t : Tree) (causes text : List ℕ) →
+    AreCauses rows s blank (λ calls. Leads begun calls mid) (head t).severity source (cause_of t) causes
+    → (p : IsBelow rows s blank (λ calls. Leads mid calls now) source t text) →
     IsSibling rows s blank (λ calls. Leads begun calls now) source t
-    (title_text s (head t) ++ body_over s (head t) (below_drawn rows s blank (λ calls. Leads mid calls now) source t text p) causes (below_related rows s blank (λ calls. Leads mid calls now) source t text p))
+    (title_text s (head t) ++ body_over s (head t) (below_drawn rows s blank (λ calls. Leads mid calls now) source t
+    text p) causes (below_related rows s blank (λ calls. Leads mid calls now) source t text p))
 sibling_step rows s blank begun mid now source (tree m own c r) causes text q p = (
   p.0,
   q.0,
@@ -108,47 +135,88 @@ sibling_step rows s blank begun mid now source (tree m own c r) causes text q p 
   p.2,
   q.1,
   p.3,
-  leads_on begun mid now (cause_calls s.context s.nested source c q.0) (own_calls s.context source m p.0 ++ related_calls s.context s.nested source r p.1) q.2 p.4,
-  ap (λ x. title_text s m ++ body_over s m (rows_text (rows s source (given_labels m.labels) p.0)) x (related_text rows s m.severity source r p.1)) q.3,
+  leads_on begun mid now (cause_calls s.context s.nested source c q.0)
+      (own_calls s.context source m p.0 ++ related_calls s.context s.nested source r p.1) q.2 p.4,
+  ap (λ x. title_text s m ++ body_over s m (rows_text (rows s source (given_labels m.labels) p.0)) x
+      (related_text rows s m.severity source r p.1)) q.3,
 )
 
 -- one of several related reports, with its answers in one
-one_by : (rows : SnippetRows) (s : Settings) (blank : Bool) (happen : List Call → Type 0) (outer : Option Severity) (source : Option Source) (last : Bool) (m : Meaning) (own : Option Source) (c : Cause) (r : Trees) (text : List ℕ) (nested : Bool) →
-    MatchBool nested (IsNested rows s blank happen outer source last (tree m own c r) text) (IsSibling rows s blank happen source (tree m own c r) text) →
-    (a : Answers) × IsAnswer (snippet_settings s) blank source m (own_answer a) × AreCauseAnswers (snippet_settings s) blank source c (cause_answers a) × AreRelatedAnswers (snippet_settings s) blank source r (related_answers a)
-    × happen ((if nested then [] else cause_calls s.context s.nested source c (cause_answers a)) ++ (own_calls s.context source m (own_answer a) ++ related_calls s.context s.nested source r (related_answers a)))
+one_by : (rows : SnippetRows) (s : Settings) (blank : Bool) (happen : List Call → Type 0) (outer : Option Severity)
+    (source : Option Source) (last : Bool) (m : Meaning) (own : Option Source) (c : Cause) (r : Trees) (text : List ℕ)
+    (nested : Bool) →
+    MatchBool nested (IsNested rows s blank happen outer source last (tree m own c r) text)
+    (IsSibling rows s blank happen source (tree m own c r) text) →
+    (a : Answers) × IsAnswer (snippet_settings s) blank source m (own_answer a)
+    × AreCauseAnswers (snippet_settings s) blank source c (cause_answers a)
+    × AreRelatedAnswers (snippet_settings s) blank source r (related_answers a)
+    × happen ((if nested then [] else cause_calls s.context s.nested source c (cause_answers a))
+    ++ (own_calls s.context source m (own_answer a) ++ related_calls s.context s.nested source r
+    (related_answers a)))
     × (text ≡ (if nested then
-    under_arrow s outer last (without_trailing (inner_text rows (narrow_settings s outer last) m source (own_answer a) (related_text rows (narrow_settings s outer last) m.severity source r (related_answers a))))
-    else title_text s m ++ body rows s m source (own_answer a) (causes_text rows s m.severity source c (cause_answers a)) (related_text rows s m.severity source r (related_answers a))))
-one_by rows s blank happen outer source last m own c r text true p =
-    (listed p.1.0 unlisted p.1.1, p.1.2, causes-unlisted (snippet_settings s) blank source c, p.1.3, p.1.4, p.2 ∙ ap (λ x. under_arrow s outer last (without_trailing x)) p.1.5)
+    under_arrow s outer last (without_trailing (inner_text rows (narrow_settings s outer last) m source (own_answer a)
+    (related_text rows (narrow_settings s outer last) m.severity source r (related_answers a))))
+    else title_text s m ++ body rows s m source (own_answer a)
+    (causes_text rows s m.severity source c (cause_answers a))
+    (related_text rows s m.severity source r (related_answers a))))
+one_by rows s blank happen outer source last m own c r text true p = (
+  listed p.1.0 unlisted p.1.1,
+  p.1.2,
+  causes-unlisted (snippet_settings s) blank source c,
+  p.1.3,
+  p.1.4,
+  p.2
+      ∙ ap (λ x. under_arrow s outer last (without_trailing x)) p.1.5,
+)
 one_by rows s blank happen outer source last m own c r text false p = (listed p.0 p.1 p.2, p.3, p.4, p.5, p.6, p.7)
 
-pub related_step : (rows : SnippetRows) (s : Settings) (blank : Bool) (begun mid now : List Call → Type 0) (outer : Option Severity) (inherited : Option Source) (t : Tree) (ts : Trees) (one more : List ℕ) →
-    IsOneRelated rows s blank (λ calls. Leads begun calls mid) outer (effective (source_of t) inherited) (are_last ts) t one → AreRelated rows s blank (λ calls. Leads mid calls now) outer inherited ts more →
+pub related_step : (rows : SnippetRows) (s : Settings) (blank : Bool) (begun mid now : List Call → Type 0)
+    (outer : Option Severity) (inherited : Option Source) (t : Tree) (ts : Trees) (one more : List ℕ) →
+    IsOneRelated rows s blank (λ calls. Leads begun calls mid) outer (effective (source_of t) inherited) (are_last ts) t
+    one → AreRelated rows s blank (λ calls. Leads mid calls now) outer inherited ts more →
     AreRelated rows s blank (λ calls. Leads begun calls now) outer inherited (more_trees t ts) (one ++ more)
 related_step rows s blank begun mid now outer inherited (tree m own c r) ts one more p q =
     let source = effective own inherited in
     let k = one_by rows s blank (λ calls. Leads begun calls mid) outer source (are_last ts) m own c r one s.nested p in
-    let calls : List Call = (if s.nested then [] else cause_calls s.context s.nested source c (cause_answers k.0)) ++ (own_calls s.context source m (own_answer k.0) ++ related_calls s.context s.nested source r (related_answers k.0)) in
-    (and_more k.0 q.0, (k.1, k.2, k.3, q.1), leads_on begun mid now calls (related_calls s.context s.nested inherited ts q.0) k.4 q.2, ap₂ (λ x y. x ++ y) k.5 q.3)
+    let calls : List Call = (if s.nested then [] else cause_calls s.context s.nested source c (cause_answers k.0))
+    ++ (own_calls s.context source m (own_answer k.0) ++ related_calls s.context s.nested source r
+    (related_answers k.0)) in (
+      and_more k.0 q.0,
+      (k.1, k.2, k.3, q.1),
+      leads_on begun mid now calls
+          (related_calls s.context s.nested inherited ts q.0) k.4 q.2,
+      ap₂ (λ x y. x ++ y) k.5 q.3,
+    )
 
-root_by : (rows : SnippetRows) (s : Settings) (blank : Bool) (happen : List Call → Type 0) (m : Meaning) (own : Option Source) (c : Cause) (causes : List ℕ) (chain : Bool) →
+root_by : (rows : SnippetRows) (s : Settings) (blank : Bool) (happen : List Call → Type 0) (m : Meaning)
+    (own : Option Source) (c : Cause) (causes : List ℕ) (chain : Bool) →
     MatchBool chain (AreCauses rows s blank happen m.severity own c causes) (happen [] × (causes ≡ [])) →
-    (a : Answers) × (chain ≡ true → AreCauseAnswers (snippet_settings s) blank own c a) × happen (if chain then cause_calls s.context s.nested own c a else []) × (causes ≡ only_if chain (causes_text rows s m.severity own c a))
+    (a : Answers) × (chain ≡ true → AreCauseAnswers (snippet_settings s) blank own c a)
+    × happen (if chain then cause_calls s.context s.nested own c a else [])
+    × (causes ≡ only_if chain (causes_text rows s m.severity own c a))
 root_by rows s blank happen m own c causes true p = (p.0, λ h. p.1, p.2, p.3)
-root_by rows s blank happen m own c causes false p = (unlisted, λ h. causes-unlisted (snippet_settings s) blank own c, p.0, p.1)
+root_by rows s blank happen m own c causes false p = (
+  unlisted,
+  λ h. causes-unlisted (snippet_settings s) blank own c,
+  p.0,
+  p.1,
+)
 
-pub root_step : (rows : SnippetRows) (s : Settings) (blank : Bool) (begun mid now : List Call → Type 0) (t : Tree) (causes text : List ℕ) →
-    AreRootCauses rows s blank (λ calls. Leads begun calls mid) t causes → (p : IsBelow rows s blank (λ calls. Leads mid calls now) (source_of t) t text) →
+pub root_step : (rows : SnippetRows) (s : Settings) (blank : Bool) (begun mid now : List Call → Type 0) (t : Tree)
+    (causes text : List ℕ) →
+    AreRootCauses rows s blank (λ calls. Leads begun calls mid) t causes
+    → (p : IsBelow rows s blank (λ calls. Leads mid calls now) (source_of t) t text) →
     IsAskedReport rows s blank (λ calls. Leads begun calls now) t
-    (report_over s (head t) (below_drawn rows s blank (λ calls. Leads mid calls now) (source_of t) t text p) causes (below_related rows s blank (λ calls. Leads mid calls now) (source_of t) t text p))
+    (report_over s (head t) (below_drawn rows s blank (λ calls. Leads mid calls now) (source_of t) t text p) causes
+    (below_related rows s blank (λ calls. Leads mid calls now) (source_of t) t text p))
 root_step rows s blank begun mid now (tree m own c r) causes text q p =
     let b = root_by rows s blank (λ calls. Leads begun calls mid) m own c causes s.chain q in (
       listed p.0 b.0 p.1,
       (p.2, b.1, p.3),
-      leads_on begun mid now (if s.chain then cause_calls s.context s.nested own c b.0 else []) (own_calls s.context own m p.0 ++ related_calls s.context s.nested own r p.1) b.2 p.4,
-      ap (λ x. report_over s m (rows_text (rows s own (given_labels m.labels) p.0)) x (related_text rows s m.severity own r p.1)) b.3,
+      leads_on begun mid now (if s.chain then cause_calls s.context s.nested own c b.0 else [])
+          (own_calls s.context own m p.0 ++ related_calls s.context s.nested own r p.1) b.2 p.4,
+      ap (λ x. report_over s m (rows_text (rows s own (given_labels m.labels) p.0)) x
+          (related_text rows s m.severity own r p.1)) b.3,
     )
 
 -- ---- texts that are appended
@@ -160,18 +228,32 @@ behind old mid new first more p q = q ∙ ap (λ x. x ++ more) p ∙ append_asso
 pub nothing_behind : (P : List ℕ → Type 0) (old : List ℕ) → P [] → AppendsOne P old old
 nothing_behind P old p = record { text = []; is_given = p; appended = sym (append-nil old) }
 
-pub cause_texts_behind : (rows : SnippetRows) (s : Settings) (blank : Bool) (now : List Call → Type 0) (outer : Option Severity) (inherited : Option Source) (ts : List (List ℕ)) (old new : List ℕ) →
-    new ≡ old ++ cause_texts s outer ts → AppendsOne (AreCauses rows s blank (λ calls. Leads now calls now) outer inherited (texts ts)) old new
-cause_texts_behind rows s blank now outer inherited ts old new e = record { text = cause_texts s outer ts; is_given = causes_none rows s blank now outer inherited ts (cause_texts s outer ts) refl; appended = e }
+pub cause_texts_behind : (rows : SnippetRows) (s : Settings) (blank : Bool) (now : List Call → Type 0)
+    (outer : Option Severity) (inherited : Option Source) (ts : List (List ℕ)) (old new : List ℕ) →
+    new ≡ old ++ cause_texts s outer ts → AppendsOne (AreCauses rows s blank (λ calls. Leads now calls now) outer
+    inherited (texts ts)) old new
+cause_texts_behind rows s blank now outer inherited ts old new e =
+    record {
+      text = cause_texts s outer ts;
+      is_given = causes_none rows s blank now outer inherited ts
+          (cause_texts s outer ts) refl;
+      appended = e;
+    }
 
-pub no_related_behind : {R : Type 0} (rows : SnippetRows) (s : Settings) (blank : Bool) (now : List Call → Type 0) (outer : Option Severity) (inherited : Option Source) (value : R → Tree) (rs : List R) (old : List ℕ) →
-    length rs < 1 → AppendsOne (AreRelated rows s blank (λ calls. Leads now calls now) outer inherited (trees (map value rs))) old old
+pub no_related_behind : {R : Type 0} (rows : SnippetRows) (s : Settings) (blank : Bool) (now : List Call → Type 0)
+    (outer : Option Severity) (inherited : Option Source) (value : R → Tree) (rs : List R) (old : List ℕ) →
+    length rs < 1 → AppendsOne (AreRelated rows s blank (λ calls. Leads now calls now) outer inherited
+    (trees (map value rs))) old old
 no_related_behind rows s blank now outer inherited value rs old h =
-    nothing_behind (AreRelated rows s blank (λ calls. Leads now calls now) outer inherited (trees (map value rs))) old (none_related rows s blank now outer inherited value rs [] h refl)
+    nothing_behind (AreRelated rows s blank (λ calls. Leads now calls now) outer inherited (trees (map value rs))) old
+    (none_related rows s blank now outer inherited value rs [] h refl)
 
-pub below_behind : (rows : SnippetRows) (s : Settings) (blank : Bool) (begun mid now : List Call → Type 0) (source : Option Source) (t : Tree) (old drawn helped new : List ℕ) →
-    AppendsOne (IsDrawn rows s blank (λ calls. Leads begun calls mid) source (head t)) old drawn → helped ≡ drawn ++ help_text s (head t).help →
-    AppendsOne (AreRelated rows s blank (λ calls. Leads mid calls now) (head t).severity source (related_of t)) helped new → AppendsOne (IsBelow rows s blank (λ calls. Leads begun calls now) source t) old new
+pub below_behind : (rows : SnippetRows) (s : Settings) (blank : Bool) (begun mid now : List Call → Type 0)
+    (source : Option Source) (t : Tree) (old drawn helped new : List ℕ) →
+    AppendsOne (IsDrawn rows s blank (λ calls. Leads begun calls mid) source (head t)) old drawn → helped ≡ drawn
+    ++ help_text s (head t).help →
+    AppendsOne (AreRelated rows s blank (λ calls. Leads mid calls now) (head t).severity source (related_of t)) helped
+    new → AppendsOne (IsBelow rows s blank (λ calls. Leads begun calls now) source t) old new
 below_behind rows s blank begun mid now source t old drawn helped new p e q =
     let own = p.is_given in
     let more = q.is_given in record {
@@ -181,102 +263,145 @@ below_behind rows s blank begun mid now source t old drawn helped new p e q =
         more.0,
         own.1,
         more.1,
-        leads_on begun mid now (own_calls s.context source (head t) own.0) (related_calls s.context s.nested source (related_of t) more.0) own.2 more.2,
+        leads_on begun mid now (own_calls s.context source (head t) own.0)
+            (related_calls s.context s.nested source (related_of t) more.0) own.2 more.2,
         ap₂ (λ x y. x ++ help_text s (head t).help ++ y) own.3 more.3,
       );
-      appended = behind old helped new (p.text ++ help_text s (head t).help) q.text (behind old drawn helped p.text (help_text s (head t).help) p.appended e) q.appended;
+      appended = behind old helped new (p.text ++ help_text s (head t).help) q.text
+          (behind old drawn helped p.text (help_text s (head t).help) p.appended e) q.appended;
     }
 
 regrouped : (a b c d : List ℕ) → a ++ (b ++ c ++ d) ≡ a ++ b ++ c ++ d
 regrouped a b c d = sym (append_assoc a (b ++ c) d) ∙ ap (λ x. x ++ d) (sym (append_assoc a b c))
 
 -- message, causes, and what stands below them
-body_behind : (s : Settings) (m : Meaning) (old told caused new drawn causes related below : List ℕ) → told ≡ old ++ message_text s m → caused ≡ told ++ causes → new ≡ caused ++ below →
+body_behind : (s : Settings) (m : Meaning) (old told caused new drawn causes related below : List ℕ) → told ≡ old
+    ++ message_text s m → caused ≡ told ++ causes → new ≡ caused ++ below →
     below ≡ drawn ++ help_text s m.help ++ related → new ≡ old ++ body_over s m drawn causes related
 body_behind s m old told caused new drawn causes related below p q r e =
     behind old caused new (message_text s m ++ causes) below (behind old told caused (message_text s m) causes p q) r
-    ∙ ap (λ x. old ++ x) (ap (λ x. message_text s m ++ causes ++ x) e ∙ regrouped (message_text s m ++ causes) drawn (help_text s m.help) related)
+    ∙ ap (λ x. old ++ x) (ap (λ x. message_text s m ++ causes ++ x) e
+    ∙ regrouped (message_text s m ++ causes) drawn (help_text s m.help) related)
 
-pub inner_whole : (rows : SnippetRows) (s : Settings) (blank : Bool) (happen : List Call → Type 0) (source : Option Source) (t : Tree) (old headed told new text : List ℕ) →
-    old ≡ [] → headed ≡ old ++ print (header s (head t)) → told ≡ headed ++ message_text s (head t) → AppendsOne (IsBelow rows s blank happen source t) told new →
+pub inner_whole : (rows : SnippetRows) (s : Settings) (blank : Bool) (happen : List Call → Type 0)
+    (source : Option Source) (t : Tree) (old headed told new text : List ℕ) →
+    old ≡ [] → headed ≡ old ++ print (header s (head t)) → told ≡ headed ++ message_text s (head t)
+    → AppendsOne (IsBelow rows s blank happen source t) told new →
     text ≡ without_leading new → IsInner rows s blank happen source t text
 inner_whole rows s blank happen source t old headed told new text n h m p e =
     let drawn = below_drawn rows s blank happen source t p.text p.is_given in
     let related = below_related rows s blank happen source t p.text p.is_given in
-    let body : new ≡ headed ++ body_over s (head t) drawn [] related = body_behind s (head t) headed told told new drawn [] related p.text m (sym (append-nil told)) p.appended p.is_given.5 in
+    let body : new ≡ headed ++ body_over s (head t) drawn [] related =
+    body_behind s (head t) headed told told new drawn [] related p.text m (sym (append-nil told)) p.appended
+    p.is_given.5 in
     subst (λ x. IsInner rows s blank happen source t x)
-    (sym (e ∙ ap without_leading (body ∙ ap (λ x. x ++ body_over s (head t) drawn [] related) (h ∙ ap (λ x. x ++ print (header s (head t))) n))))
+    (sym (e ∙ ap without_leading (body ∙ ap (λ x. x ++ body_over s (head t) drawn [] related)
+    (h ∙ ap (λ x. x ++ print (header s (head t))) n))))
     (inner_step rows s blank happen source t p.text p.is_given)
 
-pub sibling_behind : (rows : SnippetRows) (s : Settings) (blank : Bool) (begun mid now : List Call → Type 0) (source : Option Source) (t : Tree) (old titled told caused new : List ℕ) →
-    titled ≡ old ++ title_text s (head t) → told ≡ titled ++ message_text s (head t) → AppendsOne (AreCauses rows s blank (λ calls. Leads begun calls mid) (head t).severity source (cause_of t)) told caused →
-    AppendsOne (IsBelow rows s blank (λ calls. Leads mid calls now) source t) caused new → AppendsOne (IsSibling rows s blank (λ calls. Leads begun calls now) source t) old new
+pub sibling_behind : (rows : SnippetRows) (s : Settings) (blank : Bool) (begun mid now : List Call → Type 0)
+    (source : Option Source) (t : Tree) (old titled told caused new : List ℕ) →
+    titled ≡ old ++ title_text s (head t) → told ≡ titled ++ message_text s (head t)
+    → AppendsOne (AreCauses rows s blank (λ calls. Leads begun calls mid) (head t).severity source (cause_of t)) told
+    caused →
+    AppendsOne (IsBelow rows s blank (λ calls. Leads mid calls now) source t) caused new
+    → AppendsOne (IsSibling rows s blank (λ calls. Leads begun calls now) source t) old new
 sibling_behind rows s blank begun mid now source t old titled told caused new h m c p =
     let drawn = below_drawn rows s blank (λ calls. Leads mid calls now) source t p.text p.is_given in
     let related = below_related rows s blank (λ calls. Leads mid calls now) source t p.text p.is_given in record {
       text = title_text s (head t) ++ body_over s (head t) drawn c.text related;
       is_given = sibling_step rows s blank begun mid now source t c.text p.text c.is_given p.is_given;
       appended = behind old titled new (title_text s (head t)) (body_over s (head t) drawn c.text related) h
-          (body_behind s (head t) titled told caused new drawn c.text related p.text m c.appended p.appended p.is_given.5);
+          (body_behind s (head t) titled told caused new drawn c.text related p.text m c.appended p.appended
+          p.is_given.5);
     }
 
-pub report_whole : (rows : SnippetRows) (s : Settings) (blank : Bool) (begun mid now : List Call → Type 0) (t : Tree) (old headed told caused drawn text : List ℕ) →
-    old ≡ [] → headed ≡ old ++ print (header s (head t)) → told ≡ headed ++ message_text s (head t) → AppendsOne (AreRootCauses rows s blank (λ calls. Leads begun calls mid) t) told caused →
-    AppendsOne (IsBelow rows s blank (λ calls. Leads mid calls now) (source_of t) t) caused drawn → text ≡ drawn ++ footer_text s → IsAskedReport rows s blank (λ calls. Leads begun calls now) t text
+pub report_whole : (rows : SnippetRows) (s : Settings) (blank : Bool) (begun mid now : List Call → Type 0) (t : Tree)
+    (old headed told caused drawn text : List ℕ) →
+    old ≡ [] → headed ≡ old ++ print (header s (head t)) → told ≡ headed ++ message_text s (head t)
+    → AppendsOne (AreRootCauses rows s blank (λ calls. Leads begun calls mid) t) told caused →
+    AppendsOne (IsBelow rows s blank (λ calls. Leads mid calls now) (source_of t) t) caused drawn → text ≡ drawn
+    ++ footer_text s → IsAskedReport rows s blank (λ calls. Leads begun calls now) t text
 report_whole rows s blank begun mid now t old headed told caused drawn text n h m c p e =
     let own = below_drawn rows s blank (λ calls. Leads mid calls now) (source_of t) t p.text p.is_given in
     let related = below_related rows s blank (λ calls. Leads mid calls now) (source_of t) t p.text p.is_given in
-    let body : drawn ≡ headed ++ body_over s (head t) own c.text related = body_behind s (head t) headed told caused drawn own c.text related p.text m c.appended p.appended p.is_given.5 in
+    let body : drawn ≡ headed ++ body_over s (head t) own c.text related =
+    body_behind s (head t) headed told caused drawn own c.text related p.text m c.appended p.appended p.is_given.5 in
     subst (λ x. IsAskedReport rows s blank (λ calls. Leads begun calls now) t x)
-    (sym (e ∙ ap (λ x. x ++ footer_text s) (body ∙ ap (λ x. x ++ body_over s (head t) own c.text related) (h ∙ ap (λ x. x ++ print (header s (head t))) n))))
+    (sym (e ∙ ap (λ x. x ++ footer_text s) (body ∙ ap (λ x. x ++ body_over s (head t) own c.text related)
+    (h ∙ ap (λ x. x ++ print (header s (head t))) n))))
     (root_step rows s blank begun mid now t c.text p.text c.is_given p.is_given)
 
 -- ---- refusals
 
-pub one_cause_fails : (nested : Bool) (inherited : Option Source) (t : Tree) → all_read (printed_inner nested (effective (source_of t) inherited) t) ≡ false →
+pub one_cause_fails : (nested : Bool) (inherited : Option Source) (t : Tree)
+    → all_read (printed_inner nested (effective (source_of t) inherited) t) ≡ false →
     all_read (printed_causes nested inherited (diagnostic t)) ≡ false
-one_cause_fails nested inherited (tree m own c r) h = first_fails (printed_inner nested (effective own inherited) (tree m own c r)) (printed_causes nested inherited c) h
+one_cause_fails nested inherited (tree m own c r) h = first_fails
+    (printed_inner nested (effective own inherited) (tree m own c r)) (printed_causes nested inherited c) h
 
-pub later_cause_fails : (nested : Bool) (inherited : Option Source) (t : Tree) → all_read (printed_causes nested inherited (cause_of t)) ≡ false →
+pub later_cause_fails : (nested : Bool) (inherited : Option Source) (t : Tree)
+    → all_read (printed_causes nested inherited (cause_of t)) ≡ false →
     all_read (printed_causes nested inherited (diagnostic t)) ≡ false
-later_cause_fails nested inherited (tree m own c r) h = later_fails (printed_inner nested (effective own inherited) (tree m own c r)) (printed_causes nested inherited c) h
+later_cause_fails nested inherited (tree m own c r) h =
+    later_fails (printed_inner nested (effective own inherited) (tree m own c r)) (printed_causes nested inherited c) h
 
-pub inner_related_fail : (nested : Bool) (source : Option Source) (t : Tree) → all_read (printed_related nested source (related_of t)) ≡ false →
+pub inner_related_fail : (nested : Bool) (source : Option Source) (t : Tree)
+    → all_read (printed_related nested source (related_of t)) ≡ false →
     all_read (printed_inner nested source t) ≡ false
-inner_related_fail nested source (tree m own c r) h = later_fails (over source m ∷ []) (printed_related nested source r) h
+inner_related_fail nested source (tree m own c r) h = later_fails (over source m ∷ []) (printed_related nested source r)
+    h
 
 and_later : (a b c : Bool) → (b ≡ false → c ≡ false) → (a && b) ≡ false → (a && c) ≡ false
 and_later true b c f h = f h
 and_later false b c f h = refl
 
-pub inner_rows_fail : (nested : Bool) (source : Option Source) (t : Tree) → always_reads source (given_labels (head t).labels) ≡ false → all_read (printed_inner nested source t) ≡ false
+pub inner_rows_fail : (nested : Bool) (source : Option Source) (t : Tree)
+    → always_reads source (given_labels (head t).labels) ≡ false → all_read (printed_inner nested source t) ≡ false
 inner_rows_fail nested source (tree m own c r) h = ap (λ b. b && all_read (printed_related nested source r)) h
 
-pub sibling_below_fails : (nested : Bool) (source : Option Source) (t : Tree) → all_read (printed_inner nested source t) ≡ false → all_read (printed_sibling nested source t) ≡ false
+pub sibling_below_fails : (nested : Bool) (source : Option Source) (t : Tree) → all_read (printed_inner nested source t)
+    ≡ false → all_read (printed_sibling nested source t) ≡ false
 sibling_below_fails nested source (tree m own c r) h =
-    and_later (always_reads source (given_labels m.labels)) (all_read (printed_related nested source r)) (all_read (printed_causes nested source c ++ printed_related nested source r)) (later_fails (printed_causes nested source c) (printed_related nested source r)) h
+    and_later (always_reads source (given_labels m.labels)) (all_read (printed_related nested source r))
+    (all_read (printed_causes nested source c ++ printed_related nested source r))
+    (later_fails (printed_causes nested source c) (printed_related nested source r)) h
 
-pub root_below_fails : (s : Settings) (t : Tree) → all_read (printed_inner s.nested (source_of t) t) ≡ false → all_read (diagnostics_of s t) ≡ false
+pub root_below_fails : (s : Settings) (t : Tree) → all_read (printed_inner s.nested (source_of t) t) ≡ false
+    → all_read (diagnostics_of s t) ≡ false
 root_below_fails s (tree m own c r) h =
     let causes = printed_root_causes s.chain s.nested (tree m own c r) in
-    and_later (always_reads own (given_labels m.labels)) (all_read (printed_related s.nested own r)) (all_read (causes ++ printed_related s.nested own r)) (later_fails causes (printed_related s.nested own r)) h
+    and_later (always_reads own (given_labels m.labels)) (all_read (printed_related s.nested own r))
+    (all_read (causes ++ printed_related s.nested own r)) (later_fails causes (printed_related s.nested own r)) h
 
-pub sibling_causes_fail : (nested : Bool) (source : Option Source) (t : Tree) → all_read (printed_causes nested source (cause_of t)) ≡ false →
+pub sibling_causes_fail : (nested : Bool) (source : Option Source) (t : Tree)
+    → all_read (printed_causes nested source (cause_of t)) ≡ false →
     all_read (printed_sibling nested source t) ≡ false
 sibling_causes_fail nested source (tree m own c r) h =
-    later_fails (over source m ∷ []) (printed_causes nested source c ++ printed_related nested source r) (first_fails (printed_causes nested source c) (printed_related nested source r) h)
+    later_fails (over source m ∷ []) (printed_causes nested source c ++ printed_related nested source r)
+    (first_fails (printed_causes nested source c) (printed_related nested source r) h)
 
-pub one_related_fails : (nested : Bool) (inherited : Option Source) (t : Tree) (ts : Trees) → all_read (printed_one nested (effective (source_of t) inherited) t) ≡ false →
+pub one_related_fails : (nested : Bool) (inherited : Option Source) (t : Tree) (ts : Trees)
+    → all_read (printed_one nested (effective (source_of t) inherited) t) ≡ false →
     all_read (printed_related nested inherited (more_trees t ts)) ≡ false
-one_related_fails true inherited (tree m own c r) ts h = first_fails (printed_inner true (effective own inherited) (tree m own c r)) (printed_related true inherited ts) h
-one_related_fails false inherited (tree m own c r) ts h = first_fails (printed_sibling false (effective own inherited) (tree m own c r)) (printed_related false inherited ts) h
+one_related_fails true inherited (tree m own c r) ts h =
+    first_fails (printed_inner true (effective own inherited) (tree m own c r)) (printed_related true inherited ts) h
+one_related_fails false inherited (tree m own c r) ts h =
+    first_fails (printed_sibling false (effective own inherited) (tree m own c r)) (printed_related false inherited ts)
+    h
 
-pub later_related_fails : (nested : Bool) (inherited : Option Source) (t : Tree) (ts : Trees) → all_read (printed_related nested inherited ts) ≡ false →
+pub later_related_fails : (nested : Bool) (inherited : Option Source) (t : Tree) (ts : Trees)
+    → all_read (printed_related nested inherited ts) ≡ false →
     all_read (printed_related nested inherited (more_trees t ts)) ≡ false
-later_related_fails true inherited (tree m own c r) ts h = later_fails (printed_inner true (effective own inherited) (tree m own c r)) (printed_related true inherited ts) h
-later_related_fails false inherited (tree m own c r) ts h = later_fails (printed_sibling false (effective own inherited) (tree m own c r)) (printed_related false inherited ts) h
+later_related_fails true inherited (tree m own c r) ts h =
+    later_fails (printed_inner true (effective own inherited) (tree m own c r)) (printed_related true inherited ts) h
+later_related_fails false inherited (tree m own c r) ts h =
+    later_fails (printed_sibling false (effective own inherited) (tree m own c r)) (printed_related false inherited ts)
+    h
 
-pub root_causes_fail : (s : Settings) (t : Tree) → all_read (printed_root_causes s.chain s.nested t) ≡ false → all_read (diagnostics_of s t) ≡ false
+pub root_causes_fail : (s : Settings) (t : Tree) → all_read (printed_root_causes s.chain s.nested t) ≡ false
+    → all_read (diagnostics_of s t) ≡ false
 root_causes_fail s (tree m own c r) h =
-    later_fails (over own m ∷ []) (printed_root_causes s.chain s.nested (tree m own c r) ++ printed_related s.nested own r)
+    later_fails (over own m ∷ []) (printed_root_causes s.chain s.nested (tree m own c r)
+    ++ printed_related s.nested own r)
     (first_fails (printed_root_causes s.chain s.nested (tree m own c r)) (printed_related s.nested own r) h)

@@ -12,7 +12,8 @@ use Rattle.miette_runs.specs.rules.Cells.{columns_of}
 
 pub record TextLaws : Type 0 where
   pub wrapped-tame : (p : Plan (List ℕ)) (text : List ℕ) → AllTame p text → IsTame (wrapped_text p text)
-  pub erase-wrapped : (p : Plan (List ℕ)) (text : List ℕ) → AllTame p text → erase (wrapped_text p text) ≡ wrapped_text (coloured.colourless p) (erase text)
+  pub erase-wrapped : (p : Plan (List ℕ)) (text : List ℕ) → AllTame p text → erase (wrapped_text p text)
+      ≡ wrapped_text (coloured.colourless p) (erase text)
   pub append-tame : (x y : List ℕ) → IsTame x → IsTame y → IsTame (x ++ y)
   pub erase-append : (x y : List ℕ) → IsTame x → IsTame y → erase (x ++ y) ≡ erase x ++ erase y
   pub leading-tame : (text : List ℕ) → IsTame text → IsTame (without_leading text)

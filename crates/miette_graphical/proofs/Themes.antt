@@ -1,12 +1,14 @@
 -- The shipped themes are one column wide and hold no escape; so are a space and the digits.
-use Rattle.std.proofs.Common.{◌≡◌, ℕ, ◌<◌, ◌≤◌, inl, inr, Bool, true, false, ◌&&◌, if◌then◌else◌, option_map, string_bytes, codes, refl, ap, ◌∙◌, arith}
+use Rattle.std.proofs.Common.{◌≡◌, ℕ, ◌<◌, ◌≤◌, inl, inr, Bool, true, false, ◌&&◌, if◌then◌else◌, option_map}
+use Rattle.std.proofs.Common.{string_bytes, codes, refl, ap, ◌∙◌, arith}
 use Rattle.std.proofs.lemmas.Bool.Decides.{nat_tests}
 use Rattle.std.specs.Str.{chars}
 use Rattle.unicode_width.specs.Width.{char_width}
 use Rattle.unicode_width.proofs.Computing.{unicode_width}
 use Rattle.miette_style.specs.declared.theme.Terminal.{Terminal}
 use Rattle.miette_style.specs.rules.Escapes.{is_escape, no_escape}
-use Rattle.miette_style.specs.rules.Themes.{Characters, Styles, Theme, ansi_styles, ascii_characters, emoji_characters, no_styles, refuses_colours, terminal_theme, unicode_characters}
+use Rattle.miette_style.specs.rules.Themes.{Characters, Styles, Theme, ansi_styles, ascii_characters, emoji_characters}
+use Rattle.miette_style.specs.rules.Themes.{no_styles, refuses_colours, terminal_theme, unicode_characters}
 use Rattle.miette_cells.specs.rules.Widths.{width_of}
 use Rattle.miette_snippet_laws.specs.laws.Clean.{IsClean}
 use Rattle.miette_snippet_rules.specs.rules.Drawing.{IsNarrow}
@@ -29,7 +31,8 @@ pub is_narrow : (c : Characters) → AreNarrow width_of c → IsNarrow width_of 
 is_narrow c h = record { drawings = h; space = space_narrow; digits = digit_narrow }
 
 -- what each table has, the shipped characters have
-shipped : {X : Type 0} (c : Characters) → AreShipped c → (f : Characters → X) (x : X) → f unicode_characters ≡ x → f emoji_characters ≡ x → f ascii_characters ≡ x → f c ≡ x
+shipped : {X : Type 0} (c : Characters) → AreShipped c → (f : Characters → X) (x : X) → f unicode_characters ≡ x
+    → f emoji_characters ≡ x → f ascii_characters ≡ x → f c ≡ x
 shipped c h f x unicode emoji ascii = elim h [
   | inl same ↦ ap f same ∙ unicode
   | inr other ↦ elim other [ inl same ↦ ap f same ∙ emoji | inr same ↦ ap f same ∙ ascii ]
@@ -83,12 +86,17 @@ default_clean c styles h = (shipped_clean c h, link_clean, tt)
 
 -- ---- the theme of a terminal
 
-either : (b : Bool) (t u : Theme) → AreShipped t.characters → AreShipped u.characters → AreShipped (if b then t else u).characters
+either : (b : Bool) (t u : Theme) → AreShipped t.characters → AreShipped u.characters
+    → AreShipped (if b then t else u).characters
 either true t u h k = h
 either false t u h k = k
 
 pub terminal_shipped : (t : Terminal) → AreShipped (terminal_theme t).characters
 terminal_shipped t =
-    let drawn : Theme = record { characters = unicode_characters; styles = if refuses_colours (option_map string_bytes t.no_color) then no_styles else ansi_styles } in
+    let drawn : Theme = record {
+      characters = unicode_characters;
+      styles =
+          if refuses_colours (option_map string_bytes t.no_color) then no_styles else ansi_styles;
+    } in
     let typed : Theme = record { characters = ascii_characters; styles = no_styles } in
     either (t.stdout_terminal && t.stderr_terminal) drawn typed (inl refl) (inr (inr refl))

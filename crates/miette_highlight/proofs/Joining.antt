@@ -1,5 +1,6 @@
 -- A piece in front of the pieces of what comes behind it.
-use Rattle.std.proofs.Common.{arith, ◌≡◌, ℕ, ◌+◌, ◌∙◌, List, [], ◌∷◌, ◌++◌, length, drop, sym, ap, subst, append_assoc, zero-add}
+use Rattle.std.proofs.Common.{arith, ◌≡◌, ℕ, ◌+◌, ◌∙◌, List, [], ◌∷◌, ◌++◌, length, drop, sym, ap, subst, append_assoc}
+use Rattle.std.proofs.Common.{zero-add}
 use Rattle.std.proofs.Math.Seq.{drop-append_seam}
 use Rattle.std.specs.Prelude.{encode_utf8, Option}
 use Rattle.std.specs.Char.{len_utf8}
@@ -12,12 +13,14 @@ use Rattle.miette_highlight.specs.rules.Characters.{AreCharacters}
 use Rattle.miette_highlight.specs.rules.Tokens.{AreTokens, token_at}
 
 -- what holds with a piece in front of more holds behind the push of that piece
-pub goes_on : (P : List Piece → Type 0) (pieces pushed : List Piece) (p : Piece) (more : List Piece) → pushed ≡ pieces ++ (p ∷ [])
+pub goes_on : (P : List Piece → Type 0) (pieces pushed : List Piece) (p : Piece) (more : List Piece) → pushed ≡ pieces
+    ++ (p ∷ [])
     → P (pieces ++ (p ∷ more)) → P (pushed ++ more)
 goes_on P pieces pushed p more e h = subst P (sym (ap (λ list. list ++ more) e ∙ append_assoc pieces (p ∷ []) more)) h
 
 -- a character's piece in front of a cut of what comes behind it
-pub cuts_char : (rest after : List ℕ) (c n : ℕ) (style : Style) (more : List Piece) → IsUtf8 rest → rest ≡ encode_utf8 c ++ after
+pub cuts_char : (rest after : List ℕ) (c n : ℕ) (style : Style) (more : List Piece) → IsUtf8 rest → rest ≡ encode_utf8 c
+    ++ after
     → n ≡ length (encode_utf8 c) → CutsLine after more → CutsLine rest ((n, style) ∷ more)
 cuts_char rest after c n style more utf8 e w cuts =
     let behind : drop n rest ≡ after =
@@ -28,11 +31,13 @@ cuts_char rest after c n style more utf8 e w cuts =
     (subst Q (sym there) (IsCharBoundary-past_char rest after 0 c (omega arith) utf8 e), subst P (sym behind) cuts)
 
 -- and so with the styles
-pub styles_char : (Goes : ℕ → Style → Type 0) (rest after : List ℕ) (c n : ℕ) (style : Style) (more : List Piece) → IsUtf8 rest
+pub styles_char : (Goes : ℕ → Style → Type 0) (rest after : List ℕ) (c n : ℕ) (style : Style) (more : List Piece)
+    → IsUtf8 rest
     → rest ≡ encode_utf8 c ++ after → n ≡ length (encode_utf8 c) → Goes c style → AreCharacters Goes (chars after) more
     → AreCharacters Goes (chars rest) ((n, style) ∷ more)
 styles_char Goes rest after c n style more utf8 e w goes h =
-    subst (λ cs. AreCharacters Goes cs ((n, style) ∷ more)) (sym (chars_past_char rest after c utf8 e)) (w ∙ length-encode c, goes, h)
+    subst (λ cs. AreCharacters Goes cs ((n, style) ∷ more)) (sym (chars_past_char rest after c utf8 e))
+    (w ∙ length-encode c, goes, h)
 
 -- the tokens of a text cut it
 pub tokens-cut : (rules : List Rule) (left_open : Option ℕ) (text : List ℕ) (pieces : List Piece) (after : Option ℕ)

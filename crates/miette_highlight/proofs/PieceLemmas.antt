@@ -14,7 +14,8 @@ total_length-line line (p ∷ ps) h =
     omega arith
 
 -- the pieces of what follows a place end at boundaries of the whole
-ends-are : (whole line : List ℕ) (at : ℕ) (pieces : List Piece) → at ≤ length whole → drop at whole ≡ line → CutsLine line pieces
+ends-are : (whole line : List ℕ) (at : ℕ) (pieces : List Piece) → at ≤ length whole → drop at whole ≡ line
+    → CutsLine line pieces
     → All (IsCharBoundary whole) (ends_from at pieces)
 ends-are whole line at [] within e h = λ k d l. elim l [ ]
 ends-are whole line at (p ∷ ps) within e h =
@@ -23,5 +24,6 @@ ends-are whole line at (p ∷ ps) within e h =
     All-cons (IsCharBoundary whole) (at + p.0) (ends_from (at + p.0) ps) here
     (ends-are whole (drop p.0 line) (at + p.0) ps here.0 (sym (drop-drop p.0 at whole) ∙ ap (drop p.0) e) h.1)
 
-pub ends-boundaries : (line : List ℕ) (pieces : List Piece) → CutsLine line pieces → All (IsCharBoundary line) (ends_from 0 pieces)
+pub ends-boundaries : (line : List ℕ) (pieces : List Piece) → CutsLine line pieces
+    → All (IsCharBoundary line) (ends_from 0 pieces)
 ends-boundaries line pieces h = ends-are line line 0 pieces (omega arith) refl h

@@ -1,86 +1,125 @@
 -- Answers of reads, put together from those of the parts.
-use Rattle.std.proofs.Common.{◌≡◌, ℕ, ◌≤◌, List, [], ◌∷◌, ◌++◌, length, map, drop, Bool, true, false, Option, Some, None, refl, sym, ap, subst, ◌∙◌, append_assoc, codes}
+use Rattle.std.proofs.Common.{◌≡◌, ℕ, ◌≤◌, List, [], ◌∷◌, ◌++◌, length, map, drop, Bool, true, false, Option, Some}
+use Rattle.std.proofs.Common.{None, refl, sym, ap, subst, ◌∙◌, append_assoc, codes}
 use Rattle.std.specs.Prelude.{IsUtf8, if◌then◌else◌, option_map}
 use Rattle.std.proofs.lemmas.List.{drop_all}
 use Rattle.std.proofs.lemmas.Bool.{and_parts}
 use Rattle.miette_protocol.specs.rules.Reading.{Source}
 use Rattle.miette_protocol.specs.views.Meaning.{Label}
-use Rattle.miette_tree.specs.rules.Tree.{Tree, tree, Trees, no_trees, more_trees, trees, effective, head, source_of, cause_of, causes_of, related_of}
-use Rattle.miette_json.specs.rules.Json.{Json, string, array, object, Items, item, no_members, member, items_text, json_text}
+use Rattle.miette_tree.specs.rules.Tree.{Tree, tree, Trees, no_trees, more_trees, trees, effective, head, source_of}
+use Rattle.miette_tree.specs.rules.Tree.{cause_of, causes_of, related_of}
+use Rattle.miette_json.specs.rules.Json.{Json, string, array, object, Items, item, no_members, member, items_text}
+use Rattle.miette_json.specs.rules.Json.{json_text}
 use Rattle.miette_json.specs.rules.Denotes.{Denotes, HasTokensOf}
-use Rattle.miette_json.specs.rules.JsonReport.{NameAnswers, unlisted, listed, RelatedNameAnswers, no_more, and_more, related_answers, first_answers, later_answers, AreAnswers, AllAnswers, report_json, reports_json, maybe, strings, labels_json, file_name}
+use Rattle.miette_json.specs.rules.JsonReport.{NameAnswers, unlisted, listed, RelatedNameAnswers, no_more, and_more}
+use Rattle.miette_json.specs.rules.JsonReport.{related_answers, first_answers, later_answers, AreAnswers, AllAnswers}
+use Rattle.miette_json.specs.rules.JsonReport.{report_json, reports_json, maybe, strings, labels_json, file_name}
 use Rattle.miette_tree.specs.rules.DiagnosticParts.{given_labels, severity_text}
 use Rattle.miette_tree.specs.rules.Answers.{own_fault}
 use Rattle.miette_tree.proofs.Readings.{fault_free}
 use Rattle.miette_tree.specs.rules.Reads.{MayMeet, always_reads, holds_of, holds_of_all}
 use Rattle.miette_json.specs.rules.JsonText.{IsJsonOf}
 use Rattle.miette_json.proofs.JsonJoined.{last_piece, report_parts}
-use Rattle.miette_json.specs.steps.JsonParts.{rest_text, AppendsReport, AppendsRelated, AppendsPlaces, head_text, reasons_text, places_text, key_text, list_key_text}
+use Rattle.miette_json.specs.steps.JsonParts.{rest_text, AppendsReport, AppendsRelated, AppendsPlaces, head_text}
+use Rattle.miette_json.specs.steps.JsonParts.{reasons_text, places_text, key_text, list_key_text}
 
 -- Some related reports are written, and these are left: whatever answers these have, the whole has some.
 pub record RelatedSoFar (inherited : Option Source) (all left : Trees) (first : Bool) (old now : List ℕ) : Type 0 where
   pub with_rest : RelatedNameAnswers → RelatedNameAnswers
-  pub possible : (more : RelatedNameAnswers) → AllAnswers inherited more left → AllAnswers inherited (with_rest more) all
-  pub joined : (more : RelatedNameAnswers) → now ++ rest_text first (reports_json inherited more left) ≡ old ++ items_text (reports_json inherited (with_rest more) all)
+  pub possible : (more : RelatedNameAnswers) → AllAnswers inherited more left
+      → AllAnswers inherited (with_rest more) all
+  pub joined : (more : RelatedNameAnswers) → now ++ rest_text first (reports_json inherited more left) ≡ old
+      ++ items_text (reports_json inherited (with_rest more) all)
 
 pub none_so_far : (inherited : Option Source) (all : Trees) (old : List ℕ) → RelatedSoFar inherited all all true old old
 none_so_far inherited all old = record { with_rest = λ more. more; possible = λ more p. p; joined = λ more. refl }
 
-pub one_more : (inherited : Option Source) (all : Trees) (t : Tree) (ts : Trees) (first : Bool) (old now comma new : List ℕ)
-    → RelatedSoFar inherited all (more_trees t ts) first old now → comma ≡ now ++ (if first then [] else 44 ∷ []) → AppendsReport inherited t comma new
+pub one_more : (inherited : Option Source) (all : Trees) (t : Tree) (ts : Trees) (first : Bool)
+    (old now comma new : List ℕ)
+    → RelatedSoFar inherited all (more_trees t ts) first old now → comma ≡ now ++ (if first then [] else 44 ∷ [])
+    → AppendsReport inherited t comma new
     → RelatedSoFar inherited all ts false old new
 one_more inherited all t ts first old now comma new r e a = record {
   with_rest = λ more. r.with_rest (and_more a.answers more);
   possible = λ more p. r.possible (and_more a.answers more) (a.possible, p);
-  joined = λ more. last_piece first now comma new (report_json inherited a.answers t) (reports_json inherited more ts) _ (r.joined (and_more a.answers more)) e a.appended;
+  joined = λ more. last_piece first now comma new (report_json inherited a.answers t) (reports_json inherited more ts) _
+      (r.joined (and_more a.answers more)) e a.appended;
 }
 
 pub all_written : (inherited : Option Source) (all : Trees) (first : Bool) (old now new : List ℕ)
     → RelatedSoFar inherited all no_trees first old now → new ≡ now ++ 93 ∷ [] → AppendsRelated inherited all old new
-all_written inherited all true old now new r e = record { answers = r.with_rest no_more; possible = r.possible no_more tt; appended = e ∙ r.joined no_more }
-all_written inherited all false old now new r e = record { answers = r.with_rest no_more; possible = r.possible no_more tt; appended = e ∙ r.joined no_more }
+all_written inherited all true old now new r e = record {
+  answers = r.with_rest no_more;
+  possible =
+      r.possible no_more tt;
+  appended = e ∙ r.joined no_more;
+}
+all_written inherited all false old now new r e = record {
+  answers = r.with_rest no_more;
+  possible =
+      r.possible no_more tt;
+  appended = e ∙ r.joined no_more;
+}
 
-pub at_the_end : {R : Type 0} (value : R → Tree) (inherited : Option Source) (rs : List R) (all : Trees) (i : ℕ) (first : Bool) (old now : List ℕ) → length rs ≤ i
-    → RelatedSoFar inherited all (trees (map value (drop i rs))) first old now → RelatedSoFar inherited all no_trees first old now
-at_the_end value inherited rs all i first old now h r = subst (λ l. RelatedSoFar inherited all (trees (map value l)) first old now) (drop_all i rs h) r
+pub at_the_end : {R : Type 0} (value : R → Tree) (inherited : Option Source) (rs : List R) (all : Trees) (i : ℕ)
+    (first : Bool) (old now : List ℕ) → length rs ≤ i
+    → RelatedSoFar inherited all (trees (map value (drop i rs))) first old now
+    → RelatedSoFar inherited all no_trees first old now
+at_the_end value inherited rs all i first old now h r =
+    subst (λ l. RelatedSoFar inherited all (trees (map value l)) first old now) (drop_all i rs h) r
 
 -- what the parts of a report's object add
-joined : (old b p q r new h re pl key x : List ℕ) → b ≡ (old ++ h) ++ re → p ≡ b ++ pl → q ≡ p ++ (key ++ 91 ∷ []) → r ≡ q ++ x → new ≡ r ++ 125 ∷ []
+joined : (old b p q r new h re pl key x : List ℕ) → b ≡ (old ++ h) ++ re → p ≡ b ++ pl → q ≡ p ++ (key ++ 91 ∷ []) → r
+    ≡ q ++ x → new ≡ r ++ 125 ∷ []
     → new ≡ old ++ (h ++ (re ++ (pl ++ (key ++ (91 ∷ (x ++ 125 ∷ []))))))
 joined old b p q r new h re pl key x f g j l m =
-    m ∙ ap (λ y. y ++ 125 ∷ []) (l ∙ ap (λ y. y ++ x) (j ∙ ap (λ y. y ++ (key ++ 91 ∷ [])) (g ∙ ap (λ y. y ++ pl) f))) ∙ simp append_assoc
+    m ∙ ap (λ y. y ++ 125 ∷ []) (l ∙ ap (λ y. y ++ x) (j ∙ ap (λ y. y ++ (key ++ 91 ∷ [])) (g ∙ ap (λ y. y ++ pl) f)))
+    ∙ simp append_assoc
 
-pub report_written : (inherited : Option Source) (t : Tree) (source : Option Source) (labels : List Label) (related : Trees) (old b p q r new : List ℕ)
+pub report_written : (inherited : Option Source) (t : Tree) (source : Option Source) (labels : List Label)
+    (related : Trees) (old b p q r new : List ℕ)
     → source ≡ effective (source_of t) inherited → labels ≡ given_labels (head t).labels → related ≡ related_of t
-    → b ≡ (old ++ head_text (head t)) ++ reasons_text (causes_of (cause_of t)) (head t) → AppendsPlaces source labels b p
-    → q ≡ p ++ list_key_text (codes "related") → AppendsRelated source related q r → new ≡ r ++ 125 ∷ [] → AppendsReport inherited t old new
+    → b ≡ (old ++ head_text (head t)) ++ reasons_text (causes_of (cause_of t)) (head t)
+    → AppendsPlaces source labels b p
+    → q ≡ p ++ list_key_text (codes "related") → AppendsRelated source related q r → new ≡ r ++ 125 ∷ []
+    → AppendsReport inherited t old new
 report_written inherited (tree m s c rs) source labels related old b p q r new es el er f places g others i =
     let own = effective s inherited in
-    let here : AppendsPlaces own (given_labels m.labels) b p = subst (λ l. AppendsPlaces own l b p) el (subst (λ o. AppendsPlaces o labels b p) es places) in
-    let there : AppendsRelated own rs q r = subst (λ ts. AppendsRelated own ts q r) er (subst (λ o. AppendsRelated o related q r) es others) in
+    let here : AppendsPlaces own (given_labels m.labels) b p =
+    subst (λ l. AppendsPlaces own l b p) el (subst (λ o. AppendsPlaces o labels b p) es places) in
+    let there : AppendsRelated own rs q r = subst (λ ts. AppendsRelated own ts q r) er
+    (subst (λ o. AppendsRelated o related q r) es others) in
     let answers : NameAnswers = listed here.fault unlisted there.answers in record {
       answers = answers;
       possible = (here.possible, there.possible);
-      appended = joined old b p q r new (head_text m) (reasons_text (causes_of c) m) (places_text here.fault own (given_labels m.labels)) (key_text (codes "related")) (items_text (reports_json own there.answers rs)) f here.appended g there.appended i ∙ ap (λ l. old ++ l) (sym (report_parts inherited answers (tree m s c rs)));
+      appended = joined old b p q r new (head_text m) (reasons_text (causes_of c) m)
+          (places_text here.fault own (given_labels m.labels)) (key_text (codes "related"))
+          (items_text (reports_json own there.answers rs)) f here.appended g there.appended i
+          ∙ ap (λ l. old ++ l) (sym (report_parts inherited answers (tree m s c rs)));
     }
 
 -- ---- sources that always read
 
-same_name : (source : Option Source) (labels : List Label) (b : Bool) → MayMeet source b → always_reads source labels ≡ true
+same_name : (source : Option Source) (labels : List Label) (b : Bool) → MayMeet source b → always_reads source labels
+    ≡ true
     → option_map (file_name b labels) source ≡ option_map (file_name false labels) source
 same_name None labels b f r = refl
 same_name (Some s) [] b f r = refl
 same_name (Some s) (l ∷ ls) b f r = ap (λ fault. Some (file_name fault (l ∷ ls) s)) (fault_free (Some s) b f r)
 
 mutual
-  same_value : (inherited : Option Source) (a : NameAnswers) (t : Tree) → AreAnswers inherited a t → holds_of always_reads inherited t ≡ true → report_json inherited a t ≡ report_json inherited unlisted t
+  same_value : (inherited : Option Source) (a : NameAnswers) (t : Tree) → AreAnswers inherited a t
+      → holds_of always_reads inherited t ≡ true → report_json inherited a t ≡ report_json inherited unlisted t
   same_value inherited a (tree m s c r) p reads =
       let own : Option Source = effective s inherited in
       let labels : List Label = given_labels m.labels in
       let read = and_parts (always_reads own labels) (holds_of_all always_reads own r) reads in
-      let name : option_map (file_name (own_fault a) labels) own ≡ option_map (file_name false labels) own = same_name own labels (own_fault a) p.0 read.0 in
-      let others : reports_json own (related_answers a) r ≡ reports_json own no_more r = same_values own (related_answers a) r p.1 read.1 in
-      ap (λ n. with_parts n (reports_json own (related_answers a) r)) name ∙ ap (with_parts (option_map (file_name false labels) own)) others where
+      let name : option_map (file_name (own_fault a) labels) own ≡ option_map (file_name false labels) own =
+      same_name own labels (own_fault a) p.0 read.0 in
+      let others : reports_json own (related_answers a) r ≡ reports_json own no_more r =
+      same_values own (related_answers a) r p.1 read.1 in
+      ap (λ n. with_parts n (reports_json own (related_answers a) r)) name
+      ∙ ap (with_parts (option_map (file_name false labels) own)) others where
         with_parts : Option (List ℕ) → Items → Json
         with_parts name others = object
             (member (codes "message") (string m.message)
@@ -93,19 +132,23 @@ mutual
             (member (codes "labels") (array (labels_json (given_labels m.labels)))
             (member (codes "related") (array others) no_members)))))))))
 
-  same_values : (inherited : Option Source) (a : RelatedNameAnswers) (ts : Trees) → AllAnswers inherited a ts → holds_of_all always_reads inherited ts ≡ true → reports_json inherited a ts ≡ reports_json inherited no_more ts
+  same_values : (inherited : Option Source) (a : RelatedNameAnswers) (ts : Trees) → AllAnswers inherited a ts
+      → holds_of_all always_reads inherited ts ≡ true → reports_json inherited a ts ≡ reports_json inherited no_more ts
   same_values inherited a no_trees p reads = refl
   same_values inherited a (more_trees t ts) p reads =
       let read = and_parts (holds_of always_reads inherited t) (holds_of_all always_reads inherited ts) reads in
-      ap (λ j. item j (reports_json inherited (later_answers a) ts)) (same_value inherited (first_answers a) t p.0 read.0)
+      ap (λ j. item j (reports_json inherited (later_answers a) ts))
+      (same_value inherited (first_answers a) t p.0 read.0)
       ∙ ap (item (report_json inherited unlisted t)) (same_values inherited (later_answers a) ts p.1 read.1)
 
 -- all that is claimed of a report's text
-pub is_json : ((v : Json) → HasTokensOf (json_text v) v) → ((bytes : List ℕ) (v w : Json) → Denotes bytes v → Denotes bytes w → v ≡ w)
+pub is_json : ((v : Json) → HasTokensOf (json_text v) v)
+    → ((bytes : List ℕ) (v w : Json) → Denotes bytes v → Denotes bytes w → v ≡ w)
     → (t : Tree) (text : List ℕ) → IsUtf8 text → AppendsReport None t [] text → IsJsonOf t text
 is_json tokens one t text utf8 a =
     let value = report_json None a.answers t in
-    let denotes : Denotes text value = (utf8, subst (λ l. HasTokensOf l value) (sym a.appended) (tokens value)) in record {
+    let denotes : Denotes text value = (utf8, subst (λ l. HasTokensOf l value) (sym a.appended) (tokens value)) in
+    record {
       value = value;
       of_tree = record { answers = a.answers; possible = a.possible; is = refl };
       always = λ reads. same_value None a.answers t a.possible reads;

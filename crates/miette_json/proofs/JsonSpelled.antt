@@ -1,5 +1,7 @@
 -- The spelling of a value stands for it.
-use Rattle.std.proofs.Common.{◌≡◌, ◌≢◌, ◌⊎◌, inl, inr, ℕ, zero, suc, ◌+◌, ◌-◌, ◌*◌, ◌/◌, ◌%◌, ◌^◌, ◌<◌, ◌≤◌, Bool, true, false, cond, List, [], ◌∷◌, ◌++◌, refl, sym, ap, ◌∙◌, subst, arith, append_assoc, append-nil, add-one, length, get_or, take, drop}
+use Rattle.std.proofs.Common.{◌≡◌, ◌≢◌, ◌⊎◌, inl, inr, ℕ, zero, suc, ◌+◌, ◌-◌, ◌*◌, ◌/◌, ◌%◌, ◌^◌, ◌<◌, ◌≤◌, Bool, true}
+use Rattle.std.proofs.Common.{false, cond, List, [], ◌∷◌, ◌++◌, refl, sym, ap, ◌∙◌, subst, arith, append_assoc}
+use Rattle.std.proofs.Common.{append-nil, add-one, length, get_or, take, drop}
 use Rattle.std.specs.Prelude.{nat_lt, not, Some, None, position}
 use Rattle.std.specs.List.{position_or_len, prefix_len}
 use Rattle.std.proofs.Math.Seq.{drop-cons}
@@ -10,8 +12,14 @@ use Rattle.std.proofs.lemmas.Fmt.{decimal_by_steps}
 use Rattle.std.proofs.lemmas.Bool.{ltb-true, ltb-false, lt-ltb, le-ltb, cases_lt}
 use Rattle.std.proofs.lemmas.Bool.Decides.{eqb_tells, nat_tests}
 use Rattle.std.proofs.lemmas.Str.{encode_ascii, digit_value-digit_char}
-use Rattle.miette_json.specs.rules.Json.{Json, number, string, array, object, Items, no_items, item, Members, no_members, member, digits_within, numeral, escaped_text, quoted_text, json_text, items_text, more_items_text, members_text, more_members_text}
-use Rattle.miette_json.specs.rules.Denotes.{Token, structural, text, whole, tokens_then, items_then, more_items_then, members_then, more_members_then, StringPart, plain, short, unit, short_for, IsStringPart, hex, part_text, part_value, AreStringParts, all_written, all_meant, IsDigit, AreDigits, value_after, NoLeadingZero, NoDigitNext, IsStructural, IsString, IsNumber, Begins, Next, AreTokens, HasTokensOf}
+use Rattle.miette_json.specs.rules.Json.{Json, number, string, array, object, Items, no_items, item, Members}
+use Rattle.miette_json.specs.rules.Json.{no_members, member, digits_within, numeral, escaped_text, quoted_text}
+use Rattle.miette_json.specs.rules.Json.{json_text, items_text, more_items_text, members_text, more_members_text}
+use Rattle.miette_json.specs.rules.Denotes.{Token, structural, text, whole, tokens_then, items_then, more_items_then}
+use Rattle.miette_json.specs.rules.Denotes.{members_then, more_members_then, StringPart, plain, short, unit, short_for}
+use Rattle.miette_json.specs.rules.Denotes.{IsStringPart, hex, part_text, part_value, AreStringParts, all_written}
+use Rattle.miette_json.specs.rules.Denotes.{all_meant, IsDigit, AreDigits, value_after, NoLeadingZero, NoDigitNext}
+use Rattle.miette_json.specs.rules.Denotes.{IsStructural, IsString, IsNumber, Begins, Next, AreTokens, HasTokensOf}
 use Rattle.miette_json.specs.steps.EscapedBytes.{is_escaped, control_text}
 use Rattle.json.specs.Print.{escape_letter, escape_byte}
 
@@ -46,7 +54,8 @@ reads_more n ds h r = record {
   value = let v = value_last 0 (r.first ∷ r.others) (48 + n % 10) in omega (arith, v, r.value);
 }
 
-reads_step : (n : ℕ) (rest : List ℕ) (b : Bool) → nat_lt n 10 ≡ b → (10 ≤ n → Reads (n / 10) rest) → Reads n (cond b ((48 + n) ∷ []) (rest ++ (48 + n % 10) ∷ []))
+reads_step : (n : ℕ) (rest : List ℕ) (b : Bool) → nat_lt n 10 ≡ b → (10 ≤ n → Reads (n / 10) rest)
+    → Reads n (cond b ((48 + n) ∷ []) (rest ++ (48 + n % 10) ∷ []))
 reads_step n rest true e r =
     let l : n < 10 = ltb-true n 10 e in
     record {
@@ -62,7 +71,8 @@ reads_step n rest false e r = let l : 10 ≤ n = ltb-false n 10 e in reads_more 
 
 reads_within : (most n : ℕ) → n < most → Reads n (digits_within most n)
 reads_within zero n h = absurd (omega arith)
-reads_within (suc most) n h = reads_step n (digits_within most (n / 10)) (nat_lt n 10) refl (λ l. reads_within most (n / 10) (omega arith))
+reads_within (suc most) n h = reads_step n (digits_within most (n / 10)) (nat_lt n 10) refl
+    (λ l. reads_within most (n / 10) (omega arith))
 
 no_zero : (x : ℕ) (xs : List ℕ) → 48 < x → NoLeadingZero (x ∷ xs)
 no_zero x [] h = tt
@@ -96,7 +106,8 @@ within_step n xs ys false e f = ap (λ l. l ++ (48 + n % 10) ∷ []) (f (ltb-fal
 within_same : (f g n : ℕ) → n < f → n < g → digits_within f n ≡ digits_within g n
 within_same zero g n h k = absurd (omega arith)
 within_same (suc f) zero n h k = absurd (omega arith)
-within_same (suc f) (suc g) n h k = within_step n (digits_within f (n / 10)) (digits_within g (n / 10)) (nat_lt n 10) refl (λ l. within_same f g (n / 10) (omega arith) (omega arith))
+within_same (suc f) (suc g) n h k = within_step n (digits_within f (n / 10)) (digits_within g (n / 10)) (nat_lt n 10)
+    refl (λ l. within_same f g (n / 10) (omega arith) (omega arith))
 
 pub numeral_low : (n : ℕ) → n < 10 → numeral n ≡ (48 + n) ∷ []
 unfolding numeral
@@ -104,11 +115,13 @@ numeral_low n h = rw (lt-ltb n 10 h) refl
 
 pub numeral_high : (n : ℕ) → 10 ≤ n → numeral n ≡ numeral (n / 10) ++ (48 + n % 10) ∷ []
 unfolding numeral
-numeral_high n h = rw (le-ltb n 10 h) (ap (λ l. l ++ (48 + n % 10) ∷ []) (within_same n (suc (n / 10)) (n / 10) (omega arith) (omega arith)))
+numeral_high n h = rw (le-ltb n 10 h) (ap (λ l. l ++ (48 + n % 10) ∷ [])
+    (within_same n (suc (n / 10)) (n / 10) (omega arith) (omega arith)))
 
 -- std's decimal text of a number that a machine holds
 pub numeral_decimal : (n : ℕ) → n < 2 ^ 64 → numeral n ≡ decimal n
-numeral_decimal n h = decimal_by_steps (λ m ds. numeral m ≡ ds) (λ m l. numeral_low m l) (λ m ds l e. numeral_high m l ∙ ap (λ x. x ++ (48 + m % 10) ∷ []) e) n h
+numeral_decimal n h = decimal_by_steps (λ m ds. numeral m ≡ ds) (λ m l. numeral_low m l)
+    (λ m ds l e. numeral_high m l ∙ ap (λ x. x ++ (48 + m % 10) ∷ []) e) n h
 
 -- ---- escapes
 
@@ -122,19 +135,46 @@ pub record HasLetter (x : ℕ) : Type 0 where
 pub letter_cases : (x : ℕ) → HasLetter x ⊎ (escape_letter x ≡ 0)
 letter_cases x =
     elim (eqb_tells x 34) [
-      | inl a ↦ inl (subst HasLetter (sym a.1) (record { above = omega arith; back = refl; low = omega arith; seen = omega arith }))
+      | inl a ↦ inl (subst HasLetter (sym a.1) (record {
+        above = omega arith;
+        back = refl;
+        low = omega arith;
+        seen =
+            omega arith;
+      }))
       | inr a ↦ elim (eqb_tells x 92) [
-        | inl b ↦ inl (subst HasLetter (sym b.1) (record { above = omega arith; back = refl; low = omega arith; seen = omega arith }))
+        | inl b ↦ inl (subst HasLetter (sym b.1) (record {
+          above = omega arith;
+          back = refl;
+          low = omega arith;
+          seen =
+              omega arith;
+        }))
         | inr b ↦ elim (eqb_tells x 8) [
-          | inl d ↦ inl (subst HasLetter (sym d.1) (record { above = omega arith; back = refl; low = omega arith; seen = omega arith }))
+          | inl d ↦ inl (subst HasLetter (sym d.1) (record {
+            above = omega arith;
+            back = refl;
+            low = omega arith;
+            seen =
+                omega arith;
+          }))
           | inr d ↦ elim (eqb_tells x 12) [
-            | inl f ↦ inl (subst HasLetter (sym f.1) (record { above = omega arith; back = refl; low = omega arith; seen = omega arith }))
+            | inl f ↦ inl (subst HasLetter (sym f.1) (record {
+              above = omega arith;
+              back = refl;
+              low =
+                  omega arith;
+              seen = omega arith;
+            }))
             | inr f ↦ elim (eqb_tells x 10) [
-              | inl g ↦ inl (subst HasLetter (sym g.1) (record { above = omega arith; back = refl; low = omega arith; seen = omega arith }))
+              | inl g ↦ inl (subst HasLetter (sym g.1) (record
+                  { above = omega arith; back = refl; low = omega arith; seen = omega arith }))
               | inr g ↦ elim (eqb_tells x 13) [
-                | inl h ↦ inl (subst HasLetter (sym h.1) (record { above = omega arith; back = refl; low = omega arith; seen = omega arith }))
+                | inl h ↦ inl (subst HasLetter (sym h.1) (record
+                    { above = omega arith; back = refl; low = omega arith; seen = omega arith }))
                 | inr h ↦ elim (eqb_tells x 9) [
-                  | inl k ↦ inl (subst HasLetter (sym k.1) (record { above = omega arith; back = refl; low = omega arith; seen = omega arith }))
+                  | inl k ↦ inl (subst HasLetter (sym k.1) (record
+                      { above = omega arith; back = refl; low = omega arith; seen = omega arith }))
                   | inr k ↦ inr (rw (a.0, b.0, d.0, f.0, g.0, h.0, k.0) refl)
                 ]
               ]
@@ -149,7 +189,8 @@ pub byte_short : (x : ℕ) → 0 < escape_letter x → escape_byte x ≡ 92 ∷ 
 unfolding escape_byte
 byte_short x h = rw (lt-ltb 0 (escape_letter x) h) refl
 
-pub byte_low : (x : ℕ) → escape_letter x ≡ 0 → x < 32 → escape_byte x ≡ 92 ∷ 117 ∷ 48 ∷ 48 ∷ digit_char (x / 16) ∷ digit_char (x % 16) ∷ []
+pub byte_low : (x : ℕ) → escape_letter x ≡ 0 → x < 32 → escape_byte x ≡ 92 ∷ 117 ∷ 48 ∷ 48 ∷ digit_char (x / 16)
+    ∷ digit_char (x % 16) ∷ []
 unfolding escape_byte
 byte_low x e h = rw (le-ltb 0 (escape_letter x) (omega arith), lt-ltb x 32 h) refl
 
@@ -176,11 +217,13 @@ pub escaped_is_ascii : (x : ℕ) → is_escaped x ≡ true → x < 128
 escaped_is_ascii x e = grind (arith, nat_tests)
 
 -- bytes that stand for themselves, in front of others
-escaped_run : (xs : List ℕ) (i : ℕ) → i ≤ length xs → ((k : ℕ) → k < i → is_escaped (get_or xs k 0) ≡ false) → escaped_text xs ≡ take i xs ++ escaped_text (drop i xs)
+escaped_run : (xs : List ℕ) (i : ℕ) → i ≤ length xs → ((k : ℕ) → k < i → is_escaped (get_or xs k 0) ≡ false)
+    → escaped_text xs ≡ take i xs ++ escaped_text (drop i xs)
 escaped_run xs zero h f = refl
 escaped_run [] (suc i) h f = absurd (omega arith)
 escaped_run (x ∷ xs) (suc i) h f =
-    ap (λ l. l ++ escaped_text xs) (byte_itself x (f 0 (omega arith))) ∙ ap (λ l. x ∷ l) (escaped_run xs i (omega arith) (λ k l. f (suc k) (omega arith)))
+    ap (λ l. l ++ escaped_text xs) (byte_itself x (f 0 (omega arith)))
+    ∙ ap (λ l. x ∷ l) (escaped_run xs i (omega arith) (λ k l. f (suc k) (omega arith)))
 
 -- the first byte that may not stand for itself
 pub record NextEscape (xs : List ℕ) (i : ℕ) : Type 0 where
@@ -200,12 +243,17 @@ pub run_written : (start mid new xs goal : List ℕ) (i : ℕ) → NextEscape xs
 run_written start mid new xs goal i n e f g =
     let x = get_or xs i 0 in
     let after = escaped_text (drop (i + 1) xs) in
-    let cut : escaped_text (drop i xs) ≡ escape_byte x ++ after = ap escaped_text (drop-cons xs i 0 n.inside ∙ ap (λ k. x ∷ drop k xs) (sym (add-one i))) in
-    let split : escaped_text xs ≡ take i xs ++ (escape_byte x ++ after) = escaped_run xs i (omega (arith, n.inside)) n.before ∙ ap (λ l. take i xs ++ l) cut in
-    ap (λ l. l ++ after) g ∙ (append_assoc mid (escape_byte x) after ∙ (ap (λ l. l ++ (escape_byte x ++ after)) f ∙ (append_assoc start (take i xs) (escape_byte x ++ after) ∙ (ap (λ l. start ++ l) (sym split) ∙ e))))
+    let cut : escaped_text (drop i xs) ≡ escape_byte x ++ after =
+    ap escaped_text (drop-cons xs i 0 n.inside ∙ ap (λ k. x ∷ drop k xs) (sym (add-one i))) in
+    let split : escaped_text xs ≡ take i xs ++ (escape_byte x ++ after) =
+    escaped_run xs i (omega (arith, n.inside)) n.before ∙ ap (λ l. take i xs ++ l) cut in
+    ap (λ l. l ++ after) g ∙ (append_assoc mid (escape_byte x) after
+    ∙ (ap (λ l. l ++ (escape_byte x ++ after)) f ∙ (append_assoc start (take i xs) (escape_byte x ++ after)
+    ∙ (ap (λ l. start ++ l) (sym split) ∙ e))))
 
 -- no byte is escaped where none is found
-one_plain : (x : ℕ) (xs : List ℕ) (b : Bool) → is_escaped x ≡ b → suc (length xs) ≤ cond (not b) (1 + prefix_len (λ y. not (is_escaped y)) xs) 0
+one_plain : (x : ℕ) (xs : List ℕ) (b : Bool) → is_escaped x ≡ b → suc (length xs)
+    ≤ cond (not b) (1 + prefix_len (λ y. not (is_escaped y)) xs) 0
     → (length xs ≤ prefix_len (λ y. not (is_escaped y)) xs → escaped_text xs ≡ xs) → escaped_text (x ∷ xs) ≡ x ∷ xs
 one_plain x xs true e l f = absurd (omega arith)
 one_plain x xs false e l f = ap (λ b. b ++ escaped_text xs) (byte_itself x e) ∙ ap (λ b. x ∷ b) (f (omega arith))
@@ -214,7 +262,8 @@ all_plain : (xs : List ℕ) → length xs ≤ prefix_len (λ x. not (is_escaped 
 all_plain [] h = refl
 all_plain (x ∷ xs) h = one_plain x xs (is_escaped x) refl h (all_plain xs)
 
-none_found : (xs : List ℕ) (b : Bool) → nat_lt (position_or_len is_escaped xs) (length xs) ≡ b → None ≡ cond b (Some (position_or_len is_escaped xs)) None → escaped_text xs ≡ xs
+none_found : (xs : List ℕ) (b : Bool) → nat_lt (position_or_len is_escaped xs) (length xs) ≡ b → None
+    ≡ cond b (Some (position_or_len is_escaped xs)) None → escaped_text xs ≡ xs
 none_found xs true f g = cc
 none_found xs false f g = all_plain xs (ltb-false (position_or_len is_escaped xs) (length xs) f)
 
@@ -228,14 +277,20 @@ no_such x y e h i = let same : escape_letter x ≡ escape_letter y = ap escape_l
 -- ---- what several writes add
 
 -- \u00 and two digits in base 16 are written
-pub control_written : (out front mid new : List ℕ) (x h l : ℕ) → front ≡ out ++ 92 ∷ 117 ∷ 48 ∷ 48 ∷ [] → h ≡ digit_char (x / 16) → h < 128 → mid ≡ front ++ encode_utf8 h → l ≡ digit_char (x % 16) → l < 128
+pub control_written : (out front mid new : List ℕ) (x h l : ℕ) → front ≡ out ++ 92 ∷ 117 ∷ 48 ∷ 48 ∷ [] → h
+    ≡ digit_char (x / 16) → h < 128 → mid ≡ front ++ encode_utf8 h → l ≡ digit_char (x % 16) → l < 128
     → new ≡ mid ++ encode_utf8 l → new ≡ out ++ control_text x
 control_written out front mid new x h l e i k f j m g =
     let high : encode_utf8 h ≡ h ∷ [] = encode_ascii h k in
     let low : encode_utf8 l ≡ l ∷ [] = encode_ascii l m in
-    let whole : control_text x ≡ 92 ∷ 117 ∷ 48 ∷ 48 ∷ h ∷ l ∷ [] = (ap (λ y. 92 ∷ 117 ∷ 48 ∷ 48 ∷ y ∷ digit_char (x % 16) ∷ []) (sym i) ∙ ap (λ y. 92 ∷ 117 ∷ 48 ∷ 48 ∷ h ∷ y ∷ []) (sym j)) in
-    let seam : mid ≡ out ++ 92 ∷ 117 ∷ 48 ∷ 48 ∷ h ∷ [] = f ∙ (ap (λ y. y ++ encode_utf8 h) e ∙ (append_assoc out (92 ∷ 117 ∷ 48 ∷ 48 ∷ []) (encode_utf8 h) ∙ ap (λ y. out ++ 92 ∷ 117 ∷ 48 ∷ 48 ∷ y) high)) in
-    g ∙ (ap (λ y. y ++ encode_utf8 l) seam ∙ (append_assoc out (92 ∷ 117 ∷ 48 ∷ 48 ∷ h ∷ []) (encode_utf8 l) ∙ ap (λ y. out ++ y) (ap (λ y. 92 ∷ 117 ∷ 48 ∷ 48 ∷ h ∷ y) low ∙ sym whole)))
+    let whole : control_text x ≡ 92 ∷ 117 ∷ 48 ∷ 48 ∷ h ∷ l ∷ [] =
+    (ap (λ y. 92 ∷ 117 ∷ 48 ∷ 48 ∷ y ∷ digit_char (x % 16) ∷ []) (sym i)
+    ∙ ap (λ y. 92 ∷ 117 ∷ 48 ∷ 48 ∷ h ∷ y ∷ []) (sym j)) in
+    let seam : mid ≡ out ++ 92 ∷ 117 ∷ 48 ∷ 48 ∷ h ∷ [] = f
+    ∙ (ap (λ y. y ++ encode_utf8 h) e ∙ (append_assoc out (92 ∷ 117 ∷ 48 ∷ 48 ∷ []) (encode_utf8 h)
+    ∙ ap (λ y. out ++ 92 ∷ 117 ∷ 48 ∷ 48 ∷ y) high)) in
+    g ∙ (ap (λ y. y ++ encode_utf8 l) seam ∙ (append_assoc out (92 ∷ 117 ∷ 48 ∷ 48 ∷ h ∷ []) (encode_utf8 l)
+    ∙ ap (λ y. out ++ y) (ap (λ y. 92 ∷ 117 ∷ 48 ∷ 48 ∷ h ∷ y) low ∙ sym whole)))
 
 -- ---- a string stands for its bytes
 
@@ -290,7 +345,8 @@ spells_all (x ∷ s) =
     record {
       pieces = b.piece ∷ r.pieces;
       right = (b.right, r.right);
-      spelled = λ rest. append_assoc (escape_byte x) (escaped_text s) rest ∙ (b.spelled (escaped_text s ++ rest) ∙ ap (part_text b.piece) (r.spelled rest));
+      spelled = λ rest. append_assoc (escape_byte x) (escaped_text s) rest
+          ∙ (b.spelled (escaped_text s ++ rest) ∙ ap (part_text b.piece) (r.spelled rest));
       means = ap (λ l. l ++ all_meant r.pieces) b.means ∙ ap (λ l. x ∷ l) r.means;
     }
 
@@ -312,10 +368,21 @@ at_once t bytes rest b = record { space = []; blank = tt; after = bytes; spaced 
 -- a space in front changes nothing
 after_space : (ts : List Token) (bytes : List ℕ) → AreTokens ts bytes → AreTokens ts (32 ∷ bytes)
 after_space [] bytes r = (inl refl, r)
-after_space (t ∷ ts) bytes r =
-    (r.0, record { space = 32 ∷ r.1.space; blank = (inl refl, r.1.blank); after = r.1.after; spaced = ap (λ l. 32 ∷ l) r.1.spaced; begins = r.1.begins }, r.2)
+after_space (t ∷ ts) bytes r = (
+  r.0,
+  record {
+    space = 32 ∷ r.1.space;
+    blank = (inl refl, r.1.blank);
+    after = r.1.after;
+    spaced =
+        ap (λ l. 32 ∷ l) r.1.spaced;
+    begins = r.1.begins;
+  },
+  r.2,
+)
 
-put : (x : ℕ) (ts : List Token) (bytes : List ℕ) → IsStructural x → AreTokens ts bytes → AreTokens (structural x ∷ ts) (x ∷ bytes)
+put : (x : ℕ) (ts : List Token) (bytes : List ℕ) → IsStructural x → AreTokens ts bytes
+    → AreTokens (structural x ∷ ts) (x ∷ bytes)
 put x ts bytes m r = (bytes, at_once (structural x) (x ∷ bytes) bytes (m, refl), r)
 
 more_items_end : (is : Items) (rest : List ℕ) → NoDigitNext (more_items_text is ++ rest)
@@ -327,45 +394,72 @@ more_members_end no_members rest = inr (omega arith)
 more_members_end (member k v more) rest = inl (omega arith)
 
 -- a key, a colon, a space and a value
-key_spelled : (k : List ℕ) (v : Json) (more : Members) (ts : List Token) (rest : List ℕ) → AreTokens (tokens_then v (more_members_then more ts)) (json_text v ++ (more_members_text more ++ rest))
-    → AreTokens (text k ∷ structural 58 ∷ tokens_then v (more_members_then more ts)) ((quoted_text k ++ (58 ∷ 32 ∷ (json_text v ++ more_members_text more))) ++ rest)
+key_spelled : (k : List ℕ) (v : Json) (more : Members) (ts : List Token) (rest : List ℕ)
+    → AreTokens (tokens_then v (more_members_then more ts)) (json_text v ++ (more_members_text more ++ rest))
+    → AreTokens (text k ∷ structural 58 ∷ tokens_then v (more_members_then more ts))
+    ((quoted_text k ++ (58 ∷ 32 ∷ (json_text v ++ more_members_text more))) ++ rest)
 key_spelled k v more ts rest r =
     let us : List Token = tokens_then v (more_members_then more ts) in
     let tail : List ℕ = (json_text v ++ more_members_text more) ++ rest in
-    let colon : AreTokens (structural 58 ∷ us) (58 ∷ 32 ∷ tail) = put 58 us (32 ∷ tail) (inr (inl refl)) (after_space us tail (subst (AreTokens us) (sym (append_assoc (json_text v) (more_members_text more) rest)) r)) in
-    let key : AreTokens (text k ∷ structural 58 ∷ us) (quoted_text k ++ (58 ∷ 32 ∷ tail)) = (58 ∷ 32 ∷ tail, at_once (text k) (quoted_text k ++ (58 ∷ 32 ∷ tail)) (58 ∷ 32 ∷ tail) (string_spelled k (58 ∷ 32 ∷ tail)), colon) in
-    subst (AreTokens (text k ∷ structural 58 ∷ us)) (sym (append_assoc (quoted_text k) (58 ∷ 32 ∷ (json_text v ++ more_members_text more)) rest)) key
+    let colon : AreTokens (structural 58 ∷ us) (58 ∷ 32 ∷ tail) =
+    put 58 us (32 ∷ tail) (inr (inl refl)) (after_space us tail
+    (subst (AreTokens us) (sym (append_assoc (json_text v) (more_members_text more) rest)) r)) in
+    let key : AreTokens (text k ∷ structural 58 ∷ us) (quoted_text k ++ (58 ∷ 32 ∷ tail)) = (
+      58 ∷ 32 ∷ tail,
+      at_once (text k) (quoted_text k ++ (58 ∷ 32 ∷ tail)) (58 ∷ 32 ∷ tail)
+          (string_spelled k (58 ∷ 32 ∷ tail)),
+      colon,
+    ) in
+    subst (AreTokens (text k ∷ structural 58 ∷ us)) (sym (append_assoc (quoted_text k)
+    (58 ∷ 32 ∷ (json_text v ++ more_members_text more)) rest)) key
 
 mutual
-  value_spelled : (v : Json) (ts : List Token) (rest : List ℕ) → NoDigitNext rest → AreTokens ts rest → AreTokens (tokens_then v ts) (json_text v ++ rest)
+  value_spelled : (v : Json) (ts : List Token) (rest : List ℕ) → NoDigitNext rest → AreTokens ts rest
+      → AreTokens (tokens_then v ts) (json_text v ++ rest)
   value_spelled (number n) ts rest h r = (rest, at_once (whole n) (numeral n ++ rest) rest (number_spelled n rest h), r)
-  value_spelled (string s) ts rest h r = (rest, at_once (text s) (quoted_text s ++ rest) rest (string_spelled s rest), r)
-  value_spelled (array is) ts rest h r = put 91 (items_then is ts) (items_text is ++ rest) (inr (inr (inl refl))) (items_spelled is ts rest r)
-  value_spelled (object ms) ts rest h r = put 123 (members_then ms ts) (members_text ms ++ rest) (inr (inr (inr (inr (inl refl))))) (members_spelled ms ts rest r)
+  value_spelled (string s) ts rest h r = (
+    rest,
+    at_once (text s) (quoted_text s ++ rest) rest (string_spelled s rest),
+    r,
+  )
+  value_spelled (array is) ts rest h r = put 91 (items_then is ts) (items_text is ++ rest) (inr (inr (inl refl)))
+      (items_spelled is ts rest r)
+  value_spelled (object ms) ts rest h r = put 123 (members_then ms ts) (members_text ms ++ rest)
+      (inr (inr (inr (inr (inl refl))))) (members_spelled ms ts rest r)
 
-  items_spelled : (is : Items) (ts : List Token) (rest : List ℕ) → AreTokens ts rest → AreTokens (items_then is ts) (items_text is ++ rest)
+  items_spelled : (is : Items) (ts : List Token) (rest : List ℕ) → AreTokens ts rest
+      → AreTokens (items_then is ts) (items_text is ++ rest)
   items_spelled no_items ts rest r = put 93 ts rest (inr (inr (inr (inl refl)))) r
   items_spelled (item v more) ts rest r =
-      subst (AreTokens (tokens_then v (more_items_then more ts))) (sym (append_assoc (json_text v) (more_items_text more) rest))
-      (value_spelled v (more_items_then more ts) (more_items_text more ++ rest) (more_items_end more rest) (more_items_spelled more ts rest r))
+      subst (AreTokens (tokens_then v (more_items_then more ts)))
+      (sym (append_assoc (json_text v) (more_items_text more) rest))
+      (value_spelled v (more_items_then more ts) (more_items_text more ++ rest) (more_items_end more rest)
+      (more_items_spelled more ts rest r))
 
-  more_items_spelled : (is : Items) (ts : List Token) (rest : List ℕ) → AreTokens ts rest → AreTokens (more_items_then is ts) (more_items_text is ++ rest)
+  more_items_spelled : (is : Items) (ts : List Token) (rest : List ℕ) → AreTokens ts rest
+      → AreTokens (more_items_then is ts) (more_items_text is ++ rest)
   more_items_spelled no_items ts rest r = put 93 ts rest (inr (inr (inr (inl refl)))) r
   more_items_spelled (item v more) ts rest r =
       put 44 (tokens_then v (more_items_then more ts)) ((json_text v ++ more_items_text more) ++ rest) (inl refl)
-      (subst (AreTokens (tokens_then v (more_items_then more ts))) (sym (append_assoc (json_text v) (more_items_text more) rest))
-      (value_spelled v (more_items_then more ts) (more_items_text more ++ rest) (more_items_end more rest) (more_items_spelled more ts rest r)))
+      (subst (AreTokens (tokens_then v (more_items_then more ts)))
+      (sym (append_assoc (json_text v) (more_items_text more) rest))
+      (value_spelled v (more_items_then more ts) (more_items_text more ++ rest) (more_items_end more rest)
+      (more_items_spelled more ts rest r)))
 
-  members_spelled : (ms : Members) (ts : List Token) (rest : List ℕ) → AreTokens ts rest → AreTokens (members_then ms ts) (members_text ms ++ rest)
+  members_spelled : (ms : Members) (ts : List Token) (rest : List ℕ) → AreTokens ts rest
+      → AreTokens (members_then ms ts) (members_text ms ++ rest)
   members_spelled no_members ts rest r = put 125 ts rest (inr (inr (inr (inr (inr refl))))) r
   members_spelled (member k v more) ts rest r =
-      key_spelled k v more ts rest (value_spelled v (more_members_then more ts) (more_members_text more ++ rest) (more_members_end more rest) (more_members_spelled more ts rest r))
+      key_spelled k v more ts rest (value_spelled v (more_members_then more ts) (more_members_text more ++ rest)
+      (more_members_end more rest) (more_members_spelled more ts rest r))
 
-  more_members_spelled : (ms : Members) (ts : List Token) (rest : List ℕ) → AreTokens ts rest → AreTokens (more_members_then ms ts) (more_members_text ms ++ rest)
+  more_members_spelled : (ms : Members) (ts : List Token) (rest : List ℕ) → AreTokens ts rest
+      → AreTokens (more_members_then ms ts) (more_members_text ms ++ rest)
   more_members_spelled no_members ts rest r = put 125 ts rest (inr (inr (inr (inr (inr refl))))) r
   more_members_spelled (member k v more) ts rest r =
       put 44 (text k ∷ structural 58 ∷ tokens_then v (more_members_then more ts)) _ (inl refl)
-      (key_spelled k v more ts rest (value_spelled v (more_members_then more ts) (more_members_text more ++ rest) (more_members_end more rest) (more_members_spelled more ts rest r)))
+      (key_spelled k v more ts rest (value_spelled v (more_members_then more ts) (more_members_text more ++ rest)
+      (more_members_end more rest) (more_members_spelled more ts rest r)))
 
 pub spelling_tokens_lem : (v : Json) → HasTokensOf (json_text v) v
 spelling_tokens_lem v = subst (AreTokens (tokens_then v [])) (append-nil (json_text v)) (value_spelled v [] [] tt tt)

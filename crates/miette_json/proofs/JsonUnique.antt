@@ -1,8 +1,14 @@
 -- A text stands for one value at most.
-use Rattle.std.proofs.Common.{◌≡◌, ◌≢◌, ◌⊎◌, inl, inr, ℕ, ◌+◌, ◌-◌, ◌*◌, ◌<◌, ◌≤◌, List, [], ◌∷◌, ◌++◌, get_or, refl, sym, ap, ◌∙◌, subst, arith}
+use Rattle.std.proofs.Common.{◌≡◌, ◌≢◌, ◌⊎◌, inl, inr, ℕ, ◌+◌, ◌-◌, ◌*◌, ◌<◌, ◌≤◌, List, [], ◌∷◌, ◌++◌, get_or, refl}
+use Rattle.std.proofs.Common.{sym, ap, ◌∙◌, subst, arith}
 use Rattle.std.specs.Char.{encode_utf8}
-use Rattle.miette_json.specs.rules.Json.{Json, number, string, array, object, Items, no_items, item, Members, no_members, member}
-use Rattle.miette_json.specs.rules.Denotes.{Token, structural, text, whole, tokens_then, items_then, more_items_then, members_then, more_members_then, StringPart, plain, short, unit, pair, IsStringPart, hex, part_text, part_value, AreStringParts, all_written, all_meant, IsDigit, AreDigits, value_after, NoDigitNext, IsStructural, IsBlank, AreBlank, IsString, IsNumber, Begins, Next, AreTokens, HasTokensOf}
+use Rattle.miette_json.specs.rules.Json.{Json, number, string, array, object, Items, no_items, item, Members}
+use Rattle.miette_json.specs.rules.Json.{no_members, member}
+use Rattle.miette_json.specs.rules.Denotes.{Token, structural, text, whole, tokens_then, items_then, more_items_then}
+use Rattle.miette_json.specs.rules.Denotes.{members_then, more_members_then, StringPart, plain, short, unit, pair}
+use Rattle.miette_json.specs.rules.Denotes.{IsStringPart, hex, part_text, part_value, AreStringParts, all_written}
+use Rattle.miette_json.specs.rules.Denotes.{all_meant, IsDigit, AreDigits, value_after, NoDigitNext, IsStructural}
+use Rattle.miette_json.specs.rules.Denotes.{IsBlank, AreBlank, IsString, IsNumber, Begins, Next, AreTokens, HasTokensOf}
 
 -- ---- the tokens of two values
 
@@ -54,7 +60,8 @@ mutual
       let b : more ≡ others = q.0 in
       (cc, q.1)
 
-  more_items_one : (is js : Items) (ts us : List Token) → more_items_then is ts ≡ more_items_then js us → (is ≡ js) × (ts ≡ us)
+  more_items_one : (is js : Items) (ts us : List Token) → more_items_then is ts ≡ more_items_then js us → (is ≡ js)
+      × (ts ≡ us)
   more_items_one no_items no_items ts us e = (refl, cc)
   more_items_one no_items (item w more) ts us e = absurd (marks_differ 93 44 _ _ (λ h. omega arith) e)
   more_items_one (item v more) no_items ts us e = absurd (marks_differ 44 93 _ _ (λ h. omega arith) e)
@@ -79,7 +86,8 @@ mutual
       let b : more ≡ others = q.0 in
       (cc, q.1)
 
-  more_members_one : (ms ns : Members) (ts us : List Token) → more_members_then ms ts ≡ more_members_then ns us → (ms ≡ ns) × (ts ≡ us)
+  more_members_one : (ms ns : Members) (ts us : List Token) → more_members_then ms ts ≡ more_members_then ns us
+      → (ms ≡ ns) × (ts ≡ us)
   more_members_one no_members no_members ts us e = (refl, cc)
   more_members_one no_members (member l w more) ts us e = absurd (marks_differ 125 44 _ _ (λ h. omega arith) e)
   more_members_one (member k v more) no_members ts us e = absurd (marks_differ 44 125 _ _ (λ h. omega arith) e)
@@ -122,7 +130,8 @@ bytes_of l = encode_utf8 (hex_of l)
 
 abbrev pair_of : List ℕ → List ℕ
 pair_of l =
-    encode_utf8 (0x10000 + (hex (get_or l 0 0) (get_or l 1 0) (get_or l 2 0) (get_or l 3 0) - 0xd800) * 1024 + (hex (get_or l 4 0) (get_or l 5 0) (get_or l 6 0) (get_or l 7 0) - 0xdc00))
+    encode_utf8 (0x10000 + (hex (get_or l 0 0) (get_or l 1 0) (get_or l 2 0) (get_or l 3 0) - 0xd800) * 1024
+    + (hex (get_or l 4 0) (get_or l 5 0) (get_or l 6 0) (get_or l 7 0) - 0xdc00))
 
 abbrev short_byte : ℕ → ℕ
 short_byte x = get_or (part_value (short x)) 0 0
@@ -130,7 +139,8 @@ short_byte x = get_or (part_value (short x)) 0 0
 letter_u : (l : ℕ) (xs ys : List ℕ) → IsStringPart (short l) → 92 ∷ l ∷ xs ≡ 92 ∷ 117 ∷ ys → ⊥
 letter_u l xs ys r e = let h : l ≡ 117 = cc in r (ap short_byte h)
 
-piece_one : (p q : StringPart) (x y : List ℕ) → IsStringPart p → IsStringPart q → part_text p x ≡ part_text q y → (part_value p ≡ part_value q) × (x ≡ y)
+piece_one : (p q : StringPart) (x y : List ℕ) → IsStringPart p → IsStringPart q → part_text p x ≡ part_text q y
+    → (part_value p ≡ part_value q) × (x ≡ y)
 piece_one (plain b) (plain c) x y r s e = let h : b ≡ c = cc in (ap (λ n. n ∷ []) h, cc)
 piece_one (plain b) (short l) x y r s e = let h : b ≡ 92 = cc in absurd (r.2 h)
 piece_one (plain b) (unit k l m n) x y r s e = let h : b ≡ 92 = cc in absurd (r.2 h)
@@ -163,7 +173,8 @@ no_quote (short l) x y r e = heads_differ 92 34 _ _ (λ h. omega arith) e
 no_quote (unit a b c d) x y r e = heads_differ 92 34 _ _ (λ h. omega arith) e
 no_quote (pair a b c d i j o z) x y r e = heads_differ 92 34 _ _ (λ h. omega arith) e
 
-pieces_one : (ps qs : List StringPart) (x y : List ℕ) → AreStringParts ps → AreStringParts qs → all_written ps (34 ∷ x) ≡ all_written qs (34 ∷ y) → (all_meant ps ≡ all_meant qs) × (x ≡ y)
+pieces_one : (ps qs : List StringPart) (x y : List ℕ) → AreStringParts ps → AreStringParts qs → all_written ps (34 ∷ x)
+    ≡ all_written qs (34 ∷ y) → (all_meant ps ≡ all_meant qs) × (x ≡ y)
 pieces_one [] [] x y r s e = (refl, cc)
 pieces_one [] (q ∷ qs) x y r s e = absurd (no_quote q _ _ s.0 (sym e))
 pieces_one (p ∷ ps) [] x y r s e = absurd (no_quote p _ _ r.0 e)
@@ -180,7 +191,8 @@ string_one s t bytes x y f g =
 
 -- ---- numbers
 
-digits_one : (ds es x y : List ℕ) → AreDigits ds → AreDigits es → NoDigitNext x → NoDigitNext y → ds ++ x ≡ es ++ y → (ds ≡ es) × (x ≡ y)
+digits_one : (ds es x y : List ℕ) → AreDigits ds → AreDigits es → NoDigitNext x → NoDigitNext y → ds ++ x ≡ es ++ y
+    → (ds ≡ es) × (x ≡ y)
 digits_one [] [] x y r s f g e = (refl, e)
 digits_one [] (d ∷ es) x y r s f g e = absurd (digit_next d (es ++ y) s.0 (subst NoDigitNext e f))
 digits_one (d ∷ ds) [] x y r s f g e = absurd (digit_next d (ds ++ x) r.0 (subst NoDigitNext (sym e) g))
@@ -192,7 +204,8 @@ digits_one (c ∷ ds) (d ∷ es) x y r s f g e =
 
 number_one : (m n : ℕ) (bytes x y : List ℕ) → IsNumber m bytes x → IsNumber n bytes y → (m ≡ n) × (x ≡ y)
 number_one m n bytes x y f g =
-    let p = digits_one (f.first ∷ f.others) (g.first ∷ g.others) x y f.digits g.digits f.ends g.ends (sym f.spelled ∙ g.spelled) in
+    let p = digits_one (f.first ∷ f.others) (g.first ∷ g.others) x y f.digits g.digits f.ends g.ends
+    (sym f.spelled ∙ g.spelled) in
     (sym f.value ∙ (ap (value_after 0) p.0 ∙ g.value), p.1)
 
 -- ---- one token
@@ -214,12 +227,16 @@ mark_no_digit x d m r e = elim (mark_place x m) [ inl h ↦ omega arith | inr h 
 begins_one : (t u : Token) (bytes x y : List ℕ) → Begins t bytes x → Begins u bytes y → (t ≡ u) × (x ≡ y)
 begins_one (structural a) (structural b) bytes x y f g = let e : a ∷ x ≡ b ∷ y = sym f.1 ∙ g.1 in (cc, cc)
 begins_one (structural a) (text t) bytes x y f g = absurd (mark_no_quote a f.0 (heads _ _ _ _ (sym f.1 ∙ g.spelled)))
-begins_one (structural a) (whole n) bytes x y f g = absurd (mark_no_digit a g.first f.0 g.digits.0 (heads _ _ _ _ (sym f.1 ∙ g.spelled)))
+begins_one (structural a) (whole n) bytes x y f g = absurd
+    (mark_no_digit a g.first f.0 g.digits.0 (heads _ _ _ _ (sym f.1 ∙ g.spelled)))
 begins_one (text s) (structural b) bytes x y f g = absurd (mark_no_quote b g.0 (heads _ _ _ _ (sym g.1 ∙ f.spelled)))
 begins_one (text s) (text t) bytes x y f g = let p = string_one s t bytes x y f g in (ap text p.0, p.1)
-begins_one (text s) (whole n) bytes x y f g = let h : 34 ≡ g.first = heads _ _ _ _ (sym f.spelled ∙ g.spelled) in let d : 48 ≤ g.first = g.digits.0.0 in let no : ⊥ = omega arith in absurd no
-begins_one (whole m) (structural b) bytes x y f g = absurd (mark_no_digit b f.first g.0 f.digits.0 (heads _ _ _ _ (sym g.1 ∙ f.spelled)))
-begins_one (whole m) (text t) bytes x y f g = let h : 34 ≡ f.first = heads _ _ _ _ (sym g.spelled ∙ f.spelled) in let d : 48 ≤ f.first = f.digits.0.0 in let no : ⊥ = omega arith in absurd no
+begins_one (text s) (whole n) bytes x y f g = let h : 34 ≡ g.first = heads _ _ _ _ (sym f.spelled ∙ g.spelled) in
+    let d : 48 ≤ g.first = g.digits.0.0 in let no : ⊥ = omega arith in absurd no
+begins_one (whole m) (structural b) bytes x y f g = absurd
+    (mark_no_digit b f.first g.0 f.digits.0 (heads _ _ _ _ (sym g.1 ∙ f.spelled)))
+begins_one (whole m) (text t) bytes x y f g = let h : 34 ≡ f.first = heads _ _ _ _ (sym g.spelled ∙ f.spelled) in
+    let d : 48 ≤ f.first = f.digits.0.0 in let no : ⊥ = omega arith in absurd no
 begins_one (whole m) (whole n) bytes x y f g = let p = number_one m n bytes x y f g in (ap whole p.0, p.1)
 
 -- ---- white space
@@ -230,7 +247,8 @@ Solid [] = ⊥
 Solid (c ∷ cs) = 32 < c
 
 begins_solid : (t : Token) (bytes x : List ℕ) → Begins t bytes x → Solid bytes
-begins_solid (structural a) bytes x f = subst Solid (sym f.1) (elim (mark_place a f.0) [ inl h ↦ omega arith | inr h ↦ omega arith ])
+begins_solid (structural a) bytes x f = subst Solid (sym f.1)
+    (elim (mark_place a f.0) [ inl h ↦ omega arith | inr h ↦ omega arith ])
 begins_solid (text s) bytes x f = subst Solid (sym f.spelled) (omega arith)
 begins_solid (whole n) bytes x f = let d : 48 ≤ f.first = f.digits.0.0 in subst Solid (sym f.spelled) (omega arith)
 
@@ -257,14 +275,17 @@ all_blank (d ∷ a) (c ∷ bytes) x r e s = all_blank a bytes x r.1 (tails _ _ _
 
 next_one : (t u : Token) (bytes x y : List ℕ) → Next t bytes x → Next u bytes y → (t ≡ u) × (x ≡ y)
 next_one t u bytes x y f g =
-    let e = space_one f.space g.space f.after g.after f.blank g.blank (begins_solid t f.after x f.begins) (begins_solid u g.after y g.begins) (sym f.spaced ∙ g.spaced) in
+    let e = space_one f.space g.space f.after g.after f.blank g.blank (begins_solid t f.after x f.begins)
+    (begins_solid u g.after y g.begins) (sym f.spaced ∙ g.spaced) in
     begins_one t u g.after x y (subst (λ l. Begins t l x) e f.begins) g.begins
 
 -- bytes are at most one list of tokens
 tokens_one : (ts us : List Token) (bytes : List ℕ) → AreTokens ts bytes → AreTokens us bytes → ts ≡ us
 tokens_one [] [] bytes f g = refl
-tokens_one [] (u ∷ us) bytes f g = absurd (all_blank g.1.space bytes g.1.after f g.1.spaced (begins_solid u g.1.after g.0 g.1.begins))
-tokens_one (t ∷ ts) [] bytes f g = absurd (all_blank f.1.space bytes f.1.after g f.1.spaced (begins_solid t f.1.after f.0 f.1.begins))
+tokens_one [] (u ∷ us) bytes f g = absurd (all_blank g.1.space bytes g.1.after f g.1.spaced
+    (begins_solid u g.1.after g.0 g.1.begins))
+tokens_one (t ∷ ts) [] bytes f g = absurd (all_blank f.1.space bytes f.1.after g f.1.spaced
+    (begins_solid t f.1.after f.0 f.1.begins))
 tokens_one (t ∷ ts) (u ∷ us) bytes f g =
     let p = next_one t u bytes f.0 g.0 f.1 g.1 in
     let head : t ≡ u = p.0 in

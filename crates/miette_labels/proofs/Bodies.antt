@@ -17,7 +17,9 @@ later_none (f ∷ fails) h = h.1
 pub some_none : (fails : List Bool) (groups : List Span) → NoneFails fails → some_fails fails groups ≡ false
 some_none fails [] h = refl
 some_none fails (group ∷ groups) h =
-    let next : next_answer fails ≡ false = next_none fails h in rw next (some_none (drop 1 fails) groups (later_none fails h))
+    let next : next_answer fails ≡ false = next_none fails h in
+    rw next (some_none (drop 1 fails) groups (later_none fails h))
 
 pub accepted_is : (source : List ℕ) (span : Span) → IsAccepted source span → is_accepted source span ≡ true
-accepted_is source span h = and_from _ _ (le-leb span.offset (length source) h.begins) (le-leb (span.offset + span.len) (length source + 1) h.ends)
+accepted_is source span h = and_from _ _ (le-leb span.offset (length source) h.begins)
+    (le-leb (span.offset + span.len) (length source + 1) h.ends)

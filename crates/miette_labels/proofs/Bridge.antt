@@ -1,5 +1,6 @@
 -- The first line of a text and those after it.
-use Rattle.std.proofs.Common.{ℕ, zero, suc, ◌+◌, ◌≤◌, ◌≡◌, Bool, true, false, cond, eqb, List, [], ◌∷◌, length, refl, ap, ◌∙◌, ◌&&◌, ◌||◌, not, arith}
+use Rattle.std.proofs.Common.{ℕ, zero, suc, ◌+◌, ◌≤◌, ◌≡◌, Bool, true, false, cond, eqb, List, [], ◌∷◌, length, refl}
+use Rattle.std.proofs.Common.{ap, ◌∙◌, ◌&&◌, ◌||◌, not, arith}
 use Rattle.std.specs.Prelude.{slice_index, slice_get}
 use Rattle.std.specs.Option.{option_map_or}
 use Rattle.std.proofs.lemmas.Bool.{ne_eqb}
@@ -12,7 +13,8 @@ pub text_step : (byte at : ℕ) (ls : List Line) → eqb byte 13 ≡ false → w
 text_step byte at [] h = refl
 text_step byte at (l ∷ ls) h = rw h refl
 
-pub cr_step : (byte at : ℕ) (l : Line) (ls : List Line) → eqb byte 13 ≡ true → with_byte byte at (l ∷ ls) ≡ with_cr at (l ∷ ls)
+pub cr_step : (byte at : ℕ) (l : Line) (ls : List Line) → eqb byte 13 ≡ true → with_byte byte at (l ∷ ls)
+    ≡ with_cr at (l ∷ ls)
 cr_step byte at l ls h = rw h refl
 
 abbrev pub own : ℕ → Line
@@ -43,8 +45,10 @@ pub lines_same : (at : ℕ) (bytes : List ℕ) → P.lines_from at bytes ≡ lin
 unfolding ends_line
 lines_same at [] = refl
 lines_same at (byte ∷ bytes) =
-    ap (λ ls. cond (eqb byte 10 || (eqb byte 13 && not (eqb (slice_index bytes 0) 10))) (own at ∷ ls) (with_byte byte at ls)) (lines_same (at + 1) bytes)
-    ∙ ap (λ b. cond (eqb byte 10 || (eqb byte 13 && not b)) (own at ∷ lines_from (at + 1) bytes) (with_byte byte at (lines_from (at + 1) bytes))) (next_lf bytes)
+    ap (λ ls. cond (eqb byte 10 || (eqb byte 13 && not (eqb (slice_index bytes 0) 10))) (own at ∷ ls)
+    (with_byte byte at ls)) (lines_same (at + 1) bytes)
+    ∙ ap (λ b. cond (eqb byte 10 || (eqb byte 13 && not b)) (own at ∷ lines_from (at + 1) bytes)
+    (with_byte byte at (lines_from (at + 1) bytes))) (next_lf bytes)
     ∙ step byte at (lines_from (at + 1) bytes) (begins_with_lf bytes) (pair_lines byte at bytes)
 
 pub got_end : (n k : ℕ) (ls : List Line) → option_map_or (λ l. l.end) (slice_get ls k) n ≡ end_of n ls k
@@ -54,7 +58,8 @@ got_end n (suc k) (l ∷ ls) = got_end n k ls
 
 pub end_same : (bytes : List ℕ) (k : ℕ) → P.line_end bytes k ≡ end_of (length bytes) (lines bytes) k
 unfolding P.line_end
-end_same bytes k = ap (λ ls. option_map_or (λ l. l.end) (slice_get ls k) (length bytes)) (lines_same 0 bytes) ∙ got_end (length bytes) k (lines bytes)
+end_same bytes k = ap (λ ls. option_map_or (λ l. l.end) (slice_get ls k) (length bytes)) (lines_same 0 bytes)
+    ∙ got_end (length bytes) k (lines bytes)
 
 pub some-context : (c : ℕ) → 1 ≤ c → eqb c 0 ≡ false
 some-context c one = ne_eqb c 0 (λ e. omega (arith, e, one))

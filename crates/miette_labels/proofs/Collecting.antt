@@ -1,5 +1,7 @@
 -- Stretches of labels that were read: collected, by where they begin, joined, and read again.
-use Rattle.std.proofs.Common.{ℕ, zero, suc, ◌+◌, ◌-◌, ◌<◌, ◌≤◌, ◌≡◌, ◌≢◌, max, Bool, true, false, cond, leb, List, [], ◌∷◌, ◌++◌, ◌&&◌, length, map, take, drop, get_or, Option, Some, None, refl, sym, ap, ap₂, ◌∙◌, subst, arith, All}
+use Rattle.std.proofs.Common.{ℕ, zero, suc, ◌+◌, ◌-◌, ◌<◌, ◌≤◌, ◌≡◌, ◌≢◌, max, Bool, true, false, cond, leb, List, []}
+use Rattle.std.proofs.Common.{◌∷◌, ◌++◌, ◌&&◌, length, map, take, drop, get_or, Option, Some, None, refl, sym, ap, ap₂}
+use Rattle.std.proofs.Common.{◌∙◌, subst, arith, All}
 use Rattle.std.specs.Prelude.{is_some, unwrap_or, slice_get, MatchOption}
 use Rattle.std.specs.Option.{option_map, option_map_or}
 use Rattle.std.specs.List.{AllByRecursion}
@@ -18,7 +20,9 @@ use Rattle.miette_labels.specs.declared.reading.ReadLabel.{ReadLabel}
 use Rattle.miette_labels.specs.rules.Around.{has_own, lines_around}
 use Rattle.miette_labels.specs.rules.Contexts.{contents, end_of_span}
 use Rattle.miette_labels.specs.views.GivenLabels.{label_at}
-use Rattle.miette_labels.specs.rules.Groups.{in_order, spans_of, joined_span, stretch, put_span, by_begin, stretches_from, joined_stretches, own_groups, groups_answered, groups_of, some_fails}
+use Rattle.miette_labels.specs.rules.Groups.{in_order, spans_of, joined_span, stretch, put_span, by_begin}
+use Rattle.miette_labels.specs.rules.Groups.{stretches_from, joined_stretches, own_groups, groups_answered, groups_of}
+use Rattle.miette_labels.specs.rules.Groups.{some_fails}
 use Rattle.miette_labels.specs.views.Reads.{IsRead, IsLent, AreGroups, AreGrouped}
 use Rattle.miette_labels.proofs.Sources.{IsCut, lines}
 use Rattle.miette_basics.proofs.Cases.{by_cases}
@@ -35,7 +39,8 @@ use Rattle.miette_labels.specs.steps.Reads.{AreJoined}
 -- ---- whether some label has its own number
 
 -- none has
-pub own_nowhere : (labels : List Label) (i : ℕ) → length labels ≤ i → has_own (drop i labels) ≡ has_own labels → false ≡ has_own labels
+pub own_nowhere : (labels : List Label) (i : ℕ) → length labels ≤ i → has_own (drop i labels) ≡ has_own labels → false
+    ≡ has_own labels
 own_nowhere labels i le h = sym (ap has_own (drop_all i labels le)) ∙ h
 
 -- ---- stretches
@@ -53,7 +58,8 @@ sorted_same : (spans : List Span) → sorted (λ s. s.offset) spans ≡ by_begin
 sorted_same [] = refl
 sorted_same (span ∷ spans) = put_same span (sorted (λ s. s.offset) spans) ∙ ap (put_span span) (sorted_same spans)
 
-pub sort_begins : (xs ys : List Span) → IsNonDecreasingBy (λ s. s.offset) ys → IsStableByKey (λ s. s.offset) nat_cmp xs ys → ys ≡ by_begin xs
+pub sort_begins : (xs ys : List Span) → IsNonDecreasingBy (λ s. s.offset) ys
+    → IsStableByKey (λ s. s.offset) nat_cmp xs ys → ys ≡ by_begin xs
 sort_begins xs ys up stable = sort_is (λ s. s.offset) xs ys up stable ∙ sorted_same xs
 
 -- ---- read again
@@ -62,51 +68,67 @@ pub record AreReadTo (source : Source) (spans : List Span) (i : ℕ) (groups : L
   pub are : map (λ group. group.span) groups ≡ take i spans
   pub lent : All (λ group. IsLent 0 source group.span group.contents) groups
 
-pub read_more : (source : Source) (spans : List Span) (i : ℕ) (groups more : List Group) (span : Span) (lent : Contents) → AreReadTo source spans i groups → i < length spans → span ≡ get_or spans i span → IsAccepted source.bytes span →
-    lent ≡ contents 0 source span → more ≡ groups ++ record { span = span; contents = lent } ∷ [] → AreReadTo source spans (i + 1) more
+pub read_more : (source : Source) (spans : List Span) (i : ℕ) (groups more : List Group) (span : Span) (lent : Contents)
+    → AreReadTo source spans i groups → i < length spans → span ≡ get_or spans i span → IsAccepted source.bytes span →
+    lent ≡ contents 0 source span → more ≡ groups ++ record { span = span; contents = lent } ∷ []
+    → AreReadTo source spans (i + 1) more
 read_more source spans i groups more span lent h lt is accepted e m =
     let own : Group = record { span = span; contents = lent } in
     subst (λ (gs : List Group). AreReadTo source spans (i + 1) gs) (sym m)
     (record {
-      are = map-append (λ (g : Group). g.span) groups (own ∷ []) ∙ ap₂ (λ xs x. xs ++ x ∷ []) h.are is ∙ sym (take_more spans i span lt);
-      lent = All-push (λ (g : Group). IsLent 0 source g.span g.contents) groups own h.lent (record { accepted = accepted; is = e });
+      are = map-append (λ (g : Group). g.span) groups (own ∷ []) ∙ ap₂ (λ xs x. xs ++ x ∷ []) h.are is
+          ∙ sym (take_more spans i span lt);
+      lent = All-push (λ (g : Group). IsLent 0 source g.span g.contents) groups own h.lent
+          (record { accepted = accepted; is = e });
     })
 
 -- ---- the spans of groups are accepted
 
-put_accepted : (bytes : List ℕ) (span : Span) (spans : List Span) → IsAccepted bytes span → AllByRecursion (IsAccepted bytes) spans → AllByRecursion (IsAccepted bytes) (put_span span spans)
+put_accepted : (bytes : List ℕ) (span : Span) (spans : List Span) → IsAccepted bytes span
+    → AllByRecursion (IsAccepted bytes) spans → AllByRecursion (IsAccepted bytes) (put_span span spans)
 put_accepted bytes span [] own h = (own, tt)
 put_accepted bytes span (next ∷ spans) own h =
     by_cases {C = AllByRecursion (IsAccepted bytes) (put_span span (next ∷ spans))} (leb span.offset next.offset)
     (λ t. rw t (own, h)) (λ f. rw f (h.0, put_accepted bytes span spans own h.1))
 
-begin_accepted : (bytes : List ℕ) (spans : List Span) → AllByRecursion (IsAccepted bytes) spans → AllByRecursion (IsAccepted bytes) (by_begin spans)
+begin_accepted : (bytes : List ℕ) (spans : List Span) → AllByRecursion (IsAccepted bytes) spans
+    → AllByRecursion (IsAccepted bytes) (by_begin spans)
 begin_accepted bytes [] h = tt
 begin_accepted bytes (span ∷ spans) h = put_accepted bytes span (by_begin spans) h.0 (begin_accepted bytes spans h.1)
 
-from_accepted : (bytes : List ℕ) (before : Span) (spans : List Span) → IsAccepted bytes before → AllByRecursion (IsAccepted bytes) spans → AllByRecursion (IsAccepted bytes) (stretches_from before spans)
+from_accepted : (bytes : List ℕ) (before : Span) (spans : List Span) → IsAccepted bytes before
+    → AllByRecursion (IsAccepted bytes) spans → AllByRecursion (IsAccepted bytes) (stretches_from before spans)
 from_accepted bytes before [] own h = (own, tt)
 from_accepted bytes before (span ∷ spans) own h =
-    by_cases {C = AllByRecursion (IsAccepted bytes) (stretches_from before (span ∷ spans))} (leb span.offset (end_of_span before))
-    (λ t. rw t (from_accepted bytes (joined_span before span) spans (joined_accepted bytes before span own h.0) h.1)) (λ f. rw f (own, from_accepted bytes span spans h.0 h.1))
+    by_cases {C = AllByRecursion (IsAccepted bytes) (stretches_from before (span ∷ spans))}
+    (leb span.offset (end_of_span before))
+    (λ t. rw t (from_accepted bytes (joined_span before span) spans (joined_accepted bytes before span own h.0) h.1))
+    (λ f. rw f (own, from_accepted bytes span spans h.0 h.1))
 
-stretches_accepted : (bytes : List ℕ) (spans : List Span) → AllByRecursion (IsAccepted bytes) spans → AllByRecursion (IsAccepted bytes) (joined_stretches spans)
+stretches_accepted : (bytes : List ℕ) (spans : List Span) → AllByRecursion (IsAccepted bytes) spans
+    → AllByRecursion (IsAccepted bytes) (joined_stretches spans)
 stretches_accepted bytes [] h = tt
 stretches_accepted bytes (span ∷ spans) h = from_accepted bytes span spans h.0 h.1
 
-read_accepted : (bytes : List ℕ) (reads : List ReadLabel) → All (λ read. IsAccepted bytes read.contents.span) reads → AllByRecursion (IsAccepted bytes) (stretches_read reads)
+read_accepted : (bytes : List ℕ) (reads : List ReadLabel) → All (λ read. IsAccepted bytes read.contents.span) reads
+    → AllByRecursion (IsAccepted bytes) (stretches_read reads)
 read_accepted bytes [] h = tt
 read_accepted bytes (r ∷ rs) h = (h 0 r (omega arith), read_accepted bytes rs (λ k d lt. h (suc k) d (omega arith)))
 
-each_at : {X : Type 0} (P : X → Type 0) (xs : List X) → AllByRecursion P xs → (k : ℕ) (d : X) → k < length xs → P (get_or xs k d)
+each_at : {X : Type 0} (P : X → Type 0) (xs : List X) → AllByRecursion P xs → (k : ℕ) (d : X) → k < length xs
+    → P (get_or xs k d)
 each_at P [] h k d lt = absurd (omega (arith, lt))
 each_at P (x ∷ xs) h zero d lt = h.0
 each_at P (x ∷ xs) h (suc k) d lt = each_at P xs h.1 k d (omega (arith, lt))
 
-pub groups_accepted : (bytes : List ℕ) (reads : List ReadLabel) (spans : List Span) → All (λ read. IsAccepted bytes read.contents.span) reads → spans ≡ joined_stretches (by_begin (stretches_read reads)) → All (IsAccepted bytes) spans
+pub groups_accepted : (bytes : List ℕ) (reads : List ReadLabel) (spans : List Span)
+    → All (λ read. IsAccepted bytes read.contents.span) reads → spans
+    ≡ joined_stretches (by_begin (stretches_read reads)) → All (IsAccepted bytes) spans
 groups_accepted bytes reads spans h e =
     subst (λ (ss : List Span). All (IsAccepted bytes) ss) (sym e)
-    (each_at (IsAccepted bytes) (joined_stretches (by_begin (stretches_read reads))) (stretches_accepted bytes (by_begin (stretches_read reads)) (begin_accepted bytes (stretches_read reads) (read_accepted bytes reads h))))
+    (each_at (IsAccepted bytes) (joined_stretches (by_begin (stretches_read reads)))
+    (stretches_accepted bytes (by_begin (stretches_read reads))
+    (begin_accepted bytes (stretches_read reads) (read_accepted bytes reads h))))
 
 -- the data of a read lie in the source
 start_bound : (at n k : ℕ) (ls : List Line) → IsCut at n ls → option_map_or (λ l. l.start) (slice_get ls k) n ≤ n
@@ -123,40 +145,52 @@ end_inside bytes k = omega (arith, end_same bytes k, end-in 0 (length bytes) k (
 
 from_in : (c : ℕ) (bytes : List ℕ) (span : Span) → IsAccepted bytes span → R.data_start bytes span c ≤ length bytes
 from_in zero bytes span h = h.begins
-from_in (suc c) bytes span h = rw (some-context (suc c) (omega arith)) (start_in bytes (P.line_of bytes span.offset - suc c))
+from_in (suc c) bytes span h = rw (some-context (suc c) (omega arith))
+    (start_in bytes (P.line_of bytes span.offset - suc c))
 
 to_in : (c : ℕ) (bytes : List ℕ) (span : Span) → R.data_end bytes span c ≤ length bytes
 to_in zero bytes span = omega arith
-to_in (suc c) bytes span = rw (some-context (suc c) (omega arith)) (end_inside bytes (P.line_of bytes (R.reading_end bytes span) + suc c))
+to_in (suc c) bytes span = rw (some-context (suc c) (omega arith))
+    (end_inside bytes (P.line_of bytes (R.reading_end bytes span) + suc c))
 
-lent_accepted : (c : ℕ) (source : Source) (span : Span) → IsAccepted source.bytes span → IsAccepted source.bytes (contents c source span).span
+lent_accepted : (c : ℕ) (source : Source) (span : Span) → IsAccepted source.bytes span
+    → IsAccepted source.bytes (contents c source span).span
 lent_accepted c source span h = record {
   begins = from_in c source.bytes span h;
   ends = omega (arith, from_in c source.bytes span h, to_in c source.bytes span);
 }
 
-pub reads_accepted : (context : ℕ) (source : Source) (labels : List Label) (reads : List ReadLabel) → All (IsRead context source labels) reads → All (λ read. IsAccepted source.bytes read.contents.span) reads
+pub reads_accepted : (context : ℕ) (source : Source) (labels : List Label) (reads : List ReadLabel)
+    → All (IsRead context source labels) reads → All (λ read. IsAccepted source.bytes read.contents.span) reads
 reads_accepted context source labels reads h = λ k d lt.
     let r : ReadLabel = get_or reads k d in
     let own : IsRead context source labels r = h k d lt in
     let l : Label = label_at labels r.index in
     subst (λ (c : Contents). IsAccepted source.bytes c.span) (sym own.contents_are)
-    (lent_accepted (lines_around context labels l) source l.span (subst (λ (s : Span). IsAccepted source.bytes s) own.span own.accepted))
+    (lent_accepted (lines_around context labels l) source l.span
+    (subst (λ (s : Span). IsAccepted source.bytes s) own.span own.accepted))
 
 -- ---- groups of labels
 
-reads_stretched : (context : ℕ) (source : Source) (labels : List Label) (reads : List ReadLabel) → All (IsRead context source labels) reads → stretches_read reads ≡ map (stretch context source labels) (map (read_of labels) reads)
+reads_stretched : (context : ℕ) (source : Source) (labels : List Label) (reads : List ReadLabel)
+    → All (IsRead context source labels) reads → stretches_read reads
+    ≡ map (stretch context source labels) (map (read_of labels) reads)
 reads_stretched context source labels [] h = refl
 reads_stretched context source labels (r ∷ rs) h =
     let own : IsRead context source labels r = h 0 r (omega arith) in
-    ap₂ (λ x xs. x ∷ xs) (ap (λ (c : Contents). c.span) own.contents_are) (reads_stretched context source labels rs (All-tail (IsRead context source labels) r rs h))
+    ap₂ (λ x xs. x ∷ xs) (ap (λ (c : Contents). c.span) own.contents_are)
+    (reads_stretched context source labels rs (All-tail (IsRead context source labels) r rs h))
 
 -- as the definition takes them
-pub stretched : (context : ℕ) (source : Source) (labels : List Label) (reads : List ReadLabel) → map (read_of labels) reads ≡ in_order labels → All (IsRead context source labels) reads →
+pub stretched : (context : ℕ) (source : Source) (labels : List Label) (reads : List ReadLabel)
+    → map (read_of labels) reads ≡ in_order labels → All (IsRead context source labels) reads →
     joined_stretches (by_begin (stretches_read reads)) ≡ own_groups context source (in_order labels)
 stretched context source labels reads order h =
-    ap (λ ss. joined_stretches (by_begin ss)) (reads_stretched context source labels reads h ∙ ap (map (stretch context source labels)) order)
-    ∙ ap (λ own. joined_stretches (by_begin (map (λ l. (contents (unwrap_or l.context (cond own (max 1 context) context)) source l.span).span) (in_order labels)))) (sym (own_ordered labels))
+    ap (λ ss. joined_stretches (by_begin ss)) (reads_stretched context source labels reads h
+    ∙ ap (map (stretch context source labels)) order)
+    ∙ ap (λ own. joined_stretches (by_begin (map (λ l. (contents
+    (unwrap_or l.context (cond own (max 1 context) context)) source l.span).span) (in_order labels))))
+    (sym (own_ordered labels))
 
 some_first : (spans : List Span) → spans ≢ [] → some_fails (true ∷ []) spans ≡ true
 some_first [] h = absurd (h refl)
@@ -164,11 +198,16 @@ some_first (span ∷ spans) h = refl
 
 -- what `own_groups` says
 abbrev pub AreOwn : {V : Type 0} → (V → List Group) → Source → List Span → Option V → Type 0
-AreOwn items source spans r = MatchOption r ((source.always_reads ≡ false) × (spans ≢ [])) (λ v. (map (λ group. group.span) (items v) ≡ spans) × All (λ group. IsLent 0 source group.span group.contents) (items v))
+AreOwn items source spans r = MatchOption r ((source.always_reads ≡ false) × (spans ≢ []))
+    (λ v. (map (λ group. group.span) (items v) ≡ spans) × All (λ group. IsLent 0 source group.span group.contents)
+    (items v))
 
-own_grouped : {V : Type 0} (items : V → List Group) (context : ℕ) (source : Source) (ls : List Label) (r : Option V) → has_own ls ≡ true → AreOwn items source (own_groups context source ls) r → AreGrouped context source ls (option_map items r)
+own_grouped : {V : Type 0} (items : V → List Group) (context : ℕ) (source : Source) (ls : List Label) (r : Option V)
+    → has_own ls ≡ true → AreOwn items source (own_groups context source ls) r
+    → AreGrouped context source ls (option_map items r)
 own_grouped items context source ls None own h =
-    let groups : groups_of context source (true ∷ []) ls ≡ own_groups context source ls = ap (λ b. cond b (own_groups context source ls) (groups_answered context source (true ∷ []) (spans_of ls))) own in
+    let groups : groups_of context source (true ∷ []) ls ≡ own_groups context source ls =
+    ap (λ b. cond b (own_groups context source ls) (groups_answered context source (true ∷ []) (spans_of ls))) own in
     record {
       fails = true ∷ [];
       always = h.0;
@@ -177,25 +216,32 @@ own_grouped items context source ls None own h =
 own_grouped items context source ls (Some v) own h = record {
   fails = [];
   always = λ a. tt;
-  are = h.0 ∙ sym (ap (λ b. cond b (own_groups context source ls) (groups_answered context source [] (spans_of ls))) own);
+  are = h.0 ∙ sym (ap (λ b. cond b (own_groups context source ls) (groups_answered context source [] (spans_of ls)))
+      own);
   read = none_unread context source [] ls tt;
-  lent = subst (λ (c : ℕ). All (λ group. IsLent c source group.span group.contents) (items v)) (sym (ap (λ b. cond b 0 context) own)) h.1;
+  lent = subst (λ (c : ℕ). All (λ group. IsLent c source group.span group.contents) (items v))
+      (sym (ap (λ b. cond b 0 context) own)) h.1;
 }
 
-pub grouped_own : {V : Type 0} (items : V → List Group) (context : ℕ) (source : Source) (labels : List Label) (reads : List ReadLabel) (own : Bool) (r : Option V) → map (read_of labels) reads ≡ in_order labels →
-    All (IsRead context source labels) reads → own ≡ has_own labels → own ≡ true → AreOwn items source (joined_stretches (by_begin (stretches_read reads))) r → AreGrouped context source (in_order labels) (option_map items r)
+pub grouped_own : {V : Type 0} (items : V → List Group) (context : ℕ) (source : Source) (labels : List Label)
+    (reads : List ReadLabel) (own : Bool) (r : Option V) → map (read_of labels) reads ≡ in_order labels →
+    All (IsRead context source labels) reads → own ≡ has_own labels → own ≡ true
+    → AreOwn items source (joined_stretches (by_begin (stretches_read reads))) r
+    → AreGrouped context source (in_order labels) (option_map items r)
 grouped_own items context source labels reads own r order h which t given =
     own_grouped items context source (in_order labels) r (own_ordered labels ∙ sym which ∙ t)
     (subst (λ (ss : List Span). AreOwn items source ss r) (stretched context source labels reads order h) given)
 
 -- ---- where no label has its own number
 
-none_at : (labels : List Label) (i : ℕ) → has_own labels ≡ false → i < length labels → is_some (label_at labels i).context ≡ false
+none_at : (labels : List Label) (i : ℕ) → has_own labels ≡ false → i < length labels
+    → is_some (label_at labels i).context ≡ false
 none_at [] i f lt = absurd (omega (arith, lt))
 none_at (l ∷ ls) zero f lt = (or_parts (is_some l.context) (has_own ls) f).0
 none_at (l ∷ ls) (suc i) f lt = none_at ls i (or_parts (is_some l.context) (has_own ls) f).1 (omega (arith, lt))
 
-pub all_lent : (context : ℕ) (source : Source) (labels : List Label) (reads : List ReadLabel) (own : Bool) → own ≡ has_own labels → own ≡ false → All (IsRead context source labels) reads →
+pub all_lent : (context : ℕ) (source : Source) (labels : List Label) (reads : List ReadLabel) (own : Bool) → own
+    ≡ has_own labels → own ≡ false → All (IsRead context source labels) reads →
     All (λ label. IsLent context source label.span label.contents) reads
 all_lent context source labels reads own which f h = λ k d lt.
     let r : ReadLabel = get_or reads k d in
@@ -204,30 +250,41 @@ all_lent context source labels reads own which f h = λ k d lt.
     let none : has_own labels ≡ false = sym which ∙ f in
     record {
       accepted = mine.accepted;
-      is = mine.contents_are ∙ ap (λ c. contents c source l.span) (none_around context labels l none (none_at labels r.index none mine.inside)) ∙ ap (contents context source) (sym mine.span);
+      is = mine.contents_are ∙ ap (λ c. contents c source l.span)
+          (none_around context labels l none (none_at labels r.index none mine.inside))
+          ∙ ap (contents context source) (sym mine.span);
     }
 
-spans_same : (context : ℕ) (source : Source) (labels : List Label) (reads : List ReadLabel) → All (IsRead context source labels) reads → map (λ r. r.span) reads ≡ spans_of (map (read_of labels) reads)
+spans_same : (context : ℕ) (source : Source) (labels : List Label) (reads : List ReadLabel)
+    → All (IsRead context source labels) reads → map (λ r. r.span) reads ≡ spans_of (map (read_of labels) reads)
 spans_same context source labels [] h = refl
 spans_same context source labels (r ∷ rs) h =
     let own : IsRead context source labels r = h 0 r (omega arith) in
     ap₂ (λ x xs. x ∷ xs) own.span (spans_same context source labels rs (All-tail (IsRead context source labels) r rs h))
 
-pub grouped_joined : (context : ℕ) (source : Source) (labels : List Label) (reads : List ReadLabel) (own : Bool) (groups : List Group) → map (read_of labels) reads ≡ in_order labels → All (IsRead context source labels) reads →
-    own ≡ has_own labels → own ≡ false → AreJoined context source (map (λ r. r.span) reads) groups → AreGroups context source (in_order labels) groups
+pub grouped_joined : (context : ℕ) (source : Source) (labels : List Label) (reads : List ReadLabel) (own : Bool)
+    (groups : List Group) → map (read_of labels) reads ≡ in_order labels → All (IsRead context source labels) reads →
+    own ≡ has_own labels → own ≡ false → AreJoined context source (map (λ r. r.span) reads) groups
+    → AreGroups context source (in_order labels) groups
 grouped_joined context source labels reads own groups order h which f g =
     let ls : List Label = in_order labels in
     let none : has_own ls ≡ false = own_ordered labels ∙ sym which ∙ f in
     record {
       fails = g.fails;
       always = g.always;
-      are = g.are ∙ ap (groups_answered context source g.fails) (spans_same context source labels reads h ∙ ap spans_of order)
-          ∙ sym (ap (λ b. cond b (own_groups context source ls) (groups_answered context source g.fails (spans_of ls))) none);
+      are = g.are ∙ ap (groups_answered context source g.fails)
+          (spans_same context source labels reads h ∙ ap spans_of order)
+          ∙ sym (ap (λ b. cond b (own_groups context source ls) (groups_answered context source g.fails (spans_of ls)))
+          none);
       read = ap (λ b. b && some_fails g.fails (groups_of context source g.fails ls)) none;
-      lent = subst (λ (c : ℕ). All (λ group. IsLent c source group.span group.contents) groups) (sym (ap (λ b. cond b 0 context) none)) g.lent;
+      lent = subst (λ (c : ℕ). All (λ group. IsLent c source group.span group.contents) groups)
+          (sym (ap (λ b. cond b 0 context) none)) g.lent;
     }
 
 -- groups that there are
-pub are_grouped : (context : ℕ) (source : Source) (labels : List Label) (r : Option (List Group)) (groups got : List Group) → AreGrouped context source labels r → r ≡ Some groups → got ≡ groups → AreGroups context source labels got
+pub are_grouped : (context : ℕ) (source : Source) (labels : List Label) (r : Option (List Group))
+    (groups got : List Group) → AreGrouped context source labels r → r ≡ Some groups → got ≡ groups
+    → AreGroups context source labels got
 are_grouped context source labels r groups got h is e =
-    subst (λ (gs : List Group). AreGroups context source labels gs) (sym e) (subst (λ (o : Option (List Group)). AreGrouped context source labels o) is h)
+    subst (λ (gs : List Group). AreGroups context source labels gs) (sym e)
+    (subst (λ (o : Option (List Group)). AreGrouped context source labels o) is h)

@@ -1,5 +1,7 @@
 -- Groups so far: what is done, and the group that a next label may join.
-use Rattle.std.proofs.Common.{ℕ, suc, ◌+◌, ◌<◌, ◌≤◌, ◌≡◌, Bool, true, false, cond, List, [], ◌∷◌, ◌++◌, length, map, drop, get_or, Option, Some, None, refl, sym, ap, ◌∙◌, subst, arith, All, append_assoc, append-nil}
+use Rattle.std.proofs.Common.{ℕ, suc, ◌+◌, ◌<◌, ◌≤◌, ◌≡◌, Bool, true, false, cond, List, [], ◌∷◌, ◌++◌, length, map}
+use Rattle.std.proofs.Common.{drop, get_or, Option, Some, None, refl, sym, ap, ◌∙◌, subst, arith, All, append_assoc}
+use Rattle.std.proofs.Common.{append-nil}
 use Rattle.std.specs.Prelude.{MatchOption}
 use Rattle.std.proofs.lemmas.List.{map-append, drop_all, drop_more}
 use Rattle.std.proofs.lemmas.List.Elements.{All-push}
@@ -13,14 +15,17 @@ use Rattle.miette_basics.proofs.Cases.{by_cases}
 use Rattle.miette_labels.specs.steps.Reads.{AreJoined}
 
 -- the groups of what is left, in front of which some are done
-pub record AreGathered (context : ℕ) (source : Source) (spans rest : List Span) (done : List Group) (before : Group) : Type 0 where
+pub record AreGathered (context : ℕ) (source : Source) (spans rest : List Span) (done : List Group)
+    (before : Group) : Type 0 where
   pub fails : List Bool
   pub always : source.always_reads ≡ true → NoneFails fails
-  pub are : (more : List Bool) → groups_answered context source (fails ++ more) spans ≡ map (λ group. group.span) done ++ groups_from context source before.span more rest
+  pub are : (more : List Bool) → groups_answered context source (fails ++ more) spans ≡ map (λ group. group.span) done
+      ++ groups_from context source before.span more rest
   pub lent : All (λ group. IsLent context source group.span group.contents) done
   pub own : IsLent context source before.span before.contents
 
-pub joined_accepted : (bytes : List ℕ) (a b : Span) → IsAccepted bytes a → IsAccepted bytes b → IsAccepted bytes (joined_span a b)
+pub joined_accepted : (bytes : List ℕ) (a b : Span) → IsAccepted bytes a → IsAccepted bytes b
+    → IsAccepted bytes (joined_span a b)
 joined_accepted bytes a b h k = record { begins = h.begins; ends = omega (arith, h.begins, h.ends, k.begins, k.ends) }
 
 none_more : (fails : List Bool) (b : Bool) → b ≡ false → NoneFails fails → NoneFails (fails ++ b ∷ [])
@@ -31,7 +36,8 @@ more_fails : (fails : List Bool) (b : Bool) (more : List Bool) → (fails ++ b �
 more_fails fails b more = append_assoc fails (b ∷ []) more
 
 -- at the first label
-pub gathered_first : (context : ℕ) (source : Source) (span : Span) (rest : List Span) (done : List Group) (before : Group) → done ≡ [] → before.span ≡ span → IsLent context source before.span before.contents →
+pub gathered_first : (context : ℕ) (source : Source) (span : Span) (rest : List Span) (done : List Group)
+    (before : Group) → done ≡ [] → before.span ≡ span → IsLent context source before.span before.contents →
     AreGathered context source (span ∷ rest) rest done before
 gathered_first context source span rest done before none at own =
     subst (λ (d : List Group). AreGathered context source (span ∷ rest) rest d before) (sym none)
@@ -44,8 +50,10 @@ gathered_first context source span rest done before none at own =
     })
 
 -- a label joins
-pub gathered_join : (context : ℕ) (source : Source) (spans : List Span) (span : Span) (rest : List Span) (done : List Group) (before next : Group) →
-    AreGathered context source spans (span ∷ rest) done before → joins_before context source before.span span ≡ true → next.span ≡ joined_span before.span span → IsLent context source next.span next.contents →
+pub gathered_join : (context : ℕ) (source : Source) (spans : List Span) (span : Span) (rest : List Span)
+    (done : List Group) (before next : Group) →
+    AreGathered context source spans (span ∷ rest) done before → joins_before context source before.span span ≡ true
+    → next.span ≡ joined_span before.span span → IsLent context source next.span next.contents →
     AreGathered context source spans rest done next
 gathered_join context source spans span rest done before next h joins at own = record {
   fails = h.fails ++ false ∷ [];
@@ -53,25 +61,33 @@ gathered_join context source spans span rest done before next h joins at own = r
   are = λ more.
       ap (λ f. groups_answered context source f spans) (more_fails h.fails false more)
       ∙ h.are (false ∷ more)
-      ∙ ap (λ b. map (λ group. group.span) done ++ cond b (groups_from context source (joined_span before.span span) more rest) (before.span ∷ groups_from context source span (false ∷ more) rest)) joins
+      ∙ ap (λ b. map (λ group. group.span) done ++ cond b (groups_from context source (joined_span before.span span)
+      more rest) (before.span ∷ groups_from context source span (false ∷ more) rest)) joins
       ∙ ap (λ s. map (λ group. group.span) done ++ groups_from context source s more rest) (sym at);
   lent = h.lent;
   own = own;
 }
 
-pushed : (done : List Group) (before : Group) (tail : List Span) → map (λ group. group.span) done ++ before.span ∷ tail ≡ map (λ group. group.span) (done ++ before ∷ []) ++ tail
-pushed done before tail = sym (ap (λ x. x ++ tail) (map-append (λ group. group.span) done (before ∷ [])) ∙ append_assoc (map (λ group. group.span) done) (before.span ∷ []) tail)
+pushed : (done : List Group) (before : Group) (tail : List Span) → map (λ group. group.span) done ++ before.span ∷ tail
+    ≡ map (λ group. group.span) (done ++ before ∷ []) ++ tail
+pushed done before tail = sym (ap (λ x. x ++ tail) (map-append (λ group. group.span) done (before ∷ []))
+    ∙ append_assoc (map (λ group. group.span) done) (before.span ∷ []) tail)
 
 -- a label begins a group, since it doesn't join
-gathered_apart : (context : ℕ) (source : Source) (spans : List Span) (span : Span) (rest : List Span) (done : List Group) (before next : Group) →
-    AreGathered context source spans (span ∷ rest) done before → joins_before context source before.span span ≡ false → next.span ≡ span → IsLent context source next.span next.contents →
+gathered_apart : (context : ℕ) (source : Source) (spans : List Span) (span : Span) (rest : List Span)
+    (done : List Group) (before next : Group) →
+    AreGathered context source spans (span ∷ rest) done before → joins_before context source before.span span ≡ false
+    → next.span ≡ span → IsLent context source next.span next.contents →
     AreGathered context source spans rest (done ++ before ∷ []) next
 gathered_apart context source spans span rest done before next h apart at own = record {
   fails = h.fails;
   always = h.always;
   are = λ more.
       h.are more
-      ∙ ap (λ b. map (λ group. group.span) done ++ cond b (cond (next_answer more) (before.span ∷ groups_from context source span (drop 1 more) rest) (groups_from context source (joined_span before.span span) (drop 1 more) rest)) (before.span ∷ groups_from context source span more rest)) apart
+      ∙ ap (λ b. map (λ group. group.span) done ++ cond b (cond (next_answer more)
+      (before.span ∷ groups_from context source span (drop 1 more) rest)
+      (groups_from context source (joined_span before.span span) (drop 1 more) rest))
+      (before.span ∷ groups_from context source span more rest)) apart
       ∙ pushed done before (groups_from context source span more rest)
       ∙ ap (λ s. map (λ group. group.span) (done ++ before ∷ []) ++ groups_from context source s more rest) (sym at);
   lent = All-push (λ group. IsLent context source group.span group.contents) done before h.lent h.own;
@@ -79,8 +95,10 @@ gathered_apart context source spans span rest done before next h apart at own = 
 }
 
 -- or since the read of the joined span failed
-gathered_failed : (context : ℕ) (source : Source) (spans : List Span) (span : Span) (rest : List Span) (done : List Group) (before next : Group) →
-    AreGathered context source spans (span ∷ rest) done before → joins_before context source before.span span ≡ true → source.always_reads ≡ false → next.span ≡ span → IsLent context source next.span next.contents →
+gathered_failed : (context : ℕ) (source : Source) (spans : List Span) (span : Span) (rest : List Span)
+    (done : List Group) (before next : Group) →
+    AreGathered context source spans (span ∷ rest) done before → joins_before context source before.span span ≡ true
+    → source.always_reads ≡ false → next.span ≡ span → IsLent context source next.span next.contents →
     AreGathered context source spans rest (done ++ before ∷ []) next
 gathered_failed context source spans span rest done before next h joins failed at own = record {
   fails = h.fails ++ true ∷ [];
@@ -88,30 +106,37 @@ gathered_failed context source spans span rest done before next h joins failed a
   are = λ more.
       ap (λ f. groups_answered context source f spans) (more_fails h.fails true more)
       ∙ h.are (true ∷ more)
-      ∙ ap (λ b. map (λ group. group.span) done ++ cond b (before.span ∷ groups_from context source span more rest) (before.span ∷ groups_from context source span (true ∷ more) rest)) joins
+      ∙ ap (λ b. map (λ group. group.span) done ++ cond b (before.span ∷ groups_from context source span more rest)
+      (before.span ∷ groups_from context source span (true ∷ more) rest)) joins
       ∙ pushed done before (groups_from context source span more rest)
       ∙ ap (λ s. map (λ group. group.span) (done ++ before ∷ []) ++ groups_from context source s more rest) (sym at);
   lent = All-push (λ group. IsLent context source group.span group.contents) done before h.lent h.own;
   own = own;
 }
 
-pub gathered_next : (context : ℕ) (source : Source) (spans : List Span) (span : Span) (rest : List Span) (done more : List Group) (before next : Group) →
-    AreGathered context source spans (span ∷ rest) done before → (joins_before context source before.span span ≡ true → source.always_reads ≡ false) → next.span ≡ span → IsLent context source next.span next.contents →
+pub gathered_next : (context : ℕ) (source : Source) (spans : List Span) (span : Span) (rest : List Span)
+    (done more : List Group) (before next : Group) →
+    AreGathered context source spans (span ∷ rest) done before
+    → (joins_before context source before.span span ≡ true → source.always_reads ≡ false) → next.span ≡ span
+    → IsLent context source next.span next.contents →
     more ≡ done ++ before ∷ [] → AreGathered context source spans rest more next
 gathered_next context source spans span rest done more before next h failed at own e =
     subst (λ (d : List Group). AreGathered context source spans rest d next) (sym e)
-    (by_cases {C = AreGathered context source spans rest (done ++ before ∷ []) next} (joins_before context source before.span span)
+    (by_cases {C = AreGathered context source spans rest (done ++ before ∷ []) next}
+    (joins_before context source before.span span)
     (λ t. gathered_failed context source spans span rest done before next h t (failed t) at own)
     (λ f. gathered_apart context source spans span rest done before next h f at own))
 
-pub gathered_all : (context : ℕ) (source : Source) (spans : List Span) (done more : List Group) (before : Group) → AreGathered context source spans [] done before → more ≡ done ++ before ∷ [] →
+pub gathered_all : (context : ℕ) (source : Source) (spans : List Span) (done more : List Group) (before : Group)
+    → AreGathered context source spans [] done before → more ≡ done ++ before ∷ [] →
     AreJoined context source spans more
 gathered_all context source spans done more before h e =
     subst (λ (d : List Group). AreJoined context source spans d) (sym e)
     (record {
       fails = h.fails;
       always = h.always;
-      are = map-append (λ group. group.span) done (before ∷ []) ∙ sym (h.are []) ∙ ap (λ f. groups_answered context source f spans) (append-nil h.fails);
+      are = map-append (λ group. group.span) done (before ∷ []) ∙ sym (h.are [])
+          ∙ ap (λ f. groups_answered context source f spans) (append-nil h.fails);
       lent = All-push (λ group. IsLent context source group.span group.contents) done before h.lent h.own;
     })
 
@@ -123,74 +148,104 @@ spans_read reads = map (λ label. label.span) reads
 abbrev pub AllLent : ℕ → Source → List ReadLabel → Type 0
 AllLent context source reads = All (λ label. IsLent context source label.span label.contents) reads
 
-pub first_lent : (context : ℕ) (source : Source) (labels rest : List ReadLabel) (first : ReadLabel) → AllLent context source labels → labels ≡ first ∷ rest → IsLent context source first.span first.contents
-first_lent context source labels rest first h e = let k : AllLent context source (first ∷ rest) = subst (λ (xs : List ReadLabel). AllLent context source xs) e h in k 0 first (omega arith)
+pub first_lent : (context : ℕ) (source : Source) (labels rest : List ReadLabel) (first : ReadLabel)
+    → AllLent context source labels → labels ≡ first ∷ rest → IsLent context source first.span first.contents
+first_lent context source labels rest first h e = let k : AllLent context source (first ∷ rest) =
+    subst (λ (xs : List ReadLabel). AllLent context source xs) e h in k 0 first (omega arith)
 
-pub item_lent : (context : ℕ) (source : Source) (labels rest : List ReadLabel) (first item : ReadLabel) (i : ℕ) → AllLent context source labels → labels ≡ first ∷ rest → i < length rest → item ≡ get_or rest i item →
+pub item_lent : (context : ℕ) (source : Source) (labels rest : List ReadLabel) (first item : ReadLabel) (i : ℕ)
+    → AllLent context source labels → labels ≡ first ∷ rest → i < length rest → item ≡ get_or rest i item →
     IsLent context source item.span item.contents
 item_lent context source labels rest first item i h e lt is =
     let k : AllLent context source (first ∷ rest) = subst (λ (xs : List ReadLabel). AllLent context source xs) e h in
     subst (λ (r : ReadLabel). IsLent context source r.span r.contents) (sym is) (k (suc i) item (omega (arith, lt)))
 
-own_lent : (context : ℕ) (source : Source) (label : ReadLabel) (group : Group) → IsLent context source label.span label.contents → group.span ≡ label.span → group.contents ≡ label.contents →
+own_lent : (context : ℕ) (source : Source) (label : ReadLabel) (group : Group)
+    → IsLent context source label.span label.contents → group.span ≡ label.span → group.contents ≡ label.contents →
     IsLent context source group.span group.contents
 own_lent context source label group h at lent = rw (at, lent) h
 
-pub loop_first : (context : ℕ) (source : Source) (labels rest : List ReadLabel) (first : ReadLabel) (done : List Group) (before : Group) → labels ≡ first ∷ rest → AllLent context source labels → done ≡ [] →
-    before.span ≡ first.span → before.contents ≡ first.contents → AreGathered context source (spans_read labels) (spans_read (drop 0 rest)) done before
+pub loop_first : (context : ℕ) (source : Source) (labels rest : List ReadLabel) (first : ReadLabel) (done : List Group)
+    (before : Group) → labels ≡ first ∷ rest → AllLent context source labels → done ≡ [] →
+    before.span ≡ first.span → before.contents ≡ first.contents
+    → AreGathered context source (spans_read labels) (spans_read (drop 0 rest)) done before
 loop_first context source labels rest first done before e h none at lent =
     subst (λ (xs : List ReadLabel). AreGathered context source (spans_read xs) (spans_read rest) done before) (sym e)
     (gathered_first context source first.span (spans_read rest) done before none at
     (own_lent context source first before (first_lent context source labels rest first h e) at lent))
 
-own_step : (context : ℕ) (source : Source) (labels rest : List ReadLabel) (item : ReadLabel) (i : ℕ) (done : List Group) (before : Group) → i < length rest → item ≡ get_or rest i item →
-    AreGathered context source (spans_read labels) (spans_read (drop i rest)) done before → AreGathered context source (spans_read labels) (item.span ∷ spans_read (drop (i + 1) rest)) done before
+own_step : (context : ℕ) (source : Source) (labels rest : List ReadLabel) (item : ReadLabel) (i : ℕ) (done : List Group)
+    (before : Group) → i < length rest → item ≡ get_or rest i item →
+    AreGathered context source (spans_read labels) (spans_read (drop i rest)) done before
+    → AreGathered context source (spans_read labels) (item.span ∷ spans_read (drop (i + 1) rest)) done before
 own_step context source labels rest item i done before lt is h =
     subst (λ (xs : List Span). AreGathered context source (spans_read labels) xs done before)
-    (ap spans_read (drop_more rest i item lt) ∙ ap (λ (r : ReadLabel). r.span ∷ spans_read (drop (i + 1) rest)) (sym is)) h
+    (ap spans_read (drop_more rest i item lt) ∙ ap (λ (r : ReadLabel). r.span ∷ spans_read (drop (i + 1) rest))
+    (sym is)) h
 
-pub loop_join : (context : ℕ) (source : Source) (labels rest : List ReadLabel) (item : ReadLabel) (i : ℕ) (done : List Group) (before next : Group) → i < length rest → item ≡ get_or rest i item →
+pub loop_join : (context : ℕ) (source : Source) (labels rest : List ReadLabel) (item : ReadLabel) (i : ℕ)
+    (done : List Group) (before next : Group) → i < length rest → item ≡ get_or rest i item →
     AreGathered context source (spans_read labels) (spans_read (drop i rest)) done before →
-    (joins_before context source before.span item.span ≡ true) × (next.span ≡ joined_span before.span item.span) × IsLent context source next.span next.contents →
+    (joins_before context source before.span item.span ≡ true) × (next.span ≡ joined_span before.span item.span)
+    × IsLent context source next.span next.contents →
     AreGathered context source (spans_read labels) (spans_read (drop (i + 1) rest)) done next
 loop_join context source labels rest item i done before next lt is h k =
-    gathered_join context source (spans_read labels) item.span (spans_read (drop (i + 1) rest)) done before next (own_step context source labels rest item i done before lt is h) k.0 k.1 k.2
+    gathered_join context source (spans_read labels) item.span (spans_read (drop (i + 1) rest)) done before next
+    (own_step context source labels rest item i done before lt is h) k.0 k.1 k.2
 
-pub loop_next : (context : ℕ) (source : Source) (labels rest : List ReadLabel) (item : ReadLabel) (i : ℕ) (done more : List Group) (before next : Group) → i < length rest → item ≡ get_or rest i item →
+pub loop_next : (context : ℕ) (source : Source) (labels rest : List ReadLabel) (item : ReadLabel) (i : ℕ)
+    (done more : List Group) (before next : Group) → i < length rest → item ≡ get_or rest i item →
     AreGathered context source (spans_read labels) (spans_read (drop i rest)) done before →
-    (joins_before context source before.span item.span ≡ true → source.always_reads ≡ false) → next.span ≡ item.span → next.contents ≡ item.contents → IsLent context source item.span item.contents → more ≡ done ++ before ∷ [] →
+    (joins_before context source before.span item.span ≡ true → source.always_reads ≡ false) → next.span ≡ item.span
+    → next.contents ≡ item.contents → IsLent context source item.span item.contents → more ≡ done ++ before ∷ [] →
     AreGathered context source (spans_read labels) (spans_read (drop (i + 1) rest)) more next
 loop_next context source labels rest item i done more before next lt is h failed at lent own e =
-    gathered_next context source (spans_read labels) item.span (spans_read (drop (i + 1) rest)) done more before next (own_step context source labels rest item i done before lt is h) failed at
+    gathered_next context source (spans_read labels) item.span (spans_read (drop (i + 1) rest)) done more before next
+    (own_step context source labels rest item i done before lt is h) failed at
     (own_lent context source item next own at lent) e
 
-pub loop_end : (context : ℕ) (source : Source) (labels rest : List ReadLabel) (i : ℕ) (done more : List Group) (before : Group) → length rest ≤ i →
-    AreGathered context source (spans_read labels) (spans_read (drop i rest)) done before → more ≡ done ++ before ∷ [] → AreJoined context source (spans_read labels) more
+pub loop_end : (context : ℕ) (source : Source) (labels rest : List ReadLabel) (i : ℕ) (done more : List Group)
+    (before : Group) → length rest ≤ i →
+    AreGathered context source (spans_read labels) (spans_read (drop i rest)) done before → more ≡ done ++ before ∷ []
+    → AreJoined context source (spans_read labels) more
 loop_end context source labels rest i done more before le h e =
     gathered_all context source (spans_read labels) done more before
-    (subst (λ (xs : List Span). AreGathered context source (spans_read labels) xs done before) (ap spans_read (drop_all i rest le)) h) e
+    (subst (λ (xs : List Span). AreGathered context source (spans_read labels) xs done before)
+    (ap spans_read (drop_all i rest le)) h) e
 
-pub no_groups : (context : ℕ) (source : Source) (labels : List ReadLabel) (groups : List Group) → length labels ≡ 0 → groups ≡ [] → AreJoined context source (spans_read labels) groups
+pub no_groups : (context : ℕ) (source : Source) (labels : List ReadLabel) (groups : List Group) → length labels ≡ 0
+    → groups ≡ [] → AreJoined context source (spans_read labels) groups
 no_groups context source [] groups none e =
-    subst (λ (d : List Group). AreJoined context source [] d) (sym e) (record { fails = []; always = λ a. tt; are = refl; lent = λ k d lt. absurd (omega (arith, lt)) })
+    subst (λ (d : List Group). AreJoined context source [] d) (sym e)
+    (record { fails = []; always = λ a. tt; are = refl; lent = λ k d lt. absurd (omega (arith, lt)) })
 no_groups context source (l ∷ ls) groups none e = absurd (omega (arith, none))
 
 -- what `larger_group` says
 abbrev pub Extends : ℕ → Source → Group → ReadLabel → Option Group → Type 0
 Extends context source before label r =
     MatchOption r (joins_before context source before.span label.span ≡ true → source.always_reads ≡ false)
-    (λ group. (joins_before context source before.span label.span ≡ true) × (group.span ≡ joined_span before.span label.span) × IsLent context source group.span group.contents)
+    (λ group. (joins_before context source before.span label.span ≡ true)
+    × (group.span ≡ joined_span before.span label.span) × IsLent context source group.span group.contents)
 
-pub loop_some : (context : ℕ) (source : Source) (labels rest : List ReadLabel) (item : ReadLabel) (i : ℕ) (done more : List Group) (before next group : Group) (r : Option Group) → i < length rest → item ≡ get_or rest i item →
-    AreGathered context source (spans_read labels) (spans_read (drop i rest)) done before → Extends context source before item r → r ≡ Some group → more ≡ done → next ≡ group →
+pub loop_some : (context : ℕ) (source : Source) (labels rest : List ReadLabel) (item : ReadLabel) (i : ℕ)
+    (done more : List Group) (before next group : Group) (r : Option Group) → i < length rest → item
+    ≡ get_or rest i item →
+    AreGathered context source (spans_read labels) (spans_read (drop i rest)) done before
+    → Extends context source before item r → r ≡ Some group → more ≡ done → next ≡ group →
     AreGathered context source (spans_read labels) (spans_read (drop (i + 1) rest)) more next
 loop_some context source labels rest item i done more before next group r lt is h ext some same at =
-    rw (same, at) (loop_join context source labels rest item i done before group lt is h (subst (λ (o : Option Group). Extends context source before item o) some ext))
+    rw (same, at) (loop_join context source labels rest item i done before group lt is h
+    (subst (λ (o : Option Group). Extends context source before item o) some ext))
 
-pub loop_none : (context : ℕ) (source : Source) (labels rest : List ReadLabel) (item : ReadLabel) (i : ℕ) (done more : List Group) (before out next group : Group) (r : Option Group) → i < length rest → item ≡ get_or rest i item →
-    AreGathered context source (spans_read labels) (spans_read (drop i rest)) done before → Extends context source before item r → r ≡ None → IsLent context source item.span item.contents →
+pub loop_none : (context : ℕ) (source : Source) (labels rest : List ReadLabel) (item : ReadLabel) (i : ℕ)
+    (done more : List Group) (before out next group : Group) (r : Option Group) → i < length rest → item
+    ≡ get_or rest i item →
+    AreGathered context source (spans_read labels) (spans_read (drop i rest)) done before
+    → Extends context source before item r → r ≡ None → IsLent context source item.span item.contents →
     out ≡ before → more ≡ done ++ out ∷ [] → next ≡ group → group.span ≡ item.span → group.contents ≡ item.contents →
     AreGathered context source (spans_read labels) (spans_read (drop (i + 1) rest)) more next
-loop_none context source labels rest item i done more before out next group r lt is h ext none own value e at span contents_are =
-    rw at (loop_next context source labels rest item i done more before group lt is h (subst (λ (o : Option Group). Extends context source before item o) none ext) span contents_are own
+loop_none context source labels rest item i done more before out next group r lt is h ext none own value e at span
+    contents_are =
+    rw at (loop_next context source labels rest item i done more before group lt is h
+    (subst (λ (o : Option Group). Extends context source before item o) none ext) span contents_are own
     (e ∙ ap (λ g. done ++ g ∷ []) value))

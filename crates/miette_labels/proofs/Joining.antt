@@ -6,7 +6,8 @@ use Rattle.miette_labels.proofs.Sources.{read}
 
 -- whether a label joins the snippet before it
 abbrev pub joins : ℕ → List ℕ → Span → Span → Bool
-joins c source before label = nat_le (read c source label).line ((read c source before).line + (read c source before).line_count)
+joins c source before label = nat_le (read c source label).line
+    ((read c source before).line + (read c source before).line_count)
 
 abbrev pub groups_from : ℕ → List ℕ → Span → List Span → List Span
 groups_from c source before [] = before ∷ []

@@ -1,5 +1,6 @@
 -- The label that a frame points to.
-use Rattle.std.proofs.Common.{ℕ, zero, suc, ◌+◌, ◌-◌, ◌<◌, ◌≤◌, ◌≡◌, Bool, true, false, leb, ltb, List, [], ◌∷◌, length, map, take, drop, get_or, Option, Some, None, refl, sym, ap, arith, All, unwrap_or}
+use Rattle.std.proofs.Common.{ℕ, zero, suc, ◌+◌, ◌-◌, ◌<◌, ◌≤◌, ◌≡◌, Bool, true, false, leb, ltb, List, [], ◌∷◌, length}
+use Rattle.std.proofs.Common.{map, take, drop, get_or, Option, Some, None, refl, sym, ap, arith, All, unwrap_or}
 use Rattle.std.proofs.lemmas.Bool.Decides.{nat_tests}
 use Rattle.miette_protocol.specs.views.Meaning.{Label}
 use Rattle.miette_protocol.specs.rules.Reading.{Span, Source}
@@ -20,48 +21,65 @@ pub later_not : (a b n : ℕ) → leb a n ≡ false → a ≤ b → leb b n ≡ 
 later_not a b n h le = grind (arith, nat_tests)
 
 -- a label that begins before a span lies outside of it, and so does one that begins behind its end
-pub begins_before : (own : Bool) (group span : Span) → ltb span.offset group.offset ≡ true → lies_within own group span ≡ false
+pub begins_before : (own : Bool) (group span : Span) → ltb span.offset group.offset ≡ true → lies_within own group span
+    ≡ false
 begins_before own group span h = rw (lt_not span.offset group.offset h) refl
 
 pub ends_behind : (own : Bool) (span : Span) → span.offset ≤ end_within own span
 ends_behind true span = omega arith
 ends_behind false span = omega arith
 
-pub begins_behind : (own : Bool) (group span : Span) → leb span.offset (end_of_span group) ≡ false → lies_within own group span ≡ false
+pub begins_behind : (own : Bool) (group span : Span) → leb span.offset (end_of_span group) ≡ false
+    → lies_within own group span ≡ false
 begins_behind own group span h =
-    let f : leb (end_within own span) (end_of_span group) ≡ false = later_not span.offset (end_within own span) (end_of_span group) h (ends_behind own span) in
-    by_cases {C = lies_within own group span ≡ false} (leb group.offset span.offset) (λ t. rw (t, f) refl) (λ g. rw g refl)
+    let f : leb (end_within own span) (end_of_span group) ≡ false =
+    later_not span.offset (end_within own span) (end_of_span group) h (ends_behind own span) in
+    by_cases {C = lies_within own group span ≡ false} (leb group.offset span.offset) (λ t. rw (t, f) refl)
+    (λ g. rw g refl)
 
 abbrev pub IsOutside : Bool → Span → ReadLabel → Type 0
 IsOutside own group read = lies_within own group read.span ≡ false
 
-pub none_chosen : (own : Bool) (group : Span) (first : Option Span) (reads : List ReadLabel) → ((j : ℕ) (d : ReadLabel) → j < length reads → IsOutside own group (get_or reads j d)) → chosen_label own group first reads ≡ first
+pub none_chosen : (own : Bool) (group : Span) (first : Option Span) (reads : List ReadLabel)
+    → ((j : ℕ) (d : ReadLabel) → j < length reads → IsOutside own group (get_or reads j d))
+    → chosen_label own group first reads ≡ first
 none_chosen own group first [] h = refl
-none_chosen own group first (r ∷ rs) h = rw (h 0 r (omega arith)) (none_chosen own group first rs (λ j d lt. h (suc j) d (omega (arith, lt))))
+none_chosen own group first (r ∷ rs) h = rw (h 0 r (omega arith))
+    (none_chosen own group first rs (λ j d lt. h (suc j) d (omega (arith, lt))))
 
-pub front_chosen : (own : Bool) (group : Span) (first : Option Span) (n : ℕ) (reads : List ReadLabel) → ((j : ℕ) (d : ReadLabel) → n ≤ j → j < length reads → IsOutside own group (get_or reads j d)) →
+pub front_chosen : (own : Bool) (group : Span) (first : Option Span) (n : ℕ) (reads : List ReadLabel)
+    → ((j : ℕ) (d : ReadLabel) → n ≤ j → j < length reads → IsOutside own group (get_or reads j d)) →
     chosen_label own group first (take n reads) ≡ chosen_label own group first reads
 front_chosen own group first zero reads h = sym (none_chosen own group first reads (λ j d lt. h j d (omega arith) lt))
 front_chosen own group first (suc n) [] h = refl
 front_chosen own group first (suc n) (r ∷ rs) h =
-    let later : (j : ℕ) (d : ReadLabel) → n ≤ j → j < length rs → IsOutside own group (get_or rs j d) = λ j d le lt. h (suc j) d (omega (arith, le)) (omega (arith, lt)) in
-    by_cases {C = chosen_label own group first (r ∷ take n rs) ≡ chosen_label own group first (r ∷ rs)} (lies_within own group r.span)
+    let later : (j : ℕ) (d : ReadLabel) → n ≤ j → j < length rs → IsOutside own group (get_or rs j d) =
+    λ j d le lt. h (suc j) d (omega (arith, le)) (omega (arith, lt)) in
+    by_cases {C = chosen_label own group first (r ∷ take n rs) ≡ chosen_label own group first (r ∷ rs)}
+    (lies_within own group r.span)
     (λ t. by_cases {C = chosen_label own group first (r ∷ take n rs) ≡ chosen_label own group first (r ∷ rs)} r.primary
     (λ u. rw (t, u) refl)
     (λ g. rw (t, g) (front_chosen own group (Some (unwrap_or first r.span)) n rs later)))
     (λ f. rw f (front_chosen own group first n rs later))
 
-pub between_chosen : (own : Bool) (group : Span) (first : Option Span) (m n : ℕ) (reads : List ReadLabel) → ((j : ℕ) (d : ReadLabel) → j < m → j < length reads → IsOutside own group (get_or reads j d)) →
-    ((j : ℕ) (d : ReadLabel) → m + n ≤ j → j < length reads → IsOutside own group (get_or reads j d)) → chosen_label own group first (take n (drop m reads)) ≡ chosen_label own group first reads
-between_chosen own group first zero n reads low high = front_chosen own group first n reads (λ j d le lt. high j d (omega (arith, le)) lt)
-between_chosen own group first (suc m) n [] low high = front_chosen own group first n [] (λ j d le lt. absurd (omega (arith, lt)))
+pub between_chosen : (own : Bool) (group : Span) (first : Option Span) (m n : ℕ) (reads : List ReadLabel)
+    → ((j : ℕ) (d : ReadLabel) → j < m → j < length reads → IsOutside own group (get_or reads j d)) →
+    ((j : ℕ) (d : ReadLabel) → m + n ≤ j → j < length reads → IsOutside own group (get_or reads j d))
+    → chosen_label own group first (take n (drop m reads)) ≡ chosen_label own group first reads
+between_chosen own group first zero n reads low high =
+    front_chosen own group first n reads (λ j d le lt. high j d (omega (arith, le)) lt)
+between_chosen own group first (suc m) n [] low high =
+    front_chosen own group first n [] (λ j d le lt. absurd (omega (arith, lt)))
 between_chosen own group first (suc m) n (r ∷ rs) low high =
     rw (low 0 r (omega arith) (omega arith))
-    (between_chosen own group first m n rs (λ j d lm lt. low (suc j) d (omega (arith, lm)) (omega (arith, lt))) (λ j d le lt. high (suc j) d (omega (arith, le)) (omega (arith, lt))))
+    (between_chosen own group first m n rs (λ j d lm lt. low (suc j) d (omega (arith, lm)) (omega (arith, lt)))
+    (λ j d le lt. high (suc j) d (omega (arith, le)) (omega (arith, lt))))
 
 -- the labels from the first one that doesn't begin before a span, up to the first one that begins behind its end
-pub near_chosen : (own : Bool) (group : Span) (a b m : ℕ) (reads : List ReadLabel) → m ≤ a → m ≤ b → b ≤ length reads → ((j : ℕ) (d : ReadLabel) → j < a → ltb (get_or reads j d).span.offset group.offset ≡ true) →
-    ((j : ℕ) (d : ReadLabel) → b ≤ j → j < length reads → leb (get_or reads j d).span.offset (end_of_span group) ≡ false) → chosen_label own group None (take (b - m) (drop m reads)) ≡ chosen_label own group None reads
+pub near_chosen : (own : Bool) (group : Span) (a b m : ℕ) (reads : List ReadLabel) → m ≤ a → m ≤ b → b ≤ length reads
+    → ((j : ℕ) (d : ReadLabel) → j < a → ltb (get_or reads j d).span.offset group.offset ≡ true) →
+    ((j : ℕ) (d : ReadLabel) → b ≤ j → j < length reads → leb (get_or reads j d).span.offset (end_of_span group)
+    ≡ false) → chosen_label own group None (take (b - m) (drop m reads)) ≡ chosen_label own group None reads
 near_chosen own group a b m reads ma mb bl low high =
     between_chosen own group None m (b - m) reads
     (λ j d lm lt. begins_before own group (get_or reads j d).span (low j d (omega (arith, lm, ma))))
@@ -69,7 +87,8 @@ near_chosen own group a b m reads ma mb bl low high =
 
 -- labels that were read in order come by offset
 
-pub low : (context : ℕ) (source : Source) (labels : List Label) (from k : ℕ) (reads : List ReadLabel) (d : ReadLabel) → All (IsRead context source labels) reads →
+pub low : (context : ℕ) (source : Source) (labels : List Label) (from k : ℕ) (reads : List ReadLabel) (d : ReadLabel)
+    → All (IsRead context source labels) reads →
     IsAscending from (spans_of (map (read_of labels) reads)) → k < length reads → from ≤ (get_or reads k d).span.offset
 low context source labels from k [] d h up lt = absurd (omega (arith, lt))
 low context source labels from zero (r ∷ rs) d h up lt =
@@ -77,16 +96,29 @@ low context source labels from zero (r ∷ rs) d h up lt =
     let at : r.span.offset ≡ (label_at labels r.index).span.offset = ap (λ s. s.offset) own.span in
     omega (arith, at, up.0)
 low context source labels from (suc k) (r ∷ rs) d h up lt =
-    omega (arith, up.0, low context source labels (label_at labels r.index).span.offset k rs d (λ j e l. h (suc j) e (omega (arith, l))) up.1 (omega (arith, lt)))
+    omega (
+      arith,
+      up.0,
+      low context source labels (label_at labels r.index).span.offset k rs d
+          (λ j e l. h (suc j) e (omega (arith, l))) up.1 (omega (arith, lt)),
+    )
 
-pub rise : (context : ℕ) (source : Source) (labels : List Label) (from i j : ℕ) (reads : List ReadLabel) (d : ReadLabel) → All (IsRead context source labels) reads →
-    IsAscending from (spans_of (map (read_of labels) reads)) → i ≤ j → j < length reads → (get_or reads i d).span.offset ≤ (get_or reads j d).span.offset
+pub rise : (context : ℕ) (source : Source) (labels : List Label) (from i j : ℕ) (reads : List ReadLabel) (d : ReadLabel)
+    → All (IsRead context source labels) reads →
+    IsAscending from (spans_of (map (read_of labels) reads)) → i ≤ j → j < length reads → (get_or reads i d).span.offset
+    ≤ (get_or reads j d).span.offset
 rise context source labels from i j [] d h up le lt = absurd (omega (arith, lt))
 rise context source labels from zero zero (r ∷ rs) d h up le lt = omega arith
 rise context source labels from zero (suc j) (r ∷ rs) d h up le lt =
     let own : IsRead context source labels r = h 0 r (omega arith) in
     let at : r.span.offset ≡ (label_at labels r.index).span.offset = ap (λ s. s.offset) own.span in
-    omega (arith, at, low context source labels (label_at labels r.index).span.offset j rs d (λ k e l. h (suc k) e (omega (arith, l))) up.1 (omega (arith, lt)))
+    omega (
+      arith,
+      at,
+      low context source labels (label_at labels r.index).span.offset j rs d
+          (λ k e l. h (suc k) e (omega (arith, l))) up.1 (omega (arith, lt)),
+    )
 rise context source labels from (suc i) zero (r ∷ rs) d h up le lt = absurd (omega (arith, le))
 rise context source labels from (suc i) (suc j) (r ∷ rs) d h up le lt =
-    rise context source labels (label_at labels r.index).span.offset i j rs d (λ k e l. h (suc k) e (omega (arith, l))) up.1 (omega (arith, le)) (omega (arith, lt))
+    rise context source labels (label_at labels r.index).span.offset i j rs d (λ k e l. h (suc k) e (omega (arith, l)))
+    up.1 (omega (arith, le)) (omega (arith, lt))

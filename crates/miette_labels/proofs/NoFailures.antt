@@ -5,18 +5,24 @@ use Rattle.miette_protocol.specs.views.Meaning.{Label}
 use Rattle.miette_protocol.specs.rules.Reading.{Source, Span}
 use Rattle.miette_labels.specs.rules.Answers.{NoneFails}
 use Rattle.miette_labels.specs.rules.Around.{has_own}
-use Rattle.miette_labels.specs.rules.Groups.{joins_before, joined_span, groups_from, groups_answered, own_groups, groups_of, spans_of, some_fails, groups_fail}
+use Rattle.miette_labels.specs.rules.Groups.{joins_before, joined_span, groups_from, groups_answered, own_groups}
+use Rattle.miette_labels.specs.rules.Groups.{groups_of, spans_of, some_fails, groups_fail}
 use Rattle.miette_labels.proofs.Bodies.{next_none, later_none, some_none}
 
-pub none_unread : (context : ℕ) (source : Source) (fails : List Bool) (labels : List Label) → NoneFails fails → groups_fail context source fails labels ≡ false
-none_unread context source fails labels none = and_right (has_own labels) (some_fails fails (groups_of context source fails labels)) (some_none fails (groups_of context source fails labels) none)
+pub none_unread : (context : ℕ) (source : Source) (fails : List Bool) (labels : List Label) → NoneFails fails
+    → groups_fail context source fails labels ≡ false
+none_unread context source fails labels none = and_right (has_own labels)
+    (some_fails fails (groups_of context source fails labels))
+    (some_none fails (groups_of context source fails labels) none)
 
-groups_none : (context : ℕ) (source : Source) (before : Span) (fails : List Bool) (spans : List Span) → NoneFails fails →
+groups_none : (context : ℕ) (source : Source) (before : Span) (fails : List Bool) (spans : List Span) → NoneFails fails
+    →
     groups_from context source before fails spans ≡ groups_from context source before [] spans
 groups_none context source before fails [] h = refl
 groups_none context source before fails (span ∷ spans) h =
     ap (λ b. if joins_before context source before span then
-    (if b then before ∷ groups_from context source span (drop 1 fails) spans else groups_from context source (joined_span before span) (drop 1 fails) spans)
+    (if b then before ∷ groups_from context source span (drop 1 fails) spans
+    else groups_from context source (joined_span before span) (drop 1 fails) spans)
     else before ∷ groups_from context source span fails spans) (next_none fails h)
     ∙ ap₂ (λ x y. if joins_before context source before span then x else before ∷ y)
     (groups_none context source (joined_span before span) (drop 1 fails) spans (later_none fails h))
@@ -30,4 +36,5 @@ answered_none context source fails (span ∷ spans) h = groups_none context sour
 pub grouped_none : (context : ℕ) (source : Source) (fails : List Bool) (labels : List Label) → NoneFails fails →
     groups_of context source fails labels ≡ groups_of context source [] labels
 grouped_none context source fails labels h =
-    ap (λ gs. if has_own labels then own_groups context source labels else gs) (answered_none context source fails (spans_of labels) h)
+    ap (λ gs. if has_own labels then own_groups context source labels else gs)
+    (answered_none context source fails (spans_of labels) h)

@@ -1,5 +1,7 @@
 -- Labels that were read so far, and the first one that is refused.
-use Rattle.std.proofs.Common.{ℕ, suc, ◌+◌, ◌<◌, ◌≡◌, max, Bool, true, false, cond, leb, List, [], ◌∷◌, ◌++◌, length, map, take, drop, get_or, Some, refl, sym, ap, ◌∙◌, subst, arith, All, append_assoc, take-append-drop}
+use Rattle.std.proofs.Common.{ℕ, suc, ◌+◌, ◌<◌, ◌≡◌, max, Bool, true, false, cond, leb, List, [], ◌∷◌, ◌++◌, length}
+use Rattle.std.proofs.Common.{map, take, drop, get_or, Some, refl, sym, ap, ◌∙◌, subst, arith, All, append_assoc}
+use Rattle.std.proofs.Common.{take-append-drop}
 use Rattle.std.specs.Prelude.{codes, unwrap_or}
 use Rattle.std.proofs.lemmas.Bool.{leb-true, and_left, and_right}
 use Rattle.std.proofs.lemmas.List.{map-append, get_or-map, take_more, length-map}
@@ -31,19 +33,24 @@ abbrev pub turn_of : List Label → Turn → Label
 turn_of labels turn = label_at labels turn.index
 
 -- so many labels were read
-pub record AreReadTo (context : ℕ) (source : Source) (labels : List Label) (order : List Turn) (i : ℕ) (read : List ReadLabel) : Type 0 where
+pub record AreReadTo (context : ℕ) (source : Source) (labels : List Label) (order : List Turn) (i : ℕ)
+    (read : List ReadLabel) : Type 0 where
   pub are : map (read_of labels) read ≡ take i (map (turn_of labels) order)
   pub each : All (IsRead context source labels) read
 
 order-more : (labels : List Label) (order : List Turn) (i : ℕ) (d : Turn) → i < length order →
-    take (i + 1) (map (turn_of labels) order) ≡ take i (map (turn_of labels) order) ++ turn_of labels (get_or order i d) ∷ []
+    take (i + 1) (map (turn_of labels) order) ≡ take i (map (turn_of labels) order) ++ turn_of labels (get_or order i d)
+    ∷ []
 order-more labels order i d lt =
     let len : i < length (map (turn_of labels) order) = omega (arith, lt, length-map order (turn_of labels)) in
     take_more (map (turn_of labels) order) i (turn_of labels d) len
-    ∙ ap (λ x. take i (map (turn_of labels) order) ++ x ∷ []) (get_or-map (turn_of labels) order i d (turn_of labels d) lt)
+    ∙ ap (λ x. take i (map (turn_of labels) order) ++ x ∷ [])
+    (get_or-map (turn_of labels) order i d (turn_of labels d) lt)
 
-pub read_more : (context : ℕ) (source : Source) (labels : List Label) (order : List Turn) (i : ℕ) (read more : List ReadLabel) (d : Turn) (r : ReadLabel) →
-    AreReadTo context source labels order i read → i < length order → r.index ≡ (get_or order i d).index → IsRead context source labels r → more ≡ read ++ r ∷ [] →
+pub read_more : (context : ℕ) (source : Source) (labels : List Label) (order : List Turn) (i : ℕ)
+    (read more : List ReadLabel) (d : Turn) (r : ReadLabel) →
+    AreReadTo context source labels order i read → i < length order → r.index ≡ (get_or order i d).index
+    → IsRead context source labels r → more ≡ read ++ r ∷ [] →
     AreReadTo context source labels order (i + 1) more
 read_more context source labels order i read more d r h lt same own e =
     let are : map (read_of labels) (read ++ r ∷ []) ≡ take (i + 1) (map (turn_of labels) order) =
@@ -55,10 +62,14 @@ read_more context source labels order i read more d r h lt same own e =
     (record { are = are; each = All-push (IsRead context source labels) read r h.each own })
 
 -- the label that is read, as the loop finds it
-pub own_read : (context : ℕ) (source : Source) (labels : List Label) (index : ℕ) (label : Label) (span : Span) (r : ReadLabel) (lines : ℕ) (own : Bool) → index < length labels → label ≡ get_or labels index label →
-    r.index ≡ index → r.span ≡ label.span → r.primary ≡ label.primary → span ≡ label.span → IsAccepted source.bytes span → r.contents ≡ contents lines source span →
-    lines ≡ unwrap_or label.context (cond own (max 1 context) context) → own ≡ has_own labels → IsRead context source labels r
-own_read context source labels index label span r lines own lt is same at_span primary asked accepted contents_are around which =
+pub own_read : (context : ℕ) (source : Source) (labels : List Label) (index : ℕ) (label : Label) (span : Span)
+    (r : ReadLabel) (lines : ℕ) (own : Bool) → index < length labels → label ≡ get_or labels index label →
+    r.index ≡ index → r.span ≡ label.span → r.primary ≡ label.primary → span ≡ label.span → IsAccepted source.bytes span
+    → r.contents ≡ contents lines source span →
+    lines ≡ unwrap_or label.context (cond own (max 1 context) context) → own ≡ has_own labels
+    → IsRead context source labels r
+own_read context source labels index label span r lines own lt is same at_span primary asked accepted contents_are
+    around which =
     let at : label_at labels r.index ≡ label = ap (label_at labels) same ∙ label_got labels index label lt ∙ sym is in
     let spans : span ≡ r.span = asked ∙ sym at_span in
     record {
@@ -67,7 +78,8 @@ own_read context source labels index label span r lines own lt is same at_span p
       primary = primary ∙ ap (λ l. l.primary) (sym at);
       accepted = subst (λ (s : Span). IsAccepted source.bytes s) spans accepted;
       contents_are = contents_are ∙ ap (contents lines source) asked
-          ∙ ap (λ n. contents n source label.span) (around ∙ ap (λ b. unwrap_or label.context (cond b (max 1 context) context)) which)
+          ∙ ap (λ n. contents n source label.span) (around ∙
+          ap (λ b. unwrap_or label.context (cond b (max 1 context) context)) which)
           ∙ ap (λ l. contents_around context source labels l) (sym at);
     }
 
@@ -79,39 +91,51 @@ fails_after (l ∷ ls) = false ∷ fails_after ls
 refused_read : (bytes : List ℕ) (front : List Label) (label : Label) (rest : List Label) → AreAccepted bytes front →
     refusal bytes (fails_after front) (front ++ label ∷ rest) ≡ Some (record { label = label; name = codes "IoError" })
 refused_read bytes [] label rest h = refl
-refused_read bytes (l ∷ ls) label rest h = let own : is_accepted bytes l.span ≡ true = accepted_is bytes l.span h.0 in rw own (refused_read bytes ls label rest h.1)
+refused_read bytes (l ∷ ls) label rest h = let own : is_accepted bytes l.span ≡ true = accepted_is bytes l.span h.0 in
+    rw own (refused_read bytes ls label rest h.1)
 
-refused_out : (bytes : List ℕ) (front : List Label) (label : Label) (rest : List Label) → AreAccepted bytes front → is_accepted bytes label.span ≡ false →
+refused_out : (bytes : List ℕ) (front : List Label) (label : Label) (rest : List Label) → AreAccepted bytes front
+    → is_accepted bytes label.span ≡ false →
     refusal bytes [] (front ++ label ∷ rest) ≡ Some (record { label = label; name = codes "OutOfBounds" })
 refused_out bytes [] label rest h out = rw out refl
-refused_out bytes (l ∷ ls) label rest h out = let own : is_accepted bytes l.span ≡ true = accepted_is bytes l.span h.0 in rw own (refused_out bytes ls label rest h.1 out)
+refused_out bytes (l ∷ ls) label rest h out = let own : is_accepted bytes l.span ≡ true = accepted_is bytes l.span h.0
+    in rw own (refused_out bytes ls label rest h.1 out)
 
 not_accepted : (bytes : List ℕ) (span : Span) → ¬ IsAccepted bytes span → is_accepted bytes span ≡ false
 not_accepted bytes span out =
     by_cases {C = is_accepted bytes span ≡ false} (leb span.offset (length bytes))
     (λ t. by_cases {C = is_accepted bytes span ≡ false} (leb (span.offset + span.len) (length bytes + 1))
-    (λ u. absurd (out (record { begins = leb-true span.offset (length bytes) t; ends = leb-true (span.offset + span.len) (length bytes + 1) u })))
+    (λ u. absurd (out (record {
+      begins = leb-true span.offset (length bytes) t;
+      ends =
+          leb-true (span.offset + span.len) (length bytes + 1) u;
+    })))
     (λ g. and_right _ _ g))
     (λ f. and_left _ _ f)
 
-pub all_accepted : (context : ℕ) (source : Source) (labels : List Label) (read : List ReadLabel) → All (IsRead context source labels) read → AreAccepted source.bytes (map (read_of labels) read)
+pub all_accepted : (context : ℕ) (source : Source) (labels : List Label) (read : List ReadLabel)
+    → All (IsRead context source labels) read → AreAccepted source.bytes (map (read_of labels) read)
 all_accepted context source labels [] h = tt
 all_accepted context source labels (r ∷ rs) h =
     let own : IsRead context source labels r = h 0 r (omega arith) in
     (rw (sym own.span) own.accepted, all_accepted context source labels rs (λ k d lt. h (suc k) d (omega arith)))
 
 -- the front of the order, the label that is refused, and the rest
-parted_at : (labels : List Label) (order : List Turn) (i : ℕ) (d : Turn) (front : List Label) → i < length order → front ≡ take i (map (turn_of labels) order) →
+parted_at : (labels : List Label) (order : List Turn) (i : ℕ) (d : Turn) (front : List Label) → i < length order → front
+    ≡ take i (map (turn_of labels) order) →
     map (turn_of labels) order ≡ front ++ turn_of labels (get_or order i d) ∷ drop (i + 1) (map (turn_of labels) order)
 parted_at labels order i d front lt e =
     sym (take-append-drop (i + 1) (map (turn_of labels) order))
     ∙ ap (λ x. x ++ drop (i + 1) (map (turn_of labels) order)) (order-more labels order i d lt)
-    ∙ append_assoc (take i (map (turn_of labels) order)) (turn_of labels (get_or order i d) ∷ []) (drop (i + 1) (map (turn_of labels) order))
+    ∙ append_assoc (take i (map (turn_of labels) order)) (turn_of labels (get_or order i d) ∷ [])
+    (drop (i + 1) (map (turn_of labels) order))
     ∙ ap (λ x. x ++ turn_of labels (get_or order i d) ∷ drop (i + 1) (map (turn_of labels) order)) (sym e)
 
 -- the label that is refused, as the loop finds it
-refused_by : (context : ℕ) (source : Source) (labels : List Label) (order : List Turn) (i : ℕ) (read : List ReadLabel) (d : Turn) (e : MietteError) (reason : RefusalReason) →
-    AreReadTo context source labels order i read → i < length order → (get_or order i d).index < length labels → Refuses source (turn_of labels (get_or order i d)).span e → Reason e reason →
+refused_by : (context : ℕ) (source : Source) (labels : List Label) (order : List Turn) (i : ℕ) (read : List ReadLabel)
+    (d : Turn) (e : MietteError) (reason : RefusalReason) →
+    AreReadTo context source labels order i read → i < length order → (get_or order i d).index < length labels
+    → Refuses source (turn_of labels (get_or order i d)).span e → Reason e reason →
     AreRead context source labels (map (turn_of labels) order) (reads.Refused (get_or order i d).index reason)
 refused_by context source labels order i read d (errors.IoError x) reason h lt inside refuses why =
     let front : List Label = map (read_of labels) read in
@@ -120,7 +144,8 @@ refused_by context source labels order i read d (errors.IoError x) reason h lt i
       fails_after front,
       (λ always. cc),
       ap (refusal source.bytes (fails_after front)) (parted_at labels order i d front lt h.are)
-          ∙ refused_read source.bytes front label rest (all_accepted context source labels read h.each) ∙ ap (λ r. Some (record { label = label; name = name_of r })) (sym why),
+          ∙ refused_read source.bytes front label rest (all_accepted context source labels read h.each)
+          ∙ ap (λ r. Some (record { label = label; name = name_of r })) (sym why),
       inside,
     )
 refused_by context source labels order i read d errors.OutOfBounds reason h lt inside refuses why =
@@ -130,15 +155,20 @@ refused_by context source labels order i read d errors.OutOfBounds reason h lt i
       [],
       (λ always. tt),
       ap (refusal source.bytes []) (parted_at labels order i d front lt h.are)
-          ∙ refused_out source.bytes front label rest (all_accepted context source labels read h.each) (not_accepted source.bytes label.span refuses)
+          ∙ refused_out source.bytes front label rest (all_accepted context source labels read h.each)
+          (not_accepted source.bytes label.span refuses)
           ∙ ap (λ r. Some (record { label = label; name = name_of r })) (sym why),
       inside,
     )
 
-pub refused_here : (context : ℕ) (source : Source) (labels : List Label) (order : List Turn) (i : ℕ) (read : List ReadLabel) (d : Turn) (label : Label) (span : Span) (e : MietteError) (reason : RefusalReason) →
-    AreReadTo context source labels order i read → i < length order → (get_or order i d).index < length labels → label ≡ get_or labels (get_or order i d).index label → span ≡ label.span →
+pub refused_here : (context : ℕ) (source : Source) (labels : List Label) (order : List Turn) (i : ℕ)
+    (read : List ReadLabel) (d : Turn) (label : Label) (span : Span) (e : MietteError) (reason : RefusalReason) →
+    AreReadTo context source labels order i read → i < length order → (get_or order i d).index < length labels → label
+    ≡ get_or labels (get_or order i d).index label → span ≡ label.span →
     Refuses source span e → Reason e reason →
     AreRead context source labels (map (turn_of labels) order) (reads.Refused (get_or order i d).index reason)
 refused_here context source labels order i read d label span e reason h lt inside is at refuses why =
-    let same : span ≡ (turn_of labels (get_or order i d)).span = at ∙ ap (λ l. l.span) (sym (label_got labels (get_or order i d).index label inside ∙ sym is)) in
-    refused_by context source labels order i read d e reason h lt inside (subst (λ (s : Span). Refuses source s e) same refuses) why
+    let same : span ≡ (turn_of labels (get_or order i d)).span = at
+    ∙ ap (λ l. l.span) (sym (label_got labels (get_or order i d).index label inside ∙ sym is)) in
+    refused_by context source labels order i read d e reason h lt inside
+    (subst (λ (s : Span). Refuses source s e) same refuses) why

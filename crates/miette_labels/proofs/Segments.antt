@@ -1,5 +1,6 @@
 -- A first line, parted from what follows.
-use Rattle.std.proofs.Common.{ℕ, zero, suc, ◌+◌, ◌<◌, ◌≡◌, Bool, true, false, cond, eqb, List, [], ◌∷◌, length, drop, refl, sym, ap, ◌∙◌, arith}
+use Rattle.std.proofs.Common.{ℕ, zero, suc, ◌+◌, ◌<◌, ◌≡◌, Bool, true, false, cond, eqb, List, [], ◌∷◌, length, drop}
+use Rattle.std.proofs.Common.{refl, sym, ap, ◌∙◌, arith}
 use Rattle.std.proofs.Math.Seq.{drop-nil}
 use Rattle.miette_source_lines.specs.rules.Lines.{Line}
 use Rattle.miette_source_lines.proofs.Only.{made}
@@ -13,10 +14,12 @@ first_text (byte ∷ bytes) = cond (eqb byte 10) 0 (cond (eqb byte 13) 0 (suc (f
 
 abbrev pub first_size : List ℕ → ℕ
 first_size [] = 0
-first_size (byte ∷ bytes) = cond (eqb byte 10) 1 (cond (eqb byte 13) (cond (begins_with_lf bytes) 2 1) (suc (first_size bytes)))
+first_size (byte ∷ bytes) = cond (eqb byte 10) 1 (cond (eqb byte 13) (cond (begins_with_lf bytes) 2 1)
+    (suc (first_size bytes)))
 
 abbrev pub IsParted : ℕ → List ℕ → Type 0
-IsParted at bytes = lines_from at bytes ≡ made at (at + first_text bytes) (at + first_size bytes) ∷ lines_from (at + first_size bytes) (drop (first_size bytes) bytes)
+IsParted at bytes = lines_from at bytes ≡ made at (at + first_text bytes) (at + first_size bytes)
+    ∷ lines_from (at + first_size bytes) (drop (first_size bytes) bytes)
 
 abbrev pub CrParted : ℕ → ℕ → List ℕ → Bool → Type 0
 CrParted at byte bytes lf =
@@ -24,7 +27,8 @@ CrParted at byte bytes lf =
     ≡ made at (at + 0) (at + cond lf 2 1) ∷ lines_from (at + cond lf 2 1) (drop (cond lf 2 1) (byte ∷ bytes))
 
 pub cr_by : (at byte : ℕ) (bytes : List ℕ) (lf : Bool) → begins_with_lf bytes ≡ lf → CrParted at byte bytes lf
-cr_by at byte bytes false h = let z : at + 0 ≡ at = omega arith in ap (λ a. made at a (at + 1) ∷ lines_from (at + 1) bytes) (sym z)
+cr_by at byte bytes false h = let z : at + 0 ≡ at = omega arith in
+    ap (λ a. made at a (at + 1) ∷ lines_from (at + 1) bytes) (sym z)
 cr_by at byte [] true h = cc
 cr_by at byte (c ∷ cs) true h =
     let z : at + 0 ≡ at = omega arith in
@@ -48,7 +52,8 @@ parted at (byte ∷ c ∷ cs) h =
     let t : ℕ = first_text (c ∷ cs) in
     let n : ℕ = first_size (c ∷ cs) in
     let more : IsParted (at + 1) (c ∷ cs) = parted (at + 1) (c ∷ cs) (omega arith) in
-    by_cases {C = IsParted at (byte ∷ c ∷ cs)} (eqb byte 10) (λ e. rw e (ap (λ a. made at a (at + 1) ∷ lines_from (at + 1) (c ∷ cs)) (sym z)))
+    by_cases {C = IsParted at (byte ∷ c ∷ cs)} (eqb byte 10)
+    (λ e. rw e (ap (λ a. made at a (at + 1) ∷ lines_from (at + 1) (c ∷ cs)) (sym z)))
     (λ f. by_cases {C = IsParted at (byte ∷ c ∷ cs)} (eqb byte 13) (λ e. rw (f, e) (parted_cr at byte (c ∷ cs)))
     (λ g. rw (f, g) (ap (with_text at) more
     ∙ ap (λ a. made at a (at + 1 + n) ∷ lines_from (at + 1 + n) (drop n (c ∷ cs))) (text_at at t)

@@ -1,5 +1,6 @@
 -- A stable sort by a number gives the one list that rises and keeps ties as they were.
-use Rattle.std.proofs.Common.{ℕ, zero, suc, ◌+◌, ◌<◌, ◌≤◌, ◌≡◌, true, false, cond, ltb, leb, eqb, not, ◌&&◌, List, [], ◌∷◌, ◌++◌, length, map, take, get_or, refl, sym, ap, ◌∙◌, arith, All, ⊎_elim, subst}
+use Rattle.std.proofs.Common.{ℕ, zero, suc, ◌+◌, ◌<◌, ◌≤◌, ◌≡◌, true, false, cond, ltb, leb, eqb, not, ◌&&◌, List, []}
+use Rattle.std.proofs.Common.{◌∷◌, ◌++◌, length, map, take, get_or, refl, sym, ap, ◌∙◌, arith, All, ⊎_elim, subst}
 use Rattle.std.specs.List.{AllByRecursion, filter}
 use Rattle.std.specs.List.Sorted.{IsNonDecreasingBy, IsStableByKey}
 use Rattle.std.specs.Ordering.{nat_cmp, is_lt}
@@ -40,7 +41,8 @@ first-at : {X : Type 0} (n : X → ℕ) (x : X) (xs : List X) → at_key n (n x)
 first-at n x xs = rw (eq-eqb (n x) (n x) refl) refl
 
 -- lists that rise, with the same elements at each number in the same order, are one
-pub same_list : {X : Type 0} (n : X → ℕ) (a b : ℕ) (xs ys : List X) → Rises n a xs → Rises n b ys → ((z : X) → at_key n (n z) xs ≡ at_key n (n z) ys) → xs ≡ ys
+pub same_list : {X : Type 0} (n : X → ℕ) (a b : ℕ) (xs ys : List X) → Rises n a xs → Rises n b ys
+    → ((z : X) → at_key n (n z) xs ≡ at_key n (n z) ys) → xs ≡ ys
 same_list n a b [] [] rx ry same = refl
 same_list n a b [] (y ∷ ys) rx ry same = let e = same y ∙ first-at n y ys in cc
 same_list n a b (x ∷ xs) [] rx ry same = let e = sym (first-at n x xs) ∙ same x in cc
@@ -52,16 +54,19 @@ same_list {X} n a b (x ∷ xs) (y ∷ ys) rx ry same =
     (λ lt. let e = sym (first-at n y ys) ∙ sym (same y) ∙ none-at n (n x) (n y) (x ∷ xs) (omega arith, rx.1) lt in cc)
     (λ ge. ge) (cases_lt (n y) (n x)) in
     let key : n x ≡ n y = omega arith in
-    let heads : x ∷ at_key n (n x) xs ≡ y ∷ at_key n (n x) ys = sym (first-at n x xs) ∙ same x ∙ ap (λ v. at_key n v (y ∷ ys)) key ∙ first-at n y ys ∙ ap (λ v. y ∷ at_key n v ys) (sym key) in
+    let heads : x ∷ at_key n (n x) xs ≡ y ∷ at_key n (n x) ys = sym (first-at n x xs) ∙ same x
+    ∙ ap (λ v. at_key n v (y ∷ ys)) key ∙ first-at n y ys ∙ ap (λ v. y ∷ at_key n v ys) (sym key) in
     let head : x ≡ y = cc in
     let rest : at_key n (n x) xs ≡ at_key n (n x) ys = cc in
     let tails : (z : X) → at_key n (n z) xs ≡ at_key n (n z) ys = λ z.
     by_cases {C = at_key n (n z) xs ≡ at_key n (n z) ys} (eqb (n x) (n z))
-    (λ t. let e : n x ≡ n z = eqb-true (n x) (n z) t in ap (λ w. at_key n w xs) (sym e) ∙ rest ∙ ap (λ w. at_key n w ys) e)
+    (λ t. let e : n x ≡ n z = eqb-true (n x) (n z) t in ap (λ w. at_key n w xs) (sym e) ∙ rest
+    ∙ ap (λ w. at_key n w ys) e)
     (λ f. let g : eqb (n y) (n z) ≡ false = ap (λ k. eqb k (n z)) (sym key) ∙ f in rw (f, g) at (same z)) in
     ap (λ z. z ∷ xs) head ∙ ap (λ zs. y ∷ zs) (same_list n (n x) (n y) xs ys rx.1 ry.1 tails)
 
-put_rises : {X : Type 0} (n : X → ℕ) (from : ℕ) (x : X) (ys : List X) → from ≤ n x → Rises n from ys → Rises n from (put n x ys)
+put_rises : {X : Type 0} (n : X → ℕ) (from : ℕ) (x : X) (ys : List X) → from ≤ n x → Rises n from ys
+    → Rises n from (put n x ys)
 put_rises n from x [] le h = (le, tt)
 put_rises n from x (y ∷ ys) le h =
     by_cases {C = Rises n from (put n x (y ∷ ys))} (leb (n x) (n y))
@@ -78,7 +83,8 @@ put_at n v x (y ∷ ys) =
     by_cases {C = at_key n v (put n x (y ∷ ys)) ≡ at_key n v (x ∷ y ∷ ys)} (leb (n x) (n y))
     (λ t. rw t refl)
     (λ f. rw f (by_cases {C = at_key n v (y ∷ put n x ys) ≡ at_key n v (x ∷ y ∷ ys)} (eqb (n y) v)
-    (λ t. let no : eqb (n x) v ≡ false = ne_eqb (n x) v (λ e. omega (arith, e, leb-false (n x) (n y) f, eqb-true (n y) v t)) in
+    (λ t. let no : eqb (n x) v ≡ false = ne_eqb (n x) v (λ e. omega
+    (arith, e, leb-false (n x) (n y) f, eqb-true (n y) v t)) in
     let later : at_key n v (put n x ys) ≡ at_key n v (x ∷ ys) = put_at n v x ys in
     rw (t, no) (ap (λ r. y ∷ r) (later ∙ rw no refl)))
     (λ g. rw g (put_at n v x ys ∙ refl))))
@@ -89,7 +95,8 @@ sorted_at n v (x ∷ xs) = put_at n v x (sorted n xs) ∙ ap (λ r. cond (eqb (n
 
 -- what std's sort says, in these words
 
-pub rises_from : {X : Type 0} (n : X → ℕ) (from : ℕ) (xs : List X) → IsNonDecreasingBy n xs → ((d : X) → 0 < length xs → from ≤ n (get_or xs 0 d)) → Rises n from xs
+pub rises_from : {X : Type 0} (n : X → ℕ) (from : ℕ) (xs : List X) → IsNonDecreasingBy n xs
+    → ((d : X) → 0 < length xs → from ≤ n (get_or xs 0 d)) → Rises n from xs
 rises_from n from [] h low = tt
 rises_from {X} n from (x ∷ xs) h low =
     let tail : IsNonDecreasingBy n xs = λ i j d le lt. h (suc i) (suc j) d (omega arith) (omega arith) in
@@ -101,14 +108,18 @@ ties_at a b =
     by_cases {C = (not (is_lt (nat_cmp a b)) && not (is_lt (nat_cmp b a))) ≡ eqb b a} (ltb a b)
     (λ t. let no : eqb b a ≡ false = ne_eqb b a (λ e. omega (arith, e, ltb-true a b t)) in rw (t, no) refl)
     (λ f. by_cases {C = (not (is_lt (nat_cmp a b)) && not (is_lt (nat_cmp b a))) ≡ eqb b a} (ltb b a)
-    (λ t. let no : eqb b a ≡ false = ne_eqb b a (λ e. omega (arith, e, ltb-true b a t)) in let no' : eqb a b ≡ false = ne_eqb a b (λ e. omega (arith, e, ltb-true b a t)) in rw (f, t, no, no') refl)
-    (λ g. let e : eqb b a ≡ true = eq-eqb b a (omega (arith, ltb-false a b f, ltb-false b a g)) in let e' : eqb a b ≡ true = eq-eqb a b (omega (arith, ltb-false a b f, ltb-false b a g)) in rw (f, g, e, e') refl))
+    (λ t. let no : eqb b a ≡ false = ne_eqb b a (λ e. omega (arith, e, ltb-true b a t)) in let no' : eqb a b ≡ false =
+    ne_eqb a b (λ e. omega (arith, e, ltb-true b a t)) in rw (f, t, no, no') refl)
+    (λ g. let e : eqb b a ≡ true = eq-eqb b a (omega (arith, ltb-false a b f, ltb-false b a g)) in let e' : eqb a b
+    ≡ true = eq-eqb a b (omega (arith, ltb-false a b f, ltb-false b a g)) in rw (f, g, e, e') refl))
 
-stable_at : {X : Type 0} (n : X → ℕ) (xs ys : List X) → IsStableByKey n nat_cmp xs ys → (z : X) → at_key n (n z) ys ≡ at_key n (n z) xs
+stable_at : {X : Type 0} (n : X → ℕ) (xs ys : List X) → IsStableByKey n nat_cmp xs ys → (z : X) → at_key n (n z) ys
+    ≡ at_key n (n z) xs
 stable_at n xs ys h z =
     sym (filter_agree _ _ (λ y. ties_at (n z) (n y)) ys) ∙ h z ∙ filter_agree _ _ (λ y. ties_at (n z) (n y)) xs
 
-pub sort_is : {X : Type 0} (n : X → ℕ) (xs ys : List X) → IsNonDecreasingBy n ys → IsStableByKey n nat_cmp xs ys → ys ≡ sorted n xs
+pub sort_is : {X : Type 0} (n : X → ℕ) (xs ys : List X) → IsNonDecreasingBy n ys → IsStableByKey n nat_cmp xs ys → ys
+    ≡ sorted n xs
 sort_is n xs ys up stable =
     same_list n 0 0 ys (sorted n xs) (rises_from n 0 ys up (λ d lt. omega arith)) (sorted_rises n xs)
     (λ z. stable_at n xs ys stable z ∙ sym (sorted_at n (n z) xs))
@@ -118,35 +129,46 @@ sort_is n xs ys up stable =
 abbrev KeyIs : {X : Type 0} → (X → ℕ) → (X → Label) → List X → Type 0
 KeyIs n f xs = AllByRecursion (λ x. n x ≡ (f x).span.offset) xs
 
-put_key : {X : Type 0} (n : X → ℕ) (f : X → Label) (x : X) (ys : List X) → n x ≡ (f x).span.offset → KeyIs n f ys → KeyIs n f (put n x ys)
+put_key : {X : Type 0} (n : X → ℕ) (f : X → Label) (x : X) (ys : List X) → n x ≡ (f x).span.offset → KeyIs n f ys
+    → KeyIs n f (put n x ys)
 put_key n f x [] e h = (e, tt)
 put_key n f x (y ∷ ys) e h =
-    by_cases {C = KeyIs n f (put n x (y ∷ ys))} (leb (n x) (n y)) (λ t. rw t (e, h)) (λ g. rw g (h.0, put_key n f x ys e h.1))
+    by_cases {C = KeyIs n f (put n x (y ∷ ys))} (leb (n x) (n y)) (λ t. rw t (e, h))
+    (λ g. rw g (h.0, put_key n f x ys e h.1))
 
 sorted_key : {X : Type 0} (n : X → ℕ) (f : X → Label) (xs : List X) → KeyIs n f xs → KeyIs n f (sorted n xs)
 sorted_key n f [] h = tt
 sorted_key n f (x ∷ xs) h = put_key n f x (sorted n xs) h.0 (sorted_key n f xs h.1)
 
-put_mapped : {X : Type 0} (n : X → ℕ) (f : X → Label) (x : X) (ys : List X) → n x ≡ (f x).span.offset → KeyIs n f ys → map f (put n x ys) ≡ put_label (f x) (map f ys)
+put_mapped : {X : Type 0} (n : X → ℕ) (f : X → Label) (x : X) (ys : List X) → n x ≡ (f x).span.offset → KeyIs n f ys
+    → map f (put n x ys) ≡ put_label (f x) (map f ys)
 put_mapped n f x [] e h = refl
 put_mapped n f x (y ∷ ys) e h =
     by_cases {C = map f (put n x (y ∷ ys)) ≡ put_label (f x) (map f (y ∷ ys))} (leb (n x) (n y))
-    (λ t. let u : leb (f x).span.offset (f y).span.offset ≡ true = ap (λ a. leb a (f y).span.offset) (sym e) ∙ ap (leb (n x)) (sym h.0) ∙ t in rw (t, u) refl)
-    (λ g. let u : leb (f x).span.offset (f y).span.offset ≡ false = ap (λ a. leb a (f y).span.offset) (sym e) ∙ ap (leb (n x)) (sym h.0) ∙ g in rw (g, u) (ap (λ r. f y ∷ r) (put_mapped n f x ys e h.1)))
+    (λ t. let u : leb (f x).span.offset (f y).span.offset ≡ true = ap (λ a. leb a (f y).span.offset) (sym e)
+    ∙ ap (leb (n x)) (sym h.0) ∙ t in rw (t, u) refl)
+    (λ g. let u : leb (f x).span.offset (f y).span.offset ≡ false = ap (λ a. leb a (f y).span.offset) (sym e)
+    ∙ ap (leb (n x)) (sym h.0) ∙ g in rw (g, u) (ap (λ r. f y ∷ r) (put_mapped n f x ys e h.1)))
 
-pub sorted_mapped : {X : Type 0} (n : X → ℕ) (f : X → Label) (xs : List X) → KeyIs n f xs → map f (sorted n xs) ≡ in_order (map f xs)
+pub sorted_mapped : {X : Type 0} (n : X → ℕ) (f : X → Label) (xs : List X) → KeyIs n f xs → map f (sorted n xs)
+    ≡ in_order (map f xs)
 sorted_mapped n f [] h = refl
-sorted_mapped n f (x ∷ xs) h = put_mapped n f x (sorted n xs) h.0 (sorted_key n f xs h.1) ∙ ap (put_label (f x)) (sorted_mapped n f xs h.1)
+sorted_mapped n f (x ∷ xs) h = put_mapped n f x (sorted n xs) h.0 (sorted_key n f xs h.1)
+    ∙ ap (put_label (f x)) (sorted_mapped n f xs h.1)
 
 -- one more label of a list, as `label_at` gives it
-take_label : (labels : List Label) (i : ℕ) → i < length labels → take (i + 1) labels ≡ take i labels ++ label_at labels i ∷ []
+take_label : (labels : List Label) (i : ℕ) → i < length labels → take (i + 1) labels ≡ take i labels
+    ++ label_at labels i ∷ []
 take_label [] i lt = absurd (omega (arith, lt))
 take_label (l ∷ ls) zero lt = refl
-take_label (l ∷ ls) (suc i) lt = let e : suc i + 1 ≡ suc (i + 1) = omega arith in rw e (ap (λ r. l ∷ r) (take_label ls i (omega (arith, lt))))
+take_label (l ∷ ls) (suc i) lt = let e : suc i + 1 ≡ suc (i + 1) = omega arith in
+    rw e (ap (λ r. l ∷ r) (take_label ls i (omega (arith, lt))))
 
-pub map_label : {X : Type 0} (f : X → Label) (xs : List X) (x : X) (labels : List Label) (i : ℕ) → map f xs ≡ take i labels → f x ≡ label_at labels i → i < length labels →
+pub map_label : {X : Type 0} (f : X → Label) (xs : List X) (x : X) (labels : List Label) (i : ℕ) → map f xs
+    ≡ take i labels → f x ≡ label_at labels i → i < length labels →
     map f (xs ++ x ∷ []) ≡ take (i + 1) labels
-map_label f xs x labels i e h lt = map-append f xs (x ∷ []) ∙ ap (λ r. r ++ f x ∷ []) e ∙ ap (λ y. take i labels ++ y ∷ []) h ∙ sym (take_label labels i lt)
+map_label f xs x labels i e h lt = map-append f xs (x ∷ []) ∙ ap (λ r. r ++ f x ∷ []) e
+    ∙ ap (λ y. take i labels ++ y ∷ []) h ∙ sym (take_label labels i lt)
 
 pub label_got : (labels : List Label) (i : ℕ) (d : Label) → i < length labels → label_at labels i ≡ get_or labels i d
 label_got [] i d lt = absurd (omega (arith, lt))
@@ -158,10 +180,12 @@ by_recursion P [] h = tt
 by_recursion P (x ∷ xs) h = (h 0 x (omega arith), by_recursion P xs (λ k d lt. h (suc k) d (omega arith)))
 
 -- what `by_offset` shows
-pub ordered : {X : Type 0} (n : X → ℕ) (f : X → Label) (labels : List Label) (xs ys : List X) → map f xs ≡ labels → All (λ x. n x ≡ (f x).span.offset) xs →
+pub ordered : {X : Type 0} (n : X → ℕ) (f : X → Label) (labels : List Label) (xs ys : List X) → map f xs ≡ labels
+    → All (λ x. n x ≡ (f x).span.offset) xs →
     IsNonDecreasingBy n ys → IsStableByKey n nat_cmp xs ys → map f ys ≡ in_order labels
 ordered n f labels xs ys e keys up stable =
-    ap (map f) (sort_is n xs ys up stable) ∙ sorted_mapped n f xs (by_recursion (λ x. n x ≡ (f x).span.offset) xs keys) ∙ ap in_order e
+    ap (map f) (sort_is n xs ys up stable) ∙ sorted_mapped n f xs (by_recursion (λ x. n x ≡ (f x).span.offset) xs keys)
+    ∙ ap in_order e
 
 -- One more label: what the list of turns shows afterwards.
 pub record AreTurns (labels : List Label) (i : ℕ) (turns : List Turn) : Type 0 where
@@ -169,17 +193,23 @@ pub record AreTurns (labels : List Label) (i : ℕ) (turns : List Turn) : Type 0
   pub offsets : All (λ turn. turn.offset ≡ (label_at labels turn.index).span.offset) turns
   pub inside : All (λ turn. turn.index < length labels) turns
 
-turns_pushed : (labels : List Label) (i offset : ℕ) (label : Label) (turns : List Turn) → AreTurns labels i turns → i < length labels → label ≡ get_or labels i label → offset ≡ label.span.offset →
+turns_pushed : (labels : List Label) (i offset : ℕ) (label : Label) (turns : List Turn) → AreTurns labels i turns → i
+    < length labels → label ≡ get_or labels i label → offset ≡ label.span.offset →
     AreTurns labels (i + 1) (turns ++ record { index = i; offset = offset } ∷ [])
 turns_pushed labels i offset label turns h lt is off =
     let same : label_at labels i ≡ label = label_got labels i label lt ∙ sym is in
     let at : offset ≡ (label_at labels i).span.offset = off ∙ ap (λ l. l.span.offset) (sym same) in
     record {
-      are = map_label (λ turn. label_at labels turn.index) turns (record { index = i; offset = offset }) labels i h.are refl lt;
-      offsets = All-push (λ turn. turn.offset ≡ (label_at labels turn.index).span.offset) turns (record { index = i; offset = offset }) h.offsets at;
+      are = map_label (λ turn. label_at labels turn.index) turns (record { index = i; offset = offset }) labels i h.are
+          refl lt;
+      offsets = All-push (λ turn. turn.offset ≡ (label_at labels turn.index).span.offset) turns
+          (record { index = i; offset = offset }) h.offsets at;
       inside = All-push (λ turn. turn.index < length labels) turns (record { index = i; offset = offset }) h.inside lt;
     }
 
-pub turns_more : (labels : List Label) (i offset : ℕ) (label : Label) (turns more : List Turn) → AreTurns labels i turns → i < length labels → label ≡ get_or labels i label → offset ≡ label.span.offset →
+pub turns_more : (labels : List Label) (i offset : ℕ) (label : Label) (turns more : List Turn) → AreTurns labels i turns
+    → i < length labels → label ≡ get_or labels i label → offset ≡ label.span.offset →
     more ≡ turns ++ record { index = i; offset = offset } ∷ [] → AreTurns labels (i + 1) more
-turns_more labels i offset label turns more h lt is off e = subst (λ (xs : List Turn). AreTurns labels (i + 1) xs) (sym e) (turns_pushed labels i offset label turns h lt is off)
+turns_more labels i offset label turns more h lt is off e =
+    subst (λ (xs : List Turn). AreTurns labels (i + 1) xs) (sym e)
+    (turns_pushed labels i offset label turns h lt is off)

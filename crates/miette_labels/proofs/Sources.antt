@@ -1,5 +1,7 @@
--- Lines, places and reads in the forms that the proofs go by: recursions over bytes and over lists of lines. `Bridge` joins them to the words of miette_protocol.
-use Rattle.std.specs.Prelude.{ℕ, zero, suc, ◌+◌, ◌-◌, ◌<◌, ◌≤◌, max, ◌≡◌, List, [], ◌∷◌, length, slice_index, Bool, false, ◌&&◌, if◌then◌else◌, nat_lt, nat_le, ◌==◌}
+-- Lines, places and reads in the forms that the proofs go by: recursions over bytes and over lists of lines. `Bridge`
+-- joins them to the words of miette_protocol.
+use Rattle.std.specs.Prelude.{ℕ, zero, suc, ◌+◌, ◌-◌, ◌<◌, ◌≤◌, max, ◌≡◌, List, [], ◌∷◌, length, slice_index, Bool}
+use Rattle.std.specs.Prelude.{false, ◌&&◌, if◌then◌else◌, nat_lt, nat_le, ◌==◌}
 use Rattle.std.specs.List.{range_with_len, filter}
 use Rattle.miette_source_lines.specs.rules.Lines.{Line, is_terminated}
 use Rattle.miette_protocol.specs.rules.Reading.{Span}
@@ -35,7 +37,8 @@ lines source = lines_from 0 source
 -- The lines cut the bytes from one place up to another, none of them is empty, and only the last may lack a terminator.
 abbrev pub IsCut : ℕ → ℕ → List Line → Type 0
 IsCut at n [] = at ≡ n
-IsCut at n (l ∷ ls) = (l.start ≡ at) × (at ≤ l.text_end) × (l.text_end ≤ l.end) × (at < l.end) × (l.end < n → l.text_end < l.end) × IsCut l.end n ls
+IsCut at n (l ∷ ls) = (l.start ≡ at) × (at ≤ l.text_end) × (l.text_end ≤ l.end) × (at < l.end)
+    × (l.end < n → l.text_end < l.end) × IsCut l.end n ls
 
 -- the line of an offset: how many lines with a terminator end there or before
 abbrev pub line_of : List Line → ℕ → ℕ
@@ -45,7 +48,8 @@ line_of (l ∷ ls) offset = (if nat_le l.end offset && is_terminated l then 1 el
 -- how many terminators have their last byte in a range
 abbrev pub terminators_in : List Line → ℕ → ℕ → ℕ
 terminators_in [] begin end = 0
-terminators_in (l ∷ ls) begin end = (if nat_lt begin l.end && nat_le l.end end && is_terminated l then 1 else 0) + terminators_in ls begin end
+terminators_in (l ∷ ls) begin end = (if nat_lt begin l.end && nat_le l.end end && is_terminated l then 1 else 0)
+    + terminators_in ls begin end
 
 -- where line k begins, or 0 where it isn't there
 abbrev pub start_of : List Line → ℕ → ℕ
@@ -74,7 +78,8 @@ first_line c source span = line_of (lines source) span.offset - c
 abbrev pub last_line : ℕ → List ℕ → Span → ℕ
 last_line c source span = line_of (lines source) (reading_end source (end_of_span span)) + c
 
--- what a read with at least one line of context answers: the place of the data, their first line, and the count of terminators in them
+-- what a read with at least one line of context answers: the place of the data, their first line, and the count of
+-- terminators in them
 pub record Read : Type 0 where
   pub begin : ℕ
   pub end : ℕ
@@ -92,7 +97,8 @@ read c source span =
 
 -- the numbers of the lines that lie between two places
 abbrev pub lines_between : List ℕ → ℕ → ℕ → List ℕ
-lines_between source begin end = filter (λ k. nat_le begin (start_of (lines source) k) && nat_le (end_of (length source) (lines source) k) end) (range_with_len 0 (length (lines source)))
+lines_between source begin end = filter (λ k. nat_le begin (start_of (lines source) k)
+    && nat_le (end_of (length source) (lines source) k) end) (range_with_len 0 (length (lines source)))
 
 -- the numbers of the lines that lie in the data
 abbrev pub lines_in : List ℕ → Read → List ℕ

@@ -1,12 +1,14 @@
 -- One sweep finds the labels that lie on a line.
-use Rattle.std.proofs.Common.{ℕ, zero, suc, ◌<◌, ◌≤◌, ◌≡◌, Bool, true, false, cond, ltb, leb, eqb, List, [], ◌∷◌, length, take, get_or, refl, sym, ap, ◌∙◌, ⊎_elim, ◌&&◌, arith}
+use Rattle.std.proofs.Common.{ℕ, zero, suc, ◌<◌, ◌≤◌, ◌≡◌, Bool, true, false, cond, ltb, leb, eqb, List, [], ◌∷◌}
+use Rattle.std.proofs.Common.{length, take, get_or, refl, sym, ap, ◌∙◌, ⊎_elim, ◌&&◌, arith}
 use Rattle.std.proofs.lemmas.Bool.{lt-ltb, le-ltb, le-leb, lt-leb, ltb-true, ltb-false, cases_lt, eqb-false}
 use Rattle.std.proofs.Math.Seq.{take-nil}
 use Rattle.std.specs.List.{filter}
 use Rattle.miette_labels.specs.declared.sweep.PlacedLabel.{PlacedLabel}
 use Rattle.miette_labels.specs.declared.sweep.Bounds.{Bounds}
 use Rattle.miette_labels.specs.rules.Labels.{reach}
-use Rattle.miette_labels.specs.views.Sweeping.{label_of, line_of_bounds, passes, is_one, is_multi, nothing, start_at, AreSorted, IsAt, IsOn}
+use Rattle.miette_labels.specs.views.Sweeping.{label_of, line_of_bounds, passes, is_one, is_multi, nothing, start_at}
+use Rattle.miette_labels.specs.views.Sweeping.{AreSorted, IsAt, IsOn}
 use Rattle.miette_basics.proofs.Cases.{by_cases}
 
 -- on the way through a line
@@ -18,11 +20,14 @@ pub record IsSwept (labels : List PlacedLabel) (line : Bounds) (next : ℕ) (one
   pub multi_is : multi ≡ filter (is_multi (line_of_bounds line)) (take next labels)
 
 reach-gt : (p : PlacedLabel) → p.start ≤ p.after → p.start < reach (label_of p)
-reach-gt p le = by_cases {C = p.start < reach (label_of p)} (eqb p.start p.after) (λ t. rw t (omega arith)) (λ f. rw f (⊎_elim {C = p.start < p.after} (λ lt. lt) (λ ge. absurd (eqb-false p.start p.after f (omega (arith, le, ge)))) (cases_lt p.start p.after)))
+reach-gt p le = by_cases {C = p.start < reach (label_of p)} (eqb p.start p.after) (λ t. rw t (omega arith))
+    (λ f. rw f (⊎_elim {C = p.start < p.after} (λ lt. lt)
+    (λ ge. absurd (eqb-false p.start p.after f (omega (arith, le, ge)))) (cases_lt p.start p.after)))
 
 -- what holds of a label by where it starts
 
-pub inside_past : (line : Bounds) (p : PlacedLabel) → p.start ≤ p.after → line.start ≤ p.start → p.start < line.after → passes line.after p ≡ true → (is_one (line_of_bounds line) p ≡ false) × (is_multi (line_of_bounds line) p ≡ true)
+pub inside_past : (line : Bounds) (p : PlacedLabel) → p.start ≤ p.after → line.start ≤ p.start → p.start < line.after
+    → passes line.after p ≡ true → (is_one (line_of_bounds line) p ≡ false) × (is_multi (line_of_bounds line) p ≡ true)
 inside_past line p ok ge lt past =
     let r : ℕ = reach (label_of p) in
     let gt : p.start < r = reach-gt p ok in
@@ -33,7 +38,8 @@ inside_past line p ok ge lt past =
     let d : leb r line.after ≡ false = lt-leb r line.after over in
     (rw (a, b, c, d) refl, rw (a, b, c, d) refl)
 
-inside_ends : (line : Bounds) (p : PlacedLabel) → p.start ≤ p.after → line.start ≤ p.start → p.start < line.after → passes line.after p ≡ false → (is_one (line_of_bounds line) p ≡ true) × (is_multi (line_of_bounds line) p ≡ false)
+inside_ends : (line : Bounds) (p : PlacedLabel) → p.start ≤ p.after → line.start ≤ p.start → p.start < line.after
+    → passes line.after p ≡ false → (is_one (line_of_bounds line) p ≡ true) × (is_multi (line_of_bounds line) p ≡ false)
 inside_ends line p ok ge lt past =
     let r : ℕ = reach (label_of p) in
     let gt : p.start < r = reach-gt p ok in
@@ -47,7 +53,8 @@ inside_ends line p ok ge lt past =
 earlier_one : (line : Bounds) (p : PlacedLabel) → p.start < line.start → is_one (line_of_bounds line) p ≡ false
 earlier_one line p lt = let a : leb line.start p.start ≡ false = lt-leb line.start p.start lt in rw a refl
 
-pub earlier_multi : (line : Bounds) (p : PlacedLabel) → line.start < line.after → p.start < line.start → is_multi (line_of_bounds line) p ≡ passes line.start p
+pub earlier_multi : (line : Bounds) (p : PlacedLabel) → line.start < line.after → p.start < line.start
+    → is_multi (line_of_bounds line) p ≡ passes line.start p
 earlier_multi line p some lt =
     let r : ℕ = reach (label_of p) in
     let a : leb line.start p.start ≡ false = lt-leb line.start p.start lt in
@@ -56,15 +63,20 @@ earlier_multi line p some lt =
     (λ c. by_cases {C = is_multi (line_of_bounds line) p ≡ passes line.start p} (ltb line.after r)
     (λ g. let d : leb r line.after ≡ false = lt-leb r line.after (ltb-true line.after r g) in rw (a, f, c, g, d) refl)
     (λ g. let d : leb r line.after ≡ true = le-leb r line.after (ltb-false line.after r g) in rw (a, f, c, g, d) refl))
-    (λ c. let g : ltb line.after r ≡ false = le-ltb line.after r (omega (arith, some, ltb-false line.start r c)) in rw (a, f, c, g) refl)
+    (λ c. let g : ltb line.after r ≡ false = le-ltb line.after r (omega (arith, some, ltb-false line.start r c)) in
+    rw (a, f, c, g) refl)
 
-earlier_past : (line : Bounds) (p : PlacedLabel) → line.start < line.after → (passes line.start p && passes line.after p) ≡ passes line.after p
+earlier_past : (line : Bounds) (p : PlacedLabel) → line.start < line.after
+    → (passes line.start p && passes line.after p) ≡ passes line.after p
 earlier_past line p some =
     let r : ℕ = reach (label_of p) in
-    by_cases {C = (passes line.start p && passes line.after p) ≡ passes line.after p} (ltb line.start r) (λ c. rw c refl)
-    (λ c. let g : ltb line.after r ≡ false = le-ltb line.after r (omega (arith, some, ltb-false line.start r c)) in rw (c, g) refl)
+    by_cases {C = (passes line.start p && passes line.after p) ≡ passes line.after p} (ltb line.start r)
+    (λ c. rw c refl)
+    (λ c. let g : ltb line.after r ≡ false = le-ltb line.after r (omega (arith, some, ltb-false line.start r c)) in
+    rw (c, g) refl)
 
-pub later_none : (line : Bounds) (p : PlacedLabel) → p.start ≤ p.after → line.start < line.after → line.after ≤ p.start → (is_one (line_of_bounds line) p ≡ false) × (is_multi (line_of_bounds line) p ≡ false)
+pub later_none : (line : Bounds) (p : PlacedLabel) → p.start ≤ p.after → line.start < line.after → line.after ≤ p.start
+    → (is_one (line_of_bounds line) p ≡ false) × (is_multi (line_of_bounds line) p ≡ false)
 later_none line p ok some ge =
     let r : ℕ = reach (label_of p) in
     let gt : p.start < r = reach-gt p ok in
@@ -77,11 +89,14 @@ later_none line p ok some ge =
 
 -- filters of the front of a list
 
-filter_front : (p q : PlacedLabel → Bool) (n : ℕ) (xs : List PlacedLabel) → ((k : ℕ) → k < n → k < length xs → p (get_or xs k nothing) ≡ q (get_or xs k nothing)) → filter p (take n xs) ≡ filter q (take n xs)
+filter_front : (p q : PlacedLabel → Bool) (n : ℕ) (xs : List PlacedLabel)
+    → ((k : ℕ) → k < n → k < length xs → p (get_or xs k nothing) ≡ q (get_or xs k nothing)) → filter p (take n xs)
+    ≡ filter q (take n xs)
 filter_front p q zero xs h = refl
 filter_front p q (suc n) [] h = refl
 filter_front p q (suc n) (x ∷ xs) h =
-    let rest : filter p (take n xs) ≡ filter q (take n xs) = filter_front p q n xs (λ k a b. h (suc k) (omega arith) (omega arith)) in
+    let rest : filter p (take n xs) ≡ filter q (take n xs) =
+    filter_front p q n xs (λ k a b. h (suc k) (omega arith) (omega arith)) in
     let own : p x ≡ q x = h 0 (omega arith) (omega arith) in
     rw own (ap (λ r. cond (q x) (x ∷ r) r) rest)
 
@@ -96,7 +111,8 @@ filter_both p q (x ∷ xs) =
     (λ t. rw t (ap (λ r. cond (q x) (x ∷ r) r) (filter_both p q xs))) (λ f. rw f (filter_both p q xs))
 
 -- none behind the front passes
-filter_beyond : (p : PlacedLabel → Bool) (n : ℕ) (xs : List PlacedLabel) → ((k : ℕ) → n ≤ k → k < length xs → p (get_or xs k nothing) ≡ false) → filter p (take n xs) ≡ filter p xs
+filter_beyond : (p : PlacedLabel → Bool) (n : ℕ) (xs : List PlacedLabel)
+    → ((k : ℕ) → n ≤ k → k < length xs → p (get_or xs k nothing) ≡ false) → filter p (take n xs) ≡ filter p xs
 filter_beyond p n [] h = ap (filter p) (take-nil n)
 filter_beyond p zero (x ∷ xs) h =
     let own : p x ≡ false = h 0 (omega arith) (omega arith) in
@@ -105,60 +121,79 @@ filter_beyond p (suc n) (x ∷ xs) h =
     ap (λ r. cond (p x) (x ∷ r) r) (filter_beyond p n xs (λ k a b. h (suc k) (omega arith) (omega arith)))
 
 -- where a line begins
-pub swept_init : (labels : List PlacedLabel) (line : Bounds) (next : ℕ) (running : List PlacedLabel) → line.start < line.after → IsAt labels line.start next running → IsSwept labels line next [] running
+pub swept_init : (labels : List PlacedLabel) (line : Bounds) (next : ℕ) (running : List PlacedLabel) → line.start
+    < line.after → IsAt labels line.start next running → IsSwept labels line next [] running
 swept_init labels line next running some is = record {
   count = is.count;
   before = λ k lt. omega (arith, is.before k lt, some);
   later = is.later;
-  one_is = sym (filter_front (is_one (line_of_bounds line)) (λ x. false) next labels (λ k a b. earlier_one line (get_or labels k nothing) (is.before k a)) ∙ filter_no (take next labels));
-  multi_is = is.carried ∙ sym (filter_front (is_multi (line_of_bounds line)) (passes line.start) next labels (λ k a b. earlier_multi line (get_or labels k nothing) some (is.before k a)));
+  one_is = sym (filter_front (is_one (line_of_bounds line)) (λ x. false) next labels
+      (λ k a b. earlier_one line (get_or labels k nothing) (is.before k a)) ∙ filter_no (take next labels));
+  multi_is = is.carried ∙ sym (filter_front (is_multi (line_of_bounds line)) (passes line.start) next labels
+      (λ k a b. earlier_multi line (get_or labels k nothing) some (is.before k a)));
 }
 
-pub swept_first : (labels : List PlacedLabel) (line : Bounds) (next : ℕ) (running one : List PlacedLabel) → line.start < line.after → IsAt labels line.start next running → one ≡ [] → IsSwept labels line next one running
+pub swept_first : (labels : List PlacedLabel) (line : Bounds) (next : ℕ) (running one : List PlacedLabel) → line.start
+    < line.after → IsAt labels line.start next running → one ≡ [] → IsSwept labels line next one running
 swept_first labels line next running one some is a = rw a (swept_init labels line next running some is)
 
 -- where no more labels start on the line
 abbrev pub IsOver : List PlacedLabel → Bounds → ℕ → Type 0
 IsOver labels line next = next < length labels → line.after ≤ start_at labels next
 
-beyond : (labels : List PlacedLabel) (line : Bounds) (next : ℕ) → AreSorted labels → IsOver labels line next → (k : ℕ) → next ≤ k → k < length labels → line.after ≤ start_at labels k
+beyond : (labels : List PlacedLabel) (line : Bounds) (next : ℕ) → AreSorted labels → IsOver labels line next → (k : ℕ)
+    → next ≤ k → k < length labels → line.after ≤ start_at labels k
 beyond labels line next sorted over k le lt = omega (arith, over (omega arith), sorted.order next k le lt)
 
-pub swept_one : (labels : List PlacedLabel) (line : Bounds) (next : ℕ) (one multi : List PlacedLabel) → AreSorted labels → line.start < line.after → IsOver labels line next → IsSwept labels line next one multi →
+pub swept_one : (labels : List PlacedLabel) (line : Bounds) (next : ℕ) (one multi : List PlacedLabel) → AreSorted labels
+    → line.start < line.after → IsOver labels line next → IsSwept labels line next one multi →
     one ≡ filter (is_one (line_of_bounds line)) labels
 swept_one labels line next one multi sorted some over is =
-    is.one_is ∙ filter_beyond (is_one (line_of_bounds line)) next labels (λ k a b. (later_none line (get_or labels k nothing) (sorted.drawn k b) some (beyond labels line next sorted over k a b)).0)
+    is.one_is ∙ filter_beyond (is_one (line_of_bounds line)) next labels
+    (λ k a b. (later_none line (get_or labels k nothing) (sorted.drawn k b) some
+    (beyond labels line next sorted over k a b)).0)
 
-pub swept_on : (labels : List PlacedLabel) (line : Bounds) (next : ℕ) (one multi : List PlacedLabel) → AreSorted labels → line.start < line.after → IsOver labels line next → IsSwept labels line next one multi →
+pub swept_on : (labels : List PlacedLabel) (line : Bounds) (next : ℕ) (one multi : List PlacedLabel) → AreSorted labels
+    → line.start < line.after → IsOver labels line next → IsSwept labels line next one multi →
     IsOn labels (line_of_bounds line) next multi
 swept_on labels line next one multi sorted some over is = record {
   count = is.count;
   before = is.before;
   later = beyond labels line next sorted over;
-  multi = is.multi_is ∙ filter_beyond (is_multi (line_of_bounds line)) next labels (λ k a b. (later_none line (get_or labels k nothing) (sorted.drawn k b) some (beyond labels line next sorted over k a b)).1);
+  multi = is.multi_is ∙ filter_beyond (is_multi (line_of_bounds line)) next labels
+      (λ k a b. (later_none line (get_or labels k nothing) (sorted.drawn k b) some
+      (beyond labels line next sorted over k a b)).1);
 }
 
 -- of the labels that begin before a line's end those that go on past it are of several lines
-on_past : (labels : List PlacedLabel) (line : Bounds) (k : ℕ) → AreSorted labels → line.start < line.after → k < length labels → start_at labels k < line.after →
-    (is_multi (line_of_bounds line) (get_or labels k nothing) && passes line.after (get_or labels k nothing)) ≡ passes line.after (get_or labels k nothing)
+on_past : (labels : List PlacedLabel) (line : Bounds) (k : ℕ) → AreSorted labels → line.start < line.after → k
+    < length labels → start_at labels k < line.after →
+    (is_multi (line_of_bounds line) (get_or labels k nothing) && passes line.after (get_or labels k nothing))
+    ≡ passes line.after (get_or labels k nothing)
 on_past labels line k sorted some lt before =
     let p : PlacedLabel = get_or labels k nothing in
     ⊎_elim {C = (is_multi (line_of_bounds line) p && passes line.after p) ≡ passes line.after p}
     (λ less. ap (λ b. b && passes line.after p) (earlier_multi line p some less) ∙ earlier_past line p some)
-    (λ ge. by_cases {C = (is_multi (line_of_bounds line) p && passes line.after p) ≡ passes line.after p} (passes line.after p)
+    (λ ge. by_cases {C = (is_multi (line_of_bounds line) p && passes line.after p) ≡ passes line.after p}
+    (passes line.after p)
     (λ t. ap (λ b. b && passes line.after p) (inside_past line p (sorted.drawn k lt) ge before t).1)
     (λ f. ap (λ b. b && passes line.after p) (inside_ends line p (sorted.drawn k lt) ge before f).1 ∙ sym f))
     (cases_lt (start_at labels k) line.start)
 
 -- where a line is left
-pub left_at : (labels : List PlacedLabel) (line : Bounds) (next : ℕ) (running left : List PlacedLabel) → AreSorted labels → line.start < line.after → IsOn labels (line_of_bounds line) next running → left ≡ filter (passes line.after) running →
+pub left_at : (labels : List PlacedLabel) (line : Bounds) (next : ℕ) (running left : List PlacedLabel)
+    → AreSorted labels → line.start < line.after → IsOn labels (line_of_bounds line) next running → left
+    ≡ filter (passes line.after) running →
     IsAt labels line.after next left
 left_at labels line next running left sorted some on is =
     let both : PlacedLabel → Bool = λ p. is_multi (line_of_bounds line) p && passes line.after p in record {
       count = on.count;
       before = on.before;
       later = on.later;
-      carried = is ∙ ap (filter (passes line.after)) on.multi ∙ filter_both (is_multi (line_of_bounds line)) (passes line.after) labels
-          ∙ sym (filter_beyond both next labels (λ k a b. ap (λ m. m && passes line.after (get_or labels k nothing)) (later_none line (get_or labels k nothing) (sorted.drawn k b) some (on.later k a b)).1))
-          ∙ filter_front both (passes line.after) next labels (λ k a b. on_past labels line k sorted some b (on.before k a));
+      carried = is ∙ ap (filter (passes line.after)) on.multi
+          ∙ filter_both (is_multi (line_of_bounds line)) (passes line.after) labels
+          ∙ sym (filter_beyond both next labels (λ k a b. ap (λ m. m && passes line.after (get_or labels k nothing))
+          (later_none line (get_or labels k nothing) (sorted.drawn k b) some (on.later k a b)).1))
+          ∙ filter_front both (passes line.after) next labels
+          (λ k a b. on_past labels line k sorted some b (on.before k a));
     }

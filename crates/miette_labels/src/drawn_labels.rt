@@ -3,7 +3,8 @@
 ghost use Rattle.std.specs.Prelude.{option_copied, ◌≡◌, IfOk};
 ghost use Rattle.miette_labels.specs.rules.Labels.{style_at};
 ghost use Rattle.miette_labels.specs.views.GivenLabels.{text_at};
-ghost use Rattle.miette_labels.specs.views.Placing.{placed_from, placed_one, end_drawn, is_told, lends_before, told_end};
+ghost use Rattle.miette_labels.specs.views.Placing.{placed_from, placed_one, end_drawn, is_told};
+ghost use Rattle.miette_labels.specs.views.Placing.{lends_before, told_end};
 
 use crate::reading::ReadLabel;
 use crate::spans::end_of;

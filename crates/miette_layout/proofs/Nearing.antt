@@ -12,8 +12,11 @@ use Rattle.miette_labels.proofs.Merging.{IsAscending}
 use Rattle.miette_labels.proofs.Refusing.{read_of}
 use Rattle.miette_labels.proofs.Nearing.{rise}
 
-pub reads_rise : (context : ℕ) (source : Source) (labels : List Label) (reads : List ReadLabel) → map (read_of labels) reads ≡ in_order labels → All (IsRead context source labels) reads →
+pub reads_rise : (context : ℕ) (source : Source) (labels : List Label) (reads : List ReadLabel)
+    → map (read_of labels) reads ≡ in_order labels → All (IsRead context source labels) reads →
     IsNonDecreasingBy (λ r. r.span.offset) reads
 reads_rise context source labels reads e h =
-    let up : IsAscending 0 (spans_of (map (read_of labels) reads)) = subst (λ (ss : List Span). IsAscending 0 ss) (sym (ap spans_of e ∙ order_same labels)) (sorted (spans_of labels)) in
+    let up : IsAscending 0 (spans_of (map (read_of labels) reads)) =
+    subst (λ (ss : List Span). IsAscending 0 ss) (sym (ap spans_of e ∙ order_same labels)) (sorted (spans_of labels))
+    in
     λ i j d le lt. rise context source labels 0 i j reads d h up le lt

@@ -1,8 +1,10 @@
 -- Characters that take no columns, one behind another at the end of a text: only the first one is seen from before it.
-use Rattle.std.proofs.Common.{ℕ, ◌+◌, ◌<◌, ◌≡◌, Bool, true, false, cond, not, ◌&&◌, ◌||◌, ◌==◌, nat_lt, List, [], ◌∷◌, ◌++◌, None, refl, sym, ap, subst, add-zero, ◌∙◌, arith, eqb-true, inl, inr}
+use Rattle.std.proofs.Common.{ℕ, ◌+◌, ◌<◌, ◌≡◌, Bool, true, false, cond, not, ◌&&◌, ◌||◌, ◌==◌, nat_lt, List, [], ◌∷◌}
+use Rattle.std.proofs.Common.{◌++◌, None, refl, sym, ap, subst, add-zero, ◌∙◌, arith, eqb-true, inl, inr}
 use Rattle.std.specs.Int.{is_in_range}
 use Rattle.std.specs.List.{list_all}
-use Rattle.std.proofs.lemmas.Bool.{true≢false, and_parts, and_right, or_parts, cases_lt, le-ltb, lt-leb, ne_eqb, not-true}
+use Rattle.std.proofs.lemmas.Bool.{true≢false, and_parts, and_right, or_parts, cases_lt, le-ltb, lt-leb, ne_eqb}
+use Rattle.std.proofs.lemmas.Bool.{not-true}
 use Rattle.ucd_table.specs.Rows.{Range, in_ranges}
 use Rattle.ucd_table.proofs.Stepped.{Stepped, of_ranges, zip_stepped}
 use Rattle.ucd_table.proofs.Facts.{always, ends_by, Stepped-everywhere}
@@ -13,7 +15,8 @@ use Rattle.unicode_width.specs.declared.kind.Kind.TheVariants as kinds
 use Rattle.unicode_width.specs.declared.state.After.TheVariants as afters
 use Rattle.unicode_width.specs.declared.state.State.{State}
 use Rattle.unicode_width.specs.Kind.{kind, is_text_presentation_base}
-use Rattle.unicode_width.specs.Width.{before, plain, of_kind, single, alone, joins, Reading, added, is_plain, past_selectors, in_context, past_emoji, step, read_before, str_width}
+use Rattle.unicode_width.specs.Width.{before, plain, of_kind, single, alone, joins, Reading, added, is_plain}
+use Rattle.unicode_width.specs.Width.{past_selectors, in_context, past_emoji, step, read_before, str_width}
 use Rattle.unicode_width.proofs.KindLemmas.{is_text_presentation_base_stepped}
 use Rattle.unicode_width.proofs.Computing.{unicode_width}
 use Rattle.miette_cells.specs.rules.Widths.{width_of}
@@ -51,7 +54,8 @@ single_light c =
     (light_or (c == 0x16D68) (1, before afters.KiratAi) _ (λ e. absurd (true≢false (sym e)))
     (light_or (c == 0xFE0F) (0, record plain { emoji = true }) _ (λ e. (true, (false, (false, refl))))
     (light_or (c == 0xFE01) (0, record plain { quote = true }) _ (λ e. (false, (false, (true, refl))))
-    (light_or (c == 0xFE0E) (0, record plain { text = true }) (0, plain) (λ e. (false, (true, (false, refl)))) (λ e. (false, (false, (false, refl)))))))))))))
+    (light_or (c == 0xFE0E) (0, record plain { text = true }) (0, plain) (λ e. (false, (true, (false, refl))))
+    (λ e. (false, (false, (false, refl)))))))))))))
 
 kind_light : (c : ℕ) (k : Kind) → IsLight (of_kind false c k)
 kind_light c kinds.Zero = λ e. (false, (false, (false, refl)))
@@ -112,13 +116,15 @@ of_faint_kind c h = kind_faint c (kind c) (ap (λ n. n == 0) (faint_alone c h))
 abbrev unlike : (p : ℕ → Bool) → Stepped p → Bool
 unfolding unicode_width kind_test_stepped
 unlike p s =
-    let both = zip_stepped (λ f b. not (f && b)) (λ c. is_faint_kind (kind c)) p (kind_test_stepped is_faint_kind refl refl) s in
+    let both = zip_stepped (λ f b. not (f && b)) (λ c. is_faint_kind (kind c)) p
+    (kind_test_stepped is_faint_kind refl refl) s in
     always _ both && (ends_by 0x11_0000 both.steps && both.default)
 
 faint_not : (p : ℕ → Bool) (s : Stepped p) → unlike p s ≡ true → (c : ℕ) → is_faint_kind (kind c) ≡ true → p c ≡ false
 unfolding unicode_width kind_test_stepped
 faint_not p s ok c h =
-    let both = zip_stepped (λ f b. not (f && b)) (λ c. is_faint_kind (kind c)) p (kind_test_stepped is_faint_kind refl refl) s in
+    let both = zip_stepped (λ f b. not (f && b)) (λ c. is_faint_kind (kind c)) p
+    (kind_test_stepped is_faint_kind refl refl) s in
     not-true (p c) (subst (λ a. not (a && p c) ≡ true) h (Stepped-everywhere _ both ok c))
 
 -- what a selector changes, and the quotation marks
@@ -133,11 +139,13 @@ is_selected c = is_emoji_variation_base c || is_presented c
 
 abbrev presented_stepped : Stepped is_presented
 unfolding unicode_width
-presented_stepped = zip_stepped (λ a b. a || b) is_text_presentation_base (in_ranges quotes) is_text_presentation_base_stepped (of_ranges quotes refl)
+presented_stepped = zip_stepped (λ a b. a || b) is_text_presentation_base (in_ranges quotes)
+    is_text_presentation_base_stepped (of_ranges quotes refl)
 
 abbrev selected_stepped : Stepped is_selected
 unfolding unicode_width
-selected_stepped = zip_stepped (λ a b. a || b) is_emoji_variation_base is_presented is_emoji_variation_base_stepped presented_stepped
+selected_stepped = zip_stepped (λ a b. a || b) is_emoji_variation_base is_presented is_emoji_variation_base_stepped
+    presented_stepped
 
 -- one walk over the table of kinds for all of them
 not_selected : (c : ℕ) → is_faint_kind (kind c) ≡ true → is_selected c ≡ false
@@ -153,7 +161,8 @@ not_presented c h = (or_parts (is_emoji_variation_base c) (is_presented c) (not_
 no_presentation : (c : ℕ) → is_faint_kind (kind c) ≡ true → is_text_presentation_base c ≡ false
 no_presentation c h = (or_parts (is_text_presentation_base c) (in_ranges quotes c) (not_presented c h)).0
 
-no_quote : (c : ℕ) → is_faint_kind (kind c) ≡ true → (is_in_range 0x2018 0x2019 c || (is_in_range 0x201C 0x201D c || false)) ≡ false
+no_quote : (c : ℕ) → is_faint_kind (kind c) ≡ true → (is_in_range 0x2018 0x2019 c
+    || (is_in_range 0x201C 0x201D c || false)) ≡ false
 unfolding in_ranges
 no_quote c h = (or_parts (is_text_presentation_base c) (in_ranges quotes c) (not_presented c h)).1
 
@@ -162,7 +171,8 @@ no_single_quote c h = (or_parts (is_in_range 0x2018 0x2019 c) (is_in_range 0x201
 
 no_double_quote : (c : ℕ) → is_faint_kind (kind c) ≡ true → is_in_range 0x201C 0x201D c ≡ false
 no_double_quote c h =
-    (or_parts (is_in_range 0x201C 0x201D c) false (or_parts (is_in_range 0x2018 0x2019 c) (is_in_range 0x201C 0x201D c || false) (no_quote c h)).1).0
+    (or_parts (is_in_range 0x201C 0x201D c) false (or_parts (is_in_range 0x2018 0x2019 c)
+    (is_in_range 0x201C 0x201D c || false) (no_quote c h)).1).0
 
 -- ---- its step before others such
 
@@ -186,29 +196,44 @@ past_nothing : (c t : ℕ) → past_selectors false c t afters.Nothing ≡ added
 unfolding past_selectors
 past_nothing c t = rw (nothing_joins c) refl
 
-past_others : (c t : ℕ) (e x q : Bool) → is_faint_kind (kind c) ≡ true → (c == 0xFE0F) ≡ false → (c == 0xFE01) ≡ false → (c == 0xFE0E) ≡ false → in_context false c t (bare e x q) ≡ added t (alone false c)
+past_others : (c t : ℕ) (e x q : Bool) → is_faint_kind (kind c) ≡ true → (c == 0xFE0F) ≡ false → (c == 0xFE01) ≡ false
+    → (c == 0xFE0E) ≡ false → in_context false c t (bare e x q) ≡ added t (alone false c)
 unfolding in_context
 past_others c t e x q k f g h =
-    rw (f, g, h, no_presentation c k, no_single_quote c k, no_double_quote c k, and_right x false refl, and_right q false refl) (past_nothing c t)
+    rw (
+      f,
+      g,
+      h,
+      no_presentation c k,
+      no_single_quote c k,
+      no_double_quote c k,
+      and_right x false refl,
+      and_right q false refl,
+    ) (past_nothing c t)
 
-in_bare_context : (c t : ℕ) (e x q : Bool) → is_faint_kind (kind c) ≡ true → in_context false c t (bare e x q) ≡ added t (alone false c)
+in_bare_context : (c t : ℕ) (e x q : Bool) → is_faint_kind (kind c) ≡ true → in_context false c t (bare e x q)
+    ≡ added t (alone false c)
 in_bare_context c t e x q k =
     let C : ℕ → Type 0 = λ z. in_context false z t (bare e x q) ≡ added t (alone false z) in
     by_cases {C = C c} (c == 0xFE0F) (λ y. subst C (sym (eqb-true c 0xFE0F y)) (emoji_selector t e x q))
     (λ f. by_cases {C = C c} (c == 0xFE01) (λ y. subst C (sym (eqb-true c 0xFE01 y)) (quote_selector t e x q))
-    (λ g. by_cases {C = C c} (c == 0xFE0E) (λ y. subst C (sym (eqb-true c 0xFE0E y)) (text_selector t e x q)) (λ h. past_others c t e x q k f g h)))
+    (λ g. by_cases {C = C c} (c == 0xFE0E) (λ y. subst C (sym (eqb-true c 0xFE0E y)) (text_selector t e x q))
+    (λ h. past_others c t e x q k f g h)))
 
 same_or : (b : Bool) (x y r : Reading) → x ≡ r → y ≡ r → cond b x y ≡ r
 same_or true x y r p q = p
 same_or false x y r p q = q
 
-past_bare : (c t : ℕ) (e x q : Bool) → 0xA0 < c → is_faint_kind (kind c) ≡ true → past_emoji false c t (bare e x q) ≡ added t (alone false c)
+past_bare : (c t : ℕ) (e x q : Bool) → 0xA0 < c → is_faint_kind (kind c) ≡ true → past_emoji false c t (bare e x q)
+    ≡ added t (alone false c)
 unfolding past_emoji
 past_bare c t e x q high k =
     rw (ne_eqb c 0x0A (λ y. omega (arith, y, high)), ne_eqb c 0x0D (λ y. omega (arith, y, high)), lt-leb c 0xA0 high)
-    (same_or (is_plain (bare e x q)) (added t (alone false c)) (in_context false c t (bare e x q)) (added t (alone false c)) refl (in_bare_context c t e x q k))
+    (same_or (is_plain (bare e x q)) (added t (alone false c)) (in_context false c t (bare e x q))
+    (added t (alone false c)) refl (in_bare_context c t e x q k))
 
-step_bare : (c t : ℕ) (e x q : Bool) → 0xA0 < c → is_faint_kind (kind c) ≡ true → step false c (t, bare e x q) ≡ added t (alone false c)
+step_bare : (c t : ℕ) (e x q : Bool) → 0xA0 < c → is_faint_kind (kind c) ≡ true → step false c (t, bare e x q)
+    ≡ added t (alone false c)
 unfolding step
 step_bare c t true x q high k = rw (no_variation c k) (past_bare c t false false false high k)
 step_bare c t false x q high k = past_bare c t false x q high k
@@ -220,14 +245,16 @@ step_faint c t s h (e, (x, (q, is))) =
 
 -- ---- so only the first one counts
 
-read_faint : (c : ℕ) (cs : List ℕ) → is_faint c ≡ true → list_all is_faint cs ≡ true → read_before false (c ∷ cs) (0, plain) ≡ (0, (alone false c).1)
+read_faint : (c : ℕ) (cs : List ℕ) → is_faint c ≡ true → list_all is_faint cs ≡ true
+    → read_before false (c ∷ cs) (0, plain) ≡ (0, (alone false c).1)
 read_faint c [] h all = step_faint c 0 plain h (false, (false, (false, refl)))
 read_faint c (d ∷ ds) h all =
     let both = and_parts (is_faint d) (list_all is_faint ds) all in
     ap (step false c) (read_faint d ds both.0 both.1) ∙ step_faint c 0 (alone false d).1 h (own_bare d both.0)
 
 -- a text that ends with such a character has the columns of one that goes on with others
-pub faint_behind : (xs cs : List ℕ) (c : ℕ) → is_faint c ≡ true → list_all is_faint cs ≡ true → str_width false (xs ++ c ∷ cs) ≡ str_width false (xs ++ c ∷ [])
+pub faint_behind : (xs cs : List ℕ) (c : ℕ) → is_faint c ≡ true → list_all is_faint cs ≡ true
+    → str_width false (xs ++ c ∷ cs) ≡ str_width false (xs ++ c ∷ [])
 unfolding str_width
 faint_behind xs cs c h all =
     ap (λ r. r.0) (read_append xs (c ∷ cs) (0, plain))

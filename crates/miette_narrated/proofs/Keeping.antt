@@ -1,6 +1,8 @@
--- Skin tones, and letters that nothing behind them joins: they leave the same to be read, whatever stands behind them but a selector or a
+-- Skin tones, and letters that nothing behind them joins: they leave the same to be read, whatever stands behind them
+-- but a selector or a
 -- skin tone.
-use Rattle.std.proofs.Common.{ℕ, ◌≡◌, Bool, true, false, not, ◌&&◌, ◌||◌, ◌==◌, nat_le, List, [], ◌∷◌, Some, None, refl, sym, ap, subst, ◌∙◌, arith, inl, inr}
+use Rattle.std.proofs.Common.{ℕ, ◌≡◌, Bool, true, false, not, ◌&&◌, ◌||◌, ◌==◌, nat_le, List, [], ◌∷◌, Some, None, refl}
+use Rattle.std.proofs.Common.{sym, ap, subst, ◌∙◌, arith, inl, inr}
 use Rattle.std.specs.Int.{is_in_range}
 use Rattle.std.proofs.lemmas.Bool.{and_parts, true≢false, or_parts, and_right, cases_lt, le-leb, ne_eqb, not-true}
 use Rattle.ucd_table.specs.Rows.{Range, in_ranges}
@@ -31,7 +33,8 @@ use Rattle.miette_narrated.proofs.Overlaps.{JoinsOwn, either, IsApart, step_apar
 -- ---- what such a character is not
 
 abbrev keeping_ranges : List Range
-keeping_ranges = (0x5DC, 0x5DC) ∷ (0x671, 0x675) ∷ (0x773, 0x774) ∷ (0x870, 0x882) ∷ (0x1A10, 0x1A10) ∷ (0xA4FC, 0xA4FD) ∷ (0xFB3C, 0xFB3C) ∷ (0x10C03, 0x10C03) ∷ (0x1F3FB, 0x1F3FF) ∷ []
+keeping_ranges = (0x5DC, 0x5DC) ∷ (0x671, 0x675) ∷ (0x773, 0x774) ∷ (0x870, 0x882) ∷ (0x1A10, 0x1A10) ∷ (0xA4FC, 0xA4FD)
+    ∷ (0xFB3C, 0xFB3C) ∷ (0x10C03, 0x10C03) ∷ (0x1F3FB, 0x1F3FF) ∷ []
 
 ranged : (c : ℕ) → is_keeping c ≡ in_ranges keeping_ranges c
 unfolding in_ranges
@@ -55,11 +58,13 @@ no_transparent = keeping_not is_ligature_transparent is_ligature_transparent_ste
 
 no_lam : (c : ℕ) → is_keeping c ≡ true → is_lam c ≡ false
 unfolding unicode_width
-no_lam = keeping_not (λ c. joining_group_eq (joining_group c) Lam) (map_stepped (λ g. joining_group_eq g Lam) joining_group joining_group_stepped) refl
+no_lam = keeping_not (λ c. joining_group_eq (joining_group c) Lam)
+    (map_stepped (λ g. joining_group_eq g Lam) joining_group joining_group_stepped) refl
 
 no_mark : (c : ℕ) → is_keeping c ≡ true → joining_type_eq (joining_type c) Transparent ≡ false
 unfolding unicode_width
-no_mark = keeping_not (λ c. joining_type_eq (joining_type c) Transparent) (map_stepped (λ g. joining_type_eq g Transparent) joining_type joining_type_stepped) refl
+no_mark = keeping_not (λ c. joining_type_eq (joining_type c) Transparent)
+    (map_stepped (λ g. joining_type_eq g Transparent) joining_type joining_type_stepped) refl
 
 no_emoji : (c : ℕ) → is_keeping c ≡ true → is_emoji (kind c) ≡ false
 unfolding unicode_width kind_test_stepped
@@ -68,9 +73,11 @@ no_emoji = keeping_not (λ c. is_emoji (kind c)) (kind_test_stepped is_emoji ref
 no_one : (c k : ℕ) → is_keeping k ≡ false → is_keeping c ≡ true → (c == k) ≡ false
 no_one c k n h = ne_eqb c k (λ e. absurd (true≢false (sym h ∙ ap is_keeping e ∙ n)))
 
-no_range : (low high : ℕ) (s : Stepped (in_ranges ((low, high) ∷ []))) → never (in_ranges ((low, high) ∷ [])) s ≡ true → (c : ℕ) → is_keeping c ≡ true → is_in_range low high c ≡ false
+no_range : (low high : ℕ) (s : Stepped (in_ranges ((low, high) ∷ []))) → never (in_ranges ((low, high) ∷ [])) s ≡ true
+    → (c : ℕ) → is_keeping c ≡ true → is_in_range low high c ≡ false
 unfolding in_ranges
-no_range low high s ok c h = (or_parts (is_in_range low high c) false (keeping_not (in_ranges ((low, high) ∷ [])) s ok c h)).0
+no_range low high s ok c h = (or_parts (is_in_range low high c) false
+    (keeping_not (in_ranges ((low, high) ∷ [])) s ok c h)).0
 
 no_tifinagh : (c : ℕ) → is_keeping c ≡ true → is_in_range 0x2D31 0x2D65 c ≡ false
 unfolding unicode_width
@@ -94,7 +101,8 @@ no_indicator = no_range 0x1F1E6 0x1F1FF (of_ranges ((0x1F1E6, 0x1F1FF) ∷ []) r
 
 keeping_high : (c : ℕ) → is_keeping c ≡ true → nat_le c 0xA0 ≡ false
 unfolding unicode_width
-keeping_high c h = sym (ap (λ b. b && nat_le c 0xA0) (le-leb 0 c (omega arith))) ∙ no_range 0 0xA0 (of_ranges ((0, 0xA0) ∷ []) refl) refl c h
+keeping_high c h = sym (ap (λ b. b && nat_le c 0xA0) (le-leb 0 c (omega arith)))
+    ∙ no_range 0 0xA0 (of_ranges ((0, 0xA0) ∷ []) refl) refl c h
 
 -- ---- what it leaves
 
@@ -102,7 +110,8 @@ toned : (c : ℕ) → is_in_range 0x1F3FB 0x1F3FF c ≡ true → is_tone (kind c
 unfolding in_ranges
 toned c h =
     let inside : in_ranges tones c ≡ true = sym (or_false (is_in_range 0x1F3FB 0x1F3FF c)) ∙ h in
-    let listed = (and_parts (in_ranges tones c || not (is_tone (kind c))) (not (in_ranges tones c) || is_tone (kind c)) (tone_kinds c)).1 in
+    let listed = (and_parts (in_ranges tones c || not (is_tone (kind c))) (not (in_ranges tones c) || is_tone (kind c))
+    (tone_kinds c)).1 in
     subst (λ b. (not b || is_tone (kind c)) ≡ true) inside listed
 
 tone_kind : (c : ℕ) (k : Kind) → is_tone k ≡ true → before afters.EmojiModifier ≡ (of_kind false c k).1
@@ -123,7 +132,8 @@ tone_own : (c : ℕ) → is_in_range 0x1F3FB 0x1F3FF c ≡ true → before after
 unfolding alone
 tone_own c h = tone_kind c (kind c) (toned c h)
 
-joins_kept : (after : After) (c : ℕ) → is_modifier after ≡ false → is_keeping c ≡ true → JoinsOwn c (joins false after c)
+joins_kept : (after : After) (c : ℕ) → is_modifier after ≡ false → is_keeping c ≡ true
+    → JoinsOwn c (joins false after c)
 unfolding joins before_alef
 joins_kept afters.Nothing c u h = tt
 joins_kept afters.LineFeed c u h = tt
@@ -131,7 +141,8 @@ joins_kept afters.EmojiModifier c u h = absurd (true≢false u)
 joins_kept afters.RegionalIndicator c u h = rw (no_indicator c h) tt
 joins_kept afters.RegionalIndicators c u h = rw (no_indicator c h, no_one c 0x200D refl h) tt
 joins_kept afters.Emoji c u h = rw (no_one c 0x200D refl h) tt
-joins_kept afters.ZwjEmoji c u h = rw (no_one c 0x20E3 refl h, no_indicator c h, no_one c 0xE007F refl h, no_emoji c h) (either c (is_in_range 0x1F3FB 0x1F3FF c) (Some (Same, afters.EmojiModifier)) None (tone_own c) tt)
+joins_kept afters.ZwjEmoji c u h = rw (no_one c 0x20E3 refl h, no_indicator c h, no_one c 0xE007F refl h, no_emoji c h)
+    (either c (is_in_range 0x1F3FB 0x1F3FF c) (Some (Same, afters.EmojiModifier)) None (tone_own c) tt)
 joins_kept afters.KeycapZwjEmoji c u h = tt
 joins_kept afters.IndicatorZwj c u h = rw (no_indicator c h) tt
 joins_kept afters.EvenIndicatorsZwj c u h = rw (no_one c 0x200D refl h, no_indicator c h) tt
@@ -146,7 +157,12 @@ joins_kept afters.TagLetter3 c u h = rw (no_tag_letter c h, no_tag_digit c h, no
 joins_kept afters.TagLetter4 c u h = rw (no_tag_letter c h, no_tag_digit c h, no_one c 0x1F3F4 refl h) tt
 joins_kept afters.TagLetter5 c u h = rw (no_tag_letter c h, no_one c 0x1F3F4 refl h) tt
 joins_kept afters.TagLetter6 c u h = rw (no_one c 0x1F3F4 refl h) tt
-joins_kept afters.KiratE c u h = rw (no_one c 0x16D63 refl h, no_one c 0x16D67 refl h, no_one c 0x16D68 refl h, no_one c 0x16D69 refl h) tt
+joins_kept afters.KiratE c u h = rw (
+  no_one c 0x16D63 refl h,
+  no_one c 0x16D67 refl h,
+  no_one c 0x16D68 refl h,
+  no_one c 0x16D69 refl h,
+) tt
 joins_kept afters.KiratAi c u h = rw (no_one c 0x16D63 refl h) tt
 joins_kept afters.Alef c u h = rw (no_lam c h, no_mark c h, and_right ((alone false c).0 == 0) false refl) tt
 joins_kept afters.Solidus c u h = tt

@@ -1,4 +1,5 @@
--- Tests of a character's kind that tell no narrow one from a wide or an ambiguous one: a walk over them needs no tables of wide and of ambiguous ones.
+-- Tests of a character's kind that tell no narrow one from a wide or an ambiguous one: a walk over them needs no tables
+-- of wide and of ambiguous ones.
 use Rattle.std.proofs.Common.{ℕ, ◌≡◌, Bool, true, false, cond, Option, Some, None, unwrap_or, refl, ap, ◌∙◌}
 use Rattle.ucd_table.proofs.Stepped.{Stepped, zip_stepped}
 use Rattle.ucd_props.specs.Binary.{is_regional_indicator}
@@ -10,7 +11,8 @@ use Rattle.ucd_bidi.specs.declared.JoiningGroup.TheVariants.{Alef}
 use Rattle.ucd_bidi.proofs.JoiningGroupLemmas.{joining_group_stepped}
 use Rattle.unicode_width.specs.declared.kind.Kind.{Kind}
 use Rattle.unicode_width.specs.declared.kind.Kind.TheVariants as kinds
-use Rattle.unicode_width.specs.Kind.{kind, named_kind, unnamed_kind, letter_kind, width_kind, by_emoji, by_width, is_zero_width, is_wide, is_ambiguous}
+use Rattle.unicode_width.specs.Kind.{kind, named_kind, unnamed_kind, letter_kind, width_kind, by_emoji, by_width}
+use Rattle.unicode_width.specs.Kind.{is_zero_width, is_wide, is_ambiguous}
 use Rattle.unicode_width.proofs.KindLemmas.{named_kind_stepped, is_zero_width_stepped}
 
 module _ (p : Kind → Bool) (wide : p kinds.Wide ≡ p kinds.Narrow) (ambiguous : p kinds.Ambiguous ≡ p kinds.Narrow) where
@@ -21,7 +23,8 @@ module _ (p : Kind → Bool) (wide : p kinds.Wide ≡ p kinds.Narrow) (ambiguous
   test_named (Some k) other = p k
 
   abbrev pub test_emoji : Bool → Bool → Bool → Bool → Bool
-  test_emoji indicator modifier emoji other = cond indicator (p kinds.RegionalIndicator) (cond modifier (p kinds.EmojiModifier) (cond emoji (p kinds.Emoji) other))
+  test_emoji indicator modifier emoji other = cond indicator (p kinds.RegionalIndicator)
+      (cond modifier (p kinds.EmojiModifier) (cond emoji (p kinds.Emoji) other))
 
   abbrev pub test_letter : Bool → Bool → Bool
   test_letter alef zero = cond alef (p kinds.Alef) (cond zero (p kinds.Zero) (p kinds.Narrow))
@@ -30,13 +33,15 @@ module _ (p : Kind → Bool) (wide : p kinds.Wide ≡ p kinds.Narrow) (ambiguous
   by_name None other = refl
   by_name (Some k) other = refl
 
-  by_signs : (indicator modifier emoji : Bool) (other : Kind) → p (by_emoji indicator modifier emoji other) ≡ test_emoji indicator modifier emoji (p other)
+  by_signs : (indicator modifier emoji : Bool) (other : Kind) → p (by_emoji indicator modifier emoji other)
+      ≡ test_emoji indicator modifier emoji (p other)
   by_signs true modifier emoji other = refl
   by_signs false true emoji other = refl
   by_signs false false true other = refl
   by_signs false false false other = refl
 
-  by_letter : (alef zero is_wide is_ambiguous : Bool) → p (cond alef kinds.Alef (by_width zero is_wide is_ambiguous)) ≡ test_letter alef zero
+  by_letter : (alef zero is_wide is_ambiguous : Bool) → p (cond alef kinds.Alef (by_width zero is_wide is_ambiguous))
+      ≡ test_letter alef zero
   by_letter true z w a = refl
   by_letter false true w a = refl
   by_letter false false true a = wide
@@ -55,15 +60,24 @@ module _ (p : Kind → Bool) (wide : p kinds.Wide ≡ p kinds.Narrow) (ambiguous
   unfolding kind unnamed_kind letter_kind width_kind
   kind_test c =
       by_name (named_kind c) (unnamed_kind c)
-      ∙ ap (test_named (named_kind c)) (by_signs (is_regional_indicator c) (is_emoji_modifier c) (is_emoji_presentation c) (letter_kind c)
-      ∙ ap (test_emoji (is_regional_indicator c) (is_emoji_modifier c) (is_emoji_presentation c)) (by_letter (joining_group_eq (joining_group c) Alef) (is_zero_width c) (is_wide c) (is_ambiguous c)))
+      ∙ ap (test_named (named_kind c)) (by_signs (is_regional_indicator c) (is_emoji_modifier c)
+      (is_emoji_presentation c) (letter_kind c)
+      ∙ ap (test_emoji (is_regional_indicator c) (is_emoji_modifier c) (is_emoji_presentation c))
+      (by_letter (joining_group_eq (joining_group c) Alef) (is_zero_width c) (is_wide c) (is_ambiguous c)))
 
   unfoldable pub kind_test_stepped : Stepped (λ c. p (kind c))
-  unfolding named_kind_stepped is_zero_width_stepped is_regional_indicator_stepped is_emoji_modifier_stepped is_emoji_presentation_stepped joining_group_stepped
+  unfolding named_kind_stepped is_zero_width_stepped is_regional_indicator_stepped is_emoji_modifier_stepped
+      is_emoji_presentation_stepped joining_group_stepped
   kind_test_stepped =
-      let letter = zip_stepped (λ g zero. test_letter (joining_group_eq g Alef) zero) joining_group is_zero_width joining_group_stepped is_zero_width_stepped in
-      let two = zip_stepped test_emoji is_regional_indicator is_emoji_modifier is_regional_indicator_stepped is_emoji_modifier_stepped in
-      let three = zip_stepped (λ (test : Bool → Bool → Bool) emoji. test emoji) (λ c. test_emoji (is_regional_indicator c) (is_emoji_modifier c)) is_emoji_presentation two is_emoji_presentation_stepped in
-      let unnamed = zip_stepped (λ (test : Bool → Bool) other. test other) (λ c. test_emoji (is_regional_indicator c) (is_emoji_modifier c) (is_emoji_presentation c)) letter_test three letter in
+      let letter = zip_stepped (λ g zero. test_letter (joining_group_eq g Alef) zero) joining_group is_zero_width
+      joining_group_stepped is_zero_width_stepped in
+      let two = zip_stepped test_emoji is_regional_indicator is_emoji_modifier is_regional_indicator_stepped
+      is_emoji_modifier_stepped in
+      let three = zip_stepped (λ (test : Bool → Bool → Bool) emoji. test emoji)
+      (λ c. test_emoji (is_regional_indicator c) (is_emoji_modifier c)) is_emoji_presentation two
+      is_emoji_presentation_stepped in
+      let unnamed = zip_stepped (λ (test : Bool → Bool) other. test other)
+      (λ c. test_emoji (is_regional_indicator c) (is_emoji_modifier c) (is_emoji_presentation c)) letter_test three
+      letter in
       let all = zip_stepped test_named named_kind unnamed_test named_kind_stepped unnamed in
       record { default = all.default; steps = all.steps; gives = λ c. kind_test c ∙ all.gives c }

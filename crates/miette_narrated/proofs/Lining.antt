@@ -1,5 +1,6 @@
 -- The rows of lines, one line after the other.
-use Rattle.std.proofs.Common.{ℕ, ◌+◌, ◌-◌, ◌≤◌, ◌≡◌, Bool, false, List, [], ◌∷◌, ◌++◌, length, drop, eqb, refl, sym, ap, ◌∙◌, subst, append_assoc, append-nil, arith}
+use Rattle.std.proofs.Common.{ℕ, ◌+◌, ◌-◌, ◌≤◌, ◌≡◌, Bool, false, List, [], ◌∷◌, ◌++◌, length, drop, eqb, refl, sym, ap}
+use Rattle.std.proofs.Common.{◌∙◌, subst, append_assoc, append-nil, arith}
 use Rattle.std.specs.Prelude.{slice_index}
 use Rattle.std.proofs.lemmas.Bool.{ne_eqb, eq-eqb, eqb-true, eqb-false}
 use Rattle.std.proofs.lemmas.List.{length-drop}
@@ -14,17 +15,25 @@ use Rattle.miette_narrated.specs.rules.Lines.{snippet_line, rows_of_line, rows_o
 use Rattle.miette_basics.specs.rules.Lists.{is_nil}
 
 -- The lines that are left of what a read lent, with numbers behind this one, have the rows that are left of the goal.
-pub record AreLeft (labels : List LabelRange) (lent : Contents) (before : ℕ) (rest : Rest) (out goal : List ℕ) : Type 0 where
-  pub rows : out ++ rows_of_lines labels lent (before + 1) (lines_left rest) ≡ goal
-  pub from : lent.span.offset ≤ rest.start
-  pub to : rest.start + length rest.bytes ≡ lent.span.offset + length lent.bytes
+pub record AreLeft (labels : List LabelRange) (lent : Contents) (before : ℕ) (rest : Rest) (out goal : List ℕ) : Type 0
+  where
+    pub rows : out ++ rows_of_lines labels lent (before + 1) (lines_left rest) ≡ goal
+    pub from : lent.span.offset ≤ rest.start
+    pub to : rest.start + length rest.bytes ≡ lent.span.offset + length lent.bytes
 
 -- all of them
-pub left_first : (labels : List LabelRange) (lent : Contents) (before : ℕ) (rest : Rest) (out : List ℕ) → rest ≡ record { start = lent.span.offset; bytes = lent.bytes } → before ≡ lent.line →
+pub left_first : (labels : List LabelRange) (lent : Contents) (before : ℕ) (rest : Rest) (out : List ℕ) → rest
+    ≡ record { start = lent.span.offset; bytes = lent.bytes } → before ≡ lent.line →
     AreLeft labels lent before rest out (out ++ rows_of_lines labels lent (lent.line + 1) (lines_of_contents lent))
 left_first labels lent before rest out is n =
-    subst (λ (r : Rest). AreLeft labels lent before r out (out ++ rows_of_lines labels lent (lent.line + 1) (lines_of_contents lent))) (sym is)
-    (record { rows = ap (λ k. out ++ rows_of_lines labels lent (k + 1) (lines_of_contents lent)) n; from = omega arith; to = refl })
+    subst (λ (r : Rest). AreLeft labels lent before r out
+    (out ++ rows_of_lines labels lent (lent.line + 1) (lines_of_contents lent))) (sym is)
+    (record {
+      rows = ap (λ k. out ++ rows_of_lines labels lent (k + 1) (lines_of_contents lent)) n;
+      from =
+          omega arith;
+      to = refl;
+    })
 
 -- bytes have no line where there is none of them
 with_some : (b at : ℕ) (ls : List Line) → is_nil (with_byte b at ls) ≡ false
@@ -33,39 +42,52 @@ with_some b at (l ∷ ls) = refl
 
 some_line : (at b : ℕ) (bs : List ℕ) → is_nil (lines_from at (b ∷ bs)) ≡ false
 some_line at b bs =
-    by_cases {C = is_nil (lines_from at (b ∷ bs)) ≡ false} (ends_line b (slice_index bs 0)) (λ t. rw t refl) (λ f. rw f (with_some b at (lines_from (at + 1) bs)))
+    by_cases {C = is_nil (lines_from at (b ∷ bs)) ≡ false} (ends_line b (slice_index bs 0)) (λ t. rw t refl)
+    (λ f. rw f (with_some b at (lines_from (at + 1) bs)))
 
 nil_of : (at : ℕ) (bytes : List ℕ) → is_nil (lines_from at bytes) ≡ eqb (length bytes) 0
 nil_of at [] = refl
 nil_of at (b ∷ bs) = some_line at b bs ∙ sym (ne_eqb (length (b ∷ bs)) 0 (λ e. omega (arith, e)))
 
 -- a line is the last one where it ends with the bytes
-last_is : (rest : Rest) (line : LineOfText) (end : ℕ) → IsFirst rest line → rest.start + length rest.bytes ≡ end → is_nil (lines_left (behind rest line)) ≡ eqb line.end end
+last_is : (rest : Rest) (line : LineOfText) (end : ℕ) → IsFirst rest line → rest.start + length rest.bytes ≡ end
+    → is_nil (lines_left (behind rest line)) ≡ eqb line.end end
 last_is rest line end h to =
-    let left : length (drop (line.end - rest.start) rest.bytes) ≡ length rest.bytes - (line.end - rest.start) = length-drop (line.end - rest.start) rest.bytes in
+    let left : length (drop (line.end - rest.start) rest.bytes) ≡ length rest.bytes - (line.end - rest.start) =
+    length-drop (line.end - rest.start) rest.bytes in
     let n : ℕ = length (drop (line.end - rest.start) rest.bytes) in
     nil_of line.end (drop (line.end - rest.start) rest.bytes)
     ∙ by_cases {C = eqb n 0 ≡ eqb line.end end} (eqb line.end end)
-    (λ t. let e : line.end ≡ end = eqb-true line.end end t in eq-eqb n 0 (omega (arith, left, to, e, h.from, h.some)) ∙ sym t)
+    (λ t. let e : line.end ≡ end = eqb-true line.end end t in eq-eqb n 0 (omega (arith, left, to, e, h.from, h.some))
+    ∙ sym t)
     (λ f. ne_eqb n 0 (λ z. eqb-false line.end end f (omega (arith, left, to, z, h.from, h.some, h.to))) ∙ sym f)
 
-pub left_more : (labels : List LabelRange) (lent : Contents) (before number : ℕ) (rest after : Rest) (line : LineOfText) (is_last : Bool) (it : SnippetLine) (out new goal : List ℕ) → AreLeft labels lent before rest out goal →
-    IsFirst rest line → after ≡ behind rest line → number ≡ before + 1 → is_last ≡ eqb line.end (lent.span.offset + length lent.bytes) →
-    it ≡ snippet_line lent number is_last (line_of_text line) → new ≡ out ++ rows_of_line labels it → AreLeft labels lent number after new goal
+pub left_more : (labels : List LabelRange) (lent : Contents) (before number : ℕ) (rest after : Rest) (line : LineOfText)
+    (is_last : Bool) (it : SnippetLine) (out new goal : List ℕ) → AreLeft labels lent before rest out goal →
+    IsFirst rest line → after ≡ behind rest line → number ≡ before + 1 → is_last
+    ≡ eqb line.end (lent.span.offset + length lent.bytes) →
+    it ≡ snippet_line lent number is_last (line_of_text line) → new ≡ out ++ rows_of_line labels it
+    → AreLeft labels lent number after new goal
 left_more labels lent before number rest after line is_last it out new goal h first left n last here put =
     let later : List ℕ = rows_of_lines labels lent (number + 1) (lines_left (behind rest line)) in
-    let at_end : is_nil (lines_left (behind rest line)) ≡ is_last = last_is rest line (lent.span.offset + length lent.bytes) first h.to ∙ sym last in
-    let size : length (drop (line.end - rest.start) rest.bytes) ≡ length rest.bytes - (line.end - rest.start) = length-drop (line.end - rest.start) rest.bytes in
+    let at_end : is_nil (lines_left (behind rest line)) ≡ is_last =
+    last_is rest line (lent.span.offset + length lent.bytes) first h.to ∙ sym last in
+    let size : length (drop (line.end - rest.start) rest.bytes) ≡ length rest.bytes - (line.end - rest.start) =
+    length-drop (line.end - rest.start) rest.bytes in
     subst (λ (r : Rest). AreLeft labels lent number r new goal) (sym left)
     (record {
-      rows = ap (λ o. o ++ later) (put ∙ ap (λ x. out ++ rows_of_line labels x) (here ∙ ap (λ b. snippet_line lent number b (line_of_text line)) (sym at_end)))
-          ∙ append_assoc out (rows_of_line labels (snippet_line lent number (is_nil (lines_left (behind rest line))) (line_of_text line))) later
+      rows = ap (λ o. o ++ later) (put ∙ ap (λ x. out ++ rows_of_line labels x)
+          (here ∙ ap (λ b. snippet_line lent number b (line_of_text line)) (sym at_end)))
+          ∙ append_assoc out (rows_of_line labels (snippet_line lent number (is_nil (lines_left (behind rest line)))
+          (line_of_text line))) later
           ∙ ap (λ ls. out ++ rows_of_lines labels lent number ls) (sym first.lines)
           ∙ ap (λ k. out ++ rows_of_lines labels lent k (lines_left rest)) n ∙ h.rows;
       from = omega (arith, h.from, first.from, first.some);
       to = omega (arith, h.to, size, first.from, first.some, first.to);
     })
 
-pub left_none : (labels : List LabelRange) (lent : Contents) (before : ℕ) (rest : Rest) (out goal : List ℕ) → AreLeft labels lent before rest out goal → rest.bytes ≡ [] → out ≡ goal
+pub left_none : (labels : List LabelRange) (lent : Contents) (before : ℕ) (rest : Rest) (out goal : List ℕ)
+    → AreLeft labels lent before rest out goal → rest.bytes ≡ [] → out ≡ goal
 left_none labels lent before rest out goal h none =
-    sym (append-nil out) ∙ ap (λ bs. out ++ rows_of_lines labels lent (before + 1) (lines_from rest.start bs)) (sym none) ∙ h.rows
+    sym (append-nil out) ∙ ap (λ bs. out ++ rows_of_lines labels lent (before + 1) (lines_from rest.start bs))
+    (sym none) ∙ h.rows

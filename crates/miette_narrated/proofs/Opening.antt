@@ -1,5 +1,7 @@
--- A character that is no selector and no skin tone leaves a state that selects and modifies nothing, whatever stands behind it.
-use Rattle.std.proofs.Common.{ℕ, ◌+◌, ◌≡◌, Bool, true, false, cond, not, ◌&&◌, ◌||◌, ◌==◌, nat_le, List, [], ◌∷◌, Option, Some, None, refl, sym, ap, subst, ◌∙◌}
+-- A character that is no selector and no skin tone leaves a state that selects and modifies nothing, whatever stands
+-- behind it.
+use Rattle.std.proofs.Common.{ℕ, ◌+◌, ◌≡◌, Bool, true, false, cond, not, ◌&&◌, ◌||◌, ◌==◌, nat_le, List, [], ◌∷◌}
+use Rattle.std.proofs.Common.{Option, Some, None, refl, sym, ap, subst, ◌∙◌}
 use Rattle.std.specs.Prelude.{if◌then◌else◌}
 use Rattle.std.specs.Int.{is_in_range}
 use Rattle.std.proofs.lemmas.Bool.{true≢false, or_parts, and_parts, ne_eqb, not-true}
@@ -17,7 +19,10 @@ use Rattle.unicode_width.specs.declared.state.State.{State}
 use Rattle.unicode_width.specs.declared.state.Change.{Change}
 use Rattle.unicode_width.specs.declared.state.Change.TheVariants.{Less, Same, One, Three}
 use Rattle.unicode_width.specs.Kind.{kind, is_ligature_transparent, is_text_presentation_base}
-use Rattle.unicode_width.specs.Width.{before, plain, single, is_quote, is_line_feed, is_joined_emoji, is_indicator, is_tag_letter, is_tag_digit, is_tifinagh, is_lam, is_emoji, of_kind, alone, before_alef, joins, first_of, joined_or, Reading, added, if_kept, skips_marks, with_joiner, is_plain, past_selectors, in_context, past_emoji, step}
+use Rattle.unicode_width.specs.Width.{before, plain, single, is_quote, is_line_feed, is_joined_emoji, is_indicator}
+use Rattle.unicode_width.specs.Width.{is_tag_letter, is_tag_digit, is_tifinagh, is_lam, is_emoji, of_kind, alone}
+use Rattle.unicode_width.specs.Width.{before_alef, joins, first_of, joined_or, Reading, added, if_kept, skips_marks}
+use Rattle.unicode_width.specs.Width.{with_joiner, is_plain, past_selectors, in_context, past_emoji, step}
 use Rattle.unicode_width.proofs.Computing.{unicode_width}
 use Rattle.miette_narrated.specs.steps.Parting.{opens}
 use Rattle.miette_narrated.proofs.KindTests.{kind_test_stepped}
@@ -46,13 +51,16 @@ open_if false x y p q = q
 -- ---- what such a character is not
 
 no_skin : (c : ℕ) → opens c ≡ true → is_in_range 0x1F3FB 0x1F3FF c ≡ false
-no_skin c h = (or_parts (is_in_range 0xFE00 0xFE0F c) (is_in_range 0x1F3FB 0x1F3FF c) (not-true (is_in_range 0xFE00 0xFE0F c || is_in_range 0x1F3FB 0x1F3FF c) h)).1
+no_skin c h = (or_parts (is_in_range 0xFE00 0xFE0F c) (is_in_range 0x1F3FB 0x1F3FF c)
+    (not-true (is_in_range 0xFE00 0xFE0F c || is_in_range 0x1F3FB 0x1F3FF c) h)).1
 
 no_selectors : (c : ℕ) → opens c ≡ true → is_in_range 0xFE00 0xFE0F c ≡ false
-no_selectors c h = (or_parts (is_in_range 0xFE00 0xFE0F c) (is_in_range 0x1F3FB 0x1F3FF c) (not-true (is_in_range 0xFE00 0xFE0F c || is_in_range 0x1F3FB 0x1F3FF c) h)).0
+no_selectors c h = (or_parts (is_in_range 0xFE00 0xFE0F c) (is_in_range 0x1F3FB 0x1F3FF c)
+    (not-true (is_in_range 0xFE00 0xFE0F c || is_in_range 0x1F3FB 0x1F3FF c) h)).0
 
 no_selector : (c k : ℕ) → is_in_range 0xFE00 0xFE0F k ≡ true → opens c ≡ true → (c == k) ≡ false
-no_selector c k is h = ne_eqb c k (λ e. absurd (true≢false (sym is ∙ sym (ap (is_in_range 0xFE00 0xFE0F) e) ∙ no_selectors c h)))
+no_selector c k is h = ne_eqb c k (λ e. absurd (true≢false
+    (sym is ∙ sym (ap (is_in_range 0xFE00 0xFE0F) e) ∙ no_selectors c h)))
 
 abbrev pub tones : List Range
 tones = (0x1F3FB, 0x1F3FF) ∷ []
@@ -62,17 +70,20 @@ is_tone kinds.EmojiModifier = true
 is_tone _ = false
 
 -- one walk over the table of kinds: whose kind is that of a skin tone is one, and the other way round
-pub tone_kinds : (c : ℕ) → ((in_ranges tones c || not (is_tone (kind c))) && (not (in_ranges tones c) || is_tone (kind c))) ≡ true
+pub tone_kinds : (c : ℕ) → ((in_ranges tones c || not (is_tone (kind c)))
+    && (not (in_ranges tones c) || is_tone (kind c))) ≡ true
 unfolding unicode_width kind_test_stepped
 tone_kinds =
-    let both = zip_stepped (λ t b. (b || not t) && (not b || t)) (λ c. is_tone (kind c)) (in_ranges tones) (kind_test_stepped is_tone refl refl) (of_ranges tones refl) in
+    let both = zip_stepped (λ t b. (b || not t) && (not b || t)) (λ c. is_tone (kind c)) (in_ranges tones)
+    (kind_test_stepped is_tone refl refl) (of_ranges tones refl) in
     Stepped-everywhere _ both refl
 
 no_tone : (c : ℕ) → opens c ≡ true → is_tone (kind c) ≡ false
 unfolding in_ranges
 no_tone c h =
     let outside : in_ranges tones c ≡ false = sym (or_false (is_in_range 0x1F3FB 0x1F3FF c)) ∙ no_skin c h in
-    let listed = (and_parts (in_ranges tones c || not (is_tone (kind c))) (not (in_ranges tones c) || is_tone (kind c)) (tone_kinds c)).0 in
+    let listed = (and_parts (in_ranges tones c || not (is_tone (kind c))) (not (in_ranges tones c) || is_tone (kind c))
+    (tone_kinds c)).0 in
     not-true (is_tone (kind c)) (subst (λ b. (b || not (is_tone (kind c))) ≡ true) outside listed)
 
 -- ---- what it leaves by itself
@@ -80,9 +91,11 @@ no_tone c h =
 single_open : (c : ℕ) → opens c ≡ true → IsOpen (single false c).1
 single_open c h =
     rw (no_selector c 0xFE0F refl h, no_selector c 0xFE01 refl h, no_selector c 0xFE0E refl h)
-    (open_cond (c == 0x05DC) _ _ (afters.Lamed, (refl, refl)) (open_cond (c == 0xFB3C) _ _ (afters.Lamed, (refl, refl)) (open_cond (c == 0x17D8) _ _ plain_open
+    (open_cond (c == 0x05DC) _ _ (afters.Lamed, (refl, refl))
+    (open_cond (c == 0xFB3C) _ _ (afters.Lamed, (refl, refl)) (open_cond (c == 0x17D8) _ _ plain_open
     (open_cond (c == 0x1A10) _ _ (afters.Ya, (refl, refl)) (open_cond (c == 0x10C03) _ _ (afters.OrkhonI, (refl, refl))
-    (open_cond (c == 0x16D67) _ _ (afters.KiratE, (refl, refl)) (open_cond (c == 0x16D68) _ _ (afters.KiratAi, (refl, refl)) plain_open)))))))
+    (open_cond (c == 0x16D67) _ _ (afters.KiratE, (refl, refl))
+    (open_cond (c == 0x16D68) _ _ (afters.KiratAi, (refl, refl)) plain_open)))))))
 
 kind_open : (c : ℕ) (k : Kind) → opens c ≡ true → is_tone k ≡ false → IsOpen (of_kind false c k).1
 kind_open c kinds.Zero h n = (afters.Nothing, (refl, refl))
@@ -112,16 +125,19 @@ either : (a : Bool) (p : Change × After) → is_modifier p.1 ≡ false → Join
 either true p e = e
 either false p e = tt
 
-two : (a b : Bool) (p q : Change × After) → is_modifier p.1 ≡ false → is_modifier q.1 ≡ false → JoinsOpen (if a then Some p else if b then Some q else None)
+two : (a b : Bool) (p q : Change × After) → is_modifier p.1 ≡ false → is_modifier q.1 ≡ false
+    → JoinsOpen (if a then Some p else if b then Some q else None)
 two true b p q e f = e
 two false b p q e f = either b q f
 
-three : (a b d : Bool) (p q r : Change × After) → is_modifier p.1 ≡ false → is_modifier q.1 ≡ false → is_modifier r.1 ≡ false →
+three : (a b d : Bool) (p q r : Change × After) → is_modifier p.1 ≡ false → is_modifier q.1 ≡ false → is_modifier r.1
+    ≡ false →
     JoinsOpen (if a then Some p else if b then Some q else if d then Some r else None)
 three true b d p q r e f g = e
 three false b d p q r e f g = two b d q r f g
 
-four : (a b d k : Bool) (p q r o : Change × After) → is_modifier p.1 ≡ false → is_modifier q.1 ≡ false → is_modifier r.1 ≡ false → is_modifier o.1 ≡ false →
+four : (a b d k : Bool) (p q r o : Change × After) → is_modifier p.1 ≡ false → is_modifier q.1 ≡ false → is_modifier r.1
+    ≡ false → is_modifier o.1 ≡ false →
     JoinsOpen (if a then Some p else if b then Some q else if d then Some r else if k then Some o else None)
 four true b d k p q r o e f g h = e
 four false b d k p q r o e f g h = three b d k q r o f g h
@@ -130,7 +146,8 @@ first_only : (x : Option (Change × After)) → JoinsOpen x → JoinsOpen (first
 first_only None p = p
 first_only (Some j) p = p
 
-joined_open : (t : ℕ) (j : Option (Change × After)) (own : ℕ × State) → JoinsOpen j → IsOpen own.1 → IsOpen (joined_or t j own).1
+joined_open : (t : ℕ) (j : Option (Change × After)) (own : ℕ × State) → JoinsOpen j → IsOpen own.1
+    → IsOpen (joined_or t j own).1
 joined_open t None own p q = q
 joined_open t (Some j) own p q = (j.1, (refl, p))
 
@@ -138,45 +155,79 @@ joins_open : (after : After) (c : ℕ) → opens c ≡ true → JoinsOpen (joins
 unfolding joins before_alef
 joins_open afters.Nothing c h = tt
 joins_open afters.LineFeed c h = tt
-joins_open afters.EmojiModifier c h = two (is_emoji_modifier_base c) (c == 0x200D) (Same, afters.Emoji) (Same, afters.ZwjEmoji) refl refl
-joins_open afters.RegionalIndicator c h = first_only (if is_indicator c then Some (One, afters.RegionalIndicators) else None) (either (is_indicator c) (One, afters.RegionalIndicators) refl)
-joins_open afters.RegionalIndicators c h = first_only (if is_indicator c then Some (One, afters.RegionalIndicators) else if c == 0x200D then Some (Same, afters.ZwjEmoji) else None) (two (is_indicator c) (c == 0x200D) (One, afters.RegionalIndicators) (Same, afters.ZwjEmoji) refl refl)
-joins_open afters.Emoji c h = first_only (if c == 0x200D then Some (Same, afters.ZwjEmoji) else None) (either (c == 0x200D) (Same, afters.ZwjEmoji) refl)
-joins_open afters.ZwjEmoji c h = rw (no_skin c h) (four (c == 0x20E3) (is_indicator c) (c == 0xE007F) (is_emoji (kind c)) (Same, afters.KeycapZwjEmoji) (One, afters.IndicatorZwj) (Same, afters.TagEnd) (Same, afters.Emoji) refl refl refl refl)
+joins_open afters.EmojiModifier c h = two (is_emoji_modifier_base c) (c == 0x200D) (Same, afters.Emoji)
+    (Same, afters.ZwjEmoji) refl refl
+joins_open afters.RegionalIndicator c h = first_only (if is_indicator c then Some (One, afters.RegionalIndicators)
+    else None) (either (is_indicator c) (One, afters.RegionalIndicators) refl)
+joins_open afters.RegionalIndicators c h = first_only (if is_indicator c then Some (One, afters.RegionalIndicators)
+    else if c == 0x200D then Some (Same, afters.ZwjEmoji) else None)
+    (two (is_indicator c) (c == 0x200D) (One, afters.RegionalIndicators) (Same, afters.ZwjEmoji) refl refl)
+joins_open afters.Emoji c h = first_only (if c == 0x200D then Some (Same, afters.ZwjEmoji) else None)
+    (either (c == 0x200D) (Same, afters.ZwjEmoji) refl)
+joins_open afters.ZwjEmoji c h = rw (no_skin c h) (four (c == 0x20E3) (is_indicator c) (c == 0xE007F)
+    (is_emoji (kind c)) (Same, afters.KeycapZwjEmoji) (One, afters.IndicatorZwj) (Same, afters.TagEnd)
+    (Same, afters.Emoji) refl refl refl refl)
 joins_open afters.KeycapZwjEmoji c h = tt
-joins_open afters.IndicatorZwj c h = first_only (if is_indicator c then Some (Less, afters.EvenIndicatorsZwj) else None) (either (is_indicator c) (Less, afters.EvenIndicatorsZwj) refl)
-joins_open afters.EvenIndicatorsZwj c h = first_only (if c == 0x200D then Some (Same, afters.ZwjEmoji) else if is_indicator c then Some (Three, afters.OddIndicatorsZwj) else None) (two (c == 0x200D) (is_indicator c) (Same, afters.ZwjEmoji) (Three, afters.OddIndicatorsZwj) refl refl)
-joins_open afters.OddIndicatorsZwj c h = first_only (if c == 0x200D then Some (Same, afters.ZwjEmoji) else if is_indicator c then Some (Less, afters.EvenIndicatorsZwj) else None) (two (c == 0x200D) (is_indicator c) (Same, afters.ZwjEmoji) (Less, afters.EvenIndicatorsZwj) refl refl)
-joins_open afters.TagEnd c h = two (is_tag_letter c) (is_tag_digit c) (Same, afters.TagLetter1) (Same, afters.TagDigit1) refl refl
+joins_open afters.IndicatorZwj c h = first_only (if is_indicator c then Some (Less, afters.EvenIndicatorsZwj) else None)
+    (either (is_indicator c) (Less, afters.EvenIndicatorsZwj) refl)
+joins_open afters.EvenIndicatorsZwj c h = first_only (if c == 0x200D then Some (Same, afters.ZwjEmoji)
+    else if is_indicator c then Some (Three, afters.OddIndicatorsZwj) else None)
+    (two (c == 0x200D) (is_indicator c) (Same, afters.ZwjEmoji) (Three, afters.OddIndicatorsZwj) refl refl)
+joins_open afters.OddIndicatorsZwj c h = first_only (if c == 0x200D then Some (Same, afters.ZwjEmoji)
+    else if is_indicator c then Some (Less, afters.EvenIndicatorsZwj) else None)
+    (two (c == 0x200D) (is_indicator c) (Same, afters.ZwjEmoji) (Less, afters.EvenIndicatorsZwj) refl refl)
+joins_open afters.TagEnd c h = two (is_tag_letter c) (is_tag_digit c) (Same, afters.TagLetter1) (Same, afters.TagDigit1)
+    refl refl
 joins_open afters.TagDigit1 c h = either (is_tag_digit c) (Same, afters.TagDigit2) refl
 joins_open afters.TagDigit2 c h = either (is_tag_digit c) (Same, afters.TagDigit3) refl
 joins_open afters.TagDigit3 c h = either (c == 0x1F3F4) (Same, afters.Emoji) refl
-joins_open afters.TagLetter1 c h = two (is_tag_letter c) (is_tag_digit c) (Same, afters.TagLetter2) (Same, afters.TagDigit1) refl refl
-joins_open afters.TagLetter2 c h = two (is_tag_letter c) (is_tag_digit c) (Same, afters.TagLetter3) (Same, afters.TagDigit1) refl refl
-joins_open afters.TagLetter3 c h = three (is_tag_letter c) (is_tag_digit c) (c == 0x1F3F4) (Same, afters.TagLetter4) (Same, afters.TagDigit1) (Same, afters.Emoji) refl refl refl
-joins_open afters.TagLetter4 c h = three (is_tag_letter c) (is_tag_digit c) (c == 0x1F3F4) (Same, afters.TagLetter5) (Same, afters.TagDigit1) (Same, afters.Emoji) refl refl refl
-joins_open afters.TagLetter5 c h = two (is_tag_letter c) (c == 0x1F3F4) (Same, afters.TagLetter6) (Same, afters.Emoji) refl refl
+joins_open afters.TagLetter1 c h = two (is_tag_letter c) (is_tag_digit c) (Same, afters.TagLetter2)
+    (Same, afters.TagDigit1) refl refl
+joins_open afters.TagLetter2 c h = two (is_tag_letter c) (is_tag_digit c) (Same, afters.TagLetter3)
+    (Same, afters.TagDigit1) refl refl
+joins_open afters.TagLetter3 c h = three (is_tag_letter c) (is_tag_digit c) (c == 0x1F3F4) (Same, afters.TagLetter4)
+    (Same, afters.TagDigit1) (Same, afters.Emoji) refl refl refl
+joins_open afters.TagLetter4 c h = three (is_tag_letter c) (is_tag_digit c) (c == 0x1F3F4) (Same, afters.TagLetter5)
+    (Same, afters.TagDigit1) (Same, afters.Emoji) refl refl refl
+joins_open afters.TagLetter5 c h = two (is_tag_letter c) (c == 0x1F3F4) (Same, afters.TagLetter6) (Same, afters.Emoji)
+    refl refl
 joins_open afters.TagLetter6 c h = either (c == 0x1F3F4) (Same, afters.Emoji) refl
-joins_open afters.KiratE c h = first_only (if c == 0x16D63 then Some (Same, afters.Nothing) else if c == 0x16D67 then Some (Same, afters.KiratAi) else if c == 0x16D68 then Some (One, afters.KiratE) else if c == 0x16D69 then Some (Same, afters.Nothing) else None) (four (c == 0x16D63) (c == 0x16D67) (c == 0x16D68) (c == 0x16D69) (Same, afters.Nothing) (Same, afters.KiratAi) (One, afters.KiratE) (Same, afters.Nothing) refl refl refl refl)
-joins_open afters.KiratAi c h = first_only (if c == 0x16D63 then Some (Same, afters.Nothing) else None) (either (c == 0x16D63) (Same, afters.Nothing) refl)
-joins_open afters.Alef c h = two (is_lam c) (((alone false c).0 == 0) && joining_type_eq (joining_type c) Transparent) (Same, afters.Nothing) (Same, afters.Alef) refl refl
+joins_open afters.KiratE c h = first_only (if c == 0x16D63 then Some (Same, afters.Nothing) else if c == 0x16D67 then
+    Some (Same, afters.KiratAi) else if c == 0x16D68 then Some (One, afters.KiratE) else if c == 0x16D69 then
+    Some (Same, afters.Nothing) else None) (four (c == 0x16D63) (c == 0x16D67) (c == 0x16D68) (c == 0x16D69)
+    (Same, afters.Nothing) (Same, afters.KiratAi) (One, afters.KiratE) (Same, afters.Nothing) refl refl refl refl)
+joins_open afters.KiratAi c h = first_only (if c == 0x16D63 then Some (Same, afters.Nothing) else None)
+    (either (c == 0x16D63) (Same, afters.Nothing) refl)
+joins_open afters.Alef c h = two (is_lam c) (((alone false c).0 == 0) && joining_type_eq (joining_type c) Transparent)
+    (Same, afters.Nothing) (Same, afters.Alef) refl refl
 joins_open afters.Solidus c h = tt
 joins_open afters.SolidusAlef c h = tt
 joins_open afters.Lamed c h = tt
-joins_open afters.ZwjLamed c h = first_only (if c == 0x05D0 then Some (Same, afters.Nothing) else None) (either (c == 0x05D0) (Same, afters.Nothing) refl)
+joins_open afters.ZwjLamed c h = first_only (if c == 0x05D0 then Some (Same, afters.Nothing) else None)
+    (either (c == 0x05D0) (Same, afters.Nothing) refl)
 joins_open afters.Ya c h = tt
-joins_open afters.ZwjYa c h = first_only (if c == 0x1A17 then Some (Same, afters.VowelZwjYa) else None) (either (c == 0x1A17) (Same, afters.VowelZwjYa) refl)
-joins_open afters.VowelZwjYa c h = first_only (if c == 0x1A15 then Some (Same, afters.Nothing) else None) (either (c == 0x1A15) (Same, afters.Nothing) refl)
-joins_open afters.Tifinagh c h = first_only (if c == 0x2D7F then Some (One, afters.JoinerTifinagh) else None) (either (c == 0x2D7F) (One, afters.JoinerTifinagh) refl)
-joins_open afters.ZwjTifinagh c h = first_only (if c == 0x2D7F then Some (One, afters.JoinerTifinagh) else if is_tifinagh c then Some (Same, afters.Nothing) else None) (two (c == 0x2D7F) (is_tifinagh c) (One, afters.JoinerTifinagh) (Same, afters.Nothing) refl refl)
-joins_open afters.JoinerTifinagh c h = first_only (if is_tifinagh c then Some (Less, afters.Nothing) else None) (either (is_tifinagh c) (Less, afters.Nothing) refl)
-joins_open afters.LisuTone c h = first_only (if is_in_range 0xA4F8 0xA4FB c then Some (Same, afters.Nothing) else None) (either (is_in_range 0xA4F8 0xA4FB c) (Same, afters.Nothing) refl)
+joins_open afters.ZwjYa c h = first_only (if c == 0x1A17 then Some (Same, afters.VowelZwjYa) else None)
+    (either (c == 0x1A17) (Same, afters.VowelZwjYa) refl)
+joins_open afters.VowelZwjYa c h = first_only (if c == 0x1A15 then Some (Same, afters.Nothing) else None)
+    (either (c == 0x1A15) (Same, afters.Nothing) refl)
+joins_open afters.Tifinagh c h = first_only (if c == 0x2D7F then Some (One, afters.JoinerTifinagh) else None)
+    (either (c == 0x2D7F) (One, afters.JoinerTifinagh) refl)
+joins_open afters.ZwjTifinagh c h = first_only (if c == 0x2D7F then Some (One, afters.JoinerTifinagh)
+    else if is_tifinagh c then Some (Same, afters.Nothing) else None)
+    (two (c == 0x2D7F) (is_tifinagh c) (One, afters.JoinerTifinagh) (Same, afters.Nothing) refl refl)
+joins_open afters.JoinerTifinagh c h = first_only (if is_tifinagh c then Some (Less, afters.Nothing) else None)
+    (either (is_tifinagh c) (Less, afters.Nothing) refl)
+joins_open afters.LisuTone c h = first_only (if is_in_range 0xA4F8 0xA4FB c then Some (Same, afters.Nothing) else None)
+    (either (is_in_range 0xA4F8 0xA4FB c) (Same, afters.Nothing) refl)
 joins_open afters.OrkhonI c h = tt
-joins_open afters.ZwjOrkhonI c h = first_only (if c == 0x10C32 then Some (Same, afters.Nothing) else None) (either (c == 0x10C32) (Same, afters.Nothing) refl)
-joins_open afters.KhmerLetter c h = first_only (if c == 0x17D2 then Some (Less, afters.Nothing) else None) (either (c == 0x17D2) (Less, afters.Nothing) refl)
+joins_open afters.ZwjOrkhonI c h = first_only (if c == 0x10C32 then Some (Same, afters.Nothing) else None)
+    (either (c == 0x10C32) (Same, afters.Nothing) refl)
+joins_open afters.KhmerLetter c h = first_only (if c == 0x17D2 then Some (Less, afters.Nothing) else None)
+    (either (c == 0x17D2) (Less, afters.Nothing) refl)
 
 -- marks are skipped by no modifier
-marked : (after : After) → skips_marks after ≡ true → (is_modifier after ≡ false) × (is_modifier (with_joiner after) ≡ false)
+marked : (after : After) → skips_marks after ≡ true → (is_modifier after ≡ false)
+    × (is_modifier (with_joiner after) ≡ false)
 marked afters.Nothing e = absurd (true≢false (sym e))
 marked afters.LineFeed e = absurd (true≢false (sym e))
 marked afters.EmojiModifier e = absurd (true≢false (sym e))
@@ -219,25 +270,31 @@ marked afters.KhmerLetter e = (refl, refl)
 past_open : (c t : ℕ) (after : After) → opens c ≡ true → IsOpen (past_selectors false c t after).1
 unfolding past_selectors
 past_open c t after h =
-    open_if (skips_marks after && (c == 0x200D)) (t, before (with_joiner after)) _ (λ e. (with_joiner after, (refl, (marked after (and_parts (skips_marks after) (c == 0x200D) e).0).1)))
-    (open_if (skips_marks after && is_ligature_transparent c) (t, before after) _ (λ e. (after, (refl, (marked after (and_parts (skips_marks after) (is_ligature_transparent c) e).0).0)))
+    open_if (skips_marks after && (c == 0x200D)) (t, before (with_joiner after)) _
+    (λ e. (with_joiner after, (refl, (marked after (and_parts (skips_marks after) (c == 0x200D) e).0).1)))
+    (open_if (skips_marks after && is_ligature_transparent c) (t, before after) _
+    (λ e. (after, (refl, (marked after (and_parts (skips_marks after) (is_ligature_transparent c) e).0).0)))
     (joined_open t (joins false after c) (alone false c) (joins_open after c h) (own_open c h)))
 
 context_open : (c t : ℕ) (s : State) → opens c ≡ true → IsOpen (in_context false c t s).1
 unfolding in_context
 context_open c t s h =
     rw (no_selector c 0xFE0F refl h, no_selector c 0xFE01 refl h, no_selector c 0xFE0E refl h)
-    (open_cond (s.text && is_text_presentation_base c) (t + 1, plain) _ plain_open (open_cond (s.quote && is_quote c) (t + 2, plain) _ plain_open (past_open c t s.after h)))
+    (open_cond (s.text && is_text_presentation_base c) (t + 1, plain) _ plain_open
+    (open_cond (s.quote && is_quote c) (t + 2, plain) _ plain_open (past_open c t s.after h)))
 
 all_open : (c t : ℕ) (s : State) → opens c ≡ true → IsOpen (past_emoji false c t s).1
 unfolding past_emoji
 all_open c t s h =
-    open_cond (c == 0x0A) (t + 1, before afters.LineFeed) _ (afters.LineFeed, (refl, refl)) (open_cond ((c == 0x0D) && is_line_feed s.after) (t, plain) _ plain_open
-    (open_cond (nat_le c 0xA0) (t + 1, plain) _ plain_open (open_cond (is_plain s) (added t (alone false c)) _ (own_open c h) (context_open c t s h))))
+    open_cond (c == 0x0A) (t + 1, before afters.LineFeed) _ (afters.LineFeed, (refl, refl))
+    (open_cond ((c == 0x0D) && is_line_feed s.after) (t, plain) _ plain_open
+    (open_cond (nat_le c 0xA0) (t + 1, plain) _ plain_open
+    (open_cond (is_plain s) (added t (alone false c)) _ (own_open c h) (context_open c t s h))))
 
 pub step_opens : (c t : ℕ) (s : State) → opens c ≡ true → IsOpen (step false c (t, s)).1
 unfolding step
 step_opens c t s h =
     open_cond (not s.emoji) (past_emoji false c t s) _ (all_open c t s h)
-    (open_cond (is_emoji_variation_base c) (t + (if is_joined_emoji s.after then 0 else 2), before afters.Emoji) (past_emoji false c t (record (if_kept s) { emoji = false }))
+    (open_cond (is_emoji_variation_base c) (t + (if is_joined_emoji s.after then 0 else 2), before afters.Emoji)
+    (past_emoji false c t (record (if_kept s) { emoji = false }))
     (afters.Emoji, (refl, refl)) (all_open c t (record (if_kept s) { emoji = false }) h))

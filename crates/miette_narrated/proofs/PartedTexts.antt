@@ -1,8 +1,11 @@
 -- Neighbours that part a text: its width is that of what ends with the first and that of what begins with the second.
-use Rattle.std.proofs.Common.{ℕ, ◌+◌, ◌<◌, ◌≤◌, ◌≡◌, Bool, true, false, cond, not, ◌&&◌, ◌||◌, ◌==◌, nat_le, nat_lt, ◌⊎◌, List, [], ◌∷◌, ◌++◌, Option, Some, None, refl, sym, ap, subst, add-zero, ◌∙◌, arith, inl, inr}
+use Rattle.std.proofs.Common.{ℕ, ◌+◌, ◌<◌, ◌≤◌, ◌≡◌, Bool, true, false, cond, not, ◌&&◌, ◌||◌, ◌==◌, nat_le, nat_lt}
+use Rattle.std.proofs.Common.{◌⊎◌, List, [], ◌∷◌, ◌++◌, Option, Some, None, refl, sym, ap, subst, add-zero, ◌∙◌, arith}
+use Rattle.std.proofs.Common.{inl, inr}
 use Rattle.std.specs.Prelude.{if◌then◌else◌}
 use Rattle.std.specs.Int.{is_in_range}
-use Rattle.std.proofs.lemmas.Bool.{true≢false, eqb-true, or_cases, or_parts, and_parts, le-ltb, and_right, cases_lt, cond-true, cond-false, le-leb, lt-leb, ne_eqb, not-true}
+use Rattle.std.proofs.lemmas.Bool.{true≢false, eqb-true, or_cases, or_parts, and_parts, le-ltb, and_right, cases_lt}
+use Rattle.std.proofs.lemmas.Bool.{cond-true, cond-false, le-leb, lt-leb, ne_eqb, not-true}
 use Rattle.ucd_table.specs.Rows.{Range, in_ranges}
 use Rattle.ucd_table.proofs.Stepped.{Stepped, of_ranges, zip_stepped}
 use Rattle.ucd_table.proofs.Facts.{always, ends_by, Stepped-everywhere}
@@ -15,7 +18,10 @@ use Rattle.unicode_width.specs.declared.state.State.{State}
 use Rattle.unicode_width.specs.declared.state.Change.{Change}
 use Rattle.unicode_width.specs.declared.state.Change.TheVariants.{Less, Same}
 use Rattle.unicode_width.specs.Kind.{kind, is_ligature_transparent, is_text_presentation_base}
-use Rattle.unicode_width.specs.Width.{before, plain, is_joined_emoji, is_line_feed, is_quote, of_kind, alone, char_width, before_alef, is_lam, is_emoji, joins, first_of, joined_or, Reading, added, if_kept, skips_marks, is_plain, past_selectors, in_context, past_emoji, step, read_before, str_width}
+use Rattle.unicode_width.specs.Width.{before, plain, is_joined_emoji, is_line_feed, is_quote, of_kind, alone}
+use Rattle.unicode_width.specs.Width.{char_width, before_alef, is_lam, is_emoji, joins, first_of, joined_or, Reading}
+use Rattle.unicode_width.specs.Width.{added, if_kept, skips_marks, is_plain, past_selectors, in_context, past_emoji}
+use Rattle.unicode_width.specs.Width.{step, read_before, str_width}
 use Rattle.unicode_width.proofs.KindLemmas.{is_ligature_transparent_stepped}
 use Rattle.unicode_width.proofs.Computing.{unicode_width}
 use Rattle.miette_cells.specs.rules.Widths.{width_of}
@@ -49,7 +55,8 @@ past_after_emoji : (b t : ℕ) → (b == 0x200D) ≡ false → past_selectors fa
 unfolding past_selectors
 past_after_emoji b t n = rw (skip_marks b n) refl
 
-other_after_emoji : (b t : ℕ) → (b == 0x200D) ≡ false → (b == 0xFE0F) ≡ false → (b == 0xFE01) ≡ false → (b == 0xFE0E) ≡ false → in_context false b t after_emoji ≡ added t (alone false b)
+other_after_emoji : (b t : ℕ) → (b == 0x200D) ≡ false → (b == 0xFE0F) ≡ false → (b == 0xFE01) ≡ false → (b == 0xFE0E)
+    ≡ false → in_context false b t after_emoji ≡ added t (alone false b)
 unfolding in_context
 other_after_emoji b t n f g h = rw (f, g, h) (past_after_emoji b t n)
 
@@ -58,7 +65,8 @@ in_after_emoji b t n =
     let C : ℕ → Type 0 = λ x. in_context false x t after_emoji ≡ added t (alone false x) in
     by_cases {C = C b} (b == 0xFE0F) (λ e. subst C (sym (eqb-true b 0xFE0F e)) (emoji_selector t))
     (λ f. by_cases {C = C b} (b == 0xFE01) (λ e. subst C (sym (eqb-true b 0xFE01 e)) (quote_selector t))
-    (λ g. by_cases {C = C b} (b == 0xFE0E) (λ e. subst C (sym (eqb-true b 0xFE0E e)) (text_selector t)) (λ h. other_after_emoji b t n f g h)))
+    (λ g. by_cases {C = C b} (b == 0xFE0E) (λ e. subst C (sym (eqb-true b 0xFE0E e)) (text_selector t))
+    (λ h. other_after_emoji b t n f g h)))
 
 read_the_same : (b t : ℕ) → (b == 0x200D) ≡ false → step false b (t, after_emoji) ≡ step false b (t, plain)
 unfolding step past_emoji
@@ -84,7 +92,9 @@ is_odd_kind _ = true
 
 abbrev joining_ranges : List Range
 joining_ranges =
-    (0x338, 0x338) ∷ (0x5DC, 0x5DC) ∷ (0x622, 0x627) ∷ (0x671, 0x675) ∷ (0x773, 0x774) ∷ (0x870, 0x882) ∷ (0x1780, 0x17D8) ∷ (0x1A10, 0x1A10) ∷ (0x2D31, 0x2D7F) ∷ (0xA4FC, 0xA4FD) ∷ (0xFB3C, 0xFB3C) ∷ (0xFE00, 0xFE0F) ∷ (0x10C03, 0x10C03) ∷ (0x16D67, 0x16D68) ∷ (0x1F1E6, 0x1F1FF) ∷ (0x1F3FB, 0x1F3FF) ∷ []
+    (0x338, 0x338) ∷ (0x5DC, 0x5DC) ∷ (0x622, 0x627) ∷ (0x671, 0x675) ∷ (0x773, 0x774) ∷ (0x870, 0x882)
+    ∷ (0x1780, 0x17D8) ∷ (0x1A10, 0x1A10) ∷ (0x2D31, 0x2D7F) ∷ (0xA4FC, 0xA4FD) ∷ (0xFB3C, 0xFB3C) ∷ (0xFE00, 0xFE0F)
+    ∷ (0x10C03, 0x10C03) ∷ (0x16D67, 0x16D68) ∷ (0x1F1E6, 0x1F1FF) ∷ (0x1F3FB, 0x1F3FF) ∷ []
 
 joining_ranged : (c : ℕ) → is_joining c ≡ in_ranges joining_ranges c
 unfolding in_ranges
@@ -94,8 +104,10 @@ joining_ranged c = or_false (is_joining c) ∙ simp or_turn
 odd_listed : (c : ℕ) → is_joining c ≡ false → is_odd_kind (kind c) ≡ false
 unfolding unicode_width kind_test_stepped
 odd_listed c h =
-    let both = zip_stepped (λ o j. j || not o) (λ c. is_odd_kind (kind c)) (in_ranges joining_ranges) (kind_test_stepped is_odd_kind refl refl) (of_ranges joining_ranges refl) in
-    not-true (is_odd_kind (kind c)) (subst (λ j. (j || not (is_odd_kind (kind c))) ≡ true) (sym (joining_ranged c) ∙ h) (Stepped-everywhere _ both refl c))
+    let both = zip_stepped (λ o j. j || not o) (λ c. is_odd_kind (kind c)) (in_ranges joining_ranges)
+    (kind_test_stepped is_odd_kind refl refl) (of_ranges joining_ranges refl) in
+    not-true (is_odd_kind (kind c)) (subst (λ j. (j || not (is_odd_kind (kind c))) ≡ true) (sym (joining_ranged c) ∙ h)
+    (Stepped-everywhere _ both refl c))
 
 pub width_high : (c : ℕ) → 0xA0 < c → width_of c ≡ (alone false c).0
 unfolding char_width
@@ -116,10 +128,12 @@ mild_by c kinds.Emoji h e = refl
 mild_by c kinds.Single h e = absurd (true≢false e)
 
 high_parts : (c : ℕ) → 0xA0 < c → is_closing c ≡ true → (nat_lt 0 (width_of c) && not (is_joining c)) ≡ true
-high_parts c high h = sym (cond-false (nat_le c 0xA0) (not (c == 0x0A)) (nat_lt 0 (width_of c) && not (is_joining c)) (lt-leb c 0xA0 high)) ∙ h
+high_parts c high h = sym (cond-false (nat_le c 0xA0) (not (c == 0x0A)) (nat_lt 0 (width_of c) && not (is_joining c))
+    (lt-leb c 0xA0 high)) ∙ h
 
 pub unlisted : (c : ℕ) → 0xA0 < c → is_closing c ≡ true → is_joining c ≡ false
-unlisted c high h = not-true (is_joining c) (and_parts (nat_lt 0 (width_of c)) (not (is_joining c)) (high_parts c high h)).1
+unlisted c high h = not-true (is_joining c) (and_parts (nat_lt 0 (width_of c)) (not (is_joining c))
+    (high_parts c high h)).1
 
 pub mild : (c : ℕ) → 0xA0 < c → is_closing c ≡ true → is_mild_kind (kind c) ≡ true
 unfolding alone
@@ -132,13 +146,15 @@ mild c high h =
 abbrev unmild : (p : ℕ → Bool) → Stepped p → Bool
 unfolding unicode_width kind_test_stepped
 unmild p s =
-    let both = zip_stepped (λ m b. not (m && b)) (λ c. is_mild_kind (kind c)) p (kind_test_stepped is_mild_kind refl refl) s in
+    let both = zip_stepped (λ m b. not (m && b)) (λ c. is_mild_kind (kind c)) p
+    (kind_test_stepped is_mild_kind refl refl) s in
     always _ both && (ends_by 0x11_0000 both.steps && both.default)
 
 mild_not : (p : ℕ → Bool) (s : Stepped p) → unmild p s ≡ true → (c : ℕ) → is_mild_kind (kind c) ≡ true → p c ≡ false
 unfolding unicode_width kind_test_stepped
 mild_not p s ok c h =
-    let both = zip_stepped (λ m b. not (m && b)) (λ c. is_mild_kind (kind c)) p (kind_test_stepped is_mild_kind refl refl) s in
+    let both = zip_stepped (λ m b. not (m && b)) (λ c. is_mild_kind (kind c)) p
+    (kind_test_stepped is_mild_kind refl refl) s in
     not-true (p c) (subst (λ a. not (a && p c) ≡ true) h (Stepped-everywhere _ both ok c))
 
 -- ranges of indicators, of skin tones, and of the letters and digits of tags
@@ -153,7 +169,8 @@ is_passed c = is_ligature_transparent c || in_ranges emoji_ranges c
 
 abbrev passed_stepped : Stepped is_passed
 unfolding unicode_width
-passed_stepped = zip_stepped (λ a b. a || b) is_ligature_transparent (in_ranges emoji_ranges) is_ligature_transparent_stepped (of_ranges emoji_ranges refl)
+passed_stepped = zip_stepped (λ a b. a || b) is_ligature_transparent (in_ranges emoji_ranges)
+    is_ligature_transparent_stepped (of_ranges emoji_ranges refl)
 
 -- one walk over the table of kinds for all of them
 not_passed : (c : ℕ) → is_mild_kind (kind c) ≡ true → is_passed c ≡ false
@@ -164,13 +181,16 @@ pub no_transparent : (c : ℕ) → is_mild_kind (kind c) ≡ true → is_ligatur
 no_transparent c h = (or_parts (is_ligature_transparent c) (in_ranges emoji_ranges c) (not_passed c h)).0
 
 -- the first range of some, and the others
-first_range : (range : Range) (more : List Range) (c : ℕ) → in_ranges (range ∷ more) c ≡ false → (is_in_range range.0 range.1 c ≡ false) × (in_ranges more c ≡ false)
+first_range : (range : Range) (more : List Range) (c : ℕ) → in_ranges (range ∷ more) c ≡ false
+    → (is_in_range range.0 range.1 c ≡ false) × (in_ranges more c ≡ false)
 unfolding in_ranges
 first_range range more c h = or_parts (is_in_range range.0 range.1 c) (in_ranges more c) h
 
-not_flagged : (c : ℕ) → is_mild_kind (kind c) ≡ true → (is_in_range 0x1F1E6 0x1F1FF c ≡ false) × (in_ranges ((0x1F3FB, 0x1F3FF) ∷ tag_ranges) c ≡ false)
+not_flagged : (c : ℕ) → is_mild_kind (kind c) ≡ true → (is_in_range 0x1F1E6 0x1F1FF c ≡ false)
+    × (in_ranges ((0x1F3FB, 0x1F3FF) ∷ tag_ranges) c ≡ false)
 not_flagged c h =
-    first_range (0x1F1E6, 0x1F1FF) ((0x1F3FB, 0x1F3FF) ∷ tag_ranges) c (or_parts (is_ligature_transparent c) (in_ranges emoji_ranges c) (not_passed c h)).1
+    first_range (0x1F1E6, 0x1F1FF) ((0x1F3FB, 0x1F3FF) ∷ tag_ranges) c
+    (or_parts (is_ligature_transparent c) (in_ranges emoji_ranges c) (not_passed c h)).1
 
 pub no_indicator : (c : ℕ) → is_mild_kind (kind c) ≡ true → is_in_range 0x1F1E6 0x1F1FF c ≡ false
 no_indicator c h = (not_flagged c h).0
@@ -178,8 +198,10 @@ no_indicator c h = (not_flagged c h).0
 pub no_modifier : (c : ℕ) → is_mild_kind (kind c) ≡ true → is_in_range 0x1F3FB 0x1F3FF c ≡ false
 no_modifier c h = (first_range (0x1F3FB, 0x1F3FF) tag_ranges c (not_flagged c h).1).0
 
-not_tagged : (c : ℕ) → is_mild_kind (kind c) ≡ true → (is_in_range 0xE0030 0xE0039 c ≡ false) × (in_ranges ((0xE0061, 0xE007A) ∷ []) c ≡ false)
-not_tagged c h = first_range (0xE0030, 0xE0039) ((0xE0061, 0xE007A) ∷ []) c (first_range (0x1F3FB, 0x1F3FF) tag_ranges c (not_flagged c h).1).1
+not_tagged : (c : ℕ) → is_mild_kind (kind c) ≡ true → (is_in_range 0xE0030 0xE0039 c ≡ false)
+    × (in_ranges ((0xE0061, 0xE007A) ∷ []) c ≡ false)
+not_tagged c h = first_range (0xE0030, 0xE0039) ((0xE0061, 0xE007A) ∷ []) c
+    (first_range (0x1F3FB, 0x1F3FF) tag_ranges c (not_flagged c h).1).1
 
 pub no_tag_letter : (c : ℕ) → is_mild_kind (kind c) ≡ true → is_in_range 0xE0061 0xE007A c ≡ false
 no_tag_letter c h = (first_range (0xE0061, 0xE007A) [] c (not_tagged c h).1).0
@@ -206,7 +228,8 @@ pub no_vowel : (c : ℕ) → is_mild_kind (kind c) ≡ true → (c == 0x1A17) �
 unfolding unicode_width
 no_vowel c = no_mark c 0x1A17 refl
 
-pub no_selector : (c : ℕ) → is_mild_kind (kind c) ≡ true → ((c == 0xFE0F) ≡ false) × (((c == 0xFE01) ≡ false) × ((c == 0xFE0E) ≡ false))
+pub no_selector : (c : ℕ) → is_mild_kind (kind c) ≡ true → ((c == 0xFE0F) ≡ false)
+    × (((c == 0xFE01) ≡ false) × ((c == 0xFE0E) ≡ false))
 unfolding unicode_width
 no_selector c h = (no_mark c 0xFE0F refl h, (no_mark c 0xFE01 refl h, no_mark c 0xFE0E refl h))
 
@@ -232,7 +255,8 @@ first_only : (x : Option (Change × After)) → JoinsQuietly x → JoinsQuietly 
 first_only None p = p
 first_only (Some j) p = p
 
-quiet_joined : (t : ℕ) (j : Option (Change × After)) (own : ℕ × State) → JoinsQuietly j → IsQuiet own.1 → IsQuiet (joined_or t j own).1
+quiet_joined : (t : ℕ) (j : Option (Change × After)) (own : ℕ × State) → JoinsQuietly j → IsQuiet own.1
+    → IsQuiet (joined_or t j own).1
 quiet_joined t None own p q = q
 quiet_joined t (Some j) own p q = p
 
@@ -276,15 +300,18 @@ own_width c h = some_width c (kind c) h
 pub unligated : (c k : ℕ) → is_joining k ≡ true → is_joining c ≡ false → (c == k) ≡ false
 unligated c k n h = ne_eqb c k (λ e. absurd (true≢false (sym n ∙ sym (ap is_joining e) ∙ h)))
 
-joins_quietly : (after : After) (c : ℕ) → is_joining c ≡ false → is_mild_kind (kind c) ≡ true → JoinsQuietly (joins false after c)
+joins_quietly : (after : After) (c : ℕ) → is_joining c ≡ false → is_mild_kind (kind c) ≡ true
+    → JoinsQuietly (joins false after c)
 unfolding joins before_alef
 joins_quietly afters.Nothing c n h = tt
 joins_quietly afters.LineFeed c n h = tt
-joins_quietly afters.EmojiModifier c n h = rw (no_joiner c h) (either (is_emoji_modifier_base c) (Some (Same, afters.Emoji)) None (inr refl) tt)
+joins_quietly afters.EmojiModifier c n h = rw (no_joiner c h)
+    (either (is_emoji_modifier_base c) (Some (Same, afters.Emoji)) None (inr refl) tt)
 joins_quietly afters.RegionalIndicator c n h = rw (no_indicator c h) tt
 joins_quietly afters.RegionalIndicators c n h = rw (no_indicator c h, no_joiner c h) tt
 joins_quietly afters.Emoji c n h = rw (no_joiner c h) tt
-joins_quietly afters.ZwjEmoji c n h = rw (no_keycap c h, no_indicator c h, no_modifier c h, no_tag_end c h) (either (is_emoji (kind c)) (Some (Same, afters.Emoji)) None (inr refl) tt)
+joins_quietly afters.ZwjEmoji c n h = rw (no_keycap c h, no_indicator c h, no_modifier c h, no_tag_end c h)
+    (either (is_emoji (kind c)) (Some (Same, afters.Emoji)) None (inr refl) tt)
 joins_quietly afters.KeycapZwjEmoji c n h = tt
 joins_quietly afters.IndicatorZwj c n h = rw (no_indicator c h) tt
 joins_quietly afters.EvenIndicatorsZwj c n h = rw (no_indicator c h, no_joiner c h) tt
@@ -295,43 +322,65 @@ joins_quietly afters.TagDigit2 c n h = rw (no_tag_digit c h) tt
 joins_quietly afters.TagDigit3 c n h = either (c == 0x1F3F4) (Some (Same, afters.Emoji)) None (inr refl) tt
 joins_quietly afters.TagLetter1 c n h = rw (no_tag_letter c h, no_tag_digit c h) tt
 joins_quietly afters.TagLetter2 c n h = rw (no_tag_letter c h, no_tag_digit c h) tt
-joins_quietly afters.TagLetter3 c n h = rw (no_tag_letter c h, no_tag_digit c h) (either (c == 0x1F3F4) (Some (Same, afters.Emoji)) None (inr refl) tt)
-joins_quietly afters.TagLetter4 c n h = rw (no_tag_letter c h, no_tag_digit c h) (either (c == 0x1F3F4) (Some (Same, afters.Emoji)) None (inr refl) tt)
-joins_quietly afters.TagLetter5 c n h = rw (no_tag_letter c h) (either (c == 0x1F3F4) (Some (Same, afters.Emoji)) None (inr refl) tt)
+joins_quietly afters.TagLetter3 c n h = rw (no_tag_letter c h, no_tag_digit c h)
+    (either (c == 0x1F3F4) (Some (Same, afters.Emoji)) None (inr refl) tt)
+joins_quietly afters.TagLetter4 c n h = rw (no_tag_letter c h, no_tag_digit c h)
+    (either (c == 0x1F3F4) (Some (Same, afters.Emoji)) None (inr refl) tt)
+joins_quietly afters.TagLetter5 c n h = rw (no_tag_letter c h)
+    (either (c == 0x1F3F4) (Some (Same, afters.Emoji)) None (inr refl) tt)
 joins_quietly afters.TagLetter6 c n h = either (c == 0x1F3F4) (Some (Same, afters.Emoji)) None (inr refl) tt
-joins_quietly afters.KiratE c n h = rw (unligated c 0x16D67 refl n, unligated c 0x16D68 refl n) (first_only _ (either (c == 0x16D63) (Some (Same, afters.Nothing)) (if c == 0x16D69 then Some (Same, afters.Nothing) else None) (inl refl) (either (c == 0x16D69) (Some (Same, afters.Nothing)) None (inl refl) tt)))
-joins_quietly afters.KiratAi c n h = first_only _ (either (c == 0x16D63) (Some (Same, afters.Nothing)) None (inl refl) tt)
-joins_quietly afters.Alef c n h = rw (own_width c h) (either (is_lam c) (Some (Same, afters.Nothing)) None (inl refl) tt)
+joins_quietly afters.KiratE c n h = rw (unligated c 0x16D67 refl n, unligated c 0x16D68 refl n)
+    (first_only _ (either (c == 0x16D63) (Some (Same, afters.Nothing))
+    (if c == 0x16D69 then Some (Same, afters.Nothing) else None) (inl refl)
+    (either (c == 0x16D69) (Some (Same, afters.Nothing)) None (inl refl) tt)))
+joins_quietly afters.KiratAi c n h = first_only _ (either (c == 0x16D63) (Some (Same, afters.Nothing)) None (inl refl)
+    tt)
+joins_quietly afters.Alef c n h = rw (own_width c h) (either (is_lam c) (Some (Same, afters.Nothing)) None (inl refl)
+    tt)
 joins_quietly afters.Solidus c n h = tt
 joins_quietly afters.SolidusAlef c n h = tt
 joins_quietly afters.Lamed c n h = tt
-joins_quietly afters.ZwjLamed c n h = first_only _ (either (c == 0x05D0) (Some (Same, afters.Nothing)) None (inl refl) tt)
+joins_quietly afters.ZwjLamed c n h = first_only _ (either (c == 0x05D0) (Some (Same, afters.Nothing)) None (inl refl)
+    tt)
 joins_quietly afters.Ya c n h = tt
 joins_quietly afters.ZwjYa c n h = rw (no_vowel c h) tt
-joins_quietly afters.VowelZwjYa c n h = first_only _ (either (c == 0x1A15) (Some (Same, afters.Nothing)) None (inl refl) tt)
+joins_quietly afters.VowelZwjYa c n h = first_only _ (either (c == 0x1A15) (Some (Same, afters.Nothing)) None (inl refl)
+    tt)
 joins_quietly afters.Tifinagh c n h = rw (unligated c 0x2D7F refl n) tt
-joins_quietly afters.ZwjTifinagh c n h = rw (unligated c 0x2D7F refl n) (first_only _ (either (is_in_range 0x2D31 0x2D65 c || (c == 0x2D6F)) (Some (Same, afters.Nothing)) None (inl refl) tt))
-joins_quietly afters.JoinerTifinagh c n h = first_only _ (either (is_in_range 0x2D31 0x2D65 c || (c == 0x2D6F)) (Some (Less, afters.Nothing)) None (inl refl) tt)
-joins_quietly afters.LisuTone c n h = first_only _ (either (is_in_range 0xA4F8 0xA4FB c) (Some (Same, afters.Nothing)) None (inl refl) tt)
+joins_quietly afters.ZwjTifinagh c n h = rw (unligated c 0x2D7F refl n)
+    (first_only _ (either (is_in_range 0x2D31 0x2D65 c || (c == 0x2D6F)) (Some (Same, afters.Nothing)) None (inl refl)
+    tt))
+joins_quietly afters.JoinerTifinagh c n h = first_only _
+    (either (is_in_range 0x2D31 0x2D65 c || (c == 0x2D6F)) (Some (Less, afters.Nothing)) None (inl refl) tt)
+joins_quietly afters.LisuTone c n h = first_only _ (either (is_in_range 0xA4F8 0xA4FB c) (Some (Same, afters.Nothing))
+    None (inl refl) tt)
 joins_quietly afters.OrkhonI c n h = tt
-joins_quietly afters.ZwjOrkhonI c n h = first_only _ (either (c == 0x10C32) (Some (Same, afters.Nothing)) None (inl refl) tt)
-joins_quietly afters.KhmerLetter c n h = first_only _ (either (c == 0x17D2) (Some (Less, afters.Nothing)) None (inl refl) tt)
+joins_quietly afters.ZwjOrkhonI c n h = first_only _ (either (c == 0x10C32) (Some (Same, afters.Nothing)) None
+    (inl refl) tt)
+joins_quietly afters.KhmerLetter c n h = first_only _ (either (c == 0x17D2) (Some (Less, afters.Nothing)) None
+    (inl refl) tt)
 
 -- ---- its step
 
-past_quotes : (c t : ℕ) (after : After) → is_joining c ≡ false → is_mild_kind (kind c) ≡ true → IsQuiet (past_selectors false c t after).1
+past_quotes : (c t : ℕ) (after : After) → is_joining c ≡ false → is_mild_kind (kind c) ≡ true
+    → IsQuiet (past_selectors false c t after).1
 unfolding past_selectors
 past_quotes c t after n h =
-    rw (no_joiner c h, no_transparent c h, and_right (skips_marks after) false refl) (quiet_joined t (joins false after c) (alone false c) (joins_quietly after c n h) (own c h))
+    rw (no_joiner c h, no_transparent c h, and_right (skips_marks after) false refl)
+    (quiet_joined t (joins false after c) (alone false c) (joins_quietly after c n h) (own c h))
 
-in_any_context : (c t : ℕ) (s : State) → is_joining c ≡ false → is_mild_kind (kind c) ≡ true → IsQuiet (in_context false c t s).1
+in_any_context : (c t : ℕ) (s : State) → is_joining c ≡ false → is_mild_kind (kind c) ≡ true
+    → IsQuiet (in_context false c t s).1
 unfolding in_context
 in_any_context c t s n h =
     rw ((no_selector c h).0, (no_selector c h).1.0, (no_selector c h).1.1)
-    (quiet_cond (s.text && is_text_presentation_base c) (t + 1, plain) (cond (s.quote && is_quote c) (t + 2, plain) (past_selectors false c t s.after)) (inl refl)
-    (quiet_cond (s.quote && is_quote c) (t + 2, plain) (past_selectors false c t s.after) (inl refl) (past_quotes c t s.after n h)))
+    (quiet_cond (s.text && is_text_presentation_base c) (t + 1, plain)
+    (cond (s.quote && is_quote c) (t + 2, plain) (past_selectors false c t s.after)) (inl refl)
+    (quiet_cond (s.quote && is_quote c) (t + 2, plain) (past_selectors false c t s.after) (inl refl)
+    (past_quotes c t s.after n h)))
 
-past_high : (c t : ℕ) (s : State) → 0xA0 < c → is_joining c ≡ false → is_mild_kind (kind c) ≡ true → IsQuiet (past_emoji false c t s).1
+past_high : (c t : ℕ) (s : State) → 0xA0 < c → is_joining c ≡ false → is_mild_kind (kind c) ≡ true
+    → IsQuiet (past_emoji false c t s).1
 unfolding past_emoji
 past_high c t s high n h =
     rw (ne_eqb c 0x0A (λ e. omega (arith, e, high)), ne_eqb c 0x0D (λ e. omega (arith, e, high)), lt-leb c 0xA0 high)
@@ -339,10 +388,12 @@ past_high c t s high n h =
 
 past_low : (c t : ℕ) (s : State) → c ≤ 0xA0 → (c == 0x0A) ≡ false → IsQuiet (past_emoji false c t s).1
 unfolding past_emoji
-past_low c t s low n = rw (n, le-leb c 0xA0 low) (quiet_cond ((c == 0x0D) && is_line_feed s.after) (t, plain) (t + 1, plain) (inl refl) (inl refl))
+past_low c t s low n = rw (n, le-leb c 0xA0 low) (quiet_cond ((c == 0x0D) && is_line_feed s.after) (t, plain)
+    (t + 1, plain) (inl refl) (inl refl))
 
 pub low_parts : (c : ℕ) → c ≤ 0xA0 → is_closing c ≡ true → (c == 0x0A) ≡ false
-low_parts c low h = not-true (c == 0x0A) (sym (cond-true (nat_le c 0xA0) (not (c == 0x0A)) (nat_lt 0 (width_of c) && not (is_joining c)) (le-leb c 0xA0 low)) ∙ h)
+low_parts c low h = not-true (c == 0x0A) (sym (cond-true (nat_le c 0xA0) (not (c == 0x0A))
+    (nat_lt 0 (width_of c) && not (is_joining c)) (le-leb c 0xA0 low)) ∙ h)
 
 past_all : (c t : ℕ) (s : State) → is_closing c ≡ true → IsQuiet (past_emoji false c t s).1
 past_all c t s h =
@@ -354,9 +405,12 @@ past_all c t s h =
 quiet_step : (c t : ℕ) (s : State) → is_closing c ≡ true → IsQuiet (step false c (t, s)).1
 unfolding step
 quiet_step c t s h =
-    quiet_cond (not s.emoji) (past_emoji false c t s) (cond (is_emoji_variation_base c) (t + (if is_joined_emoji s.after then 0 else 2), after_emoji) (past_emoji false c t (record (if_kept s) { emoji = false })))
+    quiet_cond (not s.emoji) (past_emoji false c t s) (cond (is_emoji_variation_base c)
+    (t + (if is_joined_emoji s.after then 0 else 2), after_emoji)
+    (past_emoji false c t (record (if_kept s) { emoji = false })))
     (past_all c t s h)
-    (quiet_cond (is_emoji_variation_base c) (t + (if is_joined_emoji s.after then 0 else 2), after_emoji) (past_emoji false c t (record (if_kept s) { emoji = false })) (inr refl)
+    (quiet_cond (is_emoji_variation_base c) (t + (if is_joined_emoji s.after then 0 else 2), after_emoji)
+    (past_emoji false c t (record (if_kept s) { emoji = false })) (inr refl)
     (past_all c t (record (if_kept s) { emoji = false }) h))
 
 -- ---- so widths add up
@@ -365,7 +419,8 @@ read_quiet : (b t : ℕ) (s : State) → (b == 0x200D) ≡ false → IsQuiet s �
 read_quiet b t s n (inl e) = ap (λ x. step false b (t, x)) e
 read_quiet b t s n (inr e) = ap (λ x. step false b (t, x)) e ∙ read_the_same b t n
 
-closed : (xs ys : List ℕ) (b d : ℕ) → is_closing d ≡ true → (b == 0x200D) ≡ false → str_width false (xs ++ b ∷ d ∷ ys) ≡ str_width false (xs ++ b ∷ []) + str_width false (d ∷ ys)
+closed : (xs ys : List ℕ) (b d : ℕ) → is_closing d ≡ true → (b == 0x200D) ≡ false → str_width false (xs ++ b ∷ d ∷ ys)
+    ≡ str_width false (xs ++ b ∷ []) + str_width false (d ∷ ys)
 unfolding str_width
 closed xs ys b d h n =
     let r = read_before false (d ∷ ys) (0, plain) in
@@ -375,7 +430,8 @@ closed xs ys b d h n =
     ∙ ap (λ x. x.0) (sym (read_append xs (b ∷ []) (r.0, plain)))
     ∙ shifted (xs ++ b ∷ []) r.0
 
-pub parted : (xs ys : List ℕ) (b d : ℕ) → may_part b d ≡ true → str_width false (xs ++ b ∷ d ∷ ys) ≡ str_width false (xs ++ b ∷ []) + str_width false (d ∷ ys)
+pub parted : (xs ys : List ℕ) (b d : ℕ) → may_part b d ≡ true → str_width false (xs ++ b ∷ d ∷ ys)
+    ≡ str_width false (xs ++ b ∷ []) + str_width false (d ∷ ys)
 parted xs ys b d h =
     elim (or_cases (is_lone b) (is_closing d && not (b == 0x200D)) h) [
       | inl lone ↦ adds_up xs (d ∷ ys) b lone

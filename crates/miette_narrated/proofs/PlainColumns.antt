@@ -1,5 +1,6 @@
 -- Columns in a text of printable ASCII characters: each of its bytes is one.
-use Rattle.std.proofs.Common.{ℕ, zero, suc, ◌-◌, ◌≡◌, true, false, min, List, [], ◌∷◌, length, take, refl, sym, ap, ◌∙◌, arith}
+use Rattle.std.proofs.Common.{ℕ, zero, suc, ◌-◌, ◌≡◌, true, false, min, List, [], ◌∷◌, length, take, refl, sym, ap, ◌∙◌}
+use Rattle.std.proofs.Common.{arith}
 use Rattle.std.specs.Int.{is_in_range}
 use Rattle.std.specs.List.{list_all}
 use Rattle.std.proofs.lemmas.Bool.{and_parts}
@@ -39,10 +40,12 @@ plain_widths (b ∷ bs) h =
     omega (arith, one, more)
 
 -- so many bytes are as many columns, up to the text's end
-pub plain_column : (k : ℕ) (bs : List ℕ) → list_all is_printable bs ≡ true → min k (length bs) ≡ column k (characters bs)
+pub plain_column : (k : ℕ) (bs : List ℕ) → list_all is_printable bs ≡ true → min k (length bs)
+    ≡ column k (characters bs)
 plain_column k bs h =
     let begins = plain_begun k bs h in
     let taken = printable_taken k bs h in
     by_cases {C = min k (length bs) ≡ column k (characters bs)} (is_boundary k (characters bs))
-    (λ t. sym (at_boundary bs k t ∙ ap (str_width false) begins ∙ str_width-printable false (take k bs) (plain_in_range (take k bs) taken) ∙ length-take k bs))
+    (λ t. sym (at_boundary bs k t ∙ ap (str_width false) begins
+    ∙ str_width-printable false (take k bs) (plain_in_range (take k bs) taken) ∙ length-take k bs))
     (λ f. sym (off_boundary bs k f ∙ ap widths begins ∙ plain_widths (take k bs) taken ∙ length-take k bs))

@@ -1,15 +1,20 @@
 -- The text and the answers of a tree, put together from those of its parts.
-use Rattle.std.proofs.Common.{◌≡◌, ℕ, ◌≤◌, List, [], ◌∷◌, ◌++◌, length, map, drop, Bool, true, Option, Some, None, refl, sym, ap, ap₂, subst, ◌∙◌, append_assoc, append-nil}
+use Rattle.std.proofs.Common.{◌≡◌, ℕ, ◌≤◌, List, [], ◌∷◌, ◌++◌, length, map, drop, Bool, true, Option, Some, None, refl}
+use Rattle.std.proofs.Common.{sym, ap, ap₂, subst, ◌∙◌, append_assoc, append-nil}
 use Rattle.std.proofs.lemmas.Bool.{and_parts}
 use Rattle.miette_protocol.specs.rules.Reading.{Source}
 use Rattle.miette_protocol.specs.views.Meaning.{Label}
-use Rattle.miette_tree.specs.rules.Tree.{Tree, tree, Trees, no_trees, more_trees, trees, effective, head, source_of, cause_of, causes_of, related_of}
+use Rattle.miette_tree.specs.rules.Tree.{Tree, tree, Trees, no_trees, more_trees, trees, effective, head, source_of}
+use Rattle.miette_tree.specs.rules.Tree.{cause_of, causes_of, related_of}
 use Rattle.miette_labels.specs.rules.Around.{group_context}
 use Rattle.miette_labels.specs.rules.Groups.{in_order}
 use Rattle.miette_labels.proofs.NoFailures.{grouped_none}
 use Rattle.miette_narrated.specs.rules.Labels.{label_range}
 use Rattle.miette_narrated.specs.rules.Snippets.{snippets_of}
-use Rattle.miette_narrated.specs.rules.Report.{NarrationSettings, Answers, unlisted, listed, RelatedAnswers, no_more, and_more, own_answer, related_answers, first_answers, later_answers, head_rows, titled_rows, cause_rows, causes_if, advice_rows, row_if, snippet_rows, blank_before, related_report, related_reports, narration}
+use Rattle.miette_narrated.specs.rules.Report.{NarrationSettings, Answers, unlisted, listed, RelatedAnswers, no_more}
+use Rattle.miette_narrated.specs.rules.Report.{and_more, own_answer, related_answers, first_answers, later_answers}
+use Rattle.miette_narrated.specs.rules.Report.{head_rows, titled_rows, cause_rows, causes_if, advice_rows, row_if}
+use Rattle.miette_narrated.specs.rules.Report.{snippet_rows, blank_before, related_report, related_reports, narration}
 use Rattle.miette_tree.specs.rules.DiagnosticParts.{given_labels}
 use Rattle.miette_tree.specs.rules.Reads.{holds_of, holds_of_all, always_reads, report_reads}
 use Rattle.miette_narrated.specs.rules.PossibleAnswers.{IsAnswered, AreAnswers, AllAnswers, IsNarrated}
@@ -22,113 +27,169 @@ use Rattle.std.proofs.lemmas.List.{drop_all}
 pub record RelatedSoFar (context : ℕ) (inherited : Option Source) (all left : Trees) (old now : List ℕ) : Type 0 where
   pub with_rest : RelatedAnswers → RelatedAnswers
   pub possible : (more : RelatedAnswers) → AllAnswers inherited more left → AllAnswers inherited (with_rest more) all
-  pub joined_is : (more : RelatedAnswers) → now ++ related_reports context inherited more left ≡ old ++ (blank_before all ++ related_reports context inherited (with_rest more) all)
+  pub joined_is : (more : RelatedAnswers) → now ++ related_reports context inherited more left ≡ old
+      ++ (blank_before all ++ related_reports context inherited (with_rest more) all)
 
-pub none_so_far : (context : ℕ) (inherited : Option Source) (all : Trees) (old now : List ℕ) → now ≡ old ++ blank_before all → RelatedSoFar context inherited all all old now
+pub none_so_far : (context : ℕ) (inherited : Option Source) (all : Trees) (old now : List ℕ) → now ≡ old
+    ++ blank_before all → RelatedSoFar context inherited all all old now
 none_so_far context inherited all old now e = record {
   with_rest = λ more. more;
   possible = λ more p. p;
-  joined_is = λ more. ap (λ x. x ++ related_reports context inherited more all) e ∙ append_assoc old (blank_before all) (related_reports context inherited more all);
+  joined_is = λ more. ap (λ x. x ++ related_reports context inherited more all) e
+      ∙ append_assoc old (blank_before all) (related_reports context inherited more all);
 }
 
 pub one_more : (context : ℕ) (inherited : Option Source) (all : Trees) (t : Tree) (ts : Trees) (old now new : List ℕ)
-    → RelatedSoFar context inherited all (more_trees t ts) old now → AppendsReport context inherited t now new → RelatedSoFar context inherited all ts old new
+    → RelatedSoFar context inherited all (more_trees t ts) old now → AppendsReport context inherited t now new
+    → RelatedSoFar context inherited all ts old new
 one_more context inherited all t ts old now new r a = record {
   with_rest = λ more. r.with_rest (and_more a.answers more);
   possible = λ more p. r.possible (and_more a.answers more) (a.possible, p);
   joined_is = λ more. ap (λ x. x ++ related_reports context inherited more ts) a.appended
-      ∙ append_assoc now (related_report context inherited a.answers t) (related_reports context inherited more ts) ∙ r.joined_is (and_more a.answers more);
+      ∙ append_assoc now (related_report context inherited a.answers t) (related_reports context inherited more ts)
+      ∙ r.joined_is (and_more a.answers more);
 }
 
-pub all_told : (context : ℕ) (inherited : Option Source) (all : Trees) (old now : List ℕ) → RelatedSoFar context inherited all no_trees old now → AppendsRelated context inherited all old now
-all_told context inherited all old now r = record { answers = r.with_rest no_more; possible = r.possible no_more tt; appended = sym (append-nil now) ∙ r.joined_is no_more }
+pub all_told : (context : ℕ) (inherited : Option Source) (all : Trees) (old now : List ℕ)
+    → RelatedSoFar context inherited all no_trees old now → AppendsRelated context inherited all old now
+all_told context inherited all old now r = record {
+  answers = r.with_rest no_more;
+  possible =
+      r.possible no_more tt;
+  appended = sym (append-nil now) ∙ r.joined_is no_more;
+}
 
-pub at_the_end : {R : Type 0} (value : R → Tree) (context : ℕ) (inherited : Option Source) (rs : List R) (all : Trees) (i : ℕ) (old now : List ℕ) → length rs ≤ i
-    → RelatedSoFar context inherited all (trees (map value (drop i rs))) old now → RelatedSoFar context inherited all no_trees old now
-at_the_end value context inherited rs all i old now h r = subst (λ l. RelatedSoFar context inherited all (trees (map value l)) old now) (drop_all i rs h) r
+pub at_the_end : {R : Type 0} (value : R → Tree) (context : ℕ) (inherited : Option Source) (rs : List R) (all : Trees)
+    (i : ℕ) (old now : List ℕ) → length rs ≤ i
+    → RelatedSoFar context inherited all (trees (map value (drop i rs))) old now
+    → RelatedSoFar context inherited all no_trees old now
+at_the_end value context inherited rs all i old now h r =
+    subst (λ l. RelatedSoFar context inherited all (trees (map value l)) old now) (drop_all i rs h) r
 
-pub blank_some : {R : Type 0} (value : R → Tree) (rs : List R) → (length rs ≡ 0 → ⊥) → blank_before (trees (map value rs)) ≡ 10 ∷ []
+pub blank_some : {R : Type 0} (value : R → Tree) (rs : List R) → (length rs ≡ 0 → ⊥)
+    → blank_before (trees (map value rs)) ≡ 10 ∷ []
 blank_some value [] h = absurd (h refl)
 blank_some value (r ∷ rs) h = refl
 
 -- ---- a report's parts
 
-parts_joined : (old a b p q new ti ca sn ad re : List ℕ) → a ≡ old ++ ti → b ≡ a ++ ca → p ≡ b ++ sn → q ≡ p ++ ad → new ≡ q ++ re → new ≡ old ++ (ti ++ (ca ++ ((sn ++ ad) ++ re)))
-parts_joined old a b p q new ti ca sn ad re e f g h i = i ∙ ap (λ y. y ++ re) (h ∙ ap (λ y. y ++ ad) (g ∙ ap (λ y. y ++ sn) (f ∙ ap (λ y. y ++ ca) e))) ∙ simp append_assoc
+parts_joined : (old a b p q new ti ca sn ad re : List ℕ) → a ≡ old ++ ti → b ≡ a ++ ca → p ≡ b ++ sn → q ≡ p ++ ad → new
+    ≡ q ++ re → new ≡ old ++ (ti ++ (ca ++ ((sn ++ ad) ++ re)))
+parts_joined old a b p q new ti ca sn ad re e f g h i = i
+    ∙ ap (λ y. y ++ re) (h ∙ ap (λ y. y ++ ad) (g ∙ ap (λ y. y ++ sn) (f ∙ ap (λ y. y ++ ca) e))) ∙ simp append_assoc
 
-pub report_told : (context : ℕ) (inherited : Option Source) (t : Tree) (source : Option Source) (labels : List Label) (related : Trees) (old a b p q new : List ℕ)
+pub report_told : (context : ℕ) (inherited : Option Source) (t : Tree) (source : Option Source) (labels : List Label)
+    (related : Trees) (old a b p q new : List ℕ)
     → source ≡ effective (source_of t) inherited → labels ≡ given_labels (head t).labels → related ≡ related_of t
-    → a ≡ old ++ titled_rows (head t) → b ≡ a ++ cause_rows (causes_of (cause_of t)) → AppendsSnippets context source labels b p
-    → q ≡ p ++ advice_rows (head t) → AppendsRelated context source related q new → AppendsReport context inherited t old new
+    → a ≡ old ++ titled_rows (head t) → b ≡ a ++ cause_rows (causes_of (cause_of t))
+    → AppendsSnippets context source labels b p
+    → q ≡ p ++ advice_rows (head t) → AppendsRelated context source related q new
+    → AppendsReport context inherited t old new
 report_told context inherited (tree m s c rs) source labels related old a b p q new es el er e f snippets g others =
     let own = effective s inherited in
-    let here : AppendsSnippets context own (given_labels m.labels) b p = subst (λ l. AppendsSnippets context own l b p) el (subst (λ o. AppendsSnippets context o labels b p) es snippets) in
-    let there : AppendsRelated context own rs q new = subst (λ ts. AppendsRelated context own ts q new) er (subst (λ o. AppendsRelated context o related q new) es others) in
+    let here : AppendsSnippets context own (given_labels m.labels) b p =
+    subst (λ l. AppendsSnippets context own l b p) el (subst (λ o. AppendsSnippets context o labels b p) es snippets)
+    in
+    let there : AppendsRelated context own rs q new = subst (λ ts. AppendsRelated context own ts q new) er
+    (subst (λ o. AppendsRelated context o related q new) es others) in
     record {
       answers = listed here.fails unlisted there.answers;
       possible = (here.possible, there.possible);
-      appended = parts_joined old a b p q new (titled_rows m) (cause_rows (causes_of c)) (snippet_rows context own here.fails (given_labels m.labels)) (advice_rows m) (blank_before rs ++ related_reports context own there.answers rs) e f here.appended g there.appended;
+      appended = parts_joined old a b p q new (titled_rows m) (cause_rows (causes_of c))
+          (snippet_rows context own here.fails (given_labels m.labels)) (advice_rows m)
+          (blank_before rs ++ related_reports context own there.answers rs) e f here.appended g there.appended;
     }
 
 own_none : (s : Option Source) → effective s None ≡ s
 own_none None = refl
 own_none (Some own) = refl
 
-whole_joined : (start a b p q r new hd ca sn ad re ft : List ℕ) → start ≡ [] → a ≡ start ++ hd → b ≡ a ++ ca → p ≡ b ++ sn → q ≡ p ++ ad → r ≡ q ++ re → new ≡ r ++ ft → new ≡ hd ++ (ca ++ ((sn ++ ad) ++ (re ++ ft)))
+whole_joined : (start a b p q r new hd ca sn ad re ft : List ℕ) → start ≡ [] → a ≡ start ++ hd → b ≡ a ++ ca → p ≡ b
+    ++ sn → q ≡ p ++ ad → r ≡ q ++ re → new ≡ r ++ ft → new ≡ hd ++ (ca ++ ((sn ++ ad) ++ (re ++ ft)))
 whole_joined start a b p q r new hd ca sn ad re ft s e f g h i j =
-    j ∙ ap (λ y. y ++ ft) (i ∙ ap (λ y. y ++ re) (h ∙ ap (λ y. y ++ ad) (g ∙ ap (λ y. y ++ sn) (f ∙ ap (λ y. y ++ ca) (e ∙ ap (λ y. y ++ hd) s))))) ∙ simp append_assoc
+    j ∙ ap (λ y. y ++ ft) (i ∙ ap (λ y. y ++ re) (h ∙ ap (λ y. y ++ ad)
+    (g ∙ ap (λ y. y ++ sn) (f ∙ ap (λ y. y ++ ca) (e ∙ ap (λ y. y ++ hd) s))))) ∙ simp append_assoc
 
-pub whole_told : (s : NarrationSettings) (t : Tree) (source : Option Source) (labels : List Label) (related : Trees) (start a b p q r new : List ℕ)
-    → source ≡ effective (source_of t) None → labels ≡ given_labels (head t).labels → related ≡ related_of t → start ≡ []
-    → a ≡ start ++ head_rows (head t) → b ≡ a ++ causes_if s.chain (causes_of (cause_of t)) → AppendsSnippets s.context source labels b p
-    → q ≡ p ++ advice_rows (head t) → AppendsRelated s.context source related q r → new ≡ r ++ row_if [] s.footer → IsNarrated s t new
+pub whole_told : (s : NarrationSettings) (t : Tree) (source : Option Source) (labels : List Label) (related : Trees)
+    (start a b p q r new : List ℕ)
+    → source ≡ effective (source_of t) None → labels ≡ given_labels (head t).labels → related ≡ related_of t → start
+    ≡ []
+    → a ≡ start ++ head_rows (head t) → b ≡ a ++ causes_if s.chain (causes_of (cause_of t))
+    → AppendsSnippets s.context source labels b p
+    → q ≡ p ++ advice_rows (head t) → AppendsRelated s.context source related q r → new ≡ r ++ row_if [] s.footer
+    → IsNarrated s t new
 whole_told s (tree m own c rs) source labels related start a b p q r new es el er empty e f snippets g others i =
     let eff = effective own None in
-    let here : AppendsSnippets s.context eff (given_labels m.labels) b p = subst (λ l. AppendsSnippets s.context eff l b p) el (subst (λ o. AppendsSnippets s.context o labels b p) es snippets) in
-    let there : AppendsRelated s.context eff rs q r = subst (λ ts. AppendsRelated s.context eff ts q r) er (subst (λ o. AppendsRelated s.context o related q r) es others) in
-    let text : List ℕ = head_rows m ++ (causes_if s.chain (causes_of c) ++ ((snippet_rows s.context eff here.fails (given_labels m.labels) ++ advice_rows m)
+    let here : AppendsSnippets s.context eff (given_labels m.labels) b p =
+    subst (λ l. AppendsSnippets s.context eff l b p) el (subst (λ o. AppendsSnippets s.context o labels b p) es
+    snippets) in
+    let there : AppendsRelated s.context eff rs q r = subst (λ ts. AppendsRelated s.context eff ts q r) er
+    (subst (λ o. AppendsRelated s.context o related q r) es others) in
+    let text : List ℕ = head_rows m ++ (causes_if s.chain (causes_of c)
+    ++ ((snippet_rows s.context eff here.fails (given_labels m.labels) ++ advice_rows m)
     ++ ((blank_before rs ++ related_reports s.context eff there.answers rs) ++ row_if [] s.footer))) in
     let made : new ≡ text =
-    whole_joined start a b p q r new (head_rows m) (causes_if s.chain (causes_of c)) (snippet_rows s.context eff here.fails (given_labels m.labels)) (advice_rows m) (blank_before rs ++ related_reports s.context eff there.answers rs) (row_if [] s.footer)
+    whole_joined start a b p q r new (head_rows m) (causes_if s.chain (causes_of c))
+    (snippet_rows s.context eff here.fails (given_labels m.labels)) (advice_rows m)
+    (blank_before rs ++ related_reports s.context eff there.answers rs) (row_if [] s.footer)
     empty e f here.appended g there.appended i in
     record {
       answers = listed here.fails unlisted there.answers;
       possible = (here.possible, there.possible);
-      is = made ∙ ap (λ o. head_rows m ++ (causes_if s.chain (causes_of c) ++ ((snippet_rows s.context o here.fails (given_labels m.labels) ++ advice_rows m)
-          ++ ((blank_before rs ++ related_reports s.context o there.answers rs) ++ row_if [] s.footer)))) (own_none own);
+      is = made ∙ ap (λ o. head_rows m ++ (causes_if s.chain (causes_of c)
+          ++ ((snippet_rows s.context o here.fails (given_labels m.labels) ++ advice_rows m)
+          ++ ((blank_before rs ++ related_reports s.context o there.answers rs) ++ row_if [] s.footer))))
+          (own_none own);
     }
 
 -- ---- where every source always reads
 
-same_snippets : (context : ℕ) (source : Option Source) (fails : List Bool) (labels : List Label) → IsAnswered source labels fails → always_reads source labels ≡ true →
+same_snippets : (context : ℕ) (source : Option Source) (fails : List Bool) (labels : List Label)
+    → IsAnswered source labels fails → always_reads source labels ≡ true →
     snippet_rows context source fails labels ≡ snippet_rows context source [] labels
 same_snippets context None fails labels h e = refl
 same_snippets context (Some source) fails [] h e = refl
 same_snippets context (Some source) fails (l ∷ ls) h e =
-    ap (snippets_of (group_context context (in_order (l ∷ ls))) source (map (label_range (length source.bytes)) (in_order (l ∷ ls)))) (grouped_none context source fails (in_order (l ∷ ls)) (h.always e))
+    ap (snippets_of (group_context context (in_order (l ∷ ls))) source
+    (map (label_range (length source.bytes)) (in_order (l ∷ ls))))
+    (grouped_none context source fails (in_order (l ∷ ls)) (h.always e))
 
 mutual
-  same_report : (context : ℕ) (inherited : Option Source) (a : Answers) (t : Tree) → AreAnswers inherited a t → holds_of always_reads inherited t ≡ true → related_report context inherited a t ≡ related_report context inherited unlisted t
+  same_report : (context : ℕ) (inherited : Option Source) (a : Answers) (t : Tree) → AreAnswers inherited a t
+      → holds_of always_reads inherited t ≡ true → related_report context inherited a t
+      ≡ related_report context inherited unlisted t
   same_report context inherited a (tree m s c r) h e =
       let own = effective s inherited in
       let p = and_parts (always_reads own (given_labels m.labels)) (holds_of_all always_reads own r) e in
       ap₂ (λ x y. titled_rows m ++ (cause_rows (causes_of c) ++ ((x ++ advice_rows m) ++ (blank_before r ++ y))))
-      (same_snippets context own (own_answer a) (given_labels m.labels) h.0 p.0) (same_reports context own (related_answers a) r h.1 p.1)
+      (same_snippets context own (own_answer a) (given_labels m.labels) h.0 p.0)
+      (same_reports context own (related_answers a) r h.1 p.1)
 
-  same_reports : (context : ℕ) (inherited : Option Source) (more : RelatedAnswers) (ts : Trees) → AllAnswers inherited more ts → holds_of_all always_reads inherited ts ≡ true → related_reports context inherited more ts ≡ related_reports context inherited no_more ts
+  same_reports : (context : ℕ) (inherited : Option Source) (more : RelatedAnswers) (ts : Trees)
+      → AllAnswers inherited more ts → holds_of_all always_reads inherited ts ≡ true
+      → related_reports context inherited more ts ≡ related_reports context inherited no_more ts
   same_reports context inherited more no_trees h e = refl
   same_reports context inherited more (more_trees t ts) h e =
       let p = and_parts (holds_of always_reads inherited t) (holds_of_all always_reads inherited ts) e in
-      ap₂ (λ x y. x ++ y) (same_report context inherited (first_answers more) t h.0 p.0) (same_reports context inherited (later_answers more) ts h.1 p.1)
+      ap₂ (λ x y. x ++ y) (same_report context inherited (first_answers more) t h.0 p.0)
+      (same_reports context inherited (later_answers more) ts h.1 p.1)
 
-same_whole : (s : NarrationSettings) (t : Tree) (a : Answers) → AreAnswers None a t → report_reads t ≡ true → narration s t a ≡ narration s t unlisted
+same_whole : (s : NarrationSettings) (t : Tree) (a : Answers) → AreAnswers None a t → report_reads t ≡ true
+    → narration s t a ≡ narration s t unlisted
 same_whole s (tree m own c r) a h e =
-    let p = and_parts (always_reads (effective own None) (given_labels m.labels)) (holds_of_all always_reads (effective own None) r) e in
-    let f = λ (x y : List ℕ). head_rows m ++ (causes_if s.chain (causes_of c) ++ ((x ++ advice_rows m) ++ ((blank_before r ++ y) ++ row_if [] s.footer))) in
+    let p = and_parts (always_reads (effective own None) (given_labels m.labels))
+    (holds_of_all always_reads (effective own None) r) e in
+    let f = λ (x y : List ℕ). head_rows m ++ (causes_if s.chain (causes_of c)
+    ++ ((x ++ advice_rows m) ++ ((blank_before r ++ y) ++ row_if [] s.footer))) in
     let e0 = own_none own in
     ap₂ f
-    (ap (λ o. snippet_rows s.context o (own_answer a) (given_labels m.labels)) (sym e0) ∙ same_snippets s.context (effective own None) (own_answer a) (given_labels m.labels) h.0 p.0 ∙ ap (λ o. snippet_rows s.context o [] (given_labels m.labels)) e0)
-    (ap (λ o. related_reports s.context o (related_answers a) r) (sym e0) ∙ same_reports s.context (effective own None) (related_answers a) r h.1 p.1 ∙ ap (λ o. related_reports s.context o no_more r) e0)
+    (ap (λ o. snippet_rows s.context o (own_answer a) (given_labels m.labels)) (sym e0)
+    ∙ same_snippets s.context (effective own None) (own_answer a) (given_labels m.labels) h.0 p.0
+    ∙ ap (λ o. snippet_rows s.context o [] (given_labels m.labels)) e0)
+    (ap (λ o. related_reports s.context o (related_answers a) r) (sym e0)
+    ∙ same_reports s.context (effective own None) (related_answers a) r h.1 p.1
+    ∙ ap (λ o. related_reports s.context o no_more r) e0)
 
-pub appended_only : (s : NarrationSettings) (t : Tree) (text old new : List ℕ) → IsNarrated s t text → new ≡ old ++ text → report_reads t ≡ true → new ≡ old ++ narration s t unlisted
+pub appended_only : (s : NarrationSettings) (t : Tree) (text old new : List ℕ) → IsNarrated s t text → new ≡ old ++ text
+    → report_reads t ≡ true → new ≡ old ++ narration s t unlisted
 appended_only s t text old new h e r = e ∙ ap (λ x. old ++ x) (h.is ∙ same_whole s t h.answers h.possible r)

@@ -9,8 +9,8 @@ ghost use Rattle.miette_narrated.specs.steps.Ends.{AreEnds, IsOrder};
 ghost use Rattle.miette_narrated.specs.steps.Sweeping.{AreOrdered};
 
 use miette_labels::sweep::PlacedLabel;
-use miette_source_lines::lines::LineOfText;
 use miette_protocol::protocol::LabeledSpan;
+use miette_source_lines::lines::LineOfText;
 use std::alloc::{AllocError, Global};
 
 /// A label, and how many come before it by offset.

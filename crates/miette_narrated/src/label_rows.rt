@@ -18,10 +18,10 @@ use crate::narrated_text::NarratedText;
 use crate::places::{PartingPlace, places};
 use crate::trails::{Trail, trails};
 use crate::words::push_number;
+use miette_basics::sums::sum;
 use miette_labels::drawn_labels::text_of;
 use miette_labels::sweep::PlacedLabel;
 use miette_protocol::protocol::LabeledSpan;
-use miette_basics::sums::sum;
 use std::alloc::{AllocError, Global};
 
 /// Whether a label begins on the line or behind it.

@@ -16,9 +16,9 @@ use crate::narrated_line::NarratedLine;
 use crate::narrated_text::NarratedText;
 use crate::sweeping::{ReachSweep, come_to};
 use crate::words::push_number;
-use miette_source_lines::lines::{LineOfText, Lines};
-use miette_protocol::source::MietteSpanContents;
 use miette_basics::sums::sum;
+use miette_protocol::source::MietteSpanContents;
+use miette_source_lines::lines::{LineOfText, Lines};
 use std::alloc::{AllocError, Global};
 
 /// `snippet line 2:   text`

@@ -17,6 +17,7 @@ use crate::label_order::{LabelOrder, by_end};
 use crate::lines::push_lines;
 use crate::sweeping::ReachSweep;
 use crate::words::push_number;
+use miette_basics::sums::sum;
 use miette_labels::drawn_labels::placed_labels;
 use miette_labels::grouping::groups;
 use miette_labels::order::by_offset;
@@ -25,7 +26,6 @@ use miette_protocol::error::RenderError;
 use miette_protocol::laws::data_reach_the_span;
 use miette_protocol::protocol::LabeledSpan;
 use miette_protocol::source::{MietteSpanContents, SourceCode};
-use miette_basics::sums::sum;
 use std::alloc::{AllocError, Global};
 
 /// ` for bad_file.rs`

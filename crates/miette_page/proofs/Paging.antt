@@ -1,5 +1,6 @@
 -- How a page grows.
-use Rattle.std.proofs.Common.{ℕ, zero, suc, ◌-◌, ◌<◌, ◌≡◌, ◌==◌, true, false, List, [], ◌∷◌, ◌++◌, length, replicate, decimal, chars, encode_utf8_all, refl, sym, ap, ◌∙◌, append_assoc, arith}
+use Rattle.std.proofs.Common.{ℕ, zero, suc, ◌-◌, ◌<◌, ◌≡◌, ◌==◌, true, false, List, [], ◌∷◌, ◌++◌, length, replicate}
+use Rattle.std.proofs.Common.{decimal, chars, encode_utf8_all, refl, sym, ap, ◌∙◌, append_assoc, arith}
 use Rattle.std.specs.Str.{IsAscii, IsUtf8}
 use Rattle.std.proofs.lemmas.Str.{chars-IsAscii, chars-nil, encodes-chars}
 use Rattle.std.proofs.lemmas.List.{map-append}
@@ -16,14 +17,16 @@ pub told_append : (xs ys : List ℕ) → text_tokens (xs ++ ys) ≡ text_tokens 
 told_append xs ys = map-append _ xs ys
 
 -- the characters of a run that has one
-pub text_put : (p : Printout) (c : ℕ) (cs : List ℕ) → p ⊕ text_tokens (c ∷ cs) ≡ record { text = started_text p ++ c ∷ cs; style = p.style; begun = true }
+pub text_put : (p : Printout) (c : ℕ) (cs : List ℕ) → p ⊕ text_tokens (c ∷ cs)
+    ≡ record { text = started_text p ++ c ∷ cs; style = p.style; begun = true }
 text_put p c [] = refl
 text_put p c (d ∷ cs) =
     text_put (record { text = started_text p ++ c ∷ []; style = p.style; begun = true }) d cs
     ∙ ap (λ t. record { text = t; style = p.style; begun = true }) (append_assoc (started_text p) (c ∷ []) (d ∷ cs))
 
 -- the same of characters of which there is one
-pub some_put : (p : Printout) (codes : List ℕ) → 0 < length codes → record { text = started_text p ++ codes; style = p.style; begun = true } ≡ p ⊕ text_tokens codes
+pub some_put : (p : Printout) (codes : List ℕ) → 0 < length codes
+    → record { text = started_text p ++ codes; style = p.style; begun = true } ≡ p ⊕ text_tokens codes
 some_put p [] h = absurd (omega arith)
 some_put p (c ∷ cs) h = sym (text_put p c cs)
 
@@ -31,15 +34,18 @@ pub put_nil : (p : Printout) → p ⊕ [] ≡ p
 put_nil p = refl
 
 -- a page whose output holds some characters more
-pub page_put : (p : Printout) (out more : List ℕ) (codes : List ℕ) → 0 < length codes → out ≡ started_text p → more ≡ out ++ codes → record { text = more; style = p.style; begun = true } ≡ p ⊕ text_tokens codes
-page_put p out more codes some s e = ap (λ t. record { text = t; style = p.style; begun = true }) (e ∙ ap (λ t. t ++ codes) s) ∙ some_put p codes some
+pub page_put : (p : Printout) (out more : List ℕ) (codes : List ℕ) → 0 < length codes → out ≡ started_text p → more
+    ≡ out ++ codes → record { text = more; style = p.style; begun = true } ≡ p ⊕ text_tokens codes
+page_put p out more codes some s e = ap (λ t. record { text = t; style = p.style; begun = true })
+    (e ∙ ap (λ t. t ++ codes) s) ∙ some_put p codes some
 
 pub nonzero : (n : ℕ) → (n == 0) ≡ false → 0 < n
 nonzero zero h = absurd (cc)
 nonzero (suc n) h = omega arith
 
 -- spaces, and digits behind them
-pub right_put : (number columns gap : ℕ) (digits : List ℕ) (p q r : Printout) → digits ≡ decimal number → gap ≡ columns - length digits → IsAscii digits → q ≡ p ⊕ text_tokens (replicate gap 32) → r ≡ q ⊕ text_tokens (chars digits) →
+pub right_put : (number columns gap : ℕ) (digits : List ℕ) (p q r : Printout) → digits ≡ decimal number → gap ≡ columns
+    - length digits → IsAscii digits → q ≡ p ⊕ text_tokens (replicate gap 32) → r ≡ q ⊕ text_tokens (chars digits) →
     r ≡ p ⊕ text_tokens (replicate (columns - length (decimal number)) 32 ++ decimal number)
 right_put number columns gap digits p q r e z a hq hr =
     hr ∙ ap (λ x. x ⊕ text_tokens (chars digits)) hq

@@ -1,12 +1,14 @@
 -- One character further in a text: its line, its column and its offset.
-use Rattle.std.proofs.Common.{◌≡◌, ◌≢◌, ℕ, ◌+◌, ◌<◌, ◌≤◌, Bool, true, false, cond, not, ◌⊎◌, List, [], ◌∷◌, ◌++◌, length, take, drop, get_or, map, sym, ap, subst, ◌∙◌, arith}
+use Rattle.std.proofs.Common.{◌≡◌, ◌≢◌, ℕ, ◌+◌, ◌<◌, ◌≤◌, Bool, true, false, cond, not, ◌⊎◌, List, [], ◌∷◌, ◌++◌}
+use Rattle.std.proofs.Common.{length, take, drop, get_or, map, sym, ap, subst, ◌∙◌, arith}
 use Rattle.std.specs.Prelude.{◌==◌, encode_utf8_all, encode_utf8}
 use Rattle.std.specs.List.{prefix_len, suffix_len}
 use Rattle.std.specs.Str.{chars, IsUtf8}
 use Rattle.std.proofs.Common.{reverse}
 use mathlib.Core.Logic.{inl, inr}
 use Rattle.std.proofs.lemmas.Bool.Decides.{nat_tests, eqb_tells}
-use Rattle.std.proofs.lemmas.List.{map-id, append-nil, take_more, take-append-drop, length-append, reverse-append, length-reverse, length_push}
+use Rattle.std.proofs.lemmas.List.{map-id, append-nil, take_more, take-append-drop, length-append, reverse-append}
+use Rattle.std.proofs.lemmas.List.{length-reverse, length_push}
 use Rattle.std.proofs.lemmas.List.Sums.{sum_by-append, count_by-le-length, prefix_len-le-length}
 use Rattle.std.proofs.lemmas.Str.{encodes-append, encodes-chars, length-le-encodes}
 use Rattle.miette_source_lines.specs.rules.Lines.{LF}
@@ -27,7 +29,8 @@ line_more xs c =
     let e = sum_by-append (λ c. cond (c == LF) 1 0) xs (c ∷ []) in
     omega (arith, e)
 
-column_more : (xs : List ℕ) (c : ℕ) → column_after (xs ++ c ∷ []) ≡ cond (not (c == LF)) (1 + suffix_len (λ c. not (c == LF)) xs) 0 + 1
+column_more : (xs : List ℕ) (c : ℕ) → column_after (xs ++ c ∷ [])
+    ≡ cond (not (c == LF)) (1 + suffix_len (λ c. not (c == LF)) xs) 0 + 1
 column_more xs c = ap (λ l. prefix_len (λ c. not (c == LF)) l + 1) (reverse-append xs (c ∷ []))
 
 -- behind a line feed, a line begins
@@ -49,7 +52,8 @@ column_on xs c h =
     omega (arith, column_more xs c, e)
 
 -- the offset behind one more character
-pub encoded_more : (xs : List ℕ) (c : ℕ) → length (encode_utf8_all (xs ++ c ∷ [])) ≡ length (encode_utf8_all xs) + length (encode_utf8 c)
+pub encoded_more : (xs : List ℕ) (c : ℕ) → length (encode_utf8_all (xs ++ c ∷ [])) ≡ length (encode_utf8_all xs)
+    + length (encode_utf8 c)
 encoded_more xs c =
     ap length (encodes-append xs (c ∷ []))
     ∙ length-append (encode_utf8_all xs) (encode_utf8_all (c ∷ []))
@@ -60,7 +64,8 @@ pub so_far : (cs xs : List ℕ) → map (λ c. c) xs ≡ take (length xs) cs →
 so_far cs xs e = sym (map-id xs) ∙ e
 
 -- with one more
-one_more : (cs xs : List ℕ) (c : ℕ) → xs ≡ take (length xs) cs → (length xs < length cs) × (c ≡ get_or cs (length xs) c) → xs ++ c ∷ [] ≡ take (length xs + 1) cs
+one_more : (cs xs : List ℕ) (c : ℕ) → xs ≡ take (length xs) cs → (length xs < length cs) × (c ≡ get_or cs (length xs) c)
+    → xs ++ c ∷ [] ≡ take (length xs + 1) cs
 one_more cs xs c so at =
     ap (λ l. l ++ c ∷ []) so
     ∙ ap (λ d. take (length xs) cs ++ d ∷ []) at.1
@@ -72,17 +77,20 @@ fits text n u =
     let front = encode_utf8_all (take n (chars text)) in
     let back = encode_utf8_all (drop n (chars text)) in
     let whole = encodes-append (take n (chars text)) (drop n (chars text)) in
-    let e = sym (length-append front back) ∙ ap length (sym whole ∙ ap encode_utf8_all (take-append-drop n (chars text)) ∙ encodes-chars text u) in
+    let e = sym (length-append front back) ∙ ap length (sym whole ∙ ap encode_utf8_all (take-append-drop n (chars text))
+    ∙ encodes-chars text u) in
     omega (arith, e)
 
-pub room : (text xs : List ℕ) (c : ℕ) → IsUtf8 text → xs ≡ take (length xs) (chars text) → (length xs < length (chars text)) × (c ≡ get_or (chars text) (length xs) c)
+pub room : (text xs : List ℕ) (c : ℕ) → IsUtf8 text → xs ≡ take (length xs) (chars text)
+    → (length xs < length (chars text)) × (c ≡ get_or (chars text) (length xs) c)
     → length (encode_utf8_all xs) + length (encode_utf8 c) ≤ length text
 room text xs c u so at =
     let e = ap (λ l. length (encode_utf8_all l)) (one_more (chars text) xs c so at) in
     omega (arith, encoded_more xs c, e, fits text (length xs + 1) u)
 
 -- lines and columns of a text are no more than its bytes
-pub short : (text xs : List ℕ) → IsUtf8 text → length xs < length (chars text) → (column_after xs ≤ length text) × (line_after xs ≤ length text)
+pub short : (text xs : List ℕ) → IsUtf8 text → length xs < length (chars text) → (column_after xs ≤ length text)
+    × (line_after xs ≤ length text)
 short text xs u h =
     let bytes = ap length (encodes-chars text u) in
     let each = length-le-encodes (chars text) in (
@@ -108,7 +116,8 @@ none_more cs xs line column c so none not_here k h =
     ]
 
 -- the first that reaches is found
-pub found : (text xs : List ℕ) (line column offset : ℕ) → xs ≡ take (length xs) (chars text) → length xs ≤ length (chars text)
+pub found : (text xs : List ℕ) (line column offset : ℕ) → xs ≡ take (length xs) (chars text) → length xs
+    ≤ length (chars text)
     → ((k : ℕ) → k < length xs → ¬ Reaches (take k (chars text)) line column)
     → (length xs < length (chars text) → Reaches xs line column)
     → offset ≡ length (encode_utf8_all xs)
@@ -123,16 +132,20 @@ found text xs line column offset so within none here at = (
   at ∙ ap (λ l. length (encode_utf8_all l)) so,
 )
 
-not_before : (cs : List ℕ) (line column i j : ℕ) → IsFirstToReach cs line column i → IsFirstToReach cs line column j → ¬ (i < j)
+not_before : (cs : List ℕ) (line column i j : ℕ) → IsFirstToReach cs line column i → IsFirstToReach cs line column j
+    → ¬ (i < j)
 not_before cs line column i j p q h = q.first i h (p.reached (omega (arith, h, q.within)))
 
 -- the index of the first character that reaches a line and a column is one
-pub one_index : (cs : List ℕ) (line column i j : ℕ) → IsFirstToReach cs line column i → IsFirstToReach cs line column j → i ≡ j
+pub one_index : (cs : List ℕ) (line column i j : ℕ) → IsFirstToReach cs line column i → IsFirstToReach cs line column j
+    → i ≡ j
 one_index cs line column i j p q =
     let below = not_before cs line column i j p q in
     let above = not_before cs line column j i q p in
     grind (arith, below, above)
 
-pub one_location : (text : List ℕ) (line column a b : ℕ) → IsLocation text line column a → IsLocation text line column b → a ≡ b
+pub one_location : (text : List ℕ) (line column a b : ℕ) → IsLocation text line column a → IsLocation text line column b
+    → a ≡ b
 one_location text line column a b p q =
-    p.2 ∙ ap (λ n. length (encode_utf8_all (take n (chars text)))) (one_index (chars text) line column p.0 q.0 p.1 q.1) ∙ sym q.2
+    p.2 ∙ ap (λ n. length (encode_utf8_all (take n (chars text)))) (one_index (chars text) line column p.0 q.0 p.1 q.1)
+    ∙ sym q.2

@@ -1,12 +1,17 @@
 -- What a read with context shows, in lines of the source.
-use Rattle.std.proofs.Common.{◌≡◌, ◌↔◌, ℕ, suc, zero, ◌+◌, ◌-◌, ◌<◌, ◌≤◌, min, Bool, true, false, cond, List, [], ◌∷◌, length, refl, sym, ap, ◌∙◌, inl, inr, arith}
+use Rattle.std.proofs.Common.{◌≡◌, ◌↔◌, ℕ, suc, zero, ◌+◌, ◌-◌, ◌<◌, ◌≤◌, min, Bool, true, false, cond, List, [], ◌∷◌}
+use Rattle.std.proofs.Common.{length, refl, sym, ap, ◌∙◌, inl, inr, arith}
 use Rattle.std.specs.Prelude.{◌==◌, slice_get, slice_range}
 use Rattle.std.specs.Option.{option_map_or}
 use Rattle.std.proofs.lemmas.Bool.{cases_lt, ne_eqb, eqb-true}
-use Rattle.miette_source_lines.specs.rules.Lines.{Line, lines_from, lines_of, line_of, line_start, line_end, terminators_in, IsCut}
-use Rattle.miette_protocol.specs.rules.Reading.{Span, Source, IsAccepted, span_end, splits_crlf, reading_end, data_start, data_end, contents_of}
+use Rattle.miette_source_lines.specs.rules.Lines.{Line, lines_from, lines_of, line_of, line_start, line_end}
+use Rattle.miette_source_lines.specs.rules.Lines.{terminators_in, IsCut}
+use Rattle.miette_protocol.specs.rules.Reading.{Span, Source, IsAccepted, span_end, splits_crlf, reading_end}
+use Rattle.miette_protocol.specs.rules.Reading.{data_start, data_end, contents_of}
 use Rattle.miette_protocol.specs.rules.Context.{first_line, last_line}
-use Rattle.miette_source_lines.proofs.Places.{line_of_mono, line_of_past, line_of_all, line_of_start_before, line_of_end, line_end_past, line_end_le, line_end_after, line_start_next, line_start_mono, line_start_le, terminators_in-is}
+use Rattle.miette_source_lines.proofs.Places.{line_of_mono, line_of_past, line_of_all, line_of_start_before}
+use Rattle.miette_source_lines.proofs.Places.{line_of_end, line_end_past, line_end_le, line_end_after, line_start_next}
+use Rattle.miette_source_lines.proofs.Places.{line_start_mono, line_start_le, terminators_in-is}
 use Rattle.miette_source_lines.proofs.Cuts.{lines_cut}
 use Rattle.miette_source_lines.proofs.Only.{lines_between}
 
@@ -22,21 +27,29 @@ and_one false n = omega arith
 
 end-le-reading : (bytes : List ℕ) (span : Span) → span.offset + span.len ≤ reading_end bytes span
 end-le-reading bytes span =
-    omega (arith, one_or_more (span.offset + span.len == 0) (span.offset + span.len) (λ e. eqb-true (span.offset + span.len) 0 e), and_one (splits_crlf bytes (span_end span)) (span_end span))
+    omega (
+      arith,
+      one_or_more (span.offset + span.len == 0) (span.offset + span.len)
+          (λ e. eqb-true (span.offset + span.len) 0 e),
+      and_one (splits_crlf bytes (span_end span)) (span_end span),
+    )
 
 pub offset-le-reading : (bytes : List ℕ) (span : Span) → span.offset ≤ reading_end bytes span
 offset-le-reading bytes span = omega (arith, end-le-reading bytes span)
 
 -- with lines of context the data are whole lines
 
-start_is : (bytes : List ℕ) (span : Span) (before : ℕ) → 1 ≤ before → data_start bytes span before ≡ line_start bytes (first_line bytes span before)
+start_is : (bytes : List ℕ) (span : Span) (before : ℕ) → 1 ≤ before → data_start bytes span before
+    ≡ line_start bytes (first_line bytes span before)
 start_is bytes span before h = rw (ne_eqb before 0 (λ e. omega (arith, h, e))) refl
 
-end_is : (bytes : List ℕ) (span : Span) (after : ℕ) → 1 ≤ after → data_end bytes span after ≡ line_start bytes (last_line bytes span after + 1)
+end_is : (bytes : List ℕ) (span : Span) (after : ℕ) → 1 ≤ after → data_end bytes span after
+    ≡ line_start bytes (last_line bytes span after + 1)
 end_is bytes span after h =
     rw (ne_eqb after 0 (λ e. omega (arith, h, e))) (sym (line_start_next bytes (last_line bytes span after)))
 
-first-le-last : (bytes : List ℕ) (span : Span) (before after : ℕ) → first_line bytes span before ≤ last_line bytes span after
+first-le-last : (bytes : List ℕ) (span : Span) (before after : ℕ) → first_line bytes span before
+    ≤ last_line bytes span after
 first-le-last bytes span before after =
     omega (arith, line_of_mono bytes span.offset (reading_end bytes span) (offset-le-reading bytes span))
 
@@ -46,11 +59,14 @@ pub lines : (source : Source) (span : Span) (before after : ℕ) → 1 ≤ befor
 lines source span before after h g =
     let bytes : List ℕ = source.bytes in
     ap (λ from. lines_from from (slice_range bytes from (data_end bytes span after))) (start_is bytes span before h)
-    ∙ ap (λ to. lines_from (line_start bytes (first_line bytes span before)) (slice_range bytes (line_start bytes (first_line bytes span before)) to)) (end_is bytes span after g)
-    ∙ lines_between bytes (first_line bytes span before) (last_line bytes span after + 1) (omega (arith, first-le-last bytes span before after))
+    ∙ ap (λ to. lines_from (line_start bytes (first_line bytes span before))
+    (slice_range bytes (line_start bytes (first_line bytes span before)) to)) (end_is bytes span after g)
+    ∙ lines_between bytes (first_line bytes span before) (last_line bytes span after + 1)
+    (omega (arith, first-le-last bytes span before after))
 
 -- the line after one, or the last, where there is none
-next_line : (bytes : List ℕ) (k : ℕ) → line_of bytes (line_start bytes (k + 1)) ≡ min (k + 1) (line_of bytes (length bytes))
+next_line : (bytes : List ℕ) (k : ℕ) → line_of bytes (line_start bytes (k + 1))
+    ≡ min (k + 1) (line_of bytes (length bytes))
 next_line bytes k =
     elim (cases_lt k (line_of bytes (length bytes))) [
       | inl h ↦ ap (line_of bytes) (line_start_next bytes k) ∙ sym (line_of_end bytes k h) ∙ omega (arith, h)
@@ -69,10 +85,13 @@ count source span before after h g =
     let order : first ≤ last = first-le-last bytes span before after in
     let a : from ≡ line_start bytes first = start_is bytes span before h in
     let b : to ≡ line_start bytes (last + 1) = end_is bytes span after g in
-    let c : line_start bytes first ≤ line_start bytes (last + 1) = line_start_mono bytes first (last + 1) (omega (arith, order)) in
-    let d : terminators_in bytes from to ≡ line_of bytes to - line_of bytes from = terminators_in-is bytes from to (omega (arith, a, b, c)) in
+    let c : line_start bytes first ≤ line_start bytes (last + 1) =
+    line_start_mono bytes first (last + 1) (omega (arith, order)) in
+    let d : terminators_in bytes from to ≡ line_of bytes to - line_of bytes from =
+    terminators_in-is bytes from to (omega (arith, a, b, c)) in
     let e : line_of bytes from ≡ first = ap (line_of bytes) a ∙ sym (line_of_start_before bytes span.offset before) in
-    let f : line_of bytes to ≡ min (last + 1) (line_of bytes (length bytes)) = ap (line_of bytes) b ∙ next_line bytes last in
+    let f : line_of bytes to ≡ min (last + 1) (line_of bytes (length bytes)) = ap (line_of bytes) b
+    ∙ next_line bytes last in
     omega (arith, order, d, e, f, line_of_all bytes span.offset)
 
 nonempty_at : (ls : List Line) (at to k d : ℕ) → IsCut at ls to → k < length ls →
@@ -87,16 +106,30 @@ unfolding line_start line_end
 nonempty bytes k lt = nonempty_at (lines_of bytes) 0 (length bytes) k (length bytes) (lines_cut bytes) lt
 
 -- which lines lie between the start of one and the end of another
-between : (bytes : List ℕ) (low high k from to : ℕ) → k < length (lines_of bytes) → from ≡ line_start bytes low → to ≡ line_start bytes (high + 1) →
+between : (bytes : List ℕ) (low high k from to : ℕ) → k < length (lines_of bytes) → from ≡ line_start bytes low → to
+    ≡ line_start bytes (high + 1) →
     ((from ≤ line_start bytes k) × (line_end bytes k ≤ to)) ↔ ((low ≤ k) × (k ≤ high))
 between bytes low high k from to lt e f = (
   λ h. (
     elim (cases_lt k low) [
-      | inl g ↦ absurd (omega (arith, e, h.0, nonempty bytes k lt, line_start_next bytes k, line_start_mono bytes (k + 1) low (omega (arith, g))))
+      | inl g ↦ absurd (omega (
+        arith,
+        e,
+        h.0,
+        nonempty bytes k lt,
+        line_start_next bytes k,
+        line_start_mono bytes (k + 1) low (omega (arith, g)),
+      ))
       | inr g ↦ omega (arith, g)
     ],
     elim (cases_lt high k) [
-      | inl g ↦ absurd (omega (arith, f, h.1, nonempty bytes k lt, line_start_mono bytes (high + 1) k (omega (arith, g))))
+      | inl g ↦ absurd (omega (
+        arith,
+        f,
+        h.1,
+        nonempty bytes k lt,
+        line_start_mono bytes (high + 1) k (omega (arith, g)),
+      ))
       | inr g ↦ omega (arith, g)
     ],
   ),
@@ -106,9 +139,11 @@ between bytes low high k from to lt e f = (
   ),
 )
 
-pub numbers : (source : Source) (span : Span) (before after k : ℕ) → 1 ≤ before → 1 ≤ after → k < length (lines_of source.bytes) →
+pub numbers : (source : Source) (span : Span) (before after k : ℕ) → 1 ≤ before → 1 ≤ after → k
+    < length (lines_of source.bytes) →
     (((contents_of source span before after).span.offset ≤ line_start source.bytes k)
-    × (line_end source.bytes k ≤ (contents_of source span before after).span.offset + (contents_of source span before after).span.len))
+    × (line_end source.bytes k ≤ (contents_of source span before after).span.offset
+    + (contents_of source span before after).span.len))
     ↔ ((first_line source.bytes span before ≤ k) × (k ≤ last_line source.bytes span after))
 numbers source span before after k h g lt =
     let bytes : List ℕ = source.bytes in
@@ -117,8 +152,10 @@ numbers source span before after k h g lt =
     let a : from ≡ line_start bytes (first_line bytes span before) = start_is bytes span before h in
     let b : to ≡ line_start bytes (last_line bytes span after + 1) = end_is bytes span after g in
     let c : line_start bytes (first_line bytes span before) ≤ line_start bytes (last_line bytes span after + 1) =
-    line_start_mono bytes (first_line bytes span before) (last_line bytes span after + 1) (omega (arith, first-le-last bytes span before after)) in
-    between bytes (first_line bytes span before) (last_line bytes span after) k from (from + (to - from)) lt a (omega (arith, a, b, c))
+    line_start_mono bytes (first_line bytes span before) (last_line bytes span after + 1)
+    (omega (arith, first-le-last bytes span before after)) in
+    between bytes (first_line bytes span before) (last_line bytes span after) k from (from + (to - from)) lt a
+    (omega (arith, a, b, c))
 
 -- the data reach the end of the span, as far as there are bytes
 
@@ -132,32 +169,47 @@ after_ge false a b m h g = g
 
 start_before_span : (bytes : List ℕ) (span : Span) (before : ℕ) → data_start bytes span before ≤ span.offset
 start_before_span bytes span before =
-    before_le (before == 0) span.offset (line_start bytes (line_of bytes span.offset - before)) span.offset (omega arith)
+    before_le (before == 0) span.offset (line_start bytes (line_of bytes span.offset - before)) span.offset
+    (omega arith)
     (line_start_le bytes (line_of bytes span.offset - before) span.offset (omega arith))
 
 line_reaches : (bytes : List ℕ) (o k : ℕ) → line_of bytes o ≤ k → min (length bytes) o ≤ line_end bytes k
 line_reaches bytes o k h =
     elim (cases_lt (length bytes) o) [
       | inl g ↦
-          omega (arith, line_end_after bytes (length bytes) k (omega arith) (omega (arith, h, line_of_past bytes o (omega (arith, g)))))
+          omega (
+            arith,
+            line_end_after bytes (length bytes) k (omega arith)
+                (omega (arith, h, line_of_past bytes o (omega (arith, g)))),
+          )
       | inr g ↦ omega (arith, line_end_after bytes o k (omega (arith, g)) h)
     ]
 
-end_after_span : (bytes : List ℕ) (span : Span) (after : ℕ) → min (length bytes) (span.offset + span.len) ≤ data_end bytes span after
+end_after_span : (bytes : List ℕ) (span : Span) (after : ℕ) → min (length bytes) (span.offset + span.len)
+    ≤ data_end bytes span after
 end_after_span bytes span after =
     let r : ℕ = reading_end bytes span in
     let e : span.offset + span.len ≤ r = end-le-reading bytes span in
-    after_ge (after == 0) (min (length bytes) r) (line_end bytes (line_of bytes r + after)) (min (length bytes) (span.offset + span.len)) (omega (arith, e))
+    after_ge (after == 0) (min (length bytes) r) (line_end bytes (line_of bytes r + after))
+    (min (length bytes) (span.offset + span.len)) (omega (arith, e))
     (omega (arith, e, line_reaches bytes r (line_of bytes r + after) (omega arith)))
 
 end_within : (bytes : List ℕ) (span : Span) (after : ℕ) → data_end bytes span after ≤ length bytes
 end_within bytes span after =
-    before_le (after == 0) (min (length bytes) (reading_end bytes span)) (line_end bytes (line_of bytes (reading_end bytes span) + after)) (length bytes)
+    before_le (after == 0) (min (length bytes) (reading_end bytes span))
+    (line_end bytes (line_of bytes (reading_end bytes span) + after)) (length bytes)
     (omega arith) (line_end_le bytes (line_of bytes (reading_end bytes span) + after))
 
 pub shown_end : (source : Source) (span : Span) (before after : ℕ) → IsAccepted source.bytes span →
     min (span.offset + span.len) (length source.bytes)
-    ≡ min (span.offset + span.len) ((contents_of source span before after).span.offset + (contents_of source span before after).span.len)
+    ≡ min (span.offset + span.len) ((contents_of source span before after).span.offset
+    + (contents_of source span before after).span.len)
 shown_end source span before after ok =
     let bytes : List ℕ = source.bytes in
-    omega (arith, ok.begins, start_before_span bytes span before, end_after_span bytes span after, end_within bytes span after)
+    omega (
+      arith,
+      ok.begins,
+      start_before_span bytes span before,
+      end_after_span bytes span after,
+      end_within bytes span after,
+    )

@@ -9,8 +9,10 @@ use Rattle.miette_labels.specs.rules.Groups.{in_order, AreAccepted}
 use Rattle.miette_basics.specs.rules.Lists.{is_nil}
 use Rattle.miette_tree.specs.rules.Tree.{Tree, tree, Cause, diagnostic, texts, Trees, no_trees, more_trees, effective}
 use Rattle.miette_tree.specs.rules.DiagnosticParts.{given_labels}
-use Rattle.miette_graphical.specs.rules.PrintedDiagnostics.{PrintedDiagnostic, over, diagnostics_of, printed_causes, printed_related, all_read}
-use Rattle.miette_tree.specs.rules.Reads.{AlwaysReads, CauseAlwaysReads, AllAlwaysRead, always_reads, holds_of, holds_of_all, accepts, report_accepted}
+use Rattle.miette_graphical.specs.rules.PrintedDiagnostics.{PrintedDiagnostic, over, diagnostics_of, printed_causes}
+use Rattle.miette_graphical.specs.rules.PrintedDiagnostics.{printed_related, all_read}
+use Rattle.miette_tree.specs.rules.Reads.{AlwaysReads, CauseAlwaysReads, AllAlwaysRead, always_reads, holds_of}
+use Rattle.miette_tree.specs.rules.Reads.{holds_of_all, accepts, report_accepted}
 use Rattle.miette_tree.proofs.Nesting.{Reads, effective_reads}
 use Rattle.miette_tree.proofs.Readings.{source_reads}
 use Rattle.miette_graphical.specs.rules.Settings.{Settings}
@@ -29,86 +31,108 @@ all_of_both (x ∷ ps) qs p q =
     let h = and_parts (always_reads x.source (given_labels x.meaning.labels)) (all_read ps) p in
     and_from (always_reads x.source (given_labels x.meaning.labels)) (all_read (ps ++ qs)) h.0 (all_of_both ps qs h.1 q)
 
-unless_nested : (nested : Bool) (ps : List PrintedDiagnostic) → all_read ps ≡ true → all_read (if nested then [] else ps) ≡ true
+unless_nested : (nested : Bool) (ps : List PrintedDiagnostic) → all_read ps ≡ true
+    → all_read (if nested then [] else ps) ≡ true
 unless_nested true ps p = refl
 unless_nested false ps p = p
 
-if_shown : (chain : Bool) (ps : List PrintedDiagnostic) → all_read ps ≡ true → all_read (if chain then ps else []) ≡ true
+if_shown : (chain : Bool) (ps : List PrintedDiagnostic) → all_read ps ≡ true → all_read (if chain then ps else [])
+    ≡ true
 if_shown true ps p = p
 if_shown false ps p = refl
 
 mutual
-  causes_read : (nested : Bool) (inherited : Option Source) (c : Cause) → Reads inherited → CauseAlwaysReads c → all_read (printed_causes nested inherited c) ≡ true
+  causes_read : (nested : Bool) (inherited : Option Source) (c : Cause) → Reads inherited → CauseAlwaysReads c
+      → all_read (printed_causes nested inherited c) ≡ true
   causes_read nested inherited (texts ts) p q = refl
   causes_read nested inherited (diagnostic (tree m own c r)) p q =
       let source = effective own inherited in
       let here : Reads source = effective_reads own inherited q.0 p in
       all_of_both (over source m ∷ printed_related nested source r) (printed_causes nested inherited c)
-      (and_from (always_reads source (given_labels m.labels)) (all_read (printed_related nested source r)) (source_reads source (given_labels m.labels) here) (related_read nested source r here q.2))
+      (and_from (always_reads source (given_labels m.labels)) (all_read (printed_related nested source r))
+      (source_reads source (given_labels m.labels) here) (related_read nested source r here q.2))
       (causes_read nested inherited c p q.1)
 
-  related_read : (nested : Bool) (inherited : Option Source) (r : Trees) → Reads inherited → AllAlwaysRead r → all_read (printed_related nested inherited r) ≡ true
+  related_read : (nested : Bool) (inherited : Option Source) (r : Trees) → Reads inherited → AllAlwaysRead r
+      → all_read (printed_related nested inherited r) ≡ true
   related_read nested inherited no_trees p q = refl
   related_read nested inherited (more_trees (tree m own c r) ts) p q =
       let source = effective own inherited in
       let here : Reads source = effective_reads own inherited q.0.0 p in
       let causes = if nested then [] else printed_causes nested source c in
       all_of_both (over source m ∷ (causes ++ printed_related nested source r)) (printed_related nested inherited ts)
-      (and_from (always_reads source (given_labels m.labels)) (all_read (causes ++ printed_related nested source r)) (source_reads source (given_labels m.labels) here)
-      (all_of_both causes (printed_related nested source r) (unless_nested nested (printed_causes nested source c) (causes_read nested source c here q.0.1)) (related_read nested source r here q.0.2)))
+      (and_from (always_reads source (given_labels m.labels)) (all_read (causes ++ printed_related nested source r))
+      (source_reads source (given_labels m.labels) here)
+      (all_of_both causes (printed_related nested source r)
+      (unless_nested nested (printed_causes nested source c) (causes_read nested source c here q.0.1))
+      (related_read nested source r here q.0.2)))
       (related_read nested inherited ts p q.1)
 
 pub printed-reads : (s : Settings) (t : Tree) → AlwaysReads t → all_read (diagnostics_of s t) ≡ true
 printed-reads s (tree m own c r) q =
     let causes = if s.chain then printed_causes s.nested own c else [] in
-    and_from (always_reads own (given_labels m.labels)) (all_read (causes ++ printed_related s.nested own r)) (source_reads own (given_labels m.labels) q.0)
-    (all_of_both causes (printed_related s.nested own r) (if_shown s.chain (printed_causes s.nested own c) (causes_read s.nested own c q.0 q.1)) (related_read s.nested own r q.0 q.2))
+    and_from (always_reads own (given_labels m.labels)) (all_read (causes ++ printed_related s.nested own r))
+    (source_reads own (given_labels m.labels) q.0)
+    (all_of_both causes (printed_related s.nested own r) (if_shown s.chain (printed_causes s.nested own c)
+    (causes_read s.nested own c q.0 q.1)) (related_read s.nested own r q.0 q.2))
 
 -- ---- a narrated report: each label that is told is accepted, where the report is
 
-accept_all : (bytes : List ℕ) (labels : List Label) → AreAccepted bytes labels → list_all (λ label. is_accepted bytes label.span) labels ≡ true
+accept_all : (bytes : List ℕ) (labels : List Label) → AreAccepted bytes labels
+    → list_all (λ label. is_accepted bytes label.span) labels ≡ true
 accept_all bytes [] h = refl
 accept_all bytes (l ∷ ls) h = and_from _ _ (accepted_is bytes l.span h.0) (accept_all bytes ls h.1)
 
-one_accepted : (source : Option Source) (labels : List Label) (fails : List Bool) → Reads source → told.IsAnswered source labels fails → accepts source labels ≡ true
+one_accepted : (source : Option Source) (labels : List Label) (fails : List Bool) → Reads source
+    → told.IsAnswered source labels fails → accepts source labels ≡ true
 one_accepted None labels fails p a = refl
 one_accepted (Some s) labels fails p a =
-    and_from _ _ (sym (order_all (λ label. is_accepted s.bytes label.span) labels) ∙ accept_all s.bytes (in_order labels) a.accepted) (or_right (is_nil labels) s.always_reads p)
+    and_from _ _ (sym (order_all (λ label. is_accepted s.bytes label.span) labels)
+    ∙ accept_all s.bytes (in_order labels) a.accepted) (or_right (is_nil labels) s.always_reads p)
 
 mutual
-  tree_accepted : (inherited : Option Source) (a : Answers) (t : Tree) → Reads inherited → AlwaysReads t → told.AreAnswers inherited a t → holds_of accepts inherited t ≡ true
+  tree_accepted : (inherited : Option Source) (a : Answers) (t : Tree) → Reads inherited → AlwaysReads t
+      → told.AreAnswers inherited a t → holds_of accepts inherited t ≡ true
   tree_accepted inherited a (tree m own c r) p q k =
       let source = effective own inherited in
       let here : Reads source = effective_reads own inherited q.0 p in
       and_from _ _ (one_accepted source _ _ here k.0) (trees_accepted source (related_answers a) r here q.2 k.1)
 
-  trees_accepted : (inherited : Option Source) (more : RelatedAnswers) (ts : Trees) → Reads inherited → AllAlwaysRead ts → told.AllAnswers inherited more ts → holds_of_all accepts inherited ts ≡ true
+  trees_accepted : (inherited : Option Source) (more : RelatedAnswers) (ts : Trees) → Reads inherited → AllAlwaysRead ts
+      → told.AllAnswers inherited more ts → holds_of_all accepts inherited ts ≡ true
   trees_accepted inherited more no_trees p q k = refl
   trees_accepted inherited more (more_trees t ts) p q k =
-      and_from _ _ (tree_accepted inherited (first_answers more) t p q.0 k.0) (trees_accepted inherited (later_answers more) ts p q.1 k.1)
+      and_from _ _ (tree_accepted inherited (first_answers more) t p q.0 k.0)
+      (trees_accepted inherited (later_answers more) ts p q.1 k.1)
 
 pub told-accepted : (t : Tree) (a : Answers) → AlwaysReads t → told.AreAnswers None a t → report_accepted t ≡ true
 told-accepted t a q k = tree_accepted None a t tt q k
 
 -- ---- a brief report
 
-one_kept : (source : Option Source) (labels : List Label) → Reads source → briefly.HasAccepted source (in_order labels) → accepts source labels ≡ true
+one_kept : (source : Option Source) (labels : List Label) → Reads source → briefly.HasAccepted source (in_order labels)
+    → accepts source labels ≡ true
 one_kept None labels p a = refl
 one_kept (Some s) labels p a =
-    and_from _ _ (sym (order_all (λ label. is_accepted s.bytes label.span) labels) ∙ accept_all s.bytes (in_order labels) a) (or_right (is_nil labels) s.always_reads p)
+    and_from _ _ (sym (order_all (λ label. is_accepted s.bytes label.span) labels)
+    ∙ accept_all s.bytes (in_order labels) a) (or_right (is_nil labels) s.always_reads p)
 
 mutual
-  tree_kept : (inherited : Option Source) (a : brief.Answers) (t : Tree) → Reads inherited → AlwaysReads t → briefly.AreAnswers inherited a t → holds_of accepts inherited t ≡ true
+  tree_kept : (inherited : Option Source) (a : brief.Answers) (t : Tree) → Reads inherited → AlwaysReads t
+      → briefly.AreAnswers inherited a t → holds_of accepts inherited t ≡ true
   tree_kept inherited a (tree m own c r) p q k =
       let source = effective own inherited in
       let here : Reads source = effective_reads own inherited q.0 p in
       and_from _ _ (one_kept source _ here k.0) (trees_kept source (brief.related_answers a) r here q.2 k.3)
 
-  trees_kept : (inherited : Option Source) (more : brief.RelatedAnswers) (ts : Trees) → Reads inherited → AllAlwaysRead ts → briefly.AllAnswers inherited more ts → holds_of_all accepts inherited ts ≡ true
+  trees_kept : (inherited : Option Source) (more : brief.RelatedAnswers) (ts : Trees) → Reads inherited
+      → AllAlwaysRead ts → briefly.AllAnswers inherited more ts → holds_of_all accepts inherited ts ≡ true
   trees_kept inherited more no_trees p q k = refl
   trees_kept inherited more (more_trees t ts) p q k =
-      and_from _ _ (tree_kept inherited (brief.first_answers more) t p q.0 k.0) (trees_kept inherited (brief.later_answers more) ts p q.1 k.1)
+      and_from _ _ (tree_kept inherited (brief.first_answers more) t p q.0 k.0)
+      (trees_kept inherited (brief.later_answers more) ts p q.1 k.1)
 
 -- a brief report is given only where a narrated one is
-pub brief-accepted : (t : Tree) (a : brief.Answers) → AlwaysReads t → briefly.AreAnswers None a t → report_accepted t ≡ true
+pub brief-accepted : (t : Tree) (a : brief.Answers) → AlwaysReads t → briefly.AreAnswers None a t → report_accepted t
+    ≡ true
 brief-accepted t a q k = tree_kept None a t tt q k

@@ -1,5 +1,7 @@
 -- Steps from the handler that was chosen to the text that the settings ask for.
-use Rattle.std.proofs.Common.{◌≡◌, ℕ, Bool, List, [], length, ◌++◌, ◌∙◌, ap, Option, None, Some, IfSome, Result, Ok, Err, IfOk, OnOk, OnErr, IsUtf8, String, string_bytes, true, false, encode_utf8_all, refl, sym, subst, not, ◌&&◌}
+use Rattle.std.proofs.Common.{◌≡◌, ℕ, Bool, List, [], length, ◌++◌, ◌∙◌, ap, Option, None, Some, IfSome, Result, Ok}
+use Rattle.std.proofs.Common.{Err, IfOk, OnOk, OnErr, IsUtf8, String, string_bytes, true, false, encode_utf8_all, refl}
+use Rattle.std.proofs.Common.{sym, subst, not, ◌&&◌}
 use Rattle.miette_graphical.proofs.Only.{same-report}
 use Rattle.miette.specs.rules.Choice.{is_graphical}
 use Rattle.miette.specs.rules.Options.{Options}
@@ -34,27 +36,36 @@ use Rattle.miette_report.proofs.AlwaysRead.{printed-reads, told-accepted, brief-
 
 -- ---- what a handler of the library appends
 
-pub json-given : {A E H : Type 0} (is_blank : H → Bool) (h : JobHandler H) (t : Tree) (old new : List ℕ) (r : Result A E) → h ≡ chosen.Json → AlwaysReads t
-    → OnOk r (report_reads t ≡ true → new ≡ old ++ json_text (value_of t)) → OnOk r (AppendsOne (IsGiven is_blank h t) old new)
+pub json-given : {A E H : Type 0} (is_blank : H → Bool) (h : JobHandler H) (t : Tree) (old new : List ℕ)
+    (r : Result A E) → h ≡ chosen.Json → AlwaysReads t
+    → OnOk r (report_reads t ≡ true → new ≡ old ++ json_text (value_of t))
+    → OnOk r (AppendsOne (IsGiven is_blank h t) old new)
 json-given is_blank h t old new (Err e) is reads value = tt
 json-given is_blank h t old new (Ok x) is reads value =
-    let one : AppendsOne (IsGiven is_blank chosen.Json t) old new = record { text = json_text (value_of t); is_given = refl; appended = value (told_reads t reads) } in
+    let one : AppendsOne (IsGiven is_blank chosen.Json t) old new =
+    record { text = json_text (value_of t); is_given = refl; appended = value (told_reads t reads) } in
     subst (λ k. AppendsOne (IsGiven is_blank k t) old new) (sym is) one
 
-pub debug-given : {A E H : Type 0} (is_blank : H → Bool) (h : JobHandler H) (t : Tree) (old new : List ℕ) (r : Result A E) → h ≡ chosen.Debug
+pub debug-given : {A E H : Type 0} (is_blank : H → Bool) (h : JobHandler H) (t : Tree) (old new : List ℕ)
+    (r : Result A E) → h ≡ chosen.Debug
     → OnOk r (AppendsOne (IsDebugText t) old new) → OnOk r (AppendsOne (IsGiven is_blank h t) old new)
 debug-given is_blank h t old new (Err e) is text = tt
 debug-given is_blank h t old new (Ok x) is text = subst (λ k. AppendsOne (IsGiven is_blank k t) old new) (sym is) text
 
 -- where lines are left plain, the text is the one under the answers that always come
-only-text : {H : Type 0} (is_blank : H → Bool) (it : Handling H) (t : Tree) (text : List ℕ) → AlwaysReads t → drawn.IsTextOf drawn_rows it.settings (draws_plain is_blank it) t text
+only-text : {H : Type 0} (is_blank : H → Bool) (it : Handling H) (t : Tree) (text : List ℕ) → AlwaysReads t
+    → drawn.IsTextOf drawn_rows it.settings (draws_plain is_blank it) t text
     → draws_plain is_blank it ≡ true → text ≡ encode_utf8_all (report_text drawn_rows it.settings t unlisted)
 only-text is_blank it t text reads given plain =
-    let answered : drawn.IsReport drawn_rows it.settings true t given.0 = subst (λ b. drawn.IsReport drawn_rows it.settings b t given.0) plain given.1 in
-    given.2 ∙ ap encode_utf8_all (answered.2 ∙ same-report drawn_rows it.settings t answered.0 answered.1 (printed-reads it.settings t reads))
+    let answered : drawn.IsReport drawn_rows it.settings true t given.0 =
+    subst (λ b. drawn.IsReport drawn_rows it.settings b t given.0) plain given.1 in
+    given.2 ∙ ap encode_utf8_all (answered.2 ∙ same-report drawn_rows it.settings t answered.0 answered.1
+    (printed-reads it.settings t reads))
 
-pub graphical-given : {A E H : Type 0} (is_blank : H → Bool) (h : JobHandler H) (it : Handling H) (t : Tree) (old new : List ℕ) (r : Result A E) → h ≡ chosen.Built (handler.Graphical it) → AlwaysReads t
-    → OnOk r (drawn.Appends drawn_rows it.settings (draws_plain is_blank it) t old new) → OnOk r (AppendsOne (IsGiven is_blank h t) old new)
+pub graphical-given : {A E H : Type 0} (is_blank : H → Bool) (h : JobHandler H) (it : Handling H) (t : Tree)
+    (old new : List ℕ) (r : Result A E) → h ≡ chosen.Built (handler.Graphical it) → AlwaysReads t
+    → OnOk r (drawn.Appends drawn_rows it.settings (draws_plain is_blank it) t old new)
+    → OnOk r (AppendsOne (IsGiven is_blank h t) old new)
 graphical-given is_blank h it t old new (Err e) is reads ok = tt
 graphical-given is_blank h it t old new (Ok x) is reads ok =
     let one : AppendsOne (IsGiven is_blank (chosen.Built (handler.Graphical it)) t) old new =
@@ -66,11 +77,15 @@ graphical-given is_blank h it t old new (Ok x) is reads ok =
     subst (λ k. AppendsOne (IsGiven is_blank k t) old new) (sym is) one
 
 -- no label of such a report is refused
-pub graphical-accepts : {H : Type 0} (h : JobHandler H) (it : Handling H) (t : Tree) → AlwaysReads t → all_read (diagnostics_of it.settings t) ≡ false → MayRefuse h t
+pub graphical-accepts : {H : Type 0} (h : JobHandler H) (it : Handling H) (t : Tree) → AlwaysReads t
+    → all_read (diagnostics_of it.settings t) ≡ false → MayRefuse h t
 graphical-accepts h it t reads refused = let no : true ≡ false = sym (printed-reads it.settings t reads) ∙ refused in cc
 
-pub narrated-given : {A E H : Type 0} (is_blank : H → Bool) (h : JobHandler H) (s : narrated.NarrationSettings) (t : Tree) (old new : List ℕ) (r : Result A E) → h ≡ chosen.Built (handler.Narrated s) → AlwaysReads t
-    → OnOk r (AppendsOne (IsNarrated s t) old new) → OnOk r (report_reads t ≡ true → new ≡ old ++ narrated.narration s t narrated.unlisted) → OnOk r (AppendsOne (IsGiven is_blank h t) old new)
+pub narrated-given : {A E H : Type 0} (is_blank : H → Bool) (h : JobHandler H) (s : narrated.NarrationSettings)
+    (t : Tree) (old new : List ℕ) (r : Result A E) → h ≡ chosen.Built (handler.Narrated s) → AlwaysReads t
+    → OnOk r (AppendsOne (IsNarrated s t) old new) → OnOk r
+    (report_reads t ≡ true → new ≡ old ++ narrated.narration s t narrated.unlisted)
+    → OnOk r (AppendsOne (IsGiven is_blank h t) old new)
 narrated-given is_blank h s t old new (Err e) is reads text only = tt
 narrated-given is_blank h s t old new (Ok x) is reads text only =
     let one : AppendsOne (IsGiven is_blank (chosen.Built (handler.Narrated s)) t) old new =
@@ -81,8 +96,10 @@ narrated-given is_blank h s t old new (Ok x) is reads text only =
     } in
     subst (λ k. AppendsOne (IsGiven is_blank k t) old new) (sym is) one
 
-pub brief-given : {A E H : Type 0} (is_blank : H → Bool) (h : JobHandler H) (s : brief.BriefSettings) (t : Tree) (old new : List ℕ) (r : Result A E) → h ≡ chosen.Built (handler.Brief s) → AlwaysReads t
-    → OnOk r (AppendsOne (briefly.IsBrief s t) old new) → OnOk r (AlwaysReads t → new ≡ old ++ brief.brief s t brief.unlisted) → OnOk r (AppendsOne (IsGiven is_blank h t) old new)
+pub brief-given : {A E H : Type 0} (is_blank : H → Bool) (h : JobHandler H) (s : brief.BriefSettings) (t : Tree)
+    (old new : List ℕ) (r : Result A E) → h ≡ chosen.Built (handler.Brief s) → AlwaysReads t
+    → OnOk r (AppendsOne (briefly.IsBrief s t) old new) → OnOk r
+    (AlwaysReads t → new ≡ old ++ brief.brief s t brief.unlisted) → OnOk r (AppendsOne (IsGiven is_blank h t) old new)
 brief-given is_blank h s t old new (Err e) is reads text only = tt
 brief-given is_blank h s t old new (Ok x) is reads text only =
     let one : AppendsOne (IsGiven is_blank (chosen.Built (handler.Brief s)) t) old new =
@@ -93,59 +110,76 @@ brief-given is_blank h s t old new (Ok x) is reads text only =
     } in
     subst (λ k. AppendsOne (IsGiven is_blank k t) old new) (sym is) one
 
-pub brief-refuses : {H : Type 0} (h : JobHandler H) (s : brief.BriefSettings) (t : Tree) → h ≡ chosen.Built (handler.Brief s) → report_accepted t ≡ false → MayRefuse h t
+pub brief-refuses : {H : Type 0} (h : JobHandler H) (s : brief.BriefSettings) (t : Tree) → h
+    ≡ chosen.Built (handler.Brief s) → report_accepted t ≡ false → MayRefuse h t
 brief-refuses {H} h s t is refused =
     let here : MayRefuse {H = H} (chosen.Built (handler.Brief s)) t = refused in
     subst (λ (k : JobHandler H). MayRefuse k t) (sym is) here
 
-pub narrated-refuses : {H : Type 0} (h : JobHandler H) (s : narrated.NarrationSettings) (t : Tree) → h ≡ chosen.Built (handler.Narrated s) → report_accepted t ≡ false → MayRefuse h t
+pub narrated-refuses : {H : Type 0} (h : JobHandler H) (s : narrated.NarrationSettings) (t : Tree) → h
+    ≡ chosen.Built (handler.Narrated s) → report_accepted t ≡ false → MayRefuse h t
 narrated-refuses {H} h s t is refused =
     let here : MayRefuse {H = H} (chosen.Built (handler.Narrated s)) t = refused in
     subst (λ (k : JobHandler H). MayRefuse k t) (sym is) here
 
 -- one that fails only for want of memory refuses none
-pub never-refuses : {A X : Type 0} (r : Result A RenderError) → OnErr r (r ≡ Err errors.Memory) → r ≡ Err errors.Refused → X
+pub never-refuses : {A X : Type 0} (r : Result A RenderError) → OnErr r (r ≡ Err errors.Memory) → r ≡ Err errors.Refused
+    → X
 never-refuses (Ok x) memory refused = cc
 never-refuses (Err e) memory refused = let same = sym memory ∙ refused in cc
 
 -- the text where it was appended to none
-pub text-given : {A E F Z : Type 0} (rendered : Result A E) (result : Result (String Z) F) (text : String Z) (old : List ℕ) (P : List ℕ → Type 0) → OnOk rendered (AppendsOne P old (string_bytes text))
+pub text-given : {A E F Z : Type 0} (rendered : Result A E) (result : Result (String Z) F) (text : String Z)
+    (old : List ℕ) (P : List ℕ → Type 0) → OnOk rendered (AppendsOne P old (string_bytes text))
     → IfOk result (λ it. (it ≡ text) × OnErr rendered ⊥) → old ≡ [] → IfOk result (λ it. P (string_bytes it))
-text-given (Ok x) (Ok it) text old P one is none = subst (λ s. P (string_bytes s)) (sym is.0) (subst P (sym (one.appended ∙ ap (λ o. o ++ one.text) none)) one.is_given)
+text-given (Ok x) (Ok it) text old P one is none = subst (λ s. P (string_bytes s)) (sym is.0)
+    (subst P (sym (one.appended ∙ ap (λ o. o ++ one.text) none)) one.is_given)
 text-given (Err e) (Ok it) text old P one is none = absurd is.1
 text-given (Ok x) (Err f) text old P one is none = tt
 text-given (Err e) (Err f) text old P one is none = tt
 
 -- the text where the handler's answer and its text go on under other names
-pub handed-on : {A E F Z : Type 0} (given rendered : Result A E) (result : Result (String Z) F) (out text : String Z) (old : List ℕ) (P : List ℕ → Type 0) → OnOk given (AppendsOne P old (string_bytes out)) → rendered ≡ given → text ≡ out
+pub handed-on : {A E F Z : Type 0} (given rendered : Result A E) (result : Result (String Z) F) (out text : String Z)
+    (old : List ℕ) (P : List ℕ → Type 0) → OnOk given (AppendsOne P old (string_bytes out)) → rendered ≡ given → text
+    ≡ out
     → IfOk result (λ it. (it ≡ text) × OnErr rendered ⊥) → old ≡ [] → IfOk result (λ it. P (string_bytes it))
 handed-on given rendered result out text old P one is_given is_out ended none =
-    text-given rendered result text old P (subst (λ r. OnOk r (AppendsOne P old (string_bytes text))) (sym is_given) (subst (λ s. OnOk given (AppendsOne P old (string_bytes s))) (sym is_out) one)) ended none
+    text-given rendered result text old P (subst (λ r. OnOk r (AppendsOne P old (string_bytes text))) (sym is_given)
+    (subst (λ s. OnOk given (AppendsOne P old (string_bytes s))) (sym is_out) one)) ended none
 
 -- ---- what was asked for
 
-asked-text : {H : Type 0} (is_blank : H → Bool) (c : Choice) (o : Options H) (l : Terminal) (h : JobHandler H) (t : Tree) (text : List ℕ) → IsAsked c o l h → IsGiven is_blank h t text → IsJobText is_blank c o l t text
+asked-text : {H : Type 0} (is_blank : H → Bool) (c : Choice) (o : Options H) (l : Terminal) (h : JobHandler H)
+    (t : Tree) (text : List ℕ) → IsAsked c o l h → IsGiven is_blank h t text → IsJobText is_blank c o l t text
 asked-text is_blank c o l chosen.Json t text is given = subst (λ k. IsJobText is_blank k o l t text) (sym is) given
 asked-text is_blank c o l chosen.Debug t text is given = subst (λ k. IsJobText is_blank k o l t text) (sym is) given
-asked-text is_blank c o l (chosen.Built it) t text is given = subst (λ k. IsJobText is_blank k o l t text) (sym is.0) (it, is.1, given)
+asked-text is_blank c o l (chosen.Built it) t text is given =
+    subst (λ k. IsJobText is_blank k o l t text) (sym is.0) (it, is.1, given)
 
-pub render-writes : {E Z H : Type 0} (is_blank : H → Bool) (c : Choice) (o : Options H) (l : Terminal) (h : JobHandler H) (bytes : List ℕ) (t : Tree) (r : Result (String Z) E) → IsAsked c o l h
-    → (IsUtf8 bytes × (tree_for bytes ≡ Some t)) → IfOk r (λ text. IsGiven is_blank h t (string_bytes text)) → IfOk r (λ text. Writes is_blank c o l bytes (λ given. string_bytes text ≡ given))
+pub render-writes : {E Z H : Type 0} (is_blank : H → Bool) (c : Choice) (o : Options H) (l : Terminal)
+    (h : JobHandler H) (bytes : List ℕ) (t : Tree) (r : Result (String Z) E) → IsAsked c o l h
+    → (IsUtf8 bytes × (tree_for bytes ≡ Some t)) → IfOk r (λ text. IsGiven is_blank h t (string_bytes text))
+    → IfOk r (λ text. Writes is_blank c o l bytes (λ given. string_bytes text ≡ given))
 render-writes is_blank c o l h bytes t (Err e) is read given = tt
-render-writes is_blank c o l h bytes t (Ok text) is read given = (read.0, (t, read.1, (string_bytes text, asked-text is_blank c o l h t (string_bytes text) is given, refl)))
+render-writes is_blank c o l h bytes t (Ok text) is read given =
+    (read.0, (t, read.1, (string_bytes text, asked-text is_blank c o l h t (string_bytes text) is given, refl)))
 
 no-picture : {H : Type 0} (o : Options H) (l : Terminal) → o.brief ≡ true → is_graphical o l ≡ false
 no-picture o l is = ap (λ b. not b && is_graphical (record o { brief = false }) l) is
 
-asked-refusal : {H : Type 0} (c : Choice) (o : Options H) (l : Terminal) (h : JobHandler H) (t : Tree) → IsAsked c o l h → MayRefuse h t → IsTelling c o l × (report_accepted t ≡ false)
+asked-refusal : {H : Type 0} (c : Choice) (o : Options H) (l : Terminal) (h : JobHandler H) (t : Tree) → IsAsked c o l h
+    → MayRefuse h t → IsTelling c o l × (report_accepted t ≡ false)
 asked-refusal c o l chosen.Json t is refused = absurd refused
 asked-refusal c o l chosen.Debug t is refused = absurd refused
 asked-refusal c o l (chosen.Built (handler.Graphical it)) t is refused = absurd refused
 asked-refusal c o l (chosen.Built (handler.Narrated it)) t is refused = ((is.0, is.1.0), refused)
 asked-refusal c o l (chosen.Built (handler.Brief it)) t is refused = ((is.0, no-picture o l is.1.0), refused)
 
-pub render-refuses : {H : Type 0} (c : Choice) (o : Options H) (l : Terminal) (h : JobHandler H) (bytes : List ℕ) (t : Tree) → IsAsked c o l h → (IsUtf8 bytes × (tree_for bytes ≡ Some t)) → MayRefuse h t → IsTelling c o l × IsRefused bytes
-render-refuses c o l h bytes t is read refused = let told = asked-refusal c o l h t is refused in (told.0, (read.0, (t, read.1, told.1)))
+pub render-refuses : {H : Type 0} (c : Choice) (o : Options H) (l : Terminal) (h : JobHandler H) (bytes : List ℕ)
+    (t : Tree) → IsAsked c o l h → (IsUtf8 bytes × (tree_for bytes ≡ Some t)) → MayRefuse h t → IsTelling c o l
+    × IsRefused bytes
+render-refuses c o l h bytes t is read refused = let told = asked-refusal c o l h t is refused in
+    (told.0, (read.0, (t, read.1, told.1)))
 
 -- ---- where the handler was called before
 
@@ -156,72 +190,110 @@ stays-itself is_blank (chosen.Built (handler.Graphical it)) = (refl, refl)
 stays-itself is_blank (chosen.Built (handler.Narrated it)) = refl
 stays-itself is_blank (chosen.Built (handler.Brief it)) = refl
 
-pub stays-on : {H : Type 0} (is_blank : H → Bool) (h k m : JobHandler H) → Stays is_blank h k → Stays is_blank k m → Stays is_blank h m
+pub stays-on : {H : Type 0} (is_blank : H → Bool) (h k m : JobHandler H) → Stays is_blank h k → Stays is_blank k m
+    → Stays is_blank h m
 stays-on is_blank chosen.Json k m p q = subst (λ x. Stays is_blank x m) p q
 stays-on is_blank chosen.Debug k m p q = subst (λ x. Stays is_blank x m) p q
 stays-on is_blank (chosen.Built h) chosen.Json m p q = absurd p
 stays-on is_blank (chosen.Built h) chosen.Debug m p q = absurd p
 stays-on is_blank (chosen.Built h) (chosen.Built k) chosen.Json p q = absurd q
 stays-on is_blank (chosen.Built h) (chosen.Built k) chosen.Debug p q = absurd q
-stays-on is_blank (chosen.Built (handler.Graphical h)) (chosen.Built (handler.Graphical k)) (chosen.Built (handler.Graphical m)) p q = (q.0 ∙ p.0, q.1 ∙ p.1)
-stays-on is_blank (chosen.Built (handler.Graphical h)) (chosen.Built (handler.Graphical k)) (chosen.Built (handler.Narrated m)) p q = absurd q
-stays-on is_blank (chosen.Built (handler.Graphical h)) (chosen.Built (handler.Graphical k)) (chosen.Built (handler.Brief m)) p q = absurd q
-stays-on is_blank (chosen.Built (handler.Graphical h)) (chosen.Built (handler.Narrated k)) (chosen.Built m) p q = absurd p
+stays-on is_blank (chosen.Built (handler.Graphical h)) (chosen.Built (handler.Graphical k))
+    (chosen.Built (handler.Graphical m)) p q = (q.0 ∙ p.0, q.1 ∙ p.1)
+stays-on is_blank (chosen.Built (handler.Graphical h)) (chosen.Built (handler.Graphical k))
+    (chosen.Built (handler.Narrated m)) p q = absurd q
+stays-on is_blank (chosen.Built (handler.Graphical h)) (chosen.Built (handler.Graphical k))
+    (chosen.Built (handler.Brief m)) p q = absurd q
+stays-on is_blank (chosen.Built (handler.Graphical h)) (chosen.Built (handler.Narrated k)) (chosen.Built m) p q =
+    absurd p
 stays-on is_blank (chosen.Built (handler.Graphical h)) (chosen.Built (handler.Brief k)) (chosen.Built m) p q = absurd p
-stays-on is_blank (chosen.Built (handler.Narrated h)) (chosen.Built (handler.Narrated k)) (chosen.Built (handler.Narrated m)) p q = q ∙ p
-stays-on is_blank (chosen.Built (handler.Narrated h)) (chosen.Built (handler.Narrated k)) (chosen.Built (handler.Graphical m)) p q = absurd q
-stays-on is_blank (chosen.Built (handler.Narrated h)) (chosen.Built (handler.Narrated k)) (chosen.Built (handler.Brief m)) p q = absurd q
-stays-on is_blank (chosen.Built (handler.Narrated h)) (chosen.Built (handler.Graphical k)) (chosen.Built m) p q = absurd p
+stays-on is_blank (chosen.Built (handler.Narrated h)) (chosen.Built (handler.Narrated k))
+    (chosen.Built (handler.Narrated m)) p q = q ∙ p
+stays-on is_blank (chosen.Built (handler.Narrated h)) (chosen.Built (handler.Narrated k))
+    (chosen.Built (handler.Graphical m)) p q = absurd q
+stays-on is_blank (chosen.Built (handler.Narrated h)) (chosen.Built (handler.Narrated k))
+    (chosen.Built (handler.Brief m)) p q = absurd q
+stays-on is_blank (chosen.Built (handler.Narrated h)) (chosen.Built (handler.Graphical k)) (chosen.Built m) p q =
+    absurd p
 stays-on is_blank (chosen.Built (handler.Narrated h)) (chosen.Built (handler.Brief k)) (chosen.Built m) p q = absurd p
-stays-on is_blank (chosen.Built (handler.Brief h)) (chosen.Built (handler.Brief k)) (chosen.Built (handler.Brief m)) p q = q ∙ p
-stays-on is_blank (chosen.Built (handler.Brief h)) (chosen.Built (handler.Brief k)) (chosen.Built (handler.Graphical m)) p q = absurd q
-stays-on is_blank (chosen.Built (handler.Brief h)) (chosen.Built (handler.Brief k)) (chosen.Built (handler.Narrated m)) p q = absurd q
+stays-on is_blank (chosen.Built (handler.Brief h)) (chosen.Built (handler.Brief k)) (chosen.Built (handler.Brief m)) p q
+    = q ∙ p
+stays-on is_blank (chosen.Built (handler.Brief h)) (chosen.Built (handler.Brief k)) (chosen.Built (handler.Graphical m))
+    p q = absurd q
+stays-on is_blank (chosen.Built (handler.Brief h)) (chosen.Built (handler.Brief k)) (chosen.Built (handler.Narrated m))
+    p q = absurd q
 stays-on is_blank (chosen.Built (handler.Brief h)) (chosen.Built (handler.Graphical k)) (chosen.Built m) p q = absurd p
 stays-on is_blank (chosen.Built (handler.Brief h)) (chosen.Built (handler.Narrated k)) (chosen.Built m) p q = absurd p
 
 -- what it gives then, it might have given at first
-given-before : {H : Type 0} (is_blank : H → Bool) (h k : JobHandler H) (t : Tree) (text : List ℕ) → Stays is_blank h k → IsGiven is_blank k t text → IsGiven is_blank h t text
+given-before : {H : Type 0} (is_blank : H → Bool) (h k : JobHandler H) (t : Tree) (text : List ℕ) → Stays is_blank h k
+    → IsGiven is_blank k t text → IsGiven is_blank h t text
 given-before is_blank chosen.Json k t text stays given = subst (λ x. IsGiven is_blank x t text) stays given
 given-before is_blank chosen.Debug k t text stays given = subst (λ x. IsGiven is_blank x t text) stays given
 given-before is_blank (chosen.Built h) chosen.Json t text stays given = absurd stays
 given-before is_blank (chosen.Built h) chosen.Debug t text stays given = absurd stays
 given-before is_blank (chosen.Built (handler.Graphical h)) (chosen.Built (handler.Graphical k)) t text stays given =
-    subst (λ b. drawn.IsTextOf drawn_rows h.settings b t text × (b ≡ true → text ≡ encode_utf8_all (report_text drawn_rows h.settings t unlisted))) stays.1
-    (subst (λ s. drawn.IsTextOf drawn_rows s (draws_plain is_blank k) t text × (draws_plain is_blank k ≡ true → text ≡ encode_utf8_all (report_text drawn_rows s t unlisted))) stays.0 given)
-given-before is_blank (chosen.Built (handler.Narrated h)) (chosen.Built (handler.Narrated k)) t text stays given = subst (λ s. IsBuiltText is_blank (handler.Narrated s) t text) stays given
-given-before is_blank (chosen.Built (handler.Brief h)) (chosen.Built (handler.Brief k)) t text stays given = subst (λ s. IsBuiltText is_blank (handler.Brief s) t text) stays given
-given-before is_blank (chosen.Built (handler.Graphical h)) (chosen.Built (handler.Narrated k)) t text stays given = absurd stays
-given-before is_blank (chosen.Built (handler.Graphical h)) (chosen.Built (handler.Brief k)) t text stays given = absurd stays
-given-before is_blank (chosen.Built (handler.Narrated h)) (chosen.Built (handler.Graphical k)) t text stays given = absurd stays
-given-before is_blank (chosen.Built (handler.Narrated h)) (chosen.Built (handler.Brief k)) t text stays given = absurd stays
-given-before is_blank (chosen.Built (handler.Brief h)) (chosen.Built (handler.Graphical k)) t text stays given = absurd stays
-given-before is_blank (chosen.Built (handler.Brief h)) (chosen.Built (handler.Narrated k)) t text stays given = absurd stays
+    subst (λ b. drawn.IsTextOf drawn_rows h.settings b t text
+    × (b ≡ true → text ≡ encode_utf8_all (report_text drawn_rows h.settings t unlisted))) stays.1
+    (subst (λ s. drawn.IsTextOf drawn_rows s (draws_plain is_blank k) t text
+    × (draws_plain is_blank k ≡ true → text ≡ encode_utf8_all (report_text drawn_rows s t unlisted))) stays.0
+    given)
+given-before is_blank (chosen.Built (handler.Narrated h)) (chosen.Built (handler.Narrated k)) t text stays given =
+    subst (λ s. IsBuiltText is_blank (handler.Narrated s) t text) stays given
+given-before is_blank (chosen.Built (handler.Brief h)) (chosen.Built (handler.Brief k)) t text stays given =
+    subst (λ s. IsBuiltText is_blank (handler.Brief s) t text) stays given
+given-before is_blank (chosen.Built (handler.Graphical h)) (chosen.Built (handler.Narrated k)) t text stays given =
+    absurd stays
+given-before is_blank (chosen.Built (handler.Graphical h)) (chosen.Built (handler.Brief k)) t text stays given =
+    absurd stays
+given-before is_blank (chosen.Built (handler.Narrated h)) (chosen.Built (handler.Graphical k)) t text stays given =
+    absurd stays
+given-before is_blank (chosen.Built (handler.Narrated h)) (chosen.Built (handler.Brief k)) t text stays given =
+    absurd stays
+given-before is_blank (chosen.Built (handler.Brief h)) (chosen.Built (handler.Graphical k)) t text stays given =
+    absurd stays
+given-before is_blank (chosen.Built (handler.Brief h)) (chosen.Built (handler.Narrated k)) t text stays given =
+    absurd stays
 
-pub given-still : {Z E H : Type 0} (is_blank : H → Bool) (h k : JobHandler H) (t : Tree) (r : Result (String Z) E) → Stays is_blank h k → IfOk r (λ text. IsGiven is_blank k t (string_bytes text)) → IfOk r (λ text. IsGiven is_blank h t (string_bytes text))
+pub given-still : {Z E H : Type 0} (is_blank : H → Bool) (h k : JobHandler H) (t : Tree) (r : Result (String Z) E)
+    → Stays is_blank h k → IfOk r (λ text. IsGiven is_blank k t (string_bytes text))
+    → IfOk r (λ text. IsGiven is_blank h t (string_bytes text))
 given-still is_blank h k t (Ok text) stays given = given-before is_blank h k t (string_bytes text) stays given
 given-still is_blank h k t (Err e) stays given = tt
 
-pub refused-before : {H : Type 0} (is_blank : H → Bool) (h k : JobHandler H) (t : Tree) → Stays is_blank h k → MayRefuse k t → MayRefuse h t
+pub refused-before : {H : Type 0} (is_blank : H → Bool) (h k : JobHandler H) (t : Tree) → Stays is_blank h k
+    → MayRefuse k t → MayRefuse h t
 refused-before is_blank chosen.Json k t stays refused = subst (λ x. MayRefuse x t) stays refused
 refused-before is_blank chosen.Debug k t stays refused = subst (λ x. MayRefuse x t) stays refused
 refused-before is_blank (chosen.Built h) chosen.Json t stays refused = absurd refused
 refused-before is_blank (chosen.Built h) chosen.Debug t stays refused = absurd refused
 refused-before is_blank (chosen.Built h) (chosen.Built (handler.Graphical k)) t stays refused = absurd refused
-refused-before is_blank (chosen.Built (handler.Narrated h)) (chosen.Built (handler.Narrated k)) t stays refused = refused
+refused-before is_blank (chosen.Built (handler.Narrated h)) (chosen.Built (handler.Narrated k)) t stays refused =
+    refused
 refused-before is_blank (chosen.Built (handler.Brief h)) (chosen.Built (handler.Brief k)) t stays refused = refused
-refused-before is_blank (chosen.Built (handler.Graphical h)) (chosen.Built (handler.Narrated k)) t stays refused = absurd stays
-refused-before is_blank (chosen.Built (handler.Graphical h)) (chosen.Built (handler.Brief k)) t stays refused = absurd stays
-refused-before is_blank (chosen.Built (handler.Narrated h)) (chosen.Built (handler.Brief k)) t stays refused = absurd stays
-refused-before is_blank (chosen.Built (handler.Brief h)) (chosen.Built (handler.Narrated k)) t stays refused = absurd stays
+refused-before is_blank (chosen.Built (handler.Graphical h)) (chosen.Built (handler.Narrated k)) t stays refused =
+    absurd stays
+refused-before is_blank (chosen.Built (handler.Graphical h)) (chosen.Built (handler.Brief k)) t stays refused =
+    absurd stays
+refused-before is_blank (chosen.Built (handler.Narrated h)) (chosen.Built (handler.Brief k)) t stays refused =
+    absurd stays
+refused-before is_blank (chosen.Built (handler.Brief h)) (chosen.Built (handler.Narrated k)) t stays refused =
+    absurd stays
 
-pub length-written : {H : Type 0} (is_blank : H → Bool) (c : Choice) (o : Options H) (l : Terminal) (h : JobHandler H) (bytes : List ℕ) (t : Tree) (text : List ℕ) (n : ℕ) → IsAsked c o l h
-    → (IsUtf8 bytes × (tree_for bytes ≡ Some t)) → IsGiven is_blank h t text → n ≡ length text → Writes is_blank c o l bytes (λ given. n ≡ length given)
-length-written is_blank c o l h bytes t text n is read given same = (read.0, (t, read.1, (text, asked-text is_blank c o l h t text is given, same)))
+pub length-written : {H : Type 0} (is_blank : H → Bool) (c : Choice) (o : Options H) (l : Terminal) (h : JobHandler H)
+    (bytes : List ℕ) (t : Tree) (text : List ℕ) (n : ℕ) → IsAsked c o l h
+    → (IsUtf8 bytes × (tree_for bytes ≡ Some t)) → IsGiven is_blank h t text → n ≡ length text
+    → Writes is_blank c o l bytes (λ given. n ≡ length given)
+length-written is_blank c o l h bytes t text n is read given same =
+    (read.0, (t, read.1, (text, asked-text is_blank c o l h t text is given, same)))
 
 -- ---- what a writer took
 
-pub written : {H : Type 0} (is_blank : H → Bool) (c : Choice) (o : Options H) (l : Terminal) (told : Option (List ℕ)) (bytes slice text sent : List ℕ) (holds : List ℕ → Type 0) → IfSome told (λ b. bytes ≡ b) → slice ≡ bytes
-    → Writes is_blank c o l slice (λ given. text ≡ given) → sent ≡ text → holds sent → IfSome told (λ b. Writes is_blank c o l b holds)
+pub written : {H : Type 0} (is_blank : H → Bool) (c : Choice) (o : Options H) (l : Terminal) (told : Option (List ℕ))
+    (bytes slice text sent : List ℕ) (holds : List ℕ → Type 0) → IfSome told (λ b. bytes ≡ b) → slice ≡ bytes
+    → Writes is_blank c o l slice (λ given. text ≡ given) → sent ≡ text → holds sent
+    → IfSome told (λ b. Writes is_blank c o l b holds)
 written is_blank c o l None bytes slice text sent holds told same writes as_sent h = tt
 written is_blank c o l (Some b) bytes slice text sent holds told same writes as_sent h =
-    subst (λ x. Writes is_blank c o l x holds) (same ∙ told) (writes.0, (writes.1.0, writes.1.1, (writes.1.2.0, writes.1.2.1, subst holds (as_sent ∙ writes.1.2.2) h)))
+    subst (λ x. Writes is_blank c o l x holds) (same ∙ told)
+    (writes.0, (writes.1.0, writes.1.1, (writes.1.2.0, writes.1.2.1, subst holds (as_sent ∙ writes.1.2.2) h)))

@@ -1,5 +1,6 @@
 -- Steps of making a picture and of writing it.
-use Rattle.std.proofs.Common.{◌≡◌, ℕ, Bool, List, [], ◌++◌, Option, Some, None, ◌↔◌, Result, Ok, Err, true, false, IfOk, OnOk, IfSome, refl, sym, ◌∙◌, ap, ap₂, subst, encode_utf8_all, string_bytes, String}
+use Rattle.std.proofs.Common.{◌≡◌, ℕ, Bool, List, [], ◌++◌, Option, Some, None, ◌↔◌, Result, Ok, Err, true, false, IfOk}
+use Rattle.std.proofs.Common.{OnOk, IfSome, refl, sym, ◌∙◌, ap, ap₂, subst, encode_utf8_all, string_bytes, String}
 use Rattle.miette_protocol.specs.views.Meaning.{Meaning}
 use Rattle.miette_tree.specs.rules.Tree.{Tree}
 use Rattle.miette_tree.specs.rules.Reads.{AlwaysReads}
@@ -18,38 +19,54 @@ use Rattle.miette_report.specs.rules.Words.{AreDrawWords, IsNoDrawCall}
 use Rattle.miette_report.specs.steps.DrawCalls.{CallPictures, IsReadWhole}
 
 -- what the handler is made with
-pub plain-settings : {H : Type 0} (limit : Option ℕ) (theme : GraphicalTheme) (made : Handling H) → theme_of theme ≡ record { characters = unicode_characters; styles = no_styles }
-    → made ≡ without_highlighter (record (default_settings (characters_of theme.characters) (styles_of theme.styles)) { width = 80; line_columns = limit }) → made ≡ without_highlighter (draw_settings limit)
-plain-settings limit theme made is m = m ∙ ap (λ t. without_highlighter (record (default_settings t.characters t.styles) { width = 80; line_columns = limit })) is
+pub plain-settings : {H : Type 0} (limit : Option ℕ) (theme : GraphicalTheme) (made : Handling H) → theme_of theme
+    ≡ record { characters = unicode_characters; styles = no_styles }
+    → made ≡ without_highlighter (record (default_settings (characters_of theme.characters) (styles_of theme.styles))
+    { width = 80; line_columns = limit }) → made ≡ without_highlighter (draw_settings limit)
+plain-settings limit theme made is m = m ∙ ap (λ t. without_highlighter
+    (record (default_settings t.characters t.styles) { width = 80; line_columns = limit })) is
 
-reads-whole : {H : Type 0} (limit : Option ℕ) (theme : GraphicalTheme) (h : Handling H) (t : Tree) → h ≡ without_highlighter (draw_settings limit) → IsReadWhole limit t → all_read (diagnostics_of h.settings t) ≡ true
+reads-whole : {H : Type 0} (limit : Option ℕ) (theme : GraphicalTheme) (h : Handling H) (t : Tree) → h
+    ≡ without_highlighter (draw_settings limit) → IsReadWhole limit t → all_read (diagnostics_of h.settings t) ≡ true
 reads-whole limit theme h t same reads = ap (λ u. all_read (diagnostics_of u.settings t)) same ∙ reads
 
-pub pictured : {H : Type 0} (limit : Option ℕ) (is_blank : H → Bool) (theme : GraphicalTheme) (h : Handling H) (t : Tree) (old new : List ℕ) → theme_of theme ≡ record { characters = unicode_characters; styles = no_styles }
+pub pictured : {H : Type 0} (limit : Option ℕ) (is_blank : H → Bool) (theme : GraphicalTheme) (h : Handling H)
+    (t : Tree) (old new : List ℕ) → theme_of theme ≡ record { characters = unicode_characters; styles = no_styles }
     → h ≡ without_highlighter (draw_settings limit) → old ≡ []
-    → (draws_plain is_blank h ≡ true → all_read (diagnostics_of h.settings t) ≡ true → new ≡ old ++ encode_utf8_all (report_text drawn_rows h.settings t unlisted))
+    → (draws_plain is_blank h ≡ true → all_read (diagnostics_of h.settings t) ≡ true → new ≡ old
+    ++ encode_utf8_all (report_text drawn_rows h.settings t unlisted))
     → IsReadWhole limit t → IsPicture limit t new
 pictured limit is_blank theme h t old new is same none only reads =
     only (ap (draws_plain is_blank) same) (reads-whole limit theme h t same reads)
     ∙ ap₂ (λ o u. o ++ encode_utf8_all (report_text drawn_rows u.settings t unlisted)) none same
 
-pub unrefused : {H : Type 0} (limit : Option ℕ) (theme : GraphicalTheme) (h : Handling H) (t : Tree) → h ≡ without_highlighter (draw_settings limit)
+pub unrefused : {H : Type 0} (limit : Option ℕ) (theme : GraphicalTheme) (h : Handling H) (t : Tree) → h
+    ≡ without_highlighter (draw_settings limit)
     → all_read (diagnostics_of h.settings t) ≡ false → IsReadWhole limit t → ⊥
-unrefused limit theme h t same refused reads = let k : true ≡ false = sym (reads-whole limit theme h t same reads) ∙ refused in cc
+unrefused limit theme h t same refused reads = let k : true ≡ false = sym (reads-whole limit theme h t same reads)
+    ∙ refused in cc
 
 -- of a diagnostic over an input every label is read
-pub reads-over : (limit : Option ℕ) (t : Tree) (name : List ℕ) (m : Meaning) (input : List ℕ) → t ≡ over_input name m input → IsReadWhole limit t
-reads-over limit t name m input same = ap (λ u. all_read (diagnostics_of (draw_settings limit) u)) same ∙ printed-reads (draw_settings limit) (over_input name m input) (refl, tt, tt)
+pub reads-over : (limit : Option ℕ) (t : Tree) (name : List ℕ) (m : Meaning) (input : List ℕ) → t
+    ≡ over_input name m input → IsReadWhole limit t
+reads-over limit t name m input same = ap (λ u. all_read (diagnostics_of (draw_settings limit) u)) same
+    ∙ printed-reads (draw_settings limit) (over_input name m input) (refl, tt, tt)
 
-pub over-same : {E Z : Type 0} (limit : Option ℕ) (r : Result (String Z) E) (name : List ℕ) (m n : Meaning) (input : List ℕ) → m ≡ n → IfOk r (λ text. IsPicture limit (over_input name m input) (string_bytes text)) → IfOk r (λ text. IsPicture limit (over_input name n input) (string_bytes text))
-over-same limit r name m n input same is = subst (λ v. IfOk r (λ text. IsPicture limit (over_input name v input) (string_bytes text))) same is
+pub over-same : {E Z : Type 0} (limit : Option ℕ) (r : Result (String Z) E) (name : List ℕ) (m n : Meaning)
+    (input : List ℕ) → m ≡ n → IfOk r (λ text. IsPicture limit (over_input name m input) (string_bytes text))
+    → IfOk r (λ text. IsPicture limit (over_input name n input) (string_bytes text))
+over-same limit r name m n input same is = subst (λ v. IfOk r
+    (λ text. IsPicture limit (over_input name v input) (string_bytes text))) same is
 
-pub IfOk-same : {E Z : Type 0} (limit : Option ℕ) (r : Result (String Z) E) (t u : Tree) → t ≡ u → IfOk r (λ text. IsPicture limit t (string_bytes text)) → IfOk r (λ text. IsPicture limit u (string_bytes text))
+pub IfOk-same : {E Z : Type 0} (limit : Option ℕ) (r : Result (String Z) E) (t u : Tree) → t ≡ u
+    → IfOk r (λ text. IsPicture limit t (string_bytes text)) → IfOk r (λ text. IsPicture limit u (string_bytes text))
 IfOk-same limit r t u same is = subst (λ v. IfOk r (λ text. IsPicture limit v (string_bytes text))) same is
 
 -- what was written of the picture, for what the reader tells
-pub told : (name : List ℕ) (offset length : ℕ) (label message input : List ℕ) (all : Option (List ℕ)) (text bytes : List ℕ) (P : List ℕ → Type 0)
-    → IfSome all (λ bs. input ≡ bs) → IsPicture None (drawn_tree name offset length label message input) text → bytes ≡ text → P bytes
+pub told : (name : List ℕ) (offset length : ℕ) (label message input : List ℕ) (all : Option (List ℕ))
+    (text bytes : List ℕ) (P : List ℕ → Type 0)
+    → IfSome all (λ bs. input ≡ bs) → IsPicture None (drawn_tree name offset length label message input) text → bytes
+    ≡ text → P bytes
     → IfSome all (λ bs. Pictures name offset length label message bs P)
 told name offset length label message input None text bytes P read is same p = tt
 told name offset length label message input (Some bs) text bytes P read is same p =
@@ -57,19 +74,28 @@ told name offset length label message input (Some bs) text bytes P read is same 
 
 -- ---- the words as the program is called with them
 
-pub call_pictured : {T E : Type 0} (words : List (List ℕ)) (name : List ℕ) (offset length : ℕ) (label message : List ℕ) (r : Result T E) (all : Option (List ℕ)) (P : List ℕ → Type 0)
-    → AreDrawWords words name offset length label message → OnOk r (IfSome all (λ bs. Pictures name offset length label message bs P)) → OnOk r (IfSome all (λ bs. CallPictures words bs P))
+pub call_pictured : {T E : Type 0} (words : List (List ℕ)) (name : List ℕ) (offset length : ℕ) (label message : List ℕ)
+    (r : Result T E) (all : Option (List ℕ)) (P : List ℕ → Type 0)
+    → AreDrawWords words name offset length label message
+    → OnOk r (IfSome all (λ bs. Pictures name offset length label message bs P))
+    → OnOk r (IfSome all (λ bs. CallPictures words bs P))
 call_pictured words name offset length label message (Ok x) None P are h = tt
-call_pictured words name offset length label message (Ok x) (Some bs) P are h = (name, offset, length, label, message, are, h)
+call_pictured words name offset length label message (Ok x) (Some bs) P are h =
+    (name, offset, length, label, message, are, h)
 call_pictured words name offset length label message (Err e) all P are h = tt
 
-pub draw_called : (Q : Type 0) (words : List (List ℕ)) (name : List ℕ) (offset length : ℕ) (label message : List ℕ) → AreDrawWords words name offset length label message → (Q → ⊥) → Q ↔ IsNoDrawCall words
-draw_called Q words name offset length label message are called = (λ q. absurd (called q), λ none. absurd (none name offset length label message are))
+pub draw_called : (Q : Type 0) (words : List (List ℕ)) (name : List ℕ) (offset length : ℕ) (label message : List ℕ)
+    → AreDrawWords words name offset length label message → (Q → ⊥) → Q ↔ IsNoDrawCall words
+draw_called Q words name offset length label message are called =
+    (λ q. absurd (called q), λ none. absurd (none name offset length label message are))
 
 -- ---- brief rows
 
-pub listed : (t : Tree) (name : List ℕ) (m : Meaning) (input : List ℕ) (s : rows.BriefSettings) (old new : List ℕ) → t ≡ over_input name m input → s ≡ rows.default_settings → old ≡ []
-    → (AlwaysReads t → new ≡ old ++ rows.brief s t rows.unlisted) → new ≡ rows.brief rows.default_settings (over_input name m input) rows.unlisted
+pub listed : (t : Tree) (name : List ℕ) (m : Meaning) (input : List ℕ) (s : rows.BriefSettings) (old new : List ℕ) → t
+    ≡ over_input name m input → s ≡ rows.default_settings → old ≡ []
+    → (AlwaysReads t → new ≡ old ++ rows.brief s t rows.unlisted) → new
+    ≡ rows.brief rows.default_settings (over_input name m input) rows.unlisted
 listed t name m input s old new same is none only =
     let over : AlwaysReads (over_input name m input) = (refl, tt, tt) in
-    only (subst AlwaysReads (sym same) over) ∙ ap (λ o. o ++ rows.brief s t rows.unlisted) none ∙ ap₂ (λ u v. rows.brief u v rows.unlisted) is same
+    only (subst AlwaysReads (sym same) over) ∙ ap (λ o. o ++ rows.brief s t rows.unlisted) none
+    ∙ ap₂ (λ u v. rows.brief u v rows.unlisted) is same

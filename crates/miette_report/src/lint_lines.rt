@@ -13,8 +13,8 @@ ghost use Rattle.miette_report.specs.rules.Findings.{tab_behind, too_wide, trail
 
 use itoa::Buffer;
 use miette_cells::cells::{Cell, Walk};
-use miette_source_lines::lines::{LineOfText, Lines};
 use miette_protocol::protocol::LabeledSpan;
+use miette_source_lines::lines::{LineOfText, Lines};
 use std::alloc::{AllocError, Global};
 use std::ops::Range;
 

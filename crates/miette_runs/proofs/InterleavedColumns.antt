@@ -9,7 +9,8 @@ use Rattle.miette_runs.specs.declared.runs.sign.Tag.{Tag}
 
 signs-columns : (ms : List Tag) → columns_of (map tag_token ms) ≡ 0
 signs-columns [] = refl
-signs-columns (m ∷ ms) = sum_by-cons token_width (tag_token m) (map tag_token ms) ∙ zero-add (columns_of (map tag_token ms)) ∙ signs-columns ms
+signs-columns (m ∷ ms) = sum_by-cons token_width (tag_token m) (map tag_token ms)
+    ∙ zero-add (columns_of (map tag_token ms)) ∙ signs-columns ms
 
 pub woven-columns : (at : ℕ) (cs : List ℕ) (ms : List Tag) → code_columns cs ≡ columns_of (interleaving at cs ms)
 woven-columns at [] ms = sym (signs-columns ms)

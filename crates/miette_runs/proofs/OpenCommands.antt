@@ -1,8 +1,10 @@
 -- Where a command is not finished on its line.
-use Rattle.std.proofs.Common.{◌≡◌, ℕ, zero, suc, ◌+◌, ◌<◌, Bool, true, false, ◌==◌, List, [], ◌∷◌, length, drop, get_or, refl, sym, ap, ◌∙◌, arith, drop-drop, if◌then◌else◌}
+use Rattle.std.proofs.Common.{◌≡◌, ℕ, zero, suc, ◌+◌, ◌<◌, Bool, true, false, ◌==◌, List, [], ◌∷◌, length, drop, get_or}
+use Rattle.std.proofs.Common.{refl, sym, ap, ◌∙◌, arith, drop-drop, if◌then◌else◌}
 use Rattle.std.proofs.lemmas.Bool.Decides.{nat_tests}
 use Rattle.std.proofs.lemmas.List.{drop_more}
-use Rattle.miette_runs.specs.rules.Sequences.{control_len, command_len, one_more, is_final, is_line_feed, begins_command, after_escape_len, sequence_len}
+use Rattle.miette_runs.specs.rules.Sequences.{control_len, command_len, one_more, is_final, is_line_feed}
+use Rattle.miette_runs.specs.rules.Sequences.{begins_command, after_escape_len, sequence_len}
 use Rattle.miette_style.specs.rules.Escapes.{is_escape}
 
 none_more : (n : ℕ) → one_more n ≡ 0 → n ≡ 0
@@ -16,19 +18,22 @@ command_behind c cs h k = grind (arith, nat_tests, none_more (command_len cs))
 control_behind : (cs : List ℕ) → command_len cs ≡ 0 → command_len (drop (control_len cs) cs) ≡ 0
 control_behind [] h = refl
 control_behind (c ∷ cs) h =
-    elim (is_line_feed c) as (λ b. is_line_feed c ≡ b → command_len (drop (if b then 0 else if is_final c then 1 else one_more (control_len cs)) (c ∷ cs)) ≡ 0) [
+    elim (is_line_feed c) as (λ b. is_line_feed c ≡ b → command_len
+    (drop (if b then 0 else if is_final c then 1 else one_more (control_len cs)) (c ∷ cs)) ≡ 0) [
       | true ↦ λ e. h
       | false ↦ λ e.
           elim (is_final c) as (λ b. command_len (drop (if b then 1 else one_more (control_len cs)) (c ∷ cs)) ≡ 0) [
             | true ↦ command_behind c cs e h
-            | false ↦ elim (control_len cs) as (λ n. command_len (drop n cs) ≡ 0 → command_len (drop (one_more n) (c ∷ cs)) ≡ 0) [
-              | zero ↦ λ k. h
-              | suc n ↦ λ k. k
-            ] (control_behind cs (command_behind c cs e h))
+            | false ↦ elim (control_len cs) as (λ n. command_len (drop n cs) ≡ 0
+                → command_len (drop (one_more n) (c ∷ cs)) ≡ 0) [
+                  | zero ↦ λ k. h
+                  | suc n ↦ λ k. k
+                ] (control_behind cs (command_behind c cs e h))
           ]
     ] refl
 
-more_behind : (c n : ℕ) (cs : List ℕ) → command_len (c ∷ cs) ≡ 0 → command_len (drop n cs) ≡ 0 → command_len (drop (one_more n) (c ∷ cs)) ≡ 0
+more_behind : (c n : ℕ) (cs : List ℕ) → command_len (c ∷ cs) ≡ 0 → command_len (drop n cs) ≡ 0
+    → command_len (drop (one_more n) (c ∷ cs)) ≡ 0
 more_behind c zero cs h k = h
 more_behind c (suc n) cs h k = k
 
@@ -41,11 +46,15 @@ not_feed c k h e = grind (arith, nat_tests)
 after_behind : (cs : List ℕ) → command_len cs ≡ 0 → command_len (drop (after_escape_len cs) cs) ≡ 0
 after_behind [] h = refl
 after_behind (c ∷ cs) h =
-    elim (c == 91) as (λ b. (c == 91) ≡ b → command_len (drop (if b then one_more (control_len cs) else if c == 93 then one_more (command_len cs) else 0) (c ∷ cs)) ≡ 0) [
-      | true ↦ λ e. more_behind c (control_len cs) cs h (control_behind cs (command_behind c cs (not_feed c 91 e refl) h))
+    elim (c == 91) as (λ b. (c == 91) ≡ b → command_len (drop
+    (if b then one_more (control_len cs) else if c == 93 then one_more (command_len cs) else 0) (c ∷ cs)) ≡ 0) [
+      | true ↦ λ e. more_behind c (control_len cs) cs h (control_behind cs
+          (command_behind c cs (not_feed c 91 e refl) h))
       | false ↦ λ _.
-          elim (c == 93) as (λ b. (c == 93) ≡ b → command_len (drop (if b then one_more (command_len cs) else 0) (c ∷ cs)) ≡ 0) [
-            | true ↦ λ e. more_behind c (command_len cs) cs h (commands_behind cs (command_behind c cs (not_feed c 93 e refl) h))
+          elim (c == 93) as (λ b. (c == 93) ≡ b → command_len
+          (drop (if b then one_more (command_len cs) else 0) (c ∷ cs)) ≡ 0) [
+            | true ↦ λ e. more_behind c (command_len cs) cs h
+                (commands_behind cs (command_behind c cs (not_feed c 93 e refl) h))
             | false ↦ λ _. h
           ] refl
     ] refl
@@ -53,14 +62,18 @@ after_behind (c ∷ cs) h =
 sequence_behind : (cs : List ℕ) → command_len cs ≡ 0 → command_len (drop (sequence_len cs) cs) ≡ 0
 sequence_behind [] h = refl
 sequence_behind (c ∷ cs) h =
-    elim (is_escape c) as (λ b. (c == 27) ≡ b → command_len (drop (if b then one_more (after_escape_len cs) else 0) (c ∷ cs)) ≡ 0) [
-      | true ↦ λ e. more_behind c (after_escape_len cs) cs h (after_behind cs (command_behind c cs (not_feed c 27 e refl) h))
+    elim (is_escape c) as (λ b. (c == 27) ≡ b → command_len
+    (drop (if b then one_more (after_escape_len cs) else 0) (c ∷ cs)) ≡ 0) [
+      | true ↦ λ e. more_behind c (after_escape_len cs) cs h
+          (after_behind cs (command_behind c cs (not_feed c 27 e refl) h))
       | false ↦ λ _. h
     ] refl
 
 -- in a text, from an index on
-pub open_behind : (cs : List ℕ) (i n : ℕ) (b : Bool) → n ≡ sequence_len (drop i cs) → (b ≡ true → command_len (drop i cs) ≡ 0) → b ≡ true → command_len (drop (i + n) cs) ≡ 0
-open_behind cs i n b e h t = ap command_len (sym (drop-drop n i cs) ∙ ap (λ n. drop n (drop i cs)) e) ∙ sequence_behind (drop i cs) (h t)
+pub open_behind : (cs : List ℕ) (i n : ℕ) (b : Bool) → n ≡ sequence_len (drop i cs)
+    → (b ≡ true → command_len (drop i cs) ≡ 0) → b ≡ true → command_len (drop (i + n) cs) ≡ 0
+open_behind cs i n b e h t = ap command_len (sym (drop-drop n i cs) ∙ ap (λ n. drop n (drop i cs)) e)
+    ∙ sequence_behind (drop i cs) (h t)
 
 tail_opened : (c : ℕ) (cs : List ℕ) → begins_command (c ∷ cs) ≡ true → sequence_len (c ∷ cs) ≡ 0 → command_len cs ≡ 0
 tail_opened c [] b h = refl
@@ -71,10 +84,14 @@ tail_opened c (d ∷ ds) b h =
     let z : command_len ds ≡ 0 = none_more (command_len ds) (none_more (one_more (command_len ds)) g) in
     grind (arith, nat_tests, z, f)
 
-pub opened_behind : (cs : List ℕ) (i : ℕ) → i < length cs → sequence_len (drop i cs) ≡ 0 → begins_command (drop i cs) ≡ true → command_len (drop (i + 1) cs) ≡ 0
-opened_behind cs i l h b = tail_opened (get_or cs i 0) (drop (i + 1) cs) (ap begins_command (sym (drop_more cs i 0 l)) ∙ b) (ap sequence_len (sym (drop_more cs i 0 l)) ∙ h)
+pub opened_behind : (cs : List ℕ) (i : ℕ) → i < length cs → sequence_len (drop i cs) ≡ 0 → begins_command (drop i cs)
+    ≡ true → command_len (drop (i + 1) cs) ≡ 0
+opened_behind cs i l h b = tail_opened (get_or cs i 0) (drop (i + 1) cs)
+    (ap begins_command (sym (drop_more cs i 0 l)) ∙ b) (ap sequence_len (sym (drop_more cs i 0 l)) ∙ h)
 
-pub plain_behind : (cs : List ℕ) (i c : ℕ) (b : Bool) → i < length cs → c ≡ get_or cs i c → (c ≡ 10 → ⊥) → (b ≡ true → command_len (drop i cs) ≡ 0) → b ≡ true → command_len (drop (i + 1) cs) ≡ 0
+pub plain_behind : (cs : List ℕ) (i c : ℕ) (b : Bool) → i < length cs → c ≡ get_or cs i c → (c ≡ 10 → ⊥)
+    → (b ≡ true → command_len (drop i cs) ≡ 0) → b ≡ true → command_len (drop (i + 1) cs) ≡ 0
 plain_behind cs i c b l e h k t =
     let f : is_line_feed c ≡ false = grind (arith, nat_tests) in
-    command_behind c (drop (i + 1) cs) f (ap (λ x. command_len (x ∷ drop (i + 1) cs)) e ∙ ap command_len (sym (drop_more cs i c l)) ∙ k t)
+    command_behind c (drop (i + 1) cs) f (ap (λ x. command_len (x ∷ drop (i + 1) cs)) e
+    ∙ ap command_len (sym (drop_more cs i c l)) ∙ k t)

@@ -1,5 +1,6 @@
 -- The bytes of what begins a style, and runs in a style.
-use Rattle.std.proofs.Common.{◌≡◌, ℕ, ◌<◌, true, false, ◌&&◌, ◌==◌, length, List, [], ◌∷◌, ◌++◌, refl, sym, ap, ap₂, ◌∙◌, arith, append_assoc, eqb-true, encode_utf8_all}
+use Rattle.std.proofs.Common.{◌≡◌, ℕ, ◌<◌, true, false, ◌&&◌, ◌==◌, length, List, [], ◌∷◌, ◌++◌, refl, sym, ap, ap₂}
+use Rattle.std.proofs.Common.{◌∙◌, arith, append_assoc, eqb-true, encode_utf8_all}
 use Rattle.std.proofs.lemmas.Bool.{and_parts}
 use Rattle.std.proofs.lemmas.Bool.Decides.{nat_tests}
 use Rattle.std.proofs.lemmas.Str.{encode_ascii}
@@ -44,7 +45,8 @@ colour-bytes (c ∷ d ∷ cs) h =
     let q = and_parts (d == 91) (is_colour_end cs) p.1 in
     let e : c ≡ 27 = eqb-true c 27 p.0 in
     let f : d ≡ 91 = eqb-true d 91 q.0 in
-    ap₂ (λ x y. x ++ y) (encode_ascii c (omega arith)) (ap₂ (λ x y. x ++ y) (encode_ascii d (omega arith)) (end-bytes cs q.1))
+    ap₂ (λ x y. x ++ y) (encode_ascii c (omega arith)) (ap₂ (λ x y. x ++ y) (encode_ascii d (omega arith))
+    (end-bytes cs q.1))
 
 pub style-bytes : (s : Style) → encode_utf8_all (colour_start s) ≡ colour_start s
 style-bytes s = colour-bytes (colour_start s) (start_colour s)
@@ -53,19 +55,24 @@ style-bytes s = colour-bytes (colour_start s) (start_colour s)
 
 pub run-plain : (s : Style) (text : List ℕ) → is_nil (style_codes s) ≡ true → printed_run s text ≡ text
 run-plain s [] h = refl
-run-plain s (c ∷ cs) h = elim (style_codes s) as (λ xs. is_nil xs ≡ true → (elim xs as (λ _. List ℕ) [ [] ↦ c ∷ cs | y ∷ ys ↦ colour_start s ++ (c ∷ cs) ++ colour_stop ]) ≡ c ∷ cs) [
-  | [] ↦ λ e. refl
-  | y ∷ ys ↦ λ e. absurd (cc)
-] h
+run-plain s (c ∷ cs) h = elim (style_codes s) as (λ xs. is_nil xs ≡ true
+    → (elim xs as (λ _. List ℕ) [ [] ↦ c ∷ cs | y ∷ ys ↦ colour_start s ++ (c ∷ cs) ++ colour_stop ]) ≡ c ∷ cs) [
+      | [] ↦ λ e. refl
+      | y ∷ ys ↦ λ e. absurd (cc)
+    ] h
 
-pub run-styled : (s : Style) (text : List ℕ) → 0 < length text → is_nil (style_codes s) ≡ false → printed_run s text ≡ (colour_start s ++ text) ++ colour_stop
+pub run-styled : (s : Style) (text : List ℕ) → 0 < length text → is_nil (style_codes s) ≡ false → printed_run s text
+    ≡ (colour_start s ++ text) ++ colour_stop
 run-styled s [] l h = absurd (omega arith)
-run-styled s (c ∷ cs) l h = elim (style_codes s) as (λ xs. is_nil xs ≡ false → (elim xs as (λ _. List ℕ) [ [] ↦ c ∷ cs | y ∷ ys ↦ colour_start s ++ (c ∷ cs) ++ colour_stop ]) ≡ (colour_start s ++ (c ∷ cs)) ++ colour_stop) [
-  | [] ↦ λ e. absurd (cc)
-  | y ∷ ys ↦ λ e. refl
-] h
+run-styled s (c ∷ cs) l h = elim (style_codes s) as (λ xs. is_nil xs ≡ false
+    → (elim xs as (λ _. List ℕ) [ [] ↦ c ∷ cs | y ∷ ys ↦ colour_start s ++ (c ∷ cs) ++ colour_stop ])
+    ≡ (colour_start s ++ (c ∷ cs)) ++ colour_stop) [
+      | [] ↦ λ e. absurd (cc)
+      | y ∷ ys ↦ λ e. refl
+    ] h
 
-pub run-pushed : (s : Style) (text o o1 o2 o3 : List ℕ) → 0 < length text → is_nil (style_codes s) ≡ false → o1 ≡ o ++ colour_start s → o2 ≡ o1 ++ text → o3 ≡ o2 ++ colour_stop → o3 ≡ o ++ printed_run s text
+pub run-pushed : (s : Style) (text o o1 o2 o3 : List ℕ) → 0 < length text → is_nil (style_codes s) ≡ false → o1 ≡ o
+    ++ colour_start s → o2 ≡ o1 ++ text → o3 ≡ o2 ++ colour_stop → o3 ≡ o ++ printed_run s text
 run-pushed s text o o1 o2 o3 l h e f g =
     g ∙ ap (λ x. x ++ colour_stop) (f ∙ ap (λ x. x ++ text) e)
     ∙ append_assoc (o ++ colour_start s) text colour_stop

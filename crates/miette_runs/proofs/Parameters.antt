@@ -1,5 +1,6 @@
 -- What begins a style is a colour.
-use Rattle.std.proofs.Common.{◌≡◌, ℕ, zero, suc, ◌/◌, ◌<◌, Bool, true, false, ◌&&◌, ◌==◌, List, [], ◌∷◌, ◌++◌, refl, ap, ap₂, arith, if◌then◌else◌, decimal, codes, Option, Some, None, ◌%◌}
+use Rattle.std.proofs.Common.{◌≡◌, ℕ, zero, suc, ◌/◌, ◌<◌, Bool, true, false, ◌&&◌, ◌==◌, List, [], ◌∷◌, ◌++◌, refl, ap}
+use Rattle.std.proofs.Common.{ap₂, arith, if◌then◌else◌, decimal, codes, Option, Some, None, ◌%◌}
 use Rattle.std.proofs.lemmas.Bool.{and_parts}
 use Rattle.std.proofs.lemmas.Bool.Decides.{nat_tests}
 use Rattle.miette_runs.specs.rules.Sequences.{is_parameter}
@@ -7,7 +8,8 @@ use Rattle.miette_runs.specs.rules.Colours.{is_colour, is_colour_end}
 use Rattle.miette_style.specs.declared.style.Color.{Color}
 use Rattle.miette_style.specs.declared.style.Color.TheVariants.{Red, Green, Yellow, Blue, Magenta, Cyan, Rgb}
 use Rattle.miette_style.specs.declared.style.Style.{Style}
-use Rattle.miette_style.specs.rules.Codes.{foreground, foreground_codes, flag, style_codes, separated_codes, colour_start, behind_separators}
+use Rattle.miette_style.specs.rules.Codes.{foreground, foreground_codes, flag, style_codes, separated_codes}
+use Rattle.miette_style.specs.rules.Codes.{colour_start, behind_separators}
 use Rattle.std.specs.Fmt.{digit_glyph, digits, digits_onto}
 
 abbrev parameters : List ℕ → Bool
@@ -32,8 +34,10 @@ digit_parameter d h = grind (arith, nat_tests)
 digits_parameters : (k n : ℕ) (acc : List ℕ) → parameters acc ≡ true → parameters (digits_onto k 10 false n acc) ≡ true
 digits_parameters zero n acc h = h
 digits_parameters (suc k) n acc h =
-    let first : parameters (digit_glyph false (n % 10) ∷ acc) ≡ true = ap₂ (λ a b. a && b) (digit_parameter (n % 10) (omega arith)) h in
-    elim (n / 10 == 0) as (λ b. parameters (if b then digit_glyph false (n % 10) ∷ acc else digits_onto k 10 false (n / 10) (digit_glyph false (n % 10) ∷ acc)) ≡ true) [
+    let first : parameters (digit_glyph false (n % 10) ∷ acc) ≡ true =
+    ap₂ (λ a b. a && b) (digit_parameter (n % 10) (omega arith)) h in
+    elim (n / 10 == 0) as (λ b. parameters (if b then digit_glyph false (n % 10) ∷ acc
+    else digits_onto k 10 false (n / 10) (digit_glyph false (n % 10) ∷ acc)) ≡ true) [
       | true ↦ first
       | false ↦ digits_parameters k (n / 10) (digit_glyph false (n % 10) ∷ acc) first
     ]
@@ -53,7 +57,8 @@ foreground_parameters (Rgb r g b) =
     parameters-append (codes "38;2;" ++ decimal r ++ codes ";" ++ decimal g ++ codes ";") (decimal b)
     (parameters-append (codes "38;2;" ++ decimal r ++ codes ";" ++ decimal g) (codes ";")
     (parameters-append (codes "38;2;" ++ decimal r ++ codes ";") (decimal g)
-    (parameters-append (codes "38;2;" ++ decimal r) (codes ";") (parameters-append (codes "38;2;") (decimal r) refl (decimal_parameters r)) refl)
+    (parameters-append (codes "38;2;" ++ decimal r) (codes ";")
+    (parameters-append (codes "38;2;") (decimal r) refl (decimal_parameters r)) refl)
     (decimal_parameters g))
     refl)
     (decimal_parameters b)
@@ -74,7 +79,8 @@ separated_parameters (x ∷ xs) h =
     let p = and_parts (parameters x) (each_parameters xs) h in
     parameters-append x (behind_separators xs) p.0 (behind_parameters xs p.1)
 
-each-append : (xs ys : List (List ℕ)) → each_parameters xs ≡ true → each_parameters ys ≡ true → each_parameters (xs ++ ys) ≡ true
+each-append : (xs ys : List (List ℕ)) → each_parameters xs ≡ true → each_parameters ys ≡ true
+    → each_parameters (xs ++ ys) ≡ true
 each-append [] ys h k = k
 each-append (x ∷ xs) ys h k = grind (arith, nat_tests, each-append xs ys)
 
@@ -88,14 +94,18 @@ foreground-each (Some c) = ap (λ v. v && true) (foreground_parameters c)
 
 style_parameters : (s : Style) → each_parameters (style_codes s) ≡ true
 style_parameters s =
-    each-append (foreground_codes s.fg ++ flag s.bold (codes "1") ++ flag s.dimmed (codes "2") ++ flag s.italic (codes "3")) (flag s.underline (codes "4"))
-    (each-append (foreground_codes s.fg ++ flag s.bold (codes "1") ++ flag s.dimmed (codes "2")) (flag s.italic (codes "3"))
+    each-append (foreground_codes s.fg ++ flag s.bold (codes "1") ++ flag s.dimmed (codes "2")
+    ++ flag s.italic (codes "3")) (flag s.underline (codes "4"))
+    (each-append (foreground_codes s.fg ++ flag s.bold (codes "1") ++ flag s.dimmed (codes "2"))
+    (flag s.italic (codes "3"))
     (each-append (foreground_codes s.fg ++ flag s.bold (codes "1")) (flag s.dimmed (codes "2"))
-    (each-append (foreground_codes s.fg) (flag s.bold (codes "1")) (foreground-each s.fg) (flag-each s.bold (codes "1") refl))
+    (each-append (foreground_codes s.fg) (flag s.bold (codes "1")) (foreground-each s.fg)
+    (flag-each s.bold (codes "1") refl))
     (flag-each s.dimmed (codes "2") refl))
     (flag-each s.italic (codes "3") refl))
     (flag-each s.underline (codes "4") refl)
 
 -- what begins a style is a colour
 pub start_colour : (s : Style) → is_colour (colour_start s) ≡ true
-start_colour s = parameters_end (separated_codes (style_codes s)) (separated_parameters (style_codes s) (style_parameters s))
+start_colour s = parameters_end (separated_codes (style_codes s))
+    (separated_parameters (style_codes s) (style_parameters s))

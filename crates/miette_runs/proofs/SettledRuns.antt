@@ -1,10 +1,14 @@
 -- Runs that are read again as they were printed.
-use Rattle.std.proofs.Common.{◌≡◌, ℕ, zero, suc, ◌<◌, Bool, true, false, not, ◌&&◌, ◌==◌, nat_le, nat_lt, List, [], ◌∷◌, ◌++◌, map, length, refl, sym, ap, ap₂, ◌∙◌, arith, append-nil, eqb-true, ltb-true, if◌then◌else◌}
+use Rattle.std.proofs.Common.{◌≡◌, ℕ, zero, suc, ◌<◌, Bool, true, false, not, ◌&&◌, ◌==◌, nat_le, nat_lt, List, [], ◌∷◌}
+use Rattle.std.proofs.Common.{◌++◌, map, length, refl, sym, ap, ap₂, ◌∙◌, arith, append-nil, eqb-true, ltb-true}
+use Rattle.std.proofs.Common.{if◌then◌else◌}
 use Rattle.std.proofs.lemmas.Bool.{and_parts}
 use Rattle.std.proofs.lemmas.Bool.Decides.{nat_tests}
 use Rattle.std.proofs.Math.Bool.{and_assoc}
 use Rattle.miette_style.specs.rules.Codes.{colour_start}
-use Rattle.miette_runs.specs.rules.Sequences.{Token, Character, Sequence, is_whole, tokens, spell, is_line_feed, is_bell, one_more, begins_terminator, control_len, command_len, after_escape_len, sequence_len, are_settled}
+use Rattle.miette_runs.specs.rules.Sequences.{Token, Character, Sequence, is_whole, tokens, spell, is_line_feed}
+use Rattle.miette_runs.specs.rules.Sequences.{is_bell, one_more, begins_terminator, control_len, command_len}
+use Rattle.miette_runs.specs.rules.Sequences.{after_escape_len, sequence_len, are_settled}
 use Rattle.miette_style.specs.rules.Escapes.{is_escape}
 use Rattle.miette_runs.specs.rules.Colours.{is_colour}
 use Rattle.miette_style.specs.rules.Escapes.{no_escape}
@@ -26,8 +30,10 @@ control-front : (s r : List ℕ) → 0 < control_len s → control_len (s ++ r) 
 control-front [] r h = absurd (omega arith)
 control-front (c ∷ s) r h = grind (arith, nat_tests, some-more (control_len s), control-front s r)
 
-command-step : (feed bell end : Bool) (n m : ℕ) → (0 < n → m ≡ n) → 0 < (if feed then 0 else if bell then 1 else if end then 2 else one_more n) →
-    (if feed then 0 else if bell then 1 else if end then 2 else one_more m) ≡ (if feed then 0 else if bell then 1 else if end then 2 else one_more n)
+command-step : (feed bell end : Bool) (n m : ℕ) → (0 < n → m ≡ n) → 0
+    < (if feed then 0 else if bell then 1 else if end then 2 else one_more n) →
+    (if feed then 0 else if bell then 1 else if end then 2 else one_more m)
+    ≡ (if feed then 0 else if bell then 1 else if end then 2 else one_more n)
 command-step true bell end n m k h = refl
 command-step false true end n m k h = refl
 command-step false false true n m k h = refl
@@ -39,11 +45,19 @@ terminator-alone c r h = grind (arith, nat_tests)
 command-front : (s r : List ℕ) → 0 < command_len s → command_len (s ++ r) ≡ command_len s
 command-front [] r h = absurd (omega arith)
 command-front (c ∷ []) r h = terminator-alone c r h
-command-front (c ∷ d ∷ s) r h = command-step (is_line_feed c) (is_bell c) (begins_terminator (c ∷ d ∷ s)) (command_len (d ∷ s)) (command_len (d ∷ (s ++ r))) (command-front (d ∷ s) r) h
+command-front (c ∷ d ∷ s) r h = command-step (is_line_feed c) (is_bell c) (begins_terminator (c ∷ d ∷ s))
+    (command_len (d ∷ s)) (command_len (d ∷ (s ++ r))) (command-front (d ∷ s) r) h
 
 after-front : (s r : List ℕ) → 0 < after_escape_len s → after_escape_len (s ++ r) ≡ after_escape_len s
 after-front [] r h = absurd (omega arith)
-after-front (c ∷ s) r h = grind (arith, nat_tests, some-more (control_len s), some-more (command_len s), control-front s r, command-front s r)
+after-front (c ∷ s) r h = grind (
+  arith,
+  nat_tests,
+  some-more (control_len s),
+  some-more (command_len s),
+  control-front s r,
+  command-front s r,
+)
 
 pub sequence-front : (s r : List ℕ) → 0 < sequence_len s → sequence_len (s ++ r) ≡ sequence_len s
 sequence-front [] r h = absurd (omega arith)
@@ -62,12 +76,14 @@ plain-sequence c r h = grind (arith, nat_tests)
 pub settled-tokens : (ts : List Token) → AreSettled ts → tokens (spell ts) ≡ ts
 settled-tokens [] h = refl
 settled-tokens (Character c ∷ ts) h =
-    tokens_character c (spell ts) (plain-sequence c (spell ts) h.0) ∙ ap (λ us. Character c ∷ us) (settled-tokens ts h.1)
+    tokens_character c (spell ts) (plain-sequence c (spell ts) h.0)
+    ∙ ap (λ us. Character c ∷ us) (settled-tokens ts h.1)
 settled-tokens (Sequence s ∷ ts) h =
     let p = and_parts (nat_lt 0 (length s)) (sequence_len s == length s) h.0 in
     let some : 0 < length s = ltb-true 0 (length s) p.0 in
     let len : sequence_len s ≡ length s = eqb-true (sequence_len s) (length s) p.1 in
-    tokens_sequence s (spell ts) some (sequence-front s (spell ts) (omega arith) ∙ len) ∙ ap (λ us. Sequence s ∷ us) (settled-tokens ts h.1)
+    tokens_sequence s (spell ts) some (sequence-front s (spell ts) (omega arith) ∙ len)
+    ∙ ap (λ us. Sequence s ∷ us) (settled-tokens ts h.1)
 
 settled-characters : (cs : List ℕ) → no_escape cs ≡ true → AreSettled (map Character cs)
 settled-characters [] h = tt
@@ -90,7 +106,8 @@ beyond-whole : (p : ℕ) (ms : List Tag) → are_whole ms ≡ true → are_whole
 beyond-whole p [] h = refl
 beyond-whole p (m ∷ ms) h = grind (arith, nat_tests, beyond-whole p ms)
 
-settled-tags : (ms : List Tag) (ts : List Token) → are_whole ms ≡ true → AreSettled ts → AreSettled (map tag_token ms ++ ts)
+settled-tags : (ms : List Tag) (ts : List Token) → are_whole ms ≡ true → AreSettled ts
+    → AreSettled (map tag_token ms ++ ts)
 settled-tags [] ts h k = k
 settled-tags (m ∷ ms) ts h k =
     let p = and_parts (is_whole (tag_text m)) (are_whole ms) h in
@@ -102,14 +119,17 @@ settled-left (m ∷ ms) h =
     let p = and_parts (is_whole (tag_text m)) (are_whole ms) h in
     (p.0, settled-left ms p.1)
 
-settled-woven : (p : ℕ) (cs : List ℕ) (ms : List Tag) → no_escape cs ≡ true → are_whole ms ≡ true → AreSettled (interleaving p cs ms)
+settled-woven : (p : ℕ) (cs : List ℕ) (ms : List Tag) → no_escape cs ≡ true → are_whole ms ≡ true
+    → AreSettled (interleaving p cs ms)
 settled-woven p [] ms h k = settled-left ms k
 settled-woven p (c ∷ cs) ms h k =
     let q = and_parts (not (is_escape c)) (no_escape cs) h in
     let first : is_escape c ≡ false = grind (arith, nat_tests) in
-    settled-tags (upto p ms) (Character c ∷ interleaving (suc p) cs (beyond p ms)) (upto-whole p ms k) (first, settled-woven (suc p) cs (beyond p ms) q.1 (beyond-whole p ms k))
+    settled-tags (upto p ms) (Character c ∷ interleaving (suc p) cs (beyond p ms)) (upto-whole p ms k)
+    (first, settled-woven (suc p) cs (beyond p ms) q.1 (beyond-whole p ms k))
 
-pub woven-settled : (cs : List ℕ) (ms : List Tag) → no_escape cs ≡ true → are_whole ms ≡ true → tokens (spell (interleaving 0 cs ms)) ≡ interleaving 0 cs ms
+pub woven-settled : (cs : List ℕ) (ms : List Tag) → no_escape cs ≡ true → are_whole ms ≡ true
+    → tokens (spell (interleaving 0 cs ms)) ≡ interleaving 0 cs ms
 woven-settled cs ms h k = settled-tokens (interleaving 0 cs ms) (settled-woven 0 cs ms h k)
 
 colour-some : (s : List ℕ) → is_colour s ≡ true → nat_lt 0 (length s) ≡ true
@@ -121,17 +141,20 @@ same-test m n h = grind (arith, nat_tests)
 
 pub colour-whole : (s : List ℕ) → is_colour s ≡ true → is_whole s ≡ true
 colour-whole s h =
-    ap₂ (λ a b. a && b) (colour-some s h) (same-test (sequence_len s) (length s) (ap sequence_len (sym (append-nil s)) ∙ colour-sequence s [] h))
+    ap₂ (λ a b. a && b) (colour-some s h) (same-test (sequence_len s) (length s)
+    (ap sequence_len (sym (append-nil s)) ∙ colour-sequence s [] h))
 
 pub start-whole : (s : Style) → is_whole (colour_start s) ≡ true
 start-whole s = colour-whole (colour_start s) (start_colour s)
 
 -- ---- exactly those are settled
 
-settled-front : (ms : List Tag) (ts : List Token) → are_settled (map tag_token ms ++ ts) ≡ (are_whole ms && are_settled ts)
+settled-front : (ms : List Tag) (ts : List Token) → are_settled (map tag_token ms ++ ts)
+    ≡ (are_whole ms && are_settled ts)
 settled-front [] ts = refl
 settled-front (m ∷ ms) ts =
-    ap (λ b. is_whole (tag_text m) && b) (settled-front ms ts) ∙ sym (and_assoc (is_whole (tag_text m)) (are_whole ms) (are_settled ts))
+    ap (λ b. is_whole (tag_text m) && b) (settled-front ms ts)
+    ∙ sym (and_assoc (is_whole (tag_text m)) (are_whole ms) (are_settled ts))
 
 settled-tags_alone : (ms : List Tag) → are_settled (map tag_token ms) ≡ are_whole ms
 settled-tags_alone [] = refl
@@ -139,10 +162,12 @@ settled-tags_alone (m ∷ ms) = ap (λ b. is_whole (tag_text m) && b) (settled-t
 
 whole-parted : (p : ℕ) (ms : List Tag) → are_whole ms ≡ (are_whole (upto p ms) && are_whole (beyond p ms))
 whole-parted p [] = refl
-whole-parted p (m ∷ ms) = elim (nat_le m.at p) as (λ b. are_whole (m ∷ ms) ≡ (are_whole (if b then m ∷ upto p ms else []) && are_whole (if b then beyond p ms else m ∷ ms))) [
-  | true ↦ ap (λ b. is_whole (tag_text m) && b) (whole-parted p ms) ∙ sym (and_assoc (is_whole (tag_text m)) (are_whole (upto p ms)) (are_whole (beyond p ms)))
-  | false ↦ refl
-]
+whole-parted p (m ∷ ms) = elim (nat_le m.at p) as (λ b. are_whole (m ∷ ms)
+    ≡ (are_whole (if b then m ∷ upto p ms else []) && are_whole (if b then beyond p ms else m ∷ ms))) [
+      | true ↦ ap (λ b. is_whole (tag_text m) && b) (whole-parted p ms)
+          ∙ sym (and_assoc (is_whole (tag_text m)) (are_whole (upto p ms)) (are_whole (beyond p ms)))
+      | false ↦ refl
+    ]
 
 between : (a b c d : Bool) → (a && (b && (c && d))) ≡ ((b && c) && (a && d))
 between true true c d = refl
@@ -151,7 +176,8 @@ between false true true d = refl
 between false true false d = refl
 between false false c d = refl
 
-pub settled-exact : (p : ℕ) (cs : List ℕ) (ms : List Tag) → are_settled (interleaving p cs ms) ≡ (no_escape cs && are_whole ms)
+pub settled-exact : (p : ℕ) (cs : List ℕ) (ms : List Tag) → are_settled (interleaving p cs ms)
+    ≡ (no_escape cs && are_whole ms)
 settled-exact p [] ms = settled-tags_alone ms
 settled-exact p (c ∷ cs) ms =
     settled-front (upto p ms) (Character c ∷ interleaving (suc p) cs (beyond p ms))

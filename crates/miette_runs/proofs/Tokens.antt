@@ -2,7 +2,8 @@
 use Rattle.std.proofs.Common.{◌≡◌, ℕ, zero, suc, ◌<◌, true, List, [], ◌∷◌, ◌++◌, length, take, refl, ap, ◌∙◌, arith}
 use Rattle.std.proofs.lemmas.Bool.Decides.{nat_tests}
 use Rattle.std.proofs.lemmas.List.{take_at}
-use Rattle.miette_runs.specs.rules.Sequences.{Token, Character, Sequence, tokens, tokens_behind, spell, one_more, control_len, sequence_len}
+use Rattle.miette_runs.specs.rules.Sequences.{Token, Character, Sequence, tokens, tokens_behind, spell, one_more}
+use Rattle.miette_runs.specs.rules.Sequences.{control_len, sequence_len}
 use Rattle.miette_runs.specs.rules.Colours.{is_colour, is_colour_end}
 use Rattle.miette_basics.specs.rules.Lists.{is_nil}
 
@@ -20,12 +21,25 @@ nil_of (c ∷ s) h = cc
 
 pub colour_end-control : (s r : List ℕ) → is_colour_end s ≡ true → control_len (s ++ r) ≡ length s
 colour_end-control [] r h = cc
-colour_end-control (c ∷ s) r h = grind (arith, nat_tests, nil_of s, colour_end-control s r, one_more_pos (control_len (s ++ r)), colour_end_some s)
+colour_end-control (c ∷ s) r h = grind (
+  arith,
+  nat_tests,
+  nil_of s,
+  colour_end-control s r,
+  one_more_pos (control_len (s ++ r)),
+  colour_end_some s,
+)
 
 pub colour-sequence : (s r : List ℕ) → is_colour s ≡ true → sequence_len (s ++ r) ≡ length s
 colour-sequence [] r h = cc
 colour-sequence (c ∷ []) r h = grind (arith, nat_tests)
-colour-sequence (c ∷ d ∷ s) r h = grind (arith, nat_tests, colour_end-control s r, colour_end_some s, one_more_pos (control_len (s ++ r)))
+colour-sequence (c ∷ d ∷ s) r h = grind (
+  arith,
+  nat_tests,
+  colour_end-control s r,
+  colour_end_some s,
+  one_more_pos (control_len (s ++ r)),
+)
 
 tokens_skip : (s r : List ℕ) → tokens_behind (length s) (s ++ r) ≡ tokens_behind 0 r
 tokens_skip [] [] = refl
@@ -33,7 +47,8 @@ tokens_skip [] (c ∷ r) = refl
 tokens_skip (c ∷ s) r = tokens_skip s r
 
 -- a sequence at the front is the first token
-pub tokens_sequence : (s r : List ℕ) → 0 < length s → sequence_len (s ++ r) ≡ length s → tokens (s ++ r) ≡ Sequence s ∷ tokens r
+pub tokens_sequence : (s r : List ℕ) → 0 < length s → sequence_len (s ++ r) ≡ length s → tokens (s ++ r) ≡ Sequence s
+    ∷ tokens r
 tokens_sequence [] r p h = absurd (omega arith)
 tokens_sequence (c ∷ s) r p h =
     ap (λ (n : ℕ). elim n as (λ _. List Token) [

@@ -1,12 +1,15 @@
 -- Characters with the tags before them, stretch by stretch.
-use Rattle.std.proofs.Common.{◌≡◌, true, false, if◌then◌else◌, nat_le, ℕ, zero, suc, ◌+◌, ◌-◌, ◌<◌, ◌≤◌, List, [], ◌∷◌, ◌++◌, map, length, length-drop, min, take, drop, drop-drop, get_or, refl, sym, ap, ap₂, ◌∙◌, arith, append_assoc, append-nil}
+use Rattle.std.proofs.Common.{◌≡◌, true, false, if◌then◌else◌, nat_le, ℕ, zero, suc, ◌+◌, ◌-◌, ◌<◌, ◌≤◌, List, [], ◌∷◌}
+use Rattle.std.proofs.Common.{◌++◌, map, length, length-drop, min, take, drop, drop-drop, get_or, refl, sym, ap, ap₂}
+use Rattle.std.proofs.Common.{◌∙◌, arith, append_assoc, append-nil}
 use Rattle.std.proofs.lemmas.Bool.Decides.{nat_tests}
 use Rattle.std.proofs.lemmas.List.{drop_more, drop_all, take_all}
 use Rattle.std.specs.List.{concat}
 use Rattle.miette_runs.specs.steps.Cells.{plain_cell, plain_cells}
 use Rattle.miette_runs.specs.rules.Cells.{tags_text, piece_text, Cell}
 use Rattle.miette_runs.specs.rules.Sequences.{Token, Character, spell}
-use Rattle.miette_runs.specs.views.Interleaving.{tag_text, tag_token, upto, beyond, interleaving, cells_at, left_at, tags_spelled}
+use Rattle.miette_runs.specs.views.Interleaving.{tag_text, tag_token, upto, beyond, interleaving, cells_at, left_at}
+use Rattle.miette_runs.specs.views.Interleaving.{tags_spelled}
 use Rattle.miette_runs.specs.declared.runs.sign.Tag.{Tag}
 use Rattle.miette_runs.proofs.Appending.{appended}
 
@@ -26,16 +29,20 @@ beyond-near p m ms h = grind (arith, nat_tests)
 
 -- ---- the characters up to the next tag
 
-pub cells-gap : (k p : ℕ) (cs : List ℕ) (m : Tag) (ms : List Tag) → k ≤ m.at - p → cells_at p cs (m ∷ ms) ≡ plain_cells (take k cs) ++ cells_at (p + k) (drop k cs) (m ∷ ms)
+pub cells-gap : (k p : ℕ) (cs : List ℕ) (m : Tag) (ms : List Tag) → k ≤ m.at - p → cells_at p cs (m ∷ ms)
+    ≡ plain_cells (take k cs) ++ cells_at (p + k) (drop k cs) (m ∷ ms)
 cells-gap zero p cs m ms h = ap (λ q. cells_at q cs (m ∷ ms)) (omega arith)
 cells-gap (suc k) p [] m ms h = refl
 cells-gap (suc k) p (c ∷ cs) m ms h =
     let far : p < m.at = omega arith in
     let next : suc p + k ≡ p + suc k = omega arith in
-    ap₂ (λ us vs. record { tags = map tag_text us; code = c } ∷ cells_at (suc p) cs vs) (upto-far p m ms far) (beyond-far p m ms far)
-    ∙ ap (λ xs. plain_cell c ∷ xs) (cells-gap k (suc p) cs m ms (omega arith) ∙ ap (λ q. plain_cells (take k cs) ++ cells_at q (drop k cs) (m ∷ ms)) next)
+    ap₂ (λ us vs. record { tags = map tag_text us; code = c } ∷ cells_at (suc p) cs vs) (upto-far p m ms far)
+    (beyond-far p m ms far)
+    ∙ ap (λ xs. plain_cell c ∷ xs) (cells-gap k (suc p) cs m ms (omega arith)
+    ∙ ap (λ q. plain_cells (take k cs) ++ cells_at q (drop k cs) (m ∷ ms)) next)
 
-pub left-gap : (k p : ℕ) (cs : List ℕ) (m : Tag) (ms : List Tag) → k ≤ m.at - p → left_at p cs (m ∷ ms) ≡ left_at (p + k) (drop k cs) (m ∷ ms)
+pub left-gap : (k p : ℕ) (cs : List ℕ) (m : Tag) (ms : List Tag) → k ≤ m.at - p → left_at p cs (m ∷ ms)
+    ≡ left_at (p + k) (drop k cs) (m ∷ ms)
 left-gap zero p cs m ms h = ap (λ q. left_at q cs (m ∷ ms)) (omega arith)
 left-gap (suc k) p [] m ms h = refl
 left-gap (suc k) p (c ∷ cs) m ms h =
@@ -45,37 +52,47 @@ left-gap (suc k) p (c ∷ cs) m ms h =
     ∙ left-gap k (suc p) cs m ms (omega arith)
     ∙ ap (λ q. left_at q (drop k cs) (m ∷ ms)) next
 
-pub woven-gap : (k p : ℕ) (cs : List ℕ) (m : Tag) (ms : List Tag) → k ≤ m.at - p → interleaving p cs (m ∷ ms) ≡ map Character (take k cs) ++ interleaving (p + k) (drop k cs) (m ∷ ms)
+pub woven-gap : (k p : ℕ) (cs : List ℕ) (m : Tag) (ms : List Tag) → k ≤ m.at - p → interleaving p cs (m ∷ ms)
+    ≡ map Character (take k cs) ++ interleaving (p + k) (drop k cs) (m ∷ ms)
 woven-gap zero p cs m ms h = ap (λ q. interleaving q cs (m ∷ ms)) (omega arith)
 woven-gap (suc k) p [] m ms h = refl
 woven-gap (suc k) p (c ∷ cs) m ms h =
     let far : p < m.at = omega arith in
     let next : suc p + k ≡ p + suc k = omega arith in
-    ap₂ (λ us vs. map tag_token us ++ Character c ∷ interleaving (suc p) cs vs) (upto-far p m ms far) (beyond-far p m ms far)
-    ∙ ap (λ xs. Character c ∷ xs) (woven-gap k (suc p) cs m ms (omega arith) ∙ ap (λ q. map Character (take k cs) ++ interleaving q (drop k cs) (m ∷ ms)) next)
+    ap₂ (λ us vs. map tag_token us ++ Character c ∷ interleaving (suc p) cs vs) (upto-far p m ms far)
+    (beyond-far p m ms far)
+    ∙ ap (λ xs. Character c ∷ xs) (woven-gap k (suc p) cs m ms (omega arith)
+    ∙ ap (λ q. map Character (take k cs) ++ interleaving q (drop k cs) (m ∷ ms)) next)
 
 -- ---- the tag before the next character
 
-text-near : (p : ℕ) (cs : List ℕ) (m : Tag) (ms : List Tag) → m.at ≤ p → 0 < length cs → piece_text (cells_at p cs (m ∷ ms)) ≡ tag_text m ++ piece_text (cells_at p cs ms)
+text-near : (p : ℕ) (cs : List ℕ) (m : Tag) (ms : List Tag) → m.at ≤ p → 0 < length cs
+    → piece_text (cells_at p cs (m ∷ ms)) ≡ tag_text m ++ piece_text (cells_at p cs ms)
 text-near p [] m ms h l = absurd (omega arith)
 text-near p (c ∷ cs) m ms h l =
-    ap₂ (λ us vs. (concat (map tag_text us) ++ c ∷ []) ++ piece_text (cells_at (suc p) cs vs)) (upto-near p m ms h) (beyond-near p m ms h)
+    ap₂ (λ us vs. (concat (map tag_text us) ++ c ∷ []) ++ piece_text (cells_at (suc p) cs vs)) (upto-near p m ms h)
+    (beyond-near p m ms h)
     ∙ simp append_assoc
 
-tags-near : (p : ℕ) (cs : List ℕ) (m : Tag) (ms : List Tag) → m.at ≤ p → 0 < length cs → tags_text (cells_at p cs (m ∷ ms)) ≡ tag_text m ++ tags_text (cells_at p cs ms)
+tags-near : (p : ℕ) (cs : List ℕ) (m : Tag) (ms : List Tag) → m.at ≤ p → 0 < length cs
+    → tags_text (cells_at p cs (m ∷ ms)) ≡ tag_text m ++ tags_text (cells_at p cs ms)
 tags-near p [] m ms h l = absurd (omega arith)
 tags-near p (c ∷ cs) m ms h l =
-    ap₂ (λ us vs. concat (map tag_text us) ++ tags_text (cells_at (suc p) cs vs)) (upto-near p m ms h) (beyond-near p m ms h)
+    ap₂ (λ us vs. concat (map tag_text us) ++ tags_text (cells_at (suc p) cs vs)) (upto-near p m ms h)
+    (beyond-near p m ms h)
     ∙ simp append_assoc
 
-left-near : (p : ℕ) (cs : List ℕ) (m : Tag) (ms : List Tag) → m.at ≤ p → 0 < length cs → left_at p cs (m ∷ ms) ≡ left_at p cs ms
+left-near : (p : ℕ) (cs : List ℕ) (m : Tag) (ms : List Tag) → m.at ≤ p → 0 < length cs → left_at p cs (m ∷ ms)
+    ≡ left_at p cs ms
 left-near p [] m ms h l = absurd (omega arith)
 left-near p (c ∷ cs) m ms h l = ap (λ vs. left_at (suc p) cs vs) (beyond-near p m ms h)
 
-pub woven-near : (p : ℕ) (cs : List ℕ) (m : Tag) (ms : List Tag) → m.at ≤ p → interleaving p cs (m ∷ ms) ≡ tag_token m ∷ interleaving p cs ms
+pub woven-near : (p : ℕ) (cs : List ℕ) (m : Tag) (ms : List Tag) → m.at ≤ p → interleaving p cs (m ∷ ms) ≡ tag_token m
+    ∷ interleaving p cs ms
 woven-near p [] m ms h = refl
 woven-near p (c ∷ cs) m ms h =
-    ap₂ (λ us vs. map tag_token us ++ Character c ∷ interleaving (suc p) cs vs) (upto-near p m ms h) (beyond-near p m ms h)
+    ap₂ (λ us vs. map tag_token us ++ Character c ∷ interleaving (suc p) cs vs) (upto-near p m ms h)
+    (beyond-near p m ms h)
 
 -- ---- plain characters
 
@@ -110,36 +127,42 @@ drop-some zero cs h = h
 drop-some (suc k) [] h = absurd (omega arith)
 drop-some (suc k) (c ∷ cs) h = drop-some k cs (omega arith)
 
-pub text-tag : (p k : ℕ) (cs : List ℕ) (m : Tag) (ms : List Tag) → k ≡ m.at - p → k < length cs → piece_text (cells_at p cs (m ∷ ms)) ≡ take k cs ++ (tag_text m ++ piece_text (cells_at (p + k) (drop k cs) ms))
+pub text-tag : (p k : ℕ) (cs : List ℕ) (m : Tag) (ms : List Tag) → k ≡ m.at - p → k < length cs
+    → piece_text (cells_at p cs (m ∷ ms)) ≡ take k cs ++ (tag_text m ++ piece_text (cells_at (p + k) (drop k cs) ms))
 text-tag p k cs m ms e h =
     ap piece_text (cells-gap k p cs m ms (omega arith))
     ∙ text-plain (take k cs) (cells_at (p + k) (drop k cs) (m ∷ ms))
     ∙ ap (λ xs. take k cs ++ xs) (text-near (p + k) (drop k cs) m ms (omega arith) (drop-some k cs h))
 
-pub text-last : (p k : ℕ) (cs : List ℕ) (m : Tag) (ms : List Tag) → k ≡ m.at - p → length cs ≤ k → piece_text (cells_at p cs (m ∷ ms)) ≡ cs
+pub text-last : (p k : ℕ) (cs : List ℕ) (m : Tag) (ms : List Tag) → k ≡ m.at - p → length cs ≤ k
+    → piece_text (cells_at p cs (m ∷ ms)) ≡ cs
 text-last p k cs m ms e h =
     ap piece_text (cells-gap k p cs m ms (omega arith))
     ∙ text-plain (take k cs) (cells_at (p + k) (drop k cs) (m ∷ ms))
     ∙ ap₂ (λ us vs. us ++ piece_text (cells_at (p + k) vs (m ∷ ms))) (take_all k cs h) (drop_all k cs h)
     ∙ append-nil cs
 
-pub tags-tag : (p k : ℕ) (cs : List ℕ) (m : Tag) (ms : List Tag) → k ≡ m.at - p → k < length cs → tags_text (cells_at p cs (m ∷ ms)) ≡ tag_text m ++ tags_text (cells_at (p + k) (drop k cs) ms)
+pub tags-tag : (p k : ℕ) (cs : List ℕ) (m : Tag) (ms : List Tag) → k ≡ m.at - p → k < length cs
+    → tags_text (cells_at p cs (m ∷ ms)) ≡ tag_text m ++ tags_text (cells_at (p + k) (drop k cs) ms)
 tags-tag p k cs m ms e h =
     ap tags_text (cells-gap k p cs m ms (omega arith))
     ∙ tags-plain (take k cs) (cells_at (p + k) (drop k cs) (m ∷ ms))
     ∙ tags-near (p + k) (drop k cs) m ms (omega arith) (drop-some k cs h)
 
-pub tags-last : (p k : ℕ) (cs : List ℕ) (m : Tag) (ms : List Tag) → k ≡ m.at - p → length cs ≤ k → tags_text (cells_at p cs (m ∷ ms)) ≡ []
+pub tags-last : (p k : ℕ) (cs : List ℕ) (m : Tag) (ms : List Tag) → k ≡ m.at - p → length cs ≤ k
+    → tags_text (cells_at p cs (m ∷ ms)) ≡ []
 tags-last p k cs m ms e h =
     ap tags_text (cells-gap k p cs m ms (omega arith))
     ∙ tags-plain (take k cs) (cells_at (p + k) (drop k cs) (m ∷ ms))
     ∙ ap (λ vs. tags_text (cells_at (p + k) vs (m ∷ ms))) (drop_all k cs h)
 
-pub left-tag : (p k : ℕ) (cs : List ℕ) (m : Tag) (ms : List Tag) → k ≡ m.at - p → k < length cs → left_at p cs (m ∷ ms) ≡ left_at (p + k) (drop k cs) ms
+pub left-tag : (p k : ℕ) (cs : List ℕ) (m : Tag) (ms : List Tag) → k ≡ m.at - p → k < length cs → left_at p cs (m ∷ ms)
+    ≡ left_at (p + k) (drop k cs) ms
 left-tag p k cs m ms e h =
     left-gap k p cs m ms (omega arith) ∙ left-near (p + k) (drop k cs) m ms (omega arith) (drop-some k cs h)
 
-pub left-last : (p k : ℕ) (cs : List ℕ) (m : Tag) (ms : List Tag) → k ≡ m.at - p → length cs ≤ k → left_at p cs (m ∷ ms) ≡ m ∷ ms
+pub left-last : (p k : ℕ) (cs : List ℕ) (m : Tag) (ms : List Tag) → k ≡ m.at - p → length cs ≤ k → left_at p cs (m ∷ ms)
+    ≡ m ∷ ms
 left-last p k cs m ms e h =
     left-gap k p cs m ms (omega arith) ∙ ap (λ vs. left_at (p + k) vs (m ∷ ms)) (drop_all k cs h)
 
@@ -148,12 +171,15 @@ pub tags-next : (ms : List Tag) (n : ℕ) (m : Tag) → n < length ms → m ≡ 
 tags-next ms n m h e = drop_more ms n m h ∙ ap (λ x. x ∷ drop (n + 1) ms) (sym e)
 
 -- The tag is printed next where no character stands before it.
-woven-here : (p : ℕ) (cs : List ℕ) (m : Tag) (ms : List Tag) → (0 < length cs → m.at ≤ p) → interleaving p cs (m ∷ ms) ≡ tag_token m ∷ interleaving p cs ms
+woven-here : (p : ℕ) (cs : List ℕ) (m : Tag) (ms : List Tag) → (0 < length cs → m.at ≤ p) → interleaving p cs (m ∷ ms)
+    ≡ tag_token m ∷ interleaving p cs ms
 woven-here p [] m ms h = refl
 woven-here p (c ∷ cs) m ms h = woven-near p (c ∷ cs) m ms (h (omega arith))
 
-pub woven-step : (s n k : ℕ) (cs : List ℕ) (ms : List Tag) (m : Tag) → n < length ms → m ≡ get_or ms n m → k ≡ min (m.at - s) (length (drop s cs)) →
-    interleaving s (drop s cs) (drop n ms) ≡ map Character (take k (drop s cs)) ++ tag_token m ∷ interleaving (s + k) (drop (s + k) cs) (drop (n + 1) ms)
+pub woven-step : (s n k : ℕ) (cs : List ℕ) (ms : List Tag) (m : Tag) → n < length ms → m ≡ get_or ms n m → k
+    ≡ min (m.at - s) (length (drop s cs)) →
+    interleaving s (drop s cs) (drop n ms) ≡ map Character (take k (drop s cs)) ++ tag_token m
+    ∷ interleaving (s + k) (drop (s + k) cs) (drop (n + 1) ms)
 woven-step s n k cs ms m h i e =
     let ds = drop s cs in
     let us = drop (n + 1) ms in
@@ -165,15 +191,18 @@ woven-step s n k cs ms m h i e =
 
 -- ---- what the whole prints
 
-spell-tags-before : (ms : List Tag) (ts : List Token) → spell (map tag_token ms ++ ts) ≡ concat (map tag_text ms) ++ spell ts
+spell-tags-before : (ms : List Tag) (ts : List Token) → spell (map tag_token ms ++ ts) ≡ concat (map tag_text ms)
+    ++ spell ts
 spell-tags-before [] ts = refl
-spell-tags-before (m ∷ ms) ts = ap (λ xs. tag_text m ++ xs) (spell-tags-before ms ts) ∙ sym (append_assoc (tag_text m) (concat (map tag_text ms)) (spell ts))
+spell-tags-before (m ∷ ms) ts = ap (λ xs. tag_text m ++ xs) (spell-tags-before ms ts)
+    ∙ sym (append_assoc (tag_text m) (concat (map tag_text ms)) (spell ts))
 
 spell-tags-left : (ms : List Tag) → spell (map tag_token ms) ≡ tags_spelled ms
 spell-tags-left [] = refl
 spell-tags-left (m ∷ ms) = ap (λ xs. tag_text m ++ xs) (spell-tags-left ms)
 
-pub spell-woven : (p : ℕ) (cs : List ℕ) (ms : List Tag) → spell (interleaving p cs ms) ≡ piece_text (cells_at p cs ms) ++ tags_spelled (left_at p cs ms)
+pub spell-woven : (p : ℕ) (cs : List ℕ) (ms : List Tag) → spell (interleaving p cs ms) ≡ piece_text (cells_at p cs ms)
+    ++ tags_spelled (left_at p cs ms)
 spell-woven p [] ms = spell-tags-left ms
 spell-woven p (c ∷ cs) ms =
     let us = concat (map tag_text (upto p ms)) in
@@ -186,22 +215,28 @@ spell-woven p (c ∷ cs) ms =
 
 -- ---- steps of loops over the tags
 
-pub text-step : (spells : List ℕ → List ℕ) (joins : (a b : List ℕ) → spells (a ++ b) ≡ spells a ++ spells b) (o o1 o2 : List ℕ) (p s n k : ℕ) (cs : List ℕ) (ms : List Tag) (m : Tag) →
-    n < length ms → m ≡ get_or ms n m → k ≡ m.at - p → k < length (drop s cs) → o1 ≡ o ++ spells (take k (drop s cs)) → o2 ≡ o1 ++ spells (tag_text m) →
-    o2 ++ spells (piece_text (cells_at (p + k) (drop (s + k) cs) (drop (n + 1) ms))) ≡ o ++ spells (piece_text (cells_at p (drop s cs) (drop n ms)))
+pub text-step : (spells : List ℕ → List ℕ) (joins : (a b : List ℕ) → spells (a ++ b) ≡ spells a ++ spells b)
+    (o o1 o2 : List ℕ) (p s n k : ℕ) (cs : List ℕ) (ms : List Tag) (m : Tag) →
+    n < length ms → m ≡ get_or ms n m → k ≡ m.at - p → k < length (drop s cs) → o1 ≡ o ++ spells (take k (drop s cs))
+    → o2 ≡ o1 ++ spells (tag_text m) →
+    o2 ++ spells (piece_text (cells_at (p + k) (drop (s + k) cs) (drop (n + 1) ms))) ≡ o
+    ++ spells (piece_text (cells_at p (drop s cs) (drop n ms)))
 text-step spells joins o o1 o2 p s n k cs ms m h i e l f g =
     let next = piece_text (cells_at (p + k) (drop (s + k) cs) (drop (n + 1) ms)) in
     ap (λ xs. xs ++ spells next) (g ∙ ap (λ xs. xs ++ spells (tag_text m)) f)
     ∙ appended spells joins (o ++ spells (take k (drop s cs))) (tag_text m) next
     ∙ appended spells joins o (take k (drop s cs)) (tag_text m ++ next)
     ∙ ap (λ xs. o ++ spells xs)
-    (ap (λ ds. take k (drop s cs) ++ (tag_text m ++ piece_text (cells_at (p + k) ds (drop (n + 1) ms)))) (sym (drop-drop k s cs))
+    (ap (λ ds. take k (drop s cs) ++ (tag_text m ++ piece_text (cells_at (p + k) ds (drop (n + 1) ms))))
+    (sym (drop-drop k s cs))
     ∙ sym (text-tag p k (drop s cs) m (drop (n + 1) ms) e l)
     ∙ ap (λ vs. piece_text (cells_at p (drop s cs) vs)) (sym (tags-next ms n m h i)))
 
-pub tags-step : (spells : List ℕ → List ℕ) (joins : (a b : List ℕ) → spells (a ++ b) ≡ spells a ++ spells b) (o o1 : List ℕ) (p s n k : ℕ) (cs : List ℕ) (ms : List Tag) (m : Tag) →
+pub tags-step : (spells : List ℕ → List ℕ) (joins : (a b : List ℕ) → spells (a ++ b) ≡ spells a ++ spells b)
+    (o o1 : List ℕ) (p s n k : ℕ) (cs : List ℕ) (ms : List Tag) (m : Tag) →
     n < length ms → m ≡ get_or ms n m → k ≡ m.at - p → k < length (drop s cs) → o1 ≡ o ++ spells (tag_text m) →
-    o1 ++ spells (tags_text (cells_at (p + k) (drop (s + k) cs) (drop (n + 1) ms))) ≡ o ++ spells (tags_text (cells_at p (drop s cs) (drop n ms)))
+    o1 ++ spells (tags_text (cells_at (p + k) (drop (s + k) cs) (drop (n + 1) ms))) ≡ o
+    ++ spells (tags_text (cells_at p (drop s cs) (drop n ms)))
 tags-step spells joins o o1 p s n k cs ms m h i e l f =
     let next = tags_text (cells_at (p + k) (drop (s + k) cs) (drop (n + 1) ms)) in
     ap (λ xs. xs ++ spells next) f
@@ -211,7 +246,8 @@ tags-step spells joins o o1 p s n k cs ms m h i e l f =
     ∙ sym (tags-tag p k (drop s cs) m (drop (n + 1) ms) e l)
     ∙ ap (λ vs. tags_text (cells_at p (drop s cs) vs)) (sym (tags-next ms n m h i)))
 
-pub left-step : (p s n k : ℕ) (cs : List ℕ) (ms : List Tag) (m : Tag) → n < length ms → m ≡ get_or ms n m → k ≡ m.at - p → k < length (drop s cs) →
+pub left-step : (p s n k : ℕ) (cs : List ℕ) (ms : List Tag) (m : Tag) → n < length ms → m ≡ get_or ms n m → k ≡ m.at - p
+    → k < length (drop s cs) →
     left_at (p + k) (drop (s + k) cs) (drop (n + 1) ms) ≡ left_at p (drop s cs) (drop n ms)
 left-step p s n k cs ms m h i e l =
     ap (λ ds. left_at (p + k) ds (drop (n + 1) ms)) (sym (drop-drop k s cs))
@@ -222,9 +258,11 @@ left-step p s n k cs ms m h i e l =
 pub pushed-none : (spells : List ℕ → List ℕ) → spells [] ≡ [] → (o xs : List ℕ) → xs ≡ [] → o ≡ o ++ spells xs
 pushed-none spells none o xs e = sym (ap (λ us. o ++ spells us) e ∙ ap (λ us. o ++ us) none ∙ append-nil o)
 
-pub upto-beyond : (at : ℕ) (tags : List Tag) → map tag_token (upto at tags) ++ map tag_token (beyond at tags) ≡ map tag_token tags
+pub upto-beyond : (at : ℕ) (tags : List Tag) → map tag_token (upto at tags) ++ map tag_token (beyond at tags)
+    ≡ map tag_token tags
 upto-beyond at [] = refl
-upto-beyond at (m ∷ tags) = elim (nat_le m.at at) as (λ v. map tag_token (if v then m ∷ upto at tags else []) ++ map tag_token (if v then beyond at tags else m ∷ tags) ≡ tag_token m ∷ map tag_token tags) [
-  | true ↦ ap (λ us. tag_token m ∷ us) (upto-beyond at tags)
-  | false ↦ refl
-]
+upto-beyond at (m ∷ tags) = elim (nat_le m.at at) as (λ v. map tag_token (if v then m ∷ upto at tags else [])
+    ++ map tag_token (if v then beyond at tags else m ∷ tags) ≡ tag_token m ∷ map tag_token tags) [
+      | true ↦ ap (λ us. tag_token m ∷ us) (upto-beyond at tags)
+      | false ↦ refl
+    ]

@@ -1,5 +1,6 @@
 -- Lines that are cut, in the rows of snippets: how wide they are, and that lines which fit stay as they are.
-use Rattle.std.proofs.Common.{◌≡◌, ℕ, suc, ◌+◌, ◌≤◌, Bool, false, cond, List, [], ◌∷◌, ◌++◌, length, refl, sym, ap, ap₂, subst, Option, Some, None, drop}
+use Rattle.std.proofs.Common.{◌≡◌, ℕ, suc, ◌+◌, ◌≤◌, Bool, false, cond, List, [], ◌∷◌, ◌++◌, length, refl, sym, ap, ap₂}
+use Rattle.std.proofs.Common.{subst, Option, Some, None, drop}
 use Rattle.std.proofs.lemmas.Bool.{le-ltb}
 use Rattle.std.specs.List.{AllByRecursion}
 use Rattle.miette_source_lines.specs.rules.Lines.{Line}
@@ -16,7 +17,9 @@ use Rattle.miette_snippet_rules.specs.rules.Frames.{SnippetSettings, number_star
 use Rattle.miette_snippet_rules.specs.rules.Gutters.{closing_rows, gutter_columns, number_gutter, other_gutter}
 use Rattle.miette_snippet_rules.specs.rules.Marks.{Mark, Text, mark_until, marks_from}
 use Rattle.miette_snippet_rules.specs.rules.PrintedCells.{cells_width}
-use Rattle.miette_snippet_rules.specs.rules.SnippetLayout.{before_each, body_rows, break_row, cells_of, left_out, line_marks, line_or_break, line_rows, rows_of_lines, text_of_cells}
+use Rattle.miette_snippet_rules.specs.rules.SnippetLayout.{before_each, body_rows, break_row, cells_of, left_out}
+use Rattle.miette_snippet_rules.specs.rules.SnippetLayout.{line_marks, line_or_break, line_rows, rows_of_lines}
+use Rattle.miette_snippet_rules.specs.rules.SnippetLayout.{text_of_cells}
 use Rattle.miette_labels.specs.rules.Labels.{closing_labels}
 use Rattle.miette_snippet_laws.specs.laws.Cuts.{AreAsWide, Fits, most_columns}
 use Rattle.miette_snippet_laws.specs.laws.Pictures.{text_of_line}
@@ -24,17 +27,23 @@ use Rattle.miette_snippet_laws.proofs.CutWidth.{row_bound}
 use Rattle.miette_snippet_laws.proofs.Whole.{line_columns}
 
 -- a mark for each label
-marks-length : (text : Text) (reached : ℕ) (labels : List DrawnLabel) → length (marks_from text reached labels) ≡ length labels
+marks-length : (text : Text) (reached : ℕ) (labels : List DrawnLabel) → length (marks_from text reached labels)
+    ≡ length labels
 marks-length text reached [] = refl
 marks-length text reached (label ∷ labels) = ap suc (marks-length text (mark_until text reached label) labels)
 
-pub rows_narrow : (s : SnippetSettings) (labels : List DrawnLabel) (source : List ℕ) (line : Line) (pieces : List Highlight) (limit widest : ℕ) → s.line_columns ≡ Some limit → AreAsWide widest (cells_of s source line) →
-    columns_of (glyphs_of (text_of_line s labels line (cells_of s source line) pieces)) ≤ most_columns limit (length (one_line line labels)) widest
+pub rows_narrow : (s : SnippetSettings) (labels : List DrawnLabel) (source : List ℕ) (line : Line)
+    (pieces : List Highlight) (limit widest : ℕ) → s.line_columns ≡ Some limit
+    → AreAsWide widest (cells_of s source line) →
+    columns_of (glyphs_of (text_of_line s labels line (cells_of s source line) pieces))
+    ≤ most_columns limit (length (one_line line labels)) widest
 rows_narrow s labels source line pieces limit widest is wide =
     let cells : List Cell = cells_of s source line in
     let own : List Mark = line_marks line cells (one_line line labels) in
-    subst (λ (many : ℕ). columns_of (glyphs_of (text_of_line s labels line cells pieces)) ≤ most_columns limit many widest) (marks-length (text_of_cells cells line.text_end) 0 (one_line line labels))
-    (subst (λ (o : Option ℕ). columns_of (glyphs_of (shown_runs (cut_line o own cells) pieces cells)) ≤ most_columns limit (length own) widest) (sym is)
+    subst (λ (many : ℕ). columns_of (glyphs_of (text_of_line s labels line cells pieces))
+    ≤ most_columns limit many widest) (marks-length (text_of_cells cells line.text_end) 0 (one_line line labels))
+    (subst (λ (o : Option ℕ). columns_of (glyphs_of (shown_runs (cut_line o own cells) pieces cells))
+    ≤ most_columns limit (length own) widest) (sym is)
     (row_bound limit widest pieces own cells (line_columns s source line) wide))
 
 -- ---- lines that fit
@@ -43,29 +52,44 @@ cut_none : (limit : Option ℕ) (ms : List Mark) (cells : List Cell) → Fits li
 cut_none None ms cells h = refl
 cut_none (Some limit) ms cells h = rw (le-ltb limit (cells_width 0 cells) h) refl
 
-line_stays : (s : SnippetSettings) (w columns : ℕ) (labels : List DrawnLabel) (line : Line) (number : ℕ) (cells : List Cell) (pieces : List Highlight) → Fits s.line_columns cells →
-    line_rows s w columns labels line number cells pieces ≡ line_rows (record s { line_columns = None }) w columns labels line number cells pieces
+line_stays : (s : SnippetSettings) (w columns : ℕ) (labels : List DrawnLabel) (line : Line) (number : ℕ)
+    (cells : List Cell) (pieces : List Highlight) → Fits s.line_columns cells →
+    line_rows s w columns labels line number cells pieces
+    ≡ line_rows (record s { line_columns = None }) w columns labels line number cells pieces
 line_stays s w columns labels line number cells pieces fits =
     let one : List DrawnLabel = one_line line labels in
     let multi : List DrawnLabel = multi_line line labels in
-    ap (λ o. (number_start s w number ++ number_gutter s.width s.characters line columns multi ++ shown_runs o pieces cells)
-    ∷ before_each (other_start s w ++ other_gutter s.width s.characters line columns multi) (marked_rows s.width s.characters (shown_marks o (line_marks line cells one)))
+    ap (λ o. (number_start s w number ++ number_gutter s.width s.characters line columns multi
+    ++ shown_runs o pieces cells)
+    ∷ before_each (other_start s w ++ other_gutter s.width s.characters line columns multi)
+    (marked_rows s.width s.characters (shown_marks o (line_marks line cells one)))
     ++ before_each (other_start s w) (closing_rows s.width s.characters line columns multi (closing_labels line multi)))
     (cut_none s.line_columns (line_marks line cells one) cells fits)
 
-line_or_break_stays : (gap out : Bool) (s : SnippetSettings) (w columns : ℕ) (labels : List DrawnLabel) (line : Line) (number : ℕ) (cells : List Cell) (pieces : List Highlight) → Fits s.line_columns cells →
-    line_or_break gap out s w columns labels line number cells pieces ≡ line_or_break gap out (record s { line_columns = None }) w columns labels line number cells pieces
+line_or_break_stays : (gap out : Bool) (s : SnippetSettings) (w columns : ℕ) (labels : List DrawnLabel) (line : Line)
+    (number : ℕ) (cells : List Cell) (pieces : List Highlight) → Fits s.line_columns cells →
+    line_or_break gap out s w columns labels line number cells pieces
+    ≡ line_or_break gap out (record s { line_columns = None }) w columns labels line number cells pieces
 line_or_break_stays gap out s w columns labels line number cells pieces fits =
-    ap (λ rows. cond out (cond gap [] (break_row s w (multi_line line labels) ∷ [])) rows) (line_stays s w columns labels line number cells pieces fits)
+    ap (λ rows. cond out (cond gap [] (break_row s w (multi_line line labels) ∷ [])) rows)
+    (line_stays s w columns labels line number cells pieces fits)
 
-lines_stay : (out : ℕ → Line → Bool) (gap : Bool) (s : SnippetSettings) (w columns : ℕ) (labels : List DrawnLabel) (source : List ℕ) (number : ℕ) (pieces : List (List Highlight)) (lines : List Line) →
+lines_stay : (out : ℕ → Line → Bool) (gap : Bool) (s : SnippetSettings) (w columns : ℕ) (labels : List DrawnLabel)
+    (source : List ℕ) (number : ℕ) (pieces : List (List Highlight)) (lines : List Line) →
     AllByRecursion (λ line. Fits s.line_columns (cells_of s source line)) lines →
-    rows_of_lines out gap s w columns labels source number pieces lines ≡ rows_of_lines out gap (record s { line_columns = None }) w columns labels source number pieces lines
+    rows_of_lines out gap s w columns labels source number pieces lines
+    ≡ rows_of_lines out gap (record s { line_columns = None }) w columns labels source number pieces lines
 lines_stay out gap s w columns labels source number pieces [] h = refl
 lines_stay out gap s w columns labels source number pieces (line ∷ lines) h =
-    ap₂ (λ a b. a ++ b) (line_or_break_stays gap (out number line) s w columns labels line number (cells_of s source line) (first_of pieces) h.0) (lines_stay out (out number line) s w columns labels source (number + 1) (drop 1 pieces) lines h.1)
+    ap₂ (λ a b. a ++ b) (line_or_break_stays gap (out number line) s w columns labels line number
+    (cells_of s source line) (first_of pieces) h.0) (lines_stay out (out number line) s w columns labels source
+    (number + 1) (drop 1 pieces) lines h.1)
 
-pub bodies_stay : (s : SnippetSettings) (spreads : List Spread) (labels : List DrawnLabel) (source : List ℕ) (read : Contents) (pieces : List (List Highlight)) → AllByRecursion (λ line. Fits s.line_columns (cells_of s source line)) (lines_of_contents read) →
-    body_rows s spreads labels source read pieces ≡ body_rows (record s { line_columns = None }) spreads labels source read pieces
+pub bodies_stay : (s : SnippetSettings) (spreads : List Spread) (labels : List DrawnLabel) (source : List ℕ)
+    (read : Contents) (pieces : List (List Highlight)) → AllByRecursion
+    (λ line. Fits s.line_columns (cells_of s source line)) (lines_of_contents read) →
+    body_rows s spreads labels source read pieces ≡ body_rows (record s { line_columns = None }) spreads labels source
+    read pieces
 bodies_stay s spreads labels source read pieces h =
-    lines_stay (left_out s read.line (lines_of_contents read) spreads) false s (number_width read) (gutter_columns labels (lines_of_contents read)) labels source (read.line + 1) pieces (lines_of_contents read) h
+    lines_stay (left_out s read.line (lines_of_contents read) spreads) false s (number_width read)
+    (gutter_columns labels (lines_of_contents read)) labels source (read.line + 1) pieces (lines_of_contents read) h

@@ -1,5 +1,6 @@
 -- Labels at the end of a source stand behind the text of its last line, and the rows of no other label change.
-use Rattle.std.proofs.Common.{ℕ, ◌+◌, ◌-◌, ◌<◌, ◌≤◌, ◌≡◌, max, Bool, true, false, cond, eqb, ltb, leb, ◌||◌, List, [], ◌∷◌, ◌++◌, map, length, Option, Some, None, refl, sym, ap, ap₂, ◌∙◌, arith, drop}
+use Rattle.std.proofs.Common.{ℕ, ◌+◌, ◌-◌, ◌<◌, ◌≤◌, ◌≡◌, max, Bool, true, false, cond, eqb, ltb, leb, ◌||◌, List, []}
+use Rattle.std.proofs.Common.{◌∷◌, ◌++◌, map, length, Option, Some, None, refl, sym, ap, ap₂, ◌∙◌, arith, drop}
 use Rattle.std.specs.Prelude.{unwrap_or, option_map}
 use Rattle.std.specs.List.{AllByRecursion, list_any}
 use Rattle.std.proofs.lemmas.Bool.{eq-eqb, lt-ltb, le-leb, ltb-true, and_left, and_right, and_from}
@@ -11,12 +12,15 @@ use Rattle.miette_labels.specs.rules.Answers.{Answers, Highlight, first_of}
 use Rattle.miette_labels.specs.rules.Around.{lines_around}
 use Rattle.miette_labels.specs.rules.Contexts.{contents, lines_of_contents}
 use Rattle.miette_labels.specs.rules.Groups.{Refusal, in_order, refusal, groups_of, groups_fail, some_fails}
-use Rattle.miette_labels.specs.rules.Labels.{DrawnLabel, drawn_label, drawn_from, style_at, parts_of, is_at_end, shows_end, some_shows_end}
+use Rattle.miette_labels.specs.rules.Labels.{DrawnLabel, drawn_label, drawn_from, style_at, parts_of, is_at_end}
+use Rattle.miette_labels.specs.rules.Labels.{shows_end, some_shows_end}
 use Rattle.miette_snippet_rules.specs.rules.Folds.{Spread, spreads_of}
 use Rattle.miette_snippet_rules.specs.rules.Frames.{SnippetSettings, refused_row, number_width, top_row, bottom_row}
 use Rattle.miette_snippet_rules.specs.rules.Gutters.{gutter_columns}
 use Rattle.miette_snippet_rules.specs.rules.Marks.{Text, marks_from, mark_from, mark_until}
-use Rattle.miette_snippet_rules.specs.rules.SnippetLayout.{cells_of, line_or_break, rows_of_lines, left_out, body_rows, drawn_labels, all_snippets, settings_around, place_of, rows_unless, snippet_rows}
+use Rattle.miette_snippet_rules.specs.rules.SnippetLayout.{cells_of, line_or_break, rows_of_lines, left_out, body_rows}
+use Rattle.miette_snippet_rules.specs.rules.SnippetLayout.{drawn_labels, all_snippets, settings_around, place_of}
+use Rattle.miette_snippet_rules.specs.rules.SnippetLayout.{rows_unless, snippet_rows}
 use Rattle.miette_page.specs.rules.Rows.{Row}
 use Rattle.miette_snippet_laws.specs.laws.Ends.{last_line, stands_behind, EndsStandBehind, AreBehindText, with_ends}
 use Rattle.miette_labels.proofs.Bridge.{lines_same}
@@ -34,7 +38,8 @@ last_cut at n [] h lt = absurd (omega (arith, h, lt))
 last_cut at n (l ∷ []) h lt = (omega (arith, h.0, lt), h.5)
 last_cut at n (l ∷ next ∷ ls) h lt = last_cut l.end n (next ∷ ls) h.5 (omega (arith, h.5.3, cut-le next.end n ls h.5.5))
 
-last_of_bytes : (bytes : List ℕ) → 0 < length bytes → ((last_line (lines_of bytes)).start < length bytes) × ((last_line (lines_of bytes)).end ≡ length bytes)
+last_of_bytes : (bytes : List ℕ) → 0 < length bytes → ((last_line (lines_of bytes)).start < length bytes)
+    × ((last_line (lines_of bytes)).end ≡ length bytes)
 last_of_bytes bytes some =
     let same : lines_of bytes ≡ lines bytes = lines_same 0 bytes in
     rw same (last_cut 0 (length bytes) (lines bytes) (cut bytes) some)
@@ -61,17 +66,20 @@ one_stands line styles n i label from to =
 all_stand : (line : Line) (styles : List Style) (n i : ℕ) (labels : List Label) → line.start < n → line.end ≡ n →
     map (stands_behind line) (drawn_from true styles n i labels) ≡ map (is_at_end n) labels
 all_stand line styles n i [] from to = refl
-all_stand line styles n i (label ∷ labels) from to = ap₂ (λ b bs. b ∷ bs) (one_stands line styles n i label from to) (all_stand line styles n (i + 1) labels from to)
+all_stand line styles n i (label ∷ labels) from to = ap₂ (λ b bs. b ∷ bs) (one_stands line styles n i label from to)
+    (all_stand line styles n (i + 1) labels from to)
 
 -- a source whose end is shown isn't empty
-some_bytes : (n : ℕ) (lines : Label → ℕ) (labels : List Label) → list_any (λ label. shows_end n (lines label) label) labels ≡ true → 0 < n
+some_bytes : (n : ℕ) (lines : Label → ℕ) (labels : List Label)
+    → list_any (λ label. shows_end n (lines label) label) labels ≡ true → 0 < n
 some_bytes n lines [] h = cc
 some_bytes n lines (label ∷ labels) h =
     by_cases {C = 0 < n} (ltb 0 n) (λ t. ltb-true 0 n t)
     (λ f. let no : shows_end n (lines label) label ≡ false = and_left (ltb 0 n) _ f in
     some_bytes n lines labels (sym (ap (λ b. b || list_any (λ label. shows_end n (lines label) label) labels) no) ∙ h))
 
-pub ends_stand : (s : SnippetSettings) (bytes : List ℕ) (labels : List Label) → s.end_labels ≡ true → some_shows_end s.context (length bytes) labels ≡ true → EndsStandBehind s bytes labels
+pub ends_stand : (s : SnippetSettings) (bytes : List ℕ) (labels : List Label) → s.end_labels ≡ true
+    → some_shows_end s.context (length bytes) labels ≡ true → EndsStandBehind s bytes labels
 ends_stand s bytes labels on shows =
     let n : ℕ = length bytes in
     let line : Line = last_line (lines_of bytes) in
@@ -84,7 +92,8 @@ ends_stand s bytes labels on shows =
 far : (text : Text) (reached : ℕ) (label : DrawnLabel) → label.behind ≡ true → text.width ≤ mark_from text reached label
 far text reached label h = rw h (omega arith)
 
-far_from : (text : Text) (reached : ℕ) (labels : List DrawnLabel) → AllByRecursion (λ mark. mark.label.behind ≡ true → text.width ≤ mark.from) (marks_from text reached labels)
+far_from : (text : Text) (reached : ℕ) (labels : List DrawnLabel)
+    → AllByRecursion (λ mark. mark.label.behind ≡ true → text.width ≤ mark.from) (marks_from text reached labels)
 far_from text reached [] = tt
 far_from text reached (label ∷ labels) = (far text reached label, far_from text (mark_until text reached label) labels)
 
@@ -93,44 +102,63 @@ behind_text text labels = far_from text 0 labels
 
 -- ---- where no label shows the end, nothing changes
 
-lines_alike : (a b : Bool) (out : ℕ → Line → Bool) (gap : Bool) (s : SnippetSettings) (w columns : ℕ) (labels : List DrawnLabel) (source : List ℕ) (number : ℕ) (pieces : List (List Highlight)) (ls : List Line) →
-    rows_of_lines out gap (with_ends a s) w columns labels source number pieces ls ≡ rows_of_lines out gap (with_ends b s) w columns labels source number pieces ls
+lines_alike : (a b : Bool) (out : ℕ → Line → Bool) (gap : Bool) (s : SnippetSettings) (w columns : ℕ)
+    (labels : List DrawnLabel) (source : List ℕ) (number : ℕ) (pieces : List (List Highlight)) (ls : List Line) →
+    rows_of_lines out gap (with_ends a s) w columns labels source number pieces ls
+    ≡ rows_of_lines out gap (with_ends b s) w columns labels source number pieces ls
 lines_alike a b out gap s w columns labels source number pieces [] = refl
 lines_alike a b out gap s w columns labels source number pieces (l ∷ ls) =
-    ap (λ rows. line_or_break gap (out number l) (with_ends a s) w columns labels l number (cells_of (with_ends a s) source l) (first_of pieces) ++ rows)
+    ap (λ rows. line_or_break gap (out number l) (with_ends a s) w columns labels l number
+    (cells_of (with_ends a s) source l) (first_of pieces) ++ rows)
     (lines_alike a b out (out number l) s w columns labels source (number + 1) (drop 1 pieces) ls)
 
-drawn_alike : (a : Bool) (s : SnippetSettings) (n : ℕ) (labels : List Label) → some_shows_end s.context n labels ≡ false → drawn_labels (with_ends a s) n labels ≡ drawn_labels (with_ends false s) n labels
+drawn_alike : (a : Bool) (s : SnippetSettings) (n : ℕ) (labels : List Label) → some_shows_end s.context n labels ≡ false
+    → drawn_labels (with_ends a s) n labels ≡ drawn_labels (with_ends false s) n labels
 drawn_alike a s n labels none = ap (λ ends. drawn_from ends s.styles.highlights n 0 labels) (and_right a _ none)
 
-snippets_alike : (a : Bool) (s : SnippetSettings) (spreads : List Spread) (source : Source) (labels : List Label) (pieces : List (List (List Highlight))) (groups : List Span) → some_shows_end s.context (length source.bytes) labels ≡ false →
-    all_snippets (with_ends a s) spreads source labels pieces groups ≡ all_snippets (with_ends false s) spreads source labels pieces groups
+snippets_alike : (a : Bool) (s : SnippetSettings) (spreads : List Spread) (source : Source) (labels : List Label)
+    (pieces : List (List (List Highlight))) (groups : List Span) → some_shows_end s.context (length source.bytes) labels
+    ≡ false →
+    all_snippets (with_ends a s) spreads source labels pieces groups
+    ≡ all_snippets (with_ends false s) spreads source labels pieces groups
 snippets_alike a s spreads source labels pieces [] none = refl
 snippets_alike a s spreads source labels pieces (group ∷ groups) none =
     let n : ℕ = length source.bytes in
     let read : Contents = contents s.context source group in
-    let framed : List Row → List Row = λ rows. top_row s read (place_of source group labels) ∷ rows ++ bottom_row s (number_width read) ∷ [] in
-    let body : List DrawnLabel → List Row = λ drawn. body_rows (with_ends a s) spreads drawn source.bytes read (first_of pieces) in
+    let framed : List Row → List Row = λ rows. top_row s read (place_of source group labels) ∷ rows
+    ++ bottom_row s (number_width read) ∷ [] in
+    let body : List DrawnLabel → List Row = λ drawn. body_rows (with_ends a s) spreads drawn source.bytes read
+    (first_of pieces) in
     let drawn : List DrawnLabel = drawn_labels (with_ends false s) n labels in
     ap₂ (λ rows more. framed rows ++ more)
     (ap body (drawn_alike a s n labels none)
-    ∙ lines_alike a false (left_out s read.line (lines_of_contents read) spreads) false s (number_width read) (gutter_columns drawn (lines_of_contents read)) drawn source.bytes (read.line + 1) (first_of pieces) (lines_of_contents read))
+    ∙ lines_alike a false (left_out s read.line (lines_of_contents read) spreads) false s (number_width read)
+    (gutter_columns drawn (lines_of_contents read)) drawn source.bytes (read.line + 1) (first_of pieces)
+    (lines_of_contents read))
     (snippets_alike a s spreads source labels (drop 1 pieces) groups none)
 
-unless_alike : (a : Bool) (s : SnippetSettings) (source : Source) (labels : List Label) (answers : Answers) (refused : Option Refusal) → some_shows_end s.context (length source.bytes) labels ≡ false →
-    rows_unless (with_ends a s) source labels answers (option_map (refused_row (with_ends a s)) refused) ≡ rows_unless (with_ends false s) source labels answers (option_map (refused_row (with_ends false s)) refused)
+unless_alike : (a : Bool) (s : SnippetSettings) (source : Source) (labels : List Label) (answers : Answers)
+    (refused : Option Refusal) → some_shows_end s.context (length source.bytes) labels ≡ false →
+    rows_unless (with_ends a s) source labels answers (option_map (refused_row (with_ends a s)) refused)
+    ≡ rows_unless (with_ends false s) source labels answers (option_map (refused_row (with_ends false s)) refused)
 unless_alike a s source labels answers (Some r) none = refl
 unless_alike a s source labels answers None none =
     let groups : List Span = groups_of s.context source answers.join_fails labels in
-    ap (λ rows. cond (groups_fail s.context source answers.join_fails labels || some_fails answers.place_fails groups) None (Some rows))
-    (snippets_alike a (settings_around s labels) (spreads_of s.label_lines s.context source labels) source labels answers.pieces groups (shows_around s.context (length source.bytes) labels ∙ none))
+    ap (λ rows. cond (groups_fail s.context source answers.join_fails labels || some_fails answers.place_fails groups)
+    None (Some rows))
+    (snippets_alike a (settings_around s labels) (spreads_of s.label_lines s.context source labels) source labels
+    answers.pieces groups (shows_around s.context (length source.bytes) labels ∙ none))
 
-shows_ordered : (context n : ℕ) (labels : List Label) → some_shows_end context n (in_order labels) ≡ some_shows_end context n labels
+shows_ordered : (context n : ℕ) (labels : List Label) → some_shows_end context n (in_order labels)
+    ≡ some_shows_end context n labels
 shows_ordered context n labels =
-    ap (λ own. list_any (λ l. shows_end n (unwrap_or l.context (cond own (max 1 context) context)) l) (in_order labels)) (own_ordered labels)
+    ap (λ own. list_any (λ l. shows_end n (unwrap_or l.context (cond own (max 1 context) context)) l) (in_order labels))
+    (own_ordered labels)
     ∙ order_any (λ l. shows_end n (lines_around context labels l) l) labels
 
-pub rows_alike : (a : Bool) (s : SnippetSettings) (source : Source) (labels : List Label) (answers : Answers) → some_shows_end s.context (length source.bytes) labels ≡ false →
+pub rows_alike : (a : Bool) (s : SnippetSettings) (source : Source) (labels : List Label) (answers : Answers)
+    → some_shows_end s.context (length source.bytes) labels ≡ false →
     snippet_rows (with_ends a s) source labels answers ≡ snippet_rows (with_ends false s) source labels answers
 rows_alike a s source labels answers none =
-    unless_alike a s source (in_order labels) answers (refusal source.bytes answers.label_fails (in_order labels)) (shows_ordered s.context (length source.bytes) labels ∙ none)
+    unless_alike a s source (in_order labels) answers (refusal source.bytes answers.label_fails (in_order labels))
+    (shows_ordered s.context (length source.bytes) labels ∙ none)

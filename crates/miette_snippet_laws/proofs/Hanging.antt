@@ -1,5 +1,6 @@
 -- Texts hang from their marks.
-use Rattle.std.proofs.Common.{ℕ, ◌+◌, ◌<◌, ◌≡◌, Bool, true, ltb, leb, eqb, List, [], ◌∷◌, ◌++◌, map, Some, refl, sym, ap, ◌∙◌, inl, inr, ⊎_elim, ◌&&◌, append_assoc, append-nil, arith}
+use Rattle.std.proofs.Common.{ℕ, ◌+◌, ◌<◌, ◌≡◌, Bool, true, ltb, leb, eqb, List, [], ◌∷◌, ◌++◌, map, Some, refl, sym}
+use Rattle.std.proofs.Common.{ap, ◌∙◌, inl, inr, ⊎_elim, ◌&&◌, append_assoc, append-nil, arith}
 use Rattle.std.proofs.lemmas.Bool.{eq-eqb, or_right}
 use Rattle.std.specs.List.{AllByRecursion, list_any}
 use Rattle.miette_page.specs.rules.Rows.{Glyph, glyph_of, code_at, columns_of, Begins}
@@ -7,38 +8,45 @@ use Rattle.miette_labels.specs.rules.Labels.{is_empty}
 use Rattle.miette_snippet_rules.specs.rules.Marks.{Mark, AreApart}
 use Rattle.miette_snippet_rules.specs.rules.Drawing.{IsNarrow, code_with_parts, mark_code}
 use Rattle.miette_snippet_laws.specs.laws.Pictures.{mark_at, marks_end, HangsFrom, PartHangs, Hangs}
-use Rattle.miette_snippet_laws.proofs.UnstyledRows.{mark_row, lead_at, lead, corner_pieces, beside_pieces, plain_parts, plain_below}
+use Rattle.miette_snippet_laws.proofs.UnstyledRows.{mark_row, lead_at, lead, corner_pieces, beside_pieces, plain_parts}
+use Rattle.miette_snippet_laws.proofs.UnstyledRows.{plain_below}
 use Rattle.miette_basics.proofs.Cases.{by_cases}
-use Rattle.miette_snippet_laws.proofs.Columns.{code_at-here, code_at-front, code_at-behind, columns_of-map, columns_of-append, code_at-append}
+use Rattle.miette_snippet_laws.proofs.Columns.{code_at-here, code_at-front, code_at-behind, columns_of-map}
+use Rattle.miette_snippet_laws.proofs.Columns.{columns_of-append, code_at-append}
 use Rattle.miette_style.specs.rules.Themes.{Characters}
 
 -- each drawing character is one column wide
 
-code-narrow : (width : ℕ → ℕ) (t : Characters) (n : IsNarrow width t) (parts : List (List ℕ)) → width (code_with_parts t parts) ≡ 1
+code-narrow : (width : ℕ → ℕ) (t : Characters) (n : IsNarrow width t) (parts : List (List ℕ))
+    → width (code_with_parts t parts) ≡ 1
 code-narrow width t n [] = n.drawings.underline
 code-narrow width t n (part ∷ parts) = n.drawings.underbar
 
-mark-narrow : (width : ℕ → ℕ) (t : Characters) (n : IsNarrow width t) (mark : Mark) (column : ℕ) → width (mark_code t mark column) ≡ 1
+mark-narrow : (width : ℕ → ℕ) (t : Characters) (n : IsNarrow width t) (mark : Mark) (column : ℕ)
+    → width (mark_code t mark column) ≡ 1
 mark-narrow width t n mark column =
     by_cases {C = width (mark_code t mark column) ≡ 1} (eqb column mark.anchor)
     (λ a. by_cases {C = width (mark_code t mark column) ≡ 1} (is_empty mark.label)
     (λ b. rw (a, b) n.drawings.uarrow) (λ b. rw (a, b) (code-narrow width t n mark.label.parts)))
     (λ a. rw a n.drawings.underline)
 
-mark_at-narrow : (width : ℕ → ℕ) (t : Characters) (n : IsNarrow width t) (ms : List Mark) (column : ℕ) → (mark_at width t ms column).columns ≡ 1
+mark_at-narrow : (width : ℕ → ℕ) (t : Characters) (n : IsNarrow width t) (ms : List Mark) (column : ℕ)
+    → (mark_at width t ms column).columns ≡ 1
 mark_at-narrow width t n [] column = n.space
 mark_at-narrow width t n (m ∷ ms) column =
     by_cases {C = (mark_at width t (m ∷ ms) column).columns ≡ 1} (leb m.from column && ltb column m.until)
     (λ a. rw a (mark-narrow width t n m column)) (λ a. rw a (mark_at-narrow width t n ms column))
 
-lead_at-narrow : (width : ℕ → ℕ) (t : Characters) (n : IsNarrow width t) (ms : List Mark) (column : ℕ) → (lead_at width t ms column).columns ≡ 1
+lead_at-narrow : (width : ℕ → ℕ) (t : Characters) (n : IsNarrow width t) (ms : List Mark) (column : ℕ)
+    → (lead_at width t ms column).columns ≡ 1
 lead_at-narrow width t n [] column = n.space
 lead_at-narrow width t n (m ∷ ms) column =
     by_cases {C = (lead_at width t (m ∷ ms) column).columns ≡ 1} (eqb column m.anchor)
     (λ a. rw a n.drawings.vbar) (λ a. rw a (lead_at-narrow width t n ms column))
 
 -- the mark row's picture
-pub mark_row-at : (width : ℕ → ℕ) (t : Characters) (n : IsNarrow width t) (ms : List Mark) (column : ℕ) → column < marks_end 0 ms → code_at (mark_row width t ms) column ≡ Some (mark_at width t ms column).code
+pub mark_row-at : (width : ℕ → ℕ) (t : Characters) (n : IsNarrow width t) (ms : List Mark) (column : ℕ) → column
+    < marks_end 0 ms → code_at (mark_row width t ms) column ≡ Some (mark_at width t ms column).code
 mark_row-at width t n ms column lt =
     ap (λ r. code_at r column) (sym (append-nil (mark_row width t ms)))
     ∙ code_at-front (mark_at width t ms) 0 (marks_end 0 ms) column [] (mark_at-narrow width t n ms) lt
@@ -49,14 +57,16 @@ mark_row-at width t n ms column lt =
 abbrev has_anchor : ℕ → List Mark → Bool
 has_anchor column ms = list_any (λ m. eqb column m.anchor) ms
 
-lead-bar : (width : ℕ → ℕ) (t : Characters) (ms : List Mark) (column : ℕ) → has_anchor column ms ≡ true → (lead_at width t ms column).code ≡ t.vbar
+lead-bar : (width : ℕ → ℕ) (t : Characters) (ms : List Mark) (column : ℕ) → has_anchor column ms ≡ true
+    → (lead_at width t ms column).code ≡ t.vbar
 lead-bar width t [] column h = cc
 lead-bar width t (m ∷ ms) column h =
     by_cases {C = (lead_at width t (m ∷ ms) column).code ≡ t.vbar} (eqb column m.anchor)
     (λ a. rw a refl) (λ a. rw a (lead-bar width t ms column (rw a at h)))
 
 -- a row that begins as those above a corner do has vbar there
-led : (width : ℕ → ℕ) (t : Characters) (n : IsNarrow width t) (earlier : List Mark) (mark : Mark) (column : ℕ) (rest : List Glyph) → column < mark.anchor → has_anchor column earlier ≡ true →
+led : (width : ℕ → ℕ) (t : Characters) (n : IsNarrow width t) (earlier : List Mark) (mark : Mark) (column : ℕ)
+    (rest : List Glyph) → column < mark.anchor → has_anchor column earlier ≡ true →
     code_at (lead width t earlier mark ++ rest) column ≡ Some t.vbar
 led width t n earlier mark column rest lt h =
     code_at-front (lead_at width t earlier) 0 mark.anchor column rest (lead_at-narrow width t n earlier) lt
@@ -66,106 +76,142 @@ led width t n earlier mark column rest lt h =
 abbrev HasBar : Characters → ℕ → List Glyph → Type 0
 HasBar t column row = code_at row column ≡ Some t.vbar
 
-bars_of_rest : (width : ℕ → ℕ) (t : Characters) (n : IsNarrow width t) (earlier : List Mark) (mark : Mark) (column : ℕ) (parts : List (List ℕ)) → column < mark.anchor → has_anchor column earlier ≡ true →
-    AllByRecursion (HasBar t column) (map (λ p. lead width t earlier mark ++ (beside_pieces width t ++ map (glyph_of width) p)) parts)
+bars_of_rest : (width : ℕ → ℕ) (t : Characters) (n : IsNarrow width t) (earlier : List Mark) (mark : Mark) (column : ℕ)
+    (parts : List (List ℕ)) → column < mark.anchor → has_anchor column earlier ≡ true →
+    AllByRecursion (HasBar t column) (map (λ p. lead width t earlier mark
+    ++ (beside_pieces width t ++ map (glyph_of width) p)) parts)
 bars_of_rest width t n earlier mark column [] lt h = tt
-bars_of_rest width t n earlier mark column (part ∷ parts) lt h =
-    (led width t n earlier mark column (beside_pieces width t ++ map (glyph_of width) part) lt h, bars_of_rest width t n earlier mark column parts lt h)
+bars_of_rest width t n earlier mark column (part ∷ parts) lt h = (
+  led width t n earlier mark column (beside_pieces width t ++ map (glyph_of width) part) lt h,
+  bars_of_rest width t n earlier mark column parts lt h,
+)
 
-bars_of_parts : (width : ℕ → ℕ) (t : Characters) (n : IsNarrow width t) (earlier : List Mark) (mark : Mark) (column : ℕ) (parts : List (List ℕ)) → column < mark.anchor → has_anchor column earlier ≡ true →
+bars_of_parts : (width : ℕ → ℕ) (t : Characters) (n : IsNarrow width t) (earlier : List Mark) (mark : Mark) (column : ℕ)
+    (parts : List (List ℕ)) → column < mark.anchor → has_anchor column earlier ≡ true →
     AllByRecursion (HasBar t column) (plain_parts width t earlier mark parts)
 bars_of_parts width t n earlier mark column [] lt h = tt
-bars_of_parts width t n earlier mark column (part ∷ []) lt h = (led width t n earlier mark column (corner_pieces width t t.hbar ++ map (glyph_of width) part) lt h, tt)
-bars_of_parts width t n earlier mark column (part ∷ next ∷ parts) lt h =
-    (led width t n earlier mark column (corner_pieces width t t.rcross ++ map (glyph_of width) part) lt h, bars_of_rest width t n earlier mark column (next ∷ parts) lt h)
+bars_of_parts width t n earlier mark column (part ∷ []) lt h =
+    (led width t n earlier mark column (corner_pieces width t t.hbar ++ map (glyph_of width) part) lt h, tt)
+bars_of_parts width t n earlier mark column (part ∷ next ∷ parts) lt h = (
+  led width t n earlier mark column (corner_pieces width t t.rcross ++ map (glyph_of width) part) lt h,
+  bars_of_rest width t n earlier mark column (next ∷ parts) lt h,
+)
 
-all_append : (P : List Glyph → Type 0) (xs ys : List (List Glyph)) → AllByRecursion P xs → AllByRecursion P ys → AllByRecursion P (xs ++ ys)
+all_append : (P : List Glyph → Type 0) (xs ys : List (List Glyph)) → AllByRecursion P xs → AllByRecursion P ys
+    → AllByRecursion P (xs ++ ys)
 all_append P [] ys h k = k
 all_append P (x ∷ xs) ys h k = (h.0, all_append P xs ys h.1 k)
 
 any_append_left : (p : Mark → Bool) (xs ys : List Mark) → list_any p xs ≡ true → list_any p (xs ++ ys) ≡ true
 any_append_left p [] ys h = cc
 any_append_left p (x ∷ xs) ys h =
-    by_cases {C = list_any p ((x ∷ xs) ++ ys) ≡ true} (p x) (λ a. rw a refl) (λ a. rw a (any_append_left p xs ys (rw a at h)))
+    by_cases {C = list_any p ((x ∷ xs) ++ ys) ≡ true} (p x) (λ a. rw a refl)
+    (λ a. rw a (any_append_left p xs ys (rw a at h)))
 
 any_last : (p : Mark → Bool) (xs : List Mark) (y : Mark) → p y ≡ true → list_any p (xs ++ y ∷ []) ≡ true
 any_last p [] y h = rw h refl
 any_last p (x ∷ xs) y h = or_right (p x) (list_any p (xs ++ y ∷ [])) (any_last p xs y h)
 
-bars_below : (width : ℕ → ℕ) (t : Characters) (n : IsNarrow width t) (earlier ms : List Mark) (reached column : ℕ) → AreApart reached ms → column < reached → has_anchor column earlier ≡ true →
+bars_below : (width : ℕ → ℕ) (t : Characters) (n : IsNarrow width t) (earlier ms : List Mark) (reached column : ℕ)
+    → AreApart reached ms → column < reached → has_anchor column earlier ≡ true →
     AllByRecursion (HasBar t column) (plain_below width t earlier ms)
 bars_below width t n earlier [] reached column h lt has = tt
 bars_below width t n earlier (m ∷ ms) reached column h lt has =
-    all_append (HasBar t column) (plain_below width t (earlier ++ m ∷ []) ms) (plain_parts width t earlier m m.label.parts)
-    (bars_below width t n (earlier ++ m ∷ []) ms m.until column h.2 (omega (arith, h.0, h.1.0, h.1.1)) (any_append_left (λ k. eqb column k.anchor) earlier (m ∷ []) has))
+    all_append (HasBar t column) (plain_below width t (earlier ++ m ∷ []) ms)
+    (plain_parts width t earlier m m.label.parts)
+    (bars_below width t n (earlier ++ m ∷ []) ms m.until column h.2 (omega (arith, h.0, h.1.0, h.1.1))
+    (any_append_left (λ k. eqb column k.anchor) earlier (m ∷ []) has))
     (bars_of_parts width t n earlier m column m.label.parts (omega (arith, h.0, h.1.0)) has)
 
 -- hanging under rows that have vbar, and with more rows below
-hang_under : (t : Characters) (column : ℕ) (part : List Glyph) (above rows : List (List Glyph)) → AllByRecursion (HasBar t column) above → HangsFrom t column part rows → HangsFrom t column part (above ++ rows)
+hang_under : (t : Characters) (column : ℕ) (part : List Glyph) (above rows : List (List Glyph))
+    → AllByRecursion (HasBar t column) above → HangsFrom t column part rows → HangsFrom t column part (above ++ rows)
 hang_under t column part [] rows bars h = h
 hang_under t column part (row ∷ above) rows bars h = inr (bars.0, hang_under t column part above rows bars.1 h)
 
-hang_more : (t : Characters) (column : ℕ) (part : List Glyph) (rows more : List (List Glyph)) → HangsFrom t column part rows → HangsFrom t column part (rows ++ more)
+hang_more : (t : Characters) (column : ℕ) (part : List Glyph) (rows more : List (List Glyph))
+    → HangsFrom t column part rows → HangsFrom t column part (rows ++ more)
 hang_more t column part [] more h = absurd h
 hang_more t column part (row ∷ rows) more h =
-    ⊎_elim {C = HangsFrom t column part ((row ∷ rows) ++ more)} (λ a. inl a) (λ b. inr (b.0, hang_more t column part rows more b.1)) h
+    ⊎_elim {C = HangsFrom t column part ((row ∷ rows) ++ more)} (λ a. inl a)
+    (λ b. inr (b.0, hang_more t column part rows more b.1)) h
 
 -- a row with a corner, and the text behind it
-cornered : (width : ℕ → ℕ) (t : Characters) (n : IsNarrow width t) (earlier : List Mark) (mark : Mark) (p q r s : Glyph) (part : List Glyph) → p.code ≡ t.lbot → p.columns ≡ 1 → q.columns ≡ 1 → r.columns ≡ 1 → s.columns ≡ 1 →
+cornered : (width : ℕ → ℕ) (t : Characters) (n : IsNarrow width t) (earlier : List Mark) (mark : Mark) (p q r s : Glyph)
+    (part : List Glyph) → p.code ≡ t.lbot → p.columns ≡ 1 → q.columns ≡ 1 → r.columns ≡ 1 → s.columns ≡ 1 →
     (code_at (lead width t earlier mark ++ ((p ∷ q ∷ r ∷ s ∷ []) ++ part)) mark.anchor ≡ Some t.lbot)
     × Begins (lead width t earlier mark ++ ((p ∷ q ∷ r ∷ s ∷ []) ++ part)) (mark.anchor + 4) part
 cornered width t n earlier mark p q r s part is a b c d = (
   ap (code_at (lead width t earlier mark ++ ((p ∷ q ∷ r ∷ s ∷ []) ++ part))) (omega arith)
-      ∙ code_at-behind (lead_at width t earlier) 0 mark.anchor 0 ((p ∷ q ∷ r ∷ s ∷ []) ++ part) (lead_at-narrow width t n earlier)
+      ∙ code_at-behind (lead_at width t earlier) 0 mark.anchor 0 ((p ∷ q ∷ r ∷ s ∷ []) ++ part)
+      (lead_at-narrow width t n earlier)
       ∙ code_at-here p ((q ∷ r ∷ s ∷ []) ++ part) a
       ∙ ap Some is,
   (
     lead width t earlier mark ++ (p ∷ q ∷ r ∷ s ∷ []),
     sym (append_assoc (lead width t earlier mark) (p ∷ q ∷ r ∷ s ∷ []) part),
-    columns_of-append (lead width t earlier mark) (p ∷ q ∷ r ∷ s ∷ []) ∙ omega (arith, columns_of-map (lead_at width t earlier) 0 mark.anchor (lead_at-narrow width t n earlier)),
+    columns_of-append (lead width t earlier mark) (p ∷ q ∷ r ∷ s ∷ [])
+        ∙ omega (arith, columns_of-map (lead_at width t earlier) 0 mark.anchor (lead_at-narrow width t n earlier)),
   ),
 )
 
 -- a mark's first part hangs from its anchor at the top of its own rows
-own_rows : (width : ℕ → ℕ) (t : Characters) (n : IsNarrow width t) (earlier : List Mark) (mark : Mark) (part : List ℕ) (parts : List (List ℕ)) →
+own_rows : (width : ℕ → ℕ) (t : Characters) (n : IsNarrow width t) (earlier : List Mark) (mark : Mark) (part : List ℕ)
+    (parts : List (List ℕ)) →
     HangsFrom t mark.anchor (map (glyph_of width) part) (plain_parts width t earlier mark (part ∷ parts))
 own_rows width t n earlier mark part [] =
-    inl (cornered width t n earlier mark (glyph_of width t.lbot) (glyph_of width t.hbar) (glyph_of width t.hbar) (glyph_of width 32) (map (glyph_of width) part) refl n.drawings.lbot n.drawings.hbar n.drawings.hbar n.space)
+    inl (cornered width t n earlier mark (glyph_of width t.lbot) (glyph_of width t.hbar) (glyph_of width t.hbar)
+    (glyph_of width 32) (map (glyph_of width) part) refl n.drawings.lbot n.drawings.hbar n.drawings.hbar n.space)
 own_rows width t n earlier mark part (next ∷ parts) =
-    inl (cornered width t n earlier mark (glyph_of width t.lbot) (glyph_of width t.hbar) (glyph_of width t.rcross) (glyph_of width 32) (map (glyph_of width) part) refl n.drawings.lbot n.drawings.hbar n.drawings.rcross n.space)
+    inl (cornered width t n earlier mark (glyph_of width t.lbot) (glyph_of width t.hbar) (glyph_of width t.rcross)
+    (glyph_of width 32) (map (glyph_of width) part) refl n.drawings.lbot n.drawings.hbar n.drawings.rcross n.space)
 
-hangs_at_top : (width : ℕ → ℕ) (t : Characters) (n : IsNarrow width t) (earlier : List Mark) (mark : Mark) (above : List (List Glyph)) (parts : List (List ℕ)) →
-    AllByRecursion (HasBar t mark.anchor) above → PartHangs width t (above ++ plain_parts width t earlier mark parts) mark.anchor parts
+hangs_at_top : (width : ℕ → ℕ) (t : Characters) (n : IsNarrow width t) (earlier : List Mark) (mark : Mark)
+    (above : List (List Glyph)) (parts : List (List ℕ)) →
+    AllByRecursion (HasBar t mark.anchor) above → PartHangs width t (above ++ plain_parts width t earlier mark parts)
+    mark.anchor parts
 hangs_at_top width t n earlier mark above [] bars = tt
 hangs_at_top width t n earlier mark above (part ∷ parts) bars =
-    hang_under t mark.anchor (map (glyph_of width) part) above (plain_parts width t earlier mark (part ∷ parts)) bars (own_rows width t n earlier mark part parts)
+    hang_under t mark.anchor (map (glyph_of width) part) above (plain_parts width t earlier mark (part ∷ parts)) bars
+    (own_rows width t n earlier mark part parts)
 
-part_more : (width : ℕ → ℕ) (t : Characters) (rows more : List (List Glyph)) (column : ℕ) (parts : List (List ℕ)) → PartHangs width t rows column parts → PartHangs width t (rows ++ more) column parts
+part_more : (width : ℕ → ℕ) (t : Characters) (rows more : List (List Glyph)) (column : ℕ) (parts : List (List ℕ))
+    → PartHangs width t rows column parts → PartHangs width t (rows ++ more) column parts
 part_more width t rows more column [] h = tt
 part_more width t rows more column (part ∷ parts) h = hang_more t column (map (glyph_of width) part) rows more h
 
-pub all_more : (width : ℕ → ℕ) (t : Characters) (start : ℕ) (rows more : List (List Glyph)) (ms : List Mark) → AllByRecursion (Hangs width t rows start) ms → AllByRecursion (Hangs width t (rows ++ more) start) ms
+pub all_more : (width : ℕ → ℕ) (t : Characters) (start : ℕ) (rows more : List (List Glyph)) (ms : List Mark)
+    → AllByRecursion (Hangs width t rows start) ms → AllByRecursion (Hangs width t (rows ++ more) start) ms
 all_more width t start rows more [] h = tt
-all_more width t start rows more (m ∷ ms) h = (part_more width t rows more (start + m.anchor) m.label.parts h.0, all_more width t start rows more ms h.1)
+all_more width t start rows more (m ∷ ms) h = (
+  part_more width t rows more (start + m.anchor) m.label.parts h.0,
+  all_more width t start rows more ms h.1,
+)
 
-part_at : (width : ℕ → ℕ) (t : Characters) (rows : List (List Glyph)) (a b : ℕ) (parts : List (List ℕ)) → a ≡ b → PartHangs width t rows a parts → PartHangs width t rows b parts
+part_at : (width : ℕ → ℕ) (t : Characters) (rows : List (List Glyph)) (a b : ℕ) (parts : List (List ℕ)) → a ≡ b
+    → PartHangs width t rows a parts → PartHangs width t rows b parts
 part_at width t rows a b parts e h = rw (← e) h
 
-hang_from : (width : ℕ → ℕ) (t : Characters) (n : IsNarrow width t) (earlier ms : List Mark) (reached : ℕ) → AreApart reached ms → AllByRecursion (Hangs width t (plain_below width t earlier ms) 0) ms
+hang_from : (width : ℕ → ℕ) (t : Characters) (n : IsNarrow width t) (earlier ms : List Mark) (reached : ℕ)
+    → AreApart reached ms → AllByRecursion (Hangs width t (plain_below width t earlier ms) 0) ms
 hang_from width t n earlier [] reached h = tt
 hang_from width t n earlier (m ∷ ms) reached h = (
   part_at width t (plain_below width t earlier (m ∷ ms)) m.anchor (0 + m.anchor) m.label.parts (omega arith)
       (hangs_at_top width t n earlier m (plain_below width t (earlier ++ m ∷ []) ms) m.label.parts
-      (bars_below width t n (earlier ++ m ∷ []) ms m.until m.anchor h.2 h.1.1 (any_last (λ k. eqb m.anchor k.anchor) earlier m (eq-eqb m.anchor m.anchor refl)))),
-  all_more width t 0 (plain_below width t (earlier ++ m ∷ []) ms) (plain_parts width t earlier m m.label.parts) ms (hang_from width t n (earlier ++ m ∷ []) ms m.until h.2),
+      (bars_below width t n (earlier ++ m ∷ []) ms m.until m.anchor h.2 h.1.1
+      (any_last (λ k. eqb m.anchor k.anchor) earlier m (eq-eqb m.anchor m.anchor refl)))),
+  all_more width t 0 (plain_below width t (earlier ++ m ∷ []) ms) (plain_parts width t earlier m m.label.parts) ms
+      (hang_from width t n (earlier ++ m ∷ []) ms m.until h.2),
 )
 
 -- each text hangs from its own mark's anchor
-pub plain_hang : (width : ℕ → ℕ) (t : Characters) (ms : List Mark) → IsNarrow width t → AreApart 0 ms → AllByRecursion (Hangs width t (plain_below width t [] ms) 0) ms
+pub plain_hang : (width : ℕ → ℕ) (t : Characters) (ms : List Mark) → IsNarrow width t → AreApart 0 ms
+    → AllByRecursion (Hangs width t (plain_below width t [] ms) 0) ms
 plain_hang width t ms n h = hang_from width t n [] ms 0 h
 
 -- a text hangs as well where the same gutter stands before each row
-pub hang_beside : (t : Characters) (gutter : List Glyph) (column : ℕ) (part : List Glyph) (rows : List (List Glyph)) → HangsFrom t column part rows → HangsFrom t (columns_of gutter + column) part (map (λ row. gutter ++ row) rows)
+pub hang_beside : (t : Characters) (gutter : List Glyph) (column : ℕ) (part : List Glyph) (rows : List (List Glyph))
+    → HangsFrom t column part rows → HangsFrom t (columns_of gutter + column) part (map (λ row. gutter ++ row) rows)
 hang_beside t gutter column part [] h = h
 hang_beside t gutter column part (row ∷ rows) h =
     ⊎_elim {C = HangsFrom t (columns_of gutter + column) part (map (λ r. gutter ++ r) (row ∷ rows))}
@@ -180,13 +226,18 @@ hang_beside t gutter column part (row ∷ rows) h =
     (λ below. inr (code_at-append gutter row column ∙ below.0, hang_beside t gutter column part rows below.1))
     h
 
-part_beside : (width : ℕ → ℕ) (t : Characters) (gutter : List Glyph) (rows : List (List Glyph)) (column : ℕ) (parts : List (List ℕ)) → PartHangs width t rows column parts → PartHangs width t (map (λ row. gutter ++ row) rows) (columns_of gutter + column) parts
+part_beside : (width : ℕ → ℕ) (t : Characters) (gutter : List Glyph) (rows : List (List Glyph)) (column : ℕ)
+    (parts : List (List ℕ)) → PartHangs width t rows column parts
+    → PartHangs width t (map (λ row. gutter ++ row) rows) (columns_of gutter + column) parts
 part_beside width t gutter rows column [] h = tt
 part_beside width t gutter rows column (part ∷ parts) h = hang_beside t gutter column (map (glyph_of width) part) rows h
 
-pub all_beside : (width : ℕ → ℕ) (t : Characters) (gutter : List Glyph) (rows : List (List Glyph)) (ms : List Mark) → AllByRecursion (Hangs width t rows 0) ms → AllByRecursion (Hangs width t (map (λ row. gutter ++ row) rows) (columns_of gutter)) ms
+pub all_beside : (width : ℕ → ℕ) (t : Characters) (gutter : List Glyph) (rows : List (List Glyph)) (ms : List Mark)
+    → AllByRecursion (Hangs width t rows 0) ms → AllByRecursion
+    (Hangs width t (map (λ row. gutter ++ row) rows) (columns_of gutter)) ms
 all_beside width t gutter rows [] h = tt
 all_beside width t gutter rows (m ∷ ms) h = (
-  part_at width t (map (λ row. gutter ++ row) rows) (columns_of gutter + (0 + m.anchor)) (columns_of gutter + m.anchor) m.label.parts (omega arith) (part_beside width t gutter rows (0 + m.anchor) m.label.parts h.0),
+  part_at width t (map (λ row. gutter ++ row) rows) (columns_of gutter + (0 + m.anchor)) (columns_of gutter + m.anchor)
+      m.label.parts (omega arith) (part_beside width t gutter rows (0 + m.anchor) m.label.parts h.0),
   all_beside width t gutter rows ms h.1,
 )

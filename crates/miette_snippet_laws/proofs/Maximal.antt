@@ -11,7 +11,8 @@ pub record AreRuns (ks : List ℕ) (rs : List (List ℕ)) : Type 0 where
   pub each : AllByRecursion IsRange rs
   pub parted : AreParted rs
 
-longer : (k next : ℕ) (run : List ℕ) (later : List (List ℕ)) → AreParted ((next ∷ run) ∷ later) → AreParted ((k ∷ next ∷ run) ∷ later)
+longer : (k next : ℕ) (run : List ℕ) (later : List (List ℕ)) → AreParted ((next ∷ run) ∷ later)
+    → AreParted ((k ∷ next ∷ run) ∷ later)
 longer k next run [] h = tt
 longer k next run ([] ∷ later) h = absurd h.0
 longer k next run ((j ∷ js) ∷ later) h = (h.0, h.1)
@@ -21,12 +22,23 @@ onto k ks [] h = record { all = ap (λ r. k ∷ r) h.all; each = (tt, tt); parte
 onto k ks ([] ∷ later) h = absurd h.each.0
 onto k ks ((next ∷ run) ∷ later) h =
     by_cases {C = AreRuns (k ∷ ks) (onto_range k ((next ∷ run) ∷ later))} (eqb next (k + 1))
-    (λ t. rw t (record { all = ap (λ r. k ∷ r) h.all; each = ((eqb-true next (k + 1) t, h.each.0), h.each.1); parted = longer k next run later h.parted }))
-    (λ f. rw f (record { all = ap (λ r. k ∷ r) h.all; each = (tt, h.each); parted = (eqb-false next (k + 1) f, h.parted) }))
+    (λ t. rw t (record {
+      all = ap (λ r. k ∷ r) h.all;
+      each = ((eqb-true next (k + 1) t, h.each.0), h.each.1);
+      parted =
+          longer k next run later h.parted;
+    }))
+    (λ f. rw f (record {
+      all = ap (λ r. k ∷ r) h.all;
+      each = (tt, h.each);
+      parted =
+          (eqb-false next (k + 1) f, h.parted);
+    }))
 
 are_runs : (ks : List ℕ) → AreRuns ks (ranges ks)
 are_runs [] = record { all = refl; each = tt; parted = tt }
 are_runs (k ∷ ks) = onto k ks (ranges ks) (are_runs ks)
 
-pub ranges_are_maximal : (ks : List ℕ) → (concat (ranges ks) ≡ ks) × AllByRecursion IsRange (ranges ks) × AreParted (ranges ks)
+pub ranges_are_maximal : (ks : List ℕ) → (concat (ranges ks) ≡ ks) × AllByRecursion IsRange (ranges ks)
+    × AreParted (ranges ks)
 ranges_are_maximal ks = let h = are_runs ks in (h.all, h.each, h.parted)

@@ -1,5 +1,6 @@
 -- Numerals of numbers of any size: all their characters are digits, and a smaller number has no more of them.
-use Rattle.std.proofs.Common.{ℕ, zero, suc, ◌+◌, ◌<◌, ◌≤◌, ◌≡◌, ◌/◌, ◌%◌, ◌==◌, if◌then◌else◌, Bool, true, false, List, [], ◌∷◌, length, refl, ap, ◌∙◌, arith}
+use Rattle.std.proofs.Common.{ℕ, zero, suc, ◌+◌, ◌<◌, ◌≤◌, ◌≡◌, ◌/◌, ◌%◌, ◌==◌, if◌then◌else◌, Bool, true, false, List}
+use Rattle.std.proofs.Common.{[], ◌∷◌, length, refl, ap, ◌∙◌, arith}
 use Rattle.std.specs.Prelude.{decimal}
 use Rattle.std.proofs.lemmas.Bool.{eqb-true, eqb-false, lt-ltb}
 use Rattle.std.specs.Fmt.{digit_glyph, digits, digits_onto}
@@ -22,14 +23,16 @@ onto_digits zero n text h = h
 onto_digits (suc k) n text h =
     let glyph = digit_glyph false (n % 10) in
     let first : AreDigits (glyph ∷ text) = (omega (arith, glyph_is (n % 10) (omega arith)), h) in
-    are_if (n / 10 == 0) (glyph ∷ text) (digits_onto k 10 false (n / 10) (glyph ∷ text)) first (onto_digits k (n / 10) (glyph ∷ text) first)
+    are_if (n / 10 == 0) (glyph ∷ text) (digits_onto k 10 false (n / 10) (glyph ∷ text)) first
+    (onto_digits k (n / 10) (glyph ∷ text) first)
 
 -- how many digits a number has, at most k
 abbrev many : ℕ → ℕ → ℕ
 many zero n = 0
 many (suc k) n = if n / 10 == 0 then 1 else 1 + many k (n / 10)
 
-many_if : (b : Bool) (x y : List ℕ) (p q : ℕ) → length x ≡ p → length y ≡ q → length (if b then x else y) ≡ (if b then p else q)
+many_if : (b : Bool) (x y : List ℕ) (p q : ℕ) → length x ≡ p → length y ≡ q → length (if b then x else y)
+    ≡ (if b then p else q)
 many_if true x y p q h k = h
 many_if false x y p q h k = k
 
@@ -41,7 +44,8 @@ length-onto : (k n : ℕ) (text : List ℕ) → length (digits_onto k 10 false n
 length-onto zero n text = omega arith
 length-onto (suc k) n text =
     let glyph = digit_glyph false (n % 10) in
-    many_if (n / 10 == 0) (glyph ∷ text) (digits_onto k 10 false (n / 10) (glyph ∷ text)) (1 + length text) (1 + many k (n / 10) + length text) (omega arith)
+    many_if (n / 10 == 0) (glyph ∷ text) (digits_onto k 10 false (n / 10) (glyph ∷ text)) (1 + length text)
+    (1 + many k (n / 10) + length text) (omega arith)
     (omega (arith, length-onto k (n / 10) (glyph ∷ text))) ∙ plus_if (n / 10 == 0) 1 (1 + many k (n / 10)) (length text)
 
 one-le : (b : Bool) (m : ℕ) → 1 ≤ (if b then 1 else 1 + m)

@@ -1,5 +1,6 @@
 -- Labels with their own numbers of context lines: their groups show the maximal runs of the shown lines.
-use Rattle.std.proofs.Common.{ℕ, Bool, suc, ◌+◌, ◌-◌, ◌<◌, ◌≤◌, ◌≡◌, min, false, leb, List, [], ◌∷◌, ◌&&◌, ◌||◌, length, map, refl, sym, ap, ap₂, ◌∙◌, arith, drop}
+use Rattle.std.proofs.Common.{ℕ, Bool, suc, ◌+◌, ◌-◌, ◌<◌, ◌≤◌, ◌≡◌, min, false, leb, List, [], ◌∷◌, ◌&&◌, ◌||◌, length}
+use Rattle.std.proofs.Common.{map, refl, sym, ap, ap₂, ◌∙◌, arith, drop}
 use Rattle.std.specs.Prelude.{is_some}
 use Rattle.std.proofs.lemmas.List.Elements.{filter_agree}
 use Rattle.std.proofs.lemmas.Bool.{or_parts}
@@ -16,7 +17,8 @@ use Rattle.miette_labels.specs.rules.Contexts.{contents, lines_of_contents}
 use Rattle.miette_snippet_rules.specs.rules.Folds.{Spread}
 use Rattle.miette_snippet_rules.specs.rules.Frames.{SnippetSettings, width_of_lines}
 use Rattle.miette_labels.specs.rules.Groups as G
-use Rattle.miette_labels.specs.rules.Groups.{in_order, put_label, stretch, put_span, by_begin, stretches_from, joined_stretches, own_groups}
+use Rattle.miette_labels.specs.rules.Groups.{in_order, put_label, stretch, put_span, by_begin, stretches_from}
+use Rattle.miette_labels.specs.rules.Groups.{joined_stretches, own_groups}
 use Rattle.miette_snippet_rules.specs.rules.Gutters.{gutter_columns}
 use Rattle.miette_labels.specs.rules.Labels.{DrawnLabel}
 use Rattle.miette_snippet_rules.specs.rules.SnippetLayout.{rows_of_lines, left_out, body_rows}
@@ -32,34 +34,44 @@ use Rattle.miette_labels.proofs.Bridge.{lines_same, some-context}
 use Rattle.miette_snippet_rules.proofs.Bodies.{KeepsAlike, no_lines, no-part, body_from, context_same}
 use Rattle.miette_snippet_rules.proofs.Ends.{empty-end, empty-start}
 use Rattle.miette_snippet_laws.proofs.Reread.{block_line, block_lines, block_numbers}
-use Rattle.miette_snippet_laws.proofs.Spreading.{Block, IsBlock, AreBlocks, span_of, order_same, joined_same, blocks_by_begin, joined_blocks, ordered_there, joined_there, blocks_are_runs, numbers_of, in_blocks}
+use Rattle.miette_snippet_laws.proofs.Spreading.{Block, IsBlock, AreBlocks, span_of, order_same, joined_same}
+use Rattle.miette_snippet_laws.proofs.Spreading.{blocks_by_begin, joined_blocks, ordered_there, joined_there}
+use Rattle.miette_snippet_laws.proofs.Spreading.{blocks_are_runs, numbers_of, in_blocks}
 use Rattle.miette_labels.proofs.Owning.{none_around}
 
-put_each : (P : Label → Type 0) (label : Label) (labels : List Label) → P label → AllByRecursion P labels → AllByRecursion P (put_label label labels)
+put_each : (P : Label → Type 0) (label : Label) (labels : List Label) → P label → AllByRecursion P labels
+    → AllByRecursion P (put_label label labels)
 put_each P label [] own h = (own, tt)
 put_each P label (next ∷ labels) own h =
     by_cases {C = AllByRecursion P (put_label label (next ∷ labels))} (leb label.span.offset next.span.offset)
     (λ t. rw t (own, h)) (λ f. rw f (h.0, put_each P label labels own h.1))
 
-pub order_each : (P : Label → Type 0) (labels : List Label) → AllByRecursion P labels → AllByRecursion P (in_order labels)
+pub order_each : (P : Label → Type 0) (labels : List Label) → AllByRecursion P labels
+    → AllByRecursion P (in_order labels)
 order_each P [] h = tt
 order_each P (label ∷ labels) h = put_each P label (in_order labels) h.0 (order_each P labels h.1)
 
-none_shown : (context : ℕ) (bytes : List ℕ) (k : ℕ) (all labels : List Label) → has_own all ≡ false → has_own labels ≡ false →
-    list_any (λ label. N.is_in_context (lines_around context all label) bytes k label.span) labels ≡ J.is_shown context bytes (map (λ l. l.span) labels) k
+none_shown : (context : ℕ) (bytes : List ℕ) (k : ℕ) (all labels : List Label) → has_own all ≡ false → has_own labels
+    ≡ false →
+    list_any (λ label. N.is_in_context (lines_around context all label) bytes k label.span) labels
+    ≡ J.is_shown context bytes (map (λ l. l.span) labels) k
 none_shown context bytes k all [] e h = refl
 none_shown context bytes k all (label ∷ labels) e h =
     let both = or_parts (is_some label.context) (has_own labels) h in
     ap₂ (λ x y. x || y)
-    (ap (λ c. N.is_in_context c bytes k label.span) (none_around context all label e both.0) ∙ context_same context bytes k label.span)
+    (ap (λ c. N.is_in_context c bytes k label.span) (none_around context all label e both.0)
+    ∙ context_same context bytes k label.span)
     (none_shown context bytes k all labels e both.1)
 
-shown_same : (context : ℕ) (bytes : List ℕ) (labels : List Label) → has_own labels ≡ false → N.shown_numbers context bytes labels ≡ J.shown context bytes (map (λ l. l.span) labels)
+shown_same : (context : ℕ) (bytes : List ℕ) (labels : List Label) → has_own labels ≡ false
+    → N.shown_numbers context bytes labels ≡ J.shown context bytes (map (λ l. l.span) labels)
 shown_same context bytes labels e =
     ap (λ ls. filter (N.is_shown context bytes labels) (range_with_len 0 (length ls))) (lines_same 0 bytes)
-    ∙ filter_agree (N.is_shown context bytes labels) (J.is_shown context bytes (map (λ l. l.span) labels)) (λ k. none_shown context bytes k labels labels e e) (range_with_len 0 (length (lines bytes)))
+    ∙ filter_agree (N.is_shown context bytes labels) (J.is_shown context bytes (map (λ l. l.span) labels))
+    (λ k. none_shown context bytes k labels labels e e) (range_with_len 0 (length (lines bytes)))
 
-pub snippets_same : (context : ℕ) (bytes : List ℕ) (labels : List Label) → has_own labels ≡ false → N.snippets context bytes labels ≡ J.snippets context bytes (map (λ l. l.span) labels)
+pub snippets_same : (context : ℕ) (bytes : List ℕ) (labels : List Label) → has_own labels ≡ false
+    → N.snippets context bytes labels ≡ J.snippets context bytes (map (λ l. l.span) labels)
 snippets_same context [] [] e = refl
 snippets_same context [] (label ∷ labels) e = refl
 snippets_same context (byte ∷ bytes) labels e = ap ranges (shown_same context (byte ∷ bytes) labels e)
@@ -75,33 +87,44 @@ block_of context bytes all label = record {
 abbrev pub Around : ℕ → List Label → List Label → Type 0
 Around context all labels = AllByRecursion (λ label. 1 ≤ lines_around context all label) labels
 
-stretch_is : (context : ℕ) (source : Source) (all : List Label) (label : Label) → 1 ≤ lines_around context all label → 0 < length source.bytes →
+stretch_is : (context : ℕ) (source : Source) (all : List Label) (label : Label) → 1 ≤ lines_around context all label → 0
+    < length source.bytes →
     stretch context source all label ≡ span_of source.bytes (block_of context source.bytes all label)
 stretch_is context source all label one some =
-    ap₂ (λ x y. record { offset = x; len = y - x }) (begin_same (lines_around context all label) source label.span one some) (end_data_same (lines_around context all label) source label.span one)
+    ap₂ (λ x y. record { offset = x; len = y - x }) (begin_same (lines_around context all label) source label.span one
+    some) (end_data_same (lines_around context all label) source label.span one)
 
-stretches_are : (context : ℕ) (source : Source) (all labels : List Label) → Around context all labels → 0 < length source.bytes →
-    map (stretch context source all) labels ≡ map (span_of source.bytes) (map (block_of context source.bytes all) labels)
+stretches_are : (context : ℕ) (source : Source) (all labels : List Label) → Around context all labels → 0
+    < length source.bytes →
+    map (stretch context source all) labels ≡ map (span_of source.bytes)
+    (map (block_of context source.bytes all) labels)
 stretches_are context source all [] h some = refl
 stretches_are context source all (label ∷ labels) h some =
-    ap₂ (λ x xs. x ∷ xs) (stretch_is context source all label h.0 some) (stretches_are context source all labels h.1 some)
+    ap₂ (λ x xs. x ∷ xs) (stretch_is context source all label h.0 some)
+    (stretches_are context source all labels h.1 some)
 
-blocks_there : (context : ℕ) (bytes : List ℕ) (all labels : List Label) → Around context all labels → 0 < length bytes → AreBlocks (length (lines bytes)) (map (block_of context bytes all) labels)
+blocks_there : (context : ℕ) (bytes : List ℕ) (all labels : List Label) → Around context all labels → 0 < length bytes
+    → AreBlocks (length (lines bytes)) (map (block_of context bytes all) labels)
 blocks_there context bytes all [] h some = tt
 blocks_there context bytes all (label ∷ labels) h some =
-    let c : ℕ = lines_around context all label in
-    (record { order = first-le-last c bytes label.span; there = first-lt c bytes label.span h.0 some }, blocks_there context bytes all labels h.1 some)
+    let c : ℕ = lines_around context all label in (
+      record { order = first-le-last c bytes label.span; there = first-lt c bytes label.span h.0 some },
+      blocks_there context bytes all labels h.1 some,
+    )
 
 -- the blocks of the groups
 abbrev pub group_blocks : ℕ → List ℕ → List Label → List Block
 group_blocks context bytes labels = joined_blocks (blocks_by_begin (map (block_of context bytes labels) labels))
 
-pub groups_there : (context : ℕ) (bytes : List ℕ) (labels : List Label) → Around context labels labels → 0 < length bytes → AreBlocks (length (lines bytes)) (group_blocks context bytes labels)
+pub groups_there : (context : ℕ) (bytes : List ℕ) (labels : List Label) → Around context labels labels → 0
+    < length bytes → AreBlocks (length (lines bytes)) (group_blocks context bytes labels)
 groups_there context bytes labels h some =
     joined_there (length (lines bytes)) (blocks_by_begin (map (block_of context bytes labels) labels))
-    (ordered_there (length (lines bytes)) (map (block_of context bytes labels) labels) (blocks_there context bytes labels labels h some))
+    (ordered_there (length (lines bytes)) (map (block_of context bytes labels) labels)
+    (blocks_there context bytes labels labels h some))
 
-pub groups_are : (context : ℕ) (source : Source) (labels : List Label) → Around context labels labels → 0 < length source.bytes →
+pub groups_are : (context : ℕ) (source : Source) (labels : List Label) → Around context labels labels → 0
+    < length source.bytes →
     own_groups context source labels ≡ map (span_of source.bytes) (group_blocks context source.bytes labels)
 groups_are context source labels h some =
     let bytes : List ℕ = source.bytes in
@@ -114,42 +137,59 @@ groups_are context source labels h some =
 -- ---- their numbers
 
 in_same : (context : ℕ) (bytes : List ℕ) (k : ℕ) (all labels : List Label) →
-    in_blocks (map (block_of context bytes all) labels) k ≡ list_any (λ label. N.is_in_context (lines_around context all label) bytes k label.span) labels
+    in_blocks (map (block_of context bytes all) labels) k
+    ≡ list_any (λ label. N.is_in_context (lines_around context all label) bytes k label.span) labels
 in_same context bytes k all [] = refl
 in_same context bytes k all (label ∷ labels) =
-    ap₂ (λ x y. x || y) (sym (context_same (lines_around context all label) bytes k label.span)) (in_same context bytes k all labels)
+    ap₂ (λ x y. x || y) (sym (context_same (lines_around context all label) bytes k label.span))
+    (in_same context bytes k all labels)
 
 -- in a source that isn't empty, by labels in any order
-pub block_runs : (context : ℕ) (bytes : List ℕ) (labels : List Label) → Around context labels labels → 0 < length bytes →
-    map (numbers_of (length (lines bytes))) (group_blocks context bytes labels) ≡ ranges (N.shown_numbers context bytes labels)
+pub block_runs : (context : ℕ) (bytes : List ℕ) (labels : List Label) → Around context labels labels → 0 < length bytes
+    →
+    map (numbers_of (length (lines bytes))) (group_blocks context bytes labels)
+    ≡ ranges (N.shown_numbers context bytes labels)
 block_runs context bytes labels h some =
-    blocks_are_runs (length (lines bytes)) (map (block_of context bytes labels) labels) (blocks_there context bytes labels labels h some)
-    ∙ ap ranges (filter_agree _ _ (λ k. in_same context bytes k labels labels) (range_with_len 0 (length (lines bytes))))
-    ∙ ap (λ ls. ranges (filter (N.is_shown context bytes labels) (range_with_len 0 (length ls)))) (sym (lines_same 0 bytes))
+    blocks_are_runs (length (lines bytes)) (map (block_of context bytes labels) labels)
+    (blocks_there context bytes labels labels h some)
+    ∙ ap ranges (filter_agree _ _ (λ k. in_same context bytes k labels labels)
+    (range_with_len 0 (length (lines bytes))))
+    ∙ ap (λ ls. ranges (filter (N.is_shown context bytes labels) (range_with_len 0 (length ls))))
+    (sym (lines_same 0 bytes))
 
-pub lines_are : (source : Source) (bs : List Block) → 0 < length source.bytes → AreBlocks (length (lines source.bytes)) bs →
+pub lines_are : (source : Source) (bs : List Block) → 0 < length source.bytes
+    → AreBlocks (length (lines source.bytes)) bs →
     G.lines_of_groups 0 source (map (span_of source.bytes) bs) ≡ map (numbers_of (length (lines source.bytes))) bs
 lines_are source [] some h = refl
 lines_are source (b ∷ bs) some h = ap₂ (λ x xs. x ∷ xs) (block_numbers source b some h.0) (lines_are source bs some h.1)
 
 -- ---- their rows
 
-block_body : (s : SnippetSettings) (spreads : List Spread) (kept : ℕ → Bool) (labels : List DrawnLabel) (source : Source) (b : Block) (pieces : List (List Highlight)) → 0 < length source.bytes → IsBlock (length (lines source.bytes)) b →
+block_body : (s : SnippetSettings) (spreads : List Spread) (kept : ℕ → Bool) (labels : List DrawnLabel)
+    (source : Source) (b : Block) (pieces : List (List Highlight)) → 0 < length source.bytes
+    → IsBlock (length (lines source.bytes)) b →
     KeepsAlike s spreads source.bytes kept (numbers_of (length (lines source.bytes)) b) →
-    body_rows s spreads labels source.bytes (contents 0 source (span_of source.bytes b)) pieces ≡ range_rows kept s labels source.bytes pieces (numbers_of (length (lines source.bytes)) b)
+    body_rows s spreads labels source.bytes (contents 0 source (span_of source.bytes b)) pieces
+    ≡ range_rows kept s labels source.bytes pieces (numbers_of (length (lines source.bytes)) b)
 block_body s spreads kept labels source b pieces some h alike =
     let bytes : List ℕ = source.bytes in
     let ls : List Line = lines_of_contents (contents 0 source (span_of bytes b)) in
-    ap (λ n. rows_of_lines (left_out s n ls spreads) false s (width_of_lines n ls) (gutter_columns labels ls) labels bytes (n + 1) pieces ls) (block_line source b h)
-    ∙ body_from s spreads kept labels bytes pieces b.low (min (b.high + 1) (length (lines bytes)) - b.low) ls (block_lines source b some h) alike
+    ap (λ n. rows_of_lines (left_out s n ls spreads) false s (width_of_lines n ls) (gutter_columns labels ls) labels
+    bytes (n + 1) pieces ls) (block_line source b h)
+    ∙ body_from s spreads kept labels bytes pieces b.low (min (b.high + 1) (length (lines bytes)) - b.low) ls
+    (block_lines source b some h) alike
 
-pub block_bodies : (s : SnippetSettings) (spreads : List Spread) (kept : ℕ → Bool) (labels : List DrawnLabel) (source : Source) (pieces : List (List (List Highlight))) (bs : List Block) → s.context ≡ 0 → 0 < length source.bytes → AreBlocks (length (lines source.bytes)) bs →
+pub block_bodies : (s : SnippetSettings) (spreads : List Spread) (kept : ℕ → Bool) (labels : List DrawnLabel)
+    (source : Source) (pieces : List (List (List Highlight))) (bs : List Block) → s.context ≡ 0 → 0
+    < length source.bytes → AreBlocks (length (lines source.bytes)) bs →
     AllByRecursion (KeepsAlike s spreads source.bytes kept) (map (numbers_of (length (lines source.bytes))) bs) →
-    bodies s spreads labels source pieces (map (span_of source.bytes) bs) ≡ rows_of_ranges kept s labels source.bytes pieces (map (numbers_of (length (lines source.bytes))) bs)
+    bodies s spreads labels source pieces (map (span_of source.bytes) bs)
+    ≡ rows_of_ranges kept s labels source.bytes pieces (map (numbers_of (length (lines source.bytes))) bs)
 block_bodies s spreads kept labels source pieces [] e some h alike = refl
 block_bodies s spreads kept labels source pieces (b ∷ bs) e some h alike =
     ap₂ (λ x xs. x ∷ xs)
-    (ap (λ c. body_rows s spreads labels source.bytes (contents c source (span_of source.bytes b)) (first_of pieces)) e ∙ block_body s spreads kept labels source b (first_of pieces) some h.0 alike.0)
+    (ap (λ c. body_rows s spreads labels source.bytes (contents c source (span_of source.bytes b)) (first_of pieces)) e
+    ∙ block_body s spreads kept labels source b (first_of pieces) some h.0 alike.0)
     (block_bodies s spreads kept labels source (drop 1 pieces) bs e some h.1 alike.1)
 
 -- ---- an empty source
@@ -157,31 +197,37 @@ block_bodies s spreads kept labels source pieces (b ∷ bs) e some h alike =
 abbrev pub nowhere : Span
 nowhere = record { offset = 0; len = 0 }
 
-stretch_none : (context : ℕ) (source : Source) (all : List Label) (label : Label) → 1 ≤ lines_around context all label → length source.bytes ≡ 0 → stretch context source all label ≡ nowhere
+stretch_none : (context : ℕ) (source : Source) (all : List Label) (label : Label) → 1 ≤ lines_around context all label
+    → length source.bytes ≡ 0 → stretch context source all label ≡ nowhere
 stretch_none context source all label one none =
     let c : ℕ = lines_around context all label in
     let bytes : List ℕ = source.bytes in
     let from : R.data_start bytes label.span c ≡ 0 = rw (some-context c one) (empty-start bytes _ none) in
-    let to : R.data_end bytes label.span c ≡ 0 = end_data_same c source label.span one ∙ empty-end bytes (last_line c bytes label.span) none in
+    let to : R.data_end bytes label.span c ≡ 0 = end_data_same c source label.span one
+    ∙ empty-end bytes (last_line c bytes label.span) none in
     ap₂ (λ x y. record { offset = x; len = y - x }) from to
 
 abbrev pub AreNowhere : List Span → Type 0
 AreNowhere spans = AllByRecursion (λ span. span ≡ nowhere) spans
 
-stretches_none : (context : ℕ) (source : Source) (all labels : List Label) → Around context all labels → length source.bytes ≡ 0 → AreNowhere (map (stretch context source all) labels)
+stretches_none : (context : ℕ) (source : Source) (all labels : List Label) → Around context all labels
+    → length source.bytes ≡ 0 → AreNowhere (map (stretch context source all) labels)
 stretches_none context source all [] h none = tt
-stretches_none context source all (label ∷ labels) h none = (stretch_none context source all label h.0 none, stretches_none context source all labels h.1 none)
+stretches_none context source all (label ∷ labels) h none =
+    (stretch_none context source all label h.0 none, stretches_none context source all labels h.1 none)
 
 put_nowhere : (span : Span) (spans : List Span) → span ≡ nowhere → AreNowhere spans → AreNowhere (put_span span spans)
 put_nowhere span [] e h = (e, tt)
 put_nowhere span (next ∷ spans) e h =
-    by_cases {C = AreNowhere (put_span span (next ∷ spans))} (leb span.offset next.offset) (λ t. rw t (e, h)) (λ f. rw f (h.0, put_nowhere span spans e h.1))
+    by_cases {C = AreNowhere (put_span span (next ∷ spans))} (leb span.offset next.offset) (λ t. rw t (e, h))
+    (λ f. rw f (h.0, put_nowhere span spans e h.1))
 
 order_nowhere : (spans : List Span) → AreNowhere spans → AreNowhere (by_begin spans)
 order_nowhere [] h = tt
 order_nowhere (span ∷ spans) h = put_nowhere span (by_begin spans) h.0 (order_nowhere spans h.1)
 
-from_nowhere : (before : Span) (spans : List Span) → before ≡ nowhere → AreNowhere spans → stretches_from before spans ≡ nowhere ∷ []
+from_nowhere : (before : Span) (spans : List Span) → before ≡ nowhere → AreNowhere spans → stretches_from before spans
+    ≡ nowhere ∷ []
 from_nowhere before [] e h = ap (λ s. s ∷ []) e
 from_nowhere before (span ∷ spans) e h =
     ap₂ (λ x y. stretches_from x (y ∷ spans)) e h.0 ∙ from_nowhere nowhere spans refl h.1
@@ -193,30 +239,37 @@ one_nowhere (span ∷ spans) some h = from_nowhere span spans h.0 h.1
 put_length : (span : Span) (spans : List Span) → length (put_span span spans) ≡ suc (length spans)
 put_length span [] = refl
 put_length span (next ∷ spans) =
-    by_cases {C = length (put_span span (next ∷ spans)) ≡ suc (suc (length spans))} (leb span.offset next.offset) (λ t. rw t refl) (λ f. rw f (ap suc (put_length span spans)))
+    by_cases {C = length (put_span span (next ∷ spans)) ≡ suc (suc (length spans))} (leb span.offset next.offset)
+    (λ t. rw t refl) (λ f. rw f (ap suc (put_length span spans)))
 
-pub groups_nowhere : (context : ℕ) (source : Source) (labels : List Label) → 0 < length labels → Around context labels labels → length source.bytes ≡ 0 →
+pub groups_nowhere : (context : ℕ) (source : Source) (labels : List Label) → 0 < length labels
+    → Around context labels labels → length source.bytes ≡ 0 →
     own_groups context source labels ≡ nowhere ∷ []
 groups_nowhere context source [] some h none = absurd (omega (arith, some))
 groups_nowhere context source (label ∷ labels) some h none =
     let ss : List Span = map (stretch context source (label ∷ labels)) labels in
     let first : Span = stretch context source (label ∷ labels) label in
-    one_nowhere (by_begin (first ∷ ss)) (omega (arith, put_length first (by_begin ss))) (order_nowhere (first ∷ ss) (stretches_none context source (label ∷ labels) (label ∷ labels) h none))
+    one_nowhere (by_begin (first ∷ ss)) (omega (arith, put_length first (by_begin ss)))
+    (order_nowhere (first ∷ ss) (stretches_none context source (label ∷ labels) (label ∷ labels) h none))
 
 pub lines_nowhere : (source : Source) → length source.bytes ≡ 0 → G.lines_of_groups 0 source (nowhere ∷ []) ≡ [] ∷ []
 lines_nowhere source none =
     let read : Contents = contents 0 source nowhere in
-    ap (λ ls. filter (λ k. leb read.span.offset (P.line_start source.bytes k) && leb (P.line_end source.bytes k) (C.end_of_span read.span)) (range_with_len 0 (length ls)) ∷ [])
+    ap (λ ls. filter (λ k. leb read.span.offset (P.line_start source.bytes k)
+    && leb (P.line_end source.bytes k) (C.end_of_span read.span)) (range_with_len 0 (length ls)) ∷ [])
     (no_lines 0 source.bytes none)
 
-pub snippets_nowhere : (context : ℕ) (bytes : List ℕ) (labels : List Label) → 0 < length labels → length bytes ≡ 0 → N.snippets context bytes labels ≡ [] ∷ []
+pub snippets_nowhere : (context : ℕ) (bytes : List ℕ) (labels : List Label) → 0 < length labels → length bytes ≡ 0
+    → N.snippets context bytes labels ≡ [] ∷ []
 snippets_nowhere context bytes [] some none = absurd (omega (arith, some))
 snippets_nowhere context [] (label ∷ labels) some none = refl
 snippets_nowhere context (byte ∷ bytes) (label ∷ labels) some none = absurd (omega (arith, none))
 
-pub body_nowhere : (s : SnippetSettings) (spreads : List Spread) (labels : List DrawnLabel) (source : Source) (pieces : List (List Highlight)) → length source.bytes ≡ 0 →
+pub body_nowhere : (s : SnippetSettings) (spreads : List Spread) (labels : List DrawnLabel) (source : Source)
+    (pieces : List (List Highlight)) → length source.bytes ≡ 0 →
     body_rows s spreads labels source.bytes (contents 0 source nowhere) pieces ≡ []
 body_nowhere s spreads labels source pieces none =
     let read : Contents = contents 0 source nowhere in
-    ap (λ ls. rows_of_lines (left_out s read.line ls spreads) false s (width_of_lines read.line ls) (gutter_columns labels ls) labels source.bytes (read.line + 1) pieces ls)
+    ap (λ ls. rows_of_lines (left_out s read.line ls spreads) false s (width_of_lines read.line ls)
+    (gutter_columns labels ls) labels source.bytes (read.line + 1) pieces ls)
     (no_lines 0 read.bytes (no-part source.bytes 0 (R.data_end source.bytes nowhere 0) none))

@@ -1,5 +1,6 @@
 -- Whole lines that follow each other, joined by where they begin, make the maximal runs.
-use Rattle.std.proofs.Common.{ℕ, ◌+◌, ◌-◌, ◌<◌, ◌≤◌, ◌≡◌, min, max, Bool, false, leb, List, [], ◌∷◌, length, map, refl, sym, ap, ap₂, ◌∙◌, ⊎_elim, ◌&&◌, ◌||◌, arith}
+use Rattle.std.proofs.Common.{ℕ, ◌+◌, ◌-◌, ◌<◌, ◌≤◌, ◌≡◌, min, max, Bool, false, leb, List, [], ◌∷◌, length, map, refl}
+use Rattle.std.proofs.Common.{sym, ap, ap₂, ◌∙◌, ⊎_elim, ◌&&◌, ◌||◌, arith}
 use Rattle.std.specs.Prelude.{if◌then◌else◌}
 use Rattle.std.proofs.lemmas.Bool.{le-leb, lt-leb, leb-true, leb-false, cases_lt}
 use Rattle.std.proofs.lemmas.List.Elements.{filter_agree}
@@ -39,7 +40,8 @@ AreBlocks all bs = AllByRecursion (IsBlock all) bs
 
 -- ---- where they begin and end
 
-starts_same : (bytes : List ℕ) (i k : ℕ) → i < length (lines bytes) → k < length (lines bytes) → leb (start_of (lines bytes) i) (start_of (lines bytes) k) ≡ leb i k
+starts_same : (bytes : List ℕ) (i k : ℕ) → i < length (lines bytes) → k < length (lines bytes)
+    → leb (start_of (lines bytes) i) (start_of (lines bytes) k) ≡ leb i k
 starts_same bytes i k li lk =
     by_cases {C = leb (start_of (lines bytes) i) (start_of (lines bytes) k) ≡ leb i k} (leb i k)
     (λ t. rw t (le-leb _ _ (starts bytes i k li lk (leb-true i k t))))
@@ -53,12 +55,18 @@ starts_same bytes i k li lk =
     )))
     (cases_lt (start_of (lines bytes) k) (start_of (lines bytes) i)))))
 
-pub block_end : (bytes : List ℕ) (b : Block) → IsBlock (length (lines bytes)) b → end_of_span (span_of bytes b) ≡ end_of (length bytes) (lines bytes) b.high
+pub block_end : (bytes : List ℕ) (b : Block) → IsBlock (length (lines bytes)) b → end_of_span (span_of bytes b)
+    ≡ end_of (length bytes) (lines bytes) b.high
 block_end bytes b h =
-    omega (arith, start-le-end 0 (length bytes) b.low (lines bytes) (cut bytes) h.there, end-mono 0 (length bytes) b.low b.high (lines bytes) (cut bytes) h.order)
+    omega (
+      arith,
+      start-le-end 0 (length bytes) b.low (lines bytes) (cut bytes) h.there,
+      end-mono 0 (length bytes) b.low b.high (lines bytes) (cut bytes) h.order,
+    )
 
 -- lines begin at or before the end of others where none is left out between them
-touch_start : (bytes : List ℕ) (low high : ℕ) → low < length (lines bytes) → low ≤ high + 1 → start_of (lines bytes) low ≤ end_of (length bytes) (lines bytes) high
+touch_start : (bytes : List ℕ) (low high : ℕ) → low < length (lines bytes) → low ≤ high + 1 → start_of (lines bytes) low
+    ≤ end_of (length bytes) (lines bytes) high
 touch_start bytes low high lt le =
     let n : ℕ = length bytes in
     let ls : List Line = lines bytes in
@@ -69,7 +77,8 @@ touch_start bytes low high lt le =
     (λ not_more. omega (arith, start-le-end 0 n low ls (cut bytes) lt, end-mono 0 n low high ls (cut bytes) not_more))
     (cases_lt high low)
 
-apart_start : (bytes : List ℕ) (low high : ℕ) → low < length (lines bytes) → high + 1 < low → end_of (length bytes) (lines bytes) high < start_of (lines bytes) low
+apart_start : (bytes : List ℕ) (low high : ℕ) → low < length (lines bytes) → high + 1 < low
+    → end_of (length bytes) (lines bytes) high < start_of (lines bytes) low
 apart_start bytes low high lt gap =
     let n : ℕ = length bytes in
     let ls : List Line = lines bytes in
@@ -87,7 +96,8 @@ touches_same : (bytes : List ℕ) (a b : Block) → IsBlock (length (lines bytes
     leb (span_of bytes b).offset (end_of_span (span_of bytes a)) ≡ leb b.low (a.high + 1)
 touches_same bytes a b ha hb =
     ap (leb (start_of (lines bytes) b.low)) (block_end bytes a ha)
-    ∙ by_cases {C = leb (start_of (lines bytes) b.low) (end_of (length bytes) (lines bytes) a.high) ≡ leb b.low (a.high + 1)} (leb b.low (a.high + 1))
+    ∙ by_cases {C = leb (start_of (lines bytes) b.low) (end_of (length bytes) (lines bytes) a.high)
+    ≡ leb b.low (a.high + 1)} (leb b.low (a.high + 1))
     (λ t. rw t (le-leb _ _ (touch_start bytes b.low a.high hb.there (leb-true b.low (a.high + 1) t))))
     (λ f. rw f (lt-leb _ _ (apart_start bytes b.low a.high hb.there (leb-false b.low (a.high + 1) f))))
 
@@ -104,24 +114,30 @@ blocks_by_begin (b ∷ bs) = put_block b (blocks_by_begin bs)
 put_there : (all : ℕ) (b : Block) (bs : List Block) → IsBlock all b → AreBlocks all bs → AreBlocks all (put_block b bs)
 put_there all b [] own h = (own, tt)
 put_there all b (next ∷ bs) own h =
-    by_cases {C = AreBlocks all (put_block b (next ∷ bs))} (leb b.low next.low) (λ t. rw t (own, h)) (λ f. rw f (h.0, put_there all b bs own h.1))
+    by_cases {C = AreBlocks all (put_block b (next ∷ bs))} (leb b.low next.low) (λ t. rw t (own, h))
+    (λ f. rw f (h.0, put_there all b bs own h.1))
 
 pub ordered_there : (all : ℕ) (bs : List Block) → AreBlocks all bs → AreBlocks all (blocks_by_begin bs)
 ordered_there all [] h = tt
 ordered_there all (b ∷ bs) h = put_there all b (blocks_by_begin bs) h.0 (ordered_there all bs h.1)
 
-put_same : (bytes : List ℕ) (b : Block) (bs : List Block) → IsBlock (length (lines bytes)) b → AreBlocks (length (lines bytes)) bs →
+put_same : (bytes : List ℕ) (b : Block) (bs : List Block) → IsBlock (length (lines bytes)) b
+    → AreBlocks (length (lines bytes)) bs →
     put_span (span_of bytes b) (map (span_of bytes) bs) ≡ map (span_of bytes) (put_block b bs)
 put_same bytes b [] own h = refl
 put_same bytes b (next ∷ bs) own h =
-    let same : leb (start_of (lines bytes) b.low) (start_of (lines bytes) next.low) ≡ leb b.low next.low = starts_same bytes b.low next.low own.there h.0.there in
-    by_cases {C = put_span (span_of bytes b) (map (span_of bytes) (next ∷ bs)) ≡ map (span_of bytes) (put_block b (next ∷ bs))} (leb b.low next.low)
+    let same : leb (start_of (lines bytes) b.low) (start_of (lines bytes) next.low) ≡ leb b.low next.low =
+    starts_same bytes b.low next.low own.there h.0.there in
+    by_cases {C = put_span (span_of bytes b) (map (span_of bytes) (next ∷ bs))
+    ≡ map (span_of bytes) (put_block b (next ∷ bs))} (leb b.low next.low)
     (λ t. rw (same, t) refl) (λ f. rw (same, f) (ap (λ r. span_of bytes next ∷ r) (put_same bytes b bs own h.1)))
 
-pub order_same : (bytes : List ℕ) (bs : List Block) → AreBlocks (length (lines bytes)) bs → by_begin (map (span_of bytes) bs) ≡ map (span_of bytes) (blocks_by_begin bs)
+pub order_same : (bytes : List ℕ) (bs : List Block) → AreBlocks (length (lines bytes)) bs
+    → by_begin (map (span_of bytes) bs) ≡ map (span_of bytes) (blocks_by_begin bs)
 order_same bytes [] h = refl
 order_same bytes (b ∷ bs) h =
-    ap (put_span (span_of bytes b)) (order_same bytes bs h.1) ∙ put_same bytes b (blocks_by_begin bs) h.0 (ordered_there (length (lines bytes)) bs h.1)
+    ap (put_span (span_of bytes b)) (order_same bytes bs h.1)
+    ∙ put_same bytes b (blocks_by_begin bs) h.0 (ordered_there (length (lines bytes)) bs h.1)
 
 -- each begins where the one before it does, or later
 abbrev pub AreAscending : ℕ → List Block → Type 0
@@ -132,7 +148,8 @@ lower : (i k : ℕ) (bs : List Block) → i ≤ k → AreAscending k bs → AreA
 lower i k [] le h = tt
 lower i k (b ∷ bs) le h = (omega (arith, h.0), h.1)
 
-put_ascends : (from : ℕ) (b : Block) (bs : List Block) → from ≤ b.low → AreAscending from bs → AreAscending from (put_block b bs)
+put_ascends : (from : ℕ) (b : Block) (bs : List Block) → from ≤ b.low → AreAscending from bs
+    → AreAscending from (put_block b bs)
 put_ascends from b [] le h = (le, tt)
 put_ascends from b (next ∷ bs) le h =
     by_cases {C = AreAscending from (put_block b (next ∷ bs))} (leb b.low next.low)
@@ -160,7 +177,8 @@ joined_block a b = record { low = a.low; high = max a.high b.high }
 
 abbrev pub blocks_from : Block → List Block → List Block
 blocks_from before [] = before ∷ []
-blocks_from before (b ∷ bs) = if leb b.low (before.high + 1) then blocks_from (joined_block before b) bs else before ∷ blocks_from b bs
+blocks_from before (b ∷ bs) = if leb b.low (before.high + 1) then blocks_from (joined_block before b) bs else before
+    ∷ blocks_from b bs
 
 abbrev pub joined_blocks : List Block → List Block
 joined_blocks [] = []
@@ -169,42 +187,53 @@ joined_blocks (b ∷ bs) = blocks_from b bs
 join_there : (all : ℕ) (a b : Block) → IsBlock all a → IsBlock all (joined_block a b)
 join_there all a b h = record { order = omega (arith, h.order); there = h.there }
 
-pub from_there : (all : ℕ) (before : Block) (bs : List Block) → IsBlock all before → AreBlocks all bs → AreBlocks all (blocks_from before bs)
+pub from_there : (all : ℕ) (before : Block) (bs : List Block) → IsBlock all before → AreBlocks all bs
+    → AreBlocks all (blocks_from before bs)
 from_there all before [] own h = (own, tt)
 from_there all before (b ∷ bs) own h =
     by_cases {C = AreBlocks all (blocks_from before (b ∷ bs))} (leb b.low (before.high + 1))
-    (λ t. rw t (from_there all (joined_block before b) bs (join_there all before b own) h.1)) (λ f. rw f (own, from_there all b bs h.0 h.1))
+    (λ t. rw t (from_there all (joined_block before b) bs (join_there all before b own) h.1))
+    (λ f. rw f (own, from_there all b bs h.0 h.1))
 
 pub joined_there : (all : ℕ) (bs : List Block) → AreBlocks all bs → AreBlocks all (joined_blocks bs)
 joined_there all [] h = tt
 joined_there all (b ∷ bs) h = from_there all b bs h.0 h.1
 
-greater_end : (bytes : List ℕ) (i k : ℕ) → max (end_of (length bytes) (lines bytes) i) (end_of (length bytes) (lines bytes) k) ≡ end_of (length bytes) (lines bytes) (max i k)
+greater_end : (bytes : List ℕ) (i k : ℕ) → max (end_of (length bytes) (lines bytes) i)
+    (end_of (length bytes) (lines bytes) k) ≡ end_of (length bytes) (lines bytes) (max i k)
 greater_end bytes i k =
     let n : ℕ = length bytes in
     let ls : List Line = lines bytes in
     ⊎_elim {C = max (end_of n ls i) (end_of n ls k) ≡ end_of n ls (max i k)}
-    (λ lt. let e : max i k ≡ k = omega arith in let le : end_of n ls i ≤ end_of n ls k = end-mono 0 n i k ls (cut bytes) (omega arith) in rw e (omega arith))
-    (λ ge. let e : max i k ≡ i = omega arith in let le : end_of n ls k ≤ end_of n ls i = end-mono 0 n k i ls (cut bytes) ge in rw e (omega arith))
+    (λ lt. let e : max i k ≡ k = omega arith in let le : end_of n ls i ≤ end_of n ls k =
+    end-mono 0 n i k ls (cut bytes) (omega arith) in rw e (omega arith))
+    (λ ge. let e : max i k ≡ i = omega arith in let le : end_of n ls k ≤ end_of n ls i =
+    end-mono 0 n k i ls (cut bytes) ge in rw e (omega arith))
     (cases_lt i k)
 
 pub join_same : (bytes : List ℕ) (a b : Block) → IsBlock (length (lines bytes)) a → IsBlock (length (lines bytes)) b →
     joined_span (span_of bytes a) (span_of bytes b) ≡ span_of bytes (joined_block a b)
 join_same bytes a b ha hb =
-    ap₂ (λ x y. record { offset = start_of (lines bytes) a.low; len = max x y - start_of (lines bytes) a.low }) (block_end bytes a ha) (block_end bytes b hb)
-    ∙ ap (λ x. record { offset = start_of (lines bytes) a.low; len = x - start_of (lines bytes) a.low }) (greater_end bytes a.high b.high)
+    ap₂ (λ x y. record { offset = start_of (lines bytes) a.low; len = max x y - start_of (lines bytes) a.low })
+    (block_end bytes a ha) (block_end bytes b hb)
+    ∙ ap (λ x. record { offset = start_of (lines bytes) a.low; len = x - start_of (lines bytes) a.low })
+    (greater_end bytes a.high b.high)
 
-from_same : (bytes : List ℕ) (before : Block) (bs : List Block) → IsBlock (length (lines bytes)) before → AreBlocks (length (lines bytes)) bs →
+from_same : (bytes : List ℕ) (before : Block) (bs : List Block) → IsBlock (length (lines bytes)) before
+    → AreBlocks (length (lines bytes)) bs →
     stretches_from (span_of bytes before) (map (span_of bytes) bs) ≡ map (span_of bytes) (blocks_from before bs)
 from_same bytes before [] own h = refl
 from_same bytes before (b ∷ bs) own h =
-    let same : leb (start_of (lines bytes) b.low) (end_of_span (span_of bytes before)) ≡ leb b.low (before.high + 1) = touches_same bytes before b own h.0 in
-    by_cases {C = stretches_from (span_of bytes before) (map (span_of bytes) (b ∷ bs)) ≡ map (span_of bytes) (blocks_from before (b ∷ bs))} (leb b.low (before.high + 1))
+    let same : leb (start_of (lines bytes) b.low) (end_of_span (span_of bytes before)) ≡ leb b.low (before.high + 1) =
+    touches_same bytes before b own h.0 in
+    by_cases {C = stretches_from (span_of bytes before) (map (span_of bytes) (b ∷ bs))
+    ≡ map (span_of bytes) (blocks_from before (b ∷ bs))} (leb b.low (before.high + 1))
     (λ t. rw (same, t) (ap (λ s. stretches_from s (map (span_of bytes) bs)) (join_same bytes before b own h.0)
     ∙ from_same bytes (joined_block before b) bs (join_there (length (lines bytes)) before b own) h.1))
     (λ f. rw (same, f) (ap (λ r. span_of bytes before ∷ r) (from_same bytes b bs h.0 h.1)))
 
-pub joined_same : (bytes : List ℕ) (bs : List Block) → AreBlocks (length (lines bytes)) bs → joined_stretches (map (span_of bytes) bs) ≡ map (span_of bytes) (joined_blocks bs)
+pub joined_same : (bytes : List ℕ) (bs : List Block) → AreBlocks (length (lines bytes)) bs
+    → joined_stretches (map (span_of bytes) bs) ≡ map (span_of bytes) (joined_blocks bs)
 joined_same bytes [] h = refl
 joined_same bytes (b ∷ bs) h = from_same bytes b bs h.0 h.1
 
@@ -222,28 +251,36 @@ numbers_of all b = range_with_len b.low (min (b.high + 1) all - b.low)
 
 none-below : (from k : ℕ) (bs : List Block) → AreAscending from bs → k < from → in_blocks bs k ≡ false
 none-below from k [] h lt = refl
-none-below from k (b ∷ bs) h lt = let no : leb b.low k ≡ false = lt-leb b.low k (omega (arith, h.0)) in rw no (none-below b.low k bs h.1 (omega (arith, h.0)))
+none-below from k (b ∷ bs) h lt = let no : leb b.low k ≡ false = lt-leb b.low k (omega (arith, h.0)) in
+    rw no (none-below b.low k bs h.1 (omega (arith, h.0)))
 
-pub merged : (all : ℕ) (before : Block) (bs : List Block) → IsBlock all before → AreBlocks all bs → AreAscending before.low bs →
+pub merged : (all : ℕ) (before : Block) (bs : List Block) → IsBlock all before → AreBlocks all bs
+    → AreAscending before.low bs →
     map (numbers_of all) (blocks_from before bs) ≡ ranges (filter (in_blocks (before ∷ bs)) (range_with_len 0 all))
 merged all before [] own h up =
-    sym (span_run before.low before.high all (λ k. false) own.order own.there (λ k a. refl) ∙ rw (filter-none (λ k. false) 0 all (λ k a b. refl)) refl)
+    sym (span_run before.low before.high all (λ k. false) own.order own.there (λ k a. refl)
+    ∙ rw (filter-none (λ k. false) 0 all (λ k a b. refl)) refl)
 merged all before (b ∷ bs) own h up =
-    by_cases {C = map (numbers_of all) (blocks_from before (b ∷ bs)) ≡ ranges (filter (in_blocks (before ∷ b ∷ bs)) (range_with_len 0 all))} (leb b.low (before.high + 1))
-    (λ t. rw t (merged all (joined_block before b) bs (join_there all before b own) h.1 (lower before.low b.low bs up.0 up.1)
+    by_cases {C = map (numbers_of all) (blocks_from before (b ∷ bs))
+    ≡ ranges (filter (in_blocks (before ∷ b ∷ bs)) (range_with_len 0 all))} (leb b.low (before.high + 1))
+    (λ t. rw t (merged all (joined_block before b) bs (join_there all before b own) h.1
+    (lower before.low b.low bs up.0 up.1)
     ∙ ap ranges (filter_agree _ _ (λ k. sym (or_assoc (is_in_block k before) (is_in_block k b) (in_blocks bs k)
-    ∙ ap (λ x. x || in_blocks bs k) (within before.low before.high b.low b.high k up.0 (leb-true b.low (before.high + 1) t)))) (range_with_len 0 all))))
+    ∙ ap (λ x. x || in_blocks bs k) (within before.low before.high b.low b.high k up.0
+    (leb-true b.low (before.high + 1) t)))) (range_with_len 0 all))))
     (λ f. let gap : before.high + 1 < b.low = leb-false b.low (before.high + 1) f in
     rw f (ap (λ r. numbers_of all before ∷ r) (merged all b bs h.0 h.1 up.1)
     ∙ sym (span_run before.low before.high all (in_blocks (b ∷ bs)) own.order own.there
     (λ k a. none-below b.low k (b ∷ bs) (omega arith, up.1) (omega arith)))))
 
 -- the blocks joined by where they begin hold the maximal runs of all their numbers
-joined_runs : (all : ℕ) (bs : List Block) → AreBlocks all bs → AreAscending 0 bs → map (numbers_of all) (joined_blocks bs) ≡ ranges (filter (in_blocks bs) (range_with_len 0 all))
+joined_runs : (all : ℕ) (bs : List Block) → AreBlocks all bs → AreAscending 0 bs
+    → map (numbers_of all) (joined_blocks bs) ≡ ranges (filter (in_blocks bs) (range_with_len 0 all))
 joined_runs all [] h up = rw (filter-none (λ k. false) 0 all (λ k a b. refl)) refl
 joined_runs all (b ∷ bs) h up = merged all b bs h.0 h.1 up.1
 
-pub blocks_are_runs : (all : ℕ) (bs : List Block) → AreBlocks all bs → map (numbers_of all) (joined_blocks (blocks_by_begin bs)) ≡ ranges (filter (in_blocks bs) (range_with_len 0 all))
+pub blocks_are_runs : (all : ℕ) (bs : List Block) → AreBlocks all bs
+    → map (numbers_of all) (joined_blocks (blocks_by_begin bs)) ≡ ranges (filter (in_blocks bs) (range_with_len 0 all))
 blocks_are_runs all bs h =
     joined_runs all (blocks_by_begin bs) (ordered_there all bs h) (ordered_ascends bs)
     ∙ ap ranges (filter_agree _ _ (λ k. ordered_any (is_in_block k) bs) (range_with_len 0 all))

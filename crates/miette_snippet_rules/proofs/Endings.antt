@@ -1,8 +1,12 @@
--- A read tells where the source ends: it lends bytes before its label and none from there on just where the label begins at the end of a source that isn't empty, with a line of context.
-use Rattle.std.proofs.Common.{ℕ, zero, suc, ◌+◌, ◌<◌, ◌≤◌, ◌≡◌, ◌⊎◌, inl, inr, max, Bool, true, false, cond, eqb, ltb, leb, ◌&&◌, ◌||◌, Option, Some, None, List, [], ◌∷◌, length, map, refl, sym, ap, ◌∙◌, subst, arith, All}
+-- A read tells where the source ends: it lends bytes before its label and none from there on just where the label
+-- begins at the end of a source that isn't empty, with a line of context.
+use Rattle.std.proofs.Common.{ℕ, zero, suc, ◌+◌, ◌<◌, ◌≤◌, ◌≡◌, ◌⊎◌, inl, inr, max, Bool, true, false, cond, eqb, ltb}
+use Rattle.std.proofs.Common.{leb, ◌&&◌, ◌||◌, Option, Some, None, List, [], ◌∷◌, length, map, refl, sym, ap, ◌∙◌}
+use Rattle.std.proofs.Common.{subst, arith, All}
 use Rattle.std.specs.Prelude.{unwrap_or}
 use Rattle.std.specs.List.{list_any}
-use Rattle.std.proofs.lemmas.Bool.{leb-false, eqb-true, eqb-false, eq-eqb, ne_eqb, lt-ltb, le-ltb, and_left, and_right, and_from}
+use Rattle.std.proofs.lemmas.Bool.{leb-false, eqb-true, eqb-false, eq-eqb, ne_eqb, lt-ltb, le-ltb, and_left, and_right}
+use Rattle.std.proofs.lemmas.Bool.{and_from}
 use Rattle.miette_source_lines.specs.rules.Lines.{Line}
 use Rattle.miette_protocol.specs.views.Meaning.{Label}
 use Rattle.miette_protocol.specs.rules.Reading.{Span, Source}
@@ -41,53 +45,82 @@ beyond at n o zero (l ∷ ls) h lt on =
 beyond at n o (suc k) (l ∷ ls) h lt on =
     by_cases {C = o < end_of n ls k} (leb l.end o)
     (λ t. by_cases {C = o < end_of n ls k} (ltb l.text_end l.end)
-    (λ e. let on' : cond (true && true) 1 0 + line_of ls o ≤ suc k = rw (t, e) at on in beyond l.end n o k ls h.5 lt (omega (arith, on')))
+    (λ e. let on' : cond (true && true) 1 0 + line_of ls o ≤ suc k = rw (t, e) at on in
+    beyond l.end n o k ls h.5 lt (omega (arith, on')))
     (λ e. omega (arith, lt, end-ge l.end n k ls h.5, last-ends l.text_end l.end n h.4 e (cut-le l.end n ls h.5))))
     (λ f. omega (arith, leb-false l.end o f, end-ge l.end n k ls h.5))
 
-read_beyond : (c : ℕ) (bytes : List ℕ) (span : Span) → span.offset < length bytes → span.offset < (read c bytes span).end
+read_beyond : (c : ℕ) (bytes : List ℕ) (span : Span) → span.offset < length bytes → span.offset
+    < (read c bytes span).end
 read_beyond c bytes span lt =
     beyond 0 (length bytes) span.offset (last_line c bytes span) (lines bytes) (cut bytes) lt
-    (omega (arith, line-mono span.offset (reading_end bytes (end_of_span span)) (lines bytes) (omega (arith, end-le-reading bytes (end_of_span span)))))
+    (omega (
+      arith,
+      line-mono span.offset (reading_end bytes (end_of_span span)) (lines bytes)
+          (omega (arith, end-le-reading bytes (end_of_span span))),
+    ))
 
 -- ---- one read
 
 abbrev lends : ℕ → Source → Span → Bool
-lends c source span = ltb (contents c source span).span.offset span.offset && eqb (C.end_of_span (contents c source span).span) span.offset
+lends c source span = ltb (contents c source span).span.offset span.offset
+    && eqb (C.end_of_span (contents c source span).span) span.offset
 
 abbrev ends_there : ℕ → ℕ → ℕ → Bool
 ends_there n offset c = ltb 0 n && (eqb offset n && ltb 0 c)
 
-some_tells : (c : ℕ) (source : Source) (span : Span) → 1 ≤ c → 0 < length source.bytes → span.offset ≤ length source.bytes → lends c source span ≡ ends_there (length source.bytes) span.offset c
+some_tells : (c : ℕ) (source : Source) (span : Span) → 1 ≤ c → 0 < length source.bytes → span.offset
+    ≤ length source.bytes → lends c source span ≡ ends_there (length source.bytes) span.offset c
 some_tells c source span one some le =
     let bytes : List ℕ = source.bytes in
     let n : ℕ = length bytes in
-    let end : C.end_of_span (contents c source span).span ≡ (read c bytes span).end = end-of-data c source span one some in
+    let end : C.end_of_span (contents c source span).span ≡ (read c bytes span).end = end-of-data c source span one some
+    in
     let nonempty : ltb 0 n ≡ true = lt-ltb 0 n some in
     let around : ltb 0 c ≡ true = lt-ltb 0 c one in
     by_cases {C = lends c source span ≡ ends_there n span.offset c} (eqb span.offset n)
     (λ t. let is : span.offset ≡ n = eqb-true span.offset n t in
     let from : (contents c source span).span.offset < span.offset =
-    omega (arith, is, begin_same c source span one some, start-lt 0 n (first_line c bytes span) (lines bytes) (cut bytes) (first-lt c bytes span one some)) in
+    omega (
+      arith,
+      is,
+      begin_same c source span one some,
+      start-lt 0 n (first_line c bytes span) (lines bytes)
+          (cut bytes) (first-lt c bytes span one some),
+    ) in
     let to : C.end_of_span (contents c source span).span ≡ span.offset =
-    omega (arith, is, end, end-in 0 n (last_line c bytes span) (lines bytes) (cut bytes), covered c bytes span n (omega arith) (omega (arith, is))) in
+    omega (
+      arith,
+      is,
+      end,
+      end-in 0 n (last_line c bytes span) (lines bytes) (cut bytes),
+      covered c bytes span n (omega arith) (omega (arith, is)),
+    ) in
     and_from _ _ (lt-ltb _ _ from) (eq-eqb _ _ to) ∙ sym (and_from _ _ nonempty (and_from _ _ t around)))
     (λ f. let lt : span.offset < n = omega (arith, le, eqb-false span.offset n f) in
     let past : eqb (C.end_of_span (contents c source span).span) span.offset ≡ false =
-    ne_eqb (C.end_of_span (contents c source span).span) span.offset (λ e. omega (arith, e, end, read_beyond c bytes span lt)) in
-    and_right (ltb (contents c source span).span.offset span.offset) _ past ∙ sym (and_right (ltb 0 n) _ (and_left _ (ltb 0 c) f)))
+    ne_eqb (C.end_of_span (contents c source span).span) span.offset
+    (λ e. omega (arith, e, end, read_beyond c bytes span lt)) in
+    and_right (ltb (contents c source span).span.offset span.offset) _ past
+    ∙ sym (and_right (ltb 0 n) _ (and_left _ (ltb 0 c) f)))
 
-none_tells : (c : ℕ) (source : Source) (span : Span) → span.offset ≤ length source.bytes → (length source.bytes ≡ 0) → lends c source span ≡ ends_there (length source.bytes) span.offset c
+none_tells : (c : ℕ) (source : Source) (span : Span) → span.offset ≤ length source.bytes → (length source.bytes ≡ 0)
+    → lends c source span ≡ ends_there (length source.bytes) span.offset c
 none_tells c source span le none =
-    and_left _ _ (le-ltb (contents c source span).span.offset span.offset (omega (arith, le, none))) ∙ sym (and_left _ _ (le-ltb 0 (length source.bytes) (omega (arith, none))))
+    and_left _ _ (le-ltb (contents c source span).span.offset span.offset (omega (arith, le, none)))
+    ∙ sym (and_left _ _ (le-ltb 0 (length source.bytes) (omega (arith, none))))
 
-by_size : (c : ℕ) (source : Source) (span : Span) → 1 ≤ c → span.offset ≤ length source.bytes → (length source.bytes ≡ 0) ⊎ (0 < length source.bytes) → lends c source span ≡ ends_there (length source.bytes) span.offset c
+by_size : (c : ℕ) (source : Source) (span : Span) → 1 ≤ c → span.offset ≤ length source.bytes
+    → (length source.bytes ≡ 0) ⊎ (0 < length source.bytes) → lends c source span
+    ≡ ends_there (length source.bytes) span.offset c
 by_size c source span one le (inl none) = none_tells c source span le none
 by_size c source span one le (inr some) = some_tells c source span one some le
 
-tells : (c : ℕ) (source : Source) (span : Span) → span.offset ≤ length source.bytes → lends c source span ≡ ends_there (length source.bytes) span.offset c
+tells : (c : ℕ) (source : Source) (span : Span) → span.offset ≤ length source.bytes → lends c source span
+    ≡ ends_there (length source.bytes) span.offset c
 tells zero source span le =
-    and_left _ _ (le-ltb span.offset span.offset (omega arith)) ∙ sym (and_right (ltb 0 (length source.bytes)) _ (and_right (eqb span.offset (length source.bytes)) false refl))
+    and_left _ _ (le-ltb span.offset span.offset (omega arith))
+    ∙ sym (and_right (ltb 0 (length source.bytes)) _ (and_right (eqb span.offset (length source.bytes)) false refl))
 tells (suc c) source span le = by_size (suc c) source span (omega arith) le (none_or_some (length source.bytes))
 
 read_tells : (context : ℕ) (source : Source) (labels : List Label) (r : ReadLabel) → IsRead context source labels r →
@@ -96,25 +129,31 @@ read_tells context source labels r h =
     let l : Label = label_at labels r.index in
     ap (λ s. ltb r.contents.span.offset s.offset && eqb (C.end_of_span r.contents.span) s.offset) h.span
     ∙ ap (λ it. ltb it.span.offset l.span.offset && eqb (C.end_of_span it.span) l.span.offset) h.contents_are
-    ∙ tells (lines_around context labels l) source l.span (subst (λ (s : Span). s.offset ≤ length source.bytes) h.span h.accepted.begins)
+    ∙ tells (lines_around context labels l) source l.span
+    (subst (λ (s : Span). s.offset ≤ length source.bytes) h.span h.accepted.begins)
 
 -- ---- all reads
 
 at_end : (n lines : ℕ) (l : Label) → shows_end n lines l ≡ true → l.span.offset ≡ n
 at_end n lines l h =
     by_cases {C = l.span.offset ≡ n} (eqb l.span.offset n) (λ t. eqb-true l.span.offset n t)
-    (λ f. let no : shows_end n lines l ≡ false = and_right (ltb 0 n) _ (and_left _ (ltb 0 lines) f) in let k : true ≡ false = sym h ∙ no in cc)
+    (λ f. let no : shows_end n lines l ≡ false = and_right (ltb 0 n) _ (and_left _ (ltb 0 lines) f) in let k : true
+    ≡ false = sym h ∙ no in cc)
 
-told_all : (context : ℕ) (source : Source) (labels : List Label) (rs : List ReadLabel) → All (IsRead context source labels) rs →
-    told_end rs ≡ end_told (list_any (λ l. shows_end (length source.bytes) (lines_around context labels l) l) (map (read_of labels) rs)) (length source.bytes)
+told_all : (context : ℕ) (source : Source) (labels : List Label) (rs : List ReadLabel)
+    → All (IsRead context source labels) rs →
+    told_end rs ≡ end_told (list_any (λ l. shows_end (length source.bytes) (lines_around context labels l) l)
+    (map (read_of labels) rs)) (length source.bytes)
 told_all context source labels [] h = refl
 told_all context source labels (r ∷ rs) h =
     let n : ℕ = length source.bytes in
     let l : Label = label_at labels r.index in
     let own : IsRead context source labels r = h 0 r (omega arith) in
-    let same : lends_before r ≡ shows_end n (lines_around context labels l) l = read_tells context source labels r own in
+    let same : lends_before r ≡ shows_end n (lines_around context labels l) l = read_tells context source labels r own
+    in
     let later = told_all context source labels rs (λ k d lt. h (suc k) d (omega arith)) in
-    by_cases {C = told_end (r ∷ rs) ≡ end_told (list_any (λ l. shows_end n (lines_around context labels l) l) (map (read_of labels) (r ∷ rs))) n} (lends_before r)
+    by_cases {C = told_end (r ∷ rs) ≡ end_told (list_any (λ l. shows_end n (lines_around context labels l) l)
+    (map (read_of labels) (r ∷ rs))) n} (lends_before r)
     (λ t. let u : shows_end n (lines_around context labels l) l ≡ true = sym same ∙ t in
     let is : r.span.offset ≡ n = ap (λ (s : Span). s.offset) own.span ∙ at_end n (lines_around context labels l) l u in
     rw (t, u) (ap Some is))
@@ -127,18 +166,22 @@ any_same p q same [] = refl
 any_same p q same (l ∷ ls) = ap (λ b. b || list_any p ls) (same l) ∙ ap (λ b. q l || b) (any_same p q same ls)
 
 around_group : (own : Bool) (context : ℕ) (number : Option ℕ) →
-    ltb 0 (unwrap_or number (cond own (max 1 (cond own 0 context)) (cond own 0 context))) ≡ ltb 0 (unwrap_or number (cond own (max 1 context) context))
+    ltb 0 (unwrap_or number (cond own (max 1 (cond own 0 context)) (cond own 0 context)))
+    ≡ ltb 0 (unwrap_or number (cond own (max 1 context) context))
 around_group false context number = refl
 around_group true context None = sym (lt-ltb 0 (max 1 context) (omega arith))
 around_group true context (Some k) = refl
 
-pub shows_around : (context n : ℕ) (ls : List Label) → some_shows_end (group_context context ls) n ls ≡ some_shows_end context n ls
+pub shows_around : (context n : ℕ) (ls : List Label) → some_shows_end (group_context context ls) n ls
+    ≡ some_shows_end context n ls
 shows_around context n ls =
-    any_same (λ l. shows_end n (lines_around (group_context context ls) ls l) l) (λ l. shows_end n (lines_around context ls l) l)
+    any_same (λ l. shows_end n (lines_around (group_context context ls) ls l) l)
+    (λ l. shows_end n (lines_around context ls l) l)
     (λ l. ap (λ b. ltb 0 n && (eqb l.span.offset n && b)) (around_group (has_own ls) context l.context)) ls
 
 -- the drawn labels are the same with either number
-pub drawn_around : (s : SnippetSettings) (n : ℕ) (ls : List Label) → drawn_labels (settings_around s ls) n ls ≡ drawn_labels s n ls
+pub drawn_around : (s : SnippetSettings) (n : ℕ) (ls : List Label) → drawn_labels (settings_around s ls) n ls
+    ≡ drawn_labels s n ls
 drawn_around s n ls = ap (λ b. drawn_from (s.end_labels && b) s.styles.highlights n 0 ls) (shows_around s.context n ls)
 
 wanted_told : (wanted shows : Bool) (n : ℕ) → cond wanted (end_told shows n) None ≡ end_told (wanted && shows) n
@@ -146,11 +189,15 @@ wanted_told true shows n = refl
 wanted_told false shows n = refl
 
 -- where the end is wanted, the reads tell it just where the labels at the end are drawn
-pub told_is : (wanted : Bool) (context : ℕ) (source : Source) (labels : List Label) (rs : List ReadLabel) → All (IsRead context source labels) rs → map (read_of labels) rs ≡ in_order labels →
-    cond wanted (told_end rs) None ≡ end_told (wanted && some_shows_end context (length source.bytes) (in_order labels)) (length source.bytes)
+pub told_is : (wanted : Bool) (context : ℕ) (source : Source) (labels : List Label) (rs : List ReadLabel)
+    → All (IsRead context source labels) rs → map (read_of labels) rs ≡ in_order labels →
+    cond wanted (told_end rs) None ≡ end_told (wanted && some_shows_end context (length source.bytes) (in_order labels))
+    (length source.bytes)
 told_is wanted context source labels rs h order =
     let n : ℕ = length source.bytes in
     ap (λ e. cond wanted e None) (told_all context source labels rs h)
     ∙ ap (λ ls. cond wanted (end_told (list_any (λ l. shows_end n (lines_around context labels l) l) ls) n) None) order
-    ∙ ap (λ own. cond wanted (end_told (list_any (λ l. shows_end n (unwrap_or l.context (cond own (max 1 context) context)) l) (in_order labels)) n) None) (sym (own_ordered labels))
+    ∙ ap (λ own. cond wanted (end_told (list_any (λ l. shows_end n
+    (unwrap_or l.context (cond own (max 1 context) context)) l) (in_order labels)) n) None)
+    (sym (own_ordered labels))
     ∙ wanted_told wanted (some_shows_end context n (in_order labels)) n

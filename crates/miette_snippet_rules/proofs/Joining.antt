@@ -8,7 +8,8 @@ use Rattle.miette_labels.proofs.Sources.{lines, first_line, last_line, read, lin
 -- a span comes before the first one that does not begin before it
 abbrev pub put_by_offset : Span → List Span → List Span
 put_by_offset label [] = label ∷ []
-put_by_offset label (next ∷ labels) = if nat_le label.offset next.offset then label ∷ next ∷ labels else next ∷ put_by_offset label labels
+put_by_offset label (next ∷ labels) = if nat_le label.offset next.offset then label ∷ next ∷ labels else next
+    ∷ put_by_offset label labels
 
 -- labels by offset, ties as given
 abbrev pub by_offset : List Span → List Span

@@ -1,5 +1,6 @@
 -- The lines of a source: where they begin and end, and how they are counted.
-use Rattle.std.proofs.Common.{ℕ, zero, suc, ◌+◌, ◌<◌, ◌≤◌, ◌≡◌, min, Bool, true, false, cond, ltb, leb, List, [], ◌∷◌, length, refl, ⊎_elim, ◌&&◌, arith}
+use Rattle.std.proofs.Common.{ℕ, zero, suc, ◌+◌, ◌<◌, ◌≤◌, ◌≡◌, min, Bool, true, false, cond, ltb, leb, List, [], ◌∷◌}
+use Rattle.std.proofs.Common.{length, refl, ⊎_elim, ◌&&◌, arith}
 use Rattle.std.proofs.lemmas.Bool.{lt-ltb, le-ltb, le-leb, lt-leb, ltb-false, leb-true, leb-false, cases_lt}
 use Rattle.miette_basics.proofs.Cases.{by_cases}
 use Rattle.miette_source_lines.specs.rules.Lines.{Line, is_terminated}
@@ -7,7 +8,8 @@ use Rattle.miette_labels.proofs.Sources.{IsCut, line_of, terminators_in, start_o
 use Rattle.miette_labels.proofs.Lines.{cut-le}
 
 pub last_one : (text_end after n : ℕ) → (after < n → text_end < after) → after ≤ text_end → after ≤ n → after ≡ n
-last_one text_end after n h le in_n = ⊎_elim {C = after ≡ n} (λ lt. absurd (omega (arith, h lt))) (λ ge. omega arith) (cases_lt after n)
+last_one text_end after n h le in_n = ⊎_elim {C = after ≡ n} (λ lt. absurd (omega (arith, h lt))) (λ ge. omega arith)
+    (cases_lt after n)
 
 one_or_none : (a e : Bool) → cond (a && e) 1 0 ≤ cond (true && e) 1 0
 one_or_none true e = omega arith
@@ -27,7 +29,8 @@ line-mono a b [] le = omega arith
 line-mono a b (l ∷ ls) le =
     let later : line_of ls a ≤ line_of ls b = line-mono a b ls le in
     by_cases (leb l.end a)
-    (λ t. let u : leb l.end b ≡ true = le-leb l.end b (omega (arith, leb-true l.end a t)) in rw (t, u) (omega (arith, later)))
+    (λ t. let u : leb l.end b ≡ true = le-leb l.end b (omega (arith, leb-true l.end a t)) in
+    rw (t, u) (omega (arith, later)))
     (λ f. rw f (omega (arith, later)))
 
 -- no offset is past the last line with a terminator
@@ -40,17 +43,21 @@ line-le at n offset (l ∷ ls) h =
 
 pub line-le-length : (offset : ℕ) (ls : List Line) → line_of ls offset ≤ length ls
 line-le-length offset [] = omega arith
-line-le-length offset (l ∷ ls) = let later : line_of ls offset ≤ length ls = line-le-length offset ls in grind (arith, later)
+line-le-length offset (l ∷ ls) = let later : line_of ls offset ≤ length ls = line-le-length offset ls in
+    grind (arith, later)
 
 -- terminators up to a place are those up to an earlier place and those between
-pub terminators : (begin end : ℕ) (ls : List Line) → begin ≤ end → line_of ls begin + terminators_in ls begin end ≡ line_of ls end
+pub terminators : (begin end : ℕ) (ls : List Line) → begin ≤ end → line_of ls begin + terminators_in ls begin end
+    ≡ line_of ls end
 terminators begin end [] le = omega arith
 terminators begin end (l ∷ ls) le =
     let later : line_of ls begin + terminators_in ls begin end ≡ line_of ls end = terminators begin end ls le in
     by_cases (leb l.end begin)
     (λ t. let u : leb l.end end ≡ true = le-leb l.end end (omega (arith, leb-true l.end begin t)) in
-    let v : ltb begin l.end ≡ false = le-ltb begin l.end (leb-true l.end begin t) in rw (t, u, v) (omega (arith, later)))
-    (λ f. let v : ltb begin l.end ≡ true = lt-ltb begin l.end (leb-false l.end begin f) in rw (f, v) (omega (arith, later)))
+    let v : ltb begin l.end ≡ false = le-ltb begin l.end (leb-true l.end begin t) in
+    rw (t, u, v) (omega (arith, later)))
+    (λ f. let v : ltb begin l.end ≡ true = lt-ltb begin l.end (leb-false l.end begin f) in
+    rw (f, v) (omega (arith, later)))
 
 pub start-ge : (at n k : ℕ) (ls : List Line) → IsCut at n ls → k < length ls → at ≤ start_of ls k
 start-ge at n k [] h lt = absurd (omega (arith, lt))
@@ -106,7 +113,8 @@ line-end at n zero (l ∷ ls) h =
     let v : leb l.end n ≡ true = le-leb l.end n (cut-le l.end n ls h.5) in
     by_cases (ltb l.text_end l.end)
     (λ e. rw (u, v, e, none) (omega arith))
-    (λ e. let same : l.end ≡ n = last_one l.text_end l.end n h.4 (ltb-false l.text_end l.end e) (cut-le l.end n ls h.5) in
+    (λ e. let same : l.end ≡ n = last_one l.text_end l.end n h.4 (ltb-false l.text_end l.end e) (cut-le l.end n ls h.5)
+    in
     let none' : line_of ls n ≡ 0 = line-zero l.end n n ls h.5 (omega (arith, same)) in
     rw (u, v, e, none, none') (omega arith))
 line-end at n (suc k) (l ∷ ls) h =
@@ -115,7 +123,8 @@ line-end at n (suc k) (l ∷ ls) h =
     let v : leb l.end n ≡ true = le-leb l.end n (cut-le l.end n ls h.5) in
     by_cases (ltb l.text_end l.end)
     (λ e. rw (u, v, e) (omega (arith, later)))
-    (λ e. let same : l.end ≡ n = last_one l.text_end l.end n h.4 (ltb-false l.text_end l.end e) (cut-le l.end n ls h.5) in
+    (λ e. let same : l.end ≡ n = last_one l.text_end l.end n h.4 (ltb-false l.text_end l.end e) (cut-le l.end n ls h.5)
+    in
     let none : line_of ls n ≡ 0 = line-zero l.end n n ls h.5 (omega (arith, same)) in
     rw (u, v, e) (omega (arith, later, none)))
 
@@ -133,4 +142,5 @@ pub start-next : (at n k : ℕ) (ls : List Line) → IsCut at n ls → k + 1 < l
 start-next at n k [] h lt = absurd (omega (arith, lt))
 start-next at n zero (l ∷ []) h lt = absurd (omega (arith, lt))
 start-next at n zero (l ∷ m ∷ ls) h lt = h.5.0
-start-next at n (suc k) (l ∷ ls) h lt = let e : suc k + 1 ≡ suc (k + 1) = omega arith in rw e (start-next l.end n k ls h.5 (omega (arith, lt)))
+start-next at n (suc k) (l ∷ ls) h lt = let e : suc k + 1 ≡ suc (k + 1) = omega arith in
+    rw e (start-next l.end n k ls h.5 (omega (arith, lt)))

@@ -8,7 +8,10 @@ none_each : (blank : Bool) (texts : List (List ℕ)) → EachHasPieces blank tex
 none_each blank [] = tt
 none_each blank (text ∷ texts) = (record { cut = λ some. absurd (some refl); none = λ b. refl }, none_each blank texts)
 
-pub none_have : (context : ℕ) (blank : Bool) (source : Source) (groups : List Span) → SnippetsHavePieces context blank source groups []
+pub none_have : (context : ℕ) (blank : Bool) (source : Source) (groups : List Span)
+    → SnippetsHavePieces context blank source groups []
 none_have context blank source [] = tt
-none_have context blank source (group ∷ groups) =
-    (none_each blank (texts_of source.bytes (lines_of_contents (contents context source group))), none_have context blank source groups)
+none_have context blank source (group ∷ groups) = (
+  none_each blank (texts_of source.bytes (lines_of_contents (contents context source group))),
+  none_have context blank source groups,
+)

@@ -1,5 +1,6 @@
 -- The lines of a part of a source that begins and ends where lines do are those lines of the source.
-use Rattle.std.proofs.Common.{ℕ, zero, suc, ◌+◌, ◌-◌, ◌<◌, ◌≤◌, ◌≡◌, min, Bool, true, false, cond, eqb, List, [], ◌∷◌, length, map, take, drop, refl, sym, ap, ◌∙◌, arith}
+use Rattle.std.proofs.Common.{ℕ, zero, suc, ◌+◌, ◌-◌, ◌<◌, ◌≤◌, ◌≡◌, min, Bool, true, false, cond, eqb, List, [], ◌∷◌}
+use Rattle.std.proofs.Common.{length, map, take, drop, refl, sym, ap, ◌∙◌, arith}
 use Rattle.std.proofs.lemmas.List.{drop-take, length-drop, length-take}
 use Rattle.std.proofs.Math.Seq.{take-nil}
 use Rattle.std.specs.Prelude.{slice_range}
@@ -16,7 +17,8 @@ some-size [] h = absurd (omega (arith, h))
 some-size (byte ∷ bytes) h =
     by_cases {C = 0 < first_size (byte ∷ bytes)} (eqb byte 10) (λ t. rw t (omega arith))
     (λ f. by_cases {C = 0 < first_size (byte ∷ bytes)} (eqb byte 13)
-    (λ t. by_cases {C = 0 < first_size (byte ∷ bytes)} (begins_with_lf bytes) (λ u. rw (f, t, u) (omega arith)) (λ u. rw (f, t, u) (omega arith)))
+    (λ t. by_cases {C = 0 < first_size (byte ∷ bytes)} (begins_with_lf bytes) (λ u. rw (f, t, u) (omega arith))
+    (λ u. rw (f, t, u) (omega arith)))
     (λ g. rw (f, g) (omega arith)))
 
 abbrev Fits : ℕ → List ℕ → Type 0
@@ -57,27 +59,32 @@ front_fits (suc m) (byte ∷ c ∷ cs) some le =
 
 -- the front of some bytes that holds their first line is parted as they are
 front_parted : (at m : ℕ) (bytes : List ℕ) → 0 < length bytes → first_size bytes ≤ m →
-    lines_from at (take m bytes) ≡ made at (at + first_text bytes) (at + first_size bytes) ∷ lines_from (at + first_size bytes) (take (m - first_size bytes) (drop (first_size bytes) bytes))
+    lines_from at (take m bytes) ≡ made at (at + first_text bytes) (at + first_size bytes)
+    ∷ lines_from (at + first_size bytes) (take (m - first_size bytes) (drop (first_size bytes) bytes))
 front_parted at m bytes some le =
     let size : ℕ = first_size bytes in
     let h : Fits m bytes = front_fits m bytes some le in
     let long : 0 < length (take m bytes) = omega (arith, length-take m bytes, some, le, some-size bytes some) in
     let whole : m ≡ size + (m - size) = omega (arith, le) in
     parted at (take m bytes) long
-    ∙ ap (λ n. made at (at + n) (at + first_size (take m bytes)) ∷ lines_from (at + first_size (take m bytes)) (drop (first_size (take m bytes)) (take m bytes))) h.0
+    ∙ ap (λ n. made at (at + n) (at + first_size (take m bytes))
+    ∷ lines_from (at + first_size (take m bytes)) (drop (first_size (take m bytes)) (take m bytes))) h.0
     ∙ ap (λ n. made at (at + first_text bytes) (at + n) ∷ lines_from (at + n) (drop n (take m bytes))) h.1
     ∙ ap (λ n. made at (at + first_text bytes) (at + size) ∷ lines_from (at + size) (drop size (take n bytes))) whole
-    ∙ ap (λ xs. made at (at + first_text bytes) (at + size) ∷ lines_from (at + size) xs) (drop-take size (m - size) bytes)
+    ∙ ap (λ xs. made at (at + first_text bytes) (at + size) ∷ lines_from (at + size) xs)
+    (drop-take size (m - size) bytes)
 
 -- where line k begins, or ends, among lines of which the first is known
 abbrev StartsDrop : ℕ → ℕ → List ℕ → List Line → Type 0
-StartsDrop at k bytes ls = k < length ls → (at ≤ start_of ls k) × (lines_from (start_of ls k) (drop (start_of ls k - at) bytes) ≡ drop k ls)
+StartsDrop at k bytes ls = k < length ls → (at ≤ start_of ls k)
+    × (lines_from (start_of ls k) (drop (start_of ls k - at) bytes) ≡ drop k ls)
 
 drop_lines : (k at : ℕ) (bytes : List ℕ) → StartsDrop at k bytes (lines_from at bytes)
 drop_lines k at [] lt = absurd (omega arith)
 drop_lines zero at (b ∷ bs) lt =
     let bytes : List ℕ = b ∷ bs in
-    let first : lines_from at bytes ≡ made at (at + first_text bytes) (at + first_size bytes) ∷ lines_from (at + first_size bytes) (drop (first_size bytes) bytes) = parted at bytes (omega arith) in
+    let first : lines_from at bytes ≡ made at (at + first_text bytes) (at + first_size bytes)
+    ∷ lines_from (at + first_size bytes) (drop (first_size bytes) bytes) = parted at bytes (omega arith) in
     let start : start_of (lines_from at bytes) 0 ≡ at = ap (λ ls. start_of ls 0) first in
     let z : start_of (lines_from at bytes) 0 - at ≡ 0 = omega (arith, start) in (
       omega (arith, start),
@@ -87,9 +94,12 @@ drop_lines (suc k) at (b ∷ bs) lt =
     let bytes : List ℕ = b ∷ bs in
     let size : ℕ = first_size bytes in
     let rest : List Line = lines_from (at + size) (drop size bytes) in
-    let first : lines_from at bytes ≡ made at (at + first_text bytes) (at + size) ∷ rest = parted at bytes (omega arith) in
+    let first : lines_from at bytes ≡ made at (at + first_text bytes) (at + size) ∷ rest = parted at bytes (omega arith)
+    in
     let lt' : k < length rest = omega (arith, ap length first, lt) in
-    let ih : (at + size ≤ start_of rest k) × (lines_from (start_of rest k) (drop (start_of rest k - (at + size)) (drop size bytes)) ≡ drop k rest) = drop_lines k (at + size) (drop size bytes) lt' in
+    let ih : (at + size ≤ start_of rest k) × (lines_from (start_of rest k)
+    (drop (start_of rest k - (at + size)) (drop size bytes)) ≡ drop k rest) =
+    drop_lines k (at + size) (drop size bytes) lt' in
     let start : start_of (lines_from at bytes) (suc k) ≡ start_of rest k = ap (λ ls. start_of ls (suc k)) first in
     let away : size + (start_of rest k - (at + size)) ≡ start_of rest k - at = omega (arith, ih.0) in (
       omega (arith, start, ih.0),
@@ -107,19 +117,23 @@ pub size_fits : (bytes : List ℕ) → first_size bytes ≤ length bytes
 size_fits [] = omega arith
 size_fits (byte ∷ []) =
     by_cases {C = first_size (byte ∷ []) ≤ length (byte ∷ [])} (eqb byte 10) (λ t. rw t (omega arith))
-    (λ f. by_cases {C = first_size (byte ∷ []) ≤ length (byte ∷ [])} (eqb byte 13) (λ t. rw (f, t) (omega arith)) (λ g. rw (f, g) (omega arith)))
+    (λ f. by_cases {C = first_size (byte ∷ []) ≤ length (byte ∷ [])} (eqb byte 13) (λ t. rw (f, t) (omega arith))
+    (λ g. rw (f, g) (omega arith)))
 size_fits (byte ∷ c ∷ cs) =
     let ih : first_size (c ∷ cs) ≤ length (c ∷ cs) = size_fits (c ∷ cs) in
     by_cases {C = first_size (byte ∷ c ∷ cs) ≤ length (byte ∷ c ∷ cs)} (eqb byte 10) (λ t. rw t (omega arith))
-    (λ f. by_cases {C = first_size (byte ∷ c ∷ cs) ≤ length (byte ∷ c ∷ cs)} (eqb byte 13) (λ t. rw (f, t) (pair (eqb c 10) (length cs))) (λ g. rw (f, g) (omega (arith, ih))))
+    (λ f. by_cases {C = first_size (byte ∷ c ∷ cs) ≤ length (byte ∷ c ∷ cs)} (eqb byte 13)
+    (λ t. rw (f, t) (pair (eqb c 10) (length cs))) (λ g. rw (f, g) (omega (arith, ih))))
 
-take_lines : (k at n : ℕ) (bytes : List ℕ) → at + length bytes ≡ n → (at ≤ end_of n (lines_from at bytes) k) × (lines_from at (take (end_of n (lines_from at bytes) k - at) bytes) ≡ take (suc k) (lines_from at bytes))
+take_lines : (k at n : ℕ) (bytes : List ℕ) → at + length bytes ≡ n → (at ≤ end_of n (lines_from at bytes) k)
+    × (lines_from at (take (end_of n (lines_from at bytes) k - at) bytes) ≡ take (suc k) (lines_from at bytes))
 take_lines k at n [] h = (omega (arith, h), ap (lines_from at) (take-nil (n - at)))
 take_lines zero at n (b ∷ bs) h =
     let bytes : List ℕ = b ∷ bs in
     let size : ℕ = first_size bytes in
     let rest : List Line = lines_from (at + size) (drop size bytes) in
-    let first : lines_from at bytes ≡ made at (at + first_text bytes) (at + size) ∷ rest = parted at bytes (omega arith) in
+    let first : lines_from at bytes ≡ made at (at + first_text bytes) (at + size) ∷ rest = parted at bytes (omega arith)
+    in
     let end : end_of n (lines_from at bytes) 0 ≡ at + size = ap (λ ls. end_of n ls 0) first in
     let m : end_of n (lines_from at bytes) 0 - at ≡ size = omega (arith, end) in
     let z : size - size ≡ 0 = omega arith in (
@@ -133,13 +147,16 @@ take_lines (suc k) at n (b ∷ bs) h =
     let size : ℕ = first_size bytes in
     let tail : List ℕ = drop size bytes in
     let rest : List Line = lines_from (at + size) tail in
-    let first : lines_from at bytes ≡ made at (at + first_text bytes) (at + size) ∷ rest = parted at bytes (omega arith) in
+    let first : lines_from at bytes ≡ made at (at + first_text bytes) (at + size) ∷ rest = parted at bytes (omega arith)
+    in
     let fits : size ≤ length bytes = size_fits bytes in
-    let ih : (at + size ≤ end_of n rest k) × (lines_from (at + size) (take (end_of n rest k - (at + size)) tail) ≡ take (suc k) rest) = take_lines k (at + size) n tail (omega (arith, length-drop size bytes, fits, h)) in
+    let ih : (at + size ≤ end_of n rest k) × (lines_from (at + size) (take (end_of n rest k - (at + size)) tail)
+    ≡ take (suc k) rest) = take_lines k (at + size) n tail (omega (arith, length-drop size bytes, fits, h)) in
     let end : end_of n (lines_from at bytes) (suc k) ≡ end_of n rest k = ap (λ ls. end_of n ls (suc k)) first in
     let less : end_of n rest k - at - size ≡ end_of n rest k - (at + size) = omega arith in (
       omega (arith, end, ih.0),
-      ap (λ e. lines_from at (take (e - at) bytes)) end ∙ front_parted at (end_of n rest k - at) bytes (omega arith) (omega (arith, ih.0))
+      ap (λ e. lines_from at (take (e - at) bytes)) end ∙ front_parted at (end_of n rest k - at) bytes (omega arith)
+          (omega (arith, ih.0))
           ∙ ap (λ e. made at (at + first_text bytes) (at + size) ∷ lines_from (at + size) (take e tail)) less
           ∙ ap (λ ls. made at (at + first_text bytes) (at + size) ∷ ls) ih.1
           ∙ sym (ap (λ ls. take (suc (suc k)) ls) first),
@@ -149,27 +166,34 @@ end_of-drop : (n low k : ℕ) (ls : List Line) → low < length ls → end_of n 
 end_of-drop n low k [] lt = absurd (omega (arith, lt))
 end_of-drop n zero k (l ∷ ls) lt = ap (end_of n (l ∷ ls)) (omega arith)
 end_of-drop n (suc low) k (l ∷ []) lt = absurd (omega (arith, lt))
-end_of-drop n (suc low) k (l ∷ m ∷ ls) lt = let e : suc low + k ≡ suc (low + k) = omega arith in rw e (end_of-drop n low k (m ∷ ls) (omega (arith, lt)))
+end_of-drop n (suc low) k (l ∷ m ∷ ls) lt = let e : suc low + k ≡ suc (low + k) = omega arith in
+    rw e (end_of-drop n low k (m ∷ ls) (omega (arith, lt)))
 
 -- some lines in the middle
 drop-line : (low : ℕ) (ls : List Line) → low < length ls → drop low ls ≡ line_at ls low ∷ drop (low + 1) ls
 drop-line low [] lt = absurd (omega (arith, lt))
 drop-line zero (l ∷ ls) lt = refl
-drop-line (suc low) (l ∷ ls) lt = let e : suc low + 1 ≡ suc (low + 1) = omega arith in rw e (drop-line low ls (omega (arith, lt)))
+drop-line (suc low) (l ∷ ls) lt = let e : suc low + 1 ≡ suc (low + 1) = omega arith in
+    rw e (drop-line low ls (omega (arith, lt)))
 
-take-lines-at : (many low : ℕ) (ls : List Line) → low + many ≤ length ls → take many (drop low ls) ≡ map (line_at ls) (range_with_len low many)
+take-lines-at : (many low : ℕ) (ls : List Line) → low + many ≤ length ls → take many (drop low ls)
+    ≡ map (line_at ls) (range_with_len low many)
 take-lines-at zero low ls le = refl
 take-lines-at (suc many) low ls le =
-    ap (take (suc many)) (drop-line low ls (omega (arith, le))) ∙ ap (λ r. line_at ls low ∷ r) (take-lines-at many (low + 1) ls (omega (arith, le)))
+    ap (take (suc many)) (drop-line low ls (omega (arith, le)))
+    ∙ ap (λ r. line_at ls low ∷ r) (take-lines-at many (low + 1) ls (omega (arith, le)))
 
 take-min : (m : ℕ) (ls : List Line) → take m ls ≡ take (min m (length ls)) ls
 take-min m [] = take-nil m ∙ sym (take-nil (min m 0))
 take-min zero (l ∷ ls) = let e : min zero (length (l ∷ ls)) ≡ 0 = omega arith in rw e refl
-take-min (suc m) (l ∷ ls) = let e : min (suc m) (length (l ∷ ls)) ≡ suc (min m (length ls)) = omega arith in rw e (ap (λ r. l ∷ r) (take-min m ls))
+take-min (suc m) (l ∷ ls) = let e : min (suc m) (length (l ∷ ls)) ≡ suc (min m (length ls)) = omega arith in
+    rw e (ap (λ r. l ∷ r) (take-min m ls))
 
 -- The part of a source from the beginning of one line to the end of another has these lines of the source.
-pub part_lines : (source : List ℕ) (low high : ℕ) → low < length (lines source) → low ≤ high → start_of (lines source) low ≤ length source →
-    lines_from (start_of (lines source) low) (slice_range source (start_of (lines source) low) (end_of (length source) (lines source) high))
+pub part_lines : (source : List ℕ) (low high : ℕ) → low < length (lines source) → low ≤ high
+    → start_of (lines source) low ≤ length source →
+    lines_from (start_of (lines source) low) (slice_range source (start_of (lines source) low)
+    (end_of (length source) (lines source) high))
     ≡ map (line_at (lines source)) (range_with_len low (min (high + 1) (length (lines source)) - low))
 part_lines source low high lt le inside =
     let ls : List Line = lines source in
@@ -178,10 +202,15 @@ part_lines source low high lt le inside =
     let tail : List ℕ = drop begin source in
     let k : ℕ = high - low in
     let z : begin - 0 ≡ begin = omega arith in
-    let dropped : lines_from begin tail ≡ drop low ls = ap (λ b. lines_from begin (drop b source)) (sym z) ∙ (drop_lines low 0 source lt).1 in
-    let end : end_of n (lines_from begin tail) k ≡ end_of n ls high = ap (λ xs. end_of n xs k) dropped ∙ end_of-drop n low k ls lt ∙ ap (end_of n ls) (omega (arith, le)) in
-    let taken : lines_from begin (take (end_of n (lines_from begin tail) k - begin) tail) ≡ take (suc k) (lines_from begin tail) = (take_lines k begin n tail (omega (arith, length-drop begin source, inside))).1 in
+    let dropped : lines_from begin tail ≡ drop low ls = ap (λ b. lines_from begin (drop b source)) (sym z)
+    ∙ (drop_lines low 0 source lt).1 in
+    let end : end_of n (lines_from begin tail) k ≡ end_of n ls high = ap (λ xs. end_of n xs k) dropped
+    ∙ end_of-drop n low k ls lt ∙ ap (end_of n ls) (omega (arith, le)) in
+    let taken : lines_from begin (take (end_of n (lines_from begin tail) k - begin) tail)
+    ≡ take (suc k) (lines_from begin tail) = (take_lines k begin n tail
+    (omega (arith, length-drop begin source, inside))).1 in
     let many : ℕ = min (high + 1) (length ls) - low in
     let same : min (suc k) (length (drop low ls)) ≡ many = omega (arith, length-drop low ls, le, lt) in
     ap (λ e. lines_from begin (take (e - begin) tail)) (sym end) ∙ taken ∙ ap (take (suc k)) dropped
-    ∙ take-min (suc k) (drop low ls) ∙ ap (λ m. take m (drop low ls)) same ∙ take-lines-at many low ls (omega (arith, lt))
+    ∙ take-min (suc k) (drop low ls) ∙ ap (λ m. take m (drop low ls)) same
+    ∙ take-lines-at many low ls (omega (arith, lt))

@@ -1,6 +1,7 @@
 -- What rows tell.
 use Rattle.miette_page.specs.views.Printouts.{Printout, ◌⊕◌}
-use Rattle.std.proofs.Common.{ℕ, zero, suc, Bool, true, ◌<◌, ◌≡◌, arith, List, [], ◌∷◌, ◌++◌, map, replicate, refl, sym, ap, ◌∙◌, append_assoc, append-nil}
+use Rattle.std.proofs.Common.{ℕ, zero, suc, Bool, true, ◌<◌, ◌≡◌, arith, List, [], ◌∷◌, ◌++◌, map, replicate, refl, sym}
+use Rattle.std.proofs.Common.{ap, ◌∙◌, append_assoc, append-nil}
 use Rattle.miette_style.specs.declared.style.Style.{Style}
 use Rattle.miette_page.specs.rules.Rows.{Row, glyph_of, styled_run}
 use Rattle.miette_style.specs.rules.Styles.{plain}
@@ -11,7 +12,8 @@ use Rattle.std.specs.List.{list_all}
 use Rattle.std.proofs.lemmas.Bool.{and_parts}
 use Rattle.std.proofs.lemmas.Str.{chars-IsAscii}
 use Rattle.std.proofs.lemmas.Str.Ascii.{IsAscii-from_all}
-use Rattle.miette_page.specs.views.Tokens.{Token, begins, row_end, row_tokens, run_tokens, rows_tokens, styled_tokens, text_tokens}
+use Rattle.miette_page.specs.views.Tokens.{Token, begins, row_end, row_tokens, run_tokens, rows_tokens, styled_tokens}
+use Rattle.miette_page.specs.views.Tokens.{text_tokens}
 use Rattle.miette_page.proofs.Paging.{told_append, put_append}
 
 pub codes_drawn : (w : ℕ → ℕ) (text : List ℕ) → map (λ p. p.code) (map (glyph_of w) text) ≡ text
@@ -22,14 +24,16 @@ codes_blank : (w : ℕ → ℕ) (many : ℕ) → map (λ p. p.code) (replicate m
 codes_blank w zero = refl
 codes_blank w (suc many) = ap (λ r. 32 ∷ r) (codes_blank w many)
 
-pub styled_told : (w : ℕ → ℕ) (style : Style) (text : List ℕ) → run_tokens (styled_run w style text) ≡ styled_tokens style text
+pub styled_told : (w : ℕ → ℕ) (style : Style) (text : List ℕ) → run_tokens (styled_run w style text)
+    ≡ styled_tokens style text
 styled_told w style text = ap (styled_tokens style) (codes_drawn w text)
 
 pub blank_told : (w : ℕ → ℕ) (many : ℕ) → run_tokens (blank w many) ≡ styled_tokens plain (replicate many 32)
 blank_told w many = ap (styled_tokens plain) (codes_blank w many)
 
 -- a row of one run
-pub styled_row : (w : ℕ → ℕ) (style : Style) (text : List ℕ) → row_tokens (styled_run w style text ∷ []) ≡ styled_tokens style text
+pub styled_row : (w : ℕ → ℕ) (style : Style) (text : List ℕ) → row_tokens (styled_run w style text ∷ [])
+    ≡ styled_tokens style text
 styled_row w style text = append-nil (run_tokens (styled_run w style text)) ∙ styled_told w style text
 
 pub blank_row : (w : ℕ → ℕ) (many : ℕ) → row_tokens (blank w many ∷ []) ≡ styled_tokens plain (replicate many 32)
@@ -37,11 +41,13 @@ blank_row w many = append-nil (run_tokens (blank w many)) ∙ blank_told w many
 
 pub told-append : (a b : Row) → row_tokens (a ++ b) ≡ row_tokens a ++ row_tokens b
 told-append [] b = refl
-told-append (run ∷ a) b = ap (λ ts. run_tokens run ++ ts) (told-append a b) ∙ sym (append_assoc (run_tokens run) (row_tokens a) (row_tokens b))
+told-append (run ∷ a) b = ap (λ ts. run_tokens run ++ ts) (told-append a b)
+    ∙ sym (append_assoc (run_tokens run) (row_tokens a) (row_tokens b))
 
 pub told_rows-append : (a b : List Row) → rows_tokens (a ++ b) ≡ rows_tokens a ++ rows_tokens b
 told_rows-append [] b = refl
-told_rows-append (row ∷ a) b = ap (λ ts. row_tokens row ++ row_end ∷ ts) (told_rows-append a b) ∙ sym (append_assoc (row_tokens row) (row_end ∷ rows_tokens a) (rows_tokens b))
+told_rows-append (row ∷ a) b = ap (λ ts. row_tokens row ++ row_end ∷ ts) (told_rows-append a b)
+    ∙ sym (append_assoc (row_tokens row) (row_end ∷ rows_tokens a) (rows_tokens b))
 
 -- one thing after another
 pub then : (p : Printout) (a b : List Token) {q r : Printout} → q ≡ p ⊕ a → r ≡ q ⊕ b → r ≡ p ⊕ (a ++ b)
@@ -52,17 +58,22 @@ pub told_as : (p : Printout) (a b : List Token) {q : Printout} → q ≡ p ⊕ a
 told_as p a b {q} e f = e ∙ ap (λ x. p ⊕ x) f
 
 -- more characters of a run
-pub run_more : (style : Style) (xs ys : List ℕ) → styled_tokens style xs ++ text_tokens ys ≡ styled_tokens style (xs ++ ys)
+pub run_more : (style : Style) (xs ys : List ℕ) → styled_tokens style xs ++ text_tokens ys
+    ≡ styled_tokens style (xs ++ ys)
 run_more style xs ys = ap (λ ts. begins style ∷ ts) (sym (told_append xs ys))
 
-pub run_one : (style : Style) (xs : List ℕ) (c : ℕ) → styled_tokens style xs ++ text_tokens (c ∷ []) ≡ styled_tokens style (xs ++ c ∷ [])
+pub run_one : (style : Style) (xs : List ℕ) (c : ℕ) → styled_tokens style xs ++ text_tokens (c ∷ [])
+    ≡ styled_tokens style (xs ++ c ∷ [])
 run_one style xs c = run_more style xs (c ∷ [])
 
 -- bytes below 128 are their own characters
-all_of : (test : ℕ → Bool) → ((b : ℕ) → test b ≡ true → b < 128) → (bs : List ℕ) → list_all test bs ≡ true → All (λ b. b < 128) bs
+all_of : (test : ℕ → Bool) → ((b : ℕ) → test b ≡ true → b < 128) → (bs : List ℕ) → list_all test bs ≡ true
+    → All (λ b. b < 128) bs
 all_of test f [] h k d lt = absurd (omega (arith, lt))
 all_of test f (b ∷ bs) h zero d lt = f b (and_parts (test b) (list_all test bs) h).0
-all_of test f (b ∷ bs) h (suc k) d lt = all_of test f bs (and_parts (test b) (list_all test bs) h).1 k d (omega (arith, lt))
+all_of test f (b ∷ bs) h (suc k) d lt = all_of test f bs (and_parts (test b) (list_all test bs) h).1 k d
+    (omega (arith, lt))
 
-pub ascii_chars : (test : ℕ → Bool) → ((b : ℕ) → test b ≡ true → b < 128) → (bs : List ℕ) → list_all test bs ≡ true → chars bs ≡ bs
+pub ascii_chars : (test : ℕ → Bool) → ((b : ℕ) → test b ≡ true → b < 128) → (bs : List ℕ) → list_all test bs ≡ true
+    → chars bs ≡ bs
 ascii_chars test f bs h = chars-IsAscii bs (IsAscii-from_all bs (all_of test f bs h))

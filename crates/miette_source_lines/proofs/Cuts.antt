@@ -20,7 +20,8 @@ cut-step false b at ls to h = cut-with_byte b at ls to h
 cut-lines_from : (at : ℕ) (bs : List ℕ) (to : ℕ) → to ≡ at + length bs → IsCut at (lines_from at bs) to
 cut-lines_from at [] to e = omega (arith, e)
 cut-lines_from at (b ∷ bs) to e =
-    cut-step (ends_line b (slice_index bs 0)) b at (lines_from (at + 1) bs) to (cut-lines_from (at + 1) bs to (e ∙ omega arith))
+    cut-step (ends_line b (slice_index bs 0)) b at (lines_from (at + 1) bs) to
+    (cut-lines_from (at + 1) bs to (e ∙ omega arith))
 
 -- every byte lies in exactly one line
 pub lines_cut : (bytes : List ℕ) → IsCut 0 (lines_of bytes) (length bytes)

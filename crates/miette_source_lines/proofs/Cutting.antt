@@ -1,5 +1,6 @@
 -- The list of lines is the cutting of the bytes.
-use Rattle.std.proofs.Common.{◌≡◌, ◌≢◌, ℕ, suc, zero, ◌+◌, ◌⊎◌, Bool, true, false, cond, List, [], ◌∷◌, ◌++◌, length, refl, sym, ap, ◌∙◌, inl, inr, arith}
+use Rattle.std.proofs.Common.{◌≡◌, ◌≢◌, ℕ, suc, zero, ◌+◌, ◌⊎◌, Bool, true, false, cond, List, [], ◌∷◌, ◌++◌, length}
+use Rattle.std.proofs.Common.{refl, sym, ap, ◌∙◌, inl, inr, arith}
 use Rattle.std.specs.Prelude.{◌==◌, slice_index, All}
 use Rattle.std.proofs.lemmas.Bool.{cases_eq}
 use Rattle.std.proofs.lemmas.Bool.Decides.{nat_tests}
@@ -19,7 +20,8 @@ last_byte b next e =
     ]
 
 -- a byte that ends none is text, or CR with LF after it
-inner_byte : (b next : ℕ) → ends_line b next ≡ false → (((b == CR) ≡ false) × (is_text b ≡ true)) ⊎ ((b ≡ 13) × (next ≡ 10))
+inner_byte : (b next : ℕ) → ends_line b next ≡ false → (((b == CR) ≡ false) × (is_text b ≡ true))
+    ⊎ ((b ≡ 13) × (next ≡ 10))
 unfolding ends_line
 inner_byte b next e =
     elim (cases_eq b 13) [
@@ -30,7 +32,8 @@ inner_byte b next e =
 no_text : All (λ b. is_text b ≡ true) []
 no_text = λ k d h. absurd (omega (arith, h))
 
-text_in_front : (b : ℕ) (text : List ℕ) → is_text b ≡ true → All (λ c. is_text c ≡ true) text → All (λ c. is_text c ≡ true) (b ∷ text)
+text_in_front : (b : ℕ) (text : List ℕ) → is_text b ≡ true → All (λ c. is_text c ≡ true) text
+    → All (λ c. is_text c ≡ true) (b ∷ text)
 text_in_front b text e h zero d lt = e
 text_in_front b text e h (suc k) d lt = h k d (omega (arith, lt))
 
@@ -44,7 +47,11 @@ one b at bs ls e h = (
     terminator = b ∷ [];
     parts = refl;
     plain = no_text;
-    ended = elim (last_byte b (slice_index bs 0) e) [ inl f ↦ inl (ap (λ x. x ∷ []) f) | inr f ↦ inr (inr (inl (ap (λ x. x ∷ []) f.0, f.1))) ];
+    ended = elim (last_byte b (slice_index bs 0) e) [
+      | inl f ↦ inl (ap (λ x. x ∷ []) f)
+      | inr f ↦
+          inr (inr (inl (ap (λ x. x ∷ []) f.0, f.1)))
+    ];
     some = omega arith;
     start = refl;
     text_end = omega arith;
@@ -54,7 +61,8 @@ one b at bs ls e h = (
 )
 
 -- a byte of text in front
-more_text : (b at : ℕ) (bs : List ℕ) (ls : List Line) → (b == CR) ≡ false → is_text b ≡ true → AreLines (at + 1) ls bs → AreLines at (with_byte b at ls) (b ∷ bs)
+more_text : (b at : ℕ) (bs : List ℕ) (ls : List Line) → (b == CR) ≡ false → is_text b ≡ true → AreLines (at + 1) ls bs
+    → AreLines at (with_byte b at ls) (b ∷ bs)
 more_text b at bs [] n e h = (
   [],
   record {
@@ -86,14 +94,16 @@ more_text b at bs (l ∷ ls) n e h = (
   h.2,
 )
 
-lf_text : (bs text more : List ℕ) → slice_index bs 0 ≡ 10 → bs ≡ text ++ more → All (λ c. is_text c ≡ true) text → text ≡ []
+lf_text : (bs text more : List ℕ) → slice_index bs 0 ≡ 10 → bs ≡ text ++ more → All (λ c. is_text c ≡ true) text → text
+    ≡ []
 lf_text bs [] more e f h = refl
 lf_text bs (c ∷ cs) more e f h =
     let g : c ≡ 10 = sym (ap (λ xs. slice_index xs 0) f) ∙ e in
     let p : is_text c ≡ true = h 0 0 (omega arith) in
     absurd (grind (arith, nat_tests, g, p))
 
-lf_terminator : (bs end rest : List ℕ) → slice_index bs 0 ≡ 10 → bs ≡ end ++ rest → IsTerminator end rest → end ≡ LF ∷ []
+lf_terminator : (bs end rest : List ℕ) → slice_index bs 0 ≡ 10 → bs ≡ end ++ rest → IsTerminator end rest → end ≡ LF
+    ∷ []
 lf_terminator bs end rest e f h =
     let g : slice_index (end ++ rest) 0 ≡ 10 = sym (ap (λ xs. slice_index xs 0) f) ∙ e in
     elim h [
@@ -109,7 +119,8 @@ lf_terminator bs end rest e f h =
     ]
 
 -- the CR of a CRLF in front
-more_cr : (b at : ℕ) (bs : List ℕ) (ls : List Line) → b ≡ 13 → slice_index bs 0 ≡ 10 → AreLines (at + 1) ls bs → AreLines at (with_byte b at ls) (b ∷ bs)
+more_cr : (b at : ℕ) (bs : List ℕ) (ls : List Line) → b ≡ 13 → slice_index bs 0 ≡ 10 → AreLines (at + 1) ls bs
+    → AreLines at (with_byte b at ls) (b ∷ bs)
 more_cr b at bs [] n e h =
     let i : 0 ≡ 10 = sym (ap (λ xs. slice_index xs 0) h) ∙ e in absurd (omega (arith, i))
 more_cr b at bs (l ∷ ls) n e h =
@@ -132,15 +143,21 @@ more_cr b at bs (l ∷ ls) n e h =
       h.2,
     )
 
-step : (x : Bool) (b at : ℕ) (bs : List ℕ) (ls : List Line) → ends_line b (slice_index bs 0) ≡ x → AreLines (at + 1) ls bs →
+step : (x : Bool) (b at : ℕ) (bs : List ℕ) (ls : List Line) → ends_line b (slice_index bs 0) ≡ x
+    → AreLines (at + 1) ls bs →
     AreLines at (cond x (record { start = at; text_end = at; end = at + 1 } ∷ ls) (with_byte b at ls)) (b ∷ bs)
 step true b at bs ls e h = one b at bs ls e h
 step false b at bs ls e h =
-    elim (inner_byte b (slice_index bs 0) e) [ inl f ↦ more_text b at bs ls f.0 f.1 h | inr f ↦ more_cr b at bs ls f.0 f.1 h ]
+    elim (inner_byte b (slice_index bs 0) e) [
+      | inl f ↦ more_text b at bs ls f.0 f.1 h
+      | inr f ↦
+          more_cr b at bs ls f.0 f.1 h
+    ]
 
 lines_from_cut : (at : ℕ) (bs : List ℕ) → AreLines at (lines_from at bs) bs
 lines_from_cut at [] = refl
-lines_from_cut at (b ∷ bs) = step (ends_line b (slice_index bs 0)) b at bs (lines_from (at + 1) bs) refl (lines_from_cut (at + 1) bs)
+lines_from_cut at (b ∷ bs) = step (ends_line b (slice_index bs 0)) b at bs (lines_from (at + 1) bs) refl
+    (lines_from_cut (at + 1) bs)
 
 -- the lines of a source are its pieces, one after the other
 pub lines_are : (bytes : List ℕ) → AreLines 0 (lines_of bytes) bytes

@@ -11,7 +11,8 @@ use Rattle.std.specs.Cmp.{unsigned_Decides}
 use Rattle.std.specs.String.{string_eq}
 
 -- of two options
-pub options : {A : Type 0} (E : A → A → Bool) → ((x y : A) → Decides (E x y) (x ≡ y)) → (o p : Option A) → Decides (option_eq E o p) (o ≡ p)
+pub options : {A : Type 0} (E : A → A → Bool) → ((x y : A) → Decides (E x y) (x ≡ y)) → (o p : Option A)
+    → Decides (option_eq E o p) (o ≡ p)
 options E d None None = (λ _. refl, λ _. refl)
 options E d None (Some y) = (λ h. absurd (false≢true h), λ e. absurd (false≢true (ap is_some e)))
 options E d (Some x) None = (λ h. absurd (false≢true h), λ e. absurd (true≢false (ap is_some e)))
@@ -21,7 +22,8 @@ same_bytes : (x y : String Global) → chars (string_bytes x) ≡ chars (string_
 same_bytes x y e =
     let u = IsUtf8-string_bytes x in
     let v = IsUtf8-string_bytes y in
-    let same : u.0 ≡ v.0 = sym (chars-encodes u.0 u.1.0) ∙ (ap chars u.1.1 ∙ (e ∙ (ap chars (sym v.1.1) ∙ chars-encodes v.0 v.1.0))) in
+    let same : u.0 ≡ v.0 = sym (chars-encodes u.0 u.1.0) ∙
+    (ap chars u.1.1 ∙ (e ∙ (ap chars (sym v.1.1) ∙ chars-encodes v.0 v.1.0))) in
     sym u.1.1 ∙ (ap encode_utf8_all same ∙ v.1.1)
 
 -- of texts, by their characters

@@ -38,4 +38,14 @@ pub chars-greater_than : chars (62 ∷ []) ≡ 62 ∷ []
 unfolding chars
 chars-greater_than = refl
 
-pub ruleset icons = (chars-cross, chars-warning, chars-hand, chars-explosion, chars-warning_picture, chars-bulb, chars-letter, chars-exclamation_mark, chars-greater_than)
+pub ruleset icons = (
+  chars-cross,
+  chars-warning,
+  chars-hand,
+  chars-explosion,
+  chars-warning_picture,
+  chars-bulb,
+  chars-letter,
+  chars-exclamation_mark,
+  chars-greater_than,
+)

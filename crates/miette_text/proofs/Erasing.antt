@@ -2,7 +2,8 @@
 use Rattle.std.proofs.Common.{◌≡◌, ℕ, List, [], ◌∷◌, ◌++◌, sym, ap, ap₂, ◌∙◌, arith}
 use Rattle.std.proofs.lemmas.Bool.Decides.{nat_tests}
 use Rattle.miette_runs.specs.rules.Sequences.{Token, Character, Sequence, tokens, spell, erase}
-use Rattle.miette_text.specs.laws.Tame.{State, Free, Escaped, Opened, Waiting, Broken, step, state_behind, AreTame, IsTame, AllTame}
+use Rattle.miette_text.specs.laws.Tame.{State, Free, Escaped, Opened, Waiting, Broken, step, state_behind, AreTame}
+use Rattle.miette_text.specs.laws.Tame.{IsTame, AllTame}
 use Rattle.miette_text.specs.rules.ColouredTexts.{colourless}
 use Rattle.miette_text.specs.rules.Wrapping.{Plan, map_indents, wrapped_tokens, wrapped_text}
 use Rattle.miette_text.proofs.ErasedTokens.{erased}
@@ -30,7 +31,8 @@ pub erase-tame : (text : List ℕ) → IsTame text → erase text ≡ spell (era
 erase-tame text h = ap erase (sym (spell-tokens text)) ∙ erase-spell Free (tokens text) h
 
 pub tokens-erase : (text : List ℕ) → IsTame text → tokens (erase text) ≡ erased (tokens text)
-tokens-erase text h = ap tokens (erase-tame text h) ∙ tokens-spell Free (erased (tokens text)) (erased-run Free (tokens text) h)
+tokens-erase text h = ap tokens (erase-tame text h) ∙ tokens-spell Free (erased (tokens text))
+    (erased-run Free (tokens text) h)
 
 -- ---- joining
 
@@ -57,16 +59,21 @@ erase-append x y h k =
 
 -- ---- wrapping
 
-read-tame : (p : Plan (List ℕ)) (text : List ℕ) → AllTame p text → AreTame (wrapped_tokens (map_indents tokens p) (tokens text))
+read-tame : (p : Plan (List ℕ)) (text : List ℕ) → AllTame p text
+    → AreTame (wrapped_tokens (map_indents tokens p) (tokens text))
 read-tame p text h = wrapped_tokens-tame (map_indents tokens p) (tokens text) h.first h.further h.inner
 
 -- What is wrapped from tame parts is tame.
 pub wrapped-tame : (p : Plan (List ℕ)) (text : List ℕ) → AllTame p text → IsTame (wrapped_text p text)
-wrapped-tame p text h = ap (state_behind Free) (tokens-spell Free (wrapped_tokens (map_indents tokens p) (tokens text)) (read-tame p text h)) ∙ read-tame p text h
+wrapped-tame p text h = ap (state_behind Free) (tokens-spell Free (wrapped_tokens (map_indents tokens p) (tokens text))
+    (read-tame p text h)) ∙ read-tame p text h
 
 -- Deleting colours commutes with wrapping.
-pub erase-wrapped : (p : Plan (List ℕ)) (text : List ℕ) → AllTame p text → erase (wrapped_text p text) ≡ wrapped_text (colourless p) (erase text)
+pub erase-wrapped : (p : Plan (List ℕ)) (text : List ℕ) → AllTame p text → erase (wrapped_text p text)
+    ≡ wrapped_text (colourless p) (erase text)
 erase-wrapped p text h =
     erase-spell Free (wrapped_tokens (map_indents tokens p) (tokens text)) (read-tame p text h)
     ∙ ap spell (sym (wrapped-erased (map_indents tokens p) (tokens text)))
-    ∙ wrapped-read (colourless p) (erased (tokens p.first)) (erased (tokens p.further)) (erased (tokens text)) (erase text) (sym (tokens-erase p.first h.first)) (sym (tokens-erase p.further h.further)) (sym (tokens-erase text h.inner))
+    ∙ wrapped-read (colourless p) (erased (tokens p.first)) (erased (tokens p.further)) (erased (tokens text))
+    (erase text) (sym (tokens-erase p.first h.first)) (sym (tokens-erase p.further h.further))
+    (sym (tokens-erase text h.inner))

@@ -7,16 +7,21 @@ use Rattle.miette_text.proofs.Encoding.{erase-encode}
 use Rattle.miette_text.proofs.Erasing.{erase-wrapped}
 use Rattle.miette_text.proofs.ColouredTexts.{coloured-tame}
 
-pub erase-coloured : (p : Plan (List ℕ)) (text : List ℕ) → AreColoured p text → erase (wrapped_text p text) ≡ wrapped_text (colourless p) (erase text)
-erase-coloured p text h = erase-wrapped p text (record { first = coloured-tame p.first h.0; further = coloured-tame p.further h.1; inner = coloured-tame text h.2 })
+pub erase-coloured : (p : Plan (List ℕ)) (text : List ℕ) → AreColoured p text → erase (wrapped_text p text)
+    ≡ wrapped_text (colourless p) (erase text)
+erase-coloured p text h = erase-wrapped p text (record
+    { first = coloured-tame p.first h.0; further = coloured-tame p.further h.1; inner = coloured-tame text h.2 })
 
-pub appends_erasing : (p : Plan (List ℕ)) (text old new : List ℕ) → new ≡ old ++ encode_utf8_all (wrapped_text p text) → AreColoured p text → AppendsErasing old new (encode_utf8_all (wrapped_text (colourless p) (erase text)))
+pub appends_erasing : (p : Plan (List ℕ)) (text old new : List ℕ) → new ≡ old ++ encode_utf8_all (wrapped_text p text)
+    → AreColoured p text → AppendsErasing old new (encode_utf8_all (wrapped_text (colourless p) (erase text)))
 appends_erasing p text old new e h = (
   encode_utf8_all (wrapped_text p text),
   e,
   erase-encode (wrapped_text p text) ∙ ap encode_utf8_all (erase-coloured p text h),
 )
 
-pub appends_on_ok : {T E : Type 0} (r : Result T E) (p : Plan (List ℕ)) (text old new : List ℕ) → OnOk r (new ≡ old ++ encode_utf8_all (wrapped_text p text)) → OnOk r (AreColoured p text → AppendsErasing old new (encode_utf8_all (wrapped_text (colourless p) (erase text))))
+pub appends_on_ok : {T E : Type 0} (r : Result T E) (p : Plan (List ℕ)) (text old new : List ℕ)
+    → OnOk r (new ≡ old ++ encode_utf8_all (wrapped_text p text))
+    → OnOk r (AreColoured p text → AppendsErasing old new (encode_utf8_all (wrapped_text (colourless p) (erase text))))
 appends_on_ok (Ok x) p text old new h = appends_erasing p text old new h
 appends_on_ok (Err e) p text old new h = h

@@ -1,5 +1,7 @@
 -- What the code asks of a text, character by character, of printable ASCII, and of bytes that are searched.
-use Rattle.std.proofs.Common.{◌≡◌, ℕ, zero, suc, ◌+◌, ◌-◌, ◌<◌, ◌≤◌, Bool, true, false, not, ◌&&◌, ◌||◌, nat_le, nat_lt, List, [], ◌∷◌, ◌++◌, IsAscii, IsUtf8, length, get_or, drop, refl, sym, ap, ap₂, ◌∙◌, arith, append-nil, ltb-true, Option, Some, None}
+use Rattle.std.proofs.Common.{◌≡◌, ℕ, zero, suc, ◌+◌, ◌-◌, ◌<◌, ◌≤◌, Bool, true, false, not, ◌&&◌, ◌||◌, nat_le, nat_lt}
+use Rattle.std.proofs.Common.{List, [], ◌∷◌, ◌++◌, IsAscii, IsUtf8, length, get_or, drop, refl, sym, ap, ap₂, ◌∙◌}
+use Rattle.std.proofs.Common.{arith, append-nil, ltb-true, Option, Some, None}
 use Rattle.std.specs.Prelude.{chars, encode_utf8, encode_utf8_all, slice_index}
 use Rattle.std.specs.Option.{is_some}
 use Rattle.std.proofs.lemmas.Bool.{and_parts, false_from_ne_true}
@@ -56,7 +58,8 @@ printable-line (c ∷ cs) h =
     grind (arith, nat_tests)
 
 -- whether the last of printable ASCII is a space
-ends-last : (bare : Bool) (cs : List ℕ) → 0 < length cs → ends_bare bare cs ≡ not (is_space (get_or cs (length cs - 1) 0))
+ends-last : (bare : Bool) (cs : List ℕ) → 0 < length cs → ends_bare bare cs
+    ≡ not (is_space (get_or cs (length cs - 1) 0))
 ends-last bare [] h = absurd (omega arith)
 ends-last bare (c ∷ []) h = refl
 ends-last bare (c ∷ d ∷ cs) h =
@@ -80,7 +83,8 @@ abbrev pub left_fits : ℕ → Bool → List ℕ → Bool
 left_fits left bare rest = is_line rest && (ends_bare bare rest && nat_le (code_columns rest) left)
 
 apart-fits : (left : ℕ) (bare : Bool) (c : ℕ) (cs : List ℕ) → is_apart c ≡ true → left_fits left bare (c ∷ cs) ≡ false
-apart-fits left bare c cs h = ap (λ b. (not b && is_line cs) && (ends_bare bare (c ∷ cs) && nat_le (code_columns (c ∷ cs)) left)) h
+apart-fits left bare c cs h = ap (λ b. (not b && is_line cs)
+    && (ends_bare bare (c ∷ cs) && nat_le (code_columns (c ∷ cs)) left)) h
 
 wide-fits : (left : ℕ) (bare : Bool) (c : ℕ) (cs : List ℕ) → left < width c → left_fits left bare (c ∷ cs) ≡ false
 wide-fits left bare c cs h =
@@ -90,10 +94,12 @@ wide-fits left bare c cs h =
     ∙ ap (λ b. is_line (c ∷ cs) && b) (and-false (ends_bare bare (c ∷ cs)))
     ∙ and-false (is_line (c ∷ cs))
 
-next-fits : (left : ℕ) (bare : Bool) (c : ℕ) (cs : List ℕ) → is_apart c ≡ false → width c ≤ left → left_fits left bare (c ∷ cs) ≡ left_fits (left - width c) (not (is_space c)) cs
+next-fits : (left : ℕ) (bare : Bool) (c : ℕ) (cs : List ℕ) → is_apart c ≡ false → width c ≤ left
+    → left_fits left bare (c ∷ cs) ≡ left_fits (left - width c) (not (is_space c)) cs
 next-fits left bare c cs h k =
     let s : code_columns (c ∷ cs) ≡ width c + code_columns cs = sum_by-cons width c cs in
-    let n : nat_le (code_columns (c ∷ cs)) left ≡ nat_le (code_columns cs) (left - width c) = grind (arith, nat_tests) in
+    let n : nat_le (code_columns (c ∷ cs)) left ≡ nat_le (code_columns cs) (left - width c) = grind (arith, nat_tests)
+    in
     ap₂ (λ a b. (not a && is_line cs) && (ends_bare (not (is_space c)) cs && b)) h n
 
 -- ---- and in a text, at an index
@@ -101,23 +107,30 @@ next-fits left bare c cs h k =
 front : (cs : List ℕ) (n c : ℕ) → (n < length cs) × (c ≡ get_or cs n c) → drop n cs ≡ c ∷ drop (n + 1) cs
 front cs n c h = drop_more cs n c h.0 ∙ ap (λ x. x ∷ drop (n + 1) cs) (sym h.1)
 
-pub apart-fits_at : (left : ℕ) (bare : Bool) (cs : List ℕ) (n c : ℕ) → (n < length cs) × (c ≡ get_or cs n c) → is_apart c ≡ true → left_fits left bare (drop n cs) ≡ false
-apart-fits_at left bare cs n c t h = ap (left_fits left bare) (front cs n c t) ∙ apart-fits left bare c (drop (n + 1) cs) h
+pub apart-fits_at : (left : ℕ) (bare : Bool) (cs : List ℕ) (n c : ℕ) → (n < length cs) × (c ≡ get_or cs n c)
+    → is_apart c ≡ true → left_fits left bare (drop n cs) ≡ false
+apart-fits_at left bare cs n c t h = ap (left_fits left bare) (front cs n c t)
+    ∙ apart-fits left bare c (drop (n + 1) cs) h
 
-pub wide-fits_at : (left : ℕ) (bare : Bool) (cs : List ℕ) (n c w : ℕ) → (n < length cs) × (c ≡ get_or cs n c) → w ≡ width c → left < w → left_fits left bare (drop n cs) ≡ false
-wide-fits_at left bare cs n c w t e h = ap (left_fits left bare) (front cs n c t) ∙ wide-fits left bare c (drop (n + 1) cs) (omega arith)
+pub wide-fits_at : (left : ℕ) (bare : Bool) (cs : List ℕ) (n c w : ℕ) → (n < length cs) × (c ≡ get_or cs n c) → w
+    ≡ width c → left < w → left_fits left bare (drop n cs) ≡ false
+wide-fits_at left bare cs n c w t e h = ap (left_fits left bare) (front cs n c t)
+    ∙ wide-fits left bare c (drop (n + 1) cs) (omega arith)
 
-pub next-fits_at : (left : ℕ) (bare : Bool) (cs : List ℕ) (n c w m : ℕ) → (n < length cs) × (c ≡ get_or cs n c) → w ≡ width c → is_apart c ≡ false → w ≤ left → m ≡ n + 1 →
+pub next-fits_at : (left : ℕ) (bare : Bool) (cs : List ℕ) (n c w m : ℕ) → (n < length cs) × (c ≡ get_or cs n c) → w
+    ≡ width c → is_apart c ≡ false → w ≤ left → m ≡ n + 1 →
     left_fits left bare (drop n cs) ≡ left_fits (left - w) (not (is_space c)) (drop m cs)
 next-fits_at left bare cs n c w m t e h k f =
     ap (left_fits left bare) (front cs n c t)
     ∙ next-fits left bare c (drop (n + 1) cs) h (omega arith)
     ∙ ap₂ (λ v i. left_fits (left - v) (not (is_space c)) (drop i cs)) (sym e) (sym f)
 
-pub ink_at : (cs : List ℕ) (n c : ℕ) → (n < length cs) × (c ≡ get_or cs n c) → is_whitespace c ≡ false → has_ink (drop n cs) ≡ true
+pub ink_at : (cs : List ℕ) (n c : ℕ) → (n < length cs) × (c ≡ get_or cs n c) → is_whitespace c ≡ false
+    → has_ink (drop n cs) ≡ true
 ink_at cs n c t h = ap has_ink (front cs n c t) ∙ ap (λ b. not b || has_ink (drop (n + 1) cs)) h
 
-pub white_at : (cs : List ℕ) (n c m : ℕ) → (n < length cs) × (c ≡ get_or cs n c) → is_whitespace c ≡ true → m ≡ n + 1 → has_ink (drop n cs) ≡ has_ink (drop m cs)
+pub white_at : (cs : List ℕ) (n c m : ℕ) → (n < length cs) × (c ≡ get_or cs n c) → is_whitespace c ≡ true → m ≡ n + 1
+    → has_ink (drop n cs) ≡ has_ink (drop m cs)
 white_at cs n c m t h e =
     ap has_ink (front cs n c t)
     ∙ ap (λ b. not b || has_ink (drop (n + 1) cs)) h
@@ -150,10 +163,16 @@ line-high (b ∷ bs) h =
 
 -- a character past ASCII has no byte of ASCII
 high-byte : (c k : ℕ) → 128 ≤ c → k < length (encode_utf8 c) → 128 ≤ get_or (encode_utf8 c) k 0
-high-byte c k h l = elim (nat_lt (get_or (encode_utf8 c) k 0) 128) as (λ b. nat_lt (get_or (encode_utf8 c) k 0) 128 ≡ b → 128 ≤ get_or (encode_utf8 c) k 0) [
-  | true ↦ λ e. absurd (omega (arith, inside_one c [] (encode_utf8 c) k (sym (append-nil (encode_utf8 c))) l (ltb-true _ _ e), ltb-true _ _ e))
-  | false ↦ λ e. grind (arith, nat_tests)
-] refl
+high-byte c k h l = elim (nat_lt (get_or (encode_utf8 c) k 0) 128) as
+    (λ b. nat_lt (get_or (encode_utf8 c) k 0) 128 ≡ b → 128 ≤ get_or (encode_utf8 c) k 0) [
+      | true ↦ λ e. absurd (omega (
+        arith,
+        inside_one c [] (encode_utf8 c) k (sym (append-nil (encode_utf8 c))) l
+            (ltb-true _ _ e),
+        ltb-true _ _ e,
+      ))
+      | false ↦ λ e. grind (arith, nat_tests)
+    ] refl
 
 line-character : (c : ℕ) → is_line (encode_utf8 c) ≡ not (is_apart c)
 line-character c = elim (nat_lt c 128) as (λ b. nat_lt c 128 ≡ b → is_line (encode_utf8 c) ≡ not (is_apart c)) [
@@ -179,14 +198,17 @@ breaks = is_byte2 27 10
 nowhere-line : (bs : List ℕ) → Nowhere (Passes breaks bs) 0 (length bs) → is_line bs ≡ true
 nowhere-line [] h = refl
 nowhere-line (b ∷ bs) h =
-    ap₂ (λ x y. not x && y) (false_from_ne_true (is_apart b) (h 0 (omega arith) (omega arith))) (nowhere-line bs (λ k lo lt. h (suc k) (omega arith) (omega (arith, lt))))
+    ap₂ (λ x y. not x && y) (false_from_ne_true (is_apart b) (h 0 (omega arith) (omega arith)))
+    (nowhere-line bs (λ k lo lt. h (suc k) (omega arith) (omega (arith, lt))))
 
 found-line : (bs : List ℕ) (k : ℕ) → k < length bs → breaks (slice_index bs k) ≡ true → is_line bs ≡ false
 found-line [] k l h = absurd (omega arith)
 found-line (b ∷ bs) zero l h = ap (λ x. not x && is_line bs) h
-found-line (b ∷ bs) (suc k) l h = ap (λ y. not (is_apart b) && y) (found-line bs k (omega (arith, l)) h) ∙ and-false (not (is_apart b))
+found-line (b ∷ bs) (suc k) l h = ap (λ y. not (is_apart b) && y) (found-line bs k (omega (arith, l)) h)
+    ∙ and-false (not (is_apart b))
 
-pub searched-line : (bs : List ℕ) (r : Option ℕ) (none : Bool) → IsFirstByte breaks bs r → is_some r ≡ not none → none ≡ is_line bs
+pub searched-line : (bs : List ℕ) (r : Option ℕ) (none : Bool) → IsFirstByte breaks bs r → is_some r ≡ not none → none
+    ≡ is_line bs
 searched-line bs None true h e = sym (nowhere-line bs h)
 searched-line bs (Some k) false h e = sym (found-line bs k h.0.high h.1)
 searched-line bs None false h e = absurd (cc)

@@ -1,5 +1,7 @@
 -- What is wrapped stays tame.
-use Rattle.std.proofs.Common.{◌≡◌, ℕ, ◌+◌, Bool, true, false, ◌&&◌, ◌||◌, ◌==◌, nat_lt, List, [], ◌∷◌, ◌++◌, map, flat_map, refl, sym, ap, ap₂, ◌∙◌, subst, arith, eqb-true, append_assoc, append-nil, if◌then◌else◌, ◌⊎◌, inl, inr}
+use Rattle.std.proofs.Common.{◌≡◌, ℕ, ◌+◌, Bool, true, false, ◌&&◌, ◌||◌, ◌==◌, nat_lt, List, [], ◌∷◌, ◌++◌, map}
+use Rattle.std.proofs.Common.{flat_map, refl, sym, ap, ap₂, ◌∙◌, subst, arith, eqb-true, append_assoc, append-nil}
+use Rattle.std.proofs.Common.{if◌then◌else◌, ◌⊎◌, inl, inr}
 use Rattle.std.proofs.lemmas.Bool.Decides.{nat_tests}
 use Rattle.std.proofs.lemmas.List.Concat.{flat_map-append}
 use Rattle.miette_runs.specs.rules.Sequences.{Token, Character, Sequence, is_line_feed}
@@ -7,7 +9,14 @@ use Rattle.miette_style.specs.rules.Escapes.{is_escape}
 use Rattle.miette_text.specs.laws.Tame.{State, Free, Escaped, Opened, Waiting, Broken, step, state_behind, AreTame}
 use Rattle.miette_runs.specs.rules.Colours.{is_colour, is_link}
 use Rattle.miette_basics.specs.rules.Lists.{is_nil, onto}
-use Rattle.miette_text.specs.rules.Wrapping.{TextLine, Word, Cuts, Plan, on_first, with_tag, with_code, no_characters, text_lines, cell_tokens, columns, is_space, with_letter, with_space, words, is_alphanumeric, begins_alphanumeric, hyphen_parts, broken_parts, with_spaces, first_room, further_room, cuts_of, hyphenated_parts, narrow_parts, parts, cut_words, word_cells, rows_behind, rows, only_spaces, trimmed_row, row_tokens, with_rest, text_line_rows, text_rows, line_feed, joined_rows, filled_text, all_white, text_line_tokens, indented_row, last_indented, whole_lines, wrapped_tokens}
+use Rattle.miette_text.specs.rules.Wrapping.{TextLine, Word, Cuts, Plan, on_first, with_tag, with_code, no_characters}
+use Rattle.miette_text.specs.rules.Wrapping.{text_lines, cell_tokens, columns, is_space, with_letter, with_space, words}
+use Rattle.miette_text.specs.rules.Wrapping.{is_alphanumeric, begins_alphanumeric, hyphen_parts, broken_parts}
+use Rattle.miette_text.specs.rules.Wrapping.{with_spaces, first_room, further_room, cuts_of, hyphenated_parts}
+use Rattle.miette_text.specs.rules.Wrapping.{narrow_parts, parts, cut_words, word_cells, rows_behind, rows, only_spaces}
+use Rattle.miette_text.specs.rules.Wrapping.{trimmed_row, row_tokens, with_rest, text_line_rows, text_rows, line_feed}
+use Rattle.miette_text.specs.rules.Wrapping.{joined_rows, filled_text, all_white, text_line_tokens, indented_row}
+use Rattle.miette_text.specs.rules.Wrapping.{last_indented, whole_lines, wrapped_tokens}
 use Rattle.miette_runs.specs.rules.Cells.{Cell, width}
 use Rattle.miette_text.proofs.Parsing.{broken_stays}
 
@@ -102,7 +111,8 @@ freer-step Opened _ k h = cc
 freer-step Broken Broken k h = freer_same (step Broken k)
 freer-step Broken _ k h = cc
 
-pub freer-run : (s t : State) (ts : List Token) → freer s t ≡ true → freer (state_behind s ts) (state_behind t ts) ≡ true
+pub freer-run : (s t : State) (ts : List Token) → freer s t ≡ true → freer (state_behind s ts) (state_behind t ts)
+    ≡ true
 freer-run s t [] h = h
 freer-run s t (k ∷ ts) h = freer-run (step s k) (step t k) ts (freer-step s t k h)
 
@@ -167,38 +177,57 @@ space_stays Opened c h a = grind (arith, nat_tests)
 space_stays Waiting c h a = grind (arith, nat_tests)
 space_stays Broken c h a = refl
 
-pub run-trimmed : (s : State) (ts : List Token) → alive (state_behind s ts) ≡ true → state_behind s (trimmed_row ts) ≡ state_behind s ts
+pub run-trimmed : (s : State) (ts : List Token) → alive (state_behind s ts) ≡ true → state_behind s (trimmed_row ts)
+    ≡ state_behind s ts
 run-trimmed s [] h = refl
 run-trimmed s (Sequence q ∷ ts) h = run-trimmed (step s (Sequence q)) ts h
 run-trimmed s (Character c ∷ ts) h =
     let rest = run-trimmed (step s (Character c)) ts h in
-    elim (is_space c) as (λ b. is_space c ≡ b → state_behind s (if b && only_spaces ts then trimmed_row ts else Character c ∷ trimmed_row ts) ≡ state_behind (step s (Character c)) ts) [
-      | true ↦ λ e. elim (only_spaces ts) as (λ b. state_behind s (if b then trimmed_row ts else Character c ∷ trimmed_row ts) ≡ state_behind (step s (Character c)) ts) [
-        | true ↦ ap (λ t. state_behind t (trimmed_row ts)) (sym (space_stays s c e (alive_before (step s (Character c)) ts h))) ∙ rest
-        | false ↦ rest
-      ]
+    elim (is_space c) as (λ b. is_space c ≡ b → state_behind s
+    (if b && only_spaces ts then trimmed_row ts else Character c ∷ trimmed_row ts)
+    ≡ state_behind (step s (Character c)) ts) [
+      | true ↦ λ e. elim (only_spaces ts) as (λ b. state_behind s
+          (if b then trimmed_row ts else Character c ∷ trimmed_row ts) ≡ state_behind (step s (Character c)) ts) [
+            | true ↦ ap (λ t. state_behind t (trimmed_row ts)) (sym
+                (space_stays s c e (alive_before (step s (Character c)) ts h))) ∙ rest
+            | false ↦ rest
+          ]
       | false ↦ λ e. rest
     ] refl
 
 -- From waiting a text comes to where it comes from free, or it waits still.
-waits : (ts : List Token) → (state_behind Waiting ts ≡ state_behind Free ts) ⊎ ((state_behind Free ts ≡ Free) × (state_behind Waiting ts ≡ Waiting))
+waits : (ts : List Token) → (state_behind Waiting ts ≡ state_behind Free ts)
+    ⊎ ((state_behind Free ts ≡ Free) × (state_behind Waiting ts ≡ Waiting))
 waits [] = inr (refl, refl)
-waits (Sequence q ∷ ts) = elim (is_colour q || is_link q) as (λ b. (state_behind (if b then Waiting else Broken) ts ≡ state_behind (if b then Free else Broken) ts) ⊎ ((state_behind (if b then Free else Broken) ts ≡ Free) × (state_behind (if b then Waiting else Broken) ts ≡ Waiting))) [
-  | true ↦ waits ts
-  | false ↦ inl refl
-]
-waits (Character c ∷ ts) = elim (is_escape c) as (λ b. (state_behind (if b then Escaped else if is_space c || is_line_feed c then Waiting else Free) ts ≡ state_behind (if b then Escaped else Free) ts) ⊎ ((state_behind (if b then Escaped else Free) ts ≡ Free) × (state_behind (if b then Escaped else if is_space c || is_line_feed c then Waiting else Free) ts ≡ Waiting))) [
-  | true ↦ inl refl
-  | false ↦ elim (is_space c || is_line_feed c) as (λ b. (state_behind (if b then Waiting else Free) ts ≡ state_behind Free ts) ⊎ ((state_behind Free ts ≡ Free) × (state_behind (if b then Waiting else Free) ts ≡ Waiting))) [
-    | true ↦ waits ts
-    | false ↦ inl refl
-  ]
-]
+waits (Sequence q ∷ ts) = elim (is_colour q || is_link q) as
+    (λ b. (state_behind (if b then Waiting else Broken) ts ≡ state_behind (if b then Free else Broken) ts)
+    ⊎ ((state_behind (if b then Free else Broken) ts ≡ Free)
+    × (state_behind (if b then Waiting else Broken) ts ≡ Waiting))) [
+      | true ↦ waits ts
+      | false ↦ inl refl
+    ]
+waits (Character c ∷ ts) = elim (is_escape c) as (λ b.
+    (state_behind (if b then Escaped else if is_space c || is_line_feed c then Waiting else Free) ts
+    ≡ state_behind (if b then Escaped else Free) ts) ⊎ ((state_behind (if b then Escaped else Free) ts ≡ Free)
+    × (state_behind (if b then Escaped else if is_space c || is_line_feed c then Waiting else Free) ts ≡ Waiting))) [
+      | true ↦ inl refl
+      | false ↦ elim (is_space c || is_line_feed c) as (λ b.
+          (state_behind (if b then Waiting else Free) ts ≡ state_behind Free ts)
+          ⊎ ((state_behind Free ts ≡ Free) × (state_behind (if b then Waiting else Free) ts ≡ Waiting))) [
+            | true ↦ waits ts
+            | false ↦ inl refl
+          ]
+    ]
 
 -- An indent leaves what was allowed.
-indent_freer : (w : State) (indent : List Token) → settled w ≡ true → AreTame indent → freer (state_behind w indent) w ≡ true
+indent_freer : (w : State) (indent : List Token) → settled w ≡ true → AreTame indent → freer (state_behind w indent) w
+    ≡ true
 indent_freer Free indent a h = ap (λ s. freer s Free) h
-indent_freer Waiting indent a h = elim (waits indent) [ inl e ↦ ap (λ s. freer s Waiting) (e ∙ h) | inr e ↦ ap (λ s. freer s Waiting) e.1 ]
+indent_freer Waiting indent a h = elim (waits indent) [
+  | inl e ↦ ap (λ s. freer s Waiting) (e ∙ h)
+  | inr e ↦
+      ap (λ s. freer s Waiting) e.1
+]
 indent_freer Escaped indent a h = cc
 indent_freer Opened indent a h = cc
 indent_freer Broken indent a h = cc
@@ -218,17 +247,22 @@ abbrev pub Ends : (State → Type 0) → State → List (List Token) → Type 0
 Ends Q s [] = ⊥
 Ends Q s (r ∷ rs) = elim rs [
   | [] ↦ Q (state_behind s r)
-  | x ∷ xs ↦ (alive (state_behind s r) ≡ true) × ((Ends Q (state_behind s r) rs) ⊎ (Ends Q (step (state_behind s r) line_feed) rs))
+  | x ∷ xs ↦ (alive (state_behind s r) ≡ true) × ((Ends Q (state_behind s r) rs)
+      ⊎ (Ends Q (step (state_behind s r) line_feed) rs))
 ]
 
 abbrev pub IsFree : State → Type 0
 IsFree s = s ≡ Free
 
 -- rows behind rows, with a line feed between them
-Ends-append : (s e : State) (rs us : List (List Token)) → alive e ≡ true → Ends (λ t. t ≡ e) s rs → Ends IsFree (step e line_feed) us → Ends IsFree s (rs ++ us)
+Ends-append : (s e : State) (rs us : List (List Token)) → alive e ≡ true → Ends (λ t. t ≡ e) s rs
+    → Ends IsFree (step e line_feed) us → Ends IsFree s (rs ++ us)
 Ends-append s e [] us a h k = absurd h
 Ends-append s e (r ∷ []) [] a h k = absurd k
-Ends-append s e (r ∷ []) (u ∷ us) a h k = (ap alive h ∙ a, inr (let P : State → Type 0 = λ t. Ends IsFree (step t line_feed) (u ∷ us) in subst P (sym h) k))
+Ends-append s e (r ∷ []) (u ∷ us) a h k = (
+  ap alive h ∙ a,
+  inr (let P : State → Type 0 = λ t. Ends IsFree (step t line_feed) (u ∷ us) in subst P (sym h) k),
+)
 Ends-append s e (r ∷ q ∷ rs) us a h k = (
   h.0,
   elim h.1 [
@@ -237,20 +271,28 @@ Ends-append s e (r ∷ q ∷ rs) us a h k = (
   ],
 )
 
-joined-run : (indent further : List Token) → AreTame indent → AreTame further → (w s : State) → settled w ≡ true → freer w s ≡ true → (rs : List (List Token)) → Ends IsFree s rs → state_behind w (joined_rows indent further rs) ≡ Free
+joined-run : (indent further : List Token) → AreTame indent → AreTame further → (w s : State) → settled w ≡ true
+    → freer w s ≡ true → (rs : List (List Token)) → Ends IsFree s rs → state_behind w (joined_rows indent further rs)
+    ≡ Free
 joined-run indent further a b w s c f [] h = absurd h
 joined-run indent further a b w s c f (r ∷ []) h =
     run-append w indent r
-    ∙ free_freer (state_behind (state_behind w indent) r) (let P : State → Type 0 = λ t. freer (state_behind (state_behind w indent) r) t ≡ true in subst P h (freer-run (state_behind w indent) s r (freer_trans (state_behind w indent) w s (indent_freer w indent c a) f)))
+    ∙ free_freer (state_behind (state_behind w indent) r)
+    (let P : State → Type 0 = λ t. freer (state_behind (state_behind w indent) r) t ≡ true in
+    subst P h (freer-run (state_behind w indent) s r (freer_trans (state_behind w indent) w s
+    (indent_freer w indent c a) f)))
 joined-run indent further a b w s c f (r ∷ q ∷ rs) h =
     let v = state_behind (state_behind w indent) r in
-    let g : freer v (state_behind s r) ≡ true = freer-run (state_behind w indent) s r (freer_trans (state_behind w indent) w s (indent_freer w indent c a) f) in
+    let g : freer v (state_behind s r) ≡ true = freer-run (state_behind w indent) s r
+    (freer_trans (state_behind w indent) w s (indent_freer w indent c a) f) in
     let d : settled (step v line_feed) ≡ true = feed_settles v (alive_freer v (state_behind s r) g h.0) in
     run-append w (indent ++ r) (line_feed ∷ joined_rows further further (q ∷ rs))
     ∙ ap (λ t. state_behind (step t line_feed) (joined_rows further further (q ∷ rs))) (run-append w indent r)
     ∙ elim h.1 [
-      | inl e ↦ joined-run further further b b (step v line_feed) (state_behind s r) d (feed_freer v (state_behind s r) g h.0) (q ∷ rs) e
-      | inr e ↦ joined-run further further b b (step v line_feed) (step (state_behind s r) line_feed) d (freer-step v (state_behind s r) line_feed g) (q ∷ rs) e
+      | inl e ↦ joined-run further further b b (step v line_feed) (state_behind s r) d
+          (feed_freer v (state_behind s r) g h.0) (q ∷ rs) e
+      | inr e ↦ joined-run further further b b (step v line_feed) (step (state_behind s r) line_feed) d
+          (freer-step v (state_behind s r) line_feed g) (q ∷ rs) e
     ]
 
 -- ---- pieces
@@ -260,35 +302,48 @@ abbrev pub Passes : State → List TextLine → Type 0
 Passes s [] = ⊥
 Passes s (p ∷ ps) = elim ps [
   | [] ↦ state_behind s (text_line_tokens p) ≡ Free
-  | q ∷ qs ↦ (alive (state_behind s (text_line_tokens p)) ≡ true) × Passes (step (state_behind s (text_line_tokens p)) line_feed) ps
+  | q ∷ qs ↦ (alive (state_behind s (text_line_tokens p)) ≡ true)
+      × Passes (step (state_behind s (text_line_tokens p)) line_feed) ps
 ]
 
 piece_tokens-tag : (q : List ℕ) (p : TextLine) → text_line_tokens (with_tag q p) ≡ Sequence q ∷ text_line_tokens p
-piece_tokens-tag q p = elim p.cells as (λ cs. text_line_tokens (with_tag q (record { cells = cs; rest = p.rest })) ≡ Sequence q ∷ text_line_tokens (record { cells = cs; rest = p.rest })) [
-  | [] ↦ refl
-  | c ∷ cs ↦ refl
-]
+piece_tokens-tag q p = elim p.cells as (λ cs. text_line_tokens (with_tag q (record { cells = cs; rest = p.rest }))
+    ≡ Sequence q ∷ text_line_tokens (record { cells = cs; rest = p.rest })) [
+      | [] ↦ refl
+      | c ∷ cs ↦ refl
+    ]
 
 -- what is put in front of the first piece
-Passes-first : (s : State) (k : Token) (f : TextLine → TextLine) → ((p : TextLine) → text_line_tokens (f p) ≡ k ∷ text_line_tokens p) → (ps : List TextLine) → Passes (step s k) ps → Passes s (on_first f ps)
+Passes-first : (s : State) (k : Token) (f : TextLine → TextLine)
+    → ((p : TextLine) → text_line_tokens (f p) ≡ k ∷ text_line_tokens p) → (ps : List TextLine) → Passes (step s k) ps
+    → Passes s (on_first f ps)
 Passes-first s k f e [] h = h
 Passes-first s k f e (p ∷ []) h = ap (state_behind s) (e p) ∙ h
-Passes-first s k f e (p ∷ q ∷ ps) h = (ap (λ us. alive (state_behind s us)) (e p) ∙ h.0, let P : List Token → Type 0 = λ us. Passes (step (state_behind s us) line_feed) (q ∷ ps) in subst P (sym (e p)) h.1)
+Passes-first s k f e (p ∷ q ∷ ps) h = (
+  ap (λ us. alive (state_behind s us)) (e p) ∙ h.0,
+  let P : List Token → Type 0 =
+      λ us. Passes (step (state_behind s us) line_feed) (q ∷ ps) in subst P (sym (e p)) h.1,
+)
 
-Passes-feed : (s : State) (ps : List TextLine) → alive s ≡ true → Passes (step s line_feed) ps → Passes s (no_characters ∷ ps)
+Passes-feed : (s : State) (ps : List TextLine) → alive s ≡ true → Passes (step s line_feed) ps
+    → Passes s (no_characters ∷ ps)
 Passes-feed s [] a h = absurd h
 Passes-feed s (p ∷ ps) a h = (a, h)
 
 pub pieces-pass : (s : State) (ts : List Token) → state_behind s ts ≡ Free → Passes s (text_lines ts)
 pieces-pass s [] h = h
-pieces-pass s (Sequence q ∷ ts) h = Passes-first s (Sequence q) (with_tag q) (piece_tokens-tag q) (text_lines ts) (pieces-pass (step s (Sequence q)) ts h)
+pieces-pass s (Sequence q ∷ ts) h = Passes-first s (Sequence q) (with_tag q) (piece_tokens-tag q) (text_lines ts)
+    (pieces-pass (step s (Sequence q)) ts h)
 pieces-pass s (Character c ∷ ts) h =
-    elim (is_line_feed c) as (λ b. is_line_feed c ≡ b → Passes s (if b then no_characters ∷ text_lines ts else on_first (with_code c) (text_lines ts))) [
+    elim (is_line_feed c) as (λ b. is_line_feed c ≡ b → Passes s
+    (if b then no_characters ∷ text_lines ts else on_first (with_code c) (text_lines ts))) [
       | true ↦ λ e.
-          let a : alive s ≡ true = alive_before s (Character c ∷ ts) (alive_free (state_behind s (Character c ∷ ts)) h) in
+          let a : alive s ≡ true = alive_before s (Character c ∷ ts) (alive_free (state_behind s (Character c ∷ ts)) h)
+          in
           let P : ℕ → Type 0 = λ x. Passes (step s (Character x)) (text_lines ts) in
           Passes-feed s (text_lines ts) a (subst P (eqb-true c 10 e) (pieces-pass (step s (Character c)) ts h))
-      | false ↦ λ e. Passes-first s (Character c) (with_code c) (λ p. refl) (text_lines ts) (pieces-pass (step s (Character c)) ts h)
+      | false ↦ λ e. Passes-first s (Character c) (with_code c) (λ p. refl) (text_lines ts)
+          (pieces-pass (step s (Character c)) ts h)
     ] refl
 
 -- ---- cutting loses nothing
@@ -311,10 +366,12 @@ onto_some x (p ∷ ps) = refl
 
 with_space-flat : (c : Cell) (ws : List Word) → flat_map word_cells (with_space c ws) ≡ c ∷ flat_map word_cells ws
 with_space-flat c [] = refl
-with_space-flat c (w ∷ ws) = elim w.letters as (λ ls. flat_map word_cells (with_space c (record { letters = ls; spaces = w.spaces } ∷ ws)) ≡ c ∷ flat_map word_cells (record { letters = ls; spaces = w.spaces } ∷ ws)) [
-  | [] ↦ refl
-  | l ∷ ls ↦ refl
-]
+with_space-flat c (w ∷ ws) = elim w.letters as (λ ls. flat_map word_cells
+    (with_space c (record { letters = ls; spaces = w.spaces } ∷ ws)) ≡ c
+    ∷ flat_map word_cells (record { letters = ls; spaces = w.spaces } ∷ ws)) [
+      | [] ↦ refl
+      | l ∷ ls ↦ refl
+    ]
 
 with_letter-flat : (c : Cell) (ws : List Word) → flat_map word_cells (with_letter c ws) ≡ c ∷ flat_map word_cells ws
 with_letter-flat c [] = refl
@@ -322,15 +379,17 @@ with_letter-flat c (w ∷ ws) = refl
 
 pub words-flat : (cs : List Cell) → flat_map word_cells (words cs) ≡ cs
 words-flat [] = refl
-words-flat (c ∷ cs) = elim (is_space c.code) as (λ b. flat_map word_cells (if b then with_space c (words cs) else with_letter c (words cs)) ≡ c ∷ cs) [
-  | true ↦ with_space-flat c (words cs) ∙ ap (λ xs. c ∷ xs) (words-flat cs)
-  | false ↦ with_letter-flat c (words cs) ∙ ap (λ xs. c ∷ xs) (words-flat cs)
-]
+words-flat (c ∷ cs) = elim (is_space c.code) as (λ b. flat_map word_cells
+    (if b then with_space c (words cs) else with_letter c (words cs)) ≡ c ∷ cs) [
+      | true ↦ with_space-flat c (words cs) ∙ ap (λ xs. c ∷ xs) (words-flat cs)
+      | false ↦ with_letter-flat c (words cs) ∙ ap (λ xs. c ∷ xs) (words-flat cs)
+    ]
 
 pub hyphen_parts-flat : (before : ℕ) (cs : List Cell) → flat (hyphen_parts before cs) ≡ cs
 hyphen_parts-flat before [] = refl
 hyphen_parts-flat before (c ∷ cs) =
-    elim ((c.code == 45) && is_alphanumeric before && begins_alphanumeric cs) as (λ b. flat (if b then (c ∷ []) ∷ hyphen_parts c.code cs else onto c (hyphen_parts c.code cs)) ≡ c ∷ cs) [
+    elim ((c.code == 45) && is_alphanumeric before && begins_alphanumeric cs) as
+    (λ b. flat (if b then (c ∷ []) ∷ hyphen_parts c.code cs else onto c (hyphen_parts c.code cs)) ≡ c ∷ cs) [
       | true ↦ ap (λ xs. c ∷ xs) (hyphen_parts-flat c.code cs)
       | false ↦ flat-onto c (hyphen_parts c.code cs) ∙ ap (λ xs. c ∷ xs) (hyphen_parts-flat c.code cs)
     ]
@@ -338,15 +397,21 @@ hyphen_parts-flat before (c ∷ cs) =
 pub broken-flat : (room used : ℕ) (cs : List Cell) → flat (broken_parts room used cs) ≡ cs
 broken-flat room used [] = refl
 broken-flat room used (c ∷ cs) =
-    elim (nat_lt 0 used && nat_lt room (used + width c.code)) as (λ b. flat (if b then [] ∷ onto c (broken_parts room (width c.code) cs) else onto c (broken_parts room (used + width c.code) cs)) ≡ c ∷ cs) [
-      | true ↦ flat-onto c (broken_parts room (width c.code) cs) ∙ ap (λ xs. c ∷ xs) (broken-flat room (width c.code) cs)
-      | false ↦ flat-onto c (broken_parts room (used + width c.code) cs) ∙ ap (λ xs. c ∷ xs) (broken-flat room (used + width c.code) cs)
+    elim (nat_lt 0 used && nat_lt room (used + width c.code)) as
+    (λ b. flat (if b then [] ∷ onto c (broken_parts room (width c.code) cs)
+    else onto c (broken_parts room (used + width c.code) cs)) ≡ c ∷ cs) [
+      | true ↦ flat-onto c (broken_parts room (width c.code) cs)
+          ∙ ap (λ xs. c ∷ xs) (broken-flat room (width c.code) cs)
+      | false ↦ flat-onto c (broken_parts room (used + width c.code) cs)
+          ∙ ap (λ xs. c ∷ xs) (broken-flat room (used + width c.code) cs)
     ]
 
-pub with_spaces-flat : (spaces : List Cell) (ps : List (List Cell)) → flat_map word_cells (with_spaces spaces ps) ≡ flat ps ++ spaces
+pub with_spaces-flat : (spaces : List Cell) (ps : List (List Cell)) → flat_map word_cells (with_spaces spaces ps)
+    ≡ flat ps ++ spaces
 with_spaces-flat spaces [] = append-nil spaces
 with_spaces-flat spaces (p ∷ []) = append-nil (p ++ spaces) ∙ ap (λ xs. xs ++ spaces) (sym (append-nil p))
-with_spaces-flat spaces (p ∷ q ∷ qs) = ap₂ (λ us vs. us ++ vs) (append-nil p) (with_spaces-flat spaces (q ∷ qs)) ∙ sym (append_assoc p (flat (q ∷ qs)) spaces)
+with_spaces-flat spaces (p ∷ q ∷ qs) = ap₂ (λ us vs. us ++ vs) (append-nil p) (with_spaces-flat spaces (q ∷ qs))
+    ∙ sym (append_assoc p (flat (q ∷ qs)) spaces)
 
 narrowed-flat : (cuts : Cuts) (cs : List Cell) → flat (narrow_parts cuts cs) ≡ cs
 narrowed-flat cuts cs = elim cuts.breaks as (λ b. flat (if b then broken_parts cuts.narrow 0 cs else cs ∷ []) ≡ cs) [
@@ -362,16 +427,19 @@ hyphenated-flat cuts cs = elim cuts.hyphens as (λ b. flat (if b then hyphen_par
 
 flat-narrowed : (cuts : Cuts) (ps : List (List Cell)) → flat (flat_map (narrow_parts cuts) ps) ≡ flat ps
 flat-narrowed cuts [] = refl
-flat-narrowed cuts (p ∷ ps) = flat-append (narrow_parts cuts p) (flat_map (narrow_parts cuts) ps) ∙ ap₂ (λ us vs. us ++ vs) (narrowed-flat cuts p) (flat-narrowed cuts ps)
+flat-narrowed cuts (p ∷ ps) = flat-append (narrow_parts cuts p) (flat_map (narrow_parts cuts) ps)
+    ∙ ap₂ (λ us vs. us ++ vs) (narrowed-flat cuts p) (flat-narrowed cuts ps)
 
 parts-flat : (cuts : Cuts) (w : Word) → flat_map word_cells (parts cuts w) ≡ word_cells w
 parts-flat cuts w =
     with_spaces-flat w.spaces (flat_map (narrow_parts cuts) (hyphenated_parts cuts w.letters))
     ∙ ap (λ xs. xs ++ w.spaces) (flat-narrowed cuts (hyphenated_parts cuts w.letters) ∙ hyphenated-flat cuts w.letters)
 
-all_parts-flat : (cuts : Cuts) (ws : List Word) → flat_map word_cells (flat_map (parts cuts) ws) ≡ flat_map word_cells ws
+all_parts-flat : (cuts : Cuts) (ws : List Word) → flat_map word_cells (flat_map (parts cuts) ws)
+    ≡ flat_map word_cells ws
 all_parts-flat cuts [] = refl
-all_parts-flat cuts (w ∷ ws) = flat_map-append word_cells (parts cuts w) (flat_map (parts cuts) ws) ∙ ap₂ (λ us vs. us ++ vs) (parts-flat cuts w) (all_parts-flat cuts ws)
+all_parts-flat cuts (w ∷ ws) = flat_map-append word_cells (parts cuts w) (flat_map (parts cuts) ws)
+    ∙ ap₂ (λ us vs. us ++ vs) (parts-flat cuts w) (all_parts-flat cuts ws)
 
 pub cut_words-flat : (cuts : Cuts) (cs : List Cell) → flat_map word_cells (cut_words cuts cs) ≡ cs
 cut_words-flat cuts cs = all_parts-flat cuts (words cs) ∙ words-flat cs
@@ -379,15 +447,20 @@ cut_words-flat cuts cs = all_parts-flat cuts (words cs) ∙ words-flat cs
 rows_behind-flat : (used room further : ℕ) (ws : List Word) → flat (rows_behind used room further ws) ≡ ws
 rows_behind-flat used room further [] = refl
 rows_behind-flat used room further (w ∷ ws) =
-    elim (nat_lt room (used + columns w.letters)) as (λ b. flat (if b then [] ∷ onto w (rows_behind (columns (word_cells w)) further further ws) else onto w (rows_behind (used + columns (word_cells w)) room further ws)) ≡ w ∷ ws) [
-      | true ↦ flat-onto w (rows_behind (columns (word_cells w)) further further ws) ∙ ap (λ xs. w ∷ xs) (rows_behind-flat (columns (word_cells w)) further further ws)
-      | false ↦ flat-onto w (rows_behind (used + columns (word_cells w)) room further ws) ∙ ap (λ xs. w ∷ xs) (rows_behind-flat (used + columns (word_cells w)) room further ws)
+    elim (nat_lt room (used + columns w.letters)) as (λ b. flat
+    (if b then [] ∷ onto w (rows_behind (columns (word_cells w)) further further ws)
+    else onto w (rows_behind (used + columns (word_cells w)) room further ws)) ≡ w ∷ ws) [
+      | true ↦ flat-onto w (rows_behind (columns (word_cells w)) further further ws)
+          ∙ ap (λ xs. w ∷ xs) (rows_behind-flat (columns (word_cells w)) further further ws)
+      | false ↦ flat-onto w (rows_behind (used + columns (word_cells w)) room further ws)
+          ∙ ap (λ xs. w ∷ xs) (rows_behind-flat (used + columns (word_cells w)) room further ws)
     ]
 
 -- The rows hold the words in order.
 pub rows-flat : (room further : ℕ) (ws : List Word) → flat (rows room further ws) ≡ ws
 rows-flat room further [] = refl
-rows-flat room further (w ∷ ws) = flat-onto w (rows_behind (columns (word_cells w)) room further ws) ∙ ap (λ xs. w ∷ xs) (rows_behind-flat (columns (word_cells w)) room further ws)
+rows-flat room further (w ∷ ws) = flat-onto w (rows_behind (columns (word_cells w)) room further ws)
+    ∙ ap (λ xs. w ∷ xs) (rows_behind-flat (columns (word_cells w)) room further ws)
 
 rows_some : (room further : ℕ) (ws : List Word) → is_nil (rows room further ws) ≡ false
 rows_some room further [] = refl
@@ -398,9 +471,11 @@ abbrev raw : List Word → List Token
 raw ws = flat_map cell_tokens (flat_map word_cells ws)
 
 raw-append : (us vs : List Word) → raw (us ++ vs) ≡ raw us ++ raw vs
-raw-append us vs = ap (flat_map cell_tokens) (flat_map-append word_cells us vs) ∙ flat_map-append cell_tokens (flat_map word_cells us) (flat_map word_cells vs)
+raw-append us vs = ap (flat_map cell_tokens) (flat_map-append word_cells us vs)
+    ∙ flat_map-append cell_tokens (flat_map word_cells us) (flat_map word_cells vs)
 
-alive-append : (s : State) (us vs : List Token) → alive (state_behind s (us ++ vs)) ≡ true → alive (state_behind s us) ≡ true
+alive-append : (s : State) (us vs : List Token) → alive (state_behind s (us ++ vs)) ≡ true → alive (state_behind s us)
+    ≡ true
 alive-append s us vs h = alive_before (state_behind s us) vs (sym (ap alive (run-append s us vs)) ∙ h)
 
 -- Rows cut from a run.
@@ -408,81 +483,119 @@ rows-ends : (s e : State) (rest : List (List ℕ)) (rs : List (List Word)) → i
     state_behind s (raw (flat rs) ++ map Sequence rest) ≡ e → Ends (λ t. t ≡ e) s (with_rest rest (map row_tokens rs))
 rows-ends s e rest [] n a h = cc
 rows-ends s e rest (r ∷ []) n a h =
-    let g : state_behind s (raw r ++ map Sequence rest) ≡ e = ap (λ ws. state_behind s (raw ws ++ map Sequence rest)) (sym (append-nil r)) ∙ h in
+    let g : state_behind s (raw r ++ map Sequence rest) ≡ e =
+    ap (λ ws. state_behind s (raw ws ++ map Sequence rest)) (sym (append-nil r)) ∙ h in
     let b : alive (state_behind s (raw r)) ≡ true = alive-append s (raw r) (map Sequence rest) (ap alive g ∙ a) in
     run-append s (trimmed_row (raw r)) (map Sequence rest)
     ∙ ap (λ t. state_behind t (map Sequence rest)) (run-trimmed s (raw r) b)
     ∙ sym (run-append s (raw r) (map Sequence rest))
     ∙ g
 rows-ends s e rest (r ∷ q ∷ rs) n a h =
-    let split : raw (r ++ flat (q ∷ rs)) ++ map Sequence rest ≡ raw r ++ (raw (flat (q ∷ rs)) ++ map Sequence rest) = ap (λ ts. ts ++ map Sequence rest) (raw-append r (flat (q ∷ rs))) ∙ append_assoc (raw r) (raw (flat (q ∷ rs))) (map Sequence rest) in
-    let g : state_behind (state_behind s (raw r)) (raw (flat (q ∷ rs)) ++ map Sequence rest) ≡ e = sym (run-append s (raw r) (raw (flat (q ∷ rs)) ++ map Sequence rest)) ∙ ap (state_behind s) (sym split) ∙ h in
-    let b : alive (state_behind s (raw r)) ≡ true = alive_before (state_behind s (raw r)) (raw (flat (q ∷ rs)) ++ map Sequence rest) (ap alive g ∙ a) in
+    let split : raw (r ++ flat (q ∷ rs)) ++ map Sequence rest ≡ raw r ++ (raw (flat (q ∷ rs)) ++ map Sequence rest) =
+    ap (λ ts. ts ++ map Sequence rest) (raw-append r (flat (q ∷ rs)))
+    ∙ append_assoc (raw r) (raw (flat (q ∷ rs))) (map Sequence rest) in
+    let g : state_behind (state_behind s (raw r)) (raw (flat (q ∷ rs)) ++ map Sequence rest) ≡ e =
+    sym (run-append s (raw r) (raw (flat (q ∷ rs)) ++ map Sequence rest)) ∙ ap (state_behind s) (sym split) ∙ h in
+    let b : alive (state_behind s (raw r)) ≡ true = alive_before (state_behind s (raw r))
+    (raw (flat (q ∷ rs)) ++ map Sequence rest) (ap alive g ∙ a) in
     let t : state_behind s (trimmed_row (raw r)) ≡ state_behind s (raw r) = run-trimmed s (raw r) b in
     let f = rows-ends (state_behind s (raw r)) e rest (q ∷ rs) refl a g in
-    elim rs as (λ xs. Ends (λ t. t ≡ e) (state_behind s (raw r)) (with_rest rest (map row_tokens (q ∷ xs))) → Ends (λ t. t ≡ e) s (with_rest rest (map row_tokens (r ∷ q ∷ xs)))) [
-      | [] ↦ λ f. (ap alive t ∙ b, inl (let P : State → Type 0 = λ u. Ends (λ t. t ≡ e) u (with_rest rest (map row_tokens (q ∷ []))) in subst P (sym t) f))
-      | x ∷ xs ↦ λ f. (ap alive t ∙ b, inl (let P : State → Type 0 = λ u. Ends (λ t. t ≡ e) u (with_rest rest (map row_tokens (q ∷ x ∷ xs))) in subst P (sym t) f))
+    elim rs as (λ xs. Ends (λ t. t ≡ e) (state_behind s (raw r)) (with_rest rest (map row_tokens (q ∷ xs)))
+    → Ends (λ t. t ≡ e) s (with_rest rest (map row_tokens (r ∷ q ∷ xs)))) [
+      | [] ↦ λ f. (
+        ap alive t ∙ b,
+        inl (let P : State → Type 0 =
+            λ u. Ends (λ t. t ≡ e) u (with_rest rest (map row_tokens (q ∷ []))) in subst P (sym t) f),
+      )
+      | x ∷ xs ↦ λ f. (
+        ap alive t ∙ b,
+        inl (let P : State → Type 0 =
+            λ u. Ends (λ t. t ≡ e) u (with_rest rest (map row_tokens (q ∷ x ∷ xs))) in subst P (sym t) f),
+      )
     ] f
 
-cells-raw : (cuts : Cuts) (room further : ℕ) (p : TextLine) → raw (flat (rows room further (cut_words cuts p.cells))) ++ map Sequence p.rest ≡ text_line_tokens p
+cells-raw : (cuts : Cuts) (room further : ℕ) (p : TextLine) → raw (flat (rows room further (cut_words cuts p.cells)))
+    ++ map Sequence p.rest ≡ text_line_tokens p
 cells-raw cuts room further p =
     ap (λ ws. raw ws ++ map Sequence p.rest) (rows-flat room further (cut_words cuts p.cells))
     ∙ ap (λ cs. flat_map cell_tokens cs ++ map Sequence p.rest) (cut_words-flat cuts p.cells)
 
-piece_rows-ends : (cuts : Cuts) (room further : ℕ) (s : State) (p : TextLine) → alive (state_behind s (text_line_tokens p)) ≡ true → Ends (λ t. t ≡ state_behind s (text_line_tokens p)) s (text_line_rows cuts room further p)
-piece_rows-ends cuts room further s p a = rows-ends s (state_behind s (text_line_tokens p)) p.rest (rows room further (cut_words cuts p.cells)) (rows_some room further (cut_words cuts p.cells)) a (ap (state_behind s) (cells-raw cuts room further p))
+piece_rows-ends : (cuts : Cuts) (room further : ℕ) (s : State) (p : TextLine)
+    → alive (state_behind s (text_line_tokens p)) ≡ true → Ends (λ t. t ≡ state_behind s (text_line_tokens p)) s
+    (text_line_rows cuts room further p)
+piece_rows-ends cuts room further s p a = rows-ends s (state_behind s (text_line_tokens p)) p.rest
+    (rows room further (cut_words cuts p.cells)) (rows_some room further (cut_words cuts p.cells)) a
+    (ap (state_behind s) (cells-raw cuts room further p))
 
 -- the rows of a piece, and of those below it
-text_rows-ends : (cuts : Cuts) (room further : ℕ) (s : State) (ps : List TextLine) → Passes s ps → Ends IsFree s (text_rows cuts room further ps)
+text_rows-ends : (cuts : Cuts) (room further : ℕ) (s : State) (ps : List TextLine) → Passes s ps
+    → Ends IsFree s (text_rows cuts room further ps)
 text_rows-ends cuts room further s [] h = absurd h
 text_rows-ends cuts room further s (p ∷ []) h =
     let P : List (List Token) → Type 0 = Ends IsFree s in
     let Q : State → Type 0 = λ e. Ends (λ t. t ≡ e) s (text_line_rows cuts room further p) in
-    subst P (sym (append-nil (text_line_rows cuts room further p))) (subst Q h (piece_rows-ends cuts room further s p (alive_free (state_behind s (text_line_tokens p)) h)))
+    subst P (sym (append-nil (text_line_rows cuts room further p)))
+    (subst Q h (piece_rows-ends cuts room further s p (alive_free (state_behind s (text_line_tokens p)) h)))
 text_rows-ends cuts room further s (p ∷ q ∷ ps) h =
-    Ends-append s (state_behind s (text_line_tokens p)) (text_line_rows cuts room further p) (text_line_rows cuts further further q ++ text_rows cuts further further ps) h.0
+    Ends-append s (state_behind s (text_line_tokens p)) (text_line_rows cuts room further p)
+    (text_line_rows cuts further further q ++ text_rows cuts further further ps) h.0
     (piece_rows-ends cuts room further s p h.0)
     (text_rows-ends cuts further further (step (state_behind s (text_line_tokens p)) line_feed) (q ∷ ps) h.1)
 
-filled-tame : (p : Plan (List Token)) (ts : List Token) → AreTame p.first → AreTame p.further → AreTame ts → AreTame (filled_text p ts)
-filled-tame p ts a b h = joined-run p.first p.further a b Free Free refl refl (text_rows (cuts_of p) (first_room p) (further_room p) (text_lines ts)) (text_rows-ends (cuts_of p) (first_room p) (further_room p) Free (text_lines ts) (pieces-pass Free ts h))
+filled-tame : (p : Plan (List Token)) (ts : List Token) → AreTame p.first → AreTame p.further → AreTame ts
+    → AreTame (filled_text p ts)
+filled-tame p ts a b h = joined-run p.first p.further a b Free Free refl refl
+    (text_rows (cuts_of p) (first_room p) (further_room p) (text_lines ts))
+    (text_rows-ends (cuts_of p) (first_room p) (further_room p) Free (text_lines ts) (pieces-pass Free ts h))
 
 -- ---- without wrapping
 
-if-trimmed : (w : State) (b : Bool) (indent : List Token) → settled w ≡ true → AreTame indent → freer (state_behind w (if b then trimmed_row indent else indent)) w ≡ true
+if-trimmed : (w : State) (b : Bool) (indent : List Token) → settled w ≡ true → AreTame indent
+    → freer (state_behind w (if b then trimmed_row indent else indent)) w ≡ true
 if-trimmed w true indent c h =
     let f = indent_freer w indent c h in
     ap (λ s. freer s w) (run-trimmed w indent (alive_freer (state_behind w indent) w f (alive_settled w c))) ∙ f
 if-trimmed w false indent c h = indent_freer w indent c h
 
-indented-freer : (w s : State) (indent : List Token) (p : TextLine) → settled w ≡ true → freer w s ≡ true → AreTame indent → freer (state_behind w (indented_row indent p)) (state_behind s (text_line_tokens p)) ≡ true
+indented-freer : (w s : State) (indent : List Token) (p : TextLine) → settled w ≡ true → freer w s ≡ true
+    → AreTame indent → freer (state_behind w (indented_row indent p)) (state_behind s (text_line_tokens p)) ≡ true
 indented-freer w s indent p c f h =
     let i = if all_white p.cells then trimmed_row indent else indent in
     ap (λ t. freer t (state_behind s (text_line_tokens p))) (run-append w i (text_line_tokens p))
-    ∙ freer-run (state_behind w i) s (text_line_tokens p) (freer_trans (state_behind w i) w s (if-trimmed w (all_white p.cells) indent c h) f)
+    ∙ freer-run (state_behind w i) s (text_line_tokens p)
+    (freer_trans (state_behind w i) w s (if-trimmed w (all_white p.cells) indent c h) f)
 
-last-freer : (w s : State) (indent : List Token) (p : TextLine) → settled w ≡ true → freer w s ≡ true → AreTame indent → freer (state_behind w (last_indented indent p)) (state_behind s (text_line_tokens p)) ≡ true
-last-freer w s indent p c f h = elim p.cells as (λ cs. freer (state_behind w (last_indented indent (record { cells = cs; rest = p.rest }))) (state_behind s (text_line_tokens (record { cells = cs; rest = p.rest }))) ≡ true) [
-  | [] ↦ freer-run w s (map Sequence p.rest) f
-  | x ∷ cs ↦ indented-freer w s indent (record { cells = x ∷ cs; rest = p.rest }) c f h
-]
+last-freer : (w s : State) (indent : List Token) (p : TextLine) → settled w ≡ true → freer w s ≡ true → AreTame indent
+    → freer (state_behind w (last_indented indent p)) (state_behind s (text_line_tokens p)) ≡ true
+last-freer w s indent p c f h = elim p.cells as (λ cs. freer
+    (state_behind w (last_indented indent (record { cells = cs; rest = p.rest })))
+    (state_behind s (text_line_tokens (record { cells = cs; rest = p.rest }))) ≡ true) [
+      | [] ↦ freer-run w s (map Sequence p.rest) f
+      | x ∷ cs ↦ indented-freer w s indent (record { cells = x ∷ cs; rest = p.rest }) c f h
+    ]
 
-whole-run : (indent further : List Token) → AreTame indent → AreTame further → (w s : State) → settled w ≡ true → freer w s ≡ true → (ps : List TextLine) → Passes s ps → state_behind w (whole_lines indent further ps) ≡ Free
+whole-run : (indent further : List Token) → AreTame indent → AreTame further → (w s : State) → settled w ≡ true
+    → freer w s ≡ true → (ps : List TextLine) → Passes s ps → state_behind w (whole_lines indent further ps) ≡ Free
 whole-run indent further a b w s c f [] h = absurd h
 whole-run indent further a b w s c f (p ∷ []) h =
-    free_freer (state_behind w (last_indented indent p)) (let P : State → Type 0 = λ t. freer (state_behind w (last_indented indent p)) t ≡ true in subst P h (last-freer w s indent p c f a))
+    free_freer (state_behind w (last_indented indent p)) (let P : State → Type 0 =
+    λ t. freer (state_behind w (last_indented indent p)) t ≡ true in subst P h (last-freer w s indent p c f a))
 whole-run indent further a b w s c f (p ∷ q ∷ ps) h =
     let v = state_behind w (indented_row indent p) in
     let g : freer v (state_behind s (text_line_tokens p)) ≡ true = indented-freer w s indent p c f a in
     run-append w (indented_row indent p) (line_feed ∷ whole_lines further further (q ∷ ps))
-    ∙ whole-run further further b b (step v line_feed) (step (state_behind s (text_line_tokens p)) line_feed) (feed_settles v (alive_freer v (state_behind s (text_line_tokens p)) g h.0)) (freer-step v (state_behind s (text_line_tokens p)) line_feed g) (q ∷ ps) h.1
+    ∙ whole-run further further b b (step v line_feed) (step (state_behind s (text_line_tokens p)) line_feed)
+    (feed_settles v (alive_freer v (state_behind s (text_line_tokens p)) g h.0))
+    (freer-step v (state_behind s (text_line_tokens p)) line_feed g) (q ∷ ps) h.1
 
-whole-tame : (p : Plan (List Token)) (ts : List Token) → AreTame p.first → AreTame p.further → AreTame ts → AreTame (whole_lines p.first p.further (text_lines ts))
+whole-tame : (p : Plan (List Token)) (ts : List Token) → AreTame p.first → AreTame p.further → AreTame ts
+    → AreTame (whole_lines p.first p.further (text_lines ts))
 whole-tame p ts a b h = whole-run p.first p.further a b Free Free refl refl (text_lines ts) (pieces-pass Free ts h)
 
-pub wrapped_tokens-tame : (p : Plan (List Token)) (ts : List Token) → AreTame p.first → AreTame p.further → AreTame ts → AreTame (wrapped_tokens p ts)
-wrapped_tokens-tame p ts a b h = elim p.wraps as (λ w. AreTame (if w then filled_text p ts else whole_lines p.first p.further (text_lines ts))) [
-  | true ↦ filled-tame p ts a b h
-  | false ↦ whole-tame p ts a b h
-]
+pub wrapped_tokens-tame : (p : Plan (List Token)) (ts : List Token) → AreTame p.first → AreTame p.further → AreTame ts
+    → AreTame (wrapped_tokens p ts)
+wrapped_tokens-tame p ts a b h = elim p.wraps as (λ w. AreTame
+    (if w then filled_text p ts else whole_lines p.first p.further (text_lines ts))) [
+      | true ↦ filled-tame p ts a b h
+      | false ↦ whole-tame p ts a b h
+    ]

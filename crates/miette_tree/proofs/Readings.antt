@@ -1,13 +1,16 @@
 -- What holds where every source of a report always reads, and where a part of a report is refused.
-use Rattle.std.proofs.Common.{◌≡◌, ℕ, zero, suc, ◌<◌, Bool, true, false, ◌&&◌, List, [], ◌∷◌, length, get_or, map, Option, Some, None, refl, sym, ap, ap₂, ◌∙◌, arith}
+use Rattle.std.proofs.Common.{◌≡◌, ℕ, zero, suc, ◌<◌, Bool, true, false, ◌&&◌, List, [], ◌∷◌, length, get_or, map}
+use Rattle.std.proofs.Common.{Option, Some, None, refl, sym, ap, ap₂, ◌∙◌, arith}
 use Rattle.std.proofs.lemmas.Bool.{and_from, or_right}
 use Rattle.std.proofs.Math.Bool.{and-false}
 use Rattle.miette_basics.specs.rules.Lists.{is_nil}
 use Rattle.miette_protocol.specs.views.Meaning.{Label}
 use Rattle.miette_protocol.specs.rules.Reading.{Source}
-use Rattle.miette_tree.specs.rules.Tree.{Tree, tree, Trees, no_trees, more_trees, trees, effective, source_of, related_of}
+use Rattle.miette_tree.specs.rules.Tree.{Tree, tree, Trees, no_trees, more_trees, trees, effective, source_of}
+use Rattle.miette_tree.specs.rules.Tree.{related_of}
 use Rattle.miette_tree.specs.rules.DiagnosticParts.{given_labels}
-use Rattle.miette_tree.specs.rules.Reads.{AlwaysReads, AllAlwaysRead, MayMeet, holds_of, holds_of_all, always_reads, accepts, report_reads}
+use Rattle.miette_tree.specs.rules.Reads.{AlwaysReads, AllAlwaysRead, MayMeet, holds_of, holds_of_all, always_reads}
+use Rattle.miette_tree.specs.rules.Reads.{accepts, report_reads}
 use Rattle.miette_tree.proofs.Nesting.{Reads, effective_reads}
 
 -- ---- where every source always reads
@@ -26,16 +29,20 @@ source_reads None labels p = refl
 source_reads (Some s) labels p = or_right (is_nil labels) s.always_reads p
 
 mutual
-  tree_reads : (inherited : Option Source) (t : Tree) → Reads inherited → AlwaysReads t → holds_of always_reads inherited t ≡ true
+  tree_reads : (inherited : Option Source) (t : Tree) → Reads inherited → AlwaysReads t
+      → holds_of always_reads inherited t ≡ true
   tree_reads inherited (tree m own c r) p q =
       let source = effective own inherited in
       let here : Reads source = effective_reads own inherited q.0 p in
-      and_from (always_reads source (given_labels m.labels)) (holds_of_all always_reads source r) (source_reads source (given_labels m.labels) here) (trees_read source r here q.2)
+      and_from (always_reads source (given_labels m.labels)) (holds_of_all always_reads source r)
+      (source_reads source (given_labels m.labels) here) (trees_read source r here q.2)
 
-  trees_read : (inherited : Option Source) (ts : Trees) → Reads inherited → AllAlwaysRead ts → holds_of_all always_reads inherited ts ≡ true
+  trees_read : (inherited : Option Source) (ts : Trees) → Reads inherited → AllAlwaysRead ts
+      → holds_of_all always_reads inherited ts ≡ true
   trees_read inherited no_trees p q = refl
   trees_read inherited (more_trees t ts) p q =
-      and_from (holds_of always_reads inherited t) (holds_of_all always_reads inherited ts) (tree_reads inherited t p q.0) (trees_read inherited ts p q.1)
+      and_from (holds_of always_reads inherited t) (holds_of_all always_reads inherited ts)
+      (tree_reads inherited t p q.0) (trees_read inherited ts p q.1)
 
 -- so does every source that labels of the report are read from
 pub told_reads : (t : Tree) → AlwaysReads t → report_reads t ≡ true
@@ -43,15 +50,20 @@ told_reads t q = tree_reads None t tt q
 
 -- ---- where a part is refused
 
-pub refused_below : (t : Tree) (inherited source : Option Source) (related : Trees) → source ≡ effective (source_of t) inherited → related ≡ related_of t →
+pub refused_below : (t : Tree) (inherited source : Option Source) (related : Trees) → source
+    ≡ effective (source_of t) inherited → related ≡ related_of t →
     holds_of_all accepts source related ≡ false → holds_of accepts inherited t ≡ false
 refused_below (tree m s c r) inherited source related es er e =
-    ap (λ b. accepts (effective s inherited) (given_labels m.labels) && b) (sym (ap₂ (holds_of_all accepts) es er) ∙ e) ∙ and-false (accepts (effective s inherited) (given_labels m.labels))
+    ap (λ b. accepts (effective s inherited) (given_labels m.labels) && b) (sym (ap₂ (holds_of_all accepts) es er) ∙ e)
+    ∙ and-false (accepts (effective s inherited) (given_labels m.labels))
 
-pub one_refused : {R : Type 0} (value : R → Tree) (inherited : Option Source) (rs : List R) (i : ℕ) (d : R) → i < length rs → d ≡ get_or rs i d → holds_of accepts inherited (value d) ≡ false →
+pub one_refused : {R : Type 0} (value : R → Tree) (inherited : Option Source) (rs : List R) (i : ℕ) (d : R) → i
+    < length rs → d ≡ get_or rs i d → holds_of accepts inherited (value d) ≡ false →
     holds_of_all accepts inherited (trees (map value rs)) ≡ false
 one_refused value inherited [] i d lt is e = absurd (omega arith)
 one_refused value inherited (r ∷ rs) zero d lt is e =
-    ap (λ b. b && holds_of_all accepts inherited (trees (map value rs))) (ap (λ x. holds_of accepts inherited (value x)) (sym is) ∙ e)
+    ap (λ b. b && holds_of_all accepts inherited (trees (map value rs)))
+    (ap (λ x. holds_of accepts inherited (value x)) (sym is) ∙ e)
 one_refused value inherited (r ∷ rs) (suc i) d lt is e =
-    ap (λ b. holds_of accepts inherited (value r) && b) (one_refused value inherited rs i d (omega arith) is e) ∙ and-false (holds_of accepts inherited (value r))
+    ap (λ b. holds_of accepts inherited (value r) && b) (one_refused value inherited rs i d (omega arith) is e)
+    ∙ and-false (holds_of accepts inherited (value r))

@@ -15,7 +15,8 @@ abbrev mutual
   trees_size (more_trees t ts) = suc (tree_size t + trees_size ts)
 
 -- one of several is smaller than all
-pub one_falls : {R : Type 0} (value : R → Tree) (rs : List R) (i : ℕ) (d : R) → i < length rs → tree_size (value (get_or rs i d)) < trees_size (trees (map value rs))
+pub one_falls : {R : Type 0} (value : R → Tree) (rs : List R) (i : ℕ) (d : R) → i < length rs
+    → tree_size (value (get_or rs i d)) < trees_size (trees (map value rs))
 one_falls value [] i d h = absurd (omega arith)
 one_falls value (r ∷ rs) zero d h = omega arith
 one_falls value (r ∷ rs) (suc i) d h = omega (arith, one_falls value rs i d (omega arith))

@@ -13,7 +13,8 @@ use Rattle.miette_labels.specs.rules.Labels.{DrawnLabel}
 use Rattle.miette_snippet_rules.specs.rules.Gutters.{gutter_columns}
 use Rattle.miette_snippet_rules.specs.rules.Folds.{Spread}
 use Rattle.miette_snippet_rules.specs.rules.Frames.{SnippetSettings, top_row, bottom_row, number_width}
-use Rattle.miette_snippet_rules.specs.rules.SnippetLayout.{cells_of, line_or_break, body_rows, place_of, settings_around}
+use Rattle.miette_snippet_rules.specs.rules.SnippetLayout.{cells_of, line_or_break, body_rows, place_of}
+use Rattle.miette_snippet_rules.specs.rules.SnippetLayout.{settings_around}
 use Rattle.miette_snippet_rules.specs.rules.SnippetLayout.{drawn_labels}
 
 -- line k

@@ -18,9 +18,11 @@ use Rattle.miette_labels.specs.rules.Labels.{closing_labels}
 use Rattle.miette_snippet_rules.specs.rules.Marks.{Text, Mark, marks}
 use Rattle.miette_snippet_rules.specs.rules.CutLines.{Stretch, cut_line, shown_runs, shown_marks}
 use Rattle.miette_snippet_rules.specs.rules.Drawing.{marked_rows}
-use Rattle.miette_snippet_rules.specs.rules.Gutters.{gutter_columns, number_gutter, other_gutter, break_gutter, closing_rows}
+use Rattle.miette_snippet_rules.specs.rules.Gutters.{gutter_columns, number_gutter, other_gutter, break_gutter}
+use Rattle.miette_snippet_rules.specs.rules.Gutters.{closing_rows}
 use Rattle.miette_snippet_rules.specs.rules.Folds.{Spread, spreads_of, leaves_out}
-use Rattle.miette_snippet_rules.specs.rules.Frames.{SnippetSettings, Place, refused_row, top_row, bottom_row, number_width}
+use Rattle.miette_snippet_rules.specs.rules.Frames.{SnippetSettings, Place, refused_row, top_row, bottom_row}
+use Rattle.miette_snippet_rules.specs.rules.Frames.{number_width}
 use Rattle.miette_snippet_rules.specs.rules.Frames.{number_start, other_start, break_start}
 
 -- a line's cells, where its text ends, and its columns

@@ -5,8 +5,8 @@ ghost use Rattle.miette_text.specs.steps.Ends.{IsFirstRow, begins_word, gap_len,
 ghost use Rattle.miette_runs.specs.steps.Cells.{code_columns};
 ghost use Rattle.miette_text.specs.rules.Wrapping.{is_alphanumeric};
 
-use miette_runs::runs::columns::char_columns;
 use miette_basics::sums::sum;
+use miette_runs::runs::columns::char_columns;
 use std::alloc::AllocError;
 use std::marker::Model;
 

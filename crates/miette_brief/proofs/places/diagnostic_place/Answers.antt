@@ -11,4 +11,5 @@ returns-in-Some-primary_span-clause-refused g c = λ h.
     let source = shown_source g.S.SourceCode.source in
     let labels = map (λ turn. label_at c.args.labels.now turn.index) c.args.order.now in
     ap (λ o. accepts (option_map source o) labels) c.in-Some.is
-    ∙ primary_refused (source c.in-Some.source) labels c.primary_span.result c.in-Some-primary_span.span c.primary_span.ensures c.in-Some-primary_span.is (c.span_place.ensures.refused h)
+    ∙ primary_refused (source c.in-Some.source) labels c.primary_span.result c.in-Some-primary_span.span
+    c.primary_span.ensures c.in-Some-primary_span.is (c.span_place.ensures.refused h)

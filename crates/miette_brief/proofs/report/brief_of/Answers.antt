@@ -8,4 +8,5 @@ pub returns-clause-text : goal.returns-clause-text
 returns-clause-text g c =
     let value = tree_of g.D.Diagnostic.meaning g.S.SourceCode.source c.args.report.now in
     is_brief c.args.chain value (string_bytes c.push_report.new.out)
-    (subst (λ (old : List ℕ). AppendsReport c.args.chain None value old (string_bytes c.push_report.new.out)) c.new-text.ensures.bytes c.in_ok-push_report.ensures.text)
+    (subst (λ (old : List ℕ). AppendsReport c.args.chain None value old (string_bytes c.push_report.new.out))
+    c.new-text.ensures.bytes c.in_ok-push_report.ensures.text)

@@ -21,9 +21,12 @@ returns g c =
     on_ok_weaker c.push_help.result (λ h. record {
       caused = string_bytes c.if-told.out;
       causes = elim c.if-told.branch [
-        | then-told+in_ok-push_causes w ↦ subst (λ (b : Bool). AppendsCauses b at source cause out (string_bytes c.if-told.out)) (sym w.if-told.true)
-            (subst (λ (new : List ℕ). AppendsCauses true at source cause out new) (sym (ap string_bytes w.out-is)) w.in_ok-push_causes.ensures)
-        | else-told w ↦ subst (λ (b : Bool). AppendsCauses b at source cause out (string_bytes c.if-told.out)) (sym w.if-told.false) (untold at source cause out (string_bytes c.if-told.out) (ap string_bytes w.out-is))
+        | then-told+in_ok-push_causes w ↦ subst (λ (b : Bool). AppendsCauses b at source cause out
+            (string_bytes c.if-told.out)) (sym w.if-told.true)
+            (subst (λ (new : List ℕ). AppendsCauses true at source cause out new) (sym (ap string_bytes w.out-is))
+            w.in_ok-push_causes.ensures)
+        | else-told w ↦ subst (λ (b : Bool). AppendsCauses b at source cause out (string_bytes c.if-told.out))
+            (sym w.if-told.false) (untold at source cause out (string_bytes c.if-told.out) (ap string_bytes w.out-is))
       ];
       appended = h ∙ ap (λ o. string_bytes c.if-told.out ++ rows_text (help_rows at o)) c.help.ensures;
     }) c.push_help.ensures

@@ -8,6 +8,9 @@ use Rattle.miette_brief.proofs.report.push_cause_texts.Goals as goal
 pub loop-text-preserved : goal.loop-text-preserved
 loop-text-preserved c =
     let at = place_of c.args.at in
-    rows_more (λ s. cause_row at (string_bytes s) ∷ []) (λ xs. map (cause_row at) (map string_bytes xs)) c.args.texts.now c.loop-text.text-index c.text-item.result c.text-item.result
-    (string_bytes c.loop-text.out) (string_bytes c.push_row.new.out) _ (λ x more. refl) c.loop-text-test.true c.text-item.is
-    (c.in_ok-push_row.ensures ∙ ap (λ t. string_bytes c.loop-text.out ++ rows_text (cause_row at t ∷ [])) c.as_str.ensures.value) c.loop-text.invariant
+    rows_more (λ s. cause_row at (string_bytes s) ∷ []) (λ xs. map (cause_row at) (map string_bytes xs))
+    c.args.texts.now c.loop-text.text-index c.text-item.result c.text-item.result
+    (string_bytes c.loop-text.out) (string_bytes c.push_row.new.out) _ (λ x more. refl) c.loop-text-test.true
+    c.text-item.is
+    (c.in_ok-push_row.ensures ∙ ap (λ t. string_bytes c.loop-text.out ++ rows_text (cause_row at t ∷ []))
+    c.as_str.ensures.value) c.loop-text.invariant

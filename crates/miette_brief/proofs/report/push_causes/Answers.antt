@@ -16,16 +16,22 @@ pub loop-next-preserved : goal.loop-next-preserved
 loop-next-preserved g c =
     let value = tree_of g.D.Diagnostic.meaning g.S.SourceCode.source in
     let source = option_map (shown_source g.S.SourceCode.source) in
-    one_more (place_of c.args.at) (source c.args.source) (cause_of (value c.args.report.now)) (cause_of (value c.loop-next.above.now)) (value c.in-Diagnostic.next.now)
-    (source c.own_or-own.result) c.labels_of.result.now (place_of c.in_ok-place.place) c.message.result.now (string_bytes c.args.out.now) (string_bytes c.loop-next.out) (string_bytes c.push_row.new.out)
-    c.loop-next.invariant c.in-Diagnostic.ensures.value c.own_or-own.ensures c.labels_of.ensures c.message.ensures c.in_ok-place.ensures c.in_ok-push_row.ensures
+    one_more (place_of c.args.at) (source c.args.source) (cause_of (value c.args.report.now))
+    (cause_of (value c.loop-next.above.now)) (value c.in-Diagnostic.next.now)
+    (source c.own_or-own.result) c.labels_of.result.now (place_of c.in_ok-place.place) c.message.result.now
+    (string_bytes c.args.out.now) (string_bytes c.loop-next.out) (string_bytes c.push_row.new.out)
+    c.loop-next.invariant c.in-Diagnostic.ensures.value c.own_or-own.ensures c.labels_of.ensures c.message.ensures
+    c.in_ok-place.ensures c.in_ok-push_row.ensures
 
 pub returns : goal.returns
 returns g c =
     let value = tree_of g.D.Diagnostic.meaning g.S.SourceCode.source in
     let source = option_map (shown_source g.S.SourceCode.source) in
     let left = cause_of (value c.loop-next.above.now) in
-    on_ok_weaker c.push_cause_texts.result (λ h. all_told (place_of c.args.at) (source c.args.source) (cause_of (value c.args.report.now)) left (map string_bytes c.cause_texts.result.now)
-    (string_bytes c.args.out.now) (string_bytes c.loop-next.out) (string_bytes c.push_cause_texts.new.out) c.loop-next.invariant
-    (sym (ap texts c.cause_texts.ensures ∙ texts_shown g.D.Diagnostic.meaning g.S.SourceCode.source c.cause.result left c.cause.ensures.value c.in_default.not-Diagnostic))
+    on_ok_weaker c.push_cause_texts.result (λ h. all_told (place_of c.args.at) (source c.args.source)
+    (cause_of (value c.args.report.now)) left (map string_bytes c.cause_texts.result.now)
+    (string_bytes c.args.out.now) (string_bytes c.loop-next.out) (string_bytes c.push_cause_texts.new.out)
+    c.loop-next.invariant
+    (sym (ap texts c.cause_texts.ensures ∙ texts_shown g.D.Diagnostic.meaning g.S.SourceCode.source c.cause.result left
+    c.cause.ensures.value c.in_default.not-Diagnostic))
     h) c.push_cause_texts.ensures

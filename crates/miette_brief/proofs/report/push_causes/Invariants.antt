@@ -15,4 +15,5 @@ abbrev pub invariant-loop-next : goal.invariant-loop-next
 invariant-loop-next g l =
     let value = tree_of g.D.Diagnostic.meaning g.S.SourceCode.source in
     let source = option_map (shown_source g.S.SourceCode.source) in
-    CausesSoFar (place_of l.at) (source l.source) (cause_of (value l.fn.report)) (cause_of (value l.above)) (string_bytes l.fn.out) (string_bytes l.out)
+    CausesSoFar (place_of l.at) (source l.source) (cause_of (value l.fn.report)) (cause_of (value l.above))
+    (string_bytes l.fn.out) (string_bytes l.out)

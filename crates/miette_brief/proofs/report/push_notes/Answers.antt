@@ -14,16 +14,20 @@ pub returns-in_err-push_note-clause-refused : goal.returns-in_err-push_note-clau
 returns-in_err-push_note-clause-refused g c = λ h.
     let source = option_map (shown_source g.S.SourceCode.source) c.args.source in
     let unread : IsUnread source c.label_of-label.result.now.span = c.in_err-push_note.ensures.refused (search rules) in
-    some_refused (λ turn. label_at c.args.labels.now turn.index) source c.args.order.now c.loop-turn.turn-index none c.label_of-label.result.now c.loop-turn-test.true c.label_of-label.ensures unread
+    some_refused (λ turn. label_at c.args.labels.now turn.index) source c.args.order.now c.loop-turn.turn-index none
+    c.label_of-label.result.now c.loop-turn-test.true c.label_of-label.ensures unread
 
 pub loop-turn-preserved : goal.loop-turn-preserved
 loop-turn-preserved g c =
     let source = option_map (shown_source g.S.SourceCode.source) c.args.source in
     let label = λ (turn : Turn). label_at c.args.labels.now turn.index in
     record {
-      text = notes_more label source c.args.order.now c.loop-turn.turn-index none c.label_of-label.result.now (string_bytes c.loop-turn.out) (string_bytes c.push_note.new.out) _ c.loop-turn-test.true c.label_of-label.ensures
+      text = notes_more label source c.args.order.now c.loop-turn.turn-index none c.label_of-label.result.now
+          (string_bytes c.loop-turn.out) (string_bytes c.push_note.new.out) _ c.loop-turn-test.true
+          c.label_of-label.ensures
           c.in_ok-push_note.ensures.text c.loop-turn.invariant.text;
-      accepted = accepted_more label source c.args.order.now c.loop-turn.turn-index none c.label_of-label.result.now (map label c.args.order.now) c.loop-turn-test.true c.label_of-label.ensures
+      accepted = accepted_more label source c.args.order.now c.loop-turn.turn-index none c.label_of-label.result.now
+          (map label c.args.order.now) c.loop-turn-test.true c.label_of-label.ensures
           c.in_ok-push_note.ensures.accepted c.loop-turn.invariant.accepted;
     }
 
@@ -31,4 +35,5 @@ pub returns-clause-accepted : goal.returns-clause-accepted
 returns-clause-accepted g c =
     let source = option_map (shown_source g.S.SourceCode.source) c.args.source in
     let label = λ (turn : Turn). label_at c.args.labels.now turn.index in
-    accepted_end label source c.args.order.now c.loop-turn.turn-index (map label c.args.order.now) c.loop-turn-test.false c.loop-turn.invariant.accepted
+    accepted_end label source c.args.order.now c.loop-turn.turn-index (map label c.args.order.now)
+    c.loop-turn-test.false c.loop-turn.invariant.accepted

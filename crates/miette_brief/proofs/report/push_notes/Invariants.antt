@@ -11,7 +11,9 @@ abbrev pub invariant-loop-turn : goal.invariant-loop-turn
 invariant-loop-turn g l =
     let source = option_map (shown_source g.S.SourceCode.source) l.source in
     record {
-      text : string_bytes l.out ++ rows_text (note_rows source (map (λ turn. label_at l.labels turn.index) (drop l.turn-index l.order)))
+      text : string_bytes l.out ++ rows_text (note_rows source
+          (map (λ turn. label_at l.labels turn.index) (drop l.turn-index l.order)))
           ≡ string_bytes l.fn.out ++ rows_text (note_rows source (map (λ turn. label_at l.labels turn.index) l.order));
-      accepted : HasAccepted source (map (λ turn. label_at l.labels turn.index) (drop l.turn-index l.order)) → HasAccepted source (map (λ turn. label_at l.labels turn.index) l.order);
+      accepted : HasAccepted source (map (λ turn. label_at l.labels turn.index) (drop l.turn-index l.order))
+          → HasAccepted source (map (λ turn. label_at l.labels turn.index) l.order);
     }

@@ -7,7 +7,8 @@ use Rattle.miette_brief.proofs.words.push_one_row.Goals as goal
 pub loop-c-preserved : goal.loop-c-preserved
 loop-c-preserved c = record {
   utf8 = IsUtf8-past_char _ _ _ c.loop-c.invariant.utf8 c.in-Some.ensures.steps.0;
-  text = one_more _ _ _ _ _ _ _ c.in-Some.c c.loop-c.invariant.utf8 c.in-Some.ensures.steps.0 c.in_ok-push_character.ensures c.is_control-goes_on.ensures c.loop-c.invariant.text;
+  text = one_more _ _ _ _ _ _ _ c.in-Some.c c.loop-c.invariant.utf8 c.in-Some.ensures.steps.0
+      c.in_ok-push_character.ensures c.is_control-goes_on.ensures c.loop-c.invariant.text;
 }
 
 pub returns : goal.returns

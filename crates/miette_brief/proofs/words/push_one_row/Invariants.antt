@@ -8,5 +8,6 @@ use Rattle.miette_brief.proofs.words.push_one_row.Given as goal
 abbrev pub invariant-loop-c : goal.invariant-loop-c
 invariant-loop-c l = record {
   utf8 : IsUtf8 l.c-iterator.rest.now;
-  text : string_bytes l.out ++ encode_utf8_all (spaced_text l.goes_on (chars l.c-iterator.rest.now)) ≡ string_bytes l.fn.out ++ one_row l.fn.text;
+  text : string_bytes l.out ++ encode_utf8_all (spaced_text l.goes_on (chars l.c-iterator.rest.now))
+      ≡ string_bytes l.fn.out ++ one_row l.fn.text;
 }

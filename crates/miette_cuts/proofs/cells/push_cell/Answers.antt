@@ -4,4 +4,5 @@ use Rattle.miette_cuts.proofs.cells.push_cell.Goals as goal
 
 pub returns-in_ok-push_copies : goal.returns-in_ok-push_copies
 returns-in_ok-push_copies g c =
-    tab_put (cell_of c.args.cell.now) c.saturating_sub.result c.args.page.now c.push_copies.new.self c.if-cell-eq9.true c.saturating_sub.ensures c.in_ok-push_copies.ensures
+    tab_put (cell_of c.args.cell.now) c.saturating_sub.result c.args.page.now c.push_copies.new.self c.if-cell-eq9.true
+    c.saturating_sub.ensures c.in_ok-push_copies.ensures

@@ -6,7 +6,8 @@ use Rattle.miette_cuts.proofs.cells.push_cells_within.Given as goal
 
 abbrev pub invariant-loop-left : goal.invariant-loop-left
 invariant-loop-left g l = record {
-  within : l.page ⊕ cells_tokens (cells_within l.left l.walk) ≡ l.fn.page ⊕ cells_tokens (cells_within l.fn.bytes l.fn.walk);
+  within : l.page ⊕ cells_tokens (cells_within l.left l.walk) ≡ l.fn.page
+      ⊕ cells_tokens (cells_within l.fn.bytes l.fn.walk);
   beyond : cells_beyond l.left l.walk ≡ cells_beyond l.fn.bytes l.fn.walk;
 }
 

@@ -12,9 +12,12 @@ loop-preserved g c =
     let some : 0 < left = omega (arith, c.loop-test.true) in
     let less : left - 1 ≡ c.args.many - (c.loop.counter + 1) = omega arith in
     record {
-      told = cells_more cell (take left c.loop.walk) (take (c.args.many - (c.loop.counter + 1)) c.next.new.self) c.loop.page c.push_cell.new.page _
-          (take_cell left cell c.loop.walk c.next.new.self step some ∙ ap (λ k. cell ∷ take k c.next.new.self) less) c.in_ok-push_cell.ensures c.loop.invariant.told;
-      later = ap (λ k. drop k c.next.new.self) (sym less) ∙ drop_cell left cell c.loop.walk c.next.new.self step some ∙ c.loop.invariant.later;
+      told = cells_more cell (take left c.loop.walk) (take (c.args.many - (c.loop.counter + 1)) c.next.new.self)
+          c.loop.page c.push_cell.new.page _
+          (take_cell left cell c.loop.walk c.next.new.self step some ∙ ap (λ k. cell ∷ take k c.next.new.self) less)
+          c.in_ok-push_cell.ensures c.loop.invariant.told;
+      later = ap (λ k. drop k c.next.new.self) (sym less) ∙ drop_cell left cell c.loop.walk c.next.new.self step some
+          ∙ c.loop.invariant.later;
     }
 
 pub returns-in_default-clause-told : goal.returns-in_default-clause-told
@@ -33,7 +36,9 @@ returns-in_default-clause-later g c =
 pub returns-clause-told : goal.returns-clause-told
 returns-clause-told g c =
     let left = c.args.many - c.loop.counter in
-    told_stop (take left c.loop.walk) c.loop.page _ (take_zero left c.loop.walk (omega (arith, c.loop-test.false))) c.loop.invariant.told
+    told_stop (take left c.loop.walk) c.loop.page _ (take_zero left c.loop.walk (omega (arith, c.loop-test.false)))
+    c.loop.invariant.told
 
 pub returns-clause-later : goal.returns-clause-later
-returns-clause-later g c = drop_zero (c.args.many - c.loop.counter) c.loop.walk (omega (arith, c.loop-test.false)) ∙ c.loop.invariant.later
+returns-clause-later g c = drop_zero (c.args.many - c.loop.counter) c.loop.walk (omega (arith, c.loop-test.false))
+    ∙ c.loop.invariant.later

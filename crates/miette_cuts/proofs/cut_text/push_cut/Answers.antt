@@ -5,8 +5,11 @@ use Rattle.miette_cuts.proofs.cut_text.push_cut.Goals as goal
 
 pub loop-stretch-preserved : goal.loop-stretch-preserved
 loop-stretch-preserved g c =
-    cut_more (map highlight_of c.args.pieces.now) c.args.cut.now c.loop-stretch.stretch-index c.loop-stretch.before c.in_ok-before.before _ c.loop-stretch.walk c.push_stretch.new.walk c.loop-stretch.page c.push_stretch.new.page _ c.loop-stretch-test.true
+    cut_more (map highlight_of c.args.pieces.now) c.args.cut.now c.loop-stretch.stretch-index c.loop-stretch.before
+    c.in_ok-before.before _ c.loop-stretch.walk c.push_stretch.new.walk c.loop-stretch.page c.push_stretch.new.page _
+    c.loop-stretch-test.true
     c.in_ok-push_stretch.ensures.told c.in_ok-push_stretch.ensures.later c.in_ok-before.ensures c.loop-stretch.invariant
 
 pub returns : goal.returns
-returns g c = cut_end (map highlight_of c.args.pieces.now) c.args.cut.now c.loop-stretch.stretch-index c.loop-stretch.before c.loop-stretch.walk c.loop-stretch.page _ c.loop-stretch-test.false c.loop-stretch.invariant
+returns g c = cut_end (map highlight_of c.args.pieces.now) c.args.cut.now c.loop-stretch.stretch-index
+    c.loop-stretch.before c.loop-stretch.walk c.loop-stretch.page _ c.loop-stretch-test.false c.loop-stretch.invariant

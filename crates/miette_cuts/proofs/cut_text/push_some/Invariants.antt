@@ -6,7 +6,8 @@ use Rattle.miette_cuts.proofs.cut_text.push_some.Given as goal
 
 abbrev pub invariant-loop-left : goal.invariant-loop-left
 invariant-loop-left g l = record {
-  within : l.page ⊕ cells_tokens (cells_within l.left (take l.many l.walk)) ≡ l.fn.page ⊕ cells_tokens (cells_within l.fn.bytes (take l.fn.many l.fn.walk));
+  within : l.page ⊕ cells_tokens (cells_within l.left (take l.many l.walk)) ≡ l.fn.page
+      ⊕ cells_tokens (cells_within l.fn.bytes (take l.fn.many l.fn.walk));
   beyond : cells_beyond l.left (take l.many l.walk) ≡ cells_beyond l.fn.bytes (take l.fn.many l.fn.walk);
   later : drop l.many l.walk ≡ drop l.fn.many l.fn.walk;
 }

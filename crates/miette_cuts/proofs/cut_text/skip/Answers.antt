@@ -8,7 +8,8 @@ loop-preserved c =
     let left = c.args.many - c.loop.counter in
     let step : c.loop.walk ≡ cell_of c.in-Some.cell ∷ c.next.new.self = search rules in
     let less : c.args.many - (c.loop.counter + 1) ≡ left - 1 = omega arith in
-    ap (λ k. drop k c.next.new.self) less ∙ drop_cell left (cell_of c.in-Some.cell) c.loop.walk c.next.new.self step (omega (arith, c.loop-test.true)) ∙ c.loop.invariant
+    ap (λ k. drop k c.next.new.self) less ∙ drop_cell left (cell_of c.in-Some.cell) c.loop.walk c.next.new.self step
+    (omega (arith, c.loop-test.true)) ∙ c.loop.invariant
 
 pub returns-in_default : goal.returns-in_default
 returns-in_default c =

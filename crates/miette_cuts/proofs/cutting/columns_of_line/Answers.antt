@@ -7,7 +7,8 @@ use Rattle.miette_cuts.proofs.cutting.columns_of_line.Goals as goal
 pub loop-cell-preserved : goal.loop-cell-preserved
 loop-cell-preserved c =
     let step : c.loop-cell.walk ≡ cell_of c.in-Some.cell ∷ c.next.new.self = search rules in
-    width_passed (cell_of c.in-Some.cell) c.loop-cell.walk c.next.new.self c.loop-cell.width step ∙ c.loop-cell.invariant
+    width_passed (cell_of c.in-Some.cell) c.loop-cell.walk c.next.new.self c.loop-cell.width step
+    ∙ c.loop-cell.invariant
 
 pub returns : goal.returns
 returns c =

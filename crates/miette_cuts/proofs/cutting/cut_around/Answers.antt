@@ -14,4 +14,5 @@ returns-in-Some c =
 
 pub returns-in-None : goal.returns-in-None
 returns-in-None c = λ labels.
-    ap (λ (o : Option ℕ). option_map (map measure) (cut_line o (map (mark_of labels) c.args.marks.now) (text_cells c.args.text.now))) (sym c.in-None.is)
+    ap (λ (o : Option ℕ). option_map (map measure) (cut_line o (map (mark_of labels) c.args.marks.now)
+    (text_cells c.args.text.now))) (sym c.in-None.is)

@@ -7,9 +7,11 @@ use Rattle.miette_cuts.proofs.marks.column_behind.Goals as goal
 pub loop-cell-preserved : goal.loop-cell-preserved
 loop-cell-preserved c =
     let step : c.loop-cell.walk ≡ cell_of c.in-Some.cell ∷ c.next.new.self = search rules in
-    λ text_end width. first_passed (cell_of c.in-Some.cell) c.loop-cell.walk c.next.new.self text_end width c.args.offset step (search rules) ∙ c.loop-cell.invariant text_end width
+    λ text_end width. first_passed (cell_of c.in-Some.cell) c.loop-cell.walk c.next.new.self text_end width
+    c.args.offset step (search rules) ∙ c.loop-cell.invariant text_end width
 
 pub returns : goal.returns
 returns c =
     let done : c.loop-cell.walk ≡ [] = search rules in
-    λ text_end width. ap (λ cs. first_column cs text_end width c.args.offset) (sym done) ∙ c.loop-cell.invariant text_end width
+    λ text_end width. ap (λ cs. first_column cs text_end width c.args.offset) (sym done)
+    ∙ c.loop-cell.invariant text_end width

@@ -8,6 +8,8 @@ use Rattle.miette_cuts.proofs.marks.marks_in.Given as goal
 
 abbrev pub invariant-loop-label : goal.invariant-loop-label
 invariant-loop-label l = record {
-  told : (labels : List Label) → map (mark_of labels) l.made.items ++ marks_from l.columns l.reached (map (drawn_of labels) (drop l.label-index l.placed)) ≡ marks l.columns (map (drawn_of labels) l.placed);
+  told : (labels : List Label) → map (mark_of labels) l.made.items
+      ++ marks_from l.columns l.reached (map (drawn_of labels) (drop l.label-index l.placed))
+      ≡ marks l.columns (map (drawn_of labels) l.placed);
   apart : All IsAnchored l.made.items;
 }

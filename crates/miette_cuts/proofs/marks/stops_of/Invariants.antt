@@ -8,7 +8,8 @@ abbrev pub invariant-loop-stops : goal.invariant-loop-stops
 invariant-loop-stops l = record {
   stops : All (IsStop l.fn.walk) l.stops.items;
   here : (text_end width offset : ℕ) → l.reached ≤ offset →
-      (first_column l.walk text_end width offset ≡ first_column l.fn.walk text_end width offset) × (last_column l.walk text_end width offset ≡ last_column l.fn.walk text_end width offset);
+      (first_column l.walk text_end width offset ≡ first_column l.fn.walk text_end width offset)
+      × (last_column l.walk text_end width offset ≡ last_column l.fn.walk text_end width offset);
   width : cells_width l.width l.walk ≡ cells_width 0 l.fn.walk;
   come : ComeFrom l.reached l.walk;
   left : 0 < l.left;

@@ -8,7 +8,9 @@ use Rattle.miette_cuts.proofs.plain_cut.plain_stretches.Given as goal
 abbrev pub invariant-loop-column : goal.invariant-loop-column
 invariant-loop-column l = record {
   within : l.column ≤ length l.fn.text;
-  told : (start : ℕ) → l.made.items ++ onto_made l.reached (map measure (stretches (is_near l.fn.limit l.fn.ends) l.reached.near (plain_cells (start + l.column) l.column (drop l.column l.fn.text))))
+  told : (start : ℕ) → l.made.items ++ onto_made l.reached
+      (map measure (stretches (is_near l.fn.limit l.fn.ends) l.reached.near
+      (plain_cells (start + l.column) l.column (drop l.column l.fn.text))))
       ≡ map measure (stretches (is_near l.fn.limit l.fn.ends) false (plain_cells start 0 l.fn.text));
 }
 

@@ -6,7 +6,11 @@ pub push_ascii-requires : goal.push_ascii-requires
 push_ascii-requires g c = printable_ascii c.args.own.now c.requires
 
 pub returns-then-is_shown : goal.returns-then-is_shown
-returns-then-is_shown g c = λ bytes same. stretch_plain c.args.stretch.now c.args.own.now bytes c.args.page.now c.begin.new.self c.push_ascii.new.page (sym c.is_shown.ensures ∙ c.if-is_shown.true) same c.in_ok-begin.ensures c.in_ok-push_ascii.ensures
+returns-then-is_shown g c = λ bytes same. stretch_plain c.args.stretch.now c.args.own.now bytes c.args.page.now
+    c.begin.new.self c.push_ascii.new.page (sym c.is_shown.ensures ∙ c.if-is_shown.true) same c.in_ok-begin.ensures
+    c.in_ok-push_ascii.ensures
 
 pub returns : goal.returns
-returns g c = λ bytes same. stretch_dotted c.args.stretch.now bytes c.args.page.now c.begin.new.self c.push_copies.new.self (sym c.is_shown.ensures ∙ c.if-is_shown.false) c.in_ok-begin.ensures c.in_ok-push_copies.ensures
+returns g c = λ bytes same. stretch_dotted c.args.stretch.now bytes c.args.page.now c.begin.new.self
+    c.push_copies.new.self (sym c.is_shown.ensures ∙ c.if-is_shown.false) c.in_ok-begin.ensures
+    c.in_ok-push_copies.ensures

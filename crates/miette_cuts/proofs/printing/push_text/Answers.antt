@@ -5,13 +5,17 @@ use Rattle.miette_cuts.proofs.printing.push_text.Goals as goal
 
 pub returns-in-Some : goal.returns-in-Some
 returns-in-Some g c =
-    untabbed_put c.args.text.now.tab c.args.text.now.start c.args.text.now.bytes.now c.in-Some.untabbed.now c.args.pieces.now c.args.page.now c.begin.new.self c.push_str.new.self
-    (eqb-true _ _ (sym c.is_empty.ensures ∙ c.if-is_empty.true)) c.in-Some.ensures.same c.in-Some.ensures.utf8 c.in-Some.ensures.untabbed c.in_ok-begin.ensures c.in_ok-push_str.ensures
+    untabbed_put c.args.text.now.tab c.args.text.now.start c.args.text.now.bytes.now c.in-Some.untabbed.now
+    c.args.pieces.now c.args.page.now c.begin.new.self c.push_str.new.self
+    (eqb-true _ _ (sym c.is_empty.ensures ∙ c.if-is_empty.true)) c.in-Some.ensures.same c.in-Some.ensures.utf8
+    c.in-Some.ensures.untabbed c.in_ok-begin.ensures c.in_ok-push_str.ensures
 
 pub push_tabbed-requires : goal.push_tabbed-requires
 push_tabbed-requires g c = tabbed_ascii c.args.text.now.bytes.now (sym c.all_tabbed.ensures ∙ c.if-all_tabbed.true)
 
 pub returns-then-all_tabbed : goal.returns-then-all_tabbed
 returns-then-all_tabbed g c =
-    tabbed_put c.args.text.now.tab c.args.text.now.start c.args.text.now.bytes.now c.args.pieces.now c.args.page.now c.begin-then-all_tabbed.new.self c.push_tabbed.new.page
-    (eqb-true _ _ (sym c.is_empty.ensures ∙ c.if-is_empty.true)) (sym c.all_tabbed.ensures ∙ c.if-all_tabbed.true) c.in_ok-begin-2.ensures c.in_ok-push_tabbed.ensures
+    tabbed_put c.args.text.now.tab c.args.text.now.start c.args.text.now.bytes.now c.args.pieces.now c.args.page.now
+    c.begin-then-all_tabbed.new.self c.push_tabbed.new.page
+    (eqb-true _ _ (sym c.is_empty.ensures ∙ c.if-is_empty.true)) (sym c.all_tabbed.ensures ∙ c.if-all_tabbed.true)
+    c.in_ok-begin-2.ensures c.in_ok-push_tabbed.ensures

@@ -9,4 +9,5 @@ pub unreachable-requires : goal.unreachable-requires
 unreachable-requires g c = c.in_default.ensures.cases.0 (IsUtf8-from_ascii c.args.bytes.now c.requires)
 
 pub returns : goal.returns
-returns g c = c.in_ok-push_str.ensures ∙ ap (λ x. c.args.page.now ⊕ text_tokens x) (ap chars c.in-Ok.ensures.cases.0 ∙ chars-IsAscii c.args.bytes.now c.requires)
+returns g c = c.in_ok-push_str.ensures ∙ ap (λ x. c.args.page.now ⊕ text_tokens x)
+    (ap chars c.in-Ok.ensures.cases.0 ∙ chars-IsAscii c.args.bytes.now c.requires)

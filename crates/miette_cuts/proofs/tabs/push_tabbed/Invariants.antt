@@ -9,7 +9,8 @@ abbrev pub invariant-loop-size : goal.invariant-loop-size
 invariant-loop-size g l = record {
   within : length l.rest ≤ length l.fn.text;
   ascii : IsAscii l.rest;
-  told : l.page ⊕ text_tokens (tabbed_codes l.fn.tab l.column l.rest) ≡ l.fn.page ⊕ text_tokens (tabbed_codes l.fn.tab 0 l.fn.text);
+  told : l.page ⊕ text_tokens (tabbed_codes l.fn.tab l.column l.rest) ≡ l.fn.page
+      ⊕ text_tokens (tabbed_codes l.fn.tab 0 l.fn.text);
 }
 
 abbrev pub decreases-loop-size : goal.decreases-loop-size

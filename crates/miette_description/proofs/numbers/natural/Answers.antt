@@ -23,4 +23,5 @@ returns-else-has_minus c =
     let unsigned_text : (get_or s 0 0 == 45) ≡ false = sym c.if-has_minus.ensures.value in
     let read : number_from false (scan s) ≡ number_of s = rw unsigned_text in
     let value : Option Num → Option ℕ = λ o. as_u64 (unwrap_or o (float (to_float (unsigned 0)))) in
-    natural_is c.scan.result c.to_u64.result c.to_u64.ensures ∙ ap value (ap (number_from false) c.scan.ensures.parts ∙ read ∙ ap number_of c.as_bytes-bytes.ensures.value)
+    natural_is c.scan.result c.to_u64.result c.to_u64.ensures
+    ∙ ap value (ap (number_from false) c.scan.ensures.parts ∙ read ∙ ap number_of c.as_bytes-bytes.ensures.value)

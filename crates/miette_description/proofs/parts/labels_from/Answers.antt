@@ -10,15 +10,18 @@ loop-item-init c = none_read label_of c.in-Some.list.now c.new-labels.result.ite
 pub returns-in_err-label-clause-description : goal.returns-in_err-label-clause-description
 returns-in_err-label-clause-description c e =
     ap (λ (o : Option Items). and_then o (all_of label_of)) (sym c.in-Some.ensures)
-    ∙ one_fails label_of c.in-Some.list.now _ c.loop-item.item-index c.item-item.result c.loop-item-test.true c.item-item.is (c.in_err-label.ensures.description (search rules)) c.loop-item.invariant
+    ∙ one_fails label_of c.in-Some.list.now _ c.loop-item.item-index c.item-item.result c.loop-item-test.true
+    c.item-item.is (c.in_err-label.ensures.description (search rules)) c.loop-item.invariant
 
 pub returns-clause-ok : goal.returns-clause-ok
 returns-clause-ok c =
     ap (λ (o : Option Items). and_then o (all_of label_of)) (sym c.in-Some.ensures)
-    ∙ all_read label_of c.in-Some.list.now c.loop-item.labels.items c.loop-item.item-index c.loop-item-test.false c.loop-item.invariant
+    ∙ all_read label_of c.in-Some.list.now c.loop-item.labels.items c.loop-item.item-index c.loop-item-test.false
+    c.loop-item.invariant
 
 pub loop-item-preserved : goal.loop-item-preserved
 loop-item-preserved c =
     let pushed : c.push.new.self.items ≡ c.loop-item.labels.items ++ c.in_ok-label.label ∷ [] = search rules in
-    let more = one_read label_of c.in-Some.list.now c.loop-item.labels.items c.loop-item.item-index c.item-item.result c.in_ok-label.label c.loop-item-test.true c.item-item.is c.in_ok-label.ensures.ok c.loop-item.invariant in
+    let more = one_read label_of c.in-Some.list.now c.loop-item.labels.items c.loop-item.item-index c.item-item.result
+    c.in_ok-label.label c.loop-item-test.true c.item-item.is c.in_ok-label.ensures.ok c.loop-item.invariant in
     subst (λ xs. ReadSoFar label_of c.in-Some.list.now xs (c.loop-item.item-index + 1)) (sym pushed) more

@@ -7,21 +7,26 @@ use Rattle.miette_description.proofs.Lists.{none_read, one_read_as, one_fails, a
 use Rattle.miette_description.proofs.parts.texts_from.Goals as goal
 
 pub loop-item-init : goal.loop-item-init
-loop-item-init c = none_read as_str c.in-Some.list.now (map string_bytes c.new-texts.result.items) (ap (map string_bytes) c.new-texts.ensures.items)
+loop-item-init c = none_read as_str c.in-Some.list.now (map string_bytes c.new-texts.result.items)
+    (ap (map string_bytes) c.new-texts.ensures.items)
 
 pub returns-in_default-text_in-clause-description : goal.returns-in_default-text_in-clause-description
 returns-in_default-text_in-clause-description c e =
     let none : as_str (value_data c.item-item.result) ≡ None = search rules in
     ap (λ (o : Option Items). and_then o (all_of as_str)) (sym c.in-Some.ensures)
-    ∙ one_fails as_str c.in-Some.list.now _ c.loop-item.item-index c.item-item.result c.loop-item-test.true c.item-item.is none c.loop-item.invariant
+    ∙ one_fails as_str c.in-Some.list.now _ c.loop-item.item-index c.item-item.result c.loop-item-test.true
+    c.item-item.is none c.loop-item.invariant
 
 pub returns-clause-ok : goal.returns-clause-ok
 returns-clause-ok c =
     ap (λ (o : Option Items). and_then o (all_of as_str)) (sym c.in-Some.ensures)
-    ∙ all_read as_str c.in-Some.list.now (map string_bytes c.loop-item.texts.items) c.loop-item.item-index c.loop-item-test.false c.loop-item.invariant
+    ∙ all_read as_str c.in-Some.list.now (map string_bytes c.loop-item.texts.items) c.loop-item.item-index
+    c.loop-item-test.false c.loop-item.invariant
 
 pub loop-item-preserved : goal.loop-item-preserved
 loop-item-preserved c =
     let pushed : c.push.new.self.items ≡ c.loop-item.texts.items ++ c.in-Ok.copy ∷ [] = search rules in
     let is : as_str (value_data c.item-item.result) ≡ Some (string_bytes c.in-Ok.copy) = search rules in
-    one_read_as as_str string_bytes c.in-Some.list.now c.loop-item.texts.items c.push.new.self.items c.loop-item.item-index c.item-item.result c.in-Ok.copy pushed c.loop-item-test.true c.item-item.is is c.loop-item.invariant
+    one_read_as as_str string_bytes c.in-Some.list.now c.loop-item.texts.items c.push.new.self.items
+    c.loop-item.item-index c.item-item.result c.in-Ok.copy pushed c.loop-item-test.true c.item-item.is is
+    c.loop-item.invariant

@@ -4,8 +4,10 @@ use Rattle.json.specs.Json.{Json, array, object, parse_map, after_end_array, rea
 use Rattle.json.specs.Reads.{token_of}
 use Rattle.json.specs.Value.{value_view, members_view}
 use Rattle.json.specs.declared.value.Value.{String, Number, Bool, Null, the_lemmas}
-use Rattle.json.proofs.Grammar.{value_is, value-begin_array, value-begin_object, read_key-shorter, items_end, items_fail, items_more, members_end, members_no_key, members_fail, members_more}
-use Rattle.json.proofs.Trees.{items_before, members_before, items_before-no_items, members_before-no_members, one_more_item, one_more_member, none_before, view-Array, view-Object}
+use Rattle.json.proofs.Grammar.{value_is, value-begin_array, value-begin_object, read_key-shorter, items_end}
+use Rattle.json.proofs.Grammar.{items_fail, items_more, members_end, members_no_key, members_fail, members_more}
+use Rattle.json.proofs.Trees.{items_before, members_before, items_before-no_items, members_before-no_members}
+use Rattle.json.proofs.Trees.{one_more_item, one_more_member, none_before, view-Array, view-Object}
 use Rattle.miette_description.proofs.reading.+read.Goals as goal
 
 pub read_value-returns-in_default-clause-description : goal.read_value-returns-in_default-clause-description
@@ -20,10 +22,12 @@ read_value-returns-then-depth-eq0-clause-description t c never =
     let none : c.args.depth ≡ 0 = omega arith in
     ap₂ value none (first ∙ ap (λ k. token_of k ∷ c.next.new.self) c.in-BeginArray.is)
 
-pub read_value-returns-in_err-read_items-in-BeginArray-clause-description : goal.read_value-returns-in_err-read_items-in-BeginArray-clause-description
+pub read_value-returns-in_err-read_items-in-BeginArray-clause-description :
+    goal.read_value-returns-in_err-read_items-in-BeginArray-clause-description
 read_value-returns-in_err-read_items-in-BeginArray-clause-description t c invalid =
     let first : c.args.reader.now ≡ token_of c.in-Some.token ∷ c.next.new.self = grind arith in
-    let opened = ap (value c.args.depth) (first ∙ ap (λ k. token_of k ∷ c.next.new.self) c.in-BeginArray.is) ∙ value-begin_array c.args.depth c.next.new.self (omega arith) in
+    let opened = ap (value c.args.depth) (first ∙ ap (λ k. token_of k ∷ c.next.new.self) c.in-BeginArray.is)
+    ∙ value-begin_array c.args.depth c.next.new.self (omega arith) in
     let failed : items (value (c.args.depth - 1)) (length c.next.new.self) c.next.new.self ≡ None = grind arith in
     opened ∙ ap (parse_map array) failed
 
@@ -34,10 +38,12 @@ read_value-returns-then-depth-eq0-2-clause-description t c never =
     let none : c.args.depth ≡ 0 = omega arith in
     ap₂ value none (first ∙ ap (λ k. token_of k ∷ c.next.new.self) c.in-BeginObject.is)
 
-pub read_value-returns-in_err-read_members-in-BeginObject-clause-description : goal.read_value-returns-in_err-read_members-in-BeginObject-clause-description
+pub read_value-returns-in_err-read_members-in-BeginObject-clause-description :
+    goal.read_value-returns-in_err-read_members-in-BeginObject-clause-description
 read_value-returns-in_err-read_members-in-BeginObject-clause-description t c invalid =
     let first : c.args.reader.now ≡ token_of c.in-Some.token ∷ c.next.new.self = grind arith in
-    let opened = ap (value c.args.depth) (first ∙ ap (λ k. token_of k ∷ c.next.new.self) c.in-BeginObject.is) ∙ value-begin_object c.args.depth c.next.new.self (omega arith) in
+    let opened = ap (value c.args.depth) (first ∙ ap (λ k. token_of k ∷ c.next.new.self) c.in-BeginObject.is)
+    ∙ value-begin_object c.args.depth c.next.new.self (omega arith) in
     let failed : members (value (c.args.depth - 1)) (length c.next.new.self) c.next.new.self ≡ None = grind arith in
     opened ∙ ap (parse_map object) failed
 
@@ -74,22 +80,35 @@ read_value-returns-in-EndObject-clause-description t c invalid =
     let first : c.args.reader.now ≡ token_of c.in-Some.token ∷ c.next.new.self = grind arith in
     rw (value_is c.args.depth c.args.reader.now, first) (grind arith)
 
-pub read_value-returns-in_ok-read_items-in-BeginArray-clause-ok : goal.read_value-returns-in_ok-read_items-in-BeginArray-clause-ok
+pub read_value-returns-in_ok-read_items-in-BeginArray-clause-ok :
+    goal.read_value-returns-in_ok-read_items-in-BeginArray-clause-ok
 read_value-returns-in_ok-read_items-in-BeginArray-clause-ok t c =
     let first : c.args.reader.now ≡ token_of c.in-Some.token ∷ c.next.new.self = grind arith in
-    let opened = ap (value c.args.depth) (first ∙ ap (λ k. token_of k ∷ c.next.new.self) c.in-BeginArray.is) ∙ value-begin_array c.args.depth c.next.new.self (omega arith) in
+    let opened = ap (value c.args.depth) (first ∙ ap (λ k. token_of k ∷ c.next.new.self) c.in-BeginArray.is)
+    ∙ value-begin_array c.args.depth c.next.new.self (omega arith) in
     let found = c.in_ok-read_items-in-BeginArray in
-    opened ∙ ap (parse_map array) found.ensures.ok ∙ ap (λ j. Some (j, c.read_items.new.reader)) (sym (view-Array found.field-0))
+    opened ∙ ap (parse_map array) found.ensures.ok ∙ ap (λ j. Some (j, c.read_items.new.reader))
+    (sym (view-Array found.field-0))
 
-pub read_value-returns-in_ok-read_members-in-BeginObject-clause-ok : goal.read_value-returns-in_ok-read_members-in-BeginObject-clause-ok
+pub read_value-returns-in_ok-read_members-in-BeginObject-clause-ok :
+    goal.read_value-returns-in_ok-read_members-in-BeginObject-clause-ok
 read_value-returns-in_ok-read_members-in-BeginObject-clause-ok t c =
     let first : c.args.reader.now ≡ token_of c.in-Some.token ∷ c.next.new.self = grind arith in
-    let opened = ap (value c.args.depth) (first ∙ ap (λ k. token_of k ∷ c.next.new.self) c.in-BeginObject.is) ∙ value-begin_object c.args.depth c.next.new.self (omega arith) in
+    let opened = ap (value c.args.depth) (first ∙ ap (λ k. token_of k ∷ c.next.new.self) c.in-BeginObject.is)
+    ∙ value-begin_object c.args.depth c.next.new.self (omega arith) in
     let found = c.in_ok-read_members-in-BeginObject in
-    opened ∙ ap (parse_map object) found.ensures.ok ∙ ap (λ j. Some (j, c.read_members.new.reader)) (sym (view-Object found.field-0))
+    opened ∙ ap (parse_map object) found.ensures.ok ∙ ap (λ j. Some (j, c.read_members.new.reader))
+    (sym (view-Object found.field-0))
 
 pub read_items-loop-alloc-init : goal.read_items-loop-alloc-init
-read_items-loop-alloc-init t c = (length c.args.reader.now, omega arith, none_before _ ∙ ap (λ vs. parse_map (items_before vs) (items (value c.args.depth) (length c.args.reader.now) c.args.reader.now)) (sym c.new-found.ensures.items), omega arith)
+read_items-loop-alloc-init t c = (
+  length c.args.reader.now,
+  omega arith,
+  none_before _
+      ∙ ap (λ vs. parse_map (items_before vs) (items (value c.args.depth) (length c.args.reader.now) c.args.reader.now))
+      (sym c.new-found.ensures.items),
+  omega arith,
+)
 
 pub read_items-returns-in_err-item-clause-description : goal.read_items-returns-in_err-item-clause-description
 read_items-returns-in_err-item-clause-description t c invalid =
@@ -98,7 +117,8 @@ read_items-returns-in_err-item-clause-description t c invalid =
     let n = l.invariant.0 in
     let going : (after_end_array l.reader ≡ None) × (c.take_end_array.new.self ≡ l.reader) = grind arith in
     let failed : p c.take_end_array.new.self ≡ None = grind arith in
-    l.invariant.2 ∙ ap (parse_map (items_before l.found.items)) (items_fail p n l.reader going.0 (rw (← going.1) failed))
+    l.invariant.2 ∙ ap (parse_map (items_before l.found.items))
+    (items_fail p n l.reader going.0 (rw (← going.1) failed))
 
 pub read_items-loop-alloc-preserved : goal.read_items-loop-alloc-preserved
 read_items-loop-alloc-preserved t c =
@@ -111,10 +131,12 @@ read_items-loop-alloc-preserved t c =
     let r = c.read_value.new.reader in
     let less : length r < length l.reader = rw (← going.1) done.shorter in
     let pushed : c.push.new.self.items ≡ l.found.items ++ v ∷ [] = search rules in
-    let turn = items_more p n l.reader r (value_view v) (omega (arith, l.invariant.1)) going.0 (rw (← going.1) done.ok) in (
+    let turn = items_more p n l.reader r (value_view v) (omega (arith, l.invariant.1)) going.0 (rw (← going.1) done.ok)
+    in (
       n - 1,
       omega (arith, l.invariant.1),
-      l.invariant.2 ∙ ap (parse_map (items_before l.found.items)) turn ∙ one_more_item l.found.items v _ ∙ ap (λ vs. parse_map (items_before vs) (items p (n - 1) r)) (sym pushed),
+      l.invariant.2 ∙ ap (parse_map (items_before l.found.items)) turn ∙ one_more_item l.found.items v _
+          ∙ ap (λ vs. parse_map (items_before vs) (items p (n - 1) r)) (sym pushed),
       omega (arith, l.invariant.3),
     )
 
@@ -124,17 +146,26 @@ read_items-returns-clause-ok t c =
     let l = c.loop-alloc in
     let n = l.invariant.0 in
     let r = c.take_end_array.new.self in
-    l.invariant.2 ∙ ap (parse_map (items_before l.found.items)) (items_end p n l.reader r l.invariant.1 (grind arith)) ∙ ap (λ js. Some (js, r)) (items_before-no_items l.found.items)
+    l.invariant.2 ∙ ap (parse_map (items_before l.found.items)) (items_end p n l.reader r l.invariant.1 (grind arith))
+    ∙ ap (λ js. Some (js, r)) (items_before-no_items l.found.items)
 
 pub read_members-loop-found-init : goal.read_members-loop-found-init
-read_members-loop-found-init t c = (length c.args.reader.now, omega arith, none_before _ ∙ ap (λ vs. parse_map (members_before vs) (members (value c.args.depth) (length c.args.reader.now) c.args.reader.now)) (sym c.new-found.ensures.items), omega arith)
+read_members-loop-found-init t c = (
+  length c.args.reader.now,
+  omega arith,
+  none_before _
+      ∙ ap (λ vs. parse_map (members_before vs) (members (value c.args.depth) (length c.args.reader.now)
+      c.args.reader.now)) (sym c.new-found.ensures.items),
+  omega arith,
+)
 
 pub read_members-returns-in_err-key-clause-description : goal.read_members-returns-in_err-key-clause-description
 read_members-returns-in_err-key-clause-description t c invalid =
     let p = value c.args.depth in
     let l = c.loop-found in
     let n = l.invariant.0 in
-    l.invariant.2 ∙ ap (parse_map (members_before l.found.items)) (members_no_key p n l.reader c.in_err-key.ensures.value)
+    l.invariant.2 ∙ ap (parse_map (members_before l.found.items))
+    (members_no_key p n l.reader c.in_err-key.ensures.value)
 
 pub read_members-returns-in_err-member-clause-description : goal.read_members-returns-in_err-member-clause-description
 read_members-returns-in_err-member-clause-description t c invalid =
@@ -164,7 +195,8 @@ read_members-loop-found-preserved t c =
     let turn = members_more p n k l.reader s r (value_view v) (omega (arith, l.invariant.1)) key done.ok in (
       n - 1,
       omega (arith, l.invariant.1),
-      l.invariant.2 ∙ ap (parse_map (members_before l.found.items)) turn ∙ one_more_member l.found.items (c.in-Some.key, v) _
+      l.invariant.2 ∙ ap (parse_map (members_before l.found.items)) turn
+          ∙ one_more_member l.found.items (c.in-Some.key, v) _
           ∙ ap (λ ms. parse_map (members_before ms) (members p (n - 1) r)) (sym pushed),
       omega (arith, l.invariant.3),
     )
@@ -175,5 +207,6 @@ read_members-returns-in-Ok-clause-ok t c =
     let l = c.loop-found in
     let n = l.invariant.0 in
     let r = c.next_key.new.self in
-    l.invariant.2 ∙ ap (parse_map (members_before l.found.items)) (members_end p n l.reader r l.invariant.1 (grind arith))
+    l.invariant.2 ∙ ap (parse_map (members_before l.found.items))
+    (members_end p n l.reader r l.invariant.1 (grind arith))
     ∙ ap (λ ms. Some (ms, r)) (members_before-no_members l.found.items ∙ ap members_view (sym c.in-Ok.ensures))

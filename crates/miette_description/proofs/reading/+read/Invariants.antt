@@ -14,7 +14,8 @@ decreases-read_members l = 2 * l.depth + 1
 
 abbrev pub invariant-read_items-loop-alloc : goal.invariant-read_items-loop-alloc
 invariant-read_items-loop-alloc l =
-    (n : ℕ) × (length l.reader ≤ n) × (items (value l.depth) (length l.initial.reader) l.initial.reader ≡ parse_map (items_before l.found.items) (items (value l.depth) n l.reader))
+    (n : ℕ) × (length l.reader ≤ n) × (items (value l.depth) (length l.initial.reader) l.initial.reader
+    ≡ parse_map (items_before l.found.items) (items (value l.depth) n l.reader))
     × (length l.reader ≤ length l.initial.reader)
 
 abbrev pub decreases-read_items-loop-alloc : goal.decreases-read_items-loop-alloc
@@ -22,7 +23,8 @@ decreases-read_items-loop-alloc l = length l.reader
 
 abbrev pub invariant-read_members-loop-found : goal.invariant-read_members-loop-found
 invariant-read_members-loop-found l =
-    (n : ℕ) × (length l.reader ≤ n) × (members (value l.depth) (length l.initial.reader) l.initial.reader ≡ parse_map (members_before l.found.items) (members (value l.depth) n l.reader))
+    (n : ℕ) × (length l.reader ≤ n) × (members (value l.depth) (length l.initial.reader) l.initial.reader
+    ≡ parse_map (members_before l.found.items) (members (value l.depth) n l.reader))
     × (length l.reader ≤ length l.initial.reader)
 
 abbrev pub decreases-read_members-loop-found : goal.decreases-read_members-loop-found

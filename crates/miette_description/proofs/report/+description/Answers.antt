@@ -7,47 +7,59 @@ use Rattle.miette_tree.specs.rules.Tree.{trees}
 use Rattle.miette_tree.specs.views.Report.{tree_of}
 use Rattle.miette_description.specs.rules.Members.{at_key, optional_value}
 use Rattle.miette_description.specs.rules.Description.{report_in}
-use Rattle.miette_description.proofs.Shape.{report_parts, with_nested, without_cause, without_related, at_key-depth, array-depth, item-depth, related_read}
+use Rattle.miette_description.proofs.Shape.{report_parts, with_nested, without_cause, without_related, at_key-depth}
+use Rattle.miette_description.proofs.Shape.{array-depth, item-depth, related_read}
 use Rattle.miette_description.proofs.report.+description.Goals as goal
 
 pub cause_at-report_from-requires : goal.cause_at-report_from-requires
 cause_at-report_from-requires g t c =
-    let less : depth (value_data c.in-Some.found.now) < depth (value_data c.args.value.now) = at_key-depth c.args.key.now (value_data c.args.value.now) (value_data c.in-Some.found.now) (sym c.in-Some.ensures) in
-    let small : 4 * depth (value_data c.in-Some.found.now) + 2 < 4 * depth (value_data c.args.value.now) + 1 = omega arith in
+    let less : depth (value_data c.in-Some.found.now) < depth (value_data c.args.value.now) =
+    at_key-depth c.args.key.now (value_data c.args.value.now) (value_data c.in-Some.found.now) (sym c.in-Some.ensures)
+    in
+    let small : 4 * depth (value_data c.in-Some.found.now) + 2 < 4 * depth (value_data c.args.value.now) + 1 =
+    omega arith in
     search rules
 
 pub related_at-reports_from-requires : goal.related_at-reports_from-requires
 related_at-reports_from-requires g t c =
     let found = value_data c.in-Some.found.now in
-    let less : depth found < depth (value_data c.args.value.now) = at_key-depth c.args.key.now (value_data c.args.value.now) found (sym c.in-Some.ensures) in
+    let less : depth found < depth (value_data c.args.value.now) =
+    at_key-depth c.args.key.now (value_data c.args.value.now) found (sym c.in-Some.ensures) in
     let within : items_depth (list_data c.in-Some-list_in.list.now) < depth found =
     array-depth found (list_data c.in-Some-list_in.list.now) (sym c.in-Some-list_in.ensures) in
-    let small : 4 * items_depth (list_data c.in-Some-list_in.list.now) + 3 < 4 * depth (value_data c.args.value.now) + 1 = omega arith in
+    let small : 4 * items_depth (list_data c.in-Some-list_in.list.now) + 3 < 4 * depth (value_data c.args.value.now)
+    + 1 = omega arith in
     search rules
 
-pub related_at-returns-in_err-reports_from-clause-description : goal.related_at-returns-in_err-reports_from-clause-description
+pub related_at-returns-in_err-reports_from-clause-description :
+    goal.related_at-returns-in_err-reports_from-clause-description
 related_at-returns-in_err-reports_from-clause-description g t c e =
-    related_read (at_key c.args.key.now (value_data c.args.value.now)) (value_data c.in-Some.found.now) (list_data c.in-Some-list_in.list.now) c.in-Some.ensures c.in-Some-list_in.ensures
+    related_read (at_key c.args.key.now (value_data c.args.value.now)) (value_data c.in-Some.found.now)
+    (list_data c.in-Some-list_in.list.now) c.in-Some.ensures c.in-Some-list_in.ensures
     ∙ ap (λ o. option_map Some (option_map trees o)) (c.in_err-reports_from.ensures.description (search rules))
 
 pub related_at-returns-clause-ok : goal.related_at-returns-clause-ok
 related_at-returns-clause-ok g t c =
-    related_read (at_key c.args.key.now (value_data c.args.value.now)) (value_data c.in-Some.found.now) (list_data c.in-Some-list_in.list.now) c.in-Some.ensures c.in-Some-list_in.ensures
+    related_read (at_key c.args.key.now (value_data c.args.value.now)) (value_data c.in-Some.found.now)
+    (list_data c.in-Some-list_in.list.now) c.in-Some.ensures c.in-Some-list_in.ensures
     ∙ ap (λ o. option_map Some (option_map trees o)) c.in_ok-reports_from.ensures.ok
 
 pub report_from-returns-in_err-one-clause-description : goal.report_from-returns-in_err-one-clause-description
 report_from-returns-in_err-one-clause-description g t c e =
-    report_parts (value_data c.args.value.now) ∙ without_cause _ _ (value_data c.args.value.now) (c.in_err-one.ensures.description (search rules))
+    report_parts (value_data c.args.value.now) ∙ without_cause _ _ (value_data c.args.value.now)
+    (c.in_err-one.ensures.description (search rules))
 
 pub report_from-returns-in_err-list-clause-description : goal.report_from-returns-in_err-list-clause-description
 report_from-returns-in_err-list-clause-description g t c e =
-    report_parts (value_data c.args.value.now) ∙ without_related _ _ (value_data c.args.value.now) (c.in_err-list.ensures.description (search rules))
+    report_parts (value_data c.args.value.now) ∙ without_related _ _ (value_data c.args.value.now)
+    (c.in_err-list.ensures.description (search rules))
 
 pub reports_from-report_from-requires : goal.reports_from-report_from-requires
 reports_from-report_from-requires g t c =
     let less = item-depth c.args.list.now c.loop-value.value-index c.value-item.result c.loop-value-test.true in
     let item = ap (λ v. depth (value_data v)) c.value-item.is in
-    let small : 4 * depth (value_data c.value-item.result) + 2 < 4 * items_depth (list_data c.args.list.now) + 3 = omega arith in
+    let small : 4 * depth (value_data c.value-item.result) + 2 < 4 * items_depth (list_data c.args.list.now) + 3 =
+    omega arith in
     search rules
 
 pub report_from-returns-clause-ok : goal.report_from-returns-clause-ok
@@ -57,31 +69,39 @@ report_from-returns-clause-ok g t c =
 
 pub report_from-returns-clause-description : goal.report_from-returns-clause-description
 report_from-returns-clause-description g t c e =
-    with_nested (value_data c.args.value.now) _ _ c.in_ok-one.ensures.ok c.in_ok-list.ensures.ok ∙ c.report_with.ensures.description e
+    with_nested (value_data c.args.value.now) _ _ c.in_ok-one.ensures.ok c.in_ok-list.ensures.ok
+    ∙ c.report_with.ensures.description e
 
 pub reports_from-returns-in_err-report-clause-description : goal.reports_from-returns-in_err-report-clause-description
 reports_from-returns-in_err-report-clause-description g t c e =
-    one_fails report_in c.args.list.now _ c.loop-value.value-index c.value-item.result c.loop-value-test.true c.value-item.is (c.in_err-report.ensures.description (search rules)) c.loop-value.invariant
+    one_fails report_in c.args.list.now _ c.loop-value.value-index c.value-item.result c.loop-value-test.true
+    c.value-item.is (c.in_err-report.ensures.description (search rules)) c.loop-value.invariant
 
 pub reports_from-loop-value-preserved : goal.reports_from-loop-value-preserved
 reports_from-loop-value-preserved g t c =
-    let pushed : c.push.new.self.items ≡ c.loop-value.reports.items ++ c.in_ok-report.report.value ∷ [] = search rules in
-    one_read_as report_in (tree_of g.D.Diagnostic.meaning g.S.SourceCode.source) c.args.list.now c.loop-value.reports.items c.push.new.self.items c.loop-value.value-index c.value-item.result
-    c.in_ok-report.report.value pushed c.loop-value-test.true c.value-item.is c.in_ok-report.ensures.ok c.loop-value.invariant
+    let pushed : c.push.new.self.items ≡ c.loop-value.reports.items ++ c.in_ok-report.report.value ∷ [] = search rules
+    in
+    one_read_as report_in (tree_of g.D.Diagnostic.meaning g.S.SourceCode.source) c.args.list.now
+    c.loop-value.reports.items c.push.new.self.items c.loop-value.value-index c.value-item.result
+    c.in_ok-report.report.value pushed c.loop-value-test.true c.value-item.is c.in_ok-report.ensures.ok
+    c.loop-value.invariant
 
 pub reports_from-loop-value-init : goal.reports_from-loop-value-init
 reports_from-loop-value-init g t c =
     let value = tree_of g.D.Diagnostic.meaning g.S.SourceCode.source in
-    none_read report_in c.args.list.now (map value c.new-reports.result.items) (ap (map value) c.new-reports.ensures.items)
+    none_read report_in c.args.list.now (map value c.new-reports.result.items)
+    (ap (map value) c.new-reports.ensures.items)
 
 pub reports_from-returns-clause-ok : goal.reports_from-returns-clause-ok
 reports_from-returns-clause-ok g t c =
     let value = tree_of g.D.Diagnostic.meaning g.S.SourceCode.source in
-    all_read report_in c.args.list.now (map value c.loop-value.reports.items) c.loop-value.value-index c.loop-value-test.false c.loop-value.invariant
+    all_read report_in c.args.list.now (map value c.loop-value.reports.items) c.loop-value.value-index
+    c.loop-value-test.false c.loop-value.invariant
 
 pub cause_at-returns-in_err-report_from-clause-description : goal.cause_at-returns-in_err-report_from-clause-description
 cause_at-returns-in_err-report_from-clause-description g t c e =
-    ap (optional_value report_in) (sym c.in-Some.ensures) ∙ ap (option_map Some) (c.in_err-report_from.ensures.description (search rules))
+    ap (optional_value report_in) (sym c.in-Some.ensures)
+    ∙ ap (option_map Some) (c.in_err-report_from.ensures.description (search rules))
 
 pub cause_at-returns-clause-ok : goal.cause_at-returns-clause-ok
 cause_at-returns-clause-ok g t c =

@@ -14,7 +14,8 @@ decreases-reports_from g l = 4 * items_depth (list_data l.list.now) + 3
 
 abbrev pub invariant-reports_from-loop-value : goal.invariant-reports_from-loop-value
 invariant-reports_from-loop-value g l =
-    ReadSoFar report_in l.list (map (tree_of g.D.Diagnostic.meaning g.S.SourceCode.source) l.reports.items) l.value-index
+    ReadSoFar report_in l.list (map (tree_of g.D.Diagnostic.meaning g.S.SourceCode.source) l.reports.items)
+    l.value-index
 
 abbrev pub decreases-cause_at : goal.decreases-cause_at
 decreases-cause_at g l = 4 * depth (value_data l.value.now) + 1

@@ -3,7 +3,8 @@ use Rattle.miette_description.proofs.Shape.{given_some, given_none}
 use Rattle.miette_description.proofs.report.own_parts.Goals as goal
 
 pub returns-in_err-diagnostic-clause-description : goal.returns-in_err-diagnostic-clause-description
-returns-in_err-diagnostic-clause-description c e one related = given_none _ (c.in_err-diagnostic.ensures.description (search rules))
+returns-in_err-diagnostic-clause-description c e one related =
+    given_none _ (c.in_err-diagnostic.ensures.description (search rules))
 
 pub returns-in_err-source-clause-description : goal.returns-in_err-source-clause-description
 returns-in_err-source-clause-description c e one related =

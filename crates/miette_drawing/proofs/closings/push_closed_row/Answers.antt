@@ -11,6 +11,9 @@ use Rattle.miette_style.specs.rules.Themes.{characters_of}
 
 pub returns : goal.returns
 returns g c =
-    closed_put width_of (other_start (settings c.args.sheet.now) c.args.sheet.now.number_width) (other_gutter width_of (characters_of c.args.sheet.now.theme.now.characters) (line_of_text c.args.sheet.now.line) c.args.columns (multi_labels c.args.sheet.now))
+    closed_put width_of (other_start (settings c.args.sheet.now) c.args.sheet.now.number_width)
+    (other_gutter width_of (characters_of c.args.sheet.now.theme.now.characters) (line_of_text c.args.sheet.now.line)
+    c.args.columns (multi_labels c.args.sheet.now))
     (drawn_of c.args.sheet.now.labels.now c.args.label.now) c.args.bar (chars c.args.part.now)
-    c.args.page.now c.push_other_start.new.page c.push_other_gutter.new.page c.push_part.new.page c.in_ok-push_other_start.ensures c.in_ok-push_other_gutter.ensures c.in_ok-push_part.ensures
+    c.args.page.now c.push_other_start.new.page c.push_other_gutter.new.page c.push_part.new.page
+    c.in_ok-push_other_start.ensures c.in_ok-push_other_gutter.ensures c.in_ok-push_part.ensures

@@ -12,8 +12,12 @@ use Rattle.miette_style.specs.rules.Themes.{characters_of}
 
 pub returns : goal.returns
 returns g c =
-    several_closing width_of (characters_of c.args.sheet.now.theme.now.characters) (line_of_text c.args.sheet.now.line) c.args.sheet.now.gutter c.saturating_sub-columns.result (multi_labels c.args.sheet.now) (drawn_of c.args.sheet.now.labels.now c.args.label.now)
-    (other_start (settings c.args.sheet.now) c.args.sheet.now.number_width) _ (chars c.first_part.result.0.now) (chars c.in-Some-rest.rest.now)
+    several_closing width_of (characters_of c.args.sheet.now.theme.now.characters) (line_of_text c.args.sheet.now.line)
+    c.args.sheet.now.gutter c.saturating_sub-columns.result (multi_labels c.args.sheet.now)
+    (drawn_of c.args.sheet.now.labels.now c.args.label.now)
+    (other_start (settings c.args.sheet.now) c.args.sheet.now.number_width) _ (chars c.first_part.result.0.now)
+    (chars c.in-Some-rest.rest.now)
     c.args.page.now c.push_closed_row-2.new.page c.push_open_rows.new.page c.saturating_sub-columns.ensures
-    (ap parts_of (sym c.in-Some.ensures) ∙ c.first_part.ensures.cut ∙ ap (λ o. chars c.first_part.result.0.now ∷ parts_of (option_copied o)) c.in-Some-rest.is)
+    (ap parts_of (sym c.in-Some.ensures) ∙ c.first_part.ensures.cut
+    ∙ ap (λ o. chars c.first_part.result.0.now ∷ parts_of (option_copied o)) c.in-Some-rest.is)
     c.in_ok-push_closed_row-2.ensures c.in_ok-push_open_rows.ensures

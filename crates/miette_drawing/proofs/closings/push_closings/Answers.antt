@@ -13,11 +13,26 @@ use Rattle.miette_style.specs.rules.Themes.{characters_of}
 pub loop-label-preserved : goal.loop-label-preserved
 loop-label-preserved g c = elim c.if-closes.branch [
   | then-closes+in_ok-push_closing w ↦
-      ap (λ x. x ⊕ rest_of width_of (characters_of c.args.sheet.now.theme.now.characters) (line_of_text c.args.sheet.now.line) c.args.sheet.now.gutter (multi_labels c.args.sheet.now) (other_start (settings c.args.sheet.now) c.args.sheet.now.number_width) (map (drawn_of c.args.sheet.now.labels.now) (drop (c.loop-label.label-index + 1) c.args.sheet.now.multi.now))) w.page-is
-      ∙ closing_more width_of (characters_of c.args.sheet.now.theme.now.characters) (line_of_text c.args.sheet.now.line) c.args.sheet.now.gutter (multi_labels c.args.sheet.now) (other_start (settings c.args.sheet.now) c.args.sheet.now.number_width) c.args.sheet.now.labels.now c.args.sheet.now.multi.now c.loop-label.label-index
-      c.loop-label.page w.push_closing.new.page _ c.loop-label-test.true (sym c.closes.ensures ∙ w.if-closes.true) w.in_ok-push_closing.ensures c.loop-label.invariant
+      ap (λ x. x ⊕ rest_of width_of (characters_of c.args.sheet.now.theme.now.characters)
+      (line_of_text c.args.sheet.now.line) c.args.sheet.now.gutter (multi_labels c.args.sheet.now)
+      (other_start (settings c.args.sheet.now) c.args.sheet.now.number_width)
+      (map (drawn_of c.args.sheet.now.labels.now) (drop (c.loop-label.label-index + 1) c.args.sheet.now.multi.now)))
+      w.page-is
+      ∙ closing_more width_of (characters_of c.args.sheet.now.theme.now.characters) (line_of_text c.args.sheet.now.line)
+      c.args.sheet.now.gutter (multi_labels c.args.sheet.now)
+      (other_start (settings c.args.sheet.now) c.args.sheet.now.number_width) c.args.sheet.now.labels.now
+      c.args.sheet.now.multi.now c.loop-label.label-index
+      c.loop-label.page w.push_closing.new.page _ c.loop-label-test.true (sym c.closes.ensures ∙ w.if-closes.true)
+      w.in_ok-push_closing.ensures c.loop-label.invariant
   | else-closes w ↦
-      ap (λ x. x ⊕ rest_of width_of (characters_of c.args.sheet.now.theme.now.characters) (line_of_text c.args.sheet.now.line) c.args.sheet.now.gutter (multi_labels c.args.sheet.now) (other_start (settings c.args.sheet.now) c.args.sheet.now.number_width) (map (drawn_of c.args.sheet.now.labels.now) (drop (c.loop-label.label-index + 1) c.args.sheet.now.multi.now))) w.page-is
-      ∙ closing_skip width_of (characters_of c.args.sheet.now.theme.now.characters) (line_of_text c.args.sheet.now.line) c.args.sheet.now.gutter (multi_labels c.args.sheet.now) (other_start (settings c.args.sheet.now) c.args.sheet.now.number_width) c.args.sheet.now.labels.now c.args.sheet.now.multi.now c.loop-label.label-index
+      ap (λ x. x ⊕ rest_of width_of (characters_of c.args.sheet.now.theme.now.characters)
+      (line_of_text c.args.sheet.now.line) c.args.sheet.now.gutter (multi_labels c.args.sheet.now)
+      (other_start (settings c.args.sheet.now) c.args.sheet.now.number_width)
+      (map (drawn_of c.args.sheet.now.labels.now) (drop (c.loop-label.label-index + 1) c.args.sheet.now.multi.now)))
+      w.page-is
+      ∙ closing_skip width_of (characters_of c.args.sheet.now.theme.now.characters) (line_of_text c.args.sheet.now.line)
+      c.args.sheet.now.gutter (multi_labels c.args.sheet.now)
+      (other_start (settings c.args.sheet.now) c.args.sheet.now.number_width) c.args.sheet.now.labels.now
+      c.args.sheet.now.multi.now c.loop-label.label-index
       c.loop-label.page _ c.loop-label-test.true (sym c.closes.ensures ∙ w.if-closes.false) c.loop-label.invariant
 ]

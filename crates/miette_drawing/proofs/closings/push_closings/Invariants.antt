@@ -9,5 +9,9 @@ use Rattle.miette_drawing.proofs.closings.push_closings.Given as goal
 
 abbrev pub invariant-loop-label : goal.invariant-loop-label
 invariant-loop-label g l =
-    l.page ⊕ rest_of (settings l.fn.sheet).width (settings l.fn.sheet).characters (line_of_text l.fn.sheet.line) l.fn.sheet.gutter (multi_labels l.fn.sheet) (other_start (settings l.fn.sheet) l.fn.sheet.number_width) (map (drawn_of l.fn.sheet.labels.now) (drop l.label-index l.fn.sheet.multi.now))
-    ≡ l.fn.page ⊕ rest_of (settings l.fn.sheet).width (settings l.fn.sheet).characters (line_of_text l.fn.sheet.line) l.fn.sheet.gutter (multi_labels l.fn.sheet) (other_start (settings l.fn.sheet) l.fn.sheet.number_width) (multi_labels l.fn.sheet)
+    l.page ⊕ rest_of (settings l.fn.sheet).width (settings l.fn.sheet).characters (line_of_text l.fn.sheet.line)
+    l.fn.sheet.gutter (multi_labels l.fn.sheet) (other_start (settings l.fn.sheet) l.fn.sheet.number_width)
+    (map (drawn_of l.fn.sheet.labels.now) (drop l.label-index l.fn.sheet.multi.now))
+    ≡ l.fn.page ⊕ rest_of (settings l.fn.sheet).width (settings l.fn.sheet).characters (line_of_text l.fn.sheet.line)
+    l.fn.sheet.gutter (multi_labels l.fn.sheet) (other_start (settings l.fn.sheet) l.fn.sheet.number_width)
+    (multi_labels l.fn.sheet)

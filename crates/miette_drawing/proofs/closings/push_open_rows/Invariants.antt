@@ -10,8 +10,10 @@ use Rattle.miette_drawing.proofs.closings.push_open_rows.Given as goal
 
 abbrev pub invariant-loop-left : goal.invariant-loop-left
 invariant-loop-left g l =
-    l.page ⊕ rows_tokens (map (open_line l.fn.sheet l.fn.columns (drawn_of l.fn.sheet.labels.now l.fn.label)) (parts_of (option_copied l.left)))
-    ≡ l.fn.page ⊕ rows_tokens (map (open_line l.fn.sheet l.fn.columns (drawn_of l.fn.sheet.labels.now l.fn.label)) (cut_at_lf (chars l.fn.text)))
+    l.page ⊕ rows_tokens (map (open_line l.fn.sheet l.fn.columns (drawn_of l.fn.sheet.labels.now l.fn.label))
+    (parts_of (option_copied l.left)))
+    ≡ l.fn.page ⊕ rows_tokens (map (open_line l.fn.sheet l.fn.columns (drawn_of l.fn.sheet.labels.now l.fn.label))
+    (cut_at_lf (chars l.fn.text)))
 
 abbrev pub decreases-loop-left : goal.decreases-loop-left
 decreases-loop-left g l = option_map_or (λ text. length text.now + 1) l.left 0

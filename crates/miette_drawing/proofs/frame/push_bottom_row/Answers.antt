@@ -5,5 +5,6 @@ use Rattle.miette_drawing.proofs.frame.push_bottom_row.Goals as goal
 
 pub returns : goal.returns
 returns g c =
-    row_done (corner_row (settings_of c.args.frame.now.theme.now c.args.frame.now.options) c.args.frame.now.number_width c.args.frame.now.theme.now.characters.lbot 4)
+    row_done (corner_row (settings_of c.args.frame.now.theme.now c.args.frame.now.options) c.args.frame.now.number_width
+    c.args.frame.now.theme.now.characters.lbot 4)
     c.args.page.now c.push_corner.new.page c.end_row.new.self c.in_ok-push_corner.ensures c.in_ok-end_row.ensures

@@ -20,14 +20,23 @@ returns g c =
     let many : Row = styled_run width_of link (decimal c.args.label.now.span.len) ∷ close in
     let length : Row = styled_run width_of plain (codes ", length: ") ∷ many in
     let offset : Row = styled_run width_of link (decimal c.args.label.now.span.offset) ∷ length in
-    row_done (refused_front (settings_of c.args.frame.now.theme.now c.args.frame.now.options) c.args.label.now ++ offset) c.args.page.now c.push_ascii-3.new.page c.end_row.new.self
-    (parts_then (refused_front (settings_of c.args.frame.now.theme.now c.args.frame.now.options) c.args.label.now) offset c.args.page.now c.push_refused_text.new.page c.push_ascii-3.new.page c.in_ok-push_refused_text.ensures
-    (run_then width_of link (decimal c.args.label.now.span.offset) length c.push_refused_text.new.page c.push_count.new.page c.push_ascii-3.new.page
-    (c.in_ok-push_count.ensures ∙ ap (λ n. c.push_refused_text.new.page ⊕ styled_tokens link (decimal n)) c.offset.ensures)
-    (run_then width_of plain (codes ", length: ") many c.push_count.new.page c.push_ascii.new.page c.push_ascii-3.new.page c.in_ok-push_ascii.ensures
-    (run_then width_of link (decimal c.args.label.now.span.len) close c.push_ascii.new.page c.push_count-2.new.page c.push_ascii-3.new.page
+    row_done (refused_front (settings_of c.args.frame.now.theme.now c.args.frame.now.options) c.args.label.now
+    ++ offset) c.args.page.now c.push_ascii-3.new.page c.end_row.new.self
+    (parts_then (refused_front (settings_of c.args.frame.now.theme.now c.args.frame.now.options) c.args.label.now)
+    offset c.args.page.now c.push_refused_text.new.page c.push_ascii-3.new.page c.in_ok-push_refused_text.ensures
+    (run_then width_of link (decimal c.args.label.now.span.offset) length c.push_refused_text.new.page
+    c.push_count.new.page c.push_ascii-3.new.page
+    (c.in_ok-push_count.ensures ∙ ap (λ n. c.push_refused_text.new.page ⊕ styled_tokens link (decimal n))
+    c.offset.ensures)
+    (run_then width_of plain (codes ", length: ") many c.push_count.new.page c.push_ascii.new.page
+    c.push_ascii-3.new.page c.in_ok-push_ascii.ensures
+    (run_then width_of link (decimal c.args.label.now.span.len) close c.push_ascii.new.page c.push_count-2.new.page
+    c.push_ascii-3.new.page
     (c.in_ok-push_count-2.ensures ∙ ap (λ n. c.push_ascii.new.page ⊕ styled_tokens link (decimal n)) c.len.ensures)
-    (run_then width_of plain (codes "): ") name c.push_count-2.new.page c.push_ascii-2.new.page c.push_ascii-3.new.page c.in_ok-push_ascii-2.ensures
-    (run_then width_of c.args.frame.now.theme.now.styles.warning (chars c.args.name.now) last c.push_ascii-2.new.page c.push_styled.new.page c.push_ascii-3.new.page c.in_ok-push_styled.ensures
-    (run_last width_of plain (codes "]") c.push_styled.new.page c.push_ascii-3.new.page c.in_ok-push_ascii-3.ensures)))))))
+    (run_then width_of plain (codes "): ") name c.push_count-2.new.page c.push_ascii-2.new.page c.push_ascii-3.new.page
+    c.in_ok-push_ascii-2.ensures
+    (run_then width_of c.args.frame.now.theme.now.styles.warning (chars c.args.name.now) last c.push_ascii-2.new.page
+    c.push_styled.new.page c.push_ascii-3.new.page c.in_ok-push_styled.ensures
+    (run_last width_of plain (codes "]") c.push_styled.new.page c.push_ascii-3.new.page
+    c.in_ok-push_ascii-3.ensures)))))))
     c.in_ok-end_row.ensures

@@ -13,5 +13,6 @@ returns g c =
     let corner = corner_row s c.args.frame.now.number_width c.args.frame.now.theme.now.characters.ltop 1 in
     let location = location_of s (option_copied c.args.name) c.args.several (option_map place_at c.args.place) in
     row_done (corner ++ location) c.args.page.now c.push_location.new.page c.end_row.new.self
-    (parts_then corner location c.args.page.now c.push_corner.new.page c.push_location.new.page c.in_ok-push_corner.ensures c.in_ok-push_location.ensures)
+    (parts_then corner location c.args.page.now c.push_corner.new.page c.push_location.new.page
+    c.in_ok-push_corner.ensures c.in_ok-push_location.ensures)
     c.in_ok-end_row.ensures

@@ -8,5 +8,7 @@ use Rattle.miette_drawing.proofs.gutters.push_bars.Given as goal
 
 abbrev pub invariant-loop-label : goal.invariant-loop-label
 invariant-loop-label g l =
-    l.page ⊕ row_tokens (map (bar (settings l.fn.sheet).width (settings l.fn.sheet).characters) (map (drawn_of l.fn.sheet.labels.now) (drop l.label-index l.fn.sheet.multi.now)))
-    ≡ l.fn.page ⊕ row_tokens (map (bar (settings l.fn.sheet).width (settings l.fn.sheet).characters) (multi_labels l.fn.sheet))
+    l.page ⊕ row_tokens (map (bar (settings l.fn.sheet).width (settings l.fn.sheet).characters)
+    (map (drawn_of l.fn.sheet.labels.now) (drop l.label-index l.fn.sheet.multi.now)))
+    ≡ l.fn.page ⊕ row_tokens (map (bar (settings l.fn.sheet).width (settings l.fn.sheet).characters)
+    (multi_labels l.fn.sheet))

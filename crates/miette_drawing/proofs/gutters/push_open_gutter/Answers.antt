@@ -11,8 +11,17 @@ use Rattle.miette_style.specs.rules.Themes.{characters_of}
 
 pub returns-then-ends : goal.returns-then-ends
 returns-then-ends g c =
-    at_last (open_gutter width_of (characters_of c.args.sheet.now.theme.now.characters) (line_of_text c.args.sheet.now.line) c.loop-label.left) c.args.sheet.now.labels.now c.args.sheet.now.multi.now c.loop-label.label-index _ _ _ _ c.loop-label-test.true
-    (open_last width_of (characters_of c.args.sheet.now.theme.now.characters) (line_of_text c.args.sheet.now.line) c.loop-label.left (drawn_of c.args.sheet.now.labels.now (get_or c.args.sheet.now.multi.now c.loop-label.label-index nothing)) (map (drawn_of c.args.sheet.now.labels.now) (drop (c.loop-label.label-index + 1) c.args.sheet.now.multi.now)) (sym c.ends.ensures ∙ c.if-ends.true)) c.in_ok-push_blank.ensures c.loop-label.invariant
+    at_last (open_gutter width_of (characters_of c.args.sheet.now.theme.now.characters)
+    (line_of_text c.args.sheet.now.line) c.loop-label.left) c.args.sheet.now.labels.now c.args.sheet.now.multi.now
+    c.loop-label.label-index _ _ _ _ c.loop-label-test.true
+    (open_last width_of (characters_of c.args.sheet.now.theme.now.characters) (line_of_text c.args.sheet.now.line)
+    c.loop-label.left (drawn_of c.args.sheet.now.labels.now
+    (get_or c.args.sheet.now.multi.now c.loop-label.label-index nothing))
+    (map (drawn_of c.args.sheet.now.labels.now) (drop (c.loop-label.label-index + 1) c.args.sheet.now.multi.now))
+    (sym c.ends.ensures ∙ c.if-ends.true)) c.in_ok-push_blank.ensures c.loop-label.invariant
 
 pub returns : goal.returns
-returns g c = at_end (open_gutter width_of (characters_of c.args.sheet.now.theme.now.characters) (line_of_text c.args.sheet.now.line) c.loop-label.left) c.args.sheet.now.labels.now c.args.sheet.now.multi.now c.loop-label.label-index _ _ _ _ c.loop-label-test.false (blank_row width_of c.loop-label.left) c.in_ok-push_blank-2.ensures c.loop-label.invariant
+returns g c = at_end (open_gutter width_of (characters_of c.args.sheet.now.theme.now.characters)
+    (line_of_text c.args.sheet.now.line) c.loop-label.left) c.args.sheet.now.labels.now c.args.sheet.now.multi.now
+    c.loop-label.label-index _ _ _ _ c.loop-label-test.false (blank_row width_of c.loop-label.left)
+    c.in_ok-push_blank-2.ensures c.loop-label.invariant

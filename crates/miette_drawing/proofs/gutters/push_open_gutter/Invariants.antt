@@ -9,5 +9,8 @@ use Rattle.miette_drawing.proofs.gutters.push_open_gutter.Given as goal
 
 abbrev pub invariant-loop-label : goal.invariant-loop-label
 invariant-loop-label g l =
-    l.page ⊕ row_tokens (open_gutter (settings l.fn.sheet).width (settings l.fn.sheet).characters (line_of_text l.fn.sheet.line) l.left (map (drawn_of l.fn.sheet.labels.now) (drop l.label-index l.fn.sheet.multi.now)))
-    ≡ l.fn.page ⊕ row_tokens (open_gutter (settings l.fn.sheet).width (settings l.fn.sheet).characters (line_of_text l.fn.sheet.line) l.fn.columns (multi_labels l.fn.sheet))
+    l.page ⊕ row_tokens (open_gutter (settings l.fn.sheet).width (settings l.fn.sheet).characters
+    (line_of_text l.fn.sheet.line) l.left (map (drawn_of l.fn.sheet.labels.now)
+    (drop l.label-index l.fn.sheet.multi.now)))
+    ≡ l.fn.page ⊕ row_tokens (open_gutter (settings l.fn.sheet).width (settings l.fn.sheet).characters
+    (line_of_text l.fn.sheet.line) l.fn.columns (multi_labels l.fn.sheet))

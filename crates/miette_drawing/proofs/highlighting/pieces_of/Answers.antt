@@ -6,7 +6,9 @@ use Rattle.miette_drawing.proofs.highlighting.pieces_of.Goals as goal
 pub returns-else-is_plain-clause-pieces : goal.returns-else-is_plain-clause-pieces
 returns-else-is_plain-clause-pieces g c =
     let text = decoded_text c.args.text.now in
-    cut_pieces (leaves_plain g.H.Highlighter.is_blank c.args.highlighter.now) text c.in_ok-pieces-in-Some.pieces.items c.in_ok-pieces-in-Some.ensures.cut
+    cut_pieces (leaves_plain g.H.Highlighter.is_blank c.args.highlighter.now) text c.in_ok-pieces-in-Some.pieces.items
+    c.in_ok-pieces-in-Some.ensures.cut
     (λ b.
-    let one : c.is_plain.result ≡ true = c.is_plain.ensures.plain text (c.deref.ensures.value ∙ c.in_ok-pieces-in-Some.ensures.plain (search rules)) in
+    let one : c.is_plain.result ≡ true = c.is_plain.ensures.plain text
+    (c.deref.ensures.value ∙ c.in_ok-pieces-in-Some.ensures.plain (search rules)) in
     absurd (cc))

@@ -13,8 +13,12 @@ use Rattle.miette_style.specs.rules.Themes.{characters_of}
 pub returns : goal.returns
 returns g c =
     let some : 0 < length c.args.marks.now = search rules in
-    marked_put (before_marks c.args.sheet.now) (mark_runs width_of (characters_of c.args.sheet.now.theme.now.characters) 0 (map (mark_of c.args.sheet.now.labels.now) c.args.marks.now))
-    (rows_below width_of (characters_of c.args.sheet.now.theme.now.characters) [] (map (mark_of c.args.sheet.now.labels.now) c.args.marks.now))
+    marked_put (before_marks c.args.sheet.now) (mark_runs width_of (characters_of c.args.sheet.now.theme.now.characters)
+    0 (map (mark_of c.args.sheet.now.labels.now) c.args.marks.now))
+    (rows_below width_of (characters_of c.args.sheet.now.theme.now.characters) []
+    (map (mark_of c.args.sheet.now.labels.now) c.args.marks.now))
     c.args.page.now c.push_before_marks.new.page c.push_marks.new.page c.end_row.new.self c.push_texts.new.page
     c.in_ok-push_before_marks.ensures c.in_ok-push_marks.ensures c.in_ok-end_row.ensures c.in_ok-push_texts.ensures
-    ∙ ap (λ rows. c.args.page.now ⊕ rows_tokens (before_each (before_marks c.args.sheet.now) rows)) (marked_some width_of (characters_of c.args.sheet.now.theme.now.characters) (mark_of c.args.sheet.now.labels.now) c.args.marks.now some)
+    ∙ ap (λ rows. c.args.page.now ⊕ rows_tokens (before_each (before_marks c.args.sheet.now) rows))
+    (marked_some width_of (characters_of c.args.sheet.now.theme.now.characters) (mark_of c.args.sheet.now.labels.now)
+    c.args.marks.now some)

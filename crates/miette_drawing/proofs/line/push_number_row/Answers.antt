@@ -16,7 +16,11 @@ pub returns : goal.returns
 returns g c =
     let sheet = c.args.sheet.now in
     number_row_put (number_start (settings sheet) sheet.number_width c.args.shown.now.number)
-    (number_gutter width_of (characters_of sheet.theme.now.characters) (line_of_text sheet.line) sheet.gutter (multi_labels sheet))
-    (made_runs (option_map (λ made. made.items) c.args.cut.now) (map highlight_of c.args.shown.now.pieces.now) (text_cells c.args.text.now))
-    c.args.page.now c.push_number_start.new.page c.push_number_gutter.new.page c.push_shown_text.new.page c.end_row.new.self
-    c.in_ok-push_number_start.ensures c.in_ok-push_number_gutter.ensures c.in_ok-push_shown_text.ensures c.in_ok-end_row.ensures
+    (number_gutter width_of (characters_of sheet.theme.now.characters) (line_of_text sheet.line) sheet.gutter
+    (multi_labels sheet))
+    (made_runs (option_map (λ made. made.items) c.args.cut.now) (map highlight_of c.args.shown.now.pieces.now)
+    (text_cells c.args.text.now))
+    c.args.page.now c.push_number_start.new.page c.push_number_gutter.new.page c.push_shown_text.new.page
+    c.end_row.new.self
+    c.in_ok-push_number_start.ensures c.in_ok-push_number_gutter.ensures c.in_ok-push_shown_text.ensures
+    c.in_ok-end_row.ensures

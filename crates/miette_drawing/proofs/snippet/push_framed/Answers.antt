@@ -12,31 +12,42 @@ use Rattle.miette_drawing.proofs.snippet.push_framed.Goals as goal
 
 pub extent_of-requires-clause-at : goal.extent_of-requires-clause-at
 extent_of-requires-clause-at g c =
-    let at : c.offset-start.result ≡ c.args.lent.now.span.offset = c.offset-start.ensures ∙ ap (λ s. s.offset) c.span.ensures in
+    let at : c.offset-start.result ≡ c.args.lent.now.span.offset = c.offset-start.ensures
+    ∙ ap (λ s. s.offset) c.span.ensures in
     rw (c.in_ok-ahead.ensures.next, c.in_ok-ahead.ensures.running)
-    (subst (λ (n : ℕ). IsAt c.args.drawing.now.placed.now n c.args.sweep.now.next c.args.sweep.now.running.items) (sym at) c.requires.at)
+    (subst (λ (n : ℕ). IsAt c.args.drawing.now.placed.now n c.args.sweep.now.next c.args.sweep.now.running.items)
+    (sym at) c.requires.at)
 
 pub extent_of-requires-clause-folds : goal.extent_of-requires-clause-folds
 extent_of-requires-clause-folds g c =
     let spreads = c.args.drawing.now.spreads.now in
-    let at : c.args.lent.now.span.offset ≡ c.offset-start.result = sym (c.offset-start.ensures ∙ ap (λ s. s.offset) c.span.ensures) in
+    let at : c.args.lent.now.span.offset ≡ c.offset-start.result =
+    sym (c.offset-start.ensures ∙ ap (λ s. s.offset) c.span.ensures) in
     record {
       labels = c.args.drawing.now.spreads.now;
-      are = c.deref.ensures.value ∙ c.in_ok-folds.ensures ∙ ap (λ n. map (fold_in n c.args.lent.now.bytes) spreads) at ∙ ap (λ bs. map (fold_in c.offset-start.result bs) spreads) (sym c.data-bytes.ensures);
+      are = c.deref.ensures.value ∙ c.in_ok-folds.ensures ∙ ap (λ n. map (fold_in n c.args.lent.now.bytes) spreads) at
+          ∙ ap (λ bs. map (fold_in c.offset-start.result bs) spreads) (sym c.data-bytes.ensures);
     }
 
 pub push_lines-requires-clause-folds : goal.push_lines-requires-clause-folds
 push_lines-requires-clause-folds g c =
     let spreads = c.args.drawing.now.spreads.now in
-    let at : c.args.lent.now.span.offset ≡ c.offset-start.result = sym (c.offset-start.ensures ∙ ap (λ s. s.offset) c.span.ensures) in
-    c.deref-2.ensures.value ∙ c.in_ok-folds.ensures ∙ ap (λ n. map (fold_in n c.args.lent.now.bytes) spreads) at ∙ ap (λ bs. map (fold_in c.offset-start.result bs) spreads) (sym c.data-bytes.ensures)
+    let at : c.args.lent.now.span.offset ≡ c.offset-start.result =
+    sym (c.offset-start.ensures ∙ ap (λ s. s.offset) c.span.ensures) in
+    c.deref-2.ensures.value ∙ c.in_ok-folds.ensures ∙ ap (λ n. map (fold_in n c.args.lent.now.bytes) spreads) at
+    ∙ ap (λ bs. map (fold_in c.offset-start.result bs) spreads) (sym c.data-bytes.ensures)
 
 pub returns-clause-rows : goal.returns-clause-rows
 returns-clause-rows g c =
-    told_lent (settings_of c.args.drawing.now.theme.now c.args.drawing.now.options) (map spread_of c.args.drawing.now.spreads.now) c.args.drawing.now.labels.now c.args.drawing.now.placed.now c.args.lent.now (option_map place_at c.args.place) (leaves_plain g.H.Highlighter.is_blank c.args.highlighter.now)
-    (λ calls. Leads (follows g.H.Highlighter.may_follow c.args.highlighter.now) calls (follows g.H.Highlighter.may_follow c.push_lines.new.highlighter))
-    c.in_ok-number_width.field-0 c.in_ok-gutter_width.field-0 c.in_ok-extent.extent.lines c.in_ok-extent.extent.most c.line-before.result c.offset-start.result
+    told_lent (settings_of c.args.drawing.now.theme.now c.args.drawing.now.options)
+    (map spread_of c.args.drawing.now.spreads.now) c.args.drawing.now.labels.now c.args.drawing.now.placed.now
+    c.args.lent.now (option_map place_at c.args.place) (leaves_plain g.H.Highlighter.is_blank c.args.highlighter.now)
+    (λ calls. Leads (follows g.H.Highlighter.may_follow c.args.highlighter.now) calls
+    (follows g.H.Highlighter.may_follow c.push_lines.new.highlighter))
+    c.in_ok-number_width.field-0 c.in_ok-gutter_width.field-0 c.in_ok-extent.extent.lines c.in_ok-extent.extent.most
+    c.line-before.result c.offset-start.result
     _ c.data-bytes.result.now c.args.page.now c.push_top_row.new.page c.push_lines.new.page c.push_bottom_row.new.page
-    c.line-before.ensures (c.offset-start.ensures ∙ ap (λ s. s.offset) c.span.ensures) c.name.ensures c.data-bytes.ensures
+    c.line-before.ensures (c.offset-start.ensures ∙ ap (λ s. s.offset) c.span.ensures) c.name.ensures
+    c.data-bytes.ensures
     c.in_ok-extent.ensures.lines c.in_ok-extent.ensures.most c.in_ok-number_width.ensures c.in_ok-gutter_width.ensures
     c.in_ok-push_top_row.ensures c.in_ok-push_lines.ensures.rows c.in_ok-push_bottom_row.ensures

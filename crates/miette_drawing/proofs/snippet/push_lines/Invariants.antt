@@ -12,11 +12,17 @@ use Rattle.miette_drawing.proofs.snippet.push_lines.Given as goal
 
 abbrev pub invariant-loop-at : goal.invariant-loop-at
 invariant-loop-at g l = record {
-  lined : AreLined (left_out (settings_of l.body.frame.theme.now l.body.frame.options) l.body.before (lines_from l.body.start l.body.bytes.now) (map spread_of l.drawing.spreads.now)) l.gap (settings_of l.body.frame.theme.now l.body.frame.options) l.body.frame.number_width l.body.gutter (map (drawn_of l.drawing.labels.now) l.drawing.placed.now) l.body.start l.body.bytes.now (l.body.before + 1)
-      (leaves_plain g.H.Highlighter.is_blank l.initial.highlighter) (follows g.H.Highlighter.may_follow l.initial.highlighter) (follows g.H.Highlighter.may_follow l.highlighter) l.at (l.body.before + l.place + 1) l.initial.page l.page;
+  lined : AreLined (left_out (settings_of l.body.frame.theme.now l.body.frame.options) l.body.before
+      (lines_from l.body.start l.body.bytes.now) (map spread_of l.drawing.spreads.now)) l.gap
+      (settings_of l.body.frame.theme.now l.body.frame.options) l.body.frame.number_width l.body.gutter
+      (map (drawn_of l.drawing.labels.now) l.drawing.placed.now) l.body.start l.body.bytes.now (l.body.before + 1)
+      (leaves_plain g.H.Highlighter.is_blank l.initial.highlighter)
+      (follows g.H.Highlighter.may_follow l.initial.highlighter) (follows g.H.Highlighter.may_follow l.highlighter)
+      l.at (l.body.before + l.place + 1) l.initial.page l.page;
   begun : Begins l.body.start l.body.bytes.now (l.body.start + l.at) l.place;
   state : IsAt l.drawing.placed.now (l.body.start + l.at) l.sweep.next l.sweep.running.items;
-  stays : leaves_plain g.H.Highlighter.is_blank l.highlighter ≡ leaves_plain g.H.Highlighter.is_blank l.initial.highlighter;
+  stays : leaves_plain g.H.Highlighter.is_blank l.highlighter
+      ≡ leaves_plain g.H.Highlighter.is_blank l.initial.highlighter;
 }
 
 abbrev pub decreases-loop-at : goal.decreases-loop-at

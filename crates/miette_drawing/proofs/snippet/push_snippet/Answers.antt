@@ -13,7 +13,9 @@ use Rattle.miette_drawing.proofs.snippet.push_snippet.Goals as goal
 
 pub push_framed-requires-clause-at : goal.push_framed-requires-clause-at
 push_framed-requires-clause-at g c =
-    subst (λ (n : ℕ). IsAt c.args.drawing.now.placed.now n c.seek.new.passage.sweep.next c.seek.new.passage.sweep.running.items) (c.offset-start.ensures ∙ ap (λ s. s.offset) c.span.ensures) c.in_ok-seek.ensures
+    subst (λ (n : ℕ). IsAt c.args.drawing.now.placed.now n c.seek.new.passage.sweep.next
+    c.seek.new.passage.sweep.running.items) (c.offset-start.ensures ∙ ap (λ s. s.offset) c.span.ensures)
+    c.in_ok-seek.ensures
 
 pub returns-clause-rows : goal.returns-clause-rows
 returns-clause-rows g c =
@@ -23,11 +25,20 @@ returns-clause-rows g c =
     let begun : List Call → Type 0 = follows g.H.Highlighter.may_follow c.restart.new.highlighter in
     let now : List Call → Type 0 = follows g.H.Highlighter.may_follow c.push_framed.new.highlighter in
     let rows = c.in_ok-push_framed.ensures.rows in
-    subst (λ b. PutsRows b (λ calls. Leads had (restarted lent ∷ calls) now) (lent_texts lent) (lent_snippet (settings_of drawing.theme.now drawing.options) (map spread_of drawing.spreads.now) (map (drawn_of drawing.labels.now) drawing.placed.now) lent (option_map place_at c.args.place)) c.args.page.now c.push_framed.new.page)
-    c.restart.ensures.stays (restarted_first (leaves_plain g.H.Highlighter.is_blank c.restart.new.highlighter) had begun now (lent_texts lent) (lent_snippet (settings_of drawing.theme.now drawing.options) (map spread_of drawing.spreads.now) (map (drawn_of drawing.labels.now) drawing.placed.now) lent (option_map place_at c.args.place)) lent c.args.page.now c.push_framed.new.page c.restart.ensures.calls rows)
+    subst (λ b. PutsRows b (λ calls. Leads had (restarted lent ∷ calls) now) (lent_texts lent)
+    (lent_snippet (settings_of drawing.theme.now drawing.options) (map spread_of drawing.spreads.now)
+    (map (drawn_of drawing.labels.now) drawing.placed.now) lent (option_map place_at c.args.place)) c.args.page.now
+    c.push_framed.new.page)
+    c.restart.ensures.stays (restarted_first (leaves_plain g.H.Highlighter.is_blank c.restart.new.highlighter) had begun
+    now (lent_texts lent) (lent_snippet (settings_of drawing.theme.now drawing.options)
+    (map spread_of drawing.spreads.now) (map (drawn_of drawing.labels.now) drawing.placed.now) lent
+    (option_map place_at c.args.place)) lent c.args.page.now c.push_framed.new.page c.restart.ensures.calls rows)
 
 pub returns-clause-at : goal.returns-clause-at
 returns-clause-at g c =
     let e : c.args.lent.now.span.offset + length c.args.lent.now.bytes ≡ c.in-Some.end =
-    sym (c.in-Some.ensures.1 ∙ ap (λ n. n + length c.data.result.now) (c.offset-start.ensures ∙ ap (λ s. s.offset) c.span.ensures) ∙ ap (λ b. c.args.lent.now.span.offset + length b) c.data.ensures) in
-    subst (λ (n : ℕ). IsAt c.args.drawing.now.placed.now n c.push_framed.new.sweep.next c.push_framed.new.sweep.running.items) e c.in_ok-push_framed.ensures.at
+    sym (c.in-Some.ensures.1 ∙ ap (λ n. n + length c.data.result.now)
+    (c.offset-start.ensures ∙ ap (λ s. s.offset) c.span.ensures)
+    ∙ ap (λ b. c.args.lent.now.span.offset + length b) c.data.ensures) in
+    subst (λ (n : ℕ). IsAt c.args.drawing.now.placed.now n c.push_framed.new.sweep.next
+    c.push_framed.new.sweep.running.items) e c.in_ok-push_framed.ensures.at

@@ -7,7 +7,10 @@ use Rattle.miette_style.specs.rules.Themes.{characters_of}
 
 pub returns : goal.returns
 returns g c =
-    mark_put width_of (characters_of c.args.sheet.now.theme.now.characters) (mark_of c.args.sheet.now.labels.now c.args.mark.now) c.args.mark.now.anchor (c.args.mark.now.anchor - c.args.mark.now.from) (c.args.mark.now.until - c.args.mark.now.anchor - 1) c.middle_of.result
+    mark_put width_of (characters_of c.args.sheet.now.theme.now.characters)
+    (mark_of c.args.sheet.now.labels.now c.args.mark.now) c.args.mark.now.anchor
+    (c.args.mark.now.anchor - c.args.mark.now.from) (c.args.mark.now.until - c.args.mark.now.anchor - 1)
+    c.middle_of.result
     c.args.page.now c.begin.new.self c.push_copies.new.self c.push.new.self c.push_copies-2.new.self
     refl c.requires.0 c.requires.1 (search rules) (search rules) c.middle_of.ensures
     c.in_ok-begin.ensures c.in_ok-push_copies.ensures c.in_ok-push.ensures c.in_ok-push_copies-2.ensures

@@ -8,5 +8,7 @@ use Rattle.miette_drawing.proofs.strokes.push_marks.Given as goal
 
 abbrev pub invariant-loop-mark : goal.invariant-loop-mark
 invariant-loop-mark g l =
-    l.page ⊕ row_tokens (mark_runs (settings l.fn.sheet).width (settings l.fn.sheet).characters l.reached (map (mark_of l.fn.sheet.labels.now) (drop l.mark-index l.marks)))
-    ≡ l.fn.page ⊕ row_tokens (mark_runs (settings l.fn.sheet).width (settings l.fn.sheet).characters 0 (map (mark_of l.fn.sheet.labels.now) l.marks))
+    l.page ⊕ row_tokens (mark_runs (settings l.fn.sheet).width (settings l.fn.sheet).characters l.reached
+    (map (mark_of l.fn.sheet.labels.now) (drop l.mark-index l.marks)))
+    ≡ l.fn.page ⊕ row_tokens (mark_runs (settings l.fn.sheet).width (settings l.fn.sheet).characters 0
+    (map (mark_of l.fn.sheet.labels.now) l.marks))

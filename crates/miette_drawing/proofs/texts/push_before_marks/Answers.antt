@@ -6,4 +6,5 @@ use Rattle.miette_drawing.proofs.texts.push_before_marks.Goals as goal
 pub returns : goal.returns
 returns g c =
     parts_then (other_start (settings c.args.sheet.now) c.args.sheet.now.number_width) (gutter_below c.args.sheet.now)
-    c.args.page.now c.push_other_start.new.page c.push_other_gutter.new.page c.in_ok-push_other_start.ensures c.in_ok-push_other_gutter.ensures
+    c.args.page.now c.push_other_start.new.page c.push_other_gutter.new.page c.in_ok-push_other_start.ensures
+    c.in_ok-push_other_gutter.ensures

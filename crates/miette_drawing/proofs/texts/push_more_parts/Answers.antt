@@ -10,7 +10,10 @@ use Rattle.miette_drawing.proofs.texts.push_more_parts.Goals as goal
 
 pub loop-left-preserved : goal.loop-left-preserved
 loop-left-preserved g c =
-    part_more (text_line c.args.sheet.now (map (mark_of c.args.sheet.now.labels.now) c.args.earlier.now) (mark_of c.args.sheet.now.labels.now c.args.mark.now) (beside (settings c.args.sheet.now).characters))
-    (parts_of (option_copied c.loop-left.left)) (parts_of (option_copied c.first_part.result.1)) (chars c.first_part.result.0.now)
+    part_more (text_line c.args.sheet.now (map (mark_of c.args.sheet.now.labels.now) c.args.earlier.now)
+    (mark_of c.args.sheet.now.labels.now c.args.mark.now) (beside (settings c.args.sheet.now).characters))
+    (parts_of (option_copied c.loop-left.left)) (parts_of (option_copied c.first_part.result.1))
+    (chars c.first_part.result.0.now)
     c.loop-left.page c.push_text_row.new.page _
-    (ap (λ o. parts_of (option_copied o)) c.in-Some.is ∙ c.first_part.ensures.cut) c.in_ok-push_text_row.ensures c.loop-left.invariant
+    (ap (λ o. parts_of (option_copied o)) c.in-Some.is ∙ c.first_part.ensures.cut) c.in_ok-push_text_row.ensures
+    c.loop-left.invariant

@@ -11,8 +11,12 @@ use Rattle.miette_drawing.proofs.texts.push_more_parts.Given as goal
 
 abbrev pub invariant-loop-left : goal.invariant-loop-left
 invariant-loop-left g l =
-    l.page ⊕ rows_tokens (map (text_line l.fn.sheet (map (mark_of l.fn.sheet.labels.now) l.fn.earlier) (mark_of l.fn.sheet.labels.now l.fn.mark) (beside (settings l.fn.sheet).characters)) (parts_of (option_copied l.left)))
-    ≡ l.fn.page ⊕ rows_tokens (map (text_line l.fn.sheet (map (mark_of l.fn.sheet.labels.now) l.fn.earlier) (mark_of l.fn.sheet.labels.now l.fn.mark) (beside (settings l.fn.sheet).characters)) (cut_at_lf (chars l.fn.text)))
+    l.page ⊕ rows_tokens (map (text_line l.fn.sheet (map (mark_of l.fn.sheet.labels.now) l.fn.earlier)
+    (mark_of l.fn.sheet.labels.now l.fn.mark) (beside (settings l.fn.sheet).characters))
+    (parts_of (option_copied l.left)))
+    ≡ l.fn.page ⊕ rows_tokens (map (text_line l.fn.sheet (map (mark_of l.fn.sheet.labels.now) l.fn.earlier)
+    (mark_of l.fn.sheet.labels.now l.fn.mark) (beside (settings l.fn.sheet).characters))
+    (cut_at_lf (chars l.fn.text)))
 
 abbrev pub decreases-loop-left : goal.decreases-loop-left
 decreases-loop-left g l = option_map_or (λ text. length text.now + 1) l.left 0

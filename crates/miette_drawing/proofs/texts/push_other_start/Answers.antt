@@ -6,5 +6,6 @@ use Rattle.miette_style.specs.rules.Themes.{characters_of}
 
 pub returns : goal.returns
 returns g c =
-    start_put width_of (characters_of c.args.sheet.now.theme.now.characters) c.in-Some.columns (c.args.sheet.now.number_width + 2) c.args.page.now c.push_blank.new.self c.push_line.new.self
+    start_put width_of (characters_of c.args.sheet.now.theme.now.characters) c.in-Some.columns
+    (c.args.sheet.now.number_width + 2) c.args.page.now c.push_blank.new.self c.push_line.new.self
     (search rules) c.in_ok-push_blank.ensures c.in_ok-push_line.ensures

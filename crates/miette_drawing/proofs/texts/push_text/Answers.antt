@@ -10,7 +10,11 @@ use Rattle.miette_style.specs.rules.Themes.{characters_of}
 
 pub returns : goal.returns
 returns g c =
-    several_parts width_of (characters_of c.args.sheet.now.theme.now.characters) (before_marks c.args.sheet.now) (map (mark_of c.args.sheet.now.labels.now) c.args.earlier.now) (mark_of c.args.sheet.now.labels.now c.args.mark.now)
-    _ (chars c.first_part.result.0.now) (chars c.in-Some-rest.rest.now) c.args.page.now c.push_text_row-2.new.page c.push_more_parts.new.page
-    (ap parts_of (sym c.in-Some.ensures) ∙ c.first_part.ensures.cut ∙ ap (λ o. chars c.first_part.result.0.now ∷ parts_of (option_copied o)) c.in-Some-rest.is)
+    several_parts width_of (characters_of c.args.sheet.now.theme.now.characters) (before_marks c.args.sheet.now)
+    (map (mark_of c.args.sheet.now.labels.now) c.args.earlier.now)
+    (mark_of c.args.sheet.now.labels.now c.args.mark.now)
+    _ (chars c.first_part.result.0.now) (chars c.in-Some-rest.rest.now) c.args.page.now c.push_text_row-2.new.page
+    c.push_more_parts.new.page
+    (ap parts_of (sym c.in-Some.ensures) ∙ c.first_part.ensures.cut
+    ∙ ap (λ o. chars c.first_part.result.0.now ∷ parts_of (option_copied o)) c.in-Some-rest.is)
     c.in_ok-push_text_row-2.ensures c.in_ok-push_more_parts.ensures

@@ -9,7 +9,11 @@ use Rattle.miette_style.specs.rules.Themes.{characters_of}
 
 pub returns : goal.returns
 returns g c =
-    text_put width_of (characters_of c.args.sheet.now.theme.now.characters) (before_marks c.args.sheet.now) (map (mark_of c.args.sheet.now.labels.now) c.args.earlier.now) (mark_of c.args.sheet.now.labels.now c.args.mark.now)
+    text_put width_of (characters_of c.args.sheet.now.theme.now.characters) (before_marks c.args.sheet.now)
+    (map (mark_of c.args.sheet.now.labels.now) c.args.earlier.now)
+    (mark_of c.args.sheet.now.labels.now c.args.mark.now)
     c.args.mark.now.anchor c.args.front.0 c.args.front.1 c.args.front.2 (chars c.args.part.now)
-    c.args.page.now c.push_before_marks.new.page c.push_leads.new.page c.push_line.new.self c.push.new.self c.push-2.new.self c.push_str.new.self c.end_row.new.self
-    refl c.in_ok-push_before_marks.ensures c.in_ok-push_leads.ensures c.in_ok-push_line.ensures c.in_ok-push.ensures c.in_ok-push-2.ensures c.in_ok-push_str.ensures c.in_ok-end_row.ensures
+    c.args.page.now c.push_before_marks.new.page c.push_leads.new.page c.push_line.new.self c.push.new.self
+    c.push-2.new.self c.push_str.new.self c.end_row.new.self
+    refl c.in_ok-push_before_marks.ensures c.in_ok-push_leads.ensures c.in_ok-push_line.ensures c.in_ok-push.ensures
+    c.in_ok-push-2.ensures c.in_ok-push_str.ensures c.in_ok-end_row.ensures

@@ -9,10 +9,13 @@ use Rattle.miette_style.specs.rules.Themes.{characters_of}
 pub loop-place-preserved : goal.loop-place-preserved
 loop-place-preserved g c =
     let within : c.loop-place.place - 1 ≤ length c.args.marks.now = omega (arith, c.loop-place.invariant.within) in
-    let some : c.loop-place.place - 1 < length c.args.marks.now = omega (arith, c.loop-place.invariant.within, c.loop-place-test.true) in
+    let some : c.loop-place.place - 1 < length c.args.marks.now =
+    omega (arith, c.loop-place.invariant.within, c.loop-place-test.true) in
     let next : c.loop-place.place ≡ c.loop-place.place - 1 + 1 = omega (arith, c.loop-place-test.true) in
     record {
       within = within;
-      told = below_more width_of (characters_of c.args.sheet.now.theme.now.characters) c.args.sheet.now.labels.now (before_marks c.args.sheet.now) c.args.marks.now c.loop-place.place (c.loop-place.place - 1) no_mark
-          c.args.page.now c.loop-place.page c.push_text.new.page some next c.loop-place.invariant.told c.in_ok-push_text.ensures;
+      told = below_more width_of (characters_of c.args.sheet.now.theme.now.characters) c.args.sheet.now.labels.now
+          (before_marks c.args.sheet.now) c.args.marks.now c.loop-place.place (c.loop-place.place - 1) no_mark
+          c.args.page.now c.loop-place.page c.push_text.new.page some next c.loop-place.invariant.told
+          c.in_ok-push_text.ensures;
     }

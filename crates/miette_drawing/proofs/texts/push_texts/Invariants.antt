@@ -10,7 +10,10 @@ use Rattle.miette_drawing.proofs.texts.push_texts.Given as goal
 abbrev pub invariant-loop-place : goal.invariant-loop-place
 invariant-loop-place g l = record {
   within : l.place ≤ length l.marks;
-  told : l.page ≡ l.fn.page ⊕ rows_tokens (before_each (before_marks l.fn.sheet) (rows_below (settings l.fn.sheet).width (settings l.fn.sheet).characters (map (mark_of l.fn.sheet.labels.now) (take l.place l.marks)) (map (mark_of l.fn.sheet.labels.now) (drop l.place l.marks))));
+  told : l.page ≡ l.fn.page ⊕ rows_tokens (before_each (before_marks l.fn.sheet)
+      (rows_below (settings l.fn.sheet).width (settings l.fn.sheet).characters
+      (map (mark_of l.fn.sheet.labels.now) (take l.place l.marks))
+      (map (mark_of l.fn.sheet.labels.now) (drop l.place l.marks))));
 }
 
 abbrev pub decreases-loop-place : goal.decreases-loop-place

@@ -5,4 +5,5 @@ use Rattle.miette_folds.specs.steps.Nearness.{is_near_fold}
 use Rattle.miette_folds.proofs.folds.some_near.Given as goal
 
 abbrev pub invariant-loop-fold : goal.invariant-loop-fold
-invariant-loop-fold l = list_any (is_near_fold l.limit l.place (line_of_text l.line)) (take l.fold-index l.folds) ≡ false
+invariant-loop-fold l = list_any (is_near_fold l.limit l.place (line_of_text l.line)) (take l.fold-index l.folds)
+    ≡ false

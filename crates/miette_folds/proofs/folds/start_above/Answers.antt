@@ -6,5 +6,7 @@ use Rattle.miette_folds.proofs.folds.start_above.Goals as goal
 pub returns : goal.returns
 returns c =
     let begin : c.start_before.result.0 ≡ line_start c.args.bytes.now (c.args.place - c.args.lines) =
-    started c.args.start c.args.bytes.now c.args.offset c.args.place c.args.lines c.min-at.result c.start_before.result.0 c.requires.place (c.min-at.ensures ∙ ap (min (length c.args.bytes.now)) c.saturating_sub.ensures) c.start_before.ensures.start in
+    started c.args.start c.args.bytes.now c.args.offset c.args.place c.args.lines c.min-at.result
+    c.start_before.result.0 c.requires.place (c.min-at.ensures
+    ∙ ap (min (length c.args.bytes.now)) c.saturating_sub.ensures) c.start_before.ensures.start in
     cc

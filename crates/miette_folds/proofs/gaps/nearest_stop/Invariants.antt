@@ -4,4 +4,5 @@ use Rattle.miette_folds.specs.views.Gaps.{nearest_stop}
 use Rattle.miette_folds.proofs.gaps.nearest_stop.Given as goal
 
 abbrev pub invariant-loop-fold : goal.invariant-loop-fold
-invariant-loop-fold l = nearest_stop (line_of_text l.line) l.end (drop l.fold-index l.folds) ≡ nearest_stop (line_of_text l.line) None l.folds
+invariant-loop-fold l = nearest_stop (line_of_text l.line) l.end (drop l.fold-index l.folds)
+    ≡ nearest_stop (line_of_text l.line) None l.folds

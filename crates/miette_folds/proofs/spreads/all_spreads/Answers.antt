@@ -1,4 +1,5 @@
-use Rattle.std.proofs.Common.{ℕ, ◌+◌, ◌<◌, ◌≡◌, Bool, List, [], ◌∷◌, ◌++◌, length, map, take, get_or, sym, ap, ap₂, ◌∙◌, subst, All}
+use Rattle.std.proofs.Common.{ℕ, ◌+◌, ◌<◌, ◌≡◌, Bool, List, [], ◌∷◌, ◌++◌, length, map, take, get_or, sym, ap, ap₂, ◌∙◌}
+use Rattle.std.proofs.Common.{subst, All}
 use Rattle.std.proofs.lemmas.List.{map-append, take_more}
 use Rattle.std.proofs.lemmas.List.Elements.{All-nil, All-push}
 use Rattle.miette_protocol.specs.views.Meaning.{Label}
@@ -11,8 +12,10 @@ use Rattle.miette_folds.specs.views.ReadSpreads.{read_spread, HasLines}
 use Rattle.miette_folds.proofs.spreads.all_spreads.Goals as goal
 
 -- one label more
-parts_more : (context : ℕ) (own : Bool) (labels : List Label) (reads : List ReadLabel) (i : ℕ) (r : ReadLabel) (items more : List MadeSpread) (label : MadeSpread) → i < length reads → r ≡ get_or reads i r →
-    map spread_of items ≡ map (read_spread context own labels) (take i reads) → spread_of label ≡ read_spread context own labels r → more ≡ items ++ label ∷ [] →
+parts_more : (context : ℕ) (own : Bool) (labels : List Label) (reads : List ReadLabel) (i : ℕ) (r : ReadLabel)
+    (items more : List MadeSpread) (label : MadeSpread) → i < length reads → r ≡ get_or reads i r →
+    map spread_of items ≡ map (read_spread context own labels) (take i reads) → spread_of label
+    ≡ read_spread context own labels r → more ≡ items ++ label ∷ [] →
     map spread_of more ≡ map (read_spread context own labels) (take (i + 1) reads)
 parts_more context own labels reads i r items more label lt is h one e =
     ap (map spread_of) e ∙ map-append spread_of items (label ∷ [])
@@ -20,23 +23,33 @@ parts_more context own labels reads i r items more label lt is h one e =
     ∙ sym (map-append (read_spread context own labels) (take i reads) (get_or reads i r ∷ []))
     ∙ sym (ap (map (read_spread context own labels)) (take_more reads i r lt))
 
-lines_more : (context : ℕ) (source : Source) (labels : List Label) (reads : List ReadLabel) (i : ℕ) (r : ReadLabel) (items more : List MadeSpread) (label : MadeSpread) → i < length reads → r ≡ get_or reads i r →
-    All (IsRead context source labels) reads → All (HasLines source.bytes) items → (IsRead context source labels r → HasLines source.bytes label) → more ≡ items ++ label ∷ [] → All (HasLines source.bytes) more
+lines_more : (context : ℕ) (source : Source) (labels : List Label) (reads : List ReadLabel) (i : ℕ) (r : ReadLabel)
+    (items more : List MadeSpread) (label : MadeSpread) → i < length reads → r ≡ get_or reads i r →
+    All (IsRead context source labels) reads → All (HasLines source.bytes) items
+    → (IsRead context source labels r → HasLines source.bytes label) → more ≡ items ++ label ∷ []
+    → All (HasLines source.bytes) more
 lines_more context source labels reads i r items more label lt is all h one e =
-    let read : IsRead context source labels r = subst (λ (x : ReadLabel). IsRead context source labels x) (sym is) (all i r lt) in
-    subst (λ (xs : List MadeSpread). All (HasLines source.bytes) xs) (sym e) (All-push (HasLines source.bytes) items label h (one read))
+    let read : IsRead context source labels r = subst (λ (x : ReadLabel). IsRead context source labels x) (sym is)
+    (all i r lt) in
+    subst (λ (xs : List MadeSpread). All (HasLines source.bytes) xs) (sym e)
+    (All-push (HasLines source.bytes) items label h (one read))
 
 pub loop-read-init : goal.loop-read-init
 loop-read-init c = record {
   parts = ap (map spread_of) c.in_ok-spreads.ensures.items;
-  lines = λ source all. subst (λ (xs : List MadeSpread). All (HasLines source.bytes) xs) (sym c.in_ok-spreads.ensures.items) (All-nil (HasLines source.bytes));
+  lines = λ source all. subst (λ (xs : List MadeSpread). All (HasLines source.bytes) xs)
+      (sym c.in_ok-spreads.ensures.items) (All-nil (HasLines source.bytes));
 }
 
 pub loop-read-preserved : goal.loop-read-preserved
 loop-read-preserved c = record {
-  parts = parts_more c.args.context c.some_own-own.result c.args.labels.now c.args.reads.now c.loop-read.read-index c.read-item.result c.loop-read.spreads.items c.push.new.self.items c.in_ok-spread.field-0
-      c.loop-read-test.true c.read-item.is c.loop-read.invariant.parts c.in_ok-spread.ensures.parts c.in_ok-push.ensures.items;
+  parts = parts_more c.args.context c.some_own-own.result c.args.labels.now c.args.reads.now c.loop-read.read-index
+      c.read-item.result c.loop-read.spreads.items c.push.new.self.items c.in_ok-spread.field-0
+      c.loop-read-test.true c.read-item.is c.loop-read.invariant.parts c.in_ok-spread.ensures.parts
+      c.in_ok-push.ensures.items;
   lines = λ source all.
-      lines_more c.args.context source c.args.labels.now c.args.reads.now c.loop-read.read-index c.read-item.result c.loop-read.spreads.items c.push.new.self.items c.in_ok-spread.field-0
-      c.loop-read-test.true c.read-item.is all (c.loop-read.invariant.lines source all) (c.in_ok-spread.ensures.lines source) c.in_ok-push.ensures.items;
+      lines_more c.args.context source c.args.labels.now c.args.reads.now c.loop-read.read-index c.read-item.result
+      c.loop-read.spreads.items c.push.new.self.items c.in_ok-spread.field-0
+      c.loop-read-test.true c.read-item.is all (c.loop-read.invariant.lines source all)
+      (c.in_ok-spread.ensures.lines source) c.in_ok-push.ensures.items;
 }

@@ -8,5 +8,6 @@ use Rattle.miette_folds.proofs.spreads.all_spreads.Given as goal
 abbrev pub invariant-loop-read : goal.invariant-loop-read
 invariant-loop-read l = record {
   parts : map spread_of l.spreads.items ≡ map (read_spread l.context l.own l.labels) (take l.read-index l.reads);
-  lines : (source : Source) → All (IsRead l.context source l.labels) l.reads → All (HasLines source.bytes) l.spreads.items;
+  lines : (source : Source) → All (IsRead l.context source l.labels) l.reads
+      → All (HasLines source.bytes) l.spreads.items;
 }

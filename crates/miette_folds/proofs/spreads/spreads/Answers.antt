@@ -6,4 +6,5 @@ use Rattle.miette_folds.proofs.spreads.spreads.Goals as goal
 
 pub returns-in-None-clause-lines : goal.returns-in-None-clause-lines
 returns-in-None-clause-lines c = λ source all.
-    subst (λ (xs : List MadeSpread). All (HasLines source.bytes) xs) (sym c.new.ensures.items) (All-nil (HasLines source.bytes))
+    subst (λ (xs : List MadeSpread). All (HasLines source.bytes) xs) (sym c.new.ensures.items)
+    (All-nil (HasLines source.bytes))

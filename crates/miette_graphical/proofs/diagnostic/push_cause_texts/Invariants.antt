@@ -9,4 +9,5 @@ decreases-loop-rest l = length l.rest
 abbrev pub invariant-loop-rest : goal.invariant-loop-rest
 invariant-loop-rest l =
     let s = settings_of l.settings in
-    l.out ++ cause_texts s l.outer (map string_bytes l.rest) ≡ l.fn.out ++ cause_texts s l.outer (map string_bytes l.list)
+    l.out ++ cause_texts s l.outer (map string_bytes l.rest) ≡ l.fn.out
+    ++ cause_texts s l.outer (map string_bytes l.list)

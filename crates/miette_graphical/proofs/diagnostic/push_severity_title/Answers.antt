@@ -6,4 +6,5 @@ use Rattle.miette_graphical.proofs.diagnostic.push_severity_title.Goals as goal
 
 pub returns : goal.returns
 returns c =
-    on_ok_weaker c.push_str.result (λ h. h ∙ ap (λ t. c.args.out.now ++ t) (ap chars c.severity_title.ensures ∙ title_characters c.args.severity)) c.push_str.ensures
+    on_ok_weaker c.push_str.result (λ h. h ∙ ap (λ t. c.args.out.now ++ t)
+    (ap chars c.severity_title.ensures ∙ title_characters c.args.severity)) c.push_str.ensures

@@ -11,5 +11,6 @@ returns-then-branch c =
     let s = settings_of c.args.settings in
     let further = print further_help_indent in
     c.in_ok-push_row.ensures.fits c.if-branch.true further
-    ∙ ap (λ first. c.args.out.now ++ (wrapped_behind s first further (chars c.in-Some.help.now) ++ 10 ∷ [])) c.in_ok-first.ensures
+    ∙ ap (λ first. c.args.out.now ++ (wrapped_behind s first further (chars c.in-Some.help.now) ++ 10 ∷ []))
+    c.in_ok-first.ensures
     ∙ ap (λ o. c.args.out.now ++ help_text s (option_map (λ t. t.now) o)) (sym c.in-Some.is)

@@ -10,4 +10,5 @@ returns-then-branch c =
     let s = settings_of c.args.settings in
     let further = print (bar_indent s c.args.severity) in
     c.in_ok-push_row.ensures.fits c.if-branch.true further
-    ∙ ap (λ first. c.args.out.now ++ (wrapped_behind s first further (chars c.args.message.now) ++ 10 ∷ [])) c.in_ok-first.ensures
+    ∙ ap (λ first. c.args.out.now ++ (wrapped_behind s first further (chars c.args.message.now) ++ 10 ∷ []))
+    c.in_ok-first.ensures

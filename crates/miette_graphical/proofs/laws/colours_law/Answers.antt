@@ -22,5 +22,6 @@ returns c =
       erase = λ rows s t a law h k. (fades-report laws rows law s t a h k).same;
       tame = λ rows s t a law h k. (fades-report laws rows law s t a h k).tame;
       alike = λ rows s u t a b law h j k e d.
-          (fades-report laws rows law s t a h k).same ∙ ap₂ (λ v o. report_text rows v t o) e d ∙ sym (fades-report laws rows law u t b j k).same;
+          (fades-report laws rows law s t a h k).same ∙ ap₂ (λ v o. report_text rows v t o) e d
+          ∙ sym (fades-report laws rows law u t b j k).same;
     }

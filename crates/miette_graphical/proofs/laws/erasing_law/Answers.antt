@@ -16,24 +16,35 @@ returns-clause-text c = λ s blank t bytes settings tree printed. record {
   possible = answers_possible c.rows_fade.ensures.same s blank t printed.1.0 printed.1.1;
   erased =
       ap erase printed.2 ∙ c.encoding_law.ensures printed.0
-      ∙ ap (λ text. encode_utf8_all (erase text)) printed.1.2 ∙ ap encode_utf8_all (c.colours_law.ensures.erase drawn_rows s t printed.1.0 c.drawn_rows_law.ensures settings tree);
+      ∙ ap (λ text. encode_utf8_all (erase text)) printed.1.2
+      ∙ ap encode_utf8_all (c.colours_law.ensures.erase drawn_rows s t printed.1.0 c.drawn_rows_law.ensures settings
+      tree);
 }
 
 pub returns-clause-possible : goal.returns-clause-possible
 returns-clause-possible c = λ s blank t bytes settings tree printed. (
   report_text drawn_rows (colourless s) t (unhighlighted_answers printed.1.0),
-  (unhighlighted_answers printed.1.0, answers_possible c.rows_fade.ensures.same s blank t printed.1.0 printed.1.1, refl),
+  (
+    unhighlighted_answers printed.1.0,
+    answers_possible c.rows_fade.ensures.same s blank t printed.1.0 printed.1.1,
+    refl,
+  ),
   ap erase printed.2 ∙ c.encoding_law.ensures printed.0
-      ∙ ap (λ text. encode_utf8_all (erase text)) printed.1.2 ∙ ap encode_utf8_all (c.colours_law.ensures.erase drawn_rows s t printed.1.0 c.drawn_rows_law.ensures settings tree),
+      ∙ ap (λ text. encode_utf8_all (erase text)) printed.1.2
+      ∙ ap encode_utf8_all (c.colours_law.ensures.erase drawn_rows s t printed.1.0 c.drawn_rows_law.ensures settings
+      tree),
 )
 
 pub returns-clause-only : goal.returns-clause-only
 returns-clause-only c = λ s blank t bytes settings tree printed reads.
     ap erase printed.2 ∙ c.encoding_law.ensures printed.0
-    ∙ ap (λ text. encode_utf8_all (erase text)) printed.1.2 ∙ ap encode_utf8_all (c.colours_law.ensures.erase drawn_rows s t printed.1.0 c.drawn_rows_law.ensures settings tree)
+    ∙ ap (λ text. encode_utf8_all (erase text)) printed.1.2
+    ∙ ap encode_utf8_all (c.colours_law.ensures.erase drawn_rows s t printed.1.0 c.drawn_rows_law.ensures settings
+    tree)
     ∙ ap encode_utf8_all (bare-report drawn_rows s blank t printed.1.0 printed.1.1 reads)
 
 pub returns-clause-themes : goal.returns-clause-themes
 returns-clause-themes c = λ s blank t bytes others settings tree printed reads again.
     returns-clause-only c s blank t bytes settings tree printed reads
-    ∙ sym (returns-clause-only c (record s { styles = again.0 }) again.1 t others settings tree again.2 (ap all_read (restyled-printed s again.0 t) ∙ reads))
+    ∙ sym (returns-clause-only c (record s { styles = again.0 }) again.1 t others settings tree again.2
+    (ap all_read (restyled-printed s again.0 t) ∙ reads))

@@ -8,8 +8,10 @@ use Rattle.miette_graphical.proofs.laws.printed_law.Goals as goal
 
 pub returns-clause-rows : goal.returns-clause-rows
 returns-clause-rows c = λ rows others s t a alike.
-    report_alike rows others s t a a (λ path p found u. holds_there (AreDrawnAlike rows others) (diagnostics_of s t) p alike (printed_there s t path p found) u _)
+    report_alike rows others s t a a (λ path p found u. holds_there (AreDrawnAlike rows others) (diagnostics_of s t) p
+    alike (printed_there s t path p found) u _)
 
 pub returns-clause-answers : goal.returns-clause-answers
 returns-clause-answers c = λ rows s t a b alike.
-    report_alike rows rows s t a b (λ path p found u. ap (rows u p.source (given_labels p.meaning.labels)) (alike path p found))
+    report_alike rows rows s t a b (λ path p found u. ap (rows u p.source (given_labels p.meaning.labels))
+    (alike path p found))

@@ -1,4 +1,5 @@
-use Rattle.std.proofs.Common.{ℕ, ◌≡◌, List, [], ◌∷◌, Option, Some, None, IfSome, refl, ap, ◌∙◌, false, cond, ltb, sym, subst}
+use Rattle.std.proofs.Common.{ℕ, ◌≡◌, List, [], ◌∷◌, Option, Some, None, IfSome, refl, ap, ◌∙◌, false, cond, ltb, sym}
+use Rattle.std.proofs.Common.{subst}
 use Rattle.std.specs.List.{AllByRecursion}
 use Rattle.miette_protocol.specs.views.Meaning.{Label}
 use Rattle.miette_protocol.specs.rules.Reading.{Source}
@@ -14,7 +15,10 @@ use Rattle.miette_snippet_rules.specs.rules.SnippetLayout.{line_marks}
 use Rattle.miette_snippet_laws.specs.laws.Cuts.{AreStretches, by_stretch}
 use Rattle.miette_graphical.specs.rules.Answers.{pieces_listed}
 use Rattle.miette_graphical.specs.rules.Settings.{Settings}
-use Rattle.miette_graphical.specs.laws.Headline.{EndsAreDrawn, LabelsAreFolded, LinesAreShown, MarksAreApart, TextsHang, SnippetHangs, drawn_labels, groups_of, group_settings, labels_under, shown_lines, CutsAreExact, LinesThatFitStay, SnippetStays, cells_under, line_of}
+use Rattle.miette_graphical.specs.laws.Headline.{EndsAreDrawn, LabelsAreFolded, LinesAreShown, MarksAreApart, TextsHang}
+use Rattle.miette_graphical.specs.laws.Headline.{SnippetHangs, drawn_labels, groups_of, group_settings, labels_under}
+use Rattle.miette_graphical.specs.laws.Headline.{shown_lines, CutsAreExact, LinesThatFitStay, SnippetStays, cells_under}
+use Rattle.miette_graphical.specs.laws.Headline.{line_of}
 use Rattle.miette_tree.specs.rules.DiagnosticParts.{given_labels}
 use Rattle.miette_graphical.specs.rules.PrintedDiagnostics.{diagnostics_of}
 use Rattle.miette_graphical.specs.rules.Snippets.{drawn_rows, snippet_settings, shown_rows}
@@ -29,15 +33,18 @@ each P f [] = tt
 each P f (x ∷ xs) = (f x, each P f xs)
 
 -- a line that is cut is cut at the limit
-cut_whole : (o : Option ℕ) (limit : ℕ) (ms : List Mark) (cells : List Cell) (cut : List Stretch) → o ≡ Some limit → cut_line o ms cells ≡ Some cut → cut ≡ stretches (is_near limit (ends ms)) false cells
+cut_whole : (o : Option ℕ) (limit : ℕ) (ms : List Mark) (cells : List Cell) (cut : List Stretch) → o ≡ Some limit
+    → cut_line o ms cells ≡ Some cut → cut ≡ stretches (is_near limit (ends ms)) false cells
 cut_whole None limit ms cells cut some is = absurd (cc)
 cut_whole (Some n) limit ms cells cut some is =
     let same : n ≡ limit = cc in
     by_cases {C = cut ≡ stretches (is_near limit (ends ms)) false cells} (ltb n (cells_width 0 cells))
-    (λ y. let there : Some (stretches (is_near n (ends ms)) false cells) ≡ Some cut = sym (ap (λ b. cond b (Some (stretches (is_near n (ends ms)) false cells)) None) y) ∙ is in
+    (λ y. let there : Some (stretches (is_near n (ends ms)) false cells) ≡ Some cut =
+    sym (ap (λ b. cond b (Some (stretches (is_near n (ends ms)) false cells)) None) y) ∙ is in
     let own : stretches (is_near n (ends ms)) false cells ≡ cut = cc in
     sym own ∙ ap (λ m. stretches (is_near m (ends ms)) false cells) same)
-    (λ f. let none : None ≡ Some cut = sym (ap (λ b. cond b (Some (stretches (is_near n (ends ms)) false cells)) None) f) ∙ is in absurd (cc))
+    (λ f. let none : None ≡ Some cut = sym (ap (λ b. cond b (Some (stretches (is_near n (ends ms)) false cells)) None)
+    f) ∙ is in absurd (cc))
 
 if_some : {A : Type 0} (P : A → Type 0) → ((x : A) → P x) → (o : Option A) → IfSome o P
 if_some P f None = tt
@@ -48,18 +55,23 @@ if_is P None f = tt
 if_is P (Some x) f = f x refl
 
 -- the rows with labels folded to so many lines, in which nothing is left out
-short_rows : (limit : ℕ) (s : Settings) (source : Source) (labels : List Label) (answers : Answers) → s.label_lines ≡ Some limit →
-    snippet_rows (record (snippet_settings s) { label_lines = Some limit }) source labels answers ≡ snippet_rows (record (snippet_settings s) { label_lines = None }) source labels answers →
-    drawn_rows s (Some source) labels answers ≡ drawn_rows (record s { label_lines = None }) (Some source) labels answers
+short_rows : (limit : ℕ) (s : Settings) (source : Source) (labels : List Label) (answers : Answers) → s.label_lines
+    ≡ Some limit →
+    snippet_rows (record (snippet_settings s) { label_lines = Some limit }) source labels answers
+    ≡ snippet_rows (record (snippet_settings s) { label_lines = None }) source labels answers →
+    drawn_rows s (Some source) labels answers ≡ drawn_rows (record s { label_lines = None }) (Some source) labels
+    answers
 short_rows limit s source labels answers e h =
-    ap (λ o. shown_rows (snippet_rows (record (snippet_settings s) { label_lines = o }) source labels answers)) e ∙ ap shown_rows h
+    ap (λ o. shown_rows (snippet_rows (record (snippet_settings s) { label_lines = o }) source labels answers)) e
+    ∙ ap shown_rows h
 
 pub returns-clause-lines : goal.returns-clause-lines
 returns-clause-lines c = λ s t. each (LinesAreShown s) (λ p.
     let labels = given_labels p.meaning.labels in
     if_some _ (λ source reads accepted context.
     let maximal = c.ranges_are_maximal.ensures (shown_lines s source labels) in record {
-      rows = λ pieces. ap (λ rows. shown_rows rows) (c.snippets_draw_ranges.ensures (snippet_settings s) source labels (pieces_listed pieces) context accepted (none_listed pieces));
+      rows = λ pieces. ap (λ rows. shown_rows rows) (c.snippets_draw_ranges.ensures (snippet_settings s) source labels
+          (pieces_listed pieces) context accepted (none_listed pieces));
       groups = c.groups_are_ranges.ensures s.context source [] labels context tt;
       whole = maximal.0;
       consecutive = maximal.1;
@@ -69,8 +81,10 @@ returns-clause-lines c = λ s t. each (LinesAreShown s) (λ p.
 pub returns-clause-marks : goal.returns-clause-marks
 returns-clause-marks c = λ s t. each (MarksAreApart s) (λ p.
     if_some _ (λ source k. record {
-      apart = c.marks_are_apart.ensures.row (snippet_settings s) (drawn_labels s source (given_labels p.meaning.labels)) source.bytes (line_of source k);
-      anchors = c.marks_are_apart.ensures.row_anchors (snippet_settings s) (drawn_labels s source (given_labels p.meaning.labels)) source.bytes (line_of source k);
+      apart = c.marks_are_apart.ensures.row (snippet_settings s) (drawn_labels s source (given_labels p.meaning.labels))
+          source.bytes (line_of source k);
+      anchors = c.marks_are_apart.ensures.row_anchors (snippet_settings s)
+          (drawn_labels s source (given_labels p.meaning.labels)) source.bytes (line_of source k);
     }) p.source) (diagnostics_of s t)
 
 pub returns-clause-cuts : goal.returns-clause-cuts
@@ -80,25 +94,31 @@ returns-clause-cuts c = λ s t. each (CutsAreExact s) (λ p.
     let lay = snippet_settings s in
     let cells = cells_under s source k in
     let own = line_marks (line_of source k) cells (labels_under s source labels k) in
-    let whole : cut ≡ stretches (is_near limit (ends own)) false cells = cut_whole lay.line_columns limit own cells cut some is in record {
+    let whole : cut ≡ stretches (is_near limit (ends own)) false cells =
+    cut_whole lay.line_columns limit own cells cut some is in record {
       cells = ap by_stretch whole ∙ c.cut_lines_are_parted.ensures.cells (is_near limit (ends own)) cells;
       parted = subst AreStretches (sym whole) (c.cut_lines_are_parted.ensures.parted (is_near limit (ends own)) cells);
-      printed = λ pieces. ap (λ o. glyphs_of (shown_runs o pieces cells)) is ∙ c.cut_lines_are_parted.ensures.printed pieces cut;
-      narrow = λ pieces widest wide. c.cut_rows_are_narrow.ensures lay (drawn_labels s source labels) source.bytes (line_of source k) pieces limit widest some wide;
+      printed = λ pieces. ap (λ o. glyphs_of (shown_runs o pieces cells)) is
+          ∙ c.cut_lines_are_parted.ensures.printed pieces cut;
+      narrow = λ pieces widest wide. c.cut_rows_are_narrow.ensures lay (drawn_labels s source labels) source.bytes
+          (line_of source k) pieces limit widest some wide;
     }) p.source) (diagnostics_of s t)
 
 pub returns-clause-fits : goal.returns-clause-fits
 returns-clause-fits c = λ s t. each (LinesThatFitStay s) (λ p.
     let labels = given_labels p.meaning.labels in
     if_some _ (λ source. each (SnippetStays s source labels)
-    (λ group spreads pieces fit. c.lines_that_fit_stay.ensures (group_settings s labels) spreads (drawn_labels s source labels) source.bytes (contents (group_settings s labels).context source group) pieces fit)
+    (λ group spreads pieces fit. c.lines_that_fit_stay.ensures (group_settings s labels) spreads
+    (drawn_labels s source labels) source.bytes (contents (group_settings s labels).context source group) pieces
+    fit)
     (groups_of s source labels)) p.source) (diagnostics_of s t)
 
 pub returns-clause-texts : goal.returns-clause-texts
 returns-clause-texts c = λ s t. each (TextsHang s) (λ p.
     let labels = given_labels p.meaning.labels in
     if_some _ (λ source narrow. each (SnippetHangs s source labels)
-    (λ group pieces. c.texts_hang.ensures (group_settings s labels) (drawn_labels s source labels) source.bytes (contents (group_settings s labels).context source group) pieces (is_narrow s.characters narrow))
+    (λ group pieces. c.texts_hang.ensures (group_settings s labels) (drawn_labels s source labels) source.bytes
+    (contents (group_settings s labels).context source group) pieces (is_narrow s.characters narrow))
     (groups_of s source labels)) p.source) (diagnostics_of s t)
 
 pub returns-clause-ends : goal.returns-clause-ends
@@ -106,7 +126,8 @@ returns-clause-ends c = λ s t. each (EndsAreDrawn s) (λ p.
     let labels = given_labels p.meaning.labels in
     if_some _ (λ source on shows. record {
       lines = c.ends_are_drawn.ensures.lines (group_settings s labels) source.bytes (in_order labels) on shows;
-      marks = λ k pieces. c.ends_are_drawn.ensures.row (snippet_settings s) (drawn_labels s source labels) source.bytes (line_of source k) pieces;
+      marks = λ k pieces. c.ends_are_drawn.ensures.row (snippet_settings s) (drawn_labels s source labels) source.bytes
+          (line_of source k) pieces;
     }) p.source) (diagnostics_of s t)
 
 pub returns-clause-folds : goal.returns-clause-folds
@@ -117,5 +138,6 @@ returns-clause-folds c = λ s t. each (LabelsAreFolded s) (λ p.
       inside = λ k. c.left_out_lines_are_inside.ensures.inside _ _ limit s.context source.bytes labels k context;
       same = λ k. c.left_out_lines_are_inside.ensures.same _ _ limit s.context source.bytes labels k context;
       short = λ fit pieces. short_rows limit s source labels (pieces_listed pieces) is
-          (c.short_labels_stay.ensures (snippet_settings s) limit source labels (pieces_listed pieces) context accepted (none_listed pieces) fit);
+          (c.short_labels_stay.ensures (snippet_settings s) limit source labels (pieces_listed pieces) context accepted
+          (none_listed pieces) fit);
     })) p.source) (diagnostics_of s t)

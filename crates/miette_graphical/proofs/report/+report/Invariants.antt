@@ -13,16 +13,20 @@ abbrev pub decreases-push_causes : goal.decreases-push_causes
 decreases-push_causes g l = cause_size (cause_of (tree_of g.D.Diagnostic.meaning g.S.SourceCode.source l.report.now))
 
 abbrev pub decreases-push_below : goal.decreases-push_below
-decreases-push_below g l = suc (trees_size (related_of (tree_of g.D.Diagnostic.meaning g.S.SourceCode.source l.report.now)))
+decreases-push_below g l = suc (trees_size (related_of
+    (tree_of g.D.Diagnostic.meaning g.S.SourceCode.source l.report.now)))
 
 abbrev pub decreases-inner_text : goal.decreases-inner_text
-decreases-inner_text g l = suc (suc (trees_size (related_of (tree_of g.D.Diagnostic.meaning g.S.SourceCode.source l.report.now))))
+decreases-inner_text g l = suc (suc (trees_size (related_of
+    (tree_of g.D.Diagnostic.meaning g.S.SourceCode.source l.report.now))))
 
 abbrev pub decreases-push_one_cause : goal.decreases-push_one_cause
-decreases-push_one_cause g l = suc (suc (suc (trees_size (related_of (tree_of g.D.Diagnostic.meaning g.S.SourceCode.source l.cause.now)))))
+decreases-push_one_cause g l = suc (suc (suc (trees_size
+    (related_of (tree_of g.D.Diagnostic.meaning g.S.SourceCode.source l.cause.now)))))
 
 abbrev pub decreases-push_nested : goal.decreases-push_nested
-decreases-push_nested g l = suc (suc (suc (trees_size (related_of (tree_of g.D.Diagnostic.meaning g.S.SourceCode.source l.report.now)))))
+decreases-push_nested g l = suc (suc (suc (trees_size (related_of
+    (tree_of g.D.Diagnostic.meaning g.S.SourceCode.source l.report.now)))))
 
 abbrev pub decreases-push_sibling : goal.decreases-push_sibling
 decreases-push_sibling g l = tree_size (tree_of g.D.Diagnostic.meaning g.S.SourceCode.source l.report.now)
@@ -31,7 +35,8 @@ abbrev pub decreases-push_one_related : goal.decreases-push_one_related
 decreases-push_one_related g l = suc (tree_size (tree_of g.D.Diagnostic.meaning g.S.SourceCode.source l.report.now))
 
 abbrev pub decreases-push_related : goal.decreases-push_related
-decreases-push_related g l = trees_size (trees (map (tree_of g.D.Diagnostic.meaning g.S.SourceCode.source) l.reports.now))
+decreases-push_related g l = trees_size (trees (map (tree_of g.D.Diagnostic.meaning g.S.SourceCode.source)
+    l.reports.now))
 
 abbrev pub decreases-push_causes-loop-next : goal.decreases-push_causes-loop-next
 decreases-push_causes-loop-next g l = cause_size (cause_of (tree_of g.D.Diagnostic.meaning g.S.SourceCode.source l.at))
@@ -42,7 +47,9 @@ invariant-push_causes-loop-next g l =
     let blank = leaves_plain g.H.Highlighter.is_blank l.fn.pen.highlighter in
     let begun = follows g.H.Highlighter.may_follow l.fn.pen.highlighter in
     let state = follows g.H.Highlighter.may_follow l.pen.highlighter in
-    CausesRemain drawn_rows (settings_of l.settings) blank begun state l.outer (option_map (shown_source g.S.SourceCode.source) l.inherited) (cause_of (value l.report)) (cause_of (value l.at)) l.fn.out l.out
+    CausesRemain drawn_rows (settings_of l.settings) blank begun state l.outer
+    (option_map (shown_source g.S.SourceCode.source) l.inherited) (cause_of (value l.report)) (cause_of (value l.at))
+    l.fn.out l.out
     × (leaves_plain g.H.Highlighter.is_blank l.pen.highlighter ≡ blank)
 
 abbrev pub decreases-push_related-loop-rest : goal.decreases-push_related-loop-rest
@@ -54,5 +61,7 @@ invariant-push_related-loop-rest g l =
     let blank = leaves_plain g.H.Highlighter.is_blank l.fn.pen.highlighter in
     let begun = follows g.H.Highlighter.may_follow l.fn.pen.highlighter in
     let state = follows g.H.Highlighter.may_follow l.pen.highlighter in
-    RelatedRemain drawn_rows (settings_of l.settings) blank begun state l.outer (option_map (shown_source g.S.SourceCode.source) l.inherited) (trees (map value l.reports)) (trees (map value l.rest)) l.fn.out l.out
+    RelatedRemain drawn_rows (settings_of l.settings) blank begun state l.outer
+    (option_map (shown_source g.S.SourceCode.source) l.inherited) (trees (map value l.reports))
+    (trees (map value l.rest)) l.fn.out l.out
     × (leaves_plain g.H.Highlighter.is_blank l.pen.highlighter ≡ blank)

@@ -14,8 +14,13 @@ use Rattle.miette_graphical.proofs.report.push_drawn.Goals as goal
 pub returns-in_err-page-clause-refused : goal.returns-in_err-page-clause-refused
 returns-in_err-page-clause-refused g c = λ h.
     let refused : c.in_err-page.field-0.0 ≡ errors.Refused = search rules in
-    refused_page (settings_of c.args.settings) (shown_source g.S.SourceCode.source c.args.source) c.args.labels.now (leaves_plain g.H.Highlighter.is_blank c.args.pen.now.highlighter) c.over-page.result
-    (subst (λ e. RefusesWith (snippet_settings (settings_of c.args.settings)) (shown_source g.S.SourceCode.source c.args.source) c.args.labels.now (leaves_plain g.H.Highlighter.is_blank c.args.pen.now.highlighter) (AreCallsOn g.H.Highlighter.may_follow c.args.pen.now.highlighter c.snippets.new.highlighter) c.over-page.result e) refused c.in_err-page.ensures.gives)
+    refused_page (settings_of c.args.settings) (shown_source g.S.SourceCode.source c.args.source) c.args.labels.now
+    (leaves_plain g.H.Highlighter.is_blank c.args.pen.now.highlighter) c.over-page.result
+    (subst (λ e. RefusesWith (snippet_settings (settings_of c.args.settings))
+    (shown_source g.S.SourceCode.source c.args.source) c.args.labels.now
+    (leaves_plain g.H.Highlighter.is_blank c.args.pen.now.highlighter)
+    (AreCallsOn g.H.Highlighter.may_follow c.args.pen.now.highlighter c.snippets.new.highlighter) c.over-page.result
+    e) refused c.in_err-page.ensures.gives)
 
 pub returns-clause-ok : goal.returns-clause-ok
 returns-clause-ok g c =
@@ -24,6 +29,8 @@ returns-clause-ok g c =
     let source = shown_source g.S.SourceCode.source c.args.source in
     let happen = AreCallsOn g.H.Highlighter.may_follow c.args.pen.now.highlighter c.snippets.new.highlighter in
     let over : c.over-page.result ≡ printout_of c.args.out.now = search rules in
-    subst (λ out. AppendsOne (AreDrawn s blank happen source c.args.labels.now) c.args.out.now out) (sym c.in_ok-out.ensures)
+    subst (λ out. AppendsOne (AreDrawn s blank happen source c.args.labels.now) c.args.out.now out)
+    (sym c.in_ok-out.ensures)
     (drawn_page s source c.args.labels.now blank c.args.out.now c.in_ok-page.page
-    (subst (λ before. MayGive (snippet_settings s) source c.args.labels.now blank happen before (Some c.in_ok-page.page)) over c.in_ok-page.ensures.gives))
+    (subst (λ before. MayGive (snippet_settings s) source c.args.labels.now blank happen before
+    (Some c.in_ok-page.page)) over c.in_ok-page.ensures.gives))

@@ -17,5 +17,8 @@ returns-in-None-clause-ok g c =
     let now : List Call → Type 0 = follows g.H.Highlighter.may_follow c.args.pen.now.highlighter in
     let s = settings_of c.args.settings in
     let m = head (tree_of g.D.Diagnostic.meaning g.S.SourceCode.source c.args.report.now) in
-    nothing_behind (IsDrawn drawn_rows s blank (λ calls. Leads now calls now) (option_map (shown_source g.S.SourceCode.source) c.args.source) m) c.args.out.now
-    (subst (λ o. IsDrawn drawn_rows s blank (λ calls. Leads now calls now) (option_map (shown_source g.S.SourceCode.source) o) m []) (sym c.in-None.is) (drawn_nowhere s blank now m [] refl))
+    nothing_behind (IsDrawn drawn_rows s blank (λ calls. Leads now calls now)
+    (option_map (shown_source g.S.SourceCode.source) c.args.source) m) c.args.out.now
+    (subst (λ o. IsDrawn drawn_rows s blank (λ calls. Leads now calls now)
+    (option_map (shown_source g.S.SourceCode.source) o) m []) (sym c.in-None.is)
+    (drawn_nowhere s blank now m [] refl))

@@ -19,5 +19,7 @@ returns-in-empty-clause-ok g c =
     let blank = leaves_plain g.H.Highlighter.is_blank c.args.pen.now.highlighter in
     let now : List Call → Type 0 = follows g.H.Highlighter.may_follow c.args.pen.now.highlighter in
     let source = shown_source g.S.SourceCode.source c.args.source in
-    let none : given_labels m.labels ≡ [] = sym c.labels_of-labels.ensures ∙ empty_list c.labels_of-labels.result.now c.in-empty.len_below in
-    nothing_behind (IsDrawn drawn_rows s blank (λ calls. Leads now calls now) (Some source) m) c.args.out.now (drawn_unlabelled s blank now source m [] none refl)
+    let none : given_labels m.labels ≡ [] = sym c.labels_of-labels.ensures
+    ∙ empty_list c.labels_of-labels.result.now c.in-empty.len_below in
+    nothing_behind (IsDrawn drawn_rows s blank (λ calls. Leads now calls now) (Some source) m) c.args.out.now
+    (drawn_unlabelled s blank now source m [] none refl)

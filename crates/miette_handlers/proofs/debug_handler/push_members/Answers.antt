@@ -4,4 +4,5 @@ use Rattle.miette_handlers.proofs.debug_handler.push_members.Goals as goal
 
 pub returns : goal.returns
 returns c =
-    on_ok_weaker c.push_field-4.result (members_put _ _ _ _ _ _ _ _ _ _ c.severity_variant.ensures c.in_ok-push_field.ensures c.in_ok-push_field-2.ensures c.in_ok-push_field-3.ensures) c.push_field-4.ensures
+    on_ok_weaker c.push_field-4.result (members_put _ _ _ _ _ _ _ _ _ _ c.severity_variant.ensures
+    c.in_ok-push_field.ensures c.in_ok-push_field-2.ensures c.in_ok-push_field-3.ensures) c.push_field-4.ensures

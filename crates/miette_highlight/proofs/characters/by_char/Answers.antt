@@ -15,9 +15,12 @@ loop-c-preserved g c =
     record {
       utf8 = IsUtf8-past_char _ _ _ c.loop-c.invariant.utf8 c.in-Some.ensures.steps.0;
       cuts = λ more cut. goes_on (λ pieces. CutsLine c.args.line.now pieces) _ _ _ more c.in_ok-push.ensures.items
-          (c.loop-c.invariant.cuts _ (cuts_char _ _ c.in-Some.c _ c.style_of.result more c.loop-c.invariant.utf8 c.in-Some.ensures.steps.0 c.len_utf8.ensures.len cut));
-      styles = λ more h. goes_on (λ pieces. AreCharacters Goes (chars c.args.line.now) pieces) _ _ _ more c.in_ok-push.ensures.items
-          (c.loop-c.invariant.styles _ (styles_char Goes _ _ c.in-Some.c _ c.style_of.result more c.loop-c.invariant.utf8 c.in-Some.ensures.steps.0 c.len_utf8.ensures.len c.style_of.ensures h));
+          (c.loop-c.invariant.cuts _ (cuts_char _ _ c.in-Some.c _ c.style_of.result more c.loop-c.invariant.utf8
+          c.in-Some.ensures.steps.0 c.len_utf8.ensures.len cut));
+      styles = λ more h. goes_on (λ pieces. AreCharacters Goes (chars c.args.line.now) pieces) _ _ _ more
+          c.in_ok-push.ensures.items
+          (c.loop-c.invariant.styles _ (styles_char Goes _ _ c.in-Some.c _ c.style_of.result more
+          c.loop-c.invariant.utf8 c.in-Some.ensures.steps.0 c.len_utf8.ensures.len c.style_of.ensures h));
     }
 
 pub returns-clause-cuts : goal.returns-clause-cuts

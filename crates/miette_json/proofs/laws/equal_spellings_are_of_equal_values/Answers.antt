@@ -6,4 +6,5 @@ use Rattle.miette_json.proofs.JsonSpelled.{spelling_tokens_lem}
 use Rattle.miette_json.proofs.laws.equal_spellings_are_of_equal_values.Goals as goal
 
 pub returns : goal.returns
-returns c v w e = one_value_lem (json_text v) v w (spelling_tokens_lem v) (subst (λ b. HasTokensOf b w) (sym e) (spelling_tokens_lem w))
+returns c v w e = one_value_lem (json_text v) v w (spelling_tokens_lem v)
+    (subst (λ b. HasTokensOf b w) (sym e) (spelling_tokens_lem w))

@@ -17,7 +17,8 @@ pub push_related-push_report-requires : goal.push_related-push_report-requires
 push_related-push_report-requires g t c =
     let value = tree_of g.D.Diagnostic.meaning g.S.SourceCode.source in
     let small : tree_size (value c.report-item.result) < trees_size (trees (map value c.args.reports.now)) =
-    subst (λ r. tree_size (value r) < trees_size (trees (map value c.args.reports.now))) (sym c.report-item.is) (one_falls value c.args.reports.now c.loop-report.report-index c.report-item.result c.loop-report-test.true) in
+    subst (λ r. tree_size (value r) < trees_size (trees (map value c.args.reports.now))) (sym c.report-item.is)
+    (one_falls value c.args.reports.now c.loop-report.report-index c.report-item.result c.loop-report-test.true) in
     search rules
 
 pub push_related-loop-report-preserved : goal.push_related-loop-report-preserved
@@ -26,7 +27,9 @@ push_related-loop-report-preserved g t c =
     let value = tree_of g.D.Diagnostic.meaning g.S.SourceCode.source in
     let inherited = option_map (shown_source g.S.SourceCode.source) c.args.source in
     let all = trees (map value c.args.reports.now) in
-    let so_far = subst (λ ts. RelatedSoFar inherited all ts l.first (string_bytes c.args.out.now) (string_bytes l.out)) (next_of value c.args.reports.now l.report-index c.report-item.result c.loop-report-test.true c.report-item.is) l.invariant in
+    let so_far = subst (λ ts. RelatedSoFar inherited all ts l.first (string_bytes c.args.out.now) (string_bytes l.out))
+    (next_of value c.args.reports.now l.report-index c.report-item.result c.loop-report-test.true c.report-item.is)
+    l.invariant in
     one_more inherited all _ _ l.first _ _ _ _ so_far c.in_ok-push_comma.ensures c.in_ok-push_report.ensures
 
 pub push_related-returns : goal.push_related-returns
@@ -34,11 +37,15 @@ push_related-returns g t c =
     let l = c.loop-report in
     let value = tree_of g.D.Diagnostic.meaning g.S.SourceCode.source in
     let inherited = option_map (shown_source g.S.SourceCode.source) c.args.source in
-    on_ok_weaker c.push_str.result (all_written inherited (trees (map value c.args.reports.now)) l.first _ _ _ (at_the_end value inherited c.args.reports.now _ l.report-index l.first _ _ (omega arith) l.invariant)) (where_written c.push_str.result _ _ _ c.push_str.ensures.bytes)
+    on_ok_weaker c.push_str.result (all_written inherited (trees (map value c.args.reports.now)) l.first _ _ _
+    (at_the_end value inherited c.args.reports.now _ l.report-index l.first _ _ (omega arith) l.invariant))
+    (where_written c.push_str.result _ _ _ c.push_str.ensures.bytes)
 
 pub push_report-returns : goal.push_report-returns
 push_report-returns g t c =
     let value = tree_of g.D.Diagnostic.meaning g.S.SourceCode.source c.args.report.now in
     let inherited = option_map (shown_source g.S.SourceCode.source) c.args.inherited in
-    on_ok_weaker c.push_str.result (report_written inherited value _ _ _ _ _ _ _ _ _ c.own_or-source.ensures c.labels_of.ensures c.related.ensures c.in_ok-push_start.ensures c.in_ok-push_places.ensures
-    c.in_ok-push_list_key.ensures c.in_ok-push_related.ensures) (where_written c.push_str.result _ _ _ c.push_str.ensures.bytes)
+    on_ok_weaker c.push_str.result (report_written inherited value _ _ _ _ _ _ _ _ _ c.own_or-source.ensures
+    c.labels_of.ensures c.related.ensures c.in_ok-push_start.ensures c.in_ok-push_places.ensures
+    c.in_ok-push_list_key.ensures c.in_ok-push_related.ensures)
+    (where_written c.push_str.result _ _ _ c.push_str.ensures.bytes)

@@ -13,4 +13,5 @@ decreases-loop-next g l = tree_size (tree_of g.D.Diagnostic.meaning g.S.SourceCo
 abbrev pub invariant-loop-next : goal.invariant-loop-next
 invariant-loop-next g l =
     let value = tree_of g.D.Diagnostic.meaning g.S.SourceCode.source in
-    string_bytes l.out ++ rest_text l.first (strings (causes_of (cause_of (value l.at)))) ≡ string_bytes l.fn.out ++ items_text (strings (causes_of (cause_of (value l.report))))
+    string_bytes l.out ++ rest_text l.first (strings (causes_of (cause_of (value l.at)))) ≡ string_bytes l.fn.out
+    ++ items_text (strings (causes_of (cause_of (value l.report))))

@@ -10,7 +10,10 @@ use Rattle.miette_json.proofs.report.push_label.Goals as goal
 pub returns : goal.returns
 returns c =
     let label = c.args.label.now in
-    let parts = ap (λ l. string_bytes c.args.out.now ++ l) (sym (label_parts (codes "label") (codes "span") label.text (span_json label.span))) in
-    let a = step _ _ (label_start label.text) (json_text (span_json label.span) ++ 125 ∷ []) _ parts c.in_ok-push_label_start.ensures in
+    let parts = ap (λ l. string_bytes c.args.out.now ++ l)
+    (sym (label_parts (codes "label") (codes "span") label.text (span_json label.span))) in
+    let a = step _ _ (label_start label.text) (json_text (span_json label.span) ++ 125 ∷ []) _ parts
+    c.in_ok-push_label_start.ensures in
     let b = step _ _ (json_text (span_json label.span)) (125 ∷ []) _ a c.in_ok-push_span.ensures in
-    on_ok_weaker c.push_str.result (last_step _ _ (125 ∷ []) _ b) (where_written c.push_str.result _ _ _ c.push_str.ensures.bytes)
+    on_ok_weaker c.push_str.result (last_step _ _ (125 ∷ []) _ b)
+    (where_written c.push_str.result _ _ _ c.push_str.ensures.bytes)

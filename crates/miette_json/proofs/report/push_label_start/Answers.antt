@@ -6,5 +6,9 @@ use Rattle.miette_json.proofs.report.push_label_start.Goals as goal
 
 pub returns : goal.returns
 returns c =
-    on_ok_weaker c.push_name.result (start_parts (string_bytes c.args.out.now) (string_bytes c.push_str.new.self) (string_bytes c.push_before.new.out) (string_bytes c.push_name.new.out) (codes "label") (codes "span") c.args.label.now.text
-    c.in_ok-push_str.ensures.bytes (c.in_ok-push_before.ensures ∙ ap (λ o. string_bytes c.push_str.new.self ++ member_before (codes "label") o) c.label.ensures)) c.push_name.ensures
+    on_ok_weaker c.push_name.result (start_parts (string_bytes c.args.out.now) (string_bytes c.push_str.new.self)
+    (string_bytes c.push_before.new.out) (string_bytes c.push_name.new.out) (codes "label") (codes "span")
+    c.args.label.now.text
+    c.in_ok-push_str.ensures.bytes (c.in_ok-push_before.ensures
+    ∙ ap (λ o. string_bytes c.push_str.new.self ++ member_before (codes "label") o) c.label.ensures))
+    c.push_name.ensures

@@ -6,4 +6,5 @@ use Rattle.miette_json.proofs.report.push_labels.Given as goal
 
 abbrev pub invariant-loop-label : goal.invariant-loop-label
 invariant-loop-label l =
-    string_bytes l.out ++ rest_text l.first (labels_json (drop l.label-index l.labels)) ≡ string_bytes l.fn.out ++ items_text (labels_json l.labels)
+    string_bytes l.out ++ rest_text l.first (labels_json (drop l.label-index l.labels)) ≡ string_bytes l.fn.out
+    ++ items_text (labels_json l.labels)

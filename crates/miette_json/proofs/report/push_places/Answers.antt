@@ -16,6 +16,10 @@ returns g c =
     on_ok_weaker c.push_labels.result (λ h. record {
       fault = named.fault;
       possible = named.possible;
-      appended = append_parts (string_bytes c.args.out.now) (string_bytes c.push_maybe.new.out) (string_bytes c.push_list_key.new.out) (string_bytes c.push_labels.new.out)
-          (maybe_text (codes "filename") (option_map (file_name named.fault labels) source)) (key_text (codes "labels")) (items_text (labels_json labels)) (c.in_ok-push_maybe.ensures ∙ ap (λ o. string_bytes c.args.out.now ++ maybe_text (codes "filename") o) named.is) c.in_ok-push_list_key.ensures h;
+      appended = append_parts (string_bytes c.args.out.now) (string_bytes c.push_maybe.new.out)
+          (string_bytes c.push_list_key.new.out) (string_bytes c.push_labels.new.out)
+          (maybe_text (codes "filename") (option_map (file_name named.fault labels) source)) (key_text (codes "labels"))
+          (items_text (labels_json labels)) (c.in_ok-push_maybe.ensures
+          ∙ ap (λ o. string_bytes c.args.out.now ++ maybe_text (codes "filename") o) named.is)
+          c.in_ok-push_list_key.ensures h;
     }) c.push_labels.ensures

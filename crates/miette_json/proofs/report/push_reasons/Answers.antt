@@ -11,8 +11,13 @@ use Rattle.miette_json.proofs.report.push_reasons.Goals as goal
 pub returns : goal.returns
 returns g c =
     let t = tree_of g.D.Diagnostic.meaning g.S.SourceCode.source c.args.report.now in
-    on_ok_weaker c.push_maybe-2.result (λ h. reasons_parts (string_bytes c.args.out.now) (string_bytes c.push_list_key.new.out) (string_bytes c.push_causes.new.out) (string_bytes c.push_maybe.new.out) (string_bytes c.push_maybe-2.new.out)
-    (key_text (codes "causes")) (items_text (strings (causes_of (cause_of t)))) (maybe_text (codes "url") (head t).url) (maybe_text (codes "help") (head t).help)
+    on_ok_weaker c.push_maybe-2.result (λ h. reasons_parts (string_bytes c.args.out.now)
+    (string_bytes c.push_list_key.new.out) (string_bytes c.push_causes.new.out) (string_bytes c.push_maybe.new.out)
+    (string_bytes c.push_maybe-2.new.out)
+    (key_text (codes "causes")) (items_text (strings (causes_of (cause_of t)))) (maybe_text (codes "url") (head t).url)
+    (maybe_text (codes "help") (head t).help)
     c.in_ok-push_list_key.ensures c.in_ok-push_causes.ensures
-    (c.in_ok-push_maybe.ensures ∙ ap (λ o. string_bytes c.push_causes.new.out ++ maybe_text (codes "url") o) c.url.ensures)
-    (h ∙ ap (λ o. string_bytes c.push_maybe.new.out ++ maybe_text (codes "help") o) c.help.ensures)) c.push_maybe-2.ensures
+    (c.in_ok-push_maybe.ensures ∙ ap (λ o. string_bytes c.push_causes.new.out ++ maybe_text (codes "url") o)
+    c.url.ensures)
+    (h ∙ ap (λ o. string_bytes c.push_maybe.new.out ++ maybe_text (codes "help") o) c.help.ensures))
+    c.push_maybe-2.ensures

@@ -8,7 +8,12 @@ use Rattle.miette_json.proofs.report.push_span.Goals as goal
 pub returns : goal.returns
 returns c =
     let span = c.args.label.now.span in
-    on_ok_weaker c.push_str.result (span_parts (string_bytes c.args.out.now) (string_bytes c.push_first_key.new.out) (string_bytes c.push_number.new.out) (string_bytes c.push_key.new.out) (string_bytes c.push_number-2.new.out) (string_bytes c.push_str.new.self)
-    (quoted_text (codes "offset")) (numeral span.offset) (quoted_text (codes "length")) (numeral span.len) c.in_ok-push_first_key.ensures
-    (c.in_ok-push_number.ensures ∙ ap (λ n. string_bytes c.push_first_key.new.out ++ numeral n) c.offset.ensures) c.in_ok-push_key.ensures
-    (c.in_ok-push_number-2.ensures ∙ ap (λ n. string_bytes c.push_key.new.out ++ numeral n) c.len.ensures)) (where_written c.push_str.result _ _ _ c.push_str.ensures.bytes)
+    on_ok_weaker c.push_str.result (span_parts (string_bytes c.args.out.now) (string_bytes c.push_first_key.new.out)
+    (string_bytes c.push_number.new.out) (string_bytes c.push_key.new.out) (string_bytes c.push_number-2.new.out)
+    (string_bytes c.push_str.new.self)
+    (quoted_text (codes "offset")) (numeral span.offset) (quoted_text (codes "length")) (numeral span.len)
+    c.in_ok-push_first_key.ensures
+    (c.in_ok-push_number.ensures ∙ ap (λ n. string_bytes c.push_first_key.new.out ++ numeral n) c.offset.ensures)
+    c.in_ok-push_key.ensures
+    (c.in_ok-push_number-2.ensures ∙ ap (λ n. string_bytes c.push_key.new.out ++ numeral n) c.len.ensures))
+    (where_written c.push_str.result _ _ _ c.push_str.ensures.bytes)

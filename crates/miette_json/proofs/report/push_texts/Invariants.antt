@@ -5,4 +5,5 @@ use Rattle.miette_json.proofs.report.push_texts.Given as goal
 
 abbrev pub invariant-loop-text : goal.invariant-loop-text
 invariant-loop-text l =
-    string_bytes l.out ++ rest_text l.first (strings (map string_bytes (drop l.text-index l.texts))) ≡ string_bytes l.fn.out ++ rest_text l.fn.first (strings (map string_bytes l.texts))
+    string_bytes l.out ++ rest_text l.first (strings (map string_bytes (drop l.text-index l.texts)))
+    ≡ string_bytes l.fn.out ++ rest_text l.fn.first (strings (map string_bytes l.texts))

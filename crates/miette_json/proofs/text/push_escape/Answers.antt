@@ -8,4 +8,5 @@ use Rattle.json.specs.Print.{escape_byte}
 pub returns-in_default : goal.returns-in_default
 returns-in_default c =
     let control : escape_byte c.args.byte ≡ control_text c.args.byte = search (rules, byte_control) in
-    on_ok_weaker c.push_control.result (λ h. h ∙ ap (λ l. string_bytes c.args.out.now ++ l) (sym control)) c.push_control.ensures
+    on_ok_weaker c.push_control.result (λ h. h ∙ ap (λ l. string_bytes c.args.out.now ++ l) (sym control))
+    c.push_control.ensures

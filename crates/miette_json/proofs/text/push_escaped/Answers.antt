@@ -26,12 +26,17 @@ loop-at-preserved c =
     let rest = c.loop-at.rest.now in
     let at = c.in-Some.at in
     let run : string_bytes c.push_str.new.self ≡ string_bytes c.loop-at.out ++ take at rest = search rules in
-    let escape : string_bytes c.push_escape.new.out ≡ string_bytes c.push_str.new.self ++ escape_byte (get_or rest at 0) =
-    c.in_ok-push_escape.ensures ∙ ap (λ l. string_bytes c.push_str.new.self ++ escape_byte (get_or l at 0)) c.as_bytes.ensures.value in
-    let written = run_written _ _ _ _ _ at (next_escape rest at c.in-Some.ensures) c.loop-at.invariant.0 run escape in
-    (ap (λ l. string_bytes c.push_escape.new.out ++ escaped_text l) c.range_from-rest.ensures.value ∙ written, c.range_from-rest.utf8)
+    let escape : string_bytes c.push_escape.new.out ≡ string_bytes c.push_str.new.self
+    ++ escape_byte (get_or rest at 0) =
+    c.in_ok-push_escape.ensures ∙ ap (λ l. string_bytes c.push_str.new.self ++ escape_byte (get_or l at 0))
+    c.as_bytes.ensures.value in
+    let written = run_written _ _ _ _ _ at (next_escape rest at c.in-Some.ensures) c.loop-at.invariant.0 run escape in (
+      ap (λ l. string_bytes c.push_escape.new.out ++ escaped_text l) c.range_from-rest.ensures.value ∙ written,
+      c.range_from-rest.utf8,
+    )
 
 pub returns : goal.returns
 returns c =
-    let same : escaped_text c.loop-at.rest.now ≡ c.loop-at.rest.now = none_escaped c.loop-at.rest.now c.in_default.ensures in
+    let same : escaped_text c.loop-at.rest.now ≡ c.loop-at.rest.now =
+    none_escaped c.loop-at.rest.now c.in_default.ensures in
     search rules

@@ -8,4 +8,5 @@ abbrev pub decreases-loop-at : goal.decreases-loop-at
 decreases-loop-at l = length l.rest
 
 abbrev pub invariant-loop-at : goal.invariant-loop-at
-invariant-loop-at l = (string_bytes l.out ++ escaped_text l.rest ≡ string_bytes l.fn.out ++ escaped_text l.text) × shadow (Utf8 l.rest)
+invariant-loop-at l = (string_bytes l.out ++ escaped_text l.rest ≡ string_bytes l.fn.out ++ escaped_text l.text)
+    × shadow (Utf8 l.rest)

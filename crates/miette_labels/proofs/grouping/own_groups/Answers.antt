@@ -6,4 +6,5 @@ use Rattle.miette_labels.proofs.grouping.own_groups.Goals as goal
 pub read_all-requires : goal.read_all-requires
 read_all-requires g c =
     groups_accepted (g.S.SourceCode.source c.args.source.now).bytes c.args.reads.now c.deref-2.result.now c.requires
-    (c.deref-2.ensures.value ∙ c.in_ok-spans-2.ensures ∙ ap joined_stretches (c.deref.ensures.value ∙ c.in_ok-spans.ensures))
+    (c.deref-2.ensures.value ∙ c.in_ok-spans-2.ensures ∙ ap joined_stretches
+    (c.deref.ensures.value ∙ c.in_ok-spans.ensures))

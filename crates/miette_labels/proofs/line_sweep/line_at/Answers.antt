@@ -5,7 +5,8 @@ use Rattle.miette_labels.proofs.line_sweep.line_at.Goals as goal
 
 pub returns-clause-parted : goal.returns-clause-parted
 returns-clause-parted c =
-    line_parted c.args.start c.args.at c.args.bytes.now _ c.first_line.result (rest_is c.args.at c.args.bytes.now) c.first_line.ensures
+    line_parted c.args.start c.args.at c.args.bytes.now _ c.first_line.result (rest_is c.args.at c.args.bytes.now)
+    c.first_line.ensures
 
 pub returns-clause-from : goal.returns-clause-from
 returns-clause-from c = c.first_line.ensures.from
@@ -22,5 +23,6 @@ returns-clause-some c = c.first_line.ensures.some
 pub returns-clause-to : goal.returns-clause-to
 returns-clause-to c =
     let to : c.first_line.result.end ≤ c.args.start + c.args.at + length (drop c.args.at c.args.bytes.now) =
-    subst (λ (xs : List ℕ). c.first_line.result.end ≤ c.args.start + c.args.at + length xs) (rest_is c.args.at c.args.bytes.now) c.first_line.ensures.to in
+    subst (λ (xs : List ℕ). c.first_line.result.end ≤ c.args.start + c.args.at + length xs)
+    (rest_is c.args.at c.args.bytes.now) c.first_line.ensures.to in
     omega (arith, to, length-drop c.args.at c.args.bytes.now)

@@ -2,4 +2,5 @@ use Rattle.miette_labels.proofs.Refusing.{AreReadTo}
 use Rattle.miette_labels.proofs.reading.read_labels.Given as goal
 
 abbrev pub invariant-loop-turn : goal.invariant-loop-turn
-invariant-loop-turn g l = AreReadTo l.context (g.S.SourceCode.source l.source) l.labels l.order l.turn-index l.reads.items
+invariant-loop-turn g l = AreReadTo l.context (g.S.SourceCode.source l.source) l.labels l.order l.turn-index
+    l.reads.items

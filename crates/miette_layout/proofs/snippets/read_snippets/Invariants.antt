@@ -10,7 +10,13 @@ use Rattle.miette_layout.proofs.snippets.read_snippets.Given as goal
 
 abbrev pub invariant-loop-group : goal.invariant-loop-group
 invariant-loop-group g l = record {
-  drawn : AreDrawn (settings_around (settings_of l.fn.look.theme.now l.fn.look.options) (in_order l.fn.labels)) (spreads_of l.fn.look.options.label_lines l.fn.look.options.context_lines (g.S.SourceCode.source l.fn.source) (in_order l.fn.labels)) (g.S.SourceCode.source l.fn.source) l.fn.labels (leaves_plain g.H.Highlighter.is_blank l.initial.highlighter) (follows g.H.Highlighter.may_follow l.initial.highlighter) (follows g.H.Highlighter.may_follow l.highlighter) l.group-items l.group-index l.fn.page l.page;
+  drawn : AreDrawn (settings_around (settings_of l.fn.look.theme.now l.fn.look.options) (in_order l.fn.labels))
+      (spreads_of l.fn.look.options.label_lines l.fn.look.options.context_lines (g.S.SourceCode.source l.fn.source)
+      (in_order l.fn.labels)) (g.S.SourceCode.source l.fn.source) l.fn.labels
+      (leaves_plain g.H.Highlighter.is_blank l.initial.highlighter)
+      (follows g.H.Highlighter.may_follow l.initial.highlighter) (follows g.H.Highlighter.may_follow l.highlighter)
+      l.group-items l.group-index l.fn.page l.page;
   state : IsAt l.drawing.placed.now l.passage.at l.passage.sweep.next l.passage.sweep.running.items;
-  stays : leaves_plain g.H.Highlighter.is_blank l.highlighter ≡ leaves_plain g.H.Highlighter.is_blank l.initial.highlighter;
+  stays : leaves_plain g.H.Highlighter.is_blank l.highlighter
+      ≡ leaves_plain g.H.Highlighter.is_blank l.initial.highlighter;
 }

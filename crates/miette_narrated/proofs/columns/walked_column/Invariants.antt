@@ -4,7 +4,8 @@ use Rattle.miette_narrated.proofs.Columning.{IsOver}
 use Rattle.miette_narrated.proofs.columns.walked_column.Given as goal
 
 abbrev pub invariant-loop-left : goal.invariant-loop-left
-invariant-loop-left l = IsOver (overlap_text l.from.overlap) l.from.widths (drop l.from.bytes l.text) (l.bytes - l.from.bytes) (string_bytes l.begun) l.widths l.rest l.left
+invariant-loop-left l = IsOver (overlap_text l.from.overlap) l.from.widths (drop l.from.bytes l.text)
+    (l.bytes - l.from.bytes) (string_bytes l.begun) l.widths l.rest l.left
 
 abbrev pub decreases-loop-left : goal.decreases-loop-left
 decreases-loop-left l = l.left

@@ -14,5 +14,7 @@ returns c =
     let out = string_bytes c.args.out.now in
     let rows : List PlacedLabel → List ℕ = λ ps. label_rows it (ranges_of order.labels.now ps) in
     on_ok_weaker c.push_ended_and_begun.result (λ h. h
-    ∙ ap₂ (λ a b. (out ++ rows a) ++ rows b) (ap without_ranks c.deref.ensures.value ∙ c.in_ok-ended.ensures) c.begun_on-begun.ensures
-    ∙ append_assoc out _ _ ∙ ap (λ r. out ++ r) (sym (rows_apart it order.labels.now order.placed.now c.requires.inner c.requires.order.ordered))) c.push_ended_and_begun.ensures
+    ∙ ap₂ (λ a b. (out ++ rows a) ++ rows b) (ap without_ranks c.deref.ensures.value ∙ c.in_ok-ended.ensures)
+    c.begun_on-begun.ensures
+    ∙ append_assoc out _ _ ∙ ap (λ r. out ++ r) (sym (rows_apart it order.labels.now order.placed.now c.requires.inner
+    c.requires.order.ordered))) c.push_ended_and_begun.ensures

@@ -10,6 +10,8 @@ use Rattle.miette_narrated.proofs.lines.push_line.Goals as goal
 pub returns : goal.returns
 returns c =
     let it = narrated_line c.args.it.now in
-    on_ok_weaker c.push_str-2.result (λ h. line_put (string_bytes c.args.out.now) (string_bytes c.push_number.new.out) (string_bytes c.push_str.new.self) (string_bytes c.push_decoded.new.out) (string_bytes c.push_str-2.new.self)
+    on_ok_weaker c.push_str-2.result (λ h. line_put (string_bytes c.args.out.now) (string_bytes c.push_number.new.out)
+    (string_bytes c.push_str.new.self) (string_bytes c.push_decoded.new.out) (string_bytes c.push_str-2.new.self)
     (codes "snippet line ") (decimal it.number) (codes ": ") (decoded_text it.characters)
-    c.in_ok-push_number.ensures c.in_ok-push_str.ensures.bytes c.in_ok-push_decoded.ensures h) (where_written c.push_str-2.result _ _ _ c.push_str-2.ensures.bytes)
+    c.in_ok-push_number.ensures c.in_ok-push_str.ensures.bytes c.in_ok-push_decoded.ensures h)
+    (where_written c.push_str-2.result _ _ _ c.push_str-2.ensures.bytes)

@@ -7,14 +7,16 @@ use Rattle.miette_narrated.proofs.lines.push_lines.Goals as goal
 
 pub loop-line-init : goal.loop-line-init
 loop-line-init c = record {
-  left = left_first (ranges_of c.args.order.now.labels.now c.args.order.now.placed.now) c.args.lent.now _ _ (string_bytes c.args.out.now) (search rules) (search rules);
+  left = left_first (ranges_of c.args.order.now.labels.now c.args.order.now.placed.now) c.args.lent.now _ _
+      (string_bytes c.args.out.now) (search rules) (search rules);
   at = c.requires.at;
 }
 
 pub narrated_line-it-requires : goal.narrated_line-it-requires
 narrated_line-it-requires c =
     let l = c.loop-line in
-    let given = subst (λ (r : Option LineOfText). GivesLine l.line-iterator r c.next.new.self) c.in-Some.is c.next.ensures.steps in
+    let given = subst (λ (r : Option LineOfText). GivesLine l.line-iterator r c.next.new.self) c.in-Some.is
+    c.next.ensures.steps in
     record {
       from = omega (arith, given.0.from, l.invariant.left.from);
       text = given.0.text;
@@ -27,10 +29,14 @@ loop-line-preserved c =
     let l = c.loop-line in
     let lent = c.args.lent.now in
     let told = ranges_of c.args.order.now.labels.now c.args.order.now.placed.now in
-    let given = subst (λ (r : Option LineOfText). GivesLine l.line-iterator r c.next.new.self) c.in-Some.is c.next.ensures.steps in
+    let given = subst (λ (r : Option LineOfText). GivesLine l.line-iterator r c.next.new.self) c.in-Some.is
+    c.next.ensures.steps in
     record {
-      left = left_more told lent l.before c.in_ok-number.number l.line-iterator c.next.new.self c.in-Some.line _ (narrated_line c.narrated_line-it.result) (string_bytes l.out) (string_bytes c.push_shown.new.out) _ l.invariant.left
-          given.0 given.1 c.in_ok-number.ensures (search rules) c.narrated_line-it.ensures c.in_ok-push_shown.ensures.rows;
+      left = left_more told lent l.before c.in_ok-number.number l.line-iterator c.next.new.self c.in-Some.line _
+          (narrated_line c.narrated_line-it.result) (string_bytes l.out) (string_bytes c.push_shown.new.out) _
+          l.invariant.left
+          given.0 given.1 c.in_ok-number.ensures (search rules) c.narrated_line-it.ensures
+          c.in_ok-push_shown.ensures.rows;
       at = c.in_ok-push_shown.ensures.at;
     }
 
@@ -38,5 +44,6 @@ pub returns-clause-rows : goal.returns-clause-rows
 returns-clause-rows c =
     let l = c.loop-line in
     let told = ranges_of c.args.order.now.labels.now c.args.order.now.placed.now in
-    let given = subst (λ (r : Option LineOfText). GivesLine l.line-iterator r c.next.new.self) c.in-None.is c.next.ensures.steps in
+    let given = subst (λ (r : Option LineOfText). GivesLine l.line-iterator r c.next.new.self) c.in-None.is
+    c.next.ensures.steps in
     left_none told c.args.lent.now l.before l.line-iterator (string_bytes l.out) _ l.invariant.left given.0

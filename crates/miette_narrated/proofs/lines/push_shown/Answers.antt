@@ -15,7 +15,10 @@ returns-clause-rows c =
     let placed = c.args.order.now.placed.now in
     let sweep = c.come_to.new.sweep in
     let q = string_bytes c.push_line.new.out in
-    on_ok_weaker c.push_labels.result (λ h. then (string_bytes c.args.out.now) q (string_bytes c.push_labels.new.out) (line_row it) (label_rows it (ranges_of labels placed)) c.in_ok-push_line.ensures
+    on_ok_weaker c.push_labels.result (λ h. then (string_bytes c.args.out.now) q (string_bytes c.push_labels.new.out)
+    (line_row it) (label_rows it (ranges_of labels placed)) c.in_ok-push_line.ensures
     (h ∙ ap (λ r. q ++ label_rows it (ranges_of labels r)) c.deref.ensures.value
-    ∙ ap (λ r. q ++ r) (rows_swept it labels placed sweep.at sweep.next sweep.running.items c.requires.order.ordered c.in_ok-come_to.ensures.place c.in_ok-come_to.ensures.at
-    (subst (λ k. BeginsFrom (suc k) (drop sweep.next placed)) c.last_start.ensures c.in_ok-come_to.ensures.end)))) c.push_labels.ensures
+    ∙ ap (λ r. q ++ r) (rows_swept it labels placed sweep.at sweep.next sweep.running.items c.requires.order.ordered
+    c.in_ok-come_to.ensures.place c.in_ok-come_to.ensures.at
+    (subst (λ k. BeginsFrom (suc k) (drop sweep.next placed)) c.last_start.ensures c.in_ok-come_to.ensures.end))))
+    c.push_labels.ensures

@@ -1,4 +1,5 @@
-use Rattle.std.proofs.Common.{◌≡◌, ◌+◌, ◌-◌, ◌<◌, Some, false, sym, drop, length, string_bytes, ap, subst, ◌∙◌, refl, rules, arith, length-drop}
+use Rattle.std.proofs.Common.{◌≡◌, ◌+◌, ◌-◌, ◌<◌, Some, false, sym, drop, length, string_bytes, ap, subst, ◌∙◌, refl}
+use Rattle.std.proofs.Common.{rules, arith, length-drop}
 use Rattle.std.specs.Prelude.{chars}
 use Rattle.std.proofs.lemmas.Bool.{true≢false}
 use Rattle.std.proofs.lemmas.List.{take_rest}
@@ -43,16 +44,31 @@ loop-bytes-preserved c =
       size_is = c.first_character-code.ensures.size;
     }) in
     let wider : c.in-Some-checked_add.wider ≡ c.loop-bytes.widths + width_of code = search rules in
-    let ends = ends_pushed (string_bytes c.loop-bytes.over) (string_bytes c.push.new.self) code (IsUtf8-string_bytes c.loop-bytes.over) (IsUtf8-string_bytes c.push.new.self) c.in_ok-push.ensures.bytes in
+    let ends = ends_pushed (string_bytes c.loop-bytes.over) (string_bytes c.push.new.self) code
+    (IsUtf8-string_bytes c.loop-bytes.over) (IsUtf8-string_bytes c.push.new.self) c.in_ok-push.ensures.bytes in
     record {
-      since = one_since text c.args.from (string_bytes c.loop-bytes.over) (string_bytes c.push.new.self) c.loop-bytes.widths c.in-Some-checked_add.wider bytes (bytes + size) code size c.loop-bytes.invariant.since first
-          (IsUtf8-string_bytes c.loop-bytes.over) (IsUtf8-string_bytes c.push.new.self) c.in_ok-push.ensures.bytes wider c.first_character-code.ensures.some refl
-          (omega (arith, c.first_character-code.ensures.within, ap length (take_rest text bytes), left, c.loop-bytes-test.true));
-      flags = flags_pushed (string_bytes c.loop-bytes.over) (string_bytes c.push.new.self) c.loop-bytes.last code c.loop-bytes.is_half _ c.loop-bytes.invariant.flags
-          (chars_pushed (string_bytes c.loop-bytes.over) (string_bytes c.push.new.self) code (IsUtf8-string_bytes c.loop-bytes.over) (IsUtf8-string_bytes c.push.new.self) c.in_ok-push.ensures.bytes) (search rules);
+      since = one_since text c.args.from (string_bytes c.loop-bytes.over) (string_bytes c.push.new.self)
+          c.loop-bytes.widths c.in-Some-checked_add.wider bytes (bytes + size) code size c.loop-bytes.invariant.since
+          first
+          (IsUtf8-string_bytes c.loop-bytes.over) (IsUtf8-string_bytes c.push.new.self) c.in_ok-push.ensures.bytes wider
+          c.first_character-code.ensures.some refl
+          (omega (
+            arith,
+            c.first_character-code.ensures.within,
+            ap length (take_rest text bytes),
+            left,
+            c.loop-bytes-test.true,
+          ));
+      flags = flags_pushed (string_bytes c.loop-bytes.over) (string_bytes c.push.new.self) c.loop-bytes.last code
+          c.loop-bytes.is_half _ c.loop-bytes.invariant.flags
+          (chars_pushed (string_bytes c.loop-bytes.over) (string_bytes c.push.new.self) code
+          (IsUtf8-string_bytes c.loop-bytes.over) (IsUtf8-string_bytes c.push.new.self) c.in_ok-push.ensures.bytes)
+          (search rules);
       last = λ h. ends;
       emoji = λ h. ends;
-      before = λ h. ends_twice (string_bytes c.loop-bytes.over) (string_bytes c.push.new.self) c.loop-bytes.last code (IsUtf8-string_bytes c.loop-bytes.over) (IsUtf8-string_bytes c.push.new.self) c.in_ok-push.ensures.bytes (c.loop-bytes.invariant.emoji h);
+      before = λ h. ends_twice (string_bytes c.loop-bytes.over) (string_bytes c.push.new.self) c.loop-bytes.last code
+          (IsUtf8-string_bytes c.loop-bytes.over) (IsUtf8-string_bytes c.push.new.self) c.in_ok-push.ensures.bytes
+          (c.loop-bytes.invariant.emoji h);
     }
 
 pub returns-in-Some : goal.returns-in-Some
@@ -72,11 +88,15 @@ returns-in-Some c =
       size_is = c.first_character-code.ensures.size;
     }) in
     let behind : from.bytes < bytes = search rules in
-    let some : overlap_between c.loop-bytes.before c.loop-bytes.last c.loop-bytes.is_half code ≡ Some c.in-Some.first = search rules in
+    let some : overlap_between c.loop-bytes.before c.loop-bytes.last c.loop-bytes.is_half code ≡ Some c.in-Some.first =
+    search rules in
     let at : c.in_ok-place.place.bytes ≡ bytes = c.in_ok-place.ensures.bytes in (
-      is_next_place text from c.in_ok-place.place (string_bytes c.loop-bytes.over) (drop size (drop bytes text)) code size c.loop-bytes.widths bytes c.loop-bytes.before c.loop-bytes.last c.loop-bytes.is_half c.in-Some.first
-          c.requires c.loop-bytes.invariant.since first (c.loop-bytes.invariant.last behind) c.loop-bytes.invariant.before c.loop-bytes.invariant.flags some
+      is_next_place text from c.in_ok-place.place (string_bytes c.loop-bytes.over) (drop size (drop bytes text)) code
+          size c.loop-bytes.widths bytes c.loop-bytes.before c.loop-bytes.last c.loop-bytes.is_half c.in-Some.first
+          c.requires c.loop-bytes.invariant.since first (c.loop-bytes.invariant.last behind)
+          c.loop-bytes.invariant.before c.loop-bytes.invariant.flags some
           at c.in_ok-place.ensures.widths c.in_ok-place.ensures.overlap
-          (c.in_ok-place.ensures.column ∙ ap (λ t. (from.column + str_width false (chars t)) - from.twice) c.as_str.ensures.value) c.in_ok-place.ensures.twice,
+          (c.in_ok-place.ensures.column ∙ ap (λ t. (from.column + str_width false (chars t)) - from.twice)
+          c.as_str.ensures.value) c.in_ok-place.ensures.twice,
       omega (arith, at, behind),
     )

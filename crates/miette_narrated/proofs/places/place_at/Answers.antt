@@ -16,4 +16,5 @@ pub returns-clause-overlap : goal.returns-clause-overlap
 returns-clause-overlap c = refl
 
 pub returns-clause-twice : goal.returns-clause-twice
-returns-clause-twice c = c.width-twice.ensures.value ∙ ap (λ t. str_width false (chars t)) c.as_str.ensures.value ∙ ap (str_width false) c.in_ok-text.ensures
+returns-clause-twice c = c.width-twice.ensures.value ∙ ap (λ t. str_width false (chars t)) c.as_str.ensures.value
+    ∙ ap (str_width false) c.in_ok-text.ensures

@@ -18,7 +18,8 @@ pub push_related-push_report-requires : goal.push_related-push_report-requires
 push_related-push_report-requires g t c =
     let value = tree_of g.D.Diagnostic.meaning g.S.SourceCode.source in
     let small : tree_size (value c.report-item.result) < trees_size (trees (map value c.args.reports.now)) =
-    subst (λ r. tree_size (value r) < trees_size (trees (map value c.args.reports.now))) (sym c.report-item.is) (one_falls value c.args.reports.now c.loop-report.report-index c.report-item.result c.loop-report-test.true) in
+    subst (λ r. tree_size (value r) < trees_size (trees (map value c.args.reports.now))) (sym c.report-item.is)
+    (one_falls value c.args.reports.now c.loop-report.report-index c.report-item.result c.loop-report-test.true) in
     search rules
 
 pub push_related-loop-report-preserved : goal.push_related-loop-report-preserved
@@ -27,29 +28,36 @@ push_related-loop-report-preserved g t c =
     let value = tree_of g.D.Diagnostic.meaning g.S.SourceCode.source in
     let inherited = option_map (shown_source g.S.SourceCode.source) c.args.source in
     let all = trees (map value c.args.reports.now) in
-    let so_far = subst (λ ts. RelatedSoFar c.args.context inherited all ts (string_bytes c.args.out.now) (string_bytes l.out)) (next_of value c.args.reports.now l.report-index c.report-item.result c.loop-report-test.true c.report-item.is) l.invariant in
+    let so_far = subst (λ ts. RelatedSoFar c.args.context inherited all ts (string_bytes c.args.out.now)
+    (string_bytes l.out)) (next_of value c.args.reports.now l.report-index c.report-item.result
+    c.loop-report-test.true c.report-item.is) l.invariant in
     one_more c.args.context inherited all _ _ _ _ _ so_far c.in_ok-push_report.ensures.text
 
 pub push_related-returns-in_err-push_report-clause-refused : goal.push_related-returns-in_err-push_report-clause-refused
 push_related-returns-in_err-push_report-clause-refused g t c = λ h.
     let value = tree_of g.D.Diagnostic.meaning g.S.SourceCode.source in
     let inherited = option_map (shown_source g.S.SourceCode.source) c.args.source in
-    let one : holds_of accepts inherited (value c.report-item.result) ≡ false = c.in_err-push_report.ensures.refused (search rules) in
-    one_refused value inherited c.args.reports.now c.loop-report.report-index c.report-item.result c.loop-report-test.true c.report-item.is one
+    let one : holds_of accepts inherited (value c.report-item.result) ≡ false =
+    c.in_err-push_report.ensures.refused (search rules) in
+    one_refused value inherited c.args.reports.now c.loop-report.report-index c.report-item.result
+    c.loop-report-test.true c.report-item.is one
 
 pub push_related-returns-clause-text : goal.push_related-returns-clause-text
 push_related-returns-clause-text g t c =
     let l = c.loop-report in
     let value = tree_of g.D.Diagnostic.meaning g.S.SourceCode.source in
     let inherited = option_map (shown_source g.S.SourceCode.source) c.args.source in
-    all_told c.args.context inherited (trees (map value c.args.reports.now)) _ _ (at_the_end value c.args.context inherited c.args.reports.now _ l.report-index _ _ (omega arith) l.invariant)
+    all_told c.args.context inherited (trees (map value c.args.reports.now)) _ _
+    (at_the_end value c.args.context inherited c.args.reports.now _ l.report-index _ _ (omega arith) l.invariant)
 
 pub push_report-returns-clause-text : goal.push_report-returns-clause-text
 push_report-returns-clause-text g t c =
     let value = tree_of g.D.Diagnostic.meaning g.S.SourceCode.source c.args.report.now in
     let inherited = option_map (shown_source g.S.SourceCode.source) c.args.inherited in
-    on_ok_weaker c.push_related.result (λ h. report_told c.args.context inherited value _ _ _ _ _ _ _ _ _ c.own_or-source.ensures c.labels_of.ensures c.related.ensures
-    c.in_ok-push_titled.ensures c.in_ok-push_causes.ensures c.in_ok-push_snippets_of.ensures.text c.in_ok-push_advice.ensures h) c.push_related.ensures.text
+    on_ok_weaker c.push_related.result (λ h. report_told c.args.context inherited value _ _ _ _ _ _ _ _ _
+    c.own_or-source.ensures c.labels_of.ensures c.related.ensures
+    c.in_ok-push_titled.ensures c.in_ok-push_causes.ensures c.in_ok-push_snippets_of.ensures.text
+    c.in_ok-push_advice.ensures h) c.push_related.ensures.text
 
 pub push_report-returns-clause-refused : goal.push_report-returns-clause-refused
 push_report-returns-clause-refused g t c = λ h.

@@ -11,9 +11,11 @@ abbrev pub decreases-push_report : goal.decreases-push_report
 decreases-push_report g l = tree_size (tree_of g.D.Diagnostic.meaning g.S.SourceCode.source l.report.now)
 
 abbrev pub decreases-push_related : goal.decreases-push_related
-decreases-push_related g l = trees_size (trees (map (tree_of g.D.Diagnostic.meaning g.S.SourceCode.source) l.reports.now))
+decreases-push_related g l = trees_size (trees (map (tree_of g.D.Diagnostic.meaning g.S.SourceCode.source)
+    l.reports.now))
 
 abbrev pub invariant-push_related-loop-report : goal.invariant-push_related-loop-report
 invariant-push_related-loop-report g l =
     let value = tree_of g.D.Diagnostic.meaning g.S.SourceCode.source in
-    RelatedSoFar l.context (option_map (shown_source g.S.SourceCode.source) l.source) (trees (map value l.reports)) (trees (map value (drop l.report-index l.reports))) (string_bytes l.fn.out) (string_bytes l.out)
+    RelatedSoFar l.context (option_map (shown_source g.S.SourceCode.source) l.source) (trees (map value l.reports))
+    (trees (map value (drop l.report-index l.reports))) (string_bytes l.fn.out) (string_bytes l.out)

@@ -11,9 +11,11 @@ decreases-loop-next g l = tree_size (tree_of g.D.Diagnostic.meaning g.S.SourceCo
 abbrev pub invariant-loop-next : goal.invariant-loop-next
 invariant-loop-next g l =
     let value = tree_of g.D.Diagnostic.meaning g.S.SourceCode.source in
-    string_bytes l.out ++ cause_rows (causes_of (cause_of (value l.at))) ≡ string_bytes l.fn.out ++ cause_rows (causes_of (cause_of (value l.report)))
+    string_bytes l.out ++ cause_rows (causes_of (cause_of (value l.at))) ≡ string_bytes l.fn.out
+    ++ cause_rows (causes_of (cause_of (value l.report)))
 
 abbrev pub invariant-loop-text : goal.invariant-loop-text
 invariant-loop-text g l =
     let value = tree_of g.D.Diagnostic.meaning g.S.SourceCode.source in
-    string_bytes l.out ++ cause_rows (map string_bytes (drop l.text-index l.text-items)) ≡ string_bytes l.fn.out ++ cause_rows (causes_of (cause_of (value l.fn.report)))
+    string_bytes l.out ++ cause_rows (map string_bytes (drop l.text-index l.text-items)) ≡ string_bytes l.fn.out
+    ++ cause_rows (causes_of (cause_of (value l.fn.report)))

@@ -6,4 +6,7 @@ use Rattle.miette_narrated.proofs.report.push_url.Goals as goal
 
 pub returns-in_ok-push_row : goal.returns-in_ok-push_row
 returns-in_ok-push_row c =
-    on_ok_weaker c.push_row-in-Some.result (λ h. rw c.in-Some.is (then (string_bytes c.args.out.now) (string_bytes c.push_row.new.out) (string_bytes c.push_row-in-Some.new.out) (row (codes "For more details, see:")) (row c.in-Some.url.now) c.in_ok-push_row.ensures h)) c.push_row-in-Some.ensures
+    on_ok_weaker c.push_row-in-Some.result (λ h. rw c.in-Some.is
+    (then (string_bytes c.args.out.now) (string_bytes c.push_row.new.out) (string_bytes c.push_row-in-Some.new.out)
+    (row (codes "For more details, see:")) (row c.in-Some.url.now) c.in_ok-push_row.ensures h))
+    c.push_row-in-Some.ensures

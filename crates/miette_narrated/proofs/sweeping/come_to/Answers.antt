@@ -7,4 +7,5 @@ use Rattle.miette_narrated.proofs.sweeping.come_to.Goals as goal
 pub take_more-requires-2 : goal.take_more-requires-2
 take_more-requires-2 c =
     let old = c.args.sweep.now in
-    c.keep_reaching.ensures ∙ ap (filter (reaches c.args.place)) c.requires ∙ reach_later old.at c.args.place (take old.next c.args.labels.now) (omega arith)
+    c.keep_reaching.ensures ∙ ap (filter (reaches c.args.place)) c.requires
+    ∙ reach_later old.at c.args.place (take old.next c.args.labels.now) (omega arith)

@@ -15,7 +15,8 @@ returns-clause-trail c =
       code_is = c.first_character-size.ensures.code;
       size_is = c.first_character-size.ensures.size;
     }) in
-    next_trail text trail _ code size c.requires.trail c.requires.some first c.first_character-size.ensures.some refl refl refl refl
+    next_trail text trail _ code size c.requires.trail c.requires.some first c.first_character-size.ensures.some refl
+    refl refl refl
 
 pub returns-clause-bytes : goal.returns-clause-bytes
 returns-clause-bytes c =

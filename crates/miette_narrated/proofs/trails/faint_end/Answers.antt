@@ -22,7 +22,8 @@ loop-bytes-preserved c =
       size_is = c.first_character-code.ensures.size;
     }) in
     let within = c.first_character-code.ensures.within in
-    one_faint text c.args.from bytes (bytes + size) code size c.loop-bytes.invariant first (sym c.is_faint.ensures ∙ c.if-not-is_faint.false) c.first_character-code.ensures.some refl
+    one_faint text c.args.from bytes (bytes + size) code size c.loop-bytes.invariant first
+    (sym c.is_faint.ensures ∙ c.if-not-is_faint.false) c.first_character-code.ensures.some refl
     (omega (arith, within, ap length (take_rest text bytes), length-drop bytes text, c.loop-bytes-test.true))
 
 pub returns : goal.returns

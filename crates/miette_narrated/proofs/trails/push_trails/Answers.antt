@@ -25,11 +25,20 @@ push_parts-requires-clause-trail c =
     }) in
     let wider : c.in-Some.wider ≡ c.loop-bytes.widths + width_of code = search rules in
     let within = c.first_character-code.ensures.within in
-    let since = one_since text from old new c.loop-bytes.widths c.in-Some.wider bytes (bytes + size) code size c.loop-bytes.invariant.since first
-    (IsUtf8-string_bytes c.loop-bytes.over) (IsUtf8-string_bytes c.push.new.self) c.in_ok-push.ensures.bytes wider c.first_character-code.ensures.some refl
+    let since = one_since text from old new c.loop-bytes.widths c.in-Some.wider bytes (bytes + size) code size
+    c.loop-bytes.invariant.since first
+    (IsUtf8-string_bytes c.loop-bytes.over) (IsUtf8-string_bytes c.push.new.self) c.in_ok-push.ensures.bytes wider
+    c.first_character-code.ensures.some refl
     (omega (arith, within, ap length (take_rest text bytes), length-drop bytes text, c.loop-bytes-test.true)) in
-    let ends = ends_pushed old new code (IsUtf8-string_bytes c.loop-bytes.over) (IsUtf8-string_bytes c.push.new.self) c.in_ok-push.ensures.bytes in
-    first_trail text from new code (record { bytes = bytes + size; until = c.faint_end-until.result; column = c.in_ok-column.column; widths = c.in-Some.wider }) c.requires.from since ends
+    let ends = ends_pushed old new code (IsUtf8-string_bytes c.loop-bytes.over) (IsUtf8-string_bytes c.push.new.self)
+    c.in_ok-push.ensures.bytes in
+    first_trail text from new code (record {
+      bytes = bytes + size;
+      until = c.faint_end-until.result;
+      column =
+          c.in_ok-column.column;
+      widths = c.in-Some.wider;
+    }) c.requires.from since ends
     (sym c.is_faint.ensures ∙ c.if-is_faint.true) c.faint_end-until.ensures
     (c.in_ok-column.ensures ∙ ap (λ t. (from.column + str_width false (chars t)) - from.twice) c.as_str.ensures.value)
 
@@ -50,8 +59,10 @@ loop-bytes-preserved-in_ok-push_parts c =
     }) in
     let wider : c.in-Some.wider ≡ c.loop-bytes.widths + width_of code = search rules in
     let within = c.first_character-code.ensures.within in
-    let since = one_since text from old new c.loop-bytes.widths c.in-Some.wider bytes (bytes + size) code size c.loop-bytes.invariant.since first
-    (IsUtf8-string_bytes c.loop-bytes.over) (IsUtf8-string_bytes c.push.new.self) c.in_ok-push.ensures.bytes wider c.first_character-code.ensures.some refl
+    let since = one_since text from old new c.loop-bytes.widths c.in-Some.wider bytes (bytes + size) code size
+    c.loop-bytes.invariant.since first
+    (IsUtf8-string_bytes c.loop-bytes.over) (IsUtf8-string_bytes c.push.new.self) c.in_ok-push.ensures.bytes wider
+    c.first_character-code.ensures.some refl
     (omega (arith, within, ap length (take_rest text bytes), length-drop bytes text, c.loop-bytes-test.true)) in
     record { since = since; trails = c.push_parts.ensures }
 
@@ -72,8 +83,10 @@ loop-bytes-preserved-else-until-bytes-ge-APART c =
     }) in
     let wider : c.in-Some.wider ≡ c.loop-bytes.widths + width_of code = search rules in
     let within = c.first_character-code.ensures.within in
-    let since = one_since text from old new c.loop-bytes.widths c.in-Some.wider bytes (bytes + size) code size c.loop-bytes.invariant.since first
-    (IsUtf8-string_bytes c.loop-bytes.over) (IsUtf8-string_bytes c.push.new.self) c.in_ok-push.ensures.bytes wider c.first_character-code.ensures.some refl
+    let since = one_since text from old new c.loop-bytes.widths c.in-Some.wider bytes (bytes + size) code size
+    c.loop-bytes.invariant.since first
+    (IsUtf8-string_bytes c.loop-bytes.over) (IsUtf8-string_bytes c.push.new.self) c.in_ok-push.ensures.bytes wider
+    c.first_character-code.ensures.some refl
     (omega (arith, within, ap length (take_rest text bytes), length-drop bytes text, c.loop-bytes-test.true)) in
     record { since = since; trails = c.loop-bytes.invariant.trails }
 
@@ -94,7 +107,9 @@ loop-bytes-preserved c =
     }) in
     let wider : c.in-Some.wider ≡ c.loop-bytes.widths + width_of code = search rules in
     let within = c.first_character-code.ensures.within in
-    let since = one_since text from old new c.loop-bytes.widths c.in-Some.wider bytes (bytes + size) code size c.loop-bytes.invariant.since first
-    (IsUtf8-string_bytes c.loop-bytes.over) (IsUtf8-string_bytes c.push.new.self) c.in_ok-push.ensures.bytes wider c.first_character-code.ensures.some refl
+    let since = one_since text from old new c.loop-bytes.widths c.in-Some.wider bytes (bytes + size) code size
+    c.loop-bytes.invariant.since first
+    (IsUtf8-string_bytes c.loop-bytes.over) (IsUtf8-string_bytes c.push.new.self) c.in_ok-push.ensures.bytes wider
+    c.first_character-code.ensures.some refl
     (omega (arith, within, ap length (take_rest text bytes), length-drop bytes text, c.loop-bytes-test.true)) in
     record { since = since; trails = c.loop-bytes.invariant.trails }

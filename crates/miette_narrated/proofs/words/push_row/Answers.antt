@@ -6,5 +6,7 @@ use Rattle.miette_narrated.proofs.words.push_row.Goals as goal
 
 pub returns : goal.returns
 returns c =
-    on_ok_weaker c.push_str-3.result (λ h. row_put (string_bytes c.args.out.now) (string_bytes c.push_str.new.self) (string_bytes c.push_str-2.new.self) (string_bytes c.push_str-3.new.self) c.args.words.now c.args.text.now
-    c.in_ok-push_str.ensures.bytes c.in_ok-push_str-2.ensures.bytes h) (where_written c.push_str-3.result _ _ _ c.push_str-3.ensures.bytes)
+    on_ok_weaker c.push_str-3.result (λ h. row_put (string_bytes c.args.out.now) (string_bytes c.push_str.new.self)
+    (string_bytes c.push_str-2.new.self) (string_bytes c.push_str-3.new.self) c.args.words.now c.args.text.now
+    c.in_ok-push_str.ensures.bytes c.in_ok-push_str-2.ensures.bytes h)
+    (where_written c.push_str-3.result _ _ _ c.push_str-3.ensures.bytes)

@@ -10,7 +10,8 @@ use Rattle.miette_protocol.proofs.diagnostic.diagnostic_equality_law.Goals as go
 pub returns : goal.returns
 returns c a b =
     let severity = plain _ (λ x y. search rules) a.severity b.severity in
-    let labels = lifted (λ list. list.items) _ (λ x y. slice_eq-Decides (λ k l. search rules) x.items y.items _ refl) a.labels b.labels in
+    let labels = lifted (λ list. list.items) _ (λ x y. slice_eq-Decides (λ k l. search rules) x.items y.items _ refl)
+    a.labels b.labels in
     let all = Decides-and _ _ (texts a.message b.message)
     (Decides-and _ _ (lifted string_bytes _ texts a.code b.code)
     (Decides-and _ _ severity

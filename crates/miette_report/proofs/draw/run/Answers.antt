@@ -11,13 +11,16 @@ returns-in_default-clause-usage g c = (λ fault. let h = c.in_default.ensures.no
 pub returns-clause-ok : goal.returns-clause-ok
 returns-clause-ok g c =
     let words = c.in-Some.words in
-    call_pictured (map string_bytes c.args.words.now) words.name.now words.offset words.length words.label.now words.message.now c.write_picture.result (g.R.Read.remaining c.args.reader.now.inner)
-    (Appends (g.W.Write.contents c.args.writer.now.inner) (g.W.Write.contents c.write_picture.new.writer.inner)) c.in-Some.ensures.some c.write_picture.ensures.ok
+    call_pictured (map string_bytes c.args.words.now) words.name.now words.offset words.length words.label.now
+    words.message.now c.write_picture.result (g.R.Read.remaining c.args.reader.now.inner)
+    (Appends (g.W.Write.contents c.args.writer.now.inner) (g.W.Write.contents c.write_picture.new.writer.inner))
+    c.in-Some.ensures.some c.write_picture.ensures.ok
 
 pub returns-clause-usage : goal.returns-clause-usage
 returns-clause-usage g c =
     let words = c.in-Some.words in
-    draw_called _ (map string_bytes c.args.words.now) words.name.now words.offset words.length words.label.now words.message.now c.in-Some.ensures.some (never-usage c.write_picture.result c.write_picture.ensures.others)
+    draw_called _ (map string_bytes c.args.words.now) words.name.now words.offset words.length words.label.now
+    words.message.now c.in-Some.ensures.some (never-usage c.write_picture.result c.write_picture.ensures.others)
 
 pub returns-clause-others : goal.returns-clause-others
 returns-clause-others g c = on_err_weaker c.write_picture.result inr c.write_picture.ensures.others

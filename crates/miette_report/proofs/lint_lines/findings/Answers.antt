@@ -6,22 +6,28 @@ use Rattle.miette_report.proofs.FindingSteps.{left_first, left_more, left_none}
 use Rattle.miette_report.proofs.lint_lines.findings.Goals as goal
 
 pub loop-line-init : goal.loop-line-init
-loop-line-init c = left_first (line_findings c.args.source.now c.args.width) _ c.args.source.now _ (search rules) (search rules)
+loop-line-init c = left_first (line_findings c.args.source.now c.args.width) _ c.args.source.now _ (search rules)
+    (search rules)
 
 pub push_line-requires : goal.push_line-requires
 push_line-requires c =
-    let given = subst (λ (r : Option LineOfText). GivesLine c.loop-line.line-iterator r c.next.new.self) c.in-Some.is c.next.ensures.steps in
+    let given = subst (λ (r : Option LineOfText). GivesLine c.loop-line.line-iterator r c.next.new.self) c.in-Some.is
+    c.next.ensures.steps in
     record { text = given.0.text; within = omega (arith, given.0.ending, given.0.to, c.loop-line.invariant.to) }
 
 pub loop-line-preserved : goal.loop-line-preserved
 loop-line-preserved c =
     let l = c.loop-line in
-    let given = subst (λ (r : Option LineOfText). GivesLine l.line-iterator r c.next.new.self) c.in-Some.is c.next.ensures.steps in
-    left_more (line_findings c.args.source.now c.args.width) (length c.args.source.now) l.line-iterator c.next.new.self c.in-Some.line l.found.items c.push_line.new.found.items _ l.invariant given.0 given.1
+    let given = subst (λ (r : Option LineOfText). GivesLine l.line-iterator r c.next.new.self) c.in-Some.is
+    c.next.ensures.steps in
+    left_more (line_findings c.args.source.now c.args.width) (length c.args.source.now) l.line-iterator c.next.new.self
+    c.in-Some.line l.found.items c.push_line.new.found.items _ l.invariant given.0 given.1
     c.in_ok-push_line.ensures
 
 pub returns : goal.returns
 returns c =
     let l = c.loop-line in
-    let given = subst (λ (r : Option LineOfText). GivesLine l.line-iterator r c.next.new.self) c.in-None.is c.next.ensures.steps in
-    left_none (line_findings c.args.source.now c.args.width) (length c.args.source.now) l.line-iterator l.found.items _ l.invariant given.0
+    let given = subst (λ (r : Option LineOfText). GivesLine l.line-iterator r c.next.new.self) c.in-None.is
+    c.next.ensures.steps in
+    left_none (line_findings c.args.source.now c.args.width) (length c.args.source.now) l.line-iterator l.found.items _
+    l.invariant given.0

@@ -7,4 +7,6 @@ use Rattle.miette_report.proofs.lint_lines.push_overlong.Goals as goal
 
 pub returns-in_ok-words-in-Some : goal.returns-in_ok-words-in-Some
 returns-in_ok-words-in-Some c =
-    overlong_put _ c.args.width c.args.line.text_end (cells_of c.args.line.start c.args.text.now) (cell_of c.in-Some.cell) _ _ _ (ap (option_map cell_of) (sym c.in-Some.is) ∙ c.in_ok-cell.ensures) c.in_ok-words-in-Some.ensures c.push_finding.ensures
+    overlong_put _ c.args.width c.args.line.text_end (cells_of c.args.line.start c.args.text.now)
+    (cell_of c.in-Some.cell) _ _ _ (ap (option_map cell_of) (sym c.in-Some.is) ∙ c.in_ok-cell.ensures)
+    c.in_ok-words-in-Some.ensures c.push_finding.ensures

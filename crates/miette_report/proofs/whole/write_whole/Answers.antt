@@ -8,5 +8,10 @@ loop-rest-preserved g c =
     let inv = c.loop-rest.invariant in
     let ens = c.in-Ok.ensures in (
       none-failed _ _ _ _ _ c.write.ensures.failed inv.0 c.in-Ok.is c.in-Ok.n-test.1,
-      (inv.1.0 ++ take c.in-Ok.n c.loop-rest.rest.now, taken-more _ inv.1.0 c.loop-rest.rest.now c.in-Ok.n _ inv.1.1 refl, Appends-trans _ _ _ _ _ inv.1.2 ens.bytes),
+      (
+        inv.1.0 ++ take c.in-Ok.n c.loop-rest.rest.now,
+        taken-more _ inv.1.0 c.loop-rest.rest.now c.in-Ok.n _ inv.1.1
+            refl,
+        Appends-trans _ _ _ _ _ inv.1.2 ens.bytes,
+      ),
     )

@@ -7,9 +7,11 @@ use Rattle.miette_snippet_laws.proofs.laws.left_out_lines_are_inside.Goals as go
 
 pub returns-clause-inside : goal.returns-clause-inside
 returns-clause-inside c = λ ends styles limit context bytes labels k h there out.
-    left_out_inside ends styles limit context bytes (in_order labels) k (around_ordered context labels h) there (kept_ordered (Some limit) context bytes labels k ∙ out)
+    left_out_inside ends styles limit context bytes (in_order labels) k (around_ordered context labels h) there
+    (kept_ordered (Some limit) context bytes labels k ∙ out)
 
 pub returns-clause-same : goal.returns-clause-same
 returns-clause-same c = λ ends styles limit context bytes labels k h there out next.
-    left_out_same ends styles limit context bytes (in_order labels) k (around_ordered context labels h) there (kept_ordered (Some limit) context bytes labels k ∙ out)
+    left_out_same ends styles limit context bytes (in_order labels) k (around_ordered context labels h) there
+    (kept_ordered (Some limit) context bytes labels k ∙ out)
     (kept_ordered (Some limit) context bytes labels (k + 1) ∙ next)

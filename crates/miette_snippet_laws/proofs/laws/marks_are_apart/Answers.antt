@@ -14,4 +14,5 @@ pub returns-clause-row : goal.returns-clause-row
 returns-clause-row c = row_apart
 
 pub returns-clause-row_anchors : goal.returns-clause-row_anchors
-returns-clause-row_anchors c = λ s labels source line. own_anchors (marks_of_line s labels line (cells_of s source line)) (row_apart s labels source line)
+returns-clause-row_anchors c = λ s labels source line. own_anchors
+    (marks_of_line s labels line (cells_of s source line)) (row_apart s labels source line)

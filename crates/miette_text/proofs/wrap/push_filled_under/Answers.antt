@@ -15,13 +15,21 @@ returns g c =
     let further = interleaving 0 c.parts-further.result.codes.now c.parts-further.result.tags.now in
     let text = interleaving 0 c.parts.result.codes.now c.parts.result.tags.now in
     let old = g.S.Sink.holds c.args.out.now in
-    let r1 : c.saturating_sub-room.result ≡ p.room - columns_of first = c.saturating_sub-room.ensures ∙ ap (λ n. p.room - n) c.in_ok-first_columns.ensures in
-    let r2 : c.saturating_sub-further_room.result ≡ p.room - columns_of further = c.saturating_sub-further_room.ensures ∙ ap (λ n. p.room - n) c.in_ok-further_columns.ensures in
-    let m : c.min-narrow.result ≡ min c.saturating_sub-room.result c.saturating_sub-further_room.result = c.min-narrow.ensures in
-    let rows = spell (joined_rows [] further (text_rows (record { hyphens = p.hyphens; breaks = p.breaks; narrow = c.min-narrow.result }) c.saturating_sub-room.result c.saturating_sub-further_room.result (text_lines text))) in
+    let r1 : c.saturating_sub-room.result ≡ p.room - columns_of first = c.saturating_sub-room.ensures
+    ∙ ap (λ n. p.room - n) c.in_ok-first_columns.ensures in
+    let r2 : c.saturating_sub-further_room.result ≡ p.room - columns_of further = c.saturating_sub-further_room.ensures
+    ∙ ap (λ n. p.room - n) c.in_ok-further_columns.ensures in
+    let m : c.min-narrow.result ≡ min c.saturating_sub-room.result c.saturating_sub-further_room.result =
+    c.min-narrow.ensures in
+    let rows = spell (joined_rows [] further (text_rows (record
+    { hyphens = p.hyphens; breaks = p.breaks; narrow = c.min-narrow.result }) c.saturating_sub-room.result
+    c.saturating_sub-further_room.result (text_lines text))) in
     let e : g.S.Sink.holds c.push_all.new.out ≡ old ++ g.S.Sink.spells (spell first) = c.in_ok-push_all.ensures in
-    let f : g.S.Sink.holds c.push_filled.new.out ≡ g.S.Sink.holds c.push_all.new.out ++ g.S.Sink.spells rows = c.in_ok-push_filled.ensures in
+    let f : g.S.Sink.holds c.push_filled.new.out ≡ g.S.Sink.holds c.push_all.new.out ++ g.S.Sink.spells rows =
+    c.in_ok-push_filled.ensures in
     f
     ∙ ap (λ us. us ++ g.S.Sink.spells rows) e
     ∙ appended g.S.Sink.spells g.met.S.Sink.joins old (spell first) rows
-    ∙ ap (λ us. old ++ g.S.Sink.spells us) (filled-text p c.args.text.now c.min-narrow.result c.saturating_sub-room.result c.saturating_sub-further_room.result first further text c.parts-first.ensures c.parts-further.ensures c.parts.ensures r1 r2 m)
+    ∙ ap (λ us. old ++ g.S.Sink.spells us) (filled-text p c.args.text.now c.min-narrow.result
+    c.saturating_sub-room.result c.saturating_sub-further_room.result first further text c.parts-first.ensures
+    c.parts-further.ensures c.parts.ensures r1 r2 m)

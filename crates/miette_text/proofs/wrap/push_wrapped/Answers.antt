@@ -11,8 +11,10 @@ returns-in_ok-push_filled_under g c =
     let text = c.args.text.now in
     let old = g.S.Sink.holds c.args.out.now in
     let t : p.wraps ≡ true = cc in
-    let e : g.S.Sink.holds c.push_filled_under.new.out ≡ old ++ g.S.Sink.spells (spell (filled_text p text)) = c.in_ok-push_filled_under.ensures in
-    e ∙ ap (λ (v : Bool). old ++ g.S.Sink.spells (spell (if v then filled_text p text else whole_lines p.first p.further (text_lines text)))) (sym t)
+    let e : g.S.Sink.holds c.push_filled_under.new.out ≡ old ++ g.S.Sink.spells (spell (filled_text p text)) =
+    c.in_ok-push_filled_under.ensures in
+    e ∙ ap (λ (v : Bool). old ++ g.S.Sink.spells (spell (if v then filled_text p text
+    else whole_lines p.first p.further (text_lines text)))) (sym t)
 
 pub returns-in_ok-push_whole : goal.returns-in_ok-push_whole
 returns-in_ok-push_whole g c =
@@ -23,8 +25,12 @@ returns-in_ok-push_whole g c =
     let first = interleaving 0 c.parts.result.codes.now c.parts.result.tags.now in
     let further = interleaving 0 c.parts-else-plan.result.codes.now c.parts-else-plan.result.tags.now in
     let read = interleaving 0 c.parts-else-plan-2.result.codes.now c.parts-else-plan-2.result.tags.now in
-    let e : g.S.Sink.holds c.push_whole.new.out ≡ old ++ g.S.Sink.spells (spell (whole_lines first further (text_lines read))) = c.in_ok-push_whole.ensures in
+    let e : g.S.Sink.holds c.push_whole.new.out ≡ old ++ g.S.Sink.spells
+    (spell (whole_lines first further (text_lines read))) = c.in_ok-push_whole.ensures in
     e
-    ∙ ap₂ (λ us vs. old ++ g.S.Sink.spells (spell (whole_lines us vs (text_lines read)))) c.parts.ensures c.parts-else-plan.ensures
-    ∙ ap (λ us. old ++ g.S.Sink.spells (spell (whole_lines p.first p.further (text_lines us)))) c.parts-else-plan-2.ensures
-    ∙ ap (λ (v : Bool). old ++ g.S.Sink.spells (spell (if v then filled_text p text else whole_lines p.first p.further (text_lines text)))) (sym f)
+    ∙ ap₂ (λ us vs. old ++ g.S.Sink.spells (spell (whole_lines us vs (text_lines read)))) c.parts.ensures
+    c.parts-else-plan.ensures
+    ∙ ap (λ us. old ++ g.S.Sink.spells (spell (whole_lines p.first p.further (text_lines us))))
+    c.parts-else-plan-2.ensures
+    ∙ ap (λ (v : Bool). old ++ g.S.Sink.spells (spell (if v then filled_text p text
+    else whole_lines p.first p.further (text_lines text)))) (sym f)

@@ -9,7 +9,9 @@ pub returns-then-are_settled : goal.returns-then-are_settled
 returns-then-are_settled c =
     let p = c.args.plan in
     let text = c.args.text.now in
-    let e : c.push_wrapped.new.out ≡ c.args.out.now ++ spell (wrapped_tokens (runs_plan p) text) = c.in_ok-push_wrapped.ensures in
+    let e : c.push_wrapped.new.out ≡ c.args.out.now ++ spell (wrapped_tokens (runs_plan p) text) =
+    c.in_ok-push_wrapped.ensures in
     let is = c.are_settled.ensures in
     let t = c.if-are_settled.true in
-    e ∙ ap (λ us. c.args.out.now ++ us) (wrapped-read (printed_plan p) p.first.now p.further.now text (spell text) (sym (is.first t)) (sym (is.further t)) (sym (is.text t)))
+    e ∙ ap (λ us. c.args.out.now ++ us) (wrapped-read (printed_plan p) p.first.now p.further.now text (spell text)
+    (sym (is.first t)) (sym (is.further t)) (sym (is.text t)))

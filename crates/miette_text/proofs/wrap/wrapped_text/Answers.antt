@@ -11,7 +11,20 @@ returns c =
     let f = c.in_ok-first.first in
     let f' = c.in_ok-further.further in
     let t = c.in_ok-read.read in
-    let e : string_bytes c.push_wrapped.new.out ≡ string_bytes c.in_ok-out.out ++ encode_utf8_all (spell (wrapped_tokens (record { room = p.room; first = f; further = f'; breaks = p.breaks; wraps = p.wraps; hyphens = c.cuts_hyphens-hyphens.result }) t)) = c.in_ok-push_wrapped.ensures in
+    let e : string_bytes c.push_wrapped.new.out ≡ string_bytes c.in_ok-out.out
+    ++ encode_utf8_all (spell (wrapped_tokens (record {
+      room = p.room;
+      first = f;
+      further = f';
+      breaks =
+          p.breaks;
+      wraps = p.wraps;
+      hyphens = c.cuts_hyphens-hyphens.result;
+    }) t)) = c.in_ok-push_wrapped.ensures
+    in
     e
-    ∙ ap₂ (λ us v. us ++ encode_utf8_all (spell (wrapped_tokens (record { room = p.room; first = f; further = f'; breaks = p.breaks; wraps = p.wraps; hyphens = v }) t))) c.in_ok-out.ensures.bytes c.cuts_hyphens-hyphens.ensures
-    ∙ ap encode_utf8_all (wrapped-read p f f' t (chars c.args.text.now) c.in_ok-first.ensures.tokens c.in_ok-further.ensures.tokens c.in_ok-read.ensures.tokens)
+    ∙ ap₂ (λ us v. us ++ encode_utf8_all (spell (wrapped_tokens
+    (record { room = p.room; first = f; further = f'; breaks = p.breaks; wraps = p.wraps; hyphens = v }) t)))
+    c.in_ok-out.ensures.bytes c.cuts_hyphens-hyphens.ensures
+    ∙ ap encode_utf8_all (wrapped-read p f f' t (chars c.args.text.now) c.in_ok-first.ensures.tokens
+    c.in_ok-further.ensures.tokens c.in_ok-read.ensures.tokens)

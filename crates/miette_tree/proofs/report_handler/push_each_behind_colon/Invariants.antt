@@ -4,4 +4,5 @@ use Rattle.miette_tree.proofs.report_handler.push_each_behind_colon.Given as goa
 
 abbrev pub invariant-loop-text : goal.invariant-loop-text
 invariant-loop-text l =
-    string_bytes l.out ++ behind_colons (map string_bytes (drop l.text-index l.texts)) ≡ string_bytes l.fn.out ++ behind_colons (map string_bytes l.texts)
+    string_bytes l.out ++ behind_colons (map string_bytes (drop l.text-index l.texts)) ≡ string_bytes l.fn.out
+    ++ behind_colons (map string_bytes l.texts)

@@ -7,7 +7,8 @@ use Rattle.miette_cells.proofs.cells.Walk.next.Goals as goal
 
 pub returns-then-is_empty : goal.returns-then-is_empty
 returns-then-is_empty c =
-    let none = cells_end width_of c.self.inside.tab c.self.inside.hidden c.self.inside.offset c.self.inside.column c.self.inside.rest.now
+    let none = cells_end width_of c.self.inside.tab c.self.inside.hidden c.self.inside.offset c.self.inside.column
+    c.self.inside.rest.now
     (nil_from_length c.self.inside.rest.now (eqb-true _ _ (sym c.is_empty.ensures ∙ c.if-is_empty.true))) in
     let empty = sym c.self.view_is ∙ none in (empty, empty)
 
@@ -15,7 +16,13 @@ pub returns : goal.returns
 returns c =
     let some : 0 < length c.self.inside.rest.now = search rules in
     let until : c.in-Some.until ≡ c.self.inside.column + c.width_there-width.result = search rules in
-    let left : take (length c.self.inside.rest.now - c.first_character-code.result.1) (drop c.first_character-code.result.1 c.self.inside.rest.now) ≡ drop c.first_character-code.result.1 c.self.inside.rest.now = grind (arith, common_steps) in
-    sym c.self.view_is ∙ cells_step width_of c.self.inside.tab c.self.inside.hidden c.hides_later-self-inside.result c.self.inside.offset c.self.inside.column c.self.inside.rest.now (take (length c.self.inside.rest.now - c.first_character-code.result.1) (drop c.first_character-code.result.1 c.self.inside.rest.now))
+    let left : take (length c.self.inside.rest.now - c.first_character-code.result.1)
+    (drop c.first_character-code.result.1 c.self.inside.rest.now)
+    ≡ drop c.first_character-code.result.1 c.self.inside.rest.now = grind (arith, common_steps) in
+    sym c.self.view_is ∙ cells_step width_of c.self.inside.tab c.self.inside.hidden c.hides_later-self-inside.result
+    c.self.inside.offset c.self.inside.column c.self.inside.rest.now
+    (take (length c.self.inside.rest.now - c.first_character-code.result.1)
+    (drop c.first_character-code.result.1 c.self.inside.rest.now))
     c.first_character-code.result.0 c.first_character-code.result.1 c.width_there-width.result c.in-Some.until some left
-    c.first_character-code.ensures.code c.first_character-code.ensures.size c.width_there-width.ensures until c.hides_later-self-inside.ensures
+    c.first_character-code.ensures.code c.first_character-code.ensures.size c.width_there-width.ensures until
+    c.hides_later-self-inside.ensures

@@ -13,14 +13,18 @@ returns-clause-calls g c =
     let tree = tree_of g.D.Diagnostic.meaning g.S.SourceCode.source c.args.report.now in
     let after = c.report_output-drawn.new.pen.highlighter in
     let text = c.in_ok-drawn.field-0 in
-    let had : c.take.result ≡ c.args.self.now.highlighter = c.take.ensures.value ∙ ap (λ it. it.highlighter) c.self.view_is in
-    let is : settings_of c.settings.result ≡ c.args.self.now.settings = c.settings.ensures ∙ ap (λ it. it.settings) c.self.view_is in
+    let had : c.take.result ≡ c.args.self.now.highlighter = c.take.ensures.value
+    ∙ ap (λ it. it.highlighter) c.self.view_is in
+    let is : settings_of c.settings.result ≡ c.args.self.now.settings = c.settings.ensures
+    ∙ ap (λ it. it.settings) c.self.view_is in
     record {
       text = encode_utf8_all text;
       is_given = (
         text,
-        subst (λ s. IsAskedReport drawn_rows s (leaves_plain is_blank c.args.self.now.highlighter) (AreCallsOn may c.args.self.now.highlighter after) tree text) is
-            (subst (λ h. IsAskedReport drawn_rows (settings_of c.settings.result) (leaves_plain is_blank h) (AreCallsOn may h after) tree text) had c.in_ok-drawn.ensures.ok),
+        subst (λ s. IsAskedReport drawn_rows s (leaves_plain is_blank c.args.self.now.highlighter)
+            (AreCallsOn may c.args.self.now.highlighter after) tree text) is
+            (subst (λ h. IsAskedReport drawn_rows (settings_of c.settings.result) (leaves_plain is_blank h)
+            (AreCallsOn may h after) tree text) had c.in_ok-drawn.ensures.ok),
         refl,
       );
       appended = c.in_ok-append_printed.ensures.ok;

@@ -5,4 +5,6 @@ use Rattle.miette_narrated.specs.steps.Conversions.{ranges_of, narrated_line}
 use Rattle.miette_narrated.proofs.label_rows.LabelledLine.push_ended.Given as goal
 
 abbrev pub invariant-loop-end : goal.invariant-loop-end
-invariant-loop-end l = string_bytes l.out ++ label_rows (narrated_line l.self.line.now) (ranges_of l.self.labels.now (without_ranks (drop l.end-index l.ended))) ≡ string_bytes l.fn.out ++ label_rows (narrated_line l.self.line.now) (ranges_of l.self.labels.now (without_ranks l.ended))
+invariant-loop-end l = string_bytes l.out ++ label_rows (narrated_line l.self.line.now)
+    (ranges_of l.self.labels.now (without_ranks (drop l.end-index l.ended))) ≡ string_bytes l.fn.out
+    ++ label_rows (narrated_line l.self.line.now) (ranges_of l.self.labels.now (without_ranks l.ended))

@@ -10,8 +10,11 @@ pub returns : goal.returns
 returns c =
     let it = narrated_line c.args.self.now.line.now in
     let d = range_of c.args.self.now.labels.now c.args.label.now in
-    on_ok_weaker c.push_end.result (λ h. label_put (string_bytes c.args.out.now) (string_bytes c.push_number.new.out) (string_bytes c.push_columns.new.out) (string_bytes c.push_end.new.out)
-    (codes "    label at line ") (decimal it.number) (columns_text (first_number it d.start) (last_number it d.start d.after)) (text_behind d.text)
+    on_ok_weaker c.push_end.result (λ h. label_put (string_bytes c.args.out.now) (string_bytes c.push_number.new.out)
+    (string_bytes c.push_columns.new.out) (string_bytes c.push_end.new.out)
+    (codes "    label at line ") (decimal it.number) (columns_text (first_number it d.start)
+    (last_number it d.start d.after)) (text_behind d.text)
     c.in_ok-push_number.ensures
-    (c.in_ok-push_columns.ensures ∙ ap₂ (λ a b. string_bytes c.push_number.new.out ++ columns_text a b) c.in_ok-first.ensures c.in_ok-last.ensures)
+    (c.in_ok-push_columns.ensures ∙ ap₂ (λ a b. string_bytes c.push_number.new.out ++ columns_text a b)
+    c.in_ok-first.ensures c.in_ok-last.ensures)
     (h ∙ ap (λ t. string_bytes c.push_columns.new.out ++ row (text_behind t)) c.text_of.ensures)) c.push_end.ensures

@@ -7,4 +7,5 @@ use Rattle.miette_page.proofs.page.Page.push_number.Goals as goal
 pub returns : goal.returns
 returns g c =
     c.in_ok-push_str.ensures
-    ∙ ap (λ codes. c.args.self.now ⊕ text_tokens codes) (chars-IsAscii c.format.result.now c.format.ensures.ascii ∙ c.format.ensures.text)
+    ∙ ap (λ codes. c.args.self.now ⊕ text_tokens codes) (chars-IsAscii c.format.result.now c.format.ensures.ascii
+    ∙ c.format.ensures.text)

@@ -5,5 +5,6 @@ use Rattle.miette_page.proofs.page.Page.push_right.Goals as goal
 pub returns : goal.returns
 returns g c =
     let gap : c.saturating_sub.result ≡ c.args.columns - length c.format-digits.result.now = search rules in
-    right_put c.args.number c.args.columns c.saturating_sub.result c.format-digits.result.now c.args.self.now c.push_copies.new.self c.push_str.new.self
+    right_put c.args.number c.args.columns c.saturating_sub.result c.format-digits.result.now c.args.self.now
+    c.push_copies.new.self c.push_str.new.self
     c.format-digits.ensures.text gap c.format-digits.ensures.ascii c.in_ok-push_copies.ensures c.in_ok-push_str.ensures

@@ -9,7 +9,8 @@ abbrev pub invariant-loop-rest : goal.invariant-loop-rest
 invariant-loop-rest l =
     (choice_in Build (map string_bytes l.words) ≡ choice_in l.settings.choice (map string_bytes l.rest))
     × (option_map (λ asks. with_all asks nothing_asked) (asked_by (map string_bytes l.words))
-    ≡ option_map (λ asks. with_all asks (request_of l.settings.choice l.settings.options l.settings.terminal)) (asked_by (map string_bytes l.rest)))
+    ≡ option_map (λ asks. with_all asks (request_of l.settings.choice l.settings.options l.settings.terminal))
+    (asked_by (map string_bytes l.rest)))
 
 abbrev pub decreases-loop-rest : goal.decreases-loop-rest
 decreases-loop-rest l = length l.rest

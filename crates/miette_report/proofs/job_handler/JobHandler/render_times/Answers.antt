@@ -9,10 +9,13 @@ pub loop-preserved : goal.loop-preserved
 loop-preserved g c = stays-on g.H.Highlighter.is_blank _ _ _ c.loop.invariant c.render.ensures.stays
 
 pub returns-in_err-render-clause-refused : goal.returns-in_err-render-clause-refused
-returns-in_err-render-clause-refused g c = λ refused. refused-before g.H.Highlighter.is_blank _ _ _ c.loop.invariant (c.in_err-render.ensures.refused (search rules))
+returns-in_err-render-clause-refused g c = λ refused. refused-before g.H.Highlighter.is_blank _ _ _ c.loop.invariant
+    (c.in_err-render.ensures.refused (search rules))
 
 pub returns-clause-refused : goal.returns-clause-refused
-returns-clause-refused g c = λ refused. refused-before g.H.Highlighter.is_blank _ _ _ c.loop.invariant (c.render-2.ensures.refused refused)
+returns-clause-refused g c = λ refused. refused-before g.H.Highlighter.is_blank _ _ _ c.loop.invariant
+    (c.render-2.ensures.refused refused)
 
 pub returns-clause-ok : goal.returns-clause-ok
-returns-clause-ok g c = given-still g.H.Highlighter.is_blank _ _ _ c.render-2.result c.loop.invariant c.render-2.ensures.ok
+returns-clause-ok g c = given-still g.H.Highlighter.is_blank _ _ _ c.render-2.result c.loop.invariant
+    c.render-2.ensures.ok

@@ -15,11 +15,14 @@ loop-tag-preserved c =
     let k = c.min-gap.result in
     let m = c.tag-item.result in
     let q : take (length cs - s) (drop s cs) ≡ drop s cs = take_rest cs s in
-    let e : k ≡ min (m.at - s) (length (drop s cs)) = omega (arith, c.min-gap.ensures, c.saturating_sub.ensures, ap length q) in
+    let e : k ≡ min (m.at - s) (length (drop s cs)) = omega
+    (arith, c.min-gap.ensures, c.saturating_sub.ensures, ap length q) in
     record {
       woven =
-          appended-next c.loop-tag.self c.push_chars.new.self c.push_sign.new.self (map Character (take k (drop s cs))) (interleaving (s + k) (drop (s + k) cs) (drop (i + 1) ms)) (tag_token m)
-          (c.in_ok-push_chars.ensures.tokens ∙ ap (λ xs. c.loop-tag.self ++ map Character (take k xs)) q) c.in_ok-push_sign.ensures.tokens
+          appended-next c.loop-tag.self c.push_chars.new.self c.push_sign.new.self (map Character (take k (drop s cs)))
+          (interleaving (s + k) (drop (s + k) cs) (drop (i + 1) ms)) (tag_token m)
+          (c.in_ok-push_chars.ensures.tokens ∙ ap (λ xs. c.loop-tag.self ++ map Character (take k xs)) q)
+          c.in_ok-push_sign.ensures.tokens
           ∙ ap (λ ts. c.loop-tag.self ++ ts) (sym (woven-step s i k cs ms m c.loop-tag-test.true c.tag-item.is e))
           ∙ c.loop-tag.invariant.woven;
       within = omega (arith, length-drop s cs, c.loop-tag.invariant.within);
@@ -34,7 +37,8 @@ returns-clause-tokens c =
     let o = c.loop-tag.self in
     let none : drop i ms ≡ [] = drop_all i ms (omega arith) in
     c.in_ok-push_chars-2.ensures.tokens
-    ∙ ap (λ ts. o ++ ts) (ap (map Character) (take_rest cs s) ∙ sym (woven-none s (drop s cs)) ∙ ap (λ vs. interleaving s (drop s cs) vs) (sym none))
+    ∙ ap (λ ts. o ++ ts) (ap (map Character) (take_rest cs s) ∙ sym (woven-none s (drop s cs))
+    ∙ ap (λ vs. interleaving s (drop s cs) vs) (sym none))
     ∙ c.loop-tag.invariant.woven
     ∙ ap (λ ts. c.args.self.now ++ ts) c.parts-parts.ensures
 

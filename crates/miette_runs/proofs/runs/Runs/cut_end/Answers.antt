@@ -13,9 +13,12 @@ invariant_of-self c =
     let n = c.kept_len-n.result in
     let low = c.cap.new.tags in
     let within : n ≤ length codes = omega (arith, ap length c.deref.ensures.value, c.kept_len-n.ensures.within) in
-    let is_low : low ≡ map (capped_tag n) tags.items = c.cap.ensures ∙ ap (map (capped_tag n)) c.deref_mut.ensures.value in
-    let long : length low ≡ tags.len = ap length c.cap.ensures ∙ length-map c.deref_mut.result.now (capped_tag n) ∙ c.deref_mut.ensures.len in
-    end-within codes c.truncate.new.self.items tags.items (with_items tags low).items n within c.truncate.ensures.items (with_items_is tags low long ∙ is_low)
+    let is_low : low ≡ map (capped_tag n) tags.items = c.cap.ensures ∙ ap (map (capped_tag n)) c.deref_mut.ensures.value
+    in
+    let long : length low ≡ tags.len = ap length c.cap.ensures ∙ length-map c.deref_mut.result.now (capped_tag n)
+    ∙ c.deref_mut.ensures.len in
+    end-within codes c.truncate.new.self.items tags.items (with_items tags low).items n within c.truncate.ensures.items
+    (with_items_is tags low long ∙ is_low)
 
 pub returns-then-n-len : goal.returns-then-n-len
 returns-then-n-len c =
@@ -23,10 +26,14 @@ returns-then-n-len c =
     let tags = c.self.inside.tags in
     let n = c.kept_len-n.result in
     let low = c.cap.new.tags in
-    let is_len : n ≡ kept_len 0 codes tags.items = c.kept_len-n.ensures.value ∙ ap₂ (kept_len 0) c.deref.ensures.value c.deref-2.ensures.value in
-    let is_low : low ≡ map (capped_tag n) tags.items = c.cap.ensures ∙ ap (map (capped_tag n)) c.deref_mut.ensures.value in
-    let long : length low ≡ tags.len = ap length c.cap.ensures ∙ length-map c.deref_mut.result.now (capped_tag n) ∙ c.deref_mut.ensures.len in
-    end-cut codes c.truncate.new.self.items tags.items (with_items tags low).items n is_len c.truncate.ensures.items (with_items_is tags low long ∙ is_low)
+    let is_len : n ≡ kept_len 0 codes tags.items = c.kept_len-n.ensures.value
+    ∙ ap₂ (kept_len 0) c.deref.ensures.value c.deref-2.ensures.value in
+    let is_low : low ≡ map (capped_tag n) tags.items = c.cap.ensures ∙ ap (map (capped_tag n)) c.deref_mut.ensures.value
+    in
+    let long : length low ≡ tags.len = ap length c.cap.ensures ∙ length-map c.deref_mut.result.now (capped_tag n)
+    ∙ c.deref_mut.ensures.len in
+    end-cut codes c.truncate.new.self.items tags.items (with_items tags low).items n is_len c.truncate.ensures.items
+    (with_items_is tags low long ∙ is_low)
     ∙ ap cut_end c.self.view_is
 
 pub returns-else-n-len : goal.returns-else-n-len
@@ -34,6 +41,7 @@ returns-else-n-len c =
     let codes = c.self.inside.codes.items in
     let tags = c.self.inside.tags.items in
     let n = c.kept_len-n.result in
-    let is_len : n ≡ kept_len 0 codes tags = c.kept_len-n.ensures.value ∙ ap₂ (kept_len 0) c.deref.ensures.value c.deref-2.ensures.value in
+    let is_len : n ≡ kept_len 0 codes tags = c.kept_len-n.ensures.value
+    ∙ ap₂ (kept_len 0) c.deref.ensures.value c.deref-2.ensures.value in
     let all : length codes ≤ n = (let e = c.if-n-len.false in let o = c.self.inside.codes.ok.0 in omega arith) in
     sym c.self.view_is ∙ end-whole codes tags n is_len all ∙ ap cut_end c.self.view_is

@@ -12,8 +12,10 @@ invariant_of-self c =
     let tags = c.self.inside.tags in
     let n = c.feeds_len-n.result in
     let low = c.lower.new.tags in
-    let is_low : low ≡ map (lowered_tag n) tags.items = c.lower.ensures ∙ ap (map (lowered_tag n)) c.deref_mut.ensures.value in
-    let long : length low ≡ tags.len = ap length c.lower.ensures ∙ length-map c.deref_mut.result.now (lowered_tag n) ∙ c.deref_mut.ensures.len in
+    let is_low : low ≡ map (lowered_tag n) tags.items = c.lower.ensures
+    ∙ ap (map (lowered_tag n)) c.deref_mut.ensures.value in
+    let long : length low ≡ tags.len = ap length c.lower.ensures ∙ length-map c.deref_mut.result.now (lowered_tag n)
+    ∙ c.deref_mut.ensures.len in
     front-within codes c.drop-drain.new.self.0.items tags.items (with_items tags low).items n
     (c.drop-drain.ensures.items ∙ c.drain.ensures.kept) (with_items_is tags low long ∙ is_low) c.self.invariant
 
@@ -23,9 +25,12 @@ returns-then-n-gt0 c =
     let tags = c.self.inside.tags in
     let n = c.feeds_len-n.result in
     let low = c.lower.new.tags in
-    let is_len : n ≡ feeds_len 0 codes tags.items = c.feeds_len-n.ensures.value ∙ ap₂ (feeds_len 0) c.deref.ensures.value c.deref-2.ensures.value in
-    let is_low : low ≡ map (lowered_tag n) tags.items = c.lower.ensures ∙ ap (map (lowered_tag n)) c.deref_mut.ensures.value in
-    let long : length low ≡ tags.len = ap length c.lower.ensures ∙ length-map c.deref_mut.result.now (lowered_tag n) ∙ c.deref_mut.ensures.len in
+    let is_len : n ≡ feeds_len 0 codes tags.items = c.feeds_len-n.ensures.value
+    ∙ ap₂ (feeds_len 0) c.deref.ensures.value c.deref-2.ensures.value in
+    let is_low : low ≡ map (lowered_tag n) tags.items = c.lower.ensures
+    ∙ ap (map (lowered_tag n)) c.deref_mut.ensures.value in
+    let long : length low ≡ tags.len = ap length c.lower.ensures ∙ length-map c.deref_mut.result.now (lowered_tag n)
+    ∙ c.deref_mut.ensures.len in
     front-cut codes c.drop-drain.new.self.0.items tags.items (with_items tags low).items n is_len
     (c.drop-drain.ensures.items ∙ c.drain.ensures.kept) (with_items_is tags low long ∙ is_low)
     ∙ ap cut_front c.self.view_is
@@ -35,5 +40,6 @@ returns-else-n-gt0 c =
     let codes = c.self.inside.codes.items in
     let tags = c.self.inside.tags.items in
     let n = c.feeds_len-n.result in
-    let is_len : n ≡ feeds_len 0 codes tags = c.feeds_len-n.ensures.value ∙ ap₂ (feeds_len 0) c.deref.ensures.value c.deref-2.ensures.value in
+    let is_len : n ≡ feeds_len 0 codes tags = c.feeds_len-n.ensures.value
+    ∙ ap₂ (feeds_len 0) c.deref.ensures.value c.deref-2.ensures.value in
     sym c.self.view_is ∙ front-whole codes tags n is_len (omega (arith, c.if-n-gt0.false)) ∙ ap cut_front c.self.view_is

@@ -5,4 +5,7 @@ use Rattle.miette_runs.proofs.Painting.{chars-none}
 use Rattle.miette_runs.proofs.runs.Runs.push_link_end.Goals as goal
 
 pub returns : goal.returns
-returns c = record { text = c.in_ok-push_link.ensures.text ∙ ap (λ xs. spell c.args.self.now ++ link_start xs) chars-none }
+returns c = record {
+  text = c.in_ok-push_link.ensures.text
+      ∙ ap (λ xs. spell c.args.self.now ++ link_start xs) chars-none;
+}

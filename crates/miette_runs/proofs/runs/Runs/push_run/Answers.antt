@@ -4,7 +4,8 @@ use Rattle.miette_runs.specs.rules.Sequences.{spell}
 use Rattle.miette_runs.proofs.Painting.{run-empty, run-plain, run-pushed}
 use Rattle.miette_page.proofs.Paging.{some-chars, nonzero}
 use Rattle.miette_runs.proofs.runs.Runs.push_run.Goals as goal
-use Rattle.miette_runs.proofs.runs.Runs.push_run.Goals.{then-is_empty-via-then-is_empty, then-is_empty-via-else-is_empty+then-is_plain}
+use Rattle.miette_runs.proofs.runs.Runs.push_run.Goals.{then-is_empty-via-then-is_empty}
+use Rattle.miette_runs.proofs.runs.Runs.push_run.Goals.{then-is_empty-via-else-is_empty+then-is_plain}
 
 pub returns-then-is_empty : goal.returns-then-is_empty
 returns-then-is_empty c =
@@ -12,7 +13,8 @@ returns-then-is_empty c =
     let bs = c.args.text.now in
     let same : printed_run s (chars bs) ≡ chars bs = elim c.then-is_empty.branch [
       | then-is_empty-via-then-is_empty w ↦ run-empty s bs (eqb-true _ _ (sym c.is_empty.ensures ∙ w.if-is_empty.true))
-      | then-is_empty-via-else-is_empty+then-is_plain w ↦ run-plain s (chars bs) (sym w.is_plain.ensures ∙ w.if-is_plain.true)
+      | then-is_empty-via-else-is_empty+then-is_plain w ↦ run-plain s (chars bs)
+          (sym w.is_plain.ensures ∙ w.if-is_plain.true)
     ] in
     record { text = c.in_ok-push_str.ensures.text ∙ ap (λ x. spell c.args.self.now ++ x) (sym same) }
 
@@ -22,6 +24,8 @@ returns c =
     let some : 0 < length bs = nonzero (length bs) (sym c.is_empty.ensures ∙ c.if-is_empty.false) in
     record {
       text =
-          run-pushed c.args.style (chars bs) (spell c.args.self.now) (spell c.begin.new.self) (spell c.push_str-2.new.self) (spell c.end.new.self) (some-chars bs c.utf8.text some) (sym c.is_plain.ensures ∙ c.if-is_plain.false)
+          run-pushed c.args.style (chars bs) (spell c.args.self.now) (spell c.begin.new.self)
+          (spell c.push_str-2.new.self) (spell c.end.new.self) (some-chars bs c.utf8.text some)
+          (sym c.is_plain.ensures ∙ c.if-is_plain.false)
           c.in_ok-begin.ensures.text c.in_ok-push_str-2.ensures.text c.in_ok-end.ensures.text;
     }

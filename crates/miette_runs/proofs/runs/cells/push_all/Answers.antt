@@ -15,8 +15,10 @@ returns g c =
     let cells = piece_text (cells_at 0 cs ms) in
     let rest = take (length ms - n) (drop n ms) in
     let e : g.S.Sink.holds c.push_cells.new.out ≡ o ++ g.S.Sink.spells cells = c.in_ok-n.ensures.text in
-    let f : g.S.Sink.holds c.push_tags.new.out ≡ g.S.Sink.holds c.push_cells.new.out ++ g.S.Sink.spells (tags_spelled rest) = c.in_ok-push_tags.ensures in
+    let f : g.S.Sink.holds c.push_tags.new.out ≡ g.S.Sink.holds c.push_cells.new.out
+    ++ g.S.Sink.spells (tags_spelled rest) = c.in_ok-push_tags.ensures in
     f
     ∙ ap (λ us. us ++ g.S.Sink.spells (tags_spelled rest)) e
     ∙ appended g.S.Sink.spells g.met.S.Sink.joins o cells (tags_spelled rest)
-    ∙ ap (λ us. o ++ g.S.Sink.spells us) (ap (λ vs. cells ++ tags_spelled vs) (take_rest ms n ∙ c.in_ok-n.ensures.left) ∙ sym (spell-woven 0 cs ms))
+    ∙ ap (λ us. o ++ g.S.Sink.spells us) (ap (λ vs. cells ++ tags_spelled vs) (take_rest ms n ∙ c.in_ok-n.ensures.left)
+    ∙ sym (spell-woven 0 cs ms))

@@ -16,12 +16,14 @@ returns-then-rest-gap-clause-text g c =
     let q : take (length cs - s) (drop s cs) ≡ drop s cs = take_rest cs s in
     let l : length (drop s cs) ≤ k = omega (arith, c.if-rest-gap.true, ap length q) in
     let o = g.S.Sink.holds c.loop-n.out in
-    let e : g.S.Sink.holds c.push_codes.new.self ≡ o ++ g.S.Sink.spells (take (length cs - s) (drop s cs)) = c.in_ok-push_codes.ensures in
+    let e : g.S.Sink.holds c.push_codes.new.self ≡ o ++ g.S.Sink.spells (take (length cs - s) (drop s cs)) =
+    c.in_ok-push_codes.ensures in
     e
     ∙ ap (λ us. o ++ g.S.Sink.spells us)
     (q
     ∙ sym (text-last p k (drop s cs) c.index-tags-n.result (drop (n + 1) ms) c.saturating_sub-gap.ensures l)
-    ∙ ap (λ vs. piece_text (cells_at p (drop s cs) vs)) (sym (tags-next ms n c.index-tags-n.result c.loop-n-test.true c.index-tags-n.is)))
+    ∙ ap (λ vs. piece_text (cells_at p (drop s cs) vs)) (sym
+    (tags-next ms n c.index-tags-n.result c.loop-n-test.true c.index-tags-n.is)))
     ∙ c.loop-n.invariant.printed
 
 pub returns-then-rest-gap-clause-left : goal.returns-then-rest-gap-clause-left
@@ -34,7 +36,8 @@ returns-then-rest-gap-clause-left g c =
     let l : length (drop s cs) ≤ k = omega (arith, c.if-rest-gap.true, ap length (take_rest cs s)) in
     let next = tags-next ms n c.index-tags-n.result c.loop-n-test.true c.index-tags-n.is in
     next
-    ∙ sym (left-last c.loop-n.place k (drop s cs) c.index-tags-n.result (drop (n + 1) ms) c.saturating_sub-gap.ensures l)
+    ∙ sym (left-last c.loop-n.place k (drop s cs) c.index-tags-n.result (drop (n + 1) ms) c.saturating_sub-gap.ensures
+    l)
     ∙ ap (λ vs. left_at c.loop-n.place (drop s cs) vs) (sym next)
     ∙ c.loop-n.invariant.left
 
@@ -50,13 +53,17 @@ loop-n-preserved g c =
     let q : take (length cs - s) (drop s cs) ≡ drop s cs = take_rest cs s in
     let l : k < length (drop s cs) = omega (arith, c.if-rest-gap.false, ap length q) in
     let o = g.S.Sink.holds c.loop-n.out in
-    let f : g.S.Sink.holds c.push_codes-in-loop-n.new.self ≡ o ++ g.S.Sink.spells (take k (take (length cs - s) (drop s cs))) = c.in_ok-push_codes-2.ensures in
+    let f : g.S.Sink.holds c.push_codes-in-loop-n.new.self ≡ o
+    ++ g.S.Sink.spells (take k (take (length cs - s) (drop s cs))) = c.in_ok-push_codes-2.ensures in
     record {
       printed =
-          text-step g.S.Sink.spells g.met.S.Sink.joins o (g.S.Sink.holds c.push_codes-in-loop-n.new.self) (g.S.Sink.holds c.push_sign.new.self) p s n k cs ms m c.loop-n-test.true c.index-tags-n.is c.saturating_sub-gap.ensures l
+          text-step g.S.Sink.spells g.met.S.Sink.joins o (g.S.Sink.holds c.push_codes-in-loop-n.new.self)
+          (g.S.Sink.holds c.push_sign.new.self) p s n k cs ms m c.loop-n-test.true c.index-tags-n.is
+          c.saturating_sub-gap.ensures l
           (f ∙ ap (λ us. o ++ g.S.Sink.spells (take k us)) q) c.in_ok-push_sign.ensures
           ∙ c.loop-n.invariant.printed;
-      left = left-step p s n k cs ms m c.loop-n-test.true c.index-tags-n.is c.saturating_sub-gap.ensures l ∙ c.loop-n.invariant.left;
+      left = left-step p s n k cs ms m c.loop-n-test.true c.index-tags-n.is c.saturating_sub-gap.ensures l
+          ∙ c.loop-n.invariant.left;
       inside = omega (arith, length-drop s cs);
     }
 
@@ -69,10 +76,12 @@ returns-clause-text g c =
     let n = c.loop-n.n in
     let q : take (length cs - s) (drop s cs) ≡ drop s cs = take_rest cs s in
     let o = g.S.Sink.holds c.loop-n.out in
-    let e : g.S.Sink.holds c.push_codes-2.new.self ≡ o ++ g.S.Sink.spells (take (length cs - s) (drop s cs)) = c.in_ok-push_codes-3.ensures in
+    let e : g.S.Sink.holds c.push_codes-2.new.self ≡ o ++ g.S.Sink.spells (take (length cs - s) (drop s cs)) =
+    c.in_ok-push_codes-3.ensures in
     let none : drop n ms ≡ [] = drop_all n ms (omega arith) in
     e
-    ∙ ap (λ us. o ++ g.S.Sink.spells us) (q ∙ sym (text-none p (drop s cs)) ∙ ap (λ vs. piece_text (cells_at p (drop s cs) vs)) (sym none))
+    ∙ ap (λ us. o ++ g.S.Sink.spells us) (q ∙ sym (text-none p (drop s cs))
+    ∙ ap (λ vs. piece_text (cells_at p (drop s cs) vs)) (sym none))
     ∙ c.loop-n.invariant.printed
 
 pub returns-clause-left : goal.returns-clause-left

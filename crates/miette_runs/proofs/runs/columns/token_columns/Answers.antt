@@ -9,5 +9,6 @@ pub returns : goal.returns
 returns c =
     let cs = c.args.runs.codes.now in
     let e : c.loop-code.total ≡ code_columns cs =
-    ap (fold (λ a c. a + width c) c.loop-code.total) (sym (drop_of_length-le cs c.loop-code-test.false)) ∙ c.loop-code.invariant in
+    ap (fold (λ a c. a + width c) c.loop-code.total) (sym (drop_of_length-le cs c.loop-code-test.false))
+    ∙ c.loop-code.invariant in
     e ∙ woven-columns 0 cs c.args.runs.tags.now

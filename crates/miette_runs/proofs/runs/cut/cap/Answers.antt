@@ -7,5 +7,7 @@ use Rattle.miette_runs.proofs.runs.cut.cap.Goals as goal
 pub loop-i-preserved : goal.loop-i-preserved
 loop-i-preserved c =
     let sign = (get_or c.loop-i.tags c.loop-i.i c.index-tags-i.result).sign in
-    change-next (capped_tag c.args.at) c.args.tags.now c.loop-i.tags c.loop-i.i c.index-tags-i.result (record { at = c.min-tag.result; sign = sign })
-    c.loop-i-test.true c.loop-i.invariant (ap (λ n. let m : Tag = record { at = n; sign = sign } in m) c.min-tag.ensures)
+    change-next (capped_tag c.args.at) c.args.tags.now c.loop-i.tags c.loop-i.i c.index-tags-i.result
+    (record { at = c.min-tag.result; sign = sign })
+    c.loop-i-test.true c.loop-i.invariant (ap (λ n. let m : Tag = record { at = n; sign = sign } in m)
+    c.min-tag.ensures)

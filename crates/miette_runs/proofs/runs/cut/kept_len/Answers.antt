@@ -5,7 +5,8 @@ use Rattle.miette_runs.specs.rules.Sequences.{is_line_feed}
 use Rattle.miette_runs.specs.views.Interleaving.{upto}
 use Rattle.miette_runs.proofs.InterleavedCuts.{kept-all, kept-next}
 use Rattle.miette_runs.proofs.runs.cut.kept_len.Goals as goal
-use Rattle.miette_runs.proofs.runs.cut.kept_len.Goals.{then-code-ne10, else-code-ne10+then-not-are_colours, else-code-ne10+else-not-are_colours}
+use Rattle.miette_runs.proofs.runs.cut.kept_len.Goals.{then-code-ne10, else-code-ne10+then-not-are_colours}
+use Rattle.miette_runs.proofs.runs.cut.kept_len.Goals.{else-code-ne10+else-not-are_colours}
 
 no-feed : (c : ℕ) → (c ≡ 10 → ⊥) → is_line_feed c ≡ false
 no-feed c h = grind (arith, nat_tests)
@@ -20,11 +21,18 @@ loop-i-preserved c =
     let kept = c.loop-i.kept in
     let left = c.loop-i.left.now in
     let x = c.index-codes-i.result in
-    let colours : are_colours c.split_at.result.0.now ≡ are_colours (upto i left) = ap are_colours (c.split_at.ensures.front ∙ c.upto_len.ensures.before) in
-    let is_kept : c.if-code-ne10.kept ≡ (if is_line_feed x then (if are_colours (upto i left) then kept else i) else i + 1) = elim c.if-code-ne10.branch [
-      | then-code-ne10 w ↦ w.kept-is ∙ ap (λ (v : Bool). if v then (if are_colours (upto i left) then kept else i) else i + 1) (sym (no-feed x w.if-code-ne10.true))
-      | else-code-ne10+then-not-are_colours w ↦ w.kept-is ∙ ap₂ (λ (v u : Bool). if v then (if u then kept else i) else i + 1) (sym (ap is_line_feed w.if-code-ne10.false)) (sym w.if-not-are_colours.true ∙ w.are_colours.ensures ∙ colours)
-      | else-code-ne10+else-not-are_colours w ↦ w.kept-is ∙ ap₂ (λ (v u : Bool). if v then (if u then kept else i) else i + 1) (sym (ap is_line_feed w.if-code-ne10.false)) (sym w.if-not-are_colours.false ∙ w.are_colours.ensures ∙ colours)
+    let colours : are_colours c.split_at.result.0.now ≡ are_colours (upto i left) =
+    ap are_colours (c.split_at.ensures.front ∙ c.upto_len.ensures.before) in
+    let is_kept : c.if-code-ne10.kept ≡ (if is_line_feed x then (if are_colours (upto i left) then kept else i) else i
+    + 1) = elim c.if-code-ne10.branch [
+      | then-code-ne10 w ↦ w.kept-is ∙ ap (λ (v : Bool). if v then (if are_colours (upto i left) then kept else i)
+          else i + 1) (sym (no-feed x w.if-code-ne10.true))
+      | else-code-ne10+then-not-are_colours w ↦ w.kept-is ∙ ap₂
+          (λ (v u : Bool). if v then (if u then kept else i) else i + 1) (sym (ap is_line_feed w.if-code-ne10.false))
+          (sym w.if-not-are_colours.true ∙ w.are_colours.ensures ∙ colours)
+      | else-code-ne10+else-not-are_colours w ↦ w.kept-is ∙ ap₂
+          (λ (v u : Bool). if v then (if u then kept else i) else i + 1) (sym (ap is_line_feed w.if-code-ne10.false))
+          (sym w.if-not-are_colours.false ∙ w.are_colours.ensures ∙ colours)
     ] in
     let is_left : c.if-code-ne10.left ≡ c.split_at.result.1 = elim c.if-code-ne10.branch [
       | then-code-ne10 w ↦ w.left-is
@@ -38,7 +46,8 @@ loop-i-preserved c =
     ] in
     record {
       counted =
-          kept-next kept i c.if-code-ne10.kept x cs left c.if-code-ne10.left.now c.loop-i-test.true c.index-codes-i.is (ap (λ b. b.now) is_left ∙ c.split_at.ensures.back ∙ c.upto_len.ensures.behind) is_kept
+          kept-next kept i c.if-code-ne10.kept x cs left c.if-code-ne10.left.now c.loop-i-test.true c.index-codes-i.is
+          (ap (λ b. b.now) is_left ∙ c.split_at.ensures.back ∙ c.upto_len.ensures.behind) is_kept
           ∙ c.loop-i.invariant.counted;
       within = within;
     }

@@ -4,5 +4,6 @@ use Rattle.miette_runs.proofs.runs.output.print_link.Goals as goal
 
 pub returns : goal.returns
 returns c =
-    link-behind c.args.url.now (string_bytes c.args.out.now) (string_bytes c.push_str.new.self) (string_bytes c.push_str-2.new.self) (string_bytes c.push_str-3.new.self) c.utf8.url
+    link-behind c.args.url.now (string_bytes c.args.out.now) (string_bytes c.push_str.new.self)
+    (string_bytes c.push_str-2.new.self) (string_bytes c.push_str-3.new.self) c.utf8.url
     c.in_ok-push_str.ensures.bytes c.in_ok-push_str-2.ensures.bytes c.in_ok-push_str-3.ensures.bytes

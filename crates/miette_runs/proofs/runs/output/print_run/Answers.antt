@@ -4,7 +4,8 @@ use Rattle.miette_runs.proofs.Outputs.{run-behind, text-behind}
 use Rattle.miette_runs.proofs.Painting.{run-empty, run-plain}
 use Rattle.miette_page.proofs.Paging.{some-chars, nonzero}
 use Rattle.miette_runs.proofs.runs.output.print_run.Goals as goal
-use Rattle.miette_runs.proofs.runs.output.print_run.Goals.{then-is_empty-via-then-is_empty, then-is_empty-via-else-is_empty+then-is_plain}
+use Rattle.miette_runs.proofs.runs.output.print_run.Goals.{then-is_empty-via-then-is_empty}
+use Rattle.miette_runs.proofs.runs.output.print_run.Goals.{then-is_empty-via-else-is_empty+then-is_plain}
 
 pub returns-then-is_empty : goal.returns-then-is_empty
 returns-then-is_empty c =
@@ -12,13 +13,17 @@ returns-then-is_empty c =
     let bs = c.args.text.now in
     let same : printed_run s (chars bs) ≡ chars bs = elim c.then-is_empty.branch [
       | then-is_empty-via-then-is_empty w ↦ run-empty s bs (eqb-true _ _ (sym c.is_empty.ensures ∙ w.if-is_empty.true))
-      | then-is_empty-via-else-is_empty+then-is_plain w ↦ run-plain s (chars bs) (sym w.is_plain.ensures ∙ w.if-is_plain.true)
+      | then-is_empty-via-else-is_empty+then-is_plain w ↦ run-plain s (chars bs)
+          (sym w.is_plain.ensures ∙ w.if-is_plain.true)
     ] in
-    text-behind _ _ bs c.utf8.text c.in_ok-push_str.ensures.bytes ∙ ap (λ x. string_bytes c.args.out.now ++ encode_utf8_all x) (sym same)
+    text-behind _ _ bs c.utf8.text c.in_ok-push_str.ensures.bytes
+    ∙ ap (λ x. string_bytes c.args.out.now ++ encode_utf8_all x) (sym same)
 
 pub returns : goal.returns
 returns c =
     let bs = c.args.text.now in
     let some : 0 < length bs = nonzero (length bs) (sym c.is_empty.ensures ∙ c.if-is_empty.false) in
-    run-behind c.args.style bs (string_bytes c.args.out.now) (string_bytes c.push_style.new.out) (string_bytes c.push_str-2.new.self) (string_bytes c.push_str-3.new.self) c.utf8.text (some-chars bs c.utf8.text some) (sym c.is_plain.ensures ∙ c.if-is_plain.false)
+    run-behind c.args.style bs (string_bytes c.args.out.now) (string_bytes c.push_style.new.out)
+    (string_bytes c.push_str-2.new.self) (string_bytes c.push_str-3.new.self) c.utf8.text
+    (some-chars bs c.utf8.text some) (sym c.is_plain.ensures ∙ c.if-is_plain.false)
     c.in_ok-push_style.ensures c.in_ok-push_str-2.ensures.bytes c.in_ok-push_str-3.ensures.bytes

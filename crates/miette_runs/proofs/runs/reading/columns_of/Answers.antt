@@ -6,7 +6,8 @@ use Rattle.miette_runs.proofs.runs.reading.columns_of.Goals as goal
 pub returns-then-is_settled : goal.returns-then-is_settled
 returns-then-is_settled c =
     c.in_ok-columns.ensures
-    ∙ ap columns_of (sym (c.is_settled.ensures.same c.if-is_settled.true) ∙ ap (λ ts. tokens (spell ts)) c.parts-parts.ensures)
+    ∙ ap columns_of (sym (c.is_settled.ensures.same c.if-is_settled.true)
+    ∙ ap (λ ts. tokens (spell ts)) c.parts-parts.ensures)
 
 pub returns : goal.returns
 returns c = c.in_ok-columns-2.ensures ∙ ap columns_of (c.parts.ensures ∙ c.in_ok-again.ensures)

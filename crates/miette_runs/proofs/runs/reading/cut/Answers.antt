@@ -14,7 +14,8 @@ rest-preserved c =
     let is : sequence_len (drop i cs) ≡ n = sym c.sequence_at-len.ensures.value in
     record {
       cut =
-          ap (λ ts. ts ++ tokens (drop (i + n) cs)) (c.in_ok-push_codes_as_sign.ensures.tokens ∙ ap (λ s. found ++ Sequence s ∷ []) taken)
+          ap (λ ts. ts ++ tokens (drop (i + n) cs)) (c.in_ok-push_codes_as_sign.ensures.tokens
+          ∙ ap (λ s. found ++ Sequence s ∷ []) taken)
           ∙ cut_sequence found cs i n (omega arith) is
           ∙ c.rest.invariant.cut;
       within = omega (arith, c.sequence_at-len.ensures.within);

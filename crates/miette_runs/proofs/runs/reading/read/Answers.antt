@@ -9,7 +9,8 @@ use Rattle.miette_runs.proofs.runs.reading.read.Goals as goal
 pub returns-then-has_no_escape-clause-tokens : goal.returns-then-has_no_escape-clause-tokens
 returns-then-has_no_escape-clause-tokens c =
     let cs = c.args.codes.items in
-    let plain : no_escape cs ≡ true = ap no_escape (sym c.deref.ensures.value) ∙ sym c.has_no_escape.ensures ∙ c.if-has_no_escape.true in
+    let plain : no_escape cs ≡ true = ap no_escape (sym c.deref.ensures.value) ∙ sym c.has_no_escape.ensures
+    ∙ c.if-has_no_escape.true in
     c.of_characters.ensures ∙ sym (tokens-plain cs plain)
 
 pub returns-then-has_no_escape-clause-text : goal.returns-then-has_no_escape-clause-text
@@ -17,4 +18,5 @@ returns-then-has_no_escape-clause-text c = ap spell c.of_characters.ensures ∙ 
 
 pub returns-clause-text : goal.returns-clause-text
 returns-clause-text c =
-    ap spell c.in_ok-found.ensures ∙ ap (λ xs. spell (tokens xs)) c.deref-2.ensures.value ∙ spell-tokens c.args.codes.items
+    ap spell c.in_ok-found.ensures ∙ ap (λ xs. spell (tokens xs)) c.deref-2.ensures.value
+    ∙ spell-tokens c.args.codes.items

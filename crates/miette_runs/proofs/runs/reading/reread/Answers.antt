@@ -6,4 +6,5 @@ use Rattle.miette_runs.proofs.runs.reading.reread.Goals as goal
 pub returns : goal.returns
 returns c =
     c.in_ok-found.ensures.tokens
-    ∙ ap tokens (sym (chars_from_encodes (spell c.args.runs.now) c.as_str.result.now c.as_str.utf8 (sym (c.as_str.ensures.value ∙ c.in_ok-text.ensures))))
+    ∙ ap tokens (sym (chars_from_encodes (spell c.args.runs.now) c.as_str.result.now c.as_str.utf8
+    (sym (c.as_str.ensures.value ∙ c.in_ok-text.ensures))))

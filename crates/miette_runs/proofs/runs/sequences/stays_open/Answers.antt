@@ -8,8 +8,10 @@ pub returns-then-begins_command : goal.returns-then-begins_command
 returns-then-begins_command c = λ _.
     let cs = c.args.codes.now in
     let i = c.args.i in
-    let b : begins_command (drop i cs) ≡ true = ap begins_command (sym (take_rest cs i)) ∙ sym c.begins_command.ensures ∙ c.if-begins_command.true in
+    let b : begins_command (drop i cs) ≡ true = ap begins_command (sym (take_rest cs i)) ∙ sym c.begins_command.ensures
+    ∙ c.if-begins_command.true in
     opened_behind cs i c.requires.inside c.requires.none b
 
 pub returns : goal.returns
-returns c = plain_behind c.args.codes.now c.args.i c.index-codes-i.result c.args.unfinished c.requires.inside c.index-codes-i.is c.if-code-eq-LINE_FEED.false c.requires.known
+returns c = plain_behind c.args.codes.now c.args.i c.index-codes-i.result c.args.unfinished c.requires.inside
+    c.index-codes-i.is c.if-code-eq-LINE_FEED.false c.requires.known

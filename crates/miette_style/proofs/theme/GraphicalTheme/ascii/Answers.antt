@@ -3,4 +3,5 @@ use Rattle.miette_style.proofs.MadeThemes.{theme_of_parts}
 use Rattle.miette_style.proofs.theme.GraphicalTheme.ascii.Goals as goal
 
 pub returns : goal.returns
-returns c = theme_of_parts c.new.result c.in_ok-ascii.field-0 c.in_ok-ansi.field-0 ascii_characters ansi_styles c.new.ensures c.in_ok-ascii.ensures c.in_ok-ansi.ensures
+returns c = theme_of_parts c.new.result c.in_ok-ascii.field-0 c.in_ok-ansi.field-0 ascii_characters ansi_styles
+    c.new.ensures c.in_ok-ascii.ensures c.in_ok-ansi.ensures

@@ -1,4 +1,5 @@
-use Rattle.std.proofs.Common.{◌≡◌, ◌∙◌, ◌+◌, ◌<◌, ◌≤◌, ◌&&◌, nat_lt, true, false, length, length-drop, take, drop, drop-drop, sym, ap, arith}
+use Rattle.std.proofs.Common.{◌≡◌, ◌∙◌, ◌+◌, ◌<◌, ◌≤◌, ◌&&◌, nat_lt, true, false, length, length-drop, take, drop}
+use Rattle.std.proofs.Common.{drop-drop, sym, ap, arith}
 use Rattle.std.proofs.lemmas.Bool.Decides.{nat_tests}
 use Rattle.std.proofs.lemmas.List.{take_rest}
 use Rattle.miette_text.specs.steps.Ends.{code_behind, gap_len, part_len}
@@ -6,11 +7,13 @@ use Rattle.miette_runs.specs.steps.Cells.{code_columns}
 use Rattle.miette_text.proofs.FirstRow.{behind-last, row-ends, row-fits, row-starts, row-whole, step-some}
 use Rattle.miette_text.proofs.Parting.{behind-add}
 use Rattle.miette_text.proofs.wrap.ends.row_len.Goals as goal
-use Rattle.miette_text.proofs.wrap.ends.row_len.Goals.{else-end-gt0-via-then-end-gt0+else-room-wide, else-end-gt0-via-else-end-gt0}
+use Rattle.miette_text.proofs.wrap.ends.row_len.Goals.{else-end-gt0-via-then-end-gt0+else-room-wide}
+use Rattle.miette_text.proofs.wrap.ends.row_len.Goals.{else-end-gt0-via-else-end-gt0}
 
 pub rest-init : goal.rest-init
 rest-init c = record {
-  packed = λ cells further e. row-starts c.args.cuts c.args.room further c.args.first 0 0 c.args.first cells (omega arith) (omega arith) cc;
+  packed = λ cells further e. row-starts c.args.cuts c.args.room further c.args.first 0 0 c.args.first cells
+      (omega arith) (omega arith) cc;
   behind = cc;
   within = omega arith;
 }
@@ -22,11 +25,16 @@ returns-then-room-wide-clause-value c = λ cells further e.
     let n = c.in_ok-part.part.len in
     let m = c.gap_len-spaces.result in
     let u = c.args.cuts in
-    let p : n ≡ part_len u c.rest.before 0 (drop s cs) = c.in_ok-part.ensures.len ∙ ap (part_len u c.rest.before 0) (take_rest cs s) in
-    let q : m ≡ gap_len (drop n (drop s cs)) = c.gap_len-spaces.ensures.value ∙ ap gap_len (take_rest cs (s + n) ∙ sym (drop-drop n s cs)) in
-    let w : c.in_ok-wide.wide ≡ c.rest.used + code_columns (take n (drop s cs)) = c.in_ok-wide.ensures ∙ ap (λ k. c.rest.used + k) (c.in_ok-part.ensures.columns ∙ ap (λ xs. code_columns (take n xs)) (take_rest cs s)) in
+    let p : n ≡ part_len u c.rest.before 0 (drop s cs) = c.in_ok-part.ensures.len
+    ∙ ap (part_len u c.rest.before 0) (take_rest cs s) in
+    let q : m ≡ gap_len (drop n (drop s cs)) = c.gap_len-spaces.ensures.value
+    ∙ ap gap_len (take_rest cs (s + n) ∙ sym (drop-drop n s cs)) in
+    let w : c.in_ok-wide.wide ≡ c.rest.used + code_columns (take n (drop s cs)) = c.in_ok-wide.ensures
+    ∙ ap (λ k. c.rest.used + k) (c.in_ok-part.ensures.columns ∙ ap (λ xs. code_columns (take n xs)) (take_rest cs s))
+    in
     let t : (nat_lt 0 s && nat_lt c.args.room c.in_ok-wide.wide) ≡ true = grind (arith, nat_tests) in
-    row-ends u c.args.room further c.args.first c.rest.before s n m c.rest.used c.in_ok-wide.wide cells cs e c.rest-test.true p q w t c.rest.invariant.behind (c.rest.invariant.packed cells further e)
+    row-ends u c.args.room further c.args.first c.rest.before s n m c.rest.used c.in_ok-wide.wide cells cs e
+    c.rest-test.true p q w t c.rest.invariant.behind (c.rest.invariant.packed cells further e)
 
 pub overflow_sub-before : goal.overflow_sub-before
 overflow_sub-before c =
@@ -34,8 +42,10 @@ overflow_sub-before c =
     let s = c.rest.end in
     let n = c.in_ok-part.part.len in
     let u = c.args.cuts in
-    let p : n ≡ part_len u c.rest.before 0 (drop s cs) = c.in_ok-part.ensures.len ∙ ap (part_len u c.rest.before 0) (take_rest cs s) in
-    let q : c.gap_len-spaces.result ≡ gap_len (drop n (drop s cs)) = c.gap_len-spaces.ensures.value ∙ ap gap_len (take_rest cs (s + n) ∙ sym (drop-drop n s cs)) in
+    let p : n ≡ part_len u c.rest.before 0 (drop s cs) = c.in_ok-part.ensures.len
+    ∙ ap (part_len u c.rest.before 0) (take_rest cs s) in
+    let q : c.gap_len-spaces.result ≡ gap_len (drop n (drop s cs)) = c.gap_len-spaces.ensures.value
+    ∙ ap gap_len (take_rest cs (s + n) ∙ sym (drop-drop n s cs)) in
     omega (arith, step-some u c.rest.before s n c.gap_len-spaces.result cs c.rest-test.true p q)
 
 pub rest-smaller : goal.rest-smaller
@@ -44,9 +54,12 @@ rest-smaller c =
     let s = c.rest.end in
     let n = c.in_ok-part.part.len in
     let u = c.args.cuts in
-    let p : n ≡ part_len u c.rest.before 0 (drop s cs) = c.in_ok-part.ensures.len ∙ ap (part_len u c.rest.before 0) (take_rest cs s) in
-    let q : c.gap_len-spaces.result ≡ gap_len (drop n (drop s cs)) = c.gap_len-spaces.ensures.value ∙ ap gap_len (take_rest cs (s + n) ∙ sym (drop-drop n s cs)) in
-    let some : 0 < n + c.gap_len-spaces.result = step-some u c.rest.before s n c.gap_len-spaces.result cs c.rest-test.true p q in
+    let p : n ≡ part_len u c.rest.before 0 (drop s cs) = c.in_ok-part.ensures.len
+    ∙ ap (part_len u c.rest.before 0) (take_rest cs s) in
+    let q : c.gap_len-spaces.result ≡ gap_len (drop n (drop s cs)) = c.gap_len-spaces.ensures.value
+    ∙ ap gap_len (take_rest cs (s + n) ∙ sym (drop-drop n s cs)) in
+    let some : 0 < n + c.gap_len-spaces.result = step-some u c.rest.before s n c.gap_len-spaces.result cs
+    c.rest-test.true p q in
     let lt : s < length cs = c.rest-test.true in
     omega arith
 
@@ -57,27 +70,48 @@ rest-preserved c =
     let n = c.in_ok-part.part.len in
     let m = c.gap_len-spaces.result in
     let u = c.args.cuts in
-    let p : n ≡ part_len u c.rest.before 0 (drop s cs) = c.in_ok-part.ensures.len ∙ ap (part_len u c.rest.before 0) (take_rest cs s) in
-    let q : m ≡ gap_len (drop n (drop s cs)) = c.gap_len-spaces.ensures.value ∙ ap gap_len (take_rest cs (s + n) ∙ sym (drop-drop n s cs)) in
-    let w : c.in_ok-wide.wide ≡ c.rest.used + code_columns (take n (drop s cs)) = c.in_ok-wide.ensures ∙ ap (λ k. c.rest.used + k) (c.in_ok-part.ensures.columns ∙ ap (λ xs. code_columns (take n xs)) (take_rest cs s)) in
+    let p : n ≡ part_len u c.rest.before 0 (drop s cs) = c.in_ok-part.ensures.len
+    ∙ ap (part_len u c.rest.before 0) (take_rest cs s) in
+    let q : m ≡ gap_len (drop n (drop s cs)) = c.gap_len-spaces.ensures.value
+    ∙ ap gap_len (take_rest cs (s + n) ∙ sym (drop-drop n s cs)) in
+    let w : c.in_ok-wide.wide ≡ c.rest.used + code_columns (take n (drop s cs)) = c.in_ok-wide.ensures
+    ∙ ap (λ k. c.rest.used + k) (c.in_ok-part.ensures.columns ∙ ap (λ xs. code_columns (take n xs)) (take_rest cs s))
+    in
     let t : (nat_lt 0 s && nat_lt c.args.room c.in_ok-wide.wide) ≡ false =
-    elim c.else-end-gt0.branch [ else-end-gt0-via-then-end-gt0+else-room-wide w ↦ (let a = w.if-room-wide.false in grind (arith, nat_tests)) | else-end-gt0-via-else-end-gt0 w ↦ (let a = w.if-end-gt0.false in grind (arith, nat_tests)) ] in
+    elim c.else-end-gt0.branch [
+      | else-end-gt0-via-then-end-gt0+else-room-wide w ↦
+          (let a = w.if-room-wide.false in grind (arith, nat_tests))
+      | else-end-gt0-via-else-end-gt0 w ↦
+          (let a = w.if-end-gt0.false in grind (arith, nat_tests))
+    ] in
     let some : 0 < n + m = step-some u c.rest.before s n m cs c.rest-test.true p q in
-    let inside : (s + n) + m ≤ length cs = omega (arith, c.gap_len-spaces.ensures.within, ap length (take_rest cs (s + n)), length-drop (s + n) cs, c.in_ok-part.ensures.within, ap length (take_rest cs s), length-drop s cs) in
-    let b1 : c.index-codes-end.result ≡ code_behind c.args.first ((s + n) + m) cs = c.index-codes-end.is ∙ behind-last c.args.first ((s + n) + m) c.index-codes-end.result cs (omega arith) inside in
+    let inside : (s + n) + m ≤ length cs = omega (
+      arith,
+      c.gap_len-spaces.ensures.within,
+      ap length (take_rest cs (s + n)),
+      length-drop (s + n) cs,
+      c.in_ok-part.ensures.within,
+      ap length (take_rest cs s),
+      length-drop s cs,
+    ) in
+    let b1 : c.index-codes-end.result ≡ code_behind c.args.first ((s + n) + m) cs = c.index-codes-end.is
+    ∙ behind-last c.args.first ((s + n) + m) c.index-codes-end.result cs (omega arith) inside in
     let b2 : code_behind c.rest.before (n + m) (drop s cs) ≡ code_behind c.args.first ((s + n) + m) cs =
-    ap (λ a. code_behind a (n + m) (drop s cs)) c.rest.invariant.behind ∙ sym (behind-add c.args.first s (n + m) cs) ∙ ap (λ k. code_behind c.args.first k cs) (omega arith) in
+    ap (λ a. code_behind a (n + m) (drop s cs)) c.rest.invariant.behind ∙ sym (behind-add c.args.first s (n + m) cs)
+    ∙ ap (λ k. code_behind c.args.first k cs) (omega arith) in
     record {
       packed = λ cells further e.
           c.rest.invariant.packed cells further e
-          ∙ row-fits u c.args.room further c.rest.before s n m c.rest.used c.in_ok-wide.wide c.index-codes-end.result c.in_ok-used.used cells cs e c.rest-test.true p q w t (b1 ∙ sym b2) c.in_ok-used.ensures;
+          ∙ row-fits u c.args.room further c.rest.before s n m c.rest.used c.in_ok-wide.wide c.index-codes-end.result
+          c.in_ok-used.used cells cs e c.rest-test.true p q w t (b1 ∙ sym b2) c.in_ok-used.ensures;
       behind = b1;
       within = inside;
     }
 
 pub returns : goal.returns
 returns c = record {
-  value = λ cells further e. row-whole c.args.cuts c.args.room further c.args.first c.rest.before c.rest.end c.rest.used cells c.args.codes.now e c.rest-test.false (c.rest.invariant.packed cells further e);
+  value = λ cells further e. row-whole c.args.cuts c.args.room further c.args.first c.rest.before c.rest.end c.rest.used
+      cells c.args.codes.now e c.rest-test.false (c.rest.invariant.packed cells further e);
   some = λ h. omega arith;
   within = c.rest.invariant.within;
 }

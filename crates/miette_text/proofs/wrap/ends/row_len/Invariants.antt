@@ -8,7 +8,8 @@ abbrev pub invariant-rest : goal.invariant-rest
 invariant-rest l = record {
   packed : (cells : List Cell) (further : ℕ) → codes_of cells ≡ l.codes →
       pack false [] 0 l.room further (words_behind l.cuts l.fn.first cells)
-      ≡ pack (nat_lt 0 l.end) (take l.end cells) l.used l.room further (words_behind l.cuts l.before (drop l.end cells));
+      ≡ pack (nat_lt 0 l.end) (take l.end cells) l.used l.room further
+      (words_behind l.cuts l.before (drop l.end cells));
   behind : l.before ≡ code_behind l.fn.first l.end l.codes;
   within : l.end ≤ length l.codes;
 }

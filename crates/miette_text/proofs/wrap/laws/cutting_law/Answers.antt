@@ -2,4 +2,10 @@ use Rattle.miette_text.proofs.Cuts.{leading-tame, leading-erase, trailing-tame, 
 use Rattle.miette_text.proofs.wrap.laws.cutting_law.Goals as goal
 
 pub returns : goal.returns
-returns c = record { leading_tame = leading-tame; leading = leading-erase; trailing_tame = trailing-tame; trailing = trailing-erase }
+returns c = record {
+  leading_tame = leading-tame;
+  leading = leading-erase;
+  trailing_tame = trailing-tame;
+  trailing =
+      trailing-erase;
+}

@@ -1,4 +1,5 @@
-use Rattle.std.proofs.Common.{◌≡◌, ◌∙◌, ◌+◌, ◌-◌, ◌<◌, ◌≤◌, ◌++◌, ◌∷◌, [], ap, ap₂, arith, drop, drop-drop, length, length-drop, map, sym, take}
+use Rattle.std.proofs.Common.{◌≡◌, ◌∙◌, ◌+◌, ◌-◌, ◌<◌, ◌≤◌, ◌++◌, ◌∷◌, [], ap, ap₂, arith, drop, drop-drop, length}
+use Rattle.std.proofs.Common.{length-drop, map, sym, take}
 use Rattle.std.proofs.lemmas.List.{drop-take, take_rest}
 use Rattle.std.specs.List.{concat}
 use Rattle.miette_text.specs.steps.Ends.{line_len}
@@ -29,20 +30,30 @@ returns-then-end-text g c =
     let o = g.S.Sink.holds c.rest.out in
     let q : n ≡ line_len (drop s cs) = c.line_len-n.ensures.value ∙ ap line_len (take_rest cs s) in
     let ends = c.if-end-text.true in
-    let whole : drop s (take (s + n) cs) ≡ drop s cs = drop-take s n cs ∙ ap (λ i. take i (drop s cs)) (omega arith) ∙ take_rest cs s in
+    let whole : drop s (take (s + n) cs) ≡ drop s cs = drop-take s n cs ∙ ap (λ i. take i (drop s cs)) (omega arith)
+    ∙ take_rest cs s in
     let text = line_text u further c.rest.room room s (drop s cs) (drop k all) in
-    let e : g.S.Sink.holds c.push_rows.new.out ≡ o ++ g.S.Sink.spells (line_text u further c.rest.room room s (drop s (take (s + n) cs)) ms) = c.in_ok-inside.ensures.text ∙ ap (λ us. o ++ g.S.Sink.spells us) (piece-printed u c.rest.room room (interleaving 0 under.further.codes.now under.further.tags.now) (record { cells = cells_at s (drop s (take (s + n) cs)) ms; rest = [] })) in
+    let e : g.S.Sink.holds c.push_rows.new.out ≡ o ++ g.S.Sink.spells
+    (line_text u further c.rest.room room s (drop s (take (s + n) cs)) ms) = c.in_ok-inside.ensures.text
+    ∙ ap (λ us. o ++ g.S.Sink.spells us) (piece-printed u c.rest.room room
+    (interleaving 0 under.further.codes.now under.further.tags.now)
+    (record { cells = cells_at s (drop s (take (s + n) cs)) ms; rest = [] })) in
     let said : drop m ms ≡ left_at s (drop s (take (s + n) cs)) ms = c.in_ok-inside.ensures.left in
     let rest = take (length all - (k + m)) (drop (k + m) all) in
     let left : rest ≡ left_at s (drop s cs) (drop k all) =
     take_rest all (k + m) ∙ sym (drop-drop m k all) ∙ ap (drop m) (sym mq) ∙ said ∙ ap₂ (left_at s) whole mq in
-    let f : g.S.Sink.holds c.push_tags.new.out ≡ g.S.Sink.holds c.push_rows.new.out ++ g.S.Sink.spells (tags_spelled rest) = c.in_ok-push_tags.ensures in
+    let f : g.S.Sink.holds c.push_tags.new.out ≡ g.S.Sink.holds c.push_rows.new.out
+    ++ g.S.Sink.spells (tags_spelled rest) = c.in_ok-push_tags.ensures in
     f
-    ∙ ap₂ (λ us vs. us ++ g.S.Sink.spells (tags_spelled vs)) (e ∙ ap₂ (λ us vs. o ++ g.S.Sink.spells (line_text u further c.rest.room room s us vs)) whole mq) left
+    ∙ ap₂ (λ us vs. us ++ g.S.Sink.spells (tags_spelled vs))
+    (e ∙ ap₂ (λ us vs. o ++ g.S.Sink.spells (line_text u further c.rest.room room s us vs)) whole mq) left
     ∙ appended g.S.Sink.spells g.met.S.Sink.joins o text (tags_spelled (left_at s (drop s cs) (drop k all)))
-    ∙ ap (λ us. o ++ g.S.Sink.spells us) (sym (last-line u further c.rest.room room n s (drop s cs) (drop k all) q (omega (arith, length-drop s cs))))
+    ∙ ap (λ us. o ++ g.S.Sink.spells us) (sym (last-line u further c.rest.room room n s (drop s cs) (drop k all) q
+    (omega (arith, length-drop s cs))))
     ∙ c.rest.invariant.printed
-    ∙ ap (λ us. g.S.Sink.holds c.args.out.now ++ g.S.Sink.spells us) (sym (text-printed u under.room room (interleaving 0 under.further.codes.now under.further.tags.now) (text_lines (interleaving 0 cs all))))
+    ∙ ap (λ us. g.S.Sink.holds c.args.out.now ++ g.S.Sink.spells us)
+    (sym (text-printed u under.room room (interleaving 0 under.further.codes.now under.further.tags.now)
+    (text_lines (interleaving 0 cs all))))
 
 pub rest-preserved : goal.rest-preserved
 rest-preserved g c =
@@ -70,24 +81,36 @@ rest-preserved g c =
     let less : n < length (drop s cs) = omega (arith, ap length (take_rest cs s), length-drop s cs) in
     let line : drop s (take (s + n) cs) ≡ take n (drop s cs) = drop-take s n cs in
     let text = line_text u further c.rest.room room s (take n (drop s cs)) (drop k all) in
-    let e : g.S.Sink.holds c.push_rows.new.out ≡ o ++ g.S.Sink.spells (line_text u further c.rest.room room s (drop s (take (s + n) cs)) ms) = c.in_ok-inside.ensures.text ∙ ap (λ us. o ++ g.S.Sink.spells us) (piece-printed u c.rest.room room (interleaving 0 under.further.codes.now under.further.tags.now) (record { cells = cells_at s (drop s (take (s + n) cs)) ms; rest = [] })) in
+    let e : g.S.Sink.holds c.push_rows.new.out ≡ o ++ g.S.Sink.spells
+    (line_text u further c.rest.room room s (drop s (take (s + n) cs)) ms) = c.in_ok-inside.ensures.text
+    ∙ ap (λ us. o ++ g.S.Sink.spells us) (piece-printed u c.rest.room room
+    (interleaving 0 under.further.codes.now under.further.tags.now)
+    (record { cells = cells_at s (drop s (take (s + n) cs)) ms; rest = [] })) in
     let said : drop m ms ≡ left_at s (drop s (take (s + n) cs)) ms = c.in_ok-inside.ensures.left in
     let left : rest ≡ left_at s (take n (drop s cs)) (drop k all) =
     rq ∙ sym (drop-drop m k all) ∙ ap (drop m) (sym mq) ∙ said ∙ ap₂ (left_at s) line mq in
     let signs = concat (map tag_text (upto (s + n) (left_at s (take n (drop s cs)) (drop k all)))) in
-    let f : g.S.Sink.holds c.push_signs.new.out ≡ g.S.Sink.holds c.push_rows.new.out ++ g.S.Sink.spells (tags_text (cells_at (s + n) (10 ∷ []) rest)) = c.in_ok-behind.ensures.text in
+    let f : g.S.Sink.holds c.push_signs.new.out ≡ g.S.Sink.holds c.push_rows.new.out
+    ++ g.S.Sink.spells (tags_text (cells_at (s + n) (10 ∷ []) rest)) = c.in_ok-behind.ensures.text in
     let told : drop j rest ≡ beyond (s + n) rest = c.in_ok-behind.ensures.left in
     let below : drop ((k + m) + j) all ≡ beyond (s + n) (left_at s (take n (drop s cs)) (drop k all)) =
     sym (drop-drop j (k + m) all) ∙ ap (drop j) (sym rq) ∙ told ∙ ap (beyond (s + n)) left in
-    let b : g.S.Sink.holds c.push_break.new.out ≡ g.S.Sink.holds c.push_signs.new.out ++ g.S.Sink.spells (10 ∷ further) = c.in_ok-push_break.ensures in
-    let next = text_of u further room room (interleaving ((s + n) + 1) (drop ((s + n) + 1) cs) (drop ((k + m) + j) all)) in
-    let d : drop (n + 1) (drop s cs) ≡ drop ((s + n) + 1) cs = drop-drop (n + 1) s cs ∙ ap (λ i. drop i cs) (omega arith) in
-    let printed : text_of u further c.rest.room room (interleaving s (drop s cs) (drop k all)) ≡ (text ++ signs) ++ ((10 ∷ further) ++ next) =
+    let b : g.S.Sink.holds c.push_break.new.out ≡ g.S.Sink.holds c.push_signs.new.out
+    ++ g.S.Sink.spells (10 ∷ further) = c.in_ok-push_break.ensures in
+    let next = text_of u further room room (interleaving ((s + n) + 1) (drop ((s + n) + 1) cs) (drop ((k + m) + j) all))
+    in
+    let d : drop (n + 1) (drop s cs) ≡ drop ((s + n) + 1) cs = drop-drop (n + 1) s cs
+    ∙ ap (λ i. drop i cs) (omega arith) in
+    let printed : text_of u further c.rest.room room (interleaving s (drop s cs) (drop k all)) ≡ (text ++ signs)
+    ++ ((10 ∷ further) ++ next) =
     line-at u further c.rest.room room n s (drop s cs) (drop k all) q less
-    ∙ ap₂ (λ us vs. (text ++ signs) ++ ((10 ∷ further) ++ text_of u further room room (interleaving ((s + n) + 1) us vs))) d (sym below) in
-    let row : g.S.Sink.holds c.push_rows.new.out ≡ o ++ g.S.Sink.spells text = e ∙ ap₂ (λ us vs. o ++ g.S.Sink.spells (line_text u further c.rest.room room s us vs)) line mq in
+    ∙ ap₂ (λ us vs. (text ++ signs) ++ ((10 ∷ further) ++ text_of u further room room
+    (interleaving ((s + n) + 1) us vs))) d (sym below) in
+    let row : g.S.Sink.holds c.push_rows.new.out ≡ o ++ g.S.Sink.spells text = e
+    ∙ ap₂ (λ us vs. o ++ g.S.Sink.spells (line_text u further c.rest.room room s us vs)) line mq in
     let both : g.S.Sink.holds c.push_signs.new.out ≡ o ++ g.S.Sink.spells (text ++ signs) =
-    f ∙ ap₂ (λ us vs. us ++ g.S.Sink.spells vs) row (feed-tags (s + n) rest ∙ ap (λ us. concat (map tag_text (upto (s + n) us))) left)
+    f ∙ ap₂ (λ us vs. us ++ g.S.Sink.spells vs) row (feed-tags (s + n) rest
+    ∙ ap (λ us. concat (map tag_text (upto (s + n) us))) left)
     ∙ appended g.S.Sink.spells g.met.S.Sink.joins o text signs in
     record {
       printed =
@@ -97,5 +120,13 @@ rest-preserved g c =
           ∙ ap (λ us. o ++ g.S.Sink.spells us) (sym printed)
           ∙ c.rest.invariant.printed;
       within = omega (arith, length-drop s cs);
-      marked = omega (arith, c.in_ok-inside.ensures.within, c.in_ok-behind.ensures.within, ap length mq, ap length rq, length-drop k all, length-drop (k + m) all);
+      marked = omega (
+        arith,
+        c.in_ok-inside.ensures.within,
+        c.in_ok-behind.ensures.within,
+        ap length mq,
+        ap length rq,
+        length-drop k all,
+        length-drop (k + m) all,
+      );
     }

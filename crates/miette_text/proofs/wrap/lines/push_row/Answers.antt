@@ -25,12 +25,15 @@ returns-clause-text g c =
     let behind = take (length codes - n) (drop n codes) in
     let tags = take (length ms - k) (drop k ms) in
     let f : g.S.Sink.holds c.push_cells.new.out ≡ old ++ g.S.Sink.spells front = c.in_ok-used.ensures.text in
-    let b : g.S.Sink.holds c.push_signs.new.out ≡ g.S.Sink.holds c.push_cells.new.out ++ g.S.Sink.spells (tags_text (cells_at (s + n) behind tags)) = c.in_ok-dropped.ensures.text in
+    let b : g.S.Sink.holds c.push_signs.new.out ≡ g.S.Sink.holds c.push_cells.new.out
+    ++ g.S.Sink.spells (tags_text (cells_at (s + n) behind tags)) = c.in_ok-dropped.ensures.text in
     let left : tags ≡ left_at s (take n codes) ms = take_rest ms k ∙ c.in_ok-used.ensures.left in
     b
     ∙ ap₂ (λ us vs. us ++ g.S.Sink.spells (tags_text (cells_at (s + n) behind vs))) f left
-    ∙ ap (λ us. (old ++ g.S.Sink.spells front) ++ g.S.Sink.spells (tags_text (cells_at (s + n) us (left_at s (take n codes) ms)))) (take_rest codes n)
-    ∙ appended g.S.Sink.spells g.met.S.Sink.joins old front (tags_text (cells_at (s + n) (drop n codes) (left_at s (take n codes) ms)))
+    ∙ ap (λ us. (old ++ g.S.Sink.spells front) ++ g.S.Sink.spells
+    (tags_text (cells_at (s + n) us (left_at s (take n codes) ms)))) (take_rest codes n)
+    ∙ appended g.S.Sink.spells g.met.S.Sink.joins old front
+    (tags_text (cells_at (s + n) (drop n codes) (left_at s (take n codes) ms)))
     ∙ ap (λ us. old ++ g.S.Sink.spells us) (sym (cells-shown s n codes ms e))
     ∙ ap (λ us. old ++ g.S.Sink.spells (shown (cells_at s us ms))) q
     ∙ ap (λ us. old ++ g.S.Sink.spells us) (sym (spell-trimmed (cells_at s (drop s cs) ms)))

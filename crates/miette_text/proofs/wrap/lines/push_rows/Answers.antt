@@ -1,4 +1,5 @@
-use Rattle.std.proofs.Common.{◌≡◌, ◌∙◌, ◌+◌, ◌-◌, ◌<◌, ◌≤◌, ◌++◌, ◌∷◌, [], ap, ap₂, arith, drop, drop-drop, get_or, length, length-drop, map, sym, take}
+use Rattle.std.proofs.Common.{◌≡◌, ◌∙◌, ◌+◌, ◌-◌, ◌<◌, ◌≤◌, ◌++◌, ◌∷◌, [], ap, ap₂, arith, drop, drop-drop, get_or}
+use Rattle.std.proofs.Common.{length, length-drop, map, sym, take}
 use Rattle.std.proofs.lemmas.List.{drop-take, get_or-drop, take_rest}
 use Rattle.miette_text.specs.steps.Ends.{code_behind, row_cells}
 use Rattle.miette_runs.specs.rules.Sequences.{spell}
@@ -29,15 +30,23 @@ returns-then-end-line-clause-text g c =
     let mq : ms ≡ drop k all = take_rest all k in
     let o = g.S.Sink.holds c.rest.out in
     let row : drop s (take (s + n) cs) ≡ take n xs = drop-take s n cs ∙ ap (take n) (sym q) in
-    let e : g.S.Sink.holds c.push_row.new.out ≡ o ++ g.S.Sink.spells (shown (cells_at s (drop s (take (s + n) cs)) ms)) = c.in_ok-more.ensures.text ∙ ap (λ us. o ++ g.S.Sink.spells us) (spell-trimmed (cells_at s (drop s (take (s + n) cs)) ms)) in
+    let e : g.S.Sink.holds c.push_row.new.out ≡ o ++ g.S.Sink.spells (shown (cells_at s (drop s (take (s + n) cs)) ms))
+    = c.in_ok-more.ensures.text ∙ ap (λ us. o ++ g.S.Sink.spells us)
+    (spell-trimmed (cells_at s (drop s (take (s + n) cs)) ms)) in
     let l : length xs ≤ n = omega (arith, c.if-end-line.true, ap length q, length-drop s cs) in
     e
     ∙ ap₂ (λ us vs. o ++ g.S.Sink.spells (shown (cells_at s us vs))) row mq
-    ∙ ap (λ us. o ++ g.S.Sink.spells us) (sym (last-printed u further c.rest.before c.rest.room under.further_room n s xs (drop k all) c.in_ok-n.ensures.value l))
-    ∙ ap (λ us. o ++ g.S.Sink.spells (rows_text u further c.rest.before c.rest.room under.further_room s us (drop k all))) q
+    ∙ ap (λ us. o ++ g.S.Sink.spells us) (sym (last-printed u further c.rest.before c.rest.room under.further_room n s
+    xs (drop k all) c.in_ok-n.ensures.value l))
+    ∙ ap (λ us. o ++ g.S.Sink.spells (rows_text u further c.rest.before c.rest.room under.further_room s us
+    (drop k all))) q
     ∙ c.rest.invariant.printed
-    ∙ ap (λ ws. g.S.Sink.holds c.args.out.now ++ g.S.Sink.spells (joined_lines [] further (lines_of [] (map row_cells (rows under.room under.further_room ws))))) (words-alone u (cells_at c.args.first (drop c.args.first cs) all))
-    ∙ ap (λ us. g.S.Sink.holds c.args.out.now ++ g.S.Sink.spells us) (sym (piece-printed u under.room under.further_room (interleaving 0 under.further.codes.now under.further.tags.now) (record { cells = cells_at c.args.first (drop c.args.first cs) all; rest = [] })))
+    ∙ ap (λ ws. g.S.Sink.holds c.args.out.now ++ g.S.Sink.spells
+    (joined_lines [] further (lines_of [] (map row_cells (rows under.room under.further_room ws)))))
+    (words-alone u (cells_at c.args.first (drop c.args.first cs) all))
+    ∙ ap (λ us. g.S.Sink.holds c.args.out.now ++ g.S.Sink.spells us)
+    (sym (piece-printed u under.room under.further_room (interleaving 0 under.further.codes.now
+    under.further.tags.now) (record { cells = cells_at c.args.first (drop c.args.first cs) all; rest = [] })))
 
 pub rest-preserved : goal.rest-preserved
 rest-preserved g c =
@@ -67,7 +76,8 @@ rest-preserved g c =
     let last = get_or cs ((s + n) - 1) 0 in
     let place : (s + n) - 1 ≡ s + (n - 1) = omega arith in
     let b : last ≡ code_behind c.rest.before n xs =
-    ap (λ i. get_or cs i 0) place ∙ sym (get_or-drop s cs (n - 1) 0) ∙ ap (λ us. get_or us (n - 1) 0) (sym q) ∙ behind-last c.rest.before n 0 xs some inside in
+    ap (λ i. get_or cs i 0) place ∙ sym (get_or-drop s cs (n - 1) 0) ∙ ap (λ us. get_or us (n - 1) 0) (sym q)
+    ∙ behind-last c.rest.before n 0 xs some inside in
     let d : drop n xs ≡ drop (s + n) cs = ap (drop n) q ∙ drop-drop n s cs in
     let said : drop m ms ≡ left_at s (drop s (take (s + n) cs)) ms = c.in_ok-more.ensures.left in
     let more : m ≤ length ms = c.in_ok-more.ensures.within in
@@ -75,15 +85,21 @@ rest-preserved g c =
     sym (drop-drop m k all) ∙ ap (drop m) (sym mq) ∙ said ∙ ap₂ (left_at s) row mq in
     let next = rows_text u further last room room (s + n) (drop (s + n) cs) (drop (k + m) all) in
     let shown_row = shown (cells_at s (take n xs) (drop k all)) in
-    let e : g.S.Sink.holds c.push_row.new.out ≡ o ++ g.S.Sink.spells (shown (cells_at s (drop s (take (s + n) cs)) ms)) = c.in_ok-more.ensures.text ∙ ap (λ us. o ++ g.S.Sink.spells us) (spell-trimmed (cells_at s (drop s (take (s + n) cs)) ms)) in
-    let f : g.S.Sink.holds c.push_break.new.out ≡ g.S.Sink.holds c.push_row.new.out ++ g.S.Sink.spells (10 ∷ further) = c.in_ok-push_break.ensures in
-    let printed : rows_text u further c.rest.before c.rest.room room s xs (drop k all) ≡ shown_row ++ ((10 ∷ further) ++ next) =
+    let e : g.S.Sink.holds c.push_row.new.out ≡ o ++ g.S.Sink.spells (shown (cells_at s (drop s (take (s + n) cs)) ms))
+    = c.in_ok-more.ensures.text ∙ ap (λ us. o ++ g.S.Sink.spells us)
+    (spell-trimmed (cells_at s (drop s (take (s + n) cs)) ms)) in
+    let f : g.S.Sink.holds c.push_break.new.out ≡ g.S.Sink.holds c.push_row.new.out ++ g.S.Sink.spells (10 ∷ further) =
+    c.in_ok-push_break.ensures in
+    let printed : rows_text u further c.rest.before c.rest.room room s xs (drop k all) ≡ shown_row
+    ++ ((10 ∷ further) ++ next) =
     row-printed u further c.rest.before c.rest.room room n s xs (drop k all) c.in_ok-n.ensures.value less
-    ∙ ap (λ a. shown_row ++ ((10 ∷ further) ++ rows_text u further a room room (s + n) (drop n xs) (left_at s (take n xs) (drop k all)))) (sym b)
+    ∙ ap (λ a. shown_row ++ ((10 ∷ further) ++ rows_text u further a room room (s + n) (drop n xs)
+    (left_at s (take n xs) (drop k all)))) (sym b)
     ∙ ap₂ (λ us vs. shown_row ++ ((10 ∷ further) ++ rows_text u further last room room (s + n) us vs)) d (sym left) in
     record {
       printed =
-          ap (λ us. us ++ g.S.Sink.spells next) (f ∙ ap (λ us. us ++ g.S.Sink.spells (10 ∷ further)) (e ∙ ap₂ (λ us vs. o ++ g.S.Sink.spells (shown (cells_at s us vs))) row mq))
+          ap (λ us. us ++ g.S.Sink.spells next) (f ∙ ap (λ us. us ++ g.S.Sink.spells (10 ∷ further))
+          (e ∙ ap₂ (λ us vs. o ++ g.S.Sink.spells (shown (cells_at s us vs))) row mq))
           ∙ appended g.S.Sink.spells g.met.S.Sink.joins (o ++ g.S.Sink.spells shown_row) (10 ∷ further) next
           ∙ appended g.S.Sink.spells g.met.S.Sink.joins o shown_row ((10 ∷ further) ++ next)
           ∙ ap (λ us. o ++ g.S.Sink.spells us)

@@ -12,6 +12,12 @@ returns g c =
     let chain = c.args.self.now in
     let xs = spine (value c.in-Some-at.report.now) in
     let last = c.last_within-before in
-    let steps : left_of g.D.Diagnostic.meaning g.S.SourceCode.source chain ≡ (take last.result.1 (spine_from (option_map (λ r. value r.now) chain.at)) ++ map string_bytes chain.texts.now) ++ last.result.0.now ∷ [] =
-    rw c.in-Some-at.is (last_left xs chain.texts.now chain.count last.result.1 last.result.0.now c.in_default.ensures.cases last.ensures.parts) in
-    record { steps = steps; goes = record { on = λ _. (tt, tt, fewer_before _ _ _ steps); keeps = tt; rests = λ _. tt } }
+    let steps : left_of g.D.Diagnostic.meaning g.S.SourceCode.source chain
+    ≡ (take last.result.1 (spine_from (option_map (λ r. value r.now) chain.at)) ++ map string_bytes chain.texts.now)
+    ++ last.result.0.now ∷ [] =
+    rw c.in-Some-at.is (last_left xs chain.texts.now chain.count last.result.1 last.result.0.now
+    c.in_default.ensures.cases last.ensures.parts) in
+    record {
+      steps = steps;
+      goes = record { on = λ _. (tt, tt, fewer_before _ _ _ steps); keeps = tt; rests = λ _. tt };
+    }

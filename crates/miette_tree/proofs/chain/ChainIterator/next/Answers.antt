@@ -17,6 +17,10 @@ returns g c =
     let one : chain.count ≡ suc (chain.count - 1) = omega (arith, c.if-self-gt0.true) in
     let rest : below ≡ spine_below (cause_of at) = search rules in
     let first : c.message.result.now ≡ (head at).message = search rules in
-    let steps : left_of g.D.Diagnostic.meaning g.S.SourceCode.source chain ≡ c.message.result.now ∷ (take (chain.count - 1) below ++ ts) =
+    let steps : left_of g.D.Diagnostic.meaning g.S.SourceCode.source chain ≡ c.message.result.now
+    ∷ (take (chain.count - 1) below ++ ts) =
     rw c.in-Some.is (first_left at below ts chain.count (chain.count - 1) c.message.result.now one rest first) in
-    record { steps = steps; goes = record { on = λ _. (tt, tt, fewer_behind _ _ _ steps); keeps = tt; rests = λ _. tt } }
+    record {
+      steps = steps;
+      goes = record { on = λ _. (tt, tt, fewer_behind _ _ _ steps); keeps = tt; rests = λ _. tt };
+    }
