@@ -72,7 +72,7 @@ def built(name):
 
 
 def command(who, workload, times, asked, suffix=""):
-    """How a program is called to render so many times; nothing where it can't."""
+    """How a program is called to render this many times; nothing where it can't."""
     name = workload.program
     if who == OURS:
         repeated = [] if name == "draw" else [str(times)]

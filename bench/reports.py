@@ -24,7 +24,7 @@ def spans(places, length, text="label {}"):
 
 
 def within(count, line, text):
-    """So many labels over twice so many lines of this length, each within the one before and begun
+    """`count` labels over twice as many lines of this length, each within the one before and begun
     a line below it."""
     found = spans(range(0, count * line, line), 0, text)
     for i, label in enumerate(found):
@@ -139,14 +139,14 @@ def typical_cjk():
 
 
 def big(megabytes):
-    """One label near the end of a source of so many megabytes."""
+    """One label near the end of a source of this many megabytes."""
     text = rows(3, megabytes * MB)
     labels = [{"offset": len(text) - 40 * ROW + 11, "length": 12, "label": "near the end"}]
     return labelled("a fault near the end of a big file", labels, text, "big.txt")
 
 
 def spread(count, size):
-    """So many labels spread over a source of so many bytes."""
+    """`count` labels spread over a source of `size` bytes."""
     text = rows(4, size)
     held = len(text) // ROW
     places = (i * held // count * ROW + 7 for i in range(count))
@@ -154,14 +154,14 @@ def spread(count, size):
 
 
 def near(count):
-    """So many labels on neighbouring lines in the middle of 1 MB."""
+    """`count` labels on neighbouring lines in the middle of 1 MB."""
     places = ((5000 + i) * ROW + 7 for i in range(count))
     message = "many findings side by side"
     return labelled(message, spans(places, 9), rows(5, MB), "many.txt")
 
 
 def long_line(kilobytes, is_head=False):
-    """A label in the middle, or near the head, of a line of so many kilobytes of words."""
+    """A label in the middle, or near the head, of a line of this many kilobytes of words."""
     text = words(Numbers(6), kilobytes * KB)
     place = 100 if is_head else len(text) // 2
     labels = [{"offset": place, "length": 10, "label": "on the line"}]
@@ -169,7 +169,7 @@ def long_line(kilobytes, is_head=False):
 
 
 def one_line(count):
-    """So many labels on one line of words."""
+    """`count` labels on one line of words."""
     size = 10 * count
     labels = spans(range(2, size, 10), 5, "label number {}")
     text = words(Numbers(7), size)[:size] + "\n"
@@ -177,7 +177,7 @@ def one_line(count):
 
 
 def long_message(kilobytes):
-    """A message of so many thousand bytes of words."""
+    """A message of this many thousand bytes of words."""
     return {"message": words(Numbers(8), kilobytes * 1000)}
 
 
@@ -187,7 +187,7 @@ def changed_message(kilobytes, change):
 
 
 def escaped_message(kilobytes):
-    """A message of so many kilobytes, of which each few bytes are escaped in JSON."""
+    """A message of this many kilobytes, of which each few bytes are escaped in JSON."""
     return {"message": escaped(9, kilobytes * KB)}
 
 
@@ -202,7 +202,7 @@ def finding(i, place):
 
 
 def related(count):
-    """So many related reports over one source."""
+    """`count` related reports over one source."""
     text = sample()
     starts = [0]
     for line in text.splitlines(keepends=True):
@@ -239,7 +239,7 @@ def nested_related(depth, layer=0):
 
 
 def blocks(count):
-    """So many labels over many lines, one within the other."""
+    """`count` labels over many lines, one within the other."""
     labels = within(count, ROW, "block {}")
     return labelled("blocks", labels, rows(10, 2 * count * ROW), "blocks.txt")
 
@@ -250,23 +250,23 @@ def findings(labels, text):
 
 
 def span_of_lines(count):
-    """One label over so many lines."""
+    """One label over `count` lines."""
     text = lines(count)
     return findings([{"offset": 3, "length": len(text) - 10, "label": "all of it"}], text)
 
 
 def same_span(count):
-    """So many labels over the same twenty lines."""
+    """`count` labels over the same twenty lines."""
     return findings(spans([0] * count, 19 * LINE, "b{}"), lines(20))
 
 
 def nested_labels(count):
-    """So many labels over many lines, each within the one before."""
+    """`count` labels over many lines, each within the one before."""
     return findings(within(count, LINE, "b{}"), lines(2 * count))
 
 
 def line_labels(count):
-    """So many labels with texts on one line."""
+    """`count` labels with texts on one line."""
     size = 10 * count
     text = words(Numbers(7), size)[:size] + "\n"
     return findings(spans(range(2, size, 10), 5), text)

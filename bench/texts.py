@@ -26,7 +26,7 @@ def word(numbers):
 
 
 def words(numbers, size):
-    """Words with a space between them, at least so many bytes less one."""
+    """Words with a space between them, at least `size` bytes less one."""
     found, length = [], 0
     while length < size:
         found.append(word(numbers))
@@ -35,21 +35,21 @@ def words(numbers, size):
 
 
 def rows(first, size):
-    """Lines of 80 bytes, as many as so many bytes hold."""
+    """Lines of 80 bytes, as many as `size` bytes hold."""
     numbers = Numbers(first)
     pool = [words(numbers, ROW)[: ROW - 1] + "\n" for _ in range(64)]
     return "".join(pool[numbers.below(64)] for _ in range(size // ROW))
 
 
 def lines(count):
-    """So many lines of 40 bytes, without spaces."""
+    """`count` lines of 40 bytes, without spaces."""
     pool = words(Numbers(3), 100_000).replace(" ", "_")
     starts = (37 * i % 90_000 for i in range(count))
     return "".join(pool[it : it + 39] + "\n" for it in starts)
 
 
 def escaped(first, size):
-    """Words of about so many bytes, with a character between them that most texts escape."""
+    """Words of about `size` bytes, with a character between them that most texts escape."""
     numbers, found, length = Numbers(first), [], 0
     between = '"\\\n\t\x01\r\b\fé漢\x1b'
     while length < size:

@@ -45,7 +45,7 @@ def place_at(source, label):
 
 
 def spelled(place):
-    """A place with the colon and the space behind it; what isn't there is left out."""
+    """A place with the colon and the space after it; what isn't there is left out."""
     name, at = place
     parts = ([] if name is None else [one_row(name)]) + ([] if at is None else [f"{at[0]}:{at[1]}"])
     return ":".join(parts) + ": " if parts else ""

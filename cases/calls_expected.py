@@ -32,7 +32,8 @@ def struct(kind, **fields):
 
 def label(text, offset, length, lines="None"):
     span = struct("SourceSpan", offset=f"SourceOffset({offset})", length=length)
-    return struct("LabeledSpan", label=some(quoted(text)) if text else "None", span=span, primary="false", context_lines=lines)
+    label = some(quoted(text)) if text else "None"
+    return struct("LabeledSpan", label=label, span=span, primary="false", context_lines=lines)
 
 
 def diagnostic(message="oops!", code="a::b", help="try", url="http://x", labels=None):
@@ -75,8 +76,10 @@ def collected(text):
 
 def contents(name=None, language=None):
     """All of the source, read with a line on both sides."""
-    fields = {"bytes": str(list(b"source\n  text\n    here")), "span": struct("SourceSpan", offset="SourceOffset(0)", length=22)}
-    named = {"name": some(quoted(name)) if name else "None", "language": some(quoted(language)) if language else "None"}
+    span = struct("SourceSpan", offset="SourceOffset(0)", length=22)
+    fields = {"bytes": str(list(b"source\n  text\n    here")), "span": span}
+    named = {"name": name, "language": language}
+    named = {key: some(quoted(it)) if it else "None" for key, it in named.items()}
     return f"Ok({struct('MietteSpanContents', **fields, line=0, column=0, line_count=2, **named)})"
 
 
@@ -99,7 +102,9 @@ def pieces(*parts):
     return listed(f"({len(text.encode())}, {its_style})" for text, its_style in styled)
 
 
-FIELDS = "hbar vbar xbar vbar_break uarrow rarrow ltop mtop rtop lbot rbot mbot lbox rbox lcross rcross underbar underline"
+FIELDS = (
+    "hbar vbar xbar vbar_break uarrow rarrow ltop mtop rtop lbot rbot mbot lbox rbox lcross rcross underbar underline"
+)
 
 
 def characters(drawn, icons):
@@ -154,7 +159,7 @@ FULL = diagnostic(labels=[HERE])
 
 
 def parts(code="None", severity="None", help="None", url="None", labels="None"):
-    """The parts of a report behind its message and causes."""
+    """The parts of a report after its message and causes."""
     return f"code {code}, severity {severity}, help {help}, url {url}, labels {labels}"
 
 
@@ -201,7 +206,7 @@ FILLED = f"* a {RED}red{END}\n| word-and-\n| another,\n| abcdefghij\n| klmnop\n|
 FEEDS = f"\n{RED}\nred{END}\n"
 
 
-def behind(text):
+def appended(text):
     """What an appending call is given and leaves."""
     return [quoted("> "), quoted("> " + text)]
 
@@ -216,13 +221,13 @@ def put(text):
     return [printed(text), collected(text)]
 
 
-# what stands behind the name of each call
+# what stands after the name of each call
 ROWS = {
     "LabeledSpan::at": [HERE],
     "LabeledSpan::at_offset": [label("here", 9, 0)],
     "LabeledSpan::clone": [label("This bit here", 9, 4, "Some(2)")] * 3,
     "MietteDiagnostic::new": [
-        struct("MietteDiagnostic", message='"oops!"', code="None", severity="None", help="None", url="None", labels="None")
+        struct("MietteDiagnostic", message='"oops!"', **dict.fromkeys("code severity help url labels".split(), "None"))
     ],
     "MietteDiagnostic::copied": [FULL, FULL],
     "MietteDiagnostic::with_code": [FULL, diagnostic(code="c::d", labels=[HERE])],
@@ -266,13 +271,20 @@ ROWS = {
         quoted('{"a": [1, true]}'),
         pieces("{", ('"a"', GREEN), ":", " ", "[", ("1", style("Cyan")), ",", " ", ("true", style("Yellow")), "]", "}"),
     ],
-    "PatternHighlighter::toml": [quoted("a = 'x' # c"), pieces("a", " ", "=", " ", ("'x'", GREEN), " ", ("# c", COMMENT))],
+    "PatternHighlighter::toml": [
+        quoted("a = 'x' # c"),
+        pieces("a", " ", "=", " ", ("'x'", GREEN), " ", ("# c", COMMENT)),
+    ],
     "PatternHighlighter::rust": [
         quoted('let s = "x"; // c'),
         pieces(("let", style("Magenta")), " ", "s", " ", "=", " ", ('"x"', GREEN), ";", " ", ("// c", COMMENT)),
     ],
     "PatternHighlighter::clone": [by_rule("None")] * 3,
-    "Highlighter::highlight_line for PatternHighlighter": [by_rule("None"), pieces("a", " ", ("/*b", COMMENT)), by_rule("Some(0)")],
+    "Highlighter::highlight_line for PatternHighlighter": [
+        by_rule("None"),
+        pieces("a", " ", ("/*b", COMMENT)),
+        by_rule("Some(0)"),
+    ],
     "Report::copied": [FULL, f"oops!, {THERE}"],
     "Report::msg": [f"oops!, {NOTHING}"],
     "Report::from_err": [BOUNDS],
@@ -291,7 +303,7 @@ ROWS = {
     "miette!": ["7 is too much, " + parts('Some("a::b")', help='Some("try")')],
     "bail!": [SEVEN],
     "ensure!": [SEVEN],
-    "fill": behind(FILLED),
+    "fill": appended(FILLED),
     "wrap": [collected(""), collected(FILLED)],
     "push_fitting": [collected(""), collected("* word-and-\u6f22")],
     "without_leading": [runs(FEEDS), runs(f"{RED}red{END}\n")],
@@ -300,7 +312,7 @@ ROWS = {
     "read_text": [runs(WORDS)],
     "print": [runs(FEEDS), quoted(FEEDS)],
     "columns_of": [runs(FEEDS), "3"],
-    "append_whole": behind("a text that is longer than what is there"),
+    "append_whole": appended("a text that is longer than what is there"),
     "Runs::new": [runs("")],
     "Runs::push": pushed("x"),
     "Runs::push_chars": pushed("xy"),
@@ -326,26 +338,26 @@ ROWS = {
     "Output::into_text": [quoted(f"{RED}xyz{END}")] * 2,
     "Output::into_runs": [runs(f"{RED}xyz{END}")] * 2,
     "GraphicalReportHandler::new": [TERMINAL, quoted("  × one two three four five\n")],
-    "GraphicalReportHandler::render_report": behind(DRAWN),
-    "ReportHandler::debug for GraphicalReportHandler": behind(DRAWN),
-    "NarratableReportHandler::render_report": behind(TOLD + SNIPPET + FOOT),
-    "NarratableReportHandler::render": behind(TOLD + SNIPPET + FOOT),
+    "GraphicalReportHandler::render_report": appended(DRAWN),
+    "ReportHandler::debug for GraphicalReportHandler": appended(DRAWN),
+    "NarratableReportHandler::render_report": appended(TOLD + SNIPPET + FOOT),
+    "NarratableReportHandler::render": appended(TOLD + SNIPPET + FOOT),
     "NarratableReportHandler::clone": [
         struct("NarratableReportHandler", cause_chain="true", context_lines=1, footer=some(quoted("bye")))
     ]
     * 3,
-    "ReportHandler::debug for NarratableReportHandler": behind(TOLD + SNIPPET + FOOT),
-    "BriefReportHandler::render_report": behind(LISTED),
-    "BriefReportHandler::render": behind(LISTED),
-    "ReportHandler::debug for BriefReportHandler": behind(LISTED),
-    "JSONReportHandler::render_report": behind(SPELLED),
-    "ReportHandler::debug for JSONReportHandler": behind(SPELLED),
-    "DebugReportHandler::render_report": behind(SHOWN),
-    "ReportHandler::debug for DebugReportHandler": behind(SHOWN),
-    "ReportHandler::display": behind("oops!: b: c"),
+    "ReportHandler::debug for NarratableReportHandler": appended(TOLD + SNIPPET + FOOT),
+    "BriefReportHandler::render_report": appended(LISTED),
+    "BriefReportHandler::render": appended(LISTED),
+    "ReportHandler::debug for BriefReportHandler": appended(LISTED),
+    "JSONReportHandler::render_report": appended(SPELLED),
+    "ReportHandler::debug for JSONReportHandler": appended(SPELLED),
+    "DebugReportHandler::render_report": appended(SHOWN),
+    "ReportHandler::debug for DebugReportHandler": appended(SHOWN),
+    "ReportHandler::display": appended("oops!: b: c"),
     "MietteHandlerOpts::build": [TERMINAL, quoted(f"  {RED}×{END} one two three\n  {RED}│{END} four five\n")],
     "MietteHandler::new": [TERMINAL, quoted(f"  {RED}×{END} one two three four five\n")],
-    "ReportHandler::debug for MietteHandler": behind(DRAWN),
+    "ReportHandler::debug for MietteHandler": appended(DRAWN),
     "Variables::read": [quoted("read")],
     "detect": [quoted("detected")],
     "write_report": [quoted(TOLD + FOOT)],
@@ -361,8 +373,8 @@ FAULTS = {"eprint_report": PICTURE, "eprint_report_with": IN_RED}
 def text(names=None):
     """The rows of these calls, or of all."""
     names = [*ROWS, *PRINTED] if names is None else names
-    rows = ("\t".join([name, *ROWS[name]]) if name in ROWS else f"{name}\tprints:\n{PRINTED[name]}{name}\tprinted" for name in names)
-    return "".join(row + "\n" for row in rows)
+    printed = {name: f"{name}\tprints:\n{row}{name}\tprinted" for name, row in PRINTED.items()}
+    return "".join(("\t".join([name, *ROWS[name]]) if name in ROWS else printed[name]) + "\n" for name in names)
 
 
 def faults(names=None):

@@ -1,16 +1,15 @@
-"""calls_reports.py: the reports of `calls report` and `calls stops` as descriptions, and what the rules ask of their rows.
+"""calls_reports.py: the reports of `calls report` and `calls stops` as descriptions, and what the rules ask of their
+rows.
 
-A report that can be described has the text that `job` prints of its description, by the same settings: what `job` prints is
-compared with an independent model's text elsewhere. A highlighter's red is taken away before. A report whose cause's source
-stops can't be described; its texts are written by hand here, from docs/RULES.md."""
+A report that can be described has the text that `job` prints of its description, by the same settings: what `job`
+prints is compared with an independent model's text elsewhere. A highlighter's red is taken away before. A report whose
+cause's source stops can't be described; its texts are written by hand here, from docs/RULES.md."""
 import json
-import os
 import re
-import subprocess
 
 from calls_expected import CYAN, END, LINK, LINK_END, RED, YELLOW, quoted
+from programs import run
 
-ROOT = os.path.dirname(os.path.dirname(os.path.abspath(__file__)))
 BEFORE = '"> "'
 
 README = "source\n  text\n    here"
@@ -104,7 +103,8 @@ NUMBER = re.compile(r"\x1b\[2m *\d+\x1b\[0m │ .")
 def indented(*rows):
     """Rows as a cause alone."""
     first = f"{RED}  ╰─▶ {END}"
-    return f"  {RED}×{END} m\n" + "".join((f"{RED}      {END}" if at else first) + row + "\n" for at, row in enumerate(rows))
+    later = f"{RED}      {END}"
+    return f"  {RED}×{END} m\n" + "".join(f"{later if at else first}{row}\n" for at, row in enumerate(rows))
 
 
 HEAD = (
@@ -141,12 +141,9 @@ UNREAD = {"graphical": IN_40, "brief": UNPLACED, **dict.fromkeys(HIGHLIGHTING, I
 
 def job(description, handler, lines=1):
     """What `job` prints by these settings, or none where it refuses the report."""
-    program = os.path.join(ROOT, "crates", "job", "out", "job")
-    words = [program, *WORDS[handler], "--context", str(lines)]
-    done = subprocess.run(words, input=json.dumps(description).encode(), capture_output=True, timeout=60)
-    if (done.returncode, done.stderr) == (4, b"job: report refused\n"):
-        return None
-    return done.stdout.decode()
+    words = ["job", *WORDS[handler], "--context", str(lines)]
+    status, shown, fault = run(words, json.dumps(description).encode())
+    return None if (status, fault) == (4, b"job: report refused\n") else shown.decode()
 
 
 def unquoted(column):
@@ -166,7 +163,7 @@ def is_drawn(column, text, highlights):
 
 
 def is_wanted(description, handler, columns, lines=1):
-    """Whether the columns behind a row's name are as the rules ask; a read fails only in the report of that name."""
+    """Whether the columns after a row's name are as the rules ask; a read fails only in the report of that name."""
     is_unread = description is REPORTS[STOPS] and handler in UNREAD
     text = UNREAD[handler] if is_unread else job(description, handler, lines)
     if columns[0] != BEFORE or len(columns) != 2:

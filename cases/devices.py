@@ -1,13 +1,12 @@
 #!/usr/bin/env python3
 """devices.py: runs the built programs over devices that fail, and says how they must end.
 
-Standard input is a folder, closed, open for writing alone, or a socket that is reset behind each beginning of the
+Standard input is a folder, closed, open for writing alone, or a socket that is reset after each beginning of the
 input: a read fault, and nothing is written. Standard output is full, closed, open for reading alone, a pipe that
 nobody reads, or a file with room for each beginning of the text: a write fault, and a beginning is written. Standard
 error fails in the same ways, which changes no status and no text. Wrong words come before all reading; what writes
-nothing meets no write fault. The statuses, rows and texts are written by hand from docs/RULES.md. The programs are
-`crates/NAME/out/NAME`, as the gate leaves them. The last line is 'N passed, M failed', and the exit status is 0 only
-where nothing failed."""
+nothing meets no write fault. The statuses, rows and texts are written by hand from docs/RULES.md. The last line is
+'N passed, M failed', and the exit status is 0 only where nothing failed."""
 import os
 import resource
 import socket
@@ -16,11 +15,9 @@ import sys
 import tempfile
 from concurrent.futures import ProcessPoolExecutor
 
-ROOT = os.path.dirname(os.path.dirname(os.path.abspath(__file__)))
-SHOWN = 5
+from programs import PROCESSORS, SHOWN, STATUS, counted, program
+
 PIPE = subprocess.PIPE
-# the status of a fault of a device
-STATUS = {"draw": 1, "job": 1, "bench": 1, "lint": 2}
 
 README = "source\n  text\n    here"
 DRAWN = (
@@ -102,7 +99,7 @@ def for_writing(_text):
     return os.open("/dev/null", os.O_WRONLY)
 
 
-def reset_behind(text):
+def reset_after(text):
     """A socket that gives the text and then a fault, since its other end was closed with something unread."""
     here, there = socket.socketpair()
     here.send(b"unread")
@@ -130,13 +127,13 @@ def shut():
     return None
 
 
-INPUTS = (closed, folder, for_writing, reset_behind)
+INPUTS = (closed, folder, for_writing, reset_after)
 OUTPUTS = (shut, full, for_reading, unread)
 
 
 def run(words, streams, room=None):
     """Runs a program over its three streams (one that is None is closed): status, text and row, where these are piped.
-    With a room no file that it writes grows past so many bytes."""
+    With a room no file that it writes grows past that many bytes."""
 
     def before():
         for number, stream in enumerate(streams):
@@ -145,12 +142,11 @@ def run(words, streams, room=None):
         if room is not None:
             resource.setrlimit(resource.RLIMIT_FSIZE, (room, room))
 
-    name, *rest = words
-    program = os.path.join(ROOT, "crates", name, "out", name)
+    command = [program(words[0]), *words[1:]]
     # A full file is a fault of the write, and no signal, since Python ignores that one and hands this on.
     named = dict(zip(("stdin", "stdout", "stderr"), streams))
     try:
-        with subprocess.Popen([program, *rest], preexec_fn=before, restore_signals=room is None, **named) as started:
+        with subprocess.Popen(command, preexec_fn=before, restore_signals=room is None, **named) as started:
             text, row = started.communicate(timeout=60)
     finally:
         for stream in streams:
@@ -179,7 +175,7 @@ def cannot_write(words, given, device):
 
 
 def leaves_a_beginning(words, given, done, text, room):
-    """With room for so many bytes these are written; where they aren't all, that is a write fault."""
+    """With room for that many bytes these are written; where they aren't all, that is a write fault."""
     wanted = text.encode()
     status, row = fault(words, "write") if room < len(wanted) else (done, b"")
     with tempfile.TemporaryFile() as file:
@@ -216,7 +212,7 @@ def checks():
     for words, given, status, text in RUNS:
         beginnings = [given[:end] for end in range(len(given) + 1)]
         yield from ((cannot_read, words, it, device) for device in INPUTS[:3] for it in ("", given))
-        yield from ((cannot_read, words, it, reset_behind) for it in beginnings)
+        yield from ((cannot_read, words, it, reset_after) for it in beginnings)
         yield from ((cannot_write, words, given, device) for device in OUTPUTS)
         rooms = range(len(text.encode()) + 1)
         yield from ((leaves_a_beginning, words, given, status, text, room) for room in rooms)
@@ -243,14 +239,13 @@ def answer(check):
 def main():
     every = list(checks())
     failed = 0
-    with ProcessPoolExecutor(os.cpu_count() or 2) as pool:
+    with ProcessPoolExecutor(PROCESSORS) as pool:
         for (function, *given), (got, wanted) in zip(every, pool.map(answer, every, chunksize=20)):
             if got != wanted:
                 failed += 1
                 if failed <= SHOWN:
                     print(f"{function.__name__}: {given!r}\n  wanted {wanted!r}\n  got    {got!r}")
-    print(f"{len(every) - failed} passed, {failed} failed")
-    return 1 if failed else 0
+    return counted(len(every) - failed, failed)
 
 
 if __name__ == "__main__":

@@ -13,8 +13,8 @@ import subprocess
 import sys
 import time
 
-HERE = os.path.dirname(os.path.abspath(__file__))
-ROOT = os.path.dirname(HERE)
+from programs import counted, program
+
 MEGABYTE = 1 << 20
 
 LABELLED = {"message": "m", "source": {"text": "a\nb"}, "labels": [{"offset": 2, "length": 1, "label": "x"}]}
@@ -38,7 +38,6 @@ def limited(limits):
 
 def run(name, words, given, limits=None, stdout=subprocess.PIPE, before=None):
     """Status, bytes written, what it said, seconds."""
-    program = os.path.join(ROOT, "crates", name, "out", name)
     begun = time.time()
 
     def prepared():
@@ -47,7 +46,8 @@ def run(name, words, given, limits=None, stdout=subprocess.PIPE, before=None):
         if limits:
             limited(limits)()
 
-    done = subprocess.run([program, *words], input=given, stdout=stdout, stderr=subprocess.PIPE, timeout=600, preexec_fn=prepared)
+    streams = {"input": given, "stdout": stdout, "stderr": subprocess.PIPE}
+    done = subprocess.run([program(name), *words], timeout=600, preexec_fn=prepared, **streams)
     return done.returncode, len(done.stdout or b""), done.stderr, time.time() - begun
 
 
@@ -59,7 +59,9 @@ def ends_well(status, said, statuses):
 def told(what, name, got, is_well):
     status, count, said, seconds = got
     how = f"signal {signal.Signals(-status).name}" if status < 0 else f"status {status}"
-    print(f"{'' if is_well else 'NOT AS IT SHOULD: '}{what}: {name}: {how}, {count} bytes written, said {said.decode(errors='replace').strip()!r}, {seconds:.1f} s", flush=True)
+    row = said.decode(errors="replace").strip()
+    verdict = "" if is_well else "NOT AS IT SHOULD: "
+    print(f"{verdict}{what}: {name}: {how}, {count} bytes written, said {row!r}, {seconds:.1f} s", flush=True)
     return is_well
 
 
@@ -83,9 +85,8 @@ def bad_outputs():
 
 def run_without_input(name, words):
     """The same, with standard input closed."""
-    program = os.path.join(ROOT, "crates", name, "out", name)
     begun = time.time()
-    done = subprocess.run([program, *words], capture_output=True, timeout=60, preexec_fn=lambda: os.close(0))
+    done = subprocess.run([program(name), *words], capture_output=True, timeout=60, preexec_fn=lambda: os.close(0))
     return done.returncode, len(done.stdout), done.stderr, time.time() - begun
 
 
@@ -117,17 +118,18 @@ def big_inputs():
 
 
 def deep(count, key):
-    """A description whose causes or related reports stand in one another so often."""
+    """A description whose causes or related reports stand in one another `count` times."""
     text = b'{"message":"m"}'
     for _ in range(count):
         text = b'{"message":"m","%s":%s}' % (key, text if key == b"cause" else b"[" + text + b"]")
     return text
 
 
-# how often what stands in what at most, and KB of stack that are enough: a tenth and more above what docs/PERFORMANCE.md
-# says; on a smaller stack a program may end by a signal
+# a member, how deep it may be, and KB of stack that are enough: a tenth and more above what docs/PERFORMANCE.md says;
+# on a smaller stack a program may end by a signal
 STACKS = ((b"cause", 0, 96), (b"cause", 126, 192), (b"related", 63, 224))
-PROGRAMS = [("job", it) for it in ([], ["--nested", "yes"], ["--narrated"], ["--json"], ["--debug"])] + [("bench", ["1"])]
+JOBS = ([], ["--nested", "yes"], ["--narrated"], ["--json"], ["--debug"])
+PROGRAMS = [*[("job", it) for it in JOBS], ("bench", ["1"])]
 
 
 def small_stacks():
@@ -136,7 +138,8 @@ def small_stacks():
         for name, words in PROGRAMS:
             got = run(name, words, deep(most, key), {resource.RLIMIT_STACK: stack * 1024})
             is_well = ends_well(got[0], got[2], (0,))
-            yield told(f"{most} of {key.decode()} in one another, a stack of {stack} KB", f"{name} {words}", got, is_well)
+            what = f"{most} of {key.decode()} in one another, a stack of {stack} KB"
+            yield told(what, f"{name} {words}", got, is_well)
         if most:
             got = run("job", [], deep(most + 1, key))
             is_well = got[:3] == (3, 0, b"job: bad description\n")
@@ -145,8 +148,7 @@ def small_stacks():
 
 def main():
     found = [*bad_outputs(), *big_inputs(), *small_stacks()]
-    print(f"{sum(found)} passed, {len(found) - sum(found)} failed")
-    return 0 if all(found) else 1
+    return counted(sum(found), len(found) - sum(found))
 
 
 if __name__ == "__main__":

@@ -1,5 +1,6 @@
-/* Loaded before the C library: refuses the growth whose number stands in REFUSED_GROWTH, counting from 1, and as many behind it
-   as REFUSED_MORE says, and then writes one byte to the file number in REFUSED_REPORT. All other growths are the C library's. */
+/* Loaded before the C library: refuses the growth whose number stands in REFUSED_GROWTH, counting from 1, and as many
+   after it as REFUSED_MORE says, and then writes one byte to the file number in REFUSED_REPORT. All other growths are
+   the C library's. */
 #include <stdlib.h>
 #include <unistd.h>
 

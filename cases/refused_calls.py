@@ -1,19 +1,17 @@
 #!/usr/bin/env python3
 """refused_calls.py: runs the built program `calls` with each growth of memory refused in turn, until a run meets none.
 
-`calls` makes every public call that can want memory, `calls report` renders worked reports by each handler. The run that
-meets no refusal prints what is expected (calls_expected.py, calls_reports.py). Each other run ends with status 0, and its
-rows are the same but for that of the call that was refused. That one says so, and what came back, or what the text holds
-that was appended to, is what the call was given. The last line is 'N passed, M failed', one for each call and each report
-by a handler, and the exit status is 0 only where nothing failed."""
-import os
+`calls` makes every public call that can want memory, `calls report` renders worked reports by each handler. The run
+that meets no refusal prints what is expected (calls_expected.py, calls_reports.py). Each other run ends with status 0,
+and its rows are the same but for that of the call that was refused. That one says so, and what came back, or what the
+text holds that was appended to, is what the call was given. The last line is 'N passed, M failed', one for each call
+and each report by a handler, and the exit status is 0 only where nothing failed."""
 import sys
 import tempfile
-from concurrent.futures import ThreadPoolExecutor
 
 from calls_expected import FAULTS, NOTHING, PRINTED, ROWS, faults, text
 from calls_reports import REPORTS, WORDS, is_wanted
-from refusals import MOST, ROOT, built, library_in, run_with
+from programs import built, counted, each, library_in, refusals, run_refusing
 
 # (with some, so that their texts want memory)
 VARIABLES = {
@@ -93,7 +91,8 @@ def unprinted(whole, got):
         if whole_rows not in wanted:
             continue
         # each of the four has its own text on its own stream, so that these are the same only where the call is
-        unmade = (wanted.replace(whole_rows, f"{name}\t{BEFORE}\n"), its_faults.replace(fault, "") if fault else its_faults)
+        left = its_faults.replace(fault, "") if fault else its_faults
+        unmade = (wanted.replace(whole_rows, f"{name}\t{BEFORE}\n"), left)
         silent = wanted.replace(whole_rows, f"{name}\tprints:\n{name}\tprinted\n")
         refusal = (silent, its_faults.replace(fault, UNPRINTED) if fault else UNPRINTED + its_faults)
         if (shown, told) in (unmade, refusal):
@@ -102,7 +101,8 @@ def unprinted(whole, got):
 
 
 def refused(whole, got):
-    """What answers its refusal in a run that else is the whole one, by its name; an empty name where a smaller growth served."""
+    """What answers its refusal in a run that else is the whole one, by its name; an empty name where a smaller growth
+    served."""
     if got == whole:
         return ""
     if got == OUT_OF_MEMORY:
@@ -117,16 +117,15 @@ def refused(whole, got):
 
 
 def fault_of(words, is_expected, library):
-    """What the first refused growth that is answered in another way gave, if any, how many were refused and answered, and how
-    many of these the call itself met."""
+    """What the first refused growth gave that is answered in another way, if any; how many were refused and answered,
+    and how many of these the call itself met."""
     argv = ["calls", *words]
     variables = {**VARIABLES, "REFUSED_MORE": "1" if words and words[0] in TWICE else "0"}
-    whole, _ = run_with(argv, b"", library, 0, variables)
+    whole, _ = run_refusing(0, argv, b"", library, variables)
     if whole[0] != 0 or not is_expected(whole[1].decode(), whole[2].decode()):
         return ("no growth refused", whole), 0, 0
     answered = own = 0
-    for growth in range(1, MOST):
-        got, was_refused = run_with(argv, b"", library, growth, variables)
+    for growth, got, was_refused in refusals(argv, b"", library, variables):
         if not was_refused:
             is_own = words[:1] in ([], ["report"]) or (own > 0) == (words[0] not in NO_GROWTH)
             return (None if got == whole and growth > 1 and is_own else ("a last run", got)), answered, own
@@ -159,21 +158,18 @@ def of_report(name, handler):
 def main():
     calls = [([], lambda *shown: shown == (text(), faults())), *map(of_call, [*ROWS, *PRINTED])]
     reports = [of_report(name, handler) for name in REPORTS for handler in WORDS]
-    with tempfile.TemporaryDirectory(dir=built("calls")) as folder, ThreadPoolExecutor(os.cpu_count() or 2) as pool:
+    with tempfile.TemporaryDirectory(dir=built("calls")) as folder:
         library = library_in(folder, "refuse")
-        found = list(pool.map(lambda it: fault_of(*it, library), [*calls, *reports]))
-    failed = 0
-    for (words, _), (fault, *_) in zip([*calls, *reports], found):
-        if fault:
-            failed += 1
-            print(f"calls {words!r}: {fault!r}")
+        found = each(lambda it: fault_of(*it, library), [*calls, *reports])
+    wrong = [(words, fault) for (words, _), (fault, *_) in zip([*calls, *reports], found) if fault]
+    for words, fault in wrong:
+        print(f"calls {words!r}: {fault!r}")
     counts = [count for _, count, _ in found]
-    own = sum(it for _, _, it in found[1 : len(calls)])
-    print(f"public calls: {len(calls) - 1}, growths refused: {sum(counts[1:len(calls)])}, {own} of them by the calls themselves")
+    refused_by_calls, own = sum(counts[1 : len(calls)]), sum(it for _, _, it in found[1 : len(calls)])
+    print(f"public calls: {len(calls) - 1}, growths refused: {refused_by_calls}, {own} of them by the calls themselves")
     print(f"growths refused in one run of all calls: {counts[0]}")
     print(f"worked reports by a handler: {len(reports)}, growths refused: {sum(counts[len(calls):])}")
-    print(f"{len(found) - failed} passed, {failed} failed")
-    return 1 if failed else 0
+    return counted(len(found) - len(wrong), len(wrong))
 
 
 if __name__ == "__main__":

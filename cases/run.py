@@ -4,18 +4,15 @@
 Each line of the file is a JSON object: `argv` (the program's name and its words), `stdin` and `stdout` (base64), or
 in their place `stdin_text` and `stdout_text` (plain) or `report` (the description that is the input), `status` and
 `stderr`. `what` says what a case shows. `folder` is where the program runs, `variables` are all that it is told of its
-surroundings. With `beginnings` a case is one for each beginning of its input but the
-whole. The program NAME is `crates/NAME/out/NAME`, as the gate leaves it. The first mismatches are shown in full. The
-last line is 'N passed, M failed', and the exit status is 0 only where nothing failed."""
+surroundings. With `beginnings` a case is one for each beginning of its input but the whole. The first mismatches are
+shown in full. The last line is 'N passed, M failed', and the exit status is 0 only where nothing failed."""
 import base64
 import json
 import os
 import subprocess
 import sys
-from concurrent.futures import ThreadPoolExecutor
 
-ROOT = os.path.dirname(os.path.dirname(os.path.abspath(__file__)))
-SHOWN = 5
+from programs import ROOT, SHOWN, counted, each, run
 
 
 def bytes_of(case, name):
@@ -35,22 +32,13 @@ def read(line):
     return [{**case, "given": given} for given in inputs]
 
 
-def run(case):
+def answer(case):
     """What the program of a case answers: status, standard output, standard error."""
-    name, *words = case["argv"]
-    program = os.path.join(ROOT, "crates", name, "out", name)
+    folder = os.path.join(ROOT, case.get("folder", "."))
     try:
-        done = subprocess.run(
-            [program, *words],
-            input=case["given"],
-            capture_output=True,
-            timeout=60,
-            cwd=os.path.join(ROOT, case.get("folder", ".")),
-            env=case.get("variables"),
-        )
+        return run(case["argv"], case["given"], case.get("variables"), cwd=folder)
     except (OSError, subprocess.TimeoutExpired) as fault:
         return (str(fault), b"", b"")
-    return (done.returncode, done.stdout, done.stderr)
 
 
 def show(number, case, wanted, got):
@@ -65,18 +53,13 @@ def show(number, case, wanted, got):
 def main(path):
     with open(path, encoding="utf-8") as file:
         cases = [case for line in file if line.strip() for case in read(line)]
-    passed = failed = 0
-    with ThreadPoolExecutor(os.cpu_count() or 2) as pool:
-        for number, (case, got) in enumerate(zip(cases, pool.map(run, cases))):
-            wanted = (case["status"], bytes_of(case, "stdout"), case["stderr"].encode())
-            if got == wanted:
-                passed += 1
-                continue
-            failed += 1
-            if failed <= SHOWN:
-                show(number, case, wanted, got)
-    print(f"{passed} passed, {failed} failed")
-    return 1 if failed else 0
+    failed = 0
+    for number, (case, got) in enumerate(zip(cases, each(answer, cases))):
+        wanted = (case["status"], bytes_of(case, "stdout"), case["stderr"].encode())
+        failed += got != wanted
+        if got != wanted and failed <= SHOWN:
+            show(number, case, wanted, got)
+    return counted(len(cases) - failed, failed)
 
 
 if __name__ == "__main__":

@@ -92,7 +92,7 @@ def doubled(least, most):
 
 
 def text_of(length):
-    """A text of words, so many bytes long."""
+    """A text of words, `length` bytes long."""
     return (WORDS * (length // len(WORDS) + 1))[:length]
 
 
@@ -102,13 +102,13 @@ def described(**members):
 
 
 def listed(member, item):
-    """A description whose member is a list of the same item, so many times."""
+    """A description whose member is a list of the same item, n times."""
     form = '{"message":"","%s":[%s]}'
     return lambda size: (form % (member, ",".join([item] * size))).encode()
 
 
 def repeated(unit, head=b""):
-    """So many times the same bytes behind a head."""
+    """The same bytes n times, after a head."""
     return lambda size: head + unit * size
 
 
@@ -122,22 +122,22 @@ def labelled(text, spans, label=None):
 
 
 def one_line(label=None):
-    """A line with so many labels, all with this text."""
+    """A line with n labels, all with this text."""
     return lambda size: labelled("ab " * size, ((3 * i, 2) for i in range(size)), label)
 
 
 def line_each(size):
-    """So many lines, each with a label of its own."""
+    """n lines, each with a label of its own."""
     return labelled("ab\n" * size, ((3 * i, 2) for i in range(size)), "x")
 
 
 def all_lines(size):
-    """So many lines under one label."""
+    """n lines under one label."""
     return labelled("ab\n" * size, [(0, 3 * size)], "x")
 
 
 def first_line(size):
-    """So many lines, of which the first has a label."""
+    """n lines, of which the first has a label."""
     return labelled("ab\n" * size, [(0, 2)], "x")
 
 
@@ -147,18 +147,18 @@ def chained(size):
 
 
 def nested(size):
-    """Labels over many of ten times so many lines, each within the one before."""
+    """Labels over many of 10 n lines, each within the one before."""
     lines = 10 * size
     return labelled("ab\n" * lines, ((3 * i, 3 * (lines - 2 * i) - 1) for i in range(size)), "x")
 
 
 def crossing(size):
-    """Labels over many of ten times so many lines, each begun and ended below the one before."""
+    """Labels over many of 10 n lines, each begun and ended below the one before."""
     return labelled("ab\n" * 10 * size, ((3 * i, 27 * size) for i in range(size)), "x")
 
 
 def labels_on(unit, head=b""):
-    """So many labels on a line of ten times so many characters behind its head."""
+    """n labels on a line of 10 n characters after its head."""
 
     def make(size):
         spans = ((len(head) + 10 * len(unit) * i, len(unit)) for i in range(size))
@@ -168,19 +168,19 @@ def labels_on(unit, head=b""):
 
 
 def within(member, inner, depth, wrap):
-    """A description in the member of another one, so many times."""
+    """A description in the member of another one, n times."""
     head, tail = ('{"message":"m","%s":' % member, "}")
     head, tail = (head + "[", "]" + tail) if wrap else (head, tail)
     return (head * depth + inner + tail * depth).encode()
 
 
 def deep_related(depth):
-    """Related reports in one another, of which the last has a help of so many bytes."""
+    """Related reports in one another, of which the last has a help of n bytes."""
     return lambda size: within("related", helped(size), depth, True)
 
 
 def each_helped(depth):
-    """Related reports in one another, each with a help of so many bytes."""
+    """Related reports in one another, each with a help of n bytes."""
 
     def make(size):
         inner = described(message="m", help=text_of(size)).decode()
@@ -191,17 +191,17 @@ def each_helped(depth):
 
 
 def of_depth(member, wrap):
-    """Reports in one another, so many deep, of which the last has a help of 10,000 bytes."""
+    """Reports in one another, n deep, of which the last has a help of 10,000 bytes."""
     return lambda depth: within(member, helped(10_000), depth, wrap)
 
 
 def deep_causes(depth):
-    """Causes of causes, of which the last has a help of so many bytes."""
+    """Causes of causes, of which the last has a help of n bytes."""
     return lambda size: within("cause", helped(size), depth, False)
 
 
 def helped(size):
-    """A description with a help of so many bytes, as a text."""
+    """A description with a help of n bytes, as a text."""
     return described(message="m", help=text_of(size)).decode()
 
 
@@ -214,23 +214,23 @@ def empty_texts(_size):
 
 
 def long_member(member):
-    """A description with a member of so many bytes."""
+    """A description with a member of n bytes."""
     return lambda size: described(**{"message": "m", "code": "c", member: text_of(size)})
 
 
 def many_colours(size):
-    """A help of about so many bytes, in which each word has a colour of its own."""
+    """A help of about n bytes, in which each word has a colour of its own."""
     colours = (f"{i >> 16};{i >> 8 & 255};{i & 255}" for i in range(size // 25))
     return described(message="m", help=" ".join(f"\x1b[38;2;{it}mword\x1b[0m" for it in colours))
 
 
 def long_label(unit):
-    """A label whose text has so many bytes, on one line or on many."""
+    """A label whose text has n bytes, on one line or on many."""
     return lambda size: labelled("ab\n", [(0, 2)], (unit * size)[:size])
 
 
 def lint_lines(text):
-    """So many lines, each of this text with blanks at its end."""
+    """n lines, each of this text with blanks at its end."""
     return lambda size: (text + " \n").encode() * size
 
 

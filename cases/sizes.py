@@ -17,9 +17,8 @@ Time is instructions, which `perf` counts where it can, or valgrind where `--val
 it is otherwise the processor's seconds, where there are enough of them. A second table names the
 worst growth of each family, so far as there is one, and the most memory that it takes for its text.
 
-`--least-stack` finds the least stack on which the deepest descriptions run. The programs are
-`crates/NAME/out/NAME`, as the gate leaves them. The last line is 'N passed, M failed', and the exit
-status is 0 only where nothing failed."""
+`--least-stack` finds the least stack on which the deepest descriptions run. The last line is
+'N passed, M failed', and the exit status is 0 only where nothing failed."""
 import argparse
 import ctypes
 import os
@@ -29,18 +28,18 @@ import sys
 import tempfile
 from typing import NamedTuple, Optional
 
+from programs import counted, program
 from size_inputs import ALL, FAMILIES, MIDDLE, Family, Way
 from size_runs import MB, WIDE_SPACE, WIDE_STACK_KB, Ended, Limits
 from size_runs import counter_of, instructions, least_stack, run, run_limited
 
-ROOT = os.path.dirname(os.path.dirname(os.path.abspath(__file__)))
 STACK_KB = 1024
 GATE_SECONDS, ALL_SECONDS = 2, 60
 MEMORY_TIMES, MEMORY_MORE = 8, 4 * MB
 GROWTH = 2.2
 # A shorter run than this, in seconds, says nothing of growth.
 LEAST_SECONDS = 0.2
-# A growth of seconds that is above the bound, but within noise, is measured so often again.
+# A growth of seconds that is above the bound, but within noise, is measured again this often.
 AGAIN, NOISE = 2, 1.5
 DEEPEST = ("only a message", "related 63 deep", "causes 126 deep")
 BECOME_REAPER = 36
@@ -64,7 +63,7 @@ class Case(NamedTuple):
         """The program and its words."""
         middle = str(os.path.getsize(self.path) // 2)
         words = [middle if word == MIDDLE else word for word in self.way.words]
-        return [os.path.join(ROOT, "crates", self.way.program, "out", self.way.program), *words]
+        return [program(self.way.program), *words]
 
 
 class Row(NamedTuple):
@@ -243,8 +242,7 @@ def run_all(asked):
         print("\n" + WORST_HEAD)
         for name, rows in families.items():
             print(worst_row(name, rows))
-    print(f"{passed} passed, {failed} failed")
-    return 1 if failed else 0
+    return counted(passed, failed)
 
 
 def least_stacks(asked):

@@ -1,6 +1,6 @@
-/* Loaded before the C library: standard input gives, and standard output takes, at most STOP_AT_ONCE bytes a call. After
-   STOP_GIVES or STOP_TAKES bytes in all a call moves no byte: it fails with the error number in STOP_AS, or, where that is 0, a
-   write answers 0. What isn't set stops nothing. */
+/* Loaded before the C library: standard input gives, and standard output takes, at most STOP_AT_ONCE bytes a call.
+   After STOP_GIVES or STOP_TAKES bytes in all a call moves no byte: it fails with the error number in STOP_AS, or,
+   where that is 0, a write answers 0. What isn't set stops nothing. */
 #include <errno.h>
 #include <limits.h>
 #include <stdlib.h>
@@ -38,5 +38,7 @@ ssize_t read(int file, void *bytes, size_t size)
 ssize_t write(int file, const void *bytes, size_t size)
 {
     static long done;
-    return file == 1 ? moved(SYS_write, file, (void *)bytes, size, "STOP_TAKES", &done) : syscall(SYS_write, file, bytes, size);
+    if (file != 1)
+        return syscall(SYS_write, file, bytes, size);
+    return moved(SYS_write, file, (void *)bytes, size, "STOP_TAKES", &done);
 }

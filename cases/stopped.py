@@ -1,22 +1,18 @@
 #!/usr/bin/env python3
 """stopped.py: runs the built program `calls` over sources that stop after each number of reads.
 
-`calls stops` renders reports over a source of which one read fails, the first, the second, and so on until none does, alone
-or with all after it, by each handler, with 0, 1 and 2 lines of context. What each row must be is worked out here from
-docs/RULES.md: which reads a handler makes, one after another, and what comes of one that fails. The report is refused and the
-text is as before; or one row says which label wasn't read; or two labels stand apart whose span couldn't be read as one. JSON
-and the debug report are as without the fault. A text without a fault is that of `job` (calls_reports.py), each other one is
-written by hand here. The last line is 'N passed, M failed'."""
-import os
-import subprocess
+`calls stops` renders reports over a source of which one read fails, the first, the second, and so on until none does,
+alone or with all after it, by each handler, with 0, 1 and 2 lines of context. What each row must be is worked out here
+from docs/RULES.md: which reads a handler makes, one after another, and what comes of one that fails. The report is
+refused and the text is as before; or one row says which label wasn't read; or two labels stand apart whose span
+couldn't be read as one. JSON and the debug report are as without the fault. A text without a fault is that of `job`
+(calls_reports.py), each other one is written by hand here. The last line is 'N passed, M failed'."""
 import sys
-from concurrent.futures import ThreadPoolExecutor
 from itertools import count
 
 from calls_expected import END, LINK, RED, YELLOW
 from calls_reports import BEFORE, HIGHLIGHTING, NARRATED, STOPPED, indented, is_drawn, is_wanted
-from devices import SHOWN
-from refusals import ROOT
+from programs import SHOWN, counted, each, run
 
 HANDLERS = ("graphical", "nested", "chosen", "chosen narrated", "narrated", "brief", "json", "debug")
 DRAWING = ("graphical", "nested", "chosen")
@@ -44,7 +40,7 @@ def lines_of(label, lines):
 
 
 def shown_labels(name, handler):
-    """The labels that a handler draws or tells, in order. Those of causes are not told, and those over no source aren't drawn."""
+    """The labels that a handler draws or tells, in order: none of a cause is told, none over no source is drawn."""
     report = STOPPED[name]
     if "cause" in report:
         return report["cause"]["labels"] if handler in (*DRAWING, "brief") else []
@@ -154,8 +150,9 @@ def begins(line):
     return f"Begin snippet starting at line {line}, column 1\n\n"
 
 
-# The labels (4, 1) `a` and (8, 1) `b`, on lines 3 and 5, whose contexts meet and can't be read as one span. Each picture has
-# the marks of both labels where it has their lines; each snippet's last line tells too of a label that begins where it ends.
+# The labels (4, 1) `a` and (8, 1) `b`, on lines 3 and 5, whose contexts meet and can't be read as one span. Each
+# picture has the marks of both labels where it has their lines; each snippet's last line tells too of a label that
+# begins where it ends.
 THIRD, FIFTH = "line 3, column 1: a", "line 5, column 1: b"
 DRAWN_APART = {
     1: f"{HEAD}   ╭─[3:1]\n{drawn(2, 3, 'a', 4)}{FOOT}   ╭─[5:1]\n{drawn(4, 5, 'b', 6)}{FOOT}",
@@ -168,7 +165,7 @@ TOLD_APART = {
 
 
 def is_expected(name, handler, lines, came_to, columns):
-    """Whether the columns behind a row's name are those of what the report came to."""
+    """Whether the columns after a row's name are those of what the report came to."""
     if came_to == WHOLE:
         return is_wanted(STOPPED[name], handler, columns, lines)
     if len(columns) != 2 or columns[0] != BEFORE:
@@ -200,27 +197,24 @@ def rows():
 
 
 def is_right(wanted, row):
-    """Whether a row has the wanted name and what stands behind it."""
+    """Whether a row has the wanted name and what stands after it."""
     (name, handler, lines, where), came_to = wanted
     first, *columns = row.split("\t")
     return first == f"{name}, {handler}, {lines}, {where}" and is_expected(name, handler, lines, came_to, columns)
 
 
 def main():
-    program = os.path.join(ROOT, "crates", "calls", "out", "calls")
-    done = subprocess.run([program, "stops"], capture_output=True, timeout=60)
-    wanted, got = list(rows()), done.stdout.decode().splitlines()
-    wrong = [f"status {done.returncode}: {done.stderr!r}"] if done.returncode or done.stderr else []
+    status, shown, fault = run(["calls", "stops"])
+    wanted, got = list(rows()), shown.decode().splitlines()
+    wrong = [f"status {status}: {fault!r}"] if status or fault else []
     wrong += [f"{len(got)} rows in place of {len(wanted)}"] if len(got) != len(wanted) else []
-    with ThreadPoolExecutor(os.cpu_count() or 2) as pool:
-        right = list(pool.map(is_right, wanted, got))
+    right = each(lambda it: is_right(*it), zip(wanted, got))
     wrong += [f"wanted {want!r}\n  got {row!r}" for want, row, it in zip(wanted, got, right) if not it]
     print("\n".join(wrong[:SHOWN]), end="\n" if wrong else "")
     whole = len(STOPPED) * len(HANDLERS) * len(LINES) * len(WAYS)
     print(f"renderings over sources that stop: {len(wanted)}, reads that failed: {len(wanted) - whole}")
     failed = min(len(wrong), len(wanted))
-    print(f"{len(wanted) - failed} passed, {failed} failed")
-    return 1 if failed else 0
+    return counted(len(wanted) - failed, failed)
 
 
 if __name__ == "__main__":

@@ -1,29 +1,22 @@
 #!/usr/bin/env python3
 """streams.py: runs the built programs over streams of a byte a call that stop after each number of bytes.
 
-`stop.c`, loaded before the C library, has the four programs read a byte a call and write one, or as many as are asked for.
-After each number of bytes a read or a write fails, by a fault of the device or by being interrupted, or a write takes
-nothing. A fault of the reader, and nothing is written; or one of the writer, behind exactly the bytes that were taken. The
-words, inputs and texts are those of devices.py. The last line is 'N passed, M failed', and the exit status is 0 only where
-nothing failed."""
+`stop.c`, loaded before the C library, has the four programs read a byte a call and write one, or as many as are asked
+for. After each number of bytes a read or a write fails, by a fault of the device or by being interrupted, or a write
+takes nothing. A fault of the reader, and nothing is written; or one of the writer, after exactly the bytes that were
+taken. The words, inputs and texts are those of devices.py. The last line is 'N passed, M failed', and the exit status
+is 0 only where nothing failed."""
 import errno
-import os
-import subprocess
 import sys
 import tempfile
-from concurrent.futures import ThreadPoolExecutor
 
-from devices import RUNS, SHOWN, STATUS
-from refusals import ROOT, built, library_in
+from devices import RUNS
+from programs import SHOWN, STATUS, built, counted, each, library_in, run
 
 
-def run(words, given, stops, library):
+def run_stopped(words, given, stops, library):
     """Status, standard output and standard error of a program over streams that stop."""
-    name, *rest = words
-    variables = {**{key: str(it) for key, it in stops.items()}, "LD_PRELOAD": library}
-    program = os.path.join(ROOT, "crates", name, "out", name)
-    done = subprocess.run([program, *rest], input=given, capture_output=True, env=variables, timeout=60)
-    return done.returncode, done.stdout, done.stderr
+    return run(words, given, {**{key: str(it) for key, it in stops.items()}, "LD_PRELOAD": library})
 
 
 def streams():
@@ -45,16 +38,15 @@ def streams():
 
 def main():
     every = list(streams())
-    with tempfile.TemporaryDirectory(dir=built("job")) as folder, ThreadPoolExecutor(os.cpu_count() or 2) as pool:
+    with tempfile.TemporaryDirectory(dir=built("job")) as folder:
         library = library_in(folder, "stop")
-        found = pool.map(lambda it: run(*it[:3], library), every)
-        wrong = [(it, got) for it, got in zip(every, found) if got != it[3]]
+        found = each(lambda it: run_stopped(*it[:3], library), every)
+    wrong = [(it, got) for it, got in zip(every, found) if got != it[3]]
     for (words, _, stops, wanted), got in wrong[:SHOWN]:
         print(f"{words} {stops}\n  wanted {wanted!r}\n  got    {got!r}")
     readers, writers = (sum(key in stops for _, _, stops, _ in every) for key in ("STOP_GIVES", "STOP_TAKES"))
     print(f"bytes that readers stopped at: {readers}, that writers stopped at: {writers}")
-    print(f"{len(every) - len(wrong)} passed, {len(wrong)} failed")
-    return 1 if wrong else 0
+    return counted(len(every) - len(wrong), len(wrong))
 
 
 if __name__ == "__main__":

@@ -3,19 +3,16 @@
 
 Each of 300 texts is a message, a help, a source and a label's text, by each handler at each width from 0 to 10:
 nothing is lost, and nothing comes twice. A linked cause is drawn in colours at each width from 0 to 40, which must be
-the plain picture once the colours are deleted. Labels, of `lint` too, are read back from their JSON text. The program
-is `crates/job/out/job`, as the gate leaves it. The last line is 'N passed, M failed', and the exit status is 0 only
-where nothing failed."""
+the plain picture once the colours are deleted. Labels, of `lint` too, are read back from their JSON text. The last
+line is 'N passed, M failed', and the exit status is 0 only where nothing failed."""
 import json
-import os
 import re
 import subprocess
 import sys
 from concurrent.futures import ProcessPoolExecutor
 
-ROOT = os.path.dirname(os.path.dirname(os.path.abspath(__file__)))
-JOB = os.path.join(ROOT, "crates", "job", "out", "job")
-SHOWN = 5
+from programs import PROCESSORS, SHOWN, counted, run
+
 SEEDS, WIDTHS = range(300), range(11)
 # What the texts are made of. Some signs stand here together too, so that they meet often.
 PIECES = ["\t", "\r", "\n", "\x1b", "[", "m", " ", "-", "漢", "\u0301", "\ufffd", "\x1b[", "\x1b[m", "\r\n"]
@@ -62,9 +59,8 @@ def message_of(seed):
 
 def written(words, report):
     """What `job` writes for these words and a description; nothing, where it ends with a fault."""
-    given = json.dumps(report).encode()
-    done = subprocess.run([JOB, *map(str, words)], input=given, capture_output=True, timeout=60)
-    return None if done.returncode or done.stderr else done.stdout.decode()
+    status, shown, fault = run(["job", *map(str, words)], json.dumps(report).encode())
+    return None if status or fault else shown.decode()
 
 
 def lines_of(text):
@@ -182,12 +178,11 @@ def holds(check):
 
 
 def main():
-    with ProcessPoolExecutor(os.cpu_count() or 2) as pool:
+    with ProcessPoolExecutor(PROCESSORS) as pool:
         failed = [check for check, held in zip(CHECKS, pool.map(holds, CHECKS, chunksize=50)) if not held]
     for function, *given in failed[:SHOWN]:
         print(f"{function.__name__}: {given!r}")
-    print(f"{len(CHECKS) - len(failed)} passed, {len(failed)} failed")
-    return 1 if failed else 0
+    return counted(len(CHECKS) - len(failed), len(failed))
 
 
 if __name__ == "__main__":

@@ -1,0 +1,77 @@
+"""programs.py: how the scripts beside it run the built programs, each `crates/NAME/out/NAME` as the gate leaves it."""
+import os
+import shutil
+import subprocess
+from concurrent.futures import ThreadPoolExecutor
+
+HERE = os.path.dirname(os.path.abspath(__file__))
+ROOT = os.path.dirname(HERE)
+PROCESSORS = os.cpu_count() or 2
+# how many of the failed cases are shown
+SHOWN = 5
+# the programs that read a report or a source, and the status of each where memory or a device fails
+STATUS = {"draw": 1, "job": 1, "bench": 1, "lint": 2}
+# no run meets more growths of memory than these
+MOST_GROWTHS = 20000
+
+
+def built(name):
+    """The folder of a built program, where files may surely be run."""
+    return os.path.join(ROOT, "crates", name, "out")
+
+
+def program(name):
+    """The path of a built program."""
+    return os.path.join(built(name), name)
+
+
+def run(words, given=b"", variables=None, **named):
+    """Status, standard output and standard error of a run of the program that the first word names. `given` is its
+    input, `variables` are all that it is told of its surroundings, which else are those of this process."""
+    name, *rest = words
+    command, named = [program(name), *rest], {"timeout": 60, **named}
+    done = subprocess.run(command, input=given, capture_output=True, env=variables, **named)
+    return done.returncode, done.stdout, done.stderr
+
+
+def library_in(folder, name):
+    """What refuses a growth, or stops a stream, built into a folder."""
+    library = os.path.join(folder, f"{name}.so")
+    compiler = os.environ.get("CC") or shutil.which("cc") or "gcc"
+    subprocess.run([compiler, "-O1", "-shared", "-fPIC", "-o", library, os.path.join(HERE, f"{name}.c")], check=True)
+    return library
+
+
+def run_refusing(growth, words, given, library, variables=None):
+    """A run in which one growth of memory is refused, counted from 1, or none where it is 0; and whether there was such
+    a growth."""
+    mine, its = os.pipe()
+    told = {**(variables or {}), "LD_PRELOAD": library, "REFUSED_GROWTH": str(growth), "REFUSED_REPORT": str(its)}
+    try:
+        got = run(words, given, told, pass_fds=[its])
+        os.close(its)
+        return got, os.read(mine, 1) == b"r"
+    finally:
+        os.close(mine)
+
+
+def refusals(words, given, library, variables=None):
+    """The runs in which the first growth is refused, the second one, and so on: its number, the run, and whether there
+    was such a growth. The first run without one is the last."""
+    for growth in range(1, MOST_GROWTHS):
+        got, was_refused = run_refusing(growth, words, given, library, variables)
+        yield growth, got, was_refused
+        if not was_refused:
+            return
+
+
+def each(function, cases):
+    """What a function that waits for a program gives for each case, on all processors."""
+    with ThreadPoolExecutor(PROCESSORS) as pool:
+        return list(pool.map(function, cases))
+
+
+def counted(passed, failed):
+    """Prints the last line of a script, and gives its exit status."""
+    print(f"{passed} passed, {failed} failed")
+    return 1 if failed else 0

@@ -1,0 +1,211 @@
+"""What the scripts of this folder read: the crates, their files, their functions, and the toolchain's command."""
+import glob
+import importlib.machinery
+import importlib.util
+import os
+import re
+import shutil
+from typing import NamedTuple
+
+TOP = os.path.dirname(os.path.dirname(os.path.abspath(__file__)))
+COMMENT = re.compile(r"(?m)//.*$")
+FUNCTION = re.compile(r"(?m)^( *)(pub(?:\([a-z]+\))? )?(?:(?:const|unsafe) )*fn (\w+)")
+TYPE = re.compile(r"\b(?:struct|enum|trait|type) (\w+)")
+TRAIT = re.compile(r"(?m)^(?:pub(?:\(\w+\))? )?trait (\w+)")
+MODULE = re.compile(r"(?m)^(pub |pub\(crate\) )?mod (\w+);")
+# what ends a function's parameters and result, and the brackets in which nothing does
+END_OF_HEAD = re.compile(r"\b(?:requires|ensures)\b|[][(){};]")
+WORDS_OF_SPECS = (
+    re.compile(r"(?m)^ *pub (?:record |data )?([\w-]+)"),
+    re.compile(r"(?m)^(?:abbrev |unfoldable )(?:pub )?([\w-]+)"),
+    re.compile(r"(?m)^ +([\w-]+) : "),
+)
+
+
+# ---- crates and files
+
+
+def dependencies():
+    """The crates, lowest first, each with those of the repository that it uses, as crates.txt lists them."""
+    lines = [it.split(":") for it in text_of("crates.txt").split("\n") if it.strip() and not it.startswith("#")]
+    found = {name.strip(): uses.split() for name, uses in lines}
+    return {name: [it for it in uses if it in found] for name, uses in found.items()}
+
+
+def library():
+    """The crates of the library."""
+    return [it for it in dependencies() if it.startswith("miette")]
+
+
+def text_of(path):
+    """The text of a file, whose path begins at the top of the repository."""
+    with open(os.path.join(TOP, path), encoding="utf-8") as file:
+        return file.read()
+
+
+def paths(crate, folder="src"):
+    """The sources below a folder of a crate, or of each crate where its name is `*`: of src, or of specs and proofs."""
+    ending = ".rt" if folder == "src" else ".antt"
+    return sorted(glob.glob(f"crates/{crate}/{folder}/**/*{ending}", root_dir=TOP, recursive=True))
+
+
+def files(crate, folder="src"):
+    """The same with their texts."""
+    return [(it, text_of(it)) for it in paths(crate, folder)]
+
+
+def without_comments(text):
+    return COMMENT.sub("", text)
+
+
+def source(crate):
+    """All of a crate's code as one text, without comments."""
+    return "\n".join(without_comments(text) for _, text in files(crate))
+
+
+class Module(NamedTuple):
+    """A module: its path, empty for the root; its text without comments; whether users reach it by public modules."""
+
+    path: str
+    text: str
+    is_public: bool
+
+
+def modules(crate):
+    """The modules of a crate, each before those that it declares."""
+    root = next(it for it in ("lib", "main") if os.path.exists(f"{TOP}/crates/{crate}/src/{it}.rt"))
+    return modules_from(crate, Module("", without_comments(text_of(f"crates/{crate}/src/{root}.rt")), True))
+
+
+def modules_from(crate, module):
+    yield module
+    for visibility, name in MODULE.findall(module.text):
+        path = f"{module.path}::{name}" if module.path else name
+        text = without_comments(text_of(f"crates/{crate}/src/{path.replace('::', '/')}.rt"))
+        yield from modules_from(crate, Module(path, text, module.is_public and visibility == "pub "))
+
+
+# ---- functions
+
+
+class Function(NamedTuple):
+    """A function of a text: its name and indent, whether it is `pub`, where it starts, where its name ends."""
+
+    name: str
+    indent: str
+    is_public: bool
+    start: int
+    name_end: int
+
+
+def functions(text):
+    """The functions of a text, in order."""
+    return [Function(it[3], it[1], it[2] == "pub ", it.start(), it.end()) for it in FUNCTION.finditer(text)]
+
+
+def line_at(text, offset):
+    """The number of the line of an offset, from 1."""
+    return text.count("\n", 0, offset) + 1
+
+
+def lines_of_functions(text):
+    """The functions of a text: name, first line, last line, counted from 1; each goes on to the next one."""
+    found = [(it.name, line_at(text, it.start)) for it in functions(text)]
+    ends = [at - 1 for _, at in found[1:]] + [text.count("\n") + 1]
+    return [(name, at, end) for (name, at), end in zip(found, ends)]
+
+
+def end_of_head(text, function):
+    """What ends a function's parameters and result: its clauses, its body, or a semicolon; none in brackets does."""
+    depth = 0
+    for found in END_OF_HEAD.finditer(text, function.name_end):
+        depth += (found[0] in "[(") - (found[0] in "])")
+        if depth == 0 and found[0] not in "])":
+            return found
+    raise ValueError(f"a function without an end: {text[function.start : function.start + 80]!r}")
+
+
+def head_of(text, function):
+    """A function's parameters and result."""
+    return " ".join(text[function.name_end : end_of_head(text, function).start()].split())
+
+
+def has_body(text, function):
+    """Whether a method of a trait has a body."""
+    end = end_of_head(text, function)
+    if end[0] in "{;":
+        return end[0] == "{"
+    return re.compile(r"\n    \{|;\n").search(text, end.end())[0] != ";\n"
+
+
+def at_top(text, separator):
+    """The parts of a text between separators that stand in no brackets."""
+    depth, parts = 0, [""]
+    for c in text.replace("->", "→"):
+        depth += (c in "(<[{") - (c in ")>]}")
+        if c == separator and depth == 0:
+            parts.append("")
+        else:
+            parts[-1] += c
+    return [it.strip() for it in parts]
+
+
+def inside(text, at):
+    """What a bracket that opens here has in it."""
+    depth = 0
+    for i in range(at, len(text)):
+        depth += (text[i] == "(") - (text[i] == ")")
+        if depth == 0:
+            return text[at + 1 : i]
+    return text[at + 1 :]
+
+
+def parameters(text, function):
+    """A function's parameters without `self`."""
+    listed = without_comments(inside(text, text.index("(", function.name_end)))
+    return [it for it in at_top(listed, ",") if it and not re.match(r"(&('\w+ )?)?(mut )?self\b", it)]
+
+
+def body_lines(text, function):
+    """How many lines the body of a function has, 0 for one without."""
+    indent = function.indent
+    # where a contract stands, the body's bracket has a line of its own; else it ends the signature's
+    begin = re.compile(rf"(?m)^{indent}(?:\{{|\S.*\{{)$").search(text, function.start)
+    end = begin and re.compile(rf"(?m)^{indent}\}}").search(text, begin.end())
+    outer = max(len(indent) - 1, 0)
+    next_item = rf"(?m)^(?:{indent}(?:pub|const|fn|///|//|#|\{{\}}|\S.*;$)| {{0,{outer}}}\}})"
+    stops = re.compile(next_item).search(text, function.name_end)
+    if not end or stops and stops.start() <= begin.start():
+        return 0
+    return text[begin.start() : end.start()].count("\n") + 1
+
+
+def bodies(text):
+    """What follows the name of each function, up to where its own bracket closes or the next function begins."""
+    found = functions(text)
+    for it, after in zip(found, [*found[1:], None]):
+        rest = text[it.name_end : after.start if after else None]
+        yield it.name, re.split(rf"\n{it.indent}\}}", rest)[0]
+
+
+def contracts(text):
+    """The functions of a text without comments by name, each with the names of its clauses; one may come twice."""
+    for name, contract in re.findall(r"(?s)\bfn (\w+)(.*?)(?=\bfn \w|\Z)", text):
+        yield name, re.findall(r"\b(?:ensures|requires) (\w+) \{", contract)
+
+
+def words_of_specs(text):
+    """The words that a file of specifications defines, fields and constructors among them."""
+    return {word for form in WORDS_OF_SPECS for word in form.findall(text)}
+
+
+# ---- the toolchain
+
+
+def load_rt(command=None):
+    """The toolchain's own command as a module: what applies an edit and checks it is its work."""
+    command = command or os.path.realpath(shutil.which("rt"))
+    loader = importlib.machinery.SourceFileLoader("rt", command)
+    module = importlib.util.module_from_spec(importlib.util.spec_from_loader("rt", loader))
+    loader.exec_module(module)
+    return module
