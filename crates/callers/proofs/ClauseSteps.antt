@@ -29,13 +29,13 @@ pub plain-one : {H : Type 0} (theme : GraphicalTheme) (made : Handling H) → th
     ≡ record { characters = unicode_characters; styles = no_styles }
     → made ≡ without_highlighter (default_settings (characters_of theme.characters) (styles_of theme.styles)) → made
     ≡ without_highlighter plain
-plain-one theme made is m = m ∙ ap (λ t. without_highlighter (default_settings t.characters t.styles)) is
+plain-one theme made is m = m ∙ ap (λ t. without_highlighter (default_settings t)) is
 
 pub coloured-one : {H : Type 0} (theme : GraphicalTheme) (made : Handling H) → theme_of theme
     ≡ record { characters = unicode_characters; styles = ansi_styles }
     → made ≡ without_highlighter (default_settings (characters_of theme.characters) (styles_of theme.styles)) → made
     ≡ without_highlighter in_colours
-coloured-one theme made is m = m ∙ ap (λ t. without_highlighter (default_settings t.characters t.styles)) is
+coloured-one theme made is m = m ∙ ap (λ t. without_highlighter (default_settings t)) is
 
 -- ---- the report is read whole, and holds no escape
 
@@ -97,9 +97,10 @@ one_text other_blank h g t old new old' new' p q r none none' themes tame given 
     let settings : AreCleanSettings h.settings = subst (λ u. AreCleanSettings u.settings) (sym p) tame in
     let tree : IsCleanTree t = subst IsCleanTree (sym r) clean in
     let other : IsTextOf drawn_rows g.settings (draws_plain other_blank g) t given.text = given.is_given in
-    let same : record h.settings { styles = no_styles } ≡ g.settings =
+    let same : record h.settings { theme = record h.settings.theme { styles = no_styles } } ≡ g.settings =
     ap (λ u. record u.settings { styles = no_styles }) p ∙ sym (ap (λ u. u.settings) q) in
-    let restyled : IsTextOf drawn_rows (record h.settings { styles = no_styles }) (draws_plain other_blank g) t
+    let restyled : IsTextOf drawn_rows (record h.settings { theme = record h.settings.theme { styles = no_styles } })
+    (draws_plain other_blank g) t
     given.text =
     subst (λ s. IsTextOf drawn_rows s (draws_plain other_blank g) t given.text) (sym same) other in
     let bare = themes reads settings tree given.text (no_styles, draws_plain other_blank g, restyled) in

@@ -8,13 +8,14 @@ use Rattle.miette_style.specs.declared.style.Style.{Style}
 use Rattle.miette_page.specs.rules.Rows.{Row, styled_run}
 use Rattle.miette_style.specs.rules.Styles.{plain}
 use Rattle.miette_snippet_rules.specs.rules.Drawing.{blank}
-use Rattle.miette_snippet_rules.specs.rules.Frames.{SnippetSettings, Place, place_text}
+use Rattle.miette_snippet_rules.specs.rules.Frames.{Place, place_text}
 use Rattle.miette_drawing.specs.steps.FrameParts.{corner_row}
 use Rattle.miette_page.specs.views.Tokens.{begins, row_tokens, styled_tokens, text_tokens}
 use Rattle.miette_page.proofs.Paging.{told_append}
 use Rattle.miette_snippet_rules.proofs.Telling.{ascii_chars, then, told_as, run_one, run_more, blank_row, styled_told}
 use Rattle.miette_snippet_rules.proofs.Telling.{styled_row}
 use Rattle.miette_drawing.proofs.Texting.{parts_then}
+use Rattle.miette_snippet_rules.specs.rules.Settings.{SnippetSettings}
 
 -- bytes below 128 are their own characters
 below : (b : ℕ) → ltb b 128 ≡ true → b < 128
@@ -40,12 +41,12 @@ run_last w style text p q h = h ∙ ap (λ x. p ⊕ x) (sym (styled_row w style 
 
 pub corner_put : (s : SnippetSettings) (columns w corner many : ℕ) (p q r : Printout) → columns ≡ w + 2 → q ≡ p
     ⊕ styled_tokens plain (replicate columns 32) → r ≡ q ⊕ styled_tokens plain
-    (corner ∷ replicate many s.characters.hbar) → r ≡ p ⊕ row_tokens (corner_row s w corner many)
+    (corner ∷ replicate many s.theme.characters.hbar) → r ≡ p ⊕ row_tokens (corner_row s w corner many)
 corner_put s columns w corner many p q r e hq hr =
-    parts_then (blank s.width (w + 2) ∷ []) (styled_run s.width plain (corner ∷ replicate many s.characters.hbar) ∷ [])
+    parts_then (blank s (w + 2) ∷ []) (styled_run s.width plain (corner ∷ replicate many s.theme.characters.hbar) ∷ [])
     p q r
-    (hq ∙ ap (λ k. p ⊕ styled_tokens plain (replicate k 32)) e ∙ ap (λ x. p ⊕ x) (sym (blank_row s.width (w + 2))))
-    (run_last s.width plain (corner ∷ replicate many s.characters.hbar) q r hr)
+    (hq ∙ ap (λ k. p ⊕ styled_tokens plain (replicate k 32)) e ∙ ap (λ x. p ⊕ x) (sym (blank_row s (w + 2))))
+    (run_last s.width plain (corner ∷ replicate many s.theme.characters.hbar) q r hr)
 
 -- two numbers with a colon between them
 pub place_put : (place : Place) (line column : ℕ) (p q r n : Printout) → line ≡ place.line + 1 → column ≡ place.column

@@ -21,6 +21,7 @@ use Rattle.miette_basics.proofs.Cases.{by_cases}
 use Rattle.miette_snippet_rules.proofs.Telling.{styled_told, styled_row, blank_row, then, run_one}
 use Rattle.miette_style.specs.rules.Themes.{Characters}
 use Rattle.miette_basics.specs.rules.Lists.{onto}
+use Rattle.miette_snippet_rules.specs.rules.Settings.{SnippetSettings}
 
 -- A gutter whose labels from some index on are left: none is left, or the one at the index adds runs.
 abbrev Gutter : Type 0
@@ -42,59 +43,64 @@ at_last f ls placed i row new whole own lt e n h =
     n ∙ ap (λ r. row ⊕ r) (sym e) ∙ ap (λ r. row ⊕ row_tokens (f r))
     (sym (at_drop_more (map (drawn_of ls)) placed i nothing lt)) ∙ h
 
-abbrev more_of_other : (ℕ → ℕ) → Characters → Line → ℕ → DrawnLabel → List DrawnLabel → Bool → Row
-more_of_other w t line left l ls b = cond b (styled_run w l.style (t.lbot ∷ replicate (left - 1) t.hbar) ∷ [])
-    (styled_run w l.style (t.vbar ∷ []) ∷ other_gutter w t line (left - 1) ls)
+abbrev more_of_other : SnippetSettings → Line → ℕ → DrawnLabel → List DrawnLabel → Bool → Row
+more_of_other s line left l ls b = cond b (styled_run s.width l.style
+    (s.theme.characters.lbot ∷ replicate (left - 1) s.theme.characters.hbar) ∷ [])
+    (styled_run s.width l.style (s.theme.characters.vbar ∷ []) ∷ other_gutter s line (left - 1) ls)
 
-pub other_last : (w : ℕ → ℕ) (t : Characters) (line : Line) (left less : ℕ) (l : DrawnLabel) (ls : List DrawnLabel)
+pub other_last : (s : SnippetSettings) (line : Line) (left less : ℕ) (l : DrawnLabel) (ls : List DrawnLabel)
     → ends_on line l ≡ true → less ≡ left - 1 →
-    row_tokens (other_gutter w t line left (l ∷ ls)) ≡ styled_tokens l.style (t.lbot ∷ replicate less t.hbar)
-other_last w t line left less l ls e z =
-    ap (λ b. row_tokens (more_of_other w t line left l ls b)) e
-    ∙ styled_row w l.style (t.lbot ∷ replicate (left - 1) t.hbar)
-    ∙ ap (λ k. styled_tokens l.style (t.lbot ∷ replicate k t.hbar)) (sym z)
+    row_tokens (other_gutter s line left (l ∷ ls)) ≡ styled_tokens l.style
+    (s.theme.characters.lbot ∷ replicate less s.theme.characters.hbar)
+other_last s line left less l ls e z =
+    ap (λ b. row_tokens (more_of_other s line left l ls b)) e
+    ∙ styled_row s.width l.style (s.theme.characters.lbot ∷ replicate (left - 1) s.theme.characters.hbar)
+    ∙ ap (λ k. styled_tokens l.style (s.theme.characters.lbot ∷ replicate k s.theme.characters.hbar)) (sym z)
 
-abbrev more_of_open : (ℕ → ℕ) → Characters → Line → ℕ → DrawnLabel → List DrawnLabel → Bool → Row
-more_of_open w t line left l ls b = cond b (blank w left ∷ [])
-    (styled_run w l.style (t.vbar ∷ []) ∷ open_gutter w t line (left - 1) ls)
+abbrev more_of_open : SnippetSettings → Line → ℕ → DrawnLabel → List DrawnLabel → Bool → Row
+more_of_open s line left l ls b = cond b (blank s left ∷ [])
+    (styled_run s.width l.style (s.theme.characters.vbar ∷ []) ∷ open_gutter s line (left - 1) ls)
 
-pub open_last : (w : ℕ → ℕ) (t : Characters) (line : Line) (left : ℕ) (l : DrawnLabel) (ls : List DrawnLabel)
+pub open_last : (s : SnippetSettings) (line : Line) (left : ℕ) (l : DrawnLabel) (ls : List DrawnLabel)
     → ends_on line l ≡ true →
-    row_tokens (open_gutter w t line left (l ∷ ls)) ≡ styled_tokens plain (replicate left 32)
-open_last w t line left l ls e = ap (λ b. row_tokens (more_of_open w t line left l ls b)) e ∙ blank_row w left
+    row_tokens (open_gutter s line left (l ∷ ls)) ≡ styled_tokens plain (replicate left 32)
+open_last s line left l ls e = ap (λ b. row_tokens (more_of_open s line left l ls b)) e ∙ blank_row s left
 
 -- an arrow and a space
 abbrev pub arrow_told : Characters → Style → ℕ → ℕ → List Token
 arrow_told t style corner left = styled_tokens style (corner ∷ replicate (left - 3) t.hbar ++ t.rarrow ∷ [])
     ++ styled_tokens plain (32 ∷ [])
 
-arrow_row : (w : ℕ → ℕ) (t : Characters) (l : DrawnLabel) (corner left : ℕ)
-    → row_tokens (arrow w t l corner left ∷ blank w 1 ∷ []) ≡ arrow_told t l.style corner left
-arrow_row w t l corner left =
-    ap (λ r. r ++ row_tokens (blank w 1 ∷ [])) (styled_told w l.style
-    (corner ∷ replicate (left - 3) t.hbar ++ t.rarrow ∷ []))
-    ∙ ap (λ r. styled_tokens l.style (corner ∷ replicate (left - 3) t.hbar ++ t.rarrow ∷ []) ++ r) (blank_row w 1)
+arrow_row : (s : SnippetSettings) (l : DrawnLabel) (corner left : ℕ)
+    → row_tokens (arrow s l corner left ∷ blank s 1 ∷ []) ≡ arrow_told s.theme.characters l.style corner left
+arrow_row s l corner left =
+    ap (λ r. r ++ row_tokens (blank s 1 ∷ [])) (styled_told s.width l.style
+    (corner ∷ replicate (left - 3) s.theme.characters.hbar ++ s.theme.characters.rarrow ∷ []))
+    ∙ ap (λ r. styled_tokens l.style (corner ∷ replicate (left - 3) s.theme.characters.hbar ++ s.theme.characters.rarrow
+    ∷ []) ++ r) (blank_row s 1)
 
-abbrev unless_starts : (ℕ → ℕ) → Characters → Line → ℕ → DrawnLabel → List DrawnLabel → Bool → Row
-unless_starts w t line left l ls b = cond b (arrow w t l (ending_corner t l.parts) left ∷ blank w 1 ∷ [])
-    (styled_run w l.style (t.vbar ∷ []) ∷ number_gutter w t line (left - 1) ls)
+abbrev unless_starts : SnippetSettings → Line → ℕ → DrawnLabel → List DrawnLabel → Bool → Row
+unless_starts s line left l ls b = cond b (arrow s l (ending_corner s.theme.characters l.parts) left ∷ blank s 1 ∷ [])
+    (styled_run s.width l.style (s.theme.characters.vbar ∷ []) ∷ number_gutter s line (left - 1) ls)
 
-abbrev more_of_number : (ℕ → ℕ) → Characters → Line → ℕ → DrawnLabel → List DrawnLabel → Bool → Row
-more_of_number w t line left l ls b = cond b (arrow w t l t.ltop left ∷ blank w 1 ∷ [])
-    (unless_starts w t line left l ls (ends_on line l))
+abbrev more_of_number : SnippetSettings → Line → ℕ → DrawnLabel → List DrawnLabel → Bool → Row
+more_of_number s line left l ls b = cond b (arrow s l s.theme.characters.ltop left ∷ blank s 1 ∷ [])
+    (unless_starts s line left l ls (ends_on line l))
 
-pub number_starts : (w : ℕ → ℕ) (t : Characters) (line : Line) (left : ℕ) (l : DrawnLabel) (ls : List DrawnLabel)
-    → starts_on line l ≡ true → row_tokens (number_gutter w t line left (l ∷ ls)) ≡ arrow_told t l.style t.ltop left
-number_starts w t line left l ls s = ap (λ b. row_tokens (more_of_number w t line left l ls b)) s
-    ∙ arrow_row w t l t.ltop left
+pub number_starts : (v : SnippetSettings) (line : Line) (left : ℕ) (l : DrawnLabel) (ls : List DrawnLabel)
+    → starts_on line l ≡ true → row_tokens (number_gutter v line left (l ∷ ls))
+    ≡ arrow_told v.theme.characters l.style v.theme.characters.ltop left
+number_starts v line left l ls s = ap (λ b. row_tokens (more_of_number v line left l ls b)) s
+    ∙ arrow_row v l v.theme.characters.ltop left
 
-pub number_ends : (w : ℕ → ℕ) (t : Characters) (line : Line) (left corner : ℕ) (l : DrawnLabel) (ls : List DrawnLabel)
-    → starts_on line l ≡ false → ends_on line l ≡ true → corner ≡ ending_corner t l.parts →
-    row_tokens (number_gutter w t line left (l ∷ ls)) ≡ arrow_told t l.style corner left
-number_ends w t line left corner l ls s e k =
-    ap (λ b. row_tokens (more_of_number w t line left l ls b)) s
-    ∙ ap (λ b. row_tokens (unless_starts w t line left l ls b)) e ∙ arrow_row w t l (ending_corner t l.parts) left
-    ∙ ap (λ c. arrow_told t l.style c left) (sym k)
+pub number_ends : (v : SnippetSettings) (line : Line) (left corner : ℕ) (l : DrawnLabel) (ls : List DrawnLabel)
+    → starts_on line l ≡ false → ends_on line l ≡ true → corner ≡ ending_corner v.theme.characters l.parts →
+    row_tokens (number_gutter v line left (l ∷ ls)) ≡ arrow_told v.theme.characters l.style corner left
+number_ends v line left corner l ls s e k =
+    ap (λ b. row_tokens (more_of_number v line left l ls b)) s
+    ∙ ap (λ b. row_tokens (unless_starts v line left l ls b)) e
+    ∙ arrow_row v l (ending_corner v.theme.characters l.parts) left
+    ∙ ap (λ c. arrow_told v.theme.characters l.style c left) (sym k)
 
 corner_onto : (t : Characters) (code : ℕ) (parts : List (List ℕ)) → t.lcross ≡ ending_corner t (onto code parts)
 corner_onto t code [] = refl

@@ -23,7 +23,7 @@ use Rattle.miette_page.specs.rules.Rows.{Row}
 use Rattle.miette_cells.specs.rules.Cells.{Cell, characters, cells_from}
 use Rattle.miette_labels.specs.rules.Contexts.{contents, lines_of_contents}
 use Rattle.miette_snippet_rules.specs.rules.Folds.{Spread}
-use Rattle.miette_snippet_rules.specs.rules.Frames.{SnippetSettings, Place, top_row, top_row_of, bottom_row}
+use Rattle.miette_snippet_rules.specs.rules.Frames.{Place, top_row, top_row_of, bottom_row}
 use Rattle.miette_snippet_rules.specs.rules.Frames.{number_width, width_of_lines}
 use Rattle.miette_labels.specs.views.GivenLabels.{drawn_of, label_at}
 use Rattle.miette_labels.specs.rules.Groups.{in_order, spans_of}
@@ -33,7 +33,7 @@ use Rattle.miette_snippet_rules.specs.rules.SnippetLayout.{cells_of, line_or_bre
 use Rattle.miette_snippet_rules.specs.rules.SnippetLayout.{left_out, body_rows}
 use Rattle.miette_snippet_rules.specs.rules.Highlighting.{EachHasPieces, ArePieces, decoded_text, texts_of, line_calls}
 use Rattle.miette_snippet_rules.specs.rules.Highlighting.{piece_of}
-use Rattle.miette_drawing.specs.views.SnippetRows.{cells_in, text_in, texts_in, lent_rows, lent_snippet, PutsRows}
+use Rattle.miette_drawing.specs.views.SnippetRows.{cells_in, text_in, texts_in, lent_snippet, PutsRows}
 use Rattle.miette_drawing.specs.steps.Widths.{width_of_count, gutter_of}
 use Rattle.miette_labels.specs.views.Placing.{end_drawn, is_told, placed_from}
 use Rattle.miette_labels.specs.views.Reads.{IsRead}
@@ -52,6 +52,8 @@ use Rattle.miette_snippet_rules.proofs.Merging.{sorted}
 use Rattle.miette_labels.proofs.Merging.{IsAscending}
 use Rattle.miette_labels.proofs.Refusing.{read_of}
 use Rattle.miette_snippet_rules.proofs.Telling.{told_rows-append}
+use Rattle.miette_snippet_rules.specs.rules.SnippetLayout.{snippet_context, line_in, line_shown}
+use Rattle.miette_snippet_rules.specs.rules.Settings.{SnippetSettings}
 
 -- a part of a part
 pub slices : (bytes : List ℕ) (from to a b : ℕ) → from ≤ a → a ≤ b → b ≤ from + (to - from)
@@ -82,16 +84,18 @@ cut_inside low at n high (l ∷ ls) h le top = (
 lent_from : (out : ℕ → Line → Bool) (gap : Bool) (s : SnippetSettings) (w columns : ℕ) (drawn : List DrawnLabel)
     (bytes : List ℕ) (from to number : ℕ) (pieces : List (List Highlight)) (ls : List Line)
     → AllByRecursion (Inside from (from + (to - from))) ls →
-    lent_rows out gap s w columns drawn from (slice_range bytes from to) number pieces ls
-    ≡ rows_of_lines out gap s w columns drawn bytes number pieces ls
+    rows_of_lines out gap (snippet_context s w columns drawn (cells_in s from (slice_range bytes from to))) number
+    pieces ls
+    ≡ rows_of_lines out gap (snippet_context s w columns drawn (cells_of s bytes)) number pieces ls
 lent_from out gap s w columns drawn bytes from to number pieces [] h = refl
 lent_from out gap s w columns drawn bytes from to number pieces (l ∷ ls) h =
-    ap (λ text. line_or_break gap (out number l) s w columns drawn l number
-    (cells_from s.width s.tab false l.start 0 (characters text)) (first_of pieces)
-    ++ lent_rows out (out number l) s w columns drawn from (slice_range bytes from to) (number + 1) (drop 1 pieces)
-    ls)
+    ap (λ text. line_or_break gap (out number l) (snippet_context s w columns drawn
+    (λ _. cells_from s.width s.layout.tab_width false l.start 0 (characters text))) l number (first_of pieces)
+    ++ rows_of_lines out (out number l) (snippet_context s w columns drawn
+    (cells_in s from (slice_range bytes from to))) (number + 1) (drop 1 pieces) ls)
     (slices bytes from to l.start l.text_end h.0.0 h.0.1 h.0.2)
-    ∙ ap (λ r. line_or_break gap (out number l) s w columns drawn l number (cells_of s bytes l) (first_of pieces) ++ r)
+    ∙ ap (λ r. line_or_break gap (out number l) (snippet_context s w columns drawn (cells_of s bytes)) l number
+    (first_of pieces) ++ r)
     (lent_from out (out number l) s w columns drawn bytes from to (number + 1) (drop 1 pieces) ls h.1)
 
 texts_from : (bytes : List ℕ) (from to : ℕ) (ls : List Line) → AllByRecursion (Inside from (from + (to - from))) ls
@@ -113,9 +117,9 @@ lines_inside bytes from to =
 
 -- a snippet from what its read lent
 abbrev pub lent_lines : SnippetSettings → List Spread → List DrawnLabel → Contents → List (List Highlight) → List Row
-lent_lines s spreads drawn lent pieces = lent_rows (left_out s lent.line (lines_of_contents lent) spreads) false s
-    (number_width lent) (gutter_columns drawn (lines_of_contents lent)) drawn lent.span.offset lent.bytes
-    (lent.line + 1) pieces (lines_of_contents lent)
+lent_lines s spreads drawn lent pieces = rows_of_lines (left_out s lent.line (lines_of_contents lent) spreads) false
+    (snippet_context s (number_width lent) (gutter_columns drawn (lines_of_contents lent)) drawn
+    (cells_in s lent.span.offset lent.bytes)) (lent.line + 1) pieces (lines_of_contents lent)
 
 pub lent_body : (s : SnippetSettings) (spreads : List Spread) (drawn : List DrawnLabel) (context : ℕ) (source : Source)
     (span : Span) (pieces : List (List Highlight)) →
@@ -287,8 +291,10 @@ AreLinedBefore out gap s w columns drawn start bytes first blank begun now left 
     (all : List (List Highlight)) × EachHasPieces blank (texts_in start bytes (P.lines_from start bytes)) all
     × ((later : List Call) → now (line_calls (texts_in start bytes left) more ++ later)
     → begun (line_calls (texts_in start bytes (P.lines_from start bytes)) all ++ later))
-    × (page ⊕ rows_tokens (lent_rows out gap s w columns drawn start bytes number more left) ≡ before
-    ⊕ rows_tokens (lent_rows out false s w columns drawn start bytes first all (P.lines_from start bytes)))
+    × (page ⊕ rows_tokens (rows_of_lines out gap (snippet_context s w columns drawn (cells_in s start bytes)) number
+    more left) ≡ before
+    ⊕ rows_tokens (rows_of_lines out false (snippet_context s w columns drawn (cells_in s start bytes)) first all
+    (P.lines_from start bytes)))
 
 -- the same of the lines from a place on
 abbrev pub AreLined : (ℕ → Line → Bool) → Bool → SnippetSettings → ℕ → ℕ → List DrawnLabel → ℕ → List ℕ → ℕ → Bool
@@ -306,8 +312,8 @@ lines_first out s w columns drawn start bytes first blank begun page = λ more h
       subst (λ (n : ℕ). EachHasPieces blank (texts_in start bytes (P.lines_from n bytes)) more) e h,
       (λ later k. subst (λ (n : ℕ). begun (line_calls (texts_in start bytes (P.lines_from n bytes)) more ++ later)) e
           k),
-      ap (λ n. page ⊕ rows_tokens (lent_rows out false s w columns drawn start bytes first more
-          (P.lines_from n bytes))) e,
+      ap (λ n. page ⊕ rows_tokens (rows_of_lines out false (snippet_context s w columns drawn (cells_in s start bytes))
+          first more (P.lines_from n bytes))) e,
     )
 
 -- the rows of one line more
@@ -321,16 +327,17 @@ lines_more_of : (out : ℕ → Line → Bool) (gap left : Bool) (s : SnippetSett
     ∷ P.lines_from line.end (drop (line.end - start) bytes) → start ≤ line.end →
     ArePieces blank (decoded_text (text_in start bytes (line_of_text line))) pieces →
     Leads was (asked (decoded_text (text_in start bytes (line_of_text line))) (map piece_of pieces) ∷ []) now →
-    more ≡ page ⊕ rows_tokens (line_or_break gap left s w columns drawn (line_of_text line) number
-    (cells_in s start bytes (line_of_text line)) pieces) →
+    more ≡ page ⊕ rows_tokens (line_or_break gap left (snippet_context s w columns drawn (cells_in s start bytes))
+    (line_of_text line) number pieces) →
     AreLined out left s w columns drawn start bytes first blank begun now (line.end - start) (number + 1) before more
 lines_more_of out gap left s w columns drawn start bytes first blank begun was now at number line pieces before page
     more h leaves part low p call e = λ later own.
     let sums : start + (line.end - start) ≡ line.end = omega (arith, low) in
     let behind : List Line = P.lines_from line.end (drop (line.end - start) bytes) in
-    let here : Bool → List Row = λ o. line_or_break gap o s w columns drawn (line_of_text line) number
-    (cells_in s start bytes (line_of_text line)) pieces in
-    let there : Bool → List Row = λ o. lent_rows out o s w columns drawn start bytes (number + 1) later behind in
+    let here : Bool → List Row = λ o. line_or_break gap o (snippet_context s w columns drawn (cells_in s start bytes))
+    (line_of_text line) number pieces in
+    let there : Bool → List Row = λ o. rows_of_lines out o (snippet_context s w columns drawn (cells_in s start bytes))
+    (number + 1) later behind in
     let others : EachHasPieces blank (texts_in start bytes behind) later =
     subst (λ (n : ℕ). EachHasPieces blank (texts_in start bytes (P.lines_from n (drop (line.end - start) bytes)))
     later) sums own in
@@ -343,13 +350,14 @@ lines_more_of out gap left s w columns drawn start bytes first blank begun was n
           (call (line_calls (texts_in start bytes behind) later ++ calls)
           (subst (λ (n : ℕ). now (line_calls (texts_in start bytes (P.lines_from n (drop (line.end - start) bytes)))
           later ++ calls)) sums k)))),
-      ap (λ n. more ⊕ rows_tokens (lent_rows out left s w columns drawn start bytes (number + 1) later
-          (P.lines_from n (drop (line.end - start) bytes)))) sums
+      ap (λ n. more ⊕ rows_tokens (rows_of_lines out left (snippet_context s w columns drawn (cells_in s start bytes))
+          (number + 1) later (P.lines_from n (drop (line.end - start) bytes)))) sums
           ∙ ap (λ m. m ⊕ rows_tokens (there left)) e
           ∙ put_append page (rows_tokens (here left)) (rows_tokens (there left))
           ∙ ap (λ t. page ⊕ t) (sym (told_rows-append (here left) (there left)))
           ∙ ap (λ o. page ⊕ rows_tokens (here o ++ there o)) leaves
-          ∙ ap (λ ls. page ⊕ rows_tokens (lent_rows out gap s w columns drawn start bytes number (pieces ∷ later) ls))
+          ∙ ap (λ ls. page ⊕ rows_tokens (rows_of_lines out gap
+          (snippet_context s w columns drawn (cells_in s start bytes)) number (pieces ∷ later) ls))
           (sym part)
           ∙ rest.3,
     )
@@ -365,8 +373,9 @@ pub lines_more : (out : ℕ → Line → Bool) (gap left : Bool) (s : SnippetSet
     one ≡ filter (is_one (line_of_text line)) placed → multi ≡ filter (is_multi (line_of_text line)) placed →
     ArePieces blank (decoded_text (text_in start bytes (line_of_text line))) pieces →
     Leads was (asked (decoded_text (text_in start bytes (line_of_text line))) (map piece_of pieces) ∷ []) now →
-    more ≡ page ⊕ rows_tokens (line_or_break_of gap left s w columns (map (drawn_of labels) one)
-    (map (drawn_of labels) multi) (line_of_text line) number (cells_in s start bytes (line_of_text line)) pieces) →
+    more ≡ page ⊕ rows_tokens (line_or_break_of gap left (line_in s w columns (line_of_text line)
+    (map (drawn_of labels) multi)) (line_shown number (map (drawn_of labels) one)
+    (cells_in s start bytes (line_of_text line)) pieces)) →
     AreLined out left s w columns (map (drawn_of labels) placed) start bytes first blank begun now (line.end - start)
     (number + 1) before more
 lines_more out gap left s w columns labels placed start bytes first blank begun was now at number line one multi pieces
@@ -375,11 +384,12 @@ lines_more out gap left s w columns labels placed start bytes first blank begun 
     let cells : List Cell = cells_in s start bytes (line_of_text line) in
     lines_more_of out gap left s w columns drawn start bytes first blank begun was now at number line pieces before page
     more h leaves part low p call
-    (e ∙ ap (λ x. page ⊕ rows_tokens (line_or_break_of gap left s w columns x (map (drawn_of labels) multi)
-    (line_of_text line) number cells pieces)) (ap (map (drawn_of labels)) a
+    (e ∙ ap (λ x. page ⊕ rows_tokens (line_or_break_of gap left
+    (line_in s w columns (line_of_text line) (map (drawn_of labels) multi)) (line_shown number x cells pieces)))
+    (ap (map (drawn_of labels)) a
     ∙ one_same labels placed (line_of_text line))
-    ∙ ap (λ x. page ⊕ rows_tokens (line_or_break_of gap left s w columns (one_line (line_of_text line) drawn) x
-    (line_of_text line) number cells pieces)) (ap (map (drawn_of labels)) b
+    ∙ ap (λ x. page ⊕ rows_tokens (line_or_break_of gap left (line_in s w columns (line_of_text line) x)
+    (line_shown number (one_line (line_of_text line) drawn) cells pieces))) (ap (map (drawn_of labels)) b
     ∙ multi_same labels placed (line_of_text line)))
 
 -- all lines are drawn
@@ -388,7 +398,8 @@ pub lines_all : (out : ℕ → Line → Bool) (gap : Bool) (s : SnippetSettings)
     (before page : Printout) →
     AreLined out gap s w columns drawn start bytes first blank begun now at number before page → length bytes ≤ at →
     PutsRows blank (λ calls. Leads begun calls now) (texts_in start bytes (P.lines_from start bytes))
-    (λ pieces. lent_rows out false s w columns drawn start bytes first pieces (P.lines_from start bytes)) before page
+    (λ pieces. rows_of_lines out false (snippet_context s w columns drawn (cells_in s start bytes)) first pieces
+    (P.lines_from start bytes)) before page
 lines_all out gap s w columns drawn start bytes first blank begun now at number before page h le =
     let none : drop at bytes ≡ [] = drop_all at bytes le in
     let all = h [] (subst (λ (xs : List ℕ). EachHasPieces blank (texts_in start bytes (P.lines_from (start + at) xs))
@@ -399,7 +410,8 @@ lines_all out gap s w columns drawn start bytes first blank begun now at number 
       calls = λ later k. all.2 later (subst (λ (xs : List ℕ). now
           (line_calls (texts_in start bytes (P.lines_from (start + at) xs)) [] ++ later)) (sym none) k);
       is = sym (put_nil page) ∙ ap (λ xs. page ⊕ rows_tokens
-          (lent_rows out gap s w columns drawn start bytes number [] (P.lines_from (start + at) xs))) (sym none)
+          (rows_of_lines out gap (snippet_context s w columns drawn (cells_in s start bytes)) number []
+          (P.lines_from (start + at) xs))) (sym none)
           ∙ all.3;
     }
 
@@ -410,8 +422,9 @@ told_counted : (s : SnippetSettings) (spreads : List Spread) (labels : List Labe
     lines ≡ length (lines_of_contents lent) → most ≡ most_multi placed (lines_of_contents lent) → w
     ≡ width_of_count lent.line lines → columns ≡ gutter_of most →
     p1 ≡ p0 ⊕ rows_tokens (top_row_of s w lent.name (ltb 1 lines) place ∷ []) →
-    p2 ≡ p1 ⊕ rows_tokens (lent_rows (left_out s lent.line (lines_of_contents lent) spreads) false s w columns
-    (map (drawn_of labels) placed) lent.span.offset lent.bytes (lent.line + 1) pieces (lines_of_contents lent)) →
+    p2 ≡ p1 ⊕ rows_tokens (rows_of_lines (left_out s lent.line (lines_of_contents lent) spreads) false
+    (snippet_context s w columns (map (drawn_of labels) placed) (cells_in s lent.span.offset lent.bytes))
+    (lent.line + 1) pieces (lines_of_contents lent)) →
     p3 ≡ p2 ⊕ rows_tokens (bottom_row s w ∷ []) → p3 ≡ p0
     ⊕ rows_tokens (lent_snippet s spreads (map (drawn_of labels) placed) lent place pieces)
 told_counted s spreads labels placed lent place pieces w columns lines most p0 p1 p2 p3 many widest width gutter a b c =
@@ -421,15 +434,19 @@ told_counted s spreads labels placed lent place pieces w columns lines most p0 p
     let whole : w ≡ number_width lent = width ∙ ap (width_of_count lent.line) many ∙ sym (width_is lent.line real) in
     let room : columns ≡ gutter_columns drawn real = gutter ∙ ap gutter_of (widest ∙ most_is labels placed real) in
     told_parts p0 p1 p2 p3 (top_row_of s w lent.name (ltb 1 lines) place) (bottom_row s w)
-    (lent_rows out false s w columns drawn lent.span.offset lent.bytes (lent.line + 1) pieces real) a b c
+    (rows_of_lines out false (snippet_context s w columns drawn (cells_in s lent.span.offset lent.bytes))
+    (lent.line + 1) pieces real) a b c
     ∙ ap (λ n. p0 ⊕ rows_tokens (top_row_of s n lent.name (ltb 1 lines) place
-    ∷ lent_rows out false s n columns drawn lent.span.offset lent.bytes (lent.line + 1) pieces real
+    ∷ rows_of_lines out false (snippet_context s n columns drawn (cells_in s lent.span.offset lent.bytes))
+    (lent.line + 1) pieces real
     ++ bottom_row s n ∷ [])) whole
     ∙ ap (λ n. p0 ⊕ rows_tokens (top_row_of s (number_width lent) lent.name (ltb 1 n) place
-    ∷ lent_rows out false s (number_width lent) columns drawn lent.span.offset lent.bytes (lent.line + 1) pieces
-    real ++ bottom_row s (number_width lent) ∷ [])) many
-    ∙ ap (λ n. p0 ⊕ rows_tokens (top_row s lent place ∷ lent_rows out false s (number_width lent) n drawn
-    lent.span.offset lent.bytes (lent.line + 1) pieces real ++ bottom_row s (number_width lent) ∷ [])) room
+    ∷ rows_of_lines out false (snippet_context s (number_width lent) columns drawn
+    (cells_in s lent.span.offset lent.bytes)) (lent.line + 1) pieces real ++ bottom_row s (number_width lent) ∷ []))
+    many
+    ∙ ap (λ n. p0 ⊕ rows_tokens (top_row s lent place ∷ rows_of_lines out false
+    (snippet_context s (number_width lent) n drawn (cells_in s lent.span.offset lent.bytes)) (lent.line + 1)
+    pieces real ++ bottom_row s (number_width lent) ∷ [])) room
 
 -- what the getters of a read gave stands for its parts
 pub told_lent : (s : SnippetSettings) (spreads : List Spread) (labels : List Label) (placed : List PlacedLabel)
@@ -440,8 +457,9 @@ pub told_lent : (s : SnippetSettings) (spreads : List Spread) (labels : List Lab
     ≡ width_of_count line lines → columns ≡ gutter_of most →
     p1 ≡ p0 ⊕ rows_tokens (top_row_of s w name (ltb 1 lines) place ∷ []) →
     PutsRows blank happen (texts_in start bytes (P.lines_from start bytes))
-    (λ pieces. lent_rows (left_out s line (P.lines_from start bytes) spreads) false s w columns
-    (map (drawn_of labels) placed) start bytes (line + 1) pieces (P.lines_from start bytes)) p1 p2 →
+    (λ pieces. rows_of_lines (left_out s line (P.lines_from start bytes) spreads) false
+    (snippet_context s w columns (map (drawn_of labels) placed) (cells_in s start bytes)) (line + 1) pieces
+    (P.lines_from start bytes)) p1 p2 →
     p3 ≡ p2 ⊕ rows_tokens (bottom_row s w ∷ []) →
     PutsRows blank happen (lent_texts lent) (lent_snippet s spreads (map (drawn_of labels) placed) lent place) p0 p3
 told_lent s spreads labels placed lent place blank happen w columns lines most line start name bytes p0 p1 p2 p3 la at
@@ -463,14 +481,17 @@ told_lent s spreads labels placed lent place blank happen w columns lines most l
           (many ∙ ap length same) (widest ∙ ap (most_multi placed) same) (width ∙ ap (λ n. width_of_count n lines) la)
           gutter
           (a ∙ ap (λ n. p0 ⊕ rows_tokens (top_row_of s w n (ltb 1 lines) place ∷ [])) named)
-          (b.is ∙ ap (λ ls. p1 ⊕ rows_tokens (lent_rows (left_out s line ls spreads) false s w columns drawn start bytes
-          (line + 1) b.pieces ls)) same
-          ∙ ap (λ n. p1 ⊕ rows_tokens (lent_rows (left_out s line (lines_of_contents lent) spreads) false s w columns
-          drawn n bytes (line + 1) b.pieces (lines_of_contents lent))) at
-          ∙ ap (λ n. p1 ⊕ rows_tokens (lent_rows (left_out s line (lines_of_contents lent) spreads) false s w columns
-          drawn lent.span.offset n (line + 1) b.pieces (lines_of_contents lent))) data'
-          ∙ ap (λ n. p1 ⊕ rows_tokens (lent_rows (left_out s n (lines_of_contents lent) spreads) false s w columns drawn
-          lent.span.offset lent.bytes (n + 1) b.pieces (lines_of_contents lent))) la)
+          (b.is ∙ ap (λ ls. p1 ⊕ rows_tokens (rows_of_lines (left_out s line ls spreads) false
+          (snippet_context s w columns drawn (cells_in s start bytes)) (line + 1) b.pieces ls)) same
+          ∙ ap (λ n. p1 ⊕ rows_tokens (rows_of_lines (left_out s line (lines_of_contents lent) spreads) false
+          (snippet_context s w columns drawn (cells_in s n bytes)) (line + 1) b.pieces (lines_of_contents lent)))
+          at
+          ∙ ap (λ n. p1 ⊕ rows_tokens (rows_of_lines (left_out s line (lines_of_contents lent) spreads) false
+          (snippet_context s w columns drawn (cells_in s lent.span.offset n)) (line + 1) b.pieces
+          (lines_of_contents lent))) data'
+          ∙ ap (λ n. p1 ⊕ rows_tokens (rows_of_lines (left_out s n (lines_of_contents lent) spreads) false
+          (snippet_context s w columns drawn (cells_in s lent.span.offset lent.bytes)) (n + 1) b.pieces
+          (lines_of_contents lent))) la)
           c;
     }
 

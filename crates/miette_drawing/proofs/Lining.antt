@@ -7,56 +7,58 @@ use Rattle.miette_style.specs.rules.Styles.{plain}
 use Rattle.miette_cuts.specs.declared.marks.Mark.{Mark as MadeMark}
 use Rattle.miette_snippet_rules.specs.rules.Marks.{Mark}
 use Rattle.miette_snippet_rules.specs.rules.Drawing.{blank, mark_runs, rows_below, marked_rows}
-use Rattle.miette_snippet_rules.specs.rules.Frames.{SnippetSettings, number_start, break_start}
+use Rattle.miette_snippet_rules.specs.rules.Frames.{number_start, break_start}
 use Rattle.miette_snippet_rules.specs.rules.SnippetLayout.{before_each}
 use Rattle.miette_page.specs.views.Tokens.{begins, row_end, row_tokens, rows_tokens, styled_tokens, text_tokens}
 use Rattle.miette_snippet_rules.proofs.Telling.{then, told_as, run_one, blank_told, styled_row}
 use Rattle.miette_drawing.proofs.Texting.{row_done, rows_then, parts_then}
-use Rattle.miette_style.specs.rules.Themes.{Characters}
+use Rattle.miette_snippet_rules.specs.rules.Settings.{SnippetSettings}
 
 pub number_put : (s : SnippetSettings) (w number : ℕ) (p b l d v n : Printout) → b ≡ p
-    ⊕ styled_tokens plain (replicate 1 32) → l ≡ b ⊕ begins s.styles.linum ∷ [] → d ≡ l
+    ⊕ styled_tokens plain (replicate 1 32) → l ≡ b ⊕ begins s.theme.styles.linum ∷ [] → d ≡ l
     ⊕ text_tokens (replicate (w - length (decimal number)) 32 ++ decimal number) →
-    v ≡ d ⊕ styled_tokens plain (32 ∷ s.characters.vbar ∷ []) → n ≡ v ⊕ text_tokens (32 ∷ []) → n ≡ p
+    v ≡ d ⊕ styled_tokens plain (32 ∷ s.theme.characters.vbar ∷ []) → n ≡ v ⊕ text_tokens (32 ∷ []) → n ≡ p
     ⊕ row_tokens (number_start s w number)
 number_put s w number p b l d v n hb hl hd hv hn =
     let digits : List ℕ = replicate (w - length (decimal number)) 32 ++ decimal number in
-    let bar : List ℕ = 32 ∷ s.characters.vbar ∷ 32 ∷ [] in
-    let numbered : d ≡ b ⊕ row_tokens (styled_run s.width s.styles.linum digits ∷ []) =
-    told_as b (styled_tokens s.styles.linum digits) (row_tokens (styled_run s.width s.styles.linum digits ∷ []))
-    (then b (begins s.styles.linum ∷ []) (text_tokens digits) hl hd) (sym (styled_row s.width s.styles.linum digits))
+    let bar : List ℕ = 32 ∷ s.theme.characters.vbar ∷ 32 ∷ [] in
+    let numbered : d ≡ b ⊕ row_tokens (styled_run s.width s.theme.styles.linum digits ∷ []) =
+    told_as b (styled_tokens s.theme.styles.linum digits)
+    (row_tokens (styled_run s.width s.theme.styles.linum digits ∷ []))
+    (then b (begins s.theme.styles.linum ∷ []) (text_tokens digits) hl hd)
+    (sym (styled_row s.width s.theme.styles.linum digits))
     in
     let barred : n ≡ d ⊕ row_tokens (styled_run s.width plain bar ∷ []) =
-    told_as d (styled_tokens plain (32 ∷ s.characters.vbar ∷ []) ++ text_tokens (32 ∷ []))
-    (row_tokens (styled_run s.width plain bar ∷ [])) (then d (styled_tokens plain (32 ∷ s.characters.vbar ∷ []))
+    told_as d (styled_tokens plain (32 ∷ s.theme.characters.vbar ∷ []) ++ text_tokens (32 ∷ []))
+    (row_tokens (styled_run s.width plain bar ∷ [])) (then d (styled_tokens plain (32 ∷ s.theme.characters.vbar ∷ []))
     (text_tokens (32 ∷ [])) hv hn)
-    (run_one plain (32 ∷ s.characters.vbar ∷ []) 32 ∙ sym (styled_row s.width plain bar)) in
-    let blanked : b ≡ p ⊕ row_tokens (blank s.width 1 ∷ []) =
-    told_as p (styled_tokens plain (replicate 1 32)) (row_tokens (blank s.width 1 ∷ [])) hb
-    (sym (append-nil _ ∙ blank_told s.width 1)) in
-    parts_then (blank s.width 1 ∷ []) (styled_run s.width s.styles.linum digits ∷ styled_run s.width plain bar ∷ []) p b
+    (run_one plain (32 ∷ s.theme.characters.vbar ∷ []) 32 ∙ sym (styled_row s.width plain bar)) in
+    let blanked : b ≡ p ⊕ row_tokens (blank s 1 ∷ []) =
+    told_as p (styled_tokens plain (replicate 1 32)) (row_tokens (blank s 1 ∷ [])) hb
+    (sym (append-nil _ ∙ blank_told s 1)) in
+    parts_then (blank s 1 ∷ []) (styled_run s.width s.theme.styles.linum digits ∷ styled_run s.width plain bar ∷ []) p b
     n blanked
-    (parts_then (styled_run s.width s.styles.linum digits ∷ []) (styled_run s.width plain bar ∷ []) b d n numbered
+    (parts_then (styled_run s.width s.theme.styles.linum digits ∷ []) (styled_run s.width plain bar ∷ []) b d n numbered
     barred)
 
 -- the row of a break
 pub break_put : (s : SnippetSettings) (w many : ℕ) (gutter : Row) (p b d v g n : Printout) → many ≡ w - 1 → b ≡ p
     ⊕ styled_tokens plain (replicate many 32) → d ≡ b ⊕ styled_tokens plain (46 ∷ replicate 2 46) → v ≡ d
-    ⊕ text_tokens (s.characters.vbar ∷ []) →
+    ⊕ text_tokens (s.theme.characters.vbar ∷ []) →
     g ≡ v ⊕ row_tokens gutter → n ≡ g ⊕ row_end ∷ [] → n ≡ p ⊕ rows_tokens ((break_start s w ++ gutter) ∷ [])
 break_put s w many gutter p b d v g n hm hb hd hv hg hn =
     let dots : List ℕ = 46 ∷ 46 ∷ 46 ∷ [] in
-    let front : List ℕ = dots ++ s.characters.vbar ∷ [] in
-    let blanked : b ≡ p ⊕ row_tokens (blank s.width (w - 1) ∷ []) =
-    told_as p (styled_tokens plain (replicate (w - 1) 32)) (row_tokens (blank s.width (w - 1) ∷ []))
-    (hb ∙ ap (λ k. p ⊕ styled_tokens plain (replicate k 32)) hm) (sym (append-nil _ ∙ blank_told s.width (w - 1))) in
+    let front : List ℕ = dots ++ s.theme.characters.vbar ∷ [] in
+    let blanked : b ≡ p ⊕ row_tokens (blank s (w - 1) ∷ []) =
+    told_as p (styled_tokens plain (replicate (w - 1) 32)) (row_tokens (blank s (w - 1) ∷ []))
+    (hb ∙ ap (λ k. p ⊕ styled_tokens plain (replicate k 32)) hm) (sym (append-nil _ ∙ blank_told s (w - 1))) in
     let barred : v ≡ b ⊕ row_tokens (styled_run s.width plain front ∷ []) =
-    told_as b (styled_tokens plain dots ++ text_tokens (s.characters.vbar ∷ []))
+    told_as b (styled_tokens plain dots ++ text_tokens (s.theme.characters.vbar ∷ []))
     (row_tokens (styled_run s.width plain front ∷ [])) (then b (styled_tokens plain dots)
-    (text_tokens (s.characters.vbar ∷ [])) hd hv)
-    (run_one plain dots s.characters.vbar ∙ sym (styled_row s.width plain front)) in
+    (text_tokens (s.theme.characters.vbar ∷ [])) hd hv)
+    (run_one plain dots s.theme.characters.vbar ∙ sym (styled_row s.width plain front)) in
     row_done (break_start s w ++ gutter) p g n (parts_then (break_start s w) gutter p v g
-    (parts_then (blank s.width (w - 1) ∷ []) (styled_run s.width plain front ∷ []) p b v blanked barred) hg) hn
+    (parts_then (blank s (w - 1) ∷ []) (styled_run s.width plain front ∷ []) p b v blanked barred) hg) hn
 
 -- the number row: its start, its gutter, its text
 pub number_row_put : (start gutter text : Row) (p a g t n : Printout) → a ≡ p ⊕ row_tokens start → g ≡ a
@@ -74,10 +76,10 @@ marked_put before row below p a m e n ha hm he hn =
     rows_then ((before ++ row) ∷ []) (before_each before below) p e n
     (row_done (before ++ row) p m e (parts_then before row p a m ha hm) he) hn
 
-pub marked_some : (w : ℕ → ℕ) (t : Characters) (f : MadeMark → Mark) (ms : List MadeMark) → 0 < length ms
-    → mark_runs w t 0 (map f ms) ∷ rows_below w t [] (map f ms) ≡ marked_rows w t (map f ms)
-marked_some w t f [] h = absurd (omega arith)
-marked_some w t f (m ∷ ms) h = refl
+pub marked_some : (s : SnippetSettings) (f : MadeMark → Mark) (ms : List MadeMark) → 0 < length ms
+    → mark_runs s 0 (map f ms) ∷ rows_below s [] (map f ms) ≡ marked_rows s (map f ms)
+marked_some s f [] h = absurd (omega arith)
+marked_some s f (m ∷ ms) h = refl
 
 -- all rows of a line
 pub line_put : (first : Row) (marked closed : List Row) (p a b n : Printout) → a ≡ p ⊕ rows_tokens (first ∷ []) → b ≡ a

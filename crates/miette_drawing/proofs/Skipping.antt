@@ -10,14 +10,15 @@ use Rattle.miette_labels.specs.rules.Labels.{DrawnLabel}
 use Rattle.miette_labels.proofs.Sources.{IsCut}
 use Rattle.miette_labels.proofs.Lines.{cut-le}
 use Rattle.miette_snippet_rules.specs.rules.Folds.{Spread, leaves_out}
-use Rattle.miette_snippet_rules.specs.rules.Frames.{SnippetSettings}
 use Rattle.miette_snippet_rules.specs.rules.Highlighting.{ArePieces, decoded_text, line_calls}
 use Rattle.miette_snippet_rules.specs.rules.SnippetLayout.{line_or_break, left_out}
 use Rattle.miette_folds.specs.declared.folds.LineStart.{LineStart}
-use Rattle.miette_drawing.specs.views.SnippetRows.{cells_in, text_in, texts_in, lent_rows}
+use Rattle.miette_drawing.specs.views.SnippetRows.{cells_in, text_in, texts_in}
 use Rattle.miette_drawing.proofs.Lending.{AreLinedBefore, AreLined}
 use Rattle.miette_folds.proofs.Passing.{IsBetween}
 use Rattle.miette_folds.proofs.Starts.{Begins, RunOf, run_of}
+use Rattle.miette_snippet_rules.specs.rules.SnippetLayout.{snippet_context, rows_of_lines}
+use Rattle.miette_snippet_rules.specs.rules.Settings.{SnippetSettings}
 
 -- lines with numbers from this one on are left out
 abbrev EachOut : (ℕ → Line → Bool) → ℕ → List Line → Type 0
@@ -37,8 +38,10 @@ one_skipped out s w columns drawn start bytes first blank begun now l ls number 
       rest.0,
       rest.1,
       (λ later k. rest.2 later (free (line_calls (texts_in start bytes (l ∷ ls)) ([] ∷ more) ++ later))),
-      ap (λ b. page ⊕ rows_tokens (line_or_break true b s w columns drawn l number (cells_in s start bytes l) []
-          ++ lent_rows out b s w columns drawn start bytes (number + 1) more ls)) (sym o) ∙ rest.3,
+      ap (λ b. page ⊕ rows_tokens (line_or_break true b (snippet_context s w columns drawn (cells_in s start bytes)) l
+          number []
+          ++ rows_of_lines out b (snippet_context s w columns drawn (cells_in s start bytes)) (number + 1) more ls))
+          (sym o) ∙ rest.3,
     )
 
 each_skipped : (out : ℕ → Line → Bool) (s : SnippetSettings) (w columns : ℕ) (drawn : List DrawnLabel) (start : ℕ)
@@ -60,7 +63,8 @@ each_skipped out s w columns drawn start bytes first blank begun now (l ∷ run)
 
 -- the lines of a run are left out by their numbers
 each_out : (s : SnippetSettings) (ahead : ℕ) (lines : List Line) (spreads : List Spread) (from to : LineStart)
-    → ((k : ℕ) (other : Line) → IsBetween from to k other → leaves_out s.label_lines lines spreads k other ≡ true) →
+    → ((k : ℕ) (other : Line) → IsBetween from to k other → leaves_out s.layout.label_lines lines spreads k other
+    ≡ true) →
     (run : List Line) (at k number : ℕ) → IsCut at to.offset run → from.offset ≤ at → from.place ≤ k → k + length run
     ≡ to.place → number ≡ ahead + k + 1 → EachOut (left_out s ahead lines spreads) number run
 each_out s ahead lines spreads from to outs [] at k number cut low first size e = tt
@@ -73,7 +77,7 @@ each_out s ahead lines spreads from to outs (l ∷ run) at k number cut low firs
       some = omega (arith, cut.0, cut.3);
       high = cut-le l.end to.offset run cut.5;
     } in (
-      ap (λ n. leaves_out s.label_lines lines spreads n l) same ∙ outs k l own,
+      ap (λ n. leaves_out s.layout.label_lines lines spreads n l) same ∙ outs k l own,
       each_out s ahead lines spreads from to outs run l.end (k + 1) (number + 1) cut.5 (omega (arith, low, cut.3))
           (omega (arith, first)) (omega (arith, size)) (omega (arith, e)),
     )
@@ -83,7 +87,8 @@ run_skipped : (s : SnippetSettings) (spreads : List Spread) (w columns : ℕ) (d
     (before page : Printout) →
     ((calls : List Call) → now calls) → Begins start bytes near.offset near.place
     → Begins start bytes far.offset far.place → near.offset ≤ far.offset →
-    ((k : ℕ) (other : Line) → IsBetween near far k other → leaves_out s.label_lines (P.lines_from start bytes) spreads k
+    ((k : ℕ) (other : Line) → IsBetween near far k other → leaves_out s.layout.label_lines (P.lines_from start bytes)
+    spreads k
     other ≡ true) →
     AreLined (left_out s ahead (P.lines_from start bytes) spreads) true s w columns drawn start bytes first blank begun
     now (near.offset - start) (ahead + near.place + 1) before page →
@@ -118,7 +123,8 @@ pub lines_run : (s : SnippetSettings) (spreads : List Spread) (left jumps : Bool
     (begun now : List Call → Type 0) (near far : LineStart) (before page : Printout) →
     (jumps ≡ true → left ≡ true) → (jumps ≡ true → (calls : List Call) → now calls) → (jumps ≡ false → far ≡ near)
     → Begins start bytes near.offset near.place → Begins start bytes far.offset far.place → near.offset ≤ far.offset →
-    ((k : ℕ) (other : Line) → IsBetween near far k other → leaves_out s.label_lines (P.lines_from start bytes) spreads k
+    ((k : ℕ) (other : Line) → IsBetween near far k other → leaves_out s.layout.label_lines (P.lines_from start bytes)
+    spreads k
     other ≡ true) →
     AreLined (left_out s ahead (P.lines_from start bytes) spreads) left s w columns drawn start bytes first blank begun
     now (near.offset - start) (ahead + near.place + 1) before page →

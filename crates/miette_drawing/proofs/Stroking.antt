@@ -22,6 +22,7 @@ use Rattle.miette_basics.proofs.Cases.{by_cases}
 use Rattle.miette_snippet_rules.proofs.Telling.{then, told_as, run_one, run_more, blank_told}
 use Rattle.miette_style.specs.rules.Themes.{Characters}
 use Rattle.miette_basics.specs.rules.Lists.{onto}
+use Rattle.miette_snippet_rules.specs.rules.Settings.{SnippetSettings}
 
 mapped_codes : (w f : ℕ → ℕ) (ks : List ℕ) → map (λ p. p.code) (map (λ k. glyph_of w (f k)) ks) ≡ map f ks
 mapped_codes w f [] = refl
@@ -59,43 +60,45 @@ codes_by t m x y e =
     here : (t : Characters) (m : Mark) (k : ℕ) → k ≡ m.anchor → mark_code t m k ≡ middle t m
     here t m k h = ap (λ b. cond b (middle t m) t.underline) (eq-eqb k m.anchor h)
 
-pub mark_put : (w : ℕ → ℕ) (t : Characters) (m : Mark) (at x y c : ℕ) (p q r s n : Printout) → at ≡ m.anchor → m.from
-    ≤ at → at < m.until → x ≡ at - m.from → y ≡ m.until - at - 1 → c ≡ middle t m →
-    q ≡ p ⊕ begins m.label.style ∷ [] → r ≡ q ⊕ text_tokens (replicate x t.underline) → s ≡ r ⊕ text_tokens (c ∷ []) → n
-    ≡ s ⊕ text_tokens (replicate y t.underline) → n ≡ p ⊕ run_tokens (mark_run w t m)
-mark_put w t m at x y c p q r s n a le lt ex ey ec hq hr hs hn =
+pub mark_put : (v : SnippetSettings) (m : Mark) (at x y c : ℕ) (p q r s n : Printout) → at ≡ m.anchor → m.from
+    ≤ at → at < m.until → x ≡ at - m.from → y ≡ m.until - at - 1 → c ≡ middle v.theme.characters m →
+    q ≡ p ⊕ begins m.label.style ∷ [] → r ≡ q ⊕ text_tokens (replicate x v.theme.characters.underline) → s ≡ r
+    ⊕ text_tokens (c ∷ []) → n
+    ≡ s ⊕ text_tokens (replicate y v.theme.characters.underline) → n ≡ p ⊕ run_tokens (mark_run v m)
+mark_put v m at x y c p q r s n a le lt ex ey ec hq hr hs hn =
     let style : Style = m.label.style in
-    let xs : List ℕ = replicate x t.underline in
-    let ys : List ℕ = replicate y t.underline in
+    let xs : List ℕ = replicate x v.theme.characters.underline in
+    let ys : List ℕ = replicate y v.theme.characters.underline in
     let many : m.until - m.from ≡ x + suc y = omega arith in
     let begun : r ≡ p ⊕ styled_tokens style xs = then p (begins style ∷ []) (text_tokens xs) hq hr in
     let middled : s ≡ p ⊕ styled_tokens style (xs ++ c ∷ []) =
     told_as p (styled_tokens style xs ++ text_tokens (c ∷ [])) (styled_tokens style (xs ++ c ∷ []))
     (then p (styled_tokens style xs) (text_tokens (c ∷ [])) begun hs) (run_one style xs c) in
-    told_as p (styled_tokens style (xs ++ c ∷ []) ++ text_tokens ys) (run_tokens (mark_run w t m))
+    told_as p (styled_tokens style (xs ++ c ∷ []) ++ text_tokens ys) (run_tokens (mark_run v m))
     (then p (styled_tokens style (xs ++ c ∷ [])) (text_tokens ys) middled hn)
     (run_more style (xs ++ c ∷ []) ys
     ∙ ap (λ k. styled_tokens style ((xs ++ k ∷ []) ++ ys)) ec
-    ∙ ap (styled_tokens style) (sym (codes_by t m x y (omega arith)))
-    ∙ ap (λ k. styled_tokens style (map (mark_code t m) (range_with_len m.from k))) (sym many)
-    ∙ ap (styled_tokens style) (sym (mapped_codes w (mark_code t m) (range_with_len m.from (m.until - m.from)))))
+    ∙ ap (styled_tokens style) (sym (codes_by v.theme.characters m x y (omega arith)))
+    ∙ ap (λ k. styled_tokens style (map (mark_code v.theme.characters m) (range_with_len m.from k))) (sym many)
+    ∙ ap (styled_tokens style) (sym (mapped_codes v.width (mark_code v.theme.characters m)
+    (range_with_len m.from (m.until - m.from)))))
 
 -- one more mark
-pub mark_more : (w : ℕ → ℕ) (t : Characters) (ls : List Label) (marks : List MadeMark) (i reached gap : ℕ)
+pub mark_more : (v : SnippetSettings) (ls : List Label) (marks : List MadeMark) (i reached gap : ℕ)
     (d : MadeMark) (row spaced new whole : Printout) → i < length marks → gap ≡ (get_or marks i d).from - reached →
     spaced ≡ row ⊕ styled_tokens plain (replicate gap 32) → new ≡ spaced
-    ⊕ run_tokens (mark_run w t (mark_of ls (get_or marks i d))) →
-    row ⊕ row_tokens (mark_runs w t reached (map (mark_of ls) (drop i marks))) ≡ whole → new
-    ⊕ row_tokens (mark_runs w t (get_or marks i d).until (map (mark_of ls) (drop (i + 1) marks))) ≡ whole
-mark_more w t ls marks i reached gap d row spaced new whole lt z s n h =
+    ⊕ run_tokens (mark_run v (mark_of ls (get_or marks i d))) →
+    row ⊕ row_tokens (mark_runs v reached (map (mark_of ls) (drop i marks))) ≡ whole → new
+    ⊕ row_tokens (mark_runs v (get_or marks i d).until (map (mark_of ls) (drop (i + 1) marks))) ≡ whole
+mark_more v ls marks i reached gap d row spaced new whole lt z s n h =
     let m : Mark = mark_of ls (get_or marks i d) in
-    let rest : List Token = row_tokens (mark_runs w t m.until (map (mark_of ls) (drop (i + 1) marks))) in
-    ap (λ r. r ⊕ rest) (n ∙ ap (λ r. r ⊕ run_tokens (mark_run w t m))
+    let rest : List Token = row_tokens (mark_runs v m.until (map (mark_of ls) (drop (i + 1) marks))) in
+    ap (λ r. r ⊕ rest) (n ∙ ap (λ r. r ⊕ run_tokens (mark_run v m))
     (s ∙ ap (λ k. row ⊕ styled_tokens plain (replicate k 32)) z))
-    ∙ put_append (row ⊕ styled_tokens plain (replicate (m.from - reached) 32)) (run_tokens (mark_run w t m)) rest
-    ∙ put_append row (styled_tokens plain (replicate (m.from - reached) 32)) (run_tokens (mark_run w t m) ++ rest)
-    ∙ ap (λ r. row ⊕ (r ++ (run_tokens (mark_run w t m) ++ rest))) (sym (blank_told w (m.from - reached)))
-    ∙ ap (λ xs. row ⊕ row_tokens (mark_runs w t reached xs)) (sym (at_drop_more (map (mark_of ls)) marks i d lt)) ∙ h
+    ∙ put_append (row ⊕ styled_tokens plain (replicate (m.from - reached) 32)) (run_tokens (mark_run v m)) rest
+    ∙ put_append row (styled_tokens plain (replicate (m.from - reached) 32)) (run_tokens (mark_run v m) ++ rest)
+    ∙ ap (λ r. row ⊕ (r ++ (run_tokens (mark_run v m) ++ rest))) (sym (blank_told v (m.from - reached)))
+    ∙ ap (λ xs. row ⊕ row_tokens (mark_runs v reached xs)) (sym (at_drop_more (map (mark_of ls)) marks i d lt)) ∙ h
 
 -- the character of a label with a text
 middle_onto : (t : Characters) (code : ℕ) (parts : List (List ℕ)) → t.underbar ≡ code_with_parts t (onto code parts)

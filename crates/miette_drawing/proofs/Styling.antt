@@ -9,13 +9,15 @@ use Rattle.miette_highlight.specs.rules.HighlighterCalls.{Call, asked, restarted
 use Rattle.miette_labels.specs.rules.Answers.{Highlight, first_of}
 use Rattle.miette_labels.specs.rules.Contexts.{contents, lines_of_contents}
 use Rattle.miette_snippet_rules.specs.rules.Folds.{Spread}
-use Rattle.miette_snippet_rules.specs.rules.Frames.{SnippetSettings, top_row, bottom_row, number_width}
+use Rattle.miette_snippet_rules.specs.rules.Frames.{top_row, bottom_row, number_width}
 use Rattle.miette_snippet_rules.specs.rules.Gutters.{gutter_columns}
 use Rattle.miette_snippet_rules.specs.rules.Highlighting.{ArePieces, EachHasPieces, SnippetsHavePieces, highlight_of}
 use Rattle.miette_snippet_rules.specs.rules.Highlighting.{piece_of, texts_of, line_calls, group_calls}
 use Rattle.miette_labels.specs.rules.Labels.{DrawnLabel}
 use Rattle.miette_snippet_rules.specs.rules.SnippetLayout.{line_or_break, rows_of_lines, left_out, cells_of}
 use Rattle.miette_snippet_rules.specs.rules.SnippetLayout.{drawn_labels, all_snippets, place_of}
+use Rattle.miette_snippet_rules.specs.rules.SnippetLayout.{snippet_context}
+use Rattle.miette_snippet_rules.specs.rules.Settings.{SnippetSettings}
 
 pub same_pieces : (ps : List Piece) → map piece_of (map highlight_of ps) ≡ ps
 same_pieces [] = refl
@@ -33,20 +35,21 @@ cut_pieces blank text ps h n = record {
 rows_plain : (out : ℕ → Line → Bool) (gap : Bool) (s : SnippetSettings) (w columns : ℕ) (labels : List DrawnLabel)
     (source : List ℕ) (number : ℕ) (pieces : List (List Highlight)) (ls : List Line)
     → EachHasPieces true (texts_of source ls) pieces →
-    rows_of_lines out gap s w columns labels source number pieces ls
-    ≡ rows_of_lines out gap s w columns labels source number [] ls
+    rows_of_lines out gap (snippet_context s w columns labels (cells_of s source)) number pieces ls
+    ≡ rows_of_lines out gap (snippet_context s w columns labels (cells_of s source)) number [] ls
 rows_plain out gap s w columns labels source number pieces [] h = refl
 rows_plain out gap s w columns labels source number pieces (l ∷ ls) h =
-    ap₂ (λ p r. line_or_break gap (out number l) s w columns labels l number (cells_of s source l) p ++ r)
+    ap₂ (λ p r. line_or_break gap (out number l) (snippet_context s w columns labels (cells_of s source)) l number p
+    ++ r)
     (h.0.none refl) (rows_plain out (out number l) s w columns labels source (number + 1) (drop 1 pieces) ls h.1)
 
 pub snippets_plain : (s : SnippetSettings) (spreads : List Spread) (source : Source) (labels : List Label)
     (pieces : List (List (List Highlight))) (groups : List Span)
-    → SnippetsHavePieces s.context true source groups pieces →
+    → SnippetsHavePieces s.layout.context_lines true source groups pieces →
     all_snippets s spreads source labels pieces groups ≡ all_snippets s spreads source labels [] groups
 snippets_plain s spreads source labels pieces [] h = refl
 snippets_plain s spreads source labels pieces (group ∷ groups) h =
-    let lent : Contents = contents s.context source group in
+    let lent : Contents = contents s.layout.context_lines source group in
     let drawn : List DrawnLabel = drawn_labels s (length source.bytes) labels in
     ap₂ (λ rows more. (top_row s lent (place_of source group labels) ∷ rows ++ bottom_row s (number_width lent) ∷ [])
     ++ more)

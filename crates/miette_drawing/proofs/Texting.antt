@@ -20,7 +20,7 @@ use Rattle.miette_page.specs.views.Tokens.{text_tokens}
 use Rattle.miette_snippet_rules.proofs.Telling.{then, told_as, run_one, run_more, blank_told, blank_row, styled_told}
 use Rattle.miette_snippet_rules.proofs.Telling.{styled_row, told-append, told_rows-append}
 use Rattle.miette_drawing.proofs.Parting.{cut_some}
-use Rattle.miette_style.specs.rules.Themes.{Characters}
+use Rattle.miette_snippet_rules.specs.rules.Settings.{SnippetSettings}
 
 -- a row's end
 pub row_done : (row : Row) (p q r : Printout) → q ≡ p ⊕ row_tokens row → r ≡ q ⊕ row_end ∷ [] → r ≡ p
@@ -41,49 +41,53 @@ parts_then a b p q r hq hr = told_as p (row_tokens a ++ row_tokens b) (row_token
     (then p (row_tokens a) (row_tokens b) hq hr) (sym (told-append a b))
 
 -- the start of other rows
-pub start_put : (w : ℕ → ℕ) (t : Characters) (columns many : ℕ) (p q r : Printout) → columns ≡ many → q ≡ p
-    ⊕ styled_tokens plain (replicate columns 32) → r ≡ q ⊕ styled_tokens plain (t.vbar_break ∷ 32 ∷ []) →
-    r ≡ p ⊕ row_tokens (blank w many ∷ styled_run w plain (t.vbar_break ∷ 32 ∷ []) ∷ [])
-start_put w t columns many p q r e hq hr =
-    told_as p (styled_tokens plain (replicate columns 32) ++ styled_tokens plain (t.vbar_break ∷ 32 ∷ []))
-    (row_tokens (blank w many ∷ styled_run w plain (t.vbar_break ∷ 32 ∷ []) ∷ []))
-    (then p (styled_tokens plain (replicate columns 32)) (styled_tokens plain (t.vbar_break ∷ 32 ∷ [])) hq hr)
-    (ap (λ k. styled_tokens plain (replicate k 32) ++ styled_tokens plain (t.vbar_break ∷ 32 ∷ [])) e
-    ∙ ap (λ x. x ++ styled_tokens plain (t.vbar_break ∷ 32 ∷ [])) (sym (blank_row w many))
-    ∙ ap (λ x. row_tokens (blank w many ∷ []) ++ x) (sym (styled_row w plain (t.vbar_break ∷ 32 ∷ [])))
-    ∙ sym (told-append (blank w many ∷ []) (styled_run w plain (t.vbar_break ∷ 32 ∷ []) ∷ [])))
+pub start_put : (s : SnippetSettings) (columns many : ℕ) (p q r : Printout) → columns ≡ many → q ≡ p
+    ⊕ styled_tokens plain (replicate columns 32) → r ≡ q ⊕ styled_tokens plain (s.theme.characters.vbar_break ∷ 32 ∷ [])
+    →
+    r ≡ p ⊕ row_tokens (blank s many ∷ styled_run s.width plain (s.theme.characters.vbar_break ∷ 32 ∷ []) ∷ [])
+start_put s columns many p q r e hq hr =
+    told_as p (styled_tokens plain (replicate columns 32)
+    ++ styled_tokens plain (s.theme.characters.vbar_break ∷ 32 ∷ []))
+    (row_tokens (blank s many ∷ styled_run s.width plain (s.theme.characters.vbar_break ∷ 32 ∷ []) ∷ []))
+    (then p (styled_tokens plain (replicate columns 32)) (styled_tokens plain (s.theme.characters.vbar_break ∷ 32 ∷ []))
+    hq hr)
+    (ap (λ k. styled_tokens plain (replicate k 32) ++ styled_tokens plain (s.theme.characters.vbar_break ∷ 32 ∷ [])) e
+    ∙ ap (λ x. x ++ styled_tokens plain (s.theme.characters.vbar_break ∷ 32 ∷ [])) (sym (blank_row s many))
+    ∙ ap (λ x. row_tokens (blank s many ∷ []) ++ x) (sym (styled_row s.width plain
+    (s.theme.characters.vbar_break ∷ 32 ∷ [])))
+    ∙ sym (told-append (blank s many ∷ []) (styled_run s.width plain (s.theme.characters.vbar_break ∷ 32 ∷ []) ∷ [])))
 
 -- leads
-pub lead_more : (w : ℕ → ℕ) (t : Characters) (ls : List Label) (marks : List MadeMark) (i reached gap at column : ℕ)
+pub lead_more : (v : SnippetSettings) (ls : List Label) (marks : List MadeMark) (i reached gap at column : ℕ)
     (d : MadeMark) (row spaced new whole : Printout) → i < length marks → at ≡ (mark_of ls (get_or marks i d)).anchor
     → gap ≡ at - reached →
     spaced ≡ row ⊕ styled_tokens plain (replicate gap 32) → new ≡ spaced
-    ⊕ styled_tokens (get_or marks i d).label.style (t.vbar ∷ []) →
-    row ⊕ row_tokens (lead_runs w t reached (map (mark_of ls) (drop i marks)) column) ≡ whole → new
-    ⊕ row_tokens (lead_runs w t (at + 1) (map (mark_of ls) (drop (i + 1) marks)) column) ≡ whole
-lead_more w t ls marks i reached gap at column d row spaced new whole lt a z s n h =
+    ⊕ styled_tokens (get_or marks i d).label.style (v.theme.characters.vbar ∷ []) →
+    row ⊕ row_tokens (lead_runs v reached (map (mark_of ls) (drop i marks)) column) ≡ whole → new
+    ⊕ row_tokens (lead_runs v (at + 1) (map (mark_of ls) (drop (i + 1) marks)) column) ≡ whole
+lead_more v ls marks i reached gap at column d row spaced new whole lt a z s n h =
     let m : Mark = mark_of ls (get_or marks i d) in
-    let bar : List Token = styled_tokens m.label.style (t.vbar ∷ []) in
-    let rest : List Token = row_tokens (lead_runs w t (m.anchor + 1) (map (mark_of ls) (drop (i + 1) marks)) column) in
-    ap (λ k. new ⊕ row_tokens (lead_runs w t (k + 1) (map (mark_of ls) (drop (i + 1) marks)) column)) a
+    let bar : List Token = styled_tokens m.label.style (v.theme.characters.vbar ∷ []) in
+    let rest : List Token = row_tokens (lead_runs v (m.anchor + 1) (map (mark_of ls) (drop (i + 1) marks)) column) in
+    ap (λ k. new ⊕ row_tokens (lead_runs v (k + 1) (map (mark_of ls) (drop (i + 1) marks)) column)) a
     ∙ ap (λ r. r ⊕ rest) (n ∙ ap (λ r. r ⊕ bar) (s ∙ ap (λ k. row ⊕ styled_tokens plain (replicate k 32))
     (z ∙ ap (λ k. k - reached) a)))
     ∙ put_append (row ⊕ styled_tokens plain (replicate (m.anchor - reached) 32)) bar rest
     ∙ put_append row (styled_tokens plain (replicate (m.anchor - reached) 32)) (bar ++ rest)
-    ∙ ap (λ r. row ⊕ (r ++ (bar ++ rest))) (sym (blank_told w (m.anchor - reached)))
-    ∙ ap (λ r. row ⊕ (run_tokens (blank w (m.anchor - reached)) ++ (r ++ rest)))
-    (sym (styled_told w m.label.style (t.vbar ∷ [])))
-    ∙ ap (λ xs. row ⊕ row_tokens (lead_runs w t reached xs column)) (sym (at_drop_more (map (mark_of ls)) marks i d lt))
+    ∙ ap (λ r. row ⊕ (r ++ (bar ++ rest))) (sym (blank_told v (m.anchor - reached)))
+    ∙ ap (λ r. row ⊕ (run_tokens (blank v (m.anchor - reached)) ++ (r ++ rest)))
+    (sym (styled_told v.width m.label.style (v.theme.characters.vbar ∷ [])))
+    ∙ ap (λ xs. row ⊕ row_tokens (lead_runs v reached xs column)) (sym (at_drop_more (map (mark_of ls)) marks i d lt))
     ∙ h
 
-pub lead_end : (w : ℕ → ℕ) (t : Characters) (ls : List Label) (marks : List MadeMark) (i reached gap column : ℕ)
+pub lead_end : (s : SnippetSettings) (ls : List Label) (marks : List MadeMark) (i reached gap column : ℕ)
     (row new whole : Printout) → length marks ≤ i → gap ≡ column - reached → new ≡ row
     ⊕ styled_tokens plain (replicate gap 32) →
-    row ⊕ row_tokens (lead_runs w t reached (map (mark_of ls) (drop i marks)) column) ≡ whole → new ≡ whole
-lead_end w t ls marks i reached gap column row new whole le z n h =
+    row ⊕ row_tokens (lead_runs s reached (map (mark_of ls) (drop i marks)) column) ≡ whole → new ≡ whole
+lead_end s ls marks i reached gap column row new whole le z n h =
     n ∙ ap (λ k. row ⊕ styled_tokens plain (replicate k 32)) z
-    ∙ ap (λ r. row ⊕ r) (sym (blank_row w (column - reached)))
-    ∙ ap (λ xs. row ⊕ row_tokens (lead_runs w t reached xs column)) (sym (at_drop_all (map (mark_of ls)) marks i le))
+    ∙ ap (λ r. row ⊕ r) (sym (blank_row s (column - reached)))
+    ∙ ap (λ xs. row ⊕ row_tokens (lead_runs s reached xs column)) (sym (at_drop_all (map (mark_of ls)) marks i le))
     ∙ h
 
 -- a row of a text: what stands before the marks, the leads, and a run
@@ -104,21 +108,21 @@ run_put style a b c part p q r s n hq hr hs hn =
     told_as p (styled_tokens style four ++ text_tokens part) (styled_tokens style (four ++ part))
     (then p (styled_tokens style four) (text_tokens part) fourth hn) (run_more style four part)
 
-pub text_put : (w : ℕ → ℕ) (t : Characters) (before : Row) (earlier : List Mark) (m : Mark) (at x y z : ℕ)
+pub text_put : (v : SnippetSettings) (before : Row) (earlier : List Mark) (m : Mark) (at x y z : ℕ)
     (part : List ℕ) (p b l q r s k n : Printout) → at ≡ m.anchor →
-    b ≡ p ⊕ row_tokens before → l ≡ b ⊕ row_tokens (lead_runs w t 0 earlier at) → q ≡ l
+    b ≡ p ⊕ row_tokens before → l ≡ b ⊕ row_tokens (lead_runs v 0 earlier at) → q ≡ l
     ⊕ styled_tokens m.label.style (x ∷ y ∷ []) → r ≡ q ⊕ text_tokens (z ∷ []) → s ≡ r ⊕ text_tokens (32 ∷ []) → k ≡ s
     ⊕ text_tokens part → n ≡ k ⊕ row_end ∷ [] →
-    n ≡ p ⊕ rows_tokens ((before ++ text_row w t earlier m (x ∷ y ∷ z ∷ 32 ∷ []) part) ∷ [])
-text_put w t before earlier m at x y z part p b l q r s k n a hb hl hq hr hs hk hn =
+    n ≡ p ⊕ rows_tokens ((before ++ text_row v earlier m (x ∷ y ∷ z ∷ 32 ∷ []) part) ∷ [])
+text_put v before earlier m at x y z part p b l q r s k n a hb hl hq hr hs hk hn =
     let front : List ℕ = x ∷ y ∷ z ∷ 32 ∷ [] in
-    let leads : Row = lead_runs w t 0 earlier m.anchor in
-    let own : Row = styled_run w m.label.style (front ++ part) ∷ [] in
-    let led : l ≡ b ⊕ row_tokens leads = hl ∙ ap (λ c. b ⊕ row_tokens (lead_runs w t 0 earlier c)) a in
+    let leads : Row = lead_runs v 0 earlier m.anchor in
+    let own : Row = styled_run v.width m.label.style (front ++ part) ∷ [] in
+    let led : l ≡ b ⊕ row_tokens leads = hl ∙ ap (λ c. b ⊕ row_tokens (lead_runs v 0 earlier c)) a in
     let run : k ≡ l ⊕ row_tokens own = run_put m.label.style x y z part l q r s k hq hr hs hk
-    ∙ ap (λ c. l ⊕ c) (sym (styled_row w m.label.style (front ++ part))) in
+    ∙ ap (λ c. l ⊕ c) (sym (styled_row v.width m.label.style (front ++ part))) in
     let below : k ≡ b ⊕ row_tokens (leads ++ own) = parts_then leads own b l k led run in
-    row_done (before ++ text_row w t earlier m front part) p k n (parts_then before (leads ++ own) p b k hb below) hn
+    row_done (before ++ text_row v earlier m front part) p k n (parts_then before (leads ++ own) p b k hb below) hn
 
 -- one more part of a text
 pub part_more : (f : List ℕ → Row) (parts left : List (List ℕ)) (part : List ℕ) (p q whole : Printout) → parts ≡ part
@@ -134,56 +138,60 @@ pub before_mapped : (before : Row) (g : List ℕ → Row) (parts : List (List �
 before_mapped before g [] = refl
 before_mapped before g (part ∷ parts) = ap (λ r. (before ++ g part) ∷ r) (before_mapped before g parts)
 
-several_at : (w : ℕ → ℕ) (t : Characters) (earlier : List Mark) (m : Mark) (part : List ℕ) (more : List (List ℕ))
+several_at : (s : SnippetSettings) (earlier : List Mark) (m : Mark) (part : List ℕ) (more : List (List ℕ))
     (next : List ℕ) (others : List (List ℕ)) → more ≡ next ∷ others →
-    text_row w t earlier m (corner_of_several t) part ∷ map (text_row w t earlier m (beside t)) more
-    ≡ rows_of_parts w t earlier m (part ∷ more)
-several_at w t earlier m part more next others e =
-    ap (λ xs. text_row w t earlier m (corner_of_several t) part ∷ map (text_row w t earlier m (beside t)) xs) e
-    ∙ ap (λ xs. rows_of_parts w t earlier m (part ∷ xs)) (sym e)
+    text_row s earlier m (corner_of_several s.theme.characters) part
+    ∷ map (text_row s earlier m (beside s.theme.characters)) more
+    ≡ rows_of_parts s earlier m (part ∷ more)
+several_at s earlier m part more next others e =
+    ap (λ xs. text_row s earlier m (corner_of_several s.theme.characters) part
+    ∷ map (text_row s earlier m (beside s.theme.characters)) xs) e
+    ∙ ap (λ xs. rows_of_parts s earlier m (part ∷ xs)) (sym e)
 
-pub several_parts : (w : ℕ → ℕ) (t : Characters) (before : Row) (earlier : List Mark) (m : Mark) (parts : List (List ℕ))
+pub several_parts : (s : SnippetSettings) (before : Row) (earlier : List Mark) (m : Mark) (parts : List (List ℕ))
     (part codes : List ℕ) (p q r : Printout) → parts ≡ part ∷ cut_at_lf codes →
-    q ≡ p ⊕ rows_tokens ((before ++ text_row w t earlier m (corner_of_several t) part) ∷ []) → r ≡ q
-    ⊕ rows_tokens (map (λ x. before ++ text_row w t earlier m (beside t) x) (cut_at_lf codes)) →
-    r ≡ p ⊕ rows_tokens (before_each before (rows_of_parts w t earlier m parts))
-several_parts w t before earlier m parts part codes p q r e hq hr =
+    q ≡ p ⊕ rows_tokens ((before ++ text_row s earlier m (corner_of_several s.theme.characters) part) ∷ []) → r ≡ q
+    ⊕ rows_tokens (map (λ x. before ++ text_row s earlier m (beside s.theme.characters) x) (cut_at_lf codes)) →
+    r ≡ p ⊕ rows_tokens (before_each before (rows_of_parts s earlier m parts))
+several_parts s before earlier m parts part codes p q r e hq hr =
     let more = cut_some codes in
-    let first : Row = before ++ text_row w t earlier m (corner_of_several t) part in
-    rows_then (first ∷ []) (map (λ x. before ++ text_row w t earlier m (beside t) x) (cut_at_lf codes)) p q r hq hr
-    ∙ ap (λ xs. p ⊕ rows_tokens (first ∷ xs)) (sym (before_mapped before (text_row w t earlier m (beside t))
+    let first : Row = before ++ text_row s earlier m (corner_of_several s.theme.characters) part in
+    rows_then (first ∷ []) (map (λ x. before ++ text_row s earlier m (beside s.theme.characters) x) (cut_at_lf codes)) p
+    q r hq hr
+    ∙ ap (λ xs. p ⊕ rows_tokens (first ∷ xs)) (sym (before_mapped before
+    (text_row s earlier m (beside s.theme.characters))
     (cut_at_lf codes)))
-    ∙ ap (λ xs. p ⊕ rows_tokens (before_each before xs)) (several_at w t earlier m part (cut_at_lf codes) more.0
+    ∙ ap (λ xs. p ⊕ rows_tokens (before_each before xs)) (several_at s earlier m part (cut_at_lf codes) more.0
     more.1.0 more.1.1)
-    ∙ ap (λ xs. p ⊕ rows_tokens (before_each before (rows_of_parts w t earlier m xs))) (sym e)
+    ∙ ap (λ xs. p ⊕ rows_tokens (before_each before (rows_of_parts s earlier m xs))) (sym e)
 
 before-append : (before : Row) (a b : List Row) → before_each before (a ++ b) ≡ before_each before a
     ++ before_each before b
 before-append before a b = map-append _ a b
 
 -- the texts of one more mark, from the last to the first
-pub below_more : (w : ℕ → ℕ) (t : Characters) (ls : List Label) (before : Row) (marks : List MadeMark) (next k : ℕ)
+pub below_more : (s : SnippetSettings) (ls : List Label) (before : Row) (marks : List MadeMark) (next k : ℕ)
     (d : MadeMark) (p q r : Printout) → k < length marks → next ≡ k + 1 →
-    q ≡ p ⊕ rows_tokens (before_each before (rows_below w t (map (mark_of ls) (take next marks))
+    q ≡ p ⊕ rows_tokens (before_each before (rows_below s (map (mark_of ls) (take next marks))
     (map (mark_of ls) (drop next marks)))) →
-    r ≡ q ⊕ rows_tokens (before_each before (rows_of_parts w t (map (mark_of ls) (take k marks))
+    r ≡ q ⊕ rows_tokens (before_each before (rows_of_parts s (map (mark_of ls) (take k marks))
     (mark_of ls (get_or marks k d)) (mark_of ls (get_or marks k d)).label.parts)) →
-    r ≡ p ⊕ rows_tokens (before_each before (rows_below w t (map (mark_of ls) (take k marks))
+    r ≡ p ⊕ rows_tokens (before_each before (rows_below s (map (mark_of ls) (take k marks))
     (map (mark_of ls) (drop k marks))))
-below_more w t ls before marks next k d p q r lt z hq hr =
+below_more s ls before marks next k d p q r lt z hq hr =
     let m : Mark = mark_of ls (get_or marks k d) in
     let earlier : List Mark = map (mark_of ls) (take k marks) in
     let later : List Mark = map (mark_of ls) (drop (k + 1) marks) in
-    let a : List Row = rows_below w t (earlier ++ m ∷ []) later in
-    let b : List Row = rows_of_parts w t earlier m m.label.parts in
+    let a : List Row = rows_below s (earlier ++ m ∷ []) later in
+    let b : List Row = rows_of_parts s earlier m m.label.parts in
     let h : q ≡ p ⊕ rows_tokens (before_each before a) =
-    hq ∙ ap (λ n. p ⊕ rows_tokens (before_each before (rows_below w t (map (mark_of ls) (take n marks))
+    hq ∙ ap (λ n. p ⊕ rows_tokens (before_each before (rows_below s (map (mark_of ls) (take n marks))
     (map (mark_of ls) (drop n marks))))) z
-    ∙ ap (λ xs. p ⊕ rows_tokens (before_each before (rows_below w t (map (mark_of ls) xs) later)))
+    ∙ ap (λ xs. p ⊕ rows_tokens (before_each before (rows_below s (map (mark_of ls) xs) later)))
     (take_more marks k d lt)
-    ∙ ap (λ xs. p ⊕ rows_tokens (before_each before (rows_below w t xs later)))
+    ∙ ap (λ xs. p ⊕ rows_tokens (before_each before (rows_below s xs later)))
     (map-append (mark_of ls) (take k marks) (get_or marks k d ∷ [])) in
     rows_then (before_each before a) (before_each before b) p q r h hr
     ∙ ap (λ xs. p ⊕ rows_tokens xs) (sym (before-append before a b))
-    ∙ ap (λ xs. p ⊕ rows_tokens (before_each before (rows_below w t earlier xs)))
+    ∙ ap (λ xs. p ⊕ rows_tokens (before_each before (rows_below s earlier xs)))
     (sym (at_drop_more (map (mark_of ls)) marks k d lt))

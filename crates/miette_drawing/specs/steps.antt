@@ -1,4 +1,4 @@
 -- The code's own steps, which no rule names.
 pub mod FrameParts
-pub mod Sheets
+pub mod LineContexts
 pub mod Widths

@@ -9,12 +9,12 @@ ghost use Rattle.miette_snippet_rules.specs.rules.Frames.{other_start};
 ghost use Rattle.miette_snippet_rules.specs.rules.SnippetLayout.{before_each};
 ghost use Rattle.miette_labels.specs.views.Sweeping.{label_of};
 ghost use Rattle.miette_labels.specs.views.GivenLabels.{drawn_of};
-ghost use Rattle.miette_drawing.specs.steps.Sheets.{settings, multi_labels, closed_line, open_line};
+ghost use Rattle.miette_drawing.specs.steps.LineContexts.{settings, multi_labels, closed_line, open_line};
 ghost use Rattle.miette_source_lines.specs.views.Walking.{line_of_text};
 
 use crate::gutters::{ends, push_open_gutter, push_other_gutter, starts};
 use crate::label_text::{first_part, push_part};
-use crate::sheet::{Outcome, Sheet};
+use crate::line_context::{LineContext, Outcome};
 use crate::texts::push_other_start;
 use miette_labels::drawn_labels::text_of;
 use miette_labels::sweep::PlacedLabel;
@@ -33,18 +33,18 @@ fn closes(line: &LineOfText, label: &PlacedLabel) -> bool
 // A row of a text behind the corner of the gutter: `   · │╰─── a label's text`.
 fn push_closed_row<O: Canvas>(
     page: &mut Page<O>,
-    sheet: &Sheet,
+    context: &LineContext,
     columns: usize,
     label: &PlacedLabel,
     bar: char,
     part: &str,
 ) -> Outcome
     ensures { OnOk result (page.new ≡ page.old
-        ⊕ rows_tokens (closed_line sheet.now columns (drawn_of sheet.now.labels.now label.now) bar (chars part.now)
+        ⊕ rows_tokens (closed_line context.now columns (drawn_of context.now.labels.now label.now) bar (chars part.now)
         ∷ [])) }
 {
-    push_other_start(page, sheet)?;
-    push_other_gutter(page, sheet, columns)?;
+    push_other_start(page, context)?;
+    push_other_gutter(page, context, columns)?;
     push_part(page, label.style, bar, part)?;
     Ok(())
 }
@@ -52,76 +52,85 @@ fn push_closed_row<O: Canvas>(
 // A row of a text behind the gutter's bars: `   · │   │ a label's text`.
 fn push_open_row<O: Canvas>(
     page: &mut Page<O>,
-    sheet: &Sheet,
+    context: &LineContext,
     columns: usize,
     label: &PlacedLabel,
     part: &str,
 ) -> Outcome
     ensures { OnOk result (page.new ≡ page.old
-        ⊕ rows_tokens (open_line sheet.now columns (drawn_of sheet.now.labels.now label.now) (chars part.now) ∷ [])) }
+        ⊕ rows_tokens (open_line context.now columns (drawn_of context.now.labels.now label.now) (chars part.now) ∷ [])) }
 {
-    push_other_start(page, sheet)?;
-    push_open_gutter(page, sheet, columns)?;
-    push_part(page, label.style, sheet.theme.characters.vbar, part)?;
+    push_other_start(page, context)?;
+    push_open_gutter(page, context, columns)?;
+    push_part(
+        page,
+        label.style,
+        context.frame.settings.theme.characters.vbar,
+        part,
+    )?;
     Ok(())
 }
 
 // The rows of a text's parts after the first.
 fn push_open_rows<O: Canvas>(
     page: &mut Page<O>,
-    sheet: &Sheet,
+    context: &LineContext,
     columns: usize,
     label: &PlacedLabel,
     text: &str,
 ) -> Outcome
     ensures { OnOk result (page.new ≡ page.old
-        ⊕ rows_tokens (map (open_line sheet.now columns (drawn_of sheet.now.labels.now label.now))
+        ⊕ rows_tokens (map (open_line context.now columns (drawn_of context.now.labels.now label.now))
         (cut_at_lf (chars text.now)))) }
 {
     let mut left = Some(text);
     while let Some(text) = left {
         let (part, rest) = first_part(text);
-        push_open_row(page, sheet, columns, label, part)?;
+        push_open_row(page, context, columns, label, part)?;
         left = rest;
     }
     Ok(())
 }
 
 // The rows of a label's text: `╰──── text`, or `╰───┤ text` and a row for each further part.
-fn push_closing<O: Canvas>(page: &mut Page<O>, sheet: &Sheet, label: &PlacedLabel) -> Outcome
+fn push_closing<O: Canvas>(
+    page: &mut Page<O>,
+    context: &LineContext,
+    label: &PlacedLabel,
+) -> Outcome
     ensures { OnOk result (page.new ≡ page.old
-        ⊕ rows_tokens (before_each (other_start (settings sheet.now) sheet.now.number_width)
-        (closing_parts (settings sheet.now).width (settings sheet.now).characters (line_of_text sheet.now.line)
-        sheet.now.gutter (multi_labels sheet.now)
-        (drawn_of sheet.now.labels.now label.now) (drawn_of sheet.now.labels.now label.now).parts))) }
+        ⊕ rows_tokens (before_each (other_start (settings context.now) context.now.frame.number_width)
+        (closing_parts (settings context.now) (line_of_text context.now.line)
+        context.now.gutter (multi_labels context.now)
+        (drawn_of context.now.labels.now label.now) (drawn_of context.now.labels.now label.now).parts))) }
 {
-    let Some(text) = text_of(sheet.labels, label) else {
+    let Some(text) = text_of(context.labels, label) else {
         return Ok(());
     };
-    let characters = &sheet.theme.characters;
+    let characters = &context.frame.settings.theme.characters;
     let (first, rest) = first_part(text);
     let Some(rest) = rest else {
-        push_closed_row(page, sheet, sheet.gutter, label, characters.hbar, first)?;
+        push_closed_row(page, context, context.gutter, label, characters.hbar, first)?;
         return Ok(());
     };
-    let columns = sheet.gutter.saturating_sub(1);
-    push_closed_row(page, sheet, columns, label, characters.rcross, first)?;
-    push_open_rows(page, sheet, columns, label, rest)?;
+    let columns = context.gutter.saturating_sub(1);
+    push_closed_row(page, context, columns, label, characters.rcross, first)?;
+    push_open_rows(page, context, columns, label, rest)?;
     Ok(())
 }
 
-/// The rows of the texts of the labels of several lines that end on the sheet's line, in order. `AllocError` where
+/// The rows of the texts of the labels of several lines that end on the context's line, in order. `AllocError` where
 /// memory is refused, or `number_width + 2` is past the largest `usize`.
-pub(crate) fn push_closings<O: Canvas>(page: &mut Page<O>, sheet: &Sheet) -> Outcome
+pub(crate) fn push_closings<O: Canvas>(page: &mut Page<O>, context: &LineContext) -> Outcome
     ensures { OnOk result (page.new ≡ page.old
-        ⊕ rows_tokens (before_each (other_start (settings sheet.now) sheet.now.number_width)
-        (closing_rows (settings sheet.now).width (settings sheet.now).characters (line_of_text sheet.now.line)
-        sheet.now.gutter (multi_labels sheet.now)
-        (closing_labels (line_of_text sheet.now.line) (multi_labels sheet.now))))) }
+        ⊕ rows_tokens (before_each (other_start (settings context.now) context.now.frame.number_width)
+        (closing_rows (settings context.now) (line_of_text context.now.line)
+        context.now.gutter (multi_labels context.now)
+        (closing_labels (line_of_text context.now.line) (multi_labels context.now))))) }
 {
-    for label in sheet.multi {
-        if closes(&sheet.line, label) {
-            push_closing(page, sheet, label)?;
+    for label in context.multi {
+        if closes(&context.line, label) {
+            push_closing(page, context, label)?;
         }
     }
     Ok(())

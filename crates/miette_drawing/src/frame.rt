@@ -8,27 +8,24 @@ ghost use Rattle.miette_page.specs.views.Printouts.{◌⊕◌};
 ghost use Rattle.miette_page.specs.views.Tokens.{row_tokens, rows_tokens, styled_tokens, text_tokens};
 ghost use Rattle.miette_snippet_rules.specs.rules.Frames.{top_row_of, bottom_row, location, location_of, place_text};
 ghost use Rattle.miette_snippet_rules.specs.rules.Frames.{refused_front, refused_row, text_or_none};
-ghost use Rattle.miette_snippet_rules.specs.views.ThemeSettings.{settings_of};
+ghost use Rattle.miette_snippet_rules.specs.views.SettingsView.{settings_of};
 ghost use Rattle.miette_drawing.specs.steps.FrameParts.{corner_row};
 ghost use Rattle.miette_drawing.specs.views.SnippetRows.{place_at};
 
-use crate::sheet::Outcome;
+use crate::line_context::Outcome;
 use miette_basics::sums::sum;
 use miette_page::canvas::Canvas;
 use miette_page::page::{PLAIN, Page};
 use miette_protocol::protocol::LabeledSpan;
-use miette_snippet_rules::options::LayoutOptions;
+use miette_snippet_rules::options::SnippetSettings;
 use miette_style::style::Style;
-use miette_style::theme::GraphicalTheme;
 use std::alloc::AllocError;
 
 /// What a snippet's frame is drawn with.
 #[derive(Clone, Copy)]
 pub struct Frame<'a> {
-    /// The characters and styles.
-    pub theme: &'a GraphicalTheme,
-    /// How snippets are laid out.
-    pub options: LayoutOptions,
+    /// What snippets are drawn with.
+    pub settings: SnippetSettings<'a>,
     /// The columns of the line numbers.
     pub number_width: usize,
 }
@@ -64,14 +61,14 @@ fn push_count<O: Canvas>(page: &mut Page<O>, style: Style, number: usize) -> Out
 // The spaces before a corner, the corner, and what follows it: `   ╭─`.
 fn push_corner<O: Canvas>(page: &mut Page<O>, frame: &Frame, corner: char, many: usize) -> Outcome
     ensures { OnOk result (page.new ≡ page.old
-        ⊕ row_tokens (corner_row (settings_of frame.now.theme.now frame.now.options) frame.now.number_width corner
+        ⊕ row_tokens (corner_row (settings_of frame.now.settings) frame.now.number_width corner
         many)) }
 {
     let Some(columns) = frame.number_width.checked_add(2) else {
         return Err(AllocError);
     };
     page.push_blank(columns)?;
-    page.push_line(PLAIN, corner, frame.theme.characters.hbar, many)?;
+    page.push_line(PLAIN, corner, frame.settings.theme.characters.hbar, many)?;
     Ok(())
 }
 
@@ -94,12 +91,12 @@ fn push_link<O: Canvas>(
     name: &str,
     place: (usize, usize),
 ) -> Outcome
-    ensures { OnOk result (page.new ≡ page.old ⊕ styled_tokens frame.now.theme.now.styles.link
-        (if frame.now.options.primary_start then chars name.now ++ codes ":" ++ place_text (place_at place)
+    ensures { OnOk result (page.new ≡ page.old ⊕ styled_tokens frame.now.settings.theme.now.styles.link
+        (if frame.now.settings.layout.now.primary_start then chars name.now ++ codes ":" ++ place_text (place_at place)
         else chars name.now)) }
 {
-    push_styled(page, frame.theme.styles.link, name)?;
-    if !frame.options.primary_start {
+    push_styled(page, frame.settings.theme.styles.link, name)?;
+    if !frame.settings.layout.primary_start {
         return Ok(());
     }
     page.push(':')?;
@@ -115,7 +112,7 @@ fn push_named_place<O: Canvas>(
     place: (usize, usize),
 ) -> Outcome
     ensures { OnOk result (page.new ≡ page.old
-        ⊕ row_tokens (location (settings_of frame.now.theme.now frame.now.options) (Some name.now) false
+        ⊕ row_tokens (location (settings_of frame.now.settings) (Some name.now) false
         (place_at place))) }
 {
     push_ascii(page, PLAIN, "[")?;
@@ -132,15 +129,15 @@ fn push_bare_place<O: Canvas>(
     place: (usize, usize),
 ) -> Outcome
     ensures { OnOk result (page.new ≡ page.old
-        ⊕ row_tokens (location (settings_of frame.now.theme.now frame.now.options) None several (place_at place))) }
+        ⊕ row_tokens (location (settings_of frame.now.settings) None several (place_at place))) }
 {
-    if several && frame.options.primary_start {
+    if several && frame.settings.layout.primary_start {
         page.push_line(PLAIN, '[', ' ', 0)?;
         push_place(page, place)?;
         page.push(']')?;
         return Ok(());
     }
-    let line = frame.theme.characters.hbar;
+    let line = frame.settings.theme.characters.hbar;
     page.push_line(PLAIN, line, line, 2)?;
     Ok(())
 }
@@ -154,7 +151,7 @@ fn push_location<O: Canvas>(
     place: Option<(usize, usize)>,
 ) -> Outcome
     ensures { OnOk result (page.new ≡ page.old
-        ⊕ row_tokens (location_of (settings_of frame.now.theme.now frame.now.options) (option_copied name.entry) several
+        ⊕ row_tokens (location_of (settings_of frame.now.settings) (option_copied name.entry) several
         (option_map place_at place))) }
 {
     let Some(place) = place else {
@@ -185,10 +182,10 @@ pub(crate) fn push_top_row<O: Canvas>(
     place: Option<(usize, usize)>,
 ) -> Outcome
     ensures { OnOk result (page.new ≡ page.old
-        ⊕ rows_tokens (top_row_of (settings_of frame.now.theme.now frame.now.options) frame.now.number_width
+        ⊕ rows_tokens (top_row_of (settings_of frame.now.settings) frame.now.number_width
         (option_copied name.entry) several (option_map place_at place) ∷ [])) }
 {
-    push_corner(page, frame, frame.theme.characters.ltop, 1)?;
+    push_corner(page, frame, frame.settings.theme.characters.ltop, 1)?;
     push_location(page, frame, name, several, place)?;
     page.end_row()?;
     Ok(())
@@ -198,9 +195,9 @@ pub(crate) fn push_top_row<O: Canvas>(
 /// the largest `usize`.
 pub(crate) fn push_bottom_row<O: Canvas>(page: &mut Page<O>, frame: &Frame) -> Outcome
     ensures { OnOk result (page.new ≡ page.old
-        ⊕ rows_tokens (bottom_row (settings_of frame.now.theme.now frame.now.options) frame.now.number_width ∷ [])) }
+        ⊕ rows_tokens (bottom_row (settings_of frame.now.settings) frame.now.number_width ∷ [])) }
 {
-    push_corner(page, frame, frame.theme.characters.lbot, 4)?;
+    push_corner(page, frame, frame.settings.theme.characters.lbot, 4)?;
     page.end_row()?;
     Ok(())
 }
@@ -224,9 +221,9 @@ fn push_label_text<O: Canvas>(page: &mut Page<O>, style: Style, label: &LabeledS
 // What stands before a refused label's offset: "  [Failed to read contents for label `TEXT` (offset: ".
 fn push_refused_text<O: Canvas>(page: &mut Page<O>, frame: &Frame, label: &LabeledSpan) -> Outcome
     ensures { OnOk result (page.new ≡ page.old
-        ⊕ row_tokens (refused_front (settings_of frame.now.theme.now frame.now.options) label.now)) }
+        ⊕ row_tokens (refused_front (settings_of frame.now.settings) label.now)) }
 {
-    let styles = &frame.theme.styles;
+    let styles = &frame.settings.theme.styles;
     push_ascii(page, PLAIN, "  [")?;
     push_ascii(page, styles.error, "Failed to read contents for label")?;
     push_ascii(page, PLAIN, " `")?;
@@ -244,10 +241,10 @@ pub fn push_refused_row<O: Canvas>(
     name: &str,
 ) -> Outcome
     ensures { OnOk result (page.new ≡ page.old
-        ⊕ rows_tokens (refused_row (settings_of frame.now.theme.now frame.now.options)
+        ⊕ rows_tokens (refused_row (settings_of frame.now.settings)
         (record { label = label.now; name = chars name.now }) ∷ [])) }
 {
-    let styles = &frame.theme.styles;
+    let styles = &frame.settings.theme.styles;
     push_refused_text(page, frame, label)?;
     push_count(page, styles.link, label.offset())?;
     push_ascii(page, PLAIN, ", length: ")?;

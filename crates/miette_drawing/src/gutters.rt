@@ -8,10 +8,10 @@ ghost use Rattle.miette_labels.specs.views.Sweeping.{label_of};
 ghost use Rattle.miette_snippet_rules.specs.rules.Gutters.{bar, number_gutter, break_gutter, other_gutter};
 ghost use Rattle.miette_snippet_rules.specs.rules.Gutters.{open_gutter, ending_corner};
 ghost use Rattle.miette_labels.specs.views.GivenLabels.{drawn_of};
-ghost use Rattle.miette_drawing.specs.steps.Sheets.{settings, multi_labels};
+ghost use Rattle.miette_drawing.specs.steps.LineContexts.{settings, multi_labels};
 ghost use Rattle.miette_source_lines.specs.views.Walking.{line_of_text};
 
-use crate::sheet::{Outcome, Sheet};
+use crate::line_context::{LineContext, Outcome};
 use miette_labels::drawn_labels::text_of;
 use miette_labels::sweep::PlacedLabel;
 use miette_page::canvas::Canvas;
@@ -38,22 +38,22 @@ pub(crate) fn ends(line: &LineOfText, label: &PlacedLabel) -> bool
 }
 
 // The corner of a label that ends on the line.
-fn corner_at_end(sheet: &Sheet, label: &PlacedLabel) -> char
-    ensures { result ≡ ending_corner (settings sheet.now).characters (drawn_of sheet.now.labels.now label.now).parts }
+fn corner_at_end(context: &LineContext, label: &PlacedLabel) -> char
+    ensures { result ≡ ending_corner (settings context.now).theme.characters (drawn_of context.now.labels.now label.now).parts }
 {
-    match text_of(sheet.labels, label) {
-        Some(_) => sheet.theme.characters.lcross,
-        None => sheet.theme.characters.lbot,
+    match text_of(context.labels, label) {
+        Some(_) => context.frame.settings.theme.characters.lcross,
+        None => context.frame.settings.theme.characters.lbot,
     }
 }
 
 // A bar for each label.
-fn push_bars<O: Canvas>(page: &mut Page<O>, sheet: &Sheet) -> Outcome
+fn push_bars<O: Canvas>(page: &mut Page<O>, context: &LineContext) -> Outcome
     ensures { OnOk result (page.new ≡ page.old
-        ⊕ row_tokens (map (bar (settings sheet.now).width (settings sheet.now).characters) (multi_labels sheet.now))) }
+        ⊕ row_tokens (map (bar (settings context.now)) (multi_labels context.now))) }
 {
-    let vbar = sheet.theme.characters.vbar;
-    for label in sheet.multi {
+    let vbar = context.frame.settings.theme.characters.vbar;
+    for label in context.multi {
         page.push_line(label.style, vbar, vbar, 0)?;
     }
     Ok(())
@@ -61,15 +61,15 @@ fn push_bars<O: Canvas>(page: &mut Page<O>, sheet: &Sheet) -> Outcome
 
 /// The gutter of a break's row, behind the row's bar: a space, and a bar for each label that runs through: ` ││`;
 /// nothing where none does. `AllocError` where memory is refused.
-pub(crate) fn push_break_gutter<O: Canvas>(page: &mut Page<O>, sheet: &Sheet) -> Outcome
+pub(crate) fn push_break_gutter<O: Canvas>(page: &mut Page<O>, context: &LineContext) -> Outcome
     ensures { OnOk result (page.new ≡ page.old ⊕ row_tokens
-        (break_gutter (settings sheet.now).width (settings sheet.now).characters (multi_labels sheet.now))) }
+        (break_gutter (settings context.now) (multi_labels context.now))) }
 {
-    if sheet.multi.is_empty() {
+    if context.multi.is_empty() {
         return Ok(());
     }
     page.push_blank(1)?;
-    push_bars(page, sheet)?;
+    push_bars(page, context)?;
     Ok(())
 }
 
@@ -77,17 +77,17 @@ pub(crate) fn push_break_gutter<O: Canvas>(page: &mut Page<O>, sheet: &Sheet) ->
 /// then a corner for the first one that ends on the line: `│╰───`. `AllocError` where memory is refused.
 pub(crate) fn push_other_gutter<O: Canvas>(
     page: &mut Page<O>,
-    sheet: &Sheet,
+    context: &LineContext,
     columns: usize,
 ) -> Outcome
     ensures { OnOk result (page.new ≡ page.old
-        ⊕ row_tokens (other_gutter (settings sheet.now).width (settings sheet.now).characters
-        (line_of_text sheet.now.line) columns (multi_labels sheet.now))) }
+        ⊕ row_tokens (other_gutter (settings context.now)
+        (line_of_text context.now.line) columns (multi_labels context.now))) }
 {
-    let characters = &sheet.theme.characters;
+    let characters = &context.frame.settings.theme.characters;
     let mut left = columns;
-    for label in sheet.multi {
-        if ends(&sheet.line, label) {
+    for label in context.multi {
+        if ends(&context.line, label) {
             page.push_line(
                 label.style,
                 characters.lbot,
@@ -106,17 +106,17 @@ pub(crate) fn push_other_gutter<O: Canvas>(
 /// The same with spaces in place of the corner: `│    `. `AllocError` where memory is refused.
 pub(crate) fn push_open_gutter<O: Canvas>(
     page: &mut Page<O>,
-    sheet: &Sheet,
+    context: &LineContext,
     columns: usize,
 ) -> Outcome
     ensures { OnOk result (page.new ≡ page.old
-        ⊕ row_tokens (open_gutter (settings sheet.now).width (settings sheet.now).characters
-        (line_of_text sheet.now.line) columns (multi_labels sheet.now))) }
+        ⊕ row_tokens (open_gutter (settings context.now)
+        (line_of_text context.now.line) columns (multi_labels context.now))) }
 {
-    let characters = &sheet.theme.characters;
+    let characters = &context.frame.settings.theme.characters;
     let mut left = columns;
-    for label in sheet.multi {
-        if ends(&sheet.line, label) {
+    for label in context.multi {
+        if ends(&context.line, label) {
             page.push_blank(left)?;
             return Ok(());
         }
@@ -130,16 +130,16 @@ pub(crate) fn push_open_gutter<O: Canvas>(
 // An arrow from a corner, and a space: `╭──▶ `.
 fn push_arrow<O: Canvas>(
     page: &mut Page<O>,
-    sheet: &Sheet,
+    context: &LineContext,
     style: Style,
     corner: char,
     left: usize,
 ) -> Outcome
     ensures { OnOk result (page.new ≡ page.old
-        ⊕ (styled_tokens style (corner ∷ replicate (left - 3) (settings sheet.now).characters.hbar
-        ++ (settings sheet.now).characters.rarrow ∷ []) ++ styled_tokens PLAIN (32 ∷ []))) }
+        ⊕ (styled_tokens style (corner ∷ replicate (left - 3) (settings context.now).theme.characters.hbar
+        ++ (settings context.now).theme.characters.rarrow ∷ []) ++ styled_tokens PLAIN (32 ∷ []))) }
 {
-    let characters = &sheet.theme.characters;
+    let characters = &context.frame.settings.theme.characters;
     page.push_line(style, corner, characters.hbar, left.saturating_sub(3))?;
     page.push(characters.rarrow)?;
     page.push_blank(1)?;
@@ -148,21 +148,21 @@ fn push_arrow<O: Canvas>(
 
 /// The gutter of the number row: a bar for each label that runs through, an arrow for the first one that starts or
 /// ends on the line: `│╭─▶ `. `AllocError` where memory is refused.
-pub(crate) fn push_number_gutter<O: Canvas>(page: &mut Page<O>, sheet: &Sheet) -> Outcome
+pub(crate) fn push_number_gutter<O: Canvas>(page: &mut Page<O>, context: &LineContext) -> Outcome
     ensures { OnOk result (page.new ≡ page.old
-        ⊕ row_tokens (number_gutter (settings sheet.now).width (settings sheet.now).characters
-        (line_of_text sheet.now.line) sheet.now.gutter (multi_labels sheet.now))) }
+        ⊕ row_tokens (number_gutter (settings context.now)
+        (line_of_text context.now.line) context.now.gutter (multi_labels context.now))) }
 {
-    let characters = &sheet.theme.characters;
-    let mut left = sheet.gutter;
-    for label in sheet.multi {
-        if starts(&sheet.line, label) {
-            push_arrow(page, sheet, label.style, characters.ltop, left)?;
+    let characters = &context.frame.settings.theme.characters;
+    let mut left = context.gutter;
+    for label in context.multi {
+        if starts(&context.line, label) {
+            push_arrow(page, context, label.style, characters.ltop, left)?;
             return Ok(());
         }
-        if ends(&sheet.line, label) {
-            let corner = corner_at_end(sheet, label);
-            push_arrow(page, sheet, label.style, corner, left)?;
+        if ends(&context.line, label) {
+            let corner = corner_at_end(context, label);
+            push_arrow(page, context, label.style, corner, left)?;
             return Ok(());
         }
         page.push_line(label.style, characters.vbar, characters.vbar, 0)?;

@@ -7,7 +7,7 @@ mod gutters;
 mod highlighting;
 mod label_text;
 mod line;
-mod sheet;
+mod line_context;
 pub mod snippet;
 mod strokes;
 mod texts;

@@ -7,6 +7,7 @@ ghost use Rattle.miette_snippet_rules.specs.rules.Drawing.{marked_rows};
 ghost use Rattle.miette_snippet_rules.specs.rules.Frames.{number_start};
 ghost use Rattle.miette_snippet_rules.specs.rules.SnippetLayout.{before_each, text_of_cells};
 ghost use Rattle.miette_snippet_rules.specs.rules.SnippetLayout.{break_row, line_or_break_of};
+ghost use Rattle.miette_snippet_rules.specs.rules.SnippetLayout.{line_in, line_shown};
 ghost use Rattle.miette_page.specs.views.Printouts.{◌⊕◌};
 ghost use Rattle.miette_page.specs.views.Tokens.{row_tokens, rows_tokens};
 ghost use Rattle.miette_snippet_rules.specs.rules.Highlighting.{highlight_of};
@@ -14,13 +15,13 @@ ghost use Rattle.std.specs.Option.{option_map};
 ghost use Rattle.miette_cuts.specs.views.Cuts.{made_runs};
 ghost use Rattle.miette_cuts.specs.views.LineTexts.{text_cells};
 ghost use Rattle.miette_cuts.specs.views.Marks.{mark_of, IsAnchored};
-ghost use Rattle.miette_drawing.specs.steps.Sheets.{settings, multi_labels, before_marks, number_row, shown_cells};
-ghost use Rattle.miette_drawing.specs.steps.Sheets.{labels_alone};
+ghost use Rattle.miette_drawing.specs.steps.LineContexts.{settings, multi_labels, before_marks, number_row, shown_cells};
+ghost use Rattle.miette_drawing.specs.steps.LineContexts.{labels_alone};
 ghost use Rattle.miette_source_lines.specs.views.Walking.{line_of_text};
 
 use crate::closings::push_closings;
 use crate::gutters::{push_break_gutter, push_number_gutter};
-use crate::sheet::{Outcome, Sheet, ShownLine};
+use crate::line_context::{LineContext, Outcome, ShownLine};
 use crate::strokes::push_marks;
 use crate::texts::{push_before_marks, push_texts};
 use miette_cuts::cutting::{cut_around, marks_shown};
@@ -33,14 +34,14 @@ use miette_page::page::{PLAIN, Page};
 use std::alloc::{AllocError, Global};
 
 // The number of a line: ` 12 │ `.
-fn push_number_start<O: Canvas>(page: &mut Page<O>, sheet: &Sheet, number: usize) -> Outcome
+fn push_number_start<O: Canvas>(page: &mut Page<O>, context: &LineContext, number: usize) -> Outcome
     ensures { OnOk result (page.new ≡ page.old
-        ⊕ row_tokens (number_start (settings sheet.now) sheet.now.number_width number)) }
+        ⊕ row_tokens (number_start (settings context.now) context.now.frame.number_width number)) }
 {
     page.push_blank(1)?;
-    page.begin(sheet.theme.styles.linum)?;
-    page.push_right(number, sheet.number_width)?;
-    page.push_line(PLAIN, ' ', sheet.theme.characters.vbar, 1)?;
+    page.begin(context.frame.settings.theme.styles.linum)?;
+    page.push_right(number, context.frame.number_width)?;
+    page.push_line(PLAIN, ' ', context.frame.settings.theme.characters.vbar, 1)?;
     page.push(' ')?;
     Ok(())
 }
@@ -48,114 +49,121 @@ fn push_number_start<O: Canvas>(page: &mut Page<O>, sheet: &Sheet, number: usize
 // The number row: ` 12 │ ╭─▶ the line's text`.
 fn push_number_row<O: Canvas>(
     page: &mut Page<O>,
-    sheet: &Sheet,
+    context: &LineContext,
     shown: &ShownLine,
     text: &LineText,
     cut: &Cut,
 ) -> Outcome
     requires { text.now.start + length text.now.bytes.now < 2 ^ 64 }
-    ensures { OnOk result (page.new ≡ page.old ⊕ rows_tokens (number_row sheet.now shown.now
+    ensures { OnOk result (page.new ≡ page.old ⊕ rows_tokens (number_row context.now shown.now
         (made_runs (option_map (λ made. made.items) cut.now) (map highlight_of shown.now.pieces.now)
         (text_cells text.now)) ∷ [])) }
 {
-    push_number_start(page, sheet, shown.number)?;
-    push_number_gutter(page, sheet)?;
+    push_number_start(page, context, shown.number)?;
+    push_number_gutter(page, context)?;
     push_shown_text(page, text, shown.pieces, cut)?;
     page.end_row()?;
     Ok(())
 }
 
 // The mark row and the rows of texts under it, where there is a mark.
-fn push_marked_rows<O: Canvas>(page: &mut Page<O>, sheet: &Sheet, marks: &[Mark]) -> Outcome
+fn push_marked_rows<O: Canvas>(page: &mut Page<O>, context: &LineContext, marks: &[Mark]) -> Outcome
     requires { All IsAnchored marks.now }
-    ensures { OnOk result (page.new ≡ page.old ⊕ rows_tokens (before_each (before_marks sheet.now)
-        (marked_rows (settings sheet.now).width (settings sheet.now).characters
-        (map (mark_of sheet.now.labels.now) marks.now)))) }
+    ensures { OnOk result (page.new ≡ page.old ⊕ rows_tokens (before_each (before_marks context.now)
+        (marked_rows (settings context.now)
+        (map (mark_of context.now.labels.now) marks.now)))) }
 {
     if marks.is_empty() {
         return Ok(());
     }
-    push_before_marks(page, sheet)?;
-    push_marks(page, sheet, marks)?;
+    push_before_marks(page, context)?;
+    push_marks(page, context, marks)?;
     page.end_row()?;
-    push_texts(page, sheet, marks)?;
+    push_texts(page, context, marks)?;
     Ok(())
 }
 
 // The marks of the labels that lie on a line alone, by the columns of the whole line.
-fn marks_alone(alloc: Global, sheet: &Sheet, shown: &ShownLine) -> Result<Vec<Mark>, AllocError>
-    requires { sheet.now.line.start + length shown.now.text.now < 2 ^ 64 }
+fn marks_alone(
+    alloc: Global,
+    context: &LineContext,
+    shown: &ShownLine,
+) -> Result<Vec<Mark>, AllocError>
+    requires { context.now.line.start + length shown.now.text.now < 2 ^ 64 }
     ensures anchored { IfOk result (λ alone. All IsAnchored alone.items) }
-    ensures marks { IfOk result (λ alone. map (mark_of sheet.now.labels.now) alone.items
-        ≡ marks (text_of_cells (shown_cells sheet.now shown.now) sheet.now.line.text_end)
-        (labels_alone sheet.now shown.now)) }
+    ensures marks { IfOk result (λ alone. map (mark_of context.now.labels.now) alone.items
+        ≡ marks (text_of_cells (shown_cells context.now shown.now) context.now.line.text_end)
+        (labels_alone context.now shown.now)) }
 {
     if shown.one.is_empty() {
         return Ok(Vec::new(alloc));
     }
     marks_on(
         alloc,
-        &sheet.line,
+        &context.line,
         shown.text,
-        sheet.options.tab_width,
+        context.frame.settings.layout.tab_width,
         shown.one,
     )
 }
 
 // The row of a break: `...│ │`.
-fn push_break_row<O: Canvas>(page: &mut Page<O>, sheet: &Sheet) -> Outcome
+fn push_break_row<O: Canvas>(page: &mut Page<O>, context: &LineContext) -> Outcome
     ensures { OnOk result (page.new ≡ page.old
-        ⊕ rows_tokens (break_row (settings sheet.now) sheet.now.number_width (multi_labels sheet.now) ∷ [])) }
+        ⊕ rows_tokens (break_row (settings context.now) context.now.frame.number_width (multi_labels context.now) ∷ [])) }
 {
-    page.push_blank(sheet.number_width.saturating_sub(1))?;
+    page.push_blank(context.frame.number_width.saturating_sub(1))?;
     page.push_line(PLAIN, '.', '.', 2)?;
-    page.push(sheet.theme.characters.vbar)?;
-    push_break_gutter(page, sheet)?;
+    page.push(context.frame.settings.theme.characters.vbar)?;
+    push_break_gutter(page, context)?;
     page.end_row()?;
     Ok(())
 }
 
-// The row of the break where it begins with the sheet's line, or none where the line before it is left out too.
-fn push_break<O: Canvas>(page: &mut Page<O>, sheet: &Sheet, shown: &ShownLine) -> Outcome
+// The row of the break where it begins with the context's line, or none where the line before it is left out too.
+fn push_break<O: Canvas>(page: &mut Page<O>, context: &LineContext, shown: &ShownLine) -> Outcome
     ensures { OnOk result (page.new ≡ page.old ⊕ rows_tokens (if shown.now.gap then []
-        else break_row (settings sheet.now) sheet.now.number_width (multi_labels sheet.now) ∷ [])) }
+        else break_row (settings context.now) context.now.frame.number_width (multi_labels context.now) ∷ [])) }
 {
     if shown.gap {
         return Ok(());
     }
-    push_break_row(page, sheet)?;
+    push_break_row(page, context)?;
     Ok(())
 }
 
-/// The rows of the sheet's line: the number row, the marks and texts of the labels that lie on it alone, and the texts
+/// The rows of the context's line: the number row, the marks and texts of the labels that lie on it alone, and the texts
 /// of the labels of several lines that end there. Where it is left out, the row of the break that begins with it, if
 /// one does. `AllocError` where memory is refused, or a column is past the largest `usize`.
 pub(crate) fn push_line_or_break<O: Canvas>(
     alloc: Global,
     page: &mut Page<O>,
-    sheet: &Sheet,
+    context: &LineContext,
     shown: &ShownLine,
 ) -> Outcome
-    requires { sheet.now.line.start + length shown.now.text.now < 2 ^ 64 }
+    requires { context.now.line.start + length shown.now.text.now < 2 ^ 64 }
     ensures { OnOk result (page.new ≡ page.old
-        ⊕ rows_tokens (line_or_break_of shown.now.gap shown.now.left_out (settings sheet.now) sheet.now.number_width
-        sheet.now.gutter (labels_alone sheet.now shown.now) (multi_labels sheet.now) (line_of_text sheet.now.line)
-        shown.now.number (shown_cells sheet.now shown.now) (map highlight_of shown.now.pieces.now))) }
+        ⊕ rows_tokens (line_or_break_of shown.now.gap shown.now.left_out (line_in (settings context.now) context.now.frame.number_width context.now.gutter (line_of_text context.now.line) (multi_labels context.now)) (line_shown shown.now.number (labels_alone context.now shown.now) (shown_cells context.now shown.now) (map highlight_of shown.now.pieces.now)))) }
 {
     if shown.left_out {
-        push_break(page, sheet, shown)?;
+        push_break(page, context, shown)?;
         return Ok(());
     }
-    let whole = marks_alone(alloc, sheet, shown)?;
+    let whole = marks_alone(alloc, context, shown)?;
     let text = LineText {
-        start: sheet.line.start,
+        start: context.line.start,
         bytes: shown.text,
-        tab: sheet.options.tab_width,
+        tab: context.frame.settings.layout.tab_width,
     };
-    let cut = cut_around(alloc, &text, &whole, sheet.options.line_columns)?;
-    push_number_row(page, sheet, shown, &text, &cut)?;
+    let cut = cut_around(
+        alloc,
+        &text,
+        &whole,
+        context.frame.settings.layout.line_columns,
+    )?;
+    push_number_row(page, context, shown, &text, &cut)?;
     let marks = marks_shown(alloc, &cut, whole)?;
-    push_marked_rows(page, sheet, &marks)?;
-    push_closings(page, sheet)?;
+    push_marked_rows(page, context, &marks)?;
+    push_closings(page, context)?;
     Ok(())
 }

@@ -27,10 +27,11 @@ ghost use Rattle.std.specs.Prelude.{◌≡◌, ◌∷◌, ◌+◌, ◌<◌, ◌^
 ghost use Rattle.miette_highlight.specs.rules.HighlighterCalls.{restarted};
 ghost use Rattle.miette_folds.specs.views.Folding.{fold_in};
 ghost use Rattle.miette_folds.specs.views.Spreads.{spread_of, AreNumbered};
-ghost use Rattle.miette_snippet_rules.specs.views.ThemeSettings.{settings_of};
+ghost use Rattle.miette_snippet_rules.specs.views.SettingsView.{settings_of};
+ghost use Rattle.miette_snippet_rules.specs.rules.SnippetLayout.{snippet_context, rows_of_lines};
 ghost use Rattle.miette_labels.specs.views.Sweeping.{IsAt, AreSorted};
 ghost use Rattle.miette_drawing.specs.steps.Widths.{width_of_count, gutter_of};
-ghost use Rattle.miette_drawing.specs.views.SnippetRows.{PutsRows, PutsSnippet, texts_in, lent_rows};
+ghost use Rattle.miette_drawing.specs.views.SnippetRows.{PutsRows, PutsSnippet, cells_in, texts_in};
 ghost use Rattle.miette_source_lines.specs.rules.Lines.{lines_from};
 ghost use Rattle.miette_labels.specs.views.GivenLabels.{drawn_of};
 ghost use Rattle.miette_snippet_rules.specs.rules.Highlighting.{AreCallsOn, leaves_plain};
@@ -39,7 +40,7 @@ ghost use Rattle.miette_snippet_rules.specs.rules.SnippetLayout.{left_out};
 use crate::frame::{Frame, push_bottom_row, push_top_row};
 use crate::highlighting::{may_pass, pieces_of, restart};
 use crate::line::push_line_or_break;
-use crate::sheet::{Outcome, Sheet, ShownLine};
+use crate::line_context::{LineContext, Outcome, ShownLine};
 use itoa::Buffer;
 use miette_basics::sums::sum;
 use miette_folds::extent::extent_of;
@@ -52,19 +53,14 @@ use miette_page::canvas::Canvas;
 use miette_page::page::Page;
 use miette_protocol::protocol::LabeledSpan;
 use miette_protocol::source::MietteSpanContents;
-use miette_snippet_rules::options::LayoutOptions;
-use miette_style::theme::GraphicalTheme;
+use miette_snippet_rules::options::SnippetSettings;
 use std::alloc::{AllocError, Global};
 
 /// What the snippets of a diagnostic are drawn with.
 #[derive(Clone, Copy)]
 pub struct Drawing<'a> {
-    /// Where memory comes from.
-    pub alloc: Global,
-    /// The characters and styles.
-    pub theme: &'a GraphicalTheme,
-    /// How snippets are laid out.
-    pub options: LayoutOptions,
+    /// What snippets are drawn with.
+    pub settings: SnippetSettings<'a>,
     /// The labels as given, whose texts are drawn.
     pub labels: &'a [LabeledSpan],
     /// The labels as they are drawn, by offset.
@@ -174,11 +170,8 @@ fn push_lines<'a, H: Highlighter, O: Canvas>(
     ensures rows { OnOk result (PutsRows (leaves_plain H.is_blank highlighter.old)
         (AreCallsOn H.may_follow highlighter.old highlighter.new)
         (texts_in body.now.start body.now.bytes.now (lines_from body.now.start body.now.bytes.now))
-        (λ pieces. lent_rows (left_out (settings_of body.now.frame.theme.now body.now.frame.options) body.now.before
-        (lines_from body.now.start body.now.bytes.now) (map spread_of drawing.now.spreads.now)) false
-        (settings_of body.now.frame.theme.now body.now.frame.options) body.now.frame.number_width
-        body.now.gutter (map (drawn_of drawing.now.labels.now) drawing.now.placed.now)
-        body.now.start body.now.bytes.now (body.now.before + 1) pieces (lines_from body.now.start body.now.bytes.now))
+        (λ pieces. rows_of_lines (left_out (settings_of body.now.frame.settings) body.now.before
+        (lines_from body.now.start body.now.bytes.now) (map spread_of drawing.now.spreads.now)) false (snippet_context (settings_of body.now.frame.settings) body.now.frame.number_width body.now.gutter (map (drawn_of drawing.now.labels.now) drawing.now.placed.now) (cells_in (settings_of body.now.frame.settings) body.now.start body.now.bytes.now)) (body.now.before + 1) pieces (lines_from body.now.start body.now.bytes.now))
         page.old page.new) }
     ensures stays { leaves_plain H.is_blank highlighter.new ≡ leaves_plain H.is_blank highlighter.old }
     ensures at { OnOk result (IsAt drawing.now.placed.now (body.now.start + length body.now.bytes.now) sweep.new.next
@@ -191,18 +184,21 @@ fn push_lines<'a, H: Highlighter, O: Canvas>(
         let number = number_of(body.before, place)?;
         let line = line_at(body.bytes, body.start, at);
         enter_line(drawing.placed, &line, sweep, one)?;
-        let sheet = Sheet {
-            theme: body.frame.theme,
-            options: body.frame.options,
-            number_width: body.frame.number_width,
+        let context = LineContext {
+            frame: body.frame,
             gutter: body.gutter,
             line,
             labels: drawing.labels,
             multi: &sweep.running,
         };
         let text = &body.bytes[line.start - body.start..line.text_end - body.start];
-        let pieces = pieces_of(drawing.alloc, highlighter, text)?;
-        let left_out = leaves_out(body.frame.options.label_lines, body.folds, place, &line);
+        let pieces = pieces_of(drawing.settings.alloc, highlighter, text)?;
+        let left_out = leaves_out(
+            body.frame.settings.layout.label_lines,
+            body.folds,
+            place,
+            &line,
+        );
         let shown = ShownLine {
             number,
             text,
@@ -211,7 +207,7 @@ fn push_lines<'a, H: Highlighter, O: Canvas>(
             left_out,
             gap,
         };
-        push_line_or_break(drawing.alloc, page, &sheet, &shown)?;
+        push_line_or_break(drawing.settings.alloc, page, &context, &shown)?;
         sweep.leave(line.end);
         let next = next_start(body.folds, place, &line, may_pass(highlighter, left_out));
         pass_over(drawing.placed, line.end, next.offset, sweep, one)?;
@@ -245,13 +241,12 @@ fn push_framed<'a, H: Highlighter, O: Canvas>(
     let start = lent.span().offset();
     let bytes = lent.data();
     let before = lent.line();
-    let folds = folds_in(drawing.alloc, lent, drawing.spreads)?;
-    let mut one = Vec::new(drawing.alloc);
-    let mut ahead = sweep.copy(drawing.alloc)?;
+    let folds = folds_in(drawing.settings.alloc, lent, drawing.spreads)?;
+    let mut one = Vec::new(drawing.settings.alloc);
+    let mut ahead = sweep.copy(drawing.settings.alloc)?;
     let extent = extent_of(bytes, start, &folds, drawing.placed, &mut ahead, &mut one)?;
     let frame = Frame {
-        theme: drawing.theme,
-        options: drawing.options,
+        settings: drawing.settings,
         number_width: number_width(before, extent.lines)?,
     };
     let body = Body {
@@ -294,7 +289,7 @@ pub fn push_snippet<'a, H: Highlighter, O: Canvas>(
     let Some(end) = start.checked_add(lent.data().len()) else {
         return Err(AllocError);
     };
-    seek(drawing.alloc, drawing.placed, start, passage)?;
+    seek(drawing.settings.alloc, drawing.placed, start, passage)?;
     restart(highlighter, lent);
     push_framed(drawing, highlighter, page, &mut passage.sweep, lent, place)?;
     passage.at = end;

@@ -10,11 +10,11 @@ ghost use Rattle.miette_snippet_rules.specs.rules.Frames.{other_start};
 ghost use Rattle.miette_snippet_rules.specs.rules.SnippetLayout.{before_each};
 ghost use Rattle.miette_labels.specs.views.GivenLabels.{drawn_of};
 ghost use Rattle.miette_cuts.specs.views.Marks.{mark_of, IsAnchored};
-ghost use Rattle.miette_drawing.specs.steps.Sheets.{settings, before_marks, text_line};
+ghost use Rattle.miette_drawing.specs.steps.LineContexts.{settings, before_marks, text_line};
 
 use crate::gutters::push_other_gutter;
 use crate::label_text::first_part;
-use crate::sheet::{Outcome, Sheet};
+use crate::line_context::{LineContext, Outcome};
 use miette_cuts::marks::Mark;
 use miette_labels::drawn_labels::text_of;
 use miette_page::canvas::Canvas;
@@ -23,23 +23,28 @@ use std::alloc::AllocError;
 
 /// What stands before the gutter of a row that isn't the number row: `   · `. `AllocError` where memory is refused, or
 /// `number_width + 2` is past the largest `usize`.
-pub(crate) fn push_other_start<O: Canvas>(page: &mut Page<O>, sheet: &Sheet) -> Outcome
-    ensures { OnOk result (page.new ≡ page.old ⊕ row_tokens (other_start (settings sheet.now) sheet.now.number_width)) }
+pub(crate) fn push_other_start<O: Canvas>(page: &mut Page<O>, context: &LineContext) -> Outcome
+    ensures { OnOk result (page.new ≡ page.old ⊕ row_tokens (other_start (settings context.now) context.now.frame.number_width)) }
 {
-    let Some(columns) = sheet.number_width.checked_add(2) else {
+    let Some(columns) = context.frame.number_width.checked_add(2) else {
         return Err(AllocError);
     };
     page.push_blank(columns)?;
-    page.push_line(PLAIN, sheet.theme.characters.vbar_break, ' ', 1)?;
+    page.push_line(
+        PLAIN,
+        context.frame.settings.theme.characters.vbar_break,
+        ' ',
+        1,
+    )?;
     Ok(())
 }
 
 /// What stands before the marks and the texts under a line: `   · │╰──`. It fails as `push_other_start` does.
-pub(crate) fn push_before_marks<O: Canvas>(page: &mut Page<O>, sheet: &Sheet) -> Outcome
-    ensures { OnOk result (page.new ≡ page.old ⊕ row_tokens (before_marks sheet.now)) }
+pub(crate) fn push_before_marks<O: Canvas>(page: &mut Page<O>, context: &LineContext) -> Outcome
+    ensures { OnOk result (page.new ≡ page.old ⊕ row_tokens (before_marks context.now)) }
 {
-    push_other_start(page, sheet)?;
-    push_other_gutter(page, sheet, sheet.gutter)?;
+    push_other_start(page, context)?;
+    push_other_gutter(page, context, context.gutter)?;
     Ok(())
 }
 
@@ -55,16 +60,16 @@ fn behind_anchor(mark: &Mark) -> usize
 // What stands before a text's corner, which is to stand in this column: a bar at the anchor of each earlier mark.
 fn push_leads<O: Canvas>(
     page: &mut Page<O>,
-    sheet: &Sheet,
+    context: &LineContext,
     earlier: &[Mark],
     column: usize,
 ) -> Outcome
     requires { All IsAnchored earlier.now }
     ensures { OnOk result (page.new ≡ page.old
-        ⊕ row_tokens (lead_runs (settings sheet.now).width (settings sheet.now).characters 0
-        (map (mark_of sheet.now.labels.now) earlier.now) column)) }
+        ⊕ row_tokens (lead_runs (settings context.now) 0
+        (map (mark_of context.now.labels.now) earlier.now) column)) }
 {
-    let bar = sheet.theme.characters.vbar;
+    let bar = context.frame.settings.theme.characters.vbar;
     let mut reached: usize = 0;
     for mark in earlier {
         page.push_blank(mark.anchor.saturating_sub(reached))?;
@@ -82,7 +87,7 @@ struct Front(char, char, char);
 // A row of a text: `   ·   │ ╰── a label's text`.
 fn push_text_row<O: Canvas>(
     page: &mut Page<O>,
-    sheet: &Sheet,
+    context: &LineContext,
     earlier: &[Mark],
     mark: &Mark,
     front: Front,
@@ -91,11 +96,11 @@ fn push_text_row<O: Canvas>(
     requires earlier { All IsAnchored earlier.now }
     requires own { IsAnchored mark.now }
     ensures { OnOk result (page.new ≡ page.old
-        ⊕ rows_tokens (text_line sheet.now (map (mark_of sheet.now.labels.now) earlier.now)
-        (mark_of sheet.now.labels.now mark.now) (front.0 ∷ front.1 ∷ front.2 ∷ 32 ∷ []) (chars part.now) ∷ [])) }
+        ⊕ rows_tokens (text_line context.now (map (mark_of context.now.labels.now) earlier.now)
+        (mark_of context.now.labels.now mark.now) (front.0 ∷ front.1 ∷ front.2 ∷ 32 ∷ []) (chars part.now) ∷ [])) }
 {
-    push_before_marks(page, sheet)?;
-    push_leads(page, sheet, earlier, mark.anchor)?;
+    push_before_marks(page, context)?;
+    push_leads(page, context, earlier, mark.anchor)?;
     page.push_line(mark.label.style, front.0, front.1, 1)?;
     page.push(front.2)?;
     page.push(' ')?;
@@ -107,7 +112,7 @@ fn push_text_row<O: Canvas>(
 // The rows of a text's parts after the first: `   ·   │   │ a label's text`.
 fn push_more_parts<O: Canvas>(
     page: &mut Page<O>,
-    sheet: &Sheet,
+    context: &LineContext,
     earlier: &[Mark],
     mark: &Mark,
     text: &str,
@@ -115,15 +120,15 @@ fn push_more_parts<O: Canvas>(
     requires earlier { All IsAnchored earlier.now }
     requires own { IsAnchored mark.now }
     ensures { OnOk result (page.new ≡ page.old ⊕ rows_tokens (map
-        (text_line sheet.now (map (mark_of sheet.now.labels.now) earlier.now) (mark_of sheet.now.labels.now mark.now)
-        (beside (settings sheet.now).characters))
+        (text_line context.now (map (mark_of context.now.labels.now) earlier.now) (mark_of context.now.labels.now mark.now)
+        (beside (settings context.now).theme.characters))
         (cut_at_lf (chars text.now)))) }
 {
-    let front = Front(' ', ' ', sheet.theme.characters.vbar);
+    let front = Front(' ', ' ', context.frame.settings.theme.characters.vbar);
     let mut left = Some(text);
     while let Some(text) = left {
         let (part, rest) = first_part(text);
-        push_text_row(page, sheet, earlier, mark, front, part)?;
+        push_text_row(page, context, earlier, mark, front, part)?;
         left = rest;
     }
     Ok(())
@@ -131,41 +136,50 @@ fn push_more_parts<O: Canvas>(
 
 // The rows of a mark's text, where these marks stand before it: `╰── text`, or `╰─┤ text` and a row for each further
 // part.
-fn push_text<O: Canvas>(page: &mut Page<O>, sheet: &Sheet, earlier: &[Mark], mark: &Mark) -> Outcome
+fn push_text<O: Canvas>(
+    page: &mut Page<O>,
+    context: &LineContext,
+    earlier: &[Mark],
+    mark: &Mark,
+) -> Outcome
     requires earlier { All IsAnchored earlier.now }
     requires own { IsAnchored mark.now }
-    ensures { OnOk result (page.new ≡ page.old ⊕ rows_tokens (before_each (before_marks sheet.now)
-        (rows_of_parts (settings sheet.now).width (settings sheet.now).characters
-        (map (mark_of sheet.now.labels.now) earlier.now) (mark_of sheet.now.labels.now mark.now)
-        (drawn_of sheet.now.labels.now mark.now.label).parts))) }
+    ensures { OnOk result (page.new ≡ page.old ⊕ rows_tokens (before_each (before_marks context.now)
+        (rows_of_parts (settings context.now)
+        (map (mark_of context.now.labels.now) earlier.now) (mark_of context.now.labels.now mark.now)
+        (drawn_of context.now.labels.now mark.now.label).parts))) }
 {
-    let Some(text) = text_of(sheet.labels, &mark.label) else {
+    let Some(text) = text_of(context.labels, &mark.label) else {
         return Ok(());
     };
-    let characters = &sheet.theme.characters;
+    let characters = &context.frame.settings.theme.characters;
     let (first, rest) = first_part(text);
     let Some(rest) = rest else {
         let front = Front(characters.lbot, characters.hbar, characters.hbar);
-        push_text_row(page, sheet, earlier, mark, front, first)?;
+        push_text_row(page, context, earlier, mark, front, first)?;
         return Ok(());
     };
     let front = Front(characters.lbot, characters.hbar, characters.rcross);
-    push_text_row(page, sheet, earlier, mark, front, first)?;
-    push_more_parts(page, sheet, earlier, mark, rest)?;
+    push_text_row(page, context, earlier, mark, front, first)?;
+    push_more_parts(page, context, earlier, mark, rest)?;
     Ok(())
 }
 
 /// The rows of the texts of all marks, the last one's first. It fails as `push_other_start` does.
-pub(crate) fn push_texts<O: Canvas>(page: &mut Page<O>, sheet: &Sheet, marks: &[Mark]) -> Outcome
+pub(crate) fn push_texts<O: Canvas>(
+    page: &mut Page<O>,
+    context: &LineContext,
+    marks: &[Mark],
+) -> Outcome
     requires { All IsAnchored marks.now }
-    ensures { OnOk result (page.new ≡ page.old ⊕ rows_tokens (before_each (before_marks sheet.now)
-        (rows_below (settings sheet.now).width (settings sheet.now).characters []
-        (map (mark_of sheet.now.labels.now) marks.now)))) }
+    ensures { OnOk result (page.new ≡ page.old ⊕ rows_tokens (before_each (before_marks context.now)
+        (rows_below (settings context.now) []
+        (map (mark_of context.now.labels.now) marks.now)))) }
 {
     let mut place = marks.len();
     while place > 0 {
         place -= 1;
-        push_text(page, sheet, &marks[..place], &marks[place])?;
+        push_text(page, context, &marks[..place], &marks[place])?;
     }
     Ok(())
 }

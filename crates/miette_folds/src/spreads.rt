@@ -18,7 +18,7 @@ use miette_labels::grouping::end_of;
 use miette_labels::reading::{ReadLabel, lines_around, some_own, usual_lines};
 use miette_protocol::protocol::{LabeledSpan, SourceSpan};
 use miette_protocol::source::MietteSpanContents;
-use miette_snippet_rules::options::Look;
+use miette_snippet_rules::options::SnippetSettings;
 use miette_source_lines::find::FindLines;
 use miette_source_lines::scan::Scan;
 use std::alloc::{AllocError, Global};
@@ -148,18 +148,18 @@ fn all_spreads(
 /// The labels that were read, in the same order, as they may be folded; none where no label is to be. `AllocError`
 /// where memory is refused, or a line's number or the end of a label's or a read's span is past the largest `usize`.
 pub fn spreads(
-    look: &Look<'_>,
+    settings: &SnippetSettings<'_>,
     labels: &[LabeledSpan],
     reads: &[ReadLabel<'_>],
 ) -> Result<Vec<Spread>, AllocError>
     ensures parts { IfOk result (λ spreads. map spread_of spreads.items
-        ≡ read_spreads look.now.options.label_lines look.now.options.context_lines labels.now reads.now) }
+        ≡ read_spreads settings.now.layout.now.label_lines settings.now.layout.now.context_lines labels.now reads.now) }
     ensures lines { IfOk result (λ spreads. (source : Source) →
-        All (IsRead look.now.options.context_lines source labels.now) reads.now →
+        All (IsRead settings.now.layout.now.context_lines source labels.now) reads.now →
         All (HasLines source.bytes) spreads.items) }
 {
-    match look.options.label_lines {
-        Some(_) => all_spreads(look.alloc, look.options.context_lines, labels, reads),
-        None => Ok(Vec::new(look.alloc)),
+    match settings.layout.label_lines {
+        Some(_) => all_spreads(settings.alloc, settings.layout.context_lines, labels, reads),
+        None => Ok(Vec::new(settings.alloc)),
     }
 }

@@ -40,7 +40,7 @@ module _ (rows others : SnippetRows) where
 
   mutual
     causes_alike : (s : Settings) (outer : Option Severity) (inherited : Option Source) (c : Cause) (a b : Answers)
-        (nested : Bool) → s.nested ≡ nested →
+        (nested : Bool) → s.related_as_nested ≡ nested →
         ((path : List Step) (p : PrintedDiagnostic) → at_cause nested inherited c path ≡ Some p
         → AreSame p (answer_at a path) (answer_at b path)) →
         causes_text rows s outer inherited c a ≡ causes_text others s outer inherited c b
@@ -56,7 +56,7 @@ module _ (rows others : SnippetRows) where
         (causes_alike s outer inherited c (cause_answers a) (cause_answers b) nested w (λ path. h (to_cause ∷ path)))
 
     related_alike : (s : Settings) (outer : Option Severity) (inherited : Option Source) (ts : Trees)
-        (a b : RelatedAnswers) (nested : Bool) → s.nested ≡ nested →
+        (a b : RelatedAnswers) (nested : Bool) → s.related_as_nested ≡ nested →
         ((k : ℕ) (path : List Step) (p : PrintedDiagnostic) → at_related nested inherited ts k path ≡ Some p
         → AreSame p (answer_at (numbered_answers a k) path) (answer_at (numbered_answers b k) path)) →
         related_text rows s outer inherited ts a ≡ related_text others s outer inherited ts b
@@ -65,7 +65,7 @@ module _ (rows others : SnippetRows) where
         let source = effective own inherited in
         let n = narrow_settings s outer (are_last ts) in
         ap₂ (λ x y. x ++ y)
-        (if_same s.nested _ _ _ _
+        (if_same s.related_as_nested _ _ _ _
         (λ y. ap (λ x. under_arrow s outer (are_last ts) (without_trailing x))
         (ap₂ (inner_over n m) (same_drawn n source m (own_answer (first_answers a)) (own_answer (first_answers b))
         (h zero [] (over source m) refl))
@@ -76,7 +76,7 @@ module _ (rows others : SnippetRows) where
     related_alike s outer inherited (more_trees (tree m own c r) ts) a b false w h =
         let source = effective own inherited in
         ap₂ (λ x y. x ++ y)
-        (if_same s.nested _ _ _ _
+        (if_same s.related_as_nested _ _ _ _
         (λ y. absurd (cc))
         (λ y. ap (λ x. title_text s m ++ body_over s m x (causes_text rows s m.severity source c
         (cause_answers (first_answers a))) (related_text rows s m.severity source r
@@ -92,20 +92,21 @@ module _ (rows others : SnippetRows) where
         (related_alike s outer inherited ts (later_answers a) (later_answers b) false w (λ k path. h (suc k) path))
 
   root_alike : (chain : Bool) (s : Settings) (m : Meaning) (own : Option Source) (c : Cause) (a b : Answers) →
-      ((path : List Step) (p : PrintedDiagnostic) → (if chain then at_cause s.nested own c path else None) ≡ Some p
+      ((path : List Step) (p : PrintedDiagnostic) → (if chain then at_cause s.related_as_nested own c path else None)
+      ≡ Some p
       → AreSame p (answer_at a path) (answer_at b path)) →
       only_if chain (causes_text rows s m.severity own c a) ≡ only_if chain (causes_text others s m.severity own c b)
-  root_alike true s m own c a b h = causes_alike s m.severity own c a b s.nested refl h
+  root_alike true s m own c a b h = causes_alike s m.severity own c a b s.related_as_nested refl h
   root_alike false s m own c a b h = refl
 
   pub report_alike : (s : Settings) (t : Tree) (a b : Answers) →
       ((path : List Step) (p : PrintedDiagnostic) → printed_at s t path ≡ Some p
       → AreSame p (answer_at a path) (answer_at b path)) → report_text rows s t a ≡ report_text others s t b
   report_alike s (tree m own c r) a b h =
-      ap (λ x. report_over s m x (only_if s.chain (causes_text rows s m.severity own c (cause_answers a)))
+      ap (λ x. report_over s m x (only_if s.cause_chain (causes_text rows s m.severity own c (cause_answers a)))
       (related_text rows s m.severity own r (related_answers a)))
       (same_drawn s own m (own_answer a) (own_answer b) (h [] (over own m) refl))
       ∙ ap₂ (report_over s m (rows_text (others s own (given_labels m.labels) (own_answer b))))
-      (root_alike s.chain s m own c (cause_answers a) (cause_answers b) (λ path. h (to_cause ∷ path)))
-      (related_alike s m.severity own r (related_answers a) (related_answers b) s.nested refl
+      (root_alike s.cause_chain s m own c (cause_answers a) (cause_answers b) (λ path. h (to_cause ∷ path)))
+      (related_alike s m.severity own r (related_answers a) (related_answers b) s.related_as_nested refl
       (λ k path. h (to_related k ∷ path)))

@@ -7,7 +7,7 @@ use Rattle.miette_protocol.specs.views.Meaning.{Meaning}
 use Rattle.miette_protocol.specs.rules.Reading.{Source}
 use Rattle.miette_protocol.specs.declared.protocol.Severity.{Severity}
 use Rattle.miette_tree.specs.rules.Tree.{Tree, tree, Cause, diagnostic, texts, Trees, no_trees, more_trees, effective}
-use Rattle.miette_snippet_rules.specs.rules.Frames as frames
+use Rattle.miette_snippet_rules.specs.rules.Settings as snippets
 use Rattle.miette_style.specs.rules.Themes.{Styles}
 use Rattle.miette_graphical.specs.rules.Settings.{Settings}
 use Rattle.miette_graphical.specs.rules.Answers.{Answers, unlisted, listed, RelatedAnswers, no_more, and_more}
@@ -54,7 +54,7 @@ later-bare no_more = refl
 later-bare (and_more first more) = refl
 
 -- where every read succeeds, such an answer says nothing
-own-nothing : (l : frames.SnippetSettings) (blank : Bool) (source : Option Source) (m : Meaning) (a : Answers)
+own-nothing : (l : snippets.SnippetSettings) (blank : Bool) (source : Option Source) (m : Meaning) (a : Answers)
     → IsAnswer l blank source m (own_answer a) → always_reads source (given_labels m.labels) ≡ true →
     own_answer (unhighlighted_answers a) ≡ nothing_listed
 own-nothing l blank source m a h e = sym (own-bare a) ∙ ap unhighlighted_answer (h.read e)
@@ -62,8 +62,9 @@ own-nothing l blank source m a h e = sym (own-bare a) ∙ ap unhighlighted_answe
 -- ---- texts
 
 mutual
-  bare-causes : (l : frames.SnippetSettings) (blank : Bool) (rows : SnippetRows) (s : Settings)
-      (outer : Option Severity) (inherited : Option Source) (c : Cause) (a : Answers) (nested : Bool) → s.nested
+  bare-causes : (l : snippets.SnippetSettings) (blank : Bool) (rows : SnippetRows) (s : Settings)
+      (outer : Option Severity) (inherited : Option Source) (c : Cause) (a : Answers) (nested : Bool)
+      → s.related_as_nested
       ≡ nested
       →
       AreCauseAnswers l blank inherited c a → all_read (printed_causes nested inherited c) ≡ true →
@@ -83,9 +84,9 @@ mutual
       (ap (causes_text rows s outer inherited c) (sym (cause-bare a))
       ∙ bare-causes l blank rows s outer inherited c (cause_answers a) nested w h.2 p.1)
 
-  bare-related : (l : frames.SnippetSettings) (blank : Bool) (rows : SnippetRows) (s : Settings)
+  bare-related : (l : snippets.SnippetSettings) (blank : Bool) (rows : SnippetRows) (s : Settings)
       (outer : Option Severity) (inherited : Option Source) (ts : Trees) (more : RelatedAnswers) (nested : Bool)
-      → s.nested ≡ nested →
+      → s.related_as_nested ≡ nested →
       AreRelatedAnswers l blank inherited ts more → all_read (printed_related nested inherited ts) ≡ true →
       related_text rows s outer inherited ts (unhighlighted_related_answers more)
       ≡ related_text rows s outer inherited ts no_more
@@ -97,7 +98,7 @@ mutual
       let p = both_read (printed_inner true source (tree m own c r)) (printed_related true inherited ts) e in
       let q = and_parts (always_reads source (given_labels m.labels)) (all_read (printed_related true source r)) p.0 in
       ap₂ (λ x y. x ++ y)
-      (if_same s.nested _ _ _ _
+      (if_same s.related_as_nested _ _ _ _
       (λ y. ap (λ x. under_arrow s outer (are_last ts) (without_trailing x))
       (ap₂ (inner_text rows n m source) (own-nothing l blank source m a h.0 q.0)
       (ap (related_text rows n m.severity source r) (sym (related-bare a))
@@ -111,7 +112,7 @@ mutual
       (all_read (printed_causes false source c ++ printed_related false source r)) p.0 in
       let o = both_read (printed_causes false source c) (printed_related false source r) q.1 in
       ap₂ (λ x y. x ++ y)
-      (if_same s.nested _ _ _ _
+      (if_same s.related_as_nested _ _ _ _
       (λ y. absurd (cc))
       (λ y. ap (λ x. title_text s m ++ body rows s m source x
       (causes_text rows s m.severity source c (cause_answers (unhighlighted_answers a)))
@@ -124,8 +125,8 @@ mutual
       ∙ bare-related l blank rows s m.severity source r (related_answers a) false w h.2 o.1)))
       (bare-related l blank rows s outer inherited ts later false w h.3 p.1)
 
-bare-root : (l : frames.SnippetSettings) (blank : Bool) (rows : SnippetRows) (s : Settings) (m : Meaning)
-    (own : Option Source) (c : Cause) (a : Answers) (chain nested : Bool) → s.nested ≡ nested →
+bare-root : (l : snippets.SnippetSettings) (blank : Bool) (rows : SnippetRows) (s : Settings) (m : Meaning)
+    (own : Option Source) (c : Cause) (a : Answers) (chain nested : Bool) → s.related_as_nested ≡ nested →
     (chain ≡ true → AreCauseAnswers l blank own c a) → all_read (if chain then printed_causes nested own c else [])
     ≡ true →
     only_if chain (causes_text rows s m.severity own c (unhighlighted_answers a))
@@ -139,21 +140,23 @@ pub bare-report : (rows : SnippetRows) (s : Settings) (blank : Bool) (t : Tree) 
 bare-report rows s blank (tree m own c r) a h e =
     let l = snippet_settings s in
     let u = colourless s in
-    let causes = if s.chain then printed_causes s.nested own c else [] in
-    let p = and_parts (always_reads own (given_labels m.labels)) (all_read (causes ++ printed_related s.nested own r)) e
+    let causes = if s.cause_chain then printed_causes s.related_as_nested own c else [] in
+    let p = and_parts (always_reads own (given_labels m.labels))
+    (all_read (causes ++ printed_related s.related_as_nested own r)) e
     in
-    let q = both_read causes (printed_related s.nested own r) p.1 in
+    let q = both_read causes (printed_related s.related_as_nested own r) p.1 in
     ap (λ o. report_over u m (rows_text (rows u own (given_labels m.labels) o))
-    (only_if s.chain (causes_text rows u m.severity own c (cause_answers (unhighlighted_answers a))))
+    (only_if s.cause_chain (causes_text rows u m.severity own c (cause_answers (unhighlighted_answers a))))
     (related_text rows u m.severity own r (related_answers (unhighlighted_answers a))))
     (own-nothing l blank own m a h.0 p.0)
     ∙ ap₂ (report_over u m (rows_text (rows u own (given_labels m.labels) nothing_listed)))
-    (ap (λ b. only_if s.chain (causes_text rows u m.severity own c b)) (sym (cause-bare a))
-    ∙ bare-root l blank rows u m own c (cause_answers a) s.chain s.nested refl h.1 q.0)
+    (ap (λ b. only_if s.cause_chain (causes_text rows u m.severity own c b)) (sym (cause-bare a))
+    ∙ bare-root l blank rows u m own c (cause_answers a) s.cause_chain s.related_as_nested refl h.1 q.0)
     (ap (related_text rows u m.severity own r) (sym (related-bare a))
-    ∙ bare-related l blank rows u m.severity own r (related_answers a) s.nested refl h.2 q.1)
+    ∙ bare-related l blank rows u m.severity own r (related_answers a) s.related_as_nested refl h.2 q.1)
 
 -- which diagnostics are printed is the same in any styles
-pub restyled-printed : (s : Settings) (styles : Styles) (t : Tree) → diagnostics_of (record s { styles = styles }) t
+pub restyled-printed : (s : Settings) (styles : Styles) (t : Tree)
+    → diagnostics_of (record s { theme = record s.theme { styles = styles } }) t
     ≡ diagnostics_of s t
 restyled-printed s styles (tree m own c r) = refl

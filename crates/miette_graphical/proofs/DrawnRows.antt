@@ -9,7 +9,7 @@ use Rattle.miette_labels.specs.rules.Answers.{Highlight, NoneFails, AlwaysReads}
 use Rattle.miette_highlight.specs.rules.HighlighterCalls.{Call, Leads}
 use Rattle.miette_layout.specs.views.Outcomes.{MayGive}
 use Rattle.miette_snippet_rules.specs.rules.Folds.{spreads_of}
-use Rattle.miette_snippet_rules.specs.rules.Frames as frames
+use Rattle.miette_snippet_rules.specs.rules.Settings as snippets
 use Rattle.miette_snippet_rules.specs.rules.Frames.{refused_row}
 use Rattle.miette_labels.specs.rules.Around.{group_context}
 use Rattle.miette_labels.specs.rules.Groups.{refusal, groups_of, in_order}
@@ -44,29 +44,31 @@ refusal_none bytes fails (label ∷ labels) h =
     (refusal_none bytes (drop 1 fails) labels (later_none fails h))
 
 -- the rows of groups where nothing fails
-pub groups_given : (s : frames.SnippetSettings) (source : Source) (labels : List Label) (a : Answer) → AlwaysReads a →
-    rows_of_groups s source labels a (groups_of s.context source a.join_fails labels)
-    ≡ Some (all_snippets (settings_around s labels) (spreads_of s.label_lines s.context source labels) source labels
-    a.pieces (groups_of s.context source [] labels))
+pub groups_given : (s : snippets.SnippetSettings) (source : Source) (labels : List Label) (a : Answer) → AlwaysReads a →
+    rows_of_groups s source labels a (groups_of s.layout.context_lines source a.join_fails labels)
+    ≡ Some (all_snippets (settings_around s labels) (spreads_of s.layout.label_lines s.layout.context_lines source
+    labels) source labels
+    a.pieces (groups_of s.layout.context_lines source [] labels))
 groups_given s source labels a h =
-    ap (λ g. rows_of_groups s source labels a g) (grouped_none s.context source a.join_fails labels h.joins)
+    ap (λ g. rows_of_groups s source labels a g) (grouped_none s.layout.context_lines source a.join_fails labels
+    h.joins)
     ∙ ap₂ (λ x y. if x || y then None else Some (all_snippets (settings_around s labels)
-    (spreads_of s.label_lines s.context source labels) source labels a.pieces
-    (groups_of s.context source [] labels)))
-    (none_unread s.context source a.join_fails labels h.joins)
-    (some_none a.place_fails (groups_of s.context source [] labels) h.places)
+    (spreads_of s.layout.label_lines s.layout.context_lines source labels) source labels a.pieces
+    (groups_of s.layout.context_lines source [] labels)))
+    (none_unread s.layout.context_lines source a.join_fails labels h.joins)
+    (some_none a.place_fails (groups_of s.layout.context_lines source [] labels) h.places)
 
 pub none_listed : (pieces : List (List (List Highlight))) → AlwaysReads (pieces_listed pieces)
 none_listed pieces = record { labels = tt; joins = tt; places = tt }
 
-unless_same : (s : frames.SnippetSettings) (source : Source) (labels : List Label) (a : Answer) (refused : Option Row)
+unless_same : (s : snippets.SnippetSettings) (source : Source) (labels : List Label) (a : Answer) (refused : Option Row)
     → AlwaysReads a →
     rows_unless s source labels a refused ≡ rows_unless s source labels (pieces_listed a.pieces) refused
 unless_same s source labels a (Some row) h = refl
 unless_same s source labels a None h = groups_given s source labels a h
     ∙ sym (groups_given s source labels (pieces_listed a.pieces) (none_listed a.pieces))
 
-pub rows_same : (s : frames.SnippetSettings) (source : Source) (labels : List Label) (a : Answer) → AlwaysReads a →
+pub rows_same : (s : snippets.SnippetSettings) (source : Source) (labels : List Label) (a : Answer) → AlwaysReads a →
     snippet_rows s source labels a ≡ snippet_rows s source labels (pieces_listed a.pieces)
 rows_same s source labels a h =
     ap (λ r. rows_unless s source (in_order labels) a (option_map (refused_row s) r))
@@ -74,7 +76,7 @@ rows_same s source labels a h =
     ∙ unless_same s source (in_order labels) a (option_map (refused_row s) (refusal source.bytes [] (in_order labels)))
     h
 
-some_unless : (s : frames.SnippetSettings) (source : Source) (labels : List Label)
+some_unless : (s : snippets.SnippetSettings) (source : Source) (labels : List Label)
     (pieces : List (List (List Highlight))) (refused : Option Row)
     → is_some (rows_unless s source labels (pieces_listed pieces) refused) ≡ true
 some_unless s source labels pieces (Some row) = refl
@@ -82,20 +84,20 @@ some_unless s source labels pieces None = ap is_some (groups_given s source labe
     (none_listed pieces))
 
 -- where no read failed there are rows
-pub always_rows : (s : frames.SnippetSettings) (source : Option Source) (labels : List Label)
+pub always_rows : (s : snippets.SnippetSettings) (source : Option Source) (labels : List Label)
     (pieces : List (List (List Highlight))) → HasRows s source labels (pieces_listed pieces)
 always_rows s None labels pieces = tt
 always_rows s (Some source) labels pieces = some_unless s source (in_order labels) pieces
     (option_map (refused_row s) (refusal source.bytes [] (in_order labels)))
 
-never_none : (s : frames.SnippetSettings) (source : Source) (labels : List Label)
+never_none : (s : snippets.SnippetSettings) (source : Source) (labels : List Label)
     (pieces : List (List (List Highlight))) (refused : Option Row)
     → rows_unless s source labels (pieces_listed pieces) refused ≢ None
 never_none s source labels pieces (Some row) e = absurd (cc)
 never_none s source labels pieces None e = let k = sym
     (groups_given s source labels (pieces_listed pieces) (none_listed pieces)) ∙ e in absurd (cc)
 
-no_rows_fail : (s : frames.SnippetSettings) (source : Source) (labels : List Label) (a : Answer) → AlwaysReads a
+no_rows_fail : (s : snippets.SnippetSettings) (source : Source) (labels : List Label) (a : Answer) → AlwaysReads a
     → snippet_rows s source labels a ≡ None → ⊥
 no_rows_fail s source labels a h n =
     never_none s source (in_order labels) a.pieces (option_map (refused_row s)
@@ -103,14 +105,14 @@ no_rows_fail s source labels a h n =
 
 -- ---- no pieces
 
-no_pieces : (s : frames.SnippetSettings) (blank : Bool) (source : Option Source) (labels : List Label)
+no_pieces : (s : snippets.SnippetSettings) (blank : Bool) (source : Option Source) (labels : List Label)
     → HasPieces s blank source labels nothing_listed
 no_pieces s blank None labels = tt
-no_pieces s blank (Some source) labels = none_have (group_context s.context (in_order labels)) blank source
-    (groups_of s.context source [] (in_order labels))
+no_pieces s blank (Some source) labels = none_have (group_context s.layout.context_lines (in_order labels)) blank source
+    (groups_of s.layout.context_lines source [] (in_order labels))
 
 -- where nothing is listed, nothing failed
-pub unlisted_is : (s : frames.SnippetSettings) (blank : Bool) (source : Option Source) (labels : List Label)
+pub unlisted_is : (s : snippets.SnippetSettings) (blank : Bool) (source : Option Source) (labels : List Label)
     (reads : Bool) → IsAnswerOf s blank source labels reads nothing_listed
 unlisted_is s blank source labels reads = record {
   read = λ h. refl;
@@ -159,11 +161,13 @@ drawn_text {happen} s source labels blank before page g =
         record {
           read = λ h. refl;
           plain = g.plain;
-          pieces = subst (λ groups. SnippetsHavePieces (group_context l.context (in_order labels)) blank source groups
-              a.pieces) (grouped_none l.context source a.join_fails (in_order labels) (g.always reads).joins) g.pieces;
+          pieces = subst (λ groups. SnippetsHavePieces (group_context l.layout.context_lines (in_order labels)) blank
+              source groups
+              a.pieces) (grouped_none l.layout.context_lines source a.join_fails (in_order labels)
+              (g.always reads).joins) g.pieces;
           rows = always_rows l (Some source) labels a.pieces;
         },
-        subst happen (calls_same s.context source labels a (g.always reads)) g.calls,
+        subst happen (calls_same s.layout.context_lines source labels a (g.always reads)) g.calls,
         ap (λ r. rows_text (shown_rows r)) (rows_same l source labels a (g.always reads)),
       )
       | inr fails ↦ (
@@ -224,7 +228,8 @@ drawn_unlabelled s blank now source m text e t = (
   nothing_listed,
   unlisted_is (snippet_settings s) blank (Some source) (given_labels m.labels)
       (always_reads (Some source) (given_labels m.labels)),
-  subst (λ (ls : List Label). Leads now (snippet_calls s.context source ls nothing_listed) now) (sym e) (λ later h. h),
+  subst (λ (ls : List Label). Leads now (snippet_calls s.layout.context_lines source ls nothing_listed) now) (sym e)
+      (λ later h. h),
   t ∙ ap (λ ls. rows_text (drawn_rows s (Some source) ls nothing_listed)) (sym e),
 )
 

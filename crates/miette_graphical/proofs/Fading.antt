@@ -1,6 +1,7 @@
 -- Texts that are tame, and the same texts without their colours.
 use Rattle.std.proofs.Common.{◌≡◌, ℕ, ◌-◌, Bool, true, false, List, [], ◌∷◌, ◌++◌, map, refl, sym, ap, ap₂, ◌∙◌}
 use Rattle.std.proofs.Common.{if◌then◌else◌}
+use Rattle.miette_text.specs.views.Plans.{cuts_hyphens}
 use Rattle.miette_runs.specs.rules.Sequences.{tokens, erase}
 use Rattle.miette_text.specs.laws.Tame.{IsTame, AllTame}
 use Rattle.miette_runs.specs.rules.Runs.{Fragment, HaveNoEscape, plain_run, print}
@@ -74,10 +75,10 @@ module _ (laws : TextLaws) where
     room = s.width - 2;
     first = first;
     further = further;
-    breaks = s.breaks;
+    breaks = s.wrapping.break_words;
     wraps =
-        s.wraps;
-    hyphens = s.hyphens;
+        s.wrapping.wrap_lines;
+    hyphens = cuts_hyphens s.wrapping.word_splitter;
   }
 
   pub fades-under : (s : Settings) (f f2 g g2 : List Fragment) (x y : List ℕ) → Pales f f2 → Pales g g2 → Fades x y →

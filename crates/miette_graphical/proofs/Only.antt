@@ -7,7 +7,7 @@ use Rattle.miette_protocol.specs.views.Meaning.{Meaning, Label}
 use Rattle.miette_protocol.specs.rules.Reading.{Source}
 use Rattle.miette_protocol.specs.declared.protocol.Severity.{Severity}
 use Rattle.miette_tree.specs.rules.Tree.{Tree, tree, Cause, diagnostic, texts, Trees, no_trees, more_trees, effective}
-use Rattle.miette_snippet_rules.specs.rules.Frames as frames
+use Rattle.miette_snippet_rules.specs.rules.Settings as snippets
 use Rattle.miette_graphical.specs.rules.Settings.{Settings}
 use Rattle.miette_graphical.specs.rules.Answers.{Answer, pieces_listed, Answers, unlisted, RelatedAnswers, no_more}
 use Rattle.miette_graphical.specs.rules.Answers.{nothing_listed, cause_answers, related_answers, first_answers}
@@ -25,13 +25,14 @@ use Rattle.miette_graphical.proofs.Lists.{both_read}
 use Rattle.miette_graphical.proofs.Outermost.{if_same, report_over}
 use Rattle.miette_graphical.specs.steps.PrintedParts.{printed_inner, printed_sibling}
 
-unlisted_here : {l : frames.SnippetSettings} {source : Option Source} {labels : List Label} {reads : Bool} {a : Answer}
+unlisted_here : {l : snippets.SnippetSettings} {source : Option Source} {labels : List Label} {reads : Bool}
+    {a : Answer}
     → IsAnswerOf l true source labels reads a → reads ≡ true → a ≡ nothing_listed
 unlisted_here h e = h.read e ∙ ap pieces_listed (h.plain refl)
 
 mutual
-  same-causes : (l : frames.SnippetSettings) (rows : SnippetRows) (s : Settings) (outer : Option Severity)
-      (inherited : Option Source) (c : Cause) (a : Answers) (nested : Bool) → s.nested ≡ nested →
+  same-causes : (l : snippets.SnippetSettings) (rows : SnippetRows) (s : Settings) (outer : Option Severity)
+      (inherited : Option Source) (c : Cause) (a : Answers) (nested : Bool) → s.related_as_nested ≡ nested →
       AreCauseAnswers l true inherited c a → all_read (printed_causes nested inherited c) ≡ true →
       causes_text rows s outer inherited c a ≡ causes_text rows s outer inherited c unlisted
   same-causes l rows s outer inherited (texts ts) a nested w h e = refl
@@ -47,8 +48,8 @@ mutual
       (same-related l rows n m.severity source r (related_answers a) nested w h.1 q.1)))
       (same-causes l rows s outer inherited c (cause_answers a) nested w h.2 p.1)
 
-  same-related : (l : frames.SnippetSettings) (rows : SnippetRows) (s : Settings) (outer : Option Severity)
-      (inherited : Option Source) (ts : Trees) (more : RelatedAnswers) (nested : Bool) → s.nested ≡ nested →
+  same-related : (l : snippets.SnippetSettings) (rows : SnippetRows) (s : Settings) (outer : Option Severity)
+      (inherited : Option Source) (ts : Trees) (more : RelatedAnswers) (nested : Bool) → s.related_as_nested ≡ nested →
       AreRelatedAnswers l true inherited ts more → all_read (printed_related nested inherited ts) ≡ true →
       related_text rows s outer inherited ts more ≡ related_text rows s outer inherited ts no_more
   same-related l rows s outer inherited no_trees more nested w h e = refl
@@ -59,7 +60,7 @@ mutual
       let p = both_read (printed_inner true source (tree m own c r)) (printed_related true inherited ts) e in
       let q = and_parts (always_reads source (given_labels m.labels)) (all_read (printed_related true source r)) p.0 in
       ap₂ (λ x y. x ++ y)
-      (if_same s.nested _ _ _ _
+      (if_same s.related_as_nested _ _ _ _
       (λ y. ap (λ x. under_arrow s outer (are_last ts) (without_trailing x))
       (ap₂ (inner_text rows n m source) (unlisted_here h.0 q.0)
       (same-related l rows n m.severity source r (related_answers a) true w h.2 q.1)))
@@ -73,7 +74,7 @@ mutual
       (all_read (printed_causes false source c ++ printed_related false source r)) p.0 in
       let o = both_read (printed_causes false source c) (printed_related false source r) q.1 in
       ap₂ (λ x y. x ++ y)
-      (if_same s.nested _ _ _ _
+      (if_same s.related_as_nested _ _ _ _
       (λ y. absurd (cc))
       (λ y. ap (λ x. title_text s m ++ body rows s m source x (causes_text rows s m.severity source c (cause_answers a))
       (related_text rows s m.severity source r (related_answers a))) (unlisted_here h.0 q.0)
@@ -82,12 +83,13 @@ mutual
       (same-related l rows s m.severity source r (related_answers a) false w h.2 o.1)))
       (same-related l rows s outer inherited ts (later_answers more) false w h.3 p.1)
 
-same-root : (l : frames.SnippetSettings) (rows : SnippetRows) (s : Settings) (m : Meaning) (own : Option Source)
+same-root : (l : snippets.SnippetSettings) (rows : SnippetRows) (s : Settings) (m : Meaning) (own : Option Source)
     (c : Cause) (a : Answers) (chain : Bool) →
-    (chain ≡ true → AreCauseAnswers l true own c a) → all_read (if chain then printed_causes s.nested own c else [])
+    (chain ≡ true → AreCauseAnswers l true own c a) → all_read
+    (if chain then printed_causes s.related_as_nested own c else [])
     ≡ true →
     only_if chain (causes_text rows s m.severity own c a) ≡ only_if chain (causes_text rows s m.severity own c unlisted)
-same-root l rows s m own c a true h e = same-causes l rows s m.severity own c a s.nested refl (h refl) e
+same-root l rows s m own c a true h e = same-causes l rows s m.severity own c a s.related_as_nested refl (h refl) e
 same-root l rows s m own c a false h e = refl
 
 pub same-report : (rows : SnippetRows) (s : Settings) (t : Tree) (a : Answers) → AreAnswers s true t a
@@ -95,13 +97,14 @@ pub same-report : (rows : SnippetRows) (s : Settings) (t : Tree) (a : Answers) �
     report_text rows s t a ≡ report_text rows s t unlisted
 same-report rows s (tree m own c r) a h e =
     let l = snippet_settings s in
-    let causes = if s.chain then printed_causes s.nested own c else [] in
-    let p = and_parts (always_reads own (given_labels m.labels)) (all_read (causes ++ printed_related s.nested own r)) e
+    let causes = if s.cause_chain then printed_causes s.related_as_nested own c else [] in
+    let p = and_parts (always_reads own (given_labels m.labels))
+    (all_read (causes ++ printed_related s.related_as_nested own r)) e
     in
-    let q = both_read causes (printed_related s.nested own r) p.1 in
+    let q = both_read causes (printed_related s.related_as_nested own r) p.1 in
     ap (λ o. report_over s m (rows_text (rows s own (given_labels m.labels) o))
-    (only_if s.chain (causes_text rows s m.severity own c (cause_answers a)))
+    (only_if s.cause_chain (causes_text rows s m.severity own c (cause_answers a)))
     (related_text rows s m.severity own r (related_answers a))) (unlisted_here h.0 p.0)
     ∙ ap₂ (report_over s m (rows_text (rows s own (given_labels m.labels) nothing_listed)))
-    (same-root l rows s m own c (cause_answers a) s.chain h.1 q.0)
-    (same-related l rows s m.severity own r (related_answers a) s.nested refl h.2 q.1)
+    (same-root l rows s m own c (cause_answers a) s.cause_chain h.1 q.0)
+    (same-related l rows s m.severity own r (related_answers a) s.related_as_nested refl h.2 q.1)

@@ -8,7 +8,9 @@ use Rattle.miette_protocol.specs.views.Meaning.{Meaning, Label}
 use Rattle.miette_protocol.specs.rules.Reading.{Source}
 use Rattle.miette_protocol.specs.declared.protocol.Severity.{Severity}
 use Rattle.miette_protocol.specs.declared.protocol.Severity.TheVariants.{Advice, Warning, Error}
-use Rattle.miette_graphical.specs.rules.Settings.{Settings, Urls, AsLinks, AsText, Hidden, icon, icon_in, style_in}
+use Rattle.miette_graphical.specs.rules.Settings.{Settings, icon, icon_in, style_in}
+use Rattle.miette_graphical.specs.declared.settings.UrlMode.{UrlMode}
+use Rattle.miette_graphical.specs.declared.settings.UrlMode.TheVariants.{Links, Text, Hidden}
 use Rattle.miette_graphical.specs.rules.Settings.{severity_style}
 use Rattle.miette_style.specs.rules.Themes.{Characters, Styles}
 use Rattle.miette_graphical.proofs.TextLaws.{TextLaws}
@@ -51,33 +53,34 @@ module _ (laws : TextLaws) where
 
   arrow-clean : (s : Settings) (b : Bool) → AreCleanSettings s → IsClean (arrow_text s b)
   arrow-clean s true h = let k = h.0.drawings in
-      clean_cons s.characters.lbot (s.characters.hbar ∷ s.characters.rarrow ∷ spaces 1) k.lbot
-      (clean_cons s.characters.hbar (s.characters.rarrow ∷ spaces 1) k.hbar
-      (clean_cons s.characters.rarrow (spaces 1) k.rarrow refl))
+      clean_cons s.theme.characters.lbot (s.theme.characters.hbar ∷ s.theme.characters.rarrow ∷ spaces 1) k.lbot
+      (clean_cons s.theme.characters.hbar (s.theme.characters.rarrow ∷ spaces 1) k.hbar
+      (clean_cons s.theme.characters.rarrow (spaces 1) k.rarrow refl))
   arrow-clean s false h = let k = h.0.drawings in
-      clean_cons s.characters.lcross (s.characters.hbar ∷ s.characters.rarrow ∷ spaces 1) k.lcross
-      (clean_cons s.characters.hbar (s.characters.rarrow ∷ spaces 1) k.hbar
-      (clean_cons s.characters.rarrow (spaces 1) k.rarrow refl))
+      clean_cons s.theme.characters.lcross (s.theme.characters.hbar ∷ s.theme.characters.rarrow ∷ spaces 1) k.lcross
+      (clean_cons s.theme.characters.hbar (s.theme.characters.rarrow ∷ spaces 1) k.hbar
+      (clean_cons s.theme.characters.rarrow (spaces 1) k.rarrow refl))
 
   stem-clean : (s : Settings) (b : Bool) → AreCleanSettings s → IsClean (stem_text s b)
   stem-clean s true h = refl
-  stem-clean s false h = let k = h.0.drawings in clean_cons s.characters.vbar (spaces 3) k.vbar refl
+  stem-clean s false h = let k = h.0.drawings in clean_cons s.theme.characters.vbar (spaces 3) k.vbar refl
 
   -- ---- indents
 
   pale-icon : (s : Settings) (v : Option Severity) → AreCleanSettings s
       → Pales (icon_indent s v) (icon_indent (colourless s) v)
   pale-icon s v h = record {
-    clean = (refl, (icon-clean s.characters v h.0, (refl, tt)));
-    same = ap (λ st. bare_text (spaces 2) ∷ Styled st (icon s v) ∷ bare_text (spaces 1) ∷ []) (style-faded s.styles v);
+    clean = (refl, (icon-clean s.theme.characters v h.0, (refl, tt)));
+    same = ap (λ st. bare_text (spaces 2) ∷ Styled st (icon s v) ∷ bare_text (spaces 1) ∷ [])
+        (style-faded s.theme.styles v);
   }
 
   pale-bar : (s : Settings) (v : Option Severity) → AreCleanSettings s
       → Pales (bar_indent s v) (bar_indent (colourless s) v)
   pale-bar s v h = let k = h.0.drawings in record {
-    clean = (refl, (clean_cons s.characters.vbar [] k.vbar refl, (refl, tt)));
-    same = ap (λ st. bare_text (spaces 2) ∷ Styled st (s.characters.vbar ∷ []) ∷ bare_text (spaces 1) ∷ [])
-        (style-faded s.styles v);
+    clean = (refl, (clean_cons s.theme.characters.vbar [] k.vbar refl, (refl, tt)));
+    same = ap (λ st. bare_text (spaces 2) ∷ Styled st (s.theme.characters.vbar ∷ []) ∷ bare_text (spaces 1) ∷ [])
+        (style-faded s.theme.styles v);
   }
 
   -- what an arrow draws is the same in all styles
@@ -93,14 +96,14 @@ module _ (laws : TextLaws) where
       → Pales (arrow_indent s v b) (arrow_indent (colourless s) v b)
   pale-arrow s v b h = record {
     clean = (arrow-clean s b h, tt);
-    same = ap₂ (λ st t. Styled st t ∷ []) (style-faded s.styles v) (arrow-same s b);
+    same = ap₂ (λ st t. Styled st t ∷ []) (style-faded s.theme.styles v) (arrow-same s b);
   }
 
   pale-stem : (s : Settings) (v : Option Severity) (b : Bool) → AreCleanSettings s
       → Pales (stem_indent s v b) (stem_indent (colourless s) v b)
   pale-stem s v b h = record {
     clean = (stem-clean s b h, tt);
-    same = ap₂ (λ st t. Styled st t ∷ []) (style-faded s.styles v) (stem-same s b);
+    same = ap₂ (λ st t. Styled st t ∷ []) (style-faded s.theme.styles v) (stem-same s b);
   }
 
   -- Colours change no inner width.
@@ -111,19 +114,19 @@ module _ (laws : TextLaws) where
 
   -- ---- header
 
-  pale-header_by : (u : Urls) (s : Settings) (v : Option Severity) (url code : Option (List ℕ)) → AreCleanSettings s
+  pale-header_by : (u : UrlMode) (s : Settings) (v : Option Severity) (url code : Option (List ℕ)) → AreCleanSettings s
       → IfSome url IsCleanText → IfSome code IsCleanText →
       Pales (header_by u s (severity_style s v) url code) (header_by u (colourless s) plain url code)
-  pale-header_by AsLinks s v (Some url) (Some code) h k j =
+  pale-header_by Links s v (Some url) (Some code) h k j =
       record { clean = (k, (clean_append (chars code) (32 ∷ []) j refl, (h.1, (tt, (refl, tt))))); same = refl }
-  pale-header_by AsLinks s v (Some url) None h k j = record { clean = (k, (h.1, (tt, (refl, tt)))); same = refl }
-  pale-header_by AsLinks s v None (Some code) h k j = record { clean = (j, (refl, tt)); same = refl }
-  pale-header_by AsLinks s v None None h k j = record { clean = tt; same = refl }
-  pale-header_by AsText s v (Some url) (Some code) h k j =
+  pale-header_by Links s v (Some url) None h k j = record { clean = (k, (h.1, (tt, (refl, tt)))); same = refl }
+  pale-header_by Links s v None (Some code) h k j = record { clean = (j, (refl, tt)); same = refl }
+  pale-header_by Links s v None None h k j = record { clean = tt; same = refl }
+  pale-header_by Text s v (Some url) (Some code) h k j =
       record { clean = (j, (refl, (k, (refl, (refl, tt))))); same = refl }
-  pale-header_by AsText s v (Some url) None h k j = record { clean = tt; same = refl }
-  pale-header_by AsText s v None (Some code) h k j = record { clean = (j, (refl, tt)); same = refl }
-  pale-header_by AsText s v None None h k j = record { clean = tt; same = refl }
+  pale-header_by Text s v (Some url) None h k j = record { clean = tt; same = refl }
+  pale-header_by Text s v None (Some code) h k j = record { clean = (j, (refl, tt)); same = refl }
+  pale-header_by Text s v None None h k j = record { clean = tt; same = refl }
   pale-header_by Hidden s v url (Some code) h k j = record { clean = (j, (refl, tt)); same = refl }
   pale-header_by Hidden s v url None h k j = record { clean = tt; same = refl }
 
@@ -134,7 +137,7 @@ module _ (laws : TextLaws) where
       record {
         clean = p.clean;
         same = p.same ∙ ap (λ st. header_by s.urls (colourless s) st m.url m.code)
-            (style-faded s.styles m.severity);
+            (style-faded s.theme.styles m.severity);
       }
 
   pale-or_end : (xs ys : List Fragment) → Pales xs ys → Pales (header_or_end xs) (header_or_end ys)

@@ -94,13 +94,13 @@ root_named false nested own c p h = absurd (none p h)
 
 pub named : (s : Settings) (t : Tree) (p : PrintedDiagnostic) → Contains (diagnostics_of s t) p → HasPath s t p
 named s (tree m own c r) p h =
-    let causes = if s.chain then printed_causes s.nested own c else [] in
-    elim (first_or_later (over own m) (causes ++ printed_related s.nested own r) p h) [
+    let causes = if s.cause_chain then printed_causes s.related_as_nested own c else [] in
+    elim (first_or_later (over own m) (causes ++ printed_related s.related_as_nested own r) p h) [
       | inl same ↦ record { path = []; found = ap Some same }
-      | inr below ↦ elim (Contains-append_cases causes (printed_related s.nested own r) p below) [
-        | inl cause ↦ (let n = root_named s.chain s.nested own c p cause in
+      | inr below ↦ elim (Contains-append_cases causes (printed_related s.related_as_nested own r) p below) [
+        | inl cause ↦ (let n = root_named s.cause_chain s.related_as_nested own c p cause in
             record { path = to_cause ∷ n.0; found = n.1 })
-        | inr related ↦ (let n = related_named s.nested own r p related in
+        | inr related ↦ (let n = related_named s.related_as_nested own r p related in
             record { path = to_related n.0 ∷ n.1.0; found = n.1.1 })
       ]
     ]
@@ -163,10 +163,12 @@ pub printed_there : (s : Settings) (t : Tree) (path : List Step) (p : PrintedDia
     → Contains (diagnostics_of s t) p
 printed_there s (tree m own c r) [] p h = first (over own m) _ p (same_Some _ _ h)
 printed_there s (tree m own c r) (to_cause ∷ path) p h =
-    let causes = if s.chain then printed_causes s.nested own c else [] in
-    later (over own m) (causes ++ printed_related s.nested own r) p
-    (Contains-append_left causes (printed_related s.nested own r) p (root_printed s.chain s.nested own c path p h))
+    let causes = if s.cause_chain then printed_causes s.related_as_nested own c else [] in
+    later (over own m) (causes ++ printed_related s.related_as_nested own r) p
+    (Contains-append_left causes (printed_related s.related_as_nested own r) p
+    (root_printed s.cause_chain s.related_as_nested own c path p h))
 printed_there s (tree m own c r) (to_related k ∷ path) p h =
-    let causes = if s.chain then printed_causes s.nested own c else [] in
-    later (over own m) (causes ++ printed_related s.nested own r) p
-    (Contains-append_right causes (printed_related s.nested own r) p (related_printed s.nested own r k path p h))
+    let causes = if s.cause_chain then printed_causes s.related_as_nested own c else [] in
+    later (over own m) (causes ++ printed_related s.related_as_nested own r) p
+    (Contains-append_right causes (printed_related s.related_as_nested own r) p
+    (related_printed s.related_as_nested own r k path p h))

@@ -9,7 +9,7 @@ use Rattle.miette_labels.specs.rules.Around.{group_context}
 use Rattle.miette_labels.specs.rules.Groups.{groups_of, in_order}
 use Rattle.miette_snippet_laws.specs.laws.Fading as fading
 use Rattle.miette_snippet_laws.specs.laws.Fading.{unhighlighted_answer}
-use Rattle.miette_snippet_rules.specs.rules.Frames as frames
+use Rattle.miette_snippet_rules.specs.rules.Settings as snippets
 use Rattle.miette_snippet_rules.specs.rules.SnippetLayout.{snippet_rows}
 use Rattle.miette_snippet_rules.proofs.NoPieces.{none_have}
 use Rattle.miette_page.specs.rules.Rows.{Row, glyphs_of}
@@ -25,7 +25,8 @@ use Rattle.miette_graphical.proofs.Bare.{own-bare, cause-bare, related-bare}
 
 -- in plain styles the rows have the same characters, which the layer of snippets promises
 abbrev pub AreRowsKept : Type 0
-AreRowsKept = (s : frames.SnippetSettings) (source : Source) (labels : List Label) (answers : snippet_answers.Answers) →
+AreRowsKept = (s : snippets.SnippetSettings) (source : Source) (labels : List Label) (answers : snippet_answers.Answers)
+    →
     option_map (map glyphs_of) (snippet_rows (fading.colourless s) source labels (fading.unhighlighted_answer answers))
     ≡ option_map (map glyphs_of) (snippet_rows s source labels answers)
 
@@ -36,18 +37,18 @@ some_kept None (Some rows) e h = absurd (cc)
 some_kept (Some plain) rows e h = refl
 
 module _ (kept : AreRowsKept) where
-  rows_kept : (l : frames.SnippetSettings) (source : Option Source) (labels : List Label) (a : Answer)
+  rows_kept : (l : snippets.SnippetSettings) (source : Option Source) (labels : List Label) (a : Answer)
       → HasRows l source labels a → HasRows (fading.colourless l) source labels (unhighlighted_answer a)
   rows_kept l None labels a h = tt
   rows_kept l (Some source) labels a h = some_kept _ _ (kept l source labels a) h
 
-  no_pieces : (l : frames.SnippetSettings) (source : Option Source) (labels : List Label) (a : Answer)
+  no_pieces : (l : snippets.SnippetSettings) (source : Option Source) (labels : List Label) (a : Answer)
       → HasPieces (fading.colourless l) true source labels (unhighlighted_answer a)
   no_pieces l None labels a = tt
-  no_pieces l (Some source) labels a = none_have (group_context l.context (in_order labels)) true source
-      (groups_of l.context source a.join_fails (in_order labels))
+  no_pieces l (Some source) labels a = none_have (group_context l.layout.context_lines (in_order labels)) true source
+      (groups_of l.layout.context_lines source a.join_fails (in_order labels))
 
-  answer_possible : (l : frames.SnippetSettings) (blank : Bool) (source : Option Source) (labels : List Label)
+  answer_possible : (l : snippets.SnippetSettings) (blank : Bool) (source : Option Source) (labels : List Label)
       (reads : Bool) (a : Answer) → IsAnswerOf l blank source labels reads a →
       IsAnswerOf (fading.colourless l) true source labels reads (unhighlighted_answer a)
   answer_possible l blank source labels reads a h = record {
@@ -57,7 +58,7 @@ module _ (kept : AreRowsKept) where
     rows = rows_kept l source labels a h.rows;
   }
 
-  own_possible : (l : frames.SnippetSettings) (blank : Bool) (source : Option Source) (m : Meaning) (a : Answers)
+  own_possible : (l : snippets.SnippetSettings) (blank : Bool) (source : Option Source) (m : Meaning) (a : Answers)
       → IsAnswer l blank source m (own_answer a) →
       IsAnswer (fading.colourless l) true source m (own_answer (unhighlighted_answers a))
   own_possible l blank source m a h =
@@ -66,7 +67,8 @@ module _ (kept : AreRowsKept) where
       (own_answer a) h)
 
   mutual
-    causes_possible : (l : frames.SnippetSettings) (blank : Bool) (inherited : Option Source) (c : Cause) (a : Answers)
+    causes_possible : (l : snippets.SnippetSettings) (blank : Bool) (inherited : Option Source) (c : Cause)
+        (a : Answers)
         → AreCauseAnswers l blank inherited c a →
         AreCauseAnswers (fading.colourless l) true inherited c (unhighlighted_answers a)
     causes_possible l blank inherited (texts ts) a h = tt
@@ -79,7 +81,7 @@ module _ (kept : AreRowsKept) where
               (causes_possible l blank inherited c (cause_answers a) h.2),
         )
 
-    related_possible : (l : frames.SnippetSettings) (blank : Bool) (inherited : Option Source) (ts : Trees)
+    related_possible : (l : snippets.SnippetSettings) (blank : Bool) (inherited : Option Source) (ts : Trees)
         (more : RelatedAnswers) → AreRelatedAnswers l blank inherited ts more →
         AreRelatedAnswers (fading.colourless l) true inherited ts (unhighlighted_related_answers more)
     related_possible l blank inherited no_trees more h = tt

@@ -34,14 +34,18 @@ pub record Remains {X A : Type 0} (are : X → A → Type 0) (calls : X → A �
 abbrev pub CausesRemain : SnippetRows → Settings → Bool → (List Call → Type 0) → (List Call → Type 0) → Option Severity
     → Option Source → Cause → Cause → List ℕ → List ℕ → Type 0
 CausesRemain rows s blank begun state outer inherited all left old now =
-    Remains (AreCauseAnswers (snippet_settings s) blank inherited) (cause_calls s.context s.nested inherited)
-    (causes_text rows s outer inherited) (printed_causes s.nested inherited) cause_size begun state all left old now
+    Remains (AreCauseAnswers (snippet_settings s) blank inherited)
+    (cause_calls s.layout.context_lines s.related_as_nested inherited)
+    (causes_text rows s outer inherited) (printed_causes s.related_as_nested inherited) cause_size begun state all left
+    old now
 
 abbrev pub RelatedRemain : SnippetRows → Settings → Bool → (List Call → Type 0) → (List Call → Type 0) → Option Severity
     → Option Source → Trees → Trees → List ℕ → List ℕ → Type 0
 RelatedRemain rows s blank begun state outer inherited all left old now =
-    Remains (AreRelatedAnswers (snippet_settings s) blank inherited) (related_calls s.context s.nested inherited)
-    (related_text rows s outer inherited) (printed_related s.nested inherited) trees_size begun state all left old now
+    Remains (AreRelatedAnswers (snippet_settings s) blank inherited)
+    (related_calls s.layout.context_lines s.related_as_nested inherited)
+    (related_text rows s outer inherited) (printed_related s.related_as_nested inherited) trees_size begun state all
+    left old now
 
 pub all_remain : {X A : Type 0} (are : X → A → Type 0) (calls : X → A → List Call) (shows : X → A → List ℕ)
     (prints : X → List PrintedDiagnostic) (size : X → ℕ) (begun : List Call → Type 0) (all : X) (old : List ℕ) →
@@ -70,8 +74,10 @@ pub causes_appended : (rows : SnippetRows) (s : Settings) (blank : Bool) (begun 
     → AppendsOne (AreCauses rows s blank (λ calls. Leads state calls end) outer inherited left) now new →
     AppendsOne (AreCauses rows s blank (λ calls. Leads begun calls end) outer inherited all) old new
 causes_appended rows s blank begun state end outer inherited all left old now new r p =
-    rest_appended (AreCauseAnswers (snippet_settings s) blank inherited) (cause_calls s.context s.nested inherited)
-    (causes_text rows s outer inherited) (printed_causes s.nested inherited) cause_size begun state end all left old
+    rest_appended (AreCauseAnswers (snippet_settings s) blank inherited)
+    (cause_calls s.layout.context_lines s.related_as_nested inherited)
+    (causes_text rows s outer inherited) (printed_causes s.related_as_nested inherited) cause_size begun state end all
+    left old
     now new r p
 
 pub related_appended : (rows : SnippetRows) (s : Settings) (blank : Bool) (begun state end : List Call → Type 0)
@@ -80,8 +86,10 @@ pub related_appended : (rows : SnippetRows) (s : Settings) (blank : Bool) (begun
     → AppendsOne (AreRelated rows s blank (λ calls. Leads state calls end) outer inherited left) now new →
     AppendsOne (AreRelated rows s blank (λ calls. Leads begun calls end) outer inherited all) old new
 related_appended rows s blank begun state end outer inherited all left old now new r p =
-    rest_appended (AreRelatedAnswers (snippet_settings s) blank inherited) (related_calls s.context s.nested inherited)
-    (related_text rows s outer inherited) (printed_related s.nested inherited) trees_size begun state end all left old
+    rest_appended (AreRelatedAnswers (snippet_settings s) blank inherited)
+    (related_calls s.layout.context_lines s.related_as_nested inherited)
+    (related_text rows s outer inherited) (printed_related s.related_as_nested inherited) trees_size begun state end all
+    left old
     now new r p
 
 pub cause_printed : (rows : SnippetRows) (s : Settings) (blank : Bool) (begun state next : List Call → Type 0)
@@ -92,7 +100,8 @@ pub cause_printed : (rows : SnippetRows) (s : Settings) (blank : Bool) (begun st
 cause_printed rows s blank begun state next outer inherited all t old now new r one = record {
   whole = λ a h.
       let rest = causes_text rows s outer inherited (cause_of t) a in
-      let end : List Call → Type 0 = λ later. next (cause_calls s.context s.nested inherited (cause_of t) a ++ later) in
+      let end : List Call → Type 0 = λ later. next (cause_calls s.layout.context_lines s.related_as_nested inherited
+      (cause_of t) a ++ later) in
       let k = cause_step rows s blank state next end outer inherited t one.text rest one.is_given
       (a, h, (λ later n. n), refl) in
       let w = r.whole k.0 k.1 in (
@@ -102,7 +111,7 @@ cause_printed rows s blank begun state next outer inherited all t old now new r 
         ap (λ x. x ++ rest) one.appended ∙ append_assoc now one.text rest
             ∙ ap (λ x. now ++ x) k.3 ∙ w.3,
       );
-  fails = λ h. r.fails (later_cause_fails s.nested inherited t h);
+  fails = λ h. r.fails (later_cause_fails s.related_as_nested inherited t h);
   fits = omega (arith, r.fits, cause_falls t);
 }
 
@@ -115,7 +124,8 @@ pub related_printed : (rows : SnippetRows) (s : Settings) (blank : Bool) (begun 
 related_printed rows s blank begun state next outer inherited all t ts old now new r one = record {
   whole = λ a h.
       let rest = related_text rows s outer inherited ts a in
-      let end : List Call → Type 0 = λ later. next (related_calls s.context s.nested inherited ts a ++ later) in
+      let end : List Call → Type 0 = λ later. next (related_calls s.layout.context_lines s.related_as_nested inherited
+      ts a ++ later) in
       let k = related_step rows s blank state next end outer inherited t ts one.text rest one.is_given
       (a, h, (λ later n. n), refl) in
       let w = r.whole k.0 k.1 in (
@@ -125,7 +135,7 @@ related_printed rows s blank begun state next outer inherited all t ts old now n
         ap (λ x. x ++ rest) one.appended ∙ append_assoc now one.text rest
             ∙ ap (λ x. now ++ x) k.3 ∙ w.3,
       );
-  fails = λ h. r.fails (later_related_fails s.nested inherited t ts h);
+  fails = λ h. r.fails (later_related_fails s.related_as_nested inherited t ts h);
   fits = omega (arith, r.fits);
 }
 

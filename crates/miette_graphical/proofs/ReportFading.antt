@@ -58,14 +58,16 @@ module _ (laws : TextLaws) where
       (a : Answers) →
       print (header (colourless s) m)
       ++ body rows (colourless s) m own (unhighlighted_answer (own_answer a))
-      (only_if s.chain (causes_text rows (colourless s) m.severity own c (unhighlighted_answers (cause_answers a))))
+      (only_if s.cause_chain (causes_text rows (colourless s) m.severity own c
+      (unhighlighted_answers (cause_answers a))))
       (related_text rows (colourless s) m.severity own r (unhighlighted_related_answers (related_answers a)))
       ++ footer_text (colourless s)
       ≡ report_text rows (colourless s) (tree m own c r) (unhighlighted_answers a)
   report-end rows s m own c r a =
       let f = λ (o : Answer) (below : Answers) (beside : RelatedAnswers).
       print (header (colourless s) m)
-      ++ body rows (colourless s) m own o (only_if s.chain (causes_text rows (colourless s) m.severity own c below))
+      ++ body rows (colourless s) m own o (only_if s.cause_chain
+      (causes_text rows (colourless s) m.severity own c below))
       (related_text rows (colourless s) m.severity own r beside)
       ++ footer_text (colourless s) in
       ap₂ (λ o below. f o below (unhighlighted_related_answers (related_answers a))) (own-bare a) (cause-bare a)
@@ -73,7 +75,7 @@ module _ (laws : TextLaws) where
 
   related-end : (rows : SnippetRows) (s : Settings) (m : Meaning) (outer : Option Severity)
       (source inherited : Option Source) (c : Cause) (r ts : Trees) (more : RelatedAnswers) →
-      (if s.nested then
+      (if s.related_as_nested then
       under_arrow (colourless s) outer (are_last ts)
       (without_trailing (inner_text rows (narrow_settings (colourless s) outer (are_last ts)) m source
       (own_answer (unhighlighted_answers (first_answers more)))
@@ -85,7 +87,7 @@ module _ (laws : TextLaws) where
       (related_text rows (colourless s) m.severity source r
       (unhighlighted_related_answers (related_answers (first_answers more)))))
       ++ related_text rows (colourless s) outer inherited ts (unhighlighted_related_answers (later_answers more))
-      ≡ (if s.nested then
+      ≡ (if s.related_as_nested then
       under_arrow (colourless s) outer (are_last ts)
       (without_trailing (inner_text rows (narrow_settings (colourless s) outer (are_last ts)) m source
       (own_answer (first_answers (unhighlighted_related_answers more)))
@@ -100,7 +102,7 @@ module _ (laws : TextLaws) where
       ++ related_text rows (colourless s) outer inherited ts (later_answers (unhighlighted_related_answers more))
   related-end rows s m outer source inherited c r ts more =
       let f = λ (o : Answer) (below : Answers) (beside : RelatedAnswers) (nested : Answers) (later : RelatedAnswers).
-      (if s.nested then
+      (if s.related_as_nested then
       under_arrow (colourless s) outer (are_last ts)
       (without_trailing (inner_text rows (narrow_settings (colourless s) outer (are_last ts)) m source
       (own_answer nested)
@@ -152,7 +154,7 @@ module _ (laws : TextLaws) where
         let a = first_answers more in
         fades-to
         (fades-append laws _ _ _ _
-        (fades-if laws s.nested _ _ _ _
+        (fades-if laws s.related_as_nested _ _ _ _
         (fades-under_arrow laws s outer b _ _ h
         (fades-trailing laws _ _
         (inner rows law s outer b m source a (λ n d. related_text rows n m.severity source r d) h t.0 clean
@@ -174,7 +176,7 @@ module _ (laws : TextLaws) where
       (fades-append laws _ _ _ _
       (fades-header laws s m h k.0)
       (fades-body laws rows law s m own (own_answer a) _ _ _ _ h k.0 k.1
-      (fades-only_if laws s.chain _ _ (fades-causes rows law s m.severity own c (cause_answers a) h k.1 k.2))
+      (fades-only_if laws s.cause_chain _ _ (fades-causes rows law s m.severity own c (cause_answers a) h k.1 k.2))
       (fades-related rows law s m.severity own r (related_answers a) h k.1 k.3)))
       (fades-footer laws s h))
       (report-end rows s m own c r a)

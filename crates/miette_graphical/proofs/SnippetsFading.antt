@@ -17,7 +17,7 @@ use Rattle.miette_labels.specs.rules.Answers as snippet_answers
 use Rattle.miette_snippet_laws.specs.laws.Clean.{IsCleanLabel, IsCleanRow, IsCleanSource, AreCleanDrawings}
 use Rattle.miette_snippet_laws.specs.laws.Fading as fading
 use Rattle.miette_snippet_laws.specs.laws.Fading.{IsPlainRow, unhighlighted_answer}
-use Rattle.miette_snippet_rules.specs.rules.Frames as frames
+use Rattle.miette_snippet_rules.specs.rules.Settings as snippets
 use Rattle.miette_snippet_rules.specs.rules.SnippetLayout.{snippet_rows}
 use Rattle.miette_page.specs.rules.Rows.{Glyph, Row, Run, glyphs_of}
 use Rattle.miette_graphical.specs.rules.Answers.{Answer}
@@ -29,14 +29,17 @@ use Rattle.miette_graphical.specs.rules.Snippets.{drawn_rows, snippet_settings, 
 
 -- the clauses of the laws of that layer
 pub record LayoutLaws : Type 0 where
-  pub same : (s : frames.SnippetSettings) (source : Source) (labels : List Label) (answers : snippet_answers.Answers) →
+  pub same : (s : snippets.SnippetSettings) (source : Source) (labels : List Label) (answers : snippet_answers.Answers)
+      →
       option_map (map glyphs_of) (snippet_rows (fading.colourless s) source labels
       (fading.unhighlighted_answer answers)) ≡ option_map (map glyphs_of) (snippet_rows s source labels answers)
-  pub plain : (s : frames.SnippetSettings) (source : Source) (labels : List Label) (answers : snippet_answers.Answers) →
+  pub plain : (s : snippets.SnippetSettings) (source : Source) (labels : List Label) (answers : snippet_answers.Answers)
+      →
       IfSome (snippet_rows (fading.colourless s) source labels (fading.unhighlighted_answer answers))
       (AllByRecursion IsPlainRow)
-  pub clean : (s : frames.SnippetSettings) (source : Source) (labels : List Label) (answers : snippet_answers.Answers) →
-      AreCleanDrawings s.characters → IsCleanSource source → AllByRecursion IsCleanLabel labels
+  pub clean : (s : snippets.SnippetSettings) (source : Source) (labels : List Label) (answers : snippet_answers.Answers)
+      →
+      AreCleanDrawings s.theme.characters → IsCleanSource source → AllByRecursion IsCleanLabel labels
       → IfSome (snippet_rows s source labels answers) (AllByRecursion IsCleanRow)
 
 -- ---- the bytes of any codes read as these codes

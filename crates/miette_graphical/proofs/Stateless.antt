@@ -18,7 +18,7 @@ use Rattle.miette_labels.specs.rules.Contexts.{contents, lines_of_contents}
 use Rattle.miette_labels.specs.rules.Groups.{Refusal, refusal, groups_of, in_order}
 use Rattle.miette_labels.specs.rules.Labels.{DrawnLabel}
 use Rattle.miette_snippet_rules.specs.rules.Folds.{Spread, spreads_of}
-use Rattle.miette_snippet_rules.specs.rules.Frames as frames
+use Rattle.miette_snippet_rules.specs.rules.Settings as snippets
 use Rattle.miette_snippet_rules.specs.rules.Frames.{refused_row, top_row, bottom_row, number_width}
 use Rattle.miette_snippet_rules.specs.rules.Gutters.{gutter_columns}
 use Rattle.miette_snippet_rules.specs.rules.Highlighting.{group_calls, highlight_of, line_calls, piece_of, pieces_by}
@@ -45,6 +45,7 @@ use Rattle.miette_graphical.proofs.DrawnRows.{groups_given, none_listed}
 use Rattle.miette_graphical.proofs.Lists.{both_read}
 use Rattle.miette_graphical.proofs.Outermost.{if_same, report_over}
 use Rattle.miette_graphical.specs.steps.PrintedParts.{printed_inner, printed_sibling}
+use Rattle.miette_snippet_rules.specs.rules.SnippetLayout.{snippet_context}
 
 -- ---- the calls of parts
 
@@ -59,29 +60,30 @@ same_highlights : (hs : List Highlight) → map highlight_of (map piece_of hs) �
 same_highlights [] = refl
 same_highlights (h ∷ hs) = ap (λ r. h ∷ r) (same_highlights hs)
 
-lines_by : (f : List ℕ → List Piece) (out : ℕ → Line → Bool) (gap : Bool) (s : frames.SnippetSettings) (w columns : ℕ)
+lines_by : (f : List ℕ → List Piece) (out : ℕ → Line → Bool) (gap : Bool) (s : snippets.SnippetSettings) (w columns : ℕ)
     (labels : List DrawnLabel) (source : List ℕ) (number : ℕ) (pieces : List (List Highlight)) (ls : List Line)
     → AnsweredBy f (line_calls (texts_of source ls) pieces) →
-    rows_of_lines out gap s w columns labels source number pieces ls
-    ≡ rows_of_lines out gap s w columns labels source number
+    rows_of_lines out gap (snippet_context s w columns labels (cells_of s source)) number pieces ls
+    ≡ rows_of_lines out gap (snippet_context s w columns labels (cells_of s source)) number
     (map (λ text. map highlight_of (counted (f text))) (texts_of source ls)) ls
 lines_by f out gap s w columns labels source number pieces [] h = refl
 lines_by f out gap s w columns labels source number pieces (l ∷ ls) h =
-    ap₂ (λ p r. line_or_break gap (out number l) s w columns labels l number (cells_of s source l) p ++ r)
+    ap₂ (λ p r. line_or_break gap (out number l) (snippet_context s w columns labels (cells_of s source)) l number p
+    ++ r)
     (sym (same_highlights (first_of pieces)) ∙ ap (map highlight_of) h.0)
     (lines_by f out (out number l) s w columns labels source (number + 1) (drop 1 pieces) ls h.1)
 
-snippets_by : (f : List ℕ → List Piece) (s : frames.SnippetSettings) (spreads : List Spread) (source : Source)
+snippets_by : (f : List ℕ → List Piece) (s : snippets.SnippetSettings) (spreads : List Spread) (source : Source)
     (labels : List Label) (pieces : List (List (List Highlight))) (groups : List Span)
-    → AnsweredBy f (group_calls s.context source groups pieces) →
+    → AnsweredBy f (group_calls s.layout.context_lines source groups pieces) →
     all_snippets s spreads source labels pieces groups ≡ all_snippets s spreads source labels
-    (pieces_by f s.context source groups) groups
+    (pieces_by f s.layout.context_lines source groups) groups
 snippets_by f s spreads source labels pieces [] h = refl
 snippets_by f s spreads source labels pieces (group ∷ groups) h =
-    let lent : Contents = contents s.context source group in
+    let lent : Contents = contents s.layout.context_lines source group in
     let drawn : List DrawnLabel = drawn_labels s (length source.bytes) labels in
     let k = parts_by f (line_calls (texts_of source.bytes (lines_of_contents lent)) (first_of pieces))
-    (group_calls s.context source groups (drop 1 pieces)) h in
+    (group_calls s.layout.context_lines source groups (drop 1 pieces)) h in
     ap₂ (λ rows more. (top_row s lent (place_of source group labels) ∷ rows ++ bottom_row s (number_width lent) ∷ [])
     ++ more)
     (lines_by f (left_out s lent.line (lines_of_contents lent) spreads) false s (number_width lent)
@@ -89,45 +91,48 @@ snippets_by f s spreads source labels pieces (group ∷ groups) h =
     (lines_of_contents lent) k.0)
     (snippets_by f s spreads source labels (drop 1 pieces) groups k.1)
 
-unless_by : (f : List ℕ → List Piece) (l : frames.SnippetSettings) (source : Source) (labels : List Label)
+unless_by : (f : List ℕ → List Piece) (l : snippets.SnippetSettings) (source : Source) (labels : List Label)
     (pieces : List (List (List Highlight))) (refused : Option Refusal) →
-    AnsweredBy f (if is_some refused then [] else group_calls (group_context l.context labels) source
-    (groups_of l.context source [] labels) pieces) →
+    AnsweredBy f (if is_some refused then [] else group_calls (group_context l.layout.context_lines labels) source
+    (groups_of l.layout.context_lines source [] labels) pieces) →
     rows_unless l source labels (pieces_listed pieces) (option_map (refused_row l) refused)
-    ≡ rows_unless l source labels (labels_by f l.context source labels) (option_map (refused_row l) refused)
+    ≡ rows_unless l source labels (labels_by f l.layout.context_lines source labels)
+    (option_map (refused_row l) refused)
 unless_by f l source labels pieces (Some r) h = refl
 unless_by f l source labels pieces None h =
-    let groups = groups_of l.context source [] labels in
-    let others = pieces_by f (group_context l.context labels) source groups in
+    let groups = groups_of l.layout.context_lines source [] labels in
+    let others = pieces_by f (group_context l.layout.context_lines labels) source groups in
     groups_given l source labels (pieces_listed pieces) (none_listed pieces)
-    ∙ ap Some (snippets_by f (settings_around l labels) (spreads_of l.label_lines l.context source labels) source labels
+    ∙ ap Some (snippets_by f (settings_around l labels) (spreads_of l.layout.label_lines l.layout.context_lines source
+    labels) source labels
     pieces groups h)
     ∙ sym (groups_given l source labels (pieces_listed others) (none_listed others))
 
 -- a diagnostic's rows, where no read of it failed
 rows_by : (f : List ℕ → List Piece) (s : Settings) (source : Option Source) (m : Meaning) (a : Answer) → a
-    ≡ pieces_listed a.pieces → AnsweredBy f (own_calls s.context source m a) →
+    ≡ pieces_listed a.pieces → AnsweredBy f (own_calls s.layout.context_lines source m a) →
     rows_text (drawn_rows s source (given_labels m.labels) a)
-    ≡ rows_text (drawn_rows s source (given_labels m.labels) (own_by f s.context source m))
+    ≡ rows_text (drawn_rows s source (given_labels m.labels) (own_by f s.layout.context_lines source m))
 rows_by f s None m a e h = refl
 rows_by f s (Some source) m a e h =
     let l = snippet_settings s in
     let labels = in_order (given_labels m.labels) in
     ap (λ x. rows_text (drawn_rows s (Some source) (given_labels m.labels) x)) e
     ∙ ap (λ r. rows_text (shown_rows r)) (unless_by f l source labels a.pieces (refusal source.bytes [] labels)
-    (subst (λ x. AnsweredBy f (own_calls s.context (Some source) m x)) e h))
+    (subst (λ x. AnsweredBy f (own_calls s.layout.context_lines (Some source) m x)) e h))
 
 -- ---- texts
 
 mutual
-  cause_text_by : (f : List ℕ → List Piece) (l : frames.SnippetSettings) (blank : Bool) (s : Settings)
-      (outer : Option Severity) (inherited : Option Source) (c : Cause) (a : Answers) (nested : Bool) → s.nested
+  cause_text_by : (f : List ℕ → List Piece) (l : snippets.SnippetSettings) (blank : Bool) (s : Settings)
+      (outer : Option Severity) (inherited : Option Source) (c : Cause) (a : Answers) (nested : Bool)
+      → s.related_as_nested
       ≡ nested
       →
       AreCauseAnswers l blank inherited c a → all_read (printed_causes nested inherited c) ≡ true
-      → AnsweredBy f (cause_calls s.context nested inherited c a) →
+      → AnsweredBy f (cause_calls s.layout.context_lines nested inherited c a) →
       causes_text drawn_rows s outer inherited c a ≡ causes_text drawn_rows s outer inherited c
-      (causes_by f s.context inherited c)
+      (causes_by f s.layout.context_lines inherited c)
   cause_text_by f l blank s outer inherited (texts ts) a nested w h e b = refl
   cause_text_by f l blank s outer inherited (diagnostic (tree m own c r)) a nested w h e b =
       let source = effective own inherited in
@@ -135,23 +140,23 @@ mutual
       let p = both_read (printed_inner nested source (tree m own c r)) (printed_causes nested inherited c) e in
       let q = and_parts (always_reads source (given_labels m.labels)) (all_read (printed_related nested source r)) p.0
       in
-      let more = related_calls s.context nested source r (related_answers a) in
-      let k = parts_by f (own_calls s.context source m (own_answer a) ++ more)
-      (cause_calls s.context nested inherited c (cause_answers a)) b in
-      let j = parts_by f (own_calls s.context source m (own_answer a)) more k.0 in
+      let more = related_calls s.layout.context_lines nested source r (related_answers a) in
+      let k = parts_by f (own_calls s.layout.context_lines source m (own_answer a) ++ more)
+      (cause_calls s.layout.context_lines nested inherited c (cause_answers a)) b in
+      let j = parts_by f (own_calls s.layout.context_lines source m (own_answer a)) more k.0 in
       ap₂ (λ x y. x ++ y)
       (ap (under_arrow s outer (ends_there c))
       (ap₂ (inner_over n m) (rows_by f n source m (own_answer a) (h.0.read q.0) j.0)
       (related_text_by f l blank n m.severity source r (related_answers a) nested w h.1 q.1 j.1)))
       (cause_text_by f l blank s outer inherited c (cause_answers a) nested w h.2 p.1 k.1)
 
-  related_text_by : (f : List ℕ → List Piece) (l : frames.SnippetSettings) (blank : Bool) (s : Settings)
+  related_text_by : (f : List ℕ → List Piece) (l : snippets.SnippetSettings) (blank : Bool) (s : Settings)
       (outer : Option Severity) (inherited : Option Source) (ts : Trees) (more : RelatedAnswers) (nested : Bool)
-      → s.nested ≡ nested →
+      → s.related_as_nested ≡ nested →
       AreRelatedAnswers l blank inherited ts more → all_read (printed_related nested inherited ts) ≡ true
-      → AnsweredBy f (related_calls s.context nested inherited ts more) →
+      → AnsweredBy f (related_calls s.layout.context_lines nested inherited ts more) →
       related_text drawn_rows s outer inherited ts more ≡ related_text drawn_rows s outer inherited ts
-      (related_by f s.context inherited ts)
+      (related_by f s.layout.context_lines inherited ts)
   related_text_by f l blank s outer inherited no_trees more nested w h e b = refl
   related_text_by f l blank s outer inherited (more_trees (tree m own c r) ts) more true w h e b =
       let source = effective own inherited in
@@ -159,12 +164,13 @@ mutual
       let a = first_answers more in
       let p = both_read (printed_inner true source (tree m own c r)) (printed_related true inherited ts) e in
       let q = and_parts (always_reads source (given_labels m.labels)) (all_read (printed_related true source r)) p.0 in
-      let own_ones = own_calls s.context source m (own_answer a) in
-      let below = related_calls s.context true source r (related_answers a) in
-      let k = parts_by f (own_ones ++ below) (related_calls s.context true inherited ts (later_answers more)) b in
+      let own_ones = own_calls s.layout.context_lines source m (own_answer a) in
+      let below = related_calls s.layout.context_lines true source r (related_answers a) in
+      let k = parts_by f (own_ones ++ below) (related_calls s.layout.context_lines true inherited ts
+      (later_answers more)) b in
       let j = parts_by f own_ones below k.0 in
       ap₂ (λ x y. x ++ y)
-      (if_same s.nested _ _ _ _
+      (if_same s.related_as_nested _ _ _ _
       (λ y. ap (λ x. under_arrow s outer (are_last ts) (without_trailing x))
       (ap₂ (inner_over n m) (rows_by f n source m (own_answer a) (h.0.read q.0) j.0)
       (related_text_by f l blank n m.severity source r (related_answers a) true w h.2 q.1 j.1)))
@@ -177,54 +183,59 @@ mutual
       let q = and_parts (always_reads source (given_labels m.labels))
       (all_read (printed_causes false source c ++ printed_related false source r)) p.0 in
       let o = both_read (printed_causes false source c) (printed_related false source r) q.1 in
-      let caused = cause_calls s.context false source c (cause_answers a) in
-      let own_ones = own_calls s.context source m (own_answer a) in
-      let below = related_calls s.context false source r (related_answers a) in
-      let k = parts_by f (caused ++ (own_ones ++ below)) (related_calls s.context false inherited ts
+      let caused = cause_calls s.layout.context_lines false source c (cause_answers a) in
+      let own_ones = own_calls s.layout.context_lines source m (own_answer a) in
+      let below = related_calls s.layout.context_lines false source r (related_answers a) in
+      let k = parts_by f (caused ++ (own_ones ++ below)) (related_calls s.layout.context_lines false inherited ts
       (later_answers more)) b in
       let i = parts_by f caused (own_ones ++ below) k.0 in
       let j = parts_by f own_ones below i.1 in
       ap₂ (λ x y. x ++ y)
-      (if_same s.nested _ _ _ _
+      (if_same s.related_as_nested _ _ _ _
       (λ y. absurd (cc))
       (λ y. ap (λ x. title_text s m ++ body_over s m x (causes_text drawn_rows s m.severity source c (cause_answers a))
       (related_text drawn_rows s m.severity source r (related_answers a)))
       (rows_by f s source m (own_answer a) (h.0.read q.0) j.0)
       ∙ ap₂ (λ x y. title_text s m ++ body_over s m (rows_text
-      (drawn_rows s source (given_labels m.labels) (own_by f s.context source m))) x y)
+      (drawn_rows s source (given_labels m.labels) (own_by f s.layout.context_lines source m))) x y)
       (cause_text_by f l blank s m.severity source c (cause_answers a) false w h.1 o.0 i.0)
       (related_text_by f l blank s m.severity source r (related_answers a) false w h.2 o.1 j.1)))
       (related_text_by f l blank s outer inherited ts (later_answers more) false w h.3 p.1 k.1)
 
-root_text_by : (f : List ℕ → List Piece) (l : frames.SnippetSettings) (blank : Bool) (s : Settings) (m : Meaning)
+root_text_by : (f : List ℕ → List Piece) (l : snippets.SnippetSettings) (blank : Bool) (s : Settings) (m : Meaning)
     (own : Option Source) (c : Cause) (a : Answers) (chain : Bool) →
-    (chain ≡ true → AreCauseAnswers l blank own c a) → all_read (if chain then printed_causes s.nested own c else [])
-    ≡ true → AnsweredBy f (if chain then cause_calls s.context s.nested own c a else []) →
+    (chain ≡ true → AreCauseAnswers l blank own c a) → all_read
+    (if chain then printed_causes s.related_as_nested own c else [])
+    ≡ true → AnsweredBy f (if chain then cause_calls s.layout.context_lines s.related_as_nested own c a else []) →
     only_if chain (causes_text drawn_rows s m.severity own c a)
-    ≡ only_if chain (causes_text drawn_rows s m.severity own c (causes_by f s.context own c))
-root_text_by f l blank s m own c a true h e b = cause_text_by f l blank s m.severity own c a s.nested refl (h refl) e b
+    ≡ only_if chain (causes_text drawn_rows s m.severity own c (causes_by f s.layout.context_lines own c))
+root_text_by f l blank s m own c a true h e b = cause_text_by f l blank s m.severity own c a s.related_as_nested refl
+    (h refl) e b
 root_text_by f l blank s m own c a false h e b = refl
 
 report_text_by : (f : List ℕ → List Piece) (s : Settings) (blank : Bool) (t : Tree) (a : Answers)
     → AreAnswers s blank t a → all_read (diagnostics_of s t) ≡ true → AnsweredBy f (report_calls s t a) →
-    report_text drawn_rows s t a ≡ report_text drawn_rows s t (answers_by f s.context t)
+    report_text drawn_rows s t a ≡ report_text drawn_rows s t (answers_by f s.layout.context_lines t)
 report_text_by f s blank (tree m own c r) a h e b =
     let l = snippet_settings s in
-    let causes = if s.chain then printed_causes s.nested own c else [] in
-    let p = and_parts (always_reads own (given_labels m.labels)) (all_read (causes ++ printed_related s.nested own r)) e
+    let causes = if s.cause_chain then printed_causes s.related_as_nested own c else [] in
+    let p = and_parts (always_reads own (given_labels m.labels))
+    (all_read (causes ++ printed_related s.related_as_nested own r)) e
     in
-    let q = both_read causes (printed_related s.nested own r) p.1 in
-    let caused = if s.chain then cause_calls s.context s.nested own c (cause_answers a) else [] in
-    let own_ones = own_calls s.context own m (own_answer a) in
-    let below = related_calls s.context s.nested own r (related_answers a) in
+    let q = both_read causes (printed_related s.related_as_nested own r) p.1 in
+    let caused = if s.cause_chain then cause_calls s.layout.context_lines s.related_as_nested own c (cause_answers a)
+    else [] in
+    let own_ones = own_calls s.layout.context_lines own m (own_answer a) in
+    let below = related_calls s.layout.context_lines s.related_as_nested own r (related_answers a) in
     let k = parts_by f caused (own_ones ++ below) b in
     let j = parts_by f own_ones below k.1 in
-    ap (λ x. report_over s m x (only_if s.chain (causes_text drawn_rows s m.severity own c (cause_answers a)))
+    ap (λ x. report_over s m x (only_if s.cause_chain (causes_text drawn_rows s m.severity own c (cause_answers a)))
     (related_text drawn_rows s m.severity own r (related_answers a)))
     (rows_by f s own m (own_answer a) (h.0.read p.0) j.0)
-    ∙ ap₂ (report_over s m (rows_text (drawn_rows s own (given_labels m.labels) (own_by f s.context own m))))
-    (root_text_by f l blank s m own c (cause_answers a) s.chain h.1 q.0 k.0)
-    (related_text_by f l blank s m.severity own r (related_answers a) s.nested refl h.2 q.1 j.1)
+    ∙ ap₂ (report_over s m (rows_text (drawn_rows s own (given_labels m.labels)
+    (own_by f s.layout.context_lines own m))))
+    (root_text_by f l blank s m own c (cause_answers a) s.cause_chain h.1 q.0 k.0)
+    (related_text_by f l blank s m.severity own r (related_answers a) s.related_as_nested refl h.2 q.1 j.1)
 
 -- ---- what was appended
 
@@ -232,7 +243,7 @@ stateless-text : (s : Settings) (blank : Bool) (before after : List Call → Typ
     → AppendsAsked drawn_rows s blank (λ calls. Leads before calls after) t old new
     → (f : List ℕ → List Piece) → ((calls : List Call) → before calls → AnsweredBy f calls) → after []
     → all_read (diagnostics_of s t) ≡ true
-    → new ≡ old ++ encode_utf8_all (report_text drawn_rows s t (answers_by f s.context t))
+    → new ≡ old ++ encode_utf8_all (report_text drawn_rows s t (answers_by f s.layout.context_lines t))
 stateless-text s blank before after t old new ok f by over reads =
     let given = ok.is_given.1 in
     let calls = report_calls s t given.0 in
@@ -245,6 +256,6 @@ pub rendered-stateless : {A E : Type 0} (r : Result A E) (s : Settings) (blank :
     → OnOk r (AppendsAsked drawn_rows s blank (λ calls. Leads before calls after) t old new)
     → OnOk r ((f : List ℕ → List Piece) → ((calls : List Call) → before calls → AnsweredBy f calls) → after []
     → all_read (diagnostics_of s t) ≡ true
-    → new ≡ old ++ encode_utf8_all (report_text drawn_rows s t (answers_by f s.context t)))
+    → new ≡ old ++ encode_utf8_all (report_text drawn_rows s t (answers_by f s.layout.context_lines t)))
 rendered-stateless (Err e) s blank before after t old new ok = tt
 rendered-stateless (Ok x) s blank before after t old new ok = stateless-text s blank before after t old new ok

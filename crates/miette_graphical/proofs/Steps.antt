@@ -20,7 +20,7 @@ use Rattle.miette_tree.specs.rules.DiagnosticParts.{given_labels}
 use Rattle.miette_graphical.specs.rules.Text.{cause_texts, ends_there, are_last, body, body_over, inner_over}
 use Rattle.miette_graphical.specs.rules.Text.{inner_text, causes_text, related_text, only_if}
 use Rattle.miette_tree.specs.rules.Tree.{effective}
-use Rattle.miette_snippet_rules.specs.rules.Frames as frames
+use Rattle.miette_snippet_rules.specs.rules.Settings as snippets
 use Rattle.miette_graphical.specs.rules.PrintedDiagnostics.{all_read, over, diagnostics_of, printed_causes}
 use Rattle.miette_graphical.specs.rules.PrintedDiagnostics.{printed_related}
 use Rattle.miette_graphical.specs.rules.Snippets.{snippet_settings}
@@ -48,7 +48,7 @@ first_and_more value (r ∷ rs) d h = ap (λ t. more_trees (value r) (trees (map
 -- ---- where nothing is listed, nothing failed
 
 mutual
-  causes-unlisted : (l : frames.SnippetSettings) (blank : Bool) (inherited : Option Source) (c : Cause)
+  causes-unlisted : (l : snippets.SnippetSettings) (blank : Bool) (inherited : Option Source) (c : Cause)
       → AreCauseAnswers l blank inherited c unlisted
   causes-unlisted l blank inherited (texts ts) = tt
   causes-unlisted l blank inherited (diagnostic (tree m own c r)) = (
@@ -58,7 +58,7 @@ mutual
     causes-unlisted l blank inherited c,
   )
 
-  related-unlisted : (l : frames.SnippetSettings) (blank : Bool) (inherited : Option Source) (ts : Trees)
+  related-unlisted : (l : snippets.SnippetSettings) (blank : Bool) (inherited : Option Source) (ts : Trees)
       → AreRelatedAnswers l blank inherited ts no_more
   related-unlisted l blank inherited no_trees = tt
   related-unlisted l blank inherited (more_trees (tree m own c r) ts) = (
@@ -93,9 +93,9 @@ pub cause_step : (rows : SnippetRows) (s : Settings) (blank : Bool) (begun mid n
 cause_step rows s blank begun mid now outer inherited (tree m own c r) one more p q = (
   listed p.1.0 q.0 p.1.1,
   (p.1.2, p.1.3, q.1),
-  leads_on begun mid now (own_calls s.context (effective own inherited) m p.1.0
-      ++ related_calls s.context s.nested (effective own inherited) r p.1.1)
-      (cause_calls s.context s.nested inherited c q.0) p.1.4 q.2,
+  leads_on begun mid now (own_calls s.layout.context_lines (effective own inherited) m p.1.0
+      ++ related_calls s.layout.context_lines s.related_as_nested (effective own inherited) r p.1.1)
+      (cause_calls s.layout.context_lines s.related_as_nested inherited c q.0) p.1.4 q.2,
   ap₂ (λ x y. x ++ y) (p.2 ∙ ap (under_arrow s outer (ends_there c)) p.1.5) q.3,
 )
 
@@ -135,8 +135,9 @@ sibling_step rows s blank begun mid now source (tree m own c r) causes text q p 
   p.2,
   q.1,
   p.3,
-  leads_on begun mid now (cause_calls s.context s.nested source c q.0)
-      (own_calls s.context source m p.0 ++ related_calls s.context s.nested source r p.1) q.2 p.4,
+  leads_on begun mid now (cause_calls s.layout.context_lines s.related_as_nested source c q.0)
+      (own_calls s.layout.context_lines source m p.0 ++ related_calls s.layout.context_lines s.related_as_nested source
+      r p.1) q.2 p.4,
   ap (λ x. title_text s m ++ body_over s m (rows_text (rows s source (given_labels m.labels) p.0)) x
       (related_text rows s m.severity source r p.1)) q.3,
 )
@@ -150,8 +151,9 @@ one_by : (rows : SnippetRows) (s : Settings) (blank : Bool) (happen : List Call 
     (a : Answers) × IsAnswer (snippet_settings s) blank source m (own_answer a)
     × AreCauseAnswers (snippet_settings s) blank source c (cause_answers a)
     × AreRelatedAnswers (snippet_settings s) blank source r (related_answers a)
-    × happen ((if nested then [] else cause_calls s.context s.nested source c (cause_answers a))
-    ++ (own_calls s.context source m (own_answer a) ++ related_calls s.context s.nested source r
+    × happen ((if nested then [] else cause_calls s.layout.context_lines s.related_as_nested source c (cause_answers a))
+    ++ (own_calls s.layout.context_lines source m (own_answer a)
+    ++ related_calls s.layout.context_lines s.related_as_nested source r
     (related_answers a)))
     × (text ≡ (if nested then
     under_arrow s outer last (without_trailing (inner_text rows (narrow_settings s outer last) m source (own_answer a)
@@ -177,14 +179,17 @@ pub related_step : (rows : SnippetRows) (s : Settings) (blank : Bool) (begun mid
     AreRelated rows s blank (λ calls. Leads begun calls now) outer inherited (more_trees t ts) (one ++ more)
 related_step rows s blank begun mid now outer inherited (tree m own c r) ts one more p q =
     let source = effective own inherited in
-    let k = one_by rows s blank (λ calls. Leads begun calls mid) outer source (are_last ts) m own c r one s.nested p in
-    let calls : List Call = (if s.nested then [] else cause_calls s.context s.nested source c (cause_answers k.0))
-    ++ (own_calls s.context source m (own_answer k.0) ++ related_calls s.context s.nested source r
+    let k = one_by rows s blank (λ calls. Leads begun calls mid) outer source (are_last ts) m own c r one
+    s.related_as_nested p in
+    let calls : List Call = (if s.related_as_nested then []
+    else cause_calls s.layout.context_lines s.related_as_nested source c (cause_answers k.0))
+    ++ (own_calls s.layout.context_lines source m (own_answer k.0)
+    ++ related_calls s.layout.context_lines s.related_as_nested source r
     (related_answers k.0)) in (
       and_more k.0 q.0,
       (k.1, k.2, k.3, q.1),
       leads_on begun mid now calls
-          (related_calls s.context s.nested inherited ts q.0) k.4 q.2,
+          (related_calls s.layout.context_lines s.related_as_nested inherited ts q.0) k.4 q.2,
       ap₂ (λ x y. x ++ y) k.5 q.3,
     )
 
@@ -192,7 +197,7 @@ root_by : (rows : SnippetRows) (s : Settings) (blank : Bool) (happen : List Call
     (own : Option Source) (c : Cause) (causes : List ℕ) (chain : Bool) →
     MatchBool chain (AreCauses rows s blank happen m.severity own c causes) (happen [] × (causes ≡ [])) →
     (a : Answers) × (chain ≡ true → AreCauseAnswers (snippet_settings s) blank own c a)
-    × happen (if chain then cause_calls s.context s.nested own c a else [])
+    × happen (if chain then cause_calls s.layout.context_lines s.related_as_nested own c a else [])
     × (causes ≡ only_if chain (causes_text rows s m.severity own c a))
 root_by rows s blank happen m own c causes true p = (p.0, λ h. p.1, p.2, p.3)
 root_by rows s blank happen m own c causes false p = (
@@ -210,11 +215,13 @@ pub root_step : (rows : SnippetRows) (s : Settings) (blank : Bool) (begun mid no
     (report_over s (head t) (below_drawn rows s blank (λ calls. Leads mid calls now) (source_of t) t text p) causes
     (below_related rows s blank (λ calls. Leads mid calls now) (source_of t) t text p))
 root_step rows s blank begun mid now (tree m own c r) causes text q p =
-    let b = root_by rows s blank (λ calls. Leads begun calls mid) m own c causes s.chain q in (
+    let b = root_by rows s blank (λ calls. Leads begun calls mid) m own c causes s.cause_chain q in (
       listed p.0 b.0 p.1,
       (p.2, b.1, p.3),
-      leads_on begun mid now (if s.chain then cause_calls s.context s.nested own c b.0 else [])
-          (own_calls s.context own m p.0 ++ related_calls s.context s.nested own r p.1) b.2 p.4,
+      leads_on begun mid now (if s.cause_chain then cause_calls s.layout.context_lines s.related_as_nested own c b.0
+          else [])
+          (own_calls s.layout.context_lines own m p.0 ++ related_calls s.layout.context_lines s.related_as_nested own r
+          p.1) b.2 p.4,
       ap (λ x. report_over s m (rows_text (rows s own (given_labels m.labels) p.0)) x
           (related_text rows s m.severity own r p.1)) b.3,
     )
@@ -263,8 +270,8 @@ below_behind rows s blank begun mid now source t old drawn helped new p e q =
         more.0,
         own.1,
         more.1,
-        leads_on begun mid now (own_calls s.context source (head t) own.0)
-            (related_calls s.context s.nested source (related_of t) more.0) own.2 more.2,
+        leads_on begun mid now (own_calls s.layout.context_lines source (head t) own.0)
+            (related_calls s.layout.context_lines s.related_as_nested source (related_of t) more.0) own.2 more.2,
         ap₂ (λ x y. x ++ help_text s (head t).help ++ y) own.3 more.3,
       );
       appended = behind old helped new (p.text ++ help_text s (head t).help) q.text
@@ -367,12 +374,13 @@ sibling_below_fails nested source (tree m own c r) h =
     (all_read (printed_causes nested source c ++ printed_related nested source r))
     (later_fails (printed_causes nested source c) (printed_related nested source r)) h
 
-pub root_below_fails : (s : Settings) (t : Tree) → all_read (printed_inner s.nested (source_of t) t) ≡ false
+pub root_below_fails : (s : Settings) (t : Tree) → all_read (printed_inner s.related_as_nested (source_of t) t) ≡ false
     → all_read (diagnostics_of s t) ≡ false
 root_below_fails s (tree m own c r) h =
-    let causes = printed_root_causes s.chain s.nested (tree m own c r) in
-    and_later (always_reads own (given_labels m.labels)) (all_read (printed_related s.nested own r))
-    (all_read (causes ++ printed_related s.nested own r)) (later_fails causes (printed_related s.nested own r)) h
+    let causes = printed_root_causes s.cause_chain s.related_as_nested (tree m own c r) in
+    and_later (always_reads own (given_labels m.labels)) (all_read (printed_related s.related_as_nested own r))
+    (all_read (causes ++ printed_related s.related_as_nested own r))
+    (later_fails causes (printed_related s.related_as_nested own r)) h
 
 pub sibling_causes_fail : (nested : Bool) (source : Option Source) (t : Tree)
     → all_read (printed_causes nested source (cause_of t)) ≡ false →
@@ -399,9 +407,11 @@ later_related_fails false inherited (tree m own c r) ts h =
     later_fails (printed_sibling false (effective own inherited) (tree m own c r)) (printed_related false inherited ts)
     h
 
-pub root_causes_fail : (s : Settings) (t : Tree) → all_read (printed_root_causes s.chain s.nested t) ≡ false
+pub root_causes_fail : (s : Settings) (t : Tree) → all_read (printed_root_causes s.cause_chain s.related_as_nested t)
+    ≡ false
     → all_read (diagnostics_of s t) ≡ false
 root_causes_fail s (tree m own c r) h =
-    later_fails (over own m ∷ []) (printed_root_causes s.chain s.nested (tree m own c r)
-    ++ printed_related s.nested own r)
-    (first_fails (printed_root_causes s.chain s.nested (tree m own c r)) (printed_related s.nested own r) h)
+    later_fails (over own m ∷ []) (printed_root_causes s.cause_chain s.related_as_nested (tree m own c r)
+    ++ printed_related s.related_as_nested own r)
+    (first_fails (printed_root_causes s.cause_chain s.related_as_nested (tree m own c r))
+    (printed_related s.related_as_nested own r) h)

@@ -81,8 +81,8 @@ link_clean : IsClean (chars (codes "(link)"))
 unfolding chars
 link_clean = refl
 
-pub default_clean : (c : Characters) (styles : Styles) → AreShipped c → AreCleanSettings (default_settings c styles)
-default_clean c styles h = (shipped_clean c h, link_clean, tt)
+pub default_clean : (theme : Theme) → AreShipped theme.characters → AreCleanSettings (default_settings theme)
+default_clean theme h = (shipped_clean theme.characters h, link_clean, tt)
 
 -- ---- the theme of a terminal
 

@@ -3,7 +3,7 @@
 ghost use Rattle.std.specs.Prelude.{◌≡◌, ◌++◌, IfOk, OnOk, map, not, string_bytes};
 ghost use Rattle.miette_graphical.specs.rules.DiagnosticText as parts;
 ghost use Rattle.miette_graphical.specs.rules.Text as texts;
-ghost use Rattle.miette_graphical.specs.steps.SettingsView.{settings_of};
+ghost use Rattle.miette_graphical.specs.views.SettingsView.{settings_of};
 ghost use Rattle.miette_tree.specs.views.Report.{tree_of};
 ghost use Rattle.miette_tree.specs.rules.Tree.{head};
 ghost use Rattle.miette_tree.specs.rules.DiagnosticParts.{severity_title};
@@ -12,7 +12,7 @@ ghost use Rattle.miette_basics.specs.rules.Lists.{is_nil};
 
 use crate::header::push_header;
 use crate::indents::{Branch, push_message, push_text_under_arrow};
-use crate::settings::{Settings, severity_style};
+use crate::settings::{Fitted, severity_style};
 use miette_protocol::protocol::{Diagnostic, Severity};
 use miette_protocol::source::SourceCode;
 use miette_text::runs::output::Output;
@@ -22,7 +22,7 @@ use std::alloc::{AllocError, Global};
 
 // Appends a report's header, and says whether there is one.
 fn push_header_of<D: Diagnostic, S: SourceCode>(
-    settings: Settings<'_>,
+    settings: Fitted<'_>,
     report: &Report<D, S>,
     out: &mut Output,
 ) -> Result<bool, AllocError>
@@ -43,7 +43,7 @@ fn push_header_of<D: Diagnostic, S: SourceCode>(
 // Appends a report's message behind its icon.
 fn push_message_of<D: Diagnostic, S: SourceCode>(
     alloc: Global,
-    settings: Settings<'_>,
+    settings: Fitted<'_>,
     report: &Report<D, S>,
     out: &mut Output,
 ) -> Result<(), AllocError>
@@ -63,7 +63,7 @@ fn push_severity_title(severity: Option<Severity>, out: &mut Output) -> Result<(
 /// Appends a report's header, where there is one, and its message.
 pub fn push_start<D: Diagnostic, S: SourceCode>(
     alloc: Global,
-    settings: Settings<'_>,
+    settings: Fitted<'_>,
     report: &Report<D, S>,
     out: &mut Output,
 ) -> Result<(), AllocError>
@@ -77,7 +77,7 @@ pub fn push_start<D: Diagnostic, S: SourceCode>(
 
 // Appends what a sibling begins with: its severity, and its header or else the end of the row.
 fn push_title<D: Diagnostic, S: SourceCode>(
-    settings: Settings<'_>,
+    settings: Fitted<'_>,
     report: &Report<D, S>,
     out: &mut Output,
 ) -> Result<(), AllocError>
@@ -95,7 +95,7 @@ fn push_title<D: Diagnostic, S: SourceCode>(
 /// Appends what a sibling begins with, and its message.
 pub fn push_sibling_start<D: Diagnostic, S: SourceCode>(
     alloc: Global,
-    settings: Settings<'_>,
+    settings: Fitted<'_>,
     report: &Report<D, S>,
     out: &mut Output,
 ) -> Result<(), AllocError>
@@ -120,7 +120,7 @@ pub fn is_nil(list: &[String]) -> bool
 /// Appends causes that are texts, each under its arrow.
 pub fn push_cause_texts(
     alloc: Global,
-    settings: Settings<'_>,
+    settings: Fitted<'_>,
     outer: Option<Severity>,
     list: &[String],
     out: &mut Output,

@@ -4,10 +4,9 @@ ghost use Rattle.std.specs.Prelude.{◌≡◌, ◌++◌, IfOk, OnOk, not, option
 ghost use Rattle.miette_runs.specs.rules.Runs.{print};
 ghost use Rattle.miette_basics.specs.rules.Lists.{is_nil};
 ghost use Rattle.miette_graphical.specs.rules.DiagnosticText as parts;
-ghost use Rattle.miette_graphical.specs.views.Modes.{urls_of};
-ghost use Rattle.miette_graphical.specs.steps.SettingsView.{settings_of};
+ghost use Rattle.miette_graphical.specs.views.SettingsView.{settings_of};
 
-use crate::settings::{Settings, UrlMode};
+use crate::settings::{Fitted, UrlMode};
 use miette_page::page::PLAIN;
 use miette_style::style::Style;
 use miette_text::runs::output::Output;
@@ -35,7 +34,7 @@ fn push_linked_code(style: Style, code: &str, out: &mut Output) -> Result<(), Al
 }
 
 fn push_link_header(
-    settings: Settings<'_>,
+    settings: Fitted<'_>,
     style: Style,
     url: &str,
     code: Option<&str>,
@@ -48,22 +47,22 @@ fn push_link_header(
     if let Some(code) = code {
         push_linked_code(style, code, out)?;
     }
-    out.push_run(settings.theme.styles.link, settings.link_text)?;
+    out.push_run(settings.own.theme.styles.link, settings.own.link_text())?;
     out.push_link_end()?;
     push_blank_row(out)
 }
 
 /// Appends a url in parentheses.
-fn push_url_behind(settings: Settings<'_>, url: &str, out: &mut Output) -> Result<(), AllocError>
+fn push_url_behind(settings: Fitted<'_>, url: &str, out: &mut Output) -> Result<(), AllocError>
     ensures { OnOk result (out.new ≡ out.old ++ print (parts.url_behind (settings_of settings.entry) (Some url.now))) }
 {
     out.push_chars(&[' ', '('])?;
-    out.push_run(settings.theme.styles.link, url)?;
+    out.push_run(settings.own.theme.styles.link, url)?;
     out.push(')')
 }
 
 fn push_code_header(
-    settings: Settings<'_>,
+    settings: Fitted<'_>,
     style: Style,
     url: Option<&str>,
     code: &str,
@@ -82,20 +81,20 @@ fn push_code_header(
 
 /// Appends a header, and says whether there is one.
 pub fn push_header(
-    settings: Settings<'_>,
+    settings: Fitted<'_>,
     style: Style,
     url: Option<&str>,
     code: Option<&str>,
     out: &mut Output,
 ) -> Result<bool, AllocError>
     ensures text { OnOk result (out.new ≡ out.old
-        ++ print (parts.header_by (urls_of settings.entry.urls) (settings_of settings.entry) style
+        ++ print (parts.header_by (settings_of settings.entry).urls (settings_of settings.entry) style
         (option_map (λ t. t.now) url.entry) (option_map (λ t. t.now) code.entry))) }
     ensures shown { IfOk result (λ shown. shown
-        ≡ not (is_nil (parts.header_by (urls_of settings.entry.urls) (settings_of settings.entry) style
+        ≡ not (is_nil (parts.header_by (settings_of settings.entry).urls (settings_of settings.entry) style
         (option_map (λ t. t.now) url.entry) (option_map (λ t. t.now) code.entry)))) }
 {
-    let behind = match settings.urls {
+    let behind = match settings.own.urls {
         UrlMode::Links => {
             if let Some(url) = url {
                 push_link_header(settings, style, url, code, out)?;

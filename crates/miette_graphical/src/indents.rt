@@ -1,8 +1,8 @@
 //! What stands in front of rows, and text wrapped under it.
 
 ghost use Rattle.std.specs.Prelude.{◌≡◌, ◌++◌, ◌-◌, ℕ, List, IfOk, OnOk, chars, false, option_map, true};
-ghost use Rattle.miette_graphical.specs.views.Modes.{splits};
-ghost use Rattle.miette_graphical.specs.steps.SettingsView.{settings_of};
+ghost use Rattle.miette_text.specs.views.Plans.{cuts_hyphens};
+ghost use Rattle.miette_graphical.specs.views.SettingsView.{settings_of};
 ghost use Rattle.miette_graphical.specs.rules.Indents as indents;
 ghost use Rattle.miette_graphical.specs.rules.DiagnosticText as parts;
 ghost use Rattle.miette_text.specs.views.Plans.{printed_plan};
@@ -11,7 +11,7 @@ ghost use Rattle.miette_runs.specs.rules.Runs.{print};
 ghost use Rattle.miette_runs.specs.rules.Sequences.{spell, tokens};
 ghost use Rattle.miette_text.specs.rules.Wrapping.{wrapped_text};
 
-use crate::settings::{Settings, icon, severity_style};
+use crate::settings::{Fitted, icon, severity_style};
 use miette_protocol::protocol::Severity;
 use miette_text::runs::Runs;
 use miette_text::runs::output::Output;
@@ -29,18 +29,18 @@ pub struct Branch {
 }
 
 /// How a text is wrapped under a first and a further indent.
-fn plan<'a>(settings: Settings<'_>, first: &'a Runs, further: &'a Runs) -> Plan<'a>
-    ensures wraps { result.wraps ≡ settings.entry.wraps }
-    ensures hyphens { result.hyphens ≡ splits settings.entry.splitter }
-    ensures breaks { result.breaks ≡ settings.entry.breaks }
-    ensures width { result.width ≡ settings.entry.width - 2 }
+fn plan<'a>(settings: Fitted<'_>, first: &'a Runs, further: &'a Runs) -> Plan<'a>
+    ensures wraps { result.wraps ≡ (settings_of settings.entry).wrapping.wrap_lines }
+    ensures hyphens { result.hyphens ≡ cuts_hyphens (settings_of settings.entry).wrapping.word_splitter }
+    ensures breaks { result.breaks ≡ (settings_of settings.entry).wrapping.break_words }
+    ensures width { result.width ≡ (settings_of settings.entry).width - 2 }
     ensures first { result.first.now ≡ first.now }
     ensures further { result.further.now ≡ further.now }
 {
     Plan {
-        wraps: settings.wraps,
-        hyphens: cuts_hyphens(settings.splitter),
-        breaks: settings.breaks,
+        wraps: settings.own.wrapping.wrap_lines,
+        hyphens: cuts_hyphens(settings.own.wrapping.word_splitter),
+        breaks: settings.own.wrapping.break_words,
         width: settings.width.saturating_sub(2),
         first,
         further,
@@ -77,7 +77,7 @@ fn push_wrapped_text(
 
 // Appends a text behind an indent, and a line feed, where both stand in one row as they are; says whether.
 fn push_row(
-    settings: Settings<'_>,
+    settings: Fitted<'_>,
     first: &Runs,
     text: &str,
     out: &mut Output,
@@ -88,7 +88,7 @@ fn push_row(
     ensures otherwise { IfOk result (λ fits. fits ≡ false → out.new ≡ out.old) }
 {
     let width = settings.width.saturating_sub(2);
-    if !push_fitting(settings.wraps, width, first, text, out)? {
+    if !push_fitting(settings.own.wrapping.wrap_lines, width, first, text, out)? {
         return Ok(false);
     }
     out.push('\n')?;
@@ -98,7 +98,7 @@ fn push_row(
 // `  × `
 fn icon_indent(
     alloc: Global,
-    settings: Settings<'_>,
+    settings: Fitted<'_>,
     severity: Option<Severity>,
 ) -> Result<Runs, AllocError>
     ensures { IfOk result (λ r. spell r ≡ print (indents.icon_indent (settings_of settings.entry) severity)) }
@@ -113,12 +113,12 @@ fn icon_indent(
 // `  │ `
 fn bar_indent(
     alloc: Global,
-    settings: Settings<'_>,
+    settings: Fitted<'_>,
     severity: Option<Severity>,
 ) -> Result<Runs, AllocError>
     ensures { IfOk result (λ r. spell r ≡ print (indents.bar_indent (settings_of settings.entry) severity)) }
 {
-    let bar = [settings.theme.characters.vbar];
+    let bar = [settings.own.theme.characters.vbar];
     let mut runs = Runs::new(alloc);
     runs.push_chars(&[' ', ' '])?;
     runs.push_run_chars(severity_style(settings, severity), &bar)?;
@@ -127,11 +127,11 @@ fn bar_indent(
 }
 
 // `  ├─▶ `, the last one `  ╰─▶ `
-fn arrow_indent(alloc: Global, settings: Settings<'_>, branch: Branch) -> Result<Runs, AllocError>
+fn arrow_indent(alloc: Global, settings: Fitted<'_>, branch: Branch) -> Result<Runs, AllocError>
     ensures { IfOk result (λ r. spell r ≡ print
         (indents.arrow_indent (settings_of settings.entry) branch.outer branch.is_last)) }
 {
-    let characters = &settings.theme.characters;
+    let characters = &settings.own.theme.characters;
     let blank = ' ';
     let last = characters.lbot;
     let other = characters.lcross;
@@ -145,12 +145,12 @@ fn arrow_indent(alloc: Global, settings: Settings<'_>, branch: Branch) -> Result
 }
 
 // `  │   `, under the last one six spaces
-fn stem_indent(alloc: Global, settings: Settings<'_>, branch: Branch) -> Result<Runs, AllocError>
+fn stem_indent(alloc: Global, settings: Fitted<'_>, branch: Branch) -> Result<Runs, AllocError>
     ensures { IfOk result (λ r. spell r ≡ print
         (indents.stem_indent (settings_of settings.entry) branch.outer branch.is_last)) }
 {
     let blank = ' ';
-    let vbar = settings.theme.characters.vbar;
+    let vbar = settings.own.theme.characters.vbar;
     let bar = if branch.is_last { blank } else { vbar };
     let stem = [blank, blank, bar, blank, blank, blank];
     let mut runs = Runs::new(alloc);
@@ -159,7 +159,7 @@ fn stem_indent(alloc: Global, settings: Settings<'_>, branch: Branch) -> Result<
 }
 
 // The columns of the indent of what stands under an arrow, behind its first row.
-fn stem_columns(alloc: Global, settings: Settings<'_>, branch: Branch) -> Result<usize, AllocError>
+fn stem_columns(alloc: Global, settings: Fitted<'_>, branch: Branch) -> Result<usize, AllocError>
     ensures { IfOk result (λ n. n ≡ columns_of (tokens (print
         (indents.stem_indent (settings_of settings.entry) branch.outer branch.is_last)))) }
 {
@@ -171,9 +171,9 @@ fn stem_columns(alloc: Global, settings: Settings<'_>, branch: Branch) -> Result
 /// The settings of what stands under an arrow.
 pub fn settings_under<'a>(
     alloc: Global,
-    settings: Settings<'a>,
+    settings: Fitted<'a>,
     branch: Branch,
-) -> Result<Settings<'a>, AllocError>
+) -> Result<Fitted<'a>, AllocError>
     ensures { IfOk result (λ l. settings_of l
         ≡ indents.narrow_settings (settings_of settings.entry) branch.outer branch.is_last) }
 {
@@ -186,7 +186,7 @@ pub fn settings_under<'a>(
 /// Appends a cause or a nested related report under its arrow.
 pub fn push_under_arrow(
     alloc: Global,
-    settings: Settings<'_>,
+    settings: Fitted<'_>,
     branch: Branch,
     text: &Runs,
     out: &mut Output,
@@ -202,7 +202,7 @@ pub fn push_under_arrow(
 /// Appends a cause that is a text under its arrow.
 pub fn push_text_under_arrow(
     alloc: Global,
-    settings: Settings<'_>,
+    settings: Fitted<'_>,
     branch: Branch,
     text: &str,
     out: &mut Output,
@@ -221,7 +221,7 @@ pub fn push_text_under_arrow(
 /// Appends a message behind its icon.
 pub fn push_message(
     alloc: Global,
-    settings: Settings<'_>,
+    settings: Fitted<'_>,
     severity: Option<Severity>,
     message: &str,
     out: &mut Output,
@@ -239,11 +239,11 @@ pub fn push_message(
 }
 
 // `  help: `
-fn help_indent(alloc: Global, settings: Settings<'_>) -> Result<Runs, AllocError>
+fn help_indent(alloc: Global, settings: Fitted<'_>) -> Result<Runs, AllocError>
     ensures { IfOk result (λ r. spell r ≡ print (indents.help_indent (settings_of settings.entry))) }
 {
     let mut runs = Runs::new(alloc);
-    runs.push_run(settings.theme.styles.help, "  help: ")?;
+    runs.push_run(settings.own.theme.styles.help, "  help: ")?;
     Ok(runs)
 }
 
@@ -259,7 +259,7 @@ fn blank_indent(alloc: Global, spaces: &[char]) -> Result<Runs, AllocError>
 /// Appends a help text, where there is one.
 pub fn push_help(
     alloc: Global,
-    settings: Settings<'_>,
+    settings: Fitted<'_>,
     help: Option<&str>,
     out: &mut Output,
 ) -> Result<(), AllocError>
@@ -278,14 +278,10 @@ pub fn push_help(
 }
 
 /// Appends a blank row and the footer, where there is one.
-pub fn push_footer(
-    alloc: Global,
-    settings: Settings<'_>,
-    out: &mut Output,
-) -> Result<(), AllocError>
+pub fn push_footer(alloc: Global, settings: Fitted<'_>, out: &mut Output) -> Result<(), AllocError>
     ensures { OnOk result (out.new ≡ out.old ++ parts.footer_text (settings_of settings.entry)) }
 {
-    let Some(footer) = settings.footer else {
+    let Some(footer) = settings.own.footer() else {
         return Ok(());
     };
     let indent = blank_indent(alloc, &[' ', ' '])?;

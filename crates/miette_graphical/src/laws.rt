@@ -20,7 +20,7 @@ ghost use Rattle.miette_graphical.specs.rules.Snippets.{drawn_rows};
 ghost use Rattle.miette_graphical.specs.rules.Text.{report_text};
 ghost use Rattle.miette_tree.specs.rules.Tree.{Tree};
 ghost use Rattle.miette_style.specs.declared.theme.Terminal.{Terminal};
-ghost use Rattle.miette_style.specs.rules.Themes.{Characters, Styles, terminal_theme};
+ghost use Rattle.miette_style.specs.rules.Themes.{Characters, terminal_theme, Theme};
 ghost use Rattle.miette_runs.specs.rules.Sequences.{erase};
 ghost use Rattle.miette_text.specs.laws.Tame.{IsTame};
 ghost use Rattle.miette_cells.specs.rules.Widths.{width_of};
@@ -140,7 +140,6 @@ pub fn printed_law()
 pub fn themes_law()
     ensures narrow { (c : Characters) → AreShipped c → AreNarrow width_of c }
     ensures clean { (c : Characters) → AreShipped c → AreCleanCharacters c }
-    ensures settings { (c : Characters) (styles : Styles) → AreShipped c →
-        AreCleanSettings (default_settings c styles) }
+    ensures settings { (theme : Theme) → AreShipped theme.characters → AreCleanSettings (default_settings theme) }
     ensures terminal { (t : Terminal) → AreShipped (terminal_theme t).characters }
 {}

@@ -9,5 +9,5 @@ pub mod laws;
 mod pen;
 mod printing;
 mod report;
-mod settings;
+pub mod settings;
 mod whole;

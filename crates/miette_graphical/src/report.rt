@@ -12,7 +12,7 @@ ghost use Rattle.miette_snippet_rules.specs.rules.Highlighting.{AreCallsOn, leav
 ghost use Rattle.miette_tree.specs.views.Owned.{shown_source};
 ghost use Rattle.miette_graphical.specs.rules.Snippets.{drawn_rows};
 ghost use Rattle.miette_graphical.specs.rules.Text as texts;
-ghost use Rattle.miette_graphical.specs.steps.SettingsView.{settings_of};
+ghost use Rattle.miette_graphical.specs.views.SettingsView.{settings_of};
 ghost use Rattle.miette_tree.specs.views.Report.{tree_of};
 ghost use Rattle.miette_tree.specs.rules.Tree.{cause_of, effective, head, source_of, trees};
 ghost use Rattle.miette_tree.specs.rules.DiagnosticParts.{given_labels};
@@ -23,9 +23,9 @@ ghost use Rattle.miette_runs.specs.rules.Sequences.{spell};
 use crate::diagnostic::{is_nil, push_cause_texts, push_sibling_start, push_start};
 use crate::indents::{Branch, push_help, push_under_arrow, settings_under};
 use crate::pen::Pen;
-use crate::settings::Settings;
+use crate::settings::Fitted;
 use miette_highlight::highlight::Highlighter;
-use miette_layout::options::{LayoutOptions, Look};
+use miette_layout::options::SnippetSettings;
 use miette_layout::snippets::snippets;
 use miette_page::page::Page;
 use miette_protocol::error::RenderError;
@@ -42,7 +42,7 @@ use std::mem;
 /// Appends the text of the rows of a diagnostic's snippets, over its effective source.
 fn push_rows<D: Diagnostic, S: SourceCode, H: Highlighter>(
     pen: &mut Pen<H>,
-    settings: Settings<'_>,
+    settings: Fitted<'_>,
     source: Option<SourceRef<'_, S>>,
     report: &Report<D, S>,
     out: &mut Output,
@@ -66,7 +66,7 @@ fn push_rows<D: Diagnostic, S: SourceCode, H: Highlighter>(
 /// The same over a source that is there.
 fn push_shown<D: Diagnostic, S: SourceCode, H: Highlighter>(
     pen: &mut Pen<H>,
-    settings: Settings<'_>,
+    settings: Fitted<'_>,
     source: SourceRef<'_, S>,
     report: &Report<D, S>,
     out: &mut Output,
@@ -90,7 +90,7 @@ fn push_shown<D: Diagnostic, S: SourceCode, H: Highlighter>(
 /// Appends the text of the rows of some labels' snippets, over a source.
 fn push_drawn<S: SourceCode, H: Highlighter>(
     pen: &mut Pen<H>,
-    settings: Settings<'_>,
+    settings: Fitted<'_>,
     source: SourceRef<'_, S>,
     labels: &[LabeledSpan],
     out: &mut Output,
@@ -103,20 +103,13 @@ fn push_drawn<S: SourceCode, H: Highlighter>(
     ensures refused { (result ≡ Err RenderError.Refused) → (shown_source S.source source.entry).always_reads ≡ false }
     ensures stays { leaves_plain H.is_blank pen.new.highlighter ≡ leaves_plain H.is_blank pen.old.highlighter }
 {
-    let look = Look {
+    let drawn_with = SnippetSettings {
         alloc: pen.alloc,
-        theme: settings.theme,
-        options: LayoutOptions {
-            tab_width: settings.tab,
-            context_lines: settings.context,
-            primary_start: settings.primary_start,
-            end_labels: settings.end_labels,
-            label_lines: settings.label_lines,
-            line_columns: settings.line_columns,
-        },
+        theme: &settings.own.theme,
+        layout: &settings.own.layout,
     };
     let page = Page::over(mem::replace(out, Output::for_text(pen.alloc)));
-    let page = snippets(&mut pen.highlighter, &look, &source, labels, page)?;
+    let page = snippets(&mut pen.highlighter, &drawn_with, &source, labels, page)?;
     *out = page.into_output()?;
     Ok(())
 }
@@ -144,7 +137,7 @@ fn are_last<D: Diagnostic, S: SourceCode>(reports: &[Report<D, S>]) -> bool
 #[cycle(report)]
 pub fn push_causes<D: Diagnostic, S: SourceCode, H: Highlighter>(
     pen: &mut Pen<H>,
-    settings: Settings<'_>,
+    settings: Fitted<'_>,
     outer: Option<Severity>,
     inherited: Option<SourceRef<'_, S>>,
     report: &Report<D, S>,
@@ -156,7 +149,7 @@ pub fn push_causes<D: Diagnostic, S: SourceCode, H: Highlighter>(
         outer (option_map (shown_source S.source) inherited.entry)
         (cause_of (tree_of D.meaning S.source report.now))) out.old out.new) }
     ensures refused { (result ≡ Err RenderError.Refused) →
-        all_read (printed_causes settings.entry.nested (option_map (shown_source S.source) inherited.entry)
+        all_read (printed_causes (settings_of settings.entry).related_as_nested (option_map (shown_source S.source) inherited.entry)
         (cause_of (tree_of D.meaning S.source report.now))) ≡ false }
     ensures stays { leaves_plain H.is_blank pen.new.highlighter ≡ leaves_plain H.is_blank pen.old.highlighter }
 {
@@ -173,7 +166,7 @@ pub fn push_causes<D: Diagnostic, S: SourceCode, H: Highlighter>(
 #[cycle(report)]
 fn push_one_cause<D: Diagnostic, S: SourceCode, H: Highlighter>(
     pen: &mut Pen<H>,
-    settings: Settings<'_>,
+    settings: Fitted<'_>,
     outer: Option<Severity>,
     inherited: Option<SourceRef<'_, S>>,
     cause: &Report<D, S>,
@@ -185,7 +178,7 @@ fn push_one_cause<D: Diagnostic, S: SourceCode, H: Highlighter>(
         outer (option_map (shown_source S.source) inherited.entry)
         (tree_of D.meaning S.source cause.now)) out.old out.new) }
     ensures refused { (result ≡ Err RenderError.Refused) →
-        all_read (printed_inner settings.entry.nested
+        all_read (printed_inner (settings_of settings.entry).related_as_nested
         (effective (source_of (tree_of D.meaning S.source cause.now))
         (option_map (shown_source S.source) inherited.entry)) (tree_of D.meaning S.source cause.now)) ≡ false }
     ensures stays { leaves_plain H.is_blank pen.new.highlighter ≡ leaves_plain H.is_blank pen.old.highlighter }
@@ -211,7 +204,7 @@ fn runs_without_leading(alloc: Global, text: Output) -> Result<Runs, AllocError>
 #[cycle(report)]
 fn inner_text<D: Diagnostic, S: SourceCode, H: Highlighter>(
     pen: &mut Pen<H>,
-    settings: Settings<'_>,
+    settings: Fitted<'_>,
     source: Option<SourceRef<'_, S>>,
     report: &Report<D, S>,
 ) -> Result<Runs, RenderError>
@@ -221,7 +214,7 @@ fn inner_text<D: Diagnostic, S: SourceCode, H: Highlighter>(
         (option_map (shown_source S.source) source.entry)
         (tree_of D.meaning S.source report.now) (spell r)) }
     ensures refused { (result ≡ Err RenderError.Refused) →
-        all_read (printed_inner settings.entry.nested (option_map (shown_source S.source) source.entry)
+        all_read (printed_inner (settings_of settings.entry).related_as_nested (option_map (shown_source S.source) source.entry)
         (tree_of D.meaning S.source report.now)) ≡ false }
     ensures stays { leaves_plain H.is_blank pen.new.highlighter ≡ leaves_plain H.is_blank pen.old.highlighter }
 {
@@ -236,7 +229,7 @@ fn inner_text<D: Diagnostic, S: SourceCode, H: Highlighter>(
 #[cycle(report)]
 pub fn push_below<D: Diagnostic, S: SourceCode, H: Highlighter>(
     pen: &mut Pen<H>,
-    settings: Settings<'_>,
+    settings: Fitted<'_>,
     source: Option<SourceRef<'_, S>>,
     report: &Report<D, S>,
     out: &mut Output,
@@ -247,7 +240,7 @@ pub fn push_below<D: Diagnostic, S: SourceCode, H: Highlighter>(
         (option_map (shown_source S.source) source.entry)
         (tree_of D.meaning S.source report.now)) out.old out.new) }
     ensures refused { (result ≡ Err RenderError.Refused) →
-        all_read (printed_inner settings.entry.nested (option_map (shown_source S.source) source.entry)
+        all_read (printed_inner (settings_of settings.entry).related_as_nested (option_map (shown_source S.source) source.entry)
         (tree_of D.meaning S.source report.now)) ≡ false }
     ensures stays { leaves_plain H.is_blank pen.new.highlighter ≡ leaves_plain H.is_blank pen.old.highlighter }
 {
@@ -261,7 +254,7 @@ pub fn push_below<D: Diagnostic, S: SourceCode, H: Highlighter>(
 #[cycle(report)]
 fn push_sibling<D: Diagnostic, S: SourceCode, H: Highlighter>(
     pen: &mut Pen<H>,
-    settings: Settings<'_>,
+    settings: Fitted<'_>,
     source: Option<SourceRef<'_, S>>,
     report: &Report<D, S>,
     out: &mut Output,
@@ -272,7 +265,7 @@ fn push_sibling<D: Diagnostic, S: SourceCode, H: Highlighter>(
         (option_map (shown_source S.source) source.entry)
         (tree_of D.meaning S.source report.now)) out.old out.new) }
     ensures refused { (result ≡ Err RenderError.Refused) →
-        all_read (printed_sibling settings.entry.nested (option_map (shown_source S.source) source.entry)
+        all_read (printed_sibling (settings_of settings.entry).related_as_nested (option_map (shown_source S.source) source.entry)
         (tree_of D.meaning S.source report.now)) ≡ false }
     ensures stays { leaves_plain H.is_blank pen.new.highlighter ≡ leaves_plain H.is_blank pen.old.highlighter }
 {
@@ -285,7 +278,7 @@ fn push_sibling<D: Diagnostic, S: SourceCode, H: Highlighter>(
 #[cycle(report)]
 fn push_nested<D: Diagnostic, S: SourceCode, H: Highlighter>(
     pen: &mut Pen<H>,
-    settings: Settings<'_>,
+    settings: Fitted<'_>,
     branch: Branch,
     source: Option<SourceRef<'_, S>>,
     report: &Report<D, S>,
@@ -297,7 +290,7 @@ fn push_nested<D: Diagnostic, S: SourceCode, H: Highlighter>(
         branch.outer (option_map (shown_source S.source) source.entry)
         branch.is_last (tree_of D.meaning S.source report.now)) out.old out.new) }
     ensures refused { (result ≡ Err RenderError.Refused) →
-        all_read (printed_inner settings.entry.nested (option_map (shown_source S.source) source.entry)
+        all_read (printed_inner (settings_of settings.entry).related_as_nested (option_map (shown_source S.source) source.entry)
         (tree_of D.meaning S.source report.now)) ≡ false }
     ensures stays { leaves_plain H.is_blank pen.new.highlighter ≡ leaves_plain H.is_blank pen.old.highlighter }
 {
@@ -312,7 +305,7 @@ fn push_nested<D: Diagnostic, S: SourceCode, H: Highlighter>(
 #[cycle(report)]
 fn push_one_related<D: Diagnostic, S: SourceCode, H: Highlighter>(
     pen: &mut Pen<H>,
-    settings: Settings<'_>,
+    settings: Fitted<'_>,
     branch: Branch,
     source: Option<SourceRef<'_, S>>,
     report: &Report<D, S>,
@@ -324,11 +317,11 @@ fn push_one_related<D: Diagnostic, S: SourceCode, H: Highlighter>(
         branch.outer (option_map (shown_source S.source) source.entry)
         branch.is_last (tree_of D.meaning S.source report.now)) out.old out.new) }
     ensures refused { (result ≡ Err RenderError.Refused) →
-        all_read (printed_one settings.entry.nested (option_map (shown_source S.source) source.entry)
+        all_read (printed_one (settings_of settings.entry).related_as_nested (option_map (shown_source S.source) source.entry)
         (tree_of D.meaning S.source report.now)) ≡ false }
     ensures stays { leaves_plain H.is_blank pen.new.highlighter ≡ leaves_plain H.is_blank pen.old.highlighter }
 {
-    if settings.nested {
+    if settings.own.related_as_nested {
         push_nested(pen, settings, branch, source, report, out)
     } else {
         push_sibling(pen, settings, source, report, out)
@@ -339,7 +332,7 @@ fn push_one_related<D: Diagnostic, S: SourceCode, H: Highlighter>(
 #[cycle(report)]
 fn push_related<D: Diagnostic, S: SourceCode, H: Highlighter>(
     pen: &mut Pen<H>,
-    settings: Settings<'_>,
+    settings: Fitted<'_>,
     outer: Option<Severity>,
     inherited: Option<SourceRef<'_, S>>,
     reports: &[Report<D, S>],
@@ -351,7 +344,7 @@ fn push_related<D: Diagnostic, S: SourceCode, H: Highlighter>(
         outer (option_map (shown_source S.source) inherited.entry)
         (trees (map (tree_of D.meaning S.source) reports.now))) out.old out.new) }
     ensures refused { (result ≡ Err RenderError.Refused) →
-        all_read (printed_related settings.entry.nested (option_map (shown_source S.source) inherited.entry)
+        all_read (printed_related (settings_of settings.entry).related_as_nested (option_map (shown_source S.source) inherited.entry)
         (trees (map (tree_of D.meaning S.source) reports.now))) ≡ false }
     ensures stays { leaves_plain H.is_blank pen.new.highlighter ≡ leaves_plain H.is_blank pen.old.highlighter }
 {

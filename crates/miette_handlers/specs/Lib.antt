@@ -2,7 +2,7 @@ pub mod rules
 pub mod steps
 pub use Rattle.miette_graphical.specs.views.Handling
 pub use Rattle.miette_graphical.specs.rules.Settings
-pub use Rattle.miette_graphical.specs.views.Modes
+pub use Rattle.miette_graphical.specs.views.SettingsView
 pub use Rattle.miette_graphical.specs.rules.Answers
 pub use Rattle.miette_graphical.specs.rules.Indents
 pub use Rattle.miette_graphical.specs.rules.DiagnosticText

@@ -26,7 +26,7 @@ use Rattle.miette_labels.specs.rules.Around.{has_own, group_context}
 use Rattle.miette_labels.specs.rules.Contexts.{contents, lines_of_contents}
 use Rattle.miette_layout.specs.views.Outcomes.{MayGive}
 use Rattle.miette_snippet_rules.specs.rules.Folds.{Spread, spreads_of}
-use Rattle.miette_snippet_rules.specs.rules.Frames.{SnippetSettings, Place, refused_row, top_row, bottom_row}
+use Rattle.miette_snippet_rules.specs.rules.Frames.{Place, refused_row, top_row, bottom_row}
 use Rattle.miette_snippet_rules.specs.rules.Frames.{number_width}
 use Rattle.miette_labels.specs.views.GivenLabels.{drawn_of, label_at}
 use Rattle.miette_snippet_rules.specs.rules.Gutters.{gutter_columns}
@@ -36,7 +36,7 @@ use Rattle.miette_snippet_rules.specs.rules.Highlighting.{group_calls}
 use Rattle.miette_labels.specs.rules.Labels.{DrawnLabel, drawn_from, some_shows_end}
 use Rattle.miette_snippet_rules.specs.rules.SnippetLayout.{snippet, all_snippets, drawn_labels, line_or_break, left_out}
 use Rattle.miette_snippet_rules.specs.rules.SnippetLayout.{settings_around, rows_unless, place_of, body_rows}
-use Rattle.miette_drawing.specs.views.SnippetRows.{cells_in, lent_rows, lent_snippet, PutsRows}
+use Rattle.miette_drawing.specs.views.SnippetRows.{cells_in, lent_snippet, PutsRows}
 use Rattle.miette_labels.specs.views.Placing.{told_end, placed_from}
 use Rattle.miette_labels.specs.views.Primary.{chosen_label, PointsTo, is_unread}
 use Rattle.miette_labels.specs.views.Reads.{IsRead, IsLent, AreGroups, AreGrouped, IsUnread, AreRead, name_of}
@@ -54,6 +54,8 @@ use Rattle.miette_snippet_rules.proofs.NoPieces.{none_have}
 use Rattle.miette_labels.proofs.Owning.{own_ordered}
 use Rattle.miette_labels.proofs.Refusing.{read_of, all_accepted}
 use Rattle.miette_labels.proofs.Sorting.{label_got}
+use Rattle.miette_snippet_rules.specs.rules.SnippetLayout.{snippet_context, rows_of_lines}
+use Rattle.miette_snippet_rules.specs.rules.Settings.{SnippetSettings}
 
 -- a group's span
 abbrev pub spans_grouped : List Group → List Span
@@ -63,11 +65,14 @@ spans_grouped groups = map (λ group. group.span) groups
 abbrev pub AreDrawn : SnippetSettings → List Spread → Source → List Label → Bool → (List Call → Type 0)
     → (List Call → Type 0) → List Group → ℕ → Printout → Printout → Type 0
 AreDrawn s spreads source labels blank begun now groups i before page =
-    (more : List (List (List Highlight))) → SnippetsHavePieces s.context blank source (spans_grouped (drop i groups))
+    (more : List (List (List Highlight))) → SnippetsHavePieces s.layout.context_lines blank source
+    (spans_grouped (drop i groups))
     more →
-    (all : List (List (List Highlight))) × SnippetsHavePieces s.context blank source (spans_grouped groups) all
-    × ((later : List Call) → now (group_calls s.context source (spans_grouped (drop i groups)) more ++ later)
-    → begun (group_calls s.context source (spans_grouped groups) all ++ later))
+    (all : List (List (List Highlight))) × SnippetsHavePieces s.layout.context_lines blank source (spans_grouped groups)
+    all
+    × ((later : List Call) → now (group_calls s.layout.context_lines source (spans_grouped (drop i groups)) more
+    ++ later)
+    → begun (group_calls s.layout.context_lines source (spans_grouped groups) all ++ later))
     × (page ⊕ rows_tokens (all_snippets s spreads source (in_order labels) more (spans_grouped (drop i groups)))
     ≡ before ⊕ rows_tokens (all_snippets s spreads source (in_order labels) all (spans_grouped groups)))
 
@@ -78,33 +83,34 @@ none_drawn s spreads source labels blank begun groups page = λ more h. (more, h
 
 snippet_same : (s : SnippetSettings) (spreads : List Spread) (source : Source) (labels : List Label) (span : Span)
     (drawn : List DrawnLabel) (lent : Contents) (place : Option Place) (pieces : List (List Highlight)) →
-    drawn ≡ drawn_labels s (length source.bytes) labels → lent ≡ contents s.context source span → place
+    drawn ≡ drawn_labels s (length source.bytes) labels → lent ≡ contents s.layout.context_lines source span → place
     ≡ place_of source span labels →
     lent_snippet s spreads drawn lent place pieces ≡ snippet s spreads source labels span pieces
 snippet_same s spreads source labels span drawn lent place pieces d l p =
     ap (λ c. lent_snippet s spreads drawn c place pieces) l
-    ∙ ap (λ c. lent_snippet s spreads drawn (contents s.context source span) c pieces) p
-    ∙ ap (λ rows. top_row s (contents s.context source span) (place_of source span labels) ∷ rows
-    ++ bottom_row s (number_width (contents s.context source span)) ∷ [])
-    (lent_body s spreads drawn s.context source span pieces)
-    ∙ ap (λ c. top_row s (contents s.context source span) (place_of source span labels)
-    ∷ body_rows s spreads c source.bytes (contents s.context source span) pieces
-    ++ bottom_row s (number_width (contents s.context source span)) ∷ []) d
+    ∙ ap (λ c. lent_snippet s spreads drawn (contents s.layout.context_lines source span) c pieces) p
+    ∙ ap (λ rows. top_row s (contents s.layout.context_lines source span) (place_of source span labels) ∷ rows
+    ++ bottom_row s (number_width (contents s.layout.context_lines source span)) ∷ [])
+    (lent_body s spreads drawn s.layout.context_lines source span pieces)
+    ∙ ap (λ c. top_row s (contents s.layout.context_lines source span) (place_of source span labels)
+    ∷ body_rows s spreads c source.bytes (contents s.layout.context_lines source span) pieces
+    ++ bottom_row s (number_width (contents s.layout.context_lines source span)) ∷ []) d
 
 -- the lines of context don't matter to rows of what was lent
 rows_around : (out : ℕ → Line → Bool) (gap : Bool) (s : SnippetSettings) (c w columns : ℕ) (drawn : List DrawnLabel)
     (start : ℕ) (bytes : List ℕ) (number : ℕ) (pieces : List (List Highlight)) (lines : List Line) →
-    lent_rows out gap (record s { context = c }) w columns drawn start bytes number pieces lines
-    ≡ lent_rows out gap s w columns drawn start bytes number pieces lines
+    rows_of_lines out gap (snippet_context (record s { layout = record s.layout { context_lines = c } }) w columns drawn
+    (cells_in (record s { layout = record s.layout { context_lines = c } }) start bytes)) number pieces lines
+    ≡ rows_of_lines out gap (snippet_context s w columns drawn (cells_in s start bytes)) number pieces lines
 rows_around out gap s c w columns drawn start bytes number pieces [] = refl
 rows_around out gap s c w columns drawn start bytes number pieces (line ∷ lines) =
-    ap (λ r. line_or_break gap (out number line) s w columns drawn line number (cells_in s start bytes line)
-    (first_of pieces) ++ r) (rows_around out (out number line) s c w columns drawn start bytes (number + 1)
+    ap (λ r. line_or_break gap (out number line) (snippet_context s w columns drawn (cells_in s start bytes)) line
+    number (first_of pieces) ++ r) (rows_around out (out number line) s c w columns drawn start bytes (number + 1)
     (drop 1 pieces) lines)
 
 snippet_around : (s : SnippetSettings) (c : ℕ) (spreads : List Spread) (drawn : List DrawnLabel) (lent : Contents)
     (place : Option Place) (pieces : List (List Highlight))
-    → lent_snippet (record s { context = c }) spreads drawn lent place pieces
+    → lent_snippet (record s { layout = record s.layout { context_lines = c } }) spreads drawn lent place pieces
     ≡ lent_snippet s spreads drawn lent place pieces
 snippet_around s c spreads drawn lent place pieces =
     ap (λ rows. top_row s lent place ∷ rows ++ bottom_row s (number_width lent) ∷ [])
@@ -115,7 +121,8 @@ snippet_around s c spreads drawn lent place pieces =
 pub puts_around : (s : SnippetSettings) (c : ℕ) (blank : Bool) (happen : List Call → Type 0) (texts : List (List ℕ))
     (spreads : List Spread) (drawn : List DrawnLabel) (lent : Contents) (place : Option Place) (page more : Printout) →
     PutsRows blank happen texts (lent_snippet s spreads drawn lent place) page more
-    → PutsRows blank happen texts (lent_snippet (record s { context = c }) spreads drawn lent place) page more
+    → PutsRows blank happen texts (lent_snippet (record s { layout = record s.layout { context_lines = c } }) spreads
+    drawn lent place) page more
 puts_around s c blank happen texts spreads drawn lent place page more h = record {
   pieces = h.pieces;
   are = h.are;
@@ -128,7 +135,7 @@ group_step : (s : SnippetSettings) (spreads : List Spread) (source : Source) (la
     (i : ℕ) (group : Group) (pieces : List (List Highlight)) (later : List (List (List Highlight)))
     (page more : Printout) (drawn : List DrawnLabel) (place : Option Place) →
     spans_grouped (drop i groups) ≡ group.span ∷ spans_grouped (drop (i + 1) groups)
-    → IsLent s.context source group.span group.contents →
+    → IsLent s.layout.context_lines source group.span group.contents →
     drawn ≡ drawn_labels s (length source.bytes) (in_order labels) → place
     ≡ place_of source group.span (in_order labels) →
     more ≡ page ⊕ rows_tokens (lent_snippet s spreads drawn group.contents place pieces) →
@@ -150,7 +157,7 @@ pub drawn_more : (s : SnippetSettings) (spreads : List Spread) (source : Source)
     (begun was now : List Call → Type 0) (groups : List Group) (i : ℕ) (group : Group) (before page more : Printout)
     (drawn : List DrawnLabel) (place : Option Place) →
     AreDrawn s spreads source labels blank begun was groups i before page → i < length groups → group
-    ≡ get_or groups i group → IsLent s.context source group.span group.contents →
+    ≡ get_or groups i group → IsLent s.layout.context_lines source group.span group.contents →
     drawn ≡ drawn_labels s (length source.bytes) (in_order labels) → place
     ≡ place_of source group.span (in_order labels) →
     PutsRows blank (λ calls. Leads was (restarted group.contents ∷ calls) now) (lent_texts group.contents)
@@ -161,23 +168,24 @@ drawn_more s spreads source labels blank begun was now groups i group before pag
     let front : spans_grouped (drop i groups) ≡ group.span ∷ spans_grouped (drop (i + 1) groups) =
     ap spans_grouped (drop_more groups i group lt) ∙ ap (λ (g : Group). g.span ∷ spans_grouped (drop (i + 1) groups))
     (sym is) in
-    let mine : EachHasPieces blank (texts_of source.bytes (lines_of_contents (contents s.context source group.span)))
+    let mine : EachHasPieces blank (texts_of source.bytes
+    (lines_of_contents (contents s.layout.context_lines source group.span)))
     e.pieces =
     subst (λ (ts : List (List ℕ)). EachHasPieces blank ts e.pieces)
-    (ap lent_texts lent.is ∙ lent_texts_are s.context source group.span) e.are in
-    let all = h (e.pieces ∷ later) (subst (λ (ss : List Span). SnippetsHavePieces s.context blank source ss
+    (ap lent_texts lent.is ∙ lent_texts_are s.layout.context_lines source group.span) e.are in
+    let all = h (e.pieces ∷ later) (subst (λ (ss : List Span). SnippetsHavePieces s.layout.context_lines blank source ss
     (e.pieces ∷ later)) (sym front) (mine, own)) in
-    let read : Contents = contents s.context source group.span in
+    let read : Contents = contents s.layout.context_lines source group.span in
     let lines : List Call = line_calls (texts_of source.bytes (lines_of_contents read)) e.pieces in
-    let others : List Call = group_calls s.context source (spans_grouped (drop (i + 1) groups)) later in
+    let others : List Call = group_calls s.layout.context_lines source (spans_grouped (drop (i + 1) groups)) later in
     let called : Leads was (restarted read ∷ lines) now =
     subst (λ (ts : List (List ℕ)). Leads was (restarted read ∷ line_calls ts e.pieces) now)
-    (lent_texts_are s.context source group.span)
+    (lent_texts_are s.layout.context_lines source group.span)
     (subst (λ (c : Contents). Leads was (restarted c ∷ line_calls (lent_texts c) e.pieces) now) lent.is e.calls) in (
       all.0,
       all.1,
       (λ calls k. all.2 calls (subst (λ (ss : List Span). was
-          (group_calls s.context source ss (e.pieces ∷ later) ++ calls)) (sym front)
+          (group_calls s.layout.context_lines source ss (e.pieces ∷ later) ++ calls)) (sym front)
           (subst (λ (cs : List Call). was (restarted read ∷ cs)) (sym (append_assoc lines others calls))
           (called (others ++ calls) k)))),
       group_step s spreads source labels groups i group e.pieces later page more drawn place front lent d p e.is
@@ -188,24 +196,24 @@ drawn_more s spreads source labels blank begun was now groups i group before pag
 pub record IsWhole (s : SnippetSettings) (spreads : List Spread) (source : Source) (labels : List Label) (blank : Bool)
     (happen : List Call → Type 0) (groups : List Group) (before page : Printout) : Type 0 where
   pub pieces : List (List (List Highlight))
-  pub have : SnippetsHavePieces s.context blank source (spans_grouped groups) pieces
+  pub have : SnippetsHavePieces s.layout.context_lines blank source (spans_grouped groups) pieces
   pub plain : blank ≡ true → pieces ≡ []
-  pub calls : happen (group_calls s.context source (spans_grouped groups) pieces)
+  pub calls : happen (group_calls s.layout.context_lines source (spans_grouped groups) pieces)
   pub is : page ≡ before ⊕ rows_tokens (all_snippets s spreads source (in_order labels) pieces (spans_grouped groups))
 
 -- where lines are left plain there are no pieces
 unless_plain : (s : SnippetSettings) (spreads : List Spread) (source : Source) (labels : List Label) (blank : Bool)
     (happen : List Call → Type 0) (groups : List Group) (before page : Printout) (pieces : List (List (List Highlight)))
     →
-    SnippetsHavePieces s.context blank source (spans_grouped groups) pieces
-    → happen (group_calls s.context source (spans_grouped groups) pieces) → page ≡ before
+    SnippetsHavePieces s.layout.context_lines blank source (spans_grouped groups) pieces
+    → happen (group_calls s.layout.context_lines source (spans_grouped groups) pieces) → page ≡ before
     ⊕ rows_tokens (all_snippets s spreads source (in_order labels) pieces (spans_grouped groups))
     → IsWhole s spreads source labels blank happen groups before page
 unless_plain s spreads source labels true happen groups before page pieces h c e = record {
   pieces = [];
-  have = none_have s.context true source (spans_grouped groups);
+  have = none_have s.layout.context_lines true source (spans_grouped groups);
   plain = λ b. refl;
-  calls = subst happen (calls_plain s.context source (spans_grouped groups) pieces h) c;
+  calls = subst happen (calls_plain s.layout.context_lines source (spans_grouped groups) pieces h) c;
   is = e ∙ ap (λ rows. before ⊕ rows_tokens rows) (snippets_plain s spreads source (in_order labels) pieces
       (spans_grouped groups) h);
 }
@@ -218,10 +226,10 @@ pub all_drawn : (s : SnippetSettings) (spreads : List Spread) (source : Source) 
     IsWhole s spreads source labels blank (λ calls. Leads begun calls now) groups before page
 all_drawn s spreads source labels blank begun now groups i before page h le =
     let none : drop i groups ≡ [] = drop_all i groups le in
-    let all = h [] (none_have s.context blank source (spans_grouped (drop i groups))) in
+    let all = h [] (none_have s.layout.context_lines blank source (spans_grouped (drop i groups))) in
     unless_plain s spreads source labels blank (λ calls. Leads begun calls now) groups before page all.0 all.1
     (λ later k. all.2 later (subst (λ (gs : List Group). now
-    (group_calls s.context source (spans_grouped gs) [] ++ later)) (sym none) k))
+    (group_calls s.layout.context_lines source (spans_grouped gs) [] ++ later)) (sym none) k))
     (sym (put_nil page) ∙ ap (λ gs. page ⊕ rows_tokens (all_snippets s spreads source (in_order labels) []
     (spans_grouped gs))) (sym none) ∙ all.3)
 
@@ -238,31 +246,35 @@ none_refused_here context source labels reads order h =
 pub gives_rows : (s : SnippetSettings) (source : Source) (labels : List Label) (blank : Bool)
     (happen : List Call → Type 0) (reads : List ReadLabel) (groups : List Group) (before page : Printout)
     → map (read_of labels) reads ≡ in_order labels →
-    All (IsRead s.context source labels) reads → AreGroups s.context source (in_order labels) groups
-    → IsWhole (settings_around s (in_order labels)) (spreads_of s.label_lines s.context source (in_order labels))
+    All (IsRead s.layout.context_lines source labels) reads
+    → AreGroups s.layout.context_lines source (in_order labels) groups
+    → IsWhole (settings_around s (in_order labels)) (spreads_of s.layout.label_lines s.layout.context_lines source
+    (in_order labels))
     source labels blank happen groups before page →
     MayGive s source labels blank happen before (Some page)
 gives_rows s source labels blank happen reads groups before page order h g e =
     let ls : List Label = in_order labels in
     let s' : SnippetSettings = settings_around s ls in
     let answers : Answers = record { label_fails = []; join_fails = g.fails; place_fails = []; pieces = e.pieces } in
-    let spans : List Span = groups_of s.context source g.fails ls in
+    let spans : List Span = groups_of s.layout.context_lines source g.fails ls in
     record {
       answers = answers;
       always = λ a. record { labels = tt; joins = g.always a; places = tt };
-      pieces = subst (λ (gs : List Span). SnippetsHavePieces s'.context blank source gs e.pieces) g.are e.have;
+      pieces = subst (λ (gs : List Span). SnippetsHavePieces s'.layout.context_lines blank source gs e.pieces) g.are
+          e.have;
       plain = e.plain;
-      calls = subst (λ r. happen (if is_some r then [] else group_calls s'.context source spans e.pieces))
-          (sym (none_refused_here s.context source labels reads order h))
-          (subst (λ (gs : List Span). happen (group_calls s'.context source gs e.pieces)) g.are e.calls);
+      calls = subst (λ r. happen (if is_some r then [] else group_calls s'.layout.context_lines source spans e.pieces))
+          (sym (none_refused_here s.layout.context_lines source labels reads order h))
+          (subst (λ (gs : List Span). happen (group_calls s'.layout.context_lines source gs e.pieces)) g.are e.calls);
       is = ap Some (e.is ∙ ap (λ gs. before ⊕ rows_tokens (all_snippets s'
-          (spreads_of s.label_lines s.context source ls) source ls e.pieces gs)) g.are)
+          (spreads_of s.layout.label_lines s.layout.context_lines source ls) source ls e.pieces gs)) g.are)
           ∙ sym (ap₂ (λ a b. option_map (λ rows. before ⊕ rows_tokens rows)
-          (cond (a || b) None (Some (all_snippets s' (spreads_of s.label_lines s.context source ls) source ls
+          (cond (a || b) None (Some (all_snippets s' (spreads_of s.layout.label_lines s.layout.context_lines source ls)
+          source ls
           e.pieces spans)))) g.read (some_none [] spans tt))
           ∙ sym (ap (λ r. option_map (λ rows. before ⊕ rows_tokens rows)
           (rows_unless s source ls answers (option_map (refused_row s) r)))
-          (none_refused_here s.context source labels reads order h));
+          (none_refused_here s.layout.context_lines source labels reads order h));
     }
 
 -- the answers up to a place that can't be read
@@ -279,7 +291,8 @@ one_fails (suc i) (g ∷ gs) lt = one_fails i gs (omega (arith, lt))
 pub gives_none : (s : SnippetSettings) (source : Source) (labels : List Label) (blank : Bool)
     (happen : List Call → Type 0) (own : Bool) (reads : List ReadLabel) (groups : List Group) (i : ℕ) (span : Span)
     (found : Found) (before : Printout) → map (read_of labels) reads ≡ in_order labels →
-    All (IsRead s.context source labels) reads → AreGroups s.context source (in_order labels) groups → i < length groups
+    All (IsRead s.layout.context_lines source labels) reads
+    → AreGroups s.layout.context_lines source (in_order labels) groups → i < length groups
     →
     PointsTo source (chosen_label own span None reads) found → is_unread found ≡ true
     → MayGive s source labels blank happen before None
@@ -287,76 +300,82 @@ gives_none s source labels blank happen own reads groups i span found before ord
     let ls : List Label = in_order labels in
     let s' : SnippetSettings = settings_around s ls in
     let answers : Answers = record { label_fails = []; join_fails = g.fails; place_fails = fails_at i; pieces = [] } in
-    let spans : List Span = groups_of s.context source g.fails ls in
-    let failed : source.always_reads ≡ false = unread_fails s.context source labels own span reads found h p u in
+    let spans : List Span = groups_of s.layout.context_lines source g.fails ls in
+    let failed : source.always_reads ≡ false = unread_fails s.layout.context_lines source labels own span reads found h
+    p u in
     let many : i < length spans = omega (arith, lt, ap length g.are, length-map groups (λ (group : Group). group.span))
     in
     record {
       answers = answers;
       always = λ a. cc;
-      pieces = none_have s'.context blank source spans;
+      pieces = none_have s'.layout.context_lines blank source spans;
       plain = λ b. refl;
       calls = tt;
       is = sym (ap₂ (λ a b. option_map (λ rows. before ⊕ rows_tokens rows)
-          (cond (a || b) None (Some (all_snippets s' (spreads_of s.label_lines s.context source ls) source ls []
+          (cond (a || b) None (Some (all_snippets s' (spreads_of s.layout.label_lines s.layout.context_lines source ls)
+          source ls []
           spans)))) g.read (one_fails i spans many))
           ∙ sym (ap (λ r. option_map (λ rows. before ⊕ rows_tokens rows)
           (rows_unless s source ls answers (option_map (refused_row s) r)))
-          (none_refused_here s.context source labels reads order h));
+          (none_refused_here s.layout.context_lines source labels reads order h));
     }
 
 -- the read of a group failed
 pub gives_unread : (s : SnippetSettings) (source : Source) (labels : List Label) (blank : Bool)
     (happen : List Call → Type 0) (reads : List ReadLabel) (before : Printout) → map (read_of labels) reads
-    ≡ in_order labels → All (IsRead s.context source labels) reads →
-    IsUnread s.context source (in_order labels) → MayGive s source labels blank happen before None
+    ≡ in_order labels → All (IsRead s.layout.context_lines source labels) reads →
+    IsUnread s.layout.context_lines source (in_order labels) → MayGive s source labels blank happen before None
 gives_unread s source labels blank happen reads before order h g =
     let ls : List Label = in_order labels in
     let s' : SnippetSettings = settings_around s ls in
     let answers : Answers = record { label_fails = []; join_fails = g.fails; place_fails = []; pieces = [] } in
-    let spans : List Span = groups_of s.context source g.fails ls in
+    let spans : List Span = groups_of s.layout.context_lines source g.fails ls in
     record {
       answers = answers;
       always = λ a. let no : source.always_reads ≡ false = g.always in cc;
-      pieces = none_have s'.context blank source spans;
+      pieces = none_have s'.layout.context_lines blank source spans;
       plain = λ b. refl;
       calls = tt;
       is = sym (ap (λ b. option_map (λ rows. before ⊕ rows_tokens rows)
-          (cond (b || some_fails [] spans) None (Some (all_snippets s' (spreads_of s.label_lines s.context source ls)
+          (cond (b || some_fails [] spans) None (Some (all_snippets s'
+          (spreads_of s.layout.label_lines s.layout.context_lines source ls)
           source ls [] spans)))) g.unread)
           ∙ sym (ap (λ r. option_map (λ rows. before ⊕ rows_tokens rows)
           (rows_unless s source ls answers (option_map (refused_row s) r)))
-          (none_refused_here s.context source labels reads order h));
+          (none_refused_here s.layout.context_lines source labels reads order h));
     }
 
 -- the labels as they are drawn, in order
 pub drawn_is : (s : SnippetSettings) (source : Source) (labels : List Label) (reads : List ReadLabel) (end : Option ℕ)
     (placed : List PlacedLabel) → map (read_of labels) reads ≡ in_order labels →
-    All (IsRead s.context source labels) reads → end ≡ cond s.end_labels (told_end reads) None → placed
-    ≡ placed_from end s.styles.highlights 0 reads →
+    All (IsRead s.layout.context_lines source labels) reads → end ≡ cond s.layout.end_labels (told_end reads) None
+    → placed
+    ≡ placed_from end s.theme.styles.highlights 0 reads →
     map (drawn_of labels) placed ≡ drawn_labels (settings_around s (in_order labels)) (length source.bytes)
     (in_order labels)
 drawn_is s source labels reads end placed order h told e =
     let n : ℕ = length source.bytes in
-    let ends : Bool = s.end_labels && some_shows_end s.context n (in_order labels) in
+    let ends : Bool = s.layout.end_labels && some_shows_end s.layout.context_lines n (in_order labels) in
     ap (map (drawn_of labels)) e
-    ∙ ap (λ x. map (drawn_of labels) (placed_from x s.styles.highlights 0 reads))
-    (told ∙ told_is s.end_labels s.context source labels reads h order)
-    ∙ placed_drawn ends s.styles.highlights s.context source labels 0 reads h
-    ∙ ap (drawn_from ends s.styles.highlights n 0) order
+    ∙ ap (λ x. map (drawn_of labels) (placed_from x s.theme.styles.highlights 0 reads))
+    (told ∙ told_is s.layout.end_labels s.layout.context_lines source labels reads h order)
+    ∙ placed_drawn ends s.theme.styles.highlights s.layout.context_lines source labels 0 reads h
+    ∙ ap (drawn_from ends s.theme.styles.highlights n 0) order
     ∙ sym (drawn_around s n (in_order labels))
 
 -- they come by offset
 pub placed_rise : (s : SnippetSettings) (source : Source) (labels : List Label) (reads : List ReadLabel)
     (end : Option ℕ) (placed : List PlacedLabel) → map (read_of labels) reads ≡ in_order labels →
-    All (IsRead s.context source labels) reads → end ≡ cond s.end_labels (told_end reads) None → placed
-    ≡ placed_from end s.styles.highlights 0 reads → AreSorted placed
+    All (IsRead s.layout.context_lines source labels) reads → end ≡ cond s.layout.end_labels (told_end reads) None
+    → placed
+    ≡ placed_from end s.theme.styles.highlights 0 reads → AreSorted placed
 placed_rise s source labels reads end placed order h told e =
     subst (λ (ps : List PlacedLabel). AreSorted ps) (sym (e
-    ∙ ap (λ x. placed_from x s.styles.highlights 0 reads)
-    (told ∙ told_is s.end_labels s.context source labels reads h order)))
-    (placed_sorted (s.end_labels && some_shows_end s.context (length source.bytes) (in_order labels))
-    s.styles.highlights s.context source labels reads h order)
+    ∙ ap (λ x. placed_from x s.theme.styles.highlights 0 reads)
+    (told ∙ told_is s.layout.end_labels s.layout.context_lines source labels reads h order)))
+    (placed_sorted (s.layout.end_labels && some_shows_end s.layout.context_lines (length source.bytes)
+    (in_order labels))
+    s.theme.styles.highlights s.layout.context_lines source labels reads h order)
 
 pub place_ordered : (context : ℕ) (source : Source) (labels : List Label) (own : Bool) (group : Span)
     (reads : List ReadLabel) (found : Found) → own ≡ has_own labels → map (read_of labels) reads ≡ in_order labels →
@@ -376,7 +395,8 @@ named reasons.OutOfBounds = refl
 pub gives_refused : (s : SnippetSettings) (source : Source) (labels order : List Label) (blank : Bool)
     (happen : List Call → Type 0) (read : ReadLabels) (index : ℕ) (reason : RefusalReason) (label : Label)
     (text : List ℕ) (before page : Printout) →
-    AreRead s.context source labels order read → read ≡ reads.Refused index reason → order ≡ in_order labels → label
+    AreRead s.layout.context_lines source labels order read → read ≡ reads.Refused index reason → order
+    ≡ in_order labels → label
     ≡ get_or labels index label → text ≡ name_of reason →
     page ≡ before ⊕ rows_tokens (refused_row s (record { label = label; name = chars text }) ∷ []) → happen []
     → MayGive s source labels blank happen before (Some page)
@@ -384,8 +404,8 @@ gives_refused s source labels order blank happen read index reason label text be
     =
     let name : List ℕ = chars text in
     let names : name ≡ name_of reason = ap chars called ∙ named reason in
-    let k : AreRead s.context source labels order (reads.Refused index reason) =
-    subst (λ (r : ReadLabels). AreRead s.context source labels order r) is h in
+    let k : AreRead s.layout.context_lines source labels order (reads.Refused index reason) =
+    subst (λ (r : ReadLabels). AreRead s.layout.context_lines source labels order r) is h in
     let ls : List Label = in_order labels in
     let fails : List Bool = k.0 in
     let own : label_at labels index ≡ label = label_got labels index label k.3 ∙ sym at in
@@ -396,10 +416,11 @@ gives_refused s source labels order blank happen read index reason label text be
     record {
       answers = answers;
       always = λ a. record { labels = k.1 a; joins = tt; places = tt };
-      pieces = none_have (group_context s.context ls) blank source (groups_of s.context source [] ls);
+      pieces = none_have (group_context s.layout.context_lines ls) blank source
+          (groups_of s.layout.context_lines source [] ls);
       plain = λ b. refl;
-      calls = subst (λ r. happen (if is_some r then [] else group_calls (group_context s.context ls) source
-          (groups_of s.context source [] ls) [])) (sym refused) nothing;
+      calls = subst (λ r. happen (if is_some r then [] else group_calls (group_context s.layout.context_lines ls) source
+          (groups_of s.layout.context_lines source [] ls) [])) (sym refused) nothing;
       is = ap Some e
           ∙ sym (ap (λ r. option_map (λ rows. before ⊕ rows_tokens rows)
           (rows_unless s source ls answers (option_map (refused_row s) r))) refused);

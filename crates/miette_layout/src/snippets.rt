@@ -3,7 +3,7 @@
 ghost use Rattle.std.specs.Prelude.{◌≡◌, Some, None, map, IfOk, MatchResult, if◌then◌else◌};
 ghost use Rattle.std.specs.List.{All};
 ghost use Rattle.miette_layout.specs.views.Outcomes.{MayGive, RefusesWith};
-ghost use Rattle.miette_snippet_rules.specs.views.ThemeSettings.{settings_of};
+ghost use Rattle.miette_snippet_rules.specs.views.SettingsView.{settings_of};
 ghost use Rattle.miette_labels.specs.views.GivenLabels.{label_at};
 ghost use Rattle.miette_labels.specs.rules.Groups.{in_order};
 ghost use Rattle.miette_snippet_rules.specs.rules.Highlighting.{AreCallsOn, leaves_plain};
@@ -25,7 +25,7 @@ use miette_page::page::Page;
 use miette_protocol::error::RenderError;
 use miette_protocol::protocol::LabeledSpan;
 use miette_protocol::source::SourceCode;
-use miette_snippet_rules::options::Look;
+use miette_snippet_rules::options::SnippetSettings;
 use std::alloc::AllocError;
 
 // The bare name of a reason.
@@ -51,31 +51,29 @@ fn end_wanted(wanted: bool, reads: &[ReadLabel<'_>]) -> Result<Option<usize>, Al
 // The snippets of labels that were read, or none where the read of a group or of some place failed.
 fn read_snippets<'a, 'b, S: SourceCode, H: Highlighter, O: Canvas + Drop>(
     highlighter: &mut Option<H>,
-    look: &Look<'b>,
+    settings: &SnippetSettings<'b>,
     source: &'a S,
     labels: &'b [LabeledSpan],
     reads: &[ReadLabel<'a>],
     page: Page<O>,
 ) -> Result<Option<Page<O>>, AllocError>
     requires order { map (λ read. label_at labels.now read.index) reads.now ≡ in_order labels.now }
-    requires each { All (IsRead look.now.options.context_lines (S.source source.now) labels.now) reads.now }
-    ensures gives { IfOk result (λ given. MayGive (settings_of look.now.theme.now look.now.options)
+    requires each { All (IsRead settings.now.layout.now.context_lines (S.source source.now) labels.now) reads.now }
+    ensures gives { IfOk result (λ given. MayGive (settings_of settings.now)
         (S.source source.now) labels.now (leaves_plain H.is_blank highlighter.old)
         (AreCallsOn H.may_follow highlighter.old highlighter.new) page given) }
     ensures stays { leaves_plain H.is_blank highlighter.new ≡ leaves_plain H.is_blank highlighter.old }
 {
-    let alloc = look.alloc;
-    let end = end_wanted(look.options.end_labels, reads)?;
-    let placed = placed_labels(alloc, &look.theme.styles.highlights, end, reads)?;
-    let Some(groups) = groups(alloc, source, look.options.context_lines, labels, reads)? else {
+    let alloc = settings.alloc;
+    let end = end_wanted(settings.layout.end_labels, reads)?;
+    let placed = placed_labels(alloc, &settings.theme.styles.highlights, end, reads)?;
+    let Some(groups) = groups(alloc, source, settings.layout.context_lines, labels, reads)? else {
         return Ok(None);
     };
-    let spreads = spreads(look, labels, reads)?;
+    let spreads = spreads(settings, labels, reads)?;
     let own = some_own(labels);
     let drawing = Drawing {
-        alloc,
-        theme: look.theme,
-        options: look.options,
+        settings: *settings,
         labels,
         placed: &placed,
         spreads: &spreads,
@@ -106,29 +104,30 @@ fn read_snippets<'a, 'b, S: SourceCode, H: Highlighter, O: Canvas + Drop>(
 // All snippets, or the one row of a label that is refused; none where the read of a group or of some place failed.
 fn all_snippets<'b, S: SourceCode, H: Highlighter, O: Canvas + Drop>(
     highlighter: &mut Option<H>,
-    look: &Look<'b>,
+    settings: &SnippetSettings<'b>,
     source: &S,
     labels: &'b [LabeledSpan],
     page: Page<O>,
 ) -> Result<Option<Page<O>>, AllocError>
-    ensures gives { IfOk result (λ given. MayGive (settings_of look.now.theme.now look.now.options)
+    ensures gives { IfOk result (λ given. MayGive (settings_of settings.now)
         (S.source source.now) labels.now (leaves_plain H.is_blank highlighter.old)
         (AreCallsOn H.may_follow highlighter.old highlighter.new) page given) }
     ensures stays { leaves_plain H.is_blank highlighter.new ≡ leaves_plain H.is_blank highlighter.old }
 {
-    let order = by_offset(look.alloc, labels)?;
+    let order = by_offset(settings.alloc, labels)?;
     match read_labels(
-        look.alloc,
+        settings.alloc,
         source,
-        look.options.context_lines,
+        settings.layout.context_lines,
         labels,
         &order,
     )? {
-        ReadLabels::All(reads) => { read_snippets(highlighter, look, source, labels, &reads, page) }
+        ReadLabels::All(reads) => {
+            read_snippets(highlighter, settings, source, labels, &reads, page)
+        }
         ReadLabels::Refused(index, refusal) => {
             let frame = Frame {
-                theme: look.theme,
-                options: look.options,
+                settings: *settings,
                 number_width: 0,
             };
             let mut page = page;
@@ -146,21 +145,21 @@ fn all_snippets<'b, S: SourceCode, H: Highlighter, O: Canvas + Drop>(
 /// where memory is refused, to the highlighter too.
 pub fn snippets<'b, S: SourceCode, H: Highlighter, O: Canvas + Drop>(
     highlighter: &mut Option<H>,
-    look: &Look<'b>,
+    settings: &SnippetSettings<'b>,
     source: &S,
     labels: &'b [LabeledSpan],
     page: Page<O>,
 ) -> Result<Page<O>, RenderError>
     ensures gives { MatchResult result
-        (λ given. MayGive (settings_of look.now.theme.now look.now.options) (S.source source.now) labels.now
+        (λ given. MayGive (settings_of settings.now) (S.source source.now) labels.now
         (leaves_plain H.is_blank highlighter.old)
         (AreCallsOn H.may_follow highlighter.old highlighter.new) page (Some given))
-        (λ e. RefusesWith (settings_of look.now.theme.now look.now.options) (S.source source.now) labels.now
+        (λ e. RefusesWith (settings_of settings.now) (S.source source.now) labels.now
         (leaves_plain H.is_blank highlighter.old)
         (AreCallsOn H.may_follow highlighter.old highlighter.new) page e) }
     ensures stays { leaves_plain H.is_blank highlighter.new ≡ leaves_plain H.is_blank highlighter.old }
 {
-    match all_snippets(highlighter, look, source, labels, page) {
+    match all_snippets(highlighter, settings, source, labels, page) {
         Ok(Some(page)) => Ok(page),
         Ok(None) => Err(RenderError::Refused),
         Err(_) => Err(RenderError::Memory),

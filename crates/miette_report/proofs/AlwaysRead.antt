@@ -70,11 +70,12 @@ mutual
 
 pub printed-reads : (s : Settings) (t : Tree) → AlwaysReads t → all_read (diagnostics_of s t) ≡ true
 printed-reads s (tree m own c r) q =
-    let causes = if s.chain then printed_causes s.nested own c else [] in
-    and_from (always_reads own (given_labels m.labels)) (all_read (causes ++ printed_related s.nested own r))
+    let causes = if s.cause_chain then printed_causes s.related_as_nested own c else [] in
+    and_from (always_reads own (given_labels m.labels)) (all_read (causes ++ printed_related s.related_as_nested own r))
     (source_reads own (given_labels m.labels) q.0)
-    (all_of_both causes (printed_related s.nested own r) (if_shown s.chain (printed_causes s.nested own c)
-    (causes_read s.nested own c q.0 q.1)) (related_read s.nested own r q.0 q.2))
+    (all_of_both causes (printed_related s.related_as_nested own r)
+    (if_shown s.cause_chain (printed_causes s.related_as_nested own c)
+    (causes_read s.related_as_nested own c q.0 q.1)) (related_read s.related_as_nested own r q.0 q.2))
 
 -- ---- a narrated report: each label that is told is accepted, where the report is
 

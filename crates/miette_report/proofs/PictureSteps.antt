@@ -24,7 +24,7 @@ pub plain-settings : {H : Type 0} (limit : Option ℕ) (theme : GraphicalTheme) 
     → made ≡ without_highlighter (record (default_settings (characters_of theme.characters) (styles_of theme.styles))
     { width = 80; line_columns = limit }) → made ≡ without_highlighter (draw_settings limit)
 plain-settings limit theme made is m = m ∙ ap (λ t. without_highlighter
-    (record (default_settings t.characters t.styles) { width = 80; line_columns = limit })) is
+    (record (default_settings t) { width = 80; line_columns = limit })) is
 
 reads-whole : {H : Type 0} (limit : Option ℕ) (theme : GraphicalTheme) (h : Handling H) (t : Tree) → h
     ≡ without_highlighter (draw_settings limit) → IsReadWhole limit t → all_read (diagnostics_of h.settings t) ≡ true

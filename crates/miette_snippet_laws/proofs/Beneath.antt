@@ -15,7 +15,7 @@ use Rattle.miette_snippet_rules.specs.rules.Marks.{Mark, AreApart}
 use Rattle.miette_snippet_rules.specs.rules.Drawing.{IsNarrow, blank, mark_runs, rows_below, marked_rows}
 use Rattle.miette_snippet_rules.specs.rules.Gutters.{most_labels, gutter_columns, number_gutter, other_gutter}
 use Rattle.miette_snippet_rules.specs.rules.Gutters.{closing_rows, ending_corner, arrow}
-use Rattle.miette_snippet_rules.specs.rules.Frames.{SnippetSettings, other_start, number_start}
+use Rattle.miette_snippet_rules.specs.rules.Frames.{other_start, number_start}
 use Rattle.miette_snippet_rules.specs.rules.SnippetLayout.{line_rows, before_each, line_marks, text_of_cells}
 use Rattle.miette_snippet_laws.specs.laws.Pictures.{mark_at, marks_end, Hangs, AreMarked, ShowMarks, marks_of_line}
 use Rattle.miette_snippet_laws.specs.laws.Pictures.{text_of_line, text_start, HasText}
@@ -27,7 +27,8 @@ use Rattle.miette_snippet_laws.proofs.UnstyledRows.{mark_row, plain_below}
 use Rattle.miette_snippet_laws.proofs.Hanging.{mark_row-at, plain_hang, all_beside, all_more}
 use Rattle.miette_snippet_laws.proofs.Numerals.{AreDigits, are_digits}
 use Rattle.miette_snippet_laws.proofs.Flat.{glyphs_of-append, before_pieces, flat_marks, flat_below}
-use Rattle.miette_style.specs.rules.Themes.{Characters}
+use Rattle.miette_snippet_rules.specs.rules.SnippetLayout.{snippet_context}
+use Rattle.miette_snippet_rules.specs.rules.Settings.{SnippetSettings}
 
 -- the gutter has room for the labels of several lines that lie on a line
 abbrev pub HasRoom : List DrawnLabel → Line → ℕ → Type 0
@@ -51,86 +52,89 @@ front : (run : Run) (row : Row) → columns_of (glyphs_of (run ∷ row)) ≡ col
     + columns_of (glyphs_of row)
 front run row = columns_of-append run.glyphs (glyphs_of row)
 
-pub other_gutter-columns : (width : ℕ → ℕ) (t : Characters) (n : IsNarrow width t) (line : Line) (left : ℕ)
+pub other_gutter-columns : (s : SnippetSettings) (n : IsNarrow s.width s.theme.characters) (line : Line) (left : ℕ)
     (labels : List DrawnLabel) → length labels ≤ left - 2 →
-    columns_of (glyphs_of (other_gutter width t line left labels)) ≡ left
-other_gutter-columns width t n line left [] h = alone (blank width left) ∙ columns_of-blank width left n.space
-other_gutter-columns width t n line left (label ∷ labels) h =
-    by_cases {C = columns_of (glyphs_of (other_gutter width t line left (label ∷ labels))) ≡ left} (ends_on line label)
-    (λ y. rw y (alone (styled_run width label.style (t.lbot ∷ replicate (left - 1) t.hbar))
-    ∙ omega (arith, n.drawings.lbot, columns_of-copies width t.hbar (left - 1) n.drawings.hbar, h)))
-    (λ f. rw f (front (styled_run width label.style (t.vbar ∷ [])) (other_gutter width t line (left - 1) labels)
-    ∙ omega (arith, n.drawings.vbar, h, other_gutter-columns width t n line (left - 1) labels (omega (arith, h)))))
+    columns_of (glyphs_of (other_gutter s line left labels)) ≡ left
+other_gutter-columns s n line left [] h = alone (blank s left) ∙ columns_of-blank s.width left n.space
+other_gutter-columns s n line left (label ∷ labels) h =
+    by_cases {C = columns_of (glyphs_of (other_gutter s line left (label ∷ labels))) ≡ left} (ends_on line label)
+    (λ y. rw y (alone (styled_run s.width label.style (s.theme.characters.lbot
+    ∷ replicate (left - 1) s.theme.characters.hbar))
+    ∙ omega (arith, n.drawings.lbot, columns_of-copies s.width s.theme.characters.hbar (left - 1) n.drawings.hbar, h)))
+    (λ f. rw f (front (styled_run s.width label.style (s.theme.characters.vbar ∷ []))
+    (other_gutter s line (left - 1) labels)
+    ∙ omega (arith, n.drawings.vbar, h, other_gutter-columns s n line (left - 1) labels (omega (arith, h)))))
 
-pub other_start-columns : (s : SnippetSettings) (w : ℕ) → IsNarrow s.width s.characters
+pub other_start-columns : (s : SnippetSettings) (w : ℕ) → IsNarrow s.width s.theme.characters
     → columns_of (glyphs_of (other_start s w)) ≡ w + 4
 other_start-columns s w n =
     columns_of-append (replicate (w + 2) (glyph_of s.width 32))
-    (glyph_of s.width s.characters.vbar_break ∷ glyph_of s.width 32 ∷ [])
+    (glyph_of s.width s.theme.characters.vbar_break ∷ glyph_of s.width 32 ∷ [])
     ∙ omega (arith, n.space, n.drawings.vbar_break, columns_of-blank s.width (w + 2) n.space)
 
 pub other-columns : (s : SnippetSettings) (w columns : ℕ) (labels : List DrawnLabel) (line : Line)
-    → IsNarrow s.width s.characters → HasRoom labels line columns →
-    columns_of (glyphs_of (other_start s w ++ other_gutter s.width s.characters line columns (multi_line line labels)))
+    → IsNarrow s.width s.theme.characters → HasRoom labels line columns →
+    columns_of (glyphs_of (other_start s w ++ other_gutter s line columns (multi_line line labels)))
     ≡ text_start w columns
 other-columns s w columns labels line n room =
-    let gutter : Row = other_gutter s.width s.characters line columns (multi_line line labels) in
+    let gutter : Row = other_gutter s line columns (multi_line line labels) in
     ap columns_of (glyphs_of-append (other_start s w) gutter)
     ∙ columns_of-append (glyphs_of (other_start s w)) (glyphs_of gutter)
     ∙ omega (
       arith,
       other_start-columns s w n,
-      other_gutter-columns s.width s.characters n line columns
+      other_gutter-columns s n line columns
           (multi_line line labels) room,
     )
 
 -- marks and texts behind a prefix, with more rows below
-marked : (s : SnippetSettings) (n : IsNarrow s.width s.characters) (prefix : Row) (more : List Row) (ms : List Mark)
+marked : (s : SnippetSettings) (n : IsNarrow s.width s.theme.characters) (prefix : Row) (more : List Row)
+    (ms : List Mark)
     → AreApart 0 ms →
-    AreMarked s (columns_of (glyphs_of prefix)) ms ((prefix ++ mark_runs s.width s.characters 0 ms)
-    ∷ (before_each prefix (rows_below s.width s.characters [] ms) ++ more))
+    AreMarked s (columns_of (glyphs_of prefix)) ms ((prefix ++ mark_runs s 0 ms)
+    ∷ (before_each prefix (rows_below s [] ms) ++ more))
 marked s n prefix more ms apart =
-    let width : ℕ → ℕ = s.width in
-    let t : Characters = s.characters in
     let start : ℕ = columns_of (glyphs_of prefix) in
     let z : marks_end 0 ms - 0 ≡ marks_end 0 ms = omega arith in
-    let flat : glyphs_of (mark_runs width t 0 ms) ≡ mark_row width t ms = flat_marks width t 0 ms apart
-    ∙ ap (λ k. map (mark_at width t ms) (range_with_len 0 k)) z in
-    let below : List (List Glyph) = map (λ row. glyphs_of prefix ++ row) (plain_below width t [] ms) in
-    let under : map glyphs_of (before_each prefix (rows_below width t [] ms) ++ more) ≡ below ++ map glyphs_of more =
-    map-append glyphs_of (before_each prefix (rows_below width t [] ms)) more
-    ∙ ap (λ r. r ++ map glyphs_of more) (before_pieces prefix (rows_below width t [] ms)
-    ∙ ap (map (λ row. glyphs_of prefix ++ row)) (flat_below width t [] ms apart)) in (
-      λ column lt. ap (λ r. code_at r (start + column)) (glyphs_of-append prefix (mark_runs width t 0 ms))
-          ∙ code_at-append (glyphs_of prefix) (glyphs_of (mark_runs width t 0 ms)) column
-          ∙ ap (λ r. code_at r column) flat ∙ mark_row-at width t n ms column lt,
-      subst (λ (rows : List (List Glyph)). AllByRecursion (Hangs width t rows start) ms) (sym under)
-          (all_more width t start below (map glyphs_of more) ms
-          (all_beside width t (glyphs_of prefix) (plain_below width t [] ms) ms (plain_hang width t ms n apart))),
+    let flat : glyphs_of (mark_runs s 0 ms) ≡ mark_row s ms = flat_marks s 0 ms apart
+    ∙ ap (λ k. map (mark_at s ms) (range_with_len 0 k)) z in
+    let below : List (List Glyph) = map (λ row. glyphs_of prefix ++ row) (plain_below s [] ms) in
+    let under : map glyphs_of (before_each prefix (rows_below s [] ms) ++ more) ≡ below ++ map glyphs_of more =
+    map-append glyphs_of (before_each prefix (rows_below s [] ms)) more
+    ∙ ap (λ r. r ++ map glyphs_of more) (before_pieces prefix (rows_below s [] ms)
+    ∙ ap (map (λ row. glyphs_of prefix ++ row)) (flat_below s [] ms apart)) in (
+      λ column lt. ap (λ r. code_at r (start + column)) (glyphs_of-append prefix (mark_runs s 0 ms))
+          ∙ code_at-append (glyphs_of prefix) (glyphs_of (mark_runs s 0 ms)) column
+          ∙ ap (λ r. code_at r column) flat ∙ mark_row-at s n ms column lt,
+      subst (λ (rows : List (List Glyph)). AllByRecursion (Hangs s rows start) ms) (sym under)
+          (all_more s start below (map glyphs_of more) ms
+          (all_beside s (glyphs_of prefix) (plain_below s [] ms) ms (plain_hang s ms n apart))),
     )
 
-shown : (s : SnippetSettings) (n : IsNarrow s.width s.characters) (prefix : Row) (number : Row) (more : List Row)
+shown : (s : SnippetSettings) (n : IsNarrow s.width s.theme.characters) (prefix : Row) (number : Row) (more : List Row)
     (ms : List Mark) → AreApart 0 ms →
-    ShowMarks s (columns_of (glyphs_of prefix)) ms (number ∷ before_each prefix (marked_rows s.width s.characters ms)
+    ShowMarks s (columns_of (glyphs_of prefix)) ms (number ∷ before_each prefix (marked_rows s ms)
     ++ more)
 shown s n prefix number more [] apart = tt
 shown s n prefix number more (m ∷ ms) apart = marked s n prefix more (m ∷ ms) apart
 
 -- each text of the labels that lie on a line alone hangs in the line's rows
 pub line_shows : (s : SnippetSettings) (w columns : ℕ) (labels : List DrawnLabel) (line : Line) (number : ℕ)
-    (cells : List Cell) (pieces : List Highlight) → IsNarrow s.width s.characters → HasRoom labels line columns
+    (cells : List Cell) (pieces : List Highlight) → IsNarrow s.width s.theme.characters → HasRoom labels line columns
     → AreColumns 0 cells →
     ShowMarks s (text_start w columns) (marks_of_line s labels line cells)
-    (line_rows s w columns labels line number cells pieces)
+    (line_rows (snippet_context s w columns labels (λ _. cells)) line number pieces)
 line_shows s w columns labels line number cells pieces n room whole =
     subst (λ (start : ℕ). ShowMarks s start (marks_of_line s labels line cells)
-    (line_rows s w columns labels line number cells pieces)) (other-columns s w columns labels line n room)
-    (shown s n (other_start s w ++ other_gutter s.width s.characters line columns (multi_line line labels))
-    (number_start s w number ++ number_gutter s.width s.characters line columns (multi_line line labels)
+    (line_rows (snippet_context s w columns labels (λ _. cells)) line number pieces))
+    (other-columns s w columns labels line n room)
+    (shown s n (other_start s w ++ other_gutter s line columns (multi_line line labels))
+    (number_start s w number ++ number_gutter s line columns (multi_line line labels)
     ++ text_of_line s labels line cells pieces)
-    (before_each (other_start s w) (closing_rows s.width s.characters line columns (multi_line line labels)
+    (before_each (other_start s w) (closing_rows s line columns (multi_line line labels)
     (closing_labels line (multi_line line labels))))
-    (marks_of_line s labels line cells) (shown_apart s.line_columns (line_marks line cells (one_line line labels)) cells
+    (marks_of_line s labels line cells) (shown_apart s.layout.line_columns
+    (line_marks line cells (one_line line labels)) cells
     whole (marks_apart (text_of_cells cells line.text_end) (one_line line labels))))
 
 -- the gutters of a snippet have room on each of its lines
@@ -165,31 +169,33 @@ all_room labels lines = room-of labels (most_labels labels lines) lines (most-ge
 
 -- a row of digits
 
-digits-columns : (width : ℕ → ℕ) (t : Characters) (n : IsNarrow width t) (ds : List ℕ) → AreDigits ds
-    → columns_of (map (glyph_of width) ds) ≡ length ds
-digits-columns width t n [] h = refl
-digits-columns width t n (d ∷ ds) h =
-    omega (arith, n.digits d h.0.0 h.0.1, digits-columns width t n ds h.1)
+digits-columns : (s : SnippetSettings) (n : IsNarrow s.width s.theme.characters) (ds : List ℕ) → AreDigits ds
+    → columns_of (map (glyph_of s.width) ds) ≡ length ds
+digits-columns s n [] h = refl
+digits-columns s n (d ∷ ds) h =
+    omega (arith, n.digits d h.0.0 h.0.1, digits-columns s n ds h.1)
 
-decimal-columns : (width : ℕ → ℕ) (t : Characters) (n : IsNarrow width t) (number : ℕ)
-    → columns_of (map (glyph_of width) (decimal number)) ≡ length (decimal number)
-decimal-columns width t n number = digits-columns width t n (decimal number) (are_digits number)
+decimal-columns : (s : SnippetSettings) (n : IsNarrow s.width s.theme.characters) (number : ℕ)
+    → columns_of (map (glyph_of s.width) (decimal number)) ≡ length (decimal number)
+decimal-columns s n number = digits-columns s n (decimal number) (are_digits number)
 
 -- a text of spaces and more
-padded : (width : ℕ → ℕ) (t : Characters) (n : IsNarrow width t) (many : ℕ) (text : List ℕ)
-    → columns_of (map (glyph_of width) (replicate many 32 ++ text)) ≡ many + columns_of (map (glyph_of width) text)
-padded width t n many text =
-    ap columns_of (map-append (glyph_of width) (replicate many 32) text)
-    ∙ columns_of-append (map (glyph_of width) (replicate many 32)) (map (glyph_of width) text)
-    ∙ omega (arith, columns_of-copies width 32 many n.space)
+padded : (s : SnippetSettings) (n : IsNarrow s.width s.theme.characters) (many : ℕ) (text : List ℕ)
+    → columns_of (map (glyph_of s.width) (replicate many 32 ++ text)) ≡ many + columns_of (map (glyph_of s.width) text)
+padded s n many text =
+    ap columns_of (map-append (glyph_of s.width) (replicate many 32) text)
+    ∙ columns_of-append (map (glyph_of s.width) (replicate many 32)) (map (glyph_of s.width) text)
+    ∙ omega (arith, columns_of-copies s.width 32 many n.space)
 
-number_start-columns : (s : SnippetSettings) (w number : ℕ) → IsNarrow s.width s.characters → length (decimal number)
+number_start-columns : (s : SnippetSettings) (w number : ℕ) → IsNarrow s.width s.theme.characters
+    → length (decimal number)
     ≤ w → columns_of (glyphs_of (number_start s w number)) ≡ w + 4
 number_start-columns s w number n fits =
     let width : ℕ → ℕ = s.width in
-    let num : Run = styled_run width s.styles.linum (replicate (w - length (decimal number)) 32 ++ decimal number) in
-    let bar : Run = styled_run width plain (32 ∷ s.characters.vbar ∷ 32 ∷ []) in
-    front (blank width 1) (num ∷ bar ∷ [])
+    let num : Run = styled_run width s.theme.styles.linum (replicate (w - length (decimal number)) 32 ++ decimal number)
+    in
+    let bar : Run = styled_run width plain (32 ∷ s.theme.characters.vbar ∷ 32 ∷ []) in
+    front (blank s 1) (num ∷ bar ∷ [])
     ∙ omega (
       arith,
       columns_of-blank width 1 n.space,
@@ -198,54 +204,57 @@ number_start-columns s w number n fits =
       n.space,
       n.drawings.vbar,
       fits,
-      padded width s.characters n (w - length (decimal number)) (decimal number),
-      decimal-columns width s.characters n number,
+      padded s n (w - length (decimal number)) (decimal number),
+      decimal-columns s n number,
     )
 
-corner-narrow : (width : ℕ → ℕ) (t : Characters) (n : IsNarrow width t) (parts : List (List ℕ))
-    → width (ending_corner t parts) ≡ 1
-corner-narrow width t n [] = n.drawings.lbot
-corner-narrow width t n (part ∷ parts) = n.drawings.lcross
+corner-narrow : (s : SnippetSettings) (n : IsNarrow s.width s.theme.characters) (parts : List (List ℕ))
+    → s.width (ending_corner s.theme.characters parts) ≡ 1
+corner-narrow s n [] = n.drawings.lbot
+corner-narrow s n (part ∷ parts) = n.drawings.lcross
 
-arrow-columns : (width : ℕ → ℕ) (t : Characters) (n : IsNarrow width t) (label : DrawnLabel) (corner left : ℕ)
-    → width corner ≡ 1 → 3 ≤ left → columns_of (glyphs_of (arrow width t label corner left ∷ blank width 1 ∷ [])) ≡ left
-arrow-columns width t n label corner left one le =
-    front (arrow width t label corner left) (blank width 1 ∷ [])
+arrow-columns : (s : SnippetSettings) (n : IsNarrow s.width s.theme.characters) (label : DrawnLabel) (corner left : ℕ)
+    → s.width corner ≡ 1 → 3 ≤ left → columns_of (glyphs_of (arrow s label corner left ∷ blank s 1 ∷ [])) ≡ left
+arrow-columns s n label corner left one le =
+    front (arrow s label corner left) (blank s 1 ∷ [])
     ∙ omega (
       arith,
       one,
       le,
-      alone (blank width 1),
-      columns_of-blank width 1 n.space,
+      alone (blank s 1),
+      columns_of-blank s.width 1 n.space,
       n.drawings.rarrow,
-      columns_of-copies width t.hbar (left - 3) n.drawings.hbar,
-      ap columns_of (map-append (glyph_of width) (replicate (left - 3) t.hbar) (t.rarrow ∷ [])),
-      columns_of-append (map (glyph_of width) (replicate (left - 3) t.hbar)) (glyph_of width t.rarrow ∷ []),
+      columns_of-copies s.width s.theme.characters.hbar (left - 3) n.drawings.hbar,
+      ap columns_of (map-append (glyph_of s.width) (replicate (left - 3) s.theme.characters.hbar)
+          (s.theme.characters.rarrow ∷ [])),
+      columns_of-append (map (glyph_of s.width) (replicate (left - 3) s.theme.characters.hbar))
+          (glyph_of s.width s.theme.characters.rarrow ∷ []),
     )
 
-number_gutter-columns : (width : ℕ → ℕ) (t : Characters) (n : IsNarrow width t) (line : Line) (left : ℕ)
+number_gutter-columns : (s : SnippetSettings) (n : IsNarrow s.width s.theme.characters) (line : Line) (left : ℕ)
     (labels : List DrawnLabel) → length labels ≤ left - 2 →
-    columns_of (glyphs_of (number_gutter width t line left labels)) ≡ left
-number_gutter-columns width t n line left [] h = alone (blank width left) ∙ columns_of-blank width left n.space
-number_gutter-columns width t n line left (label ∷ labels) h =
-    by_cases {C = columns_of (glyphs_of (number_gutter width t line left (label ∷ labels))) ≡ left}
+    columns_of (glyphs_of (number_gutter s line left labels)) ≡ left
+number_gutter-columns s n line left [] h = alone (blank s left) ∙ columns_of-blank s.width left n.space
+number_gutter-columns s n line left (label ∷ labels) h =
+    by_cases {C = columns_of (glyphs_of (number_gutter s line left (label ∷ labels))) ≡ left}
     (starts_on line label)
-    (λ y. rw y (arrow-columns width t n label t.ltop left n.drawings.ltop (omega (arith, h))))
-    (λ f. by_cases {C = columns_of (glyphs_of (number_gutter width t line left (label ∷ labels))) ≡ left}
+    (λ y. rw y (arrow-columns s n label s.theme.characters.ltop left n.drawings.ltop (omega (arith, h))))
+    (λ f. by_cases {C = columns_of (glyphs_of (number_gutter s line left (label ∷ labels))) ≡ left}
     (ends_on line label)
-    (λ y. rw (f, y) (arrow-columns width t n label (ending_corner t label.parts) left
-    (corner-narrow width t n label.parts) (omega (arith, h))))
-    (λ g. rw (f, g) (front (styled_run width label.style (t.vbar ∷ [])) (number_gutter width t line (left - 1) labels)
-    ∙ omega (arith, n.drawings.vbar, h, number_gutter-columns width t n line (left - 1) labels (omega (arith, h))))))
+    (λ y. rw (f, y) (arrow-columns s n label (ending_corner s.theme.characters label.parts) left
+    (corner-narrow s n label.parts) (omega (arith, h))))
+    (λ g. rw (f, g) (front (styled_run s.width label.style (s.theme.characters.vbar ∷ []))
+    (number_gutter s line (left - 1) labels)
+    ∙ omega (arith, n.drawings.vbar, h, number_gutter-columns s n line (left - 1) labels (omega (arith, h))))))
 
 -- the text of a number row begins where the marks' columns do
 pub line_begins : (s : SnippetSettings) (w columns : ℕ) (labels : List DrawnLabel) (line : Line) (number : ℕ)
-    (cells : List Cell) (pieces : List Highlight) → IsNarrow s.width s.characters → HasRoom labels line columns →
+    (cells : List Cell) (pieces : List Highlight) → IsNarrow s.width s.theme.characters → HasRoom labels line columns →
     length (decimal number) ≤ w → HasText (text_start w columns) (text_of_line s labels line cells pieces)
-    (line_rows s w columns labels line number cells pieces)
+    (line_rows (snippet_context s w columns labels (λ _. cells)) line number pieces)
 line_begins s w columns labels line number cells pieces n room fits =
     let start : Row = number_start s w number in
-    let gutter : Row = number_gutter s.width s.characters line columns (multi_line line labels) in
+    let gutter : Row = number_gutter s line columns (multi_line line labels) in
     let text : Row = text_of_line s labels line cells pieces in (
       glyphs_of start ++ glyphs_of gutter,
       glyphs_of-append (start ++ gutter) text ∙ ap (λ r. r ++ glyphs_of text) (glyphs_of-append start gutter),
@@ -253,6 +262,6 @@ line_begins s w columns labels line number cells pieces n room fits =
           ∙ omega (
             arith,
             number_start-columns s w number n fits,
-            number_gutter-columns s.width s.characters n line columns (multi_line line labels) room,
+            number_gutter-columns s n line columns (multi_line line labels) room,
           ),
     )

@@ -13,7 +13,6 @@ use Rattle.miette_snippet_rules.specs.rules.CutLines.{Stretch, agree, columns_in
 use Rattle.miette_snippet_rules.specs.rules.CutLines.{is_near_after, onto_stretches, row_column, row_mark, shown_marks}
 use Rattle.miette_snippet_rules.specs.rules.CutLines.{shown_runs, stretches}
 use Rattle.miette_snippet_rules.specs.rules.Marks.{Mark}
-use Rattle.miette_snippet_rules.specs.rules.Frames.{SnippetSettings}
 use Rattle.miette_snippet_rules.specs.rules.PrintedCells.{cells_width}
 use Rattle.miette_snippet_rules.specs.rules.SnippetLayout.{cells_of, line_marks, text_of_cells}
 use Rattle.miette_snippet_rules.proofs.CutColumns.{AreColumns, columns_in-append}
@@ -23,6 +22,7 @@ use Rattle.miette_snippet_laws.proofs.CutShowing.{cut_pieces}
 use Rattle.miette_snippet_laws.proofs.CutWidth.{row_width, pieces-columns, cells-columns, whole-columns}
 use Rattle.miette_snippet_laws.proofs.Ending.{behind_text}
 use Rattle.miette_snippet_laws.proofs.Whole.{line_columns}
+use Rattle.miette_snippet_rules.specs.rules.Settings.{SnippetSettings}
 
 -- ---- the columns of stretches, all of them shown
 
@@ -98,5 +98,5 @@ pub behind_shown : (s : SnippetSettings) (labels : List DrawnLabel) (source : Li
 behind_shown s labels source line pieces =
     let cells : List Cell = cells_of s source line in
     let one : List DrawnLabel = one_line line labels in
-    shown_behind s.line_columns (line_marks line cells one) cells pieces (line_columns s source line)
+    shown_behind s.layout.line_columns (line_marks line cells one) cells pieces (line_columns s source line)
     (behind_text (text_of_cells cells line.text_end) one)

@@ -13,7 +13,7 @@ use Rattle.miette_page.specs.rules.Rows.{columns_of, glyphs_of}
 use Rattle.miette_snippet_rules.specs.rules.CutLines.{cut_line, shown_marks, shown_runs}
 use Rattle.miette_snippet_rules.specs.rules.Drawing.{marked_rows}
 use Rattle.miette_snippet_rules.specs.rules.Folds.{Spread}
-use Rattle.miette_snippet_rules.specs.rules.Frames.{SnippetSettings, number_start, other_start, number_width}
+use Rattle.miette_snippet_rules.specs.rules.Frames.{number_start, other_start, number_width}
 use Rattle.miette_snippet_rules.specs.rules.Gutters.{closing_rows, gutter_columns, number_gutter, other_gutter}
 use Rattle.miette_snippet_rules.specs.rules.Marks.{Mark, Text, mark_until, marks_from}
 use Rattle.miette_snippet_rules.specs.rules.PrintedCells.{cells_width}
@@ -25,6 +25,8 @@ use Rattle.miette_snippet_laws.specs.laws.Cuts.{AreAsWide, Fits, most_columns}
 use Rattle.miette_snippet_laws.specs.laws.Pictures.{text_of_line}
 use Rattle.miette_snippet_laws.proofs.CutWidth.{row_bound}
 use Rattle.miette_snippet_laws.proofs.Whole.{line_columns}
+use Rattle.miette_snippet_rules.specs.rules.SnippetLayout.{snippet_context}
+use Rattle.miette_snippet_rules.specs.rules.Settings.{SnippetSettings}
 
 -- a mark for each label
 marks-length : (text : Text) (reached : ℕ) (labels : List DrawnLabel) → length (marks_from text reached labels)
@@ -33,7 +35,7 @@ marks-length text reached [] = refl
 marks-length text reached (label ∷ labels) = ap suc (marks-length text (mark_until text reached label) labels)
 
 pub rows_narrow : (s : SnippetSettings) (labels : List DrawnLabel) (source : List ℕ) (line : Line)
-    (pieces : List Highlight) (limit widest : ℕ) → s.line_columns ≡ Some limit
+    (pieces : List Highlight) (limit widest : ℕ) → s.layout.line_columns ≡ Some limit
     → AreAsWide widest (cells_of s source line) →
     columns_of (glyphs_of (text_of_line s labels line (cells_of s source line) pieces))
     ≤ most_columns limit (length (one_line line labels)) widest
@@ -53,32 +55,35 @@ cut_none None ms cells h = refl
 cut_none (Some limit) ms cells h = rw (le-ltb limit (cells_width 0 cells) h) refl
 
 line_stays : (s : SnippetSettings) (w columns : ℕ) (labels : List DrawnLabel) (line : Line) (number : ℕ)
-    (cells : List Cell) (pieces : List Highlight) → Fits s.line_columns cells →
-    line_rows s w columns labels line number cells pieces
-    ≡ line_rows (record s { line_columns = None }) w columns labels line number cells pieces
+    (cells : List Cell) (pieces : List Highlight) → Fits s.layout.line_columns cells →
+    line_rows (snippet_context s w columns labels (λ _. cells)) line number pieces
+    ≡ line_rows (snippet_context (record s { layout = record s.layout { line_columns = None } }) w columns labels
+    (λ _. cells)) line number pieces
 line_stays s w columns labels line number cells pieces fits =
     let one : List DrawnLabel = one_line line labels in
     let multi : List DrawnLabel = multi_line line labels in
-    ap (λ o. (number_start s w number ++ number_gutter s.width s.characters line columns multi
+    ap (λ o. (number_start s w number ++ number_gutter s line columns multi
     ++ shown_runs o pieces cells)
-    ∷ before_each (other_start s w ++ other_gutter s.width s.characters line columns multi)
-    (marked_rows s.width s.characters (shown_marks o (line_marks line cells one)))
-    ++ before_each (other_start s w) (closing_rows s.width s.characters line columns multi (closing_labels line multi)))
-    (cut_none s.line_columns (line_marks line cells one) cells fits)
+    ∷ before_each (other_start s w ++ other_gutter s line columns multi)
+    (marked_rows s (shown_marks o (line_marks line cells one)))
+    ++ before_each (other_start s w) (closing_rows s line columns multi (closing_labels line multi)))
+    (cut_none s.layout.line_columns (line_marks line cells one) cells fits)
 
 line_or_break_stays : (gap out : Bool) (s : SnippetSettings) (w columns : ℕ) (labels : List DrawnLabel) (line : Line)
-    (number : ℕ) (cells : List Cell) (pieces : List Highlight) → Fits s.line_columns cells →
-    line_or_break gap out s w columns labels line number cells pieces
-    ≡ line_or_break gap out (record s { line_columns = None }) w columns labels line number cells pieces
+    (number : ℕ) (cells : List Cell) (pieces : List Highlight) → Fits s.layout.line_columns cells →
+    line_or_break gap out (snippet_context s w columns labels (λ _. cells)) line number pieces
+    ≡ line_or_break gap out (snippet_context (record s { layout = record s.layout { line_columns = None } }) w columns
+    labels (λ _. cells)) line number pieces
 line_or_break_stays gap out s w columns labels line number cells pieces fits =
     ap (λ rows. cond out (cond gap [] (break_row s w (multi_line line labels) ∷ [])) rows)
     (line_stays s w columns labels line number cells pieces fits)
 
 lines_stay : (out : ℕ → Line → Bool) (gap : Bool) (s : SnippetSettings) (w columns : ℕ) (labels : List DrawnLabel)
     (source : List ℕ) (number : ℕ) (pieces : List (List Highlight)) (lines : List Line) →
-    AllByRecursion (λ line. Fits s.line_columns (cells_of s source line)) lines →
-    rows_of_lines out gap s w columns labels source number pieces lines
-    ≡ rows_of_lines out gap (record s { line_columns = None }) w columns labels source number pieces lines
+    AllByRecursion (λ line. Fits s.layout.line_columns (cells_of s source line)) lines →
+    rows_of_lines out gap (snippet_context s w columns labels (cells_of s source)) number pieces lines
+    ≡ rows_of_lines out gap (snippet_context (record s { layout = record s.layout { line_columns = None } }) w columns
+    labels (cells_of (record s { layout = record s.layout { line_columns = None } }) source)) number pieces lines
 lines_stay out gap s w columns labels source number pieces [] h = refl
 lines_stay out gap s w columns labels source number pieces (line ∷ lines) h =
     ap₂ (λ a b. a ++ b) (line_or_break_stays gap (out number line) s w columns labels line number
@@ -87,8 +92,9 @@ lines_stay out gap s w columns labels source number pieces (line ∷ lines) h =
 
 pub bodies_stay : (s : SnippetSettings) (spreads : List Spread) (labels : List DrawnLabel) (source : List ℕ)
     (read : Contents) (pieces : List (List Highlight)) → AllByRecursion
-    (λ line. Fits s.line_columns (cells_of s source line)) (lines_of_contents read) →
-    body_rows s spreads labels source read pieces ≡ body_rows (record s { line_columns = None }) spreads labels source
+    (λ line. Fits s.layout.line_columns (cells_of s source line)) (lines_of_contents read) →
+    body_rows s spreads labels source read pieces ≡ body_rows
+    (record s { layout = record s.layout { line_columns = None } }) spreads labels source
     read pieces
 bodies_stay s spreads labels source read pieces h =
     lines_stay (left_out s read.line (lines_of_contents read) spreads) false s (number_width read)

@@ -15,7 +15,7 @@ use Rattle.miette_labels.specs.rules.Groups.{Refusal, in_order, refusal, groups_
 use Rattle.miette_labels.specs.rules.Labels.{DrawnLabel, drawn_label, drawn_from, style_at, parts_of, is_at_end}
 use Rattle.miette_labels.specs.rules.Labels.{shows_end, some_shows_end}
 use Rattle.miette_snippet_rules.specs.rules.Folds.{Spread, spreads_of}
-use Rattle.miette_snippet_rules.specs.rules.Frames.{SnippetSettings, refused_row, number_width, top_row, bottom_row}
+use Rattle.miette_snippet_rules.specs.rules.Frames.{refused_row, number_width, top_row, bottom_row}
 use Rattle.miette_snippet_rules.specs.rules.Gutters.{gutter_columns}
 use Rattle.miette_snippet_rules.specs.rules.Marks.{Text, marks_from, mark_from, mark_until}
 use Rattle.miette_snippet_rules.specs.rules.SnippetLayout.{cells_of, line_or_break, rows_of_lines, left_out, body_rows}
@@ -30,6 +30,8 @@ use Rattle.miette_basics.proofs.Cases.{by_cases}
 use Rattle.miette_labels.proofs.Owning.{own_ordered, order_any}
 use Rattle.miette_labels.proofs.Sources.{IsCut, lines}
 use Rattle.miette_snippet_rules.proofs.Endings.{shows_around}
+use Rattle.miette_snippet_rules.specs.rules.SnippetLayout.{snippet_context}
+use Rattle.miette_snippet_rules.specs.rules.Settings.{SnippetSettings}
 
 -- ---- the last line
 
@@ -78,14 +80,15 @@ some_bytes n lines (label ∷ labels) h =
     (λ f. let no : shows_end n (lines label) label ≡ false = and_left (ltb 0 n) _ f in
     some_bytes n lines labels (sym (ap (λ b. b || list_any (λ label. shows_end n (lines label) label) labels) no) ∙ h))
 
-pub ends_stand : (s : SnippetSettings) (bytes : List ℕ) (labels : List Label) → s.end_labels ≡ true
-    → some_shows_end s.context (length bytes) labels ≡ true → EndsStandBehind s bytes labels
+pub ends_stand : (s : SnippetSettings) (bytes : List ℕ) (labels : List Label) → s.layout.end_labels ≡ true
+    → some_shows_end s.layout.context_lines (length bytes) labels ≡ true → EndsStandBehind s bytes labels
 ends_stand s bytes labels on shows =
     let n : ℕ = length bytes in
     let line : Line = last_line (lines_of bytes) in
     let last = last_of_bytes bytes (some_bytes n _ labels shows) in
-    ap (λ b. map (stands_behind line) (drawn_from b s.styles.highlights n 0 labels)) (and_from s.end_labels _ on shows)
-    ∙ all_stand line s.styles.highlights n 0 labels last.0 last.1
+    ap (λ b. map (stands_behind line) (drawn_from b s.theme.styles.highlights n 0 labels))
+    (and_from s.layout.end_labels _ on shows)
+    ∙ all_stand line s.theme.styles.highlights n 0 labels last.0 last.1
 
 -- ---- their marks
 
@@ -104,27 +107,31 @@ behind_text text labels = far_from text 0 labels
 
 lines_alike : (a b : Bool) (out : ℕ → Line → Bool) (gap : Bool) (s : SnippetSettings) (w columns : ℕ)
     (labels : List DrawnLabel) (source : List ℕ) (number : ℕ) (pieces : List (List Highlight)) (ls : List Line) →
-    rows_of_lines out gap (with_ends a s) w columns labels source number pieces ls
-    ≡ rows_of_lines out gap (with_ends b s) w columns labels source number pieces ls
+    rows_of_lines out gap (snippet_context (with_ends a s) w columns labels (cells_of (with_ends a s) source)) number
+    pieces ls
+    ≡ rows_of_lines out gap (snippet_context (with_ends b s) w columns labels (cells_of (with_ends b s) source)) number
+    pieces ls
 lines_alike a b out gap s w columns labels source number pieces [] = refl
 lines_alike a b out gap s w columns labels source number pieces (l ∷ ls) =
-    ap (λ rows. line_or_break gap (out number l) (with_ends a s) w columns labels l number
-    (cells_of (with_ends a s) source l) (first_of pieces) ++ rows)
+    ap (λ rows. line_or_break gap (out number l) (snippet_context (with_ends a s) w columns labels
+    (λ _. cells_of (with_ends a s) source l)) l number (first_of pieces) ++ rows)
     (lines_alike a b out (out number l) s w columns labels source (number + 1) (drop 1 pieces) ls)
 
-drawn_alike : (a : Bool) (s : SnippetSettings) (n : ℕ) (labels : List Label) → some_shows_end s.context n labels ≡ false
+drawn_alike : (a : Bool) (s : SnippetSettings) (n : ℕ) (labels : List Label)
+    → some_shows_end s.layout.context_lines n labels ≡ false
     → drawn_labels (with_ends a s) n labels ≡ drawn_labels (with_ends false s) n labels
-drawn_alike a s n labels none = ap (λ ends. drawn_from ends s.styles.highlights n 0 labels) (and_right a _ none)
+drawn_alike a s n labels none = ap (λ ends. drawn_from ends s.theme.styles.highlights n 0 labels) (and_right a _ none)
 
 snippets_alike : (a : Bool) (s : SnippetSettings) (spreads : List Spread) (source : Source) (labels : List Label)
-    (pieces : List (List (List Highlight))) (groups : List Span) → some_shows_end s.context (length source.bytes) labels
+    (pieces : List (List (List Highlight))) (groups : List Span)
+    → some_shows_end s.layout.context_lines (length source.bytes) labels
     ≡ false →
     all_snippets (with_ends a s) spreads source labels pieces groups
     ≡ all_snippets (with_ends false s) spreads source labels pieces groups
 snippets_alike a s spreads source labels pieces [] none = refl
 snippets_alike a s spreads source labels pieces (group ∷ groups) none =
     let n : ℕ = length source.bytes in
-    let read : Contents = contents s.context source group in
+    let read : Contents = contents s.layout.context_lines source group in
     let framed : List Row → List Row = λ rows. top_row s read (place_of source group labels) ∷ rows
     ++ bottom_row s (number_width read) ∷ [] in
     let body : List DrawnLabel → List Row = λ drawn. body_rows (with_ends a s) spreads drawn source.bytes read
@@ -138,16 +145,18 @@ snippets_alike a s spreads source labels pieces (group ∷ groups) none =
     (snippets_alike a s spreads source labels (drop 1 pieces) groups none)
 
 unless_alike : (a : Bool) (s : SnippetSettings) (source : Source) (labels : List Label) (answers : Answers)
-    (refused : Option Refusal) → some_shows_end s.context (length source.bytes) labels ≡ false →
+    (refused : Option Refusal) → some_shows_end s.layout.context_lines (length source.bytes) labels ≡ false →
     rows_unless (with_ends a s) source labels answers (option_map (refused_row (with_ends a s)) refused)
     ≡ rows_unless (with_ends false s) source labels answers (option_map (refused_row (with_ends false s)) refused)
 unless_alike a s source labels answers (Some r) none = refl
 unless_alike a s source labels answers None none =
-    let groups : List Span = groups_of s.context source answers.join_fails labels in
-    ap (λ rows. cond (groups_fail s.context source answers.join_fails labels || some_fails answers.place_fails groups)
+    let groups : List Span = groups_of s.layout.context_lines source answers.join_fails labels in
+    ap (λ rows. cond (groups_fail s.layout.context_lines source answers.join_fails labels
+    || some_fails answers.place_fails groups)
     None (Some rows))
-    (snippets_alike a (settings_around s labels) (spreads_of s.label_lines s.context source labels) source labels
-    answers.pieces groups (shows_around s.context (length source.bytes) labels ∙ none))
+    (snippets_alike a (settings_around s labels) (spreads_of s.layout.label_lines s.layout.context_lines source labels)
+    source labels
+    answers.pieces groups (shows_around s.layout.context_lines (length source.bytes) labels ∙ none))
 
 shows_ordered : (context n : ℕ) (labels : List Label) → some_shows_end context n (in_order labels)
     ≡ some_shows_end context n labels
@@ -157,8 +166,8 @@ shows_ordered context n labels =
     ∙ order_any (λ l. shows_end n (lines_around context labels l) l) labels
 
 pub rows_alike : (a : Bool) (s : SnippetSettings) (source : Source) (labels : List Label) (answers : Answers)
-    → some_shows_end s.context (length source.bytes) labels ≡ false →
+    → some_shows_end s.layout.context_lines (length source.bytes) labels ≡ false →
     snippet_rows (with_ends a s) source labels answers ≡ snippet_rows (with_ends false s) source labels answers
 rows_alike a s source labels answers none =
     unless_alike a s source (in_order labels) answers (refusal source.bytes answers.label_fails (in_order labels))
-    (shows_ordered s.context (length source.bytes) labels ∙ none)
+    (shows_ordered s.layout.context_lines (length source.bytes) labels ∙ none)

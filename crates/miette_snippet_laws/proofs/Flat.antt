@@ -13,7 +13,7 @@ use Rattle.miette_snippet_laws.specs.laws.Pictures.{mark_at, marks_end}
 use Rattle.miette_snippet_rules.proofs.Numbers.{range_with_len-append}
 use Rattle.miette_snippet_laws.proofs.UnstyledRows.{lead_at, lead, corner_pieces, beside_pieces, plain_parts}
 use Rattle.miette_snippet_laws.proofs.UnstyledRows.{plain_below}
-use Rattle.miette_style.specs.rules.Themes.{Characters}
+use Rattle.miette_snippet_rules.specs.rules.Settings.{SnippetSettings}
 
 pub glyphs_of-append : (a b : Row) → glyphs_of (a ++ b) ≡ glyphs_of a ++ glyphs_of b
 glyphs_of-append [] b = refl
@@ -48,24 +48,24 @@ three f from a b c =
     ∙ ap (λ r. map f (range_with_len from a) ++ r) (map-append f (range_with_len (from + a) b)
     (range_with_len (from + a + b) c))
 
-mark-before : (width : ℕ → ℕ) (t : Characters) (reached column : ℕ) (ms : List Mark) → AreApart reached ms → column
-    < reached → mark_at width t ms column ≡ glyph_of width 32
-mark-before width t reached column [] h lt = refl
-mark-before width t reached column (m ∷ ms) h lt =
+mark-before : (s : SnippetSettings) (reached column : ℕ) (ms : List Mark) → AreApart reached ms → column
+    < reached → mark_at s ms column ≡ glyph_of s.width 32
+mark-before s reached column [] h lt = refl
+mark-before s reached column (m ∷ ms) h lt =
     let no : leb m.from column ≡ false = lt-leb m.from column (omega (arith, h.0)) in
-    rw no (mark-before width t m.until column ms h.2 (omega (arith, h.0, h.1.0, h.1.1)))
+    rw no (mark-before s m.until column ms h.2 (omega (arith, h.0, h.1.0, h.1.1)))
 
 pub marks_end-ge : (reached : ℕ) (ms : List Mark) → AreApart reached ms → reached ≤ marks_end reached ms
 marks_end-ge reached [] h = omega arith
 marks_end-ge reached (m ∷ ms) h = omega (arith, h.0, h.1.0, h.1.1, marks_end-ge m.until ms h.2)
 
-pub flat_marks : (width : ℕ → ℕ) (t : Characters) (reached : ℕ) (ms : List Mark) → AreApart reached ms →
-    glyphs_of (mark_runs width t reached ms) ≡ map (mark_at width t ms)
+pub flat_marks : (s : SnippetSettings) (reached : ℕ) (ms : List Mark) → AreApart reached ms →
+    glyphs_of (mark_runs s reached ms) ≡ map (mark_at s ms)
     (range_with_len reached (marks_end reached ms - reached))
-flat_marks width t reached [] h = let z : reached - reached ≡ 0 = omega arith in rw z refl
-flat_marks width t reached (m ∷ ms) h =
-    let f : ℕ → Glyph = mark_at width t (m ∷ ms) in
-    let own : ℕ → Glyph = λ column. glyph_of width (mark_code t m column) in
+flat_marks s reached [] h = let z : reached - reached ≡ 0 = omega arith in rw z refl
+flat_marks s reached (m ∷ ms) h =
+    let f : ℕ → Glyph = mark_at s (m ∷ ms) in
+    let own : ℕ → Glyph = λ column. glyph_of s.width (mark_code s.theme.characters m column) in
     let end : ℕ = marks_end m.until ms in
     let ge : m.until ≤ end = marks_end-ge m.until ms h.2 in
     let a : ℕ = m.from - reached in
@@ -74,15 +74,15 @@ flat_marks width t reached (m ∷ ms) h =
     let from_is : reached + a ≡ m.from = omega (arith, h.0) in
     let until_is : m.from + b ≡ m.until = omega (arith, h.1.0, h.1.1) in
     let whole : end - reached ≡ a + (b + c) = omega (arith, h.0, h.1.0, h.1.1) in
-    let gap : map f (range_with_len reached a) ≡ replicate a (glyph_of width 32) =
-    map-one f (glyph_of width 32) reached a (λ k l u.
+    let gap : map f (range_with_len reached a) ≡ replicate a (glyph_of s.width 32) =
+    map-one f (glyph_of s.width 32) reached a (λ k l u.
     let no : leb m.from k ≡ false = lt-leb m.from k (omega (arith, h.0)) in
-    rw no (mark-before width t m.until k ms h.2 (omega (arith, h.0, h.1.0, h.1.1)))) in
+    rw no (mark-before s m.until k ms h.2 (omega (arith, h.0, h.1.0, h.1.1)))) in
     let mine : map f (range_with_len m.from b) ≡ map own (range_with_len m.from b) = map-same f own m.from b (λ k l u.
     let is : leb m.from k ≡ true = le-leb m.from k l in let is' : ltb k m.until ≡ true =
     lt-ltb k m.until (omega (arith, h.1.0, h.1.1)) in rw (is, is') refl) in
-    let rest : map f (range_with_len m.until c) ≡ map (mark_at width t ms) (range_with_len m.until c) =
-    map-same f (mark_at width t ms) m.until c (λ k l u.
+    let rest : map f (range_with_len m.until c) ≡ map (mark_at s ms) (range_with_len m.until c) =
+    map-same f (mark_at s ms) m.until c (λ k l u.
     let no : (leb m.from k && ltb k m.until) ≡ false = and_right (leb m.from k) (ltb k m.until) (le-ltb k m.until l) in
     rw no refl) in
     sym (ap (λ n. map f (range_with_len reached n)) whole ∙ three f reached a b c
@@ -91,9 +91,9 @@ flat_marks width t reached (m ∷ ms) h =
     ∙ ap (λ r. map f (range_with_len reached a) ++ (map f (range_with_len m.from b) ++ map f (range_with_len r c)))
     until_is
     ∙ ap (λ r. r ++ (map f (range_with_len m.from b) ++ map f (range_with_len m.until c))) gap
-    ∙ ap (λ r. replicate a (glyph_of width 32) ++ (r ++ map f (range_with_len m.until c))) mine
-    ∙ ap (λ r. replicate a (glyph_of width 32) ++ (map own (range_with_len m.from b) ++ r))
-    (rest ∙ sym (flat_marks width t m.until ms h.2)))
+    ∙ ap (λ r. replicate a (glyph_of s.width 32) ++ (r ++ map f (range_with_len m.until c))) mine
+    ∙ ap (λ r. replicate a (glyph_of s.width 32) ++ (map own (range_with_len m.from b) ++ r))
+    (rest ∙ sym (flat_marks s m.until ms h.2)))
 
 -- anchors one behind the other, before a column
 abbrev pub AreAnchored : ℕ → List Mark → ℕ → Type 0
@@ -104,42 +104,43 @@ anchored-ge : (reached column : ℕ) (ms : List Mark) → AreAnchored reached ms
 anchored-ge reached column [] h = h
 anchored-ge reached column (m ∷ ms) h = omega (arith, h.0, anchored-ge (m.anchor + 1) column ms h.1)
 
-lead-before : (width : ℕ → ℕ) (t : Characters) (reached column k : ℕ) (ms : List Mark) → AreAnchored reached ms column
-    → k < reached → lead_at width t ms k ≡ glyph_of width 32
-lead-before width t reached column k [] h lt = refl
-lead-before width t reached column k (m ∷ ms) h lt =
+lead-before : (s : SnippetSettings) (reached column k : ℕ) (ms : List Mark) → AreAnchored reached ms column
+    → k < reached → lead_at s ms k ≡ glyph_of s.width 32
+lead-before s reached column k [] h lt = refl
+lead-before s reached column k (m ∷ ms) h lt =
     let no : eqb k m.anchor ≡ false = ne_eqb k m.anchor (λ e. omega (arith, h.0, e)) in
-    rw no (lead-before width t (m.anchor + 1) column k ms h.1 (omega (arith, h.0)))
+    rw no (lead-before s (m.anchor + 1) column k ms h.1 (omega (arith, h.0)))
 
-pub flat_lead : (width : ℕ → ℕ) (t : Characters) (reached column : ℕ) (ms : List Mark) → AreAnchored reached ms column →
-    glyphs_of (lead_runs width t reached ms column) ≡ map (lead_at width t ms)
+pub flat_lead : (s : SnippetSettings) (reached column : ℕ) (ms : List Mark) → AreAnchored reached ms column →
+    glyphs_of (lead_runs s reached ms column) ≡ map (lead_at s ms)
     (range_with_len reached (column - reached))
-flat_lead width t reached column [] h =
-    append-nil (replicate (column - reached) (glyph_of width 32))
-    ∙ sym (map-one (lead_at width t []) (glyph_of width 32) reached (column - reached) (λ k l u. refl))
-flat_lead width t reached column (m ∷ ms) h =
-    let f : ℕ → Glyph = lead_at width t (m ∷ ms) in
+flat_lead s reached column [] h =
+    append-nil (replicate (column - reached) (glyph_of s.width 32))
+    ∙ sym (map-one (lead_at s []) (glyph_of s.width 32) reached (column - reached) (λ k l u. refl))
+flat_lead s reached column (m ∷ ms) h =
+    let f : ℕ → Glyph = lead_at s (m ∷ ms) in
     let at : ℕ = m.anchor in
     let ge : at + 1 ≤ column = anchored-ge (at + 1) column ms h.1 in
     let a : ℕ = at - reached in
     let c : ℕ = column - (at + 1) in
     let at_is : reached + a ≡ at = omega (arith, h.0) in
     let whole : column - reached ≡ a + (1 + c) = omega (arith, h.0) in
-    let gap : map f (range_with_len reached a) ≡ replicate a (glyph_of width 32) =
-    map-one f (glyph_of width 32) reached a (λ k l u.
+    let gap : map f (range_with_len reached a) ≡ replicate a (glyph_of s.width 32) =
+    map-one f (glyph_of s.width 32) reached a (λ k l u.
     let no : eqb k at ≡ false = ne_eqb k at (λ e. omega (arith, h.0, e)) in
-    rw no (lead-before width t (at + 1) column k ms h.1 (omega (arith, h.0)))) in
-    let mine : f at ≡ glyph_of width t.vbar = let yes' : eqb at at ≡ true = eq-eqb at at refl in rw yes' refl in
-    let rest : map f (range_with_len (at + 1) c) ≡ map (lead_at width t ms) (range_with_len (at + 1) c) =
-    map-same f (lead_at width t ms) (at + 1) c (λ k l u.
+    rw no (lead-before s (at + 1) column k ms h.1 (omega (arith, h.0)))) in
+    let mine : f at ≡ glyph_of s.width s.theme.characters.vbar = let yes' : eqb at at ≡ true = eq-eqb at at refl in
+    rw yes' refl in
+    let rest : map f (range_with_len (at + 1) c) ≡ map (lead_at s ms) (range_with_len (at + 1) c) =
+    map-same f (lead_at s ms) (at + 1) c (λ k l u.
     let no : eqb k at ≡ false = ne_eqb k at (λ e. omega (arith, e)) in rw no refl) in
     sym (ap (λ n. map f (range_with_len reached n)) whole ∙ three f reached a 1 c
     ∙ ap (λ r. map f (range_with_len reached a) ++ (map f (range_with_len r 1) ++ map f (range_with_len (r + 1) c)))
     at_is
     ∙ ap (λ r. r ++ (map f (range_with_len at 1) ++ map f (range_with_len (at + 1) c))) gap
-    ∙ ap (λ p. replicate a (glyph_of width 32) ++ ((p ∷ []) ++ map f (range_with_len (at + 1) c))) mine
-    ∙ ap (λ r. replicate a (glyph_of width 32) ++ (glyph_of width t.vbar ∷ r))
-    (rest ∙ sym (flat_lead width t (at + 1) column ms h.1)))
+    ∙ ap (λ p. replicate a (glyph_of s.width 32) ++ ((p ∷ []) ++ map f (range_with_len (at + 1) c))) mine
+    ∙ ap (λ r. replicate a (glyph_of s.width 32) ++ (glyph_of s.width s.theme.characters.vbar ∷ r))
+    (rest ∙ sym (flat_lead s (at + 1) column ms h.1)))
 
 -- marks that are apart have anchors one behind the other
 apart-weaker : (a b : ℕ) (ms : List Mark) → b ≤ a → AreApart a ms → AreApart b ms
@@ -155,47 +156,47 @@ anchored reached (e ∷ earlier) m later h = (
       (omega (arith, h.1.1)) h.2),
 )
 
-flat_text : (width : ℕ → ℕ) (t : Characters) (earlier : List Mark) (mark : Mark) (front part : List ℕ)
+flat_text : (s : SnippetSettings) (earlier : List Mark) (mark : Mark) (front part : List ℕ)
     → AreAnchored 0 earlier mark.anchor →
-    glyphs_of (text_row width t earlier mark front part) ≡ lead width t earlier mark
-    ++ map (glyph_of width) (front ++ part)
-flat_text width t earlier mark front part h =
+    glyphs_of (text_row s earlier mark front part) ≡ lead s earlier mark
+    ++ map (glyph_of s.width) (front ++ part)
+flat_text s earlier mark front part h =
     let z : mark.anchor - 0 ≡ mark.anchor = omega arith in
-    glyphs_of-append (lead_runs width t 0 earlier mark.anchor) (styled_run width mark.label.style (front ++ part) ∷ [])
-    ∙ ap (λ r. glyphs_of (lead_runs width t 0 earlier mark.anchor) ++ r)
-    (append-nil (map (glyph_of width) (front ++ part)))
-    ∙ ap (λ r. r ++ map (glyph_of width) (front ++ part))
-    (flat_lead width t 0 mark.anchor earlier h ∙ ap (λ n. map (lead_at width t earlier) (range_with_len 0 n)) z)
+    glyphs_of-append (lead_runs s 0 earlier mark.anchor) (styled_run s.width mark.label.style (front ++ part) ∷ [])
+    ∙ ap (λ r. glyphs_of (lead_runs s 0 earlier mark.anchor) ++ r)
+    (append-nil (map (glyph_of s.width) (front ++ part)))
+    ∙ ap (λ r. r ++ map (glyph_of s.width) (front ++ part))
+    (flat_lead s 0 mark.anchor earlier h ∙ ap (λ n. map (lead_at s earlier) (range_with_len 0 n)) z)
 
-flat_rest : (width : ℕ → ℕ) (t : Characters) (earlier : List Mark) (mark : Mark) (parts : List (List ℕ))
+flat_rest : (s : SnippetSettings) (earlier : List Mark) (mark : Mark) (parts : List (List ℕ))
     → AreAnchored 0 earlier mark.anchor →
-    map glyphs_of (map (text_row width t earlier mark (beside t)) parts)
-    ≡ map (λ p. lead width t earlier mark ++ (beside_pieces width t ++ map (glyph_of width) p)) parts
-flat_rest width t earlier mark [] h = refl
-flat_rest width t earlier mark (part ∷ parts) h = ap (λ r. r
-    ∷ map glyphs_of (map (text_row width t earlier mark (beside t)) parts))
-    (flat_text width t earlier mark (beside t) part h) ∙ ap (λ r.
-    (lead width t earlier mark ++ (beside_pieces width t ++ map (glyph_of width) part)) ∷ r)
-    (flat_rest width t earlier mark parts h)
+    map glyphs_of (map (text_row s earlier mark (beside s.theme.characters)) parts)
+    ≡ map (λ p. lead s earlier mark ++ (beside_pieces s ++ map (glyph_of s.width) p)) parts
+flat_rest s earlier mark [] h = refl
+flat_rest s earlier mark (part ∷ parts) h = ap (λ r. r
+    ∷ map glyphs_of (map (text_row s earlier mark (beside s.theme.characters)) parts))
+    (flat_text s earlier mark (beside s.theme.characters) part h) ∙ ap (λ r.
+    (lead s earlier mark ++ (beside_pieces s ++ map (glyph_of s.width) part)) ∷ r)
+    (flat_rest s earlier mark parts h)
 
-flat_parts : (width : ℕ → ℕ) (t : Characters) (earlier : List Mark) (mark : Mark) (parts : List (List ℕ))
+flat_parts : (s : SnippetSettings) (earlier : List Mark) (mark : Mark) (parts : List (List ℕ))
     → AreAnchored 0 earlier mark.anchor →
-    map glyphs_of (rows_of_parts width t earlier mark parts) ≡ plain_parts width t earlier mark parts
-flat_parts width t earlier mark [] h = refl
-flat_parts width t earlier mark (part ∷ []) h = ap (λ r. r ∷ []) (flat_text width t earlier mark (corner t) part h)
-flat_parts width t earlier mark (part ∷ next ∷ parts) h =
-    ap (λ r. r ∷ map glyphs_of (map (text_row width t earlier mark (beside t)) (next ∷ parts)))
-    (flat_text width t earlier mark (corner_of_several t) part h)
-    ∙ ap (λ r. (lead width t earlier mark ++ (corner_pieces width t t.rcross ++ map (glyph_of width) part)) ∷ r)
-    (flat_rest width t earlier mark (next ∷ parts) h)
+    map glyphs_of (rows_of_parts s earlier mark parts) ≡ plain_parts s earlier mark parts
+flat_parts s earlier mark [] h = refl
+flat_parts s earlier mark (part ∷ []) h = ap (λ r. r ∷ []) (flat_text s earlier mark (corner s.theme.characters) part h)
+flat_parts s earlier mark (part ∷ next ∷ parts) h =
+    ap (λ r. r ∷ map glyphs_of (map (text_row s earlier mark (beside s.theme.characters)) (next ∷ parts)))
+    (flat_text s earlier mark (corner_of_several s.theme.characters) part h)
+    ∙ ap (λ r. (lead s earlier mark ++ (corner_pieces s s.theme.characters.rcross ++ map (glyph_of s.width) part)) ∷ r)
+    (flat_rest s earlier mark (next ∷ parts) h)
 
-pub flat_below : (width : ℕ → ℕ) (t : Characters) (earlier ms : List Mark) → AreApart 0 (earlier ++ ms)
-    → map glyphs_of (rows_below width t earlier ms) ≡ plain_below width t earlier ms
-flat_below width t earlier [] h = refl
-flat_below width t earlier (m ∷ ms) h =
-    map-append glyphs_of (rows_below width t (earlier ++ m ∷ []) ms) (rows_of_parts width t earlier m m.label.parts)
-    ∙ ap (λ r. r ++ map glyphs_of (rows_of_parts width t earlier m m.label.parts))
-    (flat_below width t (earlier ++ m ∷ []) ms (subst (λ (xs : List Mark). AreApart 0 xs)
+pub flat_below : (s : SnippetSettings) (earlier ms : List Mark) → AreApart 0 (earlier ++ ms)
+    → map glyphs_of (rows_below s earlier ms) ≡ plain_below s earlier ms
+flat_below s earlier [] h = refl
+flat_below s earlier (m ∷ ms) h =
+    map-append glyphs_of (rows_below s (earlier ++ m ∷ []) ms) (rows_of_parts s earlier m m.label.parts)
+    ∙ ap (λ r. r ++ map glyphs_of (rows_of_parts s earlier m m.label.parts))
+    (flat_below s (earlier ++ m ∷ []) ms (subst (λ (xs : List Mark). AreApart 0 xs)
     (sym (append_assoc earlier (m ∷ []) ms)) h))
-    ∙ ap (λ r. plain_below width t (earlier ++ m ∷ []) ms ++ r)
-    (flat_parts width t earlier m m.label.parts (anchored 0 earlier m ms h))
+    ∙ ap (λ r. plain_below s (earlier ++ m ∷ []) ms ++ r)
+    (flat_parts s earlier m m.label.parts (anchored 0 earlier m ms h))

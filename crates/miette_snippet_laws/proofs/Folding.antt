@@ -17,7 +17,6 @@ use Rattle.miette_labels.specs.rules.Contexts.{contents, end_of_span}
 use Rattle.miette_labels.specs.rules.Groups.{in_order}
 use Rattle.miette_snippet_rules.specs.rules.Folds.{Spread, spread, spreads_of, last_byte, hides, place_among, is_around}
 use Rattle.miette_snippet_rules.specs.rules.Folds.{is_near, leaves_out}
-use Rattle.miette_snippet_rules.specs.rules.Frames.{SnippetSettings}
 use Rattle.miette_snippet_rules.specs.rules.SnippetLayout.{left_out}
 use Rattle.miette_snippet_rules.specs.rules.Numbers.{ranges}
 use Rattle.miette_snippet_rules.specs.rules.ShownLines.{line_at}
@@ -37,6 +36,7 @@ use Rattle.miette_snippet_laws.proofs.Stretches.{IsMaximal, OfRun, range_same, e
 use Rattle.miette_snippet_laws.proofs.Owning.{Around}
 use Rattle.miette_snippet_rules.proofs.Lines.{last_one}
 use Rattle.miette_snippet_rules.proofs.Bodies.{last_of-range}
+use Rattle.miette_snippet_rules.specs.rules.Settings.{SnippetSettings}
 
 -- ---- the places of offsets among the lines of a frame
 
@@ -353,21 +353,21 @@ kept_ordered (Some limit) context bytes labels k =
 -- in each run of lines that are shown
 pub runs_alike : (s : SnippetSettings) (context : ℕ) (source : Source) (labels : List Label)
     → Around context (in_order labels) (in_order labels) → 0 < length source.bytes →
-    AllByRecursion (KeepsAlike s (spreads_of s.label_lines context source (in_order labels)) source.bytes
-    (N.is_kept s.label_lines context source.bytes labels))
+    AllByRecursion (KeepsAlike s (spreads_of s.layout.label_lines context source (in_order labels)) source.bytes
+    (N.is_kept s.layout.label_lines context source.bytes labels))
     (ranges (N.shown_numbers context source.bytes (in_order labels)))
 runs_alike s context source labels h some =
     let bytes : List ℕ = source.bytes in
-    let xs : List Spread = spreads_of s.label_lines context source (in_order labels) in
+    let xs : List Spread = spreads_of s.layout.label_lines context source (in_order labels) in
     let alike : ℕ → ℕ → Type 0 = λ low many. LeaveAlike (lines_of bytes)
     (left_out s low (map (line_at (lines_of bytes)) (range_with_len low many)) xs)
-    (N.is_kept s.label_lines context bytes labels) low many in
+    (N.is_kept s.layout.label_lines context bytes labels) low many in
     subst (λ (ls : List Line). AllByRecursion (OfRun alike)
     (ranges (filter (N.is_shown context bytes (in_order labels)) (range_with_len 0 (length ls)))))
     (sym (lines_same 0 bytes))
     (each_run alike (N.is_shown context bytes (in_order labels)) (length (lines bytes)) (λ low many m.
-    λ k le lt. leaves_alike s.label_lines context source (in_order labels) low many k h some m le lt
-    ∙ ap not (kept_ordered s.label_lines context bytes labels k)))
+    λ k le lt. leaves_alike s.layout.label_lines context source (in_order labels) low many k h some m le lt
+    ∙ ap not (kept_ordered s.layout.label_lines context bytes labels k)))
 
 -- a run without lines
 pub none_alike : (s : SnippetSettings) (xs : List Spread) (bytes : List ℕ) (kept : ℕ → Bool)

@@ -13,7 +13,7 @@ use Rattle.miette_labels.specs.rules.Answers.{Answers, Highlight, first_of, None
 use Rattle.miette_labels.specs.rules.Around.{has_own, lines_around, HaveContext, group_context}
 use Rattle.miette_labels.specs.rules.Contexts.{contents}
 use Rattle.miette_snippet_rules.specs.rules.Folds.{Spread, spreads_of}
-use Rattle.miette_snippet_rules.specs.rules.Frames.{SnippetSettings, refused_row}
+use Rattle.miette_snippet_rules.specs.rules.Frames.{refused_row}
 use Rattle.miette_labels.specs.rules.Groups as G
 use Rattle.miette_labels.specs.rules.Groups.{in_order, spans_of, groups_answered, own_groups, groups_of, AreAccepted}
 use Rattle.miette_labels.specs.rules.Labels.{DrawnLabel}
@@ -37,6 +37,7 @@ use Rattle.miette_snippet_laws.proofs.Folding.{runs_alike, none_alike}
 use Rattle.miette_labels.proofs.Owning.{none_around, own_ordered, order_any}
 use Rattle.miette_snippet_laws.proofs.Spreading.{numbers_of}
 use Rattle.miette_labels.proofs.NoFailures.{none_unread}
+use Rattle.miette_snippet_rules.specs.rules.Settings.{SnippetSettings}
 
 -- ---- the order of labels changes nothing that is shown
 
@@ -135,25 +136,26 @@ groups_runs context source fails labels h none =
 -- in each snippet the lines that are left out are those that aren't kept
 snippets_by : (s : SnippetSettings) (context : ℕ) (source : Source) (labels : List Label) → HaveContext context labels
     → (length source.bytes ≡ 0) ⊎ (0 < length source.bytes) →
-    AllByRecursion (KeepsAlike s (spreads_of s.label_lines context source (in_order labels)) source.bytes
-    (N.is_kept s.label_lines context source.bytes labels)) (N.snippets context source.bytes labels)
+    AllByRecursion (KeepsAlike s (spreads_of s.layout.label_lines context source (in_order labels)) source.bytes
+    (N.is_kept s.layout.label_lines context source.bytes labels)) (N.snippets context source.bytes labels)
 snippets_by s context source [] h (inl none) = subst (λ rs. AllByRecursion
-    (KeepsAlike s (spreads_of s.label_lines context source []) source.bytes
-    (N.is_kept s.label_lines context source.bytes [])) rs) (sym (no_labels context source.bytes)) tt
+    (KeepsAlike s (spreads_of s.layout.label_lines context source []) source.bytes
+    (N.is_kept s.layout.label_lines context source.bytes [])) rs) (sym (no_labels context source.bytes)) tt
 snippets_by s context source (label ∷ labels) h (inl none) =
-    let xs = spreads_of s.label_lines context source (in_order (label ∷ labels)) in
-    let kept = N.is_kept s.label_lines context source.bytes (label ∷ labels) in
+    let xs = spreads_of s.layout.label_lines context source (in_order (label ∷ labels)) in
+    let kept = N.is_kept s.layout.label_lines context source.bytes (label ∷ labels) in
     subst (λ rs. AllByRecursion (KeepsAlike s xs source.bytes kept) rs)
     (sym (snippets_nowhere context source.bytes (label ∷ labels) (omega arith) none))
     (none_alike s xs source.bytes kept, tt)
 snippets_by s context source labels h (inr some) =
     let alike = runs_alike s context source labels (around_ordered context labels h) some in
-    subst (λ rs. AllByRecursion (KeepsAlike s (spreads_of s.label_lines context source (in_order labels)) source.bytes
-    (N.is_kept s.label_lines context source.bytes labels)) rs)
+    subst (λ rs. AllByRecursion (KeepsAlike s (spreads_of s.layout.label_lines context source (in_order labels))
+    source.bytes
+    (N.is_kept s.layout.label_lines context source.bytes labels)) rs)
     (ap ranges (shown_ordered context source.bytes labels) ∙ sym (some_bytes context source.bytes labels some)) alike
 
 own_bodies : (s : SnippetSettings) (spreads : List Spread) (kept : ℕ → Bool) (context : ℕ) (source : Source)
-    (labels : List Label) (drawn : List DrawnLabel) (pieces : List (List (List Highlight))) → s.context ≡ 0
+    (labels : List Label) (drawn : List DrawnLabel) (pieces : List (List (List Highlight))) → s.layout.context_lines ≡ 0
     → has_own (in_order labels) ≡ true → HaveContext context labels →
     AllByRecursion (KeepsAlike s spreads source.bytes kept) (N.snippets context source.bytes labels)
     → (length source.bytes ≡ 0) ⊎ (0 < length source.bytes) →
@@ -177,7 +179,7 @@ own_bodies s spreads kept context source labels drawn pieces bare own h alike (i
 
 joined_rows : (s : SnippetSettings) (spreads : List Spread) (kept : ℕ → Bool) (context : ℕ) (source : Source)
     (labels : List Label) (drawn : List DrawnLabel) (fails : List Bool) (pieces : List (List (List Highlight)))
-    → s.context ≡ context → has_own labels ≡ false →
+    → s.layout.context_lines ≡ context → has_own labels ≡ false →
     HaveContext context labels → AllByRecursion (KeepsAlike s spreads source.bytes kept)
     (N.snippets context source.bytes labels) → NoneFails fails →
     bodies s spreads drawn source pieces (groups_answered context source fails (spans_of (in_order labels)))
@@ -185,7 +187,7 @@ joined_rows : (s : SnippetSettings) (spreads : List Spread) (kept : ℕ → Bool
 joined_rows s spreads kept context source [] drawn fails pieces same own h alike none =
     ap (rows_of_ranges kept s drawn source.bytes pieces) (sym (no_labels context source.bytes))
 joined_rows s spreads kept context source (label ∷ labels) drawn fails pieces same own h alike none =
-    let one : 1 ≤ s.context = omega (
+    let one : 1 ≤ s.layout.context_lines = omega (
       arith,
       same,
       h.0,
@@ -193,7 +195,7 @@ joined_rows s spreads kept context source (label ∷ labels) drawn fails pieces 
           (or_parts (is_some label.context) (has_own labels) own).0,
     ) in
     let all : N.snippets context source.bytes (label ∷ labels)
-    ≡ J.snippets s.context source.bytes (map (λ l. l.span) (label ∷ labels)) =
+    ≡ J.snippets s.layout.context_lines source.bytes (map (λ l. l.span) (label ∷ labels)) =
     snippets_same context source.bytes (label ∷ labels) own
     ∙ ap (λ c. J.snippets c source.bytes (map (λ l. l.span) (label ∷ labels))) (sym same) in
     ap (λ c. bodies s spreads drawn source pieces (groups_answered c source fails
@@ -203,44 +205,52 @@ joined_rows s spreads kept context source (label ∷ labels) drawn fails pieces 
     ∙ ap (rows_of_ranges kept s drawn source.bytes pieces) (sym all)
 
 bodies_are_runs : (s : SnippetSettings) (source : Source) (labels : List Label) (drawn : List DrawnLabel)
-    (fails : List Bool) (pieces : List (List (List Highlight))) → HaveContext s.context labels → NoneFails fails →
-    bodies (settings_around s (in_order labels)) (spreads_of s.label_lines s.context source (in_order labels)) drawn
-    source pieces (groups_of s.context source fails (in_order labels))
-    ≡ rows_of_ranges (N.is_kept s.label_lines s.context source.bytes labels) (settings_around s (in_order labels)) drawn
-    source.bytes pieces (N.snippets s.context source.bytes labels)
+    (fails : List Bool) (pieces : List (List (List Highlight))) → HaveContext s.layout.context_lines labels
+    → NoneFails fails →
+    bodies (settings_around s (in_order labels)) (spreads_of s.layout.label_lines s.layout.context_lines source
+    (in_order labels)) drawn
+    source pieces (groups_of s.layout.context_lines source fails (in_order labels))
+    ≡ rows_of_ranges (N.is_kept s.layout.label_lines s.layout.context_lines source.bytes labels)
+    (settings_around s (in_order labels)) drawn
+    source.bytes pieces (N.snippets s.layout.context_lines source.bytes labels)
 bodies_are_runs s source labels drawn fails pieces h none =
     let ls : List Label = in_order labels in
     let s' : SnippetSettings = settings_around s ls in
-    let xs : List Spread = spreads_of s.label_lines s.context source ls in
-    let kept : ℕ → Bool = N.is_kept s.label_lines s.context source.bytes labels in
-    let alike : AllByRecursion (KeepsAlike s' xs source.bytes kept) (N.snippets s.context source.bytes labels) =
-    snippets_by s' s.context source labels h (none_or_some (length source.bytes)) in
+    let xs : List Spread = spreads_of s.layout.label_lines s.layout.context_lines source ls in
+    let kept : ℕ → Bool = N.is_kept s.layout.label_lines s.layout.context_lines source.bytes labels in
+    let alike : AllByRecursion (KeepsAlike s' xs source.bytes kept)
+    (N.snippets s.layout.context_lines source.bytes labels) =
+    snippets_by s' s.layout.context_lines source labels h (none_or_some (length source.bytes)) in
     let either : (own : Bool) → has_own ls ≡ own → bodies s' xs drawn source pieces
-    (groups_of s.context source fails ls)
-    ≡ bodies s' xs drawn source pieces (cond own (own_groups s.context source ls)
-    (groups_answered s.context source fails (spans_of ls))) =
-    λ own e. ap (λ b. bodies s' xs drawn source pieces (cond b (own_groups s.context source ls)
-    (groups_answered s.context source fails (spans_of ls)))) e in
-    by_cases {C = bodies s' xs drawn source pieces (groups_of s.context source fails ls)
-    ≡ rows_of_ranges kept s' drawn source.bytes pieces (N.snippets s.context source.bytes labels)} (has_own ls)
-    (λ t. either true t ∙ own_bodies s' xs kept s.context source labels drawn pieces (ap (λ b. cond b 0 s.context) t) t
+    (groups_of s.layout.context_lines source fails ls)
+    ≡ bodies s' xs drawn source pieces (cond own (own_groups s.layout.context_lines source ls)
+    (groups_answered s.layout.context_lines source fails (spans_of ls))) =
+    λ own e. ap (λ b. bodies s' xs drawn source pieces (cond b (own_groups s.layout.context_lines source ls)
+    (groups_answered s.layout.context_lines source fails (spans_of ls)))) e in
+    by_cases {C = bodies s' xs drawn source pieces (groups_of s.layout.context_lines source fails ls)
+    ≡ rows_of_ranges kept s' drawn source.bytes pieces (N.snippets s.layout.context_lines source.bytes labels)}
+    (has_own ls)
+    (λ t. either true t ∙ own_bodies s' xs kept s.layout.context_lines source labels drawn pieces
+    (ap (λ b. cond b 0 s.layout.context_lines) t) t
     h alike (none_or_some (length source.bytes)))
-    (λ f. either false f ∙ joined_rows s' xs kept s.context source labels drawn fails pieces
-    (ap (λ b. cond b 0 s.context) f) (sym (own_ordered labels) ∙ f) h alike none)
+    (λ f. either false f ∙ joined_rows s' xs kept s.layout.context_lines source labels drawn fails pieces
+    (ap (λ b. cond b 0 s.layout.context_lines) f) (sym (own_ordered labels) ∙ f) h alike none)
 
 pub snippets_are_runs : (s : SnippetSettings) (source : Source) (labels : List Label) (answers : Answers)
-    → HaveContext s.context labels → AreAccepted source.bytes labels → AlwaysReads answers →
+    → HaveContext s.layout.context_lines labels → AreAccepted source.bytes labels → AlwaysReads answers →
     snippet_rows s source labels answers ≡ Some (framed_ranges s source labels answers)
 snippets_are_runs s source labels answers h accepted always =
     let ls : List Label = in_order labels in
     let s' : SnippetSettings = settings_around s ls in
-    let gs : List Span = groups_of s.context source answers.join_fails ls in
+    let gs : List Span = groups_of s.layout.context_lines source answers.join_fails ls in
     let drawn : List DrawnLabel = drawn_labels s' (length source.bytes) ls in
     ap (λ r. rows_unless s source ls answers (option_map (refused_row s) r))
     (none_refused source.bytes answers.label_fails ls always.labels (ordered_accepted source.bytes labels accepted))
-    ∙ ap₂ (λ a b. cond (a || b) None (Some (all_snippets s' (spreads_of s.label_lines s.context source ls) source ls
-    answers.pieces gs))) (none_unread s.context source answers.join_fails ls always.joins)
+    ∙ ap₂ (λ a b. cond (a || b) None (Some (all_snippets s'
+    (spreads_of s.layout.label_lines s.layout.context_lines source ls) source ls
+    answers.pieces gs))) (none_unread s.layout.context_lines source answers.join_fails ls always.joins)
     (some_none answers.place_fails gs always.places)
-    ∙ ap Some (all_framed s' (spreads_of s.label_lines s.context source ls) source ls answers.pieces gs
+    ∙ ap Some (all_framed s' (spreads_of s.layout.label_lines s.layout.context_lines source ls) source ls answers.pieces
+    gs
     ∙ ap (framed_rows s' source ls gs) (bodies_are_runs s source labels drawn answers.join_fails answers.pieces h
     always.joins))

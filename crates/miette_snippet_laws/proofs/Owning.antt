@@ -15,7 +15,7 @@ use Rattle.miette_labels.specs.rules.Around.{has_own, lines_around}
 use Rattle.miette_labels.specs.rules.Contexts as C
 use Rattle.miette_labels.specs.rules.Contexts.{contents, lines_of_contents}
 use Rattle.miette_snippet_rules.specs.rules.Folds.{Spread}
-use Rattle.miette_snippet_rules.specs.rules.Frames.{SnippetSettings, width_of_lines}
+use Rattle.miette_snippet_rules.specs.rules.Frames.{width_of_lines}
 use Rattle.miette_labels.specs.rules.Groups as G
 use Rattle.miette_labels.specs.rules.Groups.{in_order, put_label, stretch, put_span, by_begin, stretches_from}
 use Rattle.miette_labels.specs.rules.Groups.{joined_stretches, own_groups}
@@ -38,6 +38,8 @@ use Rattle.miette_snippet_laws.proofs.Spreading.{Block, IsBlock, AreBlocks, span
 use Rattle.miette_snippet_laws.proofs.Spreading.{blocks_by_begin, joined_blocks, ordered_there, joined_there}
 use Rattle.miette_snippet_laws.proofs.Spreading.{blocks_are_runs, numbers_of, in_blocks}
 use Rattle.miette_labels.proofs.Owning.{none_around}
+use Rattle.miette_snippet_rules.specs.rules.SnippetLayout.{snippet_context, cells_of}
+use Rattle.miette_snippet_rules.specs.rules.Settings.{SnippetSettings}
 
 put_each : (P : Label → Type 0) (label : Label) (labels : List Label) → P label → AllByRecursion P labels
     → AllByRecursion P (put_label label labels)
@@ -174,13 +176,14 @@ block_body : (s : SnippetSettings) (spreads : List Spread) (kept : ℕ → Bool)
 block_body s spreads kept labels source b pieces some h alike =
     let bytes : List ℕ = source.bytes in
     let ls : List Line = lines_of_contents (contents 0 source (span_of bytes b)) in
-    ap (λ n. rows_of_lines (left_out s n ls spreads) false s (width_of_lines n ls) (gutter_columns labels ls) labels
-    bytes (n + 1) pieces ls) (block_line source b h)
+    ap (λ n. rows_of_lines (left_out s n ls spreads) false
+    (snippet_context s (width_of_lines n ls) (gutter_columns labels ls) labels (cells_of s bytes)) (n + 1) pieces
+    ls) (block_line source b h)
     ∙ body_from s spreads kept labels bytes pieces b.low (min (b.high + 1) (length (lines bytes)) - b.low) ls
     (block_lines source b some h) alike
 
 pub block_bodies : (s : SnippetSettings) (spreads : List Spread) (kept : ℕ → Bool) (labels : List DrawnLabel)
-    (source : Source) (pieces : List (List (List Highlight))) (bs : List Block) → s.context ≡ 0 → 0
+    (source : Source) (pieces : List (List (List Highlight))) (bs : List Block) → s.layout.context_lines ≡ 0 → 0
     < length source.bytes → AreBlocks (length (lines source.bytes)) bs →
     AllByRecursion (KeepsAlike s spreads source.bytes kept) (map (numbers_of (length (lines source.bytes))) bs) →
     bodies s spreads labels source pieces (map (span_of source.bytes) bs)
@@ -270,6 +273,7 @@ pub body_nowhere : (s : SnippetSettings) (spreads : List Spread) (labels : List 
     body_rows s spreads labels source.bytes (contents 0 source nowhere) pieces ≡ []
 body_nowhere s spreads labels source pieces none =
     let read : Contents = contents 0 source nowhere in
-    ap (λ ls. rows_of_lines (left_out s read.line ls spreads) false s (width_of_lines read.line ls)
-    (gutter_columns labels ls) labels source.bytes (read.line + 1) pieces ls)
+    ap (λ ls. rows_of_lines (left_out s read.line ls spreads) false
+    (snippet_context s (width_of_lines read.line ls) (gutter_columns labels ls) labels (cells_of s source.bytes))
+    (read.line + 1) pieces ls)
     (no_lines 0 read.bytes (no-part source.bytes 0 (R.data_end source.bytes nowhere 0) none))

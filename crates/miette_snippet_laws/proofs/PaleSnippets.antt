@@ -16,7 +16,7 @@ use Rattle.miette_labels.specs.rules.Contexts.{contents, lines_of_contents}
 use Rattle.miette_snippet_rules.specs.rules.Drawing.{marked_rows}
 use Rattle.miette_snippet_laws.specs.laws.Fading.{colourless, unhighlighted_answer, IsPlainRow}
 use Rattle.miette_snippet_rules.specs.rules.Folds.{Spread, spreads_of}
-use Rattle.miette_snippet_rules.specs.rules.Frames.{SnippetSettings, Place, text_or_none, refused_row, number_start}
+use Rattle.miette_snippet_rules.specs.rules.Frames.{Place, text_or_none, refused_row, number_start}
 use Rattle.miette_snippet_rules.specs.rules.Frames.{other_start, break_start, place_text, location, location_of}
 use Rattle.miette_snippet_rules.specs.rules.Frames.{top_row_of, bottom_row, number_width}
 use Rattle.miette_labels.specs.rules.Groups.{Refusal, refusal, in_order, groups_of, some_fails, groups_fail}
@@ -41,6 +41,8 @@ use Rattle.miette_snippet_laws.proofs.Paling.{pale_blank, pale_number_gutter, pa
 use Rattle.miette_snippet_laws.proofs.Paling.{pale_closing_rows, pale_marked, all_append, bleached_mark}
 use Rattle.miette_snippet_laws.proofs.CutFading.{cut_bleached, cut_clean, pale_shown, shown_bleached, shown_clean}
 use Rattle.miette_snippet_laws.proofs.Flat.{before_pieces}
+use Rattle.miette_snippet_rules.specs.rules.SnippetLayout.{snippet_context, line_in, line_shown}
+use Rattle.miette_snippet_rules.specs.rules.Settings.{SnippetSettings}
 
 before_all : (Q : Run → Type 0) (front : Row) (rows : List Row) → AllByRecursion Q front
     → AllByRecursion (AllByRecursion Q) rows → AllByRecursion (AllByRecursion Q) (before_each front rows)
@@ -57,7 +59,7 @@ pub record PaleGiven (P : Type 0) (x y : Option (List Row)) : Type 0 where
   pub plain : IfSome x (AllByRecursion IsPlainRow)
   pub clean : P → IfSome y (AllByRecursion IsCleanRow)
 
-module _ (P : Type 0) (s : SnippetSettings) (clean : P → AreCleanDrawings s.characters) where
+module _ (P : Type 0) (s : SnippetSettings) (clean : P → AreCleanDrawings s.theme.characters) where
   pale_unstyled : (text : List ℕ) → (P → IsClean text) → PaleRow P (plain_run s.width text ∷ [])
       (plain_run s.width text ∷ [])
   pale_unstyled text h = pale_cons P (pale_styled P s.width plain text h) (pale_nil P)
@@ -66,18 +68,20 @@ module _ (P : Type 0) (s : SnippetSettings) (clean : P → AreCleanDrawings s.ch
 
   pale_number_start : (w number : ℕ) → PaleRow P (number_start (colourless s) w number) (number_start s w number)
   pale_number_start w number =
-      pale_cons P (pale_blank P s.width 1)
-      (pale_cons P (pale_styled P s.width s.styles.linum (replicate (w - length (decimal number)) 32 ++ decimal number)
+      pale_cons P (pale_blank P s 1)
+      (pale_cons P (pale_styled P s.width s.theme.styles.linum
+      (replicate (w - length (decimal number)) 32 ++ decimal number)
       (λ p.
       clean_append (replicate (w - length (decimal number)) 32) (decimal number)
       (clean_replicate (w - length (decimal number)) 32 refl) (clean_decimal number)))
-      (pale_unstyled (32 ∷ s.characters.vbar ∷ 32 ∷ []) (λ p. clean_cons 32 (s.characters.vbar ∷ 32 ∷ []) refl
-      (clean_cons s.characters.vbar (32 ∷ []) (clean p).vbar refl))))
+      (pale_unstyled (32 ∷ s.theme.characters.vbar ∷ 32 ∷ [])
+      (λ p. clean_cons 32 (s.theme.characters.vbar ∷ 32 ∷ []) refl
+      (clean_cons s.theme.characters.vbar (32 ∷ []) (clean p).vbar refl))))
 
   pale_other_start : (w : ℕ) → PaleRow P (other_start (colourless s) w) (other_start s w)
   pale_other_start w =
-      pale_cons P (pale_blank P s.width (w + 2))
-      (pale_unstyled (s.characters.vbar_break ∷ 32 ∷ []) (λ p. clean_cons s.characters.vbar_break (32 ∷ [])
+      pale_cons P (pale_blank P s (w + 2))
+      (pale_unstyled (s.theme.characters.vbar_break ∷ 32 ∷ []) (λ p. clean_cons s.theme.characters.vbar_break (32 ∷ [])
       (clean p).vbar_break refl))
 
   -- ---- frames
@@ -92,18 +96,19 @@ module _ (P : Type 0) (s : SnippetSettings) (clean : P → AreCleanDrawings s.ch
       → PaleRow P (location (colourless s) name several place) (location s name several place)
   pale_location (Some name) several place h =
       pale_cons P (pale_styled P s.width plain (codes "[") (λ p. refl))
-      (pale_cons P (pale_styled P s.width s.styles.link (if s.primary_start then chars name ++ codes ":"
+      (pale_cons P (pale_styled P s.width s.theme.styles.link (if s.layout.primary_start then chars name ++ codes ":"
       ++ place_text place else chars name) (λ p.
-      clean_if s.primary_start (chars name ++ codes ":" ++ place_text place) (chars name)
+      clean_if s.layout.primary_start (chars name ++ codes ":" ++ place_text place) (chars name)
       (clean_append (chars name ++ codes ":") (place_text place) (clean_append (chars name) (codes ":") (h p) refl)
       (place_clean place)) (h p)))
       (pale_unstyled (codes "]") (λ p. refl)))
   pale_location None several place h =
-      pale_if P (several && s.primary_start)
+      pale_if P (several && s.layout.primary_start)
       (pale_unstyled (codes "[" ++ place_text place ++ codes "]")
       (λ p. clean_append (codes "[" ++ place_text place) (codes "]")
       (clean_append (codes "[") (place_text place) refl (place_clean place)) refl))
-      (pale_unstyled (replicate 3 s.characters.hbar) (λ p. clean_replicate 3 s.characters.hbar (clean p).hbar))
+      (pale_unstyled (replicate 3 s.theme.characters.hbar)
+      (λ p. clean_replicate 3 s.theme.characters.hbar (clean p).hbar))
 
   pale_location_of : (name : Option (List ℕ)) (several : Bool) (place : Option Place) → (P → IfSome name IsCleanText)
       → PaleRow P (location_of (colourless s) name several place) (location_of s name several place)
@@ -113,18 +118,18 @@ module _ (P : Type 0) (s : SnippetSettings) (clean : P → AreCleanDrawings s.ch
   pale_top : (w : ℕ) (name : Option (List ℕ)) (several : Bool) (place : Option Place) → (P → IfSome name IsCleanText)
       → PaleRow P (top_row_of (colourless s) w name several place) (top_row_of s w name several place)
   pale_top w name several place h =
-      pale_cons P (pale_blank P s.width (w + 2))
-      (pale_cons P (pale_styled P s.width plain (s.characters.ltop ∷ s.characters.hbar ∷ [])
-      (λ p. clean_cons s.characters.ltop (s.characters.hbar ∷ []) (clean p).ltop
-      (clean_cons s.characters.hbar [] (clean p).hbar refl)))
+      pale_cons P (pale_blank P s (w + 2))
+      (pale_cons P (pale_styled P s.width plain (s.theme.characters.ltop ∷ s.theme.characters.hbar ∷ [])
+      (λ p. clean_cons s.theme.characters.ltop (s.theme.characters.hbar ∷ []) (clean p).ltop
+      (clean_cons s.theme.characters.hbar [] (clean p).hbar refl)))
       (pale_location_of name several place h))
 
   pale_bottom : (w : ℕ) → PaleRow P (bottom_row (colourless s) w) (bottom_row s w)
   pale_bottom w =
-      pale_cons P (pale_blank P s.width (w + 2))
-      (pale_unstyled (s.characters.lbot ∷ replicate 4 s.characters.hbar)
-      (λ p. clean_cons s.characters.lbot (replicate 4 s.characters.hbar) (clean p).lbot
-      (clean_replicate 4 s.characters.hbar (clean p).hbar)))
+      pale_cons P (pale_blank P s (w + 2))
+      (pale_unstyled (s.theme.characters.lbot ∷ replicate 4 s.theme.characters.hbar)
+      (λ p. clean_cons s.theme.characters.lbot (replicate 4 s.theme.characters.hbar) (clean p).lbot
+      (clean_replicate 4 s.theme.characters.hbar (clean p).hbar)))
 
   -- ---- the rows of a line
 
@@ -140,73 +145,77 @@ module _ (P : Type 0) (s : SnippetSettings) (clean : P → AreCleanDrawings s.ch
   pale_line_rows_of : (w columns : ℕ) (one multi : List DrawnLabel) (line : Line) (number : ℕ) (cells : List Cell)
       (pieces : List Highlight) →
       (P → AllByRecursion HasCleanParts one) → (P → AllByRecursion HasCleanParts multi) → (P → AreCleanCells cells) →
-      PaleRows P (line_rows_of (colourless s) w columns (map bleached one) (map bleached multi) line number cells [])
-      (line_rows_of s w columns one multi line number cells pieces)
+      PaleRows P (line_rows_of (line_in (colourless s) w columns line (map bleached multi))
+      (line_shown number (map bleached one) cells []))
+      (line_rows_of (line_in s w columns line multi) (line_shown number one cells pieces))
   pale_line_rows_of w columns one multi line number cells pieces h k j =
-      let t = s.characters in
       let text = text_of_cells cells line.text_end in
       let found = marks text one in
       let pale_found = marks text (map bleached one) in
       let cut = line_cut s line cells one in
       let pale_cut_is : line_cut s line cells (map bleached one) ≡ cut =
-      ap (λ ms. cut_line s.line_columns ms cells) (marks_bleached text one) ∙ cut_bleached s.line_columns found cells
+      ap (λ ms. cut_line s.layout.line_columns ms cells) (marks_bleached text one)
+      ∙ cut_bleached s.layout.line_columns found cells
       in
       let pale_text : PaleRow P (shown_runs (line_cut s line cells (map bleached one)) [] cells)
       (shown_runs cut pieces cells) =
       subst (λ o. PaleRow P (shown_runs o [] cells) (shown_runs cut pieces cells)) (sym pale_cut_is)
-      (pale_shown P cut pieces cells j (λ p. cut_clean s.line_columns found cells (j p))) in
+      (pale_shown P cut pieces cells j (λ p. cut_clean s.layout.line_columns found cells (j p))) in
       let shown_pale : shown_marks (line_cut s line cells (map bleached one)) pale_found
       ≡ map bleached_mark (shown_marks cut found) =
       ap₂ shown_marks pale_cut_is (marks_bleached text one) ∙ shown_bleached cut found in
-      let numbers = pale_number_gutter P s.width t clean line columns multi in
-      let others = pale_other_gutter P s.width t clean line columns multi in
+      let numbers = pale_number_gutter P s clean line columns multi in
+      let others = pale_other_gutter P s clean line columns multi in
       let start = pale_append P (number_start (colourless s) w number) (number_start s w number)
-      (number_gutter s.width t line columns (map bleached multi)) (number_gutter s.width t line columns multi)
+      (number_gutter s line columns (map bleached multi)) (number_gutter s line columns multi)
       (pale_number_start w number) numbers in
       let first = pale_append P (number_start (colourless s) w number
-      ++ number_gutter s.width t line columns (map bleached multi))
-      (number_start s w number ++ number_gutter s.width t line columns multi)
+      ++ number_gutter s line columns (map bleached multi))
+      (number_start s w number ++ number_gutter s line columns multi)
       (shown_runs (line_cut s line cells (map bleached one)) [] cells) (shown_runs cut pieces cells) start pale_text
       in
       let below = pale_append P (other_start (colourless s) w) (other_start s w)
-      (other_gutter s.width t line columns (map bleached multi)) (other_gutter s.width t line columns multi)
+      (other_gutter s line columns (map bleached multi)) (other_gutter s line columns multi)
       (pale_other_start w) others in
       let pale_marks = shown_marks (line_cut s line cells (map bleached one)) pale_found in
-      let marked : PaleRows P (marked_rows s.width t pale_marks) (marked_rows s.width t (shown_marks cut found)) =
-      subst (λ ms. PaleRows P (marked_rows s.width t ms) (marked_rows s.width t (shown_marks cut found)))
-      (sym shown_pale) (pale_marked P s.width t clean (shown_marks cut found)
+      let marked : PaleRows P (marked_rows s pale_marks) (marked_rows s (shown_marks cut found)) =
+      subst (λ ms. PaleRows P (marked_rows s ms) (marked_rows s (shown_marks cut found)))
+      (sym shown_pale) (pale_marked P s clean (shown_marks cut found)
       (λ p. shown_clean cut found (marks_clean text one (h p)))) in
-      let ends : PaleRows P (closing_rows s.width t line columns (map bleached multi)
-      (closing_labels line (map bleached multi))) (closing_rows s.width t line columns multi
+      let ends : PaleRows P (closing_rows s line columns (map bleached multi)
+      (closing_labels line (map bleached multi))) (closing_rows s line columns multi
       (closing_labels line multi)) =
-      subst (λ ls. PaleRows P (closing_rows s.width t line columns (map bleached multi) ls)
-      (closing_rows s.width t line columns multi (closing_labels line multi)))
+      subst (λ ls. PaleRows P (closing_rows s line columns (map bleached multi) ls)
+      (closing_rows s line columns multi (closing_labels line multi)))
       (sym (filter_bleached (λ label. ends_on line label && not (starts_on line label)) (λ label. refl) multi))
-      (pale_closing_rows P s.width t clean line columns multi (closing_labels line multi)
+      (pale_closing_rows P s clean line columns multi (closing_labels line multi)
       (λ p. all_filter HasCleanParts (λ label. ends_on line label && not (starts_on line label)) multi (k p))) in
       rows_cons P first
       (rows_append P (before_each (other_start (colourless s) w
-      ++ other_gutter s.width t line columns (map bleached multi)) (marked_rows s.width t pale_marks))
-      (before_each (other_start s w ++ other_gutter s.width t line columns multi)
-      (marked_rows s.width t (shown_marks cut found)))
-      (before_each (other_start (colourless s) w) (closing_rows s.width t line columns (map bleached multi)
+      ++ other_gutter s line columns (map bleached multi)) (marked_rows s pale_marks))
+      (before_each (other_start s w ++ other_gutter s line columns multi)
+      (marked_rows s (shown_marks cut found)))
+      (before_each (other_start (colourless s) w) (closing_rows s line columns (map bleached multi)
       (closing_labels line (map bleached multi)))) (before_each (other_start s w)
-      (closing_rows s.width t line columns multi (closing_labels line multi)))
-      (pale_before (marked_rows s.width t pale_marks) (marked_rows s.width t (shown_marks cut found)) below marked)
-      (pale_before (closing_rows s.width t line columns (map bleached multi) (closing_labels line (map bleached multi)))
-      (closing_rows s.width t line columns multi (closing_labels line multi)) (pale_other_start w) ends))
+      (closing_rows s line columns multi (closing_labels line multi)))
+      (pale_before (marked_rows s pale_marks) (marked_rows s (shown_marks cut found)) below marked)
+      (pale_before (closing_rows s line columns (map bleached multi) (closing_labels line (map bleached multi)))
+      (closing_rows s line columns multi (closing_labels line multi)) (pale_other_start w) ends))
 
   pale_line_rows : (w columns : ℕ) (labels : List DrawnLabel) (line : Line) (number : ℕ) (cells : List Cell)
       (pieces : List Highlight) →
       (P → AllByRecursion HasCleanParts labels) → (P → AreCleanCells cells) →
-      PaleRows P (line_rows (colourless s) w columns (map bleached labels) line number cells [])
-      (line_rows s w columns labels line number cells pieces)
+      PaleRows P (line_rows (snippet_context (colourless s) w columns (map bleached labels) (λ _. cells)) line number
+      [])
+      (line_rows (snippet_context s w columns labels (λ _. cells)) line number pieces)
   pale_line_rows w columns labels line number cells pieces h j =
-      let y = line_rows s w columns labels line number cells pieces in
-      subst (λ one. PaleRows P (line_rows_of (colourless s) w columns one (multi_line line (map bleached labels)) line
-      number cells []) y) (sym (filter_bleached (is_one_line line) (λ label. refl) labels))
-      (subst (λ multi. PaleRows P (line_rows_of (colourless s) w columns (map bleached (one_line line labels)) multi
-      line number cells []) y) (sym (filter_bleached (is_multi_line line) (λ label. refl) labels))
+      let y = line_rows (snippet_context s w columns labels (λ _. cells)) line number pieces in
+      subst (λ one. PaleRows P (line_rows_of (line_in (colourless s) w columns line
+      (multi_line line (map bleached labels))) (line_shown number one cells [])) y)
+      (sym (filter_bleached (is_one_line line) (λ label. refl) labels))
+      (subst (λ multi. PaleRows P (line_rows_of (line_in (colourless s) w columns line multi)
+      (line_shown number (map bleached (one_line line labels)) cells [])) y)
+      (sym (filter_bleached (is_multi_line line) (λ label. refl) labels))
       (pale_line_rows_of w columns (one_line line labels) (multi_line line labels) line number cells pieces
       (λ p. all_filter HasCleanParts (is_one_line line) labels (h p))
       (λ p. all_filter HasCleanParts (is_multi_line line) labels (h p)) j))
@@ -215,17 +224,17 @@ module _ (P : Type 0) (s : SnippetSettings) (clean : P → AreCleanDrawings s.ch
 
   pale_break_start : (w : ℕ) → PaleRow P (break_start (colourless s) w) (break_start s w)
   pale_break_start w =
-      pale_cons P (pale_blank P s.width (w - 1))
-      (pale_unstyled (codes "..." ++ s.characters.vbar ∷ [])
-      (λ p. clean_append (codes "...") (s.characters.vbar ∷ []) refl
-      (clean_cons s.characters.vbar [] (clean p).vbar refl)))
+      pale_cons P (pale_blank P s (w - 1))
+      (pale_unstyled (codes "..." ++ s.theme.characters.vbar ∷ [])
+      (λ p. clean_append (codes "...") (s.theme.characters.vbar ∷ []) refl
+      (clean_cons s.theme.characters.vbar [] (clean p).vbar refl)))
 
   pale_break : (w : ℕ) (labels : List DrawnLabel) → PaleRow P (break_row (colourless s) w (map bleached labels))
       (break_row s w labels)
   pale_break w labels =
       pale_append P (break_start (colourless s) w) (break_start s w)
-      (break_gutter s.width s.characters (map bleached labels)) (break_gutter s.width s.characters labels)
-      (pale_break_start w) (pale_break_gutter P s.width s.characters clean labels)
+      (break_gutter s (map bleached labels)) (break_gutter s labels)
+      (pale_break_start w) (pale_break_gutter P s clean labels)
 
   rows_if : (b : Bool) {xs ys us vs : List Row} → PaleRows P xs ys → PaleRows P us vs
       → PaleRows P (if b then xs else us) (if b then ys else vs)
@@ -235,8 +244,9 @@ module _ (P : Type 0) (s : SnippetSettings) (clean : P → AreCleanDrawings s.ch
   pale_line_or_break : (gap out : Bool) (w columns : ℕ) (labels : List DrawnLabel) (line : Line) (number : ℕ)
       (cells : List Cell) (pieces : List Highlight) →
       (P → AllByRecursion HasCleanParts labels) → (P → AreCleanCells cells) →
-      PaleRows P (line_or_break gap out (colourless s) w columns (map bleached labels) line number cells [])
-      (line_or_break gap out s w columns labels line number cells pieces)
+      PaleRows P (line_or_break gap out (snippet_context (colourless s) w columns (map bleached labels) (λ _. cells))
+      line number [])
+      (line_or_break gap out (snippet_context s w columns labels (λ _. cells)) line number pieces)
   pale_line_or_break gap out w columns labels line number cells pieces h j =
       let break : PaleRow P (break_row (colourless s) w (multi_line line (map bleached labels)))
       (break_row s w (multi_line line labels)) =
@@ -248,19 +258,22 @@ module _ (P : Type 0) (s : SnippetSettings) (clean : P → AreCleanDrawings s.ch
   pale_lines : (out : ℕ → Line → Bool) (gap : Bool) (w columns : ℕ) (labels : List DrawnLabel) (source : List ℕ)
       (number : ℕ) (pieces : List (List Highlight)) (lines : List Line) →
       (P → AllByRecursion HasCleanParts labels) → (P → IsClean source) →
-      PaleRows P (rows_of_lines out gap (colourless s) w columns (map bleached labels) source number [] lines)
-      (rows_of_lines out gap s w columns labels source number pieces lines)
+      PaleRows P (rows_of_lines out gap (snippet_context (colourless s) w columns (map bleached labels)
+      (cells_of (colourless s) source)) number [] lines)
+      (rows_of_lines out gap (snippet_context s w columns labels (cells_of s source)) number pieces lines)
   pale_lines out gap w columns labels source number pieces [] h k = rows_nil P
   pale_lines out gap w columns labels source number pieces (line ∷ lines) h k =
-      rows_append P (line_or_break gap (out number line) (colourless s) w columns (map bleached labels) line number
-      (cells_of s source line) []) (line_or_break gap (out number line) s w columns labels line number
-      (cells_of s source line) (first_of pieces))
-      (rows_of_lines out (out number line) (colourless s) w columns (map bleached labels) source (number + 1) [] lines)
-      (rows_of_lines out (out number line) s w columns labels source (number + 1) (drop 1 pieces) lines)
+      rows_append P (line_or_break gap (out number line) (snippet_context (colourless s) w columns (map bleached labels)
+      (cells_of s source)) line number []) (line_or_break gap (out number line)
+      (snippet_context s w columns labels (cells_of s source)) line number (first_of pieces))
+      (rows_of_lines out (out number line) (snippet_context (colourless s) w columns (map bleached labels)
+      (cells_of (colourless s) source)) (number + 1) [] lines)
+      (rows_of_lines out (out number line) (snippet_context s w columns labels (cells_of s source)) (number + 1)
+      (drop 1 pieces) lines)
       (pale_line_or_break gap (out number line) w columns labels line number (cells_of s source line) (first_of pieces)
       h (λ p.
       let text = slice_range source line.start line.text_end in
-      clean_cells s.width s.tab false line.start 0 (characters text)
+      clean_cells s.width s.layout.tab_width false line.start 0 (characters text)
       (clean_characters text (clean_range source line.start line.text_end (k p)))))
       (pale_lines out (out number line) w columns labels source (number + 1) (drop 1 pieces) lines h k)
 
@@ -270,8 +283,9 @@ module _ (P : Type 0) (s : SnippetSettings) (clean : P → AreCleanDrawings s.ch
       (body_rows s spreads labels source read pieces)
   pale_body spreads labels source read pieces h k =
       let lines = lines_of_contents read in
-      subst (λ columns. PaleRows P (rows_of_lines (left_out s read.line lines spreads) false (colourless s)
-      (number_width read) columns (map bleached labels) source (read.line + 1) [] lines)
+      subst (λ columns. PaleRows P (rows_of_lines (left_out s read.line lines spreads) false
+      (snippet_context (colourless s) (number_width read) columns (map bleached labels)
+      (cells_of (colourless s) source)) (read.line + 1) [] lines)
       (body_rows s spreads labels source read pieces)) (sym (gutter_bleached labels lines))
       (pale_lines (left_out s read.line lines spreads) false (number_width read) (gutter_columns labels lines) labels
       source (read.line + 1) pieces lines h k)
@@ -281,15 +295,16 @@ module _ (P : Type 0) (s : SnippetSettings) (clean : P → AreCleanDrawings s.ch
       PaleRows P (snippet (colourless s) spreads source labels group []) (snippet s spreads source labels group pieces)
   pale_snippet spreads source labels group pieces h k =
       let n = length source.bytes in
-      let read = contents s.context source group in
-      let ends : Bool = s.end_labels && some_shows_end s.context n labels in
+      let read = contents s.layout.context_lines source group in
+      let ends : Bool = s.layout.end_labels && some_shows_end s.layout.context_lines n labels in
       let drawn = drawn_labels s n labels in
       let body : PaleRows P (body_rows (colourless s) spreads (drawn_labels (colourless s) n labels) source.bytes read
       []) (body_rows s spreads drawn source.bytes read pieces) =
       subst (λ ls. PaleRows P (body_rows (colourless s) spreads ls source.bytes read [])
       (body_rows s spreads drawn source.bytes read pieces))
-      (sym (drawn_bleached ends s.styles.highlights n 0 labels))
-      (pale_body spreads drawn source.bytes read pieces (λ p. drawn_clean ends s.styles.highlights n 0 labels (k p))
+      (sym (drawn_bleached ends s.theme.styles.highlights n 0 labels))
+      (pale_body spreads drawn source.bytes read pieces (λ p. drawn_clean ends s.theme.styles.highlights n 0 labels
+      (k p))
       (λ p. (h p).bytes)) in
       rows_cons P (pale_top (number_width read) source.name (nat_lt 1 (length (lines_of_contents read)))
       (place_of source group labels) (λ p. (h p).name))
@@ -321,18 +336,18 @@ module _ (P : Type 0) (s : SnippetSettings) (clean : P → AreCleanDrawings s.ch
       → PaleRow P (refused_row (colourless s) refused) (refused_row s refused)
   pale_refused refused h =
       pale_cons P (pale_styled P s.width plain (codes "  [") (λ p. refl))
-      (pale_cons P (pale_styled P s.width s.styles.error (codes "Failed to read contents for label") (λ p. refl))
+      (pale_cons P (pale_styled P s.width s.theme.styles.error (codes "Failed to read contents for label") (λ p. refl))
       (pale_cons P (pale_styled P s.width plain (codes " `") (λ p. refl))
-      (pale_cons P (pale_styled P s.width s.styles.link (text_or_none refused.label.text)
+      (pale_cons P (pale_styled P s.width s.theme.styles.link (text_or_none refused.label.text)
       (λ p. none_clean refused.label.text (h p).label))
       (pale_cons P (pale_styled P s.width plain (codes "` (offset: ") (λ p. refl))
-      (pale_cons P (pale_styled P s.width s.styles.link (decimal refused.label.span.offset)
+      (pale_cons P (pale_styled P s.width s.theme.styles.link (decimal refused.label.span.offset)
       (λ p. clean_decimal refused.label.span.offset))
       (pale_cons P (pale_styled P s.width plain (codes ", length: ") (λ p. refl))
-      (pale_cons P (pale_styled P s.width s.styles.link (decimal refused.label.span.len)
+      (pale_cons P (pale_styled P s.width s.theme.styles.link (decimal refused.label.span.len)
       (λ p. clean_decimal refused.label.span.len))
       (pale_cons P (pale_styled P s.width plain (codes "): ") (λ p. refl))
-      (pale_cons P (pale_styled P s.width s.styles.warning refused.name (λ p. (h p).name))
+      (pale_cons P (pale_styled P s.width s.theme.styles.warning refused.name (λ p. (h p).name))
       (pale_unstyled (codes "]") (λ p. refl)))))))))))
 
   refused_if : (b : Bool) (x y : Option Refusal) → IfSome x IsCleanRefusal → IfSome y IsCleanRefusal
@@ -363,7 +378,7 @@ module _ (P : Type 0) (s : SnippetSettings) (clean : P → AreCleanDrawings s.ch
   given_unless false h = given h
 
 -- the rows of groups, with the lines of context with which they are read
-module _ (P : Type 0) (s : SnippetSettings) (clean : P → AreCleanDrawings s.characters) where
+module _ (P : Type 0) (s : SnippetSettings) (clean : P → AreCleanDrawings s.theme.characters) where
   pale_unless : (source : Source) (labels : List Label) (answers : Answers) (refused : Option Refusal) →
       (P → IsCleanSource source) → (P → AllByRecursion IsCleanLabel labels) → (P → IfSome refused IsCleanRefusal) →
       PaleGiven P (rows_unless (colourless s) source labels (unhighlighted_answer answers)
@@ -372,10 +387,11 @@ module _ (P : Type 0) (s : SnippetSettings) (clean : P → AreCleanDrawings s.ch
   pale_unless source labels answers (Some refused) h k j =
       given P s clean (rows_cons P (pale_refused P s clean refused j) (rows_nil P))
   pale_unless source labels answers None h k j =
-      let groups = groups_of s.context source answers.join_fails labels in
-      given_unless P s clean (groups_fail s.context source answers.join_fails labels
+      let groups = groups_of s.layout.context_lines source answers.join_fails labels in
+      given_unless P s clean (groups_fail s.layout.context_lines source answers.join_fails labels
       || some_fails answers.place_fails groups)
-      (pale_all P (settings_around s labels) clean (spreads_of s.label_lines s.context source labels) source labels
+      (pale_all P (settings_around s labels) clean (spreads_of s.layout.label_lines s.layout.context_lines source
+      labels) source labels
       answers.pieces groups h k)
 
   pub pale_snippets : (source : Source) (labels : List Label) (answers : Answers) → (P → IsCleanSource source)

@@ -9,7 +9,7 @@ use Rattle.miette_labels.specs.rules.Contexts.{lines_of_contents}
 use Rattle.miette_labels.specs.rules.Labels.{DrawnLabel, one_line}
 use Rattle.miette_snippet_rules.specs.rules.Drawing.{IsNarrow}
 use Rattle.miette_snippet_rules.specs.rules.Gutters.{gutter_columns}
-use Rattle.miette_snippet_rules.specs.rules.Frames.{SnippetSettings, width_of_lines}
+use Rattle.miette_snippet_rules.specs.rules.Frames.{width_of_lines}
 use Rattle.miette_snippet_rules.specs.rules.SnippetLayout.{cells_of, line_marks, text_of_cells}
 use Rattle.miette_snippet_laws.specs.laws.Pictures.{LinesShow, BodyShows, marks_of_line}
 use Rattle.miette_snippet_rules.specs.rules.Marks.{AreApart}
@@ -18,20 +18,21 @@ use Rattle.miette_cells.specs.rules.Cells.{characters}
 use Rattle.miette_snippet_rules.proofs.CutColumns.{AreColumns, columns_from, shown_apart}
 use Rattle.miette_snippet_laws.proofs.Numerals.{decimal-mono}
 use Rattle.miette_snippet_laws.proofs.Beneath.{HasRoom, line_shows, line_begins, all_room}
+use Rattle.miette_snippet_rules.specs.rules.Settings.{SnippetSettings}
 
 pub line_columns : (s : SnippetSettings) (source : List ℕ) (line : Line) → AreColumns 0 (cells_of s source line)
-line_columns s source line = columns_from s.width s.tab false line.start 0
+line_columns s source line = columns_from s.width s.layout.tab_width false line.start 0
     (characters (slice_range source line.start line.text_end))
 
 pub row_apart : (s : SnippetSettings) (labels : List DrawnLabel) (source : List ℕ) (line : Line)
     → AreApart 0 (marks_of_line s labels line (cells_of s source line))
 row_apart s labels source line =
-    shown_apart s.line_columns (line_marks line (cells_of s source line) (one_line line labels))
+    shown_apart s.layout.line_columns (line_marks line (cells_of s source line) (one_line line labels))
     (cells_of s source line) (line_columns s source line)
     (marks_apart (text_of_cells (cells_of s source line) line.text_end) (one_line line labels))
 
 lines_show : (s : SnippetSettings) (w columns last : ℕ) (labels : List DrawnLabel) (source : List ℕ) (number : ℕ)
-    (pieces : List (List Highlight)) (lines : List Line) → IsNarrow s.width s.characters →
+    (pieces : List (List Highlight)) (lines : List Line) → IsNarrow s.width s.theme.characters →
     number + length lines ≡ last + 1 → length (decimal last) ≤ w
     → AllByRecursion (λ line. HasRoom labels line columns) lines
     → LinesShow s w columns labels source number pieces lines
@@ -50,7 +51,7 @@ width-fits : (line : ℕ) (l : Line) (ls : List Line) → length (decimal (line 
 width-fits line l ls = omega arith
 
 body_from : (s : SnippetSettings) (labels : List DrawnLabel) (source : List ℕ) (line : ℕ)
-    (pieces : List (List Highlight)) (lines : List Line) → IsNarrow s.width s.characters →
+    (pieces : List (List Highlight)) (lines : List Line) → IsNarrow s.width s.theme.characters →
     LinesShow s (width_of_lines line lines) (gutter_columns labels lines) labels source (line + 1) pieces lines
 body_from s labels source line pieces [] n = tt
 body_from s labels source line pieces (l ∷ ls) n =
@@ -58,5 +59,5 @@ body_from s labels source line pieces (l ∷ ls) n =
     (line + 1) pieces (l ∷ ls) n (omega arith) (width-fits line l ls) (all_room labels (l ∷ ls))
 
 pub body_shows : (s : SnippetSettings) (labels : List DrawnLabel) (source : List ℕ) (read : Contents)
-    (pieces : List (List Highlight)) → IsNarrow s.width s.characters → BodyShows s labels source read pieces
+    (pieces : List (List Highlight)) → IsNarrow s.width s.theme.characters → BodyShows s labels source read pieces
 body_shows s labels source read pieces n = body_from s labels source read.line pieces (lines_of_contents read) n

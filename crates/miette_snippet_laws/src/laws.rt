@@ -29,7 +29,7 @@ ghost use Rattle.miette_labels.specs.rules.Contexts.{lines_of_contents};
 ghost use Rattle.miette_snippet_rules.specs.rules.CutLines.{Stretch, cut_runs, is_within, stretches};
 ghost use Rattle.miette_snippet_rules.specs.rules.Drawing.{IsNarrow};
 ghost use Rattle.miette_snippet_rules.specs.rules.Folds.{Spread};
-ghost use Rattle.miette_snippet_rules.specs.rules.Frames.{SnippetSettings};
+ghost use Rattle.miette_snippet_rules.specs.rules.Settings.{SnippetSettings};
 ghost use Rattle.miette_snippet_rules.specs.rules.SnippetLayout.{snippet_rows, body_rows, cells_of};
 ghost use Rattle.miette_snippet_laws.specs.laws.Pictures.{BodyShows, marks_of_line, text_of_line};
 ghost use Rattle.miette_snippet_rules.specs.rules.ShownLines.{framed_ranges, line_at};
@@ -60,7 +60,7 @@ pub fn labels_have_one_group()
 /// row of a break stands exactly where some are.
 pub fn snippets_draw_ranges()
     ensures { (s : SnippetSettings) (source : Source) (labels : List Label) (answers : Answers) →
-        HaveContext s.context labels → AreAccepted source.bytes labels → AlwaysReads answers →
+        HaveContext s.layout.context_lines labels → AreAccepted source.bytes labels → AlwaysReads answers →
         snippet_rows s source labels answers ≡ Some (framed_ranges s source labels answers) }
 {}
 
@@ -90,10 +90,10 @@ pub fn left_out_lines_are_inside()
 /// Where no label has more lines than labels are folded to, the rows are those without folding.
 pub fn short_labels_stay()
     ensures { (s : SnippetSettings) (limit : ℕ) (source : Source) (labels : List Label) (answers : Answers) →
-        HaveContext s.context labels → AreAccepted source.bytes labels → AlwaysReads answers →
+        HaveContext s.layout.context_lines labels → AreAccepted source.bytes labels → AlwaysReads answers →
         AllByRecursion (FitsIn limit source.bytes) labels →
-        snippet_rows (record s { label_lines = Some limit }) source labels answers
-        ≡ snippet_rows (record s { label_lines = None }) source labels answers }
+        snippet_rows (record s { layout = record s.layout { label_lines = Some limit } }) source labels answers
+        ≡ snippet_rows (record s { layout = record s.layout { label_lines = None } }) source labels answers }
 {}
 
 /// The marks of a line's labels are not empty, and each begins where the one before it ends, or later. So an anchor
@@ -128,7 +128,7 @@ pub fn cut_lines_are_parted()
 /// the line alone, and the widest cell of the line.
 pub fn cut_rows_are_narrow()
     ensures { (s : SnippetSettings) (labels : List DrawnLabel) (source : List ℕ) (line : Line)
-        (pieces : List Highlight) (limit widest : ℕ) → s.line_columns ≡ Some limit →
+        (pieces : List Highlight) (limit widest : ℕ) → s.layout.line_columns ≡ Some limit →
         AreAsWide widest (cells_of s source line) →
         columns_of (glyphs_of (text_of_line s labels line (cells_of s source line) pieces))
         ≤ most_columns limit (length (one_line line labels)) widest }
@@ -138,9 +138,9 @@ pub fn cut_rows_are_narrow()
 pub fn lines_that_fit_stay()
     ensures { (s : SnippetSettings) (spreads : List Spread) (labels : List DrawnLabel) (source : List ℕ)
         (read : Contents) (pieces : List (List Highlight)) →
-        AllByRecursion (λ line. Fits s.line_columns (cells_of s source line)) (lines_of_contents read) →
+        AllByRecursion (λ line. Fits s.layout.line_columns (cells_of s source line)) (lines_of_contents read) →
         body_rows s spreads labels source read pieces
-        ≡ body_rows (record s { line_columns = None }) spreads labels source read pieces }
+        ≡ body_rows (record s { layout = record s.layout { line_columns = None } }) spreads labels source read pieces }
 {}
 
 /// Where the labels at the end of a source are drawn, and one of them has a line of context, just these labels stand
@@ -148,13 +148,13 @@ pub fn lines_that_fit_stay()
 /// columns of the text, in its row behind what is shown of it. Where none of them has one, or no label is at the end,
 /// or the source is empty, the rows are those of before.
 pub fn ends_are_drawn()
-    ensures lines { (s : SnippetSettings) (bytes : List ℕ) (labels : List Label) → s.end_labels ≡ true →
-        some_shows_end s.context (length bytes) labels ≡ true → EndsStandBehind s bytes labels }
+    ensures lines { (s : SnippetSettings) (bytes : List ℕ) (labels : List Label) → s.layout.end_labels ≡ true →
+        some_shows_end s.layout.context_lines (length bytes) labels ≡ true → EndsStandBehind s bytes labels }
     ensures marks { (text : Text) (labels : List DrawnLabel) → AreBehindText text labels }
     ensures row { (s : SnippetSettings) (labels : List DrawnLabel) (source : List ℕ) (line : Line)
         (pieces : List Highlight) → AreBehindShown s labels line (cells_of s source line) pieces }
     ensures others { (ends : Bool) (s : SnippetSettings) (source : Source) (labels : List Label) (answers : Answers) →
-        some_shows_end s.context (length source.bytes) labels ≡ false →
+        some_shows_end s.layout.context_lines (length source.bytes) labels ≡ false →
         snippet_rows (with_ends ends s) source labels answers
         ≡ snippet_rows (with_ends false s) source labels answers }
 {}
@@ -164,7 +164,7 @@ pub fn ends_are_drawn()
 pub fn texts_hang()
     ensures { (s : SnippetSettings) (labels : List DrawnLabel) (source : List ℕ) (read : Contents)
         (pieces : List (List Highlight)) →
-        IsNarrow s.width s.characters → BodyShows s labels source read pieces }
+        IsNarrow s.width s.theme.characters → BodyShows s labels source read pieces }
 {}
 
 /// In plain styles and without a highlighter's pieces the snippets have the same rows of the same characters in the
@@ -181,6 +181,6 @@ pub fn rows_fade()
 /// of the snippets hold none, whatever the reads and a highlighter answer.
 pub fn rows_hold_no_escape()
     ensures { (s : SnippetSettings) (source : Source) (labels : List Label) (answers : Answers) →
-        AreCleanDrawings s.characters → IsCleanSource source → AllByRecursion IsCleanLabel labels →
+        AreCleanDrawings s.theme.characters → IsCleanSource source → AllByRecursion IsCleanLabel labels →
         IfSome (snippet_rows s source labels answers) (AllByRecursion IsCleanRow) }
 {}

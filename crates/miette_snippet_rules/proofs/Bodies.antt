@@ -22,7 +22,7 @@ use Rattle.miette_snippet_rules.specs.rules.Snippets as N
 use Rattle.miette_labels.specs.rules.Labels.{DrawnLabel}
 use Rattle.miette_snippet_rules.specs.rules.Gutters.{gutter_columns}
 use Rattle.miette_snippet_rules.specs.rules.Folds.{Spread}
-use Rattle.miette_snippet_rules.specs.rules.Frames.{SnippetSettings, width_of_lines}
+use Rattle.miette_snippet_rules.specs.rules.Frames.{width_of_lines}
 use Rattle.miette_snippet_rules.specs.rules.SnippetLayout.{rows_of_lines, left_out, line_or_break, body_rows, cells_of}
 use Rattle.miette_snippet_rules.specs.rules.SnippetLayout.{snippet, all_snippets, drawn_labels}
 use Rattle.miette_snippet_rules.specs.rules.ShownLines.{line_at, numbered_rows, range_width, range_rows, rows_of_ranges}
@@ -42,6 +42,8 @@ use Rattle.miette_snippet_rules.proofs.Bridge.{start_same, begin_same, end_data_
 use Rattle.miette_snippet_rules.proofs.Bridge.{last_same, none_or_some}
 use Rattle.miette_labels.proofs.Bridge.{lines_same, end_same}
 use Rattle.miette_labels.proofs.Bodies.{accepted_is, later_none, next_none}
+use Rattle.miette_snippet_rules.specs.rules.SnippetLayout.{snippet_context}
+use Rattle.miette_snippet_rules.specs.rules.Settings.{SnippetSettings}
 
 pub last_of-range : (low many : ℕ) → last_of low (range_with_len (low + 1) many) ≡ low + many
 last_of-range low zero = omega arith
@@ -62,16 +64,18 @@ LeaveAlike lines out kept low many = (k : ℕ) → low ≤ k → k < low + many 
 rows_are : (out : ℕ → Line → Bool) (kept : ℕ → Bool) (gap : Bool) (s : SnippetSettings) (w columns : ℕ)
     (labels : List DrawnLabel) (source : List ℕ) (low many : ℕ) (pieces : List (List Highlight)) →
     LeaveAlike (lines_of source) out kept low many →
-    rows_of_lines out gap s w columns labels source (low + 1) pieces
+    rows_of_lines out gap (snippet_context s w columns labels (cells_of s source)) (low + 1) pieces
     (map (line_at (lines_of source)) (range_with_len low many))
-    ≡ numbered_rows kept gap s w columns labels source pieces (range_with_len low many)
+    ≡ numbered_rows kept gap (snippet_context s w columns labels (cells_of s source)) source pieces
+    (range_with_len low many)
 rows_are out kept gap s w columns labels source low zero pieces h = refl
 rows_are out kept gap s w columns labels source low (suc many) pieces h =
     let l : Line = line_at (lines_of source) low in
-    ap (λ o. line_or_break gap o s w columns labels l (low + 1) (cells_of s source l) (first_of pieces)
-    ++ rows_of_lines out o s w columns labels source (low + 1 + 1) (drop 1 pieces)
+    ap (λ o. line_or_break gap o (snippet_context s w columns labels (cells_of s source)) l (low + 1) (first_of pieces)
+    ++ rows_of_lines out o (snippet_context s w columns labels (cells_of s source)) (low + 1 + 1) (drop 1 pieces)
     (map (line_at (lines_of source)) (range_with_len (low + 1) many))) (h low (omega arith) (omega arith))
-    ∙ ap (λ r. line_or_break gap (not (kept low)) s w columns labels l (low + 1) (cells_of s source l) (first_of pieces)
+    ∙ ap (λ r. line_or_break gap (not (kept low)) (snippet_context s w columns labels (cells_of s source)) l (low + 1)
+    (first_of pieces)
     ++ r)
     (rows_are out kept (not (kept low)) s w columns labels source (low + 1) many (drop 1 pieces)
     (λ k a b. h k (omega arith) (omega arith)))
@@ -146,14 +150,17 @@ pub body_from : (s : SnippetSettings) (spreads : List Spread) (kept : ℕ → Bo
     (source : List ℕ) (pieces : List (List Highlight)) (low many : ℕ) (ls : List Line) →
     ls ≡ map (line_at (lines_of source)) (range_with_len low many)
     → KeepsAlike s spreads source kept (range_with_len low many) →
-    rows_of_lines (left_out s low ls spreads) false s (width_of_lines low ls) (gutter_columns labels ls) labels source
-    (low + 1) pieces ls ≡ range_rows kept s labels source pieces (range_with_len low many)
+    rows_of_lines (left_out s low ls spreads) false (snippet_context s (width_of_lines low ls)
+    (gutter_columns labels ls) labels (cells_of s source)) (low + 1) pieces ls
+    ≡ range_rows kept s labels source pieces (range_with_len low many)
 body_from s spreads kept labels source pieces low many ls e h =
     let mapped : List Line = map (line_at (lines_of source)) (range_with_len low many) in
-    ap (λ xs. rows_of_lines (left_out s low xs spreads) false s (width_of_lines low xs) (gutter_columns labels xs)
-    labels source (low + 1) pieces xs) e
-    ∙ ap (λ w. rows_of_lines (left_out s low mapped spreads) false s w (gutter_columns labels mapped) labels source
-    (low + 1) pieces mapped) (width_is (line_at (lines_of source)) low many)
+    ap (λ xs. rows_of_lines (left_out s low xs spreads) false
+    (snippet_context s (width_of_lines low xs) (gutter_columns labels xs) labels (cells_of s source)) (low + 1)
+    pieces xs) e
+    ∙ ap (λ w. rows_of_lines (left_out s low mapped spreads) false
+    (snippet_context s w (gutter_columns labels mapped) labels (cells_of s source)) (low + 1) pieces mapped)
+    (width_is (line_at (lines_of source)) low many)
     ∙ rows_are (left_out s low mapped spreads) kept false s (range_width (range_with_len low many))
     (gutter_columns labels mapped) labels source low many pieces (h low many refl)
 
@@ -164,24 +171,26 @@ pub body_is : (s : SnippetSettings) (spreads : List Spread) (kept : ℕ → Bool
     ≡ range_rows kept s labels source.bytes pieces (lines_in source.bytes (read c source.bytes span))
 body_is s spreads kept labels source c span pieces one h =
     let ls : List Line = lines_of_contents (contents c source span) in
-    ap (λ n. rows_of_lines (left_out s n ls spreads) false s (width_of_lines n ls) (gutter_columns labels ls) labels
-    source.bytes (n + 1) pieces ls) (line_same c source span)
+    ap (λ n. rows_of_lines (left_out s n ls spreads) false
+    (snippet_context s (width_of_lines n ls) (gutter_columns labels ls) labels (cells_of s source.bytes)) (n + 1)
+    pieces ls) (line_same c source span)
     ∙ body_from s spreads kept labels source.bytes pieces (first_line c source.bytes span) (many_of c source.bytes span)
     ls (lines_are c source span one)
     (subst (λ (run : List ℕ). KeepsAlike s spreads source.bytes kept run) (run_of c source.bytes span one) h)
     ∙ ap (range_rows kept s labels source.bytes pieces) (sym (run_of c source.bytes span one))
 
 bodies_are : (s : SnippetSettings) (spreads : List Spread) (kept : ℕ → Bool) (labels : List DrawnLabel)
-    (source : Source) (pieces : List (List (List Highlight))) (spans : List Span) → 1 ≤ s.context →
-    AllByRecursion (KeepsAlike s spreads source.bytes kept) (lines_of_groups s.context source.bytes spans) →
+    (source : Source) (pieces : List (List (List Highlight))) (spans : List Span) → 1 ≤ s.layout.context_lines →
+    AllByRecursion (KeepsAlike s spreads source.bytes kept) (lines_of_groups s.layout.context_lines source.bytes spans)
+    →
     bodies s spreads labels source pieces spans ≡ rows_of_ranges kept s labels source.bytes pieces
-    (lines_of_groups s.context source.bytes spans)
+    (lines_of_groups s.layout.context_lines source.bytes spans)
 bodies_are s spreads kept labels source pieces [] one h = refl
 bodies_are s spreads kept labels source pieces (span ∷ spans) one h =
     ap (λ r. r ∷ bodies s spreads labels source (drop 1 pieces) spans)
-    (body_is s spreads kept labels source s.context span (first_of pieces) one h.0)
+    (body_is s spreads kept labels source s.layout.context_lines span (first_of pieces) one h.0)
     ∙ ap (λ r. range_rows kept s labels source.bytes (first_of pieces)
-    (lines_in source.bytes (read s.context source.bytes span)) ∷ r)
+    (lines_in source.bytes (read s.layout.context_lines source.bytes span)) ∷ r)
     (bodies_are s spreads kept labels source (drop 1 pieces) spans one h.1)
 
 -- groups where no read fails
@@ -309,16 +318,19 @@ joined_runs c source fails labels one none =
 -- cells
 pub joined_bodies : (s : SnippetSettings) (spreads : List Spread) (kept : ℕ → Bool) (source : Source)
     (labels : List Label) (drawn : List DrawnLabel) (fails : List Bool) (pieces : List (List (List Highlight))) → 1
-    ≤ s.context → NoneFails fails →
+    ≤ s.layout.context_lines → NoneFails fails →
     AllByRecursion (KeepsAlike s spreads source.bytes kept)
-    (J.snippets s.context source.bytes (map (λ l. l.span) labels)) →
-    bodies s spreads drawn source pieces (groups_answered s.context source fails (spans_of (in_order labels)))
-    ≡ rows_of_ranges kept s drawn source.bytes pieces (J.snippets s.context source.bytes (map (λ l. l.span) labels))
+    (J.snippets s.layout.context_lines source.bytes (map (λ l. l.span) labels)) →
+    bodies s spreads drawn source pieces (groups_answered s.layout.context_lines source fails
+    (spans_of (in_order labels)))
+    ≡ rows_of_ranges kept s drawn source.bytes pieces (J.snippets s.layout.context_lines source.bytes
+    (map (λ l. l.span) labels))
 joined_bodies s spreads kept source labels drawn fails pieces one none h =
-    let runs : lines_of_groups s.context source.bytes (groups_answered s.context source fails
-    (spans_of (in_order labels))) ≡ J.snippets s.context source.bytes (map (λ l. l.span) labels) =
-    runs_answered s.context source fails labels one none in
-    bodies_are s spreads kept drawn source pieces (groups_answered s.context source fails (spans_of (in_order labels)))
+    let runs : lines_of_groups s.layout.context_lines source.bytes (groups_answered s.layout.context_lines source fails
+    (spans_of (in_order labels))) ≡ J.snippets s.layout.context_lines source.bytes (map (λ l. l.span) labels) =
+    runs_answered s.layout.context_lines source fails labels one none in
+    bodies_are s spreads kept drawn source pieces (groups_answered s.layout.context_lines source fails
+    (spans_of (in_order labels)))
     one
     (subst (λ (rs : List (List ℕ)). AllByRecursion (KeepsAlike s spreads source.bytes kept) rs) (sym runs) h)
     ∙ ap (rows_of_ranges kept s drawn source.bytes pieces) runs

@@ -19,7 +19,6 @@ use Rattle.miette_labels.specs.rules.Labels.{drawn_from, shows_end, some_shows_e
 use Rattle.miette_labels.specs.views.GivenLabels.{label_at}
 use Rattle.miette_labels.specs.views.Reads.{IsRead}
 use Rattle.miette_labels.specs.views.Placing.{lends_before, told_end}
-use Rattle.miette_snippet_rules.specs.rules.Frames.{SnippetSettings}
 use Rattle.miette_snippet_rules.specs.rules.SnippetLayout.{drawn_labels, settings_around}
 use Rattle.miette_labels.proofs.Sources.{IsCut, line_of, end_of, lines, reading_end, first_line, last_line, read}
 use Rattle.miette_basics.proofs.Cases.{by_cases}
@@ -32,6 +31,7 @@ use Rattle.miette_snippet_rules.proofs.Data.{end-le-reading, first-lt}
 use Rattle.miette_snippet_rules.proofs.Bridge.{begin_same, none_or_some}
 use Rattle.miette_snippet_rules.proofs.Bodies.{end-of-data}
 use Rattle.miette_snippet_rules.proofs.Ends.{last-ends, covered, end_told}
+use Rattle.miette_snippet_rules.specs.rules.Settings.{SnippetSettings}
 
 -- the line of an offset that is in the source, or one after it, ends behind the offset
 beyond : (at n o k : ℕ) (ls : List Line) → IsCut at n ls → o < n → line_of ls o ≤ k → o < end_of n ls k
@@ -182,7 +182,8 @@ shows_around context n ls =
 -- the drawn labels are the same with either number
 pub drawn_around : (s : SnippetSettings) (n : ℕ) (ls : List Label) → drawn_labels (settings_around s ls) n ls
     ≡ drawn_labels s n ls
-drawn_around s n ls = ap (λ b. drawn_from (s.end_labels && b) s.styles.highlights n 0 ls) (shows_around s.context n ls)
+drawn_around s n ls = ap (λ b. drawn_from (s.layout.end_labels && b) s.theme.styles.highlights n 0 ls)
+    (shows_around s.layout.context_lines n ls)
 
 wanted_told : (wanted shows : Bool) (n : ℕ) → cond wanted (end_told shows n) None ≡ end_told (wanted && shows) n
 wanted_told true shows n = refl

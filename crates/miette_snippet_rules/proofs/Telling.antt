@@ -15,6 +15,7 @@ use Rattle.std.proofs.lemmas.Str.Ascii.{IsAscii-from_all}
 use Rattle.miette_page.specs.views.Tokens.{Token, begins, row_end, row_tokens, run_tokens, rows_tokens, styled_tokens}
 use Rattle.miette_page.specs.views.Tokens.{text_tokens}
 use Rattle.miette_page.proofs.Paging.{told_append, put_append}
+use Rattle.miette_snippet_rules.specs.rules.Settings.{SnippetSettings}
 
 pub codes_drawn : (w : ℕ → ℕ) (text : List ℕ) → map (λ p. p.code) (map (glyph_of w) text) ≡ text
 codes_drawn w [] = refl
@@ -28,16 +29,17 @@ pub styled_told : (w : ℕ → ℕ) (style : Style) (text : List ℕ) → run_to
     ≡ styled_tokens style text
 styled_told w style text = ap (styled_tokens style) (codes_drawn w text)
 
-pub blank_told : (w : ℕ → ℕ) (many : ℕ) → run_tokens (blank w many) ≡ styled_tokens plain (replicate many 32)
-blank_told w many = ap (styled_tokens plain) (codes_blank w many)
+pub blank_told : (s : SnippetSettings) (many : ℕ) → run_tokens (blank s many) ≡ styled_tokens plain (replicate many 32)
+blank_told s many = ap (styled_tokens plain) (codes_blank s.width many)
 
 -- a row of one run
 pub styled_row : (w : ℕ → ℕ) (style : Style) (text : List ℕ) → row_tokens (styled_run w style text ∷ [])
     ≡ styled_tokens style text
 styled_row w style text = append-nil (run_tokens (styled_run w style text)) ∙ styled_told w style text
 
-pub blank_row : (w : ℕ → ℕ) (many : ℕ) → row_tokens (blank w many ∷ []) ≡ styled_tokens plain (replicate many 32)
-blank_row w many = append-nil (run_tokens (blank w many)) ∙ blank_told w many
+pub blank_row : (s : SnippetSettings) (many : ℕ) → row_tokens (blank s many ∷ [])
+    ≡ styled_tokens plain (replicate many 32)
+blank_row s many = append-nil (run_tokens (blank s many)) ∙ blank_told s many
 
 pub told-append : (a b : Row) → row_tokens (a ++ b) ≡ row_tokens a ++ row_tokens b
 told-append [] b = refl

@@ -1,5 +1,6 @@
 -- What users rely on, in the words of docs/RULES.md.
 pub mod CutLines
+pub mod Defaults
 pub mod Drawing
 pub mod Folds
 pub mod Frames
@@ -10,4 +11,5 @@ pub mod Numbers
 pub mod PrintedCells
 pub mod ShownLines
 pub mod SnippetLayout
+pub mod Settings
 pub mod Snippets

@@ -1,2 +1,2 @@
 -- What the code's values stand for.
-pub mod ThemeSettings
+pub mod SettingsView

@@ -20,13 +20,31 @@ pub struct LayoutOptions {
     pub line_columns: Option<usize>,
 }
 
-/// How snippets look: a theme's characters and styles, and the layout; and where the memory that they need comes from.
+impl Default for LayoutOptions {
+    ghost use Rattle.std.specs.Prelude.{◌≡◌};
+    ghost use Rattle.miette_snippet_rules.specs.rules.Defaults.{default_layout};
+
+    ghost is_default = { λ it. it ≡ default_layout };
+
+    fn default() -> Self {
+        LayoutOptions {
+            tab_width: 4,
+            context_lines: 1,
+            primary_start: true,
+            end_labels: false,
+            label_lines: None,
+            line_columns: None,
+        }
+    }
+}
+
+/// What snippets are drawn with: where memory comes from, a theme's characters and styles, and the layout.
 #[derive(Clone, Copy)]
-pub struct Look<'a> {
+pub struct SnippetSettings<'a> {
     /// Where memory comes from.
     pub alloc: Global,
     /// The characters and styles.
     pub theme: &'a GraphicalTheme,
     /// The layout.
-    pub options: LayoutOptions,
+    pub layout: &'a LayoutOptions,
 }

@@ -2,7 +2,7 @@
 
 use crate::comparing::{gives, same};
 use miette_highlight::highlight::Highlighter;
-use miette_layout::options::{LayoutOptions, Look};
+use miette_layout::options::{LayoutOptions, SnippetSettings};
 use miette_layout::page::Page;
 use miette_layout::snippets::snippets;
 use miette_protocol::error::RenderError;
@@ -63,13 +63,13 @@ fn draw<S: SourceCode>(
 ) -> Result<String, RenderError> {
     let theme = GraphicalTheme::unicode_nocolor(alloc)?;
     let labels = labels?;
-    let look = Look {
+    let settings = SnippetSettings {
         alloc,
         theme: &theme,
-        options: OPTIONS,
+        layout: &OPTIONS,
     };
     let page = Page::over(Output::for_text(alloc));
-    let page = snippets(highlighter, &look, source, &labels, page)?;
+    let page = snippets(highlighter, &settings, source, &labels, page)?;
     Ok(page.into_output()?.into_text(alloc)?)
 }
 

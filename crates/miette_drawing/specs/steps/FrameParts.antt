@@ -2,8 +2,8 @@
 use Rattle.std.specs.Prelude.{ℕ, ◌+◌, [], ◌∷◌, replicate}
 use Rattle.miette_page.specs.rules.Rows.{Row, plain_run}
 use Rattle.miette_snippet_rules.specs.rules.Drawing.{blank}
-use Rattle.miette_snippet_rules.specs.rules.Frames.{SnippetSettings}
+use Rattle.miette_snippet_rules.specs.rules.Settings.{SnippetSettings}
 
 -- a corner behind the columns of line numbers, and so many bars
 abbrev pub corner_row : SnippetSettings → ℕ → ℕ → ℕ → Row
-corner_row s w corner many = blank s.width (w + 2) ∷ plain_run s.width (corner ∷ replicate many s.characters.hbar) ∷ []
+corner_row s w corner many = blank s (w + 2) ∷ plain_run s.width (corner ∷ replicate many s.theme.characters.hbar) ∷ []

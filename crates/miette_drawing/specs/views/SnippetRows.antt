@@ -11,16 +11,17 @@ use Rattle.miette_cells.specs.rules.Cells.{Cell, characters, cells_from}
 use Rattle.miette_labels.specs.rules.Contexts.{lines_of_contents}
 use Rattle.miette_drawing.specs.declared.snippet.Drawing.{Drawing}
 use Rattle.miette_folds.specs.views.Spreads.{spread_of}
-use Rattle.miette_snippet_rules.specs.views.ThemeSettings.{settings_of}
+use Rattle.miette_snippet_rules.specs.views.SettingsView.{settings_of}
 use Rattle.miette_labels.specs.views.GivenLabels.{drawn_of}
 use Rattle.miette_snippet_rules.specs.rules.Folds.{Spread}
-use Rattle.miette_snippet_rules.specs.rules.Frames.{SnippetSettings, Place, top_row, bottom_row, number_width}
+use Rattle.miette_snippet_rules.specs.rules.Frames.{Place, top_row, bottom_row, number_width}
 use Rattle.miette_snippet_rules.specs.rules.Gutters.{gutter_columns}
 use Rattle.miette_snippet_rules.specs.rules.Highlighting.{decoded_text, EachHasPieces, line_calls}
 use Rattle.miette_labels.specs.rules.Labels.{DrawnLabel}
-use Rattle.miette_snippet_rules.specs.rules.SnippetLayout.{line_or_break, left_out}
+use Rattle.miette_snippet_rules.specs.rules.SnippetLayout.{left_out, rows_of_lines, snippet_context}
 use Rattle.miette_page.specs.views.Printouts.{Printout, ◌⊕◌}
 use Rattle.miette_page.specs.views.Tokens.{rows_tokens}
+use Rattle.miette_snippet_rules.specs.rules.Settings.{SnippetSettings}
 
 -- the bytes of a line's text, in bytes that begin at an offset
 abbrev pub text_in : ℕ → List ℕ → Line → List ℕ
@@ -28,29 +29,21 @@ text_in start bytes line = slice_range bytes (line.start - start) (line.text_end
 
 -- its cells
 abbrev pub cells_in : SnippetSettings → ℕ → List ℕ → Line → List Cell
-cells_in s start bytes line = cells_from s.width s.tab false line.start 0 (characters (text_in start bytes line))
+cells_in s start bytes line = cells_from s.width s.layout.tab_width false line.start 0
+    (characters (text_in start bytes line))
 
 -- the lines' texts as a highlighter is given them
 abbrev pub texts_in : ℕ → List ℕ → List Line → List (List ℕ)
 texts_in start bytes lines = map (λ line. decoded_text (text_in start bytes line)) lines
-
--- The rows of lines, with numbers from this one on, in bytes that begin at an offset; whether the line before them is
--- left out, and whether a line with its number is.
-abbrev pub lent_rows : (ℕ → Line → Bool) → Bool → SnippetSettings → ℕ → ℕ → List DrawnLabel → ℕ → List ℕ → ℕ → List
-    (List Highlight) → List Line → List Row
-lent_rows out gap s w columns drawn start bytes number pieces [] = []
-lent_rows out gap s w columns drawn start bytes number pieces (line ∷ lines) =
-    line_or_break gap (out number line) s w columns drawn line number (cells_in s start bytes line) (first_of pieces)
-    ++ lent_rows out (out number line) s w columns drawn start bytes (number + 1) (drop 1 pieces) lines
 
 -- the rows of a snippet, with its frame
 abbrev pub lent_snippet : SnippetSettings → List Spread → List DrawnLabel → Contents → Option Place → List (List
     Highlight) → List Row
 lent_snippet s spreads drawn lent place pieces =
     top_row s lent place
-    ∷ lent_rows (left_out s lent.line (lines_of_contents lent) spreads) false s (number_width lent)
-    (gutter_columns drawn (lines_of_contents lent)) drawn lent.span.offset lent.bytes (lent.line + 1) pieces
-    (lines_of_contents lent)
+    ∷ rows_of_lines (left_out s lent.line (lines_of_contents lent) spreads) false
+    (snippet_context s (number_width lent) (gutter_columns drawn (lines_of_contents lent)) drawn
+    (cells_in s lent.span.offset lent.bytes)) (lent.line + 1) pieces (lines_of_contents lent)
     ++ bottom_row s (number_width lent) ∷ []
 
 -- a line and a column as a place
@@ -70,5 +63,5 @@ abbrev pub PutsSnippet : Bool → (List Call → Type 0) → Drawing → Content
     Type 0
 PutsSnippet blank happen drawing lent place before after =
     PutsRows blank happen (texts_in lent.span.offset lent.bytes (lines_of_contents lent))
-    (lent_snippet (settings_of drawing.theme.now drawing.options) (map spread_of drawing.spreads.now)
+    (lent_snippet (settings_of drawing.settings) (map spread_of drawing.spreads.now)
     (map (drawn_of drawing.labels.now) drawing.placed.now) lent (option_map place_at place)) before after

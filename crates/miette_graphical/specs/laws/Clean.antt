@@ -19,7 +19,7 @@ pub record AreCleanCharacters (c : Characters) : Type 0 where
 
 -- with the text of links, and the footer
 abbrev pub AreCleanSettings : Settings → Type 0
-AreCleanSettings s = AreCleanCharacters s.characters × IsClean s.link_text × IfSome s.footer IsClean
+AreCleanSettings s = AreCleanCharacters s.theme.characters × IsClean s.link_text × IfSome s.footer IsClean
 
 -- ---- trees
 

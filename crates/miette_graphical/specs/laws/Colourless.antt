@@ -17,7 +17,7 @@ use Rattle.miette_snippet_laws.specs.laws.Clean.{IsCleanLabel, IsCleanSource}
 use Rattle.miette_graphical.specs.laws.Clean.{AreCleanSettings, HaveNoEscapes}
 
 abbrev pub colourless : Settings → Settings
-colourless s = record s { styles = faded_styles s.styles }
+colourless s = record s { theme = record s.theme { styles = faded_styles s.theme.styles } }
 
 abbrev mutual
   pub unhighlighted_answers : Answers → Answers
@@ -33,7 +33,8 @@ abbrev mutual
 -- a text that may be printed with a theme of the same characters, in whatever styles and with whatever highlighter
 abbrev pub IsRestyledText : SnippetRows → Settings → Tree → List ℕ → Type 0
 IsRestyledText rows s t bytes =
-    (styles : Styles) × (blank : Bool) × IsTextOf rows (record s { styles = styles }) blank t bytes
+    (styles : Styles) × (blank : Bool) × IsTextOf rows (record s { theme = record s.theme { styles = styles } }) blank t
+    bytes
 
 -- What a diagnostic's snippet rows have to be: in plain styles and without pieces they print the same rows with each
 -- style made plain; and they hold no escape where nothing that they are made of does.

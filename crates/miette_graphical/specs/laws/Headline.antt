@@ -8,7 +8,7 @@ use Rattle.miette_labels.specs.rules.Answers.{Highlight}
 use Rattle.miette_labels.specs.rules.Around.{HaveContext}
 use Rattle.miette_labels.specs.rules.Contexts.{contents, lines_of_contents}
 use Rattle.miette_snippet_rules.specs.rules.Folds.{Spread}
-use Rattle.miette_snippet_rules.specs.rules.Frames as frames
+use Rattle.miette_snippet_rules.specs.rules.Settings as snippets
 use Rattle.miette_labels.specs.rules.Groups as grouping
 use Rattle.miette_labels.specs.rules.Groups.{AreAccepted, in_order, lines_of_groups}
 use Rattle.miette_labels.specs.rules.Labels.{DrawnLabel, multi_line, one_line, some_shows_end}
@@ -38,14 +38,14 @@ use Rattle.miette_graphical.specs.rules.Snippets.{snippet_settings, shown_rows, 
 
 -- the numbers of the lines in the context of some label
 abbrev pub shown_lines : Settings → Source → List Label → List ℕ
-shown_lines s source labels = shown_numbers s.context source.bytes labels
+shown_lines s source labels = shown_numbers s.layout.context_lines source.bytes labels
 
 -- the groups of labels, of which each is drawn as one snippet
 abbrev pub groups_of : Settings → Source → List Label → List Span
-groups_of s source labels = grouping.groups_of s.context source [] (in_order labels)
+groups_of s source labels = grouping.groups_of s.layout.context_lines source [] (in_order labels)
 
 -- the settings of the snippets, with the lines of context with which these groups are read
-abbrev pub group_settings : Settings → List Label → frames.SnippetSettings
+abbrev pub group_settings : Settings → List Label → snippets.SnippetSettings
 group_settings s labels = settings_around (snippet_settings s) (in_order labels)
 
 -- The snippets show the lines in the context of some label, once and in order, each with its number: the rows are
@@ -56,8 +56,8 @@ pub record ShowsRanges (s : Settings) (source : Source) (labels : List Label) : 
   pub rows : (pieces : List (List (List Highlight))) →
       drawn_rows s (Some source) labels (pieces_listed pieces)
       ≡ shown_rows (Some (framed_ranges (snippet_settings s) source labels (pieces_listed pieces)))
-  pub groups : lines_of_groups (group_settings s labels).context source (groups_of s source labels)
-      ≡ snippets s.context source.bytes labels
+  pub groups : lines_of_groups (group_settings s labels).layout.context_lines source (groups_of s source labels)
+      ≡ snippets s.layout.context_lines source.bytes labels
   pub whole : concat (ranges (shown_lines s source labels)) ≡ shown_lines s source labels
   pub consecutive : AllByRecursion IsRange (ranges (shown_lines s source labels))
   pub parted : AreParted (ranges (shown_lines s source labels))
@@ -68,7 +68,8 @@ abbrev pub LinesAreShown : Settings → PrintedDiagnostic → Type 0
 LinesAreShown s p =
     IfSome p.source (λ source.
     source.always_reads ≡ true → AreAccepted source.bytes (given_labels p.meaning.labels) →
-    HaveContext s.context (given_labels p.meaning.labels) → ShowsRanges s source (given_labels p.meaning.labels))
+    HaveContext s.layout.context_lines (given_labels p.meaning.labels)
+    → ShowsRanges s source (given_labels p.meaning.labels))
 
 -- ---- the marks under a line
 
@@ -108,7 +109,7 @@ MarksAreApart s p = IfSome p.source (λ source. (k : ℕ) →
 
 -- whether line k is kept where labels are folded to so many lines
 abbrev pub is_kept_at : ℕ → Settings → Source → List Label → ℕ → Bool
-is_kept_at limit s source labels k = is_kept (Some limit) s.context source.bytes labels k
+is_kept_at limit s source labels k = is_kept (Some limit) s.layout.context_lines source.bytes labels k
 
 -- the labels on line k and on others beside it
 abbrev pub labels_through : Settings → Source → List Label → ℕ → List DrawnLabel
@@ -127,14 +128,16 @@ pub record FoldsTo (limit : ℕ) (s : Settings) (source : Source) (labels : List
       labels_through s source labels k ≡ labels_through s source labels (k + 1)
   pub short : AllByRecursion (FitsIn limit source.bytes) labels → (pieces : List (List (List Highlight))) →
       drawn_rows s (Some source) labels (pieces_listed pieces)
-      ≡ drawn_rows (record s { label_lines = None }) (Some source) labels (pieces_listed pieces)
+      ≡ drawn_rows (record s { layout = record s.layout { label_lines = None } }) (Some source) labels
+      (pieces_listed pieces)
 
 -- where labels are folded, under the conditions of the lines
 abbrev pub LabelsAreFolded : Settings → PrintedDiagnostic → Type 0
 LabelsAreFolded s p =
-    IfSome p.source (λ source. IfSome s.label_lines (λ limit.
+    IfSome p.source (λ source. IfSome s.layout.label_lines (λ limit.
     source.always_reads ≡ true → AreAccepted source.bytes (given_labels p.meaning.labels) →
-    HaveContext s.context (given_labels p.meaning.labels) → FoldsTo limit s source (given_labels p.meaning.labels)))
+    HaveContext s.layout.context_lines (given_labels p.meaning.labels)
+    → FoldsTo limit s source (given_labels p.meaning.labels)))
 
 -- ---- lines that are cut
 
@@ -159,7 +162,7 @@ pub record IsCutExactly (s : Settings) (source : Source) (labels : List Label) (
 
 -- each line of a diagnostic's source that is cut
 abbrev pub CutsAreExact : Settings → PrintedDiagnostic → Type 0
-CutsAreExact s p = IfSome p.source (λ source. (k limit : ℕ) (cut : List Stretch) → s.line_columns ≡ Some limit →
+CutsAreExact s p = IfSome p.source (λ source. (k limit : ℕ) (cut : List Stretch) → s.layout.line_columns ≡ Some limit →
     line_cut (snippet_settings s) (line_of source k) (cells_under s source k)
     (labels_under s source (given_labels p.meaning.labels) k) ≡ Some cut →
     IsCutExactly s source (given_labels p.meaning.labels) k limit cut)
@@ -169,12 +172,15 @@ CutsAreExact s p = IfSome p.source (λ source. (k limit : ℕ) (cut : List Stret
 abbrev pub SnippetStays : Settings → Source → List Label → Span → Type 0
 SnippetStays s source labels group =
     (spreads : List Spread) (pieces : List (List Highlight)) →
-    AllByRecursion (λ line. Fits s.line_columns (cells_of (snippet_settings s) source.bytes line))
-    (lines_of_contents (contents (group_settings s labels).context source group)) →
+    AllByRecursion (λ line. Fits s.layout.line_columns (cells_of (snippet_settings s) source.bytes line))
+    (lines_of_contents (contents (group_settings s labels).layout.context_lines source group)) →
     body_rows (group_settings s labels) spreads (drawn_labels s source labels) source.bytes
-    (contents (group_settings s labels).context source group) pieces
-    ≡ body_rows (record (group_settings s labels) { line_columns = None }) spreads (drawn_labels s source labels)
-    source.bytes (contents (group_settings s labels).context source group) pieces
+    (contents (group_settings s labels).layout.context_lines source group) pieces
+    ≡ body_rows (record (group_settings s labels) {
+      layout =
+          record (group_settings s labels).layout { line_columns = None };
+    }) spreads (drawn_labels s source labels)
+    source.bytes (contents (group_settings s labels).layout.context_lines source group) pieces
 
 -- in each snippet of a diagnostic
 abbrev pub LinesThatFitStay : Settings → PrintedDiagnostic → Type 0
@@ -190,13 +196,13 @@ abbrev pub SnippetHangs : Settings → Source → List Label → Span → Type 0
 SnippetHangs s source labels group =
     (pieces : List (List Highlight)) →
     BodyShows (group_settings s labels) (drawn_labels s source labels) source.bytes
-    (contents (group_settings s labels).context source group) pieces
+    (contents (group_settings s labels).layout.context_lines source group) pieces
 
 -- in each snippet of a diagnostic, where the theme's drawing characters are one column wide
 abbrev pub TextsHang : Settings → PrintedDiagnostic → Type 0
 TextsHang s p =
     IfSome p.source (λ source.
-    AreNarrow width_of s.characters → AllByRecursion (SnippetHangs s source (given_labels p.meaning.labels))
+    AreNarrow width_of s.theme.characters → AllByRecursion (SnippetHangs s source (given_labels p.meaning.labels))
     (groups_of s source (given_labels p.meaning.labels)))
 
 -- ---- labels at the end of the source
@@ -212,7 +218,7 @@ pub record EndsBehind (s : Settings) (source : Source) (labels : List Label) : T
 -- where labels at the end are drawn, and one of them has a line of context
 abbrev pub EndsAreDrawn : Settings → PrintedDiagnostic → Type 0
 EndsAreDrawn s p =
-    IfSome p.source (λ source. s.end_labels ≡ true →
-    some_shows_end (group_settings s (given_labels p.meaning.labels)).context (length source.bytes)
+    IfSome p.source (λ source. s.layout.end_labels ≡ true →
+    some_shows_end (group_settings s (given_labels p.meaning.labels)).layout.context_lines (length source.bytes)
     (in_order (given_labels p.meaning.labels)) ≡ true →
     EndsBehind s source (given_labels p.meaning.labels))

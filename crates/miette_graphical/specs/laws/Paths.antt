@@ -33,8 +33,9 @@ abbrev mutual
 -- what is printed at a path of a whole report, if anything is
 abbrev pub printed_at : Settings → Tree → List Step → Option PrintedDiagnostic
 printed_at s (tree m own c r) [] = Some (over own m)
-printed_at s (tree m own c r) (to_cause ∷ path) = if s.chain then at_cause s.nested own c path else None
-printed_at s (tree m own c r) (to_related k ∷ path) = at_related s.nested own r k path
+printed_at s (tree m own c r) (to_cause ∷ path) = if s.cause_chain then at_cause s.related_as_nested own c path
+    else None
+printed_at s (tree m own c r) (to_related k ∷ path) = at_related s.related_as_nested own r k path
 
 -- a printed diagnostic has a path
 pub record HasPath (s : Settings) (t : Tree) (p : PrintedDiagnostic) : Type 0 where

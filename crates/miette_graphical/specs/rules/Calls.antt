@@ -39,5 +39,6 @@ abbrev mutual
 -- for a whole report
 abbrev pub report_calls : Settings → Tree → Answers → List Call
 report_calls s (tree m own c r) a =
-    (if s.chain then cause_calls s.context s.nested own c (cause_answers a) else [])
-    ++ (own_calls s.context own m (own_answer a) ++ related_calls s.context s.nested own r (related_answers a))
+    (if s.cause_chain then cause_calls s.layout.context_lines s.related_as_nested own c (cause_answers a) else [])
+    ++ (own_calls s.layout.context_lines own m (own_answer a)
+    ++ related_calls s.layout.context_lines s.related_as_nested own r (related_answers a))

@@ -5,7 +5,9 @@ use Rattle.miette_style.specs.declared.style.Style.{Style}
 use Rattle.miette_protocol.specs.views.Meaning.{Meaning, Label}
 use Rattle.miette_protocol.specs.rules.Reading.{Source}
 use Rattle.miette_protocol.specs.declared.protocol.Severity.{Severity}
-use Rattle.miette_graphical.specs.rules.Settings.{Settings, Urls, AsLinks, AsText, Hidden, severity_style}
+use Rattle.miette_graphical.specs.rules.Settings.{Settings, severity_style}
+use Rattle.miette_graphical.specs.declared.settings.UrlMode.{UrlMode}
+use Rattle.miette_graphical.specs.declared.settings.UrlMode.TheVariants.{Links, Text, Hidden}
 use Rattle.miette_graphical.specs.rules.Answers.{Answer}
 use Rattle.miette_graphical.specs.rules.Indents.{bare_text, wrapped_under, icon_indent, bar_indent, arrow_indent}
 use Rattle.miette_graphical.specs.rules.Indents.{stem_indent, help_indent, further_help_indent, footer_indent}
@@ -28,20 +30,21 @@ linked_code style (Some code) = Styled style (chars code ++ 32 ∷ []) ∷ []
 -- the url behind the code
 abbrev pub url_behind : Settings → Option (List ℕ) → List Fragment
 url_behind s None = []
-url_behind s (Some url) = bare_text (codes " (") ∷ Styled s.styles.link (chars url) ∷ bare_text (codes ")") ∷ []
+url_behind s (Some url) = bare_text (codes " (") ∷ Styled s.theme.styles.link (chars url) ∷ bare_text (codes ")") ∷ []
 
 abbrev pub link_header : Settings → Style → List ℕ → Option (List ℕ) → List Fragment
-link_header s style url code = LinkTo (chars url) ∷ linked_code style code ++ Styled s.styles.link s.link_text ∷ LinkEnd
+link_header s style url code = LinkTo (chars url) ∷ linked_code style code ++ Styled s.theme.styles.link s.link_text
+    ∷ LinkEnd
     ∷ blank_row
 
 abbrev pub code_header : Style → Option (List ℕ) → List Fragment → List Fragment
 code_header style None behind = []
 code_header style (Some code) behind = Styled style (chars code) ∷ behind ++ blank_row
 
-abbrev pub header_by : Urls → Settings → Style → Option (List ℕ) → Option (List ℕ) → List Fragment
-header_by AsLinks s style (Some url) code = link_header s style url code
-header_by AsLinks s style None code = code_header style code []
-header_by AsText s style url code = code_header style code (url_behind s url)
+abbrev pub header_by : UrlMode → Settings → Style → Option (List ℕ) → Option (List ℕ) → List Fragment
+header_by Links s style (Some url) code = link_header s style url code
+header_by Links s style None code = code_header style code []
+header_by Text s style url code = code_header style code (url_behind s url)
 header_by Hidden s style url code = code_header style code []
 
 -- A link to the url with the code and the link's text; or the code alone, with the url behind it in text mode; or

@@ -1,5 +1,6 @@
 -- What stands in front of rows, in runs, and text that is wrapped under it.
 use Rattle.std.specs.Prelude.{ℕ, ◌-◌, Bool, true, false, List, [], ◌∷◌, ◌++◌, codes, replicate, Option}
+use Rattle.miette_text.specs.views.Plans.{cuts_hyphens}
 use Rattle.miette_runs.specs.rules.Runs.{Fragment, Styled, print}
 use Rattle.miette_style.specs.rules.Styles.{plain}
 use Rattle.miette_runs.specs.rules.Sequences.{tokens}
@@ -22,9 +23,9 @@ wrapped_behind s first further text =
       room = s.width - 2;
       first = first;
       further = further;
-      breaks = s.breaks;
-      wraps = s.wraps;
-      hyphens = s.hyphens;
+      breaks = s.wrapping.break_words;
+      wraps = s.wrapping.wrap_lines;
+      hyphens = cuts_hyphens s.wrapping.word_splitter;
     }) text
 
 abbrev pub wrapped_under : Settings → List Fragment → List Fragment → List ℕ → List ℕ
@@ -37,17 +38,18 @@ icon_indent s severity =
 
 abbrev pub bar_indent : Settings → Option Severity → List Fragment
 bar_indent s severity =
-    bare_text (spaces 2) ∷ Styled (severity_style s severity) (s.characters.vbar ∷ []) ∷ bare_text (spaces 1) ∷ []
+    bare_text (spaces 2) ∷ Styled (severity_style s severity) (s.theme.characters.vbar ∷ []) ∷ bare_text (spaces 1) ∷ []
 
 -- In front of a cause or a nested related report, in the style of the outer severity: an arrow, and a bar that goes
 -- down to the next one.
 abbrev pub arrow_text : Settings → Bool → List ℕ
-arrow_text s true = spaces 2 ++ s.characters.lbot ∷ s.characters.hbar ∷ s.characters.rarrow ∷ spaces 1
-arrow_text s false = spaces 2 ++ s.characters.lcross ∷ s.characters.hbar ∷ s.characters.rarrow ∷ spaces 1
+arrow_text s true = spaces 2 ++ s.theme.characters.lbot ∷ s.theme.characters.hbar ∷ s.theme.characters.rarrow ∷ spaces 1
+arrow_text s false = spaces 2 ++ s.theme.characters.lcross ∷ s.theme.characters.hbar ∷ s.theme.characters.rarrow
+    ∷ spaces 1
 
 abbrev pub stem_text : Settings → Bool → List ℕ
 stem_text s true = spaces 6
-stem_text s false = spaces 2 ++ s.characters.vbar ∷ spaces 3
+stem_text s false = spaces 2 ++ s.theme.characters.vbar ∷ spaces 3
 
 abbrev pub arrow_indent : Settings → Option Severity → Bool → List Fragment
 arrow_indent s outer is_last = Styled (severity_style s outer) (arrow_text s is_last) ∷ []
@@ -57,7 +59,7 @@ stem_indent s outer is_last = Styled (severity_style s outer) (stem_text s is_la
 
 -- in front of a help text
 abbrev pub help_indent : Settings → List Fragment
-help_indent s = Styled s.styles.help (codes "  help: ") ∷ []
+help_indent s = Styled s.theme.styles.help (codes "  help: ") ∷ []
 
 abbrev pub further_help_indent : List Fragment
 further_help_indent = bare_text (spaces 8) ∷ []

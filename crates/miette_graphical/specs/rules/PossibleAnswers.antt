@@ -10,7 +10,7 @@ use Rattle.miette_graphical.specs.rules.Answers.{Answer, Answers, RelatedAnswers
 use Rattle.miette_graphical.specs.rules.Answers.{cause_answers, related_answers, first_answers, later_answers}
 use Rattle.miette_graphical.specs.rules.DiagnosticText.{SnippetRows}
 use Rattle.miette_tree.specs.rules.DiagnosticParts.{given_labels}
-use Rattle.miette_snippet_rules.specs.rules.Frames as frames
+use Rattle.miette_snippet_rules.specs.rules.Settings as snippets
 use Rattle.miette_labels.specs.rules.Around.{group_context}
 use Rattle.miette_labels.specs.rules.Groups.{in_order, groups_of}
 use Rattle.miette_highlight.specs.rules.HighlighterCalls.{Call}
@@ -28,37 +28,38 @@ use Rattle.miette_tree.specs.rules.Tree.{effective}
 -- read, since else nothing is printed.
 
 -- there are rows, under these settings of snippets
-abbrev pub HasRows : frames.SnippetSettings → Option Source → List Label → Answer → Type 0
+abbrev pub HasRows : snippets.SnippetSettings → Option Source → List Label → Answer → Type 0
 HasRows l None labels a = Unit {0}
 HasRows l (Some source) labels a = is_some (snippet_rows l source labels a) ≡ true
 
 -- the pieces are of the lines of the snippets
-abbrev pub HasPieces : frames.SnippetSettings → Bool → Option Source → List Label → Answer → Type 0
+abbrev pub HasPieces : snippets.SnippetSettings → Bool → Option Source → List Label → Answer → Type 0
 HasPieces l blank None labels a = Unit {0}
-HasPieces l blank (Some source) labels a = SnippetsHavePieces (group_context l.context (in_order labels)) blank source
-    (groups_of l.context source a.join_fails (in_order labels)) a.pieces
+HasPieces l blank (Some source) labels a = SnippetsHavePieces (group_context l.layout.context_lines (in_order labels))
+    blank source
+    (groups_of l.layout.context_lines source a.join_fails (in_order labels)) a.pieces
 
 -- of labels over a source; are lines left plain, and does every read succeed?
-pub record IsAnswerOf (l : frames.SnippetSettings) (blank : Bool) (source : Option Source) (labels : List Label)
+pub record IsAnswerOf (l : snippets.SnippetSettings) (blank : Bool) (source : Option Source) (labels : List Label)
     (reads : Bool) (a : Answer) : Type 0 where
   pub read : reads ≡ true → a ≡ pieces_listed a.pieces
   pub plain : blank ≡ true → a.pieces ≡ []
   pub pieces : HasPieces l blank source labels a
   pub rows : HasRows l source labels a
 
-abbrev pub IsAnswer : frames.SnippetSettings → Bool → Option Source → Meaning → Answer → Type 0
+abbrev pub IsAnswer : snippets.SnippetSettings → Bool → Option Source → Meaning → Answer → Type 0
 IsAnswer l blank source m a =
     IsAnswerOf l blank source (given_labels m.labels) (always_reads source (given_labels m.labels)) a
 
 abbrev mutual
-  pub AreCauseAnswers : frames.SnippetSettings → Bool → Option Source → Cause → Answers → Type 0
+  pub AreCauseAnswers : snippets.SnippetSettings → Bool → Option Source → Cause → Answers → Type 0
   AreCauseAnswers l blank inherited (texts ts) a = Unit {0}
   AreCauseAnswers l blank inherited (diagnostic (tree m own c r)) a =
       IsAnswer l blank (effective own inherited) m (own_answer a)
       × AreRelatedAnswers l blank (effective own inherited) r (related_answers a)
       × AreCauseAnswers l blank inherited c (cause_answers a)
 
-  pub AreRelatedAnswers : frames.SnippetSettings → Bool → Option Source → Trees → RelatedAnswers → Type 0
+  pub AreRelatedAnswers : snippets.SnippetSettings → Bool → Option Source → Trees → RelatedAnswers → Type 0
   AreRelatedAnswers l blank inherited no_trees more = Unit {0}
   AreRelatedAnswers l blank inherited (more_trees (tree m own c r) ts) more =
       IsAnswer l blank (effective own inherited) m (own_answer (first_answers more))
@@ -69,7 +70,7 @@ abbrev mutual
 abbrev pub AreAnswers : Settings → Bool → Tree → Answers → Type 0
 AreAnswers s blank (tree m own c r) a =
     IsAnswer (snippet_settings s) blank own m (own_answer a)
-    × (s.chain ≡ true → AreCauseAnswers (snippet_settings s) blank own c (cause_answers a))
+    × (s.cause_chain ≡ true → AreCauseAnswers (snippet_settings s) blank own c (cause_answers a))
     × AreRelatedAnswers (snippet_settings s) blank own r (related_answers a)
 
 -- ---- a whole report

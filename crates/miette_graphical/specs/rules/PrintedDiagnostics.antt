@@ -35,7 +35,8 @@ abbrev mutual
 -- the diagnostics of a whole report: its own, its causes where the cause chain is on, and the related ones
 abbrev pub diagnostics_of : Settings → Tree → List PrintedDiagnostic
 diagnostics_of s (tree m own c r) =
-    over own m ∷ ((if s.chain then printed_causes s.nested own c else []) ++ printed_related s.nested own r)
+    over own m ∷ ((if s.cause_chain then printed_causes s.related_as_nested own c else [])
+    ++ printed_related s.related_as_nested own r)
 
 -- whether every source that labels of these diagnostics are read from always reads
 abbrev pub all_read : List PrintedDiagnostic → Bool

@@ -2,33 +2,27 @@
 use Rattle.std.specs.Prelude.{ℕ, Bool, List, Option, Some, None, true, false, chars, codes}
 use Rattle.miette_protocol.specs.declared.protocol.Severity.{Severity}
 use Rattle.miette_protocol.specs.declared.protocol.Severity.TheVariants.{Advice, Warning, Error}
-use Rattle.miette_style.specs.rules.Themes.{Characters, Styles}
+use Rattle.miette_snippet_rules.specs.declared.options.LayoutOptions.{LayoutOptions}
+use Rattle.miette_snippet_rules.specs.rules.Defaults.{default_layout}
+use Rattle.miette_style.specs.rules.Themes.{Characters, Styles, Theme}
 use Rattle.miette_style.specs.declared.style.Style.{Style}
+use Rattle.miette_text.specs.declared.wrap.WordSeparator.TheVariants.{AsciiSpace}
+use Rattle.miette_text.specs.declared.wrap.WordSplitter.TheVariants.{HyphenSplitter}
+use Rattle.miette_graphical.specs.declared.settings.UrlMode.{UrlMode}
+use Rattle.miette_graphical.specs.declared.settings.UrlMode.TheVariants.{Links, Text, Hidden}
+use Rattle.miette_graphical.specs.declared.settings.Wrapping.{Wrapping}
 
--- What a url becomes: a link, a text behind the code, or nothing.
-pub data Urls : Type 0 where
-  AsLinks : Urls
-  AsText : Urls
-  Hidden : Urls
-
+-- The width is that of wrapped rows, in columns. UrlMode become links, texts after the code, or nothing.
 pub record Settings : Type 0 where
-  pub characters : Characters
-  pub styles : Styles
+  pub theme : Theme
+  pub layout : LayoutOptions
+  pub wrapping : Wrapping
   pub width : ℕ
-  pub tab : ℕ
-  pub context : ℕ
-  pub primary_start : Bool
-  pub end_labels : Bool
-  pub line_columns : Option ℕ
-  pub urls : Urls
+  pub urls : UrlMode
   pub link_text : List ℕ
-  pub chain : Bool
-  pub nested : Bool
-  pub wraps : Bool
-  pub breaks : Bool
-  pub hyphens : Bool
+  pub cause_chain : Bool
+  pub related_as_nested : Bool
   pub footer : Option (List ℕ)
-  pub label_lines : Option ℕ
 
 -- `error` where a diagnostic has no severity
 abbrev pub icon_in : Characters → Option Severity → List ℕ
@@ -44,40 +38,40 @@ style_in s (Some Warning) = s.warning
 style_in s (Some Advice) = s.advice
 
 abbrev pub icon : Settings → Option Severity → List ℕ
-icon s = icon_in s.characters
+icon s = icon_in s.theme.characters
 
 abbrev pub severity_style : Settings → Option Severity → Style
-severity_style s = style_in s.styles
+severity_style s = style_in s.theme.styles
 
--- what a handler is made with
-abbrev pub default_settings : Characters → Styles → Settings
-default_settings characters styles = record {
-  characters = characters;
-  styles = styles;
-  width = 200;
-  tab = 4;
-  context = 1;
-  primary_start = true;
-  end_labels = false;
-  line_columns = None;
-  urls = AsLinks;
-  link_text = chars (codes "(link)");
-  chain = true;
-  nested = false;
-  wraps = true;
-  breaks = true;
-  hyphens = true;
-  footer = None;
-  label_lines = None;
+abbrev pub default_wrapping : Wrapping
+default_wrapping = record {
+  wrap_lines = true;
+  break_words = true;
+  word_separator = AsciiSpace;
+  word_splitter = HyphenSplitter;
 }
 
-abbrev pub links_shown : Bool → Urls
-links_shown true = AsLinks
-links_shown false = AsText
+-- what a handler is made with
+abbrev pub default_settings : Theme → Settings
+default_settings theme = record {
+  theme = theme;
+  layout = default_layout;
+  wrapping = default_wrapping;
+  width = 200;
+  urls = Links;
+  link_text = chars (codes "(link)");
+  cause_chain = true;
+  related_as_nested = false;
+  footer = None;
+}
+
+abbrev pub links_shown : Bool → UrlMode
+links_shown true = Links
+links_shown false = Text
 
 -- urls that were hidden become links
-abbrev pub urls_shown : Bool → Urls → Urls
+abbrev pub urls_shown : Bool → UrlMode → UrlMode
 urls_shown false urls = Hidden
-urls_shown true AsLinks = AsLinks
-urls_shown true AsText = AsText
-urls_shown true Hidden = AsLinks
+urls_shown true Links = Links
+urls_shown true Text = Text
+urls_shown true Hidden = Links

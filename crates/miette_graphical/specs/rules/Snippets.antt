@@ -2,25 +2,15 @@
 use Rattle.std.specs.Prelude.{ℕ, List, [], map, chars, encode_utf8_all, Option, Some, None, unwrap_or}
 use Rattle.miette_runs.specs.rules.Runs.{Fragment, Styled}
 use Rattle.miette_page.specs.rules.Rows.{Row, Run}
-use Rattle.miette_snippet_rules.specs.rules.Frames as frames
+use Rattle.miette_snippet_rules.specs.rules.Settings as snippets
 use Rattle.miette_cells.specs.rules.Widths.{width_of}
 use Rattle.miette_snippet_rules.specs.rules.SnippetLayout.{snippet_rows}
 use Rattle.miette_graphical.specs.rules.Settings.{Settings}
 use Rattle.miette_graphical.specs.rules.DiagnosticText.{SnippetRows}
 
 -- the settings of the snippets
-abbrev pub snippet_settings : Settings → frames.SnippetSettings
-snippet_settings s = record {
-  characters = s.characters;
-  styles = s.styles;
-  width = width_of;
-  tab = s.tab;
-  context = s.context;
-  primary_start = s.primary_start;
-  end_labels = s.end_labels;
-  label_lines = s.label_lines;
-  line_columns = s.line_columns;
-}
+abbrev pub snippet_settings : Settings → snippets.SnippetSettings
+snippet_settings s = record { theme = s.theme; width = width_of; layout = s.layout }
 
 -- a run's characters, as their bytes read
 abbrev pub run_text : Run → List ℕ

@@ -68,7 +68,7 @@ abbrev mutual
   pub related_text : SnippetRows → Settings → Option Severity → Option Source → Trees → RelatedAnswers → List ℕ
   related_text rows s outer inherited no_trees more = []
   related_text rows s outer inherited (more_trees (tree m own c r) ts) more =
-      (if s.nested then
+      (if s.related_as_nested then
       under_arrow s outer (are_last ts)
       (without_trailing (inner_at rows s outer (are_last ts) m (effective own inherited)
       (own_answer (first_answers more))
@@ -84,6 +84,6 @@ abbrev pub report_text : SnippetRows → Settings → Tree → Answers → List 
 report_text rows s (tree m own c r) a =
     print (header s m)
     ++ body rows s m own (own_answer a)
-    (only_if s.chain (causes_text rows s m.severity own c (cause_answers a)))
+    (only_if s.cause_chain (causes_text rows s m.severity own c (cause_answers a)))
     (related_text rows s m.severity own r (related_answers a))
     ++ footer_text s

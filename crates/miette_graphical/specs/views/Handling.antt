@@ -2,6 +2,8 @@
 use Rattle.std.specs.Prelude.{Bool, List, Option, None}
 use Rattle.miette_highlight.specs.rules.HighlighterCalls.{Call}
 use Rattle.miette_snippet_rules.specs.rules.Highlighting.{AreCallsOn, follows, leaves_plain}
+use Rattle.miette_snippet_rules.specs.declared.options.LayoutOptions.{LayoutOptions}
+use Rattle.miette_graphical.specs.declared.settings.Wrapping.{Wrapping}
 use Rattle.miette_graphical.specs.rules.Settings.{Settings}
 
 -- how it prints, and what styles the lines of sources, if anything does
@@ -11,6 +13,13 @@ pub record Handling (H : Type 0) : Type 0 where
 
 abbrev pub without_highlighter : {H : Type 0} → Settings → Handling H
 without_highlighter s = record { settings = s; highlighter = None }
+
+-- with another layout, and with another way of wrapping
+abbrev pub laid_out : {H : Type 0} → Handling H → LayoutOptions → Handling H
+laid_out it layout = record it { settings = record it.settings { layout = layout } }
+
+abbrev pub wrapped_by : {H : Type 0} → Handling H → Wrapping → Handling H
+wrapped_by it wrapping = record it { settings = record it.settings { wrapping = wrapping } }
 
 -- whether it leaves the lines of sources plain
 abbrev pub draws_plain : {H : Type 0} → (H → Bool) → Handling H → Bool

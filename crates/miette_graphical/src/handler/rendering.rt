@@ -14,7 +14,6 @@ ghost use Rattle.miette_graphical.specs.laws.Colourless.{IsColouredText, IsResty
 ghost use Rattle.miette_graphical.specs.laws.Headline.{EndsAreDrawn, LabelsAreFolded, LinesAreShown, MarksAreApart};
 ghost use Rattle.miette_graphical.specs.laws.Headline.{TextsHang, CutsAreExact, LinesThatFitStay};
 ghost use Rattle.miette_graphical.specs.views.Handling.{AreCallsOf, draws_plain, follows_of};
-ghost use Rattle.miette_graphical.specs.steps.SettingsView.{settings_of};
 ghost use Rattle.miette_tree.specs.views.Handler.{AppendsOne};
 ghost use Rattle.miette_runs.specs.rules.Sequences.{erase};
 ghost use Rattle.miette_text.specs.rules.ColouredTexts.{AppendsErasing};
@@ -26,7 +25,7 @@ use crate::handler::GraphicalReportHandler;
 use crate::laws::{erasing_law, snippets_law};
 use crate::pen::Pen;
 use crate::printing::append_printed;
-use crate::settings::Settings;
+use crate::settings::Fitted;
 use crate::whole::report_output;
 use miette_highlight::highlight::Highlighter;
 use miette_protocol::error::RenderError;
@@ -36,47 +35,6 @@ use miette_tree::report::Report;
 use miette_tree::report_handler::ReportHandler;
 
 impl<H: Highlighter> GraphicalReportHandler<H> {
-    fn link_text(&self) -> &str
-        ensures { chars result.now ≡ self.now.settings.link_text }
-    {
-        match &self.link_display_text {
-            Some(text) => text.as_str(),
-            None => "(link)",
-        }
-    }
-
-    fn footer(&self) -> Option<&str>
-        ensures { option_map (λ t. chars t.now) result ≡ self.now.settings.footer }
-    {
-        match &self.footer {
-            Some(text) => Some(text.as_str()),
-            None => None,
-        }
-    }
-
-    fn settings(&self) -> Settings<'_>
-        ensures { settings_of result ≡ self.now.settings }
-    {
-        Settings {
-            theme: &self.theme,
-            width: self.width,
-            tab: self.tab_width,
-            context: self.context_lines,
-            primary_start: self.primary_span_start,
-            end_labels: self.end_labels,
-            label_lines: self.label_lines,
-            line_columns: self.line_columns,
-            urls: self.urls,
-            link_text: self.link_text(),
-            chain: self.cause_chain,
-            nested: self.related_as_nested,
-            wraps: self.wrap_lines,
-            breaks: self.break_words,
-            splitter: self.word_splitter,
-            footer: self.footer(),
-        }
-    }
-
     // Appends the picture of a report, and tells the calls on the highlighter.
     fn draw<D: Diagnostic, S: SourceCode>(
         &mut self,
@@ -97,7 +55,11 @@ impl<H: Highlighter> GraphicalReportHandler<H> {
             alloc,
             highlighter: self.highlighter.take(),
         };
-        let drawn = report_output(&mut pen, self.settings(), report);
+        let settings = Fitted {
+            own: &self.settings,
+            width: self.settings.width,
+        };
+        let drawn = report_output(&mut pen, settings, report);
         self.highlighter = pen.highlighter;
         append_printed(alloc, drawn?, out)?;
         Ok(())
@@ -129,7 +91,7 @@ impl<H: Highlighter> GraphicalReportHandler<H> {
             ((calls : List Call) → follows_of H.may_follow self.old calls → AnsweredBy answer calls) →
             follows_of H.may_follow self.new [] → all_read (diagnostics_of self.old.settings tree) ≡ true →
             string_bytes out.new ≡ string_bytes out.old ++ encode_utf8_all (report_text drawn_rows self.old.settings
-            tree (answers_by answer self.old.settings.context tree))) }
+            tree (answers_by answer self.old.settings.layout.context_lines tree))) }
         // where every source always reads, and no highlighter or a blank one is set, there is one such text
         ensures only { let tree = tree_of ⟦<Box<dyn Diagnostic> as Diagnostic>⟧.meaning
             ⟦<Box<dyn SourceCode> as SourceCode>⟧.source report.now in

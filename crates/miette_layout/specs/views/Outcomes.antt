@@ -8,12 +8,12 @@ use Rattle.miette_protocol.specs.declared.error.RenderError.{RenderError}
 use Rattle.miette_protocol.specs.declared.error.RenderError.TheVariants as errors
 use Rattle.miette_labels.specs.rules.Answers.{Answers, AlwaysReads}
 use Rattle.miette_labels.specs.rules.Around.{group_context}
-use Rattle.miette_snippet_rules.specs.rules.Frames.{SnippetSettings}
 use Rattle.miette_labels.specs.rules.Groups.{in_order, groups_of}
 use Rattle.miette_snippet_rules.specs.rules.Highlighting.{SnippetsHavePieces, snippet_calls}
 use Rattle.miette_snippet_rules.specs.rules.SnippetLayout.{snippet_rows}
 use Rattle.miette_page.specs.views.Printouts.{Printout, ◌⊕◌}
 use Rattle.miette_page.specs.views.Tokens.{rows_tokens}
+use Rattle.miette_snippet_rules.specs.rules.Settings.{SnippetSettings}
 
 -- What is printed behind what was there, or that nothing is: the rows under some answers of the source and the
 -- highlighter. Of a source that always reads nothing fails, and where lines are left plain there are no pieces; so
@@ -22,10 +22,10 @@ pub record MayGive (s : SnippetSettings) (source : Source) (labels : List Label)
     (happen : List Call → Type 0) (before : Printout) (page : Option Printout) : Type 0 where
   pub answers : Answers
   pub always : source.always_reads ≡ true → AlwaysReads answers
-  pub pieces : SnippetsHavePieces (group_context s.context (in_order labels)) blank source
-      (groups_of s.context source answers.join_fails (in_order labels)) answers.pieces
+  pub pieces : SnippetsHavePieces (group_context s.layout.context_lines (in_order labels)) blank source
+      (groups_of s.layout.context_lines source answers.join_fails (in_order labels)) answers.pieces
   pub plain : blank ≡ true → answers.pieces ≡ []
-  pub calls : IfSome page (λ given. happen (snippet_calls s.context source labels answers))
+  pub calls : IfSome page (λ given. happen (snippet_calls s.layout.context_lines source labels answers))
   pub is : page ≡ option_map (λ rows. before ⊕ rows_tokens rows) (snippet_rows s source labels answers)
 
 -- a refusal comes where there are no rows; memory may be refused anywhere

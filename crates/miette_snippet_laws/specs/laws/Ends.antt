@@ -7,10 +7,10 @@ use Rattle.miette_protocol.specs.views.Meaning.{Label}
 use Rattle.miette_labels.specs.rules.Answers.{Highlight}
 use Rattle.miette_cells.specs.rules.Cells.{Cell}
 use Rattle.miette_labels.specs.rules.Labels.{DrawnLabel, is_at_end, is_empty, is_one_line}
-use Rattle.miette_snippet_rules.specs.rules.Frames.{SnippetSettings}
 use Rattle.miette_snippet_rules.specs.rules.Marks.{Text, marks}
 use Rattle.miette_snippet_rules.specs.rules.SnippetLayout.{drawn_labels}
 use Rattle.miette_snippet_laws.specs.laws.Pictures.{marks_of_line, text_of_line}
+use Rattle.miette_snippet_rules.specs.rules.Settings.{SnippetSettings}
 
 -- the last of some lines
 abbrev pub last_line : List Line → Line
@@ -41,4 +41,4 @@ AreBehindShown s labels line cells pieces =
 
 -- the same settings, but for whether labels at the end are drawn
 abbrev pub with_ends : Bool → SnippetSettings → SnippetSettings
-with_ends ends s = record s { end_labels = ends }
+with_ends ends s = record s { layout = record s.layout { end_labels = ends } }

@@ -2,10 +2,10 @@
 use Rattle.std.specs.Prelude.{◌≡◌, []}
 use Rattle.std.specs.List.{AllByRecursion}
 use Rattle.miette_labels.specs.rules.Answers.{Answers}
-use Rattle.miette_snippet_rules.specs.rules.Frames.{SnippetSettings}
 use Rattle.miette_page.specs.rules.Rows.{Row}
 use Rattle.miette_style.specs.rules.Styles.{plain}
 use Rattle.miette_style.specs.rules.Themes.{Styles}
+use Rattle.miette_snippet_rules.specs.rules.Settings.{SnippetSettings}
 
 abbrev pub faded_styles : Styles → Styles
 faded_styles s = record {
@@ -20,7 +20,7 @@ faded_styles s = record {
 
 -- the same settings with every style plain
 abbrev pub colourless : SnippetSettings → SnippetSettings
-colourless s = record s { styles = faded_styles s.styles }
+colourless s = record s { theme = record s.theme { styles = faded_styles s.theme.styles } }
 
 -- the same reads without a highlighter
 abbrev pub unhighlighted_answer : Answers → Answers

@@ -9,20 +9,23 @@ use Rattle.miette_labels.specs.rules.Labels.{DrawnLabel, one_line}
 use Rattle.miette_snippet_rules.specs.rules.CutLines.{shown_runs, shown_marks}
 use Rattle.miette_snippet_rules.specs.rules.Marks.{Mark}
 use Rattle.miette_snippet_rules.specs.rules.Drawing.{mark_code}
-use Rattle.miette_snippet_rules.specs.rules.Frames.{SnippetSettings, number_width}
+use Rattle.miette_snippet_rules.specs.rules.Frames.{number_width}
 use Rattle.miette_protocol.specs.rules.Reading.{Contents}
 use Rattle.miette_labels.specs.rules.Answers.{Highlight, first_of}
 use Rattle.miette_labels.specs.rules.Contexts.{lines_of_contents}
 use Rattle.miette_snippet_rules.specs.rules.Gutters.{gutter_columns}
 use Rattle.miette_snippet_rules.specs.rules.SnippetLayout.{line_rows, line_marks, line_cut, cells_of}
 use Rattle.miette_style.specs.rules.Themes.{Characters}
+use Rattle.miette_snippet_rules.specs.rules.SnippetLayout.{snippet_context}
+use Rattle.miette_snippet_rules.specs.rules.Settings.{SnippetSettings}
 
 -- what stands at a column of the mark row
-abbrev pub mark_at : (ℕ → ℕ) → Characters → List Mark → ℕ → Glyph
-mark_at width t [] column = glyph_of width 32
-mark_at width t (mark ∷ marks) column =
-    if nat_le mark.from column && nat_lt column mark.until then glyph_of width (mark_code t mark column)
-    else mark_at width t marks column
+abbrev pub mark_at : SnippetSettings → List Mark → ℕ → Glyph
+mark_at s [] column = glyph_of s.width 32
+mark_at s (mark ∷ marks) column =
+    if nat_le mark.from column && nat_lt column mark.until then
+    glyph_of s.width (mark_code s.theme.characters mark column)
+    else mark_at s marks column
 
 -- where the last mark ends
 abbrev pub marks_end : ℕ → List Mark → ℕ
@@ -38,12 +41,12 @@ HangsFrom t column part (row ∷ rows) =
     ⊎ ((code_at row column ≡ Some t.vbar) × HangsFrom t column part rows)
 
 -- the first part of the mark's text, if it has one, hangs from its anchor, with columns counted from this one on
-abbrev pub PartHangs : (ℕ → ℕ) → Characters → List (List Glyph) → ℕ → List (List ℕ) → Type 0
-PartHangs width t rows column [] = Unit {0}
-PartHangs width t rows column (part ∷ parts) = HangsFrom t column (map (glyph_of width) part) rows
+abbrev pub PartHangs : SnippetSettings → List (List Glyph) → ℕ → List (List ℕ) → Type 0
+PartHangs s rows column [] = Unit {0}
+PartHangs s rows column (part ∷ parts) = HangsFrom s.theme.characters column (map (glyph_of s.width) part) rows
 
-abbrev pub Hangs : (ℕ → ℕ) → Characters → List (List Glyph) → ℕ → Mark → Type 0
-Hangs width t rows start mark = PartHangs width t rows (start + mark.anchor) mark.label.parts
+abbrev pub Hangs : SnippetSettings → List (List Glyph) → ℕ → Mark → Type 0
+Hangs s rows start mark = PartHangs s rows (start + mark.anchor) mark.label.parts
 
 -- the marks of a line, by the columns of its row
 abbrev pub marks_of_line : SnippetSettings → List DrawnLabel → Line → List Cell → List Mark
@@ -69,8 +72,8 @@ abbrev pub AreMarked : SnippetSettings → ℕ → List Mark → List Row → Ty
 AreMarked s start marks [] = ⊥
 AreMarked s start marks (row ∷ rows) =
     ((column : ℕ) → column < marks_end 0 marks →
-    code_at (glyphs_of row) (start + column) ≡ Some (mark_at s.width s.characters marks column).code)
-    × AllByRecursion (Hangs s.width s.characters (map glyphs_of rows) start) marks
+    code_at (glyphs_of row) (start + column) ≡ Some (mark_at s marks column).code)
+    × AllByRecursion (Hangs s (map glyphs_of rows) start) marks
 
 abbrev pub ShowMarks : SnippetSettings → ℕ → List Mark → List Row → Type 0
 ShowMarks s start [] rows = Unit {0}
@@ -88,9 +91,9 @@ abbrev pub LinesShow : SnippetSettings → ℕ → ℕ → List DrawnLabel → L
 LinesShow s w columns labels source number pieces [] = Unit {0}
 LinesShow s w columns labels source number pieces (line ∷ lines) =
     HasText (text_start w columns) (text_of_line s labels line (cells_of s source line) (first_of pieces))
-    (line_rows s w columns labels line number (cells_of s source line) (first_of pieces))
+    (line_rows (snippet_context s w columns labels (cells_of s source)) line number (first_of pieces))
     × ShowMarks s (text_start w columns) (marks_of_line s labels line (cells_of s source line))
-    (line_rows s w columns labels line number (cells_of s source line) (first_of pieces))
+    (line_rows (snippet_context s w columns labels (cells_of s source)) line number (first_of pieces))
     × LinesShow s w columns labels source (number + 1) (drop 1 pieces) lines
 
 -- that of a snippet's read

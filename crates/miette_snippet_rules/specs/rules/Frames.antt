@@ -1,4 +1,4 @@
--- The settings of snippets, the row of a refused label, and what frames a snippet's lines.
+-- The row of a refused label, and what frames a snippet's lines.
 use Rattle.std.specs.Prelude.{ℕ, ◌+◌, ◌-◌, List, [], ◌∷◌, ◌++◌, length, decimal, codes, chars, replicate, Option, Some}
 use Rattle.std.specs.Prelude.{None, Bool, ◌&&◌, if◌then◌else◌, nat_lt}
 use Rattle.miette_page.specs.rules.Rows.{Row, styled_run, plain_run}
@@ -8,20 +8,7 @@ use Rattle.miette_protocol.specs.rules.Reading.{Contents}
 use Rattle.miette_labels.specs.rules.Contexts.{lines_of_contents}
 use Rattle.miette_snippet_rules.specs.rules.Drawing.{blank}
 use Rattle.miette_labels.specs.rules.Groups.{Refusal}
-use Rattle.miette_style.specs.rules.Themes.{Characters, Styles}
-
--- The width is that of a character, 0 where it has none. A label over more lines than `label_lines` is folded, and a
--- line of more columns than `line_columns` is cut.
-pub record SnippetSettings : Type 0 where
-  pub characters : Characters
-  pub styles : Styles
-  pub width : ℕ → ℕ
-  pub tab : ℕ
-  pub context : ℕ
-  pub primary_start : Bool
-  pub end_labels : Bool
-  pub label_lines : Option ℕ
-  pub line_columns : Option ℕ
+use Rattle.miette_snippet_rules.specs.rules.Settings.{SnippetSettings}
 
 -- the text of a label, whose bytes are given
 abbrev pub text_or_none : Option (List ℕ) → List ℕ
@@ -31,15 +18,16 @@ text_or_none (Some text) = chars text
 -- the row of a refused label up to its offset
 abbrev pub refused_front : SnippetSettings → Label → Row
 refused_front s label =
-    plain_run s.width (codes "  [") ∷ styled_run s.width s.styles.error (codes "Failed to read contents for label")
-    ∷ plain_run s.width (codes " `") ∷ styled_run s.width s.styles.link (text_or_none label.text)
+    plain_run s.width (codes "  [") ∷ styled_run s.width s.theme.styles.error
+    (codes "Failed to read contents for label")
+    ∷ plain_run s.width (codes " `") ∷ styled_run s.width s.theme.styles.link (text_or_none label.text)
     ∷ plain_run s.width (codes "` (offset: ") ∷ []
 
 abbrev pub refused_row : SnippetSettings → Refusal → Row
 refused_row s refused = refused_front s refused.label
-    ++ (styled_run s.width s.styles.link (decimal refused.label.span.offset)
-    ∷ plain_run s.width (codes ", length: ") ∷ styled_run s.width s.styles.link (decimal refused.label.span.len)
-    ∷ plain_run s.width (codes "): ") ∷ styled_run s.width s.styles.warning refused.name
+    ++ (styled_run s.width s.theme.styles.link (decimal refused.label.span.offset)
+    ∷ plain_run s.width (codes ", length: ") ∷ styled_run s.width s.theme.styles.link (decimal refused.label.span.len)
+    ∷ plain_run s.width (codes "): ") ∷ styled_run s.width s.theme.styles.warning refused.name
     ∷ plain_run s.width (codes "]") ∷ [])
 
 -- the digits of the last line's number, 1 where there is no line
@@ -53,15 +41,15 @@ number_width read = width_of_lines read.line (lines_of_contents read)
 -- what stands before the gutter of a number row, and of any other row
 abbrev pub number_start : SnippetSettings → ℕ → ℕ → Row
 number_start s w number =
-    blank s.width 1 ∷ styled_run s.width s.styles.linum (replicate (w - length (decimal number)) 32 ++ decimal number)
-    ∷ plain_run s.width (32 ∷ s.characters.vbar ∷ 32 ∷ []) ∷ []
+    blank s 1 ∷ styled_run s.width s.theme.styles.linum (replicate (w - length (decimal number)) 32 ++ decimal number)
+    ∷ plain_run s.width (32 ∷ s.theme.characters.vbar ∷ 32 ∷ []) ∷ []
 
 abbrev pub other_start : SnippetSettings → ℕ → Row
-other_start s w = blank s.width (w + 2) ∷ plain_run s.width (s.characters.vbar_break ∷ 32 ∷ []) ∷ []
+other_start s w = blank s (w + 2) ∷ plain_run s.width (s.theme.characters.vbar_break ∷ 32 ∷ []) ∷ []
 
 -- what stands before the gutter of a break's row: three dots up to where line numbers end
 abbrev pub break_start : SnippetSettings → ℕ → Row
-break_start s w = blank s.width (w - 1) ∷ plain_run s.width (codes "..." ++ s.characters.vbar ∷ []) ∷ []
+break_start s w = blank s (w - 1) ∷ plain_run s.width (codes "..." ++ s.theme.characters.vbar ∷ []) ∷ []
 
 -- where a label begins: its line and its column, both counted from 0
 pub record Place : Type 0 where
@@ -74,12 +62,12 @@ place_text place = decimal (place.line + 1) ++ codes ":" ++ decimal (place.colum
 -- where a snippet points to: with a name, whose bytes are given, else where it has several lines
 abbrev pub location : SnippetSettings → Option (List ℕ) → Bool → Place → Row
 location s (Some name) several place =
-    plain_run s.width (codes "[") ∷ styled_run s.width s.styles.link
-    (if s.primary_start then chars name ++ codes ":" ++ place_text place else chars name)
+    plain_run s.width (codes "[") ∷ styled_run s.width s.theme.styles.link
+    (if s.layout.primary_start then chars name ++ codes ":" ++ place_text place else chars name)
     ∷ plain_run s.width (codes "]") ∷ []
 location s None several place =
-    if several && s.primary_start then plain_run s.width (codes "[" ++ place_text place ++ codes "]") ∷ []
-    else plain_run s.width (replicate 3 s.characters.hbar) ∷ []
+    if several && s.layout.primary_start then plain_run s.width (codes "[" ++ place_text place ++ codes "]") ∷ []
+    else plain_run s.width (replicate 3 s.theme.characters.hbar) ∷ []
 
 abbrev pub location_of : SnippetSettings → Option (List ℕ) → Bool → Option Place → Row
 location_of s name several None = []
@@ -87,8 +75,8 @@ location_of s name several (Some place) = location s name several place
 
 -- the row over a snippet's lines, with line numbers of so many digits, and whether it has several lines
 abbrev pub top_row_of : SnippetSettings → ℕ → Option (List ℕ) → Bool → Option Place → Row
-top_row_of s w name several place = blank s.width (w + 2)
-    ∷ plain_run s.width (s.characters.ltop ∷ s.characters.hbar ∷ []) ∷ location_of s name several place
+top_row_of s w name several place = blank s (w + 2)
+    ∷ plain_run s.width (s.theme.characters.ltop ∷ s.theme.characters.hbar ∷ []) ∷ location_of s name several place
 
 -- that row, from the snippet's read
 abbrev pub top_row : SnippetSettings → Contents → Option Place → Row
@@ -96,4 +84,5 @@ top_row s read place = top_row_of s (number_width read) read.name (nat_lt 1 (len
 
 -- the row under them
 abbrev pub bottom_row : SnippetSettings → ℕ → Row
-bottom_row s w = blank s.width (w + 2) ∷ plain_run s.width (s.characters.lbot ∷ replicate 4 s.characters.hbar) ∷ []
+bottom_row s w = blank s (w + 2) ∷ plain_run s.width (s.theme.characters.lbot ∷ replicate 4 s.theme.characters.hbar)
+    ∷ []

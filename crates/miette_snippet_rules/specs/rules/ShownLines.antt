@@ -12,10 +12,12 @@ use Rattle.miette_labels.specs.rules.Groups.{in_order, groups_of}
 use Rattle.miette_labels.specs.rules.Labels.{DrawnLabel}
 use Rattle.miette_snippet_rules.specs.rules.Gutters.{gutter_columns}
 use Rattle.miette_snippet_rules.specs.rules.Folds.{Spread}
-use Rattle.miette_snippet_rules.specs.rules.Frames.{SnippetSettings, top_row, bottom_row, number_width}
-use Rattle.miette_snippet_rules.specs.rules.SnippetLayout.{cells_of, line_or_break, body_rows, place_of}
+use Rattle.miette_snippet_rules.specs.rules.Frames.{top_row, bottom_row, number_width}
+use Rattle.miette_snippet_rules.specs.rules.SnippetLayout.{SnippetContext, snippet_context, cells_of, line_or_break}
+use Rattle.miette_snippet_rules.specs.rules.SnippetLayout.{body_rows, place_of}
 use Rattle.miette_snippet_rules.specs.rules.SnippetLayout.{settings_around}
 use Rattle.miette_snippet_rules.specs.rules.SnippetLayout.{drawn_labels}
+use Rattle.miette_snippet_rules.specs.rules.Settings.{SnippetSettings}
 
 -- line k
 abbrev pub line_at : List Line → ℕ → Line
@@ -25,13 +27,11 @@ line_at (l ∷ ls) (suc k) = line_at ls k
 
 -- The rows of the lines with these numbers, counted from 0, each with its number plus one and its own cells, and a
 -- break where lines are left out; whether the line before them is left out, and whether a line is kept.
-abbrev pub numbered_rows : (ℕ → Bool) → Bool → SnippetSettings → ℕ → ℕ → List DrawnLabel → List ℕ → List (List
-    Highlight) → List ℕ → List Row
-numbered_rows kept gap s w columns labels source pieces [] = []
-numbered_rows kept gap s w columns labels source pieces (k ∷ ks) =
-    line_or_break gap (not (kept k)) s w columns labels (line_at (lines_of source) k) (k + 1)
-    (cells_of s source (line_at (lines_of source) k)) (first_of pieces)
-    ++ numbered_rows kept (not (kept k)) s w columns labels source (drop 1 pieces) ks
+abbrev pub numbered_rows : (ℕ → Bool) → Bool → SnippetContext → List ℕ → List (List Highlight) → List ℕ → List Row
+numbered_rows kept gap c source pieces [] = []
+numbered_rows kept gap c source pieces (k ∷ ks) =
+    line_or_break gap (not (kept k)) c (line_at (lines_of source) k) (k + 1) (first_of pieces)
+    ++ numbered_rows kept (not (kept k)) c source (drop 1 pieces) ks
 
 abbrev pub range_width : List ℕ → ℕ
 range_width [] = 1
@@ -41,8 +41,8 @@ range_width (k ∷ ks) = length (decimal (last_of k ks + 1))
 abbrev pub range_rows : (ℕ → Bool) → SnippetSettings → List DrawnLabel → List ℕ → List (List Highlight) →
     List ℕ → List Row
 range_rows kept s labels source pieces ks =
-    numbered_rows kept false s (range_width ks) (gutter_columns labels (map (line_at (lines_of source)) ks))
-    labels source pieces ks
+    numbered_rows kept false (snippet_context s (range_width ks)
+    (gutter_columns labels (map (line_at (lines_of source)) ks)) labels (cells_of s source)) source pieces ks
 
 abbrev pub rows_of_ranges : (ℕ → Bool) → SnippetSettings → List DrawnLabel → List ℕ →
     List (List (List Highlight)) → List (List ℕ) → List (List Row)
@@ -56,7 +56,7 @@ abbrev pub bodies : SnippetSettings → List Spread → List DrawnLabel → Sour
     Span → List (List Row)
 bodies s spreads labels source pieces [] = []
 bodies s spreads labels source pieces (group ∷ groups) =
-    body_rows s spreads labels source.bytes (contents s.context source group) (first_of pieces)
+    body_rows s spreads labels source.bytes (contents s.layout.context_lines source group) (first_of pieces)
     ∷ bodies s spreads labels source (drop 1 pieces) groups
 
 -- each body between the rows of its group's frame
@@ -64,8 +64,8 @@ abbrev pub framed_rows : SnippetSettings → Source → List Label → List Span
 framed_rows s source labels [] bodies = []
 framed_rows s source labels (group ∷ groups) [] = []
 framed_rows s source labels (group ∷ groups) (body ∷ more) =
-    (top_row s (contents s.context source group) (place_of source group labels)
-    ∷ body ++ bottom_row s (number_width (contents s.context source group)) ∷ [])
+    (top_row s (contents s.layout.context_lines source group) (place_of source group labels)
+    ∷ body ++ bottom_row s (number_width (contents s.layout.context_lines source group)) ∷ [])
     ++ framed_rows s source labels groups more
 
 -- The rows of snippets, by the shown lines: each maximal run of them in the frame of its group, with a break where
@@ -73,8 +73,9 @@ framed_rows s source labels (group ∷ groups) (body ∷ more) =
 abbrev pub framed_ranges : SnippetSettings → Source → List Label → Answers → List Row
 framed_ranges s source labels answers =
     framed_rows (settings_around s (in_order labels)) source (in_order labels)
-    (groups_of s.context source answers.join_fails (in_order labels))
-    (rows_of_ranges (is_kept s.label_lines s.context source.bytes labels) (settings_around s (in_order labels))
+    (groups_of s.layout.context_lines source answers.join_fails (in_order labels))
+    (rows_of_ranges (is_kept s.layout.label_lines s.layout.context_lines source.bytes labels)
+    (settings_around s (in_order labels))
     (drawn_labels (settings_around s (in_order labels)) (length source.bytes) (in_order labels)) source.bytes
     answers.pieces
-    (snippets s.context source.bytes labels))
+    (snippets s.layout.context_lines source.bytes labels))

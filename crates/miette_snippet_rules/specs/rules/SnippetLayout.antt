@@ -21,7 +21,8 @@ use Rattle.miette_snippet_rules.specs.rules.Drawing.{marked_rows}
 use Rattle.miette_snippet_rules.specs.rules.Gutters.{gutter_columns, number_gutter, other_gutter, break_gutter}
 use Rattle.miette_snippet_rules.specs.rules.Gutters.{closing_rows}
 use Rattle.miette_snippet_rules.specs.rules.Folds.{Spread, spreads_of, leaves_out}
-use Rattle.miette_snippet_rules.specs.rules.Frames.{SnippetSettings, Place, refused_row, top_row, bottom_row}
+use Rattle.miette_snippet_rules.specs.rules.Settings.{SnippetSettings}
+use Rattle.miette_snippet_rules.specs.rules.Frames.{Place, refused_row, top_row, bottom_row}
 use Rattle.miette_snippet_rules.specs.rules.Frames.{number_width}
 use Rattle.miette_snippet_rules.specs.rules.Frames.{number_start, other_start, break_start}
 
@@ -31,7 +32,7 @@ text_of_cells cells text_end = record { cells = cells; text_end = text_end; widt
 
 -- a line's cells
 abbrev pub cells_of : SnippetSettings → List ℕ → Line → List Cell
-cells_of s source line = cells_from s.width s.tab false line.start 0
+cells_of s source line = cells_from s.width s.layout.tab_width false line.start 0
     (characters (slice_range source line.start line.text_end))
 
 abbrev pub before_each : Row → List Row → List Row
@@ -43,60 +44,97 @@ line_marks line cells one = marks (text_of_cells cells line.text_end) one
 
 -- how a line is cut around them, if it is
 abbrev pub line_cut : SnippetSettings → Line → List Cell → List DrawnLabel → Option (List Stretch)
-line_cut s line cells one = cut_line s.line_columns (line_marks line cells one) cells
+line_cut s line cells one = cut_line s.layout.line_columns (line_marks line cells one) cells
 
--- The rows of a line with this number: the number row, the marks and texts of the labels that lie on it alone, and
--- the texts of those of several lines that end there.
-abbrev pub line_rows_of : SnippetSettings → ℕ → ℕ → List DrawnLabel → List DrawnLabel → Line → ℕ → List Cell → List
-    Highlight →
-    List Row
-line_rows_of s w columns one multi line number cells pieces =
-    (number_start s w number ++ number_gutter s.width s.characters line columns multi
-    ++ shown_runs (line_cut s line cells one) pieces cells)
-    ∷ before_each (other_start s w ++ other_gutter s.width s.characters line columns multi)
-    (marked_rows s.width s.characters (shown_marks (line_cut s line cells one) (line_marks line cells one)))
-    ++ before_each (other_start s w) (closing_rows s.width s.characters line columns multi (closing_labels line multi))
+-- What the lines of a snippet are drawn with: the columns of their numbers and of their gutters, the labels, and a
+-- line's cells.
+pub record SnippetContext : Type 0 where
+  pub settings : SnippetSettings
+  pub number_width : ℕ
+  pub gutter : ℕ
+  pub labels : List DrawnLabel
+  pub cells : Line → List Cell
 
-abbrev pub line_rows : SnippetSettings → ℕ → ℕ → List DrawnLabel → Line → ℕ → List Cell → List Highlight → List Row
-line_rows s w columns labels line number cells pieces =
-    line_rows_of s w columns (one_line line labels) (multi_line line labels) line number cells pieces
+abbrev pub snippet_context : SnippetSettings → ℕ → ℕ → List DrawnLabel → (Line → List Cell) → SnippetContext
+snippet_context s w columns labels cells =
+    record { settings = s; number_width = w; gutter = columns; labels = labels; cells = cells }
+
+-- What all rows of a line are drawn with: the labels are those of several lines that lie on it.
+pub record LineContext : Type 0 where
+  pub settings : SnippetSettings
+  pub number_width : ℕ
+  pub gutter : ℕ
+  pub line : Line
+  pub multi : List DrawnLabel
+
+abbrev pub line_in : SnippetSettings → ℕ → ℕ → Line → List DrawnLabel → LineContext
+line_in s w columns line multi =
+    record { settings = s; number_width = w; gutter = columns; line = line; multi = multi }
+
+abbrev pub line_context : SnippetContext → Line → LineContext
+line_context c line = line_in c.settings c.number_width c.gutter line (multi_line line c.labels)
+
+-- A line as its own rows show it: its number, the labels that lie on it alone, its cells, and a highlighter's pieces.
+pub record ShownLine : Type 0 where
+  pub number : ℕ
+  pub one : List DrawnLabel
+  pub cells : List Cell
+  pub pieces : List Highlight
+
+abbrev pub line_shown : ℕ → List DrawnLabel → List Cell → List Highlight → ShownLine
+line_shown number one cells pieces = record { number = number; one = one; cells = cells; pieces = pieces }
+
+abbrev pub shown_line : SnippetContext → Line → ℕ → List Highlight → ShownLine
+shown_line c line number pieces = line_shown number (one_line line c.labels) (c.cells line) pieces
+
+-- The rows of a line: the number row, the marks and texts of the labels that lie on it alone, and the texts of those of
+-- several lines that end there.
+abbrev pub line_rows_of : LineContext → ShownLine → List Row
+line_rows_of c shown =
+    (number_start c.settings c.number_width shown.number ++ number_gutter c.settings c.line c.gutter c.multi
+    ++ shown_runs (line_cut c.settings c.line shown.cells shown.one) shown.pieces shown.cells)
+    ∷ before_each (other_start c.settings c.number_width ++ other_gutter c.settings c.line c.gutter c.multi)
+    (marked_rows c.settings
+    (shown_marks (line_cut c.settings c.line shown.cells shown.one) (line_marks c.line shown.cells shown.one)))
+    ++ before_each (other_start c.settings c.number_width)
+    (closing_rows c.settings c.line c.gutter c.multi (closing_labels c.line c.multi))
+
+abbrev pub line_rows : SnippetContext → Line → ℕ → List Highlight → List Row
+line_rows c line number pieces = line_rows_of (line_context c line) (shown_line c line number pieces)
 
 -- the row that stands for lines that are left out, which these labels run through
 abbrev pub break_row : SnippetSettings → ℕ → List DrawnLabel → Row
-break_row s w labels = break_start s w ++ break_gutter s.width s.characters labels
+break_row s w labels = break_start s w ++ break_gutter s labels
 
 -- The rows of a line; or where it is left out, the row of the break that begins there, or none where the line before it
 -- is left out too.
-abbrev pub line_or_break_of : Bool → Bool → SnippetSettings → ℕ → ℕ → List DrawnLabel → List DrawnLabel → Line → ℕ →
-    List Cell → List Highlight → List Row
-line_or_break_of gap out s w columns one multi line number cells pieces =
-    if out then (if gap then [] else break_row s w multi ∷ [])
-    else line_rows_of s w columns one multi line number cells pieces
+abbrev pub line_or_break_of : Bool → Bool → LineContext → ShownLine → List Row
+line_or_break_of gap out c shown =
+    if out then (if gap then [] else break_row c.settings c.number_width c.multi ∷ []) else line_rows_of c shown
 
-abbrev pub line_or_break : Bool → Bool → SnippetSettings → ℕ → ℕ → List DrawnLabel → Line → ℕ → List Cell → List
-    Highlight → List Row
-line_or_break gap out s w columns labels line number cells pieces =
-    line_or_break_of gap out s w columns (one_line line labels) (multi_line line labels) line number cells pieces
+abbrev pub line_or_break : Bool → Bool → SnippetContext → Line → ℕ → List Highlight → List Row
+line_or_break gap out c line number pieces =
+    line_or_break_of gap out (line_context c line) (shown_line c line number pieces)
 
 -- The rows of lines with numbers from this one on, with the highlighter's pieces for each; whether the line before them
 -- is left out, and whether a line with its number is.
-abbrev pub rows_of_lines : (ℕ → Line → Bool) → Bool → SnippetSettings → ℕ → ℕ → List DrawnLabel → List ℕ → ℕ → List
-    (List Highlight) → List Line → List Row
-rows_of_lines out gap s w columns labels source number pieces [] = []
-rows_of_lines out gap s w columns labels source number pieces (line ∷ lines) =
-    line_or_break gap (out number line) s w columns labels line number (cells_of s source line) (first_of pieces)
-    ++ rows_of_lines out (out number line) s w columns labels source (number + 1) (drop 1 pieces) lines
+abbrev pub rows_of_lines : (ℕ → Line → Bool) → Bool → SnippetContext → ℕ → List (List Highlight) → List Line → List Row
+rows_of_lines out gap c number pieces [] = []
+rows_of_lines out gap c number pieces (line ∷ lines) =
+    line_or_break gap (out number line) c line number (first_of pieces)
+    ++ rows_of_lines out (out number line) c (number + 1) (drop 1 pieces) lines
 
 -- whether a line of a snippet with this number is left out, where so many lines stand before the snippet's
 abbrev pub left_out : SnippetSettings → ℕ → List Line → List Spread → ℕ → Line → Bool
-left_out s before lines spreads number line = leaves_out s.label_lines lines spreads (number - (before + 1)) line
+left_out s before lines spreads number line = leaves_out s.layout.label_lines lines spreads (number - (before + 1)) line
 
 -- the rows of a snippet between its frame's rows
 abbrev pub body_rows : SnippetSettings → List Spread → List DrawnLabel → List ℕ → Contents → List (List Highlight) →
     List Row
 body_rows s spreads labels source read pieces =
-    rows_of_lines (left_out s read.line (lines_of_contents read) spreads) false s (number_width read)
-    (gutter_columns labels (lines_of_contents read)) labels source (read.line + 1) pieces (lines_of_contents read)
+    rows_of_lines (left_out s read.line (lines_of_contents read) spreads) false
+    (snippet_context s (number_width read) (gutter_columns labels (lines_of_contents read)) labels (cells_of s source))
+    (read.line + 1) pieces (lines_of_contents read)
 
 -- Whether a label belongs to a group: its span lies within the group's; or, where labels have their own numbers of
 -- context lines, it begins in the group's bytes or at their end.
@@ -129,14 +167,16 @@ place_of source group labels = option_map (begins_at source)
 -- The labels of a source of so many bytes, by offset, as they are drawn. Those at the end are drawn behind the text of
 -- the last line where the settings say so and one of them shows that line.
 abbrev pub drawn_labels : SnippetSettings → ℕ → List Label → List DrawnLabel
-drawn_labels s n labels = drawn_from (s.end_labels && some_shows_end s.context n labels) s.styles.highlights n 0 labels
+drawn_labels s n labels = drawn_from (s.layout.end_labels && some_shows_end s.layout.context_lines n labels)
+    s.theme.styles.highlights n 0 labels
 
 abbrev pub snippet : SnippetSettings → List Spread → Source → List Label → Span → List (List Highlight) → List Row
 snippet s spreads source labels group pieces =
-    top_row s (contents s.context source group) (place_of source group labels)
-    ∷ body_rows s spreads (drawn_labels s (length source.bytes) labels) source.bytes (contents s.context source group)
+    top_row s (contents s.layout.context_lines source group) (place_of source group labels)
+    ∷ body_rows s spreads (drawn_labels s (length source.bytes) labels) source.bytes
+    (contents s.layout.context_lines source group)
     pieces
-    ++ bottom_row s (number_width (contents s.context source group)) ∷ []
+    ++ bottom_row s (number_width (contents s.layout.context_lines source group)) ∷ []
 
 abbrev pub all_snippets : SnippetSettings → List Spread → Source → List Label → List (List (List Highlight)) → List
     Span → List Row
@@ -147,19 +187,22 @@ all_snippets s spreads source labels pieces (group ∷ groups) =
 
 -- the settings with the lines of context with which the groups of these labels are read
 abbrev pub settings_around : SnippetSettings → List Label → SnippetSettings
-settings_around s labels = record s { context = group_context s.context labels }
+settings_around s labels =
+    record s { layout = record s.layout { context_lines = group_context s.layout.context_lines labels } }
 
 -- none where the read of a group fails, or that of a snippet's place
 abbrev pub rows_of_groups : SnippetSettings → Source → List Label → Answers → List Span → Option (List Row)
 rows_of_groups s source labels answers groups =
-    if groups_fail s.context source answers.join_fails labels || some_fails answers.place_fails groups then None
-    else Some (all_snippets (settings_around s labels) (spreads_of s.label_lines s.context source labels) source labels
+    if groups_fail s.layout.context_lines source answers.join_fails labels || some_fails answers.place_fails groups then
+    None
+    else Some (all_snippets (settings_around s labels) (spreads_of s.layout.label_lines s.layout.context_lines source
+    labels) source labels
     answers.pieces groups)
 
 abbrev pub rows_unless : SnippetSettings → Source → List Label → Answers → Option Row → Option (List Row)
 rows_unless s source labels answers (Some row) = Some (row ∷ [])
 rows_unless s source labels answers None = rows_of_groups s source labels answers
-    (groups_of s.context source answers.join_fails labels)
+    (groups_of s.layout.context_lines source answers.join_fails labels)
 
 -- The rows of a diagnostic's snippets, or none where a group or the place of one can't be read: labels by offset, and
 -- one row if one of them is refused.

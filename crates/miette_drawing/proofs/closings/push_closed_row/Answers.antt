@@ -3,7 +3,7 @@ use Rattle.miette_snippet_rules.specs.rules.Frames.{other_start}
 use Rattle.miette_snippet_rules.specs.rules.Gutters.{other_gutter}
 use Rattle.miette_labels.specs.views.GivenLabels.{drawn_of}
 use Rattle.miette_cells.specs.rules.Widths.{width_of}
-use Rattle.miette_drawing.specs.steps.Sheets.{settings, multi_labels}
+use Rattle.miette_drawing.specs.steps.LineContexts.{settings, multi_labels}
 use Rattle.miette_source_lines.specs.views.Walking.{line_of_text}
 use Rattle.miette_drawing.proofs.Closing.{closed_put}
 use Rattle.miette_drawing.proofs.closings.push_closed_row.Goals as goal
@@ -11,9 +11,10 @@ use Rattle.miette_style.specs.rules.Themes.{characters_of}
 
 pub returns : goal.returns
 returns g c =
-    closed_put width_of (other_start (settings c.args.sheet.now) c.args.sheet.now.number_width)
-    (other_gutter width_of (characters_of c.args.sheet.now.theme.now.characters) (line_of_text c.args.sheet.now.line)
-    c.args.columns (multi_labels c.args.sheet.now))
-    (drawn_of c.args.sheet.now.labels.now c.args.label.now) c.args.bar (chars c.args.part.now)
+    closed_put (settings c.args.context.now) (other_start (settings c.args.context.now)
+    c.args.context.now.frame.number_width)
+    (other_gutter (settings c.args.context.now) (line_of_text c.args.context.now.line)
+    c.args.columns (multi_labels c.args.context.now))
+    (drawn_of c.args.context.now.labels.now c.args.label.now) c.args.bar (chars c.args.part.now)
     c.args.page.now c.push_other_start.new.page c.push_other_gutter.new.page c.push_part.new.page
     c.in_ok-push_other_start.ensures c.in_ok-push_other_gutter.ensures c.in_ok-push_part.ensures

@@ -4,7 +4,7 @@ use Rattle.miette_labels.specs.rules.Labels.{parts_of}
 use Rattle.miette_snippet_rules.specs.rules.Frames.{other_start}
 use Rattle.miette_labels.specs.views.GivenLabels.{drawn_of}
 use Rattle.miette_cells.specs.rules.Widths.{width_of}
-use Rattle.miette_drawing.specs.steps.Sheets.{settings, multi_labels}
+use Rattle.miette_drawing.specs.steps.LineContexts.{settings, multi_labels}
 use Rattle.miette_source_lines.specs.views.Walking.{line_of_text}
 use Rattle.miette_drawing.proofs.Closing.{several_closing}
 use Rattle.miette_drawing.proofs.closings.push_closing.Goals as goal
@@ -12,10 +12,11 @@ use Rattle.miette_style.specs.rules.Themes.{characters_of}
 
 pub returns : goal.returns
 returns g c =
-    several_closing width_of (characters_of c.args.sheet.now.theme.now.characters) (line_of_text c.args.sheet.now.line)
-    c.args.sheet.now.gutter c.saturating_sub-columns.result (multi_labels c.args.sheet.now)
-    (drawn_of c.args.sheet.now.labels.now c.args.label.now)
-    (other_start (settings c.args.sheet.now) c.args.sheet.now.number_width) _ (chars c.first_part.result.0.now)
+    several_closing (settings c.args.context.now) (line_of_text c.args.context.now.line)
+    c.args.context.now.gutter c.saturating_sub-columns.result (multi_labels c.args.context.now)
+    (drawn_of c.args.context.now.labels.now c.args.label.now)
+    (other_start (settings c.args.context.now) c.args.context.now.frame.number_width) _
+    (chars c.first_part.result.0.now)
     (chars c.in-Some-rest.rest.now)
     c.args.page.now c.push_closed_row-2.new.page c.push_open_rows.new.page c.saturating_sub-columns.ensures
     (ap parts_of (sym c.in-Some.ensures) ∙ c.first_part.ensures.cut

@@ -3,7 +3,7 @@ use Rattle.std.proofs.Common.{◌∙◌, ◌+◌, ap, sym, map, drop}
 use Rattle.miette_snippet_rules.specs.rules.Frames.{other_start}
 use Rattle.miette_labels.specs.views.GivenLabels.{drawn_of}
 use Rattle.miette_cells.specs.rules.Widths.{width_of}
-use Rattle.miette_drawing.specs.steps.Sheets.{settings, multi_labels}
+use Rattle.miette_drawing.specs.steps.LineContexts.{settings, multi_labels}
 use Rattle.miette_source_lines.specs.views.Walking.{line_of_text}
 use Rattle.miette_drawing.proofs.Closing.{closing_more, closing_skip, rest_of}
 use Rattle.miette_drawing.proofs.closings.push_closings.Goals as goal
@@ -13,26 +13,26 @@ use Rattle.miette_style.specs.rules.Themes.{characters_of}
 pub loop-label-preserved : goal.loop-label-preserved
 loop-label-preserved g c = elim c.if-closes.branch [
   | then-closes+in_ok-push_closing w ↦
-      ap (λ x. x ⊕ rest_of width_of (characters_of c.args.sheet.now.theme.now.characters)
-      (line_of_text c.args.sheet.now.line) c.args.sheet.now.gutter (multi_labels c.args.sheet.now)
-      (other_start (settings c.args.sheet.now) c.args.sheet.now.number_width)
-      (map (drawn_of c.args.sheet.now.labels.now) (drop (c.loop-label.label-index + 1) c.args.sheet.now.multi.now)))
+      ap (λ x. x ⊕ rest_of (settings c.args.context.now)
+      (line_of_text c.args.context.now.line) c.args.context.now.gutter (multi_labels c.args.context.now)
+      (other_start (settings c.args.context.now) c.args.context.now.frame.number_width)
+      (map (drawn_of c.args.context.now.labels.now) (drop (c.loop-label.label-index + 1) c.args.context.now.multi.now)))
       w.page-is
-      ∙ closing_more width_of (characters_of c.args.sheet.now.theme.now.characters) (line_of_text c.args.sheet.now.line)
-      c.args.sheet.now.gutter (multi_labels c.args.sheet.now)
-      (other_start (settings c.args.sheet.now) c.args.sheet.now.number_width) c.args.sheet.now.labels.now
-      c.args.sheet.now.multi.now c.loop-label.label-index
+      ∙ closing_more (settings c.args.context.now) (line_of_text c.args.context.now.line)
+      c.args.context.now.gutter (multi_labels c.args.context.now)
+      (other_start (settings c.args.context.now) c.args.context.now.frame.number_width) c.args.context.now.labels.now
+      c.args.context.now.multi.now c.loop-label.label-index
       c.loop-label.page w.push_closing.new.page _ c.loop-label-test.true (sym c.closes.ensures ∙ w.if-closes.true)
       w.in_ok-push_closing.ensures c.loop-label.invariant
   | else-closes w ↦
-      ap (λ x. x ⊕ rest_of width_of (characters_of c.args.sheet.now.theme.now.characters)
-      (line_of_text c.args.sheet.now.line) c.args.sheet.now.gutter (multi_labels c.args.sheet.now)
-      (other_start (settings c.args.sheet.now) c.args.sheet.now.number_width)
-      (map (drawn_of c.args.sheet.now.labels.now) (drop (c.loop-label.label-index + 1) c.args.sheet.now.multi.now)))
+      ap (λ x. x ⊕ rest_of (settings c.args.context.now)
+      (line_of_text c.args.context.now.line) c.args.context.now.gutter (multi_labels c.args.context.now)
+      (other_start (settings c.args.context.now) c.args.context.now.frame.number_width)
+      (map (drawn_of c.args.context.now.labels.now) (drop (c.loop-label.label-index + 1) c.args.context.now.multi.now)))
       w.page-is
-      ∙ closing_skip width_of (characters_of c.args.sheet.now.theme.now.characters) (line_of_text c.args.sheet.now.line)
-      c.args.sheet.now.gutter (multi_labels c.args.sheet.now)
-      (other_start (settings c.args.sheet.now) c.args.sheet.now.number_width) c.args.sheet.now.labels.now
-      c.args.sheet.now.multi.now c.loop-label.label-index
+      ∙ closing_skip (settings c.args.context.now) (line_of_text c.args.context.now.line)
+      c.args.context.now.gutter (multi_labels c.args.context.now)
+      (other_start (settings c.args.context.now) c.args.context.now.frame.number_width) c.args.context.now.labels.now
+      c.args.context.now.multi.now c.loop-label.label-index
       c.loop-label.page _ c.loop-label-test.true (sym c.closes.ensures ∙ w.if-closes.false) c.loop-label.invariant
 ]

@@ -2,16 +2,18 @@ use Rattle.miette_page.specs.views.Printouts.{◌⊕◌}
 use Rattle.std.proofs.Common.{◌≡◌, map, drop}
 use Rattle.miette_labels.specs.views.GivenLabels.{drawn_of}
 use Rattle.miette_snippet_rules.specs.rules.Frames.{other_start}
-use Rattle.miette_drawing.specs.steps.Sheets.{settings, multi_labels}
+use Rattle.miette_drawing.specs.steps.LineContexts.{settings, multi_labels}
 use Rattle.miette_source_lines.specs.views.Walking.{line_of_text}
 use Rattle.miette_drawing.proofs.Closing.{rest_of}
 use Rattle.miette_drawing.proofs.closings.push_closings.Given as goal
 
 abbrev pub invariant-loop-label : goal.invariant-loop-label
 invariant-loop-label g l =
-    l.page ⊕ rest_of (settings l.fn.sheet).width (settings l.fn.sheet).characters (line_of_text l.fn.sheet.line)
-    l.fn.sheet.gutter (multi_labels l.fn.sheet) (other_start (settings l.fn.sheet) l.fn.sheet.number_width)
-    (map (drawn_of l.fn.sheet.labels.now) (drop l.label-index l.fn.sheet.multi.now))
-    ≡ l.fn.page ⊕ rest_of (settings l.fn.sheet).width (settings l.fn.sheet).characters (line_of_text l.fn.sheet.line)
-    l.fn.sheet.gutter (multi_labels l.fn.sheet) (other_start (settings l.fn.sheet) l.fn.sheet.number_width)
-    (multi_labels l.fn.sheet)
+    l.page ⊕ rest_of (settings l.fn.context) (line_of_text l.fn.context.line)
+    l.fn.context.gutter (multi_labels l.fn.context) (other_start (settings l.fn.context)
+    l.fn.context.frame.number_width)
+    (map (drawn_of l.fn.context.labels.now) (drop l.label-index l.fn.context.multi.now))
+    ≡ l.fn.page ⊕ rest_of (settings l.fn.context) (line_of_text l.fn.context.line)
+    l.fn.context.gutter (multi_labels l.fn.context) (other_start (settings l.fn.context)
+    l.fn.context.frame.number_width)
+    (multi_labels l.fn.context)

@@ -5,14 +5,14 @@ use Rattle.std.specs.Option.{option_map_or, option_copied}
 use Rattle.miette_page.specs.views.Tokens.{rows_tokens}
 use Rattle.miette_labels.specs.rules.Labels.{cut_at_lf, parts_of}
 use Rattle.miette_labels.specs.views.GivenLabels.{drawn_of}
-use Rattle.miette_drawing.specs.steps.Sheets.{open_line}
+use Rattle.miette_drawing.specs.steps.LineContexts.{open_line}
 use Rattle.miette_drawing.proofs.closings.push_open_rows.Given as goal
 
 abbrev pub invariant-loop-left : goal.invariant-loop-left
 invariant-loop-left g l =
-    l.page ⊕ rows_tokens (map (open_line l.fn.sheet l.fn.columns (drawn_of l.fn.sheet.labels.now l.fn.label))
+    l.page ⊕ rows_tokens (map (open_line l.fn.context l.fn.columns (drawn_of l.fn.context.labels.now l.fn.label))
     (parts_of (option_copied l.left)))
-    ≡ l.fn.page ⊕ rows_tokens (map (open_line l.fn.sheet l.fn.columns (drawn_of l.fn.sheet.labels.now l.fn.label))
+    ≡ l.fn.page ⊕ rows_tokens (map (open_line l.fn.context l.fn.columns (drawn_of l.fn.context.labels.now l.fn.label))
     (cut_at_lf (chars l.fn.text)))
 
 abbrev pub decreases-loop-left : goal.decreases-loop-left

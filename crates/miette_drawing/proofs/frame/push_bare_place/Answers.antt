@@ -12,10 +12,10 @@ use Rattle.miette_drawing.proofs.frame.push_bare_place.Goals as goal
 
 pub returns-then-frame : goal.returns-then-frame
 returns-then-frame g c =
-    let shown : (c.args.several && c.args.frame.now.options.primary_start) ≡ true = search rules in
+    let shown : (c.args.several && c.args.frame.now.settings.layout.now.primary_start) ≡ true = search rules in
     bare_put width_of (place_text (place_at c.args.place)) c.args.page.now c.push_line.new.self c.push_place.new.page
     c.push.new.self
     c.in_ok-push_line.ensures c.in_ok-push_place.ensures c.in_ok-push.ensures
     ∙ ap (λ b. c.args.page.now ⊕ row_tokens (cond b (styled_run width_of plain
     (codes "[" ++ place_text (place_at c.args.place) ++ codes "]") ∷ [])
-    (styled_run width_of plain (replicate 3 c.args.frame.now.theme.now.characters.hbar) ∷ []))) (sym shown)
+    (styled_run width_of plain (replicate 3 c.args.frame.now.settings.theme.now.characters.hbar) ∷ []))) (sym shown)

@@ -10,18 +10,19 @@ use Rattle.miette_drawing.proofs.frame.push_refused_text.Goals as goal
 pub returns : goal.returns
 returns g c =
     let last : Row = styled_run width_of plain (codes "` (offset: ") ∷ [] in
-    let text : Row = styled_run width_of c.args.frame.now.theme.now.styles.link (text_or_none c.args.label.now.text)
+    let text : Row = styled_run width_of c.args.frame.now.settings.theme.now.styles.link
+    (text_or_none c.args.label.now.text)
     ∷ last in
     let tick : Row = styled_run width_of plain (codes " `") ∷ text in
-    let failed : Row = styled_run width_of c.args.frame.now.theme.now.styles.error
+    let failed : Row = styled_run width_of c.args.frame.now.settings.theme.now.styles.error
     (codes "Failed to read contents for label") ∷ tick in
     run_then width_of plain (codes "  [") failed c.args.page.now c.push_ascii.new.page c.push_ascii-4.new.page
     c.in_ok-push_ascii.ensures
-    (run_then width_of c.args.frame.now.theme.now.styles.error (codes "Failed to read contents for label") tick
+    (run_then width_of c.args.frame.now.settings.theme.now.styles.error (codes "Failed to read contents for label") tick
     c.push_ascii.new.page c.push_ascii-2.new.page c.push_ascii-4.new.page c.in_ok-push_ascii-2.ensures
     (run_then width_of plain (codes " `") text c.push_ascii-2.new.page c.push_ascii-3.new.page c.push_ascii-4.new.page
     c.in_ok-push_ascii-3.ensures
-    (run_then width_of c.args.frame.now.theme.now.styles.link (text_or_none c.args.label.now.text) last
+    (run_then width_of c.args.frame.now.settings.theme.now.styles.link (text_or_none c.args.label.now.text) last
     c.push_ascii-3.new.page c.push_label_text.new.page c.push_ascii-4.new.page c.in_ok-push_label_text.ensures
     (run_last width_of plain (codes "` (offset: ") c.push_label_text.new.page c.push_ascii-4.new.page
     c.in_ok-push_ascii-4.ensures))))

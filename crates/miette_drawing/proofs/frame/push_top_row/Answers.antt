@@ -3,14 +3,14 @@ use Rattle.std.specs.Option.{option_copied, option_map}
 use Rattle.miette_snippet_rules.specs.rules.Frames.{location_of}
 use Rattle.miette_drawing.specs.steps.FrameParts.{corner_row}
 use Rattle.miette_drawing.specs.views.SnippetRows.{place_at}
-use Rattle.miette_snippet_rules.specs.views.ThemeSettings.{settings_of}
+use Rattle.miette_snippet_rules.specs.views.SettingsView.{settings_of}
 use Rattle.miette_drawing.proofs.Texting.{parts_then, row_done}
 use Rattle.miette_drawing.proofs.frame.push_top_row.Goals as goal
 
 pub returns : goal.returns
 returns g c =
-    let s = settings_of c.args.frame.now.theme.now c.args.frame.now.options in
-    let corner = corner_row s c.args.frame.now.number_width c.args.frame.now.theme.now.characters.ltop 1 in
+    let s = settings_of c.args.frame.now.settings in
+    let corner = corner_row s c.args.frame.now.number_width c.args.frame.now.settings.theme.now.characters.ltop 1 in
     let location = location_of s (option_copied c.args.name) c.args.several (option_map place_at c.args.place) in
     row_done (corner ++ location) c.args.page.now c.push_location.new.page c.end_row.new.self
     (parts_then corner location c.args.page.now c.push_corner.new.page c.push_location.new.page

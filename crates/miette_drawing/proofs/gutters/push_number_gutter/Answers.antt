@@ -8,32 +8,33 @@ use Rattle.miette_snippet_rules.proofs.Telling.{blank_row}
 use Rattle.miette_drawing.proofs.Guttering.{at_end, at_last, number_starts, number_ends}
 use Rattle.miette_drawing.proofs.gutters.push_number_gutter.Goals as goal
 use Rattle.miette_style.specs.rules.Themes.{characters_of}
+use Rattle.miette_drawing.specs.steps.LineContexts.{settings}
 
 pub returns-then-starts : goal.returns-then-starts
 returns-then-starts g c =
-    at_last (number_gutter width_of (characters_of c.args.sheet.now.theme.now.characters)
-    (line_of_text c.args.sheet.now.line) c.loop-label.left) c.args.sheet.now.labels.now c.args.sheet.now.multi.now
+    at_last (number_gutter (settings c.args.context.now)
+    (line_of_text c.args.context.now.line) c.loop-label.left) c.args.context.now.labels.now c.args.context.now.multi.now
     c.loop-label.label-index _ _ _ _ c.loop-label-test.true
-    (number_starts width_of (characters_of c.args.sheet.now.theme.now.characters) (line_of_text c.args.sheet.now.line)
-    c.loop-label.left (drawn_of c.args.sheet.now.labels.now
-    (get_or c.args.sheet.now.multi.now c.loop-label.label-index nothing))
-    (map (drawn_of c.args.sheet.now.labels.now) (drop (c.loop-label.label-index + 1) c.args.sheet.now.multi.now))
+    (number_starts (settings c.args.context.now) (line_of_text c.args.context.now.line)
+    c.loop-label.left (drawn_of c.args.context.now.labels.now
+    (get_or c.args.context.now.multi.now c.loop-label.label-index nothing))
+    (map (drawn_of c.args.context.now.labels.now) (drop (c.loop-label.label-index + 1) c.args.context.now.multi.now))
     (sym c.starts.ensures ∙ c.if-starts.true)) c.in_ok-push_arrow.ensures c.loop-label.invariant
 
 pub returns-then-ends : goal.returns-then-ends
 returns-then-ends g c =
-    at_last (number_gutter width_of (characters_of c.args.sheet.now.theme.now.characters)
-    (line_of_text c.args.sheet.now.line) c.loop-label.left) c.args.sheet.now.labels.now c.args.sheet.now.multi.now
+    at_last (number_gutter (settings c.args.context.now)
+    (line_of_text c.args.context.now.line) c.loop-label.left) c.args.context.now.labels.now c.args.context.now.multi.now
     c.loop-label.label-index _ _ _ _ c.loop-label-test.true
-    (number_ends width_of (characters_of c.args.sheet.now.theme.now.characters) (line_of_text c.args.sheet.now.line)
-    c.loop-label.left c.corner_at_end-corner.result (drawn_of c.args.sheet.now.labels.now
-    (get_or c.args.sheet.now.multi.now c.loop-label.label-index nothing))
-    (map (drawn_of c.args.sheet.now.labels.now) (drop (c.loop-label.label-index + 1) c.args.sheet.now.multi.now))
+    (number_ends (settings c.args.context.now) (line_of_text c.args.context.now.line)
+    c.loop-label.left c.corner_at_end-corner.result (drawn_of c.args.context.now.labels.now
+    (get_or c.args.context.now.multi.now c.loop-label.label-index nothing))
+    (map (drawn_of c.args.context.now.labels.now) (drop (c.loop-label.label-index + 1) c.args.context.now.multi.now))
     (sym c.starts.ensures ∙ c.if-starts.false) (sym c.ends.ensures ∙ c.if-ends.true) c.corner_at_end-corner.ensures)
     c.in_ok-push_arrow-2.ensures c.loop-label.invariant
 
 pub returns : goal.returns
-returns g c = at_end (number_gutter width_of (characters_of c.args.sheet.now.theme.now.characters)
-    (line_of_text c.args.sheet.now.line) c.loop-label.left) c.args.sheet.now.labels.now c.args.sheet.now.multi.now
-    c.loop-label.label-index _ _ _ _ c.loop-label-test.false (blank_row width_of c.loop-label.left)
+returns g c = at_end (number_gutter (settings c.args.context.now)
+    (line_of_text c.args.context.now.line) c.loop-label.left) c.args.context.now.labels.now c.args.context.now.multi.now
+    c.loop-label.label-index _ _ _ _ c.loop-label-test.false (blank_row (settings c.args.context.now) c.loop-label.left)
     c.in_ok-push_blank.ensures c.loop-label.invariant

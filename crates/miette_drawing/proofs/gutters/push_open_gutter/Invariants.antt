@@ -2,15 +2,15 @@ use Rattle.miette_page.specs.views.Printouts.{◌⊕◌}
 use Rattle.std.proofs.Common.{◌≡◌, map, drop}
 use Rattle.miette_page.specs.views.Tokens.{row_tokens}
 use Rattle.miette_labels.specs.views.GivenLabels.{drawn_of}
-use Rattle.miette_drawing.specs.steps.Sheets.{settings, multi_labels}
+use Rattle.miette_drawing.specs.steps.LineContexts.{settings, multi_labels}
 use Rattle.miette_source_lines.specs.views.Walking.{line_of_text}
 use Rattle.miette_snippet_rules.specs.rules.Gutters.{open_gutter}
 use Rattle.miette_drawing.proofs.gutters.push_open_gutter.Given as goal
 
 abbrev pub invariant-loop-label : goal.invariant-loop-label
 invariant-loop-label g l =
-    l.page ⊕ row_tokens (open_gutter (settings l.fn.sheet).width (settings l.fn.sheet).characters
-    (line_of_text l.fn.sheet.line) l.left (map (drawn_of l.fn.sheet.labels.now)
-    (drop l.label-index l.fn.sheet.multi.now)))
-    ≡ l.fn.page ⊕ row_tokens (open_gutter (settings l.fn.sheet).width (settings l.fn.sheet).characters
-    (line_of_text l.fn.sheet.line) l.fn.columns (multi_labels l.fn.sheet))
+    l.page ⊕ row_tokens (open_gutter (settings l.fn.context)
+    (line_of_text l.fn.context.line) l.left (map (drawn_of l.fn.context.labels.now)
+    (drop l.label-index l.fn.context.multi.now)))
+    ≡ l.fn.page ⊕ row_tokens (open_gutter (settings l.fn.context)
+    (line_of_text l.fn.context.line) l.fn.columns (multi_labels l.fn.context))

@@ -8,20 +8,21 @@ use Rattle.miette_snippet_rules.proofs.Telling.{blank_row}
 use Rattle.miette_drawing.proofs.Guttering.{at_end, at_last, other_last}
 use Rattle.miette_drawing.proofs.gutters.push_other_gutter.Goals as goal
 use Rattle.miette_style.specs.rules.Themes.{characters_of}
+use Rattle.miette_drawing.specs.steps.LineContexts.{settings}
 
 pub returns-then-ends : goal.returns-then-ends
 returns-then-ends g c =
-    at_last (other_gutter width_of (characters_of c.args.sheet.now.theme.now.characters)
-    (line_of_text c.args.sheet.now.line) c.loop-label.left) c.args.sheet.now.labels.now c.args.sheet.now.multi.now
+    at_last (other_gutter (settings c.args.context.now)
+    (line_of_text c.args.context.now.line) c.loop-label.left) c.args.context.now.labels.now c.args.context.now.multi.now
     c.loop-label.label-index _ _ _ _ c.loop-label-test.true
-    (other_last width_of (characters_of c.args.sheet.now.theme.now.characters) (line_of_text c.args.sheet.now.line)
-    c.loop-label.left c.saturating_sub.result (drawn_of c.args.sheet.now.labels.now
-    (get_or c.args.sheet.now.multi.now c.loop-label.label-index nothing))
-    (map (drawn_of c.args.sheet.now.labels.now) (drop (c.loop-label.label-index + 1) c.args.sheet.now.multi.now))
+    (other_last (settings c.args.context.now) (line_of_text c.args.context.now.line)
+    c.loop-label.left c.saturating_sub.result (drawn_of c.args.context.now.labels.now
+    (get_or c.args.context.now.multi.now c.loop-label.label-index nothing))
+    (map (drawn_of c.args.context.now.labels.now) (drop (c.loop-label.label-index + 1) c.args.context.now.multi.now))
     (sym c.ends.ensures ∙ c.if-ends.true) c.saturating_sub.ensures) c.in_ok-push_line.ensures c.loop-label.invariant
 
 pub returns : goal.returns
-returns g c = at_end (other_gutter width_of (characters_of c.args.sheet.now.theme.now.characters)
-    (line_of_text c.args.sheet.now.line) c.loop-label.left) c.args.sheet.now.labels.now c.args.sheet.now.multi.now
-    c.loop-label.label-index _ _ _ _ c.loop-label-test.false (blank_row width_of c.loop-label.left)
+returns g c = at_end (other_gutter (settings c.args.context.now)
+    (line_of_text c.args.context.now.line) c.loop-label.left) c.args.context.now.labels.now c.args.context.now.multi.now
+    c.loop-label.label-index _ _ _ _ c.loop-label-test.false (blank_row (settings c.args.context.now) c.loop-label.left)
     c.in_ok-push_blank.ensures c.loop-label.invariant

@@ -16,64 +16,71 @@ use Rattle.miette_snippet_rules.specs.rules.SnippetLayout.{before_each, line_or_
 use Rattle.miette_snippet_rules.proofs.CutColumns.{columns_from}
 use Rattle.miette_cuts.specs.views.Cuts.{made_runs, measure}
 use Rattle.miette_cuts.specs.views.Marks.{mark_of}
-use Rattle.miette_drawing.specs.steps.Sheets.{settings, multi_labels, before_marks, number_row, shown_cells}
-use Rattle.miette_drawing.specs.steps.Sheets.{labels_alone}
+use Rattle.miette_drawing.specs.steps.LineContexts.{settings, multi_labels, before_marks, number_row, shown_cells}
+use Rattle.miette_drawing.specs.steps.LineContexts.{labels_alone}
 use Rattle.miette_source_lines.specs.views.Walking.{line_of_text}
 use Rattle.miette_cuts.proofs.CutStretches.{shown_made_anchored}
 use Rattle.miette_cuts.proofs.CutTexting.{shown_made}
 use Rattle.miette_drawing.proofs.Lining.{line_put}
 use Rattle.miette_drawing.proofs.line.push_line_or_break.Goals as goal
 use Rattle.miette_style.specs.rules.Themes.{characters_of}
+use Rattle.miette_snippet_rules.specs.rules.SnippetLayout.{line_in, line_shown}
 
 pub push_marked_rows-requires : goal.push_marked_rows-requires
 push_marked_rows-requires g c =
-    let sheet = c.args.sheet.now in
+    let context = c.args.context.now in
     let shown = c.args.shown.now in
-    let cells : List Cell = shown_cells sheet shown in
-    let own : List Mark = marks (text_of_cells cells sheet.line.text_end) (labels_alone sheet shown) in
-    let ls = sheet.labels.now in
-    let o : Option (List Stretch) = cut_line sheet.options.line_columns own cells in
+    let cells : List Cell = shown_cells context shown in
+    let own : List Mark = marks (text_of_cells cells context.line.text_end) (labels_alone context shown) in
+    let ls = context.labels.now in
+    let o : Option (List Stretch) = cut_line context.frame.settings.layout.now.line_columns own cells in
     let made : option_map (λ v. v.items) c.in_ok-cut.cut ≡ option_map (map measure) o =
     c.in_ok-cut.ensures ls ∙ ap (λ ms. option_map (map measure)
-    (cut_line sheet.options.line_columns (map (mark_of ls) ms) cells)) c.deref.ensures.value
-    ∙ ap (λ ms. option_map (map measure) (cut_line sheet.options.line_columns ms cells)) c.in_ok-whole.ensures.marks in
-    rw c.deref-2.ensures.value (shown_made_anchored ls sheet.options.line_columns own cells c.in_ok-whole.whole.items
+    (cut_line context.frame.settings.layout.now.line_columns (map (mark_of ls) ms) cells)) c.deref.ensures.value
+    ∙ ap (λ ms. option_map (map measure) (cut_line context.frame.settings.layout.now.line_columns ms cells))
+    c.in_ok-whole.ensures.marks in
+    rw c.deref-2.ensures.value (shown_made_anchored ls context.frame.settings.layout.now.line_columns own cells
+    c.in_ok-whole.whole.items
     c.in_ok-marks.marks.items
-    (columns_from width_of sheet.options.tab_width false sheet.line.start 0 (characters shown.text.now))
+    (columns_from width_of context.frame.settings.layout.now.tab_width false context.line.start 0
+    (characters shown.text.now))
     c.in_ok-whole.ensures.marks c.in_ok-whole.ensures.anchored
     (c.in_ok-marks.ensures ls o made ∙ ap (shown_marks o) c.in_ok-whole.ensures.marks))
 
 pub returns : goal.returns
 returns g c =
-    let sheet = c.args.sheet.now in
+    let context = c.args.context.now in
     let shown = c.args.shown.now in
-    let ls = sheet.labels.now in
-    let cells : List Cell = shown_cells sheet shown in
+    let ls = context.labels.now in
+    let cells : List Cell = shown_cells context shown in
     let pieces : List Highlight = map highlight_of shown.pieces.now in
-    let own : List Mark = marks (text_of_cells cells sheet.line.text_end) (labels_alone sheet shown) in
-    let o : Option (List Stretch) = cut_line sheet.options.line_columns own cells in
+    let own : List Mark = marks (text_of_cells cells context.line.text_end) (labels_alone context shown) in
+    let o : Option (List Stretch) = cut_line context.frame.settings.layout.now.line_columns own cells in
     let kept : shown.left_out ≡ false = search rules in
-    let drawn : List Mark → List Row = λ ms. before_each (before_marks sheet)
-    (marked_rows width_of (characters_of sheet.theme.now.characters) ms) in
+    let drawn : List Mark → List Row = λ ms. before_each (before_marks context)
+    (marked_rows (settings context) ms) in
     let made : option_map (λ v. v.items) c.in_ok-cut.cut ≡ option_map (map measure) o =
     c.in_ok-cut.ensures ls ∙ ap (λ ms. option_map (map measure)
-    (cut_line sheet.options.line_columns (map (mark_of ls) ms) cells)) c.deref.ensures.value
-    ∙ ap (λ ms. option_map (map measure) (cut_line sheet.options.line_columns ms cells)) c.in_ok-whole.ensures.marks in
+    (cut_line context.frame.settings.layout.now.line_columns (map (mark_of ls) ms) cells)) c.deref.ensures.value
+    ∙ ap (λ ms. option_map (map measure) (cut_line context.frame.settings.layout.now.line_columns ms cells))
+    c.in_ok-whole.ensures.marks in
     let text : made_runs (option_map (λ v. v.items) c.in_ok-cut.cut) pieces cells ≡ shown_runs o pieces cells =
-    ap (λ x. made_runs x pieces cells) made ∙ shown_made sheet.options.line_columns own cells pieces in
+    ap (λ x. made_runs x pieces cells) made ∙ shown_made context.frame.settings.layout.now.line_columns own cells pieces
+    in
     let moved : map (mark_of ls) c.in_ok-marks.marks.items ≡ shown_marks o own = c.in_ok-marks.ensures ls o made
     ∙ ap (shown_marks o) c.in_ok-whole.ensures.marks in
-    line_put (number_row sheet shown (shown_runs o pieces cells)) (drawn (shown_marks o own))
-    (before_each (other_start (settings sheet) sheet.number_width)
-    (closing_rows width_of (characters_of sheet.theme.now.characters) (line_of_text sheet.line) sheet.gutter
-    (multi_labels sheet) (closing_labels (line_of_text sheet.line) (multi_labels sheet))))
+    line_put (number_row context shown (shown_runs o pieces cells)) (drawn (shown_marks o own))
+    (before_each (other_start (settings context) context.frame.number_width)
+    (closing_rows (settings context) (line_of_text context.line) context.gutter
+    (multi_labels context) (closing_labels (line_of_text context.line) (multi_labels context))))
     c.args.page.now c.push_number_row.new.page c.push_marked_rows.new.page c.push_closings.new.page
-    (c.in_ok-push_number_row.ensures ∙ ap (λ runs. c.args.page.now ⊕ rows_tokens (number_row sheet shown runs ∷ []))
+    (c.in_ok-push_number_row.ensures ∙ ap (λ runs. c.args.page.now ⊕ rows_tokens (number_row context shown runs ∷ []))
     text)
     (c.in_ok-push_marked_rows.ensures ∙ ap (λ ms. c.push_number_row.new.page
     ⊕ rows_tokens (drawn (map (mark_of ls) ms))) c.deref-2.ensures.value
     ∙ ap (λ ms. c.push_number_row.new.page ⊕ rows_tokens (drawn ms)) moved)
     c.in_ok-push_closings.ensures
-    ∙ ap (λ out. c.args.page.now ⊕ rows_tokens (line_or_break_of shown.gap out (settings sheet) sheet.number_width
-    sheet.gutter (labels_alone sheet shown) (multi_labels sheet) (line_of_text sheet.line) shown.number cells
-    pieces)) (sym kept)
+    ∙ ap (λ out. c.args.page.now ⊕ rows_tokens (line_or_break_of shown.gap out
+    (line_in (settings context) context.frame.number_width context.gutter (line_of_text context.line)
+    (multi_labels context))
+    (line_shown shown.number (labels_alone context shown) cells pieces))) (sym kept)

@@ -6,7 +6,7 @@ use Rattle.miette_snippet_rules.specs.rules.Gutters.{number_gutter}
 use Rattle.miette_cells.specs.rules.Widths.{width_of}
 use Rattle.miette_snippet_rules.specs.rules.Highlighting.{highlight_of}
 use Rattle.miette_cuts.specs.views.LineTexts.{text_cells}
-use Rattle.miette_drawing.specs.steps.Sheets.{settings, multi_labels}
+use Rattle.miette_drawing.specs.steps.LineContexts.{settings, multi_labels}
 use Rattle.miette_source_lines.specs.views.Walking.{line_of_text}
 use Rattle.miette_drawing.proofs.Lining.{number_row_put}
 use Rattle.miette_drawing.proofs.line.push_number_row.Goals as goal
@@ -14,10 +14,10 @@ use Rattle.miette_style.specs.rules.Themes.{characters_of}
 
 pub returns : goal.returns
 returns g c =
-    let sheet = c.args.sheet.now in
-    number_row_put (number_start (settings sheet) sheet.number_width c.args.shown.now.number)
-    (number_gutter width_of (characters_of sheet.theme.now.characters) (line_of_text sheet.line) sheet.gutter
-    (multi_labels sheet))
+    let context = c.args.context.now in
+    number_row_put (number_start (settings context) context.frame.number_width c.args.shown.now.number)
+    (number_gutter (settings context) (line_of_text context.line) context.gutter
+    (multi_labels context))
     (made_runs (option_map (λ made. made.items) c.args.cut.now) (map highlight_of c.args.shown.now.pieces.now)
     (text_cells c.args.text.now))
     c.args.page.now c.push_number_start.new.page c.push_number_gutter.new.page c.push_shown_text.new.page

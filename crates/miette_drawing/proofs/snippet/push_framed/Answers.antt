@@ -4,7 +4,7 @@ use Rattle.miette_folds.specs.views.Spreads.{spread_of}
 use Rattle.miette_drawing.specs.views.SnippetRows.{place_at}
 use Rattle.miette_folds.specs.views.Folding.{fold_in}
 use Rattle.miette_labels.specs.views.Sweeping.{IsAt}
-use Rattle.miette_snippet_rules.specs.views.ThemeSettings.{settings_of}
+use Rattle.miette_snippet_rules.specs.views.SettingsView.{settings_of}
 use Rattle.miette_snippet_rules.specs.rules.Highlighting.{leaves_plain, follows}
 use Rattle.miette_highlight.specs.rules.HighlighterCalls.{Leads}
 use Rattle.miette_drawing.proofs.Lending.{told_lent}
@@ -39,7 +39,7 @@ push_lines-requires-clause-folds g c =
 
 pub returns-clause-rows : goal.returns-clause-rows
 returns-clause-rows g c =
-    told_lent (settings_of c.args.drawing.now.theme.now c.args.drawing.now.options)
+    told_lent (settings_of c.args.drawing.now.settings)
     (map spread_of c.args.drawing.now.spreads.now) c.args.drawing.now.labels.now c.args.drawing.now.placed.now
     c.args.lent.now (option_map place_at c.args.place) (leaves_plain g.H.Highlighter.is_blank c.args.highlighter.now)
     (λ calls. Leads (follows g.H.Highlighter.may_follow c.args.highlighter.now) calls

@@ -1,7 +1,7 @@
 use Rattle.std.proofs.Common.{ℕ, ◌≡◌, ◌+◌, ◌-◌, ◌≤◌, ◌<◌, false, arith, length, map, refl, sym, ap, subst, ◌∙◌, Bool}
 use Rattle.std.proofs.Common.{List}
 use Rattle.miette_labels.specs.declared.sweep.PlacedLabel.{PlacedLabel}
-use Rattle.miette_snippet_rules.specs.views.ThemeSettings.{settings_of}
+use Rattle.miette_snippet_rules.specs.views.SettingsView.{settings_of}
 use Rattle.miette_labels.specs.views.GivenLabels.{drawn_of}
 use Rattle.miette_snippet_rules.specs.rules.Folds.{leaves_out}
 use Rattle.miette_snippet_rules.specs.rules.Highlighting.{leaves_plain, decoded_text, ArePieces, follows, highlight_of}
@@ -28,17 +28,17 @@ loop-at-init g c =
     let body = c.args.body.now in
     let e : c.args.body.now.start ≡ c.args.body.now.start + 0 = omega arith in
     let n : c.args.body.now.before + 1 ≡ c.args.body.now.before + 0 + 1 = omega arith in record {
-      lined = subst (λ (m : ℕ). AreLined (left_out (settings_of body.frame.theme.now body.frame.options) body.before
+      lined = subst (λ (m : ℕ). AreLined (left_out (settings_of body.frame.settings) body.before
           (lines_from body.start body.bytes.now) (map spread_of c.args.drawing.now.spreads.now)) false
-          (settings_of body.frame.theme.now body.frame.options) body.frame.number_width body.gutter
+          (settings_of body.frame.settings) body.frame.number_width body.gutter
           (map (drawn_of c.args.drawing.now.labels.now) c.args.drawing.now.placed.now) body.start body.bytes.now
           (body.before + 1)
           (leaves_plain g.H.Highlighter.is_blank c.args.highlighter.now)
           (follows g.H.Highlighter.may_follow c.args.highlighter.now)
           (follows g.H.Highlighter.may_follow c.args.highlighter.now) 0 m c.args.page.now c.args.page.now) n
-          (lines_first (left_out (settings_of body.frame.theme.now body.frame.options) body.before
+          (lines_first (left_out (settings_of body.frame.settings) body.before
           (lines_from body.start body.bytes.now) (map spread_of c.args.drawing.now.spreads.now))
-          (settings_of body.frame.theme.now body.frame.options) body.frame.number_width body.gutter
+          (settings_of body.frame.settings) body.frame.number_width body.gutter
           (map (drawn_of c.args.drawing.now.labels.now) c.args.drawing.now.placed.now) body.start body.bytes.now
           (body.before + 1)
           (leaves_plain g.H.Highlighter.is_blank c.args.highlighter.now)
@@ -128,26 +128,26 @@ loop-at-preserved g c =
     let to : c.line_at-line.result.end ≤ c.args.body.now.start + length c.args.body.now.bytes.now =
     c.line_at-line.ensures.to in
     let low : c.args.body.now.start ≤ c.line_at-line.result.end = omega (arith, from, some) in
-    let lined = subst (λ (n : ℕ). AreLined (left_out (settings_of body.frame.theme.now body.frame.options) body.before
+    let lined = subst (λ (n : ℕ). AreLined (left_out (settings_of body.frame.settings) body.before
     (lines_from body.start body.bytes.now) (map spread_of c.args.drawing.now.spreads.now)) c.loop-at.gap
-    (settings_of body.frame.theme.now body.frame.options) body.frame.number_width body.gutter
+    (settings_of body.frame.settings) body.frame.number_width body.gutter
     (map (drawn_of c.args.drawing.now.labels.now) placed) body.start body.bytes.now (body.before + 1) blank begun was
     c.loop-at.at n c.args.page.now c.loop-at.page)
     (sym c.in_ok-number.ensures) c.loop-at.invariant.lined in
     let counted : c.loop-at.place ≡ c.in_ok-number.number - (c.args.body.now.before + 1) =
     omega (arith, c.in_ok-number.ensures) in
-    let is : c.leaves_out-left_out.result ≡ leaves_out c.args.body.now.frame.options.label_lines
+    let is : c.leaves_out-left_out.result ≡ leaves_out c.args.body.now.frame.settings.layout.now.label_lines
     (lines_from start bytes) (map spread_of c.args.drawing.now.spreads.now) c.loop-at.place
     (line_of_text c.line_at-line.result) =
     c.leaves_out-left_out.ensures start bytes c.args.drawing.now.spreads.now c.requires.folds in
-    let leaves : c.leaves_out-left_out.result ≡ left_out (settings_of body.frame.theme.now body.frame.options)
+    let leaves : c.leaves_out-left_out.result ≡ left_out (settings_of body.frame.settings)
     body.before (lines_from body.start body.bytes.now) (map spread_of c.args.drawing.now.spreads.now)
     c.in_ok-number.number (line_of_text c.line_at-line.result) =
-    is ∙ ap (λ n. leaves_out c.args.body.now.frame.options.label_lines (lines_from start bytes)
+    is ∙ ap (λ n. leaves_out c.args.body.now.frame.settings.layout.now.label_lines (lines_from start bytes)
     (map spread_of c.args.drawing.now.spreads.now) n (line_of_text c.line_at-line.result)) counted in
-    let drawn = lines_more (left_out (settings_of body.frame.theme.now body.frame.options) body.before
+    let drawn = lines_more (left_out (settings_of body.frame.settings) body.before
     (lines_from body.start body.bytes.now) (map spread_of c.args.drawing.now.spreads.now)) c.loop-at.gap
-    c.leaves_out-left_out.result (settings_of body.frame.theme.now body.frame.options) body.frame.number_width
+    c.leaves_out-left_out.result (settings_of body.frame.settings) body.frame.number_width
     body.gutter c.args.drawing.now.labels.now placed body.start body.bytes.now (body.before + 1) blank begun was now
     c.loop-at.at c.in_ok-number.number c.line_at-line.result
     c.deref-in-loop-at.result.now c.deref.result.now (map highlight_of c.deref-in-loop-at-2.result.now)
@@ -159,9 +159,9 @@ loop-at-preserved g c =
     c.in_ok-push_line_or_break.ensures in
     let sums : c.in_ok-number.number + 1 ≡ c.args.body.now.before + (c.loop-at.place + 1) + 1 =
     omega (arith, c.in_ok-number.ensures) in
-    let behind = subst (λ (n : ℕ). AreLined (left_out (settings_of body.frame.theme.now body.frame.options) body.before
+    let behind = subst (λ (n : ℕ). AreLined (left_out (settings_of body.frame.settings) body.before
     (lines_from body.start body.bytes.now) (map spread_of c.args.drawing.now.spreads.now))
-    c.leaves_out-left_out.result (settings_of body.frame.theme.now body.frame.options) body.frame.number_width
+    c.leaves_out-left_out.result (settings_of body.frame.settings) body.frame.number_width
     body.gutter (map (drawn_of c.args.drawing.now.labels.now) placed) body.start body.bytes.now (body.before + 1)
     blank begun now (c.line_at-line.result.end - c.args.body.now.start) n c.args.page.now
     c.push_line_or_break.new.page) sums drawn in
@@ -177,13 +177,14 @@ loop-at-preserved g c =
     let there : c.next_start-next.result.offset ≡ c.args.body.now.start
     + (c.next_start-next.result.offset - c.args.body.now.start) = omega (arith, b.low) in
     record {
-      lined = lines_run (settings_of body.frame.theme.now body.frame.options)
+      lined = lines_run (settings_of body.frame.settings)
           (map spread_of c.args.drawing.now.spreads.now) c.leaves_out-left_out.result jumps body.frame.number_width
           body.gutter (map (drawn_of c.args.drawing.now.labels.now) placed) start bytes body.before (body.before + 1)
           blank begun now near far c.args.page.now c.push_line_or_break.new.page
           c.may_pass.ensures.out c.may_pass.ensures.free (λ f. c.next_start-next.ensures
           ∙ not_jumped folds place l jumps f) a b le
-          (λ k other h. next_outs start bytes spreads folds c.args.body.now.frame.options.label_lines place l jumps
+          (λ k other h. next_outs start bytes spreads folds c.args.body.now.frame.settings.layout.now.label_lines place
+          l jumps
           c.requires.folds low (omega (arith, some)) (λ t. sym is ∙ c.may_pass.ensures.out t) k other
           (subst (λ (x : LineStart). IsBetween near x k other) c.next_start-next.ensures h))
           behind;
@@ -196,9 +197,9 @@ loop-at-preserved g c =
 pub returns-clause-rows : goal.returns-clause-rows
 returns-clause-rows g c =
     let body = c.args.body.now in
-    lines_all (left_out (settings_of body.frame.theme.now body.frame.options) body.before
+    lines_all (left_out (settings_of body.frame.settings) body.before
     (lines_from body.start body.bytes.now) (map spread_of c.args.drawing.now.spreads.now)) c.loop-at.gap
-    (settings_of body.frame.theme.now body.frame.options) body.frame.number_width body.gutter
+    (settings_of body.frame.settings) body.frame.number_width body.gutter
     (map (drawn_of c.args.drawing.now.labels.now) c.args.drawing.now.placed.now) body.start body.bytes.now
     (body.before + 1)
     (leaves_plain g.H.Highlighter.is_blank c.args.highlighter.now)

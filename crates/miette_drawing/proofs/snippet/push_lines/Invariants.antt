@@ -1,5 +1,5 @@
 use Rattle.std.proofs.Common.{◌≡◌, ◌+◌, ◌-◌, length, map}
-use Rattle.miette_snippet_rules.specs.views.ThemeSettings.{settings_of}
+use Rattle.miette_snippet_rules.specs.views.SettingsView.{settings_of}
 use Rattle.miette_source_lines.specs.rules.Lines.{lines_from}
 use Rattle.miette_labels.specs.views.GivenLabels.{drawn_of}
 use Rattle.miette_snippet_rules.specs.rules.SnippetLayout.{left_out}
@@ -12,9 +12,9 @@ use Rattle.miette_drawing.proofs.snippet.push_lines.Given as goal
 
 abbrev pub invariant-loop-at : goal.invariant-loop-at
 invariant-loop-at g l = record {
-  lined : AreLined (left_out (settings_of l.body.frame.theme.now l.body.frame.options) l.body.before
+  lined : AreLined (left_out (settings_of l.body.frame.settings) l.body.before
       (lines_from l.body.start l.body.bytes.now) (map spread_of l.drawing.spreads.now)) l.gap
-      (settings_of l.body.frame.theme.now l.body.frame.options) l.body.frame.number_width l.body.gutter
+      (settings_of l.body.frame.settings) l.body.frame.number_width l.body.gutter
       (map (drawn_of l.drawing.labels.now) l.drawing.placed.now) l.body.start l.body.bytes.now (l.body.before + 1)
       (leaves_plain g.H.Highlighter.is_blank l.initial.highlighter)
       (follows g.H.Highlighter.may_follow l.initial.highlighter) (follows g.H.Highlighter.may_follow l.highlighter)

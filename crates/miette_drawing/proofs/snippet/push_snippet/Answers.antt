@@ -2,7 +2,7 @@ use Rattle.std.proofs.Common.{ℕ, ◌≡◌, ◌+◌, List, ◌∷◌, ap, ◌�
 use Rattle.std.specs.Option.{option_map}
 use Rattle.miette_folds.specs.views.Spreads.{spread_of}
 use Rattle.miette_drawing.specs.views.SnippetRows.{place_at}
-use Rattle.miette_snippet_rules.specs.views.ThemeSettings.{settings_of}
+use Rattle.miette_snippet_rules.specs.views.SettingsView.{settings_of}
 use Rattle.miette_labels.specs.views.GivenLabels.{drawn_of}
 use Rattle.miette_drawing.specs.views.SnippetRows.{PutsRows, lent_snippet}
 use Rattle.miette_labels.specs.views.Sweeping.{IsAt}
@@ -26,11 +26,11 @@ returns-clause-rows g c =
     let now : List Call → Type 0 = follows g.H.Highlighter.may_follow c.push_framed.new.highlighter in
     let rows = c.in_ok-push_framed.ensures.rows in
     subst (λ b. PutsRows b (λ calls. Leads had (restarted lent ∷ calls) now) (lent_texts lent)
-    (lent_snippet (settings_of drawing.theme.now drawing.options) (map spread_of drawing.spreads.now)
+    (lent_snippet (settings_of drawing.settings) (map spread_of drawing.spreads.now)
     (map (drawn_of drawing.labels.now) drawing.placed.now) lent (option_map place_at c.args.place)) c.args.page.now
     c.push_framed.new.page)
     c.restart.ensures.stays (restarted_first (leaves_plain g.H.Highlighter.is_blank c.restart.new.highlighter) had begun
-    now (lent_texts lent) (lent_snippet (settings_of drawing.theme.now drawing.options)
+    now (lent_texts lent) (lent_snippet (settings_of drawing.settings)
     (map spread_of drawing.spreads.now) (map (drawn_of drawing.labels.now) drawing.placed.now) lent
     (option_map place_at c.args.place)) lent c.args.page.now c.push_framed.new.page c.restart.ensures.calls rows)
 

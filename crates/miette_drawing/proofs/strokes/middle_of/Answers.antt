@@ -4,5 +4,6 @@ use Rattle.miette_drawing.proofs.strokes.middle_of.Goals as goal
 use Rattle.miette_style.specs.rules.Themes.{characters_of}
 
 pub returns-in-Some : goal.returns-in-Some
-returns-in-Some c = middle_of_full (characters_of c.args.sheet.now.theme.now.characters) c.args.mark.now.label.start
+returns-in-Some c = middle_of_full (characters_of c.args.context.now.frame.settings.theme.now.characters)
+    c.args.mark.now.label.start
     c.args.mark.now.label.after _ c.in-Some.field-0.now c.if-mark.false (sym c.in-Some.ensures)

@@ -1,10 +1,11 @@
 use Rattle.miette_snippet_rules.specs.rules.Frames.{other_start}
-use Rattle.miette_drawing.specs.steps.Sheets.{settings, gutter_below}
+use Rattle.miette_drawing.specs.steps.LineContexts.{settings, gutter_below}
 use Rattle.miette_drawing.proofs.Texting.{parts_then}
 use Rattle.miette_drawing.proofs.texts.push_before_marks.Goals as goal
 
 pub returns : goal.returns
 returns g c =
-    parts_then (other_start (settings c.args.sheet.now) c.args.sheet.now.number_width) (gutter_below c.args.sheet.now)
+    parts_then (other_start (settings c.args.context.now) c.args.context.now.frame.number_width)
+    (gutter_below c.args.context.now)
     c.args.page.now c.push_other_start.new.page c.push_other_gutter.new.page c.in_ok-push_other_start.ensures
     c.in_ok-push_other_gutter.ensures

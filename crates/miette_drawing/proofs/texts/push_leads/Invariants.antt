@@ -3,12 +3,12 @@ use Rattle.std.proofs.Common.{◌≡◌, map, drop}
 use Rattle.miette_page.specs.views.Tokens.{row_tokens}
 use Rattle.miette_snippet_rules.specs.rules.Drawing.{lead_runs}
 use Rattle.miette_cuts.specs.views.Marks.{mark_of}
-use Rattle.miette_drawing.specs.steps.Sheets.{settings}
+use Rattle.miette_drawing.specs.steps.LineContexts.{settings}
 use Rattle.miette_drawing.proofs.texts.push_leads.Given as goal
 
 abbrev pub invariant-loop-mark : goal.invariant-loop-mark
 invariant-loop-mark g l =
-    l.page ⊕ row_tokens (lead_runs (settings l.fn.sheet).width (settings l.fn.sheet).characters l.reached
-    (map (mark_of l.fn.sheet.labels.now) (drop l.mark-index l.earlier)) l.fn.column)
-    ≡ l.fn.page ⊕ row_tokens (lead_runs (settings l.fn.sheet).width (settings l.fn.sheet).characters 0
-    (map (mark_of l.fn.sheet.labels.now) l.earlier) l.fn.column)
+    l.page ⊕ row_tokens (lead_runs (settings l.fn.context) l.reached
+    (map (mark_of l.fn.context.labels.now) (drop l.mark-index l.earlier)) l.fn.column)
+    ≡ l.fn.page ⊕ row_tokens (lead_runs (settings l.fn.context) 0
+    (map (mark_of l.fn.context.labels.now) l.earlier) l.fn.column)

@@ -4,14 +4,14 @@ use Rattle.std.specs.Option.{option_copied}
 use Rattle.miette_labels.specs.rules.Labels.{parts_of}
 use Rattle.miette_snippet_rules.specs.rules.Drawing.{beside}
 use Rattle.miette_cuts.specs.views.Marks.{mark_of}
-use Rattle.miette_drawing.specs.steps.Sheets.{settings, text_line}
+use Rattle.miette_drawing.specs.steps.LineContexts.{settings, text_line}
 use Rattle.miette_drawing.proofs.Texting.{part_more}
 use Rattle.miette_drawing.proofs.texts.push_more_parts.Goals as goal
 
 pub loop-left-preserved : goal.loop-left-preserved
 loop-left-preserved g c =
-    part_more (text_line c.args.sheet.now (map (mark_of c.args.sheet.now.labels.now) c.args.earlier.now)
-    (mark_of c.args.sheet.now.labels.now c.args.mark.now) (beside (settings c.args.sheet.now).characters))
+    part_more (text_line c.args.context.now (map (mark_of c.args.context.now.labels.now) c.args.earlier.now)
+    (mark_of c.args.context.now.labels.now c.args.mark.now) (beside (settings c.args.context.now).theme.characters))
     (parts_of (option_copied c.loop-left.left)) (parts_of (option_copied c.first_part.result.1))
     (chars c.first_part.result.0.now)
     c.loop-left.page c.push_text_row.new.page _

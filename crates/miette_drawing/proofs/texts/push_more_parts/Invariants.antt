@@ -6,16 +6,16 @@ use Rattle.miette_page.specs.views.Tokens.{rows_tokens}
 use Rattle.miette_labels.specs.rules.Labels.{cut_at_lf, parts_of}
 use Rattle.miette_snippet_rules.specs.rules.Drawing.{beside}
 use Rattle.miette_cuts.specs.views.Marks.{mark_of}
-use Rattle.miette_drawing.specs.steps.Sheets.{settings, text_line}
+use Rattle.miette_drawing.specs.steps.LineContexts.{settings, text_line}
 use Rattle.miette_drawing.proofs.texts.push_more_parts.Given as goal
 
 abbrev pub invariant-loop-left : goal.invariant-loop-left
 invariant-loop-left g l =
-    l.page ⊕ rows_tokens (map (text_line l.fn.sheet (map (mark_of l.fn.sheet.labels.now) l.fn.earlier)
-    (mark_of l.fn.sheet.labels.now l.fn.mark) (beside (settings l.fn.sheet).characters))
+    l.page ⊕ rows_tokens (map (text_line l.fn.context (map (mark_of l.fn.context.labels.now) l.fn.earlier)
+    (mark_of l.fn.context.labels.now l.fn.mark) (beside (settings l.fn.context).theme.characters))
     (parts_of (option_copied l.left)))
-    ≡ l.fn.page ⊕ rows_tokens (map (text_line l.fn.sheet (map (mark_of l.fn.sheet.labels.now) l.fn.earlier)
-    (mark_of l.fn.sheet.labels.now l.fn.mark) (beside (settings l.fn.sheet).characters))
+    ≡ l.fn.page ⊕ rows_tokens (map (text_line l.fn.context (map (mark_of l.fn.context.labels.now) l.fn.earlier)
+    (mark_of l.fn.context.labels.now l.fn.mark) (beside (settings l.fn.context).theme.characters))
     (cut_at_lf (chars l.fn.text)))
 
 abbrev pub decreases-loop-left : goal.decreases-loop-left

@@ -3,9 +3,10 @@ use Rattle.miette_cells.specs.rules.Widths.{width_of}
 use Rattle.miette_drawing.proofs.Texting.{start_put}
 use Rattle.miette_drawing.proofs.texts.push_other_start.Goals as goal
 use Rattle.miette_style.specs.rules.Themes.{characters_of}
+use Rattle.miette_drawing.specs.steps.LineContexts.{settings}
 
 pub returns : goal.returns
 returns g c =
-    start_put width_of (characters_of c.args.sheet.now.theme.now.characters) c.in-Some.columns
-    (c.args.sheet.now.number_width + 2) c.args.page.now c.push_blank.new.self c.push_line.new.self
+    start_put (settings c.args.context.now) c.in-Some.columns
+    (c.args.context.now.frame.number_width + 2) c.args.page.now c.push_blank.new.self c.push_line.new.self
     (search rules) c.in_ok-push_blank.ensures c.in_ok-push_line.ensures

@@ -4,16 +4,16 @@ use Rattle.miette_page.specs.views.Tokens.{rows_tokens}
 use Rattle.miette_snippet_rules.specs.rules.Drawing.{rows_below}
 use Rattle.miette_snippet_rules.specs.rules.SnippetLayout.{before_each}
 use Rattle.miette_cuts.specs.views.Marks.{mark_of}
-use Rattle.miette_drawing.specs.steps.Sheets.{settings, before_marks}
+use Rattle.miette_drawing.specs.steps.LineContexts.{settings, before_marks}
 use Rattle.miette_drawing.proofs.texts.push_texts.Given as goal
 
 abbrev pub invariant-loop-place : goal.invariant-loop-place
 invariant-loop-place g l = record {
   within : l.place ≤ length l.marks;
-  told : l.page ≡ l.fn.page ⊕ rows_tokens (before_each (before_marks l.fn.sheet)
-      (rows_below (settings l.fn.sheet).width (settings l.fn.sheet).characters
-      (map (mark_of l.fn.sheet.labels.now) (take l.place l.marks))
-      (map (mark_of l.fn.sheet.labels.now) (drop l.place l.marks))));
+  told : l.page ≡ l.fn.page ⊕ rows_tokens (before_each (before_marks l.fn.context)
+      (rows_below (settings l.fn.context)
+      (map (mark_of l.fn.context.labels.now) (take l.place l.marks))
+      (map (mark_of l.fn.context.labels.now) (drop l.place l.marks))));
 }
 
 abbrev pub decreases-loop-place : goal.decreases-loop-place

@@ -1,6 +1,6 @@
 use Rattle.std.proofs.Common.{◌≡◌, ◌++◌, length, map, string_bytes}
 use Rattle.miette_graphical.specs.rules.Text.{cause_texts}
-use Rattle.miette_graphical.specs.steps.SettingsView.{settings_of}
+use Rattle.miette_graphical.specs.views.SettingsView.{settings_of}
 use Rattle.miette_graphical.proofs.diagnostic.push_cause_texts.Given as goal
 
 abbrev pub decreases-loop-rest : goal.decreases-loop-rest

@@ -6,7 +6,7 @@ use Rattle.miette_graphical.proofs.indents.help_indent.Goals as goal
 
 pub returns : goal.returns
 returns c =
-    let style = c.args.settings.theme.now.styles.help in
+    let style = c.args.settings.own.now.theme.styles.help in
     c.in_ok-push_run.ensures.text
     ∙ ap₂ (λ o t. spell o ++ printed_run style t) c.new-runs.ensures help_text
     ∙ sym (append-nil (printed_run style (codes "  help: ")))

@@ -1,7 +1,7 @@
 use Rattle.std.proofs.Common.{◌++◌, ◌∷◌, [], ◌∙◌, ap}
 use Rattle.std.specs.Prelude.{chars}
 use Rattle.miette_runs.specs.rules.Runs.{print}
-use Rattle.miette_graphical.specs.steps.SettingsView.{settings_of}
+use Rattle.miette_graphical.specs.views.SettingsView.{settings_of}
 use Rattle.miette_graphical.specs.rules.Indents.{bar_indent, wrapped_behind}
 use Rattle.miette_graphical.proofs.indents.push_message.Goals as goal
 

@@ -1,7 +1,8 @@
 use Rattle.std.proofs.Common.{rules, ◌≡◌, ◌++◌, ◌∷◌, [], ◌∙◌, ap, sym, refl, true, ◌-◌, append_assoc}
 use Rattle.std.specs.Prelude.{chars}
+use Rattle.miette_text.specs.views.Plans.{cuts_hyphens}
 use Rattle.miette_runs.specs.rules.Sequences.{spell}
-use Rattle.miette_graphical.specs.steps.SettingsView.{settings_of}
+use Rattle.miette_graphical.specs.views.SettingsView.{settings_of}
 use Rattle.miette_graphical.specs.rules.Indents.{wrapped_behind}
 use Rattle.miette_graphical.proofs.indents.push_row.Goals as goal
 
@@ -14,8 +15,8 @@ returns-clause-fits c = λ h further.
       room = s.width - 2;
       first = spell c.args.first.now;
       further = further;
-      breaks = s.breaks;
-      wraps = s.wraps;
-      hyphens = s.hyphens;
+      breaks = s.wrapping.break_words;
+      wraps = s.wrapping.wrap_lines;
+      hyphens = cuts_hyphens s.wrapping.word_splitter;
     }) refl (sym c.saturating_sub-width.ensures) refl)
     ∙ append_assoc c.args.out.now (wrapped_behind s (spell c.args.first.now) further (chars c.args.text.now)) (10 ∷ [])

@@ -46,5 +46,6 @@ returns-clause-only c = λ s blank t bytes settings tree printed reads.
 pub returns-clause-themes : goal.returns-clause-themes
 returns-clause-themes c = λ s blank t bytes others settings tree printed reads again.
     returns-clause-only c s blank t bytes settings tree printed reads
-    ∙ sym (returns-clause-only c (record s { styles = again.0 }) again.1 t others settings tree again.2
+    ∙ sym (returns-clause-only c (record s { theme = record s.theme { styles = again.0 } }) again.1 t others settings
+    tree again.2
     (ap all_read (restyled-printed s again.0 t) ∙ reads))

@@ -55,14 +55,20 @@ if_is P None f = tt
 if_is P (Some x) f = f x refl
 
 -- the rows with labels folded to so many lines, in which nothing is left out
-short_rows : (limit : ℕ) (s : Settings) (source : Source) (labels : List Label) (answers : Answers) → s.label_lines
+short_rows : (limit : ℕ) (s : Settings) (source : Source) (labels : List Label) (answers : Answers)
+    → s.layout.label_lines
     ≡ Some limit →
-    snippet_rows (record (snippet_settings s) { label_lines = Some limit }) source labels answers
-    ≡ snippet_rows (record (snippet_settings s) { label_lines = None }) source labels answers →
-    drawn_rows s (Some source) labels answers ≡ drawn_rows (record s { label_lines = None }) (Some source) labels
+    snippet_rows (record (snippet_settings s) {
+      layout = record (snippet_settings s).layout { label_lines = Some limit };
+    }) source labels answers
+    ≡ snippet_rows (record (snippet_settings s) { layout = record (snippet_settings s).layout { label_lines = None } })
+    source labels answers →
+    drawn_rows s (Some source) labels answers ≡ drawn_rows
+    (record s { layout = record s.layout { label_lines = None } }) (Some source) labels
     answers
 short_rows limit s source labels answers e h =
-    ap (λ o. shown_rows (snippet_rows (record (snippet_settings s) { label_lines = o }) source labels answers)) e
+    ap (λ o. shown_rows (snippet_rows (record (snippet_settings s)
+    { layout = record (snippet_settings s).layout { label_lines = o } }) source labels answers)) e
     ∙ ap shown_rows h
 
 pub returns-clause-lines : goal.returns-clause-lines
@@ -72,7 +78,7 @@ returns-clause-lines c = λ s t. each (LinesAreShown s) (λ p.
     let maximal = c.ranges_are_maximal.ensures (shown_lines s source labels) in record {
       rows = λ pieces. ap (λ rows. shown_rows rows) (c.snippets_draw_ranges.ensures (snippet_settings s) source labels
           (pieces_listed pieces) context accepted (none_listed pieces));
-      groups = c.groups_are_ranges.ensures s.context source [] labels context tt;
+      groups = c.groups_are_ranges.ensures s.layout.context_lines source [] labels context tt;
       whole = maximal.0;
       consecutive = maximal.1;
       parted = maximal.2;
@@ -95,7 +101,7 @@ returns-clause-cuts c = λ s t. each (CutsAreExact s) (λ p.
     let cells = cells_under s source k in
     let own = line_marks (line_of source k) cells (labels_under s source labels k) in
     let whole : cut ≡ stretches (is_near limit (ends own)) false cells =
-    cut_whole lay.line_columns limit own cells cut some is in record {
+    cut_whole lay.layout.line_columns limit own cells cut some is in record {
       cells = ap by_stretch whole ∙ c.cut_lines_are_parted.ensures.cells (is_near limit (ends own)) cells;
       parted = subst AreStretches (sym whole) (c.cut_lines_are_parted.ensures.parted (is_near limit (ends own)) cells);
       printed = λ pieces. ap (λ o. glyphs_of (shown_runs o pieces cells)) is
@@ -109,7 +115,8 @@ returns-clause-fits c = λ s t. each (LinesThatFitStay s) (λ p.
     let labels = given_labels p.meaning.labels in
     if_some _ (λ source. each (SnippetStays s source labels)
     (λ group spreads pieces fit. c.lines_that_fit_stay.ensures (group_settings s labels) spreads
-    (drawn_labels s source labels) source.bytes (contents (group_settings s labels).context source group) pieces
+    (drawn_labels s source labels) source.bytes (contents (group_settings s labels).layout.context_lines source group)
+    pieces
     fit)
     (groups_of s source labels)) p.source) (diagnostics_of s t)
 
@@ -118,7 +125,7 @@ returns-clause-texts c = λ s t. each (TextsHang s) (λ p.
     let labels = given_labels p.meaning.labels in
     if_some _ (λ source narrow. each (SnippetHangs s source labels)
     (λ group pieces. c.texts_hang.ensures (group_settings s labels) (drawn_labels s source labels) source.bytes
-    (contents (group_settings s labels).context source group) pieces (is_narrow s.characters narrow))
+    (contents (group_settings s labels).layout.context_lines source group) pieces (is_narrow s.theme.characters narrow))
     (groups_of s source labels)) p.source) (diagnostics_of s t)
 
 pub returns-clause-ends : goal.returns-clause-ends
@@ -133,10 +140,12 @@ returns-clause-ends c = λ s t. each (EndsAreDrawn s) (λ p.
 pub returns-clause-folds : goal.returns-clause-folds
 returns-clause-folds c = λ s t. each (LabelsAreFolded s) (λ p.
     let labels = given_labels p.meaning.labels in
-    if_some _ (λ source. if_is _ s.label_lines (λ limit is reads accepted context. record {
-      ends = c.ranges_end_kept.ensures (Some limit) s.context source.bytes labels context;
-      inside = λ k. c.left_out_lines_are_inside.ensures.inside _ _ limit s.context source.bytes labels k context;
-      same = λ k. c.left_out_lines_are_inside.ensures.same _ _ limit s.context source.bytes labels k context;
+    if_some _ (λ source. if_is _ s.layout.label_lines (λ limit is reads accepted context. record {
+      ends = c.ranges_end_kept.ensures (Some limit) s.layout.context_lines source.bytes labels context;
+      inside = λ k. c.left_out_lines_are_inside.ensures.inside _ _ limit s.layout.context_lines source.bytes labels k
+          context;
+      same = λ k. c.left_out_lines_are_inside.ensures.same _ _ limit s.layout.context_lines source.bytes labels k
+          context;
       short = λ fit pieces. short_rows limit s source labels (pieces_listed pieces) is
           (c.short_labels_stay.ensures (snippet_settings s) limit source labels (pieces_listed pieces) context accepted
           (none_listed pieces) fit);

@@ -8,7 +8,7 @@ pub returns-clause-clean : goal.returns-clause-clean
 returns-clause-clean c = λ characters shipped. shipped_clean characters shipped
 
 pub returns-clause-settings : goal.returns-clause-settings
-returns-clause-settings c = λ characters styles shipped. default_clean characters styles shipped
+returns-clause-settings c = λ theme shipped. default_clean theme shipped
 
 pub returns-clause-terminal : goal.returns-clause-terminal
 returns-clause-terminal c = λ terminal. terminal_shipped terminal

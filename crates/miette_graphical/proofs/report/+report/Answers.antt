@@ -17,7 +17,7 @@ use Rattle.miette_graphical.specs.rules.Snippets.{drawn_rows}
 use Rattle.miette_graphical.specs.rules.Indents.{narrow_settings}
 use Rattle.miette_graphical.specs.rules.DiagnosticText.{header, help_text, title_text, under_arrow}
 use Rattle.miette_graphical.specs.rules.Text.{are_last, ends_there}
-use Rattle.miette_graphical.specs.steps.SettingsView.{settings_of}
+use Rattle.miette_graphical.specs.views.SettingsView.{settings_of}
 use Rattle.miette_graphical.proofs.Remaining.{CausesRemain, RelatedRemain, all_remain, cause_printed, causes_appended}
 use Rattle.miette_graphical.proofs.Remaining.{related_printed, related_appended, first_falls}
 use Rattle.miette_graphical.proofs.Sizes.{tree_size, cause_size, trees_size, related_falls}
@@ -72,7 +72,7 @@ pub push_causes-returns-in_err-push_one_cause-clause-refused :
 push_causes-returns-in_err-push_one_cause-clause-refused g t c = λ h.
     let inherited = option_map (shown_source g.S.SourceCode.source) c.args.inherited in
     let cause = tree_of g.D.Diagnostic.meaning g.S.SourceCode.source c.in-Diagnostic.next.now in
-    let nested = c.args.settings.nested in
+    let nested = c.args.settings.own.now.related_as_nested in
     let one : all_read (printed_inner nested (effective (source_of cause) inherited) cause) ≡ false =
     c.in_err-push_one_cause.ensures.refused (search rules) in
     c.loop-next.invariant.0.fails (subst (λ x. all_read (printed_causes nested inherited x) ≡ false)
@@ -140,7 +140,8 @@ inner_text-returns-clause-ok g t c =
 
 pub push_below-returns-in_err-push_rows-clause-refused : goal.push_below-returns-in_err-push_rows-clause-refused
 push_below-returns-in_err-push_rows-clause-refused g t c = λ h.
-    inner_rows_fail c.args.settings.nested (option_map (shown_source g.S.SourceCode.source) c.args.source)
+    inner_rows_fail c.args.settings.own.now.related_as_nested
+    (option_map (shown_source g.S.SourceCode.source) c.args.source)
     (tree_of g.D.Diagnostic.meaning g.S.SourceCode.source c.args.report.now)
     (c.in_err-push_rows.ensures.refused (search rules))
 
@@ -148,11 +149,12 @@ pub push_below-returns-clause-refused : goal.push_below-returns-clause-refused
 push_below-returns-clause-refused g t c = λ h.
     let source = option_map (shown_source g.S.SourceCode.source) c.args.source in
     let value = tree_of g.D.Diagnostic.meaning g.S.SourceCode.source c.args.report.now in
-    let related : all_read (printed_related c.args.settings.nested source
+    let related : all_read (printed_related c.args.settings.own.now.related_as_nested source
     (trees (map (tree_of g.D.Diagnostic.meaning g.S.SourceCode.source) c.related-related.result.now))) ≡ false =
     c.push_related.ensures.refused h in
-    inner_related_fail c.args.settings.nested source value
-    (subst (λ r. all_read (printed_related c.args.settings.nested source r) ≡ false) c.related-related.ensures
+    inner_related_fail c.args.settings.own.now.related_as_nested source value
+    (subst (λ r. all_read (printed_related c.args.settings.own.now.related_as_nested source r) ≡ false)
+    c.related-related.ensures
     related)
 
 pub push_below-returns-clause-ok : goal.push_below-returns-clause-ok
@@ -185,13 +187,15 @@ push_below-returns-clause-ok g t c =
 
 pub push_sibling-returns-in_err-push_causes-clause-refused : goal.push_sibling-returns-in_err-push_causes-clause-refused
 push_sibling-returns-in_err-push_causes-clause-refused g t c = λ h.
-    sibling_causes_fail c.args.settings.nested (option_map (shown_source g.S.SourceCode.source) c.args.source)
+    sibling_causes_fail c.args.settings.own.now.related_as_nested
+    (option_map (shown_source g.S.SourceCode.source) c.args.source)
     (tree_of g.D.Diagnostic.meaning g.S.SourceCode.source c.args.report.now)
     (c.in_err-push_causes.ensures.refused (search rules))
 
 pub push_sibling-returns-clause-refused : goal.push_sibling-returns-clause-refused
 push_sibling-returns-clause-refused g t c = λ h.
-    sibling_below_fails c.args.settings.nested (option_map (shown_source g.S.SourceCode.source) c.args.source)
+    sibling_below_fails c.args.settings.own.now.related_as_nested
+    (option_map (shown_source g.S.SourceCode.source) c.args.source)
     (tree_of g.D.Diagnostic.meaning g.S.SourceCode.source c.args.report.now)
     (c.push_below.ensures.refused h)
 
@@ -296,7 +300,7 @@ pub push_related-returns-in_err-push_one_related-clause-refused :
 push_related-returns-in_err-push_one_related-clause-refused g t c = λ h.
     let inherited = option_map (shown_source g.S.SourceCode.source) c.args.inherited in
     let value = tree_of g.D.Diagnostic.meaning g.S.SourceCode.source in
-    let nested = c.args.settings.nested in
+    let nested = c.args.settings.own.now.related_as_nested in
     let rs = c.loop-rest.rest.now in
     let more = take (length rs - 1) (drop 1 rs) in
     let item = c.report-item.result in

@@ -4,7 +4,7 @@ use Rattle.miette_tree.specs.views.Owned.{shown_source}
 use Rattle.miette_tree.specs.rules.Tree.{trees, cause_of, related_of}
 use Rattle.miette_tree.specs.views.Report.{tree_of}
 use Rattle.miette_graphical.specs.rules.Snippets.{drawn_rows}
-use Rattle.miette_graphical.specs.steps.SettingsView.{settings_of}
+use Rattle.miette_graphical.specs.views.SettingsView.{settings_of}
 use Rattle.miette_graphical.proofs.Remaining.{CausesRemain, RelatedRemain}
 use Rattle.miette_graphical.proofs.Sizes.{tree_size, cause_size, trees_size}
 use Rattle.miette_graphical.proofs.report.+report.Given as goal

@@ -7,7 +7,7 @@ use Rattle.miette_tree.specs.views.Owned.{shown_source}
 use Rattle.miette_layout.specs.views.Outcomes.{MayGive, RefusesWith}
 use Rattle.miette_snippet_rules.specs.rules.Highlighting.{AreCallsOn, leaves_plain}
 use Rattle.miette_graphical.specs.rules.Snippets.{snippet_settings}
-use Rattle.miette_graphical.specs.steps.SettingsView.{settings_of}
+use Rattle.miette_graphical.specs.views.SettingsView.{settings_of}
 use Rattle.miette_graphical.proofs.DrawnRows.{drawn_page, refused_page}
 use Rattle.miette_graphical.proofs.report.push_drawn.Goals as goal
 

@@ -7,7 +7,7 @@ use Rattle.miette_tree.specs.rules.Tree.{head}
 use Rattle.miette_graphical.specs.steps.PartTexts.{IsDrawn}
 use Rattle.miette_tree.specs.rules.DiagnosticParts.{given_labels}
 use Rattle.miette_graphical.specs.rules.Snippets.{drawn_rows}
-use Rattle.miette_graphical.specs.steps.SettingsView.{settings_of}
+use Rattle.miette_graphical.specs.views.SettingsView.{settings_of}
 use Rattle.miette_graphical.proofs.DrawnRows.{drawn_unlabelled, empty_list}
 use Rattle.miette_graphical.proofs.Steps.{nothing_behind}
 use Rattle.miette_graphical.proofs.report.push_shown.Goals as goal

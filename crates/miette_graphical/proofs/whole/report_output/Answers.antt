@@ -10,7 +10,7 @@ use Rattle.miette_graphical.specs.steps.PartTexts.{IsBelow}
 use Rattle.miette_tree.specs.views.Handler.{AppendsOne}
 use Rattle.miette_graphical.specs.rules.PrintedDiagnostics.{all_read}
 use Rattle.miette_graphical.specs.rules.Snippets.{drawn_rows}
-use Rattle.miette_graphical.specs.steps.SettingsView.{settings_of}
+use Rattle.miette_graphical.specs.views.SettingsView.{settings_of}
 use Rattle.miette_graphical.proofs.Steps.{report_whole, root_causes_fail, root_below_fails}
 use Rattle.miette_graphical.proofs.whole.report_output.Goals as goal
 use Rattle.miette_graphical.specs.steps.PrintedParts.{printed_inner}
@@ -23,11 +23,12 @@ returns-in_err-push_root_causes-clause-refused g c = λ h.
 pub returns-in_err-push_below-clause-refused : goal.returns-in_err-push_below-clause-refused
 returns-in_err-push_below-clause-refused g c = λ h.
     let value = tree_of g.D.Diagnostic.meaning g.S.SourceCode.source c.args.report.now in
-    let below : all_read (printed_inner c.args.settings.nested
+    let below : all_read (printed_inner c.args.settings.own.now.related_as_nested
     (option_map (shown_source g.S.SourceCode.source) c.source_code.result) value) ≡ false =
     c.in_err-push_below.ensures.refused (search rules) in
     root_below_fails (settings_of c.args.settings) value (subst
-    (λ o. all_read (printed_inner c.args.settings.nested o value) ≡ false) c.source_code.ensures below)
+    (λ o. all_read (printed_inner c.args.settings.own.now.related_as_nested o value) ≡ false) c.source_code.ensures
+    below)
 
 pub returns-clause-ok : goal.returns-clause-ok
 returns-clause-ok g c =

@@ -1,5 +1,5 @@
 use Rattle.std.proofs.Common.{ap, map, ◌∙◌}
-use Rattle.miette_snippet_rules.specs.views.ThemeSettings.{settings_of}
+use Rattle.miette_snippet_rules.specs.views.SettingsView.{settings_of}
 use Rattle.miette_labels.specs.views.GivenLabels.{label_at}
 use Rattle.miette_snippet_rules.specs.rules.Highlighting.{leaves_plain, follows}
 use Rattle.miette_highlight.specs.rules.HighlighterCalls.{Leads}
@@ -8,7 +8,7 @@ use Rattle.miette_layout.proofs.snippets.all_snippets.Goals as goal
 
 pub returns-clause-gives : goal.returns-clause-gives
 returns-clause-gives g c =
-    gives_refused (settings_of c.args.look.now.theme.now c.args.look.now.options)
+    gives_refused (settings_of c.args.settings.now)
     (g.S.SourceCode.source c.args.source.now) c.args.labels.now
     (map (λ turn. label_at c.args.labels.now turn.index) c.deref.result.now)
     (leaves_plain g.H.Highlighter.is_blank c.args.highlighter.now)

@@ -10,7 +10,7 @@ use Rattle.miette_folds.specs.views.Spreads.{spread_of}
 use Rattle.miette_folds.specs.views.ReadSpreads.{HasLines}
 use Rattle.miette_folds.proofs.Spreading.{spreads_are}
 use Rattle.miette_snippet_rules.specs.rules.SnippetLayout.{settings_around}
-use Rattle.miette_snippet_rules.specs.views.ThemeSettings.{settings_of}
+use Rattle.miette_snippet_rules.specs.views.SettingsView.{settings_of}
 use Rattle.miette_labels.specs.views.GivenLabels.{drawn_of}
 use Rattle.miette_snippet_rules.specs.rules.Highlighting.{leaves_plain, follows}
 use Rattle.miette_drawing.specs.views.SnippetRows.{PutsRows, lent_snippet}
@@ -28,17 +28,17 @@ use Rattle.miette_layout.proofs.Progressing.{gives_unread}
 use Rattle.miette_layout.proofs.snippets.read_snippets.Goals as goal
 
 pub near-requires : goal.near-requires
-near-requires g c = reads_rise c.args.look.now.options.context_lines (g.S.SourceCode.source c.args.source.now)
+near-requires g c = reads_rise c.args.settings.now.layout.now.context_lines (g.S.SourceCode.source c.args.source.now)
     c.args.labels.now c.args.reads.now c.requires.order c.requires.each
 
 pub returns-then-is_unread-clause-gives : goal.returns-then-is_unread-clause-gives
 returns-then-is_unread-clause-gives g c =
-    let grouped : AreGroups c.args.look.now.options.context_lines (g.S.SourceCode.source c.args.source.now)
+    let grouped : AreGroups c.args.settings.now.layout.now.context_lines (g.S.SourceCode.source c.args.source.now)
     (in_order c.args.labels.now) c.deref-group-items.result.now =
-    are_grouped c.args.look.now.options.context_lines (g.S.SourceCode.source c.args.source.now)
+    are_grouped c.args.settings.now.layout.now.context_lines (g.S.SourceCode.source c.args.source.now)
     (in_order c.args.labels.now) _ c.in-Some.groups.items c.deref-group-items.result.now c.in_ok-groups.ensures
     (ap (option_map (λ v. v.items)) c.in-Some.is) c.deref-group-items.ensures.value in
-    gives_none (settings_of c.args.look.now.theme.now c.args.look.now.options) (g.S.SourceCode.source c.args.source.now)
+    gives_none (settings_of c.args.settings.now) (g.S.SourceCode.source c.args.source.now)
     c.args.labels.now (leaves_plain g.H.Highlighter.is_blank c.args.highlighter.now) _ c.some_own-own.result
     c.args.reads.now c.deref-group-items.result.now c.loop-group.group-index c.group-item.result.span
     c.in_ok-place.place c.args.page
@@ -48,16 +48,16 @@ returns-then-is_unread-clause-gives g c =
 
 pub returns-in_default-clause-gives : goal.returns-in_default-clause-gives
 returns-in_default-clause-gives g c =
-    gives_unread (settings_of c.args.look.now.theme.now c.args.look.now.options)
+    gives_unread (settings_of c.args.settings.now)
     (g.S.SourceCode.source c.args.source.now) c.args.labels.now
     (leaves_plain g.H.Highlighter.is_blank c.args.highlighter.now) _ c.args.reads.now c.args.page c.requires.order
     c.requires.each
-    (none_grouped c.args.look.now.options.context_lines (g.S.SourceCode.source c.args.source.now)
+    (none_grouped c.args.settings.now.layout.now.context_lines (g.S.SourceCode.source c.args.source.now)
     (in_order c.args.labels.now) _ c.in_ok-groups.ensures (ap (option_map (λ v. v.items)) c.in_default.is))
 
 pub push_snippet-requires-clause-sorted : goal.push_snippet-requires-clause-sorted
 push_snippet-requires-clause-sorted g c =
-    placed_rise (settings_of c.args.look.now.theme.now c.args.look.now.options)
+    placed_rise (settings_of c.args.settings.now)
     (g.S.SourceCode.source c.args.source.now) c.args.labels.now c.args.reads.now c.in_ok-end.end c.deref-2.result.now
     c.requires.order c.requires.each c.in_ok-end.ensures
     (c.deref-2.ensures.value ∙ c.in_ok-placed.ensures ∙ ap (λ styles. placed_from c.in_ok-end.end styles 0
@@ -65,15 +65,15 @@ push_snippet-requires-clause-sorted g c =
 
 pub push_snippet-requires-clause-numbered : goal.push_snippet-requires-clause-numbered
 push_snippet-requires-clause-numbered g c =
-    let grouped : AreGroups c.args.look.now.options.context_lines (g.S.SourceCode.source c.args.source.now)
+    let grouped : AreGroups c.args.settings.now.layout.now.context_lines (g.S.SourceCode.source c.args.source.now)
     (in_order c.args.labels.now) c.deref-group-items.result.now =
-    are_grouped c.args.look.now.options.context_lines (g.S.SourceCode.source c.args.source.now)
+    are_grouped c.args.settings.now.layout.now.context_lines (g.S.SourceCode.source c.args.source.now)
     (in_order c.args.labels.now) _ c.in-Some.groups.items c.deref-group-items.result.now c.in_ok-groups.ensures
     (ap (option_map (λ v. v.items)) c.in-Some.is) c.deref-group-items.ensures.value in
-    are_numbered (group_context c.args.look.now.options.context_lines (in_order c.args.labels.now))
+    are_numbered (group_context c.args.settings.now.layout.now.context_lines (in_order c.args.labels.now))
     (g.S.SourceCode.source c.args.source.now) c.group-item.result.span c.group-item.result.contents
     c.deref-3.result.now
-    (groups_lent c.args.look.now.options.context_lines (g.S.SourceCode.source c.args.source.now)
+    (groups_lent c.args.settings.now.layout.now.context_lines (g.S.SourceCode.source c.args.source.now)
     (in_order c.args.labels.now) c.deref-group-items.result.now c.loop-group.group-index c.group-item.result grouped
     c.loop-group-test.true c.group-item.is)
     (subst (λ (xs : List MadeSpread). All (HasLines (g.S.SourceCode.source c.args.source.now).bytes) xs)
@@ -82,9 +82,10 @@ push_snippet-requires-clause-numbered g c =
 
 pub loop-group-init : goal.loop-group-init
 loop-group-init g c = record {
-  drawn = none_drawn (settings_around (settings_of c.args.look.now.theme.now c.args.look.now.options)
-      (in_order c.args.labels.now)) (spreads_of c.args.look.now.options.label_lines
-      c.args.look.now.options.context_lines (g.S.SourceCode.source c.args.source.now) (in_order c.args.labels.now))
+  drawn = none_drawn (settings_around (settings_of c.args.settings.now)
+      (in_order c.args.labels.now)) (spreads_of c.args.settings.now.layout.now.label_lines
+      c.args.settings.now.layout.now.context_lines (g.S.SourceCode.source c.args.source.now)
+      (in_order c.args.labels.now))
       (g.S.SourceCode.source c.args.source.now) c.args.labels.now
       (leaves_plain g.H.Highlighter.is_blank c.args.highlighter.now)
       (follows g.H.Highlighter.may_follow c.args.highlighter.now) c.deref-group-items.result.now c.args.page;
@@ -94,57 +95,59 @@ loop-group-init g c = record {
 
 pub loop-group-preserved : goal.loop-group-preserved
 loop-group-preserved g c =
-    let grouped : AreGroups c.args.look.now.options.context_lines (g.S.SourceCode.source c.args.source.now)
+    let grouped : AreGroups c.args.settings.now.layout.now.context_lines (g.S.SourceCode.source c.args.source.now)
     (in_order c.args.labels.now) c.deref-group-items.result.now =
-    are_grouped c.args.look.now.options.context_lines (g.S.SourceCode.source c.args.source.now)
+    are_grouped c.args.settings.now.layout.now.context_lines (g.S.SourceCode.source c.args.source.now)
     (in_order c.args.labels.now) _ c.in-Some.groups.items c.deref-group-items.result.now c.in_ok-groups.ensures
     (ap (option_map (λ v. v.items)) c.in-Some.is) c.deref-group-items.ensures.value in
     let blank = leaves_plain g.H.Highlighter.is_blank c.args.highlighter.now in
     let was : List Call → Type 0 = follows g.H.Highlighter.may_follow c.loop-group.highlighter in
     let now : List Call → Type 0 = follows g.H.Highlighter.may_follow c.push_snippet.new.highlighter in
     let happen : List Call → Type 0 = λ calls. Leads was (restarted c.group-item.result.contents ∷ calls) now in
-    let folded : map spread_of c.deref-3.result.now ≡ (spreads_of c.args.look.now.options.label_lines
-    c.args.look.now.options.context_lines (g.S.SourceCode.source c.args.source.now) (in_order c.args.labels.now)) =
+    let folded : map spread_of c.deref-3.result.now ≡ (spreads_of c.args.settings.now.layout.now.label_lines
+    c.args.settings.now.layout.now.context_lines (g.S.SourceCode.source c.args.source.now) (in_order c.args.labels.now))
+    =
     ap (map spread_of) c.deref-3.ensures.value ∙ c.in_ok-spreads.ensures.parts
-    ∙ spreads_are c.args.look.now.options.label_lines c.args.look.now.options.context_lines
+    ∙ spreads_are c.args.settings.now.layout.now.label_lines c.args.settings.now.layout.now.context_lines
     (g.S.SourceCode.source c.args.source.now) c.args.labels.now c.args.reads.now c.requires.order c.requires.each in
     let given = subst (λ xs. PutsRows (leaves_plain g.H.Highlighter.is_blank c.loop-group.highlighter) happen
     (lent_texts c.group-item.result.contents) (lent_snippet
-    (settings_of c.args.look.now.theme.now c.args.look.now.options) xs
+    (settings_of c.args.settings.now) xs
     (map (drawn_of c.args.labels.now) c.deref-2.result.now) c.group-item.result.contents
     (option_map place_at c.begins.result)) c.loop-group.page c.push_snippet.new.page)
     folded c.in_ok-push_snippet.ensures.rows in
     let rows = subst (λ b. PutsRows b happen (lent_texts c.group-item.result.contents)
-    (lent_snippet (settings_of c.args.look.now.theme.now c.args.look.now.options)
-    (spreads_of c.args.look.now.options.label_lines c.args.look.now.options.context_lines
+    (lent_snippet (settings_of c.args.settings.now)
+    (spreads_of c.args.settings.now.layout.now.label_lines c.args.settings.now.layout.now.context_lines
     (g.S.SourceCode.source c.args.source.now) (in_order c.args.labels.now))
     (map (drawn_of c.args.labels.now) c.deref-2.result.now) c.group-item.result.contents
     (option_map place_at c.begins.result)) c.loop-group.page c.push_snippet.new.page)
     c.loop-group.invariant.stays given in
-    let around = puts_around (settings_of c.args.look.now.theme.now c.args.look.now.options)
-    (group_context c.args.look.now.options.context_lines (in_order c.args.labels.now)) blank happen
-    (lent_texts c.group-item.result.contents) (spreads_of c.args.look.now.options.label_lines
-    c.args.look.now.options.context_lines (g.S.SourceCode.source c.args.source.now) (in_order c.args.labels.now))
+    let around = puts_around (settings_of c.args.settings.now)
+    (group_context c.args.settings.now.layout.now.context_lines (in_order c.args.labels.now)) blank happen
+    (lent_texts c.group-item.result.contents) (spreads_of c.args.settings.now.layout.now.label_lines
+    c.args.settings.now.layout.now.context_lines (g.S.SourceCode.source c.args.source.now) (in_order c.args.labels.now))
     (map (drawn_of c.args.labels.now) c.deref-2.result.now) c.group-item.result.contents
     (option_map place_at c.begins.result) c.loop-group.page c.push_snippet.new.page rows in
     record {
-      drawn = drawn_more (settings_around (settings_of c.args.look.now.theme.now c.args.look.now.options)
-          (in_order c.args.labels.now)) (spreads_of c.args.look.now.options.label_lines
-          c.args.look.now.options.context_lines (g.S.SourceCode.source c.args.source.now) (in_order c.args.labels.now))
+      drawn = drawn_more (settings_around (settings_of c.args.settings.now)
+          (in_order c.args.labels.now)) (spreads_of c.args.settings.now.layout.now.label_lines
+          c.args.settings.now.layout.now.context_lines (g.S.SourceCode.source c.args.source.now)
+          (in_order c.args.labels.now))
           (g.S.SourceCode.source c.args.source.now) c.args.labels.now blank
           (follows g.H.Highlighter.may_follow c.args.highlighter.now) was now c.deref-group-items.result.now
           c.loop-group.group-index c.group-item.result c.args.page c.loop-group.page c.push_snippet.new.page
           (map (drawn_of c.args.labels.now) c.deref-2.result.now) (option_map place_at c.begins.result)
           c.loop-group.invariant.drawn c.loop-group-test.true c.group-item.is
-          (groups_lent c.args.look.now.options.context_lines (g.S.SourceCode.source c.args.source.now)
+          (groups_lent c.args.settings.now.layout.now.context_lines (g.S.SourceCode.source c.args.source.now)
           (in_order c.args.labels.now) c.deref-group-items.result.now c.loop-group.group-index c.group-item.result
           grouped c.loop-group-test.true c.group-item.is)
-          (drawn_is (settings_of c.args.look.now.theme.now c.args.look.now.options)
+          (drawn_is (settings_of c.args.settings.now)
           (g.S.SourceCode.source c.args.source.now) c.args.labels.now c.args.reads.now c.in_ok-end.end
           c.deref-2.result.now c.requires.order c.requires.each c.in_ok-end.ensures
           (c.deref-2.ensures.value ∙ c.in_ok-placed.ensures ∙
           ap (λ styles. placed_from c.in_ok-end.end styles 0 c.args.reads.now) c.deref.ensures.value))
-          (ap (option_map place_at) c.begins.ensures ∙ place_ordered c.args.look.now.options.context_lines
+          (ap (option_map place_at) c.begins.ensures ∙ place_ordered c.args.settings.now.layout.now.context_lines
           (g.S.SourceCode.source c.args.source.now) c.args.labels.now c.some_own-own.result c.group-item.result.span
           c.args.reads.now c.in_ok-place.place c.some_own-own.ensures c.requires.order c.requires.each
           (subst (λ (o : Option Span). PointsTo (g.S.SourceCode.source c.args.source.now) o c.in_ok-place.place)
@@ -157,19 +160,19 @@ loop-group-preserved g c =
 
 pub returns-clause-gives : goal.returns-clause-gives
 returns-clause-gives g c =
-    let grouped : AreGroups c.args.look.now.options.context_lines (g.S.SourceCode.source c.args.source.now)
+    let grouped : AreGroups c.args.settings.now.layout.now.context_lines (g.S.SourceCode.source c.args.source.now)
     (in_order c.args.labels.now) c.deref-group-items.result.now =
-    are_grouped c.args.look.now.options.context_lines (g.S.SourceCode.source c.args.source.now)
+    are_grouped c.args.settings.now.layout.now.context_lines (g.S.SourceCode.source c.args.source.now)
     (in_order c.args.labels.now) _ c.in-Some.groups.items c.deref-group-items.result.now c.in_ok-groups.ensures
     (ap (option_map (λ v. v.items)) c.in-Some.is) c.deref-group-items.ensures.value in
-    gives_rows (settings_of c.args.look.now.theme.now c.args.look.now.options) (g.S.SourceCode.source c.args.source.now)
+    gives_rows (settings_of c.args.settings.now) (g.S.SourceCode.source c.args.source.now)
     c.args.labels.now (leaves_plain g.H.Highlighter.is_blank c.args.highlighter.now)
     (λ calls. Leads (follows g.H.Highlighter.may_follow c.args.highlighter.now) calls
     (follows g.H.Highlighter.may_follow c.loop-group.highlighter)) c.args.reads.now c.deref-group-items.result.now
     c.args.page c.loop-group.page c.requires.order c.requires.each grouped
-    (all_drawn (settings_around (settings_of c.args.look.now.theme.now c.args.look.now.options)
-    (in_order c.args.labels.now)) (spreads_of c.args.look.now.options.label_lines
-    c.args.look.now.options.context_lines (g.S.SourceCode.source c.args.source.now) (in_order c.args.labels.now))
+    (all_drawn (settings_around (settings_of c.args.settings.now)
+    (in_order c.args.labels.now)) (spreads_of c.args.settings.now.layout.now.label_lines
+    c.args.settings.now.layout.now.context_lines (g.S.SourceCode.source c.args.source.now) (in_order c.args.labels.now))
     (g.S.SourceCode.source c.args.source.now) c.args.labels.now
     (leaves_plain g.H.Highlighter.is_blank c.args.highlighter.now)
     (follows g.H.Highlighter.may_follow c.args.highlighter.now)

@@ -1,7 +1,7 @@
 use Rattle.miette_labels.specs.rules.Groups.{in_order}
 use Rattle.miette_snippet_rules.specs.rules.Folds.{spreads_of}
 use Rattle.miette_snippet_rules.specs.rules.SnippetLayout.{settings_around}
-use Rattle.miette_snippet_rules.specs.views.ThemeSettings.{settings_of}
+use Rattle.miette_snippet_rules.specs.views.SettingsView.{settings_of}
 use Rattle.std.proofs.Common.{◌≡◌}
 use Rattle.miette_snippet_rules.specs.rules.Highlighting.{leaves_plain, follows}
 use Rattle.miette_labels.specs.views.Sweeping.{IsAt}
@@ -10,8 +10,9 @@ use Rattle.miette_layout.proofs.snippets.read_snippets.Given as goal
 
 abbrev pub invariant-loop-group : goal.invariant-loop-group
 invariant-loop-group g l = record {
-  drawn : AreDrawn (settings_around (settings_of l.fn.look.theme.now l.fn.look.options) (in_order l.fn.labels))
-      (spreads_of l.fn.look.options.label_lines l.fn.look.options.context_lines (g.S.SourceCode.source l.fn.source)
+  drawn : AreDrawn (settings_around (settings_of l.fn.settings) (in_order l.fn.labels))
+      (spreads_of l.fn.settings.layout.now.label_lines l.fn.settings.layout.now.context_lines
+      (g.S.SourceCode.source l.fn.source)
       (in_order l.fn.labels)) (g.S.SourceCode.source l.fn.source) l.fn.labels
       (leaves_plain g.H.Highlighter.is_blank l.initial.highlighter)
       (follows g.H.Highlighter.may_follow l.initial.highlighter) (follows g.H.Highlighter.may_follow l.highlighter)

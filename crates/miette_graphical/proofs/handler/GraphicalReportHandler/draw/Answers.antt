@@ -3,7 +3,7 @@ use Rattle.miette_snippet_rules.specs.rules.Highlighting.{AreCallsOn, leaves_pla
 use Rattle.miette_tree.specs.views.Report.{tree_of}
 use Rattle.miette_graphical.specs.rules.PossibleAnswers.{IsAskedReport}
 use Rattle.miette_graphical.specs.rules.Snippets.{drawn_rows}
-use Rattle.miette_graphical.specs.steps.SettingsView.{settings_of}
+use Rattle.miette_graphical.specs.views.SettingsView.{handler_settings}
 use Rattle.miette_graphical.proofs.handler.GraphicalReportHandler.draw.Goals as goal
 
 pub returns-clause-calls : goal.returns-clause-calls
@@ -15,15 +15,15 @@ returns-clause-calls g c =
     let text = c.in_ok-drawn.field-0 in
     let had : c.take.result ≡ c.args.self.now.highlighter = c.take.ensures.value
     ∙ ap (λ it. it.highlighter) c.self.view_is in
-    let is : settings_of c.settings.result ≡ c.args.self.now.settings = c.settings.ensures
-    ∙ ap (λ it. it.settings) c.self.view_is in
+    let is : handler_settings c.self.inside.settings ≡ c.args.self.now.settings =
+    ap (λ it. it.settings) c.self.view_is in
     record {
       text = encode_utf8_all text;
       is_given = (
         text,
         subst (λ s. IsAskedReport drawn_rows s (leaves_plain is_blank c.args.self.now.highlighter)
             (AreCallsOn may c.args.self.now.highlighter after) tree text) is
-            (subst (λ h. IsAskedReport drawn_rows (settings_of c.settings.result) (leaves_plain is_blank h)
+            (subst (λ h. IsAskedReport drawn_rows (handler_settings c.self.inside.settings) (leaves_plain is_blank h)
             (AreCallsOn may h after) tree text) had c.in_ok-drawn.ensures.ok),
         refl,
       );

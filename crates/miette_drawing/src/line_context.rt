@@ -1,11 +1,10 @@
 //! What the rows of one line are drawn with.
 
+use crate::frame::Frame;
 use miette_labels::sweep::PlacedLabel;
 use miette_protocol::protocol::LabeledSpan;
-use miette_snippet_rules::options::LayoutOptions;
 use miette_source_lines::lines::LineOfText;
 use miette_style::style::Style;
-use miette_style::theme::GraphicalTheme;
 use std::alloc::AllocError;
 
 /// What putting rows onto a page gives: nothing, or that memory was refused.
@@ -13,13 +12,9 @@ pub(crate) type Outcome = Result<(), AllocError>;
 
 /// What all rows of a line are drawn with.
 #[derive(Clone, Copy)]
-pub(crate) struct Sheet<'a> {
-    /// The characters and styles.
-    pub(crate) theme: &'a GraphicalTheme,
-    /// How snippets are laid out.
-    pub(crate) options: LayoutOptions,
-    /// The columns of the line numbers.
-    pub(crate) number_width: usize,
+pub(crate) struct LineContext<'a> {
+    /// What the snippet's frame is drawn with.
+    pub(crate) frame: Frame<'a>,
     /// The columns of the gutter.
     pub(crate) gutter: usize,
     /// The line.

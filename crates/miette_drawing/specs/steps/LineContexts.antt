@@ -1,0 +1,67 @@
+-- What a context stands for.
+use Rattle.std.specs.Prelude.{ℕ, List, [], ◌∷◌, ◌++◌, map, false}
+use Rattle.miette_drawing.specs.declared.line_context.LineContext.{LineContext}
+use Rattle.miette_drawing.specs.declared.line_context.ShownLine.{ShownLine}
+use Rattle.miette_page.specs.rules.Rows.{Row}
+use Rattle.miette_snippet_rules.specs.rules.Marks.{Mark}
+use Rattle.miette_snippet_rules.specs.rules.Drawing.{text_row}
+use Rattle.miette_labels.specs.rules.Labels.{DrawnLabel}
+use Rattle.miette_snippet_rules.specs.views.SettingsView.{settings_of}
+use Rattle.miette_labels.specs.views.GivenLabels.{drawn_of}
+use Rattle.miette_cells.specs.rules.Widths.{width_of}
+use Rattle.miette_snippet_rules.specs.rules.Gutters.{number_gutter, other_gutter, open_gutter, part_run}
+use Rattle.miette_snippet_rules.specs.rules.Frames.{number_start, other_start}
+use Rattle.miette_cells.specs.rules.Cells.{Cell, cells_from, characters}
+use Rattle.miette_source_lines.specs.views.Walking.{line_of_text}
+use Rattle.miette_snippet_rules.specs.rules.Settings.{SnippetSettings}
+
+abbrev pub settings : LineContext → SnippetSettings
+settings context = settings_of context.frame.settings
+
+-- the labels of several lines, with their texts
+abbrev pub multi_labels : LineContext → List DrawnLabel
+multi_labels context = map (drawn_of context.labels.now) context.multi.now
+
+-- the gutter of the line's rows but its number row
+abbrev pub gutter_below : LineContext → Row
+gutter_below context = other_gutter (settings context) (line_of_text context.line)
+    context.gutter (multi_labels context)
+
+-- what stands before the marks and the texts of the labels that lie on the line alone
+abbrev pub before_marks : LineContext → Row
+before_marks context = other_start (settings context) context.frame.number_width ++ gutter_below context
+
+-- a row of the text of a label that lies on the line alone
+abbrev pub text_line : LineContext → List Mark → Mark → List ℕ → List ℕ → Row
+text_line context earlier mark front part = before_marks context
+    ++ text_row (settings context) earlier mark front part
+
+-- a row of the text of a label that ends on the line, in a gutter of so many columns
+abbrev pub closed_line : LineContext → ℕ → DrawnLabel → ℕ → List ℕ → Row
+closed_line context columns label bar part =
+    other_start (settings context) context.frame.number_width
+    ++ (other_gutter (settings context) (line_of_text context.line) columns
+    (multi_labels context) ++ part_run (settings context) label bar part ∷ [])
+
+abbrev pub open_line : LineContext → ℕ → DrawnLabel → List ℕ → Row
+open_line context columns label part =
+    other_start (settings context) context.frame.number_width
+    ++ (open_gutter (settings context) (line_of_text context.line) columns
+    (multi_labels context) ++ part_run (settings context) label (settings context).theme.characters.vbar part ∷ [])
+
+-- the cells of the line's text
+abbrev pub shown_cells : LineContext → ShownLine → List Cell
+shown_cells context shown =
+    cells_from width_of context.frame.settings.layout.now.tab_width false context.line.start 0
+    (characters shown.text.now)
+
+-- the labels that lie on the line alone, with their texts
+abbrev pub labels_alone : LineContext → ShownLine → List DrawnLabel
+labels_alone context shown = map (drawn_of context.labels.now) shown.one.now
+
+-- the number row of the line, with what is shown of its text
+abbrev pub number_row : LineContext → ShownLine → Row → Row
+number_row context shown text =
+    number_start (settings context) context.frame.number_width shown.number
+    ++ number_gutter (settings context) (line_of_text context.line) context.gutter
+    (multi_labels context) ++ text

@@ -1,0 +1,13 @@
+-- How snippets are laid out where nothing is set.
+use Rattle.std.specs.Prelude.{true, false, None}
+use Rattle.miette_snippet_rules.specs.declared.options.LayoutOptions.{LayoutOptions}
+
+abbrev pub default_layout : LayoutOptions
+default_layout = record {
+  tab_width = 4;
+  context_lines = 1;
+  primary_start = true;
+  end_labels = false;
+  label_lines = None;
+  line_columns = None;
+}
