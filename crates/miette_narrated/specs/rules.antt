@@ -1,5 +1,4 @@
 -- What users rely on, in the words of docs/RULES.md.
-pub mod Columns
 pub mod Labels
 pub mod Lines
 pub mod Snippets

@@ -5,41 +5,35 @@ ghost use Rattle.miette_narrated.specs.rules.Labels.{row, begins_within, reaches
 ghost use Rattle.miette_narrated.specs.rules.Labels.{first_number, last_number, columns_text, text_behind, whole_row};
 ghost use Rattle.miette_narrated.specs.rules.Labels.{column_row, start_row, end_row, begun_row, label_row};
 ghost use Rattle.miette_narrated.specs.rules.Labels.{label_rows};
-ghost use Rattle.std.specs.List.{All};
 ghost use Rattle.miette_narrated.specs.steps.Ends.{without_ranks};
 ghost use Rattle.miette_narrated.specs.steps.Conversions.{range_of, ranges_of, narrated_line};
-ghost use Rattle.miette_narrated.specs.steps.Places.{IsPlace};
-ghost use Rattle.miette_narrated.specs.steps.Trails.{IsTrail};
 
-use crate::columns::column;
 use crate::label_order::RankedLabel;
 use crate::narrated_line::NarratedLine;
-use crate::narrated_text::NarratedText;
-use crate::places::{PartingPlace, places};
-use crate::trails::{Trail, trails};
 use crate::words::push_number;
 use miette_basics::sums::sum;
+use miette_columns::text_columns::TextColumns;
 use miette_labels::drawn_labels::text_of;
 use miette_labels::sweep::PlacedLabel;
 use miette_protocol::protocol::LabeledSpan;
 use std::alloc::{AllocError, Global};
 
 /// Whether a label begins on the line or behind it.
-fn begins(it: &NarratedLine<'_, '_>, label: &PlacedLabel) -> bool
+fn begins(it: &NarratedLine<'_>, label: &PlacedLabel) -> bool
     ensures { result ≡ reaches_line (narrated_line it.now) label.now.start }
 {
     it.line.start <= label.start
 }
 
 /// Whether a label begins before the text's end.
-fn begins_within(it: &NarratedLine<'_, '_>, label: &PlacedLabel) -> bool
+fn begins_within(it: &NarratedLine<'_>, label: &PlacedLabel) -> bool
     ensures { result ≡ begins_within (narrated_line it.now) label.now.start }
 {
     label.start <= it.line.text_end
 }
 
 /// Whether a label reaches the line.
-fn reaches(it: &NarratedLine<'_, '_>, label: &PlacedLabel) -> bool
+fn reaches(it: &NarratedLine<'_>, label: &PlacedLabel) -> bool
     ensures { result ≡ reaches_line (narrated_line it.now) label.now.after }
 {
     it.line.start <= label.after
@@ -47,36 +41,10 @@ fn reaches(it: &NarratedLine<'_, '_>, label: &PlacedLabel) -> bool
 
 /// Whether a label ends before the text's end; on a snippet's last line also one does that begins in the data or
 /// where they end.
-fn ends_before(it: &NarratedLine<'_, '_>, label: &PlacedLabel) -> bool
+fn ends_before(it: &NarratedLine<'_>, label: &PlacedLabel) -> bool
     ensures { result ≡ ends_before (narrated_line it.now) label.now.start label.now.after }
 {
     label.after <= it.line.text_end || it.is_last && label.start <= it.data_end
-}
-
-/// The number of a label's first column.
-fn first_number(
-    alloc: Global,
-    it: &NarratedLine<'_, '_>,
-    label: &PlacedLabel,
-) -> Result<usize, AllocError>
-    ensures { IfOk result (λ n. n ≡ first_number (narrated_line it.now) label.now.start) }
-{
-    let before = column(alloc, it.text, label.start.saturating_sub(it.line.start))?;
-    sum(before, 1)
-}
-
-/// The number of its last column; an empty label has one column.
-fn last_number(
-    alloc: Global,
-    it: &NarratedLine<'_, '_>,
-    label: &PlacedLabel,
-) -> Result<usize, AllocError>
-    ensures { IfOk result (λ n. n ≡ last_number (narrated_line it.now) label.now.start label.now.after) }
-{
-    if label.start == label.after {
-        return first_number(alloc, it, label);
-    }
-    column(alloc, it.text, label.after.saturating_sub(it.line.start))
 }
 
 /// Appends a label's text behind a colon, where there is one, and a line feed.
@@ -103,34 +71,56 @@ fn push_columns(out: &mut String, first: usize, last: usize) -> Result<(), Alloc
     push_number(out, " to ", last)
 }
 
-// Places and trails in a line's text for the columns of so many labels: none where each byte is a column, and none for
-// one label.
-fn places_for(
-    alloc: Global,
-    text: NarratedText<'_, '_>,
-    labels: usize,
-) -> Result<(Vec<PartingPlace>, Vec<Trail>), AllocError>
-    ensures places { IfOk result (λ made. All (IsPlace text.entry.bytes.now) made.0.items) }
-    ensures trails { IfOk result (λ made. All (IsTrail text.entry.bytes.now) made.1.items) }
-{
-    if text.is_plain || labels < 2 {
-        return Ok((Vec::new(alloc), Vec::new(alloc)));
+/// A line of a snippet, the columns of its text, and the labels of its diagnostic.
+#[derive(Drop)]
+pub(crate) struct LabelledLine<'r, 'a> {
+    line: &'r NarratedLine<'a>,
+    columns: TextColumns<'a>,
+    // The labels as given, whose texts are told.
+    labels: &'r [LabeledSpan],
+    ghost same: { columns ≡ line.now.text.now },
+}
+
+impl<'r, 'a> LabelledLine<'r, 'a> {
+    /// A line, of whose labels `shown` may have rows under it.
+    pub(crate) fn new(
+        alloc: Global,
+        line: &'r NarratedLine<'a>,
+        labels: &'r [LabeledSpan],
+        shown: usize,
+    ) -> Result<Self, AllocError>
+        ensures line { IfOk result (λ row. row.line.now ≡ line.now) }
+        ensures labels { IfOk result (λ row. row.labels.now ≡ labels.now) }
+    {
+        // A label has at most two columns.
+        let columns = TextColumns::new(alloc, line.text, shown.saturating_mul(2))?;
+        Ok(LabelledLine {
+            line,
+            columns,
+            labels,
+        })
     }
-    let places = places(alloc, text.bytes)?;
-    let trails = trails(alloc, text.bytes, &places)?;
-    Ok((places, trails))
-}
 
-/// A line of a snippet, and the labels of its diagnostic.
-#[derive(Clone, Copy, Drop)]
-pub(crate) struct LabelledLine<'r, 'a, 'p> {
-    /// The line.
-    pub(crate) line: &'r NarratedLine<'a, 'p>,
-    /// The labels as given, whose texts are told.
-    pub(crate) labels: &'r [LabeledSpan],
-}
+    /// The number of a label's first column.
+    fn first_number(&self, alloc: Global, label: &PlacedLabel) -> Result<usize, AllocError>
+        ensures { IfOk result (λ n. n ≡ first_number (narrated_line self.now.line.now) label.now.start) }
+    {
+        let start = label.start.saturating_sub(self.line.line.start);
+        let before = self.columns.column(alloc, start)?;
+        sum(before, 1)
+    }
 
-impl LabelledLine<'_, '_, '_> {
+    /// The number of its last column; an empty label has one column.
+    fn last_number(&self, alloc: Global, label: &PlacedLabel) -> Result<usize, AllocError>
+        ensures { IfOk result (λ n. n ≡ last_number (narrated_line self.now.line.now) label.now.start label.now.after) }
+    {
+        if label.start == label.after {
+            return self.first_number(alloc, label);
+        }
+        let after = label.after.saturating_sub(self.line.line.start);
+        self.columns.column(alloc, after)
+    }
+
     /// `    label at line 2, columns 3 to 6: This bit here`
     fn push_whole(
         &self,
@@ -142,8 +132,8 @@ impl LabelledLine<'_, '_, '_> {
             ≡ string_bytes out.old
             ++ whole_row (narrated_line self.now.line.now) (range_of self.now.labels.now label.now)) }
     {
-        let first = first_number(alloc, self.line, label)?;
-        let last = last_number(alloc, self.line, label)?;
+        let first = self.first_number(alloc, label)?;
+        let last = self.last_number(alloc, label)?;
         push_number(out, "    label at line ", self.line.number)?;
         push_columns(out, first, last)?;
         push_end(out, text_of(self.labels, label))
@@ -176,7 +166,7 @@ impl LabelledLine<'_, '_, '_> {
             ≡ string_bytes out.old
             ++ start_row (narrated_line self.now.line.now) (range_of self.now.labels.now label.now)) }
     {
-        let first = first_number(alloc, self.line, label)?;
+        let first = self.first_number(alloc, label)?;
         self.push_column(out, "    label starting at line ", first, label)
     }
 
@@ -190,7 +180,7 @@ impl LabelledLine<'_, '_, '_> {
         ensures { OnOk result (string_bytes out.new ≡ string_bytes out.old
             ++ end_row (narrated_line self.now.line.now) (range_of self.now.labels.now label.now)) }
     {
-        let last = last_number(alloc, self.line, label)?;
+        let last = self.last_number(alloc, label)?;
         self.push_column(out, "    label ending at line ", last, label)
     }
 
@@ -234,8 +224,8 @@ impl LabelledLine<'_, '_, '_> {
         }
     }
 
-    // The rows of labels under the line, in order, where it has the places of its text.
-    fn push_all(
+    /// The rows of labels under the line, in order.
+    pub(crate) fn push_labels(
         &self,
         alloc: Global,
         out: &mut String,
@@ -250,8 +240,8 @@ impl LabelledLine<'_, '_, '_> {
         Ok(())
     }
 
-    // The rows of labels that end on the line, in order, where it has the places of its text.
-    fn push_ended(
+    /// The rows of labels that end on the line, in order.
+    pub(crate) fn push_ended(
         &self,
         alloc: Global,
         out: &mut String,
@@ -264,50 +254,5 @@ impl LabelledLine<'_, '_, '_> {
             self.push_label(alloc, out, &end.label)?;
         }
         Ok(())
-    }
-
-    /// The rows of labels under the line, in order.
-    pub(crate) fn push_labels(
-        &self,
-        alloc: Global,
-        out: &mut String,
-        placed: &[PlacedLabel],
-    ) -> Result<(), AllocError>
-        ensures { OnOk result (string_bytes out.new ≡ string_bytes out.old
-            ++ label_rows (narrated_line self.now.line.now) (ranges_of self.now.labels.now placed.now)) }
-    {
-        let (places, trails) = places_for(alloc, self.line.text, placed.len())?;
-        let line = self.line.with_places(&places, &trails);
-        let marked = LabelledLine {
-            line: &line,
-            labels: self.labels,
-        };
-        marked.push_all(alloc, out, placed)
-    }
-
-    /// The rows of labels that end on the line, and behind them those of labels that begin there, each in order.
-    pub(crate) fn push_ended_and_begun(
-        &self,
-        alloc: Global,
-        out: &mut String,
-        ended: &[RankedLabel],
-        begun: &[PlacedLabel],
-    ) -> Result<(), AllocError>
-        ensures { OnOk result (string_bytes out.new ≡ (string_bytes out.old
-            ++ label_rows (narrated_line self.now.line.now) (ranges_of self.now.labels.now (without_ranks ended.now)))
-            ++ label_rows (narrated_line self.now.line.now) (ranges_of self.now.labels.now begun.now)) }
-    {
-        let (places, trails) = places_for(
-            alloc,
-            self.line.text,
-            ended.len().saturating_add(begun.len()),
-        )?;
-        let line = self.line.with_places(&places, &trails);
-        let marked = LabelledLine {
-            line: &line,
-            labels: self.labels,
-        };
-        marked.push_ended(alloc, out, ended)?;
-        marked.push_all(alloc, out, begun)
     }
 }

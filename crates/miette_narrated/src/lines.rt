@@ -9,11 +9,10 @@ ghost use Rattle.miette_narrated.specs.steps.Ends.{IsOrder};
 ghost use Rattle.miette_narrated.specs.rules.Labels.{label_rows};
 ghost use Rattle.miette_narrated.specs.steps.Sweeping.{IsAt, last_start};
 
-use crate::columns::push_decoded;
+use crate::decoding::push_decoded;
 use crate::label_order::{LabelOrder, begun_on, ended_on};
 use crate::label_rows::LabelledLine;
 use crate::narrated_line::NarratedLine;
-use crate::narrated_text::NarratedText;
 use crate::sweeping::{ReachSweep, come_to};
 use crate::words::push_number;
 use miette_basics::sums::sum;
@@ -22,17 +21,17 @@ use miette_source_lines::lines::{LineOfText, Lines};
 use std::alloc::{AllocError, Global};
 
 /// `snippet line 2:   text`
-fn push_line(out: &mut String, it: &NarratedLine<'_, '_>) -> Result<(), AllocError>
+fn push_line(out: &mut String, it: &NarratedLine<'_>) -> Result<(), AllocError>
     ensures { OnOk result (string_bytes out.new ≡ string_bytes out.old ++ line_row (narrated_line it.now)) }
 {
     push_number(out, "snippet line ", it.number)?;
     out.push_str(": ")?;
-    push_decoded(out, it.text.bytes)?;
+    push_decoded(out, it.text)?;
     out.push_str("\n")
 }
 
 /// Where the labels begin that may have a row on a line.
-fn last_start(it: &NarratedLine<'_, '_>) -> usize
+fn last_start(it: &NarratedLine<'_>) -> usize
     ensures { result ≡ last_start (narrated_line it.now) }
 {
     if it.is_last {
@@ -46,7 +45,7 @@ fn last_start(it: &NarratedLine<'_, '_>) -> usize
 fn push_shown(
     alloc: Global,
     out: &mut String,
-    it: &NarratedLine<'_, '_>,
+    it: &NarratedLine<'_>,
     order: &LabelOrder<'_>,
     sweep: &mut ReachSweep,
 ) -> Result<(), AllocError>
@@ -63,10 +62,7 @@ fn push_shown(
         return Ok(());
     }
     come_to(alloc, order.placed, it.line.start, last_start(it), sweep)?;
-    let row = LabelledLine {
-        line: it,
-        labels: order.labels,
-    };
+    let row = LabelledLine::new(alloc, it, order.labels, sweep.running.len())?;
     row.push_labels(alloc, out, &sweep.running)
 }
 
@@ -74,7 +70,7 @@ fn push_shown(
 fn push_inner(
     alloc: Global,
     out: &mut String,
-    it: &NarratedLine<'_, '_>,
+    it: &NarratedLine<'_>,
     order: &LabelOrder<'_>,
 ) -> Result<(), AllocError>
     requires order { IsOrder order.now }
@@ -85,11 +81,10 @@ fn push_inner(
 {
     let ended = ended_on(alloc, order, &it.line)?;
     let begun = begun_on(order.placed, &it.line);
-    let row = LabelledLine {
-        line: it,
-        labels: order.labels,
-    };
-    row.push_ended_and_begun(alloc, out, &ended, begun)
+    let shown = ended.len().saturating_add(begun.len());
+    let row = LabelledLine::new(alloc, it, order.labels, shown)?;
+    row.push_ended(alloc, out, &ended)?;
+    row.push_labels(alloc, out, begun)
 }
 
 /// A line of what a snippet's read lent.
@@ -98,7 +93,7 @@ fn narrated_line<'a>(
     line: LineOfText,
     number: usize,
     is_last: bool,
-) -> NarratedLine<'a, 'static>
+) -> NarratedLine<'a>
     requires from { lent.now.span.offset ≤ line.start }
     requires text { line.start ≤ line.text_end }
     requires to { line.text_end ≤ lent.now.span.offset + length lent.now.bytes }
@@ -112,7 +107,7 @@ fn narrated_line<'a>(
         number,
         is_last,
         data_end: start + data.len(),
-        text: NarratedText::new(&data[line.start - start..line.text_end - start]),
+        text: &data[line.start - start..line.text_end - start],
     }
 }
 

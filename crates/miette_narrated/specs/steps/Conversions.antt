@@ -22,5 +22,5 @@ narrated_line it = record {
   number = it.number;
   is_last = it.is_last;
   data_end = it.data_end;
-  characters = characters it.text.bytes.now;
+  characters = characters it.text.now;
 }

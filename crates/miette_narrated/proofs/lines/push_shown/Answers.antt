@@ -1,4 +1,4 @@
-use Rattle.std.proofs.Common.{ap, ◌∙◌, ◌++◌, string_bytes, subst, suc, drop}
+use Rattle.std.proofs.Common.{ap, ap₂, ◌∙◌, ◌++◌, string_bytes, subst, suc, drop}
 use Rattle.std.proofs.lemmas.Result.{on_ok_weaker}
 use Rattle.miette_narrated.specs.rules.Labels.{label_rows}
 use Rattle.miette_narrated.specs.rules.Lines.{line_row}
@@ -17,7 +17,9 @@ returns-clause-rows c =
     let q = string_bytes c.push_line.new.out in
     on_ok_weaker c.push_labels.result (λ h. then (string_bytes c.args.out.now) q (string_bytes c.push_labels.new.out)
     (line_row it) (label_rows it (ranges_of labels placed)) c.in_ok-push_line.ensures
-    (h ∙ ap (λ r. q ++ label_rows it (ranges_of labels r)) c.deref.ensures.value
+    (h ∙ ap₂ (λ line given. q ++ label_rows (narrated_line line) (ranges_of given c.deref.result.now))
+    c.in_ok-row.ensures.line c.in_ok-row.ensures.labels
+    ∙ ap (λ r. q ++ label_rows it (ranges_of labels r)) c.deref.ensures.value
     ∙ ap (λ r. q ++ r) (rows_swept it labels placed sweep.at sweep.next sweep.running.items c.requires.order.ordered
     c.in_ok-come_to.ensures.place c.in_ok-come_to.ensures.at
     (subst (λ k. BeginsFrom (suc k) (drop sweep.next placed)) c.last_start.ensures c.in_ok-come_to.ensures.end))))

@@ -1,0 +1,513 @@
+-- An even number of regional indicators before another one parts a text: its width is that of what ends with them and
+-- that of what begins
+-- with the other one.
+use Rattle.std.proofs.Common.{ℕ, ◌+◌, ◌-◌, ◌<◌, ◌≡◌, Bool, true, false, cond, not, ◌&&◌, ◌==◌, nat_le, ◌⊎◌, List, []}
+use Rattle.std.proofs.Common.{◌∷◌, ◌++◌, length, Option, Some, None, refl, sym, ap, subst, ◌∙◌, append_assoc}
+use Rattle.std.proofs.Common.{append-nil, arith, inl, inr}
+use Rattle.std.specs.Prelude.{if◌then◌else◌, chars}
+use Rattle.std.specs.Int.{is_in_range}
+use Rattle.std.proofs.lemmas.Bool.{true≢false, ne_eqb, or_parts, and_parts, and_right, le-leb, not-true}
+use Rattle.miette_basics.proofs.Cases.{by_cases}
+use Rattle.ucd_table.specs.Rows.{Range, in_ranges}
+use Rattle.ucd_table.proofs.Stepped.{Stepped, of_ranges, map_stepped, zip_stepped}
+use Rattle.ucd_table.proofs.Facts.{always, ends_by, Stepped-everywhere}
+use Rattle.ucd_emoji.specs.Binary.{is_emoji_modifier_base, is_emoji_variation_base}
+use Rattle.ucd_emoji.proofs.BinaryLemmas.{is_emoji_modifier_base_stepped, is_emoji_variation_base_stepped}
+use Rattle.ucd_bidi.specs.JoiningGroup.{joining_group, joining_group_eq}
+use Rattle.ucd_bidi.specs.declared.JoiningGroup.TheVariants.{Lam}
+use Rattle.ucd_bidi.proofs.JoiningGroupLemmas.{joining_group_stepped}
+use Rattle.unicode_width.specs.declared.kind.Kind.{Kind}
+use Rattle.unicode_width.specs.declared.kind.Kind.TheVariants as kinds
+use Rattle.unicode_width.specs.declared.state.After.{After}
+use Rattle.unicode_width.specs.declared.state.After.TheVariants as afters
+use Rattle.unicode_width.specs.declared.state.State.{State}
+use Rattle.unicode_width.specs.declared.state.Change.{Change}
+use Rattle.unicode_width.specs.Kind.{kind, is_ligature_transparent, is_text_presentation_base}
+use Rattle.unicode_width.specs.Width.{before, plain, is_indicator, is_nothing, is_joined_emoji, of_kind, alone}
+use Rattle.unicode_width.specs.Width.{before_alef, is_lam, joins, joined_or, Reading, if_kept, skips_marks, is_plain}
+use Rattle.unicode_width.specs.Width.{past_selectors, in_context, past_emoji, step, read_before, str_width}
+use Rattle.unicode_width.proofs.KindLemmas.{is_ligature_transparent_stepped, is_text_presentation_base_stepped}
+use Rattle.unicode_width.proofs.Computing.{unicode_width}
+use Rattle.miette_columns.specs.declared.overlap.Overlap.{Overlap}
+use Rattle.miette_columns.specs.declared.overlap.Overlap.TheVariants.{Nothing, One, Selected}
+use Rattle.miette_columns.specs.steps.Parting.{may_part_flags}
+use Rattle.miette_columns.specs.steps.Places.{overlap_text, IsHeld}
+use Rattle.miette_columns.proofs.KindTests.{kind_test_stepped}
+use Rattle.miette_columns.proofs.Lone.{read_append, shifted, or_false}
+
+-- ---- what an indicator is not
+
+abbrev indicator_ranges : List Range
+indicator_ranges = (0x1F1E6, 0x1F1FF) ∷ []
+
+abbrev never : (p : ℕ → Bool) → Stepped p → Bool
+unfolding unicode_width
+never p s =
+    let both = zip_stepped (λ a b. not (a && b)) (in_ranges indicator_ranges) p (of_ranges indicator_ranges refl) s in
+    always _ both && (ends_by 0x11_0000 both.steps && both.default)
+
+ranged : (c : ℕ) → is_indicator c ≡ in_ranges indicator_ranges c
+unfolding in_ranges
+ranged c = or_false (is_indicator c)
+
+indicator_not : (p : ℕ → Bool) (s : Stepped p) → never p s ≡ true → (c : ℕ) → is_indicator c ≡ true → p c ≡ false
+unfolding unicode_width
+indicator_not p s ok c h =
+    let both = zip_stepped (λ a b. not (a && b)) (in_ranges indicator_ranges) p (of_ranges indicator_ranges refl) s in
+    not-true (p c) (subst (λ a. not (a && p c) ≡ true) (sym (ranged c) ∙ h) (Stepped-everywhere _ both ok c))
+
+no_variation : (c : ℕ) → is_indicator c ≡ true → is_emoji_variation_base c ≡ false
+unfolding unicode_width
+no_variation = indicator_not is_emoji_variation_base is_emoji_variation_base_stepped refl
+
+no_modified : (c : ℕ) → is_indicator c ≡ true → is_emoji_modifier_base c ≡ false
+unfolding unicode_width
+no_modified = indicator_not is_emoji_modifier_base is_emoji_modifier_base_stepped refl
+
+no_presentation : (c : ℕ) → is_indicator c ≡ true → is_text_presentation_base c ≡ false
+unfolding unicode_width
+no_presentation = indicator_not is_text_presentation_base is_text_presentation_base_stepped refl
+
+no_transparent : (c : ℕ) → is_indicator c ≡ true → is_ligature_transparent c ≡ false
+unfolding unicode_width
+no_transparent = indicator_not is_ligature_transparent is_ligature_transparent_stepped refl
+
+no_lam : (c : ℕ) → is_indicator c ≡ true → is_lam c ≡ false
+unfolding unicode_width
+no_lam = indicator_not (λ c. joining_group_eq (joining_group c) Lam)
+    (map_stepped (λ g. joining_group_eq g Lam) joining_group joining_group_stepped) refl
+
+abbrev is_other_kind : Kind → Bool
+is_other_kind kinds.RegionalIndicator = false
+is_other_kind _ = true
+
+no_other : (c : ℕ) → is_indicator c ≡ true → is_other_kind (kind c) ≡ false
+unfolding unicode_width kind_test_stepped
+no_other = indicator_not (λ c. is_other_kind (kind c)) (kind_test_stepped is_other_kind refl refl) refl
+
+own_kind : (c : ℕ) (k : Kind) → is_other_kind k ≡ false → of_kind false c k ≡ (1, before afters.RegionalIndicator)
+own_kind c kinds.Zero e = absurd (true≢false e)
+own_kind c kinds.Narrow e = absurd (true≢false e)
+own_kind c kinds.Wide e = absurd (true≢false e)
+own_kind c kinds.Ambiguous e = absurd (true≢false e)
+own_kind c kinds.Alef e = absurd (true≢false e)
+own_kind c kinds.KhmerLetter e = absurd (true≢false e)
+own_kind c kinds.TifinaghConsonant e = absurd (true≢false e)
+own_kind c kinds.LisuTone e = absurd (true≢false e)
+own_kind c kinds.RegionalIndicator e = refl
+own_kind c kinds.EmojiModifier e = absurd (true≢false e)
+own_kind c kinds.Emoji e = absurd (true≢false e)
+own_kind c kinds.Single e = absurd (true≢false e)
+
+own : (c : ℕ) → is_indicator c ≡ true → alone false c ≡ (1, before afters.RegionalIndicator)
+unfolding alone
+own c h = own_kind c (kind c) (no_other c h)
+
+no_one : (c k : ℕ) → is_indicator k ≡ false → is_indicator c ≡ true → (c == k) ≡ false
+no_one c k n h = ne_eqb c k (λ e. absurd (true≢false (sym h ∙ ap is_indicator e ∙ n)))
+
+no_range : (low high : ℕ) (s : Stepped (in_ranges ((low, high) ∷ []))) → never (in_ranges ((low, high) ∷ [])) s ≡ true
+    → (c : ℕ) → is_indicator c ≡ true → is_in_range low high c ≡ false
+unfolding in_ranges
+no_range low high s ok c h = (or_parts (is_in_range low high c) false
+    (indicator_not (in_ranges ((low, high) ∷ [])) s ok c h)).0
+
+no_tifinagh : (c : ℕ) → is_indicator c ≡ true → is_in_range 0x2D31 0x2D65 c ≡ false
+unfolding unicode_width
+no_tifinagh = no_range 0x2D31 0x2D65 (of_ranges ((0x2D31, 0x2D65) ∷ []) refl) refl
+
+no_lisu : (c : ℕ) → is_indicator c ≡ true → is_in_range 0xA4F8 0xA4FB c ≡ false
+unfolding unicode_width
+no_lisu = no_range 0xA4F8 0xA4FB (of_ranges ((0xA4F8, 0xA4FB) ∷ []) refl) refl
+
+no_tag_letter : (c : ℕ) → is_indicator c ≡ true → is_in_range 0xE0061 0xE007A c ≡ false
+unfolding unicode_width
+no_tag_letter = no_range 0xE0061 0xE007A (of_ranges ((0xE0061, 0xE007A) ∷ []) refl) refl
+
+no_tag_digit : (c : ℕ) → is_indicator c ≡ true → is_in_range 0xE0030 0xE0039 c ≡ false
+unfolding unicode_width
+no_tag_digit = no_range 0xE0030 0xE0039 (of_ranges ((0xE0030, 0xE0039) ∷ []) refl) refl
+
+no_single_quote : (c : ℕ) → is_indicator c ≡ true → is_in_range 0x2018 0x2019 c ≡ false
+unfolding unicode_width
+no_single_quote = no_range 0x2018 0x2019 (of_ranges ((0x2018, 0x2019) ∷ []) refl) refl
+
+no_double_quote : (c : ℕ) → is_indicator c ≡ true → is_in_range 0x201C 0x201D c ≡ false
+unfolding unicode_width
+no_double_quote = no_range 0x201C 0x201D (of_ranges ((0x201C, 0x201D) ∷ []) refl) refl
+
+-- ---- what an indicator leaves to be read
+
+-- one indicator, or more: where a joined emoji follows them, some width is read
+abbrev Waves : Reading → Type 0
+Waves (t, s) =
+    (s ≡ before afters.RegionalIndicator) ⊎ ((s ≡ before afters.RegionalIndicators)
+    ⊎ ((s ≡ before afters.EvenIndicatorsZwj)
+    ⊎ ((0 < t) × ((s ≡ before afters.IndicatorZwj) ⊎ (s ≡ before afters.OddIndicatorsZwj)))))
+
+abbrev JoinsWaving : ℕ → Option (Change × After) → Type 0
+JoinsWaving t None = Unit {0}
+JoinsWaving t (Some j) = Waves (joined_or t (Some j) (0, plain))
+
+joins_waving : (after : After) (c t : ℕ) → is_indicator c ≡ true → JoinsWaving t (joins false after c)
+unfolding joins before_alef
+joins_waving afters.Nothing c t h = tt
+joins_waving afters.LineFeed c t h = tt
+joins_waving afters.EmojiModifier c t h = rw (no_modified c h, no_one c 0x200D refl h) tt
+joins_waving afters.RegionalIndicator c t h = rw h (inr (inl refl))
+joins_waving afters.RegionalIndicators c t h = rw h (inr (inl refl))
+joins_waving afters.Emoji c t h = rw (no_one c 0x200D refl h) tt
+joins_waving afters.ZwjEmoji c t h = rw (no_one c 0x20E3 refl h, h) (inr (inr (inr (omega arith, inl refl))))
+joins_waving afters.KeycapZwjEmoji c t h = tt
+joins_waving afters.IndicatorZwj c t h = rw h (inr (inr (inl refl)))
+joins_waving afters.EvenIndicatorsZwj c t h = rw (no_one c 0x200D refl h, h) (inr (inr (inr (omega arith, inr refl))))
+joins_waving afters.OddIndicatorsZwj c t h = rw (no_one c 0x200D refl h, h) (inr (inr (inl refl)))
+joins_waving afters.TagEnd c t h = rw (no_tag_letter c h, no_tag_digit c h) tt
+joins_waving afters.TagDigit1 c t h = rw (no_tag_digit c h) tt
+joins_waving afters.TagDigit2 c t h = rw (no_tag_digit c h) tt
+joins_waving afters.TagDigit3 c t h = rw (no_one c 0x1F3F4 refl h) tt
+joins_waving afters.TagLetter1 c t h = rw (no_tag_letter c h, no_tag_digit c h) tt
+joins_waving afters.TagLetter2 c t h = rw (no_tag_letter c h, no_tag_digit c h) tt
+joins_waving afters.TagLetter3 c t h = rw (no_tag_letter c h, no_tag_digit c h, no_one c 0x1F3F4 refl h) tt
+joins_waving afters.TagLetter4 c t h = rw (no_tag_letter c h, no_tag_digit c h, no_one c 0x1F3F4 refl h) tt
+joins_waving afters.TagLetter5 c t h = rw (no_tag_letter c h, no_one c 0x1F3F4 refl h) tt
+joins_waving afters.TagLetter6 c t h = rw (no_one c 0x1F3F4 refl h) tt
+joins_waving afters.KiratE c t h = rw (
+  no_one c 0x16D63 refl h,
+  no_one c 0x16D67 refl h,
+  no_one c 0x16D68 refl h,
+  no_one c 0x16D69 refl h,
+) tt
+joins_waving afters.KiratAi c t h = rw (no_one c 0x16D63 refl h) tt
+joins_waving afters.Alef c t h = rw (no_lam c h, own c h) tt
+joins_waving afters.Solidus c t h = tt
+joins_waving afters.SolidusAlef c t h = tt
+joins_waving afters.Lamed c t h = tt
+joins_waving afters.ZwjLamed c t h = rw (no_one c 0x05D0 refl h) tt
+joins_waving afters.Ya c t h = tt
+joins_waving afters.ZwjYa c t h = rw (no_one c 0x1A17 refl h) tt
+joins_waving afters.VowelZwjYa c t h = rw (no_one c 0x1A15 refl h) tt
+joins_waving afters.Tifinagh c t h = rw (no_one c 0x2D7F refl h) tt
+joins_waving afters.ZwjTifinagh c t h = rw (no_one c 0x2D7F refl h, no_tifinagh c h, no_one c 0x2D6F refl h) tt
+joins_waving afters.JoinerTifinagh c t h = rw (no_tifinagh c h, no_one c 0x2D6F refl h) tt
+joins_waving afters.LisuTone c t h = rw (no_lisu c h) tt
+joins_waving afters.OrkhonI c t h = tt
+joins_waving afters.ZwjOrkhonI c t h = rw (no_one c 0x10C32 refl h) tt
+joins_waving afters.KhmerLetter c t h = rw (no_one c 0x17D2 refl h) tt
+
+waving_joined : (t : ℕ) (j : Option (Change × After)) → JoinsWaving t j
+    → Waves (joined_or t j (1, before afters.RegionalIndicator))
+waving_joined t None p = inl refl
+waving_joined t (Some j) p = p
+
+past_quotes : (c t : ℕ) (after : After) → is_indicator c ≡ true → Waves (past_selectors false c t after)
+unfolding past_selectors
+past_quotes c t after h =
+    rw (no_one c 0x200D refl h, no_transparent c h, and_right (skips_marks after) false refl, own c h)
+    (waving_joined t (joins false after c) (joins_waving after c t h))
+
+in_any_context : (c t : ℕ) (s : State) → is_indicator c ≡ true → Waves (in_context false c t s)
+unfolding in_context
+in_any_context c t s h =
+    rw (
+      no_one c 0xFE0F refl h,
+      no_one c 0xFE01 refl h,
+      no_one c 0xFE0E refl h,
+      no_presentation c h,
+      no_single_quote c h,
+      no_double_quote c h,
+      and_right s.text false refl,
+      and_right s.quote false refl,
+    )
+    (past_quotes c t s.after h)
+
+indicator_high : (c : ℕ) → is_indicator c ≡ true → nat_le c 0xA0 ≡ false
+unfolding unicode_width
+indicator_high c h = sym (ap (λ b. b && nat_le c 0xA0) (le-leb 0 c (omega arith)))
+    ∙ no_range 0 0xA0 (of_ranges ((0, 0xA0) ∷ []) refl) refl c h
+
+past_all : (c t : ℕ) (s : State) → is_indicator c ≡ true → Waves (past_emoji false c t s)
+unfolding past_emoji
+past_all c t s h =
+    by_cases {C = Waves (past_emoji false c t s)} (is_plain s)
+    (λ y. rw (no_one c 0x0A refl h, no_one c 0x0D refl h, indicator_high c h, y, own c h) (inl refl))
+    (λ n. rw (no_one c 0x0A refl h, no_one c 0x0D refl h, indicator_high c h, n) (in_any_context c t s h))
+
+waving_cond : (b : Bool) (x y : Reading) → (b ≡ true → Waves x) → (b ≡ false → Waves y) → Waves (cond b x y)
+waving_cond true x y p q = p refl
+waving_cond false x y p q = q refl
+
+step_waves : (c : ℕ) (r : Reading) → is_indicator c ≡ true → Waves (step false c r)
+unfolding step
+step_waves c (t, s) h =
+    waving_cond (not s.emoji) (past_emoji false c t s) (cond (is_emoji_variation_base c)
+    (t + (if is_joined_emoji s.after then 0 else 2), before afters.Emoji)
+    (past_emoji false c t (record (if_kept s) { emoji = false })))
+    (λ e. past_all c t s h)
+    (λ e. waving_cond (is_emoji_variation_base c) (t + (if is_joined_emoji s.after then 0 else 2), before afters.Emoji)
+    (past_emoji false c t (record (if_kept s) { emoji = false }))
+    (λ y. absurd (true≢false (sym y ∙ no_variation c h))) (λ n. past_all c t (record (if_kept s) { emoji = false }) h))
+
+-- ---- indicators before one another
+
+step_joined : (c t : ℕ) (after : After) → is_indicator c ≡ true → is_nothing after ≡ false → skips_marks after ≡ false
+    → step false c (t, before after) ≡ joined_or t (joins false after c) (1, before afters.RegionalIndicator)
+unfolding step past_emoji in_context past_selectors
+step_joined c t after h some unmarked =
+    rw (
+      no_one c 0x0A refl h,
+      no_one c 0x0D refl h,
+      indicator_high c h,
+      some,
+      no_one c 0xFE0F refl h,
+      no_one c 0xFE01 refl h,
+      no_one c 0xFE0E refl h,
+      unmarked,
+      own c h,
+    ) refl
+
+after_nothing : (c t : ℕ) → is_indicator c ≡ true → step false c (t, plain) ≡ (t + 1, before afters.RegionalIndicator)
+unfolding step past_emoji
+after_nothing c t h = rw (no_one c 0x0A refl h, no_one c 0x0D refl h, indicator_high c h, own c h) refl
+
+after_one : (c t : ℕ) → is_indicator c ≡ true → step false c (t, before afters.RegionalIndicator)
+    ≡ (t + 1, before afters.RegionalIndicators)
+unfolding joins
+after_one c t h = step_joined c t afters.RegionalIndicator h refl refl ∙ rw h refl
+
+after_more : (c t : ℕ) → is_indicator c ≡ true → step false c (t, before afters.RegionalIndicators)
+    ≡ (t + 1, before afters.RegionalIndicators)
+unfolding joins
+after_more c t h = step_joined c t afters.RegionalIndicators h refl refl ∙ rw h refl
+
+after_joined : (c t : ℕ) → is_indicator c ≡ true → step false c (t, before afters.IndicatorZwj)
+    ≡ (t - 1, before afters.EvenIndicatorsZwj)
+unfolding joins
+after_joined c t h = step_joined c t afters.IndicatorZwj h refl refl ∙ rw h refl
+
+after_even : (c t : ℕ) → is_indicator c ≡ true → step false c (t, before afters.EvenIndicatorsZwj)
+    ≡ (t + 3, before afters.OddIndicatorsZwj)
+unfolding joins
+after_even c t h = step_joined c t afters.EvenIndicatorsZwj h refl refl ∙ rw (no_one c 0x200D refl h, h) refl
+
+after_odd : (c t : ℕ) → is_indicator c ≡ true → step false c (t, before afters.OddIndicatorsZwj)
+    ≡ (t - 1, before afters.EvenIndicatorsZwj)
+unfolding joins
+after_odd c t h = step_joined c t afters.OddIndicatorsZwj h refl refl ∙ rw (no_one c 0x200D refl h, h) refl
+
+-- what two or more indicators leave
+abbrev IsFlags : State → Type 0
+IsFlags s = (s ≡ before afters.RegionalIndicators) ⊎ ((s ≡ before afters.EvenIndicatorsZwj)
+    ⊎ (s ≡ before afters.OddIndicatorsZwj))
+
+-- two columns more, and such a state
+abbrev IsPair : ℕ → Reading → Type 0
+IsPair t r = (r.0 ≡ t + 2) × IsFlags r.1
+
+pair_from : (a b : ℕ) (t u : ℕ) (s m e : State) → step false b (t, s) ≡ (u, m) → step false a (u, m) ≡ (t + 2, e)
+    → IsFlags e → IsPair t (step false a (step false b (t, s)))
+pair_from a b t u s m e h k f =
+    let both : step false a (step false b (t, s)) ≡ (t + 2, e) = ap (step false a) h ∙ k in
+    (ap (λ r. r.0) both, subst IsFlags (sym (ap (λ r. r.1) both)) f)
+
+pair_read : (a b : ℕ) (t : ℕ) (s : State) → is_indicator a ≡ true → is_indicator b ≡ true → Waves (t, s)
+    → IsPair t (step false a (step false b (t, s)))
+pair_read a b t s ha hb (inl e) =
+    pair_from a b t (t + 1) s (before afters.RegionalIndicators) (before afters.RegionalIndicators)
+    (ap (λ x. step false b (t, x)) e ∙ after_one b t hb)
+    (after_more a (t + 1) ha ∙ ap (λ n. (n, before afters.RegionalIndicators)) (omega arith)) (inl refl)
+pair_read a b t s ha hb (inr (inl e)) =
+    pair_from a b t (t + 1) s (before afters.RegionalIndicators) (before afters.RegionalIndicators)
+    (ap (λ x. step false b (t, x)) e ∙ after_more b t hb)
+    (after_more a (t + 1) ha ∙ ap (λ n. (n, before afters.RegionalIndicators)) (omega arith)) (inl refl)
+pair_read a b t s ha hb (inr (inr (inl e))) =
+    pair_from a b t (t + 3) s (before afters.OddIndicatorsZwj) (before afters.EvenIndicatorsZwj)
+    (ap (λ x. step false b (t, x)) e ∙ after_even b t hb)
+    (after_odd a (t + 3) ha ∙ ap (λ n. (n, before afters.EvenIndicatorsZwj)) (omega arith)) (inr (inl refl))
+pair_read a b t s ha hb (inr (inr (inr (some, inl e)))) =
+    pair_from a b t (t - 1) s (before afters.EvenIndicatorsZwj) (before afters.OddIndicatorsZwj)
+    (ap (λ x. step false b (t, x)) e ∙ after_joined b t hb)
+    (after_even a (t - 1) ha ∙ ap (λ n. (n, before afters.OddIndicatorsZwj)) (omega (arith, some))) (inr (inr refl))
+pair_read a b t s ha hb (inr (inr (inr (some, inr e)))) =
+    pair_from a b t (t - 1) s (before afters.EvenIndicatorsZwj) (before afters.OddIndicatorsZwj)
+    (ap (λ x. step false b (t, x)) e ∙ after_odd b t hb)
+    (after_even a (t - 1) ha ∙ ap (λ n. (n, before afters.OddIndicatorsZwj)) (omega (arith, some))) (inr (inr refl))
+
+-- ---- an even number of them
+
+abbrev pub AreIndicators : List ℕ → Type 0
+AreIndicators [] = Unit {0}
+AreIndicators (c ∷ cs) = (is_indicator c ≡ true) × AreIndicators cs
+
+abbrev pub is_odd : List ℕ → Bool
+is_odd [] = false
+is_odd (c ∷ cs) = not (is_odd cs)
+
+not_not : (b : Bool) → not (not b) ≡ b
+not_not true = refl
+not_not false = refl
+
+read_waves : (flags : List ℕ) (r : Reading) → AreIndicators flags → Waves r → Waves (read_before false flags r)
+read_waves [] r h w = w
+read_waves (c ∷ cs) r h w = step_waves c (read_before false cs r) h.0
+
+read_width : (flags : List ℕ) (r : Reading) → AreIndicators flags → is_odd flags ≡ false → Waves r
+    → (read_before false flags r).0 ≡ r.0 + length flags
+read_width [] r h even w = omega arith
+read_width (a ∷ []) r h even w = absurd (true≢false even)
+read_width (a ∷ b ∷ cs) r h even w =
+    let before_pair = read_before false cs r in
+    let pair = pair_read a b before_pair.0 before_pair.1 h.0 h.1.0 (read_waves cs r h.1.1 w) in
+    let rest = read_width cs r h.1.1 (sym (not_not (is_odd cs)) ∙ even) w in
+    omega (arith, pair.0, rest)
+
+read_flags : (flags : List ℕ) (r : Reading) → AreIndicators flags → is_odd flags ≡ false → 0 < length flags → Waves r
+    → IsFlags (read_before false flags r).1
+read_flags [] r h even some w = absurd (omega arith)
+read_flags (a ∷ []) r h even some w = absurd (true≢false even)
+read_flags (a ∷ b ∷ cs) r h even some w =
+    let before_pair = read_before false cs r in
+    (pair_read a b before_pair.0 before_pair.1 h.0 h.1.0 (read_waves cs r h.1.1 w)).1
+
+read_alone : (flags : List ℕ) (n : ℕ) → AreIndicators flags → is_odd flags ≡ false → 0 < length flags
+    → read_before false flags (n, plain) ≡ (n + length flags, before afters.RegionalIndicators)
+read_alone [] n h even some = absurd (omega arith)
+read_alone (a ∷ []) n h even some = absurd (true≢false even)
+read_alone (a ∷ b ∷ []) n h even some =
+    ap (step false a) (after_nothing b n h.1.0) ∙ after_one a (n + 1) h.0
+    ∙ ap (λ k. (k, before afters.RegionalIndicators)) (omega arith)
+read_alone (a ∷ b ∷ c ∷ cs) n h even some =
+    let k = n + length (c ∷ cs) in
+    ap (λ r. step false a (step false b r)) (read_alone (c ∷ cs) n h.1.1 (sym (not_not (is_odd (c ∷ cs))) ∙ even)
+    (omega arith))
+    ∙ ap (step false a) (after_more b k h.1.0) ∙ after_more a (k + 1) h.0
+    ∙ ap (λ m. (m, before afters.RegionalIndicators)) (omega arith)
+
+-- ---- another character reads them all alike
+
+same_even : (x t : ℕ) → is_indicator x ≡ false → step false x (t, before afters.EvenIndicatorsZwj)
+    ≡ step false x (t, before afters.RegionalIndicators)
+unfolding step past_emoji in_context past_selectors joins
+same_even x t n = rw n refl
+
+same_odd : (x t : ℕ) → is_indicator x ≡ false → step false x (t, before afters.OddIndicatorsZwj)
+    ≡ step false x (t, before afters.RegionalIndicators)
+unfolding step past_emoji in_context past_selectors joins
+same_odd x t n = rw n refl
+
+read_alike : (x t : ℕ) (s : State) → is_indicator x ≡ false → IsFlags s → step false x (t, s)
+    ≡ step false x (t, before afters.RegionalIndicators)
+read_alike x t s n (inl e) = ap (λ y. step false x (t, y)) e
+read_alike x t s n (inr (inl e)) = ap (λ y. step false x (t, y)) e ∙ same_even x t n
+read_alike x t s n (inr (inr e)) = ap (λ y. step false x (t, y)) e ∙ same_odd x t n
+
+-- a text that ends with another character
+pub record EndsOtherwise (xs : List ℕ) : Type 0 where
+  pub front : List ℕ
+  pub last : ℕ
+  pub is : xs ≡ front ++ last ∷ []
+  pub other : is_indicator last ≡ false
+
+abbrev pub IsFree : List ℕ → Type 0
+IsFree xs = (xs ≡ []) ⊎ EndsOtherwise xs
+
+alike : (xs : List ℕ) (t : ℕ) (s : State) → IsFree xs → IsFlags s → (read_before false xs (t, s)).0
+    ≡ (read_before false xs (t, before afters.RegionalIndicators)).0
+alike xs t s (inl e) f = ap (λ zs. (read_before false zs (t, s)).0) e
+    ∙ sym (ap (λ zs. (read_before false zs (t, before afters.RegionalIndicators)).0) e)
+alike xs t s (inr o) f =
+    ap (λ zs. (read_before false zs (t, s)).0) o.is ∙ ap (λ r. r.0) (read_append o.front (o.last ∷ []) (t, s))
+    ∙ ap (λ r. (read_before false o.front r).0) (read_alike o.last t s o.other f)
+    ∙ sym (ap (λ r. r.0) (read_append o.front (o.last ∷ []) (t, before afters.RegionalIndicators)))
+    ∙ sym (ap (λ zs. (read_before false zs (t, before afters.RegionalIndicators)).0) o.is)
+
+pub flags_parted : (xs flags ys : List ℕ) (d : ℕ) → IsFree xs → AreIndicators flags → is_odd flags ≡ false → 0
+    < length flags → is_indicator d ≡ true →
+    str_width false ((xs ++ flags) ++ d ∷ ys) ≡ str_width false (xs ++ flags) + str_width false (d ∷ ys)
+unfolding str_width
+flags_parted xs flags ys d free all even some h =
+    let r = read_before false (d ∷ ys) (0, plain) in
+    let w : Waves r = step_waves d (read_before false ys (0, plain)) h in
+    let q = read_before false flags r in
+    let wide : q.0 ≡ r.0 + length flags = read_width flags r all even w in
+    ap (λ x. x.0) (read_append (xs ++ flags) (d ∷ ys) (0, plain)) ∙ ap (λ x. x.0) (read_append xs flags r)
+    ∙ alike xs q.0 q.1 free (read_flags flags r all even some w)
+    ∙ ap (λ n. (read_before false xs (n, before afters.RegionalIndicators)).0) wide
+    ∙ ap (λ x. (read_before false xs x).0) (sym (read_alone flags r.0 all even some))
+    ∙ ap (λ x. x.0) (sym (read_append xs flags (r.0, plain)))
+    ∙ shifted (xs ++ flags) r.0
+
+-- ---- how a text ends, character by character
+
+-- a text that ends with indicators, an odd number of them where this is said
+pub record EndsInFlags (text : List ℕ) (last : ℕ) (is_half : Bool) : Type 0 where
+  pub front : List ℕ
+  pub flags : List ℕ
+  pub is : chars text ≡ front ++ flags
+  pub free : IsFree front
+  pub all : AreIndicators flags
+  pub half : is_odd flags ≡ is_half
+  pub some : is_indicator last ≡ true → 0 < length flags
+
+free_held : (first : Overlap) → IsHeld first → IsFree (overlap_text first)
+free_held Nothing h = inl refl
+free_held (One c) h = inr (record { front = []; last = c; is = refl; other = h })
+free_held (Selected c) h = inr (record { front = c ∷ []; last = 0xFE0F; is = refl; other = refl })
+
+pub no_flags : (text : List ℕ) (last : ℕ) (first : Overlap) → chars text ≡ overlap_text first → IsHeld first
+    → is_indicator last ≡ false → EndsInFlags text last false
+no_flags text last first e h n = record {
+  front = overlap_text first;
+  flags = [];
+  is = e ∙ sym (append-nil (overlap_text first));
+  free = free_held first h;
+  all = tt;
+  half = refl;
+  some = λ y. absurd (true≢false (sym y ∙ n));
+}
+
+odd_more : (flags : List ℕ) (c : ℕ) → is_odd (flags ++ c ∷ []) ≡ not (is_odd flags)
+odd_more [] c = refl
+odd_more (f ∷ fs) c = ap not (odd_more fs c)
+
+all_more : (flags : List ℕ) (c : ℕ) → AreIndicators flags → is_indicator c ≡ true → AreIndicators (flags ++ c ∷ [])
+all_more [] c all h = (h, tt)
+all_more (f ∷ fs) c all h = (all.0, all_more fs c all.1 h)
+
+length_more : (flags : List ℕ) (c : ℕ) → 0 < length (flags ++ c ∷ [])
+length_more [] c = omega arith
+length_more (f ∷ fs) c = omega arith
+
+pub flags_pushed : (old new : List ℕ) (last code : ℕ) (half later : Bool) → EndsInFlags old last half → chars new
+    ≡ chars old ++ code ∷ [] → later ≡ (is_indicator code && not half) → EndsInFlags new code later
+flags_pushed old new last code half later h e l =
+    by_cases {C = EndsInFlags new code later} (is_indicator code)
+    (λ y. record {
+      front = h.front;
+      flags = h.flags ++ code ∷ [];
+      is = e ∙ ap (λ cs. cs ++ code ∷ []) h.is ∙ append_assoc h.front h.flags (code ∷ []);
+      free = h.free;
+      all = all_more h.flags code h.all y;
+      half = odd_more h.flags code ∙ ap not h.half ∙ sym (l ∙ ap (λ b. b && not half) y);
+      some = λ z. length_more h.flags code;
+    })
+    (λ n. record {
+      front = (h.front ++ h.flags) ++ code ∷ [];
+      flags = [];
+      is = e ∙ ap (λ cs. cs ++ code ∷ []) h.is ∙ sym (append-nil ((h.front ++ h.flags) ++ code ∷ []));
+      free = inr (record { front = h.front ++ h.flags; last = code; is = refl; other = n });
+      all = tt;
+      half = sym (l ∙ ap (λ b. b && not half) n);
+      some = λ y. absurd (true≢false (sym y ∙ n));
+    })
+
+-- so it may be parted before an indicator
+pub flags_part : (text : List ℕ) (last code : ℕ) (half : Bool) → EndsInFlags text last half
+    → may_part_flags last half code ≡ true → (later : List ℕ) →
+    str_width false (chars text ++ code ∷ later) ≡ str_width false (chars text) + str_width false (code ∷ later)
+flags_part text last code half h part later =
+    let both = and_parts (not half) (is_indicator last && is_indicator code) part in
+    let ends = and_parts (is_indicator last) (is_indicator code) both.1 in
+    ap (λ cs. str_width false (cs ++ code ∷ later)) h.is
+    ∙ flags_parted h.front h.flags later code h.free h.all (h.half ∙ not-true half both.0) (h.some ends.0) ends.1
+    ∙ ap (λ cs. str_width false cs + str_width false (code ∷ later)) (sym h.is)

@@ -1,0 +1,13 @@
+pub mod Columning
+pub mod KindTests
+pub mod Lone
+pub mod PartedTexts
+pub mod Opening
+pub mod Overlaps
+pub mod Keeping
+pub mod SettledTexts
+pub mod Flags
+pub mod PlaceLaws
+pub mod FaintCharacters
+pub mod Running
+pub mod PlainColumns

@@ -1,0 +1,328 @@
+-- Characters that join nothing that stands behind them: behind such a one widths add up.
+use Rattle.std.proofs.Common.{ℕ, zero, suc, ◌+◌, ◌<◌, ◌≤◌, ◌≡◌, Bool, true, false, cond, not, ◌&&◌, ◌||◌, ◌==◌, nat_le}
+use Rattle.std.proofs.Common.{List, [], ◌∷◌, ◌++◌, None, refl, sym, ap, subst, ◌∙◌, add-one, inl, inr}
+use Rattle.std.specs.Prelude.{if◌then◌else◌}
+use Rattle.std.specs.Int.{is_in_range}
+use Rattle.std.specs.List.{list_all}
+use Rattle.std.proofs.lemmas.Bool.{true≢false, ne_eqb, or_parts, and_right, cases_lt, cond-true, cond-false, le-leb}
+use Rattle.std.proofs.lemmas.Bool.{lt-leb, not-true}
+use Rattle.miette_basics.proofs.Cases.{by_cases}
+use Rattle.ucd_table.specs.Rows.{Range, in_ranges}
+use Rattle.ucd_table.proofs.Stepped.{Stepped, of_ranges, map_stepped, zip_stepped}
+use Rattle.ucd_table.proofs.Facts.{always, ends_by, Stepped-everywhere}
+use Rattle.ucd_emoji.specs.Binary.{is_emoji_modifier_base, is_emoji_variation_base}
+use Rattle.ucd_emoji.proofs.BinaryLemmas.{is_emoji_modifier_base_stepped, is_emoji_variation_base_stepped}
+use Rattle.ucd_bidi.specs.JoiningGroup.{joining_group, joining_group_eq}
+use Rattle.ucd_bidi.specs.declared.JoiningGroup.TheVariants.{Lam}
+use Rattle.ucd_bidi.proofs.JoiningGroupLemmas.{joining_group_stepped}
+use Rattle.unicode_width.specs.declared.kind.Kind.{Kind}
+use Rattle.unicode_width.specs.declared.kind.Kind.TheVariants as kinds
+use Rattle.unicode_width.specs.declared.state.After.{After}
+use Rattle.unicode_width.specs.declared.state.After.TheVariants as afters
+use Rattle.unicode_width.specs.declared.state.State.{State}
+use Rattle.unicode_width.specs.Kind.{kind, is_ligature_transparent, is_text_presentation_base}
+use Rattle.unicode_width.specs.Width.{before, plain, is_joined_emoji, of_kind, alone, before_alef, is_lam, is_emoji}
+use Rattle.unicode_width.specs.Width.{joins, Reading, added, if_kept, skips_marks, is_plain, past_selectors, in_context}
+use Rattle.unicode_width.specs.Width.{past_emoji, step, read_before, str_width}
+use Rattle.unicode_width.proofs.KindLemmas.{is_ligature_transparent_stepped, is_text_presentation_base_stepped}
+use Rattle.unicode_width.proofs.Computing.{unicode_width}
+use Rattle.unicode_width.proofs.Rules.{is_simple, str_width-append_simple}
+use Rattle.miette_columns.specs.steps.Parting.{is_lone}
+use Rattle.miette_columns.proofs.KindTests.{kind_test_stepped}
+
+-- ---- what such a character is not
+
+abbrev lone_ranges : List Range
+lone_ranges =
+    (0x20, 0x22) ∷ (0x24, 0x29) ∷ (0x2B, 0x2F) ∷ (0x3A, 0x7E) ∷ (0xAF, 0x2FF) ∷ (0x391, 0x482) ∷ (0x48A, 0x52F)
+    ∷ (0x621, 0x643) ∷ (0x1780, 0x17B3) ∷ (0x3001, 0x3029) ∷ (0x3041, 0x3096) ∷ (0x30A0, 0x30FF) ∷ (0x3400, 0x4DBF)
+    ∷ (0x4E00, 0x9FFF) ∷ (0xAC00, 0xD7A3) ∷ []
+
+pub or_false : (b : Bool) → b ≡ (b || false)
+or_false true = refl
+or_false false = refl
+
+pub or_turn : (a b d : Bool) → ((a || b) || d) ≡ (a || (b || d))
+or_turn true b d = refl
+or_turn false b d = refl
+
+ranged : (c : ℕ) → is_lone c ≡ in_ranges lone_ranges c
+unfolding in_ranges
+ranged c = or_false (is_lone c) ∙ simp or_turn
+
+-- no such character passes the test
+abbrev never : (p : ℕ → Bool) → Stepped p → Bool
+unfolding unicode_width
+never p s =
+    let both = zip_stepped (λ a b. not (a && b)) (in_ranges lone_ranges) p (of_ranges lone_ranges refl) s in
+    always _ both && (ends_by 0x11_0000 both.steps && both.default)
+
+lone_not : (p : ℕ → Bool) (s : Stepped p) → never p s ≡ true → (c : ℕ) → is_lone c ≡ true → p c ≡ false
+unfolding unicode_width
+lone_not p s ok c h =
+    let both = zip_stepped (λ a b. not (a && b)) (in_ranges lone_ranges) p (of_ranges lone_ranges refl) s in
+    not-true (p c) (subst (λ a. not (a && p c) ≡ true) (sym (ranged c) ∙ h) (Stepped-everywhere _ both ok c))
+
+no_variation : (c : ℕ) → is_lone c ≡ true → is_emoji_variation_base c ≡ false
+unfolding unicode_width
+no_variation = lone_not is_emoji_variation_base is_emoji_variation_base_stepped refl
+
+no_modified : (c : ℕ) → is_lone c ≡ true → is_emoji_modifier_base c ≡ false
+unfolding unicode_width
+no_modified = lone_not is_emoji_modifier_base is_emoji_modifier_base_stepped refl
+
+no_presentation : (c : ℕ) → is_lone c ≡ true → is_text_presentation_base c ≡ false
+unfolding unicode_width
+no_presentation = lone_not is_text_presentation_base is_text_presentation_base_stepped refl
+
+no_transparent : (c : ℕ) → is_lone c ≡ true → is_ligature_transparent c ≡ false
+unfolding unicode_width
+no_transparent = lone_not is_ligature_transparent is_ligature_transparent_stepped refl
+
+no_lam : (c : ℕ) → is_lone c ≡ true → is_lam c ≡ false
+unfolding unicode_width
+no_lam = lone_not (λ c. joining_group_eq (joining_group c) Lam)
+    (map_stepped (λ g. joining_group_eq g Lam) joining_group joining_group_stepped) refl
+
+abbrev is_other_kind : Kind → Bool
+is_other_kind kinds.Narrow = false
+is_other_kind kinds.Wide = false
+is_other_kind kinds.Ambiguous = false
+is_other_kind kinds.Alef = false
+is_other_kind kinds.KhmerLetter = false
+is_other_kind _ = true
+
+no_other : (c : ℕ) → is_lone c ≡ true → is_other_kind (kind c) ≡ false
+unfolding unicode_width kind_test_stepped
+no_other = lone_not (λ c. is_other_kind (kind c)) (kind_test_stepped is_other_kind refl refl) refl
+
+no_tifinagh : (c : ℕ) → is_lone c ≡ true → is_in_range 0x2D31 0x2D65 c ≡ false
+unfolding unicode_width
+no_tifinagh c h = (or_parts (is_in_range 0x2D31 0x2D65 c) false
+    (lone_not (in_ranges ((0x2D31, 0x2D65) ∷ [])) (of_ranges ((0x2D31, 0x2D65) ∷ []) refl) refl c h)).0
+
+no_lisu : (c : ℕ) → is_lone c ≡ true → is_in_range 0xA4F8 0xA4FB c ≡ false
+unfolding unicode_width
+no_lisu c h = (or_parts (is_in_range 0xA4F8 0xA4FB c) false
+    (lone_not (in_ranges ((0xA4F8, 0xA4FB) ∷ [])) (of_ranges ((0xA4F8, 0xA4FB) ∷ []) refl) refl c h)).0
+
+no_indicator : (c : ℕ) → is_lone c ≡ true → is_in_range 0x1F1E6 0x1F1FF c ≡ false
+unfolding unicode_width
+no_indicator c h = (or_parts (is_in_range 0x1F1E6 0x1F1FF c) false
+    (lone_not (in_ranges ((0x1F1E6, 0x1F1FF) ∷ [])) (of_ranges ((0x1F1E6, 0x1F1FF) ∷ []) refl) refl c h)).0
+
+no_tag_letter : (c : ℕ) → is_lone c ≡ true → is_in_range 0xE0061 0xE007A c ≡ false
+unfolding unicode_width
+no_tag_letter c h = (or_parts (is_in_range 0xE0061 0xE007A c) false
+    (lone_not (in_ranges ((0xE0061, 0xE007A) ∷ [])) (of_ranges ((0xE0061, 0xE007A) ∷ []) refl) refl c h)).0
+
+no_tag_digit : (c : ℕ) → is_lone c ≡ true → is_in_range 0xE0030 0xE0039 c ≡ false
+unfolding unicode_width
+no_tag_digit c h = (or_parts (is_in_range 0xE0030 0xE0039 c) false
+    (lone_not (in_ranges ((0xE0030, 0xE0039) ∷ [])) (of_ranges ((0xE0030, 0xE0039) ∷ []) refl) refl c h)).0
+
+no_modifier : (c : ℕ) → is_lone c ≡ true → is_in_range 0x1F3FB 0x1F3FF c ≡ false
+unfolding unicode_width
+no_modifier c h = (or_parts (is_in_range 0x1F3FB 0x1F3FF c) false
+    (lone_not (in_ranges ((0x1F3FB, 0x1F3FF) ∷ [])) (of_ranges ((0x1F3FB, 0x1F3FF) ∷ []) refl) refl c h)).0
+
+no_single_quote : (c : ℕ) → is_lone c ≡ true → is_in_range 0x2018 0x2019 c ≡ false
+unfolding unicode_width
+no_single_quote c h = (or_parts (is_in_range 0x2018 0x2019 c) false
+    (lone_not (in_ranges ((0x2018, 0x2019) ∷ [])) (of_ranges ((0x2018, 0x2019) ∷ []) refl) refl c h)).0
+
+no_double_quote : (c : ℕ) → is_lone c ≡ true → is_in_range 0x201C 0x201D c ≡ false
+unfolding unicode_width
+no_double_quote c h = (or_parts (is_in_range 0x201C 0x201D c) false
+    (lone_not (in_ranges ((0x201C, 0x201D) ∷ [])) (of_ranges ((0x201C, 0x201D) ∷ []) refl) refl c h)).0
+
+no_one : (c k : ℕ) → is_lone k ≡ false → is_lone c ≡ true → (c == k) ≡ false
+no_one c k n h = ne_eqb c k (λ e. absurd (true≢false (sym h ∙ ap is_lone e ∙ n)))
+
+-- ---- its step is the same before any text
+
+past_low : (c t : ℕ) (s : State) → is_lone c ≡ true → c ≤ 0xA0 → past_emoji false c t s ≡ (t + 1, plain)
+unfolding past_emoji
+past_low c t s h low = rw (no_one c 0x0A refl h, no_one c 0x0D refl h, le-leb c 0xA0 low) refl
+
+no_emoji_kind : (k : Kind) → is_other_kind k ≡ false → is_emoji k ≡ false
+no_emoji_kind kinds.Zero e = absurd (true≢false e)
+no_emoji_kind kinds.Narrow e = refl
+no_emoji_kind kinds.Wide e = refl
+no_emoji_kind kinds.Ambiguous e = refl
+no_emoji_kind kinds.Alef e = refl
+no_emoji_kind kinds.KhmerLetter e = refl
+no_emoji_kind kinds.TifinaghConsonant e = absurd (true≢false e)
+no_emoji_kind kinds.LisuTone e = absurd (true≢false e)
+no_emoji_kind kinds.RegionalIndicator e = absurd (true≢false e)
+no_emoji_kind kinds.EmojiModifier e = absurd (true≢false e)
+no_emoji_kind kinds.Emoji e = absurd (true≢false e)
+no_emoji_kind kinds.Single e = absurd (true≢false e)
+
+no_emoji : (c : ℕ) → is_lone c ≡ true → is_emoji (kind c) ≡ false
+no_emoji c h = no_emoji_kind (kind c) (no_other c h)
+
+-- it has some width of its own
+own_kind : (c : ℕ) (k : Kind) → is_other_kind k ≡ false → ((of_kind false c k).0 == 0) ≡ false
+own_kind c kinds.Zero e = absurd (true≢false e)
+own_kind c kinds.Narrow e = refl
+own_kind c kinds.Wide e = refl
+own_kind c kinds.Ambiguous e = refl
+own_kind c kinds.Alef e = refl
+own_kind c kinds.KhmerLetter e = refl
+own_kind c kinds.TifinaghConsonant e = absurd (true≢false e)
+own_kind c kinds.LisuTone e = absurd (true≢false e)
+own_kind c kinds.RegionalIndicator e = absurd (true≢false e)
+own_kind c kinds.EmojiModifier e = absurd (true≢false e)
+own_kind c kinds.Emoji e = absurd (true≢false e)
+own_kind c kinds.Single e = absurd (true≢false e)
+
+own : (c : ℕ) → is_lone c ≡ true → ((alone false c).0 == 0) ≡ false
+unfolding alone
+own c h = own_kind c (kind c) (no_other c h)
+
+joins_none : (after : After) (c : ℕ) → is_lone c ≡ true → ((alone false c).0 == 0) ≡ false → joins false after c ≡ None
+unfolding joins before_alef
+joins_none afters.Nothing c h some = refl
+joins_none afters.LineFeed c h some = refl
+joins_none afters.EmojiModifier c h some = rw (no_modified c h, no_one c 0x200D refl h) refl
+joins_none afters.RegionalIndicator c h some = rw (no_indicator c h) refl
+joins_none afters.RegionalIndicators c h some = rw (no_indicator c h, no_one c 0x200D refl h) refl
+joins_none afters.Emoji c h some = rw (no_one c 0x200D refl h) refl
+joins_none afters.ZwjEmoji c h some = rw (
+  no_one c 0x20E3 refl h,
+  no_indicator c h,
+  no_modifier c h,
+  no_one c 0xE007F refl h,
+  no_emoji c h,
+) refl
+joins_none afters.KeycapZwjEmoji c h some = refl
+joins_none afters.IndicatorZwj c h some = rw (no_indicator c h) refl
+joins_none afters.EvenIndicatorsZwj c h some = rw (no_indicator c h, no_one c 0x200D refl h) refl
+joins_none afters.OddIndicatorsZwj c h some = rw (no_indicator c h, no_one c 0x200D refl h) refl
+joins_none afters.TagEnd c h some = rw (no_tag_letter c h, no_tag_digit c h) refl
+joins_none afters.TagDigit1 c h some = rw (no_tag_digit c h) refl
+joins_none afters.TagDigit2 c h some = rw (no_tag_digit c h) refl
+joins_none afters.TagDigit3 c h some = rw (no_one c 0x1F3F4 refl h) refl
+joins_none afters.TagLetter1 c h some = rw (no_tag_letter c h, no_tag_digit c h) refl
+joins_none afters.TagLetter2 c h some = rw (no_tag_letter c h, no_tag_digit c h) refl
+joins_none afters.TagLetter3 c h some = rw (no_tag_letter c h, no_tag_digit c h, no_one c 0x1F3F4 refl h) refl
+joins_none afters.TagLetter4 c h some = rw (no_tag_letter c h, no_tag_digit c h, no_one c 0x1F3F4 refl h) refl
+joins_none afters.TagLetter5 c h some = rw (no_tag_letter c h, no_one c 0x1F3F4 refl h) refl
+joins_none afters.TagLetter6 c h some = rw (no_one c 0x1F3F4 refl h) refl
+joins_none afters.KiratE c h some = rw (
+  no_one c 0x16D63 refl h,
+  no_one c 0x16D67 refl h,
+  no_one c 0x16D68 refl h,
+  no_one c 0x16D69 refl h,
+) refl
+joins_none afters.KiratAi c h some = rw (no_one c 0x16D63 refl h) refl
+joins_none afters.Alef c h some = rw (no_lam c h, some) refl
+joins_none afters.Solidus c h some = refl
+joins_none afters.SolidusAlef c h some = refl
+joins_none afters.Lamed c h some = refl
+joins_none afters.ZwjLamed c h some = rw (no_one c 0x05D0 refl h) refl
+joins_none afters.Ya c h some = refl
+joins_none afters.ZwjYa c h some = rw (no_one c 0x1A17 refl h) refl
+joins_none afters.VowelZwjYa c h some = rw (no_one c 0x1A15 refl h) refl
+joins_none afters.Tifinagh c h some = rw (no_one c 0x2D7F refl h) refl
+joins_none afters.ZwjTifinagh c h some = rw (no_one c 0x2D7F refl h, no_tifinagh c h, no_one c 0x2D6F refl h) refl
+joins_none afters.JoinerTifinagh c h some = rw (no_tifinagh c h, no_one c 0x2D6F refl h) refl
+joins_none afters.LisuTone c h some = rw (no_lisu c h) refl
+joins_none afters.OrkhonI c h some = refl
+joins_none afters.ZwjOrkhonI c h some = rw (no_one c 0x10C32 refl h) refl
+joins_none afters.KhmerLetter c h some = rw (no_one c 0x17D2 refl h) refl
+
+past_quotes : (c t : ℕ) (after : After) → is_lone c ≡ true → past_selectors false c t after ≡ added t (alone false c)
+unfolding past_selectors
+past_quotes c t after h =
+    rw (
+      no_one c 0x200D refl h,
+      no_transparent c h,
+      and_right (skips_marks after) false refl,
+      joins_none after c h (own c h),
+    ) refl
+
+in_any_context : (c t : ℕ) (s : State) → is_lone c ≡ true → in_context false c t s ≡ added t (alone false c)
+unfolding in_context
+in_any_context c t s h =
+    rw (
+      no_one c 0xFE0F refl h,
+      no_one c 0xFE01 refl h,
+      no_one c 0xFE0E refl h,
+      no_presentation c h,
+      no_single_quote c h,
+      no_double_quote c h,
+      and_right s.text false refl,
+      and_right s.quote false refl,
+    )
+    (past_quotes c t s.after h)
+
+past_high : (c t : ℕ) (s : State) → is_lone c ≡ true → 0xA0 < c → past_emoji false c t s ≡ added t (alone false c)
+unfolding past_emoji
+past_high c t s h high =
+    by_cases {C = past_emoji false c t s ≡ added t (alone false c)} (is_plain s)
+    (λ y. rw (no_one c 0x0A refl h, no_one c 0x0D refl h, lt-leb c 0xA0 high, y) refl)
+    (λ n. rw (no_one c 0x0A refl h, no_one c 0x0D refl h, lt-leb c 0xA0 high, n) (in_any_context c t s h))
+
+-- its width, and what it is for the character before it
+abbrev lone_own : ℕ → ℕ × State
+lone_own c = if nat_le c 0xA0 then (1, plain) else alone false c
+
+past_all : (c t : ℕ) (s : State) → is_lone c ≡ true → past_emoji false c t s ≡ added t (lone_own c)
+past_all c t s h =
+    elim (cases_lt 0xA0 c) [
+      | inl high ↦ past_high c t s h high ∙ ap (added t) (sym (cond-false _ _ _ (lt-leb c 0xA0 high)))
+      | inr low ↦ past_low c t s h low ∙ ap (added t) (sym (cond-true _ _ _ (le-leb c 0xA0 low)))
+    ]
+
+chosen : (e v : Bool) (a b d r : Reading) → v ≡ false → a ≡ r → d ≡ r → cond (not e) a (cond v b d) ≡ r
+chosen false v a b d r n p q = p
+chosen true false a b d r n p q = q
+chosen true true a b d r n p q = absurd (true≢false n)
+
+step_lone : (c t : ℕ) (s : State) → is_lone c ≡ true → step false c (t, s) ≡ added t (lone_own c)
+unfolding step
+step_lone c t s h =
+    chosen s.emoji (is_emoji_variation_base c) (past_emoji false c t s)
+    (t + (if is_joined_emoji s.after then 0 else 2), before afters.Emoji)
+    (past_emoji false c t (record (if_kept s) { emoji = false })) (added t (lone_own c)) (no_variation c h)
+    (past_all c t s h)
+    (past_all c t (record (if_kept s) { emoji = false }) h)
+
+-- ---- so widths add up
+
+pub read_append : (xs ys : List ℕ) (r : Reading) → read_before false (xs ++ ys) r
+    ≡ read_before false xs (read_before false ys r)
+read_append [] ys r = refl
+read_append (x ∷ xs) ys r = ap (step false x) (read_append xs ys r)
+
+abbrev spaces : ℕ → List ℕ
+spaces zero = []
+spaces (suc n) = 0x20 ∷ spaces n
+
+simple_spaces : (n : ℕ) → list_all is_simple (spaces n) ≡ true
+simple_spaces zero = refl
+simple_spaces (suc n) = simple_spaces n
+
+read_spaces : (n : ℕ) → read_before false (spaces n) (0, plain) ≡ (n, plain)
+read_spaces zero = refl
+read_spaces (suc n) = ap (step false 0x20) (read_spaces n) ∙ step_lone 0x20 n plain refl
+    ∙ ap (λ m. (m, plain)) (add-one n)
+
+-- what is read before so many columns
+pub shifted : (xs : List ℕ) (n : ℕ) → (read_before false xs (n, plain)).0 ≡ str_width false xs + n
+unfolding str_width
+shifted xs n =
+    ap (λ r. (read_before false xs r).0) (sym (read_spaces n))
+    ∙ ap (λ r. r.0) (sym (read_append xs (spaces n) (0, plain)))
+    ∙ str_width-append_simple false xs (spaces n) (simple_spaces n) ∙ ap (λ r. str_width false xs + r.0) (read_spaces n)
+
+pub adds_up : (xs ys : List ℕ) (c : ℕ) → is_lone c ≡ true → str_width false (xs ++ c ∷ ys)
+    ≡ str_width false (xs ++ c ∷ []) + str_width false ys
+unfolding str_width
+adds_up xs ys c h =
+    let r = read_before false ys (0, plain) in
+    ap (λ x. x.0) (read_append xs (c ∷ ys) (0, plain)) ∙ ap (λ x. (read_before false xs x).0)
+    (step_lone c r.0 r.1 h ∙ sym (step_lone c r.0 plain h))
+    ∙ ap (λ x. x.0) (sym (read_append xs (c ∷ []) (r.0, plain))) ∙ shifted (xs ++ c ∷ []) r.0

@@ -1,0 +1,150 @@
+//! Between which characters a text may be parted.
+
+ghost use Rattle.std.specs.Prelude.{◌≡◌};
+ghost use Rattle.std.specs.Int.{is_in_range};
+ghost use Rattle.miette_columns.specs.steps.Parting.{is_lone, is_joining, is_closing, may_part, may_part_flags};
+ghost use Rattle.miette_columns.specs.steps.Parting.{is_keeping, opens, end_overlap, overlap_between};
+ghost use Rattle.unicode_width.specs.Width.{is_indicator};
+
+use crate::overlap::Overlap;
+use miette_cells::cells::columns_of;
+use ucd_emoji::is_emoji_variation_base;
+
+fn in_range(code: u32, low: u32, high: u32) -> bool
+    ensures { result ≡ is_in_range low high code }
+{
+    low <= code && code <= high
+}
+
+/// Whether a character joins nothing that stands behind it. Those that are looked for are ASCII characters and letters.
+fn is_lone(character: char) -> bool
+    ensures { result ≡ is_lone character }
+{
+    let code = character as u32;
+    in_range(code, 0x20, 0x22)
+        || in_range(code, 0x24, 0x29)
+        || in_range(code, 0x2b, 0x2f)
+        || in_range(code, 0x3a, 0x7e)
+        || in_range(code, 0xaf, 0x2ff)
+        || in_range(code, 0x391, 0x482)
+        || in_range(code, 0x48a, 0x52f)
+        || in_range(code, 0x621, 0x643)
+        || in_range(code, 0x1780, 0x17b3)
+        || in_range(code, 0x3001, 0x3029)
+        || in_range(code, 0x3041, 0x3096)
+        || in_range(code, 0x30a0, 0x30ff)
+        || in_range(code, 0x3400, 0x4dbf)
+        || in_range(code, 0x4e00, 0x9fff)
+        || in_range(code, 0xac00, 0xd7a3)
+}
+
+/// Whether a character lies where letters and signs lie that may join others.
+fn is_joining(character: char) -> bool
+    ensures { result ≡ is_joining character }
+{
+    let code = character as u32;
+    in_range(code, 0x338, 0x338)
+        || in_range(code, 0x5dc, 0x5dc)
+        || in_range(code, 0x622, 0x627)
+        || in_range(code, 0x671, 0x675)
+        || in_range(code, 0x773, 0x774)
+        || in_range(code, 0x870, 0x882)
+        || in_range(code, 0x1780, 0x17d8)
+        || in_range(code, 0x1a10, 0x1a10)
+        || in_range(code, 0x2d31, 0x2d7f)
+        || in_range(code, 0xa4fc, 0xa4fd)
+        || in_range(code, 0xfb3c, 0xfb3c)
+        || in_range(code, 0xfe00, 0xfe0f)
+        || in_range(code, 0x10c03, 0x10c03)
+        || in_range(code, 0x16d67, 0x16d68)
+        || in_range(code, 0x1f1e6, 0x1f1ff)
+        || in_range(code, 0x1f3fb, 0x1f3ff)
+}
+
+/// Whether only a joiner before a character joins it to what stands there, whatever stands behind it.
+fn is_closing(character: char) -> bool
+    ensures { result ≡ is_closing character }
+{
+    if character as u32 <= 0xa0 {
+        character != '\n'
+    } else {
+        columns_of(character) > 0 && !is_joining(character)
+    }
+}
+
+/// Whether a text may be parted between two neighbours.
+fn may_part(last: char, next: char) -> bool
+    ensures { result ≡ may_part last next }
+{
+    is_lone(last) || is_closing(next) && last != '\u{200d}'
+}
+
+/// Whether a character is a regional indicator, two of which are a flag.
+pub(crate) fn is_indicator(character: char) -> bool
+    ensures { result ≡ is_indicator character }
+{
+    in_range(character as u32, 0x1f1e6, 0x1f1ff)
+}
+
+/// Whether a text may be parted between two regional indicators, where the first one ends a flag or is half of one.
+fn may_part_flags(last: char, is_half: bool, next: char) -> bool
+    ensures { result ≡ may_part_flags last is_half next }
+{
+    !is_half && is_indicator(last) && is_indicator(next)
+}
+
+/// Whether a character is a skin tone, or a letter that nothing behind it joins though it may join those before it.
+fn is_keeping(character: char) -> bool
+    ensures { result ≡ is_keeping character }
+{
+    let code = character as u32;
+    in_range(code, 0x5dc, 0x5dc)
+        || in_range(code, 0x671, 0x675)
+        || in_range(code, 0x773, 0x774)
+        || in_range(code, 0x870, 0x882)
+        || in_range(code, 0x1a10, 0x1a10)
+        || in_range(code, 0xa4fc, 0xa4fd)
+        || in_range(code, 0xfb3c, 0xfb3c)
+        || in_range(code, 0x10c03, 0x10c03)
+        || in_range(code, 0x1f3fb, 0x1f3ff)
+}
+
+/// Whether a character is no selector and no skin tone.
+fn opens(character: char) -> bool
+    ensures { result ≡ opens character }
+{
+    let code = character as u32;
+    !(in_range(code, 0xfe00, 0xfe0f) || in_range(code, 0x1f3fb, 0x1f3ff))
+}
+
+// What is overlap where a text may be told from its last characters.
+fn end_overlap(before: char, last: char) -> Option<Overlap>
+    ensures { result ≡ end_overlap before last }
+{
+    if is_closing(last) || is_keeping(last) {
+        Some(Overlap::One(last))
+    } else if last == '\u{fe0f}' && is_emoji_variation_base(before) {
+        Some(Overlap::Selected(before))
+    } else {
+        None
+    }
+}
+
+/// What a place between two neighbours holds, if one may lie there: nothing where the text may be parted, else its last
+/// characters, from whose columns those behind are told.
+pub(crate) fn overlap_between(
+    before: char,
+    last: char,
+    is_half: bool,
+    next: char,
+) -> Option<Overlap>
+    ensures { result ≡ overlap_between before last is_half next }
+{
+    if may_part(last, next) || may_part_flags(last, is_half, next) {
+        Some(Overlap::Nothing)
+    } else if opens(next) {
+        end_overlap(before, last)
+    } else {
+        None
+    }
+}

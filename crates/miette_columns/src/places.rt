@@ -1,0 +1,169 @@
+//! Places of a text from which a walk over its characters may go on, so that a column far into it is found by a short
+//! walk.
+
+ghost use Rattle.std.specs.Prelude.{◌≡◌, ◌<◌, ◌≤◌, ◌+◌, ◌-◌, false, chars, string_bytes, IfOk, IfSome};
+ghost use Rattle.std.specs.List.{All};
+ghost use Rattle.unicode_width.specs.Width.{str_width};
+ghost use Rattle.miette_columns.specs.steps.Places.{IsPlace, overlap_text};
+
+use crate::overlap::Overlap;
+use crate::parting::{is_indicator, overlap_between};
+use miette_cells::cells::{columns_of, first_character};
+use std::alloc::{AllocError, Global};
+use unicode_width::UnicodeWidthStr;
+
+/// How many bytes of the text lie before a place, how many columns they have, and how many their characters have each
+/// by itself.
+#[derive(Clone, Copy)]
+pub(crate) struct PartingPlace {
+    pub(crate) bytes: usize,
+    pub(crate) column: usize,
+    pub(crate) widths: usize,
+    /// What a walk begins with, and its columns, which are then counted twice.
+    pub(crate) overlap: Overlap,
+    pub(crate) twice: usize,
+}
+
+/// How many bytes lie at least between two places.
+pub(crate) const APART: usize = 64;
+
+/// Where a text begins.
+pub(crate) fn start(text: &[u8]) -> PartingPlace
+    ensures place { IsPlace text.now result }
+    ensures first { result.bytes ≡ 0 }
+{
+    PartingPlace {
+        bytes: 0,
+        column: 0,
+        widths: 0,
+        overlap: Overlap::Nothing,
+        twice: 0,
+    }
+}
+
+/// What a walk from a place begins with.
+#[tactic(auto, using(crate::proofs::Columning::none_held_text))]
+pub(crate) fn overlap_text(alloc: Global, first: Overlap) -> Result<String, AllocError>
+    ensures { IfOk result (λ text. chars (string_bytes text) ≡ overlap_text first) }
+{
+    let mut text = String::new(alloc);
+    match first {
+        Overlap::Nothing => {}
+        Overlap::One(character) => text.push(character)?,
+        Overlap::Selected(emoji) => {
+            text.push(emoji)?;
+            text.push('\u{fe0f}')?;
+        }
+    }
+    Ok(text)
+}
+
+/// The column behind a place's own and a text's, which begins with what the place holds; past the largest `usize` it
+/// is refused as want of memory.
+pub(crate) fn column_after(from: PartingPlace, text: &str) -> Result<usize, AllocError>
+    ensures { IfOk result (λ column. column ≡ (from.column + str_width false (chars text.now)) - from.twice) }
+{
+    match from.column.checked_add(text.width()) {
+        Some(column) => Ok(column.saturating_sub(from.twice)),
+        None => Err(AllocError),
+    }
+}
+
+// The place behind so many bytes, which holds some characters, where a text is over since another place.
+fn place_at(
+    alloc: Global,
+    from: PartingPlace,
+    over: &str,
+    bytes: usize,
+    widths: usize,
+    first: Overlap,
+) -> Result<PartingPlace, AllocError>
+    ensures bytes { IfOk result (λ place. place.bytes ≡ bytes) }
+    ensures column { IfOk result (λ place. place.column
+        ≡ (from.column + str_width false (chars over.now)) - from.twice) }
+    ensures widths { IfOk result (λ place. place.widths ≡ widths) }
+    ensures overlap { IfOk result (λ place. place.overlap ≡ first) }
+    ensures twice { IfOk result (λ place. place.twice ≡ str_width false (overlap_text first)) }
+{
+    let column = column_after(from, over)?;
+    let text = overlap_text(alloc, first)?;
+    let twice = text.as_str().width();
+    Ok(PartingPlace {
+        bytes,
+        column,
+        widths,
+        overlap: first,
+        twice,
+    })
+}
+
+// The next place behind one, if there is one.
+fn next_place(
+    alloc: Global,
+    text: &[u8],
+    from: PartingPlace,
+) -> Result<Option<PartingPlace>, AllocError>
+    requires { IsPlace text.now from }
+    ensures { IfOk result (λ next. IfSome next (λ place. IsPlace text.now place × (from.bytes < place.bytes))) }
+{
+    let mut over = overlap_text(alloc, from.overlap)?;
+    let mut before = '\0';
+    let mut last = '\0';
+    let mut is_half = false;
+    let mut widths = from.widths;
+    let mut bytes = from.bytes;
+    while bytes < text.len() {
+        let (code, size) = first_character(&text[bytes..]);
+        if bytes - from.bytes >= APART {
+            if let Some(first) = overlap_between(before, last, is_half, code) {
+                let place = place_at(alloc, from, over.as_str(), bytes, widths, first)?;
+                return Ok(Some(place));
+            }
+        }
+        over.push(code)?;
+        let Some(wider) = widths.checked_add(columns_of(code)) else {
+            return Err(AllocError);
+        };
+        is_half = is_indicator(code) && !is_half;
+        before = last;
+        last = code;
+        widths = wider;
+        bytes += size;
+    }
+    Ok(None)
+}
+
+/// Places of a text, in order, each where the text may first be parted after so many bytes more.
+pub(crate) fn places(alloc: Global, text: &[u8]) -> Result<Vec<PartingPlace>, AllocError>
+    ensures { IfOk result (λ places. All (IsPlace text.now) places.items) }
+{
+    let mut places = Vec::new(alloc);
+    let mut from = start(text);
+    while let Some(place) = next_place(alloc, text, from)? {
+        places.push(place)?;
+        from = place;
+    }
+    Ok(places)
+}
+
+/// The last place that lies so many bytes from the start or fewer, found by halving.
+pub(crate) fn place_before(text: &[u8], places: &[PartingPlace], bytes: usize) -> PartingPlace
+    requires { All (IsPlace text.now) places.now }
+    ensures place { IsPlace text.now result }
+    ensures before { result.bytes ≤ bytes }
+{
+    let mut found = start(text);
+    let mut low = 0;
+    let mut high = places.len();
+    while low < high {
+        let middle = low + (high - low) / 2;
+        let place = places[middle];
+        if place.bytes <= bytes {
+            found = place;
+            low = middle + 1;
+        } else {
+            high = middle;
+        }
+    }
+    found
+}

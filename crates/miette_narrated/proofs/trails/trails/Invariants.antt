@@ -1,7 +1,0 @@
-use Rattle.std.specs.List.{All}
-use Rattle.miette_narrated.specs.steps.Places.{IsPlace}
-use Rattle.miette_narrated.specs.steps.Trails.{IsTrail}
-use Rattle.miette_narrated.proofs.trails.trails.Given as goal
-
-abbrev pub invariant-loop-place : goal.invariant-loop-place
-invariant-loop-place l = IsPlace l.text l.from × All (IsTrail l.text) l.trails.items
