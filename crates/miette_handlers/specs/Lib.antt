@@ -1,5 +1,4 @@
-pub mod rules
-pub mod steps
+pub use Rattle.miette_debug.specs.rules.DebugText
 pub use Rattle.miette_graphical.specs.views.Handling
 pub use Rattle.miette_graphical.specs.rules.Settings
 pub use Rattle.miette_graphical.specs.views.SettingsView

@@ -1,7 +1,6 @@
 //! The handlers, from a report to its text, by the names that users know.
 #![tactic(auto)]
 
-mod debug_handler;
 pub mod handlers;
 
 pub use miette_brief::laws as brief_laws;

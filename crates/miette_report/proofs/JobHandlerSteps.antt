@@ -18,7 +18,7 @@ use Rattle.miette_graphical.specs.rules.Answers.{unlisted}
 use Rattle.miette_tree.specs.views.Handler.{AppendsOne}
 use Rattle.miette_tree.specs.rules.Reads.{AlwaysReads, report_accepted, report_reads}
 use Rattle.miette_tree.proofs.Readings.{told_reads}
-use Rattle.miette_handlers.specs.rules.DebugText.{IsDebugText}
+use Rattle.miette_debug.specs.rules.DebugText.{IsDebugText}
 use Rattle.miette_graphical.specs.rules.PrintedDiagnostics.{all_read, diagnostics_of}
 use Rattle.miette_json.specs.rules.Json.{json_text}
 use Rattle.miette_json.specs.rules.JsonReport.{value_of}

@@ -16,7 +16,7 @@ use Rattle.miette_json.specs.rules.Json.{json_text}
 use Rattle.miette_json.specs.rules.JsonReport.{value_of}
 use Rattle.miette_graphical.specs.rules.Snippets.{drawn_rows}
 use Rattle.miette_graphical.specs.rules.Text.{report_text}
-use Rattle.miette_handlers.specs.rules.DebugText.{IsDebugText}
+use Rattle.miette_debug.specs.rules.DebugText.{IsDebugText}
 use Rattle.miette_description.specs.rules.Description.{tree_for}
 use Rattle.miette_report.specs.declared.option_words.Choice.{Choice}
 use Rattle.miette_report.specs.declared.option_words.Choice.TheVariants.{Build, Json, Debug}

@@ -9,7 +9,7 @@ use Rattle.miette_tree.specs.rules.Tree.{Tree}
 use Rattle.miette_tree.specs.rules.Reads.{report_accepted}
 use Rattle.miette_json.specs.rules.Json.{json_text}
 use Rattle.miette_json.specs.rules.JsonReport.{value_of}
-use Rattle.miette_handlers.specs.rules.DebugText.{IsDebugText}
+use Rattle.miette_debug.specs.rules.DebugText.{IsDebugText}
 use Rattle.miette_report.specs.rules.Job.{IsBuiltText}
 use Rattle.miette_report.specs.declared.job_handler.JobHandler.{JobHandler}
 use Rattle.miette_report.specs.declared.job_handler.JobHandler.TheVariants as chosen

@@ -1,4 +1,4 @@
-use Rattle.miette_handlers.proofs.debug_handler.DebugReportHandler.render_report.Goals as goal
+use Rattle.miette_debug.proofs.handler.DebugReportHandler.render_report.Goals as goal
 
 pub returns-clause-text : goal.returns-clause-text
 returns-clause-text g c = c.render.ensures.text

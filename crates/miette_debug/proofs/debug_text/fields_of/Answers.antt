@@ -1,7 +1,7 @@
 use Rattle.std.proofs.Common.{◌∙◌, ◌++◌, ap, sym, subst}
 use Rattle.miette_tree.specs.views.Report.{tree_of}
-use Rattle.miette_handlers.specs.rules.DebugText.{IsDebugText}
-use Rattle.miette_handlers.proofs.debug_handler.fields_of.Goals as goal
+use Rattle.miette_debug.specs.rules.DebugText.{IsDebugText}
+use Rattle.miette_debug.proofs.debug_text.fields_of.Goals as goal
 
 pub returns : goal.returns
 returns g c =

@@ -1,7 +1,7 @@
 -- Fields that stand one behind the other.
 use Rattle.std.specs.Prelude.{◌≡◌, ℕ, List, ◌++◌, Option, codes}
 use Rattle.miette_protocol.specs.declared.protocol.Severity.{Severity}
-use Rattle.miette_handlers.specs.rules.DebugText.{IsField, severity_variant}
+use Rattle.miette_debug.specs.rules.DebugText.{IsField, severity_variant}
 
 -- the fields of code, severity, url and help
 pub record AreFields (code : Option (List ℕ)) (severity : Option Severity) (url help : Option (List ℕ))

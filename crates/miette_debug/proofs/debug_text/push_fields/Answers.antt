@@ -1,8 +1,8 @@
 use Rattle.std.proofs.lemmas.Result.{on_ok_weaker}
 use Rattle.miette_tree.specs.views.Report.{tree_of}
 use Rattle.miette_tree.proofs.Written.{where_written}
-use Rattle.miette_handlers.proofs.Fields.{fields_put}
-use Rattle.miette_handlers.proofs.debug_handler.push_fields.Goals as goal
+use Rattle.miette_debug.proofs.Fields.{fields_put}
+use Rattle.miette_debug.proofs.debug_text.push_fields.Goals as goal
 
 pub returns : goal.returns
 returns g c =

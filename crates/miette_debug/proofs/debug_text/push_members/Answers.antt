@@ -1,6 +1,6 @@
 use Rattle.std.proofs.lemmas.Result.{on_ok_weaker}
-use Rattle.miette_handlers.proofs.Fields.{members_put}
-use Rattle.miette_handlers.proofs.debug_handler.push_members.Goals as goal
+use Rattle.miette_debug.proofs.Fields.{members_put}
+use Rattle.miette_debug.proofs.debug_text.push_members.Goals as goal
 
 pub returns : goal.returns
 returns c =

@@ -5,9 +5,9 @@ use Rattle.miette_protocol.specs.declared.protocol.Severity.{Severity}
 use Rattle.miette_tree.specs.rules.Tree.{Tree, head, cause_of, causes_of}
 use Rattle.miette_tree.specs.rules.DiagnosticParts.{given_labels}
 use Rattle.miette_tree.specs.views.Handler.{AppendsOne}
-use Rattle.miette_handlers.specs.rules.DebugText.{IsDebugText, IsField, IsLabelsField, IsQuoted, nearest}
-use Rattle.miette_handlers.specs.rules.DebugText.{severity_variant}
-use Rattle.miette_handlers.specs.steps.DebugParts.{AreFields}
+use Rattle.miette_debug.specs.rules.DebugText.{IsDebugText, IsField, IsLabelsField, IsQuoted, nearest}
+use Rattle.miette_debug.specs.rules.DebugText.{severity_variant}
+use Rattle.miette_debug.specs.steps.DebugParts.{AreFields}
 
 four : (old a b c new code severity url help : List ℕ) → a ≡ old ++ code → b ≡ a ++ severity → c ≡ b ++ url → new ≡ c
     ++ help
