@@ -5,12 +5,12 @@ use Rattle.std.proofs.Common.{ℕ, zero, suc, ◌+◌, ◌-◌, ◌^◌, ◌<◌
 use Rattle.std.proofs.Common.{[], ◌∷◌, ◌++◌, length, map, take, drop, Option, refl, sym, ap, ◌∙◌, subst, arith, All}
 use Rattle.std.specs.Prelude.{slice_range, slice_index_or}
 use Rattle.std.specs.List.{AllByRecursion, filter}
-use Rattle.std.proofs.lemmas.List.{drop-take, length-take, length-map, drop_all}
+use Rattle.std.proofs.lemmas.List.{drop-drop, drop-take, length-take, length-map, drop_all}
 use Rattle.std.proofs.Math.Seq.{take-take}
 use Rattle.std.proofs.lemmas.Bool.{ne_eqb, eqb-true, eqb-false}
 use Rattle.std.proofs.lemmas.List.Elements.{All-tail}
 use Rattle.miette_source_lines.specs.rules.Lines as P
-use Rattle.miette_source_lines.specs.rules.Lines.{Line}
+use Rattle.miette_source_lines.specs.rules.Lines.{Line, IsCut}
 use Rattle.miette_protocol.specs.views.Meaning.{Label}
 use Rattle.miette_protocol.specs.rules.Reading.{Span, Source, Contents, data_start, data_end}
 use Rattle.miette_style.specs.declared.style.Style.{Style}
@@ -42,14 +42,9 @@ use Rattle.miette_labels.specs.views.Sweeping.{is_one, is_multi, nothing, start_
 use Rattle.miette_labels.specs.views.LabelCounts.{most_multi}
 use Rattle.miette_page.specs.views.Tokens.{rows_tokens}
 use Rattle.miette_basics.proofs.Cases.{by_cases}
-use Rattle.miette_labels.proofs.Sources.{IsCut, lines_from}
-use Rattle.miette_labels.proofs.Lines.{cut_lines, cut-le}
-use Rattle.miette_labels.proofs.Segments.{drop_drop}
-use Rattle.miette_labels.proofs.Bridge.{lines_same}
-use Rattle.miette_snippet_rules.proofs.Bodies.{order_same}
+use Rattle.miette_source_lines.proofs.Cuts.{cut_from, cut_le}
 use Rattle.miette_snippet_rules.proofs.Ends.{end_told}
-use Rattle.miette_snippet_rules.proofs.Merging.{sorted}
-use Rattle.miette_labels.proofs.Merging.{IsAscending}
+use Rattle.miette_labels.proofs.Merging.{IsAscending, ordered_ascends}
 use Rattle.miette_labels.proofs.Refusing.{read_of}
 use Rattle.miette_snippet_rules.proofs.Telling.{told_rows-append}
 use Rattle.miette_snippet_rules.specs.rules.SnippetLayout.{snippet_context, line_in, line_shown}
@@ -66,19 +61,19 @@ slices bytes from to a b low le high =
     let start : from + k ≡ a = omega arith in
     ap (λ n. take (b - from - k) (drop k (take n (drop from bytes)))) whole
     ∙ ap (take (b - from - k)) (drop-take k m (drop from bytes))
-    ∙ ap (λ xs. take (b - from - k) (take m xs)) (drop_drop k from bytes ∙ ap (λ n. drop n bytes) start)
+    ∙ ap (λ xs. take (b - from - k) (take m xs)) (drop-drop k from bytes ∙ ap (λ n. drop n bytes) start)
     ∙ ap (λ n. take n (take m (drop a bytes))) same
     ∙ take-take (b - a) m (drop a bytes) (omega arith)
 
 abbrev Inside : ℕ → ℕ → Line → Type 0
 Inside low high line = (low ≤ line.start) × (line.start ≤ line.text_end) × (line.text_end ≤ high)
 
-cut_inside : (low at n high : ℕ) (ls : List Line) → IsCut at n ls → low ≤ at → n ≤ high
+cut_inside : (low at n high : ℕ) (ls : List Line) → IsCut at ls n → low ≤ at → n ≤ high
     → AllByRecursion (Inside low high) ls
 cut_inside low at n high [] h le top = tt
 cut_inside low at n high (l ∷ ls) h le top = (
-  (omega (arith, h.0), omega (arith, h.0, h.1), omega (arith, h.2, top, cut-le l.end n ls h.5)),
-  cut_inside low l.end n high ls h.5 (omega (arith, h.3)) top,
+  (omega (arith, h.0), omega (arith, h.0, h.1), omega (arith, h.2, top, cut_le l.end ls n h.4)),
+  cut_inside low l.end n high ls h.4 (omega (arith, h.3)) top,
 )
 
 lent_from : (out : ℕ → Line → Bool) (gap : Bool) (s : SnippetSettings) (w columns : ℕ) (drawn : List DrawnLabel)
@@ -110,10 +105,9 @@ lines_inside : (bytes : List ℕ) (from to : ℕ) → AllByRecursion (Inside fro
     (P.lines_from from (slice_range bytes from to))
 lines_inside bytes from to =
     let bits : List ℕ = slice_range bytes from to in
-    subst (λ (ls : List Line). AllByRecursion (Inside from (from + (to - from))) ls) (sym (lines_same from bits))
-    (cut_inside from from (from + length bits) (from + (to - from)) (lines_from from bits)
-    (cut_lines from (from + length bits) bits refl) (omega arith)
-    (omega (arith, length-take (to - from) (drop from bytes))))
+    cut_inside from from (from + length bits) (from + (to - from)) (P.lines_from from bits)
+    (cut_from from bits (from + length bits) refl) (omega arith)
+    (omega (arith, length-take (to - from) (drop from bytes)))
 
 -- a snippet from what its read lent
 abbrev pub lent_lines : SnippetSettings → List Spread → List DrawnLabel → Contents → List (List Highlight) → List Row
@@ -252,7 +246,7 @@ pub placed_sorted : (ends : Bool) (styles : List Style) (context : ℕ) (source 
     (placed_from (end_told ends (length source.bytes)) styles 0 reads)
 placed_sorted ends styles context source labels reads h e =
     let up : IsAscending 0 (spans_of (map (read_of labels) reads)) =
-    subst (λ (ss : List Span). IsAscending 0 ss) (sym (ap spans_of e ∙ order_same labels)) (sorted (spans_of labels)) in
+    subst (λ (ss : List Span). IsAscending 0 ss) (sym (ap spans_of e)) (ordered_ascends labels) in
     let ps : List PlacedLabel = placed_from (end_told ends (length source.bytes)) styles 0 reads in
     let from : ℕ = cond (is_told (end_told ends (length source.bytes)) 0) (0 - 1) 0 in
     let k : Ascends from ps = placed_ascends ends styles context source labels 0 0 reads h up in

@@ -3,12 +3,11 @@ use Rattle.miette_page.specs.views.Printouts.{Printout, ◌⊕◌}
 use Rattle.std.proofs.Common.{ℕ, ◌+◌, ◌-◌, ◌≤◌, ◌≡◌, Bool, true, false, List, [], ◌∷◌, ◌++◌, length, drop, refl, sym}
 use Rattle.std.proofs.Common.{ap, ◌∙◌, subst, arith}
 use Rattle.miette_source_lines.specs.rules.Lines as P
-use Rattle.miette_source_lines.specs.rules.Lines.{Line}
+use Rattle.miette_source_lines.specs.rules.Lines.{Line, IsCut}
 use Rattle.miette_highlight.specs.rules.HighlighterCalls.{Call}
 use Rattle.miette_page.specs.views.Tokens.{rows_tokens}
 use Rattle.miette_labels.specs.rules.Labels.{DrawnLabel}
-use Rattle.miette_labels.proofs.Sources.{IsCut}
-use Rattle.miette_labels.proofs.Lines.{cut-le}
+use Rattle.miette_source_lines.proofs.Cuts.{cut_le}
 use Rattle.miette_snippet_rules.specs.rules.Folds.{Spread, leaves_out}
 use Rattle.miette_snippet_rules.specs.rules.Highlighting.{ArePieces, decoded_text, line_calls}
 use Rattle.miette_snippet_rules.specs.rules.SnippetLayout.{line_or_break, left_out}
@@ -65,7 +64,7 @@ each_skipped out s w columns drawn start bytes first blank begun now (l ∷ run)
 each_out : (s : SnippetSettings) (ahead : ℕ) (lines : List Line) (spreads : List Spread) (from to : LineStart)
     → ((k : ℕ) (other : Line) → IsBetween from to k other → leaves_out s.layout.label_lines lines spreads k other
     ≡ true) →
-    (run : List Line) (at k number : ℕ) → IsCut at to.offset run → from.offset ≤ at → from.place ≤ k → k + length run
+    (run : List Line) (at k number : ℕ) → IsCut at run to.offset → from.offset ≤ at → from.place ≤ k → k + length run
     ≡ to.place → number ≡ ahead + k + 1 → EachOut (left_out s ahead lines spreads) number run
 each_out s ahead lines spreads from to outs [] at k number cut low first size e = tt
 each_out s ahead lines spreads from to outs (l ∷ run) at k number cut low first size e =
@@ -75,10 +74,10 @@ each_out s ahead lines spreads from to outs (l ∷ run) at k number cut low firs
       last = omega (arith, size);
       low = omega (arith, low, cut.0);
       some = omega (arith, cut.0, cut.3);
-      high = cut-le l.end to.offset run cut.5;
+      high = cut_le l.end run to.offset cut.4;
     } in (
       ap (λ n. leaves_out s.layout.label_lines lines spreads n l) same ∙ outs k l own,
-      each_out s ahead lines spreads from to outs run l.end (k + 1) (number + 1) cut.5 (omega (arith, low, cut.3))
+      each_out s ahead lines spreads from to outs run l.end (k + 1) (number + 1) cut.4 (omega (arith, low, cut.3))
           (omega (arith, first)) (omega (arith, size)) (omega (arith, e)),
     )
 

@@ -5,7 +5,7 @@ use Rattle.std.specs.List.{AllByRecursion, filter}
 use Rattle.std.proofs.lemmas.Bool.{cases_lt, lt-ltb, ltb-true, ltb-false}
 use Rattle.std.proofs.lemmas.List.{drop_all, length-drop}
 use Rattle.miette_source_lines.specs.rules.Lines as P
-use Rattle.miette_source_lines.specs.rules.Lines.{Line}
+use Rattle.miette_source_lines.specs.rules.Lines.{Line, IsCut}
 use Rattle.miette_source_lines.specs.declared.lines.LineOfText.{LineOfText}
 use Rattle.miette_source_lines.specs.views.Walking.{line_of_text}
 use Rattle.miette_labels.specs.declared.sweep.Bounds.{Bounds}
@@ -14,8 +14,7 @@ use Rattle.miette_labels.specs.rules.Labels.{reach}
 use Rattle.miette_labels.specs.views.LabelCounts.{most_multi}
 use Rattle.miette_labels.specs.views.Sweeping.{label_of, line_of_bounds, passes, is_multi, nothing, start_at, AreSorted}
 use Rattle.miette_labels.specs.views.Sweeping.{IsAt, IsOn}
-use Rattle.miette_labels.proofs.Lines.{cut-le}
-use Rattle.miette_labels.proofs.Sources.{IsCut}
+use Rattle.miette_source_lines.proofs.Cuts.{cut_le}
 use Rattle.miette_labels.proofs.Swept.{earlier_multi, inside_past, later_none}
 use Rattle.miette_folds.specs.declared.folds.Fold.{Fold}
 use Rattle.miette_folds.specs.declared.folds.LineStart.{LineStart}
@@ -89,13 +88,13 @@ few_on labels line later next to sorted own after some high before clear =
 few_all : (labels : List PlacedLabel) (line : Line) (next to : ℕ) → AreSorted labels → line.start < line.end
     → ((k : ℕ) → k < next → start_at labels k < line.end)
     → ((k : ℕ) → next ≤ k → k < length labels → to ≤ start_at labels k) →
-    (run : List Line) (at : ℕ) → IsCut at to run → line.end ≤ at
+    (run : List Line) (at : ℕ) → IsCut at run to → line.end ≤ at
     → AllByRecursion (λ l. length (filter (is_multi l) labels) ≤ length (filter (is_multi line) labels)) run
 few_all labels line next to sorted own before clear [] at cut after = tt
 few_all labels line next to sorted own before clear (l ∷ run) at cut after = (
   few_on labels line l next to sorted own (omega (arith, after, cut.0)) (omega (arith, cut.0, cut.3))
-      (cut-le l.end to run cut.5) before clear,
-  few_all labels line next to sorted own before clear run l.end cut.5 (omega (arith, after, cut.3)),
+      (cut_le l.end run to cut.4) before clear,
+  few_all labels line next to sorted own before clear run l.end cut.4 (omega (arith, after, cut.3)),
 )
 
 most_run : (labels : List PlacedLabel) (m n : ℕ) (run rest : List Line) → m ≤ n

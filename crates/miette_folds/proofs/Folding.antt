@@ -11,7 +11,7 @@ use Rattle.miette_folds.specs.declared.folds.Spread.{Spread as MadeSpread}
 use Rattle.miette_folds.specs.views.Spreads.{spread_of}
 use Rattle.miette_folds.specs.views.Folding.{fold_in, is_around_fold}
 use Rattle.miette_folds.specs.steps.Nearness.{is_near_fold}
-use Rattle.miette_folds.proofs.Starts.{place_shifted}
+use Rattle.miette_source_lines.proofs.Parts.{place_shifted}
 
 -- ---- a label among lines
 

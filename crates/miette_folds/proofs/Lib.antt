@@ -1,7 +1,6 @@
 pub mod Extending
 pub mod Folding
 pub mod LineCounts
-pub mod Numbering
 pub mod Reaching
 pub mod Passing
 pub mod Spreading

@@ -4,58 +4,38 @@ use Rattle.std.proofs.Common.{ℕ, zero, suc, ◌+◌, ◌-◌, ◌≤◌, ◌�
 use Rattle.std.proofs.Common.{take, drop, get_or, refl, sym, ap, ap₂, ◌∙◌, inl, inr, subst, arith, All}
 use Rattle.std.specs.Prelude.{◌==◌, count_by, slice_index, slice_range}
 use Rattle.std.proofs.lemmas.Bool.{cases_lt, eqb-true}
-use Rattle.miette_source_lines.specs.rules.Lines.{LF, CR, is_terminated, lines_from, line_of, line_start, line_end}
-use Rattle.miette_source_lines.proofs.Places.{line_of_mono, line_of_start_before, line_start_le, line_end_le}
-use Rattle.miette_source_lines.proofs.Places.{line_end_after, terminators_in-line_of}
+use Rattle.miette_source_lines.specs.rules.Lines.{LF, CR, is_terminated, lines_from, line_of}
+use Rattle.miette_source_lines.proofs.Places.{line_of_mono, line_of_within, line_of_start_before}
+use Rattle.miette_source_lines.proofs.Places.{terminators_in-line_of}
+use Rattle.miette_source_lines.proofs.Parts.{IsWhole, both, past_whole, line_whole, part_line, part_length, rest_line}
+use Rattle.miette_source_lines.proofs.Parts.{part_place, part_count}
 use Rattle.miette_protocol.specs.views.Meaning.{Label}
 use Rattle.miette_protocol.specs.rules.Reading.{Span, Source, Contents, IsAccepted, span_end, splits_crlf, reading_end}
 use Rattle.miette_protocol.specs.rules.Reading.{data_start, data_end}
-use Rattle.miette_protocol.proofs.Wholes.{offset-le-reading, before_le, after_ge}
+use Rattle.miette_protocol.specs.rules.Context.{last_line}
+use Rattle.miette_protocol.proofs.Wholes.{start_is, end_is, start_before_span, end_after_span, end_within}
 use Rattle.miette_labels.specs.declared.reading.ReadLabel.{ReadLabel}
 use Rattle.miette_labels.specs.rules.Around.{lines_around}
 use Rattle.miette_labels.specs.rules.Contexts.{end_of_span, contents, lines_of_contents}
 use Rattle.miette_labels.specs.views.GivenLabels.{label_at}
 use Rattle.miette_labels.specs.views.Placing.{end_drawn}
 use Rattle.miette_labels.specs.views.Reads.{IsRead, IsLent}
-use Rattle.miette_labels.proofs.Bridge.{some-context}
 use Rattle.miette_snippet_rules.specs.rules.Folds.{place_among}
 use Rattle.miette_folds.specs.declared.folds.Spread.{Spread as MadeSpread}
 use Rattle.miette_folds.specs.views.Spreads.{IsNumbered, AreNumbered}
 use Rattle.miette_folds.specs.steps.LineNumbers.{IsLineIn}
 use Rattle.miette_folds.specs.views.ReadSpreads.{HasLines}
-use Rattle.miette_folds.proofs.Numbering.{IsWhole, both, past_whole, line_whole, part_line, part_length, rest_line}
-use Rattle.miette_folds.proofs.Numbering.{part_place, part_count}
 
 -- ---- where the data of a read begin and end
-
-begins : (bytes : List ℕ) (span : Span) (c : ℕ) → data_start bytes span c ≤ span.offset
-begins bytes span c =
-    before_le (c == 0) span.offset (line_start bytes (line_of bytes span.offset - c)) span.offset (omega arith)
-    (line_start_le bytes (line_of bytes span.offset - c) span.offset (omega arith))
-
-begins_with : (bytes : List ℕ) (span : Span) (c : ℕ) → 1 ≤ c → line_of bytes span.offset - c
-    ≡ line_of bytes (data_start bytes span c)
-begins_with bytes span c one = rw (some-context c one) (line_of_start_before bytes span.offset c)
 
 begins_at : (bytes : List ℕ) (span : Span) (c : ℕ) → line_of bytes span.offset - c
     ≡ line_of bytes (data_start bytes span c)
 begins_at bytes span zero = omega arith
-begins_at bytes span (suc c) = begins_with bytes span (suc c) (omega arith)
+begins_at bytes span (suc c) = line_of_start_before bytes span.offset (suc c)
+    ∙ sym (ap (line_of bytes) (start_is bytes span (suc c) (omega arith)))
 
 ends : (bytes : List ℕ) (span : Span) (c : ℕ) → IsAccepted bytes span → span.offset ≤ data_end bytes span c
-ends bytes span c ok =
-    let r : ℕ = reading_end bytes span in
-    let reach : span.offset ≤ r = offset-le-reading bytes span in
-    after_ge (c == 0) (min (length bytes) r) (line_end bytes (line_of bytes r + c)) span.offset
-    (omega (arith, ok.begins, reach))
-    (line_end_after bytes span.offset (line_of bytes r + c) ok.begins
-    (omega (arith, line_of_mono bytes span.offset r reach)))
-
-ends_in : (bytes : List ℕ) (span : Span) (c : ℕ) → data_end bytes span c ≤ length bytes
-ends_in bytes span c =
-    before_le (c == 0) (min (length bytes) (reading_end bytes span))
-    (line_end bytes (line_of bytes (reading_end bytes span) + c)) (length bytes)
-    (omega arith) (line_end_le bytes (line_of bytes (reading_end bytes span) + c))
+ends bytes span c ok = omega (arith, ok.begins, end_after_span bytes span c)
 
 -- ---- a read parts no CRLF at its end
 
@@ -90,15 +70,11 @@ bare_whole bytes span =
       | inr h ↦ past_whole bytes (min (length bytes) (reading_end bytes span)) (omega (arith, h))
     ]
 
-lined_whole : (bytes : List ℕ) (span : Span) (c : ℕ) → 1 ≤ c → IsWhole bytes (data_end bytes span c)
-lined_whole bytes span c one =
-    let e : line_end bytes (line_of bytes (reading_end bytes span) + c) ≡ data_end bytes span c =
-    rw (some-context c one) refl in
-    subst (λ (n : ℕ). IsWhole bytes n) e (line_whole bytes (line_of bytes (reading_end bytes span) + c))
-
 ends_whole : (bytes : List ℕ) (span : Span) (c : ℕ) → IsWhole bytes (data_end bytes span c)
 ends_whole bytes span zero = bare_whole bytes span
-ends_whole bytes span (suc c) = lined_whole bytes span (suc c) (omega arith)
+ends_whole bytes span (suc c) =
+    subst (λ (n : ℕ). IsWhole bytes n) (sym (end_is bytes span (suc c) (omega arith)))
+    (line_whole bytes (last_line bytes span (suc c)))
 
 -- ---- a part of the bytes
 
@@ -119,13 +95,13 @@ part_of c source span ok =
     let bytes : List ℕ = source.bytes in
     let from : ℕ = data_start bytes span c in
     let to : ℕ = data_end bytes span c in
-    let low : from ≤ span.offset = begins bytes span c in
+    let low : from ≤ span.offset = start_before_span bytes span c in
     let high : span.offset ≤ to = ends bytes span c ok in
     let sums : to ≡ from + (to - from) = omega (arith, low, high) in
     record {
       from = low;
       to = omega (arith, sums, high);
-      within = omega (arith, sums, ends_in bytes span c);
+      within = omega (arith, sums, end_within bytes span c);
       whole = subst (λ (n : ℕ). IsWhole bytes n) sums (ends_whole bytes span c);
       data_are = ap (λ (n : ℕ). slice_range bytes from n) sums;
       line = begins_at bytes span c;
@@ -227,28 +203,15 @@ lent_placed bytes span lent o line p e =
     let order : from ≤ to = omega (arith, p.from, p.to) in
     let is : place_among (lines_of_contents lent) o + lent.line ≡ line_of bytes (max from (min o to)) =
     lent_place bytes span lent o p in
-    elim (cases_lt from o) [
-      | inl g ↦ (elim (cases_lt o to) [
-        | inl l ↦
-            (let at : max from (min o to) ≡ o = omega (arith, g, l) in
-            omega (
-              arith,
-              is,
-              ap (line_of bytes) at,
-              e,
-              p.line,
-              p.count,
-              line_of_mono bytes from o (omega (arith, g)),
-              line_of_mono bytes o to (omega (arith, l)),
-            ))
-        | inr l ↦
-            (let at : max from (min o to) ≡ to = omega (arith, order, l) in
-            omega (arith, is, ap (line_of bytes) at, e, p.line, p.count, line_of_mono bytes to o l))
-      ])
-      | inr g ↦
-          (let at : max from (min o to) ≡ from = omega (arith, order, g) in
-          omega (arith, is, ap (line_of bytes) at, e, p.line, line_of_mono bytes o from g))
-    ]
+    omega (
+      arith,
+      is,
+      line_of_within bytes from to o order,
+      e,
+      p.line,
+      p.count,
+      line_of_mono bytes from to order,
+    )
 
 pub lent_counted : (bytes : List ℕ) (span : Span) (lent : Contents) → IsPart bytes span lent → lent.line_count
     ≡ count_by is_terminated (lines_of_contents lent)

@@ -7,15 +7,13 @@ use Rattle.std.proofs.lemmas.List.{drop-drop, drop_all, length-drop, length-take
 use Rattle.std.proofs.lemmas.List.Sums.{count_by-le-length}
 use Rattle.std.proofs.Math.Seq.{drop-nil}
 use Rattle.miette_source_lines.specs.rules.Lines as P
-use Rattle.miette_source_lines.specs.rules.Lines.{Line, ends_line, with_byte, line_of, line_start}
+use Rattle.miette_source_lines.specs.rules.Lines.{Line, ends_line, with_byte, line_of, line_start, IsCut}
 use Rattle.miette_source_lines.specs.declared.lines.LineOfText.{LineOfText}
 use Rattle.miette_source_lines.specs.views.Walking.{line_of_text}
-use Rattle.miette_source_lines.proofs.Scans.{after, ends_count-lines_from}
-use Rattle.miette_source_lines.proofs.Places.{ends_by-le, line_of-is, line_start-is, line_start_first, line_start_after}
-use Rattle.miette_source_lines.proofs.Places.{line_start_le, line_end_le}
-use Rattle.miette_labels.proofs.Sources.{IsCut}
-use Rattle.miette_labels.proofs.Lines.{cut_lines, cut-le}
-use Rattle.miette_labels.proofs.Bridge.{lines_same}
+use Rattle.miette_source_lines.proofs.Scans.{after}
+use Rattle.miette_source_lines.proofs.Places.{line_start-is, line_start_le, line_start_within}
+use Rattle.miette_source_lines.proofs.Cuts.{cut_from}
+use Rattle.miette_source_lines.proofs.Parts.{place_shifted}
 use Rattle.miette_snippet_rules.specs.rules.Folds.{place_among}
 use Rattle.miette_folds.specs.declared.folds.LineStart.{LineStart}
 use Rattle.miette_folds.specs.views.Folding.{start_in}
@@ -27,13 +25,6 @@ use Rattle.miette_folds.specs.views.Gaps.{nearer, further}
 pub few_among : (offset : ℕ) (ls : List Line) → place_among ls offset ≤ length ls
 few_among offset ls = count_by-le-length (λ line. P.is_terminated line && nat_le line.end offset) ls
 
--- the place of an offset among lines that begin further on
-pub place_shifted : (start : ℕ) (bytes : List ℕ) (offset : ℕ) → place_among (P.lines_from start bytes) offset
-    ≡ line_of bytes (offset - start)
-place_shifted start bytes offset =
-    ends_count-lines_from (λ e. nat_le e offset) start bytes ∙ ends_by-le offset start bytes (offset - start) refl
-    ∙ sym (line_of-is bytes (offset - start))
-
 -- the line that an offset lies on begins there or before
 pub begun_low : (start : ℕ) (bytes : List ℕ) (offset : ℕ) → start ≤ offset → start
     + line_start bytes (place_among (P.lines_from start bytes) offset) ≤ offset
@@ -43,11 +34,6 @@ begun_low start bytes offset low =
     let le : line_start bytes (place_among (P.lines_from start bytes) offset) ≤ offset - start =
     line_start_le bytes (place_among (P.lines_from start bytes) offset) (offset - start) (omega (arith, same)) in
     omega (arith, le, low)
-
--- a line begins within the bytes
-start_within : (bytes : List ℕ) (k : ℕ) → line_start bytes k ≤ length bytes
-start_within bytes zero = omega (arith, line_start_first bytes)
-start_within bytes (suc k) = omega (arith, line_start_after bytes (suc k) k (omega arith), line_end_le bytes k)
 
 -- ---- the lines from one on
 
@@ -133,7 +119,7 @@ begins_start start bytes place few =
     let sums : line_start bytes place ≡ start + line_start bytes place - start = omega arith in
     record {
       low = omega arith;
-      high = omega (arith, start_within bytes place);
+      high = omega (arith, line_start_within bytes place);
       count = few;
       lines = drop_lines start bytes place ∙ ap (λ n. P.lines_from (start + n) (drop n bytes)) is
           ∙ ap (λ n. P.lines_from (start + line_start bytes place) (drop n bytes)) sums;
@@ -142,33 +128,25 @@ begins_start start bytes place few =
 -- ---- the lines from one beginning to another
 
 begins_cut : (start : ℕ) (bytes : List ℕ) (offset place : ℕ) → Begins start bytes offset place
-    → IsCut offset (start + length bytes) (P.lines_from offset (drop (offset - start) bytes))
+    → IsCut offset (P.lines_from offset (drop (offset - start) bytes)) (start + length bytes)
 begins_cut start bytes offset place h =
-    let bits : List ℕ = drop (offset - start) bytes in
-    subst (λ (ls : List Line). IsCut offset (start + length bytes) ls) (sym (lines_same offset bits))
-    (cut_lines offset (start + length bytes) bits (omega (arith, h.low, h.high, length-drop (offset - start) bytes)))
+    cut_from offset (drop (offset - start) bytes) (start + length bytes)
+    (omega (arith, h.low, h.high, length-drop (offset - start) bytes))
 
-cut_part : (at to n : ℕ) (xs ys : List Line) → IsCut at n (xs ++ ys) → IsCut to n ys → IsCut at to xs
+cut_part : (at to n : ℕ) (xs ys : List Line) → IsCut at (xs ++ ys) n → IsCut to ys n → IsCut at xs to
 cut_part at to n [] [] h k = omega (arith, h, k)
 cut_part at to n [] (y ∷ ys) h k = omega (arith, h.0, k.0)
-cut_part at to n (x ∷ xs) ys h k = (
-  h.0,
-  h.1,
-  h.2,
-  h.3,
-  λ e. h.4 (omega (arith, e, cut-le to n ys k)),
-  cut_part x.end to n xs ys h.5 k,
-)
+cut_part at to n (x ∷ xs) ys h k = (h.0, h.1, h.2, h.3, cut_part x.end to n xs ys h.4 k)
 
-cut_length : (at n : ℕ) (ls : List Line) → IsCut at n ls → at + length ls ≤ n
+cut_length : (at n : ℕ) (ls : List Line) → IsCut at ls n → at + length ls ≤ n
 cut_length at n [] h = omega (arith, h)
-cut_length at n (l ∷ ls) h = omega (arith, h.3, cut_length l.end n ls h.5)
+cut_length at n (l ∷ ls) h = omega (arith, h.3, cut_length l.end n ls h.4)
 
 pub record RunOf (start : ℕ) (bytes : List ℕ) (from to : LineStart) : Type 0 where
   pub run : List Line
   pub parts : P.lines_from from.offset (drop (from.offset - start) bytes) ≡ run
       ++ P.lines_from to.offset (drop (to.offset - start) bytes)
-  pub cut : IsCut from.offset to.offset run
+  pub cut : IsCut from.offset run to.offset
   pub size : from.place + length run ≡ to.place
 
 run_by_place : (start : ℕ) (bytes : List ℕ) (from to : LineStart) → Begins start bytes from.offset from.place
@@ -188,7 +166,7 @@ run_by_place start bytes from to a b le =
       run = take d left;
       parts = parts;
       cut = cut_part from.offset to.offset (start + length bytes) (take d left) behind
-          (subst (λ (xs : List Line). IsCut from.offset (start + length bytes) xs) parts
+          (subst (λ (xs : List Line). IsCut from.offset xs (start + length bytes)) parts
           (begins_cut start bytes from.offset from.place a)) (begins_cut start bytes to.offset to.place b);
       size = omega (arith, size, le);
     }

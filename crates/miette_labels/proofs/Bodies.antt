@@ -4,7 +4,6 @@ use Rattle.std.proofs.lemmas.Bool.{le-leb, and_from}
 use Rattle.miette_protocol.specs.rules.Reading.{Span, IsAccepted, is_accepted}
 use Rattle.miette_labels.specs.rules.Answers.{next_answer, NoneFails}
 use Rattle.miette_labels.specs.rules.Groups.{some_fails}
-use Rattle.miette_labels.proofs.Joining.{groups}
 
 pub next_none : (fails : List Bool) → NoneFails fails → next_answer fails ≡ false
 next_none [] h = refl

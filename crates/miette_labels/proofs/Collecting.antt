@@ -1,20 +1,18 @@
 -- Stretches of labels that were read: collected, by where they begin, joined, and read again.
-use Rattle.std.proofs.Common.{ℕ, zero, suc, ◌+◌, ◌-◌, ◌<◌, ◌≤◌, ◌≡◌, ◌≢◌, max, Bool, true, false, cond, leb, List, []}
+use Rattle.std.proofs.Common.{ℕ, zero, suc, ◌+◌, ◌<◌, ◌≤◌, ◌≡◌, ◌≢◌, max, Bool, true, false, cond, leb, List, []}
 use Rattle.std.proofs.Common.{◌∷◌, ◌++◌, ◌&&◌, length, map, take, drop, get_or, Option, Some, None, refl, sym, ap, ap₂}
 use Rattle.std.proofs.Common.{◌∙◌, subst, arith, All}
-use Rattle.std.specs.Prelude.{is_some, unwrap_or, slice_get, MatchOption}
-use Rattle.std.specs.Option.{option_map, option_map_or}
+use Rattle.std.specs.Prelude.{is_some, unwrap_or, MatchOption}
+use Rattle.std.specs.Option.{option_map}
 use Rattle.std.specs.List.{AllByRecursion}
 use Rattle.std.specs.List.Sorted.{IsNonDecreasingBy, IsStableByKey}
 use Rattle.std.specs.Ordering.{nat_cmp}
 use Rattle.std.proofs.lemmas.List.{map-append, take_more, drop_all}
 use Rattle.std.proofs.lemmas.List.Elements.{All-push, All-tail}
 use Rattle.std.proofs.lemmas.Bool.{or_parts}
-use Rattle.miette_source_lines.specs.rules.Lines as P
-use Rattle.miette_source_lines.specs.rules.Lines.{Line}
 use Rattle.miette_protocol.specs.views.Meaning.{Label}
-use Rattle.miette_protocol.specs.rules.Reading as R
 use Rattle.miette_protocol.specs.rules.Reading.{Span, Source, Contents, IsAccepted}
+use Rattle.miette_protocol.proofs.Wholes.{start_before_span, end_within}
 use Rattle.miette_labels.specs.declared.grouping.Group.{Group}
 use Rattle.miette_labels.specs.declared.reading.ReadLabel.{ReadLabel}
 use Rattle.miette_labels.specs.rules.Around.{has_own, lines_around}
@@ -24,11 +22,7 @@ use Rattle.miette_labels.specs.rules.Groups.{in_order, spans_of, joined_span, st
 use Rattle.miette_labels.specs.rules.Groups.{stretches_from, joined_stretches, own_groups, groups_answered, groups_of}
 use Rattle.miette_labels.specs.rules.Groups.{some_fails}
 use Rattle.miette_labels.specs.views.Reads.{IsRead, IsLent, AreGroups, AreGrouped}
-use Rattle.miette_labels.proofs.Sources.{IsCut, lines}
 use Rattle.miette_basics.proofs.Cases.{by_cases}
-use Rattle.miette_labels.proofs.Lines.{cut-le, end-in}
-use Rattle.miette_labels.proofs.Data.{cut}
-use Rattle.miette_labels.proofs.Bridge.{lines_same, end_same, some-context}
 use Rattle.miette_labels.proofs.NoFailures.{none_unread}
 use Rattle.miette_labels.proofs.Gathering.{joined_accepted}
 use Rattle.miette_labels.proofs.Owning.{own_ordered, none_around}
@@ -131,34 +125,14 @@ groups_accepted bytes reads spans h e =
     (begin_accepted bytes (stretches_read reads) (read_accepted bytes reads h))))
 
 -- the data of a read lie in the source
-start_bound : (at n k : ℕ) (ls : List Line) → IsCut at n ls → option_map_or (λ l. l.start) (slice_get ls k) n ≤ n
-start_bound at n k [] h = omega arith
-start_bound at n zero (l ∷ ls) h = omega (arith, h.0, h.3, cut-le l.end n ls h.5)
-start_bound at n (suc k) (l ∷ ls) h = start_bound l.end n k ls h.5
-
-start_in : (bytes : List ℕ) (k : ℕ) → P.line_start bytes k ≤ length bytes
-unfolding P.line_start
-start_in bytes k = rw (lines_same 0 bytes) (start_bound 0 (length bytes) k (lines bytes) (cut bytes))
-
-end_inside : (bytes : List ℕ) (k : ℕ) → P.line_end bytes k ≤ length bytes
-end_inside bytes k = omega (arith, end_same bytes k, end-in 0 (length bytes) k (lines bytes) (cut bytes))
-
-from_in : (c : ℕ) (bytes : List ℕ) (span : Span) → IsAccepted bytes span → R.data_start bytes span c ≤ length bytes
-from_in zero bytes span h = h.begins
-from_in (suc c) bytes span h = rw (some-context (suc c) (omega arith))
-    (start_in bytes (P.line_of bytes span.offset - suc c))
-
-to_in : (c : ℕ) (bytes : List ℕ) (span : Span) → R.data_end bytes span c ≤ length bytes
-to_in zero bytes span = omega arith
-to_in (suc c) bytes span = rw (some-context (suc c) (omega arith))
-    (end_inside bytes (P.line_of bytes (R.reading_end bytes span) + suc c))
-
 lent_accepted : (c : ℕ) (source : Source) (span : Span) → IsAccepted source.bytes span
     → IsAccepted source.bytes (contents c source span).span
-lent_accepted c source span h = record {
-  begins = from_in c source.bytes span h;
-  ends = omega (arith, from_in c source.bytes span h, to_in c source.bytes span);
-}
+lent_accepted c source span h =
+    let from = start_before_span source.bytes span c in
+    record {
+      begins = omega (arith, h.begins, from);
+      ends = omega (arith, h.begins, from, end_within source.bytes span c);
+    }
 
 pub reads_accepted : (context : ℕ) (source : Source) (labels : List Label) (reads : List ReadLabel)
     → All (IsRead context source labels) reads → All (λ read. IsAccepted source.bytes read.contents.span) reads

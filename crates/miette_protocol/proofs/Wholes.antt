@@ -1,57 +1,97 @@
 -- What a read with context shows, in lines of the source.
-use Rattle.std.proofs.Common.{◌≡◌, ◌↔◌, ℕ, suc, zero, ◌+◌, ◌-◌, ◌<◌, ◌≤◌, min, Bool, true, false, cond, List, [], ◌∷◌}
-use Rattle.std.proofs.Common.{length, refl, sym, ap, ◌∙◌, inl, inr, arith}
-use Rattle.std.specs.Prelude.{◌==◌, slice_get, slice_range}
-use Rattle.std.specs.Option.{option_map_or}
-use Rattle.std.proofs.lemmas.Bool.{cases_lt, ne_eqb, eqb-true}
-use Rattle.miette_source_lines.specs.rules.Lines.{Line, lines_from, lines_of, line_of, line_start, line_end}
-use Rattle.miette_source_lines.specs.rules.Lines.{terminators_in, IsCut}
+use Rattle.std.proofs.Common.{◌≡◌, ◌↔◌, ℕ, suc, zero, ◌+◌, ◌-◌, ◌<◌, ◌≤◌, min, max, Bool, true, false, cond, List}
+use Rattle.std.proofs.Common.{length, refl, sym}
+use Rattle.std.proofs.Common.{ap, ◌∙◌, inl, inr, arith}
+use Rattle.std.specs.Prelude.{◌==◌, slice_range}
+use Rattle.std.proofs.lemmas.Bool.{cases_lt, ne_eqb}
+use Rattle.miette_source_lines.specs.rules.Lines.{lines_from, lines_of, line_of, line_start, line_end, terminators_in}
 use Rattle.miette_protocol.specs.rules.Reading.{Span, Source, IsAccepted, span_end, splits_crlf, reading_end}
 use Rattle.miette_protocol.specs.rules.Reading.{data_start, data_end, contents_of}
 use Rattle.miette_protocol.specs.rules.Context.{first_line, last_line}
 use Rattle.miette_source_lines.proofs.Places.{line_of_mono, line_of_past, line_of_all, line_of_start_before}
-use Rattle.miette_source_lines.proofs.Places.{line_of_end, line_end_past, line_end_le, line_end_after, line_start_next}
+use Rattle.miette_source_lines.proofs.Places.{line_of_next, line_end_le, line_end_after, line_start_next}
 use Rattle.miette_source_lines.proofs.Places.{line_start_mono, line_start_le, terminators_in-is}
-use Rattle.miette_source_lines.proofs.Cuts.{lines_cut}
+use Rattle.miette_source_lines.proofs.Cuts.{nonempty}
 use Rattle.miette_source_lines.proofs.Only.{lines_between}
 
 -- where a span's read ends
 
-one_or_more : (x : Bool) (n : ℕ) → (x ≡ true → n ≡ 0) → n ≤ cond x 1 n
-one_or_more true n h = omega (arith, h refl)
-one_or_more false n h = omega arith
+one_end : (n : ℕ) → cond (n == 0) 1 n ≡ max 1 n
+one_end zero = omega arith
+one_end (suc n) = rw (ne_eqb (suc n) 0 (λ e. omega (arith, e))) (omega arith)
 
-and_one : (x : Bool) (n : ℕ) → n ≤ cond x (n + 1) n
-and_one true n = omega arith
-and_one false n = omega arith
+and_one : (x : Bool) (n : ℕ) → (n ≤ cond x (n + 1) n) × (cond x (n + 1) n ≤ n + 1)
+and_one true n = (omega arith, omega arith)
+and_one false n = (omega arith, omega arith)
 
-end-le-reading : (bytes : List ℕ) (span : Span) → span.offset + span.len ≤ reading_end bytes span
+pub end-le-reading : (bytes : List ℕ) (span : Span) → span.offset + span.len ≤ reading_end bytes span
 end-le-reading bytes span =
-    omega (
-      arith,
-      one_or_more (span.offset + span.len == 0) (span.offset + span.len)
-          (λ e. eqb-true (span.offset + span.len) 0 e),
-      and_one (splits_crlf bytes (span_end span)) (span_end span),
-    )
+    omega (arith, one_end (span.offset + span.len), (and_one (splits_crlf bytes (span_end span)) (span_end span)).0)
 
 pub offset-le-reading : (bytes : List ℕ) (span : Span) → span.offset ≤ reading_end bytes span
 offset-le-reading bytes span = omega (arith, end-le-reading bytes span)
 
--- with lines of context the data are whole lines
+-- of a span that ends later, later
+pub reading_mono : (bytes : List ℕ) (a b : Span) → a.offset + a.len ≤ b.offset + b.len → reading_end bytes a
+    ≤ reading_end bytes b
+reading_mono bytes a b le =
+    let whole : ℕ → ℕ = λ n. cond (splits_crlf bytes n) (n + 1) n in
+    let ends : span_end a ≤ span_end b = omega (arith, le, one_end (a.offset + a.len), one_end (b.offset + b.len)) in
+    elim (cases_lt (span_end a) (span_end b)) [
+      | inl h ↦
+          omega (
+            arith,
+            h,
+            (and_one (splits_crlf bytes (span_end a)) (span_end a)).1,
+            (and_one (splits_crlf bytes (span_end b)) (span_end b)).0,
+          )
+      | inr h ↦ (let e : span_end a ≡ span_end b = omega (arith, ends, h) in
+          let same : whole (span_end a) ≡ whole (span_end b) = ap whole e in omega (arith, same))
+    ]
 
-start_is : (bytes : List ℕ) (span : Span) (before : ℕ) → 1 ≤ before → data_start bytes span before
-    ≡ line_start bytes (first_line bytes span before)
-start_is bytes span before h = rw (ne_eqb before 0 (λ e. omega (arith, h, e))) refl
+-- the first and the last line of a context
 
-end_is : (bytes : List ℕ) (span : Span) (after : ℕ) → 1 ≤ after → data_end bytes span after
-    ≡ line_start bytes (last_line bytes span after + 1)
-end_is bytes span after h =
-    rw (ne_eqb after 0 (λ e. omega (arith, h, e))) (sym (line_start_next bytes (last_line bytes span after)))
-
-first-le-last : (bytes : List ℕ) (span : Span) (before after : ℕ) → first_line bytes span before
+pub first-le-last : (bytes : List ℕ) (span : Span) (before after : ℕ) → first_line bytes span before
     ≤ last_line bytes span after
 first-le-last bytes span before after =
     omega (arith, line_of_mono bytes span.offset (reading_end bytes span) (offset-le-reading bytes span))
+
+pub first_mono : (bytes : List ℕ) (a b : Span) (before : ℕ) → a.offset ≤ b.offset → first_line bytes a before
+    ≤ first_line bytes b before
+first_mono bytes a b before le = omega (arith, line_of_mono bytes a.offset b.offset le)
+
+pub last_mono : (bytes : List ℕ) (a b : Span) (after : ℕ) → a.offset + a.len ≤ b.offset + b.len
+    → last_line bytes a after ≤ last_line bytes b after
+last_mono bytes a b after le =
+    omega (arith, line_of_mono bytes (reading_end bytes a) (reading_end bytes b) (reading_mono bytes a b le))
+
+-- with lines of context the data are whole lines
+
+pub start_is : (bytes : List ℕ) (span : Span) (before : ℕ) → 1 ≤ before → data_start bytes span before
+    ≡ line_start bytes (first_line bytes span before)
+start_is bytes span before h = rw (ne_eqb before 0 (λ e. omega (arith, h, e))) refl
+
+pub end_is : (bytes : List ℕ) (span : Span) (after : ℕ) → 1 ≤ after → data_end bytes span after
+    ≡ line_end bytes (last_line bytes span after)
+end_is bytes span after h = rw (ne_eqb after 0 (λ e. omega (arith, h, e))) refl
+
+ends_before_next : (bytes : List ℕ) (span : Span) (after : ℕ) → 1 ≤ after → data_end bytes span after
+    ≡ line_start bytes (last_line bytes span after + 1)
+ends_before_next bytes span after h =
+    end_is bytes span after h ∙ sym (line_start_next bytes (last_line bytes span after))
+
+-- the place of the data
+pub data_are : (bytes : List ℕ) (span : Span) (before after : ℕ) → 1 ≤ before → 1 ≤ after →
+    data_start bytes span before + (data_end bytes span after - data_start bytes span before)
+    ≡ line_start bytes (last_line bytes span after + 1)
+data_are bytes span before after h g =
+    omega (
+      arith,
+      start_is bytes span before h,
+      ends_before_next bytes span after g,
+      line_start_mono bytes (first_line bytes span before) (last_line bytes span after + 1)
+          (omega (arith, first-le-last bytes span before after)),
+    )
 
 pub lines : (source : Source) (span : Span) (before after : ℕ) → 1 ≤ before → 1 ≤ after →
     lines_from (contents_of source span before after).span.offset (contents_of source span before after).bytes
@@ -60,18 +100,9 @@ lines source span before after h g =
     let bytes : List ℕ = source.bytes in
     ap (λ from. lines_from from (slice_range bytes from (data_end bytes span after))) (start_is bytes span before h)
     ∙ ap (λ to. lines_from (line_start bytes (first_line bytes span before))
-    (slice_range bytes (line_start bytes (first_line bytes span before)) to)) (end_is bytes span after g)
+    (slice_range bytes (line_start bytes (first_line bytes span before)) to)) (ends_before_next bytes span after g)
     ∙ lines_between bytes (first_line bytes span before) (last_line bytes span after + 1)
     (omega (arith, first-le-last bytes span before after))
-
--- the line after one, or the last, where there is none
-next_line : (bytes : List ℕ) (k : ℕ) → line_of bytes (line_start bytes (k + 1))
-    ≡ min (k + 1) (line_of bytes (length bytes))
-next_line bytes k =
-    elim (cases_lt k (line_of bytes (length bytes))) [
-      | inl h ↦ ap (line_of bytes) (line_start_next bytes k) ∙ sym (line_of_end bytes k h) ∙ omega (arith, h)
-      | inr h ↦ ap (line_of bytes) (line_start_next bytes k ∙ line_end_past bytes k h) ∙ omega (arith, h)
-    ]
 
 pub count : (source : Source) (span : Span) (before after : ℕ) → 1 ≤ before → 1 ≤ after →
     (contents_of source span before after).line + (contents_of source span before after).line_count
@@ -84,29 +115,18 @@ count source span before after h g =
     let to : ℕ = data_end bytes span after in
     let order : first ≤ last = first-le-last bytes span before after in
     let a : from ≡ line_start bytes first = start_is bytes span before h in
-    let b : to ≡ line_start bytes (last + 1) = end_is bytes span after g in
+    let b : to ≡ line_start bytes (last + 1) = ends_before_next bytes span after g in
     let c : line_start bytes first ≤ line_start bytes (last + 1) =
     line_start_mono bytes first (last + 1) (omega (arith, order)) in
     let d : terminators_in bytes from to ≡ line_of bytes to - line_of bytes from =
     terminators_in-is bytes from to (omega (arith, a, b, c)) in
     let e : line_of bytes from ≡ first = ap (line_of bytes) a ∙ sym (line_of_start_before bytes span.offset before) in
     let f : line_of bytes to ≡ min (last + 1) (line_of bytes (length bytes)) = ap (line_of bytes) b
-    ∙ next_line bytes last in
+    ∙ line_of_next bytes last in
     omega (arith, order, d, e, f, line_of_all bytes span.offset)
 
-nonempty_at : (ls : List Line) (at to k d : ℕ) → IsCut at ls to → k < length ls →
-    option_map_or (λ l. l.start) (slice_get ls k) d < option_map_or (λ l. l.end) (slice_get ls k) d
-nonempty_at [] at to k d h lt = absurd (omega (arith, lt))
-nonempty_at (l ∷ ls) at to zero d h lt = omega (arith, h.0, h.3)
-nonempty_at (l ∷ ls) at to (suc k) d h lt = nonempty_at ls l.end to k d h.4 (omega (arith, lt))
-
--- no line is empty
-nonempty : (bytes : List ℕ) (k : ℕ) → k < length (lines_of bytes) → line_start bytes k < line_end bytes k
-unfolding line_start line_end
-nonempty bytes k lt = nonempty_at (lines_of bytes) 0 (length bytes) k (length bytes) (lines_cut bytes) lt
-
 -- which lines lie between the start of one and the end of another
-between : (bytes : List ℕ) (low high k from to : ℕ) → k < length (lines_of bytes) → from ≡ line_start bytes low → to
+pub between : (bytes : List ℕ) (low high k from to : ℕ) → k < length (lines_of bytes) → from ≡ line_start bytes low → to
     ≡ line_start bytes (high + 1) →
     ((from ≤ line_start bytes k) × (line_end bytes k ≤ to)) ↔ ((low ≤ k) × (k ≤ high))
 between bytes low high k from to lt e f = (
@@ -147,15 +167,9 @@ pub numbers : (source : Source) (span : Span) (before after k : ℕ) → 1 ≤ b
     ↔ ((first_line source.bytes span before ≤ k) × (k ≤ last_line source.bytes span after))
 numbers source span before after k h g lt =
     let bytes : List ℕ = source.bytes in
-    let from : ℕ = data_start bytes span before in
-    let to : ℕ = data_end bytes span after in
-    let a : from ≡ line_start bytes (first_line bytes span before) = start_is bytes span before h in
-    let b : to ≡ line_start bytes (last_line bytes span after + 1) = end_is bytes span after g in
-    let c : line_start bytes (first_line bytes span before) ≤ line_start bytes (last_line bytes span after + 1) =
-    line_start_mono bytes (first_line bytes span before) (last_line bytes span after + 1)
-    (omega (arith, first-le-last bytes span before after)) in
-    between bytes (first_line bytes span before) (last_line bytes span after) k from (from + (to - from)) lt a
-    (omega (arith, a, b, c))
+    between bytes (first_line bytes span before) (last_line bytes span after) k (data_start bytes span before)
+    (data_start bytes span before + (data_end bytes span after - data_start bytes span before)) lt
+    (start_is bytes span before h) (data_are bytes span before after h g)
 
 -- the data reach the end of the span, as far as there are bytes
 
@@ -167,7 +181,7 @@ pub after_ge : (x : Bool) (a b m : ℕ) → m ≤ a → m ≤ b → m ≤ cond x
 after_ge true a b m h g = h
 after_ge false a b m h g = g
 
-start_before_span : (bytes : List ℕ) (span : Span) (before : ℕ) → data_start bytes span before ≤ span.offset
+pub start_before_span : (bytes : List ℕ) (span : Span) (before : ℕ) → data_start bytes span before ≤ span.offset
 start_before_span bytes span before =
     before_le (before == 0) span.offset (line_start bytes (line_of bytes span.offset - before)) span.offset
     (omega arith)
@@ -185,7 +199,7 @@ line_reaches bytes o k h =
       | inr g ↦ omega (arith, line_end_after bytes o k (omega (arith, g)) h)
     ]
 
-end_after_span : (bytes : List ℕ) (span : Span) (after : ℕ) → min (length bytes) (span.offset + span.len)
+pub end_after_span : (bytes : List ℕ) (span : Span) (after : ℕ) → min (length bytes) (span.offset + span.len)
     ≤ data_end bytes span after
 end_after_span bytes span after =
     let r : ℕ = reading_end bytes span in
@@ -194,7 +208,7 @@ end_after_span bytes span after =
     (min (length bytes) (span.offset + span.len)) (omega (arith, e))
     (omega (arith, e, line_reaches bytes r (line_of bytes r + after) (omega arith)))
 
-end_within : (bytes : List ℕ) (span : Span) (after : ℕ) → data_end bytes span after ≤ length bytes
+pub end_within : (bytes : List ℕ) (span : Span) (after : ℕ) → data_end bytes span after ≤ length bytes
 end_within bytes span after =
     before_le (after == 0) (min (length bytes) (reading_end bytes span))
     (line_end bytes (line_of bytes (reading_end bytes span) + after)) (length bytes)

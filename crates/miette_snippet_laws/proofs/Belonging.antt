@@ -1,27 +1,19 @@
 -- Labels with their own numbers of context lines: each belongs to the one group that holds the data of its read.
-use Rattle.std.proofs.Common.{ℕ, zero, suc, ◌+◌, ◌-◌, ◌<◌, ◌≤◌, ◌≡◌, ◌⊎◌, inl, inr, Bool, true, false, cond, leb, ltb}
+use Rattle.std.proofs.Common.{ℕ, suc, ◌<◌, ◌≤◌, ◌≡◌, Bool, true, false, leb}
 use Rattle.std.proofs.Common.{List, [], ◌∷◌, ◌&&◌, ◌||◌, length, map, refl, sym, ap, ◌∙◌, arith}
 use Rattle.std.proofs.lemmas.Bool.{le-leb, lt-leb, leb-true, leb-false, and_parts, and_from, and_right, or_right}
 use Rattle.std.specs.List.{filter, list_any, AllByRecursion}
-use Rattle.miette_source_lines.specs.rules.Lines as P
-use Rattle.miette_source_lines.specs.rules.Lines.{Line}
 use Rattle.miette_protocol.specs.views.Meaning.{Label}
-use Rattle.miette_protocol.specs.rules.Reading as R
 use Rattle.miette_protocol.specs.rules.Reading.{Span, Source, IsAccepted}
 use Rattle.miette_labels.specs.rules.Around.{lines_around}
 use Rattle.miette_snippet_laws.specs.laws.Belonging.{holds, HasOneGroup}
 use Rattle.miette_labels.specs.rules.Contexts.{contents, end_of_span}
 use Rattle.miette_labels.specs.rules.Groups.{AreAccepted, joined_span, stretch, put_span, by_begin, stretches_from}
 use Rattle.miette_labels.specs.rules.Groups.{joined_stretches}
-use Rattle.miette_labels.proofs.Sources.{IsCut, lines, line_of, start_of}
 use Rattle.miette_basics.proofs.Cases.{by_cases}
 use Rattle.miette_labels.proofs.Merging.{swap_or}
-use Rattle.miette_snippet_rules.proofs.Lines.{line-zero}
-use Rattle.miette_snippet_rules.proofs.Data.{first-lt}
-use Rattle.miette_labels.proofs.Data.{cut}
-use Rattle.miette_snippet_rules.proofs.Bridge.{line_of_same, start_same, none_or_some}
-use Rattle.miette_labels.proofs.Bridge.{some-context}
-use Rattle.miette_snippet_rules.proofs.Ends.{cut_is, empty-start}
+use Rattle.miette_protocol.proofs.Wholes.{start_before_span}
+use Rattle.miette_snippet_rules.proofs.Ends.{cut_is}
 
 -- whether a place lies in a group's bytes or at their end
 abbrev at_place : ℕ → Span → Bool
@@ -184,39 +176,6 @@ same_joined o lent (span ∷ spans) low high h any = same_from o lent span spans
 
 -- ---- a label begins in the data of its read, or at their end
 
--- a line that an offset's isn't before begins there or before
-start-below : (at n o k : ℕ) (ls : List Line) → IsCut at n ls → at ≤ o → k < length ls → k ≤ line_of ls o
-    → start_of ls k ≤ o
-start-below at n o k [] h le lt on = absurd (omega (arith, lt))
-start-below at n o zero (l ∷ ls) h le lt on = omega (arith, h.0, le)
-start-below at n o (suc k) (l ∷ ls) h le lt on =
-    by_cases {C = start_of ls k ≤ o} (leb l.end o)
-    (λ t. by_cases {C = start_of ls k ≤ o} (ltb l.text_end l.end)
-    (λ e. let on' : suc k ≤ cond (true && true) 1 0 + line_of ls o = rw (t, e) at on in
-    start-below l.end n o k ls h.5 (leb-true l.end o t) (omega (arith, lt)) (omega (arith, on')))
-    (λ e. let on' : suc k ≤ cond (true && false) 1 0 + line_of ls o = rw (t, e) at on in
-    start-below l.end n o k ls h.5 (leb-true l.end o t) (omega (arith, lt)) (omega (arith, on'))))
-    (λ f. let on' : suc k ≤ cond (false && ltb l.text_end l.end) 1 0 + line_of ls o = rw f at on in
-    absurd (omega (arith, on', line-zero l.end n o ls h.5 (omega (arith, leb-false l.end o f)))))
-
-begins_by : (c : ℕ) (bytes : List ℕ) (span : Span) → 1 ≤ c → (length bytes ≡ 0) ⊎ (0 < length bytes)
-    → R.data_start bytes span c ≤ span.offset
-begins_by c bytes span one (inl none) = rw (some-context c one)
-    (omega (arith, empty-start bytes (P.line_of bytes span.offset - c) none))
-begins_by c bytes span one (inr some) =
-    let k : ℕ = P.line_of bytes span.offset - c in
-    let same : P.line_of bytes span.offset ≡ line_of (lines bytes) span.offset = line_of_same bytes span.offset in
-    let lt : k < length (lines bytes) = omega (arith, same, first-lt c bytes span one some) in
-    rw (some-context c one) (omega (
-      arith,
-      start_same bytes k lt,
-      start-below 0 (length bytes) span.offset k (lines bytes) (cut bytes) (omega arith) lt (omega (arith, same)),
-    ))
-
-begins : (c : ℕ) (bytes : List ℕ) (span : Span) → R.data_start bytes span c ≤ span.offset
-begins zero bytes span = omega arith
-begins (suc c) bytes span = begins_by (suc c) bytes span (omega arith) (none_or_some (length bytes))
-
 ends : (c : ℕ) (source : Source) (span : Span) → IsAccepted source.bytes span → span.offset
     ≤ end_of_span (contents c source span).span
 ends c source span h = omega (arith, cut_is c source span h, h.begins)
@@ -241,7 +200,7 @@ each_one context source all (label ∷ labels) h there =
     there lent (ap (λ b. b || list_any (λ m. holds m lent) (map (stretch context source all) labels))
     (held_self lent)) in
     let same : Same label.span.offset lent (joined_stretches (by_begin spans)) =
-    same_joined label.span.offset lent (by_begin spans) (begins c source.bytes label.span)
+    same_joined label.span.offset lent (by_begin spans) (start_before_span source.bytes label.span c)
     (ends c source label.span h.0) (begin_ascends spans) (begin_any (λ m. holds m lent) spans ∙ any) in (
       record { one = same.one; own = same.own },
       each_one context source all labels h.1 (λ d e. there d

@@ -4,7 +4,7 @@ use Rattle.std.proofs.Common.{◌∷◌, ◌++◌, map, length, Option, Some, No
 use Rattle.std.specs.Prelude.{unwrap_or, option_map}
 use Rattle.std.specs.List.{AllByRecursion, list_any}
 use Rattle.std.proofs.lemmas.Bool.{eq-eqb, lt-ltb, le-leb, ltb-true, and_left, and_right, and_from}
-use Rattle.miette_source_lines.specs.rules.Lines.{Line, lines_of}
+use Rattle.miette_source_lines.specs.rules.Lines.{Line, lines_of, IsCut}
 use Rattle.miette_protocol.specs.views.Meaning.{Label}
 use Rattle.miette_protocol.specs.rules.Reading.{Span, Source, Contents}
 use Rattle.miette_style.specs.declared.style.Style.{Style}
@@ -23,28 +23,23 @@ use Rattle.miette_snippet_rules.specs.rules.SnippetLayout.{drawn_labels, all_sni
 use Rattle.miette_snippet_rules.specs.rules.SnippetLayout.{rows_unless, snippet_rows}
 use Rattle.miette_page.specs.rules.Rows.{Row}
 use Rattle.miette_snippet_laws.specs.laws.Ends.{last_line, stands_behind, EndsStandBehind, AreBehindText, with_ends}
-use Rattle.miette_labels.proofs.Bridge.{lines_same}
-use Rattle.miette_labels.proofs.Data.{cut}
-use Rattle.miette_labels.proofs.Lines.{cut-le}
+use Rattle.miette_source_lines.proofs.Cuts.{cut_le, lines_cut}
 use Rattle.miette_basics.proofs.Cases.{by_cases}
 use Rattle.miette_labels.proofs.Owning.{own_ordered, order_any}
-use Rattle.miette_labels.proofs.Sources.{IsCut, lines}
 use Rattle.miette_snippet_rules.proofs.Endings.{shows_around}
 use Rattle.miette_snippet_rules.specs.rules.SnippetLayout.{snippet_context}
 use Rattle.miette_snippet_rules.specs.rules.Settings.{SnippetSettings}
 
 -- ---- the last line
 
-last_cut : (at n : ℕ) (ls : List Line) → IsCut at n ls → at < n → ((last_line ls).start < n) × ((last_line ls).end ≡ n)
+last_cut : (at n : ℕ) (ls : List Line) → IsCut at ls n → at < n → ((last_line ls).start < n) × ((last_line ls).end ≡ n)
 last_cut at n [] h lt = absurd (omega (arith, h, lt))
-last_cut at n (l ∷ []) h lt = (omega (arith, h.0, lt), h.5)
-last_cut at n (l ∷ next ∷ ls) h lt = last_cut l.end n (next ∷ ls) h.5 (omega (arith, h.5.3, cut-le next.end n ls h.5.5))
+last_cut at n (l ∷ []) h lt = (omega (arith, h.0, lt), h.4)
+last_cut at n (l ∷ next ∷ ls) h lt = last_cut l.end n (next ∷ ls) h.4 (omega (arith, h.4.3, cut_le next.end ls n h.4.4))
 
 last_of_bytes : (bytes : List ℕ) → 0 < length bytes → ((last_line (lines_of bytes)).start < length bytes)
     × ((last_line (lines_of bytes)).end ≡ length bytes)
-last_of_bytes bytes some =
-    let same : lines_of bytes ≡ lines bytes = lines_same 0 bytes in
-    rw same (last_cut 0 (length bytes) (lines bytes) (cut bytes) some)
+last_of_bytes bytes some = last_cut 0 (length bytes) (lines_of bytes) (lines_cut bytes) some
 
 -- ---- labels on it
 

@@ -1,19 +1,17 @@
 -- Inside a frame exactly the lines that are in no context of a label as it is folded are left out.
 use Rattle.std.proofs.Common.{ℕ, zero, suc, ◌+◌, ◌-◌, ◌<◌, ◌≤◌, ◌≡◌, ◌⊎◌, inl, inr, min, max, Bool, true, false, cond}
 use Rattle.std.proofs.Common.{ltb, leb, not, ◌&&◌, ◌||◌, List, [], ◌∷◌, length, map, Option, Some, None, refl, sym, ap}
-use Rattle.std.proofs.Common.{ap₂, ◌∙◌, ⊎_elim, subst, arith}
-use Rattle.std.specs.Prelude.{unwrap_or}
-use Rattle.std.specs.List.{range_with_len, filter, list_any, AllByRecursion}
-use Rattle.std.proofs.lemmas.Bool.{lt-ltb, le-ltb, le-leb, lt-leb, ltb-true, ltb-false, leb-true, leb-false, cases_lt}
+use Rattle.std.proofs.Common.{ap₂, ◌∙◌, ⊎_elim, arith}
+use Rattle.std.specs.Prelude.{unwrap_or, slice_range}
+use Rattle.std.specs.List.{range_with_len, list_any, AllByRecursion}
+use Rattle.std.proofs.lemmas.Bool.{lt-ltb, le-ltb, le-leb, lt-leb, leb-true, cases_lt}
 use Rattle.std.proofs.lemmas.Bool.{and_parts, and_from}
 use Rattle.std.proofs.Math.Bool.{and_comm}
-use Rattle.miette_source_lines.specs.rules.Lines as P
-use Rattle.miette_source_lines.specs.rules.Lines.{Line, lines_of, is_terminated}
+use Rattle.miette_source_lines.specs.rules.Lines.{Line, lines_from, lines_of, line_of, line_start, line_end}
 use Rattle.miette_protocol.specs.views.Meaning.{Label}
-use Rattle.miette_protocol.specs.rules.Reading.{Span, Source}
+use Rattle.miette_protocol.specs.rules.Reading.{Span, Source, reading_end}
+use Rattle.miette_protocol.specs.rules.Context.{first_line, last_line}
 use Rattle.miette_labels.specs.rules.Around.{lines_around}
-use Rattle.miette_labels.specs.rules.Contexts as C
-use Rattle.miette_labels.specs.rules.Contexts.{contents, end_of_span}
 use Rattle.miette_labels.specs.rules.Groups.{in_order}
 use Rattle.miette_snippet_rules.specs.rules.Folds.{Spread, spread, spreads_of, last_byte, hides, place_among, is_around}
 use Rattle.miette_snippet_rules.specs.rules.Folds.{is_near, leaves_out}
@@ -21,156 +19,96 @@ use Rattle.miette_snippet_rules.specs.rules.SnippetLayout.{left_out}
 use Rattle.miette_snippet_rules.specs.rules.Numbers.{ranges}
 use Rattle.miette_snippet_rules.specs.rules.ShownLines.{line_at}
 use Rattle.miette_snippet_rules.specs.rules.Snippets as N
-use Rattle.miette_labels.proofs.Sources.{IsCut, lines, line_of, start_of, end_of, first_line, last_line, reading_end}
 use Rattle.miette_basics.proofs.Cases.{by_cases}
-use Rattle.miette_labels.proofs.Lines.{cut-le}
-use Rattle.miette_labels.proofs.Data.{cut}
-use Rattle.miette_labels.proofs.Bridge.{lines_same}
 use Rattle.miette_labels.proofs.Owning.{own_ordered, order_any}
-use Rattle.miette_snippet_rules.proofs.Lines.{line-zero, line-mono, line-le-length, end-mono, start-next}
-use Rattle.miette_snippet_rules.proofs.Data.{first-lt, first-le-last, end-le-reading}
-use Rattle.miette_snippet_rules.proofs.Bridge.{counted, line_of_same, begin_same}
-use Rattle.miette_snippet_rules.proofs.Bodies.{KeepsAlike, LeaveAlike, context_same, end-of-data}
+use Rattle.miette_source_lines.proofs.Places.{line_end_mono, line_of_all, line_of_mono, line_of_next, line_of_within}
+use Rattle.miette_source_lines.proofs.Places.{line_start_mono, line_start_next}
+use Rattle.miette_source_lines.proofs.Cuts.{few_lines, line_of_there, lines_before, nonempty}
+use Rattle.miette_source_lines.proofs.Only.{lines_between}
+use Rattle.miette_source_lines.proofs.Parts.{part_place, start_whole}
+use Rattle.miette_protocol.proofs.Wholes.{data_are, end-le-reading, first-le-last, start_is}
+use Rattle.miette_snippet_rules.proofs.ReadLines.{end_at, first-lt, middle_lines, start_at}
+use Rattle.miette_snippet_rules.proofs.Bodies.{KeepsAlike, LeaveAlike}
 use Rattle.miette_snippet_laws.specs.laws.Folding.{FitsIn, EndsPass}
-use Rattle.miette_snippet_laws.proofs.Stretches.{IsMaximal, OfRun, range_same, each_run, each_numbers}
+use Rattle.miette_snippet_laws.proofs.Stretches.{IsMaximal, range_same, each_run, each_numbers}
 use Rattle.miette_snippet_laws.proofs.Owning.{Around}
-use Rattle.miette_snippet_rules.proofs.Lines.{last_one}
 use Rattle.miette_snippet_rules.proofs.Bodies.{last_of-range}
 use Rattle.miette_snippet_rules.specs.rules.Settings.{SnippetSettings}
 
 -- ---- the places of offsets among the lines of a frame
 
-none_left : (n o : ℕ) (ls : List Line) → IsCut n n ls → line_of ls o ≡ 0
-none_left n o [] h = refl
-none_left n o (l ∷ ls) h = absurd (omega (arith, h.3, cut-le l.end n ls h.5))
-
--- no line is counted behind one that isn't
-none_behind : (at n o : ℕ) (l : Line) (ls : List Line) → IsCut at n (l ∷ ls) → (leb l.end o && is_terminated l) ≡ false
-    → line_of ls o ≡ 0
-none_behind at n o l ls h fails =
-    by_cases {C = line_of ls o ≡ 0} (leb l.end o)
-    (λ t. let bare : is_terminated l ≡ false = rw t at fails in
-    let same : l.end ≡ n = last_one l.text_end l.end n h.4 (ltb-false l.text_end l.end bare) (cut-le l.end n ls h.5) in
-    none_left n o ls (subst (λ (e : ℕ). IsCut e n ls) same h.5))
-    (λ f. line-zero l.end n o ls h.5 (omega (arith, leb-false l.end o f)))
-
-one_more : (k m : ℕ) → ltb k m ≡ ltb (suc k) (1 + m)
-one_more k m = ⊎_elim {C = ltb k m ≡ ltb (suc k) (1 + m)}
-    (λ lt. lt-ltb k m lt ∙ sym (lt-ltb (suc k) (1 + m) (omega (arith, lt))))
-    (λ ge. le-ltb k m ge ∙ sym (le-ltb (suc k) (1 + m) (omega (arith, ge)))) (cases_lt k m)
-
--- a line with a terminator ends before an offset where it comes before the offset's line
-ended_lt : (at n k o : ℕ) (ls : List Line) → IsCut at n ls → k < length ls
-    → (leb (line_at ls k).end o && is_terminated (line_at ls k)) ≡ ltb k (line_of ls o)
-ended_lt at n k o [] h lt = absurd (omega (arith, lt))
-ended_lt at n zero o (l ∷ ls) h lt =
-    by_cases {C = (leb l.end o && is_terminated l) ≡ ltb zero
-    (cond (leb l.end o && is_terminated l) 1 0 + line_of ls o)} (leb l.end o && is_terminated l)
-    (λ t. rw t (sym (lt-ltb zero (1 + line_of ls o) (omega arith))))
-    (λ f. let none : line_of ls o ≡ 0 = none_behind at n o l ls h f in
-    rw (f, none) (sym (le-ltb zero (0 + 0) (omega arith))))
-ended_lt at n (suc k) o (l ∷ ls) h lt =
-    let later : (leb (line_at ls k).end o && is_terminated (line_at ls k)) ≡ ltb k (line_of ls o) =
-    ended_lt l.end n k o ls h.5 (omega (arith, lt)) in
-    later ∙ by_cases {C = ltb k (line_of ls o) ≡ ltb (suc k) (cond (leb l.end o && is_terminated l) 1 0 + line_of ls o)}
-    (leb l.end o && is_terminated l)
-    (λ t. rw t (one_more k (line_of ls o)))
-    (λ f. let none : line_of ls o ≡ 0 = none_behind at n o l ls h f in
-    rw (f, none) (le-ltb k 0 (omega arith) ∙ sym (le-ltb (suc k) (0 + 0) (omega arith))))
-
-counted_in : (n low many o : ℕ) (ls : List Line) → IsCut 0 n ls → low + many ≤ length ls
-    → line_of (map (line_at ls) (range_with_len low many)) o ≡ min many (line_of ls o - low)
-counted_in n low zero o ls h le = omega arith
-counted_in n low (suc many) o ls h le =
-    let rest : line_of (map (line_at ls) (range_with_len (low + 1) many)) o ≡ min many (line_of ls o - (low + 1)) =
-    counted_in n (low + 1) many o ls h (omega (arith, le)) in
-    ap (λ b. cond b 1 0 + line_of (map (line_at ls) (range_with_len (low + 1) many)) o)
-    (ended_lt 0 n low o ls h (omega (arith, le)))
-    ∙ ap (λ x. cond (ltb low (line_of ls o)) 1 0 + x) rest
-    ∙ by_cases {C = cond (ltb low (line_of ls o)) 1 0 + min many (line_of ls o - (low + 1))
-    ≡ min (suc many) (line_of ls o - low)} (ltb low (line_of ls o))
-    (λ t. rw t (omega (arith, ltb-true low (line_of ls o) t)))
-    (λ f. rw f (omega (arith, ltb-false low (line_of ls o) f)))
-
 -- the lines with these numbers
 abbrev frame : List ℕ → ℕ → ℕ → List Line
 frame bytes low many = map (line_at (lines_of bytes)) (range_with_len low many)
 
-place_is : (bytes : List ℕ) (low many o : ℕ) → low + many ≤ length (lines bytes) → place_among (frame bytes low many) o
-    ≡ min many (line_of (lines bytes) o - low)
-place_is bytes low many o le =
-    counted (frame bytes low many) o
-    ∙ ap (λ ls. line_of (map (line_at ls) (range_with_len low many)) o) (lines_same 0 bytes)
-    ∙ counted_in (length bytes) low many o (lines bytes) (cut bytes) le
+place_is : (bytes : List ℕ) (low many o : ℕ) → low + many ≤ length (lines_of bytes)
+    → place_among (frame bytes low many) o
+    ≡ min many (line_of bytes o - low)
+place_is bytes low zero o le = omega arith
+place_is bytes low (suc many) o le =
+    let from : ℕ = line_start bytes low in
+    let to : ℕ = line_start bytes (low + suc many) in
+    let numbers : min (low + suc many) (length (lines_of bytes)) - low ≡ suc many = omega (arith, le) in
+    let own : lines_from from (slice_range bytes from to) ≡ frame bytes low (suc many) =
+    lines_between bytes low (low + suc many) (omega arith)
+    ∙ middle_lines (lines_of bytes) low (low + suc many) (omega (arith, le))
+    ∙ ap (λ n. frame bytes low n) numbers in
+    let order : from ≤ to = line_start_mono bytes low (low + suc many) (omega arith) in
+    let next : low + many + 1 ≡ low + suc many = omega arith in
+    let last : line_of bytes to ≡ min (low + many + 1) (line_of bytes (length bytes)) =
+    ap (λ k. line_of bytes (line_start bytes k)) (sym next) ∙ line_of_next bytes (low + many) in
+    omega (
+      arith,
+      ap (λ ls. place_among ls o) own,
+      part_place bytes from to o order (start_whole bytes (low + suc many)),
+      line_of_within bytes from to o order,
+      line_of_there bytes low (omega (arith, le)),
+      lines_before bytes (low + many) (omega (arith, le)),
+      last,
+      line_of_all bytes o,
+    )
 
 -- ---- contexts by offsets, and by numbers of lines
 
-start_lt_end : (at n k : ℕ) (ls : List Line) → IsCut at n ls → k < length ls → start_of ls k < end_of n ls k
-start_lt_end at n k [] h lt = absurd (omega (arith, lt))
-start_lt_end at n zero (l ∷ ls) h lt = omega (arith, h.0, h.3)
-start_lt_end at n (suc k) (l ∷ ls) h lt = start_lt_end l.end n k ls h.5 (omega (arith, lt))
-
--- a line that comes after another begins where that one ends, or later
-begins_past : (n k a : ℕ) (ls : List Line) → IsCut 0 n ls → k < a → a < length ls → end_of n ls k ≤ start_of ls a
-begins_past n k a ls h lt there =
-    let e : a - 1 + 1 ≡ a = omega (arith, lt) in
-    let next : start_of ls a ≡ end_of n ls (a - 1) = ap (start_of ls) (sym e)
-    ∙ start-next 0 n (a - 1) ls h (omega (arith, lt, there)) in
-    omega (arith, next, end-mono 0 n k (a - 1) ls h (omega (arith, lt)))
-
-begins_before : (n k a : ℕ) (ls : List Line) → IsCut 0 n ls → a < length ls → ltb (start_of ls a) (end_of n ls k)
+begins_before : (bytes : List ℕ) (k a : ℕ) → a < length (lines_of bytes) → ltb (line_start bytes a) (line_end bytes k)
     ≡ leb a k
-begins_before n k a ls h there = ⊎_elim {C = ltb (start_of ls a) (end_of n ls k) ≡ leb a k}
-    (λ lt. le-ltb (start_of ls a) (end_of n ls k) (begins_past n k a ls h lt there) ∙ sym (lt-leb a k lt))
-    (λ ge. lt-ltb (start_of ls a) (end_of n ls k) (omega (
+begins_before bytes k a there = ⊎_elim {C = ltb (line_start bytes a) (line_end bytes k) ≡ leb a k}
+    (λ lt. le-ltb (line_start bytes a) (line_end bytes k) (omega (
       arith,
-      start_lt_end 0 n a ls h there,
-      end-mono 0 n a k ls h ge,
+      line_start_next bytes k,
+      line_start_mono bytes (k + 1) a (omega (arith, lt)),
+    )) ∙ sym (lt-leb a k lt))
+    (λ ge. lt-ltb (line_start bytes a) (line_end bytes k) (omega (
+      arith,
+      nonempty bytes a there,
+      line_end_mono bytes a k ge,
     )) ∙ sym (le-leb a k ge)) (cases_lt k a)
-
-pub start_at : (ls : List Line) (k : ℕ) → (line_at ls k).start ≡ start_of ls k
-start_at [] k = refl
-start_at (l ∷ ls) zero = refl
-start_at (l ∷ ls) (suc k) = start_at ls k
-
-pub end_at : (n : ℕ) (ls : List Line) (k : ℕ) → k < length ls → (line_at ls k).end ≡ end_of n ls k
-end_at n [] k lt = absurd (omega (arith, lt))
-end_at n (l ∷ ls) zero lt = refl
-end_at n (l ∷ ls) (suc k) lt = end_at n ls k (omega (arith, lt))
 
 -- a line has a byte of a label's context where its number lies in it
 around_is : (context : ℕ) (source : Source) (all : List Label) (label : Label) (k : ℕ) → 1
-    ≤ lines_around context all label → 0 < length source.bytes → k < length (lines source.bytes) →
+    ≤ lines_around context all label → 0 < length source.bytes → k < length (lines_of source.bytes) →
     is_around (line_at (lines_of source.bytes) k) (spread context source all label)
     ≡ N.is_in_context (lines_around context all label) source.bytes k label.span
 around_is context source all label k one some there =
     let c : ℕ = lines_around context all label in
     let bytes : List ℕ = source.bytes in
-    let n : ℕ = length bytes in
-    let ls : List Line = lines bytes in
-    let low : ℕ = first_line c bytes label.span in
-    let high : ℕ = last_line c bytes label.span in
-    let lt : low < length ls = first-lt c bytes label.span one some in
+    let low : ℕ = first_line bytes label.span c in
+    let high : ℕ = last_line bytes label.span c in
+    let lt : low < length (lines_of bytes) = first-lt c bytes label.span one some in
     let x : Spread = spread context source all label in
-    let from : x.from ≡ start_of ls low = begin_same c source label.span one some in
-    let ends : C.end_of_span (contents c source label.span).span ≡ end_of n ls high =
-    end-of-data c source label.span one some in
-    let more : start_of ls low < end_of n ls high = omega (
+    let from : x.from ≡ line_start bytes low = start_is bytes label.span c one in
+    let until : x.until ≡ line_end bytes high = omega (
       arith,
-      start_lt_end 0 n low ls (cut bytes) lt,
-      end-mono 0 n low high ls (cut bytes)
-          (first-le-last c bytes label.span),
+      from,
+      data_are bytes label.span c c one one,
+      line_start_next bytes high,
+      nonempty bytes low lt,
+      line_end_mono bytes low high (first-le-last bytes label.span c c),
     ) in
-    let until : x.until ≡ end_of n ls high = omega (arith, from, ends, more) in
-    let begins : (line_at (lines_of bytes) k).start ≡ start_of ls k =
-    ap (λ xs. (line_at xs k).start) (lines_same 0 bytes) ∙ start_at ls k in
-    let stops : (line_at (lines_of bytes) k).end ≡ end_of n ls k = ap (λ xs. (line_at xs k).end) (lines_same 0 bytes)
-    ∙ end_at n ls k there in
-    ap₂ (λ a b. ltb a b && ltb x.from (line_at (lines_of bytes) k).end) begins until
-    ∙ ap₂ (λ a b. ltb (start_of ls k) (end_of n ls high) && ltb a b) from stops
-    ∙ ap₂ (λ a b. a && b) (begins_before n high k ls (cut bytes) there) (begins_before n k low ls (cut bytes) lt)
+    ap₂ (λ a b. ltb a b && ltb x.from (line_at (lines_of bytes) k).end) (start_at bytes k there) until
+    ∙ ap₂ (λ a b. ltb (line_start bytes k) (line_end bytes high) && ltb a b) from (end_at bytes k there)
+    ∙ ap₂ (λ a b. a && b) (begins_before bytes high k there) (begins_before bytes k low lt)
     ∙ and_comm (leb k high) (leb low k)
-    ∙ sym (context_same c bytes k label.span)
 
 -- ---- a label whose context meets a run lies in it
 
@@ -182,31 +120,30 @@ record AreIn (low many first last : ℕ) : Type 0 where
 
 -- the lines of a context all pass
 abbrev Covers : (ℕ → Bool) → ℕ → ℕ → List ℕ → Span → Type 0
-Covers p to c bytes span = (k : ℕ) → k < to → first_line c bytes span ≤ k → k ≤ last_line c bytes span → p k ≡ true
+Covers p to c bytes span = (k : ℕ) → k < to → first_line bytes span c ≤ k → k ≤ last_line bytes span c → p k ≡ true
 
 lies_in : (p : ℕ → Bool) (c : ℕ) (bytes : List ℕ) (span : Span) (low many k : ℕ)
-    → IsMaximal p (length (lines bytes)) low many → Covers p (length (lines bytes)) c bytes span →
-    low ≤ k → k < low + many → first_line c bytes span ≤ k → k ≤ last_line c bytes span →
-    AreIn low many (line_of (lines bytes) span.offset) (line_of (lines bytes) (last_byte bytes span))
+    → IsMaximal p (length (lines_of bytes)) low many → Covers p (length (lines_of bytes)) c bytes span →
+    low ≤ k → k < low + many → first_line bytes span c ≤ k → k ≤ last_line bytes span c →
+    AreIn low many (line_of bytes span.offset) (line_of bytes (last_byte bytes span))
 lies_in p c bytes span low many k m covers le lt from to =
-    let ls : List Line = lines bytes in
-    let reads : line_of ls (last_byte bytes span) ≤ line_of ls (reading_end bytes (end_of_span span)) =
-    line-mono (last_byte bytes span) (reading_end bytes (end_of_span span)) ls
-    (omega (arith, end-le-reading bytes (end_of_span span))) in
+    let reads : line_of bytes (last_byte bytes span) ≤ line_of bytes (reading_end bytes span) =
+    line_of_mono bytes (last_byte bytes span) (reading_end bytes span) (omega (arith, end-le-reading bytes span)) in
     record {
-      begins = ⊎_elim {C = low ≤ line_of ls span.offset}
+      begins = ⊎_elim {C = low ≤ line_of bytes span.offset}
           (λ out. absurd (let passes : p (low - 1) ≡ true = covers (low - 1) (omega (arith, m.inside, le, lt, out))
           (omega (arith, out)) (omega (arith, le, to)) in
           let fails : p (low - 1) ≡ false = m.below (omega (arith, out)) in cc (passes, fails)))
-          (λ ok. omega (arith, ok)) (cases_lt (first_line c bytes span) low);
-      order = line-mono span.offset (last_byte bytes span) ls (omega arith);
-      ends = ⊎_elim {C = line_of ls (last_byte bytes span) ≤ low + many}
-          (λ out. ⊎_elim {C = line_of ls (last_byte bytes span) ≤ low + many}
+          (λ ok. omega (arith, ok)) (cases_lt (first_line bytes span c) low);
+      order = line_of_mono bytes span.offset (last_byte bytes span) (omega arith);
+      ends = ⊎_elim {C = line_of bytes (last_byte bytes span) ≤ low + many}
+          (λ out. ⊎_elim {C = line_of bytes (last_byte bytes span) ≤ low + many}
           (λ there. absurd (let passes : p (low + many) ≡ true =
           covers (low + many) there (omega (arith, from, lt)) (omega (arith, out, reads)) in
           let fails : p (low + many) ≡ false = m.above there in cc (passes, fails)))
-          (λ past. omega (arith, past, line-le-length (last_byte bytes span) ls)) (cases_lt (low + many) (length ls)))
-          (λ ok. ok) (cases_lt (low + many) (line_of ls (last_byte bytes span)));
+          (λ past. omega (arith, past, few_lines bytes (last_byte bytes span)))
+          (cases_lt (low + many) (length (lines_of bytes))))
+          (λ ok. ok) (cases_lt (low + many) (line_of bytes (last_byte bytes span)));
     }
 
 -- ---- what a label hides
@@ -228,7 +165,7 @@ near_by false x y h = refl
 -- in a run of lines a label is near a line where the line lies in its context as it is folded
 near_is : (limit context : ℕ) (source : Source) (all : List Label) (label : Label) (p : ℕ → Bool) (low many k : ℕ) → 1
     ≤ lines_around context all label → 0 < length source.bytes →
-    IsMaximal p (length (lines source.bytes)) low many → Covers p (length (lines source.bytes))
+    IsMaximal p (length (lines_of source.bytes)) low many → Covers p (length (lines_of source.bytes))
     (lines_around context all label) source.bytes label.span → low ≤ k → k < low + many →
     is_near limit (frame source.bytes low many) (k + 1 - (low + 1)) (line_at (lines_of source.bytes) k)
     (spread context source all label)
@@ -243,23 +180,21 @@ near_is limit context source all label p low many k one some m covers le lt =
     (around_is context source all label k one some (omega (arith, m.inside, lt)))
     ∙ near_by (N.is_in_context c bytes k label.span) (hides limit (place_among here x.first) (place_among here x.last) c
     i)
-    (hides limit (P.line_of bytes label.span.offset) (P.line_of bytes (last_byte bytes label.span)) c k)
+    (hides limit (line_of bytes label.span.offset) (line_of bytes (last_byte bytes label.span)) c k)
     (λ passes.
-    let both = and_parts (leb (first_line c bytes label.span) k) (leb k (last_line c bytes label.span))
-    (sym (context_same c bytes k label.span) ∙ passes) in
-    let inside : AreIn low many (line_of (lines bytes) label.span.offset)
-    (line_of (lines bytes) (last_byte bytes label.span)) =
-    lies_in p c bytes label.span low many k m covers le lt (leb-true (first_line c bytes label.span) k both.0)
-    (leb-true k (last_line c bytes label.span) both.1) in
-    hides_same limit c low many (line_of (lines bytes) label.span.offset)
-    (line_of (lines bytes) (last_byte bytes label.span)) i k (place_among here x.first) (place_among here x.last)
+    let both = and_parts (leb (first_line bytes label.span c) k) (leb k (last_line bytes label.span c))
+    passes in
+    let inside : AreIn low many (line_of bytes label.span.offset)
+    (line_of bytes (last_byte bytes label.span)) =
+    lies_in p c bytes label.span low many k m covers le lt (leb-true (first_line bytes label.span c) k both.0)
+    (leb-true k (last_line bytes label.span c) both.1) in
+    hides_same limit c low many (line_of bytes label.span.offset)
+    (line_of bytes (last_byte bytes label.span)) i k (place_among here x.first) (place_among here x.last)
     inside le
-    (place_is bytes low many x.first m.inside) (place_is bytes low many x.last m.inside) (omega arith)
-    ∙ ap₂ (λ a b. hides limit a b c k) (sym (line_of_same bytes label.span.offset))
-    (sym (line_of_same bytes (last_byte bytes label.span))))
+    (place_is bytes low many x.first m.inside) (place_is bytes low many x.last m.inside) (omega arith))
 
 any_around : (context : ℕ) (source : Source) (all labels : List Label) (k : ℕ) → Around context all labels → 0
-    < length source.bytes → k < length (lines source.bytes) →
+    < length source.bytes → k < length (lines_of source.bytes) →
     list_any (is_around (line_at (lines_of source.bytes) k)) (map (spread context source all) labels)
     ≡ list_any (λ label. N.is_in_context (lines_around context all label) source.bytes k label.span) labels
 any_around context source all [] k h some there = refl
@@ -270,11 +205,11 @@ any_around context source all (label ∷ labels) k h some there =
 -- the lines of each label's context pass
 abbrev AllCovered : (ℕ → Bool) → ℕ → List ℕ → List Label → List Label → Type 0
 AllCovered p context bytes all labels = AllByRecursion
-    (λ label. Covers p (length (lines bytes)) (lines_around context all label) bytes label.span) labels
+    (λ label. Covers p (length (lines_of bytes)) (lines_around context all label) bytes label.span) labels
 
 any_near : (limit context : ℕ) (source : Source) (all labels : List Label) (p : ℕ → Bool) (low many k : ℕ)
     → Around context all labels → 0 < length source.bytes →
-    IsMaximal p (length (lines source.bytes)) low many → AllCovered p context source.bytes all labels → low ≤ k → k
+    IsMaximal p (length (lines_of source.bytes)) low many → AllCovered p context source.bytes all labels → low ≤ k → k
     < low + many →
     list_any (is_near limit (frame source.bytes low many) (k + 1 - (low + 1)) (line_at (lines_of source.bytes) k))
     (map (spread context source all) labels)
@@ -313,21 +248,22 @@ all_covered : (context : ℕ) (bytes : List ℕ) (labels : List Label)
 all_covered context bytes labels =
     each_label (λ label. (k : ℕ) → N.is_in_context (lines_around context labels label) bytes k label.span ≡ true
     → N.is_shown context bytes labels k ≡ true)
-    (λ label. Covers (N.is_shown context bytes labels) (length (lines bytes)) (lines_around context labels label) bytes
+    (λ label. Covers (N.is_shown context bytes labels) (length (lines_of bytes)) (lines_around context labels label)
+    bytes
     label.span) labels
-    (λ label h. λ k lt from to. h k (context_same (lines_around context labels label) bytes k label.span
-    ∙ and_from (leb (first_line (lines_around context labels label) bytes label.span) k)
-    (leb k (last_line (lines_around context labels label) bytes label.span))
-    (le-leb (first_line (lines_around context labels label) bytes label.span) k from)
-    (le-leb k (last_line (lines_around context labels label) bytes label.span) to)))
+    (λ label h. λ k lt from to. h k (and_from (leb (first_line bytes label.span (lines_around context labels label)) k)
+    (leb k (last_line bytes label.span (lines_around context labels label)))
+    (le-leb (first_line bytes label.span (lines_around context labels label)) k from)
+    (le-leb k (last_line bytes label.span (lines_around context labels label)) to)))
     (covered (λ label k. N.is_in_context (lines_around context labels label) bytes k label.span)
-    (N.is_shown context bytes labels) (length (lines bytes)) labels (λ k t. t))
+    (N.is_shown context bytes labels) (length (lines_of bytes)) labels (λ k t. t))
 
 -- ---- what is left out of a run isn't kept
 
 leaves_alike : (limit : Option ℕ) (context : ℕ) (source : Source) (labels : List Label) (low many k : ℕ)
     → Around context labels labels → 0 < length source.bytes →
-    IsMaximal (N.is_shown context source.bytes labels) (length (lines source.bytes)) low many → low ≤ k → k < low + many
+    IsMaximal (N.is_shown context source.bytes labels) (length (lines_of source.bytes)) low many → low ≤ k → k < low
+    + many
     →
     leaves_out limit (frame source.bytes low many) (spreads_of limit context source labels) (k + 1 - (low + 1))
     (line_at (lines_of source.bytes) k) ≡ not (N.is_kept limit context source.bytes labels k)
@@ -362,12 +298,9 @@ runs_alike s context source labels h some =
     let alike : ℕ → ℕ → Type 0 = λ low many. LeaveAlike (lines_of bytes)
     (left_out s low (map (line_at (lines_of bytes)) (range_with_len low many)) xs)
     (N.is_kept s.layout.label_lines context bytes labels) low many in
-    subst (λ (ls : List Line). AllByRecursion (OfRun alike)
-    (ranges (filter (N.is_shown context bytes (in_order labels)) (range_with_len 0 (length ls)))))
-    (sym (lines_same 0 bytes))
-    (each_run alike (N.is_shown context bytes (in_order labels)) (length (lines bytes)) (λ low many m.
+    each_run alike (N.is_shown context bytes (in_order labels)) (length (lines_of bytes)) (λ low many m.
     λ k le lt. leaves_alike s.layout.label_lines context source (in_order labels) low many k h some m le lt
-    ∙ ap not (kept_ordered s.layout.label_lines context bytes labels k)))
+    ∙ ap not (kept_ordered s.layout.label_lines context bytes labels k))
 
 -- a run without lines
 pub none_alike : (s : SnippetSettings) (xs : List Spread) (bytes : List ℕ) (kept : ℕ → Bool)
@@ -388,7 +321,7 @@ any_to A q r (label ∷ labels) h f e =
 -- a label with a line of context or more, whose context passes a test
 record IsCovered (p : ℕ → Bool) (context : ℕ) (bytes : List ℕ) (all : List Label) (label : Label) : Type 0 where
   pub one : 1 ≤ lines_around context all label
-  pub covers : Covers p (length (lines bytes)) (lines_around context all label) bytes label.span
+  pub covers : Covers p (length (lines_of bytes)) (lines_around context all label) bytes label.span
 
 both_covered : (p : ℕ → Bool) (context : ℕ) (bytes : List ℕ) (all labels : List Label) → Around context all labels
     → AllCovered p context bytes all labels → AllByRecursion (IsCovered p context bytes all) labels
@@ -418,28 +351,28 @@ none_last limit first last c k le one =
 
 -- a label keeps the first line of a run that its context meets there, and the last one
 keeps_end : (limit context : ℕ) (bytes : List ℕ) (all : List Label) (label : Label) (p : ℕ → Bool) (low many k : ℕ)
-    → IsMaximal p (length (lines bytes)) low many → (k ≡ low) ⊎ (k + 1 ≡ low + many) → low ≤ k → k < low + many →
+    → IsMaximal p (length (lines_of bytes)) low many → (k ≡ low) ⊎ (k + 1 ≡ low + many) → low ≤ k → k < low + many →
     IsCovered p context bytes all label → N.is_in_context (lines_around context all label) bytes k label.span ≡ true
     → N.is_in_folded_context limit (lines_around context all label) bytes k label.span ≡ true
 keeps_end limit context bytes all label p low many k m at le lt h t =
     let c : ℕ = lines_around context all label in
-    let first : ℕ = P.line_of bytes label.span.offset in
-    let last : ℕ = P.line_of bytes (last_byte bytes label.span) in
-    let both = and_parts (leb (first_line c bytes label.span) k) (leb k (last_line c bytes label.span))
-    (sym (context_same c bytes k label.span) ∙ t) in
-    let inside : AreIn low many (line_of (lines bytes) label.span.offset)
-    (line_of (lines bytes) (last_byte bytes label.span)) =
-    lies_in p c bytes label.span low many k m h.covers le lt (leb-true (first_line c bytes label.span) k both.0)
-    (leb-true k (last_line c bytes label.span) both.1) in
-    let begins : low ≤ first = omega (arith, inside.begins, line_of_same bytes label.span.offset) in
-    let ends : last ≤ low + many = omega (arith, inside.ends, line_of_same bytes (last_byte bytes label.span)) in
+    let first : ℕ = line_of bytes label.span.offset in
+    let last : ℕ = line_of bytes (last_byte bytes label.span) in
+    let both = and_parts (leb (first_line bytes label.span c) k) (leb k (last_line bytes label.span c))
+    t in
+    let inside : AreIn low many (line_of bytes label.span.offset)
+    (line_of bytes (last_byte bytes label.span)) =
+    lies_in p c bytes label.span low many k m h.covers le lt (leb-true (first_line bytes label.span c) k both.0)
+    (leb-true k (last_line bytes label.span c) both.1) in
+    let begins : low ≤ first = inside.begins in
+    let ends : last ≤ low + many = inside.ends in
     let shows : not (hides limit first last c k) ≡ true =
     ⊎_elim {C = not (hides limit first last c k) ≡ true} (λ e. none_first limit first last c k
     (omega (arith, e, begins))) (λ e. none_last limit first last c k (omega (arith, e, ends)) h.one) at in
     and_from (N.is_in_context c bytes k label.span) (not (hides limit first last c k)) t shows
 
 end_kept : (limit : Option ℕ) (context : ℕ) (bytes : List ℕ) (labels : List Label) (low many k : ℕ)
-    → Around context labels labels → IsMaximal (N.is_shown context bytes labels) (length (lines bytes)) low many →
+    → Around context labels labels → IsMaximal (N.is_shown context bytes labels) (length (lines_of bytes)) low many →
     (k ≡ low) ⊎ (k + 1 ≡ low + many) → low ≤ k → k < low + many → N.is_kept limit context bytes labels k ≡ true
 end_kept None context bytes labels low many k h m at le lt = m.all k le lt
 end_kept (Some limit) context bytes labels low many k h m at le lt =
@@ -452,7 +385,7 @@ end_kept (Some limit) context bytes labels low many k h m at le lt =
 
 -- of each maximal run of the lines that are shown
 ends_of : (limit : Option ℕ) (context : ℕ) (bytes : List ℕ) (labels : List Label) (low many : ℕ)
-    → Around context labels labels → IsMaximal (N.is_shown context bytes labels) (length (lines bytes)) low many →
+    → Around context labels labels → IsMaximal (N.is_shown context bytes labels) (length (lines_of bytes)) low many →
     EndsPass (N.is_kept limit context bytes labels) (range_with_len low many)
 ends_of limit context bytes labels low zero h m = absurd (omega (arith, m.some))
 ends_of limit context bytes labels low (suc many) h m = (
@@ -466,10 +399,8 @@ pub ranges_end_kept : (limit : Option ℕ) (context : ℕ) (bytes : List ℕ) (l
     → Around context labels labels → AllByRecursion (EndsPass (N.is_kept limit context bytes labels))
     (ranges (N.shown_numbers context bytes labels))
 ranges_end_kept limit context bytes labels h =
-    subst (λ (ls : List Line). AllByRecursion (EndsPass (N.is_kept limit context bytes labels))
-    (ranges (filter (N.is_shown context bytes labels) (range_with_len 0 (length ls))))) (sym (lines_same 0 bytes))
-    (each_numbers (EndsPass (N.is_kept limit context bytes labels)) (N.is_shown context bytes labels)
-    (length (lines bytes)) (λ low many m. ends_of limit context bytes labels low many h m))
+    each_numbers (EndsPass (N.is_kept limit context bytes labels)) (N.is_shown context bytes labels)
+    (length (lines_of bytes)) (λ low many m. ends_of limit context bytes labels low many h m)
 
 -- ---- where no label has more lines than it is folded to
 
@@ -491,8 +422,8 @@ any_unfolded limit context bytes all (label ∷ labels) k h =
     let c : ℕ = lines_around context all label in
     ap₂ (λ x y. x || y)
     (and_true (N.is_in_context c bytes k label.span) (not
-    (hides limit (P.line_of bytes label.span.offset) (P.line_of bytes (last_byte bytes label.span)) c k))
-    (none_hidden limit (P.line_of bytes label.span.offset) (P.line_of bytes (last_byte bytes label.span)) c k h.0))
+    (hides limit (line_of bytes label.span.offset) (line_of bytes (last_byte bytes label.span)) c k))
+    (none_hidden limit (line_of bytes label.span.offset) (line_of bytes (last_byte bytes label.span)) c k h.0))
     (any_unfolded limit context bytes all labels k h.1)
 
 -- all shown lines are kept

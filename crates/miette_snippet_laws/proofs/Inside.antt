@@ -4,10 +4,10 @@ use Rattle.std.proofs.Common.{List, [], ◌∷◌, length, Some, refl, sym, ap, 
 use Rattle.std.specs.List.{list_any, AllByRecursion}
 use Rattle.std.proofs.lemmas.Bool.{eq-eqb, eqb-true, eqb-false, le-leb, ltb-true, lt-ltb, leb-true, leb-false}
 use Rattle.std.proofs.lemmas.Bool.{and_parts, and_from, or_parts}
-use Rattle.miette_source_lines.specs.rules.Lines as P
-use Rattle.miette_source_lines.specs.rules.Lines.{Line, lines_of}
+use Rattle.miette_source_lines.specs.rules.Lines.{Line, lines_of, line_of, line_start, line_end}
 use Rattle.miette_protocol.specs.views.Meaning.{Label}
-use Rattle.miette_protocol.specs.rules.Reading.{Span}
+use Rattle.miette_protocol.specs.rules.Reading.{Span, reading_end}
+use Rattle.miette_protocol.specs.rules.Context.{first_line, last_line}
 use Rattle.miette_style.specs.declared.style.Style.{Style}
 use Rattle.miette_labels.specs.rules.Around.{lines_around}
 use Rattle.miette_labels.specs.rules.Contexts as C
@@ -17,86 +17,69 @@ use Rattle.miette_snippet_rules.specs.rules.Folds.{last_byte, hides}
 use Rattle.miette_snippet_rules.specs.rules.ShownLines.{line_at}
 use Rattle.miette_snippet_rules.specs.rules.Snippets as N
 use Rattle.miette_labels.specs.rules.Contexts.{end_of_span}
-use Rattle.miette_labels.proofs.Sources.{lines, line_of, start_of, end_of, first_line, last_line, reading_end}
 use Rattle.miette_basics.proofs.Cases.{by_cases}
-use Rattle.miette_labels.proofs.Data.{cut}
-use Rattle.miette_labels.proofs.Bridge.{lines_same}
-use Rattle.miette_snippet_rules.proofs.Lines.{line-mono, line-start, line-end, start-lt, start-le-end, start-next}
-use Rattle.miette_snippet_rules.proofs.Data.{end-le-reading}
-use Rattle.miette_snippet_rules.proofs.Bridge.{line_of_same}
-use Rattle.miette_snippet_rules.proofs.Bodies.{context_same}
+use Rattle.miette_source_lines.proofs.Places.{line_of_mono, line_of_next, line_start_next}
+use Rattle.miette_source_lines.proofs.Cuts.{line_of_there, nonempty, start_before_end}
+use Rattle.miette_protocol.proofs.Wholes.{end-le-reading, offset-le-reading}
+use Rattle.miette_snippet_rules.proofs.ReadLines.{end_at, start_at}
 use Rattle.miette_snippet_laws.specs.laws.Folding.{IsInside}
-use Rattle.miette_snippet_laws.proofs.Folding.{start_at, end_at, none_first, none_last}
+use Rattle.miette_snippet_laws.proofs.Folding.{none_first, none_last}
 use Rattle.miette_snippet_laws.proofs.Owning.{Around}
 
 -- ---- a label keeps the lines that it begins and ends on
 
-in_folded : (limit c : ℕ) (bytes : List ℕ) (span : Span) (k : ℕ) → first_line c bytes span ≤ k → k
-    ≤ last_line c bytes span →
-    not (hides limit (P.line_of bytes span.offset) (P.line_of bytes (last_byte bytes span)) c k) ≡ true
+in_folded : (limit c : ℕ) (bytes : List ℕ) (span : Span) (k : ℕ) → first_line bytes span c ≤ k → k
+    ≤ last_line bytes span c →
+    not (hides limit (line_of bytes span.offset) (line_of bytes (last_byte bytes span)) c k) ≡ true
     → N.is_in_folded_context limit c bytes k span ≡ true
 in_folded limit c bytes span k from to shows =
-    and_from (N.is_in_context c bytes k span) (not (hides limit (P.line_of bytes span.offset)
-    (P.line_of bytes (last_byte bytes span)) c k))
-    (context_same c bytes k span ∙ and_from (leb (first_line c bytes span) k) (leb k (last_line c bytes span))
-    (le-leb (first_line c bytes span) k from) (le-leb k (last_line c bytes span) to))
+    and_from (N.is_in_context c bytes k span) (not (hides limit (line_of bytes span.offset)
+    (line_of bytes (last_byte bytes span)) c k))
+    (and_from (leb (first_line bytes span c) k) (leb k (last_line bytes span c))
+    (le-leb (first_line bytes span c) k from) (le-leb k (last_line bytes span c) to))
     shows
 
-kept_begin : (limit c : ℕ) (bytes : List ℕ) (span : Span) (k : ℕ) → 1 ≤ c → k < length (lines bytes)
-    → start_of (lines bytes) k ≤ span.offset → span.offset ≤ end_of (length bytes) (lines bytes) k →
+kept_begin : (limit c : ℕ) (bytes : List ℕ) (span : Span) (k : ℕ) → 1 ≤ c → k < length (lines_of bytes)
+    → line_start bytes k ≤ span.offset → span.offset ≤ line_end bytes k →
     N.is_in_folded_context limit c bytes k span ≡ true
 kept_begin limit c bytes span k one there from to =
-    let n : ℕ = length bytes in
-    let ls : List Line = lines bytes in
-    let low : k ≤ line_of ls span.offset = omega (
+    let low : k ≤ line_of bytes span.offset = omega (
       arith,
-      line-start 0 n k ls (cut bytes) there,
-      line-mono (start_of ls k) span.offset ls from,
+      line_of_there bytes k there,
+      line_of_mono bytes (line_start bytes k) span.offset from,
     ) in
-    let high : line_of ls span.offset ≤ k + 1 = omega (
+    let high : line_of bytes span.offset ≤ k + 1 = omega (
       arith,
-      line-mono span.offset (end_of n ls k) ls to,
-      line-end 0 n k ls (cut bytes),
+      line_of_mono bytes span.offset (line_start bytes (k + 1)) (omega (arith, to, line_start_next bytes k)),
+      line_of_next bytes k,
     ) in
-    let reads : line_of ls span.offset ≤ line_of ls (reading_end bytes (end_of_span span)) =
-    line-mono span.offset (reading_end bytes (end_of_span span)) ls
-    (omega (arith, end-le-reading bytes (end_of_span span))) in
+    let reads : line_of bytes span.offset ≤ line_of bytes (reading_end bytes span) =
+    line_of_mono bytes span.offset (reading_end bytes span) (offset-le-reading bytes span) in
     in_folded limit c bytes span k (omega (arith, high, one)) (omega (arith, low, reads))
-    (none_first limit (P.line_of bytes span.offset) (P.line_of bytes (last_byte bytes span)) c k
-    (omega (arith, low, line_of_same bytes span.offset)))
+    (none_first limit (line_of bytes span.offset) (line_of bytes (last_byte bytes span)) c k low)
 
-kept_last : (limit c : ℕ) (bytes : List ℕ) (span : Span) (k : ℕ) → 1 ≤ c → k < length (lines bytes)
-    → start_of (lines bytes) k ≤ last_byte bytes span → last_byte bytes span < end_of (length bytes) (lines bytes) k →
+kept_last : (limit c : ℕ) (bytes : List ℕ) (span : Span) (k : ℕ) → 1 ≤ c → k < length (lines_of bytes)
+    → line_start bytes k ≤ last_byte bytes span → last_byte bytes span < line_end bytes k →
     N.is_in_folded_context limit c bytes k span ≡ true
 kept_last limit c bytes span k one there from to =
-    let n : ℕ = length bytes in
-    let ls : List Line = lines bytes in
-    let low : k ≤ line_of ls (last_byte bytes span) = omega
-    (arith, line-start 0 n k ls (cut bytes) there, line-mono (start_of ls k) (last_byte bytes span) ls from) in
-    let high : line_of ls (last_byte bytes span) ≤ k + 1 =
-    omega (
+    let last : ℕ = last_byte bytes span in
+    let low : k ≤ line_of bytes last = omega (
       arith,
-      line-mono (last_byte bytes span) (end_of n ls k) ls (omega (arith, to)),
-      line-end 0 n k ls (cut bytes),
+      line_of_there bytes k there,
+      line_of_mono bytes (line_start bytes k) last from,
     ) in
-    let order : line_of ls span.offset ≤ line_of ls (last_byte bytes span) =
-    line-mono span.offset (last_byte bytes span) ls (omega arith) in
-    let reads : line_of ls (last_byte bytes span) ≤ line_of ls (reading_end bytes (end_of_span span)) =
-    line-mono (last_byte bytes span) (reading_end bytes (end_of_span span)) ls
-    (omega (arith, end-le-reading bytes (end_of_span span))) in
+    let high : line_of bytes last ≤ k + 1 = omega (
+      arith,
+      line_of_mono bytes last (line_start bytes (k + 1)) (omega (arith, to, line_start_next bytes k)),
+      line_of_next bytes k,
+    ) in
+    let order : line_of bytes span.offset ≤ line_of bytes last = line_of_mono bytes span.offset last (omega arith) in
+    let reads : line_of bytes last ≤ line_of bytes (reading_end bytes span) =
+    line_of_mono bytes last (reading_end bytes span) (omega (arith, end-le-reading bytes span)) in
     in_folded limit c bytes span k (omega (arith, order, high, one)) (omega (arith, low, reads))
-    (none_last limit (P.line_of bytes span.offset) (P.line_of bytes (last_byte bytes span)) c k
-    (omega (arith, high, line_of_same bytes (last_byte bytes span))) one)
+    (none_last limit (line_of bytes span.offset) (line_of bytes last) c k high one)
 
 -- ---- labels as they are drawn
-
-starts_at : (bytes : List ℕ) (k : ℕ) → (line_at (lines_of bytes) k).start ≡ start_of (lines bytes) k
-starts_at bytes k = ap (λ xs. (line_at xs k).start) (lines_same 0 bytes) ∙ start_at (lines bytes) k
-
-stops_at : (bytes : List ℕ) (k : ℕ) → k < length (lines bytes) → (line_at (lines_of bytes) k).end
-    ≡ end_of (length bytes) (lines bytes) k
-stops_at bytes k there = ap (λ xs. (line_at xs k).end) (lines_same 0 bytes)
-    ∙ end_at (length bytes) (lines bytes) k there
 
 is_end : (a : Bool) (o n : ℕ) → (a && eqb o n) ≡ true → o ≡ n
 is_end true o n e = eqb-true o n e
@@ -119,17 +102,17 @@ reach_last o m =
 reach_end : (m : ℕ) → reach_of m m ≡ m + 1
 reach_end m = let e : eqb m m ≡ true = eq-eqb m m refl in rw e refl
 
-kept_reach : (b : Bool) (limit c : ℕ) (bytes : List ℕ) (span : Span) (k : ℕ) → 1 ≤ c → k < length (lines bytes)
+kept_reach : (b : Bool) (limit c : ℕ) (bytes : List ℕ) (span : Span) (k : ℕ) → 1 ≤ c → k < length (lines_of bytes)
     → (b ≡ true → span.offset ≡ length bytes) →
-    start_of (lines bytes) k < reach_of (cond b (length bytes - 1) span.offset)
+    line_start bytes k < reach_of (cond b (length bytes - 1) span.offset)
     (cond b (length bytes - 1) (max span.offset (min (C.end_of_span span) (length bytes)))) →
     reach_of (cond b (length bytes - 1) span.offset) (cond b (length bytes - 1)
-    (max span.offset (min (C.end_of_span span) (length bytes)))) ≤ end_of (length bytes) (lines bytes) k →
+    (max span.offset (min (C.end_of_span span) (length bytes)))) ≤ line_end bytes k →
     N.is_in_folded_context limit c bytes k span ≡ true
 kept_reach true limit c bytes span k one there h from to =
     let n : ℕ = length bytes in
     let e : span.offset ≡ n = h refl in
-    kept_begin limit c bytes span k one there (omega (arith, e, start-lt 0 n k (lines bytes) (cut bytes) there))
+    kept_begin limit c bytes span k one there (omega (arith, e, start_before_end bytes k there))
     (omega (arith, e, reach_end (n - 1), to))
 kept_reach false limit c bytes span k one there h from to =
     let last : reach_of span.offset (max span.offset (min (C.end_of_span span) (length bytes))) ≡ last_byte bytes span
@@ -137,7 +120,7 @@ kept_reach false limit c bytes span k one there h from to =
     kept_last limit c bytes span k one there (omega (arith, last, from)) (omega (arith, last, to))
 
 no_start : (ends : Bool) (styles : List Style) (limit c : ℕ) (bytes : List ℕ) (i : ℕ) (label : Label) (k : ℕ) → 1 ≤ c
-    → k < length (lines bytes) → N.is_in_folded_context limit c bytes k label.span ≡ false →
+    → k < length (lines_of bytes) → N.is_in_folded_context limit c bytes k label.span ≡ false →
     starts_on (line_at (lines_of bytes) k) (drawn_label ends styles (length bytes) i label) ≡ false
 no_start ends styles limit c bytes i label k one there off =
     let n : ℕ = length bytes in
@@ -145,21 +128,21 @@ no_start ends styles limit c bytes i label k one there off =
     let d : DrawnLabel = drawn_label ends styles n i label in
     by_cases {C = starts_on line d ≡ false} (starts_on line d)
     (λ t. absurd (let both = and_parts (leb line.start d.start) (ltb d.start line.end) t in
-    let from : start_of (lines bytes) k ≤ d.start = omega (arith, starts_at bytes k, leb-true line.start d.start both.0)
+    let from : line_start bytes k ≤ d.start = omega (arith, start_at bytes k there, leb-true line.start d.start both.0)
     in
-    let to : d.start < end_of n (lines bytes) k = omega (
+    let to : d.start < line_end bytes k = omega (
       arith,
-      stops_at bytes k there,
+      end_at bytes k there,
       ltb-true d.start line.end both.1,
     ) in
-    let at = at_or_end (ends && eqb label.span.offset n) label.span.offset n (start_of (lines bytes) k)
-    (end_of n (lines bytes) k) (is_end ends label.span.offset n) from to in
+    let at = at_or_end (ends && eqb label.span.offset n) label.span.offset n (line_start bytes k)
+    (line_end bytes k) (is_end ends label.span.offset n) from to in
     let yes : N.is_in_folded_context limit c bytes k label.span ≡ true =
     kept_begin limit c bytes label.span k one there at.0 at.1 in cc (yes, off)))
     (λ f. f)
 
 no_end : (ends : Bool) (styles : List Style) (limit c : ℕ) (bytes : List ℕ) (i : ℕ) (label : Label) (k : ℕ) → 1 ≤ c → k
-    < length (lines bytes) → N.is_in_folded_context limit c bytes k label.span ≡ false →
+    < length (lines_of bytes) → N.is_in_folded_context limit c bytes k label.span ≡ false →
     ends_on (line_at (lines_of bytes) k) (drawn_label ends styles (length bytes) i label) ≡ false
 no_end ends styles limit c bytes i label k one there off =
     let n : ℕ = length bytes in
@@ -167,11 +150,11 @@ no_end ends styles limit c bytes i label k one there off =
     let d : DrawnLabel = drawn_label ends styles n i label in
     by_cases {C = ends_on line d ≡ false} (ends_on line d)
     (λ t. absurd (let both = and_parts (ltb line.start (reach d)) (leb (reach d) line.end) t in
-    let from : start_of (lines bytes) k < reach d = omega
-    (arith, starts_at bytes k, ltb-true line.start (reach d) both.0) in
-    let to : reach d ≤ end_of n (lines bytes) k = omega (
+    let from : line_start bytes k < reach d = omega
+    (arith, start_at bytes k there, ltb-true line.start (reach d) both.0) in
+    let to : reach d ≤ line_end bytes k = omega (
       arith,
-      stops_at bytes k there,
+      end_at bytes k there,
       leb-true (reach d) line.end both.1,
     ) in
     let yes : N.is_in_folded_context limit c bytes k label.span ≡ true =
@@ -180,7 +163,7 @@ no_end ends styles limit c bytes i label k one there off =
     (λ f. f)
 
 all_inside : (ends : Bool) (styles : List Style) (limit context : ℕ) (bytes : List ℕ) (all labels : List Label)
-    (i k : ℕ) → Around context all labels → k < length (lines bytes) →
+    (i k : ℕ) → Around context all labels → k < length (lines_of bytes) →
     list_any (λ label. N.is_in_folded_context limit (lines_around context all label) bytes k label.span) labels ≡ false
     →
     AllByRecursion (IsInside (line_at (lines_of bytes) k)) (drawn_from ends styles (length bytes) i labels)
@@ -196,15 +179,12 @@ all_inside ends styles limit context bytes all (label ∷ labels) i k h there of
       all_inside ends styles limit context bytes all labels (i + 1) k h.1 there both.1,
     )
 
-there_same : (bytes : List ℕ) (k : ℕ) → k < length (lines_of bytes) → k < length (lines bytes)
-there_same bytes k lt = omega (arith, lt, ap length (lines_same 0 bytes))
-
 pub left_out_inside : (ends : Bool) (styles : List Style) (limit context : ℕ) (bytes : List ℕ) (labels : List Label)
     (k : ℕ) → Around context labels labels → k < length (lines_of bytes) → N.is_kept (Some limit) context bytes labels k
     ≡ false →
     AllByRecursion (IsInside (line_at (lines_of bytes) k)) (drawn_from ends styles (length bytes) 0 labels)
 left_out_inside ends styles limit context bytes labels k h lt off =
-    all_inside ends styles limit context bytes labels labels 0 k h (there_same bytes k lt) off
+    all_inside ends styles limit context bytes labels labels 0 k h lt off
 
 -- ---- the labels on two such lines that follow each other
 
@@ -259,25 +239,18 @@ same_multi a b [] f h k = refl
 same_multi a b (label ∷ labels) f h k = ap₂ (λ x xs. cond x (label ∷ xs) xs) (same_one a b label f h.0 k.0)
     (same_multi a b labels f h.1 k.1)
 
-follows : (bytes : List ℕ) (k : ℕ) → k + 1 < length (lines bytes)
+follows : (bytes : List ℕ) (k : ℕ) → k + 1 < length (lines_of bytes)
     → Follow (line_at (lines_of bytes) k) (line_at (lines_of bytes) (k + 1))
 follows bytes k there =
-    let n : ℕ = length bytes in
-    let before : k < length (lines bytes) = omega (arith, there) in
+    let before : k < length (lines_of bytes) = omega (arith, there) in
     record {
-      here = omega (
-        arith,
-        starts_at bytes k,
-        stops_at bytes k before,
-        start-le-end 0 n k (lines bytes) (cut bytes) before,
-      );
-      next = stops_at bytes k before ∙ sym (start-next 0 n k (lines bytes) (cut bytes) there)
-          ∙ sym (starts_at bytes (k + 1));
+      here = omega (arith, start_at bytes k before, end_at bytes k before, nonempty bytes k before);
+      next = end_at bytes k before ∙ sym (line_start_next bytes k) ∙ sym (start_at bytes (k + 1) there);
       there = omega (
         arith,
-        starts_at bytes (k + 1),
-        stops_at bytes (k + 1) there,
-        start-le-end 0 n (k + 1) (lines bytes) (cut bytes) there,
+        start_at bytes (k + 1) there,
+        end_at bytes (k + 1) there,
+        nonempty bytes (k + 1) there,
       );
     }
 
@@ -289,6 +262,6 @@ pub left_out_same : (ends : Bool) (styles : List Style) (limit context : ℕ) (b
     ≡ multi_line (line_at (lines_of bytes) (k + 1)) (drawn_from ends styles (length bytes) 0 labels)
 left_out_same ends styles limit context bytes labels k h lt off next =
     same_multi (line_at (lines_of bytes) k) (line_at (lines_of bytes) (k + 1))
-    (drawn_from ends styles (length bytes) 0 labels) (follows bytes k (there_same bytes (k + 1) lt))
+    (drawn_from ends styles (length bytes) 0 labels) (follows bytes k lt)
     (left_out_inside ends styles limit context bytes labels k h (omega (arith, lt)) off)
     (left_out_inside ends styles limit context bytes labels (k + 1) h lt next)

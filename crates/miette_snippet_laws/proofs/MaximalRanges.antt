@@ -1,6 +1,6 @@
 -- Snippets draw the maximal runs of shown lines, whichever way their labels are grouped.
 use Rattle.std.proofs.Common.{ℕ, ◌<◌, ◌≤◌, ◌≡◌, ◌⊎◌, max, inl, inr, Bool, true, false, cond, List, [], ◌∷◌, ◌||◌}
-use Rattle.std.proofs.Common.{length, map, Some, None, refl, sym, ap, ap₂, ◌∙◌, subst, arith}
+use Rattle.std.proofs.Common.{length, map, Some, None, sym, ap, ap₂, ◌∙◌, subst, arith}
 use Rattle.std.specs.Prelude.{unwrap_or, is_some}
 use Rattle.std.specs.Option.{option_map}
 use Rattle.std.specs.List.{range_with_len, list_any, AllByRecursion}
@@ -22,17 +22,14 @@ use Rattle.miette_snippet_rules.specs.rules.SnippetLayout.{rows_unless, snippet_
 use Rattle.miette_snippet_rules.specs.rules.Numbers.{ranges}
 use Rattle.miette_snippet_rules.specs.rules.ShownLines.{rows_of_ranges, bodies, framed_rows, framed_ranges}
 use Rattle.miette_snippet_rules.specs.rules.Snippets as N
-use Rattle.miette_labels.proofs.Sources.{lines}
-use Rattle.miette_snippet_rules.proofs.Joining as J
-use Rattle.miette_snippet_rules.proofs.Numbers.{filter-none}
 use Rattle.miette_basics.proofs.Cases.{by_cases}
-use Rattle.miette_snippet_rules.proofs.Bridge.{none_or_some}
-use Rattle.miette_snippet_rules.proofs.Bodies.{KeepsAlike, joined_runs, joined_bodies, all_framed, none_refused}
+use Rattle.miette_snippet_rules.proofs.Merging.{groups_are_runs, no_labels, none_or_some, snippets_nowhere, some_bytes}
+use Rattle.miette_snippet_rules.proofs.Bodies.{KeepsAlike, joined_bodies, all_framed, none_refused}
 use Rattle.miette_snippet_rules.proofs.Bodies.{ordered_accepted}
 use Rattle.miette_labels.proofs.Bodies.{some_none}
-use Rattle.miette_snippet_laws.proofs.Owning.{Around, order_each, snippets_same, group_blocks, groups_are, groups_there}
+use Rattle.miette_snippet_laws.proofs.Owning.{Around, order_each, group_blocks, groups_are, groups_there}
 use Rattle.miette_snippet_laws.proofs.Owning.{block_runs, lines_are, block_bodies, nowhere, groups_nowhere}
-use Rattle.miette_snippet_laws.proofs.Owning.{lines_nowhere, snippets_nowhere, body_nowhere}
+use Rattle.miette_snippet_laws.proofs.Owning.{lines_nowhere, body_nowhere}
 use Rattle.miette_snippet_laws.proofs.Folding.{runs_alike, none_alike}
 use Rattle.miette_labels.proofs.Owning.{none_around, own_ordered, order_any}
 use Rattle.miette_snippet_laws.proofs.Spreading.{numbers_of}
@@ -65,19 +62,9 @@ some_labels : (labels : List Label) → has_own labels ≡ true → 0 < length l
 some_labels [] h = cc
 some_labels (label ∷ labels) h = omega arith
 
-some_bytes : (context : ℕ) (bytes : List ℕ) (labels : List Label) → 0 < length bytes → N.snippets context bytes labels
-    ≡ ranges (N.shown_numbers context bytes labels)
-some_bytes context [] labels some = absurd (omega (arith, some))
-some_bytes context (byte ∷ bytes) labels some = refl
-
-no_labels : (context : ℕ) (bytes : List ℕ) → N.snippets context bytes [] ≡ []
-no_labels context [] = refl
-no_labels context (byte ∷ bytes) = ap ranges (filter-none (λ k. false) 0 (length (lines_of (byte ∷ bytes)))
-    (λ k a b. refl))
-
 -- the maximal runs, as the lines of the blocks of groups
 runs_same : (context : ℕ) (bytes : List ℕ) (labels : List Label) → HaveContext context labels → 0 < length bytes →
-    map (numbers_of (length (lines bytes))) (group_blocks context bytes (in_order labels))
+    map (numbers_of (length (lines_of bytes))) (group_blocks context bytes (in_order labels))
     ≡ N.snippets context bytes labels
 runs_same context bytes labels h some =
     block_runs context bytes (in_order labels) (around_ordered context labels h) some
@@ -111,8 +98,7 @@ joined_by context source fails (label ∷ labels) own h none =
       none_around context (label ∷ labels) label own
           (or_parts (is_some label.context) (has_own labels) own).0,
     ) in
-    joined_runs context source fails (label ∷ labels) one none
-    ∙ sym (snippets_same context source.bytes (label ∷ labels) own)
+    groups_are_runs context source fails label labels one none own
 
 pub groups_runs : (context : ℕ) (source : Source) (fails : List Bool) (labels : List Label) → HaveContext context labels
     → NoneFails fails →
@@ -194,15 +180,12 @@ joined_rows s spreads kept context source (label ∷ labels) drawn fails pieces 
       none_around context (label ∷ labels) label own
           (or_parts (is_some label.context) (has_own labels) own).0,
     ) in
-    let all : N.snippets context source.bytes (label ∷ labels)
-    ≡ J.snippets s.layout.context_lines source.bytes (map (λ l. l.span) (label ∷ labels)) =
-    snippets_same context source.bytes (label ∷ labels) own
-    ∙ ap (λ c. J.snippets c source.bytes (map (λ l. l.span) (label ∷ labels))) (sym same) in
     ap (λ c. bodies s spreads drawn source pieces (groups_answered c source fails
     (spans_of (in_order (label ∷ labels))))) (sym same)
-    ∙ joined_bodies s spreads kept source (label ∷ labels) drawn fails pieces one none
-    (subst (λ rs. AllByRecursion (KeepsAlike s spreads source.bytes kept) rs) all alike)
-    ∙ ap (rows_of_ranges kept s drawn source.bytes pieces) (sym all)
+    ∙ joined_bodies s spreads kept source label labels drawn fails pieces one none own
+    (subst (λ (c : ℕ). AllByRecursion (KeepsAlike s spreads source.bytes kept)
+    (N.snippets c source.bytes (label ∷ labels))) (sym same) alike)
+    ∙ ap (λ c. rows_of_ranges kept s drawn source.bytes pieces (N.snippets c source.bytes (label ∷ labels))) same
 
 bodies_are_runs : (s : SnippetSettings) (source : Source) (labels : List Label) (drawn : List DrawnLabel)
     (fails : List Bool) (pieces : List (List (List Highlight))) → HaveContext s.layout.context_lines labels

@@ -1,18 +1,14 @@
 -- Labels with their own numbers of context lines: their groups show the maximal runs of the shown lines.
-use Rattle.std.proofs.Common.{ℕ, Bool, suc, ◌+◌, ◌-◌, ◌<◌, ◌≤◌, ◌≡◌, min, false, leb, List, [], ◌∷◌, ◌&&◌, ◌||◌, length}
-use Rattle.std.proofs.Common.{map, refl, sym, ap, ap₂, ◌∙◌, arith, drop}
-use Rattle.std.specs.Prelude.{is_some}
+use Rattle.std.proofs.Common.{ℕ, Bool, suc, ◌+◌, ◌-◌, ◌<◌, ◌≤◌, ◌≡◌, min, false, leb, List, [], ◌∷◌, ◌||◌, length}
+use Rattle.std.proofs.Common.{map, refl, ap, ap₂, ◌∙◌, arith, drop}
 use Rattle.std.proofs.lemmas.List.Elements.{filter_agree}
-use Rattle.std.proofs.lemmas.Bool.{or_parts}
-use Rattle.std.specs.List.{range_with_len, filter, list_any, AllByRecursion}
-use Rattle.miette_source_lines.specs.rules.Lines as P
-use Rattle.miette_source_lines.specs.rules.Lines.{Line}
+use Rattle.std.specs.List.{range_with_len, list_any, AllByRecursion}
+use Rattle.miette_source_lines.specs.rules.Lines.{Line, lines_of}
 use Rattle.miette_protocol.specs.views.Meaning.{Label}
-use Rattle.miette_protocol.specs.rules.Reading as R
-use Rattle.miette_protocol.specs.rules.Reading.{Span, Source, Contents}
+use Rattle.miette_protocol.specs.rules.Reading.{Span, Source, Contents, data_start, data_end}
+use Rattle.miette_protocol.specs.rules.Context.{first_line, last_line}
 use Rattle.miette_labels.specs.rules.Answers.{Highlight, first_of}
-use Rattle.miette_labels.specs.rules.Around.{has_own, lines_around}
-use Rattle.miette_labels.specs.rules.Contexts as C
+use Rattle.miette_labels.specs.rules.Around.{lines_around}
 use Rattle.miette_labels.specs.rules.Contexts.{contents, lines_of_contents}
 use Rattle.miette_snippet_rules.specs.rules.Folds.{Spread}
 use Rattle.miette_snippet_rules.specs.rules.Frames.{width_of_lines}
@@ -25,19 +21,16 @@ use Rattle.miette_snippet_rules.specs.rules.SnippetLayout.{rows_of_lines, left_o
 use Rattle.miette_snippet_rules.specs.rules.Numbers.{ranges}
 use Rattle.miette_snippet_rules.specs.rules.ShownLines.{range_rows, rows_of_ranges, bodies}
 use Rattle.miette_snippet_rules.specs.rules.Snippets as N
-use Rattle.miette_labels.proofs.Sources.{lines, first_line, last_line}
-use Rattle.miette_snippet_rules.proofs.Joining as J
 use Rattle.miette_basics.proofs.Cases.{by_cases}
-use Rattle.miette_snippet_rules.proofs.Data.{first-lt, first-le-last}
-use Rattle.miette_snippet_rules.proofs.Bridge.{begin_same, end_data_same}
-use Rattle.miette_labels.proofs.Bridge.{lines_same, some-context}
-use Rattle.miette_snippet_rules.proofs.Bodies.{KeepsAlike, no_lines, no-part, body_from, context_same}
-use Rattle.miette_snippet_rules.proofs.Ends.{empty-end, empty-start}
+use Rattle.miette_source_lines.proofs.Places.{line_start_within}
+use Rattle.miette_source_lines.proofs.Parts.{part_length}
+use Rattle.miette_protocol.proofs.Wholes.{end_is, end_within, first-le-last, start_is}
+use Rattle.miette_snippet_rules.proofs.ReadLines.{first-lt, no_lines, none_in}
+use Rattle.miette_snippet_rules.proofs.Bodies.{KeepsAlike, body_from}
 use Rattle.miette_snippet_laws.proofs.Reread.{block_line, block_lines, block_numbers}
 use Rattle.miette_snippet_laws.proofs.Spreading.{Block, IsBlock, AreBlocks, span_of, order_same, joined_same}
 use Rattle.miette_snippet_laws.proofs.Spreading.{blocks_by_begin, joined_blocks, ordered_there, joined_there}
-use Rattle.miette_snippet_laws.proofs.Spreading.{blocks_are_runs, numbers_of, in_blocks}
-use Rattle.miette_labels.proofs.Owning.{none_around}
+use Rattle.miette_snippet_laws.proofs.Spreading.{blocks_are_runs, numbers_of, in_blocks, is_in_block}
 use Rattle.miette_snippet_rules.specs.rules.SnippetLayout.{snippet_context, cells_of}
 use Rattle.miette_snippet_rules.specs.rules.Settings.{SnippetSettings}
 
@@ -53,64 +46,37 @@ pub order_each : (P : Label → Type 0) (labels : List Label) → AllByRecursion
 order_each P [] h = tt
 order_each P (label ∷ labels) h = put_each P label (in_order labels) h.0 (order_each P labels h.1)
 
-none_shown : (context : ℕ) (bytes : List ℕ) (k : ℕ) (all labels : List Label) → has_own all ≡ false → has_own labels
-    ≡ false →
-    list_any (λ label. N.is_in_context (lines_around context all label) bytes k label.span) labels
-    ≡ J.is_shown context bytes (map (λ l. l.span) labels) k
-none_shown context bytes k all [] e h = refl
-none_shown context bytes k all (label ∷ labels) e h =
-    let both = or_parts (is_some label.context) (has_own labels) h in
-    ap₂ (λ x y. x || y)
-    (ap (λ c. N.is_in_context c bytes k label.span) (none_around context all label e both.0)
-    ∙ context_same context bytes k label.span)
-    (none_shown context bytes k all labels e both.1)
-
-shown_same : (context : ℕ) (bytes : List ℕ) (labels : List Label) → has_own labels ≡ false
-    → N.shown_numbers context bytes labels ≡ J.shown context bytes (map (λ l. l.span) labels)
-shown_same context bytes labels e =
-    ap (λ ls. filter (N.is_shown context bytes labels) (range_with_len 0 (length ls))) (lines_same 0 bytes)
-    ∙ filter_agree (N.is_shown context bytes labels) (J.is_shown context bytes (map (λ l. l.span) labels))
-    (λ k. none_shown context bytes k labels labels e e) (range_with_len 0 (length (lines bytes)))
-
-pub snippets_same : (context : ℕ) (bytes : List ℕ) (labels : List Label) → has_own labels ≡ false
-    → N.snippets context bytes labels ≡ J.snippets context bytes (map (λ l. l.span) labels)
-snippets_same context [] [] e = refl
-snippets_same context [] (label ∷ labels) e = refl
-snippets_same context (byte ∷ bytes) labels e = ap ranges (shown_same context (byte ∷ bytes) labels e)
-
 -- ---- a label's stretch
 
 abbrev pub block_of : ℕ → List ℕ → List Label → Label → Block
 block_of context bytes all label = record {
-  low = first_line (lines_around context all label) bytes label.span;
-  high = last_line (lines_around context all label) bytes label.span;
+  low = first_line bytes label.span (lines_around context all label);
+  high = last_line bytes label.span (lines_around context all label);
 }
 
 abbrev pub Around : ℕ → List Label → List Label → Type 0
 Around context all labels = AllByRecursion (λ label. 1 ≤ lines_around context all label) labels
 
-stretch_is : (context : ℕ) (source : Source) (all : List Label) (label : Label) → 1 ≤ lines_around context all label → 0
-    < length source.bytes →
+stretch_is : (context : ℕ) (source : Source) (all : List Label) (label : Label) → 1 ≤ lines_around context all label →
     stretch context source all label ≡ span_of source.bytes (block_of context source.bytes all label)
-stretch_is context source all label one some =
-    ap₂ (λ x y. record { offset = x; len = y - x }) (begin_same (lines_around context all label) source label.span one
-    some) (end_data_same (lines_around context all label) source label.span one)
+stretch_is context source all label one =
+    ap₂ (λ x y. record { offset = x; len = y - x })
+    (start_is source.bytes label.span (lines_around context all label) one)
+    (end_is source.bytes label.span (lines_around context all label) one)
 
-stretches_are : (context : ℕ) (source : Source) (all labels : List Label) → Around context all labels → 0
-    < length source.bytes →
+stretches_are : (context : ℕ) (source : Source) (all labels : List Label) → Around context all labels →
     map (stretch context source all) labels ≡ map (span_of source.bytes)
     (map (block_of context source.bytes all) labels)
-stretches_are context source all [] h some = refl
-stretches_are context source all (label ∷ labels) h some =
-    ap₂ (λ x xs. x ∷ xs) (stretch_is context source all label h.0 some)
-    (stretches_are context source all labels h.1 some)
+stretches_are context source all [] h = refl
+stretches_are context source all (label ∷ labels) h =
+    ap₂ (λ x xs. x ∷ xs) (stretch_is context source all label h.0) (stretches_are context source all labels h.1)
 
 blocks_there : (context : ℕ) (bytes : List ℕ) (all labels : List Label) → Around context all labels → 0 < length bytes
-    → AreBlocks (length (lines bytes)) (map (block_of context bytes all) labels)
+    → AreBlocks (length (lines_of bytes)) (map (block_of context bytes all) labels)
 blocks_there context bytes all [] h some = tt
 blocks_there context bytes all (label ∷ labels) h some =
     let c : ℕ = lines_around context all label in (
-      record { order = first-le-last c bytes label.span; there = first-lt c bytes label.span h.0 some },
+      record { order = first-le-last bytes label.span c c; there = first-lt c bytes label.span h.0 some },
       blocks_there context bytes all labels h.1 some,
     )
 
@@ -119,10 +85,10 @@ abbrev pub group_blocks : ℕ → List ℕ → List Label → List Block
 group_blocks context bytes labels = joined_blocks (blocks_by_begin (map (block_of context bytes labels) labels))
 
 pub groups_there : (context : ℕ) (bytes : List ℕ) (labels : List Label) → Around context labels labels → 0
-    < length bytes → AreBlocks (length (lines bytes)) (group_blocks context bytes labels)
+    < length bytes → AreBlocks (length (lines_of bytes)) (group_blocks context bytes labels)
 groups_there context bytes labels h some =
-    joined_there (length (lines bytes)) (blocks_by_begin (map (block_of context bytes labels) labels))
-    (ordered_there (length (lines bytes)) (map (block_of context bytes labels) labels)
+    joined_there (length (lines_of bytes)) (blocks_by_begin (map (block_of context bytes labels) labels))
+    (ordered_there (length (lines_of bytes)) (map (block_of context bytes labels) labels)
     (blocks_there context bytes labels labels h some))
 
 pub groups_are : (context : ℕ) (source : Source) (labels : List Label) → Around context labels labels → 0
@@ -131,10 +97,10 @@ pub groups_are : (context : ℕ) (source : Source) (labels : List Label) → Aro
 groups_are context source labels h some =
     let bytes : List ℕ = source.bytes in
     let bs : List Block = map (block_of context bytes labels) labels in
-    let there : AreBlocks (length (lines bytes)) bs = blocks_there context bytes labels labels h some in
-    ap (λ ss. joined_stretches (by_begin ss)) (stretches_are context source labels labels h some)
+    let there : AreBlocks (length (lines_of bytes)) bs = blocks_there context bytes labels labels h some in
+    ap (λ ss. joined_stretches (by_begin ss)) (stretches_are context source labels labels h)
     ∙ ap joined_stretches (order_same bytes bs there)
-    ∙ joined_same bytes (blocks_by_begin bs) (ordered_there (length (lines bytes)) bs there)
+    ∙ joined_same bytes (blocks_by_begin bs) (ordered_there (length (lines_of bytes)) bs there)
 
 -- ---- their numbers
 
@@ -143,25 +109,22 @@ in_same : (context : ℕ) (bytes : List ℕ) (k : ℕ) (all labels : List Label)
     ≡ list_any (λ label. N.is_in_context (lines_around context all label) bytes k label.span) labels
 in_same context bytes k all [] = refl
 in_same context bytes k all (label ∷ labels) =
-    ap₂ (λ x y. x || y) (sym (context_same (lines_around context all label) bytes k label.span))
-    (in_same context bytes k all labels)
+    ap (λ y. is_in_block k (block_of context bytes all label) || y) (in_same context bytes k all labels)
 
 -- in a source that isn't empty, by labels in any order
 pub block_runs : (context : ℕ) (bytes : List ℕ) (labels : List Label) → Around context labels labels → 0 < length bytes
     →
-    map (numbers_of (length (lines bytes))) (group_blocks context bytes labels)
+    map (numbers_of (length (lines_of bytes))) (group_blocks context bytes labels)
     ≡ ranges (N.shown_numbers context bytes labels)
 block_runs context bytes labels h some =
-    blocks_are_runs (length (lines bytes)) (map (block_of context bytes labels) labels)
+    blocks_are_runs (length (lines_of bytes)) (map (block_of context bytes labels) labels)
     (blocks_there context bytes labels labels h some)
     ∙ ap ranges (filter_agree _ _ (λ k. in_same context bytes k labels labels)
-    (range_with_len 0 (length (lines bytes))))
-    ∙ ap (λ ls. ranges (filter (N.is_shown context bytes labels) (range_with_len 0 (length ls))))
-    (sym (lines_same 0 bytes))
+    (range_with_len 0 (length (lines_of bytes))))
 
 pub lines_are : (source : Source) (bs : List Block) → 0 < length source.bytes
-    → AreBlocks (length (lines source.bytes)) bs →
-    G.lines_of_groups 0 source (map (span_of source.bytes) bs) ≡ map (numbers_of (length (lines source.bytes))) bs
+    → AreBlocks (length (lines_of source.bytes)) bs →
+    G.lines_of_groups 0 source (map (span_of source.bytes) bs) ≡ map (numbers_of (length (lines_of source.bytes))) bs
 lines_are source [] some h = refl
 lines_are source (b ∷ bs) some h = ap₂ (λ x xs. x ∷ xs) (block_numbers source b some h.0) (lines_are source bs some h.1)
 
@@ -169,25 +132,25 @@ lines_are source (b ∷ bs) some h = ap₂ (λ x xs. x ∷ xs) (block_numbers so
 
 block_body : (s : SnippetSettings) (spreads : List Spread) (kept : ℕ → Bool) (labels : List DrawnLabel)
     (source : Source) (b : Block) (pieces : List (List Highlight)) → 0 < length source.bytes
-    → IsBlock (length (lines source.bytes)) b →
-    KeepsAlike s spreads source.bytes kept (numbers_of (length (lines source.bytes)) b) →
+    → IsBlock (length (lines_of source.bytes)) b →
+    KeepsAlike s spreads source.bytes kept (numbers_of (length (lines_of source.bytes)) b) →
     body_rows s spreads labels source.bytes (contents 0 source (span_of source.bytes b)) pieces
-    ≡ range_rows kept s labels source.bytes pieces (numbers_of (length (lines source.bytes)) b)
+    ≡ range_rows kept s labels source.bytes pieces (numbers_of (length (lines_of source.bytes)) b)
 block_body s spreads kept labels source b pieces some h alike =
     let bytes : List ℕ = source.bytes in
     let ls : List Line = lines_of_contents (contents 0 source (span_of bytes b)) in
     ap (λ n. rows_of_lines (left_out s n ls spreads) false
     (snippet_context s (width_of_lines n ls) (gutter_columns labels ls) labels (cells_of s bytes)) (n + 1) pieces
     ls) (block_line source b h)
-    ∙ body_from s spreads kept labels bytes pieces b.low (min (b.high + 1) (length (lines bytes)) - b.low) ls
+    ∙ body_from s spreads kept labels bytes pieces b.low (min (b.high + 1) (length (lines_of bytes)) - b.low) ls
     (block_lines source b some h) alike
 
 pub block_bodies : (s : SnippetSettings) (spreads : List Spread) (kept : ℕ → Bool) (labels : List DrawnLabel)
     (source : Source) (pieces : List (List (List Highlight))) (bs : List Block) → s.layout.context_lines ≡ 0 → 0
-    < length source.bytes → AreBlocks (length (lines source.bytes)) bs →
-    AllByRecursion (KeepsAlike s spreads source.bytes kept) (map (numbers_of (length (lines source.bytes))) bs) →
+    < length source.bytes → AreBlocks (length (lines_of source.bytes)) bs →
+    AllByRecursion (KeepsAlike s spreads source.bytes kept) (map (numbers_of (length (lines_of source.bytes))) bs) →
     bodies s spreads labels source pieces (map (span_of source.bytes) bs)
-    ≡ rows_of_ranges kept s labels source.bytes pieces (map (numbers_of (length (lines source.bytes))) bs)
+    ≡ rows_of_ranges kept s labels source.bytes pieces (map (numbers_of (length (lines_of source.bytes))) bs)
 block_bodies s spreads kept labels source pieces [] e some h alike = refl
 block_bodies s spreads kept labels source pieces (b ∷ bs) e some h alike =
     ap₂ (λ x xs. x ∷ xs)
@@ -205,9 +168,13 @@ stretch_none : (context : ℕ) (source : Source) (all : List Label) (label : Lab
 stretch_none context source all label one none =
     let c : ℕ = lines_around context all label in
     let bytes : List ℕ = source.bytes in
-    let from : R.data_start bytes label.span c ≡ 0 = rw (some-context c one) (empty-start bytes _ none) in
-    let to : R.data_end bytes label.span c ≡ 0 = end_data_same c source label.span one
-    ∙ empty-end bytes (last_line c bytes label.span) none in
+    let from : data_start bytes label.span c ≡ 0 = omega (
+      arith,
+      none,
+      start_is bytes label.span c one,
+      line_start_within bytes (first_line bytes label.span c),
+    ) in
+    let to : data_end bytes label.span c ≡ 0 = omega (arith, none, end_within bytes label.span c) in
     ap₂ (λ x y. record { offset = x; len = y - x }) from to
 
 abbrev pub AreNowhere : List Span → Type 0
@@ -256,17 +223,8 @@ groups_nowhere context source (label ∷ labels) some h none =
     (order_nowhere (first ∷ ss) (stretches_none context source (label ∷ labels) (label ∷ labels) h none))
 
 pub lines_nowhere : (source : Source) → length source.bytes ≡ 0 → G.lines_of_groups 0 source (nowhere ∷ []) ≡ [] ∷ []
-lines_nowhere source none =
-    let read : Contents = contents 0 source nowhere in
-    ap (λ ls. filter (λ k. leb read.span.offset (P.line_start source.bytes k)
-    && leb (P.line_end source.bytes k) (C.end_of_span read.span)) (range_with_len 0 (length ls)) ∷ [])
-    (no_lines 0 source.bytes none)
-
-pub snippets_nowhere : (context : ℕ) (bytes : List ℕ) (labels : List Label) → 0 < length labels → length bytes ≡ 0
-    → N.snippets context bytes labels ≡ [] ∷ []
-snippets_nowhere context bytes [] some none = absurd (omega (arith, some))
-snippets_nowhere context [] (label ∷ labels) some none = refl
-snippets_nowhere context (byte ∷ bytes) (label ∷ labels) some none = absurd (omega (arith, none))
+lines_nowhere source none = ap (λ r. r ∷ []) (none_in source.bytes (contents 0 source nowhere)
+    (ap length (no_lines 0 source.bytes none)))
 
 pub body_nowhere : (s : SnippetSettings) (spreads : List Spread) (labels : List DrawnLabel) (source : Source)
     (pieces : List (List Highlight)) → length source.bytes ≡ 0 →
@@ -276,4 +234,9 @@ body_nowhere s spreads labels source pieces none =
     ap (λ ls. rows_of_lines (left_out s read.line ls spreads) false
     (snippet_context s (width_of_lines read.line ls) (gutter_columns labels ls) labels (cells_of s source.bytes))
     (read.line + 1) pieces ls)
-    (no_lines 0 read.bytes (no-part source.bytes 0 (R.data_end source.bytes nowhere 0) none))
+    (no_lines 0 read.bytes (omega (
+      arith,
+      none,
+      end_within source.bytes nowhere 0,
+      part_length source.bytes 0 (data_end source.bytes nowhere 0) (end_within source.bytes nowhere 0),
+    )))

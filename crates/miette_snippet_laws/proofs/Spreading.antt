@@ -1,21 +1,19 @@
 -- Whole lines that follow each other, joined by where they begin, make the maximal runs.
 use Rattle.std.proofs.Common.{ℕ, ◌+◌, ◌-◌, ◌<◌, ◌≤◌, ◌≡◌, min, max, Bool, false, leb, List, [], ◌∷◌, length, map, refl}
-use Rattle.std.proofs.Common.{sym, ap, ap₂, ◌∙◌, ⊎_elim, ◌&&◌, ◌||◌, arith}
+use Rattle.std.proofs.Common.{sym, ap, ap₂, ◌∙◌, inl, inr, ◌&&◌, ◌||◌, arith}
 use Rattle.std.specs.Prelude.{if◌then◌else◌}
 use Rattle.std.proofs.lemmas.Bool.{le-leb, lt-leb, leb-true, leb-false, cases_lt}
 use Rattle.std.proofs.lemmas.List.Elements.{filter_agree}
 use Rattle.std.specs.List.{range_with_len, filter, list_any, AllByRecursion}
-use Rattle.miette_source_lines.specs.rules.Lines.{Line}
+use Rattle.miette_source_lines.specs.rules.Lines.{lines_of, line_start, line_end}
 use Rattle.miette_protocol.specs.rules.Reading.{Span}
 use Rattle.miette_labels.specs.rules.Groups.{joined_span, put_span, by_begin, stretches_from, joined_stretches}
 use Rattle.miette_snippet_rules.specs.rules.Numbers.{ranges}
 use Rattle.miette_labels.specs.rules.Contexts.{end_of_span}
-use Rattle.miette_labels.proofs.Sources.{lines, start_of, end_of}
 use Rattle.miette_snippet_rules.proofs.Numbers.{filter-none}
 use Rattle.miette_basics.proofs.Cases.{by_cases}
-use Rattle.miette_snippet_rules.proofs.Lines.{line-mono, line-start, start-next, start-le-end, end-mono}
-use Rattle.miette_snippet_rules.proofs.Data.{starts}
-use Rattle.miette_labels.proofs.Data.{cut}
+use Rattle.miette_source_lines.proofs.Places.{line_end_mono, line_start_mono, line_start_next}
+use Rattle.miette_source_lines.proofs.Cuts.{start_strict}
 use Rattle.miette_snippet_rules.proofs.Merging.{within, or_assoc, span_run}
 use Rattle.miette_labels.proofs.Merging.{swap_or}
 
@@ -27,8 +25,8 @@ pub record Block : Type 0 where
 -- the place of their bytes
 abbrev pub span_of : List ℕ → Block → Span
 span_of bytes b = record {
-  offset = start_of (lines bytes) b.low;
-  len = end_of (length bytes) (lines bytes) b.high - start_of (lines bytes) b.low;
+  offset = line_start bytes b.low;
+  len = line_end bytes b.high - line_start bytes b.low;
 }
 
 pub record IsBlock (all : ℕ) (b : Block) : Type 0 where
@@ -40,66 +38,37 @@ AreBlocks all bs = AllByRecursion (IsBlock all) bs
 
 -- ---- where they begin and end
 
-starts_same : (bytes : List ℕ) (i k : ℕ) → i < length (lines bytes) → k < length (lines bytes)
-    → leb (start_of (lines bytes) i) (start_of (lines bytes) k) ≡ leb i k
+starts_same : (bytes : List ℕ) (i k : ℕ) → i < length (lines_of bytes) → k < length (lines_of bytes)
+    → leb (line_start bytes i) (line_start bytes k) ≡ leb i k
 starts_same bytes i k li lk =
-    by_cases {C = leb (start_of (lines bytes) i) (start_of (lines bytes) k) ≡ leb i k} (leb i k)
-    (λ t. rw t (le-leb _ _ (starts bytes i k li lk (leb-true i k t))))
-    (λ f. rw f (lt-leb _ _ (⊎_elim (λ lt. lt)
-    (λ ge. absurd (omega (
-      arith,
-      leb-false i k f,
-      line-mono (start_of (lines bytes) i) (start_of (lines bytes) k) (lines bytes) ge,
-      line-start 0 (length bytes) i (lines bytes) (cut bytes) li,
-      line-start 0 (length bytes) k (lines bytes) (cut bytes) lk,
-    )))
-    (cases_lt (start_of (lines bytes) k) (start_of (lines bytes) i)))))
+    by_cases {C = leb (line_start bytes i) (line_start bytes k) ≡ leb i k} (leb i k)
+    (λ t. rw t (le-leb _ _ (line_start_mono bytes i k (leb-true i k t))))
+    (λ f. rw f (lt-leb _ _ (start_strict bytes k i (leb-false i k f) lk)))
 
-pub block_end : (bytes : List ℕ) (b : Block) → IsBlock (length (lines bytes)) b → end_of_span (span_of bytes b)
-    ≡ end_of (length bytes) (lines bytes) b.high
+pub block_end : (bytes : List ℕ) (b : Block) → IsBlock (length (lines_of bytes)) b → end_of_span (span_of bytes b)
+    ≡ line_end bytes b.high
 block_end bytes b h =
-    omega (
-      arith,
-      start-le-end 0 (length bytes) b.low (lines bytes) (cut bytes) h.there,
-      end-mono 0 (length bytes) b.low b.high (lines bytes) (cut bytes) h.order,
-    )
+    omega (arith, line_start_mono bytes b.low (b.high + 1) (omega (arith, h.order)), line_start_next bytes b.high)
 
 -- lines begin at or before the end of others where none is left out between them
-touch_start : (bytes : List ℕ) (low high : ℕ) → low < length (lines bytes) → low ≤ high + 1 → start_of (lines bytes) low
-    ≤ end_of (length bytes) (lines bytes) high
-touch_start bytes low high lt le =
-    let n : ℕ = length bytes in
-    let ls : List Line = lines bytes in
-    ⊎_elim {C = start_of ls low ≤ end_of n ls high}
-    (λ more. let e : high + 1 ≡ low = omega arith in
-    let next : start_of ls (high + 1) ≡ end_of n ls high = start-next 0 n high ls (cut bytes) (omega arith) in
-    let same : start_of ls (high + 1) ≡ start_of ls low = ap (start_of ls) e in omega (arith, next, same))
-    (λ not_more. omega (arith, start-le-end 0 n low ls (cut bytes) lt, end-mono 0 n low high ls (cut bytes) not_more))
-    (cases_lt high low)
-
-apart_start : (bytes : List ℕ) (low high : ℕ) → low < length (lines bytes) → high + 1 < low
-    → end_of (length bytes) (lines bytes) high < start_of (lines bytes) low
-apart_start bytes low high lt gap =
-    let n : ℕ = length bytes in
-    let ls : List Line = lines bytes in
-    let next : start_of ls (high + 1) ≡ end_of n ls high = start-next 0 n high ls (cut bytes) (omega arith) in
-    ⊎_elim {C = end_of n ls high < start_of ls low} (λ l. l)
-    (λ ge. absurd (omega (
-      arith,
-      line-mono (start_of ls low) (start_of ls (high + 1)) ls (omega (arith, next, ge)),
-      line-start 0 n low ls (cut bytes) lt,
-      line-start 0 n (high + 1) ls (cut bytes) (omega arith),
-    )))
-    (cases_lt (end_of n ls high) (start_of ls low))
-
-touches_same : (bytes : List ℕ) (a b : Block) → IsBlock (length (lines bytes)) a → IsBlock (length (lines bytes)) b →
+touches_same : (bytes : List ℕ) (a b : Block) → IsBlock (length (lines_of bytes)) a
+    → IsBlock (length (lines_of bytes)) b →
     leb (span_of bytes b).offset (end_of_span (span_of bytes a)) ≡ leb b.low (a.high + 1)
 touches_same bytes a b ha hb =
-    ap (leb (start_of (lines bytes) b.low)) (block_end bytes a ha)
-    ∙ by_cases {C = leb (start_of (lines bytes) b.low) (end_of (length bytes) (lines bytes) a.high)
-    ≡ leb b.low (a.high + 1)} (leb b.low (a.high + 1))
-    (λ t. rw t (le-leb _ _ (touch_start bytes b.low a.high hb.there (leb-true b.low (a.high + 1) t))))
-    (λ f. rw f (lt-leb _ _ (apart_start bytes b.low a.high hb.there (leb-false b.low (a.high + 1) f))))
+    ap (leb (line_start bytes b.low)) (block_end bytes a ha)
+    ∙ by_cases {C = leb (line_start bytes b.low) (line_end bytes a.high) ≡ leb b.low (a.high + 1)}
+    (leb b.low (a.high + 1))
+    (λ t. rw t (le-leb _ _ (omega (
+      arith,
+      line_start_next bytes a.high,
+      line_start_mono bytes b.low (a.high + 1) (leb-true b.low (a.high + 1) t),
+    ))))
+    (λ f. let gap : a.high + 1 < b.low = leb-false b.low (a.high + 1) f in
+    rw f (lt-leb _ _ (omega (
+      arith,
+      line_start_next bytes a.high,
+      start_strict bytes (a.high + 1) b.low gap (omega (arith, gap, hb.there)),
+    ))))
 
 -- ---- their order
 
@@ -121,23 +90,23 @@ pub ordered_there : (all : ℕ) (bs : List Block) → AreBlocks all bs → AreBl
 ordered_there all [] h = tt
 ordered_there all (b ∷ bs) h = put_there all b (blocks_by_begin bs) h.0 (ordered_there all bs h.1)
 
-put_same : (bytes : List ℕ) (b : Block) (bs : List Block) → IsBlock (length (lines bytes)) b
-    → AreBlocks (length (lines bytes)) bs →
+put_same : (bytes : List ℕ) (b : Block) (bs : List Block) → IsBlock (length (lines_of bytes)) b
+    → AreBlocks (length (lines_of bytes)) bs →
     put_span (span_of bytes b) (map (span_of bytes) bs) ≡ map (span_of bytes) (put_block b bs)
 put_same bytes b [] own h = refl
 put_same bytes b (next ∷ bs) own h =
-    let same : leb (start_of (lines bytes) b.low) (start_of (lines bytes) next.low) ≡ leb b.low next.low =
+    let same : leb (line_start bytes b.low) (line_start bytes next.low) ≡ leb b.low next.low =
     starts_same bytes b.low next.low own.there h.0.there in
     by_cases {C = put_span (span_of bytes b) (map (span_of bytes) (next ∷ bs))
     ≡ map (span_of bytes) (put_block b (next ∷ bs))} (leb b.low next.low)
     (λ t. rw (same, t) refl) (λ f. rw (same, f) (ap (λ r. span_of bytes next ∷ r) (put_same bytes b bs own h.1)))
 
-pub order_same : (bytes : List ℕ) (bs : List Block) → AreBlocks (length (lines bytes)) bs
+pub order_same : (bytes : List ℕ) (bs : List Block) → AreBlocks (length (lines_of bytes)) bs
     → by_begin (map (span_of bytes) bs) ≡ map (span_of bytes) (blocks_by_begin bs)
 order_same bytes [] h = refl
 order_same bytes (b ∷ bs) h =
     ap (put_span (span_of bytes b)) (order_same bytes bs h.1)
-    ∙ put_same bytes b (blocks_by_begin bs) h.0 (ordered_there (length (lines bytes)) bs h.1)
+    ∙ put_same bytes b (blocks_by_begin bs) h.0 (ordered_there (length (lines_of bytes)) bs h.1)
 
 -- each begins where the one before it does, or later
 abbrev pub AreAscending : ℕ → List Block → Type 0
@@ -199,40 +168,39 @@ pub joined_there : (all : ℕ) (bs : List Block) → AreBlocks all bs → AreBlo
 joined_there all [] h = tt
 joined_there all (b ∷ bs) h = from_there all b bs h.0 h.1
 
-greater_end : (bytes : List ℕ) (i k : ℕ) → max (end_of (length bytes) (lines bytes) i)
-    (end_of (length bytes) (lines bytes) k) ≡ end_of (length bytes) (lines bytes) (max i k)
+greater_end : (bytes : List ℕ) (i k : ℕ) → max (line_end bytes i)
+    (line_end bytes k) ≡ line_end bytes (max i k)
 greater_end bytes i k =
-    let n : ℕ = length bytes in
-    let ls : List Line = lines bytes in
-    ⊎_elim {C = max (end_of n ls i) (end_of n ls k) ≡ end_of n ls (max i k)}
-    (λ lt. let e : max i k ≡ k = omega arith in let le : end_of n ls i ≤ end_of n ls k =
-    end-mono 0 n i k ls (cut bytes) (omega arith) in rw e (omega arith))
-    (λ ge. let e : max i k ≡ i = omega arith in let le : end_of n ls k ≤ end_of n ls i =
-    end-mono 0 n k i ls (cut bytes) ge in rw e (omega arith))
-    (cases_lt i k)
+    elim (cases_lt i k) [
+      | inl lt ↦
+          (let e : max i k ≡ k = omega (arith, lt) in
+          rw e (omega (arith, line_end_mono bytes i k (omega (arith, lt)))))
+      | inr ge ↦ (let e : max i k ≡ i = omega (arith, ge) in rw e (omega (arith, line_end_mono bytes k i ge)))
+    ]
 
-pub join_same : (bytes : List ℕ) (a b : Block) → IsBlock (length (lines bytes)) a → IsBlock (length (lines bytes)) b →
+pub join_same : (bytes : List ℕ) (a b : Block) → IsBlock (length (lines_of bytes)) a
+    → IsBlock (length (lines_of bytes)) b →
     joined_span (span_of bytes a) (span_of bytes b) ≡ span_of bytes (joined_block a b)
 join_same bytes a b ha hb =
-    ap₂ (λ x y. record { offset = start_of (lines bytes) a.low; len = max x y - start_of (lines bytes) a.low })
+    ap₂ (λ x y. record { offset = line_start bytes a.low; len = max x y - line_start bytes a.low })
     (block_end bytes a ha) (block_end bytes b hb)
-    ∙ ap (λ x. record { offset = start_of (lines bytes) a.low; len = x - start_of (lines bytes) a.low })
+    ∙ ap (λ x. record { offset = line_start bytes a.low; len = x - line_start bytes a.low })
     (greater_end bytes a.high b.high)
 
-from_same : (bytes : List ℕ) (before : Block) (bs : List Block) → IsBlock (length (lines bytes)) before
-    → AreBlocks (length (lines bytes)) bs →
+from_same : (bytes : List ℕ) (before : Block) (bs : List Block) → IsBlock (length (lines_of bytes)) before
+    → AreBlocks (length (lines_of bytes)) bs →
     stretches_from (span_of bytes before) (map (span_of bytes) bs) ≡ map (span_of bytes) (blocks_from before bs)
 from_same bytes before [] own h = refl
 from_same bytes before (b ∷ bs) own h =
-    let same : leb (start_of (lines bytes) b.low) (end_of_span (span_of bytes before)) ≡ leb b.low (before.high + 1) =
+    let same : leb (line_start bytes b.low) (end_of_span (span_of bytes before)) ≡ leb b.low (before.high + 1) =
     touches_same bytes before b own h.0 in
     by_cases {C = stretches_from (span_of bytes before) (map (span_of bytes) (b ∷ bs))
     ≡ map (span_of bytes) (blocks_from before (b ∷ bs))} (leb b.low (before.high + 1))
     (λ t. rw (same, t) (ap (λ s. stretches_from s (map (span_of bytes) bs)) (join_same bytes before b own h.0)
-    ∙ from_same bytes (joined_block before b) bs (join_there (length (lines bytes)) before b own) h.1))
+    ∙ from_same bytes (joined_block before b) bs (join_there (length (lines_of bytes)) before b own) h.1))
     (λ f. rw (same, f) (ap (λ r. span_of bytes before ∷ r) (from_same bytes b bs h.0 h.1)))
 
-pub joined_same : (bytes : List ℕ) (bs : List Block) → AreBlocks (length (lines bytes)) bs
+pub joined_same : (bytes : List ℕ) (bs : List Block) → AreBlocks (length (lines_of bytes)) bs
     → joined_stretches (map (span_of bytes) bs) ≡ map (span_of bytes) (joined_blocks bs)
 joined_same bytes [] h = refl
 joined_same bytes (b ∷ bs) h = from_same bytes b bs h.0 h.1

@@ -1,18 +1,18 @@
 -- A read tells where the source ends: it lends bytes before its label and none from there on just where the label
 -- begins at the end of a source that isn't empty, with a line of context.
-use Rattle.std.proofs.Common.{ℕ, zero, suc, ◌+◌, ◌<◌, ◌≤◌, ◌≡◌, ◌⊎◌, inl, inr, max, Bool, true, false, cond, eqb, ltb}
-use Rattle.std.proofs.Common.{leb, ◌&&◌, ◌||◌, Option, Some, None, List, [], ◌∷◌, length, map, refl, sym, ap, ◌∙◌}
+use Rattle.std.proofs.Common.{ℕ, zero, suc, ◌<◌, ◌≤◌, ◌≡◌, inl, inr, max, Bool, true, false, cond, eqb, ltb}
+use Rattle.std.proofs.Common.{◌&&◌, ◌||◌, Option, Some, None, List, [], ◌∷◌, length, map, refl, sym, ap, ◌∙◌}
 use Rattle.std.proofs.Common.{subst, arith, All}
 use Rattle.std.specs.Prelude.{unwrap_or}
 use Rattle.std.specs.List.{list_any}
-use Rattle.std.proofs.lemmas.Bool.{leb-false, eqb-true, eqb-false, eq-eqb, ne_eqb, lt-ltb, le-ltb, and_left, and_right}
+use Rattle.std.proofs.lemmas.Bool.{eqb-true, eqb-false, eq-eqb, ne_eqb, lt-ltb, le-ltb, and_left, and_right}
 use Rattle.std.proofs.lemmas.Bool.{and_from}
-use Rattle.miette_source_lines.specs.rules.Lines.{Line}
+use Rattle.miette_source_lines.specs.rules.Lines.{line_of, line_end}
 use Rattle.miette_protocol.specs.views.Meaning.{Label}
-use Rattle.miette_protocol.specs.rules.Reading.{Span, Source}
+use Rattle.miette_protocol.specs.rules.Reading.{Span, Source, reading_end}
+use Rattle.miette_protocol.specs.rules.Context.{first_line, last_line}
 use Rattle.miette_labels.specs.declared.reading.ReadLabel.{ReadLabel}
 use Rattle.miette_labels.specs.rules.Around.{has_own, lines_around, group_context}
-use Rattle.miette_labels.specs.rules.Contexts as C
 use Rattle.miette_labels.specs.rules.Contexts.{contents, end_of_span}
 use Rattle.miette_labels.specs.rules.Groups.{in_order}
 use Rattle.miette_labels.specs.rules.Labels.{drawn_from, shows_end, some_shows_end}
@@ -20,51 +20,23 @@ use Rattle.miette_labels.specs.views.GivenLabels.{label_at}
 use Rattle.miette_labels.specs.views.Reads.{IsRead}
 use Rattle.miette_labels.specs.views.Placing.{lends_before, told_end}
 use Rattle.miette_snippet_rules.specs.rules.SnippetLayout.{drawn_labels, settings_around}
-use Rattle.miette_labels.proofs.Sources.{IsCut, line_of, end_of, lines, reading_end, first_line, last_line, read}
 use Rattle.miette_basics.proofs.Cases.{by_cases}
-use Rattle.miette_labels.proofs.Lines.{cut-le, end-in}
-use Rattle.miette_labels.proofs.Data.{cut}
+use Rattle.miette_source_lines.proofs.Places.{line_end_after, line_end_beyond, line_end_le, line_of_mono}
+use Rattle.miette_source_lines.proofs.Places.{line_start_next}
+use Rattle.miette_source_lines.proofs.Cuts.{start_before_end}
+use Rattle.miette_protocol.proofs.Wholes.{data_are, offset-le-reading, start_is}
 use Rattle.miette_labels.proofs.Owning.{own_ordered}
 use Rattle.miette_labels.proofs.Refusing.{read_of}
-use Rattle.miette_snippet_rules.proofs.Lines.{end-ge, line-mono, start-lt}
-use Rattle.miette_snippet_rules.proofs.Data.{end-le-reading, first-lt}
-use Rattle.miette_snippet_rules.proofs.Bridge.{begin_same, none_or_some}
-use Rattle.miette_snippet_rules.proofs.Bodies.{end-of-data}
-use Rattle.miette_snippet_rules.proofs.Ends.{last-ends, covered, end_told}
+use Rattle.miette_snippet_rules.proofs.Ends.{end_told}
+use Rattle.miette_snippet_rules.proofs.Merging.{none_or_some}
+use Rattle.miette_snippet_rules.proofs.ReadLines.{first-lt}
 use Rattle.miette_snippet_rules.specs.rules.Settings.{SnippetSettings}
-
--- the line of an offset that is in the source, or one after it, ends behind the offset
-beyond : (at n o k : ℕ) (ls : List Line) → IsCut at n ls → o < n → line_of ls o ≤ k → o < end_of n ls k
-beyond at n o k [] h lt on = lt
-beyond at n o zero (l ∷ ls) h lt on =
-    by_cases {C = o < l.end} (leb l.end o)
-    (λ t. by_cases {C = o < l.end} (ltb l.text_end l.end)
-    (λ e. let on' : cond (true && true) 1 0 + line_of ls o ≤ 0 = rw (t, e) at on in absurd (omega (arith, on')))
-    (λ e. omega (arith, lt, last-ends l.text_end l.end n h.4 e (cut-le l.end n ls h.5))))
-    (λ f. omega (arith, leb-false l.end o f))
-beyond at n o (suc k) (l ∷ ls) h lt on =
-    by_cases {C = o < end_of n ls k} (leb l.end o)
-    (λ t. by_cases {C = o < end_of n ls k} (ltb l.text_end l.end)
-    (λ e. let on' : cond (true && true) 1 0 + line_of ls o ≤ suc k = rw (t, e) at on in
-    beyond l.end n o k ls h.5 lt (omega (arith, on')))
-    (λ e. omega (arith, lt, end-ge l.end n k ls h.5, last-ends l.text_end l.end n h.4 e (cut-le l.end n ls h.5))))
-    (λ f. omega (arith, leb-false l.end o f, end-ge l.end n k ls h.5))
-
-read_beyond : (c : ℕ) (bytes : List ℕ) (span : Span) → span.offset < length bytes → span.offset
-    < (read c bytes span).end
-read_beyond c bytes span lt =
-    beyond 0 (length bytes) span.offset (last_line c bytes span) (lines bytes) (cut bytes) lt
-    (omega (
-      arith,
-      line-mono span.offset (reading_end bytes (end_of_span span)) (lines bytes)
-          (omega (arith, end-le-reading bytes (end_of_span span))),
-    ))
 
 -- ---- one read
 
 abbrev lends : ℕ → Source → Span → Bool
 lends c source span = ltb (contents c source span).span.offset span.offset
-    && eqb (C.end_of_span (contents c source span).span) span.offset
+    && eqb (end_of_span (contents c source span).span) span.offset
 
 abbrev ends_there : ℕ → ℕ → ℕ → Bool
 ends_there n offset c = ltb 0 n && (eqb offset n && ltb 0 c)
@@ -74,35 +46,37 @@ some_tells : (c : ℕ) (source : Source) (span : Span) → 1 ≤ c → 0 < lengt
 some_tells c source span one some le =
     let bytes : List ℕ = source.bytes in
     let n : ℕ = length bytes in
-    let end : C.end_of_span (contents c source span).span ≡ (read c bytes span).end = end-of-data c source span one some
-    in
-    let nonempty : ltb 0 n ≡ true = lt-ltb 0 n some in
-    let around : ltb 0 c ≡ true = lt-ltb 0 c one in
+    let from : ℕ = (contents c source span).span.offset in
+    let to : ℕ = end_of_span (contents c source span).span in
+    let end : to ≡ line_end bytes (last_line bytes span c) = data_are bytes span c c one one
+    ∙ line_start_next bytes (last_line bytes span c) in
+    let order : line_of bytes span.offset ≤ last_line bytes span c =
+    omega (arith, line_of_mono bytes span.offset (reading_end bytes span) (offset-le-reading bytes span)) in
     by_cases {C = lends c source span ≡ ends_there n span.offset c} (eqb span.offset n)
     (λ t. let is : span.offset ≡ n = eqb-true span.offset n t in
-    let from : (contents c source span).span.offset < span.offset =
-    omega (
+    let before : from < span.offset = omega (
       arith,
       is,
-      begin_same c source span one some,
-      start-lt 0 n (first_line c bytes span) (lines bytes)
-          (cut bytes) (first-lt c bytes span one some),
+      start_is bytes span c one,
+      start_before_end bytes (first_line bytes span c) (first-lt c bytes span one some),
     ) in
-    let to : C.end_of_span (contents c source span).span ≡ span.offset =
-    omega (
+    let at : to ≡ span.offset = omega (
       arith,
       is,
       end,
-      end-in 0 n (last_line c bytes span) (lines bytes) (cut bytes),
-      covered c bytes span n (omega arith) (omega (arith, is)),
+      line_end_le bytes (last_line bytes span c),
+      line_end_after bytes span.offset (last_line bytes span c) le order,
     ) in
-    and_from _ _ (lt-ltb _ _ from) (eq-eqb _ _ to) ∙ sym (and_from _ _ nonempty (and_from _ _ t around)))
+    and_from _ _ (lt-ltb _ _ before) (eq-eqb _ _ at)
+    ∙ sym (and_from _ _ (lt-ltb 0 n some) (and_from _ _ t (lt-ltb 0 c one))))
     (λ f. let lt : span.offset < n = omega (arith, le, eqb-false span.offset n f) in
-    let past : eqb (C.end_of_span (contents c source span).span) span.offset ≡ false =
-    ne_eqb (C.end_of_span (contents c source span).span) span.offset
-    (λ e. omega (arith, e, end, read_beyond c bytes span lt)) in
-    and_right (ltb (contents c source span).span.offset span.offset) _ past
-    ∙ sym (and_right (ltb 0 n) _ (and_left _ (ltb 0 c) f)))
+    let past : eqb to span.offset ≡ false = ne_eqb to span.offset (λ e. omega (
+      arith,
+      e,
+      end,
+      line_end_beyond bytes span.offset (last_line bytes span c) lt order,
+    )) in
+    and_right (ltb from span.offset) _ past ∙ sym (and_right (ltb 0 n) _ (and_left _ (ltb 0 c) f)))
 
 none_tells : (c : ℕ) (source : Source) (span : Span) → span.offset ≤ length source.bytes → (length source.bytes ≡ 0)
     → lends c source span ≡ ends_there (length source.bytes) span.offset c
@@ -110,25 +84,23 @@ none_tells c source span le none =
     and_left _ _ (le-ltb (contents c source span).span.offset span.offset (omega (arith, le, none)))
     ∙ sym (and_left _ _ (le-ltb 0 (length source.bytes) (omega (arith, none))))
 
-by_size : (c : ℕ) (source : Source) (span : Span) → 1 ≤ c → span.offset ≤ length source.bytes
-    → (length source.bytes ≡ 0) ⊎ (0 < length source.bytes) → lends c source span
-    ≡ ends_there (length source.bytes) span.offset c
-by_size c source span one le (inl none) = none_tells c source span le none
-by_size c source span one le (inr some) = some_tells c source span one some le
-
 tells : (c : ℕ) (source : Source) (span : Span) → span.offset ≤ length source.bytes → lends c source span
     ≡ ends_there (length source.bytes) span.offset c
 tells zero source span le =
     and_left _ _ (le-ltb span.offset span.offset (omega arith))
     ∙ sym (and_right (ltb 0 (length source.bytes)) _ (and_right (eqb span.offset (length source.bytes)) false refl))
-tells (suc c) source span le = by_size (suc c) source span (omega arith) le (none_or_some (length source.bytes))
+tells (suc c) source span le =
+    elim (none_or_some (length source.bytes)) [
+      | inl none ↦ none_tells (suc c) source span le none
+      | inr some ↦ some_tells (suc c) source span (omega arith) some le
+    ]
 
 read_tells : (context : ℕ) (source : Source) (labels : List Label) (r : ReadLabel) → IsRead context source labels r →
     lends_before r ≡ shows_end (length source.bytes) (lines_around context labels (read_of labels r)) (read_of labels r)
 read_tells context source labels r h =
     let l : Label = label_at labels r.index in
-    ap (λ s. ltb r.contents.span.offset s.offset && eqb (C.end_of_span r.contents.span) s.offset) h.span
-    ∙ ap (λ it. ltb it.span.offset l.span.offset && eqb (C.end_of_span it.span) l.span.offset) h.contents_are
+    ap (λ s. ltb r.contents.span.offset s.offset && eqb (end_of_span r.contents.span) s.offset) h.span
+    ∙ ap (λ it. ltb it.span.offset l.span.offset && eqb (end_of_span it.span) l.span.offset) h.contents_are
     ∙ tells (lines_around context labels l) source l.span
     (subst (λ (s : Span). s.offset ≤ length source.bytes) h.span h.accepted.begins)
 

@@ -1,13 +1,9 @@
 pub mod Bodies
-pub mod Bridge
 pub mod CutColumns
-pub mod Data
 pub mod Endings
 pub mod Ends
-pub mod Joining
-pub mod Lines
 pub mod Merging
 pub mod NoPieces
 pub mod Numbers
-pub mod Segments
+pub mod ReadLines
 pub mod Telling

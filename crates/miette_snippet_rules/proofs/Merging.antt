@@ -1,73 +1,65 @@
--- Spans by offset are joined exactly where their lines touch.
-use Rattle.std.proofs.Common.{ℕ, suc, ◌+◌, ◌-◌, ◌<◌, ◌≤◌, ◌≡◌, min, max, Bool, true, false, leb, List, [], ◌∷◌, ◌++◌}
-use Rattle.std.proofs.Common.{length, refl, sym, ap, ◌∙◌, ⊎_elim, ◌&&◌, ◌||◌, arith}
-use Rattle.std.proofs.lemmas.Bool.{le-leb, lt-leb, leb-true, leb-false, cases_lt, and_right}
+-- Spans by offset are joined exactly where their lines touch, so groups show the maximal runs of the shown lines.
+use Rattle.std.proofs.Common.{ℕ, zero, suc, ◌+◌, ◌-◌, ◌<◌, ◌≤◌, ◌≡◌, ◌⊎◌, inl, inr, min, max, Bool, true, false, leb}
+use Rattle.std.proofs.Common.{List, []}
+use Rattle.std.proofs.Common.{◌∷◌, ◌++◌, length, refl, sym, ap, ap₂, ◌∙◌, ⊎_elim, ◌&&◌, ◌||◌, arith, drop}
+use Rattle.std.specs.Prelude.{is_some}
+use Rattle.std.proofs.lemmas.Bool.{le-leb, lt-leb, leb-true, leb-false, cases_lt, and_right, or_parts}
 use Rattle.std.proofs.lemmas.Bool.Decides.{nat_tests}
 use Rattle.std.proofs.lemmas.List.Elements.{filter_agree}
 use Rattle.std.specs.List.{range_with_len, filter, list_any}
+use Rattle.miette_basics.specs.rules.Lists.{is_nil}
+use Rattle.miette_source_lines.specs.rules.Lines.{lines_of, line_of}
+use Rattle.miette_protocol.specs.views.Meaning.{Label}
+use Rattle.miette_protocol.specs.rules.Reading.{Span, Source}
+use Rattle.miette_protocol.specs.rules.Context.{first_line, last_line}
+use Rattle.miette_labels.specs.rules.Answers.{NoneFails, next_answer}
+use Rattle.miette_labels.specs.rules.Around.{has_own, lines_around}
+use Rattle.miette_labels.specs.rules.Contexts.{contents, end_of_span, lines_in}
+use Rattle.miette_labels.specs.rules.Groups.{joined_span, joins_before, groups_from, groups_answered, spans_of}
+use Rattle.miette_labels.specs.rules.Groups.{in_order}
+use Rattle.miette_labels.specs.rules.Groups.{lines_of_groups}
 use Rattle.miette_snippet_rules.specs.rules.Numbers.{ranges}
-use Rattle.miette_labels.specs.rules.Contexts.{end_of_span}
-use Rattle.miette_labels.proofs.Sources.{lines, line_of, reading_end, first_line, last_line, read, lines_in}
-use Rattle.miette_protocol.specs.rules.Reading.{Span}
-use Rattle.miette_labels.specs.rules.Groups.{joined_span}
-use Rattle.miette_snippet_rules.proofs.Joining.{put_by_offset, by_offset, lines_of_groups, is_in_context, is_shown}
-use Rattle.miette_snippet_rules.proofs.Joining.{shown, snippets}
-use Rattle.miette_labels.proofs.Joining.{joins, groups_from, groups}
-use Rattle.miette_snippet_rules.proofs.Numbers.{filter-none, filter-front, begins-other, runs-block, BeginsOtherThan}
+use Rattle.miette_snippet_rules.specs.rules.Snippets.{is_in_context, shown_numbers, snippets}
 use Rattle.miette_basics.proofs.Cases.{by_cases}
-use Rattle.miette_snippet_rules.proofs.Lines.{line-mono}
-use Rattle.miette_snippet_rules.proofs.Data.{first-mono, last-mono, first-le-last, first-le, first-lt, read-sum}
-use Rattle.miette_snippet_rules.proofs.Data.{read-lines}
-use Rattle.miette_labels.proofs.Merging.{IsAscending, swap_or}
+use Rattle.miette_source_lines.proofs.Cuts.{few_lines}
+use Rattle.miette_source_lines.proofs.Places.{line_of_all, line_of_mono}
+use Rattle.miette_protocol.proofs.Wholes.{count, first-le-last, first_mono, last_mono}
+use Rattle.miette_labels.proofs.Bodies.{later_none, next_none}
+use Rattle.miette_labels.proofs.Merging.{IsAscending, ordered_ascends}
+use Rattle.miette_labels.proofs.Owning.{none_around, order_any, order_nil}
+use Rattle.miette_snippet_rules.proofs.Numbers.{filter-none, filter-front, begins-other, runs-block, BeginsOtherThan}
+use Rattle.miette_snippet_rules.proofs.ReadLines.{first-lt, no_lines, none_in, read_numbers}
 
-weaker : (a b : ℕ) (labels : List Span) → a ≤ b → IsAscending b labels → IsAscending a labels
+weaker : (a b : ℕ) (spans : List Span) → a ≤ b → IsAscending b spans → IsAscending a spans
 weaker a b [] le h = tt
-weaker a b (label ∷ labels) le h = (omega (arith, h.0), h.1)
-
-put : (from : ℕ) (label : Span) (labels : List Span) → from ≤ label.offset → IsAscending from labels
-    → IsAscending from (put_by_offset label labels)
-put from label [] le h = (le, tt)
-put from label (next ∷ labels) le h =
-    by_cases {C = IsAscending from (put_by_offset label (next ∷ labels))} (leb label.offset next.offset)
-    (λ t. rw t (le, (leb-true label.offset next.offset t, h.1)))
-    (λ f. rw f (h.0, put next.offset label labels (omega (arith, leb-false label.offset next.offset f)) h.1))
-
-pub sorted : (labels : List Span) → IsAscending 0 (by_offset labels)
-sorted [] = tt
-sorted (label ∷ labels) = put 0 label (by_offset labels) (omega arith) (sorted labels)
-
-put_any : (p : Span → Bool) (label : Span) (labels : List Span) → list_any p (put_by_offset label labels)
-    ≡ (p label || list_any p labels)
-put_any p label [] = refl
-put_any p label (next ∷ labels) =
-    by_cases {C = list_any p (put_by_offset label (next ∷ labels)) ≡ (p label || list_any p (next ∷ labels))}
-    (leb label.offset next.offset)
-    (λ t. rw t refl)
-    (λ f. rw f (ap (λ b. p next || b) (put_any p label labels) ∙ swap_or (p next) (p label) (list_any p labels)))
-
-pub sorted_any : (p : Span → Bool) (labels : List Span) → list_any p (by_offset labels) ≡ list_any p labels
-sorted_any p [] = refl
-sorted_any p (label ∷ labels) = put_any p label (by_offset labels) ∙ ap (λ b. p label || b) (sorted_any p labels)
+weaker a b (span ∷ spans) le h = (omega (arith, h.0), h.1)
 
 -- no line before the first line of the least offset is shown
-none-below : (c : ℕ) (source : List ℕ) (from k : ℕ) (labels : List Span) → IsAscending from labels → k
-    < line_of (lines source) from - c → list_any (is_in_context c source k) labels ≡ false
-none-below c source from k [] h lt = refl
-none-below c source from k (label ∷ labels) h lt =
-    let lt' : k < line_of (lines source) label.offset - c =
-    omega (arith, line-mono from label.offset (lines source) h.0) in
-    let no : leb (first_line c source label) k ≡ false = lt-leb (first_line c source label) k lt' in
-    rw no (none-below c source label.offset k labels h.1 lt')
+none-below : (c : ℕ) (bytes : List ℕ) (from k : ℕ) (spans : List Span) → IsAscending from spans → k
+    < line_of bytes from - c → list_any (is_in_context c bytes k) spans ≡ false
+none-below c bytes from k [] h lt = refl
+none-below c bytes from k (span ∷ spans) h lt =
+    let lt' : k < line_of bytes span.offset - c = omega (arith, line_of_mono bytes from span.offset h.0, lt) in
+    let no : leb (first_line bytes span c) k ≡ false = lt-leb (first_line bytes span c) k lt' in
+    rw no (none-below c bytes span.offset k spans h.1 lt')
 
-joined-last : (c : ℕ) (source : List ℕ) (a b : Span) → last_line c source (joined_span a b)
-    ≡ max (last_line c source a) (last_line c source b)
-joined-last c source a b =
-    let f : ℕ → ℕ = λ end. line_of (lines source) (reading_end source end) + c in
-    ⊎_elim {C = last_line c source (joined_span a b) ≡ max (last_line c source a) (last_line c source b)}
-    (λ lt. let e : end_of_span (joined_span a b) ≡ end_of_span b = omega arith in ap f e
-    ∙ omega (arith, last-mono c source a b (omega arith)))
-    (λ ge. let e : end_of_span (joined_span a b) ≡ end_of_span a = omega arith in ap f e
-    ∙ omega (arith, last-mono c source b a ge))
+joined-last : (c : ℕ) (bytes : List ℕ) (a b : Span) → last_line bytes (joined_span a b) c
+    ≡ max (last_line bytes a c) (last_line bytes b c)
+joined-last c bytes a b =
+    let j : Span = joined_span a b in
+    ⊎_elim {C = last_line bytes j c ≡ max (last_line bytes a c) (last_line bytes b c)}
+    (λ lt. omega (
+      arith,
+      last_mono bytes a b c (omega (arith, lt)),
+      last_mono bytes j b c (omega (arith, lt)),
+      last_mono bytes b j c (omega (arith, lt)),
+    ))
+    (λ ge. omega (
+      arith,
+      last_mono bytes b a c ge,
+      last_mono bytes j a c (omega (arith, ge)),
+      last_mono bytes a j c (omega (arith, ge)),
+    ))
     (cases_lt (end_of_span a) (end_of_span b))
 
 pub within : (a b x y k : ℕ) → a ≤ x → x ≤ b + 1 → ((leb a k && leb k b) || (leb x k && leb k y))
@@ -105,78 +97,145 @@ span_run low high all q le lt none =
     ∙ runs-block low m (filter q (range_with_len 0 all)) other
     ∙ ap (λ w. range_with_len low w ∷ ranges (filter q (range_with_len 0 all))) e
 
+-- the numbers of the lines in the contexts of spans
+abbrev shown : ℕ → List ℕ → List Span → List ℕ
+shown c bytes spans = filter (λ k. list_any (is_in_context c bytes k) spans)
+    (range_with_len 0 (length (lines_of bytes)))
+
 -- The lines of a span, and after a gap those of others.
-split : (c : ℕ) (source : List ℕ) (s : Span) (q : ℕ → Bool) → 1 ≤ c → 0 < length source
-    → ((k : ℕ) → k ≤ last_line c source s + 1 → q k ≡ false) →
-    ranges (filter (λ k. is_in_context c source k s || q k) (range_with_len 0 (length (lines source))))
-    ≡ lines_in source (read c source s) ∷ ranges (filter q (range_with_len 0 (length (lines source))))
+split : (c : ℕ) (source : Source) (s : Span) (q : ℕ → Bool) → 1 ≤ c → 0 < length source.bytes
+    → ((k : ℕ) → k ≤ last_line source.bytes s c + 1 → q k ≡ false) →
+    ranges (filter (λ k. is_in_context c source.bytes k s || q k) (range_with_len 0 (length (lines_of source.bytes))))
+    ≡ lines_in source.bytes (contents c source s)
+    ∷ ranges (filter q (range_with_len 0 (length (lines_of source.bytes))))
 split c source s q one some none =
-    span_run (first_line c source s) (last_line c source s) (length (lines source)) q (first-le-last c source s)
-    (first-lt c source s one some) none
-    ∙ ap (λ xs. xs ∷ ranges (filter q (range_with_len 0 (length (lines source)))))
-    (sym (read-lines c source s one some))
+    span_run (first_line source.bytes s c) (last_line source.bytes s c) (length (lines_of source.bytes)) q
+    (first-le-last source.bytes s c c) (first-lt c source.bytes s one some) none
+    ∙ ap (λ xs. xs ∷ ranges (filter q (range_with_len 0 (length (lines_of source.bytes)))))
+    (sym (read_numbers c source s one))
 
--- a label that joins shows, with those before it, what the joined span shows
-same_shown : (c : ℕ) (source : List ℕ) (before label : Span) (k : ℕ) → before.offset ≤ label.offset
-    → first_line c source label ≤ last_line c source before + 1 →
-    (is_in_context c source k before || is_in_context c source k label)
-    ≡ is_in_context c source k (joined_span before label)
-same_shown c source before label k le touch =
-    within (first_line c source before) (last_line c source before) (first_line c source label)
-    (last_line c source label) k (first-mono c source before label le) touch
-    ∙ ap (λ b. leb (first_line c source before) k && leb k b) (sym (joined-last c source before label))
+-- a span that joins shows, with those before it, what the joined span shows
+same_shown : (c : ℕ) (bytes : List ℕ) (before span : Span) (k : ℕ) → before.offset ≤ span.offset
+    → first_line bytes span c ≤ last_line bytes before c + 1 →
+    (is_in_context c bytes k before || is_in_context c bytes k span) ≡ is_in_context c bytes k (joined_span before span)
+same_shown c bytes before span k le touch =
+    within (first_line bytes before c) (last_line bytes before c) (first_line bytes span c) (last_line bytes span c) k
+    (first_mono bytes before span c le) touch
+    ∙ ap (λ b. leb (first_line bytes before c) k && leb k b) (sym (joined-last c bytes before span))
 
-pub merged : (c : ℕ) (source : List ℕ) (before : Span) (labels : List Span) → 1 ≤ c → 0 < length source
-    → IsAscending before.offset labels →
-    lines_of_groups c source (groups_from c source before labels) ≡ ranges (shown c source (before ∷ labels))
-merged c source before [] one some h =
+merged : (c : ℕ) (source : Source) (before : Span) (fails : List Bool) (spans : List Span) → 1 ≤ c → 0
+    < length source.bytes → NoneFails fails → IsAscending before.offset spans →
+    lines_of_groups c source (groups_from c source before fails spans) ≡ ranges (shown c source.bytes (before ∷ spans))
+merged c source before fails [] one some none h =
     sym (split c source before (λ k. false) one some (λ k a. refl)
-    ∙ rw (filter-none (λ k. false) 0 (length (lines source)) (λ k a b. refl)) refl)
-merged c source before (label ∷ labels) one some h =
-    let sum : (read c source before).line + (read c source before).line_count
-    ≡ min (last_line c source before + 1) (line_of (lines source) (length source)) = read-sum c source before one some
-    in
-    by_cases {C = lines_of_groups c source (groups_from c source before (label ∷ labels))
-    ≡ ranges (shown c source (before ∷ label ∷ labels))} (joins c source before label)
-    (λ t. let touch : first_line c source label ≤ last_line c source before + 1 = omega (arith, sum, leb-true _ _ t) in
-    rw t (merged c source (joined_span before label) labels one some (weaker before.offset label.offset labels h.0 h.1)
-    ∙ ap ranges (filter_agree _ _ (λ k. sym (or_assoc (is_in_context c source k before) (is_in_context c source k label)
-    (list_any (is_in_context c source k) labels)
-    ∙ ap (λ b. b || list_any (is_in_context c source k) labels) (same_shown c source before label k h.0 touch)))
-    (range_with_len 0 (length (lines source))))))
-    (λ f. let gap : last_line c source before + 1 < first_line c source label =
-    omega (arith, sum, leb-false _ _ f, first-le c source label) in
-    rw f (ap (λ r. lines_in source (read c source before) ∷ r) (merged c source label labels one some h.1)
-    ∙ sym (split c source before (is_shown c source (label ∷ labels)) one some
-    (λ k a. none-below c source label.offset k (label ∷ labels) (omega arith, h.1) (omega arith)))))
+    ∙ rw (filter-none (λ k. false) 0 (length (lines_of source.bytes)) (λ k a b. refl)) refl)
+merged c source before fails (span ∷ spans) one some none h =
+    let bytes : List ℕ = source.bytes in
+    let sum : (contents c source before).line + (contents c source before).line_count
+    ≡ min (last_line bytes before c + 1) (line_of bytes (length bytes)) = count source before c c one one in
+    let next : next_answer fails ≡ false = next_none fails none in
+    by_cases {C = lines_of_groups c source (groups_from c source before fails (span ∷ spans))
+    ≡ ranges (shown c bytes (before ∷ span ∷ spans))} (joins_before c source before span)
+    (λ t. let touch : first_line bytes span c ≤ last_line bytes before c + 1 = omega (arith, sum, leb-true _ _ t) in
+    rw (t, next) (merged c source (joined_span before span) (drop 1 fails) spans one some (later_none fails none)
+    (weaker before.offset span.offset spans h.0 h.1)
+    ∙ ap ranges (filter_agree _ _ (λ k. sym (or_assoc (is_in_context c bytes k before) (is_in_context c bytes k span)
+    (list_any (is_in_context c bytes k) spans)
+    ∙ ap (λ b. b || list_any (is_in_context c bytes k) spans) (same_shown c bytes before span k h.0 touch)))
+    (range_with_len 0 (length (lines_of bytes))))))
+    (λ f. let gap : last_line bytes before c + 1 < first_line bytes span c =
+    omega (arith, sum, leb-false _ _ f, line_of_all bytes span.offset, one) in
+    rw f (ap (λ r. lines_in bytes (contents c source before) ∷ r) (merged c source span fails spans one some none h.1)
+    ∙ sym (split c source before (λ k. list_any (is_in_context c bytes k) (span ∷ spans)) one some
+    (λ k a. none-below c bytes span.offset k (span ∷ spans) (omega arith, h.1) (omega (arith, a, gap))))))
 
--- of labels in order of their offsets
-ascending : (c : ℕ) (source : List ℕ) (labels : List Span) → 1 ≤ c → 0 < length source → IsAscending 0 labels →
-    lines_of_groups c source (groups c source labels) ≡ ranges (shown c source labels)
-ascending c source [] one some h = rw (filter-none (λ k. false) 0 (length (lines source)) (λ k a b. refl)) refl
-ascending c source (label ∷ labels) one some h = merged c source label labels one some h.1
+-- of spans in order of their offsets
+ascending : (c : ℕ) (source : Source) (fails : List Bool) (spans : List Span) → 1 ≤ c → 0 < length source.bytes
+    → NoneFails fails → IsAscending 0 spans →
+    lines_of_groups c source (groups_answered c source fails spans) ≡ ranges (shown c source.bytes spans)
+ascending c source fails [] one some none h =
+    rw (filter-none (λ k. false) 0 (length (lines_of source.bytes)) (λ k a b. refl)) refl
+ascending c source fails (span ∷ spans) one some none h = merged c source span fails spans one some none h.1
 
--- in an empty source everything is joined
-empty : (c : ℕ) (before : Span) (labels : List Span) → lines_of_groups c [] (groups_from c [] before labels) ≡ [] ∷ []
-empty c before [] = refl
-empty c before (label ∷ labels) = let t : joins c [] before label ≡ true = le-leb _ _ (omega arith) in
-    rw t (empty c (joined_span before label) labels)
+-- in a source without lines everything is joined
+joined_empty : (c : ℕ) (source : Source) (before : Span) (fails : List Bool) (spans : List Span)
+    → length (lines_of source.bytes) ≡ 0 → NoneFails fails →
+    lines_of_groups c source (groups_from c source before fails spans) ≡ [] ∷ []
+joined_empty c source before fails [] empty none =
+    ap (λ r. r ∷ []) (none_in source.bytes (contents c source before) empty)
+joined_empty c source before fails (span ∷ spans) empty none =
+    let join : joins_before c source before span ≡ true =
+    le-leb _ _ (omega (arith, empty, few_lines source.bytes span.offset)) in
+    let next : next_answer fails ≡ false = next_none fails none in
+    rw (join, next) (joined_empty c source (joined_span before span) (drop 1 fails) spans empty (later_none fails none))
 
-empty_sorted : (c : ℕ) (label : Span) (labels : List Span)
-    → lines_of_groups c [] (groups c [] (put_by_offset label labels)) ≡ [] ∷ []
-empty_sorted c label [] = empty c label []
-empty_sorted c label (next ∷ labels) =
-    by_cases {C = lines_of_groups c [] (groups c [] (put_by_offset label (next ∷ labels))) ≡ [] ∷ []}
-    (leb label.offset next.offset)
-    (λ t. rw t (empty c label (next ∷ labels)))
-    (λ f. rw f (empty c next (put_by_offset label labels)))
+grouped_empty : (c : ℕ) (source : Source) (fails : List Bool) (labels : List Label) → length (lines_of source.bytes) ≡ 0
+    → NoneFails fails → is_nil labels ≡ false →
+    lines_of_groups c source (groups_answered c source fails (spans_of labels)) ≡ [] ∷ []
+grouped_empty c source fails [] empty none some = cc
+grouped_empty c source fails (label ∷ labels) empty none some =
+    joined_empty c source label.span fails (spans_of labels) empty none
 
--- Labels that are joined by offset show exactly the maximal runs of the shown lines.
-pub groups_are_runs : (c : ℕ) (source : List ℕ) (labels : List Span) → 1 ≤ c
-    → lines_of_groups c source (groups c source (by_offset labels)) ≡ snippets c source labels
-groups_are_runs c [] [] one = refl
-groups_are_runs c [] (label ∷ labels) one = empty_sorted c label (by_offset labels)
-groups_are_runs c (byte ∷ bytes) labels one =
-    ascending c (byte ∷ bytes) (by_offset labels) one (omega arith) (sorted labels)
-    ∙ ap ranges (filter_agree _ _ (λ k. sorted_any (is_in_context c (byte ∷ bytes) k) labels)
-    (range_with_len 0 (length (lines (byte ∷ bytes)))))
+-- ---- the snippets of labels
+
+pub no_labels : (context : ℕ) (bytes : List ℕ) → snippets context bytes [] ≡ []
+no_labels context [] = refl
+no_labels context (byte ∷ bytes) = ap ranges (filter-none (λ k. false) 0 (length (lines_of (byte ∷ bytes)))
+    (λ k a b. refl))
+
+pub snippets_nowhere : (context : ℕ) (bytes : List ℕ) (labels : List Label) → 0 < length labels → length bytes ≡ 0
+    → snippets context bytes labels ≡ [] ∷ []
+snippets_nowhere context bytes [] some none = absurd (omega (arith, some))
+snippets_nowhere context [] (label ∷ labels) some none = refl
+snippets_nowhere context (byte ∷ bytes) (label ∷ labels) some none = absurd (omega (arith, none))
+
+pub some_bytes : (context : ℕ) (bytes : List ℕ) (labels : List Label) → 0 < length bytes
+    → snippets context bytes labels ≡ ranges (shown_numbers context bytes labels)
+some_bytes context [] labels some = absurd (omega (arith, some))
+some_bytes context (byte ∷ bytes) labels some = refl
+
+pub none_or_some : (n : ℕ) → (n ≡ 0) ⊎ (0 < n)
+none_or_some zero = inl refl
+none_or_some (suc n) = inr (omega arith)
+
+-- where no label has its own number of context lines
+none_own : (c : ℕ) (bytes : List ℕ) (k : ℕ) (all labels : List Label) → has_own all ≡ false → has_own labels ≡ false →
+    list_any (λ label. is_in_context (lines_around c all label) bytes k label.span) labels
+    ≡ list_any (λ label. is_in_context c bytes k label.span) labels
+none_own c bytes k all [] e h = refl
+none_own c bytes k all (label ∷ labels) e h =
+    let both = or_parts (is_some label.context) (has_own labels) h in
+    ap₂ (λ x y. x || y) (ap (λ n. is_in_context n bytes k label.span) (none_around c all label e both.0))
+    (none_own c bytes k all labels e both.1)
+
+any_span : (p : Span → Bool) (labels : List Label) → list_any p (spans_of labels) ≡ list_any (λ l. p l.span) labels
+any_span p [] = refl
+any_span p (label ∷ labels) = ap (λ b. p label.span || b) (any_span p labels)
+
+shown_same : (c : ℕ) (bytes : List ℕ) (labels : List Label) → has_own labels ≡ false
+    → shown c bytes (spans_of (in_order labels)) ≡ shown_numbers c bytes labels
+shown_same c bytes labels own =
+    filter_agree _ _ (λ k. any_span (is_in_context c bytes k) (in_order labels)
+    ∙ order_any (λ l. is_in_context c bytes k l.span) labels ∙ sym (none_own c bytes k labels labels own own))
+    (range_with_len 0 (length (lines_of bytes)))
+
+runs_by : (c : ℕ) (source : Source) (fails : List Bool) (label : Label) (labels : List Label) → 1 ≤ c → NoneFails fails
+    → has_own (label ∷ labels) ≡ false → (length source.bytes ≡ 0) ⊎ (0 < length source.bytes) →
+    lines_of_groups c source (groups_answered c source fails (spans_of (in_order (label ∷ labels))))
+    ≡ snippets c source.bytes (label ∷ labels)
+runs_by c source fails label labels one none own (inl empty) =
+    grouped_empty c source fails (in_order (label ∷ labels)) (ap length (no_lines 0 source.bytes empty)) none
+    (order_nil (label ∷ labels))
+    ∙ sym (snippets_nowhere c source.bytes (label ∷ labels) (omega arith) empty)
+runs_by c source fails label labels one none own (inr some) =
+    ascending c source fails (spans_of (in_order (label ∷ labels))) one some none (ordered_ascends (label ∷ labels))
+    ∙ ap ranges (shown_same c source.bytes (label ∷ labels) own)
+    ∙ sym (some_bytes c source.bytes (label ∷ labels) some)
+
+-- Where no read fails, labels that are joined by offset show exactly the maximal runs of the shown lines.
+pub groups_are_runs : (c : ℕ) (source : Source) (fails : List Bool) (label : Label) (labels : List Label) → 1 ≤ c
+    → NoneFails fails → has_own (label ∷ labels) ≡ false →
+    lines_of_groups c source (groups_answered c source fails (spans_of (in_order (label ∷ labels))))
+    ≡ snippets c source.bytes (label ∷ labels)
+groups_are_runs c source fails label labels one none own =
+    runs_by c source fails label labels one none own (none_or_some (length source.bytes))

@@ -7,3 +7,4 @@ pub mod Cuts
 pub mod Cutting
 pub mod Only
 pub mod Firsts
+pub mod Parts

@@ -1,6 +1,6 @@
 -- Lines, places and counts as a scan from the front finds them.
 use Rattle.std.proofs.Common.{◌≡◌, ℕ, suc, zero, ◌+◌, ◌-◌, ◌<◌, ◌≤◌, Bool, true, false, cond, ◌&&◌, List, [], ◌∷◌, ◌++◌}
-use Rattle.std.proofs.Common.{length, min, inl, inr, refl, sym, ap, ◌∙◌, arith, add-one}
+use Rattle.std.proofs.Common.{length, min, max, inl, inr, refl, sym, ap, ◌∙◌, arith, add-one}
 use Rattle.std.specs.Prelude.{nat_lt, nat_le, slice_index}
 use Rattle.std.proofs.lemmas.Bool.{cases_lt, lt-ltb, le-ltb, le-leb, lt-leb, and_left, and_from, and_right}
 use Rattle.std.proofs.lemmas.List.{get_or_append_left, get_or_push, length_push}
@@ -239,6 +239,15 @@ line_end_after bs o k h e =
       | inr g ↦ omega (arith, h, line_end_past bs k (omega (arith, g, e)))
     ]
 
+-- and past the offset, where that isn't the end
+pub line_end_beyond : (bs : List ℕ) (o k : ℕ) → o < length bs → line_of bs o ≤ k → o < line_end bs k
+line_end_beyond bs o k h e =
+    elim (cases_lt (line_of bs o) (line_of bs (length bs))) [
+      | inl g ↦
+          omega (arith, line_end_gt bs o g, line_end_mono bs (line_of bs o) k e)
+      | inr g ↦ omega (arith, h, line_end_past bs k (omega (arith, g, e)))
+    ]
+
 -- no line ends past the end
 pub line_end_le : (bs : List ℕ) (k : ℕ) → line_end bs k ≤ length bs
 line_end_le bs k =
@@ -248,9 +257,38 @@ line_end_le bs k =
       | inr g ↦ omega (arith, line_end_past bs k g)
     ]
 
+-- nor does one begin past it
+pub line_start_within : (bs : List ℕ) (k : ℕ) → line_start bs k ≤ length bs
+line_start_within bs zero = omega (arith, line_start_first bs)
+line_start_within bs (suc k) = omega (arith, line_start_after bs (suc k) k (omega arith), line_end_le bs k)
+
+-- the line after one, or the last where there is none
+pub line_of_next : (bs : List ℕ) (k : ℕ) → line_of bs (line_start bs (k + 1)) ≡ min (k + 1) (line_of bs (length bs))
+line_of_next bs k =
+    elim (cases_lt k (line_of bs (length bs))) [
+      | inl h ↦ ap (line_of bs) (line_start_next bs k) ∙ sym (line_of_end bs k h) ∙ omega (arith, h)
+      | inr h ↦ ap (line_of bs) (line_start_next bs k ∙ line_end_past bs k h) ∙ omega (arith, h)
+    ]
+
 -- the numbers of lines rise with the offsets
 pub line_of_mono : (bs : List ℕ) (from to : ℕ) → from ≤ to → line_of bs from ≤ line_of bs to
 line_of_mono bs from to h = omega (arith, terminators_in-line_of bs from to h)
+
+-- the line of an offset, or of the nearer end where it lies outside of a part
+pub line_of_within : (bs : List ℕ) (from to o : ℕ) → from ≤ to → line_of bs (max from (min o to))
+    ≡ max (line_of bs from) (min (line_of bs o) (line_of bs to))
+line_of_within bs from to o le =
+    elim (cases_lt o from) [
+      | inl h ↦ (let e : max from (min o to) ≡ from = omega (arith, h, le) in
+          ap (line_of bs) e
+          ∙ omega (arith, line_of_mono bs from to le, line_of_mono bs o from (omega (arith, h))))
+      | inr h ↦ (elim (cases_lt o to) [
+        | inl g ↦ (let e : max from (min o to) ≡ o = omega (arith, h, g) in
+            ap (line_of bs) e ∙ omega (arith, line_of_mono bs from o h, line_of_mono bs o to (omega (arith, g))))
+        | inr g ↦ (let e : max from (min o to) ≡ to = omega (arith, le, g) in
+            ap (line_of bs) e ∙ omega (arith, line_of_mono bs from to le, line_of_mono bs to o g))
+      ])
+    ]
 
 pub terminators_in-is : (bs : List ℕ) (from to : ℕ) → from ≤ to → terminators_in bs from to ≡ line_of bs to
     - line_of bs from

@@ -1,16 +1,16 @@
 -- The lines of a part of some bytes, by their numbers among the lines of all of these.
 use Rattle.std.proofs.Common.{ℕ, zero, suc, ◌+◌, ◌-◌, ◌<◌, ◌≤◌, ◌≡◌, min, max, Bool, true, false, cond, not, ◌&&◌, ◌||◌}
-use Rattle.std.proofs.Common.{List, [], ◌∷◌, length, take, drop, refl, sym, ap, ap₂, ◌∙◌, inl, inr, arith}
+use Rattle.std.proofs.Common.{List, [], ◌∷◌, length, take, drop, refl, sym, ap, ap₂, ◌∙◌, inl, inr, subst, arith}
 use Rattle.std.specs.Prelude.{◌==◌, nat_le, count_by, slice_index, slice_range}
 use Rattle.std.proofs.lemmas.Bool.{cases_lt, eqb-true}
 use Rattle.std.proofs.lemmas.List.{drop-drop, drop-take, get_or-drop, get_or_past, length-drop, length-take-le}
 use Rattle.std.proofs.lemmas.List.{take_rest}
 use Rattle.std.proofs.lemmas.List.Sums.{sum_by-cons}
-use Rattle.miette_source_lines.specs.rules.Lines.{Line, LF, CR, ends_line, is_terminated, lines_from, line_of, line_end}
+use Rattle.miette_source_lines.specs.rules.Lines.{Line, LF, CR, ends_line, is_terminated, lines_from, line_of}
+use Rattle.miette_source_lines.specs.rules.Lines.{line_start, line_end}
 use Rattle.miette_source_lines.proofs.Scans.{ends_before, ends_by, ends_count, ends_count-lines_from}
 use Rattle.miette_source_lines.proofs.Places.{line_of-is, line_of_no, line_of_end, line_end_past, line_start_next}
-use Rattle.miette_source_lines.proofs.Places.{line_start_le, ends_by-le}
-use Rattle.miette_snippet_rules.specs.rules.Folds.{place_among}
+use Rattle.miette_source_lines.proofs.Places.{line_start_le, line_start_after, line_start_first, ends_by-le}
 
 -- ---- terminators of a part
 
@@ -139,15 +139,20 @@ rest_line bs from to o at rest low high within w here is =
 
 -- ---- the place of an offset among the lines of a part
 
-place_is : (at : ℕ) (bs : List ℕ) (o : ℕ) → place_among (lines_from at bs) o ≡ ends_before (o - at) bs
-place_is at bs o = ends_count-lines_from (λ e. nat_le e o) at bs ∙ ends_by-le o at bs (o - at) refl
+-- how many of the lines of bytes that begin further on end at an offset or before
+pub place_shifted : (at : ℕ) (bs : List ℕ) (o : ℕ) →
+    count_by (λ l. is_terminated l && nat_le l.end o) (lines_from at bs) ≡ line_of bs (o - at)
+place_shifted at bs o =
+    ends_count-lines_from (λ e. nat_le e o) at bs ∙ ends_by-le o at bs (o - at) refl ∙ sym (line_of-is bs (o - at))
 
 pub part_place : (bs : List ℕ) (from to o : ℕ) → from ≤ to → IsWhole bs to →
-    place_among (lines_from from (slice_range bs from to)) o + line_of bs from ≡ line_of bs (max from (min o to))
+    count_by (λ l. is_terminated l && nat_le l.end o) (lines_from from (slice_range bs from to)) + line_of bs from
+    ≡ line_of bs (max from (min o to))
 part_place bs from to o le w =
     omega (
       arith,
-      place_is from (slice_range bs from to) o,
+      place_shifted from (slice_range bs from to) o,
+      line_of-is (slice_range bs from to) (o - from),
       ends_part bs from to o le w,
       line_of-is bs from,
       line_of-is bs (max from (min o to)),
@@ -233,3 +238,9 @@ line_whole bytes i =
       | inl h ↦ (λ k e. ended_whole bytes i k h e)
       | inr h ↦ past_whole bytes (line_end bytes i) (omega (arith, line_end_past bytes i h))
     ]
+
+-- where a line begins
+pub start_whole : (bytes : List ℕ) (i : ℕ) → IsWhole bytes (line_start bytes i)
+start_whole bytes zero = λ k e. absurd (omega (arith, e, line_start_first bytes))
+start_whole bytes (suc i) =
+    subst (λ (n : ℕ). IsWhole bytes n) (sym (line_start_after bytes (suc i) i (omega arith))) (line_whole bytes i)
