@@ -205,33 +205,6 @@ fn report_with_related<D: Diagnostic, S: SourceCode>(
     }
 }
 
-/// The report of all parts.
-fn report_of_parts<D: Diagnostic, S: SourceCode>(
-    alloc: Global,
-    diagnostic: MietteDiagnostic,
-    source: Option<OwnedSource>,
-    causes: Causes<D, S>,
-    list: Option<Vec<Report<D, S>>>,
-    contexts: Option<Vec<String>>,
-) -> Result<Report<D, S>, BuildError>
-    ensures ok { IfOk result (λ r.
-        tree_of_parts (meaning_of diagnostic) (option_map owned_source source)
-        (option_map (λ b. tree_of D.meaning S.source b.value) causes.one)
-        (option_map (λ v. map string_bytes v.items) causes.several)
-        (option_map (λ v. trees (map (tree_of D.meaning S.source) v.items)) list)
-        (option_map (λ v. map string_bytes v.items) contexts) ≡ Some (tree_of D.meaning S.source r)) }
-    ensures description { (result ≡ Err BuildError.Description) →
-        tree_of_parts (meaning_of diagnostic) (option_map owned_source source)
-        (option_map (λ b. tree_of D.meaning S.source b.value) causes.one)
-        (option_map (λ v. map string_bytes v.items) causes.several)
-        (option_map (λ v. trees (map (tree_of D.meaning S.source) v.items)) list)
-        (option_map (λ v. map string_bytes v.items) contexts) ≡ None }
-{
-    let report = report_with_source(Report::built(diagnostic), source);
-    let report = report_with_cause(alloc, report, causes)?;
-    report_under(alloc, report_with_related(report, list), contexts)
-}
-
 /// A report in a place of its own, out of the stack.
 fn box_of<D: Diagnostic, S: SourceCode>(
     alloc: Global,
@@ -279,6 +252,37 @@ fn own_parts(alloc: Global, value: &Value<'_>) -> Result<OwnParts, BuildError>
     })
 }
 
+/// The report of all parts: a description's own, its cause and its related reports.
+fn report_of_parts<D: Diagnostic, S: SourceCode>(
+    alloc: Global,
+    parts: OwnParts,
+    one: Option<Box<Report<D, S>>>,
+    list: Option<Vec<Report<D, S>>>,
+) -> Result<Report<D, S>, BuildError>
+    ensures ok { IfOk result (λ r.
+        tree_of_parts (meaning_of parts.diagnostic) (option_map owned_source parts.source)
+        (option_map (λ b. tree_of D.meaning S.source b.value) one)
+        (option_map (λ v. map string_bytes v.items) parts.several)
+        (option_map (λ v. trees (map (tree_of D.meaning S.source) v.items)) list)
+        (option_map (λ v. map string_bytes v.items) parts.contexts) ≡ Some (tree_of D.meaning S.source r)) }
+    ensures description { (result ≡ Err BuildError.Description) →
+        tree_of_parts (meaning_of parts.diagnostic) (option_map owned_source parts.source)
+        (option_map (λ b. tree_of D.meaning S.source b.value) one)
+        (option_map (λ v. map string_bytes v.items) parts.several)
+        (option_map (λ v. trees (map (tree_of D.meaning S.source) v.items)) list)
+        (option_map (λ v. map string_bytes v.items) parts.contexts) ≡ None }
+{
+    let OwnParts {
+        diagnostic,
+        source,
+        several,
+        contexts,
+    } = parts;
+    let report = report_with_source(Report::built(diagnostic), source);
+    let report = report_with_cause(alloc, report, Causes { one, several })?;
+    report_under(alloc, report_with_related(report, list), contexts)
+}
+
 /// The report of a description whose cause and related reports are made. What it needs of the stack it gives back
 /// before the next level is read.
 #[inline(never)]
@@ -297,14 +301,7 @@ fn report_with<D: Diagnostic, S: SourceCode>(
         (Some (option_map (λ v. trees (map (tree_of D.meaning S.source) v.items)) list)) (value_data value.now) ≡ None }
 {
     let parts = own_parts(alloc, value)?;
-    let OwnParts {
-        diagnostic,
-        source,
-        several,
-        contexts,
-    } = parts;
-    let causes = Causes { one, several };
-    let report = report_of_parts(alloc, diagnostic, source, causes, list, contexts)?;
+    let report = report_of_parts(alloc, parts, one, list)?;
     box_of(alloc, report)
 }
 

@@ -10,21 +10,21 @@ use Rattle.miette_description.proofs.report.report_of_parts.Goals as goal
 pub returns-in_err-report-clause-description : goal.returns-in_err-report-clause-description
 returns-in_err-report-clause-description g c e =
     let value = tree_of g.D.Diagnostic.meaning g.S.SourceCode.source in
-    no_parts (meaning_of c.args.diagnostic) (option_map owned_source c.args.source)
-    (option_map (λ b. value b.value) c.args.causes.one)
-    (option_map (λ v. map string_bytes v.items) c.args.causes.several)
+    no_parts (meaning_of c.args.parts.diagnostic) (option_map owned_source c.args.parts.source)
+    (option_map (λ b. value b.value) c.args.one)
+    (option_map (λ v. map string_bytes v.items) c.args.parts.several)
     (option_map (λ v. trees (map value v.items)) c.args.list)
-    (option_map (λ v. map string_bytes v.items) c.args.contexts) (c.in_err-report.ensures.description (search rules))
+    (option_map (λ v. map string_bytes v.items) c.args.parts.contexts) (c.in_err-report.ensures.description (search rules))
 
 pub returns-clause-ok : goal.returns-clause-ok
 returns-clause-ok g c =
     let value = tree_of g.D.Diagnostic.meaning g.S.SourceCode.source in
     IfOk-weaker c.report_under.result _ _
-    (λ r p. parts_made (meaning_of c.args.diagnostic) (option_map owned_source c.args.source)
-    (option_map (λ b. value b.value) c.args.causes.one)
-    (option_map (λ v. map string_bytes v.items) c.args.causes.several)
+    (λ r p. parts_made (meaning_of c.args.parts.diagnostic) (option_map owned_source c.args.parts.source)
+    (option_map (λ b. value b.value) c.args.one)
+    (option_map (λ v. map string_bytes v.items) c.args.parts.several)
     (option_map (λ v. trees (map value v.items)) c.args.list)
-    (option_map (λ v. map string_bytes v.items) c.args.contexts) (value c.built.result)
+    (option_map (λ v. map string_bytes v.items) c.args.parts.contexts) (value c.built.result)
     (value c.report_with_source-report.result) (value c.in_ok-report.report)
     (value c.report_with_related.result) (value r) c.built.ensures.tree c.report_with_source-report.ensures
     c.in_ok-report.ensures.ok c.report_with_related.ensures p)
