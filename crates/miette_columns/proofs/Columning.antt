@@ -1,6 +1,8 @@
 -- Steps over the characters of a text, and the column that they come to.
-use Rattle.std.proofs.Common.{ℕ, ◌+◌, ◌-◌, ◌<◌, ◌≤◌, ◌≡◌, true, false, List, [], ◌∷◌, ◌++◌, refl, sym, ap, ◌∙◌}
-use Rattle.std.proofs.Common.{append_assoc, append-nil, arith, eqb}
+use Rattle.std.proofs.Common.{ℕ, ◌+◌, ◌-◌, ◌<◌, ◌≤◌, ◌≡◌, true, false, List, [], ◌∷◌, ◌++◌, refl, sym, ap, subst, ◌∙◌}
+use Rattle.std.proofs.Common.{append_assoc, append-nil, arith, eqb, length, take, drop, length-drop}
+use Rattle.std.proofs.lemmas.List.{take_rest}
+use Rattle.bstr.specs.Utf8.{decoded, or_replacement}
 use Rattle.std.specs.Prelude.{IsUtf8, chars, encode_utf8, encode_utf8_all}
 use Rattle.std.proofs.lemmas.Str.{chars_from_encodes, encodes-append, encodes-chars, chars-nil}
 use Rattle.std.proofs.lemmas.Bool.{ne_eqb, le-ltb, lt-ltb}
@@ -11,6 +13,26 @@ use Rattle.miette_cells.proofs.Stepping.{IsFirst, made, characters_step, charact
 use Rattle.miette_columns.specs.rules.Columns.{begun_text, is_boundary, widths, column}
 use Rattle.miette_columns.specs.declared.places.PartingPlace.{PartingPlace}
 use Rattle.miette_columns.specs.steps.Places.{overlap_text, twice, column_behind}
+
+-- a character of a text that begins after so many bytes, and takes so many
+pub record IsNext (text : List ℕ) (bytes code size : ℕ) : Type 0 where
+  pub first : IsFirst (drop bytes text) (drop size (drop bytes text)) code size
+  pub some : 0 < size
+  pub within : bytes + size ≤ length text
+
+pub is_next : (text : List ℕ) (bytes code size : ℕ) → bytes < length text
+    → code ≡ or_replacement (decoded (take (length text - bytes) (drop bytes text))).char
+    → size ≡ (decoded (take (length text - bytes) (drop bytes text))).size → 0 < size
+    → size ≤ length (take (length text - bytes) (drop bytes text)) → IsNext text bytes code size
+is_next text bytes code size h c s some within =
+    let slice = take (length text - bytes) (drop bytes text) in
+    let all : length slice ≡ length text - bytes = ap length (take_rest text bytes) ∙ length-drop bytes text in
+    record {
+      first = subst (λ b. IsFirst b (drop size b) code size) (take_rest text bytes)
+          (record { some = omega (arith, all, h); left_is = refl; code_is = c; size_is = s });
+      some = some;
+      within = omega (arith, within, all, h);
+    }
 
 -- some characters are over, and so many bytes of the rest are left; the characters and the sum of widths began with
 -- some

@@ -1,5 +1,5 @@
 -- Places of a line's text from which a walk over its characters goes on.
-use Rattle.std.proofs.Common.{ℕ, zero, suc, ◌+◌, ◌-◌, ◌<◌, ◌≤◌, ◌≡◌, ◌||◌, Bool, true, false, inl, inr, List, [], ◌∷◌}
+use Rattle.std.proofs.Common.{ℕ, zero, suc, ◌+◌, ◌-◌, ◌≤◌, ◌≡◌, ◌||◌, Bool, true, false, inl, inr, List, [], ◌∷◌}
 use Rattle.std.proofs.Common.{◌++◌, Option, Some, None, length, drop, refl, sym, ap, subst, ◌∙◌, append_assoc}
 use Rattle.std.proofs.Common.{append-nil, arith}
 use Rattle.std.specs.Prelude.{IsUtf8, chars, encode_utf8, if◌then◌else◌}
@@ -18,7 +18,7 @@ use Rattle.miette_columns.specs.declared.places.PartingPlace.{PartingPlace}
 use Rattle.miette_columns.specs.rules.Columns.{begun_text, is_boundary, column}
 use Rattle.miette_columns.specs.steps.Parting.{may_part, may_part_flags, opens, end_overlap, overlap_between}
 use Rattle.miette_columns.specs.steps.Places.{overlap_text, IsHeld, twice, column_behind, IsPlace}
-use Rattle.miette_columns.proofs.Columning.{IsOver, none_over, one_over, begun_more, begun_zero, chars_pushed}
+use Rattle.miette_columns.proofs.Columning.{IsNext, IsOver, none_over, one_over, begun_more, begun_zero, chars_pushed}
 use Rattle.miette_columns.proofs.Columning.{at_boundary, off_boundary, behind_boundary, behind_other, twice_boundary}
 use Rattle.miette_columns.proofs.Columning.{twice_other, told_column, boundary_at_zero, all_at_zero}
 use Rattle.miette_columns.proofs.PartedTexts.{parted, no_width}
@@ -87,26 +87,24 @@ none_since text from over le e =
           more over e);
     }
 
-pub one_since : (text : List ℕ) (from : PartingPlace) (over new : List ℕ) (sum wider bytes later code size : ℕ)
-    → IsSince text from over sum bytes → IsFirst (drop bytes text) (drop size (drop bytes text)) code size →
-    IsUtf8 over → IsUtf8 new → new ≡ over ++ encode_utf8 code → wider ≡ sum + width_of code → 0 < size → later ≡ bytes
-    + size → later ≤ length text → IsSince text from new wider later
-one_since text from over new sum wider bytes later code size h is u v e w some to le =
+pub one_since : (text : List ℕ) (from : PartingPlace) (over new : List ℕ) (sum wider bytes code size : ℕ)
+    → IsSince text from over sum bytes → IsNext text bytes code size → IsUtf8 over → IsUtf8 new
+    → new ≡ over ++ encode_utf8 code → wider ≡ sum + width_of code → IsSince text from new wider (bytes + size)
+one_since text from over new sum wider bytes code size h next u v e w =
     record {
-      behind = omega (arith, h.behind, to);
-      within = le;
+      behind = omega (arith, h.behind);
+      within = next.within;
       each = λ more.
           let start = drop from.bytes text in
           let left : (size + more) - size ≡ more = omega arith in
-          let at : (bytes - from.bytes) + (size + more) ≡ (later - from.bytes) + more = omega (arith, h.behind, to) in
-          let rest : drop size (drop bytes text) ≡ drop later text = drop-drop size bytes text
-          ∙ ap (λ k. drop k text) (omega (arith, to)) in
+          let at : (bytes - from.bytes) + (size + more) ≡ ((bytes + size) - from.bytes) + more =
+          omega (arith, h.behind) in
           let step = one_over (overlap_text from.overlap) from.widths start ((bytes - from.bytes) + (size + more)) over
           new sum wider (drop bytes text) (drop size (drop bytes text)) (size + more) code size
-          (h.each (size + more)) is u v e w (omega (arith, some)) (omega arith) in
-          subst (λ k. IsOver (overlap_text from.overlap) from.widths start k new wider (drop later text) more) at
+          (h.each (size + more)) next.first u v e w (omega (arith, next.some)) (omega arith) in
+          subst (λ k. IsOver (overlap_text from.overlap) from.widths start k new wider (drop (bytes + size) text) more) at
           (subst (λ r. IsOver (overlap_text from.overlap) from.widths start ((bytes - from.bytes) + (size + more)) new
-          wider r more) rest
+          wider r more) (drop-drop size bytes text)
           (subst (λ k. IsOver (overlap_text from.overlap) from.widths start ((bytes - from.bytes) + (size + more)) new
           wider (drop size (drop bytes text)) k) left step));
     }

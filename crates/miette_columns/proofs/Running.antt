@@ -1,11 +1,10 @@
 -- Trails of characters that take no columns in a line's text, and the columns in them.
 use Rattle.std.proofs.Common.{ℕ, zero, suc, ◌+◌, ◌-◌, ◌<◌, ◌≤◌, ◌≡◌, true, false, cond, ◌&&◌, inl, inr, List, [], ◌∷◌}
-use Rattle.std.proofs.Common.{◌++◌, length, take, drop, refl, sym, ap, ap₂, subst, ◌∙◌, append_assoc, arith}
-use Rattle.std.proofs.Common.{length-drop}
+use Rattle.std.proofs.Common.{◌++◌, length, drop, refl, sym, ap, ap₂, subst, ◌∙◌, append_assoc, arith}
 use Rattle.std.specs.Prelude.{chars}
 use Rattle.std.specs.List.{list_all}
 use Rattle.std.proofs.lemmas.Bool.{true≢false, and_parts, cases_lt, cond-true, cond-false, ne_eqb, lt-ltb}
-use Rattle.std.proofs.lemmas.List.{drop-drop, take_rest}
+use Rattle.std.proofs.lemmas.List.{drop-drop}
 use Rattle.unicode_width.specs.Width.{str_width}
 use Rattle.miette_cells.specs.rules.Cells.{Character, characters}
 use Rattle.miette_cells.proofs.Stepping.{IsFirst, made, characters_step}
@@ -15,7 +14,7 @@ use Rattle.miette_columns.specs.declared.trails.Trail.{Trail}
 use Rattle.miette_columns.specs.rules.Columns.{begun_text, is_boundary, widths, column}
 use Rattle.miette_columns.specs.steps.Places.{IsPlace}
 use Rattle.miette_columns.specs.steps.Trails.{is_faint, AreFaint, IsTrail, first_size}
-use Rattle.miette_columns.proofs.Columning.{begun_more, begun_zero, boundary_more, boundary_inside, boundary_zero}
+use Rattle.miette_columns.proofs.Columning.{IsNext, begun_more, begun_zero, boundary_more, boundary_inside, boundary_zero}
 use Rattle.miette_columns.proofs.Columning.{behind_boundary, behind_other, twice_boundary, twice_other}
 use Rattle.miette_columns.proofs.FaintCharacters.{faint_behind, faint_width}
 use Rattle.miette_columns.proofs.SettledTexts.{EndsIn}
@@ -55,23 +54,11 @@ ends_behind over last cs ends h all =
 
 -- ---- where they end
 
--- the first character behind so many bytes
-pub first_behind : (text : List ℕ) (bytes code size : ℕ)
-    → IsFirst (take (length text - bytes) (drop bytes text)) (drop size (take (length text - bytes) (drop bytes text)))
-    code size →
-    IsFirst (drop bytes text) (drop size (drop bytes text)) code size
-first_behind text bytes code size = subst (λ b. IsFirst b (drop size b) code size) (take_rest text bytes)
-
 pub first_bytes : (text : List ℕ) (bytes code size : ℕ)
     → IsFirst (drop bytes text) (drop size (drop bytes text)) code size → size
     ≡ first_size (characters (drop bytes text))
 first_bytes text bytes code size is = sym (ap first_size
     (characters_step (drop bytes text) (drop size (drop bytes text)) code size is))
-
--- there is one
-pub some_behind : (text : List ℕ) (bytes : ℕ) → bytes < length text → 0
-    < length (take (length text - bytes) (drop bytes text))
-some_behind text bytes h = omega (arith, ap length (take_rest text bytes), length-drop bytes text, h)
 
 -- such characters lie from one offset up to another
 pub record AreSince (text : List ℕ) (from bytes : ℕ) : Type 0 where
@@ -93,29 +80,27 @@ none_faint text from le =
           ap (λ k. list_all is_faint (begun_text k (characters (drop from text)))) at ∙ h;
     }
 
-pub one_faint : (text : List ℕ) (from bytes later code size : ℕ) → AreSince text from bytes
-    → IsFirst (drop bytes text) (drop size (drop bytes text)) code size → is_faint code ≡ true →
-    0 < size → later ≡ bytes + size → later ≤ length text → AreSince text from later
-one_faint text from bytes later code size h is faint some to le =
+pub one_faint : (text : List ℕ) (from bytes code size : ℕ) → AreSince text from bytes → IsNext text bytes code size
+    → is_faint code ≡ true → AreSince text from (bytes + size)
+one_faint text from bytes code size h next faint =
     let cs = characters (drop size (drop bytes text)) in
-    let step = characters_step (drop bytes text) (drop size (drop bytes text)) code size is in
-    let rest : drop size (drop bytes text) ≡ drop later text = drop-drop size bytes text
-    ∙ ap (λ k. drop k text) (omega (arith, to)) in
+    let step = characters_step (drop bytes text) (drop size (drop bytes text)) code size next.first in
+    let rest : drop size (drop bytes text) ≡ drop (bytes + size) text = drop-drop size bytes text in
     record {
-      behind = omega (arith, h.behind, to);
-      within = le;
+      behind = omega (arith, h.behind);
+      within = next.within;
       boundary = λ more.
-          let at : (later - from) + more ≡ (bytes - from) + (size + more) = omega (arith, h.behind, to) in
+          let at : ((bytes + size) - from) + more ≡ (bytes - from) + (size + more) = omega (arith, h.behind) in
           let left : (size + more) - size ≡ more = omega arith in
           ap (λ k. is_boundary k (characters (drop from text))) at ∙ h.boundary (size + more)
           ∙ ap (is_boundary (size + more)) step
-          ∙ boundary_more (size + more) code size cs (omega (arith, some)) (omega arith)
+          ∙ boundary_more (size + more) code size cs (omega (arith, next.some)) (omega arith)
           ∙ ap (λ k. is_boundary k cs) left ∙ ap (λ r. is_boundary more (characters r)) rest;
       faint = λ more all.
-          let at : (later - from) + more ≡ (bytes - from) + (size + more) = omega (arith, h.behind, to) in
+          let at : ((bytes + size) - from) + more ≡ (bytes - from) + (size + more) = omega (arith, h.behind) in
           let left : (size + more) - size ≡ more = omega arith in
           let one : begun_text (size + more) (characters (drop bytes text)) ≡ code ∷ begun_text more cs =
-          ap (begun_text (size + more)) step ∙ begun_more (size + more) code size cs (omega (arith, some))
+          ap (begun_text (size + more)) step ∙ begun_more (size + more) code size cs (omega (arith, next.some))
           ∙ ap (λ k. code ∷ begun_text k cs) left in
           let others : list_all is_faint (begun_text more cs) ≡ true =
           ap (λ r. list_all is_faint (begun_text more (characters r))) rest ∙ all in

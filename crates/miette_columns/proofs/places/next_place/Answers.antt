@@ -1,15 +1,12 @@
-use Rattle.std.proofs.Common.{◌≡◌, ◌+◌, ◌-◌, ◌<◌, Some, false, sym, drop, length, string_bytes, ap, subst, ◌∙◌, refl}
-use Rattle.std.proofs.Common.{rules, arith, length-drop}
+use Rattle.std.proofs.Common.{◌≡◌, ◌+◌, ◌-◌, ◌<◌, Some, false, sym, drop, string_bytes, ap, ◌∙◌, refl}
+use Rattle.std.proofs.Common.{rules, arith}
 use Rattle.std.specs.Prelude.{chars}
 use Rattle.std.proofs.lemmas.Bool.{true≢false}
-use Rattle.std.proofs.lemmas.List.{take_rest}
 use Rattle.std.proofs.lemmas.Str.{IsUtf8-string_bytes}
 use Rattle.ucd_emoji.specs.Binary.{is_emoji_variation_base}
 use Rattle.unicode_width.specs.Width.{str_width}
 use Rattle.unicode_width.proofs.Computing.{unicode_width}
-use Rattle.miette_cells.specs.rules.Widths.{width_of}
-use Rattle.miette_cells.proofs.Stepping.{IsFirst}
-use Rattle.miette_columns.proofs.Columning.{chars_pushed}
+use Rattle.miette_columns.proofs.Columning.{is_next, chars_pushed}
 use Rattle.miette_columns.proofs.Flags.{no_flags, flags_pushed}
 use Rattle.miette_columns.proofs.PlaceLaws.{none_since, one_since, ends_pushed, ends_twice, is_next_place}
 use Rattle.miette_columns.specs.steps.Parting.{overlap_between}
@@ -34,31 +31,15 @@ loop-bytes-preserved c =
     let bytes = c.loop-bytes.bytes in
     let code = c.first_character-code.result.0 in
     let size = c.first_character-code.result.1 in
-    let left : length (drop bytes text) ≡ length text - bytes = length-drop bytes text in
-    let first : IsFirst (drop bytes text) (drop size (drop bytes text)) code size =
-    subst (λ b. IsFirst b (drop size b) code size) (take_rest text bytes)
-    (record {
-      some = omega (arith, ap length (take_rest text bytes), left, c.loop-bytes-test.true);
-      left_is = refl;
-      code_is = c.first_character-code.ensures.code;
-      size_is = c.first_character-code.ensures.size;
-    }) in
-    let wider : c.in-Some-checked_add.wider ≡ c.loop-bytes.widths + width_of code = search rules in
+    let read = c.first_character-code.ensures in
+    let next = is_next text bytes code size c.loop-bytes-test.true read.code read.size read.some read.within in
     let ends = ends_pushed (string_bytes c.loop-bytes.over) (string_bytes c.push.new.self) code
     (IsUtf8-string_bytes c.loop-bytes.over) (IsUtf8-string_bytes c.push.new.self) c.in_ok-push.ensures.bytes in
     record {
       since = one_since text c.args.from (string_bytes c.loop-bytes.over) (string_bytes c.push.new.self)
-          c.loop-bytes.widths c.in-Some-checked_add.wider bytes (bytes + size) code size c.loop-bytes.invariant.since
-          first
-          (IsUtf8-string_bytes c.loop-bytes.over) (IsUtf8-string_bytes c.push.new.self) c.in_ok-push.ensures.bytes wider
-          c.first_character-code.ensures.some refl
-          (omega (
-            arith,
-            c.first_character-code.ensures.within,
-            ap length (take_rest text bytes),
-            left,
-            c.loop-bytes-test.true,
-          ));
+          c.loop-bytes.widths c.in-Some-checked_add.wider bytes code size c.loop-bytes.invariant.since next
+          (IsUtf8-string_bytes c.loop-bytes.over) (IsUtf8-string_bytes c.push.new.self) c.in_ok-push.ensures.bytes
+          (search rules);
       flags = flags_pushed (string_bytes c.loop-bytes.over) (string_bytes c.push.new.self) c.loop-bytes.last code
           c.loop-bytes.is_half _ c.loop-bytes.invariant.flags
           (chars_pushed (string_bytes c.loop-bytes.over) (string_bytes c.push.new.self) code
@@ -78,22 +59,15 @@ returns-in-Some c =
     let bytes = c.loop-bytes.bytes in
     let code = c.first_character-code.result.0 in
     let size = c.first_character-code.result.1 in
-    let left : length (drop bytes text) ≡ length text - bytes = length-drop bytes text in
-    let first : IsFirst (drop bytes text) (drop size (drop bytes text)) code size =
-    subst (λ b. IsFirst b (drop size b) code size) (take_rest text bytes)
-    (record {
-      some = omega (arith, ap length (take_rest text bytes), left, c.loop-bytes-test.true);
-      left_is = refl;
-      code_is = c.first_character-code.ensures.code;
-      size_is = c.first_character-code.ensures.size;
-    }) in
+    let read = c.first_character-code.ensures in
+    let next = is_next text bytes code size c.loop-bytes-test.true read.code read.size read.some read.within in
     let behind : from.bytes < bytes = search rules in
     let some : overlap_between c.loop-bytes.before c.loop-bytes.last c.loop-bytes.is_half code ≡ Some c.in-Some.first =
     search rules in
     let at : c.in_ok-place.place.bytes ≡ bytes = c.in_ok-place.ensures.bytes in (
       is_next_place text from c.in_ok-place.place (string_bytes c.loop-bytes.over) (drop size (drop bytes text)) code
           size c.loop-bytes.widths bytes c.loop-bytes.before c.loop-bytes.last c.loop-bytes.is_half c.in-Some.first
-          c.requires c.loop-bytes.invariant.since first (c.loop-bytes.invariant.last behind)
+          c.requires c.loop-bytes.invariant.since next.first (c.loop-bytes.invariant.last behind)
           c.loop-bytes.invariant.before c.loop-bytes.invariant.flags some
           at c.in_ok-place.ensures.widths c.in_ok-place.ensures.overlap
           (c.in_ok-place.ensures.column ∙ ap (λ t. (from.column + str_width false (chars t)) - from.twice)
