@@ -8,6 +8,7 @@ ghost use Rattle.miette_columns.specs.steps.Places.{IsPlace, overlap_text};
 
 use crate::overlap::Overlap;
 use crate::parting::{is_indicator, overlap_between};
+use miette_basics::sums::sum;
 use miette_cells::cells::{columns_of, first_character};
 use std::alloc::{AllocError, Global};
 use unicode_width::UnicodeWidthStr;
@@ -63,10 +64,8 @@ pub(crate) fn overlap_text(alloc: Global, first: Overlap) -> Result<String, Allo
 pub(crate) fn column_after(from: PartingPlace, text: &str) -> Result<usize, AllocError>
     ensures { IfOk result (λ column. column ≡ (from.column + str_width false (chars text.now)) - from.twice) }
 {
-    match from.column.checked_add(text.width()) {
-        Some(column) => Ok(column.saturating_sub(from.twice)),
-        None => Err(AllocError),
-    }
+    let both = sum(from.column, text.width())?;
+    Ok(both.saturating_sub(from.twice))
 }
 
 // The place behind so many bytes, which holds some characters, where a text is over since another place.
