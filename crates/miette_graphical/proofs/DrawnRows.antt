@@ -30,7 +30,7 @@ use Rattle.miette_graphical.specs.rules.Settings.{Settings}
 use Rattle.miette_graphical.specs.rules.Snippets.{snippet_settings, shown_rows, drawn_rows}
 use Rattle.miette_graphical.proofs.PrintedRows.{rows_printed}
 use Rattle.miette_graphical.specs.steps.PartTexts.{AreDrawn, IsDrawn}
-use Rattle.miette_labels.proofs.Bodies.{next_none, later_none, some_none}
+use Rattle.miette_labels.proofs.NoFailures.{next_none, later_none, some_none}
 use Rattle.miette_labels.proofs.NoFailures.{none_unread, grouped_none}
 
 refusal_none : (bytes : List ℕ) (fails : List Bool) (labels : List Label) → NoneFails fails → refusal bytes fails labels

@@ -18,7 +18,7 @@ use Rattle.miette_labels.specs.declared.reading.ReadLabel.{ReadLabel}
 use Rattle.miette_labels.specs.rules.Around.{has_own, lines_around}
 use Rattle.miette_labels.specs.rules.Contexts.{contents, end_of_span}
 use Rattle.miette_labels.specs.views.GivenLabels.{label_at}
-use Rattle.miette_labels.specs.rules.Groups.{in_order, spans_of, joined_span, stretch, put_span, by_begin}
+use Rattle.miette_labels.specs.rules.Groups.{in_order, spans_of, joined_span, stretch, by_begin}
 use Rattle.miette_labels.specs.rules.Groups.{stretches_from, joined_stretches, own_groups, groups_answered, groups_of}
 use Rattle.miette_labels.specs.rules.Groups.{some_fails}
 use Rattle.miette_labels.specs.views.Reads.{IsRead, IsLent, AreGroups, AreGrouped}
@@ -27,7 +27,7 @@ use Rattle.miette_labels.proofs.NoFailures.{none_unread}
 use Rattle.miette_labels.proofs.Gathering.{joined_accepted}
 use Rattle.miette_labels.proofs.Owning.{own_ordered, none_around}
 use Rattle.miette_labels.proofs.Refusing.{read_of}
-use Rattle.miette_labels.proofs.Sorting.{put, sorted, sort_is}
+use Rattle.miette_labels.proofs.Sorting.{by_begin_is, sort_is, sorted_each}
 use Rattle.miette_labels.specs.steps.Reads.{AreJoined}
 
 -- ---- whether some label has its own number
@@ -42,19 +42,9 @@ own_nowhere labels i le h = sym (ap has_own (drop_all i labels le)) ∙ h
 abbrev pub stretches_read : List ReadLabel → List Span
 stretches_read reads = map (λ read. read.contents.span) reads
 
-put_same : (span : Span) (spans : List Span) → put (λ s. s.offset) span spans ≡ put_span span spans
-put_same span [] = refl
-put_same span (next ∷ spans) =
-    by_cases {C = put (λ s. s.offset) span (next ∷ spans) ≡ put_span span (next ∷ spans)} (leb span.offset next.offset)
-    (λ t. rw t refl) (λ f. rw f (ap (λ r. next ∷ r) (put_same span spans)))
-
-sorted_same : (spans : List Span) → sorted (λ s. s.offset) spans ≡ by_begin spans
-sorted_same [] = refl
-sorted_same (span ∷ spans) = put_same span (sorted (λ s. s.offset) spans) ∙ ap (put_span span) (sorted_same spans)
-
 pub sort_begins : (xs ys : List Span) → IsNonDecreasingBy (λ s. s.offset) ys
     → IsStableByKey (λ s. s.offset) nat_cmp xs ys → ys ≡ by_begin xs
-sort_begins xs ys up stable = sort_is (λ s. s.offset) xs ys up stable ∙ sorted_same xs
+sort_begins xs ys up stable = sort_is (λ s. s.offset) xs ys up stable ∙ by_begin_is xs
 
 -- ---- read again
 
@@ -77,18 +67,6 @@ read_more source spans i groups more span lent h lt is accepted e m =
     })
 
 -- ---- the spans of groups are accepted
-
-put_accepted : (bytes : List ℕ) (span : Span) (spans : List Span) → IsAccepted bytes span
-    → AllByRecursion (IsAccepted bytes) spans → AllByRecursion (IsAccepted bytes) (put_span span spans)
-put_accepted bytes span [] own h = (own, tt)
-put_accepted bytes span (next ∷ spans) own h =
-    by_cases {C = AllByRecursion (IsAccepted bytes) (put_span span (next ∷ spans))} (leb span.offset next.offset)
-    (λ t. rw t (own, h)) (λ f. rw f (h.0, put_accepted bytes span spans own h.1))
-
-begin_accepted : (bytes : List ℕ) (spans : List Span) → AllByRecursion (IsAccepted bytes) spans
-    → AllByRecursion (IsAccepted bytes) (by_begin spans)
-begin_accepted bytes [] h = tt
-begin_accepted bytes (span ∷ spans) h = put_accepted bytes span (by_begin spans) h.0 (begin_accepted bytes spans h.1)
 
 from_accepted : (bytes : List ℕ) (before : Span) (spans : List Span) → IsAccepted bytes before
     → AllByRecursion (IsAccepted bytes) spans → AllByRecursion (IsAccepted bytes) (stretches_from before spans)
@@ -122,7 +100,8 @@ groups_accepted bytes reads spans h e =
     subst (λ (ss : List Span). All (IsAccepted bytes) ss) (sym e)
     (each_at (IsAccepted bytes) (joined_stretches (by_begin (stretches_read reads)))
     (stretches_accepted bytes (by_begin (stretches_read reads))
-    (begin_accepted bytes (stretches_read reads) (read_accepted bytes reads h))))
+    (subst (λ (ss : List Span). AllByRecursion (IsAccepted bytes) ss) (by_begin_is (stretches_read reads))
+    (sorted_each (λ s. s.offset) (IsAccepted bytes) (stretches_read reads) (read_accepted bytes reads h)))))
 
 -- the data of a read lie in the source
 lent_accepted : (c : ℕ) (source : Source) (span : Span) → IsAccepted source.bytes span

@@ -1,12 +1,8 @@
-pub mod Bodies
 pub mod Collecting
 pub mod NoFailures
-pub mod Firsts
 pub mod Gathering
-pub mod Merging
 pub mod Nearing
 pub mod Owning
-pub mod Placing
 pub mod Refusing
 pub mod Sorting
 pub mod Swept

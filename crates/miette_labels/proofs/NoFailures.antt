@@ -3,11 +3,24 @@ use Rattle.std.proofs.Common.{ℕ, ◌≡◌, Bool, false, if◌then◌else◌, 
 use Rattle.std.proofs.lemmas.Bool.{and_right}
 use Rattle.miette_protocol.specs.views.Meaning.{Label}
 use Rattle.miette_protocol.specs.rules.Reading.{Source, Span}
-use Rattle.miette_labels.specs.rules.Answers.{NoneFails}
+use Rattle.miette_labels.specs.rules.Answers.{next_answer, NoneFails}
 use Rattle.miette_labels.specs.rules.Around.{has_own}
 use Rattle.miette_labels.specs.rules.Groups.{joins_before, joined_span, groups_from, groups_answered, own_groups}
 use Rattle.miette_labels.specs.rules.Groups.{groups_of, spans_of, some_fails, groups_fail}
-use Rattle.miette_labels.proofs.Bodies.{next_none, later_none, some_none}
+
+pub next_none : (fails : List Bool) → NoneFails fails → next_answer fails ≡ false
+next_none [] h = refl
+next_none (f ∷ fails) h = h.0
+
+pub later_none : (fails : List Bool) → NoneFails fails → NoneFails (drop 1 fails)
+later_none [] h = tt
+later_none (f ∷ fails) h = h.1
+
+pub some_none : (fails : List Bool) (groups : List Span) → NoneFails fails → some_fails fails groups ≡ false
+some_none fails [] h = refl
+some_none fails (group ∷ groups) h =
+    let next : next_answer fails ≡ false = next_none fails h in
+    rw next (some_none (drop 1 fails) groups (later_none fails h))
 
 pub none_unread : (context : ℕ) (source : Source) (fails : List Bool) (labels : List Label) → NoneFails fails
     → groups_fail context source fails labels ≡ false

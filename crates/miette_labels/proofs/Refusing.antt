@@ -3,7 +3,7 @@ use Rattle.std.proofs.Common.{ℕ, suc, ◌+◌, ◌<◌, ◌≡◌, max, Bool, 
 use Rattle.std.proofs.Common.{map, take, drop, get_or, Some, refl, sym, ap, ◌∙◌, subst, arith, All, append_assoc}
 use Rattle.std.proofs.Common.{take-append-drop}
 use Rattle.std.specs.Prelude.{codes, unwrap_or}
-use Rattle.std.proofs.lemmas.Bool.{leb-true, and_left, and_right}
+use Rattle.std.proofs.lemmas.Bool.{le-leb, leb-true, and_from, and_left, and_right}
 use Rattle.std.proofs.lemmas.List.{map-append, get_or-map, take_more, length-map}
 use Rattle.std.proofs.lemmas.List.Elements.{All-push}
 use Rattle.miette_protocol.specs.views.Meaning.{Label}
@@ -21,9 +21,12 @@ use Rattle.miette_labels.specs.views.GivenLabels.{label_at}
 use Rattle.miette_labels.specs.rules.Groups.{refusal, AreAccepted}
 use Rattle.miette_labels.specs.views.Reads.{IsRead, AreRead, name_of}
 use Rattle.miette_basics.proofs.Cases.{by_cases}
-use Rattle.miette_labels.proofs.Bodies.{accepted_is}
 use Rattle.miette_labels.proofs.Sorting.{label_got}
 use Rattle.miette_labels.specs.steps.Reads.{Reason}
+
+pub accepted_is : (source : List ℕ) (span : Span) → IsAccepted source span → is_accepted source span ≡ true
+accepted_is source span h = and_from _ _ (le-leb span.offset (length source) h.begins)
+    (le-leb (span.offset + span.len) (length source + 1) h.ends)
 
 -- the labels of reads, and of turns
 abbrev pub read_of : List Label → ReadLabel → Label

@@ -1,17 +1,19 @@
 -- A stable sort by a number gives the one list that rises and keeps ties as they were.
-use Rattle.std.proofs.Common.{ℕ, zero, suc, ◌+◌, ◌<◌, ◌≤◌, ◌≡◌, true, false, cond, ltb, leb, eqb, not, ◌&&◌, List, []}
-use Rattle.std.proofs.Common.{◌∷◌, ◌++◌, length, map, take, get_or, refl, sym, ap, ◌∙◌, arith, All, ⊎_elim, subst}
-use Rattle.std.specs.List.{AllByRecursion, filter}
+use Rattle.std.proofs.Common.{ℕ, zero, suc, ◌+◌, ◌<◌, ◌≤◌, ◌≡◌, Bool, true, false, cond, ltb, leb, eqb, not, ◌&&◌, ◌||◌}
+use Rattle.std.proofs.Common.{List}
+use Rattle.std.proofs.Common.{[], ◌∷◌, ◌++◌, length, map, take, get_or, refl, sym, ap, ◌∙◌, arith, All, ⊎_elim, subst}
+use Rattle.std.specs.List.{AllByRecursion, filter, list_all, list_any}
 use Rattle.std.specs.List.Sorted.{IsNonDecreasingBy, IsStableByKey}
 use Rattle.std.specs.Ordering.{nat_cmp, is_lt}
 use Rattle.std.proofs.lemmas.Bool.{leb-true, leb-false, eq-eqb, ne_eqb, eqb-true, cases_lt, ltb-true, ltb-false}
 use Rattle.std.proofs.lemmas.List.Elements.{filter_agree}
 use Rattle.miette_protocol.specs.views.Meaning.{Label}
+use Rattle.miette_protocol.specs.rules.Reading.{Span}
 use Rattle.std.proofs.lemmas.List.{map-append}
 use Rattle.std.proofs.lemmas.List.Elements.{All-push}
 use Rattle.miette_labels.specs.declared.order.Turn.{Turn}
 use Rattle.miette_labels.specs.views.GivenLabels.{label_at}
-use Rattle.miette_labels.specs.rules.Groups.{put_label, in_order}
+use Rattle.miette_labels.specs.rules.Groups.{put_label, in_order, spans_of, put_span, by_begin}
 use Rattle.miette_basics.proofs.Cases.{by_cases}
 
 abbrev pub put : {X : Type 0} → (X → ℕ) → X → List X → List X
@@ -124,21 +126,113 @@ sort_is n xs ys up stable =
     same_list n 0 0 ys (sorted n xs) (rises_from n 0 ys up (λ d lt. omega arith)) (sorted_rises n xs)
     (λ z. stable_at n xs ys stable z ∙ sym (sorted_at n (n z) xs))
 
--- the same order of labels
+-- ---- what doesn't depend on the order
+
+-- what holds of each
+put_each : {X : Type 0} (n : X → ℕ) (P : X → Type 0) (x : X) (ys : List X) → P x → AllByRecursion P ys
+    → AllByRecursion P (put n x ys)
+put_each n P x [] own h = (own, tt)
+put_each n P x (y ∷ ys) own h =
+    by_cases {C = AllByRecursion P (put n x (y ∷ ys))} (leb (n x) (n y)) (λ t. rw t (own, h))
+    (λ f. rw f (h.0, put_each n P x ys own h.1))
+
+pub sorted_each : {X : Type 0} (n : X → ℕ) (P : X → Type 0) (xs : List X) → AllByRecursion P xs
+    → AllByRecursion P (sorted n xs)
+sorted_each n P [] h = tt
+sorted_each n P (x ∷ xs) h = put_each n P x (sorted n xs) h.0 (sorted_each n P xs h.1)
+
+-- what some pass
+swap_or : (x y z : Bool) → (x || (y || z)) ≡ (y || (x || z))
+swap_or true true z = refl
+swap_or true false z = refl
+swap_or false y z = refl
+
+put_any : {X : Type 0} (n : X → ℕ) (p : X → Bool) (x : X) (ys : List X) → list_any p (put n x ys)
+    ≡ (p x || list_any p ys)
+put_any n p x [] = refl
+put_any n p x (y ∷ ys) =
+    by_cases {C = list_any p (put n x (y ∷ ys)) ≡ (p x || list_any p (y ∷ ys))} (leb (n x) (n y)) (λ t. rw t refl)
+    (λ f. rw f (ap (λ b. p y || b) (put_any n p x ys) ∙ swap_or (p y) (p x) (list_any p ys)))
+
+pub sorted_any : {X : Type 0} (n : X → ℕ) (p : X → Bool) (xs : List X) → list_any p (sorted n xs) ≡ list_any p xs
+sorted_any n p [] = refl
+sorted_any n p (x ∷ xs) = put_any n p x (sorted n xs) ∙ ap (λ b. p x || b) (sorted_any n p xs)
+
+-- what all pass
+swap_and : (x y z : Bool) → (x && (y && z)) ≡ (y && (x && z))
+swap_and true y z = refl
+swap_and false true z = refl
+swap_and false false z = refl
+
+put_all : {X : Type 0} (n : X → ℕ) (p : X → Bool) (x : X) (ys : List X) → list_all p (put n x ys)
+    ≡ (p x && list_all p ys)
+put_all n p x [] = refl
+put_all n p x (y ∷ ys) =
+    by_cases {C = list_all p (put n x (y ∷ ys)) ≡ (p x && list_all p (y ∷ ys))} (leb (n x) (n y)) (λ t. rw t refl)
+    (λ f. rw f (ap (λ b. p y && b) (put_all n p x ys) ∙ swap_and (p y) (p x) (list_all p ys)))
+
+pub sorted_all : {X : Type 0} (n : X → ℕ) (p : X → Bool) (xs : List X) → list_all p (sorted n xs) ≡ list_all p xs
+sorted_all n p [] = refl
+sorted_all n p (x ∷ xs) = put_all n p x (sorted n xs) ∙ ap (λ b. p x && b) (sorted_all n p xs)
+
+-- how many there are
+put_length : {X : Type 0} (n : X → ℕ) (x : X) (ys : List X) → length (put n x ys) ≡ suc (length ys)
+put_length n x [] = refl
+put_length n x (y ∷ ys) =
+    by_cases {C = length (put n x (y ∷ ys)) ≡ suc (suc (length ys))} (leb (n x) (n y)) (λ t. rw t refl)
+    (λ f. rw f (ap suc (put_length n x ys)))
+
+pub sorted_length : {X : Type 0} (n : X → ℕ) (xs : List X) → length (sorted n xs) ≡ length xs
+sorted_length n [] = refl
+sorted_length n (x ∷ xs) = put_length n x (sorted n xs) ∙ ap suc (sorted_length n xs)
+
+pub rises_lower : {X : Type 0} (n : X → ℕ) (low from : ℕ) (xs : List X) → low ≤ from → Rises n from xs
+    → Rises n low xs
+rises_lower n low from [] le h = tt
+rises_lower n low from (x ∷ xs) le h = (omega (arith, le, h.0), h.1)
+
+-- ---- labels by offset, and stretches by where they begin
+
+put_label_is : (label : Label) (labels : List Label) → put (λ l. l.span.offset) label labels ≡ put_label label labels
+put_label_is label [] = refl
+put_label_is label (next ∷ labels) =
+    by_cases {C = put (λ l. l.span.offset) label (next ∷ labels) ≡ put_label label (next ∷ labels)}
+    (leb label.span.offset next.span.offset) (λ t. rw t refl)
+    (λ f. rw f (ap (λ r. next ∷ r) (put_label_is label labels)))
+
+pub in_order_is : (labels : List Label) → sorted (λ l. l.span.offset) labels ≡ in_order labels
+in_order_is [] = refl
+in_order_is (label ∷ labels) = put_label_is label (sorted (λ l. l.span.offset) labels)
+    ∙ ap (put_label label) (in_order_is labels)
+
+put_span_is : (span : Span) (spans : List Span) → put (λ s. s.offset) span spans ≡ put_span span spans
+put_span_is span [] = refl
+put_span_is span (next ∷ spans) =
+    by_cases {C = put (λ s. s.offset) span (next ∷ spans) ≡ put_span span (next ∷ spans)}
+    (leb span.offset next.offset) (λ t. rw t refl) (λ f. rw f (ap (λ r. next ∷ r) (put_span_is span spans)))
+
+pub by_begin_is : (spans : List Span) → sorted (λ s. s.offset) spans ≡ by_begin spans
+by_begin_is [] = refl
+by_begin_is (span ∷ spans) = put_span_is span (sorted (λ s. s.offset) spans) ∙ ap (put_span span) (by_begin_is spans)
+
+-- the offsets of spans rise
+abbrev pub IsAscending : ℕ → List Span → Type 0
+IsAscending from spans = Rises (λ s. s.offset) from spans
+
+spans_rise : (from : ℕ) (labels : List Label) → Rises (λ l. l.span.offset) from labels
+    → IsAscending from (spans_of labels)
+spans_rise from [] h = tt
+spans_rise from (label ∷ labels) h = (h.0, spans_rise label.span.offset labels h.1)
+
+pub ordered_ascends : (labels : List Label) → IsAscending 0 (spans_of (in_order labels))
+ordered_ascends labels =
+    spans_rise 0 (in_order labels) (subst (λ (ls : List Label). Rises (λ l. l.span.offset) 0 ls) (in_order_is labels)
+    (sorted_rises (λ l. l.span.offset) labels))
+
+-- ---- the same order of labels
 
 abbrev KeyIs : {X : Type 0} → (X → ℕ) → (X → Label) → List X → Type 0
 KeyIs n f xs = AllByRecursion (λ x. n x ≡ (f x).span.offset) xs
-
-put_key : {X : Type 0} (n : X → ℕ) (f : X → Label) (x : X) (ys : List X) → n x ≡ (f x).span.offset → KeyIs n f ys
-    → KeyIs n f (put n x ys)
-put_key n f x [] e h = (e, tt)
-put_key n f x (y ∷ ys) e h =
-    by_cases {C = KeyIs n f (put n x (y ∷ ys))} (leb (n x) (n y)) (λ t. rw t (e, h))
-    (λ g. rw g (h.0, put_key n f x ys e h.1))
-
-sorted_key : {X : Type 0} (n : X → ℕ) (f : X → Label) (xs : List X) → KeyIs n f xs → KeyIs n f (sorted n xs)
-sorted_key n f [] h = tt
-sorted_key n f (x ∷ xs) h = put_key n f x (sorted n xs) h.0 (sorted_key n f xs h.1)
 
 put_mapped : {X : Type 0} (n : X → ℕ) (f : X → Label) (x : X) (ys : List X) → n x ≡ (f x).span.offset → KeyIs n f ys
     → map f (put n x ys) ≡ put_label (f x) (map f ys)
@@ -153,7 +247,7 @@ put_mapped n f x (y ∷ ys) e h =
 pub sorted_mapped : {X : Type 0} (n : X → ℕ) (f : X → Label) (xs : List X) → KeyIs n f xs → map f (sorted n xs)
     ≡ in_order (map f xs)
 sorted_mapped n f [] h = refl
-sorted_mapped n f (x ∷ xs) h = put_mapped n f x (sorted n xs) h.0 (sorted_key n f xs h.1)
+sorted_mapped n f (x ∷ xs) h = put_mapped n f x (sorted n xs) h.0 (sorted_each n (λ x. n x ≡ (f x).span.offset) xs h.1)
     ∙ ap (put_label (f x)) (sorted_mapped n f xs h.1)
 
 -- one more label of a list, as `label_at` gives it

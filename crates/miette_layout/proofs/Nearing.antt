@@ -6,7 +6,7 @@ use Rattle.miette_protocol.specs.rules.Reading.{Span, Source}
 use Rattle.miette_labels.specs.declared.reading.ReadLabel.{ReadLabel}
 use Rattle.miette_labels.specs.rules.Groups.{in_order, spans_of}
 use Rattle.miette_labels.specs.views.Reads.{IsRead}
-use Rattle.miette_labels.proofs.Merging.{IsAscending, ordered_ascends}
+use Rattle.miette_labels.proofs.Sorting.{IsAscending, ordered_ascends}
 use Rattle.miette_labels.proofs.Refusing.{read_of}
 use Rattle.miette_labels.proofs.Nearing.{rise}
 

@@ -42,7 +42,7 @@ use Rattle.miette_labels.specs.views.Primary.{chosen_label, PointsTo, is_unread}
 use Rattle.miette_labels.specs.views.Reads.{IsRead, IsLent, AreGroups, AreGrouped, IsUnread, AreRead, name_of}
 use Rattle.miette_page.specs.views.Tokens.{rows_tokens}
 use Rattle.miette_snippet_rules.proofs.Bodies.{none_refused}
-use Rattle.miette_labels.proofs.Bodies.{some_none}
+use Rattle.miette_labels.proofs.NoFailures.{some_none}
 use Rattle.miette_layout.proofs.Choosing.{framed_place, place_is, unread_fails}
 use Rattle.miette_snippet_rules.proofs.Ends.{placed_drawn}
 use Rattle.miette_snippet_rules.proofs.Endings.{told_is, drawn_around}

@@ -1,6 +1,6 @@
 -- Labels with their own numbers of context lines: each belongs to the one group that holds the data of its read.
 use Rattle.std.proofs.Common.{ℕ, suc, ◌<◌, ◌≤◌, ◌≡◌, Bool, true, false, leb}
-use Rattle.std.proofs.Common.{List, [], ◌∷◌, ◌&&◌, ◌||◌, length, map, refl, sym, ap, ◌∙◌, arith}
+use Rattle.std.proofs.Common.{List, [], ◌∷◌, ◌&&◌, ◌||◌, length, map, refl, sym, ap, ◌∙◌, subst, arith}
 use Rattle.std.proofs.lemmas.Bool.{le-leb, lt-leb, leb-true, leb-false, and_parts, and_from, and_right, or_right}
 use Rattle.std.specs.List.{filter, list_any, AllByRecursion}
 use Rattle.miette_protocol.specs.views.Meaning.{Label}
@@ -8,10 +8,10 @@ use Rattle.miette_protocol.specs.rules.Reading.{Span, Source, IsAccepted}
 use Rattle.miette_labels.specs.rules.Around.{lines_around}
 use Rattle.miette_snippet_laws.specs.laws.Belonging.{holds, HasOneGroup}
 use Rattle.miette_labels.specs.rules.Contexts.{contents, end_of_span}
-use Rattle.miette_labels.specs.rules.Groups.{AreAccepted, joined_span, stretch, put_span, by_begin, stretches_from}
+use Rattle.miette_labels.specs.rules.Groups.{AreAccepted, joined_span, stretch, by_begin, stretches_from}
 use Rattle.miette_labels.specs.rules.Groups.{joined_stretches}
 use Rattle.miette_basics.proofs.Cases.{by_cases}
-use Rattle.miette_labels.proofs.Merging.{swap_or}
+use Rattle.miette_labels.proofs.Sorting.{IsAscending, by_begin_is, rises_lower, sorted_any, sorted_rises}
 use Rattle.miette_protocol.proofs.Wholes.{start_before_span}
 use Rattle.miette_snippet_rules.proofs.Ends.{cut_is}
 
@@ -19,17 +19,9 @@ use Rattle.miette_snippet_rules.proofs.Ends.{cut_is}
 abbrev at_place : ℕ → Span → Bool
 at_place o group = leb group.offset o && leb o (end_of_span group)
 
--- each begins where the one before it does, or later
-abbrev Ascend : ℕ → List Span → Type 0
-Ascend from [] = Unit {0}
-Ascend from (span ∷ spans) = (from ≤ span.offset) × Ascend span.offset spans
-
-lower : (i k : ℕ) (spans : List Span) → i ≤ k → Ascend k spans → Ascend i spans
-lower i k [] le h = tt
-lower i k (span ∷ spans) le h = (omega (arith, h.0), h.1)
-
 -- data in one of the spans don't begin before all of them
-held_from : (from : ℕ) (lent : Span) (spans : List Span) → Ascend from spans → list_any (λ m. holds m lent) spans ≡ true
+held_from : (from : ℕ) (lent : Span) (spans : List Span) → IsAscending from spans → list_any (λ m. holds m lent) spans
+    ≡ true
     → from ≤ lent.offset
 held_from from lent [] h any = cc
 held_from from lent (span ∷ spans) h any =
@@ -48,22 +40,24 @@ held_from from lent (span ∷ spans) h any =
     ))
 
 -- groups that all begin behind a place, or behind the beginning of data
-none_at : (o : ℕ) (before : Span) (spans : List Span) → o < before.offset → Ascend before.offset spans
+none_at : (o : ℕ) (before : Span) (spans : List Span) → o < before.offset → IsAscending before.offset spans
     → filter (at_place o) (stretches_from before spans) ≡ []
 none_at o before [] lt h = rw (lt-leb before.offset o lt) refl
 none_at o before (span ∷ spans) lt h =
     by_cases {C = filter (at_place o) (stretches_from before (span ∷ spans)) ≡ []}
     (leb span.offset (end_of_span before))
-    (λ t. rw t (none_at o (joined_span before span) spans lt (lower before.offset span.offset spans h.0 h.1)))
+    (λ t. rw t (none_at o (joined_span before span) spans lt
+    (rises_lower (λ s. s.offset) before.offset span.offset spans h.0 h.1)))
     (λ f. rw (f, lt-leb before.offset o lt) (none_at o span spans (omega (arith, h.0)) h.1))
 
-none_held : (lent before : Span) (spans : List Span) → lent.offset < before.offset → Ascend before.offset spans
+none_held : (lent before : Span) (spans : List Span) → lent.offset < before.offset → IsAscending before.offset spans
     → filter (λ g. holds g lent) (stretches_from before spans) ≡ []
 none_held lent before [] lt h = rw (lt-leb before.offset lent.offset lt) refl
 none_held lent before (span ∷ spans) lt h =
     by_cases {C = filter (λ g. holds g lent) (stretches_from before (span ∷ spans)) ≡ []}
     (leb span.offset (end_of_span before))
-    (λ t. rw t (none_held lent (joined_span before span) spans lt (lower before.offset span.offset spans h.0 h.1)))
+    (λ t. rw t (none_held lent (joined_span before span) spans lt
+    (rises_lower (λ s. s.offset) before.offset span.offset spans h.0 h.1)))
     (λ f. rw (f, lt-leb before.offset lent.offset lt) (none_held lent span spans (omega (arith, h.0)) h.1))
 
 -- what is in a span is in one joined to it
@@ -117,7 +111,7 @@ alone true e = refl
 alone false e = e
 
 same_from : (o : ℕ) (lent before : Span) (spans : List Span) → lent.offset ≤ o → o ≤ end_of_span lent
-    → Ascend before.offset spans → list_any (λ m. holds m lent) (before ∷ spans) ≡ true →
+    → IsAscending before.offset spans → list_any (λ m. holds m lent) (before ∷ spans) ≡ true →
     Same o lent (stretches_from before spans)
 same_from o lent before [] low high h any =
     let t : holds before lent ≡ true = alone (holds before lent) any in
@@ -125,7 +119,7 @@ same_from o lent before [] low high h any =
 same_from o lent before (span ∷ spans) low high h any =
     by_cases {C = Same o lent (stretches_from before (span ∷ spans))} (leb span.offset (end_of_span before))
     (λ t. rw t (same_from o lent (joined_span before span) spans low high
-    (lower before.offset span.offset spans h.0 h.1)
+    (rises_lower (λ s. s.offset) before.offset span.offset spans h.0 h.1)
     (still_any (holds before lent) (holds span lent) (list_any (λ m. holds m lent) spans)
     (holds (joined_span before span) lent) any (held_joined before span lent h.0))))
     (λ f. let gap : end_of_span before < span.offset = leb-false span.offset (end_of_span before) f in
@@ -144,32 +138,14 @@ same_from o lent before (span ∷ spans) low high h any =
 
 -- ---- in order
 
-put_ascends : (from : ℕ) (span : Span) (spans : List Span) → from ≤ span.offset → Ascend from spans
-    → Ascend from (put_span span spans)
-put_ascends from span [] le h = (le, tt)
-put_ascends from span (next ∷ spans) le h =
-    by_cases {C = Ascend from (put_span span (next ∷ spans))} (leb span.offset next.offset)
-    (λ t. rw t (le, (leb-true span.offset next.offset t, h.1)))
-    (λ f. rw f (h.0, put_ascends next.offset span spans (omega (arith, leb-false span.offset next.offset f)) h.1))
-
-begin_ascends : (spans : List Span) → Ascend 0 (by_begin spans)
-begin_ascends [] = tt
-begin_ascends (span ∷ spans) = put_ascends 0 span (by_begin spans) (omega arith) (begin_ascends spans)
-
-put_any : (p : Span → Bool) (span : Span) (spans : List Span) → list_any p (put_span span spans)
-    ≡ (p span || list_any p spans)
-put_any p span [] = refl
-put_any p span (next ∷ spans) =
-    by_cases {C = list_any p (put_span span (next ∷ spans)) ≡ (p span || list_any p (next ∷ spans))}
-    (leb span.offset next.offset)
-    (λ t. rw t refl) (λ f. rw f (ap (λ b. p next || b) (put_any p span spans)
-    ∙ swap_or (p next) (p span) (list_any p spans)))
+begin_ascends : (spans : List Span) → IsAscending 0 (by_begin spans)
+begin_ascends spans = subst (λ (ss : List Span). IsAscending 0 ss) (by_begin_is spans)
+    (sorted_rises (λ s. s.offset) spans)
 
 begin_any : (p : Span → Bool) (spans : List Span) → list_any p (by_begin spans) ≡ list_any p spans
-begin_any p [] = refl
-begin_any p (span ∷ spans) = put_any p span (by_begin spans) ∙ ap (λ b. p span || b) (begin_any p spans)
+begin_any p spans = ap (list_any p) (sym (by_begin_is spans)) ∙ sorted_any (λ s. s.offset) p spans
 
-same_joined : (o : ℕ) (lent : Span) (spans : List Span) → lent.offset ≤ o → o ≤ end_of_span lent → Ascend 0 spans
+same_joined : (o : ℕ) (lent : Span) (spans : List Span) → lent.offset ≤ o → o ≤ end_of_span lent → IsAscending 0 spans
     → list_any (λ m. holds m lent) spans ≡ true → Same o lent (joined_stretches spans)
 same_joined o lent [] low high h any = cc
 same_joined o lent (span ∷ spans) low high h any = same_from o lent span spans low high h.1 any

@@ -1,6 +1,6 @@
 -- Labels with their own numbers of context lines: their groups show the maximal runs of the shown lines.
-use Rattle.std.proofs.Common.{ℕ, Bool, suc, ◌+◌, ◌-◌, ◌<◌, ◌≤◌, ◌≡◌, min, false, leb, List, [], ◌∷◌, ◌||◌, length}
-use Rattle.std.proofs.Common.{map, refl, ap, ap₂, ◌∙◌, arith, drop}
+use Rattle.std.proofs.Common.{ℕ, Bool, ◌+◌, ◌-◌, ◌<◌, ◌≤◌, ◌≡◌, min, false, List, [], ◌∷◌, ◌||◌, length}
+use Rattle.std.proofs.Common.{map, refl, ap, ap₂, ◌∙◌, subst, arith, drop}
 use Rattle.std.proofs.lemmas.List.Elements.{filter_agree}
 use Rattle.std.specs.List.{range_with_len, list_any, AllByRecursion}
 use Rattle.miette_source_lines.specs.rules.Lines.{Line, lines_of}
@@ -21,7 +21,7 @@ use Rattle.miette_snippet_rules.specs.rules.SnippetLayout.{rows_of_lines, left_o
 use Rattle.miette_snippet_rules.specs.rules.Numbers.{ranges}
 use Rattle.miette_snippet_rules.specs.rules.ShownLines.{range_rows, rows_of_ranges, bodies}
 use Rattle.miette_snippet_rules.specs.rules.Snippets as N
-use Rattle.miette_basics.proofs.Cases.{by_cases}
+use Rattle.miette_labels.proofs.Sorting.{by_begin_is, sorted_each, sorted_length}
 use Rattle.miette_source_lines.proofs.Places.{line_start_within}
 use Rattle.miette_source_lines.proofs.Parts.{part_length}
 use Rattle.miette_protocol.proofs.Wholes.{end_is, end_within, first-le-last, start_is}
@@ -33,18 +33,6 @@ use Rattle.miette_snippet_laws.proofs.Spreading.{blocks_by_begin, joined_blocks,
 use Rattle.miette_snippet_laws.proofs.Spreading.{blocks_are_runs, numbers_of, in_blocks, is_in_block}
 use Rattle.miette_snippet_rules.specs.rules.SnippetLayout.{snippet_context, cells_of}
 use Rattle.miette_snippet_rules.specs.rules.Settings.{SnippetSettings}
-
-put_each : (P : Label → Type 0) (label : Label) (labels : List Label) → P label → AllByRecursion P labels
-    → AllByRecursion P (put_label label labels)
-put_each P label [] own h = (own, tt)
-put_each P label (next ∷ labels) own h =
-    by_cases {C = AllByRecursion P (put_label label (next ∷ labels))} (leb label.span.offset next.span.offset)
-    (λ t. rw t (own, h)) (λ f. rw f (h.0, put_each P label labels own h.1))
-
-pub order_each : (P : Label → Type 0) (labels : List Label) → AllByRecursion P labels
-    → AllByRecursion P (in_order labels)
-order_each P [] h = tt
-order_each P (label ∷ labels) h = put_each P label (in_order labels) h.0 (order_each P labels h.1)
 
 -- ---- a label's stretch
 
@@ -186,15 +174,9 @@ stretches_none context source all [] h none = tt
 stretches_none context source all (label ∷ labels) h none =
     (stretch_none context source all label h.0 none, stretches_none context source all labels h.1 none)
 
-put_nowhere : (span : Span) (spans : List Span) → span ≡ nowhere → AreNowhere spans → AreNowhere (put_span span spans)
-put_nowhere span [] e h = (e, tt)
-put_nowhere span (next ∷ spans) e h =
-    by_cases {C = AreNowhere (put_span span (next ∷ spans))} (leb span.offset next.offset) (λ t. rw t (e, h))
-    (λ f. rw f (h.0, put_nowhere span spans e h.1))
-
 order_nowhere : (spans : List Span) → AreNowhere spans → AreNowhere (by_begin spans)
-order_nowhere [] h = tt
-order_nowhere (span ∷ spans) h = put_nowhere span (by_begin spans) h.0 (order_nowhere spans h.1)
+order_nowhere spans h = subst (λ (ss : List Span). AreNowhere ss) (by_begin_is spans)
+    (sorted_each (λ s. s.offset) (λ s. s ≡ nowhere) spans h)
 
 from_nowhere : (before : Span) (spans : List Span) → before ≡ nowhere → AreNowhere spans → stretches_from before spans
     ≡ nowhere ∷ []
@@ -206,12 +188,6 @@ one_nowhere : (spans : List Span) → 0 < length spans → AreNowhere spans → 
 one_nowhere [] some h = absurd (omega (arith, some))
 one_nowhere (span ∷ spans) some h = from_nowhere span spans h.0 h.1
 
-put_length : (span : Span) (spans : List Span) → length (put_span span spans) ≡ suc (length spans)
-put_length span [] = refl
-put_length span (next ∷ spans) =
-    by_cases {C = length (put_span span (next ∷ spans)) ≡ suc (suc (length spans))} (leb span.offset next.offset)
-    (λ t. rw t refl) (λ f. rw f (ap suc (put_length span spans)))
-
 pub groups_nowhere : (context : ℕ) (source : Source) (labels : List Label) → 0 < length labels
     → Around context labels labels → length source.bytes ≡ 0 →
     own_groups context source labels ≡ nowhere ∷ []
@@ -219,7 +195,11 @@ groups_nowhere context source [] some h none = absurd (omega (arith, some))
 groups_nowhere context source (label ∷ labels) some h none =
     let ss : List Span = map (stretch context source (label ∷ labels)) labels in
     let first : Span = stretch context source (label ∷ labels) label in
-    one_nowhere (by_begin (first ∷ ss)) (omega (arith, put_length first (by_begin ss)))
+    one_nowhere (by_begin (first ∷ ss)) (omega (
+      arith,
+      ap length (by_begin_is (first ∷ ss)),
+      sorted_length (λ s. s.offset) (first ∷ ss),
+    ))
     (order_nowhere (first ∷ ss) (stretches_none context source (label ∷ labels) (label ∷ labels) h none))
 
 pub lines_nowhere : (source : Source) → length source.bytes ≡ 0 → G.lines_of_groups 0 source (nowhere ∷ []) ≡ [] ∷ []

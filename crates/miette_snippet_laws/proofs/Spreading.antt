@@ -15,7 +15,7 @@ use Rattle.miette_basics.proofs.Cases.{by_cases}
 use Rattle.miette_source_lines.proofs.Places.{line_end_mono, line_start_mono, line_start_next}
 use Rattle.miette_source_lines.proofs.Cuts.{start_strict}
 use Rattle.miette_snippet_rules.proofs.Merging.{within, or_assoc, span_run}
-use Rattle.miette_labels.proofs.Merging.{swap_or}
+use Rattle.miette_labels.proofs.Sorting.{Rises, put, rises_lower, sorted, sorted_any, sorted_each, sorted_rises}
 
 -- the numbers of the first and the last of some lines; the last need not be there
 pub record Block : Type 0 where
@@ -72,33 +72,22 @@ touches_same bytes a b ha hb =
 
 -- ---- their order
 
-abbrev pub put_block : Block → List Block → List Block
-put_block b [] = b ∷ []
-put_block b (next ∷ bs) = if leb b.low next.low then b ∷ next ∷ bs else next ∷ put_block b bs
-
+-- blocks by where they begin
 abbrev pub blocks_by_begin : List Block → List Block
-blocks_by_begin [] = []
-blocks_by_begin (b ∷ bs) = put_block b (blocks_by_begin bs)
-
-put_there : (all : ℕ) (b : Block) (bs : List Block) → IsBlock all b → AreBlocks all bs → AreBlocks all (put_block b bs)
-put_there all b [] own h = (own, tt)
-put_there all b (next ∷ bs) own h =
-    by_cases {C = AreBlocks all (put_block b (next ∷ bs))} (leb b.low next.low) (λ t. rw t (own, h))
-    (λ f. rw f (h.0, put_there all b bs own h.1))
+blocks_by_begin bs = sorted (λ b. b.low) bs
 
 pub ordered_there : (all : ℕ) (bs : List Block) → AreBlocks all bs → AreBlocks all (blocks_by_begin bs)
-ordered_there all [] h = tt
-ordered_there all (b ∷ bs) h = put_there all b (blocks_by_begin bs) h.0 (ordered_there all bs h.1)
+ordered_there all bs h = sorted_each (λ b. b.low) (IsBlock all) bs h
 
 put_same : (bytes : List ℕ) (b : Block) (bs : List Block) → IsBlock (length (lines_of bytes)) b
     → AreBlocks (length (lines_of bytes)) bs →
-    put_span (span_of bytes b) (map (span_of bytes) bs) ≡ map (span_of bytes) (put_block b bs)
+    put_span (span_of bytes b) (map (span_of bytes) bs) ≡ map (span_of bytes) (put (λ b. b.low) b bs)
 put_same bytes b [] own h = refl
 put_same bytes b (next ∷ bs) own h =
     let same : leb (line_start bytes b.low) (line_start bytes next.low) ≡ leb b.low next.low =
     starts_same bytes b.low next.low own.there h.0.there in
     by_cases {C = put_span (span_of bytes b) (map (span_of bytes) (next ∷ bs))
-    ≡ map (span_of bytes) (put_block b (next ∷ bs))} (leb b.low next.low)
+    ≡ map (span_of bytes) (put (λ b. b.low) b (next ∷ bs))} (leb b.low next.low)
     (λ t. rw (same, t) refl) (λ f. rw (same, f) (ap (λ r. span_of bytes next ∷ r) (put_same bytes b bs own h.1)))
 
 pub order_same : (bytes : List ℕ) (bs : List Block) → AreBlocks (length (lines_of bytes)) bs
@@ -110,34 +99,7 @@ order_same bytes (b ∷ bs) h =
 
 -- each begins where the one before it does, or later
 abbrev pub AreAscending : ℕ → List Block → Type 0
-AreAscending from [] = Unit {0}
-AreAscending from (b ∷ bs) = (from ≤ b.low) × AreAscending b.low bs
-
-lower : (i k : ℕ) (bs : List Block) → i ≤ k → AreAscending k bs → AreAscending i bs
-lower i k [] le h = tt
-lower i k (b ∷ bs) le h = (omega (arith, h.0), h.1)
-
-put_ascends : (from : ℕ) (b : Block) (bs : List Block) → from ≤ b.low → AreAscending from bs
-    → AreAscending from (put_block b bs)
-put_ascends from b [] le h = (le, tt)
-put_ascends from b (next ∷ bs) le h =
-    by_cases {C = AreAscending from (put_block b (next ∷ bs))} (leb b.low next.low)
-    (λ t. rw t (le, (leb-true b.low next.low t, h.1)))
-    (λ f. rw f (h.0, put_ascends next.low b bs (omega (arith, leb-false b.low next.low f)) h.1))
-
-pub ordered_ascends : (bs : List Block) → AreAscending 0 (blocks_by_begin bs)
-ordered_ascends [] = tt
-ordered_ascends (b ∷ bs) = put_ascends 0 b (blocks_by_begin bs) (omega arith) (ordered_ascends bs)
-
-put_any : (p : Block → Bool) (b : Block) (bs : List Block) → list_any p (put_block b bs) ≡ (p b || list_any p bs)
-put_any p b [] = refl
-put_any p b (next ∷ bs) =
-    by_cases {C = list_any p (put_block b (next ∷ bs)) ≡ (p b || list_any p (next ∷ bs))} (leb b.low next.low)
-    (λ t. rw t refl) (λ f. rw f (ap (λ x. p next || x) (put_any p b bs) ∙ swap_or (p next) (p b) (list_any p bs)))
-
-pub ordered_any : (p : Block → Bool) (bs : List Block) → list_any p (blocks_by_begin bs) ≡ list_any p bs
-ordered_any p [] = refl
-ordered_any p (b ∷ bs) = put_any p b (blocks_by_begin bs) ∙ ap (λ x. p b || x) (ordered_any p bs)
+AreAscending from bs = Rises (λ b. b.low) from bs
 
 -- ---- joined
 
@@ -232,7 +194,7 @@ merged all before (b ∷ bs) own h up =
     by_cases {C = map (numbers_of all) (blocks_from before (b ∷ bs))
     ≡ ranges (filter (in_blocks (before ∷ b ∷ bs)) (range_with_len 0 all))} (leb b.low (before.high + 1))
     (λ t. rw t (merged all (joined_block before b) bs (join_there all before b own) h.1
-    (lower before.low b.low bs up.0 up.1)
+    (rises_lower (λ b. b.low) before.low b.low bs up.0 up.1)
     ∙ ap ranges (filter_agree _ _ (λ k. sym (or_assoc (is_in_block k before) (is_in_block k b) (in_blocks bs k)
     ∙ ap (λ x. x || in_blocks bs k) (within before.low before.high b.low b.high k up.0
     (leb-true b.low (before.high + 1) t)))) (range_with_len 0 all))))
@@ -250,5 +212,5 @@ joined_runs all (b ∷ bs) h up = merged all b bs h.0 h.1 up.1
 pub blocks_are_runs : (all : ℕ) (bs : List Block) → AreBlocks all bs
     → map (numbers_of all) (joined_blocks (blocks_by_begin bs)) ≡ ranges (filter (in_blocks bs) (range_with_len 0 all))
 blocks_are_runs all bs h =
-    joined_runs all (blocks_by_begin bs) (ordered_there all bs h) (ordered_ascends bs)
-    ∙ ap ranges (filter_agree _ _ (λ k. ordered_any (is_in_block k) bs) (range_with_len 0 all))
+    joined_runs all (blocks_by_begin bs) (ordered_there all bs h) (sorted_rises (λ b. b.low) bs)
+    ∙ ap ranges (filter_agree _ _ (λ k. sorted_any (λ b. b.low) (is_in_block k) bs) (range_with_len 0 all))

@@ -1,5 +1,5 @@
 -- Snippets draw the maximal runs of shown lines.
-use Rattle.std.proofs.Common.{ℕ, zero, suc, ◌+◌, ◌<◌, ◌≤◌, ◌≡◌, Bool, true, false, leb, List, [], ◌∷◌, ◌++◌, not}
+use Rattle.std.proofs.Common.{ℕ, zero, suc, ◌+◌, ◌<◌, ◌≤◌, ◌≡◌, Bool, true, false, List, [], ◌∷◌, ◌++◌, not}
 use Rattle.std.proofs.Common.{length, map, drop, None, refl, sym, ap, subst, ◌∙◌, arith}
 use Rattle.std.specs.Prelude.{decimal}
 use Rattle.std.proofs.lemmas.List.FromFn.{length-map-range_with_len}
@@ -11,7 +11,7 @@ use Rattle.miette_protocol.specs.rules.Context.{first_line}
 use Rattle.miette_labels.specs.rules.Answers.{Highlight, next_answer, first_of, NoneFails}
 use Rattle.miette_labels.specs.rules.Around.{has_own}
 use Rattle.miette_labels.specs.rules.Contexts.{contents, lines_in, lines_of_contents}
-use Rattle.miette_labels.specs.rules.Groups.{groups_answered, in_order, spans_of, put_label, refusal, AreAccepted}
+use Rattle.miette_labels.specs.rules.Groups.{groups_answered, in_order, spans_of, refusal, AreAccepted}
 use Rattle.miette_labels.specs.rules.Groups.{lines_of_groups}
 use Rattle.miette_labels.specs.rules.Labels.{DrawnLabel}
 use Rattle.miette_snippet_rules.specs.rules.Folds.{Spread}
@@ -23,8 +23,9 @@ use Rattle.miette_snippet_rules.specs.rules.ShownLines.{bodies, framed_rows}
 use Rattle.miette_snippet_rules.specs.rules.SnippetLayout.{rows_of_lines, left_out, line_or_break, body_rows, cells_of}
 use Rattle.miette_snippet_rules.specs.rules.SnippetLayout.{snippet, all_snippets, drawn_labels}
 use Rattle.miette_snippet_rules.specs.rules.Snippets.{snippets}
-use Rattle.miette_basics.proofs.Cases.{by_cases}
-use Rattle.miette_labels.proofs.Bodies.{accepted_is, later_none, next_none}
+use Rattle.miette_labels.proofs.NoFailures.{later_none, next_none}
+use Rattle.miette_labels.proofs.Owning.{order_each}
+use Rattle.miette_labels.proofs.Refusing.{accepted_is}
 use Rattle.miette_snippet_rules.proofs.Merging.{groups_are_runs}
 use Rattle.miette_snippet_rules.proofs.ReadLines.{many_of, read_lines, read_numbers}
 use Rattle.miette_snippet_rules.specs.rules.SnippetLayout.{snippet_context}
@@ -145,18 +146,9 @@ all_framed s spreads source labels pieces (group ∷ groups) =
     ap (λ r. snippet s spreads source labels group (first_of pieces) ++ r)
     (all_framed s spreads source labels (drop 1 pieces) groups)
 
-put_accepted : (source : List ℕ) (label : Label) (labels : List Label) → IsAccepted source label.span
-    → AreAccepted source labels → AreAccepted source (put_label label labels)
-put_accepted source label [] own h = (own, tt)
-put_accepted source label (next ∷ labels) own h =
-    by_cases {C = AreAccepted source (put_label label (next ∷ labels))} (leb label.span.offset next.span.offset)
-    (λ t. rw t (own, h)) (λ f. rw f (h.0, put_accepted source label labels own h.1))
-
 pub ordered_accepted : (source : List ℕ) (labels : List Label) → AreAccepted source labels
     → AreAccepted source (in_order labels)
-ordered_accepted source [] h = tt
-ordered_accepted source (label ∷ labels) h = put_accepted source label (in_order labels) h.0
-    (ordered_accepted source labels h.1)
+ordered_accepted source labels h = order_each (λ label. IsAccepted source label.span) labels h
 
 pub none_refused : (source : List ℕ) (fails : List Bool) (labels : List Label) → NoneFails fails
     → AreAccepted source labels → refusal source fails labels ≡ None

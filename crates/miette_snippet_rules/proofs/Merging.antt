@@ -24,15 +24,11 @@ use Rattle.miette_basics.proofs.Cases.{by_cases}
 use Rattle.miette_source_lines.proofs.Cuts.{few_lines}
 use Rattle.miette_source_lines.proofs.Places.{line_of_all, line_of_mono}
 use Rattle.miette_protocol.proofs.Wholes.{count, first-le-last, first_mono, last_mono}
-use Rattle.miette_labels.proofs.Bodies.{later_none, next_none}
-use Rattle.miette_labels.proofs.Merging.{IsAscending, ordered_ascends}
+use Rattle.miette_labels.proofs.NoFailures.{later_none, next_none}
+use Rattle.miette_labels.proofs.Sorting.{IsAscending, ordered_ascends, rises_lower}
 use Rattle.miette_labels.proofs.Owning.{none_around, order_any, order_nil}
 use Rattle.miette_snippet_rules.proofs.Numbers.{filter-none, filter-front, begins-other, runs-block, BeginsOtherThan}
 use Rattle.miette_snippet_rules.proofs.ReadLines.{first-lt, no_lines, none_in, read_numbers}
-
-weaker : (a b : ℕ) (spans : List Span) → a ≤ b → IsAscending b spans → IsAscending a spans
-weaker a b [] le h = tt
-weaker a b (span ∷ spans) le h = (omega (arith, h.0), h.1)
 
 -- no line before the first line of the least offset is shown
 none-below : (c : ℕ) (bytes : List ℕ) (from k : ℕ) (spans : List Span) → IsAscending from spans → k
@@ -138,7 +134,7 @@ merged c source before fails (span ∷ spans) one some none h =
     ≡ ranges (shown c bytes (before ∷ span ∷ spans))} (joins_before c source before span)
     (λ t. let touch : first_line bytes span c ≤ last_line bytes before c + 1 = omega (arith, sum, leb-true _ _ t) in
     rw (t, next) (merged c source (joined_span before span) (drop 1 fails) spans one some (later_none fails none)
-    (weaker before.offset span.offset spans h.0 h.1)
+    (rises_lower (λ s. s.offset) before.offset span.offset spans h.0 h.1)
     ∙ ap ranges (filter_agree _ _ (λ k. sym (or_assoc (is_in_context c bytes k before) (is_in_context c bytes k span)
     (list_any (is_in_context c bytes k) spans)
     ∙ ap (λ b. b || list_any (is_in_context c bytes k) spans) (same_shown c bytes before span k h.0 touch)))

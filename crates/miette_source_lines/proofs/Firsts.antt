@@ -11,7 +11,8 @@ use Rattle.std.proofs.lemmas.List.{drop_all}
 use Rattle.memchr.specs.Find.{Nowhere, NoneBefore, Passes, IsFirstByte, is_byte2}
 use Rattle.miette_source_lines.specs.rules.Lines.{LF, CR, lines_from, is_text}
 use Rattle.miette_source_lines.specs.rules.Cutting.{IsTerminator}
-use Rattle.miette_source_lines.specs.views.Walking.{IsFirst}
+use Rattle.miette_source_lines.specs.declared.lines.LineOfText.{LineOfText}
+use Rattle.miette_source_lines.specs.views.Walking.{IsFirst, line_of_text}
 use Rattle.miette_source_lines.proofs.Only.{made, LineFirst, first_line}
 
 -- the text of the first line has so many bytes, and the line so many
@@ -157,3 +158,15 @@ first_is start bytes text whole within some fits part =
       some = omega (arith, some);
       to = omega (arith, fits);
     }
+
+-- the line that begins so many bytes on
+pub line_parted : (start at : ℕ) (bytes rest : List ℕ) (line : LineOfText) → rest ≡ drop at bytes
+    → IsFirst (record { start = start + at; bytes = rest }) line →
+    lines_from (start + at) (drop at bytes) ≡ line_of_text line
+    ∷ lines_from line.end (drop (line.end - start) bytes)
+line_parted start at bytes rest line left h =
+    let sums : at + (line.end - (start + at)) ≡ line.end - start = omega (arith, h.from, h.some) in
+    ap (lines_from (start + at)) (sym left) ∙ h.lines
+    ∙ ap (λ xs. line_of_text line ∷ lines_from line.end xs)
+    (ap (drop (line.end - (start + at))) left ∙ drop-drop (line.end - (start + at)) at bytes
+    ∙ ap (λ n. drop n bytes) sums)

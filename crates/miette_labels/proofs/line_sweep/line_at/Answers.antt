@@ -1,11 +1,11 @@
 use Rattle.std.proofs.Common.{◌≤◌, ◌+◌, ℕ, List, arith, length, drop, subst}
-use Rattle.std.proofs.lemmas.List.{length-drop}
-use Rattle.miette_labels.proofs.Firsts.{line_parted, rest_is}
+use Rattle.std.proofs.lemmas.List.{length-drop, take_rest}
+use Rattle.miette_source_lines.proofs.Firsts.{line_parted}
 use Rattle.miette_labels.proofs.line_sweep.line_at.Goals as goal
 
 pub returns-clause-parted : goal.returns-clause-parted
 returns-clause-parted c =
-    line_parted c.args.start c.args.at c.args.bytes.now _ c.first_line.result (rest_is c.args.at c.args.bytes.now)
+    line_parted c.args.start c.args.at c.args.bytes.now _ c.first_line.result (take_rest c.args.bytes.now c.args.at)
     c.first_line.ensures
 
 pub returns-clause-from : goal.returns-clause-from
@@ -24,5 +24,5 @@ pub returns-clause-to : goal.returns-clause-to
 returns-clause-to c =
     let to : c.first_line.result.end ≤ c.args.start + c.args.at + length (drop c.args.at c.args.bytes.now) =
     subst (λ (xs : List ℕ). c.first_line.result.end ≤ c.args.start + c.args.at + length xs)
-    (rest_is c.args.at c.args.bytes.now) c.first_line.ensures.to in
+    (take_rest c.args.bytes.now c.args.at) c.first_line.ensures.to in
     omega (arith, to, length-drop c.args.at c.args.bytes.now)
