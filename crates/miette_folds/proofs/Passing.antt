@@ -3,7 +3,7 @@ use Rattle.std.proofs.Common.{ℕ, ◌+◌, ◌-◌, ◌<◌, ◌≤◌, ◌≡�
 use Rattle.std.proofs.Common.{ltb, leb, List, [], ◌∷◌, map, Option, Some, None, refl, sym, ap, ◌∙◌, subst, arith}
 use Rattle.std.specs.List.{AllByRecursion, list_any}
 use Rattle.std.specs.Option.{option_map_or}
-use Rattle.std.proofs.lemmas.Bool.{leb-true, leb-false, lt-ltb, le-ltb, ltb-true, ltb-false}
+use Rattle.std.proofs.lemmas.Bool.{and_from, and_parts, le-ltb, leb-false, leb-true, lt-ltb, ltb-false, ltb-true, not-true, or_from, or_parts, or_right}
 use Rattle.miette_source_lines.specs.rules.Lines as P
 use Rattle.miette_source_lines.specs.rules.Lines.{Line}
 use Rattle.miette_basics.proofs.Cases.{by_cases}
@@ -31,41 +31,9 @@ chosen_of A true y a b c p q r = p
 chosen_of A false true a b c p q r = q
 chosen_of A false false a b c p q r = r
 
-and_left : (a b : Bool) → (a && b) ≡ true → a ≡ true
-and_left true b h = refl
-and_left false b h = h
-
-and_right : (a b : Bool) → (a && b) ≡ true → b ≡ true
-and_right true b h = h
-and_right false b h = absurd (cc)
-
-and_both : (a b : Bool) → a ≡ true → b ≡ true → (a && b) ≡ true
-and_both true b p q = q
-and_both false b p q = p
-
-or_left : (a b : Bool) → (a || b) ≡ false → a ≡ false
-or_left true b h = h
-or_left false b h = refl
-
-or_right : (a b : Bool) → (a || b) ≡ false → b ≡ false
-or_right true b h = absurd (cc)
-or_right false b h = h
-
-or_none : (a b : Bool) → a ≡ false → b ≡ false → (a || b) ≡ false
-or_none true b p q = p
-or_none false b p q = q
-
-or_last : (a b : Bool) → b ≡ true → (a || b) ≡ true
-or_last true b h = refl
-or_last false b h = h
-
 or_moved : (a b c d : Bool) → (a ≡ true → c ≡ true) → (b ≡ true → d ≡ true) → (a || b) ≡ true → (c || d) ≡ true
 or_moved true b c d f g h = ap (λ x. x || d) (f refl)
-or_moved false b c d f g h = or_last c d (g h)
-
-not_true : (a : Bool) → not a ≡ true → a ≡ false
-not_true true h = absurd (cc)
-not_true false h = refl
+or_moved false b c d f g h = or_right c d (g h)
 
 -- ---- a gap ends where a line begins
 
@@ -226,14 +194,11 @@ not_near false h e = refl
 hides_on : (limit first last around place k : ℕ) → hides limit first last around place ≡ true → place ≤ k → k < last
     - around → hides limit first last around k ≡ true
 hides_on limit first last around place k h le lt =
-    let a : leb limit (last - first) ≡ true = and_left (leb limit (last - first))
-    (ltb around (place - first) && ltb around (last - place)) h in
-    let rest : (ltb around (place - first) && ltb around (last - place)) ≡ true =
-    and_right (leb limit (last - first)) (ltb around (place - first) && ltb around (last - place)) h in
+    let all = and_parts (leb limit (last - first)) (ltb around (place - first) && ltb around (last - place)) h in
     let b : around < place - first = ltb-true around (place - first)
-    (and_left (ltb around (place - first)) (ltb around (last - place)) rest) in
-    and_both (leb limit (last - first)) (ltb around (k - first) && ltb around (last - k)) a
-    (and_both (ltb around (k - first)) (ltb around (last - k)) (lt-ltb around (k - first) (omega (arith, b, le)))
+    (and_parts (ltb around (place - first)) (ltb around (last - place)) all.1).0 in
+    and_from (leb limit (last - first)) (ltb around (k - first) && ltb around (last - k)) all.0
+    (and_from (ltb around (k - first)) (ltb around (last - k)) (lt-ltb around (k - first) (omega (arith, b, le)))
     (lt-ltb around (last - k) (omega (arith, lt))))
 
 -- a label that is not near on the first line is not near on a later one of the gap
@@ -280,22 +245,20 @@ far_all start bytes limit place k line other e [] low some le lt after to stops 
 far_all start bytes limit place k line other e (label ∷ labels) low some le lt after to stops far =
     let own : Bool = is_near_fold limit place line (fold_in start bytes label) in
     let rest : Bool = list_any (is_near_fold limit place line) (map (fold_in start bytes) labels) in
-    or_none (is_near_fold limit k other (fold_in start bytes label))
+    or_from (is_near_fold limit k other (fold_in start bytes label))
     (list_any (is_near_fold limit k other) (map (fold_in start bytes) labels))
-    (far_on start bytes limit place k line other e label low some le lt after to stops.0 (or_left own rest far))
-    (far_all start bytes limit place k line other e labels low some le lt after to stops.1 (or_right own rest far))
+    (far_on start bytes limit place k line other e label low some le lt after to stops.0 (or_parts own rest far).0)
+    (far_all start bytes limit place k line other e labels low some le lt after to stops.1 (or_parts own rest far).1)
 
 -- a context that has a byte of the first line and goes on to the end has bytes of each line between
 around_on : (line other : Line) (e : LineStart) (fold : Fold) → line.end ≤ other.start → other.start < other.end
     → other.end ≤ e.offset → goes_on line e fold ≡ true → is_around_fold other fold ≡ true
 around_on line other e fold after some to h =
-    let around : is_around_fold line fold ≡ true = and_left (is_around_fold line fold) (leb e.offset fold.label.until) h
-    in
-    let until : e.offset ≤ fold.label.until = leb-true e.offset fold.label.until
-    (and_right (is_around_fold line fold) (leb e.offset fold.label.until) h) in
+    let both = and_parts (is_around_fold line fold) (leb e.offset fold.label.until) h in
+    let until : e.offset ≤ fold.label.until = leb-true e.offset fold.label.until both.1 in
     let from : fold.label.from < line.end = ltb-true fold.label.from line.end
-    (and_right (ltb line.start fold.label.until) (ltb fold.label.from line.end) around) in
-    and_both (ltb other.start fold.label.until) (ltb fold.label.from other.end)
+    (and_parts (ltb line.start fold.label.until) (ltb fold.label.from line.end) both.0).1 in
+    and_from (ltb other.start fold.label.until) (ltb fold.label.from other.end)
     (lt-ltb other.start fold.label.until (omega (arith, some, to, until)))
     (lt-ltb fold.label.from other.end (omega (arith, from, after, some)))
 
@@ -358,12 +321,12 @@ run_out start bytes labels (Some limit) place k line other low order out h =
     let ls : List Line = P.lines_from start bytes in
     let spreads = map spread_of labels in
     let near : list_any (is_near limit ls place line) spreads ≡ false =
-    not_true (list_any (is_near limit ls place line) spreads)
-    (and_right (list_any (is_around line) spreads) (not (list_any (is_near limit ls place line) spreads)) out) in
+    not-true (list_any (is_near limit ls place line) spreads)
+    (and_parts (list_any (is_around line) spreads) (not (list_any (is_near limit ls place line) spreads)) out).1 in
     let away : AreAway limit k other (map (fold_in start bytes) labels) =
     away_if start bytes labels limit place k line other (nearest_stop line None (map (fold_in start bytes) labels)) refl
     low order (any_near limit place start bytes line labels ∙ near) h in
-    and_both (list_any (is_around other) spreads) (not (list_any (is_near limit ls k other) spreads))
+    and_from (list_any (is_around other) spreads) (not (list_any (is_near limit ls k other) spreads))
     (sym (any_around start bytes other labels) ∙ away.0)
     (ap not (sym (any_near limit k start bytes other labels) ∙ away.1))
 

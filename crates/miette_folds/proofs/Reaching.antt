@@ -3,11 +3,11 @@
 use Rattle.std.proofs.Common.{ℕ, zero, suc, ◌+◌, ◌-◌, ◌≤◌, ◌≡◌, min, max, Bool, true, false, cond, ◌&&◌, List, length}
 use Rattle.std.proofs.Common.{take, drop, get_or, refl, sym, ap, ap₂, ◌∙◌, inl, inr, subst, arith, All}
 use Rattle.std.specs.Prelude.{◌==◌, count_by, slice_index, slice_range}
-use Rattle.std.proofs.lemmas.Bool.{cases_lt, eqb-true}
+use Rattle.std.proofs.lemmas.Bool.{and_parts, cases_lt, eqb-true}
 use Rattle.miette_source_lines.specs.rules.Lines.{LF, CR, is_terminated, lines_from, line_of}
 use Rattle.miette_source_lines.proofs.Places.{line_of_mono, line_of_within, line_of_start_before}
 use Rattle.miette_source_lines.proofs.Places.{terminators_in-line_of}
-use Rattle.miette_source_lines.proofs.Parts.{IsWhole, both, past_whole, line_whole, part_line, part_length, rest_line}
+use Rattle.miette_source_lines.proofs.Parts.{IsWhole, past_whole, line_whole, part_line, part_length, rest_line}
 use Rattle.miette_source_lines.proofs.Parts.{part_place, part_count}
 use Rattle.miette_protocol.specs.views.Meaning.{Label}
 use Rattle.miette_protocol.specs.rules.Reading.{Span, Source, Contents, IsAccepted, span_end, splits_crlf, reading_end}
@@ -43,7 +43,7 @@ behind_lf : (bytes : List ℕ) (e : ℕ) → splits_crlf bytes e ≡ true → Is
 behind_lf bytes e t = λ k s.
     let here : k ≡ e = omega (arith, s) in
     let lf : slice_index bytes k ≡ 10 = ap (slice_index bytes) here
-    ∙ eqb-true (slice_index bytes e) 10 ((both (slice_index bytes (e - 1) == CR) (slice_index bytes e == LF) t).1) in
+    ∙ eqb-true (slice_index bytes e) 10 ((and_parts (slice_index bytes (e - 1) == CR) (slice_index bytes e == LF) t).1) in
     ap (λ (b : ℕ). (b == CR) && (slice_index bytes (suc k) == LF)) lf
 
 not_parted : (bytes : List ℕ) (e : ℕ) → splits_crlf bytes e ≡ false → IsWhole bytes e

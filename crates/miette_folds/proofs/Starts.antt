@@ -1,6 +1,6 @@
 -- Where lines begin, and the lines from one beginning to another.
-use Rattle.std.proofs.Common.{ℕ, zero, suc, ◌+◌, ◌-◌, ◌≤◌, ◌≡◌, min, max, Bool, true, false, cond, nat_le, ◌&&◌, List}
-use Rattle.std.proofs.Common.{[], ◌∷◌, ◌++◌, length, take, drop, ⊎_elim, refl, sym, ap, ◌∙◌, subst, arith}
+use Rattle.std.proofs.Common.{ℕ, zero, suc, ◌+◌, ◌-◌, ◌≤◌, ◌≡◌, Bool, true, false, cond, nat_le, ◌&&◌, List}
+use Rattle.std.proofs.Common.{[], ◌∷◌, ◌++◌, length, take, drop, ⊎_elim, inl, inr, refl, sym, ap, ◌∙◌, subst, arith}
 use Rattle.std.specs.Prelude.{slice_index}
 use Rattle.std.proofs.lemmas.Bool.{cases_lt}
 use Rattle.std.proofs.lemmas.List.{drop-drop, drop_all, length-drop, length-take-le, take-append-drop}
@@ -200,38 +200,31 @@ begins_few start bytes offset place h =
 
 -- the nearer and the further one of two beginnings
 
+begins_as : (start : ℕ) (bytes : List ℕ) (a b : LineStart) → Begins start bytes a.offset a.place → a.offset ≡ b.offset
+    → a.place ≡ b.place → Begins start bytes b.offset b.place
+begins_as start bytes a b h p q = subst (λ (n : ℕ). Begins start bytes n b.place) p
+    (subst (λ (n : ℕ). Begins start bytes a.offset n) q h)
+
 pub begins_nearer : (start : ℕ) (bytes : List ℕ) (a b : LineStart) → Begins start bytes a.offset a.place
     → Begins start bytes b.offset b.place → Begins start bytes (nearer a b).offset (nearer a b).place
 begins_nearer start bytes a b h k =
-    ⊎_elim {C = Begins start bytes (nearer a b).offset (nearer a b).place}
-    (λ lt.
-    let le : a.place ≤ b.place = places_by start bytes a b h k (omega (arith, lt)) in
-    let p : a.offset ≡ min a.offset b.offset = omega (arith, lt) in
-    let q : a.place ≡ min a.place b.place = omega (arith, le) in
-    subst (λ (n : ℕ). Begins start bytes n (min a.place b.place)) p
-    (subst (λ (n : ℕ). Begins start bytes a.offset n) q h))
-    (λ ge.
-    let le : b.place ≤ a.place = places_by start bytes b a k h ge in
-    let p : b.offset ≡ min a.offset b.offset = omega (arith, ge) in
-    let q : b.place ≡ min a.place b.place = omega (arith, le) in
-    subst (λ (n : ℕ). Begins start bytes n (min a.place b.place)) p
-    (subst (λ (n : ℕ). Begins start bytes b.offset n) q k))
-    (cases_lt a.offset b.offset)
+    elim (cases_lt a.offset b.offset) [
+      | inl lt ↦
+          (let le : a.place ≤ b.place = places_by start bytes a b h k (omega (arith, lt)) in
+          begins_as start bytes a (nearer a b) h (omega (arith, lt)) (omega (arith, le)))
+      | inr ge ↦
+          (let le : b.place ≤ a.place = places_by start bytes b a k h ge in
+          begins_as start bytes b (nearer a b) k (omega (arith, ge)) (omega (arith, le)))
+    ]
 
 pub begins_further : (start : ℕ) (bytes : List ℕ) (a b : LineStart) → Begins start bytes a.offset a.place
     → Begins start bytes b.offset b.place → Begins start bytes (further a b).offset (further a b).place
 begins_further start bytes a b h k =
-    ⊎_elim {C = Begins start bytes (further a b).offset (further a b).place}
-    (λ lt.
-    let le : a.place ≤ b.place = places_by start bytes a b h k (omega (arith, lt)) in
-    let p : b.offset ≡ max a.offset b.offset = omega (arith, lt) in
-    let q : b.place ≡ max a.place b.place = omega (arith, le) in
-    subst (λ (n : ℕ). Begins start bytes n (max a.place b.place)) p
-    (subst (λ (n : ℕ). Begins start bytes b.offset n) q k))
-    (λ ge.
-    let le : b.place ≤ a.place = places_by start bytes b a k h ge in
-    let p : a.offset ≡ max a.offset b.offset = omega (arith, ge) in
-    let q : a.place ≡ max a.place b.place = omega (arith, le) in
-    subst (λ (n : ℕ). Begins start bytes n (max a.place b.place)) p
-    (subst (λ (n : ℕ). Begins start bytes a.offset n) q h))
-    (cases_lt a.offset b.offset)
+    elim (cases_lt a.offset b.offset) [
+      | inl lt ↦
+          (let le : a.place ≤ b.place = places_by start bytes a b h k (omega (arith, lt)) in
+          begins_as start bytes b (further a b) k (omega (arith, lt)) (omega (arith, le)))
+      | inr ge ↦
+          (let le : b.place ≤ a.place = places_by start bytes b a k h ge in
+          begins_as start bytes a (further a b) h (omega (arith, ge)) (omega (arith, le)))
+    ]

@@ -8,7 +8,7 @@ use Rattle.std.specs.List.{AllByRecursion}
 use Rattle.std.specs.List.Sorted.{IsNonDecreasingBy, IsStableByKey}
 use Rattle.std.specs.Ordering.{nat_cmp}
 use Rattle.std.proofs.lemmas.List.{map-append, take_more, drop_all}
-use Rattle.std.proofs.lemmas.List.Elements.{All-push, All-tail}
+use Rattle.std.proofs.lemmas.List.Elements.{All-from_recursion, All-push, All-tail}
 use Rattle.std.proofs.lemmas.Bool.{or_parts}
 use Rattle.miette_protocol.specs.views.Meaning.{Label}
 use Rattle.miette_protocol.specs.rules.Reading.{Span, Source, Contents, IsAccepted}
@@ -87,18 +87,12 @@ read_accepted : (bytes : List ℕ) (reads : List ReadLabel) → All (λ read. Is
 read_accepted bytes [] h = tt
 read_accepted bytes (r ∷ rs) h = (h 0 r (omega arith), read_accepted bytes rs (λ k d lt. h (suc k) d (omega arith)))
 
-each_at : {X : Type 0} (P : X → Type 0) (xs : List X) → AllByRecursion P xs → (k : ℕ) (d : X) → k < length xs
-    → P (get_or xs k d)
-each_at P [] h k d lt = absurd (omega (arith, lt))
-each_at P (x ∷ xs) h zero d lt = h.0
-each_at P (x ∷ xs) h (suc k) d lt = each_at P xs h.1 k d (omega (arith, lt))
-
 pub groups_accepted : (bytes : List ℕ) (reads : List ReadLabel) (spans : List Span)
     → All (λ read. IsAccepted bytes read.contents.span) reads → spans
     ≡ joined_stretches (by_begin (stretches_read reads)) → All (IsAccepted bytes) spans
 groups_accepted bytes reads spans h e =
     subst (λ (ss : List Span). All (IsAccepted bytes) ss) (sym e)
-    (each_at (IsAccepted bytes) (joined_stretches (by_begin (stretches_read reads)))
+    (All-from_recursion (IsAccepted bytes) (joined_stretches (by_begin (stretches_read reads)))
     (stretches_accepted bytes (by_begin (stretches_read reads))
     (subst (λ (ss : List Span). AllByRecursion (IsAccepted bytes) ss) (by_begin_is (stretches_read reads))
     (sorted_each (λ s. s.offset) (IsAccepted bytes) (stretches_read reads) (read_accepted bytes reads h)))))

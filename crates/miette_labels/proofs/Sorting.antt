@@ -10,7 +10,7 @@ use Rattle.std.proofs.lemmas.List.Elements.{filter_agree}
 use Rattle.miette_protocol.specs.views.Meaning.{Label}
 use Rattle.miette_protocol.specs.rules.Reading.{Span}
 use Rattle.std.proofs.lemmas.List.{map-append}
-use Rattle.std.proofs.lemmas.List.Elements.{All-push}
+use Rattle.std.proofs.lemmas.List.Elements.{All-push, recursion_from_All}
 use Rattle.miette_labels.specs.declared.order.Turn.{Turn}
 use Rattle.miette_labels.specs.views.GivenLabels.{label_at}
 use Rattle.miette_labels.specs.rules.Groups.{put_label, in_order, spans_of, put_span, by_begin}
@@ -269,16 +269,12 @@ label_got [] i d lt = absurd (omega (arith, lt))
 label_got (l ∷ ls) zero d lt = refl
 label_got (l ∷ ls) (suc i) d lt = label_got ls i d (omega (arith, lt))
 
-by_recursion : {X : Type 0} (P : X → Type 0) (xs : List X) → All P xs → AllByRecursion P xs
-by_recursion P [] h = tt
-by_recursion P (x ∷ xs) h = (h 0 x (omega arith), by_recursion P xs (λ k d lt. h (suc k) d (omega arith)))
-
 -- what `by_offset` shows
 pub ordered : {X : Type 0} (n : X → ℕ) (f : X → Label) (labels : List Label) (xs ys : List X) → map f xs ≡ labels
     → All (λ x. n x ≡ (f x).span.offset) xs →
     IsNonDecreasingBy n ys → IsStableByKey n nat_cmp xs ys → map f ys ≡ in_order labels
 ordered n f labels xs ys e keys up stable =
-    ap (map f) (sort_is n xs ys up stable) ∙ sorted_mapped n f xs (by_recursion (λ x. n x ≡ (f x).span.offset) xs keys)
+    ap (map f) (sort_is n xs ys up stable) ∙ sorted_mapped n f xs (recursion_from_All (λ x. n x ≡ (f x).span.offset) xs keys)
     ∙ ap in_order e
 
 -- One more label: what the list of turns shows afterwards.

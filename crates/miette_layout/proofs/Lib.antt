@@ -1,3 +1,2 @@
 pub mod Choosing
-pub mod Nearing
 pub mod Progressing

@@ -5,7 +5,7 @@ use Rattle.std.proofs.Common.{ap₂, ◌∙◌, ⊎_elim, arith}
 use Rattle.std.specs.Prelude.{unwrap_or, slice_range}
 use Rattle.std.specs.List.{range_with_len, list_any, AllByRecursion}
 use Rattle.std.proofs.lemmas.Bool.{lt-ltb, le-ltb, le-leb, lt-leb, leb-true, cases_lt}
-use Rattle.std.proofs.lemmas.Bool.{and_parts, and_from}
+use Rattle.std.proofs.lemmas.Bool.{and_parts, and_from, or_left, or_right}
 use Rattle.std.proofs.Math.Bool.{and_comm}
 use Rattle.miette_source_lines.specs.rules.Lines.{Line, lines_from, lines_of, line_of, line_start, line_end}
 use Rattle.miette_protocol.specs.views.Meaning.{Label}
@@ -219,23 +219,14 @@ any_near limit context source all (label ∷ labels) p low many k h some m cover
     ap₂ (λ x y. x || y) (near_is limit context source all label p low many k h.0 some m covers.0 le lt)
     (any_near limit context source all labels p low many k h.1 some m covers.1 le lt)
 
-any_here : (q : Label → Bool) (label : Label) (labels : List Label) → q label ≡ true → list_any q (label ∷ labels)
-    ≡ true
-any_here q label labels h = rw h refl
-
-any_later : (q : Label → Bool) (label : Label) (labels : List Label) → list_any q labels ≡ true
-    → list_any q (label ∷ labels) ≡ true
-any_later q label labels h = by_cases {C = (q label || list_any q labels) ≡ true} (q label) (λ t. rw t refl)
-    (λ f. rw f h)
-
 -- a label's context is shown
 covered : (P' : Label → ℕ → Bool) (q : ℕ → Bool) (to : ℕ) (labels : List Label)
     → ((k : ℕ) → list_any (λ label. P' label k) labels ≡ true → q k ≡ true) →
     AllByRecursion (λ label. (k : ℕ) → P' label k ≡ true → q k ≡ true) labels
 covered P' q to [] h = tt
 covered P' q to (label ∷ labels) h = (
-  (λ k t. h k (any_here (λ l. P' l k) label labels t)),
-  covered P' q to labels (λ k t. h k (any_later (λ l. P' l k) label labels t)),
+  (λ k t. h k (or_left (P' label k) (list_any (λ l. P' l k) labels) t)),
+  covered P' q to labels (λ k t. h k (or_right (P' label k) (list_any (λ l. P' l k) labels) t)),
 )
 
 each_label : (A B : Label → Type 0) (labels : List Label) → ((label : Label) → A label → B label)
@@ -315,8 +306,8 @@ any_to : (A : Label → Type 0) (q r : Label → Bool) (labels : List Label) →
 any_to A q r [] h f e = e
 any_to A q r (label ∷ labels) h f e =
     by_cases {C = list_any r (label ∷ labels) ≡ true} (q label)
-    (λ t. any_here r label labels (f label h.0 t))
-    (λ g. any_later r label labels (any_to A q r labels h.1 f (rw g at e)))
+    (λ t. or_left (r label) (list_any r labels) (f label h.0 t))
+    (λ g. or_right (r label) (list_any r labels) (any_to A q r labels h.1 f (rw g at e)))
 
 -- a label with a line of context or more, whose context passes a test
 record IsCovered (p : ℕ → Bool) (context : ℕ) (bytes : List ℕ) (all : List Label) (label : Label) : Type 0 where

@@ -2,7 +2,7 @@
 use Rattle.std.proofs.Common.{ℕ, zero, suc, ◌+◌, ◌-◌, ◌<◌, ◌≤◌, ◌≡◌, min, max, Bool, true, false, cond, not, ◌&&◌, ◌||◌}
 use Rattle.std.proofs.Common.{List, [], ◌∷◌, length, take, drop, refl, sym, ap, ap₂, ◌∙◌, inl, inr, subst, arith}
 use Rattle.std.specs.Prelude.{◌==◌, nat_le, count_by, slice_index, slice_range}
-use Rattle.std.proofs.lemmas.Bool.{cases_lt, eqb-true}
+use Rattle.std.proofs.lemmas.Bool.{and_parts, and_right, cases_lt, eqb-true, false_from_ne_true}
 use Rattle.std.proofs.lemmas.List.{drop-drop, drop-take, get_or-drop, get_or_past, length-drop, length-take-le}
 use Rattle.std.proofs.lemmas.List.{take_rest}
 use Rattle.std.proofs.lemmas.List.Sums.{sum_by-cons}
@@ -192,36 +192,23 @@ part_count bs from to le within w =
 
 -- ---- where no CRLF is parted
 
-and_none : (b : Bool) → (b && false) ≡ false
-and_none true = refl
-and_none false = refl
-
 -- at the end of the bytes, or past it
 pub past_whole : (bytes : List ℕ) (at : ℕ) → length bytes ≤ at → IsWhole bytes at
 past_whole bytes at le = λ k e.
     let none : slice_index bytes (suc k) ≡ 0 = get_or_past bytes (suc k) 0 (omega (arith, e, le)) in
-    ap (λ (b : ℕ). (slice_index bytes k == CR) && (b == LF)) none ∙ and_none (slice_index bytes k == CR)
-
-not_so : (b : Bool) → (b ≡ true → ⊥) → b ≡ false
-not_so true h = absurd (h refl)
-not_so false h = refl
-
-pub both : (x y : Bool) → (x && y) ≡ true → (x ≡ true) × (y ≡ true)
-both true true t = (refl, refl)
-both true false t = absurd (cc)
-both false y t = absurd (cc)
+    ap (λ (b : ℕ). (slice_index bytes k == CR) && (b == LF)) none ∙ and_right (slice_index bytes k == CR) false refl
 
 -- the CR of a CRLF ends no line
 pair_goes_on : (b next : ℕ) → ((b == CR) && (next == LF)) ≡ true → ends_line b next ≡ false
 unfolding ends_line
 pair_goes_on b next t =
-    let p : ((b == CR) ≡ true) × ((next == LF) ≡ true) = both (b == CR) (next == LF) t in
+    let p : ((b == CR) ≡ true) × ((next == LF) ≡ true) = and_parts (b == CR) (next == LF) t in
     ap₂ (λ c n. ends_line c n) (eqb-true b 13 p.0) (eqb-true next 10 p.1)
 
 ended_whole : (bytes : List ℕ) (i k : ℕ) → i < line_of bytes (length bytes) → suc k ≡ line_end bytes i
     → ((slice_index bytes k == CR) && (slice_index bytes (suc k) == LF)) ≡ false
 ended_whole bytes i k h e =
-    not_so ((slice_index bytes k == CR) && (slice_index bytes (suc k) == LF)) (λ t.
+    false_from_ne_true ((slice_index bytes k == CR) && (slice_index bytes (suc k) == LF)) (λ t.
     let one : k + 1 ≡ suc k = omega arith in
     let no : ends_line (slice_index bytes k) (slice_index bytes (k + 1)) ≡ false =
     ap (λ (n : ℕ). ends_line (slice_index bytes k) (slice_index bytes n)) one
