@@ -1,5 +1,6 @@
 -- What users rely on, in the words of docs/RULES.md.
 pub mod Characters
+pub mod FollowingCalls
 pub mod HighlighterCalls
 pub mod Patterns
 pub mod Pieces

@@ -1,6 +1,7 @@
 //! A highlighter made of rules, for languages that are read line by line.
 
 ghost use Rattle.std.specs.Prelude.{◌≡◌, false, IsTrue, IfOk, None};
+ghost use Rattle.miette_highlight.specs.rules.FollowingCalls.{FollowTokens};
 ghost use Rattle.miette_highlight.specs.rules.Tokens.{AreTokens};
 ghost use Rattle.miette_highlight.specs.rules.Pieces.{CutsLine, plain_pieces};
 
@@ -36,6 +37,8 @@ impl PatternHighlighter {
 
 impl Highlighter for PatternHighlighter {
     ghost is_blank = { λ it. false };
+
+    ghost may_follow = { λ it. FollowTokens it.rules.items it.left_open };
 
     fn restart(&mut self, _contents: &MietteSpanContents<'_>)
         ensures blank { false ≡ false }
