@@ -2,6 +2,7 @@
 pub mod Characters
 pub mod FollowingCalls
 pub mod HighlighterCalls
+pub mod Languages
 pub mod Patterns
 pub mod Pieces
 pub mod Tokens

@@ -1,5 +1,12 @@
 //! Rules for languages: texts green, numbers cyan, values yellow, words of the language magenta, comments dimmed.
 
+ghost use Rattle.std.specs.Prelude.{◌≡◌, ◌++◌, ◌∷◌, [], IfOk, OnOk, None, map};
+ghost use Rattle.miette_highlight.specs.rules.Languages.{beginning, of_words, rule_texts, values};
+ghost use Rattle.miette_highlight.specs.rules.Languages.{json_rules, rust_rules, toml_rules};
+ghost use Rattle.miette_highlight.specs.rules.Patterns.{AreDelimiters};
+ghost use Rattle.miette_highlight.specs.steps.LanguageParts.{escape_of, part_rule};
+ghost use Rattle.miette_style.specs.rules.Styles.{coloured_style};
+
 use crate::patterns::{Delimiters, Pattern, PatternHighlighter, Rule};
 use miette_style::style::{Color, Style};
 use std::alloc::{AllocError, Global};
@@ -9,7 +16,10 @@ impl PatternHighlighter {
     ///
     /// # Errors
     /// Where no memory is found for its rules.
-    pub fn json(alloc: Global) -> Result<Self, AllocError> {
+    pub fn json(alloc: Global) -> Result<Self, AllocError>
+        ensures rules { IfOk result (λ it. rule_texts it.rules.items ≡ json_rules) }
+        ensures closed { IfOk result (λ it. it.left_open ≡ None) }
+    {
         let mut rules = Vec::new(alloc);
         push_parts(&mut rules, alloc, &JSON_PARTS)?;
         push_values(&mut rules, alloc, &["true", "false", "null"])?;
@@ -20,7 +30,10 @@ impl PatternHighlighter {
     ///
     /// # Errors
     /// Where no memory is found for its rules.
-    pub fn toml(alloc: Global) -> Result<Self, AllocError> {
+    pub fn toml(alloc: Global) -> Result<Self, AllocError>
+        ensures rules { IfOk result (λ it. rule_texts it.rules.items ≡ toml_rules) }
+        ensures closed { IfOk result (λ it. it.left_open ≡ None) }
+    {
         let mut rules = Vec::new(alloc);
         push_parts(&mut rules, alloc, &TOML_PARTS)?;
         push_values(&mut rules, alloc, &["true", "false", "inf", "nan"])?;
@@ -32,7 +45,10 @@ impl PatternHighlighter {
     ///
     /// # Errors
     /// Where no memory is found for its rules.
-    pub fn rust(alloc: Global) -> Result<Self, AllocError> {
+    pub fn rust(alloc: Global) -> Result<Self, AllocError>
+        ensures rules { IfOk result (λ it. rule_texts it.rules.items ≡ rust_rules) }
+        ensures closed { IfOk result (λ it. it.left_open ≡ None) }
+    {
         let mut rules = Vec::new(alloc);
         push_parts(&mut rules, alloc, &RUST_PARTS)?;
         push_words(&mut rules, alloc, &RUST_WORDS, Color::Magenta)?;
@@ -158,7 +174,10 @@ const RUST_WORDS: [&str; 37] = [
 ];
 
 // The delimiters of such a part.
-fn delimiters_of(alloc: Global, part: &DelimitedPart) -> Result<Delimiters, AllocError> {
+fn delimiters_of(alloc: Global, part: &DelimitedPart) -> Result<Delimiters, AllocError>
+    ensures { IfOk result (λ it.
+        AreDelimiters part.now.opens.now part.now.closes.now (escape_of part.now.escapes) part.now.goes_on it) }
+{
     let mut delimiters = Delimiters::new(alloc, part.opens, part.closes)?;
     if part.escapes {
         delimiters = delimiters.escaped_by(b'\\');
@@ -174,7 +193,9 @@ fn push_parts(
     rules: &mut Vec<Rule>,
     alloc: Global,
     parts: &[DelimitedPart],
-) -> Result<(), AllocError> {
+) -> Result<(), AllocError>
+    ensures { OnOk result (rule_texts rules.new.items ≡ rule_texts rules.old.items ++ map part_rule parts.now) }
+{
     for part in parts {
         let style = if part.is_comment {
             Style::new().dimmed()
@@ -193,7 +214,10 @@ fn push_words(
     alloc: Global,
     words: &[&str],
     color: Color,
-) -> Result<(), AllocError> {
+) -> Result<(), AllocError>
+    ensures { OnOk result (rule_texts rules.new.items ≡ rule_texts rules.old.items
+        ++ of_words (map (λ word. word.now) words.now) (coloured_style color) ∷ []) }
+{
     let style = Style::new().color(color);
     let pattern = Pattern::words(alloc, words)?;
     rules.push(Rule { pattern, style })?;
@@ -201,7 +225,10 @@ fn push_words(
 }
 
 // These words are values, and so are words that begin with a digit.
-fn push_values(rules: &mut Vec<Rule>, alloc: Global, words: &[&str]) -> Result<(), AllocError> {
+fn push_values(rules: &mut Vec<Rule>, alloc: Global, words: &[&str]) -> Result<(), AllocError>
+    ensures { OnOk result (rule_texts rules.new.items ≡ rule_texts rules.old.items
+        ++ values (map (λ word. word.now) words.now)) }
+{
     push_words(rules, alloc, words, Color::Yellow)?;
     let style = Style::new().color(Color::Cyan);
     let pattern = Pattern::From(b'0', b'9');

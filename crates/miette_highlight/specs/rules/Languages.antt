@@ -1,0 +1,80 @@
+-- The rules of languages, those that count first before others.
+use Rattle.std.specs.Prelude.{ℕ, Bool, true, false, Option, Some, None, List, [], ◌∷◌, map, codes, string_bytes}
+use Rattle.miette_highlight.specs.declared.rule.Pattern.{Pattern}
+use Rattle.miette_highlight.specs.declared.rule.Pattern.TheVariants.{Words, From, Between}
+use Rattle.miette_highlight.specs.declared.rule.Rule.{Rule}
+use Rattle.miette_style.specs.declared.style.Color.TheVariants.{Green, Yellow, Cyan, Magenta}
+use Rattle.miette_style.specs.declared.style.Style.{Style}
+use Rattle.miette_style.specs.rules.Styles.{coloured_style, plain}
+
+-- a rule by its texts: words; a word that begins with a byte from the first up to the last; or what lies between
+-- delimiters, with the byte that escapes one and whether it goes on over lines
+pub data RuleText : Type 0 where
+  of_words : List (List ℕ) → Style → RuleText
+  beginning : ℕ → ℕ → Style → RuleText
+  between : List ℕ → List ℕ → Option ℕ → Bool → Style → RuleText
+
+abbrev pub pattern_text : Pattern → Style → RuleText
+pattern_text (Words words) style = of_words (map (λ w. string_bytes w) words.items) style
+pattern_text (From first last) style = beginning first last style
+pattern_text (Between d) style =
+    between (string_bytes d.opens) (string_bytes d.closes) d.escape d.over_lines style
+
+abbrev pub rule_text : Rule → RuleText
+rule_text rule = pattern_text rule.pattern rule.style
+
+abbrev pub rule_texts : List Rule → List RuleText
+rule_texts rules = map rule_text rules
+
+-- ---- texts, comments, words and values
+
+-- a text between delimiters, green
+abbrev pub text_between : List ℕ → List ℕ → Option ℕ → Bool → RuleText
+text_between opens closes escape over_lines = between opens closes escape over_lines (coloured_style Green)
+
+-- a comment between delimiters, dimmed; one that ends with its line is closed by a line feed, which no line has
+abbrev pub comment_between : List ℕ → List ℕ → Bool → RuleText
+comment_between opens closes over_lines = between opens closes None over_lines (record plain { dimmed = true })
+
+-- yellow words, and cyan words that begin with a digit
+abbrev pub values : List (List ℕ) → List RuleText
+values words = of_words words (coloured_style Yellow) ∷ beginning 48 57 (coloured_style Cyan) ∷ []
+
+-- ---- the languages
+
+abbrev pub json_rules : List RuleText
+json_rules = text_between (codes "\"") (codes "\"") (Some 92) false
+    ∷ values (codes "true" ∷ codes "false" ∷ codes "null" ∷ [])
+
+abbrev pub toml_rules : List RuleText
+toml_rules =
+    comment_between (codes "#") (10 ∷ []) false
+    ∷ text_between (codes "\"\"\"") (codes "\"\"\"") (Some 92) true
+    ∷ text_between (codes "'''") (codes "'''") None true
+    ∷ text_between (codes "\"") (codes "\"") (Some 92) false
+    ∷ text_between (codes "'") (codes "'") None false
+    ∷ values (codes "true" ∷ codes "false" ∷ codes "inf" ∷ codes "nan" ∷ [])
+
+abbrev pub rust_words : List (List ℕ)
+rust_words =
+    codes "as" ∷ codes "async" ∷ codes "await" ∷ codes "break" ∷ codes "const" ∷ codes "continue" ∷ codes "crate"
+    ∷ codes "dyn" ∷ codes "else" ∷ codes "enum" ∷ codes "extern" ∷ codes "fn" ∷ codes "for" ∷ codes "if"
+    ∷ codes "impl" ∷ codes "in" ∷ codes "let" ∷ codes "loop" ∷ codes "match" ∷ codes "mod" ∷ codes "move"
+    ∷ codes "mut" ∷ codes "pub" ∷ codes "ref" ∷ codes "return" ∷ codes "self" ∷ codes "Self" ∷ codes "static"
+    ∷ codes "struct" ∷ codes "super" ∷ codes "trait" ∷ codes "type" ∷ codes "unsafe" ∷ codes "use" ∷ codes "where"
+    ∷ codes "while" ∷ codes "yield" ∷ []
+
+-- the characters `'"'` and `'\"'` are texts too, so that their quotation mark begins none
+abbrev pub rust_rules : List RuleText
+rust_rules =
+    comment_between (codes "//") (10 ∷ []) false
+    ∷ comment_between (codes "/*") (codes "*/") true
+    ∷ text_between (codes "'\"'") [] None false
+    ∷ text_between (codes "'\\\"'") [] None false
+    ∷ text_between (codes "r#\"") (codes "\"#") None true
+    ∷ text_between (codes "r\"") (codes "\"") None true
+    ∷ text_between (codes "\"") (codes "\"") (Some 92) true
+    ∷ text_between (codes "b\"") (codes "\"") (Some 92) true
+    ∷ text_between (codes "c\"") (codes "\"") (Some 92) true
+    ∷ of_words rust_words (coloured_style Magenta)
+    ∷ values (codes "true" ∷ codes "false" ∷ [])

@@ -1,0 +1,17 @@
+-- A part between delimiters, as the tables of the code have it.
+use Rattle.std.specs.Prelude.{Bool, true, Option, Some, None, if◌then◌else◌, ℕ}
+use Rattle.miette_highlight.specs.declared.sets.DelimitedPart.{DelimitedPart}
+use Rattle.miette_highlight.specs.rules.Languages.{RuleText, between}
+use Rattle.miette_style.specs.declared.style.Color.TheVariants.{Green}
+use Rattle.miette_style.specs.declared.style.Style.{Style}
+use Rattle.miette_style.specs.rules.Styles.{coloured_style, plain}
+
+abbrev pub escape_of : Bool → Option ℕ
+escape_of escapes = if escapes then Some 92 else None
+
+abbrev pub part_style : Bool → Style
+part_style is_comment = if is_comment then record plain { dimmed = true } else coloured_style Green
+
+abbrev pub part_rule : DelimitedPart → RuleText
+part_rule part =
+    between part.opens.now part.closes.now (escape_of part.escapes) part.goes_on (part_style part.is_comment)
