@@ -120,9 +120,7 @@ fn next_place(
             }
         }
         over.push(code)?;
-        let Some(wider) = widths.checked_add(columns_of(code)) else {
-            return Err(AllocError);
-        };
+        let wider = sum(widths, columns_of(code))?;
         is_half = is_indicator(code) && !is_half;
         before = last;
         last = code;

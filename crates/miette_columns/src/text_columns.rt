@@ -7,6 +7,7 @@ ghost use Rattle.miette_columns.specs.steps.Places.{IsPlace};
 
 use crate::places::{PartingPlace, column_after, overlap_text, place_before, places};
 use crate::trails::{Trail, column_in, trail_at, trails};
+use miette_basics::sums::sum;
 use miette_cells::cells::{columns_of, first_character};
 use miette_cells::plain::all_printable;
 use std::alloc::{AllocError, Global};
@@ -113,9 +114,7 @@ fn walked_column(
         }
         let (code, size) = first_character(rest);
         begun.push(code)?;
-        let Some(wider) = widths.checked_add(columns_of(code)) else {
-            return Err(AllocError);
-        };
+        let wider = sum(widths, columns_of(code))?;
         if left < size {
             return Ok(wider);
         }

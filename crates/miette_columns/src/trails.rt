@@ -9,6 +9,7 @@ ghost use Rattle.miette_columns.specs.steps.Places.{IsPlace};
 ghost use Rattle.miette_columns.specs.steps.Trails.{is_faint, first_size, AreFaint, IsTrail};
 
 use crate::places::{APART, PartingPlace, column_after, overlap_text, start};
+use miette_basics::sums::sum;
 use miette_cells::cells::{columns_of, first_character};
 use std::alloc::{AllocError, Global};
 
@@ -104,9 +105,7 @@ fn push_trails(
     while bytes < text.len() && bytes < end {
         let (code, size) = first_character(&text[bytes..]);
         over.push(code)?;
-        let Some(wider) = widths.checked_add(columns_of(code)) else {
-            return Err(AllocError);
-        };
+        let wider = sum(widths, columns_of(code))?;
         widths = wider;
         bytes += size;
         if is_faint(code) && looked <= bytes {

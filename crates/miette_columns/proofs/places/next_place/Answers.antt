@@ -37,7 +37,7 @@ loop-bytes-preserved c =
     (IsUtf8-string_bytes c.loop-bytes.over) (IsUtf8-string_bytes c.push.new.self) c.in_ok-push.ensures.bytes in
     record {
       since = one_since text c.args.from (string_bytes c.loop-bytes.over) (string_bytes c.push.new.self)
-          c.loop-bytes.widths c.in-Some-checked_add.wider bytes code size c.loop-bytes.invariant.since next
+          c.loop-bytes.widths c.in_ok-wider.wider bytes code size c.loop-bytes.invariant.since next
           (IsUtf8-string_bytes c.loop-bytes.over) (IsUtf8-string_bytes c.push.new.self) c.in_ok-push.ensures.bytes
           (search rules);
       flags = flags_pushed (string_bytes c.loop-bytes.over) (string_bytes c.push.new.self) c.loop-bytes.last code

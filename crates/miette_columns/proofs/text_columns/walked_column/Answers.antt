@@ -35,10 +35,10 @@ returns-then-left-size c =
     let size = c.first_character-code.result.1 in
     let code = c.first_character-code.result.0 in
     let some : 0 < length rest = search rules in
-    let wider : c.in-Some.wider ≡ c.loop-left.widths + width_of code = search rules in
-    column_from c.args.text.now from c.args.bytes c.in-Some.wider c.requires.place c.requires.before
+    let wider : c.in_ok-wider.wider ≡ c.loop-left.widths + width_of code = search rules in
+    column_from c.args.text.now from c.args.bytes c.in_ok-wider.wider c.requires.place c.requires.before
     (over_inside from (drop from.bytes c.args.text.now) (c.args.bytes - from.bytes) (string_bytes c.loop-left.begun)
-    c.loop-left.widths c.in-Some.wider rest (drop size rest) c.loop-left.left code size c.loop-left.invariant
+    c.loop-left.widths c.in_ok-wider.wider rest (drop size rest) c.loop-left.left code size c.loop-left.invariant
     (record {
       some = some;
       left_is = refl;
@@ -54,9 +54,9 @@ loop-left-preserved c =
     let size = c.first_character-code.result.1 in
     let code = c.first_character-code.result.0 in
     let some : 0 < length rest = search rules in
-    let wider : c.in-Some.wider ≡ c.loop-left.widths + width_of code = search rules in
+    let wider : c.in_ok-wider.wider ≡ c.loop-left.widths + width_of code = search rules in
     one_over (overlap_text from.overlap) from.widths (drop from.bytes c.args.text.now) (c.args.bytes - from.bytes)
-    (string_bytes c.loop-left.begun) (string_bytes c.push.new.self) c.loop-left.widths c.in-Some.wider rest
+    (string_bytes c.loop-left.begun) (string_bytes c.push.new.self) c.loop-left.widths c.in_ok-wider.wider rest
     (take (length rest - size) (drop size rest)) c.loop-left.left code size c.loop-left.invariant
     (record {
       some = some;

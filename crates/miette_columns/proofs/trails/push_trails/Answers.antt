@@ -15,7 +15,7 @@ push_parts-requires-clause-trail c =
     let size = c.first_character-code.result.1 in
     let read = c.first_character-code.ensures in
     let since = one_since text c.args.from (string_bytes c.loop-bytes.over) (string_bytes c.push.new.self)
-    c.loop-bytes.widths c.in-Some.wider bytes code size c.loop-bytes.invariant.since
+    c.loop-bytes.widths c.in_ok-wider.wider bytes code size c.loop-bytes.invariant.since
     (is_next text bytes code size c.loop-bytes-test.true read.code read.size read.some read.within)
     (IsUtf8-string_bytes c.loop-bytes.over) (IsUtf8-string_bytes c.push.new.self) c.in_ok-push.ensures.bytes
     (search rules) in
@@ -26,7 +26,7 @@ push_parts-requires-clause-trail c =
       bytes = bytes + size;
       until = c.faint_end-until.result;
       column = c.in_ok-column.column;
-      widths = c.in-Some.wider;
+      widths = c.in_ok-wider.wider;
     }) c.requires.from since ends (sym c.is_faint.ensures ∙ c.if-is_faint.true) c.faint_end-until.ensures
     (c.in_ok-column.ensures ∙ ap (λ t. (from.column + str_width false (chars t)) - from.twice) c.as_str.ensures.value)
 
@@ -38,7 +38,7 @@ loop-bytes-preserved-in_ok-push_parts c =
     let size = c.first_character-code.result.1 in
     let read = c.first_character-code.ensures in
     let since = one_since text c.args.from (string_bytes c.loop-bytes.over) (string_bytes c.push.new.self)
-    c.loop-bytes.widths c.in-Some.wider bytes code size c.loop-bytes.invariant.since
+    c.loop-bytes.widths c.in_ok-wider.wider bytes code size c.loop-bytes.invariant.since
     (is_next text bytes code size c.loop-bytes-test.true read.code read.size read.some read.within)
     (IsUtf8-string_bytes c.loop-bytes.over) (IsUtf8-string_bytes c.push.new.self) c.in_ok-push.ensures.bytes
     (search rules) in
@@ -52,7 +52,7 @@ loop-bytes-preserved-else-until-bytes-ge-APART c =
     let size = c.first_character-code.result.1 in
     let read = c.first_character-code.ensures in
     let since = one_since text c.args.from (string_bytes c.loop-bytes.over) (string_bytes c.push.new.self)
-    c.loop-bytes.widths c.in-Some.wider bytes code size c.loop-bytes.invariant.since
+    c.loop-bytes.widths c.in_ok-wider.wider bytes code size c.loop-bytes.invariant.since
     (is_next text bytes code size c.loop-bytes-test.true read.code read.size read.some read.within)
     (IsUtf8-string_bytes c.loop-bytes.over) (IsUtf8-string_bytes c.push.new.self) c.in_ok-push.ensures.bytes
     (search rules) in
@@ -66,7 +66,7 @@ loop-bytes-preserved c =
     let size = c.first_character-code.result.1 in
     let read = c.first_character-code.ensures in
     let since = one_since text c.args.from (string_bytes c.loop-bytes.over) (string_bytes c.push.new.self)
-    c.loop-bytes.widths c.in-Some.wider bytes code size c.loop-bytes.invariant.since
+    c.loop-bytes.widths c.in_ok-wider.wider bytes code size c.loop-bytes.invariant.since
     (is_next text bytes code size c.loop-bytes-test.true read.code read.size read.some read.within)
     (IsUtf8-string_bytes c.loop-bytes.over) (IsUtf8-string_bytes c.push.new.self) c.in_ok-push.ensures.bytes
     (search rules) in
