@@ -12,6 +12,8 @@ use miette_protocol::error::RenderError;
 use miette_protocol::protocol::Diagnostic;
 use miette_protocol::source::SourceCode;
 use miette_tree::report::Report;
+use miette_tree::text_handler::{TextHandler, append_text};
+use std::alloc::Global;
 use std::marker::Model;
 
 /// Tells a report in one row for each of its parts, as editors and build logs read it: `NAME:LINE:COLUMN: error: ..`.
@@ -113,8 +115,20 @@ impl BriefReportHandler {
             report_accepted (tree_of D.meaning S.source report.now) ≡ false }
         ensures err { OnErr result (string_bytes out.new ≡ string_bytes out.old) }
     {
-        let text = brief_of(*out.allocator(), self.tells_causes(), report)?;
-        out.push_str(text.as_str())?;
-        Ok(())
+        append_text(self, report, out)
+    }
+}
+
+impl TextHandler for BriefReportHandler {
+    ghost texts = { IsBrief };
+
+    ghost refusals = { λ _ tree. report_accepted tree ≡ false };
+
+    fn text_of<D: Diagnostic, S: SourceCode>(
+        &self,
+        alloc: Global,
+        report: &Report<D, S>,
+    ) -> Result<String, RenderError> {
+        brief_of(alloc, self.tells_causes(), report)
     }
 }

@@ -1,7 +1,6 @@
 //! The brief report: one row for each part of a report, as editors and build logs read it.
 #![tactic(auto)]
 
-mod debug;
 pub mod handler;
 pub mod laws;
 mod places;

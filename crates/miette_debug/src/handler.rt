@@ -10,8 +10,8 @@ use miette_protocol::error::RenderError;
 use miette_protocol::protocol::Diagnostic;
 use miette_protocol::source::SourceCode;
 use miette_tree::report::Report;
-use miette_tree::report_handler::{ReportHandler, append_whole};
-use std::alloc::AllocError;
+use miette_tree::text_handler::{TextHandler, append_text};
+use std::alloc::Global;
 
 /// The handler that shows what a report holds, for people who debug their tool: one row, `Diagnostic { message: "m"
 /// }`, with the fields that are there. There is nothing to set.
@@ -33,36 +33,21 @@ impl DebugReportHandler {
         ensures memory { OnErr result (result ≡ Err RenderError.Memory) }
         ensures err { OnErr result (string_bytes out.new ≡ string_bytes out.old) }
     {
-        render(report, out)
+        append_text(self, report, out)
     }
 }
 
-impl ReportHandler for DebugReportHandler {
-    ghost gives = { λ _. IsDebugText };
+impl TextHandler for DebugReportHandler {
+    ghost texts = { λ _. IsDebugText };
 
-    ghost refuses = { λ _ _. ⊥ };
+    ghost refusals = { λ _ _. ⊥ };
 
-    fn debug<D: Diagnostic, S: SourceCode>(
-        &mut self,
+    fn text_of<D: Diagnostic, S: SourceCode>(
+        &self,
+        alloc: Global,
         report: &Report<D, S>,
-        out: &mut String,
-    ) -> Result<(), RenderError> {
-        render::<D, S>(report, out)
-    }
-}
-
-/// Appends the fields of a report of boxes of any kind.
-fn render<D: Diagnostic, S: SourceCode>(
-    report: &Report<D, S>,
-    out: &mut String,
-) -> Result<(), RenderError>
-    ensures text { OnOk result (AppendsOne (IsDebugText (tree_of D.meaning S.source report.now)) (string_bytes out.old)
-        (string_bytes out.new)) }
-    ensures memory { OnErr result (result ≡ Err RenderError.Memory) }
-    ensures err { OnErr result (string_bytes out.new ≡ string_bytes out.old) }
-{
-    match fields_of(*out.allocator(), report) {
-        Ok(text) => append_whole(text.as_str(), out),
-        Err(AllocError) => Err(RenderError::Memory),
+    ) -> Result<String, RenderError> {
+        let text = fields_of(alloc, report)?;
+        Ok(text)
     }
 }

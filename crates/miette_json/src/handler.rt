@@ -12,7 +12,7 @@ use miette_protocol::error::RenderError;
 use miette_protocol::protocol::Diagnostic;
 use miette_protocol::source::SourceCode;
 use miette_tree::report::Report;
-use miette_tree::report_handler::{ReportHandler, append_whole};
+use miette_tree::text_handler::{TextHandler, append_text};
 use std::alloc::{AllocError, Global};
 
 /// The handler that gives a report as JSON (RFC 8259), for editors and build servers: one object, without a line feed
@@ -40,39 +40,22 @@ impl JSONReportHandler {
         ensures memory { OnErr result (result ≡ Err RenderError.Memory) }
         ensures err { OnErr result (string_bytes out.new ≡ string_bytes out.old) }
     {
-        render(report, out)
+        append_text(self, report, out)
     }
 }
 
-impl ReportHandler for JSONReportHandler {
-    ghost gives = { λ _. IsJsonOf };
+impl TextHandler for JSONReportHandler {
+    ghost texts = { λ _. IsJsonOf };
 
-    ghost refuses = { λ _ _. ⊥ };
+    ghost refusals = { λ _ _. ⊥ };
 
-    fn debug<D: Diagnostic, S: SourceCode>(
-        &mut self,
+    fn text_of<D: Diagnostic, S: SourceCode>(
+        &self,
+        alloc: Global,
         report: &Report<D, S>,
-        out: &mut String,
-    ) -> Result<(), RenderError> {
-        render::<D, S>(report, out)
-    }
-}
-
-/// Appends the JSON text of a report of boxes of any kind.
-fn render<D: Diagnostic, S: SourceCode>(
-    report: &Report<D, S>,
-    out: &mut String,
-) -> Result<(), RenderError>
-    ensures text { OnOk result (AppendsOne (IsJsonOf (tree_of D.meaning S.source report.now)) (string_bytes out.old)
-        (string_bytes out.new)) }
-    ensures value { OnOk result (report_reads (tree_of D.meaning S.source report.now) ≡ true
-        → string_bytes out.new ≡ string_bytes out.old ++ value_text (tree_of D.meaning S.source report.now)) }
-    ensures memory { OnErr result (result ≡ Err RenderError.Memory) }
-    ensures err { OnErr result (string_bytes out.new ≡ string_bytes out.old) }
-{
-    match json_of(*out.allocator(), report) {
-        Ok(text) => append_whole(text.as_str(), out),
-        Err(AllocError) => Err(RenderError::Memory),
+    ) -> Result<String, RenderError> {
+        let text = json_of(alloc, report)?;
+        Ok(text)
     }
 }
 

@@ -14,7 +14,8 @@ use miette_protocol::error::RenderError;
 use miette_protocol::protocol::Diagnostic;
 use miette_protocol::source::SourceCode;
 use miette_tree::report::Report;
-use std::alloc::AllocError;
+use miette_tree::text_handler::{TextHandler, append_text};
+use std::alloc::{AllocError, Global};
 use std::marker::Model;
 
 /// Tells a report in rows of plain words, for people who hear it read: no pictures, no colours, no wrapping.
@@ -179,8 +180,20 @@ impl NarratableReportHandler {
             report_accepted (tree_of D.meaning S.source report.now) ≡ false }
         ensures err { OnErr result (string_bytes out.new ≡ string_bytes out.old) }
     {
-        let text = narration_of(*out.allocator(), self.settings(), report)?;
-        out.push_str(text.as_str())?;
-        Ok(())
+        append_text(self, report, out)
+    }
+}
+
+impl TextHandler for NarratableReportHandler {
+    ghost texts = { IsNarrated };
+
+    ghost refusals = { λ _ tree. report_accepted tree ≡ false };
+
+    fn text_of<D: Diagnostic, S: SourceCode>(
+        &self,
+        alloc: Global,
+        report: &Report<D, S>,
+    ) -> Result<String, RenderError> {
+        narration_of(alloc, self.settings(), report)
     }
 }

@@ -1,7 +1,6 @@
 //! The narrated report: the text of a report for people who hear it read.
 #![tactic(auto)]
 
-mod debug;
 mod decoding;
 pub mod handler;
 mod label_order;

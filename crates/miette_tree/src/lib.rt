@@ -11,5 +11,6 @@ mod owned;
 pub mod parts;
 pub mod report;
 pub mod report_handler;
+pub mod text_handler;
 mod tree;
 mod wrap;
