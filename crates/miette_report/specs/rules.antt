@@ -1,6 +1,5 @@
 -- What users rely on, in the words of docs/RULES.md.
 pub mod Words
-pub mod HandlerChoice
 pub mod OptionWords
 pub mod Job
 pub mod Faults

@@ -1,5 +1,5 @@
 -- The code's own steps, which no rule names.
 pub mod JobHandler
-pub mod AskView
+pub mod AskedWords
 pub mod DrawCalls
 pub mod LintCalls

@@ -1,23 +1,20 @@
 //! What a job is asked for.
 
-ghost use Rattle.std.specs.Prelude.{◌≡◌, ◌⊎◌, IfOk, OnErr, map, string_bytes};
-ghost use Rattle.std.specs.Prelude.{None};
-ghost use Rattle.miette_style.specs.rules.Themes.{theme_of as theme_value};
-ghost use Rattle.miette_report.specs.rules.HandlerChoice.{chosen_by, choice_in};
-ghost use Rattle.miette_report.specs.rules.OptionWords.{AreWanted, asked_by, by_language, facts_of, facts_with};
-ghost use Rattle.miette_report.specs.rules.OptionWords.{nothing_asked, options_with as with_option, request_of};
-ghost use Rattle.miette_report.specs.rules.OptionWords.{with_ask};
-ghost use Rattle.miette_report.specs.steps.AskView.{ask_of, option_ask, terminal_ask, theme_named};
+ghost use Rattle.std.specs.Prelude.{◌≡◌, ◌⊎◌, IfOk, OnErr, Some, None, map, string_bytes};
+ghost use Rattle.miette_report.specs.rules.OptionWords as table;
+ghost use Rattle.miette_report.specs.rules.OptionWords.{AreWanted, asked_by, chosen_by, nothing_asked};
+ghost use Rattle.miette_report.specs.steps.AskedWords.{AreGiven, asked_of, with_asked};
 
 use crate::fault::Fault;
 use crate::language::LanguageHighlighter;
 use crate::option_words::{
-    BuildAsked, Choice, OptionAsked, TerminalAsked, ThemeAsked, WordMeaning, first_asked,
+    Asked, Choice, ReportAsked, color_named, first_asked, language_named, rgb_named, theme_named,
 };
+use crate::words::number;
 use miette::options::MietteHandlerOpts;
-use miette::theme::{GraphicalTheme, Terminal};
+use miette::theme::Terminal;
 use miette::wrap::WordSplitter;
-use std::alloc::{AllocError, Global};
+use std::alloc::Global;
 
 /// What a job is asked for.
 #[derive(Drop)]
@@ -42,7 +39,7 @@ impl Arguments {
         ensures table { IfOk result (λ it. AreWanted (map string_bytes words.now) it.choice it.options it.terminal) }
         ensures usage { (result ≡ Err Fault.Usage) → asked_by (map string_bytes words.now) ≡ None }
         // The last of `--json` and `--debug` that is no value chooses the handler.
-        ensures choice { IfOk result (λ it. it.choice ≡ choice_in Choice.Build (map string_bytes words.now)) }
+        ensures choice { IfOk result (λ it. chosen_by (map string_bytes words.now) ≡ Some it.choice) }
         ensures others { OnErr result ((result ≡ Err Fault.Usage) ⊎ (result ≡ Err Fault.Memory)) }
     {
         let mut settings = Arguments::empty();
@@ -59,8 +56,7 @@ impl Arguments {
 
     /// Nothing is asked for, and the terminal has nothing.
     fn empty() -> Arguments
-        ensures choice { result.choice ≡ Choice.Build }
-        ensures nothing { request_of result.choice result.options result.terminal ≡ nothing_asked }
+        ensures { asked_of result ≡ nothing_asked }
     {
         Arguments {
             choice: Choice::Build,
@@ -79,111 +75,206 @@ impl Arguments {
     }
 
     /// The settings with what one word asks for.
-    fn with(self, alloc: Global, asked: WordMeaning<'_>) -> Result<Arguments, AllocError>
-        ensures table { IfOk result (λ it. request_of it.choice it.options it.terminal
-            ≡ with_ask (ask_of asked.entry) (request_of self.choice self.options self.terminal)) }
-        ensures choice { IfOk result (λ it. it.choice ≡ chosen_by asked.entry self.choice) }
+    fn with(self, alloc: Global, asked: Asked<'_>) -> Result<Arguments, Fault>
+        ensures { AreGiven (with_asked asked.entry (asked_of self)) result }
+    {
+        match asked {
+            Asked::Report(report) => Ok(self.with_report(report)),
+            Asked::Value(word, value) => self.with_value(alloc, word, value),
+        }
+    }
+
+    /// With another report.
+    fn with_report(self, asked: ReportAsked) -> Arguments
+        ensures { asked_of result ≡ table.with_report asked (asked_of self) }
     {
         let Arguments {
             choice,
             options,
             terminal,
         } = self;
-        match asked {
-            WordMeaning::Choice(choice) => Ok(Arguments {
+        let (choice, options) = match asked {
+            ReportAsked::Json => (Choice::Json, options),
+            ReportAsked::Debug => (Choice::Debug, options),
+            ReportAsked::Brief => (choice, options.force_brief(true)),
+            ReportAsked::Narrated => (choice, options.force_narrated(true)),
+            ReportAsked::Graphical => (choice, options.force_graphical(true)),
+        };
+        Arguments {
+            choice,
+            options,
+            terminal,
+        }
+    }
+
+    /// With a word and its value, which of two words is any text.
+    fn with_value(self, alloc: Global, word: &str, value: &str) -> Result<Arguments, Fault>
+        ensures { AreGiven (table.with_value word.now value.now (asked_of self)) result }
+    {
+        let Arguments {
+            choice,
+            options,
+            terminal,
+        } = self;
+        match word {
+            "--footer" => Ok(Arguments {
+                choice,
+                options: options.footer(String::from_str(alloc, value)?),
+                terminal,
+            }),
+            "--no-graphics" => Ok(Arguments {
+                choice,
+                options,
+                terminal: Terminal {
+                    no_graphics: Some(String::from_str(alloc, value)?),
+                    ..terminal
+                },
+            }),
+            _ => Arguments {
                 choice,
                 options,
                 terminal,
-            }),
-            WordMeaning::Build(BuildAsked::Option(asked)) => Ok(Arguments {
-                choice,
-                options: options_with(alloc, options, asked)?,
-                terminal,
-            }),
-            WordMeaning::Build(BuildAsked::Terminal(asked)) => Ok(Arguments {
-                choice,
-                options,
-                terminal: terminal_with(alloc, terminal, asked)?,
-            }),
+            }
+            .with_read(alloc, word, value),
         }
     }
-}
 
-/// The options with one more.
-fn options_with(
-    alloc: Global,
-    options: MietteHandlerOpts<LanguageHighlighter>,
-    asked: OptionAsked<'_>,
-) -> Result<MietteHandlerOpts<LanguageHighlighter>, AllocError>
-    ensures { IfOk result (λ it. by_language it ≡ with_option (option_ask asked.entry) (by_language options)) }
-{
-    Ok(match asked {
-        OptionAsked::Brief => options.force_brief(true),
-        OptionAsked::Narrated => options.force_narrated(true),
-        OptionAsked::Graphical => options.force_graphical(true),
-        OptionAsked::Width(width) => options.width(width),
-        OptionAsked::Context(lines) => options.context_lines(lines),
-        OptionAsked::LabelLines(lines) => options.label_lines(lines.max(1)),
-        OptionAsked::Tab(width) => options.tab_width(width.max(1)),
-        OptionAsked::LineColumns(columns) => options.line_columns(columns),
-        OptionAsked::Theme(theme) => options.graphical_theme(theme_of(alloc, theme)?),
-        OptionAsked::Unicode(unicode) => options.unicode(unicode),
-        OptionAsked::Color(color) => options.color(color),
-        OptionAsked::Links(links) => options.terminal_links(links),
-        OptionAsked::Chain(true) => options.with_cause_chain(),
-        OptionAsked::Chain(false) => options.without_cause_chain(),
-        OptionAsked::Break(breaks) => options.break_words(breaks),
-        OptionAsked::Wrap(wraps) => options.wrap_lines(wraps),
-        OptionAsked::Hyphens(true) => options.word_splitter(WordSplitter::HyphenSplitter),
-        OptionAsked::Hyphens(false) => options.word_splitter(WordSplitter::NoHyphenation),
-        OptionAsked::Nested(true) => options.show_related_errors_as_nested(),
-        OptionAsked::Nested(false) => options.show_related_errors_as_siblings(),
-        OptionAsked::EndLabels(drawn) => options.end_labels(drawn),
-        OptionAsked::Rgb(colors) => options.rgb_colors(colors),
-        OptionAsked::Footer(text) => options.footer(String::from_str(alloc, text)?),
-        OptionAsked::Highlight(language) => {
-            options.with_syntax_highlighting(LanguageHighlighter::new(alloc, language)?)
+    /// With a word whose value is a number, `yes`, `no` or a name.
+    fn with_read(self, alloc: Global, word: &str, value: &str) -> Result<Arguments, Fault>
+        ensures { AreGiven (table.with_read word.now value.now (asked_of self)) result }
+    {
+        if let Some(number) = number(value) {
+            return self.with_number(word, number);
         }
-    })
-}
-
-/// The theme of a name.
-fn theme_of(alloc: Global, theme: ThemeAsked) -> Result<GraphicalTheme, AllocError>
-    ensures { IfOk result (λ it. theme_value it ≡ theme_named theme) }
-{
-    match theme {
-        ThemeAsked::Ascii => GraphicalTheme::ascii(alloc),
-        ThemeAsked::Unicode => GraphicalTheme::unicode(alloc),
-        ThemeAsked::UnicodeNocolor => GraphicalTheme::unicode_nocolor(alloc),
-        ThemeAsked::None => GraphicalTheme::none(alloc),
+        match value {
+            "yes" => self.with_answer(word, true),
+            "no" => self.with_answer(word, false),
+            _ => self.with_name(alloc, word, value),
+        }
     }
-}
 
-/// The terminal with one thing that it is or has.
-fn terminal_with(
-    alloc: Global,
-    terminal: Terminal,
-    asked: TerminalAsked<'_>,
-) -> Result<Terminal, AllocError>
-    ensures { IfOk result (λ it. facts_of it ≡ facts_with (terminal_ask asked.entry) (facts_of terminal)) }
-{
-    Ok(match asked {
-        TerminalAsked::Width(width) => Terminal {
-            width: Some(width),
-            ..terminal
-        },
-        TerminalAsked::Color(color) => Terminal { color, ..terminal },
-        TerminalAsked::Unicode(unicode) => Terminal {
-            unicode,
-            ..terminal
-        },
-        TerminalAsked::Links(hyperlinks) => Terminal {
-            hyperlinks,
-            ..terminal
-        },
-        TerminalAsked::NoGraphics(text) => Terminal {
-            no_graphics: Some(String::from_str(alloc, text)?),
-            ..terminal
-        },
-    })
+    /// With a word whose value is a number.
+    fn with_number(self, word: &str, number: usize) -> Result<Arguments, Fault>
+        ensures { AreGiven (table.with_number word.now number (asked_of self)) result }
+    {
+        let Arguments {
+            choice,
+            options,
+            mut terminal,
+        } = self;
+        let options = match word {
+            "--width" => options.width(number),
+            "--context" => options.context_lines(number),
+            "--term-width" => {
+                terminal.width = Some(number);
+                options
+            }
+            _ => {
+                return Arguments {
+                    choice,
+                    options,
+                    terminal,
+                }
+                .with_count(word, number);
+            }
+        };
+        Ok(Arguments {
+            choice,
+            options,
+            terminal,
+        })
+    }
+
+    /// With a word whose value is a number from 1.
+    fn with_count(self, word: &str, count: usize) -> Result<Arguments, Fault>
+        ensures { AreGiven (table.with_count word.now count (asked_of self)) result }
+    {
+        if count == 0 {
+            return Err(Fault::Usage);
+        }
+        let Arguments {
+            choice,
+            options,
+            terminal,
+        } = self;
+        let options = match word {
+            "--tab" => options.tab_width(count),
+            "--label-lines" => options.label_lines(count),
+            "--line-columns" => options.line_columns(count),
+            _ => return Err(Fault::Usage),
+        };
+        Ok(Arguments {
+            choice,
+            options,
+            terminal,
+        })
+    }
+
+    /// With a word whose value is `yes` or `no`.
+    fn with_answer(self, word: &str, yes: bool) -> Result<Arguments, Fault>
+        ensures { AreGiven (table.with_answer word.now yes (asked_of self)) result }
+    {
+        let Arguments {
+            choice,
+            options,
+            mut terminal,
+        } = self;
+        let options = match word {
+            "--unicode" => options.unicode(yes),
+            "--color" => options.color(yes),
+            "--links" => options.terminal_links(yes),
+            "--chain" if yes => options.with_cause_chain(),
+            "--chain" => options.without_cause_chain(),
+            "--nested" if yes => options.show_related_errors_as_nested(),
+            "--nested" => options.show_related_errors_as_siblings(),
+            "--wrap" => options.wrap_lines(yes),
+            "--break" => options.break_words(yes),
+            "--hyphens" if yes => options.word_splitter(WordSplitter::HyphenSplitter),
+            "--hyphens" => options.word_splitter(WordSplitter::NoHyphenation),
+            "--end-labels" => options.end_labels(yes),
+            "--term-unicode" => {
+                terminal.unicode = yes;
+                options
+            }
+            "--term-links" => {
+                terminal.hyperlinks = yes;
+                options
+            }
+            _ => return Err(Fault::Usage),
+        };
+        Ok(Arguments {
+            choice,
+            options,
+            terminal,
+        })
+    }
+
+    /// With a word whose value is a name.
+    fn with_name(self, alloc: Global, word: &str, name: &str) -> Result<Arguments, Fault>
+        ensures { AreGiven (table.with_name word.now name.now (asked_of self)) result }
+    {
+        let Arguments {
+            choice,
+            options,
+            mut terminal,
+        } = self;
+        let options = match word {
+            "--theme" => options.graphical_theme(theme_named(alloc, name)?),
+            "--rgb" => options.rgb_colors(rgb_named(name).ok_or(Fault::Usage)?),
+            "--highlight" => {
+                let language = language_named(name).ok_or(Fault::Usage)?;
+                options.with_syntax_highlighting(LanguageHighlighter::new(alloc, language)?)
+            }
+            "--term-color" => {
+                terminal.color = color_named(name).ok_or(Fault::Usage)?;
+                options
+            }
+            _ => return Err(Fault::Usage),
+        };
+        Ok(Arguments {
+            choice,
+            options,
+            terminal,
+        })
+    }
 }

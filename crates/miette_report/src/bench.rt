@@ -1,7 +1,7 @@
 //! The program `bench`, which renders one report many times: speed is measured by it.
 
-ghost use Rattle.std.specs.Prelude.{◌≡◌, ◌⊎◌, ◌<◌, IfOk, IfSome, IsUtf8, OnErr, OnOk, None, drop, map, string_bytes};
-ghost use Rattle.miette_report.specs.rules.HandlerChoice.{choice_in};
+ghost use Rattle.std.specs.Prelude.{◌≡◌, ◌⊎◌, ◌<◌, IfOk, IfSome, IsUtf8, OnErr, OnOk, Some, None, drop, map, string_bytes};
+ghost use Rattle.miette_report.specs.rules.OptionWords.{chosen_by};
 ghost use Rattle.miette_description.specs.rules.Description.{tree_for};
 ghost use Rattle.miette_report.specs.rules.Job.{IsDescription, IsTelling, IsRefused};
 ghost use Rattle.miette_report.specs.rules.Faults.{status_of};
@@ -29,7 +29,7 @@ where
     ensures done { result ≡ 0 → IfSome (R.remaining reader) IsDescription }
     ensures description { result ≡ 3 → IfSome (R.remaining reader) (λ bytes. IsUtf8 bytes → tree_for bytes ≡ None) }
     ensures refused { result ≡ 4 → IfSome (R.remaining reader) IsRefused }
-    ensures narrated { result ≡ 4 → choice_in Choice.Build (map string_bytes (drop 1 words.now)) ≡ Choice.Build }
+    ensures narrated { result ≡ 4 → chosen_by (map string_bytes (drop 1 words.now)) ≡ Some Choice.Build }
 {
     match run(alloc, words, reader, writer) {
         Ok(()) => 0,
@@ -52,7 +52,7 @@ fn run<R: Read + Drop, W: Write + Drop>(
     writer: W,
 ) -> Result<(), Fault>
     ensures narrated { (result ≡ Err Fault.Refused) →
-        choice_in Choice.Build (map string_bytes (drop 1 words.now)) ≡ Choice.Build }
+        chosen_by (map string_bytes (drop 1 words.now)) ≡ Some Choice.Build }
     ensures described { OnOk result (IfSome (R.remaining reader) IsDescription) }
     ensures description { (result ≡ Err Fault.Description) →
         IfSome (R.remaining reader) (λ bytes. IsUtf8 bytes → tree_for bytes ≡ None) }
@@ -64,7 +64,7 @@ fn run<R: Read + Drop, W: Write + Drop>(
 
 /// How often to render, and by which settings.
 fn read_words(alloc: Global, words: &[String]) -> Result<(usize, Arguments), Fault>
-    ensures choice { IfOk result (λ it. it.1.choice ≡ choice_in Choice.Build (map string_bytes (drop 1 words.now))) }
+    ensures choice { IfOk result (λ it. chosen_by (map string_bytes (drop 1 words.now)) ≡ Some it.1.choice) }
     ensures others { OnErr result ((result ≡ Err Fault.Usage) ⊎ (result ≡ Err Fault.Memory)) }
 {
     let [times, options @ ..] = words else {

@@ -1,7 +1,7 @@
 //! The program `job`, over any reader and writers.
 
-ghost use Rattle.std.specs.Prelude.{◌≡◌, ◌<◌, IfSome, IsUtf8, OnOk, None, map, string_bytes};
-ghost use Rattle.miette_report.specs.rules.HandlerChoice.{choice_in};
+ghost use Rattle.std.specs.Prelude.{◌≡◌, ◌<◌, IfSome, IsUtf8, OnOk, Some, None, map, string_bytes};
+ghost use Rattle.miette_report.specs.rules.OptionWords.{chosen_by};
 ghost use Rattle.miette_description.specs.rules.Description.{tree_for};
 ghost use Rattle.miette_report.specs.rules.Job.{IsDescription, IsRefused};
 ghost use Rattle.miette_report.specs.rules.Faults.{status_of};
@@ -31,7 +31,7 @@ where
     ensures description { result ≡ 3 → IfSome (R.remaining reader) (λ bytes. IsUtf8 bytes → tree_for bytes ≡ None) }
     // Only a narrated or brief report is refused, and only for a label that isn't accepted.
     ensures refused { result ≡ 4 → IfSome (R.remaining reader) IsRefused }
-    ensures narrated { result ≡ 4 → choice_in Choice.Build (map string_bytes words.now) ≡ Choice.Build }
+    ensures narrated { result ≡ 4 → chosen_by (map string_bytes words.now) ≡ Some Choice.Build }
 {
     match run_asked(alloc, words, reader, writer) {
         Ok(()) => 0,
@@ -58,7 +58,7 @@ fn run_asked<R: Read + Drop, W: Write + Drop>(
         IfSome (R.remaining reader) (λ bytes. IsUtf8 bytes → tree_for bytes ≡ None) }
     ensures refused { (result ≡ Err Fault.Refused) → IfSome (R.remaining reader) IsRefused }
     ensures narrated { (result ≡ Err Fault.Refused) →
-        choice_in Choice.Build (map string_bytes words.now) ≡ Choice.Build }
+        chosen_by (map string_bytes words.now) ≡ Some Choice.Build }
 {
     let settings = Arguments::read(alloc, words)?;
     let mut reader = Device::new(reader);

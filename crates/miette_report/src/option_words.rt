@@ -1,15 +1,17 @@
-//! What each word asks for that a job may be called with.
+//! The words that a job may be called with.
 
-ghost use Rattle.std.specs.Prelude.{◌≡◌, ◌<◌, length, true, false, IfSome, IsNone, map, string_bytes};
-ghost use Rattle.std.specs.Option.{option_map};
-ghost use Rattle.miette_report.specs.rules.HandlerChoice.{chosen_by, choice_in, is_alone, named_choice};
-ghost use Rattle.miette_report.specs.rules.OptionWords.{answer_ask, colours_ask, first_ask, name_ask, number_ask};
-ghost use Rattle.miette_report.specs.rules.OptionWords.{text_ask, value_ask, word_ask};
-ghost use Rattle.miette_report.specs.steps.AskView.{ask_of, built_ask};
+ghost use Rattle.std.specs.Prelude.{◌≡◌, ◌<◌, length, IfSome, IsNone, map, string_bytes};
+ghost use Rattle.std.specs.Option.{option_and_then};
+ghost use Rattle.miette_style.specs.rules.Themes.{theme_of};
+ghost use Rattle.miette_report.specs.rules.OptionWords as table;
+ghost use Rattle.miette_report.specs.rules.OptionWords.{JobRequest, with_words, with_words_after};
+ghost use Rattle.miette_report.specs.steps.AskedWords.{IsGiven, with_asked};
 
+use crate::fault::Fault;
 use crate::language::Language;
-use crate::words::number;
 use miette::options::RgbColors;
+use miette::theme::GraphicalTheme;
+use std::alloc::Global;
 
 /// Which handler gives the text.
 #[derive(Clone, Copy, Debug, PartialEq, Eq)]
@@ -22,216 +24,116 @@ pub enum Choice {
     Debug,
 }
 
-/// What one word asks for, with its value.
+/// The first of the words, with what belongs to it.
 #[derive(Clone, Copy)]
-pub(crate) enum WordMeaning<'a> {
-    /// A handler.
-    Choice(Choice),
-    /// Something of the handler that is built.
-    Build(BuildAsked<'a>),
+pub(crate) enum Asked<'a> {
+    /// A word without a value.
+    Report(ReportAsked),
+    /// Any other word, and its value.
+    Value(&'a str, &'a str),
 }
 
-/// What the handler that is built goes by.
+/// Which report is asked for.
 #[derive(Clone, Copy)]
-pub(crate) enum BuildAsked<'a> {
-    /// Something of how it writes.
-    Option(OptionAsked<'a>),
-    /// Something that the terminal is or has.
-    Terminal(TerminalAsked<'a>),
-}
-
-/// What is asked for of the handler that is built.
-#[derive(Clone, Copy)]
-pub(crate) enum OptionAsked<'a> {
+pub(crate) enum ReportAsked {
+    Json,
+    Debug,
     Brief,
     Narrated,
     Graphical,
-    Width(usize),
-    Context(usize),
-    LabelLines(usize),
-    Tab(usize),
-    LineColumns(usize),
-    Theme(ThemeAsked),
-    Unicode(bool),
-    Color(bool),
-    Links(bool),
-    Chain(bool),
-    Break(bool),
-    Wrap(bool),
-    Hyphens(bool),
-    Nested(bool),
-    EndLabels(bool),
-    Rgb(RgbColors),
-    Footer(&'a str),
-    Highlight(Language),
 }
 
-/// What is said of the terminal.
-#[derive(Clone, Copy)]
-pub(crate) enum TerminalAsked<'a> {
-    Width(usize),
-    /// Whether it has 16 million colours; nothing where it has none.
-    Color(Option<bool>),
-    Unicode(bool),
-    Links(bool),
-    NoGraphics(&'a str),
-}
-
-/// A theme by its name.
-#[derive(Clone, Copy)]
-pub(crate) enum ThemeAsked {
-    Ascii,
-    Unicode,
-    UnicodeNocolor,
-    None,
-}
-
-/// What the first of the words ask for, and the words behind them. Nothing, where they ask for nothing that there is.
-pub(crate) fn first_asked<'a>(words: &'a [String]) -> Option<(WordMeaning<'a>, &'a [String])>
+/// The first of the words with what belongs to it, and the words after. Nothing where its value is missing.
+pub(crate) fn first_asked<'a>(words: &'a [String]) -> Option<(Asked<'a>, &'a [String])>
     ensures fewer { IfSome result (λ first. length first.1.now < length words.now) }
-    ensures choice { IfSome result (λ first. (choice : Choice) →
-        choice_in choice (map string_bytes words.now)
-        ≡ choice_in (chosen_by first.0 choice) (map string_bytes first.1.now)) }
-    ensures table { option_map (λ first. (ask_of first.0, map string_bytes first.1.now)) result
-        ≡ first_ask (map string_bytes words.now) }
+    ensures some { IfSome result (λ first. (r : JobRequest) → with_words (map string_bytes words.now) r
+        ≡ option_and_then (with_words (map string_bytes first.1.now)) (with_asked first.0 r)) }
+    ensures none { IsNone result → 0 < length words.now → (r : JobRequest) →
+        with_words (map string_bytes words.now) r ≡ None }
 {
     let [word, rest @ ..] = words else {
         return None;
     };
-    if let Some(asked) = alone(word.as_str()) {
-        return Some((asked, rest));
+    if let Some(report) = report_named(word.as_str()) {
+        return Some((Asked::Report(report), rest));
     }
-    let [value, rest @ ..] = rest else {
-        return None;
-    };
-    let asked = with_value(word.as_str(), value.as_str())?;
-    Some((WordMeaning::Build(asked), rest))
+    value_asked(word.as_str(), rest)
 }
 
-/// What a word without a value asks for.
-fn alone<'a>(word: &str) -> Option<WordMeaning<'a>>
-    ensures some { IfSome result (λ asked. (is_alone word.now ≡ true)
-        × ((choice : Choice) → chosen_by asked choice ≡ named_choice choice word.now)) }
-    ensures none { IsNone result → is_alone word.now ≡ false }
-    ensures table { option_map ask_of result ≡ word_ask word.now }
+/// A word with the first of these as its value, and the words after. Nothing where there is none.
+fn value_asked<'a>(word: &'a str, words: &'a [String]) -> Option<(Asked<'a>, &'a [String])>
+    ensures fewer { IfSome result (λ first. length first.1.now < length words.now) }
+    ensures some { IfSome result (λ first. (r : JobRequest) → with_words_after word.now (map string_bytes words.now) r
+        ≡ option_and_then (with_words (map string_bytes first.1.now)) (with_asked first.0 r)) }
+    ensures none { IsNone result → (r : JobRequest) →
+        with_words_after word.now (map string_bytes words.now) r ≡ None }
+{
+    let (value, rest) = words.split_first()?;
+    Some((Asked::Value(word, value.as_str()), rest))
+}
+
+/// The words without a value.
+fn report_named(word: &str) -> Option<ReportAsked>
+    ensures { result ≡ table.report_named word.now }
 {
     match word {
-        "--json" => Some(WordMeaning::Choice(Choice::Json)),
-        "--debug" => Some(WordMeaning::Choice(Choice::Debug)),
-        "--brief" => Some(WordMeaning::Build(BuildAsked::Option(OptionAsked::Brief))),
-        "--narrated" => Some(WordMeaning::Build(BuildAsked::Option(OptionAsked::Narrated))),
-        "--graphical" => Some(WordMeaning::Build(BuildAsked::Option(OptionAsked::Graphical))),
+        "--json" => Some(ReportAsked::Json),
+        "--debug" => Some(ReportAsked::Debug),
+        "--brief" => Some(ReportAsked::Brief),
+        "--narrated" => Some(ReportAsked::Narrated),
+        "--graphical" => Some(ReportAsked::Graphical),
         _ => None,
     }
 }
 
-/// What a word asks for with the word behind it as its value.
-fn with_value<'a>(word: &str, value: &'a str) -> Option<BuildAsked<'a>>
-    ensures { option_map built_ask result ≡ value_ask word.now value.now }
+/// The theme of a name.
+///
+/// # Errors
+/// `Usage` where there is none, and `Memory` where none is found for it.
+pub(crate) fn theme_named(alloc: Global, name: &str) -> Result<GraphicalTheme, Fault>
+    ensures { IsGiven theme_of (table.theme_named name.now) result }
 {
-    if let Some(asked) = text(word, value) {
-        return Some(asked);
-    }
-    if let Some(number) = number(value) {
-        return with_number(word, number);
-    }
-    match value {
-        "yes" => with_answer(word, true),
-        "no" => with_answer(word, false),
-        _ => with_name(word, value),
+    match name {
+        "ascii" => Ok(GraphicalTheme::ascii(alloc)?),
+        "unicode" => Ok(GraphicalTheme::unicode(alloc)?),
+        "unicode_nocolor" => Ok(GraphicalTheme::unicode_nocolor(alloc)?),
+        "none" => Ok(GraphicalTheme::none(alloc)?),
+        _ => Err(Fault::Usage),
     }
 }
 
-/// The words whose value is any text.
-fn text<'a>(word: &str, value: &'a str) -> Option<BuildAsked<'a>>
-    ensures { option_map built_ask result ≡ text_ask word.now value.now }
+/// Which colours are taken, by their name.
+pub(crate) fn rgb_named(name: &str) -> Option<RgbColors>
+    ensures { result ≡ table.rgb_named name.now }
 {
-    match word {
-        "--footer" => Some(BuildAsked::Option(OptionAsked::Footer(value))),
-        "--no-graphics" => Some(BuildAsked::Terminal(TerminalAsked::NoGraphics(value))),
+    match name {
+        "always" => Some(RgbColors::Always),
+        "preferred" => Some(RgbColors::Preferred),
+        "never" => Some(RgbColors::Never),
         _ => None,
     }
 }
 
-/// The words whose value is a number.
-fn with_number<'a>(word: &str, number: usize) -> Option<BuildAsked<'a>>
-    ensures { option_map built_ask result ≡ number_ask word.now number }
+/// The colours of a terminal by their name: whether it has 16 million, and nothing where it has none.
+pub(crate) fn color_named(name: &str) -> Option<Option<bool>>
+    ensures { result ≡ table.color_named name.now }
 {
-    match word {
-        "--width" => Some(BuildAsked::Option(OptionAsked::Width(number))),
-        "--context" => Some(BuildAsked::Option(OptionAsked::Context(number))),
-        "--label-lines" if number > 0 => {
-            Some(BuildAsked::Option(OptionAsked::LabelLines(number)))
-        }
-        "--tab" if number > 0 => Some(BuildAsked::Option(OptionAsked::Tab(number))),
-        "--line-columns" if number > 0 => {
-            Some(BuildAsked::Option(OptionAsked::LineColumns(number)))
-        }
-        "--term-width" => Some(BuildAsked::Terminal(TerminalAsked::Width(number))),
+    match name {
+        "none" => Some(None),
+        "ansi" => Some(Some(false)),
+        "rgb" => Some(Some(true)),
         _ => None,
     }
 }
 
-/// The words whose value is `yes` or `no`.
-fn with_answer<'a>(word: &str, yes: bool) -> Option<BuildAsked<'a>>
-    ensures { option_map built_ask result ≡ answer_ask word.now yes }
+/// The language of a name.
+pub(crate) fn language_named(name: &str) -> Option<Language>
+    ensures { result ≡ table.language_named name.now }
 {
-    let asked = match word {
-        "--unicode" => OptionAsked::Unicode(yes),
-        "--color" => OptionAsked::Color(yes),
-        "--links" => OptionAsked::Links(yes),
-        "--chain" => OptionAsked::Chain(yes),
-        "--break" => OptionAsked::Break(yes),
-        "--wrap" => OptionAsked::Wrap(yes),
-        "--hyphens" => OptionAsked::Hyphens(yes),
-        "--nested" => OptionAsked::Nested(yes),
-        "--end-labels" => OptionAsked::EndLabels(yes),
-        "--term-unicode" => return Some(BuildAsked::Terminal(TerminalAsked::Unicode(yes))),
-        "--term-links" => return Some(BuildAsked::Terminal(TerminalAsked::Links(yes))),
-        _ => return None,
-    };
-    Some(BuildAsked::Option(asked))
-}
-
-/// The words whose value is a name.
-fn with_name<'a>(word: &str, name: &str) -> Option<BuildAsked<'a>>
-    ensures { option_map built_ask result ≡ name_ask word.now name.now }
-{
-    let asked = match word {
-        "--theme" => match name {
-            "ascii" => OptionAsked::Theme(ThemeAsked::Ascii),
-            "unicode" => OptionAsked::Theme(ThemeAsked::Unicode),
-            "unicode_nocolor" => OptionAsked::Theme(ThemeAsked::UnicodeNocolor),
-            "none" => OptionAsked::Theme(ThemeAsked::None),
-            _ => return None,
-        },
-        "--rgb" => match name {
-            "always" => OptionAsked::Rgb(RgbColors::Always),
-            "preferred" => OptionAsked::Rgb(RgbColors::Preferred),
-            "never" => OptionAsked::Rgb(RgbColors::Never),
-            _ => return None,
-        },
-        "--highlight" => match name {
-            "toml" => OptionAsked::Highlight(Language::Toml),
-            "json" => OptionAsked::Highlight(Language::Json),
-            "rust" => OptionAsked::Highlight(Language::Rust),
-            _ => return None,
-        },
-        "--term-color" => return terminal_color(name),
-        _ => return None,
-    };
-    Some(BuildAsked::Option(asked))
-}
-
-/// The colours of the terminal by their names.
-fn terminal_color<'a>(name: &str) -> Option<BuildAsked<'a>>
-    ensures { option_map built_ask result ≡ colours_ask name.now }
-{
-    let color = match name {
-        "none" => None,
-        "ansi" => Some(false),
-        "rgb" => Some(true),
-        _ => return None,
-    };
-    Some(BuildAsked::Terminal(TerminalAsked::Color(color)))
+    match name {
+        "toml" => Some(Language::Toml),
+        "json" => Some(Language::Json),
+        "rust" => Some(Language::Rust),
+        _ => None,
+    }
 }

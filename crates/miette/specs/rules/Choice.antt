@@ -2,15 +2,14 @@
 -- does counts.
 use Rattle.std.specs.Prelude.{◌≡◌, ℕ, Bool, true, false, not, ◌&&◌, List, Option, None, is_some, if◌then◌else◌}
 use Rattle.std.specs.Prelude.{unwrap_or, option_map, chars, codes, string_bytes}
-use Rattle.std.specs.Option.{option_or}
 use Rattle.std.specs.Str.{bytes_eq}
 use Rattle.miette_style.specs.rules.Themes.{Styles, Theme, ansi_styles, ascii_characters, no_styles}
 use Rattle.miette_style.specs.rules.Themes.{rgb_styles, unicode_characters}
 use Rattle.miette_style.specs.declared.theme.Terminal.{Terminal}
 use Rattle.miette_brief.specs.rules.Report.{BriefSettings}
-use Rattle.miette_brief.specs.rules.Report as brief
 use Rattle.miette_narrated.specs.rules.Report as narrated
 use Rattle.miette_graphical.specs.views.Handling.{Handling}
+use Rattle.miette_graphical.specs.views.Modes.{splits}
 use Rattle.miette_graphical.specs.rules.Settings.{Settings, Urls, default_settings, links_shown}
 use Rattle.miette.specs.rules.Options.{Options}
 use Rattle.miette.specs.declared.options.builder.RgbColors.{RgbColors}
@@ -56,39 +55,33 @@ chosen_theme o t = unwrap_or o.theme (fitting_theme o t)
 abbrev pub chosen_highlighter : {H : Type 0} → Options H → Terminal → Option H
 chosen_highlighter o t = if takes_colours o t then o.highlighter else None
 
--- how pictures are drawn: what isn't set stays as it is
+-- how pictures are drawn
 abbrev pub picture_settings : {H : Type 0} → Options H → Terminal → Settings
 picture_settings o t =
-    let default = default_settings (chosen_theme o t).characters (chosen_theme o t).styles in
-    record default {
+    record (default_settings (chosen_theme o t).characters (chosen_theme o t).styles) {
+      tab = o.layout.tab_width;
+      context = o.layout.context_lines;
+      primary_start = o.layout.primary_start;
+      end_labels = o.layout.end_labels;
+      label_lines = o.layout.label_lines;
+      line_columns = o.layout.line_columns;
+      wraps = o.wrapping.wrap_lines;
+      breaks = o.wrapping.break_words;
+      hyphens = splits o.wrapping.word_splitter;
       width = chosen_width o t;
-      tab = unwrap_or o.tab default.tab;
-      line_columns = option_or o.line_columns default.line_columns;
-      context = unwrap_or o.context default.context;
       urls = chosen_urls o t;
-      chain = unwrap_or o.chain default.chain;
-      nested = unwrap_or o.nested default.nested;
-      wraps = unwrap_or o.wraps default.wraps;
-      breaks = unwrap_or o.breaks default.breaks;
-      hyphens = unwrap_or o.hyphens default.hyphens;
-      end_labels = unwrap_or o.end_labels default.end_labels;
-      label_lines = option_or o.label_lines default.label_lines;
-      footer = option_or (option_map chars o.footer) default.footer;
+      chain = o.cause_chain;
+      nested = o.related_as_nested;
+      footer = option_map chars o.footer;
     }
 
--- how reports are narrated: what isn't set stays as it is
+-- how reports are narrated
 abbrev pub narration_settings : {H : Type 0} → Options H → narrated.NarrationSettings
-narration_settings o =
-    let default = narrated.default_settings in
-    record {
-      chain = unwrap_or o.chain default.chain;
-      context = unwrap_or o.context default.context;
-      footer = option_or o.footer default.footer;
-    }
+narration_settings o = record { chain = o.cause_chain; context = o.layout.context_lines; footer = o.footer }
 
--- how reports are told in brief: what isn't set stays as it is
+-- how reports are told in brief
 abbrev pub brief_settings : {H : Type 0} → Options H → BriefSettings
-brief_settings o = record { chain = unwrap_or o.chain brief.default_settings.chain }
+brief_settings o = record { chain = o.cause_chain }
 
 -- the graphical handler that options and a terminal choose
 pub record IsDrawing {H : Type 0} (o : Options H) (t : Terminal) (it : Handling H) : Type 0 where

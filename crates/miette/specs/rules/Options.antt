@@ -1,6 +1,11 @@
--- What a user may ask for: each option as it was set last, or nothing. The parameter is the type of highlighters.
-use Rattle.std.specs.Prelude.{ℕ, Bool, false, List, Option, None}
+-- What a user may ask for, each option as it was set last. What is nothing is left to the terminal; layout, wrapping,
+-- causes and related reports are as a handler has them where they weren't set. The parameter is the type of highlighters.
+use Rattle.std.specs.Prelude.{ℕ, Bool, true, false, List, Option, None}
+use Rattle.miette_snippet_rules.specs.declared.options.LayoutOptions.{LayoutOptions}
 use Rattle.miette_style.specs.rules.Themes.{Theme}
+use Rattle.miette_text.specs.declared.wrap.WordSeparator.TheVariants.{AsciiSpace}
+use Rattle.miette_text.specs.declared.wrap.WordSplitter.TheVariants.{HyphenSplitter}
+use Rattle.miette.specs.declared.options.builder.Wrapping.{Wrapping}
 use Rattle.miette.specs.declared.options.builder.RgbColors.{RgbColors}
 use Rattle.miette.specs.declared.options.builder.RgbColors.TheVariants.{Never}
 
@@ -8,46 +13,54 @@ pub record Options (H : Type 0) : Type 0 where
   pub brief : Bool
   pub narrated : Option Bool
   pub graphical : Option Bool
-  pub width : Option ℕ
-  pub links : Option Bool
   pub theme : Option Theme
   pub unicode : Option Bool
   pub color : Option Bool
   pub rgb : RgbColors
+  pub layout : LayoutOptions
+  pub wrapping : Wrapping
+  pub width : Option ℕ
+  pub links : Option Bool
+  pub cause_chain : Bool
+  pub related_as_nested : Bool
   pub footer : Option (List ℕ)
-  pub context : Option ℕ
-  pub chain : Option Bool
-  pub tab : Option ℕ
-  pub line_columns : Option ℕ
-  pub nested : Option Bool
-  pub wraps : Option Bool
-  pub breaks : Option Bool
-  pub hyphens : Option Bool
-  pub end_labels : Option Bool
   pub highlighter : Option H
-  pub label_lines : Option ℕ
+
+-- TEMP
+abbrev pub default_layout : LayoutOptions
+default_layout = record {
+  tab_width = 4;
+  context_lines = 1;
+  primary_start = true;
+  end_labels = false;
+  label_lines = None;
+  line_columns = None;
+}
+
+-- TEMP
+abbrev pub default_wrapping : Wrapping
+default_wrapping = record {
+  wrap_lines = true;
+  break_words = true;
+  word_separator = AsciiSpace;
+  word_splitter = HyphenSplitter;
+}
 
 abbrev pub no_options : {H : Type 0} → Options H
 no_options = record {
   brief = false;
   narrated = None;
   graphical = None;
-  width = None;
-  links = None;
   theme = None;
   unicode = None;
   color = None;
   rgb = Never;
+  layout = default_layout;
+  wrapping = default_wrapping;
+  width = None;
+  links = None;
+  cause_chain = true;
+  related_as_nested = false;
   footer = None;
-  context = None;
-  chain = None;
-  tab = None;
-  line_columns = None;
-  nested = None;
-  wraps = None;
-  breaks = None;
-  hyphens = None;
-  end_labels = None;
   highlighter = None;
-  label_lines = None;
 }

@@ -1,13 +1,13 @@
 //! What a user may ask of a handler.
 
 ghost use Rattle.std.specs.Prelude.{◌≡◌, ◌↔◌, ◌≤◌, IsTrue, None, Some, false, string_bytes, true};
-ghost use Rattle.miette_graphical.specs.views.Modes.{splits};
 ghost use Rattle.miette_style.specs.rules.Themes.{theme_of};
-ghost use Rattle.miette.specs.rules.Options.{no_options};
+ghost use Rattle.miette.specs.rules.Options.{default_layout, default_wrapping, no_options};
 
 mod choice;
 
 use miette_highlight::highlight::Highlighter;
+use miette_snippet_rules::options::LayoutOptions;
 use miette_style::theme::GraphicalTheme;
 use miette_text::wrap::{WordSeparator, WordSplitter};
 use std::marker::Model;
@@ -32,8 +32,21 @@ pub fn rgb_colors_law()
     ensures default { (it : RgbColors) → ⟦<RgbColors as Default>⟧.is_default it → it ≡ RgbColors.Never }
 {}
 
-/// What a user asks of a handler. An option that is set twice counts as it was set last; of one that isn't set the
-/// terminal decides, or the handler's own default stays.
+/// How texts are wrapped.
+#[derive(Clone, Copy, Debug, PartialEq, Eq)]
+pub struct Wrapping {
+    /// Whether rows are wrapped to the width.
+    pub wrap_lines: bool,
+    /// Whether a word that is wider than its row is broken.
+    pub break_words: bool,
+    /// How words are told apart.
+    pub word_separator: WordSeparator,
+    /// Where words may be cut.
+    pub word_splitter: WordSplitter,
+}
+
+/// What a user asks of a handler. An option that is set twice counts as it was set last. Where one isn't set, the
+/// terminal decides what depends on it, and all else is as a handler has it of itself.
 ///
 /// Users write `MietteHandlerOpts`; the parameter is the type of the highlighter that is used. All calls but `build`
 /// take no memory.
@@ -42,30 +55,22 @@ pub struct MietteHandlerOpts<H = Box<dyn Highlighter>> {
     force_brief: bool,
     force_narrated: Option<bool>,
     force_graphical: Option<bool>,
-    width: Option<usize>,
-    links: Option<bool>,
     theme: Option<GraphicalTheme>,
     unicode: Option<bool>,
     color: Option<bool>,
     rgb_colors: RgbColors,
+    layout: LayoutOptions,
+    wrapping: Wrapping,
+    width: Option<usize>,
+    links: Option<bool>,
+    cause_chain: bool,
+    related_as_nested: bool,
     footer: Option<String>,
-    context_lines: Option<usize>,
-    cause_chain: Option<bool>,
-    tab_width: Option<usize>,
-    line_columns: Option<usize>,
-    related_as_nested: Option<bool>,
-    wrap_lines: Option<bool>,
-    break_words: Option<bool>,
-    word_separator: Option<WordSeparator>,
-    word_splitter: Option<WordSplitter>,
-    end_labels: Option<bool>,
     highlighter: Option<H>,
-    label_lines: Option<usize>,
 }
 
 impl<H> Model for MietteHandlerOpts<H> {
     ghost use Rattle.std.specs.Prelude.{◌≤◌, option_map, string_bytes, unwrap_or};
-    ghost use Rattle.miette_graphical.specs.views.Modes.{splits};
     ghost use Rattle.miette_style.specs.rules.Themes.{theme_of};
     ghost use Rattle.miette.specs.rules.Options.{Options};
 
@@ -75,27 +80,21 @@ impl<H> Model for MietteHandlerOpts<H> {
       brief = it.force_brief;
       narrated = it.force_narrated;
       graphical = it.force_graphical;
-      width = it.width;
-      links = it.links;
       theme = option_map theme_of it.theme;
       unicode = it.unicode;
       color = it.color;
       rgb = it.rgb_colors;
+      layout = it.layout;
+      wrapping = it.wrapping;
+      width = it.width;
+      links = it.links;
+      cause_chain = it.cause_chain;
+      related_as_nested = it.related_as_nested;
       footer = option_map string_bytes it.footer;
-      context = it.context_lines;
-      chain = it.cause_chain;
-      tab = it.tab_width;
-      line_columns = it.line_columns;
-      nested = it.related_as_nested;
-      wraps = it.wrap_lines;
-      breaks = it.break_words;
-      hyphens = option_map splits it.word_splitter;
-      end_labels = it.end_labels;
       highlighter = it.highlighter;
-      label_lines = it.label_lines;
     } };
 
-    ghost invariant = { λ it. (1 ≤ unwrap_or it.tab_width 1) × (1 ≤ unwrap_or it.label_lines 1) };
+    ghost invariant = { λ it. (1 ≤ it.layout.tab_width) × (1 ≤ unwrap_or it.layout.label_lines 1) };
 }
 
 impl<H> Default for MietteHandlerOpts<H> {
@@ -109,26 +108,45 @@ impl<H> Default for MietteHandlerOpts<H> {
             force_brief: false,
             force_narrated: None,
             force_graphical: None,
-            width: None,
-            links: None,
             theme: None,
             unicode: None,
             color: None,
             rgb_colors: RgbColors::Never,
+            layout: usual_layout(),
+            wrapping: usual_wrapping(),
+            width: None,
+            links: None,
+            cause_chain: true,
+            related_as_nested: false,
             footer: None,
-            context_lines: None,
-            cause_chain: None,
-            tab_width: None,
-            line_columns: None,
-            related_as_nested: None,
-            wrap_lines: None,
-            break_words: None,
-            word_separator: None,
-            word_splitter: None,
-            end_labels: None,
             highlighter: None,
-            label_lines: None,
         }
+    }
+}
+
+/// TEMP
+fn usual_layout() -> LayoutOptions
+    ensures { result ≡ default_layout }
+{
+    LayoutOptions {
+        tab_width: 4,
+        context_lines: 1,
+        primary_start: true,
+        end_labels: false,
+        label_lines: None,
+        line_columns: None,
+    }
+}
+
+/// TEMP
+fn usual_wrapping() -> Wrapping
+    ensures { result ≡ default_wrapping }
+{
+    Wrapping {
+        wrap_lines: true,
+        break_words: true,
+        word_separator: WordSeparator::AsciiSpace,
+        word_splitter: WordSplitter::HyphenSplitter,
     }
 }
 
@@ -184,65 +202,65 @@ impl<H: Highlighter> MietteHandlerOpts<H> {
 
     /// Whether rows are wrapped to the width.
     pub fn wrap_lines(mut self, wrap_lines: bool) -> Self
-        ensures { result ≡ record self { wraps = Some wrap_lines } }
+        ensures { result ≡ record self { wrapping = record self.wrapping { wrap_lines = wrap_lines } } }
     {
-        self.wrap_lines = Some(wrap_lines);
+        self.wrapping.wrap_lines = wrap_lines;
         self
     }
 
     /// Whether a word that is wider than its row is broken.
     pub fn break_words(mut self, break_words: bool) -> Self
-        ensures { result ≡ record self { breaks = Some break_words } }
+        ensures { result ≡ record self { wrapping = record self.wrapping { break_words = break_words } } }
     {
-        self.break_words = Some(break_words);
+        self.wrapping.break_words = break_words;
         self
     }
 
     /// How words are told apart. There is one way.
     pub fn word_separator(mut self, word_separator: WordSeparator) -> Self
-        ensures { result ≡ self }
+        ensures { result ≡ record self { wrapping = record self.wrapping { word_separator = word_separator } } }
     {
-        self.word_separator = Some(word_separator);
+        self.wrapping.word_separator = word_separator;
         self
     }
 
     /// Where words may be cut.
     pub fn word_splitter(mut self, word_splitter: WordSplitter) -> Self
-        ensures { result ≡ record self { hyphens = Some (splits word_splitter) } }
+        ensures { result ≡ record self { wrapping = record self.wrapping { word_splitter = word_splitter } } }
     {
-        self.word_splitter = Some(word_splitter);
+        self.wrapping.word_splitter = word_splitter;
         self
     }
 
     /// The causes of the report are shown, by each handler.
     pub fn with_cause_chain(mut self) -> Self
-        ensures { result ≡ record self { chain = Some true } }
+        ensures { result ≡ record self { cause_chain = true } }
     {
-        self.cause_chain = Some(true);
+        self.cause_chain = true;
         self
     }
 
     /// The causes of the report are not shown, by any handler.
     pub fn without_cause_chain(mut self) -> Self
-        ensures { result ≡ record self { chain = Some false } }
+        ensures { result ≡ record self { cause_chain = false } }
     {
-        self.cause_chain = Some(false);
+        self.cause_chain = false;
         self
     }
 
     /// Related reports stand one after another.
     pub fn show_related_errors_as_siblings(mut self) -> Self
-        ensures { result ≡ record self { nested = Some false } }
+        ensures { result ≡ record self { related_as_nested = false } }
     {
-        self.related_as_nested = Some(false);
+        self.related_as_nested = false;
         self
     }
 
     /// Related reports stand under arrows, as causes do.
     pub fn show_related_errors_as_nested(mut self) -> Self
-        ensures { result ≡ record self { nested = Some true } }
+        ensures { result ≡ record self { related_as_nested = true } }
     {
-        self.related_as_nested = Some(true);
+        self.related_as_nested = true;
         self
     }
 
@@ -306,18 +324,18 @@ impl<H: Highlighter> MietteHandlerOpts<H> {
     /// How many lines of context are shown around a label that has no number of its own, in pictures and
     /// narrated.
     pub fn context_lines(mut self, lines: usize) -> Self
-        ensures { result ≡ record self { context = Some lines } }
+        ensures { result ≡ record self { layout = record self.layout { context_lines = lines } } }
     {
-        self.context_lines = Some(lines);
+        self.layout.context_lines = lines;
         self
     }
 
     /// Whether a label at the end of a source that isn't empty is drawn in pictures, behind the text of the last line;
     /// else it isn't.
     pub fn end_labels(mut self, drawn: bool) -> Self
-        ensures { result ≡ record self { end_labels = Some drawn } }
+        ensures { result ≡ record self { layout = record self.layout { end_labels = drawn } } }
     {
-        self.end_labels = Some(drawn);
+        self.layout.end_labels = drawn;
         self
     }
 
@@ -325,27 +343,27 @@ impl<H: Highlighter> MietteHandlerOpts<H> {
     /// shown, and a row of dots stands for those between them. At least 1 is the caller's condition.
     pub fn label_lines(mut self, lines: usize) -> Self
         requires { 1 ≤ lines }
-        ensures { result ≡ record self { label_lines = Some lines } }
+        ensures { result ≡ record self { layout = record self.layout { label_lines = Some lines } } }
     {
-        self.label_lines = Some(lines);
+        self.layout.label_lines = Some(lines);
         self
     }
 
     /// Tabs go on to the next multiple of so many columns. At least 1 is the caller's condition.
     pub fn tab_width(mut self, width: usize) -> Self
         requires { 1 ≤ width }
-        ensures { result ≡ record self { tab = Some width } }
+        ensures { result ≡ record self { layout = record self.layout { tab_width = width } } }
     {
-        self.tab_width = Some(width);
+        self.layout.tab_width = width;
         self
     }
 
     /// A line of more than so many columns is cut in pictures: it shows what stands near its labels, and dots in place
     /// of the rest.
     pub fn line_columns(mut self, columns: usize) -> Self
-        ensures { result ≡ record self { line_columns = Some columns } }
+        ensures { result ≡ record self { layout = record self.layout { line_columns = Some columns } } }
     {
-        self.line_columns = Some(columns);
+        self.layout.line_columns = Some(columns);
         self
     }
 }

@@ -1,12 +1,13 @@
 -- What the words of `job` and `bench` ask for: a table from words to the handler, its options and the terminal.
-use Rattle.std.specs.Prelude.{◌≡◌, ◌==◌, ℕ, max, Bool, true, false, ◌&&◌, List, [], ◌∷◌, length, Option, Some, None}
-use Rattle.std.specs.Prelude.{is_some, if◌then◌else◌}
-use Rattle.std.specs.Prelude.{nat_lt, ◌^◌, codes, bytes_eq, string_bytes}
-use Rattle.std.specs.Option.{option_map}
+use Rattle.std.specs.Prelude.{◌≡◌, ◌==◌, ℕ, Bool, true, false, ◌&&◌, List, [], ◌∷◌, length, Option, Some, None}
+use Rattle.std.specs.Prelude.{if◌then◌else◌, nat_lt, ◌^◌, codes, bytes_eq, string_bytes}
+use Rattle.std.specs.Option.{option_map, option_map_or, option_and_then}
 use Rattle.std.specs.Str.{all_ascii_digits}
 use Rattle.std.specs.Str.Parse.{digits_value}
 use Rattle.miette_style.specs.rules.Themes.{Theme, ansi_styles, ascii_characters, no_styles, unicode_characters}
 use Rattle.miette_style.specs.declared.theme.Terminal.{Terminal}
+use Rattle.miette_text.specs.declared.wrap.WordSplitter.{WordSplitter}
+use Rattle.miette_text.specs.declared.wrap.WordSplitter.TheVariants.{HyphenSplitter, NoHyphenation}
 use Rattle.miette.specs.rules.Options.{Options, no_options}
 use Rattle.miette.specs.declared.options.builder.RgbColors.{RgbColors}
 use Rattle.miette.specs.declared.options.builder.RgbColors.TheVariants.{Always, Preferred, Never}
@@ -15,152 +16,10 @@ use Rattle.miette_report.specs.declared.language.Language.TheVariants as languag
 use Rattle.miette_report.specs.declared.language.LanguageHighlighter.{LanguageHighlighter}
 use Rattle.miette_report.specs.declared.option_words.Choice.{Choice}
 use Rattle.miette_report.specs.declared.option_words.Choice.TheVariants.{Build, Json, Debug}
+use Rattle.miette_report.specs.declared.option_words.ReportAsked.{ReportAsked}
+use Rattle.miette_report.specs.declared.option_words.ReportAsked.TheVariants as report
 
 -- ---- what may be asked for
-
--- of how the handler that is built writes
-pub data OptionAsk : Type 0 where
-  Brief : OptionAsk
-  Narrated : OptionAsk
-  Graphical : OptionAsk
-  Width : ℕ → OptionAsk
-  Context : ℕ → OptionAsk
-  LabelLines : ℕ → OptionAsk
-  Tab : ℕ → OptionAsk
-  LineColumns : ℕ → OptionAsk
-  Drawn : Theme → OptionAsk
-  Unicode : Bool → OptionAsk
-  Color : Bool → OptionAsk
-  Links : Bool → OptionAsk
-  Chain : Bool → OptionAsk
-  Break : Bool → OptionAsk
-  Wrap : Bool → OptionAsk
-  Hyphens : Bool → OptionAsk
-  Nested : Bool → OptionAsk
-  EndLabels : Bool → OptionAsk
-  Rgb : RgbColors → OptionAsk
-  Footer : List ℕ → OptionAsk
-  Highlighted : Language → OptionAsk
-
--- of what the terminal is or has
-pub data TerminalAsk : Type 0 where
-  Columns : ℕ → TerminalAsk
-  Colours : Option Bool → TerminalAsk
-  DrawsUnicode : Bool → TerminalAsk
-  ShowsLinks : Bool → TerminalAsk
-  NoGraphics : List ℕ → TerminalAsk
-
-pub data Ask : Type 0 where
-  OfHandler : Choice → Ask
-  OfOptions : OptionAsk → Ask
-  OfTerminal : TerminalAsk → Ask
-
--- ---- the table
-
--- a word without a value
-abbrev pub word_ask : List ℕ → Option Ask
-word_ask word =
-    if bytes_eq word (codes "--json") then Some (OfHandler Json)
-    else (if bytes_eq word (codes "--debug") then Some (OfHandler Debug)
-    else (if bytes_eq word (codes "--brief") then Some (OfOptions Brief)
-    else (if bytes_eq word (codes "--narrated") then Some (OfOptions Narrated)
-    else (if bytes_eq word (codes "--graphical") then Some (OfOptions Graphical) else None))))
-
--- a word whose value is any text
-abbrev pub text_ask : List ℕ → List ℕ → Option Ask
-text_ask word value =
-    if bytes_eq word (codes "--footer") then Some (OfOptions (Footer value))
-    else (if bytes_eq word (codes "--no-graphics") then Some (OfTerminal (NoGraphics value)) else None)
-
--- a word whose value is a number; tabs and lines of no columns, and labels of no lines, can't be asked for
-abbrev pub number_ask : List ℕ → ℕ → Option Ask
-number_ask word n =
-    if bytes_eq word (codes "--width") then Some (OfOptions (Width n))
-    else (if bytes_eq word (codes "--context") then Some (OfOptions (Context n))
-    else (if bytes_eq word (codes "--label-lines") then (if n == 0 then None else Some (OfOptions (LabelLines n)))
-    else (if bytes_eq word (codes "--tab") then (if n == 0 then None else Some (OfOptions (Tab n)))
-    else (if bytes_eq word (codes "--line-columns") then (if n == 0 then None else Some (OfOptions (LineColumns n)))
-    else (if bytes_eq word (codes "--term-width") then Some (OfTerminal (Columns n)) else None)))))
-
--- a word whose value is `yes` or `no`
-abbrev pub answer_ask : List ℕ → Bool → Option Ask
-answer_ask word on =
-    if bytes_eq word (codes "--unicode") then Some (OfOptions (Unicode on))
-    else (if bytes_eq word (codes "--color") then Some (OfOptions (Color on))
-    else (if bytes_eq word (codes "--links") then Some (OfOptions (Links on))
-    else (if bytes_eq word (codes "--chain") then Some (OfOptions (Chain on))
-    else (if bytes_eq word (codes "--break") then Some (OfOptions (Break on))
-    else (if bytes_eq word (codes "--wrap") then Some (OfOptions (Wrap on))
-    else (if bytes_eq word (codes "--hyphens") then Some (OfOptions (Hyphens on))
-    else (if bytes_eq word (codes "--nested") then Some (OfOptions (Nested on))
-    else (if bytes_eq word (codes "--end-labels") then Some (OfOptions (EndLabels on))
-    else (if bytes_eq word (codes "--term-unicode") then Some (OfTerminal (DrawsUnicode on))
-    else (if bytes_eq word (codes "--term-links") then Some (OfTerminal (ShowsLinks on)) else None))))))))))
-
--- the themes by their names
-abbrev pub theme_ask : List ℕ → Option Ask
-theme_ask name =
-    if bytes_eq name (codes "ascii")
-    then Some (OfOptions (Drawn (record { characters = ascii_characters; styles = ansi_styles })))
-    else (if bytes_eq name (codes "unicode")
-    then Some (OfOptions (Drawn (record { characters = unicode_characters; styles = ansi_styles })))
-    else (if bytes_eq name (codes "unicode_nocolor")
-    then Some (OfOptions (Drawn (record { characters = unicode_characters; styles = no_styles })))
-    else (if bytes_eq name (codes "none")
-    then Some (OfOptions (Drawn (record { characters = ascii_characters; styles = no_styles }))) else None)))
-
-abbrev pub rgb_ask : List ℕ → Option Ask
-rgb_ask name =
-    if bytes_eq name (codes "always") then Some (OfOptions (Rgb Always))
-    else (if bytes_eq name (codes "preferred") then Some (OfOptions (Rgb Preferred))
-    else (if bytes_eq name (codes "never") then Some (OfOptions (Rgb Never)) else None))
-
-abbrev pub colours_ask : List ℕ → Option Ask
-colours_ask name =
-    if bytes_eq name (codes "none") then Some (OfTerminal (Colours None))
-    else (if bytes_eq name (codes "ansi") then Some (OfTerminal (Colours (Some false)))
-    else (if bytes_eq name (codes "rgb") then Some (OfTerminal (Colours (Some true))) else None))
-
--- the languages by their names
-abbrev pub language_ask : List ℕ → Option Ask
-language_ask name =
-    if bytes_eq name (codes "toml") then Some (OfOptions (Highlighted language.Toml))
-    else (if bytes_eq name (codes "json") then Some (OfOptions (Highlighted language.Json))
-    else (if bytes_eq name (codes "rust") then Some (OfOptions (Highlighted language.Rust)) else None))
-
--- a word whose value is a name
-abbrev pub name_ask : List ℕ → List ℕ → Option Ask
-name_ask word name =
-    if bytes_eq word (codes "--theme") then theme_ask name
-    else (if bytes_eq word (codes "--rgb") then rgb_ask name
-    else (if bytes_eq word (codes "--term-color") then colours_ask name
-    else (if bytes_eq word (codes "--highlight") then language_ask name else None)))
-
--- the number that a word writes: one digit or more and nothing else, below 2 ^ 64
-abbrev pub read_number : List ℕ → Option ℕ
-read_number word =
-    if (nat_lt 0 (length word) && all_ascii_digits word) && nat_lt (digits_value 10 word) (2 ^ 64)
-    then Some (digits_value 10 word) else None
-
--- a word with a value that is no number
-abbrev pub other_ask : List ℕ → List ℕ → Option Ask
-other_ask word value =
-    if bytes_eq value (codes "yes") then answer_ask word true
-    else (if bytes_eq value (codes "no") then answer_ask word false else name_ask word value)
-
-abbrev pub numbered_ask : List ℕ → List ℕ → Option ℕ → Option Ask
-numbered_ask word value (Some n) = number_ask word n
-numbered_ask word value None = other_ask word value
-
-abbrev pub unless_text : List ℕ → List ℕ → Option Ask → Option Ask
-unless_text word value (Some ask) = Some ask
-unless_text word value None = numbered_ask word value (read_number value)
-
--- a word with the word behind it as its value
-abbrev pub value_ask : List ℕ → List ℕ → Option Ask
-value_ask word value = unless_text word value (text_ask word value)
-
--- ---- what is asked for by all words
 
 -- what the text goes to, its texts as bytes
 pub record Facts : Type 0 where
@@ -185,10 +44,11 @@ facts_of t = record {
   no_color = option_map string_bytes t.no_color;
 }
 
--- the handler, its options with a language in place of a highlighter, and the terminal
+-- the handler, its options with the language of their highlighter beside them, and what the terminal is and has
 pub record JobRequest : Type 0 where
   pub choice : Choice
-  pub options : Options Language
+  pub options : Options LanguageHighlighter
+  pub language : Option Language
   pub facts : Facts
 
 -- where nothing is asked for
@@ -196,6 +56,7 @@ abbrev pub nothing_asked : JobRequest
 nothing_asked = record {
   choice = Build;
   options = no_options;
+  language = None;
   facts = record {
     width = None;
     color = None;
@@ -208,108 +69,167 @@ nothing_asked = record {
   };
 }
 
--- options with the language of their highlighter in its place
-abbrev pub by_language : Options LanguageHighlighter → Options Language
-by_language o = record {
-  brief = o.brief;
-  narrated = o.narrated;
-  graphical = o.graphical;
-  width = o.width;
-  links = o.links;
-  theme = o.theme;
-  unicode = o.unicode;
-  color = o.color;
-  rgb = o.rgb;
-  footer = o.footer;
-  context = o.context;
-  chain = o.chain;
-  tab = o.tab;
-  line_columns = o.line_columns;
-  nested = o.nested;
-  wraps = o.wraps;
-  breaks = o.breaks;
-  hyphens = o.hyphens;
-  end_labels = o.end_labels;
-  highlighter = option_map (λ it. it.language) o.highlighter;
-  label_lines = o.label_lines;
-}
-
--- the handler, its options, and what a terminal is and has
 abbrev pub request_of : Choice → Options LanguageHighlighter → Terminal → JobRequest
 request_of choice options terminal = record {
   choice = choice;
-  options = by_language options;
+  options = record options { highlighter = None };
+  language = option_map (λ it. it.language) options.highlighter;
   facts = facts_of terminal;
 }
 
--- Options with one thing more, in place of what was asked for it before.
-abbrev pub options_with : OptionAsk → Options Language → Options Language
-options_with Brief o = record o { brief = true }
-options_with Narrated o = record o { narrated = Some true }
-options_with Graphical o = record o { graphical = Some true }
-options_with (Width n) o = record o { width = Some n }
-options_with (Context n) o = record o { context = Some n }
-options_with (LabelLines n) o = record o { label_lines = Some (max n 1) }
-options_with (Tab n) o = record o { tab = Some (max n 1) }
-options_with (LineColumns n) o = record o { line_columns = Some n }
-options_with (Drawn theme) o = record o { theme = Some theme }
-options_with (Unicode on) o = record o { unicode = Some on }
-options_with (Color on) o = record o { color = Some on }
-options_with (Links on) o = record o { links = Some on }
-options_with (Chain on) o = record o { chain = Some on }
-options_with (Break on) o = record o { breaks = Some on }
-options_with (Wrap on) o = record o { wraps = Some on }
-options_with (Hyphens on) o = record o { hyphens = Some on }
-options_with (Nested on) o = record o { nested = Some on }
-options_with (EndLabels on) o = record o { end_labels = Some on }
-options_with (Rgb colors) o = record o { rgb = colors }
-options_with (Footer text) o = record o { footer = Some text }
-options_with (Highlighted it) o = record o { highlighter = Some it }
+-- with these options, or with this language or terminal, in place of those before
+abbrev pub asks : JobRequest → Options LanguageHighlighter → Option JobRequest
+asks r options = Some (record r { options = options })
 
-abbrev pub facts_with : TerminalAsk → Facts → Facts
-facts_with (Columns n) f = record f { width = Some n }
-facts_with (Colours color) f = record f { color = color }
-facts_with (DrawsUnicode on) f = record f { unicode = on }
-facts_with (ShowsLinks on) f = record f { hyperlinks = on }
-facts_with (NoGraphics text) f = record f { no_graphics = Some text }
+abbrev pub highlights : JobRequest → Language → Option JobRequest
+highlights r it = Some (record r { language = Some it })
 
-abbrev pub with_ask : Ask → JobRequest → JobRequest
-with_ask (OfHandler choice) w = record w { choice = choice }
-with_ask (OfOptions ask) w = record w { options = options_with ask w.options }
-with_ask (OfTerminal ask) w = record w { facts = facts_with ask w.facts }
+abbrev pub knows : JobRequest → Facts → Option JobRequest
+knows r facts = Some (record r { facts = facts })
 
--- with all that is asked for, one after another
-abbrev pub with_all : List Ask → JobRequest → JobRequest
-with_all [] w = w
-with_all (ask ∷ asks) w = with_all asks (with_ask ask w)
+-- ---- the table: what is asked for with one word more, and nothing where there is no such word
 
--- what the first words ask for, and the words behind them
-abbrev pub first_from : List ℕ → List (List ℕ) → Option Ask → Option (Ask × List (List ℕ))
-first_from word words (Some ask) = Some (ask, words)
-first_from word [] None = None
-first_from word (value ∷ words) None = option_map (λ ask. (ask, words)) (value_ask word value)
+-- a word without a value
+abbrev pub report_named : List ℕ → Option ReportAsked
+report_named word =
+    if bytes_eq word (codes "--json") then Some report.Json
+    else (if bytes_eq word (codes "--debug") then Some report.Debug
+    else (if bytes_eq word (codes "--brief") then Some report.Brief
+    else (if bytes_eq word (codes "--narrated") then Some report.Narrated
+    else (if bytes_eq word (codes "--graphical") then Some report.Graphical else None))))
 
-abbrev pub first_ask : List (List ℕ) → Option (Ask × List (List ℕ))
-first_ask [] = None
-first_ask (word ∷ words) = first_from word words (word_ask word)
+abbrev pub with_report : ReportAsked → JobRequest → JobRequest
+with_report report.Json r = record r { choice = Json }
+with_report report.Debug r = record r { choice = Debug }
+with_report report.Brief r = record r { options = record r.options { brief = true } }
+with_report report.Narrated r = record r { options = record r.options { narrated = Some true } }
+with_report report.Graphical r = record r { options = record r.options { graphical = Some true } }
 
-abbrev pub onto : Option Ask → Option (List Ask) → Option (List Ask)
-onto None asks = None
-onto (Some ask) None = None
-onto (Some ask) (Some asks) = Some (ask ∷ asks)
+-- a word whose value is a number from 1
+abbrev pub with_count : List ℕ → ℕ → JobRequest → Option JobRequest
+with_count word n r =
+    let o = r.options in
+    if n == 0 then None
+    else (if bytes_eq word (codes "--tab") then asks r (record o { layout = record o.layout { tab_width = n } })
+    else (if bytes_eq word (codes "--label-lines")
+    then asks r (record o { layout = record o.layout { label_lines = Some n } })
+    else (if bytes_eq word (codes "--line-columns")
+    then asks r (record o { layout = record o.layout { line_columns = Some n } }) else None)))
 
--- what all words ask for, word by word; nothing where some word asks for nothing that there is
+-- a word whose value is a number
+abbrev pub with_number : List ℕ → ℕ → JobRequest → Option JobRequest
+with_number word n r =
+    let o = r.options in
+    if bytes_eq word (codes "--width") then asks r (record o { width = Some n })
+    else (if bytes_eq word (codes "--context") then asks r (record o { layout = record o.layout { context_lines = n } })
+    else (if bytes_eq word (codes "--term-width") then knows r (record r.facts { width = Some n })
+    else with_count word n r))
+
+-- where words may be cut, where it is at hyphens or not
+abbrev pub splitter : Bool → WordSplitter
+splitter true = HyphenSplitter
+splitter false = NoHyphenation
+
+-- a word whose value is `yes` or `no`
+abbrev pub with_answer : List ℕ → Bool → JobRequest → Option JobRequest
+with_answer word on r =
+    let o = r.options in
+    if bytes_eq word (codes "--unicode") then asks r (record o { unicode = Some on })
+    else (if bytes_eq word (codes "--color") then asks r (record o { color = Some on })
+    else (if bytes_eq word (codes "--links") then asks r (record o { links = Some on })
+    else (if bytes_eq word (codes "--chain") then asks r (record o { cause_chain = on })
+    else (if bytes_eq word (codes "--nested") then asks r (record o { related_as_nested = on })
+    else (if bytes_eq word (codes "--wrap") then asks r (record o { wrapping = record o.wrapping { wrap_lines = on } })
+    else (if bytes_eq word (codes "--break") then asks r (record o { wrapping = record o.wrapping { break_words = on } })
+    else (if bytes_eq word (codes "--hyphens")
+    then asks r (record o { wrapping = record o.wrapping { word_splitter = splitter on } })
+    else (if bytes_eq word (codes "--end-labels")
+    then asks r (record o { layout = record o.layout { end_labels = on } })
+    else (if bytes_eq word (codes "--term-unicode") then knows r (record r.facts { unicode = on })
+    else (if bytes_eq word (codes "--term-links") then knows r (record r.facts { hyperlinks = on }) else None))))))))))
+
+abbrev pub theme_named : List ℕ → Option Theme
+theme_named name =
+    if bytes_eq name (codes "ascii") then Some (record { characters = ascii_characters; styles = ansi_styles })
+    else (if bytes_eq name (codes "unicode") then Some (record { characters = unicode_characters; styles = ansi_styles })
+    else (if bytes_eq name (codes "unicode_nocolor")
+    then Some (record { characters = unicode_characters; styles = no_styles })
+    else (if bytes_eq name (codes "none") then Some (record { characters = ascii_characters; styles = no_styles })
+    else None)))
+
+abbrev pub rgb_named : List ℕ → Option RgbColors
+rgb_named name =
+    if bytes_eq name (codes "always") then Some Always
+    else (if bytes_eq name (codes "preferred") then Some Preferred
+    else (if bytes_eq name (codes "never") then Some Never else None))
+
+-- the colours of a terminal
+abbrev pub color_named : List ℕ → Option (Option Bool)
+color_named name =
+    if bytes_eq name (codes "none") then Some None
+    else (if bytes_eq name (codes "ansi") then Some (Some false)
+    else (if bytes_eq name (codes "rgb") then Some (Some true) else None))
+
+abbrev pub language_named : List ℕ → Option Language
+language_named name =
+    if bytes_eq name (codes "toml") then Some language.Toml
+    else (if bytes_eq name (codes "json") then Some language.Json
+    else (if bytes_eq name (codes "rust") then Some language.Rust else None))
+
+-- a word whose value is a name
+abbrev pub with_name : List ℕ → List ℕ → JobRequest → Option JobRequest
+with_name word name r =
+    let o = r.options in
+    if bytes_eq word (codes "--theme")
+    then option_and_then (λ theme. asks r (record o { theme = Some theme })) (theme_named name)
+    else (if bytes_eq word (codes "--rgb")
+    then option_and_then (λ colors. asks r (record o { rgb = colors })) (rgb_named name)
+    else (if bytes_eq word (codes "--highlight") then option_and_then (highlights r) (language_named name)
+    else (if bytes_eq word (codes "--term-color")
+    then option_and_then (λ color. knows r (record r.facts { color = color })) (color_named name)
+    else None)))
+
+-- the number that a word writes: one digit or more and nothing else, below 2 ^ 64
+abbrev pub read_number : List ℕ → Option ℕ
+read_number word =
+    if (nat_lt 0 (length word) && all_ascii_digits word) && nat_lt (digits_value 10 word) (2 ^ 64)
+    then Some (digits_value 10 word) else None
+
+-- a word whose value is a number, `yes`, `no` or a name
+abbrev pub with_read : List ℕ → List ℕ → JobRequest → Option JobRequest
+with_read word value r =
+    option_map_or (λ n. with_number word n r) (read_number value)
+    (if bytes_eq value (codes "yes") then with_answer word true r
+    else (if bytes_eq value (codes "no") then with_answer word false r else with_name word value r))
+
+-- a word with the word after it as its value, which of two words is any text
+abbrev pub with_value : List ℕ → List ℕ → JobRequest → Option JobRequest
+with_value word value r =
+    if bytes_eq word (codes "--footer") then asks r (record r.options { footer = Some value })
+    else (if bytes_eq word (codes "--no-graphics") then knows r (record r.facts { no_graphics = Some value })
+    else with_read word value r)
+
+-- ---- what all words ask for
+
+-- one word after another; nothing where some word asks for nothing that there is
 abbrev mutual
-  pub asked_by : List (List ℕ) → Option (List Ask)
-  asked_by [] = Some []
-  asked_by (word ∷ words) = if is_some (word_ask word) then onto (word_ask word) (asked_by words)
-      else asked_behind word words
+  pub with_words : List (List ℕ) → JobRequest → Option JobRequest
+  with_words [] r = Some r
+  with_words (word ∷ words) r =
+      option_map_or (λ asked. with_words words (with_report asked r)) (report_named word)
+      (with_words_after word words r)
 
-  pub asked_behind : List ℕ → List (List ℕ) → Option (List Ask)
-  asked_behind word [] = None
-  asked_behind word (value ∷ words) = onto (value_ask word value) (asked_by words)
+  pub with_words_after : List ℕ → List (List ℕ) → JobRequest → Option JobRequest
+  with_words_after word [] r = None
+  with_words_after word (value ∷ words) r = option_and_then (with_words words) (with_value word value r)
+
+abbrev pub asked_by : List (List ℕ) → Option JobRequest
+asked_by words = with_words words nothing_asked
+
+-- the handler that they choose: that of the last of `--json` and `--debug` which is no value, or the one that is built
+abbrev pub chosen_by : List (List ℕ) → Option Choice
+chosen_by words = option_map (λ r. r.choice) (asked_by words)
 
 -- these settings are what the words ask for by the table
 abbrev pub AreWanted : List (List ℕ) → Choice → Options LanguageHighlighter → Terminal → Type 0
-AreWanted words choice options terminal =
-    option_map (λ asks. with_all asks nothing_asked) (asked_by words) ≡ Some (request_of choice options terminal)
+AreWanted words choice options terminal = asked_by words ≡ Some (request_of choice options terminal)

@@ -1,46 +1,21 @@
 //! From options and a terminal to a handler.
 
-ghost use Rattle.std.specs.Prelude.{◌≡◌, IfOk, None, chars, option_map, unwrap_or};
-ghost use Rattle.std.specs.Option.{option_or};
+ghost use Rattle.std.specs.Prelude.{◌≡◌, ◌≤◌, IfOk, None, chars, option_map, unwrap_or};
+ghost use Rattle.miette_graphical.specs.views.Modes.{splits};
 ghost use Rattle.miette_style.specs.rules.Themes.{characters_of, styles_of, theme_of};
 ghost use Rattle.miette.specs.rules.Choice.{IsChosen, IsDrawing, chosen_highlighter, chosen_theme, chosen_width};
 ghost use Rattle.miette.specs.rules.Choice.{brief_settings, coloured_styles, fitting_theme, is_graphical};
 ghost use Rattle.miette.specs.rules.Choice.{takes_colours, narration_settings};
 
-use crate::options::builder::{MietteHandlerOpts, RgbColors};
+use crate::options::builder::{MietteHandlerOpts, RgbColors, Wrapping};
 use crate::options::handler::MietteHandler;
 use miette_handlers::handlers::{
     BriefReportHandler, GraphicalReportHandler, NarratableReportHandler,
 };
 use miette_highlight::highlight::Highlighter;
+use miette_snippet_rules::options::LayoutOptions;
 use miette_style::theme::{GraphicalTheme, Terminal, ThemeCharacters, ThemeStyles};
 use std::alloc::{AllocError, Global};
-
-/// A graphical or a narrating handler with the causes, the context and the footer of options.
-macro_rules! with_parts {
-    ($handler:expr, $options:expr) => {{
-        let MietteHandlerOpts {
-            cause_chain,
-            context_lines,
-            footer,
-            ..
-        } = $options;
-        let handler = $handler;
-        let handler = match cause_chain {
-            Some(true) => handler.with_cause_chain(),
-            Some(false) => handler.without_cause_chain(),
-            None => handler,
-        };
-        let handler = match context_lines {
-            Some(lines) => handler.with_context_lines(lines),
-            None => handler,
-        };
-        match footer {
-            Some(footer) => handler.with_footer(footer),
-            None => handler,
-        }
-    }};
-}
 
 impl<H: Highlighter> MietteHandlerOpts<H> {
     /// The handler that these options and a terminal choose. What isn't set stays as the handler has it.
@@ -67,14 +42,15 @@ impl<H: Highlighter> MietteHandlerOpts<H> {
         ensures { IfOk result (IsDrawing self terminal.now) }
     {
         let theme = self.take_theme(alloc, terminal)?;
+        let highlighter = self.take_highlighter(terminal);
         let handler = GraphicalReportHandler::themed(theme)
             .with_width(self.chosen_width(terminal))
             .with_links(self.shows_links(terminal));
-        let handler = self.with_tabs_and_related(handler);
-        let handler = self.with_end_labels(handler);
-        let handler = self.with_cut_lines(handler);
-        let handler = self.with_wrapping(handler);
-        let handler = self.with_highlighter(handler, terminal);
+        let handler = with_layout(self.layout, with_wrapping(self.wrapping, handler));
+        let handler = match highlighter {
+            Some(highlighter) => handler.with_syntax_highlighting(highlighter),
+            None => handler,
+        };
         Ok(self.with_parts(handler))
     }
 
@@ -98,17 +74,31 @@ impl<H: Highlighter> MietteHandlerOpts<H> {
     fn narrated_handler(self) -> NarratableReportHandler
         ensures { result ≡ narration_settings self }
     {
-        with_parts!(NarratableReportHandler::new(), self)
+        let MietteHandlerOpts {
+            layout,
+            cause_chain,
+            footer,
+            ..
+        } = self;
+        let handler = NarratableReportHandler::new().with_context_lines(layout.context_lines);
+        let handler = if cause_chain {
+            handler.with_cause_chain()
+        } else {
+            handler.without_cause_chain()
+        };
+        match footer {
+            Some(footer) => handler.with_footer(footer),
+            None => handler,
+        }
     }
 
     fn brief_handler(&self) -> BriefReportHandler
         ensures { result ≡ brief_settings self.now }
     {
-        let handler = BriefReportHandler::new();
-        match self.cause_chain {
-            Some(true) => handler.with_cause_chain(),
-            Some(false) => handler.without_cause_chain(),
-            None => handler,
+        if self.cause_chain {
+            BriefReportHandler::new().with_cause_chain()
+        } else {
+            BriefReportHandler::new().without_cause_chain()
         }
     }
 
@@ -179,96 +169,45 @@ impl<H: Highlighter> MietteHandlerOpts<H> {
         self.links.unwrap_or(terminal.hyperlinks)
     }
 
-    fn with_tabs_and_related(&self, handler: GraphicalReportHandler<H>) -> GraphicalReportHandler<H>
-        ensures { result ≡ record handler {
-          settings = record handler.settings {
-            tab = unwrap_or self.now.tab handler.settings.tab;
-            label_lines = option_or self.now.label_lines handler.settings.label_lines;
-            nested = unwrap_or self.now.nested handler.settings.nested;
-          };
-        } }
-    {
-        let handler = match self.tab_width {
-            Some(width) => handler.tab_width(width),
-            None => handler,
-        };
-        let handler = match self.label_lines {
-            Some(lines) => handler.with_label_lines(lines),
-            None => handler,
-        };
-        match self.related_as_nested {
-            Some(nested) => handler.with_show_related_as_nested(nested),
-            None => handler,
-        }
-    }
-
-    fn with_end_labels(&self, handler: GraphicalReportHandler<H>) -> GraphicalReportHandler<H>
-        ensures { result ≡ record handler {
-          settings = record handler.settings {
-            end_labels = unwrap_or self.now.end_labels handler.settings.end_labels;
-          };
-        } }
-    {
-        match self.end_labels {
-            Some(true) => handler.with_end_labels(),
-            Some(false) => handler.without_end_labels(),
-            None => handler,
-        }
-    }
-
-    fn with_cut_lines(&self, handler: GraphicalReportHandler<H>) -> GraphicalReportHandler<H>
-        ensures { result ≡ record handler {
-          settings = record handler.settings {
-            line_columns = option_or self.now.line_columns handler.settings.line_columns;
-          };
-        } }
-    {
-        match self.line_columns {
-            Some(columns) => handler.with_line_columns(columns),
-            None => handler,
-        }
-    }
-
-    fn with_wrapping(&self, handler: GraphicalReportHandler<H>) -> GraphicalReportHandler<H>
-        ensures { result ≡ record handler {
-          settings = record handler.settings {
-            wraps = unwrap_or self.now.wraps handler.settings.wraps;
-            breaks = unwrap_or self.now.breaks handler.settings.breaks;
-            hyphens = unwrap_or self.now.hyphens handler.settings.hyphens;
-          };
-        } }
-    {
-        let handler = match self.wrap_lines {
-            Some(wrap_lines) => handler.with_wrap_lines(wrap_lines),
-            None => handler,
-        };
-        let handler = match self.break_words {
-            Some(break_words) => handler.with_break_words(break_words),
-            None => handler,
-        };
-        match self.word_splitter {
-            Some(word_splitter) => handler.with_word_splitter(word_splitter),
-            None => handler,
-        }
-    }
-
-    /// With the highlighter that was set, which is then taken out, where there are colours.
-    fn with_highlighter(
-        &mut self,
-        handler: GraphicalReportHandler<H>,
-        terminal: &Terminal,
-    ) -> GraphicalReportHandler<H>
-        ensures chosen { result ≡ record handler { highlighter = chosen_highlighter self.old terminal.now } }
+    /// The highlighter that was set, where there are colours; it is then taken out.
+    fn take_highlighter(&mut self, terminal: &Terminal) -> Option<H>
+        ensures chosen { result ≡ chosen_highlighter self.old terminal.now }
         ensures rest { self.new ≡ record self.old { highlighter = None } }
     {
         let highlighter = self.highlighter.take();
         if self.takes_colours(terminal) {
-            match highlighter {
-                Some(highlighter) => handler.with_syntax_highlighting(highlighter),
-                None => handler.without_syntax_highlighting(),
-            }
+            highlighter
         } else {
-            handler.without_syntax_highlighting()
+            None
+        }
+    }
+
+    /// With the causes, the related reports and the footer.
+    fn with_parts(self, handler: GraphicalReportHandler<H>) -> GraphicalReportHandler<H>
+        requires { handler.settings.footer ≡ None }
+        ensures { result ≡ record handler {
+          settings = record handler.settings {
+            chain = self.cause_chain;
+            nested = self.related_as_nested;
+            footer = option_map chars self.footer;
+          };
+        } }
+    {
+        let MietteHandlerOpts {
+            cause_chain,
+            related_as_nested,
+            footer,
+            ..
+        } = self;
+        let handler = handler.with_show_related_as_nested(related_as_nested);
+        let handler = if cause_chain {
+            handler.with_cause_chain()
+        } else {
+            handler.without_cause_chain()
+        };
+        match footer {
+            Some(footer) => handler.with_footer(footer),
+            None => handler,
         }
     }
 
@@ -277,19 +216,79 @@ impl<H: Highlighter> MietteHandlerOpts<H> {
     {
         self.color.unwrap_or(terminal.color.is_some())
     }
+}
 
-    /// With the causes, the context and the footer.
-    fn with_parts(self, handler: GraphicalReportHandler<H>) -> GraphicalReportHandler<H>
-        ensures { result ≡ record handler {
-          settings = record handler.settings {
-            chain = unwrap_or self.chain handler.settings.chain;
-            context = unwrap_or self.context handler.settings.context;
-            footer = option_or (option_map chars self.footer) handler.settings.footer;
-          };
-        } }
-    {
-        with_parts!(handler, self)
+/// The handler with this layout, in place of the one that it has of itself.
+fn with_layout<H: Highlighter>(
+    layout: LayoutOptions,
+    handler: GraphicalReportHandler<H>,
+) -> GraphicalReportHandler<H>
+    requires tab { 1 ≤ layout.tab_width }
+    requires lines { 1 ≤ unwrap_or layout.label_lines 1 }
+    requires folds { handler.settings.label_lines ≡ None }
+    requires cuts { handler.settings.line_columns ≡ None }
+    ensures { result ≡ record handler {
+      settings = record handler.settings {
+        tab = layout.tab_width;
+        context = layout.context_lines;
+        primary_start = layout.primary_start;
+        end_labels = layout.end_labels;
+        label_lines = layout.label_lines;
+        line_columns = layout.line_columns;
+      };
+    } }
+{
+    let handler = with_flags(layout.primary_start, layout.end_labels, handler);
+    let handler = handler
+        .tab_width(layout.tab_width)
+        .with_context_lines(layout.context_lines);
+    let handler = match layout.label_lines {
+        Some(lines) => handler.with_label_lines(lines),
+        None => handler,
+    };
+    match layout.line_columns {
+        Some(columns) => handler.with_line_columns(columns),
+        None => handler,
     }
+}
+
+fn with_flags<H: Highlighter>(
+    start: bool,
+    ends: bool,
+    handler: GraphicalReportHandler<H>,
+) -> GraphicalReportHandler<H>
+    ensures { result ≡ record handler {
+      settings = record handler.settings { primary_start = start; end_labels = ends };
+    } }
+{
+    let handler = if start {
+        handler.with_primary_span_start()
+    } else {
+        handler.without_primary_span_start()
+    };
+    if ends {
+        handler.with_end_labels()
+    } else {
+        handler.without_end_labels()
+    }
+}
+
+fn with_wrapping<H: Highlighter>(
+    wrapping: Wrapping,
+    handler: GraphicalReportHandler<H>,
+) -> GraphicalReportHandler<H>
+    ensures { result ≡ record handler {
+      settings = record handler.settings {
+        wraps = wrapping.wrap_lines;
+        breaks = wrapping.break_words;
+        hyphens = splits wrapping.word_splitter;
+      };
+    } }
+{
+    handler
+        .with_wrap_lines(wrapping.wrap_lines)
+        .with_break_words(wrapping.break_words)
+        .with_word_splitter(wrapping.word_splitter)
 }
 
 /// The styles where colours are taken, of a terminal that has 16 million or not.
