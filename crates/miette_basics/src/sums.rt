@@ -4,7 +4,7 @@ ghost use Rattle.std.specs.Prelude.{◌≡◌, ◌+◌, IfOk};
 
 use std::alloc::AllocError;
 
-/// A sum, which is refused as want of memory where it is past the largest number.
+/// A sum.
 ///
 /// # Errors
 /// `AllocError` where the sum is past the largest number.

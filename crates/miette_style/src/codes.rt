@@ -1,19 +1,12 @@
 //! The codes of styles, printed.
 
-ghost use Rattle.std.specs.Prelude.{◌≡◌, ◌++◌, ◌∷◌, ◌||◌, [], IfOk, IfSome, OnOk, decimal, false, is_some};
+ghost use Rattle.std.specs.Prelude.{◌≡◌, ◌++◌, ◌∷◌, ◌||◌, [], IfOk, IfSome, OnOk, false, is_some};
 ghost use Rattle.std.specs.Prelude.{string_bytes};
 ghost use Rattle.miette_style.specs.rules.Codes.{colour_start, flag, foreground, foreground_codes, further_codes};
 
 use crate::style::{Color, Style};
-use itoa::Buffer;
+use miette_basics::numbers::push_number;
 use std::alloc::AllocError;
-
-fn push_number(out: &mut String, number: u8) -> Result<(), AllocError>
-    ensures { OnOk result (string_bytes out.new ≡ string_bytes out.old ++ decimal number) }
-{
-    let mut digits = Buffer::new();
-    out.push_str(digits.format(number))
-}
 
 fn push_foreground(out: &mut String, color: Color) -> Result<(), AllocError>
     ensures { OnOk result (string_bytes out.new ≡ string_bytes out.old ++ foreground color) }
@@ -27,11 +20,11 @@ fn push_foreground(out: &mut String, color: Color) -> Result<(), AllocError>
         Color::Cyan => out.push_str("36"),
         Color::Rgb(r, g, b) => {
             out.push_str("38;2;")?;
-            push_number(out, r)?;
+            push_number(out, usize::from(r))?;
             out.push_str(";")?;
-            push_number(out, g)?;
+            push_number(out, usize::from(g))?;
             out.push_str(";")?;
-            push_number(out, b)
+            push_number(out, usize::from(b))
         }
     }
 }
@@ -51,7 +44,7 @@ fn push_color(out: &mut String, color: Option<Color>) -> Result<bool, AllocError
     }
 }
 
-// The code, where it is on, behind a `;` where another one stands before it; gives whether any stands there now.
+// The code, where it is on, after a `;` where another one stands before it; gives whether any stands there now.
 fn push_flag(out: &mut String, some: bool, on: bool, code: &str) -> Result<bool, AllocError>
     ensures text { OnOk result (string_bytes out.new ≡ string_bytes out.old ++ further_codes some (flag on code.now)) }
     ensures some { IfOk result (λ b. b ≡ (some || on)) }
@@ -76,8 +69,7 @@ fn push_each_code(out: &mut String, style: Style) -> Result<(), AllocError>
     let some = push_flag(out, some, style.dimmed, "2")?;
     let some = push_flag(out, some, style.italic, "3")?;
     push_flag(out, some, style.underline, "4")?;
-    out.push_str("m")?;
-    Ok(())
+    out.push_str("m")
 }
 
 // What begins a style that is one of the terminal's own colours and nothing else.
@@ -118,7 +110,7 @@ pub fn push_style(out: &mut String, style: Style) -> Result<(), AllocError>
     }
 }
 
-// One of the terminal's own colours, by the digit behind the `3` of its code.
+// One of the terminal's own colours, by the digit after the `3` of its code.
 fn own_color(digit: char) -> Option<Color>
     ensures { IfSome result (λ color. foreground color ≡ 51 ∷ digit ∷ []) }
 {

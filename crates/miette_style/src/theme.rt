@@ -8,7 +8,7 @@ use std::alloc::{AllocError, Global};
 pub struct ThemeCharacters {
     /// The line of frames, of arrows, and from a corner to a label's text.
     pub hbar: char,
-    /// The bar behind a line's number, beside the lines of a label, down to texts below, and under icons and arrows.
+    /// The bar after a line's number, beside the lines of a label, down to texts below, and under icons and arrows.
     pub vbar: char,
     /// Drawn nowhere.
     pub xbar: char,

@@ -26,7 +26,7 @@ abbrev pub style_codes : Style → List (List ℕ)
 style_codes s = foreground_codes s.fg ++ flag s.bold (codes "1") ++ flag s.dimmed (codes "2")
     ++ flag s.italic (codes "3") ++ flag s.underline (codes "4")
 
--- each behind a `;`
+-- each after a `;`
 abbrev pub behind_separators : List (List ℕ) → List ℕ
 behind_separators [] = []
 behind_separators (x ∷ xs) = 59 ∷ x ++ behind_separators xs

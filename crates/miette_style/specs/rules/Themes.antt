@@ -113,7 +113,7 @@ unicode_characters = record {
   advice = 0x261E ∷ [];  -- ☞
 }
 
--- the same with pictures as icons
+-- Unicode's lines and arrows, with pictures as icons
 abbrev pub emoji_characters : Characters
 emoji_characters = record unicode_characters {
   error = 0x1F4A5 ∷ [];  -- an explosion
