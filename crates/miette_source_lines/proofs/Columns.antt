@@ -55,7 +55,7 @@ text_last bs o i s h w f =
     text_but_cr (slice_index bs i == LF) (slice_index bs i == CR) (slice_index bs (i + 1) == LF)
     (no_end_inside bs o i s h w) f
 
--- so many bytes of text
+-- n bytes of text
 texts : (bs : List ℕ) (s n : ℕ) → s + n ≤ length bs → ((k : ℕ) → s ≤ k → k < s + n → is_text (slice_index bs k) ≡ true)
     →
     count_by is_text (take n (drop s bs)) ≡ n

@@ -15,7 +15,7 @@ use Rattle.miette_source_lines.specs.declared.lines.LineOfText.{LineOfText}
 use Rattle.miette_source_lines.specs.views.Walking.{IsFirst, line_of_text}
 use Rattle.miette_source_lines.proofs.Only.{made, LineFirst, first_line}
 
--- the text of the first line has so many bytes, and the line so many
+-- the text of the first line has `text` bytes, and the line `whole`
 abbrev pub IsParted : List ℕ → ℕ → ℕ → Type 0
 IsParted bytes text whole = (at : ℕ) → lines_from at bytes ≡ made at (at + text) (at + whole)
     ∷ lines_from (at + whole) (drop whole bytes)
@@ -117,13 +117,17 @@ one_ends bytes t lt (inr e) =
       λ f. e.1 (sym (get_or-drop t bytes 1 0) ∙ sym (get_or-drop 1 (drop t bytes) 0 0) ∙ f),
     )))
 
+-- where the first LF or CR stands
+found_at : (bytes : List ℕ) (r : Option ℕ) (t : ℕ) → IsFirstByte (is_byte2 LF CR) bytes r → r ≡ Some t →
+    NoneBefore (Passes (is_byte2 LF CR) bytes) 0 (length bytes) t × Passes (is_byte2 LF CR) bytes t
+found_at bytes r t h e = subst (IsFirstByte (is_byte2 LF CR) bytes) e h
+
 -- up to the LF or CR, which is the terminator
 pub parted_one : (bytes : List ℕ) (r : Option ℕ) (t : ℕ) → IsFirstByte (is_byte2 LF CR) bytes r → r ≡ Some t
     → (not (slice_index bytes t == 10) && (slice_index bytes (t + 1) == 10)) ≡ false →
     IsParted bytes t (t + 1)
 parted_one bytes r t h e n =
-    let found : NoneBefore (Passes (is_byte2 LF CR) bytes) 0 (length bytes) t × Passes (is_byte2 LF CR) bytes t =
-    subst (IsFirstByte (is_byte2 LF CR) bytes) e h in
+    let found = found_at bytes r t h e in
     by_parts bytes t 1 (omega (arith, found.0.high)) (omega arith)
     (plain bytes t (omega (arith, found.0.high)) found.0.before)
     (one_ends bytes t found.0.high (alone (slice_index bytes t) (slice_index bytes (t + 1)) found.1 n))
@@ -133,8 +137,7 @@ pub parted_two : (bytes : List ℕ) (r : Option ℕ) (t : ℕ) → IsFirstByte (
     → (not (slice_index bytes t == 10) && (slice_index bytes (t + 1) == 10)) ≡ true →
     IsParted bytes t (t + 2)
 parted_two bytes r t h e y =
-    let found : NoneBefore (Passes (is_byte2 LF CR) bytes) 0 (length bytes) t × Passes (is_byte2 LF CR) bytes t =
-    subst (IsFirstByte (is_byte2 LF CR) bytes) e h in
+    let found = found_at bytes r t h e in
     let two : (slice_index bytes t ≡ 13) × (slice_index bytes (t + 1) ≡ 10) =
     paired (slice_index bytes t) (slice_index bytes (t + 1)) found.1 y in
     let inside : t + 1 < length bytes = lf_inside (t + 1) bytes two.1 in

@@ -219,7 +219,7 @@ line_of_start bs k h =
     (λ i g. omega (arith, line_start_next bs i, line_start_mono bs (i + 1) k (omega (arith, g))))
     (λ i g l. omega (arith, line_nonempty bs i l, line_start_mono bs k i g))
 
--- the line so many before an offset's begins in itself
+-- the line that stands n before an offset's begins in itself
 pub line_of_start_before : (bs : List ℕ) (o n : ℕ) → line_of bs o - n ≡ line_of bs (line_start bs (line_of bs o - n))
 line_of_start_before bs o n = line_of_start bs (line_of bs o - n) (omega (arith, line_of_all bs o))
 

@@ -309,10 +309,9 @@ start_at-zero false b at ls d = start_at-first b at ls d
 start_at-one : (x : Bool) (b at k d : ℕ) → d ≡ at + 1 →
     start_at (cond x (record { start = at; text_end = at; end = at + 1 } ∷ []) (with_byte b at [])) (suc k) d ≡ at
     + suc (after (cond x k (suc k)) [])
+start_at-one false b at k d e = omega arith
 start_at-one true b at zero d e = omega arith
 start_at-one true b at (suc k) d e = omega arith
-start_at-one false b at zero d e = omega arith
-start_at-one false b at (suc k) d e = omega arith
 
 pub start_at-lines_from : (at : ℕ) (bs : List ℕ) (k d : ℕ) → d ≡ at + length bs → start_at (lines_from at bs) k d ≡ at
     + after k bs

@@ -14,13 +14,13 @@ pub trait FindLines {
         requires line { line ≡ line_of (text self.now) from }
         ensures { result ≡ line_of (text self.now) offset };
 
-    /// Where the line begins that stands so many before an offset's line, and the number of the offset's line.
+    /// Where the line begins that stands `lines` before an offset's line, and the number of the offset's line.
     fn start_before(&self, offset: usize, lines: usize) -> (usize, usize)
         requires { offset ≤ length (text self.now) }
         ensures start { result.0 ≡ line_start (text self.now) (line_of (text self.now) offset - lines) }
         ensures line { result.1 ≡ line_of (text self.now) offset };
 
-    /// Where the line ends that stands so many after an offset's line, and the number of that end's line.
+    /// Where the line ends that stands `lines` after an offset's line, and the number of that end's line.
     fn end_after(&self, offset: usize, line: usize, lines: usize) -> (usize, usize)
         requires within { offset ≤ length (text self.now) }
         requires line { line ≡ line_of (text self.now) offset }

@@ -60,7 +60,7 @@ impl IndexedSource {
     /// Keeps the bytes, and finds the ends of all line terminators, once.
     ///
     /// # Errors
-    /// `AllocError` where there is no memory for the index. The bytes are then let go.
+    /// `AllocError` where there is no memory for the index. The bytes are then dropped.
     pub fn new(alloc: Global, bytes: Vec<u8>) -> Result<Self, AllocError>
         ensures { IfOk result (λ it. it ≡ bytes.items) }
     {

@@ -12,9 +12,9 @@ use std::marker::Model;
 pub struct LineOfText {
     /// The offset of its first byte.
     pub start: usize,
-    /// The offset behind its text, where its terminator begins if it has one.
+    /// The offset after its text, where its terminator begins if it has one.
     pub text_end: usize,
-    /// The offset behind its terminator.
+    /// The offset after its terminator.
     pub end: usize,
 }
 

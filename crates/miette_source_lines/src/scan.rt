@@ -32,8 +32,8 @@ pub(crate) fn ends_line(bytes: &[u8], at: usize) -> bool
     is_end(bytes[at], next)
 }
 
-/// How many bytes are counted together: so many that their count fits a byte, which lets the compiler
-/// compare many bytes by one instruction.
+/// How many bytes are counted together: fewer than 256, so that their count fits a byte, which lets the
+/// compiler compare many bytes by one instruction.
 const BLOCK: usize = 224;
 
 /// How many terminators end in a block of bytes, which is not the last of the bytes.
@@ -98,7 +98,7 @@ fn last_newline(bytes: &[u8], offset: usize) -> Option<usize>
     memrchr2(b'\n', b'\r', &bytes[..offset])
 }
 
-/// Where the line begins that stands so many before an offset's line, found from the offset back, and how many
+/// Where the line begins that stands `lines` before an offset's line, found from the offset back, and how many
 /// terminators end between that start and the offset.
 #[tactic(auto, using(crate::proofs::Places::scan_steps))]
 pub fn start_before(bytes: &[u8], offset: usize, lines: usize) -> (usize, usize)
@@ -121,7 +121,7 @@ pub fn start_before(bytes: &[u8], offset: usize, lines: usize) -> (usize, usize)
     (0, passed)
 }
 
-/// Where the line ends that stands so many after an offset's line, and the number of that end's line.
+/// Where the line ends that stands `lines` after an offset's line, and the number of that end's line.
 #[tactic(auto, using(crate::proofs::Places::scan_steps))]
 fn end_after(bytes: &[u8], offset: usize, line: usize, lines: usize) -> (usize, usize)
     requires within { offset ≤ length bytes.now }

@@ -15,7 +15,7 @@ pub record Rest : Type 0 where
 abbrev pub lines_left : Rest → List Line
 lines_left rest = lines_from rest.start rest.bytes
 
--- what is left behind a line
+-- what is left after a line
 abbrev pub behind : Rest → LineOfText → Rest
 behind rest line = record { start = line.end; bytes = drop (line.end - rest.start) rest.bytes }
 
@@ -28,7 +28,7 @@ pub record IsFirst (rest : Rest) (line : LineOfText) : Type 0 where
   pub some : line.start < line.end
   pub to : line.end ≤ rest.start + length rest.bytes
 
--- a step of a walk gives the first line and leaves what is behind it, or there is none, and nothing changes
+-- a step of a walk gives the first line and leaves what is after it, or there is none, and nothing changes
 abbrev pub GivesLine : Rest → Option LineOfText → Rest → Type 0
 GivesLine before given after = MatchOption given ((before.bytes ≡ []) × (after ≡ before))
     (λ line. IsFirst before line × (after ≡ behind before line))
