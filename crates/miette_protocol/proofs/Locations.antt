@@ -23,7 +23,7 @@ is_LF c h = grind (arith, nat_tests)
 not_LF : (c : ℕ) → c ≢ 10 → (c == LF) ≡ false
 not_LF c h = grind (arith, nat_tests)
 
--- the line and the column behind one more character
+-- the line and the column after one more character
 line_more : (xs : List ℕ) (c : ℕ) → line_after (xs ++ c ∷ []) ≡ line_after xs + cond (c == LF) 1 0
 line_more xs c =
     let e = sum_by-append (λ c. cond (c == LF) 1 0) xs (c ∷ []) in
@@ -33,7 +33,7 @@ column_more : (xs : List ℕ) (c : ℕ) → column_after (xs ++ c ∷ [])
     ≡ cond (not (c == LF)) (1 + suffix_len (λ c. not (c == LF)) xs) 0 + 1
 column_more xs c = ap (λ l. prefix_len (λ c. not (c == LF)) l + 1) (reverse-append xs (c ∷ []))
 
--- behind a line feed, a line begins
+-- after a line feed, a line begins
 pub line_break : (xs : List ℕ) (c : ℕ) → c ≡ 10 → line_after (xs ++ c ∷ []) ≡ line_after xs + 1
 line_break xs c h = omega (arith, line_more xs c, cond_eq (c == LF) true 1 0 (is_LF c h))
 
@@ -42,7 +42,7 @@ column_break xs c h =
     let e = cond_eq (not (c == LF)) false (1 + suffix_len (λ c. not (c == LF)) xs) 0 (ap not (is_LF c h)) in
     omega (arith, column_more xs c, e)
 
--- behind any other character, the line goes on
+-- after any other character, the line goes on
 pub line_on : (xs : List ℕ) (c : ℕ) → c ≢ 10 → line_after (xs ++ c ∷ []) ≡ line_after xs
 line_on xs c h = omega (arith, line_more xs c, cond_eq (c == LF) false 1 0 (not_LF c h))
 
@@ -51,7 +51,7 @@ column_on xs c h =
     let e = cond_eq (not (c == LF)) true (1 + suffix_len (λ c. not (c == LF)) xs) 0 (ap not (not_LF c h)) in
     omega (arith, column_more xs c, e)
 
--- the offset behind one more character
+-- the offset after one more character
 pub encoded_more : (xs : List ℕ) (c : ℕ) → length (encode_utf8_all (xs ++ c ∷ [])) ≡ length (encode_utf8_all xs)
     + length (encode_utf8 c)
 encoded_more xs c =

@@ -47,15 +47,7 @@ impl<'a> Clone for MietteSpanContents<'a> {
     ghost is_infallible = { λ _. Unit {0} };
 
     fn clone(&self) -> Result<MietteSpanContents<'a>, AllocError> {
-        Ok(MietteSpanContents {
-            bytes: self.bytes,
-            span: self.span,
-            line: self.line,
-            column: self.column,
-            line_count: self.line_count,
-            name: self.name,
-            language: self.language,
-        })
+        Ok(MietteSpanContents { ..*self })
     }
 }
 
@@ -95,7 +87,7 @@ impl<'a> MietteSpanContents<'a> {
         }
     }
 
-    /// The same for a source with a name.
+    /// Contents of a source with a name.
     pub fn new_named(
         name: &'a str,
         data: &'a [u8],
@@ -103,40 +95,30 @@ impl<'a> MietteSpanContents<'a> {
         line: usize,
         column: usize,
         line_count: usize,
-    ) -> Self
+    ) -> MietteSpanContents<'a>
         ensures { result ≡ record {
+          name = Some name.now;
+          language = None;
           bytes = «data».now;
           span = span;
           line = line;
           column = column;
           line_count = line_count;
-          name = Some name.now;
-          language = None;
         } }
     {
         MietteSpanContents {
-            bytes: data,
-            span,
-            line,
-            column,
-            line_count,
             name: Some(name),
-            language: None,
+            ..MietteSpanContents::new(data, span, line, column, line_count)
         }
     }
 
-    /// The same contents with the language of the source, as a highlighter knows it, in place of any before.
+    /// These contents, with the language of the source as a highlighter knows it in place of any before.
     pub fn with_language(self, language: &'a str) -> Self
         ensures { result ≡ record self.entry { language = Some language.now } }
     {
         MietteSpanContents {
-            bytes: self.bytes,
-            span: self.span,
-            line: self.line,
-            column: self.column,
-            line_count: self.line_count,
-            name: self.name,
             language: Some(language),
+            ..self
         }
     }
 

@@ -12,7 +12,7 @@ use std::alloc::{AllocError, Global};
 use std::fmt;
 
 /// A diagnostic that is plain data, made by builders or by its fields. `with_` replaces what was
-/// there, `and_` appends to it. A builder that is refused memory drops the value.
+/// there, `and_` appends to it. A builder that answers `AllocError` has dropped the value.
 #[derive(Debug, Drop, PartialEq, Eq, Serialize, Deserialize)]
 pub struct MietteDiagnostic {
     /// The message.

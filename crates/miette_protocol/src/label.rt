@@ -179,7 +179,7 @@ impl LabeledSpan {
         self.label = label;
     }
 
-    /// The label with its own number of context lines: so many lines before and after it are shown,
+    /// The label with its own number of context lines: `lines` lines before and after it are shown,
     /// whatever the handler's number is.
     pub fn with_context_lines(self, lines: usize) -> Self
         requires { 1 ≤ lines }

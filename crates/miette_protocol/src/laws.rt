@@ -11,8 +11,8 @@ use crate::source::MietteSpanContents;
 pub use miette_source_lines::laws::lines_cut_the_source;
 
 /// With at least one line of context before and after, the data of a read are whole lines: cut alone, they
-/// are the lines of the source from the first to the last of the context. So many terminators stand before
-/// their end, and no other line lies between their place's begin and end.
+/// are the lines of the source from the first to the last of the context. As many terminators stand before
+/// their end as the source has up to the last line of the context, and no other line lies in the data's span.
 #[tactic(auto, using(crate::proofs::Wholes::lines, crate::proofs::Wholes::count, crate::proofs::Wholes::numbers))]
 pub fn data_are_whole_lines()
     ensures lines { (source : Source) → (span : Span) → (before after : ℕ) → 1 ≤ before → 1 ≤ after →

@@ -3,9 +3,8 @@
 ghost use Rattle.std.specs.Prelude.{◌≡◌, Some, None, IfOk};
 
 use crate::contents::MietteSpanContents;
-use crate::error::MietteError;
 use crate::protocol::SourceSpan;
-use crate::source_code::SourceCode;
+use crate::source_code::{ReadResult, SourceCode};
 use std::alloc::{AllocError, Global};
 
 /// A source with a name, and with a language where one is given. All else is the inner source's, its
@@ -23,7 +22,7 @@ impl<S: SourceCode> NamedSource<S> {
     /// Gives a source a name.
     ///
     /// # Errors
-    /// `AllocError` where there is no memory for the name. The source is then let go.
+    /// `AllocError` where there is no memory for the name. The source is then dropped.
     pub fn new(alloc: Global, name: &str, source: S) -> Result<Self, AllocError>
         ensures inner { IfOk result (λ it. inner_of it ≡ source) }
         ensures name { IfOk result (λ it. name_of it ≡ name.now) }
@@ -36,10 +35,10 @@ impl<S: SourceCode> NamedSource<S> {
         })
     }
 
-    /// The same source with a language, in place of any before.
+    /// This source with a language, in place of any before.
     ///
     /// # Errors
-    /// `AllocError` where there is no memory for the language. The source is then let go.
+    /// `AllocError` where there is no memory for the language. The source is then dropped.
     pub fn with_language(self, alloc: Global, language: &str) -> Result<Self, AllocError>
         ensures inner { IfOk result (λ it. inner_of it ≡ inner_of self) }
         ensures name { IfOk result (λ it. name_of it ≡ name_of self) }
@@ -80,12 +79,7 @@ impl<S: SourceCode> SourceCode for NamedSource<S> {
 
     ghost source = { λ it. named_source (S.source (inner_of it)) (name_of it) (given_language it) };
 
-    fn read_span(
-        &self,
-        span: &SourceSpan,
-        before: usize,
-        after: usize,
-    ) -> Result<MietteSpanContents<'_>, MietteError> {
+    fn read_span(&self, span: &SourceSpan, before: usize, after: usize) -> ReadResult<'_> {
         let contents = self.source.read_span(span, before, after)?;
         let named = MietteSpanContents::new_named(
             self.name.as_str(),

@@ -5,6 +5,6 @@ pub use crate::named::NamedSource;
 pub use crate::named_traits::{
     named_source_equality_law, named_source_hash_law, named_source_order_law,
 };
-pub use crate::source_code::SourceCode;
+pub use crate::source_code::{ReadResult, SourceCode};
 pub use miette_source_lines::indexed::IndexedSource;
 pub use miette_source_lines::lines::{LineOfText, Lines};

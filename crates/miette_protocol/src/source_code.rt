@@ -11,12 +11,15 @@ use crate::protocol::SourceSpan;
 use miette_source_lines::indexed::IndexedSource;
 use miette_source_lines::scan::Scan;
 
+/// What a read of a span answers.
+pub type ReadResult<'a> = Result<MietteSpanContents<'a>, MietteError>;
+
 /// A source of bytes. Its meaning is its bytes, its name and language, and whether it always reads.
 pub trait SourceCode: Drop {
     ghost source: { Self → Source };
 
-    /// Reads a span with so many lines of context before and after it. The contents lend the source's own
-    /// bytes at the span that they report.
+    /// Reads a span with `before` lines of context before it and `after` lines after it. The contents lend the
+    /// source's own bytes at the span that they report.
     ///
     /// A line ends with LF, CRLF or a CR that no LF follows. On a side without context the data begin or end
     /// as the span does, a CRLF at its end whole, and an empty span at 0 as one byte. On a side with context
@@ -26,22 +29,12 @@ pub trait SourceCode: Drop {
     /// `OutOfBounds` only for a span that begins after the end of the source or ends more than one byte past
     /// it; such a span is always refused. `IoError` only from a source that doesn't always read, which may
     /// answer it for any span.
-    fn read_span(
-        &self,
-        span: &SourceSpan,
-        before: usize,
-        after: usize,
-    ) -> Result<MietteSpanContents<'_>, MietteError>
+    fn read_span(&self, span: &SourceSpan, before: usize, after: usize) -> ReadResult<'_>
         ensures { Answers (source self.now) span.now before after result };
 }
 
 /// Reads a span of bytes, whose lines are found by a scan.
-fn read_bytes<'a>(
-    bytes: &'a [u8],
-    span: &SourceSpan,
-    before: usize,
-    after: usize,
-) -> Result<MietteSpanContents<'a>, MietteError>
+fn read_bytes<'a>(bytes: &'a [u8], span: &SourceSpan, before: usize, after: usize) -> ReadResult<'a>
     ensures { Answers (plain_source bytes.now) span.now before after result }
 {
     find::read(&Scan(bytes), bytes, span, before, after)
@@ -50,12 +43,7 @@ fn read_bytes<'a>(
 impl SourceCode for &[u8] {
     ghost source = { λ it. plain_source it.now };
 
-    fn read_span(
-        &self,
-        span: &SourceSpan,
-        before: usize,
-        after: usize,
-    ) -> Result<MietteSpanContents<'_>, MietteError> {
+    fn read_span(&self, span: &SourceSpan, before: usize, after: usize) -> ReadResult<'_> {
         read_bytes(self, span, before, after)
     }
 }
@@ -63,12 +51,7 @@ impl SourceCode for &[u8] {
 impl SourceCode for Vec<u8> {
     ghost source = { λ it. plain_source it.items };
 
-    fn read_span(
-        &self,
-        span: &SourceSpan,
-        before: usize,
-        after: usize,
-    ) -> Result<MietteSpanContents<'_>, MietteError> {
+    fn read_span(&self, span: &SourceSpan, before: usize, after: usize) -> ReadResult<'_> {
         read_bytes(self.as_slice(), span, before, after)
     }
 }
@@ -76,12 +59,7 @@ impl SourceCode for Vec<u8> {
 impl SourceCode for &str {
     ghost source = { λ it. plain_source it.now };
 
-    fn read_span(
-        &self,
-        span: &SourceSpan,
-        before: usize,
-        after: usize,
-    ) -> Result<MietteSpanContents<'_>, MietteError> {
+    fn read_span(&self, span: &SourceSpan, before: usize, after: usize) -> ReadResult<'_> {
         read_bytes(self.as_bytes(), span, before, after)
     }
 }
@@ -89,12 +67,7 @@ impl SourceCode for &str {
 impl SourceCode for String {
     ghost source = { λ it. plain_source (string_bytes it) };
 
-    fn read_span(
-        &self,
-        span: &SourceSpan,
-        before: usize,
-        after: usize,
-    ) -> Result<MietteSpanContents<'_>, MietteError> {
+    fn read_span(&self, span: &SourceSpan, before: usize, after: usize) -> ReadResult<'_> {
         read_bytes(self.as_str().as_bytes(), span, before, after)
     }
 }
@@ -103,12 +76,7 @@ impl SourceCode for String {
 impl SourceCode for IndexedSource {
     ghost source = { λ it. plain_source it };
 
-    fn read_span(
-        &self,
-        span: &SourceSpan,
-        before: usize,
-        after: usize,
-    ) -> Result<MietteSpanContents<'_>, MietteError> {
+    fn read_span(&self, span: &SourceSpan, before: usize, after: usize) -> ReadResult<'_> {
         find::read(self, self.bytes(), span, before, after)
     }
 }
@@ -117,12 +85,7 @@ impl SourceCode for IndexedSource {
 impl SourceCode for Box<dyn SourceCode> {
     ghost source = { λ it. (SourceCode-box it).source it.value };
 
-    fn read_span(
-        &self,
-        span: &SourceSpan,
-        before: usize,
-        after: usize,
-    ) -> Result<MietteSpanContents<'_>, MietteError> {
+    fn read_span(&self, span: &SourceSpan, before: usize, after: usize) -> ReadResult<'_> {
         (**self).read_span(span, before, after)
     }
 }

@@ -94,7 +94,7 @@ impl Model for SourceSpan {
 }
 
 impl SourceSpan {
-    /// The span of so many bytes from an offset on.
+    /// The span of `length` bytes from an offset on.
     pub fn new(start: SourceOffset, length: usize) -> Self
         ensures { result ≡ record { offset = start; len = length } }
     {
@@ -104,8 +104,8 @@ impl SourceSpan {
         }
     }
 
-    /// The span of so many bytes from a line and a column on, which count as in
-    /// `SourceOffset::from_location`: from 1, and columns in characters. Behind the text's last
+    /// The span of `length` bytes from a line and a column on, which count as in
+    /// `SourceOffset::from_location`: from 1, and columns in characters. After the text's last
     /// character it begins at the text's end.
     pub fn at_line_column(text: &str, line: usize, column: usize, length: usize) -> Self
         ensures offset { IsLocation text.now line column result.offset }

@@ -9,7 +9,7 @@ use Rattle.miette_source_lines.specs.rules.Lines.{LF}
 abbrev pub line_after : List ℕ → ℕ
 line_after before = count_by (λ c. c == LF) before + 1
 
--- its column: one, and how many characters stand behind the last LF
+-- its column: one, and how many characters stand after the last LF
 abbrev pub column_after : List ℕ → ℕ
 column_after before = suffix_len (λ c. not (c == LF)) before + 1
 

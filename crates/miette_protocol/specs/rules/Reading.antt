@@ -21,11 +21,9 @@ plain_source bytes = record { bytes = bytes; name = None; language = None; alway
 
 -- a source with another name, and with the language where one is given
 abbrev pub named_source : Source → List ℕ → Option (List ℕ) → Source
-named_source inner name given = record {
-  bytes = inner.bytes;
+named_source inner name given = record inner {
   name = Some name;
   language = if is_some given then given else inner.language;
-  always_reads = inner.always_reads;
 }
 
 -- what a read lends and says
@@ -43,7 +41,7 @@ pub record IsAccepted (bytes : List ℕ) (span : Span) : Type 0 where
   pub begins : span.offset ≤ length bytes
   pub ends : span.offset + span.len ≤ length bytes + 1
 
--- the same as a test
+-- whether a span is accepted
 abbrev pub is_accepted : List ℕ → Span → Bool
 is_accepted bytes span = nat_le span.offset (length bytes) && nat_le (span.offset + span.len) (length bytes + 1)
 
@@ -59,12 +57,12 @@ splits_crlf bytes at = (slice_index bytes (at - 1) == CR) && (slice_index bytes 
 abbrev pub reading_end : List ℕ → Span → ℕ
 reading_end bytes span = if splits_crlf bytes (span_end span) then span_end span + 1 else span_end span
 
--- where the data begin: at the span, or at the start of the line so many lines before
+-- where the data begin: at the span, or at the start of the line that stands `before` lines earlier
 abbrev pub data_start : List ℕ → Span → ℕ → ℕ
 data_start bytes span before =
     if before == 0 then span.offset else line_start bytes (line_of bytes span.offset - before)
 
--- where the data end: with the read, or at the end of the line so many lines after
+-- where the data end: with the read, or at the end of the line that stands `after` lines later
 abbrev pub data_end : List ℕ → Span → ℕ → ℕ
 data_end bytes span after =
     if after == 0 then min (length bytes) (reading_end bytes span)

@@ -17,14 +17,7 @@ meaning_of it = record {
 
 -- a message and nothing else
 abbrev pub message_alone : List ℕ → Meaning
-message_alone message = record {
-  message = message;
-  code = None;
-  severity = None;
-  help = None;
-  url = None;
-  labels = None;
-}
+message_alone m = record { message = m; code = None; severity = None; help = None; url = None; labels = None }
 
 -- labels after those that are there, if any are
 abbrev pub appended_labels : Option (List Label) → List Label → Option (List Label)
