@@ -35,11 +35,11 @@ pub(crate) fn deserialize<F: Format>(
         return Ok(None);
     }
     let number = usize::deserialize(alloc, from)?;
-    Ok(nonzero(number))
+    Ok(context_count(number))
 }
 
 /// The number, unless it is 0.
-fn nonzero(number: usize) -> Option<NonZeroUsize>
+fn context_count(number: usize) -> Option<NonZeroUsize>
     ensures { option_map non_zero_usize_get result ≡ context_count (Some number) }
 {
     NonZeroUsize::new(number)

@@ -13,4 +13,4 @@ returns g c =
     let looked = when_false (Gives g.F.Format.gives c.args.from.now nothing c.take_none.new.self)
     (Stays g.F.Format.stays c.args.from.now c.take_none.new.self) c.in_ok-take_none.field-0 c.if-branch.false
     c.in_ok-take_none.ensures in
-    inr (c.in_ok-number.number, c.take_none.new.self, looked, c.in_ok-number.ensures, c.nonzero.ensures)
+    inr (c.in_ok-number.number, c.take_none.new.self, looked, c.in_ok-number.ensures, c.context_count.ensures)
