@@ -1,13 +1,11 @@
 -- Characters that take no columns, one behind another at the end of a text: only the first one is seen from before it.
-use Rattle.std.proofs.Common.{ℕ, ◌+◌, ◌<◌, ◌≡◌, Bool, true, false, cond, not, ◌&&◌, ◌||◌, ◌==◌, nat_lt, List, [], ◌∷◌}
+use Rattle.std.proofs.Common.{ℕ, ◌+◌, ◌<◌, ◌≡◌, Bool, true, false, cond, ◌||◌, ◌==◌, nat_lt, List, [], ◌∷◌}
 use Rattle.std.proofs.Common.{◌++◌, None, refl, sym, ap, subst, add-zero, ◌∙◌, arith, eqb-true, inl, inr}
 use Rattle.std.specs.Int.{is_in_range}
 use Rattle.std.specs.List.{list_all}
 use Rattle.std.proofs.lemmas.Bool.{true≢false, and_parts, and_right, or_parts, cases_lt, le-ltb, lt-leb, ne_eqb}
-use Rattle.std.proofs.lemmas.Bool.{not-true}
 use Rattle.ucd_table.specs.Rows.{Range, in_ranges}
 use Rattle.ucd_table.proofs.Stepped.{Stepped, of_ranges, zip_stepped}
-use Rattle.ucd_table.proofs.Facts.{always, ends_by, Stepped-everywhere}
 use Rattle.ucd_emoji.specs.Binary.{is_emoji_variation_base}
 use Rattle.ucd_emoji.proofs.BinaryLemmas.{is_emoji_variation_base_stepped}
 use Rattle.unicode_width.specs.declared.kind.Kind.{Kind}
@@ -22,6 +20,7 @@ use Rattle.unicode_width.proofs.Computing.{unicode_width}
 use Rattle.miette_cells.specs.rules.Widths.{width_of}
 use Rattle.miette_basics.proofs.Cases.{by_cases}
 use Rattle.miette_columns.specs.steps.Trails.{is_faint}
+use Rattle.miette_columns.proofs.Excluding.{excluded}
 use Rattle.miette_columns.proofs.KindTests.{kind_test_stepped}
 use Rattle.miette_columns.proofs.Lone.{read_append}
 use Rattle.miette_columns.proofs.PartedTexts.{width_high}
@@ -113,20 +112,6 @@ of_faint_kind : (c : ℕ) → is_faint c ≡ true → is_faint_kind (kind c) ≡
 unfolding alone
 of_faint_kind c h = kind_faint c (kind c) (ap (λ n. n == 0) (faint_alone c h))
 
-abbrev unlike : (p : ℕ → Bool) → Stepped p → Bool
-unfolding unicode_width kind_test_stepped
-unlike p s =
-    let both = zip_stepped (λ f b. not (f && b)) (λ c. is_faint_kind (kind c)) p
-    (kind_test_stepped is_faint_kind refl refl) s in
-    always _ both && (ends_by 0x11_0000 both.steps && both.default)
-
-faint_not : (p : ℕ → Bool) (s : Stepped p) → unlike p s ≡ true → (c : ℕ) → is_faint_kind (kind c) ≡ true → p c ≡ false
-unfolding unicode_width kind_test_stepped
-faint_not p s ok c h =
-    let both = zip_stepped (λ f b. not (f && b)) (λ c. is_faint_kind (kind c)) p
-    (kind_test_stepped is_faint_kind refl refl) s in
-    not-true (p c) (subst (λ a. not (a && p c) ≡ true) h (Stepped-everywhere _ both ok c))
-
 -- what a selector changes, and the quotation marks
 abbrev quotes : List Range
 quotes = (0x2018, 0x2019) ∷ (0x201C, 0x201D) ∷ []
@@ -150,7 +135,8 @@ selected_stepped = zip_stepped (λ a b. a || b) is_emoji_variation_base is_prese
 -- one walk over the table of kinds for all of them
 not_selected : (c : ℕ) → is_faint_kind (kind c) ≡ true → is_selected c ≡ false
 unfolding unicode_width kind_test_stepped
-not_selected = faint_not is_selected selected_stepped refl
+not_selected = excluded (λ c. is_faint_kind (kind c)) is_selected (kind_test_stepped is_faint_kind refl refl)
+    selected_stepped refl
 
 no_variation : (c : ℕ) → is_faint_kind (kind c) ≡ true → is_emoji_variation_base c ≡ false
 no_variation c h = (or_parts (is_emoji_variation_base c) (is_presented c) (not_selected c h)).0

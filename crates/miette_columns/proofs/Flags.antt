@@ -1,16 +1,15 @@
 -- An even number of regional indicators before another one parts a text: its width is that of what ends with them and
 -- that of what begins
 -- with the other one.
-use Rattle.std.proofs.Common.{ℕ, ◌+◌, ◌-◌, ◌<◌, ◌≡◌, Bool, true, false, cond, not, ◌&&◌, ◌==◌, nat_le, ◌⊎◌, List, []}
+use Rattle.std.proofs.Common.{ℕ, ◌+◌, ◌-◌, ◌<◌, ◌≡◌, Bool, true, false, cond, not, ◌&&◌, nat_le, ◌⊎◌, List, []}
 use Rattle.std.proofs.Common.{◌∷◌, ◌++◌, length, Option, Some, None, refl, sym, ap, subst, ◌∙◌, append_assoc}
 use Rattle.std.proofs.Common.{append-nil, arith, inl, inr}
 use Rattle.std.specs.Prelude.{if◌then◌else◌, chars}
 use Rattle.std.specs.Int.{is_in_range}
-use Rattle.std.proofs.lemmas.Bool.{true≢false, ne_eqb, or_parts, and_parts, and_right, le-leb, not-true}
+use Rattle.std.proofs.lemmas.Bool.{true≢false, and_parts, and_right, le-leb, not-true}
 use Rattle.miette_basics.proofs.Cases.{by_cases}
 use Rattle.ucd_table.specs.Rows.{Range, in_ranges}
-use Rattle.ucd_table.proofs.Stepped.{Stepped, of_ranges, map_stepped, zip_stepped}
-use Rattle.ucd_table.proofs.Facts.{always, ends_by, Stepped-everywhere}
+use Rattle.ucd_table.proofs.Stepped.{Stepped, of_ranges, map_stepped}
 use Rattle.ucd_emoji.specs.Binary.{is_emoji_modifier_base, is_emoji_variation_base}
 use Rattle.ucd_emoji.proofs.BinaryLemmas.{is_emoji_modifier_base_stepped, is_emoji_variation_base_stepped}
 use Rattle.ucd_bidi.specs.JoiningGroup.{joining_group, joining_group_eq}
@@ -32,6 +31,8 @@ use Rattle.miette_columns.specs.declared.overlap.Overlap.{Overlap}
 use Rattle.miette_columns.specs.declared.overlap.Overlap.TheVariants.{Nothing, One, Selected}
 use Rattle.miette_columns.specs.steps.Parting.{may_part_flags}
 use Rattle.miette_columns.specs.steps.Places.{overlap_text, IsHeld}
+use Rattle.miette_columns.proofs.Excluding.{as_stepped, excluded, no_one, no_range, joined_ones, joined_ranges, JoinsFew}
+use Rattle.miette_columns.proofs.Excluding.{joins_few}
 use Rattle.miette_columns.proofs.KindTests.{kind_test_stepped}
 use Rattle.miette_columns.proofs.Lone.{read_append, shifted, or_false}
 
@@ -40,41 +41,33 @@ use Rattle.miette_columns.proofs.Lone.{read_append, shifted, or_false}
 abbrev indicator_ranges : List Range
 indicator_ranges = (0x1F1E6, 0x1F1FF) ∷ []
 
-abbrev never : (p : ℕ → Bool) → Stepped p → Bool
-unfolding unicode_width
-never p s =
-    let both = zip_stepped (λ a b. not (a && b)) (in_ranges indicator_ranges) p (of_ranges indicator_ranges refl) s in
-    always _ both && (ends_by 0x11_0000 both.steps && both.default)
-
 ranged : (c : ℕ) → is_indicator c ≡ in_ranges indicator_ranges c
 unfolding in_ranges
 ranged c = or_false (is_indicator c)
 
-indicator_not : (p : ℕ → Bool) (s : Stepped p) → never p s ≡ true → (c : ℕ) → is_indicator c ≡ true → p c ≡ false
+abbrev indicator_stepped : Stepped is_indicator
 unfolding unicode_width
-indicator_not p s ok c h =
-    let both = zip_stepped (λ a b. not (a && b)) (in_ranges indicator_ranges) p (of_ranges indicator_ranges refl) s in
-    not-true (p c) (subst (λ a. not (a && p c) ≡ true) (sym (ranged c) ∙ h) (Stepped-everywhere _ both ok c))
+indicator_stepped = as_stepped is_indicator (in_ranges indicator_ranges) ranged (of_ranges indicator_ranges refl)
 
 no_variation : (c : ℕ) → is_indicator c ≡ true → is_emoji_variation_base c ≡ false
 unfolding unicode_width
-no_variation = indicator_not is_emoji_variation_base is_emoji_variation_base_stepped refl
+no_variation = excluded is_indicator is_emoji_variation_base indicator_stepped is_emoji_variation_base_stepped refl
 
 no_modified : (c : ℕ) → is_indicator c ≡ true → is_emoji_modifier_base c ≡ false
 unfolding unicode_width
-no_modified = indicator_not is_emoji_modifier_base is_emoji_modifier_base_stepped refl
+no_modified = excluded is_indicator is_emoji_modifier_base indicator_stepped is_emoji_modifier_base_stepped refl
 
 no_presentation : (c : ℕ) → is_indicator c ≡ true → is_text_presentation_base c ≡ false
 unfolding unicode_width
-no_presentation = indicator_not is_text_presentation_base is_text_presentation_base_stepped refl
+no_presentation = excluded is_indicator is_text_presentation_base indicator_stepped is_text_presentation_base_stepped refl
 
 no_transparent : (c : ℕ) → is_indicator c ≡ true → is_ligature_transparent c ≡ false
 unfolding unicode_width
-no_transparent = indicator_not is_ligature_transparent is_ligature_transparent_stepped refl
+no_transparent = excluded is_indicator is_ligature_transparent indicator_stepped is_ligature_transparent_stepped refl
 
 no_lam : (c : ℕ) → is_indicator c ≡ true → is_lam c ≡ false
 unfolding unicode_width
-no_lam = indicator_not (λ c. joining_group_eq (joining_group c) Lam)
+no_lam = excluded is_indicator (λ c. joining_group_eq (joining_group c) Lam) indicator_stepped
     (map_stepped (λ g. joining_group_eq g Lam) joining_group joining_group_stepped) refl
 
 abbrev is_other_kind : Kind → Bool
@@ -83,7 +76,8 @@ is_other_kind _ = true
 
 no_other : (c : ℕ) → is_indicator c ≡ true → is_other_kind (kind c) ≡ false
 unfolding unicode_width kind_test_stepped
-no_other = indicator_not (λ c. is_other_kind (kind c)) (kind_test_stepped is_other_kind refl refl) refl
+no_other = excluded is_indicator (λ c. is_other_kind (kind c)) indicator_stepped
+    (kind_test_stepped is_other_kind refl refl) refl
 
 own_kind : (c : ℕ) (k : Kind) → is_other_kind k ≡ false → of_kind false c k ≡ (1, before afters.RegionalIndicator)
 own_kind c kinds.Zero e = absurd (true≢false e)
@@ -103,38 +97,20 @@ own : (c : ℕ) → is_indicator c ≡ true → alone false c ≡ (1, before aft
 unfolding alone
 own c h = own_kind c (kind c) (no_other c h)
 
-no_one : (c k : ℕ) → is_indicator k ≡ false → is_indicator c ≡ true → (c == k) ≡ false
-no_one c k n h = ne_eqb c k (λ e. absurd (true≢false (sym h ∙ ap is_indicator e ∙ n)))
-
-no_range : (low high : ℕ) (s : Stepped (in_ranges ((low, high) ∷ []))) → never (in_ranges ((low, high) ∷ [])) s ≡ true
-    → (c : ℕ) → is_indicator c ≡ true → is_in_range low high c ≡ false
-unfolding in_ranges
-no_range low high s ok c h = (or_parts (is_in_range low high c) false
-    (indicator_not (in_ranges ((low, high) ∷ [])) s ok c h)).0
-
-no_tifinagh : (c : ℕ) → is_indicator c ≡ true → is_in_range 0x2D31 0x2D65 c ≡ false
-unfolding unicode_width
-no_tifinagh = no_range 0x2D31 0x2D65 (of_ranges ((0x2D31, 0x2D65) ∷ []) refl) refl
-
-no_lisu : (c : ℕ) → is_indicator c ≡ true → is_in_range 0xA4F8 0xA4FB c ≡ false
-unfolding unicode_width
-no_lisu = no_range 0xA4F8 0xA4FB (of_ranges ((0xA4F8, 0xA4FB) ∷ []) refl) refl
-
-no_tag_letter : (c : ℕ) → is_indicator c ≡ true → is_in_range 0xE0061 0xE007A c ≡ false
-unfolding unicode_width
-no_tag_letter = no_range 0xE0061 0xE007A (of_ranges ((0xE0061, 0xE007A) ∷ []) refl) refl
-
-no_tag_digit : (c : ℕ) → is_indicator c ≡ true → is_in_range 0xE0030 0xE0039 c ≡ false
-unfolding unicode_width
-no_tag_digit = no_range 0xE0030 0xE0039 (of_ranges ((0xE0030, 0xE0039) ∷ []) refl) refl
-
 no_single_quote : (c : ℕ) → is_indicator c ≡ true → is_in_range 0x2018 0x2019 c ≡ false
 unfolding unicode_width
-no_single_quote = no_range 0x2018 0x2019 (of_ranges ((0x2018, 0x2019) ∷ []) refl) refl
+no_single_quote = no_range is_indicator 0x2018 0x2019 indicator_stepped (of_ranges ((0x2018, 0x2019) ∷ []) refl) refl
 
 no_double_quote : (c : ℕ) → is_indicator c ≡ true → is_in_range 0x201C 0x201D c ≡ false
 unfolding unicode_width
-no_double_quote = no_range 0x201C 0x201D (of_ranges ((0x201C, 0x201D) ∷ []) refl) refl
+no_double_quote = no_range is_indicator 0x201C 0x201D indicator_stepped (of_ranges ((0x201C, 0x201D) ∷ []) refl) refl
+
+indicator_few : (c : ℕ) → is_indicator c ≡ true → JoinsFew c
+unfolding unicode_width
+indicator_few c h = record {
+  ones = excluded is_indicator (in_ranges joined_ones) indicator_stepped (of_ranges joined_ones refl) refl c h;
+  ranges = excluded is_indicator (in_ranges joined_ranges) indicator_stepped (of_ranges joined_ranges refl) refl c h;
+}
 
 -- ---- what an indicator leaves to be read
 
@@ -151,49 +127,17 @@ JoinsWaving t (Some j) = Waves (joined_or t (Some j) (0, plain))
 
 joins_waving : (after : After) (c t : ℕ) → is_indicator c ≡ true → JoinsWaving t (joins false after c)
 unfolding joins before_alef
-joins_waving afters.Nothing c t h = tt
-joins_waving afters.LineFeed c t h = tt
-joins_waving afters.EmojiModifier c t h = rw (no_modified c h, no_one c 0x200D refl h) tt
-joins_waving afters.RegionalIndicator c t h = rw h (inr (inl refl))
-joins_waving afters.RegionalIndicators c t h = rw h (inr (inl refl))
-joins_waving afters.Emoji c t h = rw (no_one c 0x200D refl h) tt
-joins_waving afters.ZwjEmoji c t h = rw (no_one c 0x20E3 refl h, h) (inr (inr (inr (omega arith, inl refl))))
-joins_waving afters.KeycapZwjEmoji c t h = tt
-joins_waving afters.IndicatorZwj c t h = rw h (inr (inr (inl refl)))
-joins_waving afters.EvenIndicatorsZwj c t h = rw (no_one c 0x200D refl h, h) (inr (inr (inr (omega arith, inr refl))))
-joins_waving afters.OddIndicatorsZwj c t h = rw (no_one c 0x200D refl h, h) (inr (inr (inl refl)))
-joins_waving afters.TagEnd c t h = rw (no_tag_letter c h, no_tag_digit c h) tt
-joins_waving afters.TagDigit1 c t h = rw (no_tag_digit c h) tt
-joins_waving afters.TagDigit2 c t h = rw (no_tag_digit c h) tt
-joins_waving afters.TagDigit3 c t h = rw (no_one c 0x1F3F4 refl h) tt
-joins_waving afters.TagLetter1 c t h = rw (no_tag_letter c h, no_tag_digit c h) tt
-joins_waving afters.TagLetter2 c t h = rw (no_tag_letter c h, no_tag_digit c h) tt
-joins_waving afters.TagLetter3 c t h = rw (no_tag_letter c h, no_tag_digit c h, no_one c 0x1F3F4 refl h) tt
-joins_waving afters.TagLetter4 c t h = rw (no_tag_letter c h, no_tag_digit c h, no_one c 0x1F3F4 refl h) tt
-joins_waving afters.TagLetter5 c t h = rw (no_tag_letter c h, no_one c 0x1F3F4 refl h) tt
-joins_waving afters.TagLetter6 c t h = rw (no_one c 0x1F3F4 refl h) tt
-joins_waving afters.KiratE c t h = rw (
-  no_one c 0x16D63 refl h,
-  no_one c 0x16D67 refl h,
-  no_one c 0x16D68 refl h,
-  no_one c 0x16D69 refl h,
-) tt
-joins_waving afters.KiratAi c t h = rw (no_one c 0x16D63 refl h) tt
-joins_waving afters.Alef c t h = rw (no_lam c h, own c h) tt
-joins_waving afters.Solidus c t h = tt
-joins_waving afters.SolidusAlef c t h = tt
-joins_waving afters.Lamed c t h = tt
-joins_waving afters.ZwjLamed c t h = rw (no_one c 0x05D0 refl h) tt
-joins_waving afters.Ya c t h = tt
-joins_waving afters.ZwjYa c t h = rw (no_one c 0x1A17 refl h) tt
-joins_waving afters.VowelZwjYa c t h = rw (no_one c 0x1A15 refl h) tt
-joins_waving afters.Tifinagh c t h = rw (no_one c 0x2D7F refl h) tt
-joins_waving afters.ZwjTifinagh c t h = rw (no_one c 0x2D7F refl h, no_tifinagh c h, no_one c 0x2D6F refl h) tt
-joins_waving afters.JoinerTifinagh c t h = rw (no_tifinagh c h, no_one c 0x2D6F refl h) tt
-joins_waving afters.LisuTone c t h = rw (no_lisu c h) tt
-joins_waving afters.OrkhonI c t h = tt
-joins_waving afters.ZwjOrkhonI c t h = rw (no_one c 0x10C32 refl h) tt
-joins_waving afters.KhmerLetter c t h = rw (no_one c 0x17D2 refl h) tt
+joins_waving after c t h = joins_few (λ _. JoinsWaving t) c (indicator_few c h) (record {
+  none = λ _. tt;
+  modifier = rw (no_modified c h, no_one is_indicator c 0x200D refl h) tt;
+  indicator = rw h (inr (inl refl));
+  indicators = rw h (inr (inl refl));
+  emoji = rw (no_one is_indicator c 0x20E3 refl h, h) (inr (inr (inr (omega arith, inl refl))));
+  joined = rw h (inr (inr (inl refl)));
+  even = rw (no_one is_indicator c 0x200D refl h, h) (inr (inr (inr (omega arith, inr refl))));
+  odd = rw (no_one is_indicator c 0x200D refl h, h) (inr (inr (inl refl)));
+  alef = rw (no_lam c h, own c h) tt;
+}) after
 
 waving_joined : (t : ℕ) (j : Option (Change × After)) → JoinsWaving t j
     → Waves (joined_or t j (1, before afters.RegionalIndicator))
@@ -203,16 +147,16 @@ waving_joined t (Some j) p = p
 past_quotes : (c t : ℕ) (after : After) → is_indicator c ≡ true → Waves (past_selectors false c t after)
 unfolding past_selectors
 past_quotes c t after h =
-    rw (no_one c 0x200D refl h, no_transparent c h, and_right (skips_marks after) false refl, own c h)
+    rw (no_one is_indicator c 0x200D refl h, no_transparent c h, and_right (skips_marks after) false refl, own c h)
     (waving_joined t (joins false after c) (joins_waving after c t h))
 
 in_any_context : (c t : ℕ) (s : State) → is_indicator c ≡ true → Waves (in_context false c t s)
 unfolding in_context
 in_any_context c t s h =
     rw (
-      no_one c 0xFE0F refl h,
-      no_one c 0xFE01 refl h,
-      no_one c 0xFE0E refl h,
+      no_one is_indicator c 0xFE0F refl h,
+      no_one is_indicator c 0xFE01 refl h,
+      no_one is_indicator c 0xFE0E refl h,
       no_presentation c h,
       no_single_quote c h,
       no_double_quote c h,
@@ -224,14 +168,14 @@ in_any_context c t s h =
 indicator_high : (c : ℕ) → is_indicator c ≡ true → nat_le c 0xA0 ≡ false
 unfolding unicode_width
 indicator_high c h = sym (ap (λ b. b && nat_le c 0xA0) (le-leb 0 c (omega arith)))
-    ∙ no_range 0 0xA0 (of_ranges ((0, 0xA0) ∷ []) refl) refl c h
+    ∙ no_range is_indicator 0 0xA0 indicator_stepped (of_ranges ((0, 0xA0) ∷ []) refl) refl c h
 
 past_all : (c t : ℕ) (s : State) → is_indicator c ≡ true → Waves (past_emoji false c t s)
 unfolding past_emoji
 past_all c t s h =
     by_cases {C = Waves (past_emoji false c t s)} (is_plain s)
-    (λ y. rw (no_one c 0x0A refl h, no_one c 0x0D refl h, indicator_high c h, y, own c h) (inl refl))
-    (λ n. rw (no_one c 0x0A refl h, no_one c 0x0D refl h, indicator_high c h, n) (in_any_context c t s h))
+    (λ y. rw (no_one is_indicator c 0x0A refl h, no_one is_indicator c 0x0D refl h, indicator_high c h, y, own c h) (inl refl))
+    (λ n. rw (no_one is_indicator c 0x0A refl h, no_one is_indicator c 0x0D refl h, indicator_high c h, n) (in_any_context c t s h))
 
 waving_cond : (b : Bool) (x y : Reading) → (b ≡ true → Waves x) → (b ≡ false → Waves y) → Waves (cond b x y)
 waving_cond true x y p q = p refl
@@ -255,20 +199,20 @@ step_joined : (c t : ℕ) (after : After) → is_indicator c ≡ true → is_not
 unfolding step past_emoji in_context past_selectors
 step_joined c t after h some unmarked =
     rw (
-      no_one c 0x0A refl h,
-      no_one c 0x0D refl h,
+      no_one is_indicator c 0x0A refl h,
+      no_one is_indicator c 0x0D refl h,
       indicator_high c h,
       some,
-      no_one c 0xFE0F refl h,
-      no_one c 0xFE01 refl h,
-      no_one c 0xFE0E refl h,
+      no_one is_indicator c 0xFE0F refl h,
+      no_one is_indicator c 0xFE01 refl h,
+      no_one is_indicator c 0xFE0E refl h,
       unmarked,
       own c h,
     ) refl
 
 after_nothing : (c t : ℕ) → is_indicator c ≡ true → step false c (t, plain) ≡ (t + 1, before afters.RegionalIndicator)
 unfolding step past_emoji
-after_nothing c t h = rw (no_one c 0x0A refl h, no_one c 0x0D refl h, indicator_high c h, own c h) refl
+after_nothing c t h = rw (no_one is_indicator c 0x0A refl h, no_one is_indicator c 0x0D refl h, indicator_high c h, own c h) refl
 
 after_one : (c t : ℕ) → is_indicator c ≡ true → step false c (t, before afters.RegionalIndicator)
     ≡ (t + 1, before afters.RegionalIndicators)
@@ -288,12 +232,12 @@ after_joined c t h = step_joined c t afters.IndicatorZwj h refl refl ∙ rw h re
 after_even : (c t : ℕ) → is_indicator c ≡ true → step false c (t, before afters.EvenIndicatorsZwj)
     ≡ (t + 3, before afters.OddIndicatorsZwj)
 unfolding joins
-after_even c t h = step_joined c t afters.EvenIndicatorsZwj h refl refl ∙ rw (no_one c 0x200D refl h, h) refl
+after_even c t h = step_joined c t afters.EvenIndicatorsZwj h refl refl ∙ rw (no_one is_indicator c 0x200D refl h, h) refl
 
 after_odd : (c t : ℕ) → is_indicator c ≡ true → step false c (t, before afters.OddIndicatorsZwj)
     ≡ (t - 1, before afters.EvenIndicatorsZwj)
 unfolding joins
-after_odd c t h = step_joined c t afters.OddIndicatorsZwj h refl refl ∙ rw (no_one c 0x200D refl h, h) refl
+after_odd c t h = step_joined c t afters.OddIndicatorsZwj h refl refl ∙ rw (no_one is_indicator c 0x200D refl h, h) refl
 
 -- what two or more indicators leave
 abbrev IsFlags : State → Type 0

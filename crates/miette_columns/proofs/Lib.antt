@@ -1,5 +1,6 @@
 pub mod Columning
 pub mod KindTests
+pub mod Excluding
 pub mod Lone
 pub mod PartedTexts
 pub mod Opening

@@ -1,15 +1,14 @@
 -- Characters that join nothing that stands behind them: behind such a one widths add up.
-use Rattle.std.proofs.Common.{ℕ, zero, suc, ◌+◌, ◌<◌, ◌≤◌, ◌≡◌, Bool, true, false, cond, not, ◌&&◌, ◌||◌, ◌==◌, nat_le}
-use Rattle.std.proofs.Common.{List, [], ◌∷◌, ◌++◌, None, refl, sym, ap, subst, ◌∙◌, add-one, inl, inr}
+use Rattle.std.proofs.Common.{ℕ, zero, suc, ◌+◌, ◌<◌, ◌≤◌, ◌≡◌, Bool, true, false, cond, not, ◌||◌, ◌==◌, nat_le}
+use Rattle.std.proofs.Common.{List, [], ◌∷◌, ◌++◌, None, refl, sym, ap, ◌∙◌, add-one, inl, inr}
 use Rattle.std.specs.Prelude.{if◌then◌else◌}
 use Rattle.std.specs.Int.{is_in_range}
 use Rattle.std.specs.List.{list_all}
-use Rattle.std.proofs.lemmas.Bool.{true≢false, ne_eqb, or_parts, and_right, cases_lt, cond-true, cond-false, le-leb}
-use Rattle.std.proofs.lemmas.Bool.{lt-leb, not-true}
+use Rattle.std.proofs.lemmas.Bool.{true≢false, and_right, cases_lt, cond-true, cond-false, le-leb}
+use Rattle.std.proofs.lemmas.Bool.{lt-leb}
 use Rattle.miette_basics.proofs.Cases.{by_cases}
 use Rattle.ucd_table.specs.Rows.{Range, in_ranges}
-use Rattle.ucd_table.proofs.Stepped.{Stepped, of_ranges, map_stepped, zip_stepped}
-use Rattle.ucd_table.proofs.Facts.{always, ends_by, Stepped-everywhere}
+use Rattle.ucd_table.proofs.Stepped.{Stepped, of_ranges, map_stepped}
 use Rattle.ucd_emoji.specs.Binary.{is_emoji_modifier_base, is_emoji_variation_base}
 use Rattle.ucd_emoji.proofs.BinaryLemmas.{is_emoji_modifier_base_stepped, is_emoji_variation_base_stepped}
 use Rattle.ucd_bidi.specs.JoiningGroup.{joining_group, joining_group_eq}
@@ -28,6 +27,8 @@ use Rattle.unicode_width.proofs.KindLemmas.{is_ligature_transparent_stepped, is_
 use Rattle.unicode_width.proofs.Computing.{unicode_width}
 use Rattle.unicode_width.proofs.Rules.{is_simple, str_width-append_simple}
 use Rattle.miette_columns.specs.steps.Parting.{is_lone}
+use Rattle.miette_columns.proofs.Excluding.{as_stepped, excluded, no_one, no_range, joined_ones, joined_ranges, JoinsFew}
+use Rattle.miette_columns.proofs.Excluding.{joins_few}
 use Rattle.miette_columns.proofs.KindTests.{kind_test_stepped}
 
 -- ---- what such a character is not
@@ -50,38 +51,29 @@ ranged : (c : ℕ) → is_lone c ≡ in_ranges lone_ranges c
 unfolding in_ranges
 ranged c = or_false (is_lone c) ∙ simp or_turn
 
--- no such character passes the test
-abbrev never : (p : ℕ → Bool) → Stepped p → Bool
+abbrev lone_stepped : Stepped is_lone
 unfolding unicode_width
-never p s =
-    let both = zip_stepped (λ a b. not (a && b)) (in_ranges lone_ranges) p (of_ranges lone_ranges refl) s in
-    always _ both && (ends_by 0x11_0000 both.steps && both.default)
-
-lone_not : (p : ℕ → Bool) (s : Stepped p) → never p s ≡ true → (c : ℕ) → is_lone c ≡ true → p c ≡ false
-unfolding unicode_width
-lone_not p s ok c h =
-    let both = zip_stepped (λ a b. not (a && b)) (in_ranges lone_ranges) p (of_ranges lone_ranges refl) s in
-    not-true (p c) (subst (λ a. not (a && p c) ≡ true) (sym (ranged c) ∙ h) (Stepped-everywhere _ both ok c))
+lone_stepped = as_stepped is_lone (in_ranges lone_ranges) ranged (of_ranges lone_ranges refl)
 
 no_variation : (c : ℕ) → is_lone c ≡ true → is_emoji_variation_base c ≡ false
 unfolding unicode_width
-no_variation = lone_not is_emoji_variation_base is_emoji_variation_base_stepped refl
+no_variation = excluded is_lone is_emoji_variation_base lone_stepped is_emoji_variation_base_stepped refl
 
 no_modified : (c : ℕ) → is_lone c ≡ true → is_emoji_modifier_base c ≡ false
 unfolding unicode_width
-no_modified = lone_not is_emoji_modifier_base is_emoji_modifier_base_stepped refl
+no_modified = excluded is_lone is_emoji_modifier_base lone_stepped is_emoji_modifier_base_stepped refl
 
 no_presentation : (c : ℕ) → is_lone c ≡ true → is_text_presentation_base c ≡ false
 unfolding unicode_width
-no_presentation = lone_not is_text_presentation_base is_text_presentation_base_stepped refl
+no_presentation = excluded is_lone is_text_presentation_base lone_stepped is_text_presentation_base_stepped refl
 
 no_transparent : (c : ℕ) → is_lone c ≡ true → is_ligature_transparent c ≡ false
 unfolding unicode_width
-no_transparent = lone_not is_ligature_transparent is_ligature_transparent_stepped refl
+no_transparent = excluded is_lone is_ligature_transparent lone_stepped is_ligature_transparent_stepped refl
 
 no_lam : (c : ℕ) → is_lone c ≡ true → is_lam c ≡ false
 unfolding unicode_width
-no_lam = lone_not (λ c. joining_group_eq (joining_group c) Lam)
+no_lam = excluded is_lone (λ c. joining_group_eq (joining_group c) Lam) lone_stepped
     (map_stepped (λ g. joining_group_eq g Lam) joining_group joining_group_stepped) refl
 
 abbrev is_other_kind : Kind → Bool
@@ -94,56 +86,37 @@ is_other_kind _ = true
 
 no_other : (c : ℕ) → is_lone c ≡ true → is_other_kind (kind c) ≡ false
 unfolding unicode_width kind_test_stepped
-no_other = lone_not (λ c. is_other_kind (kind c)) (kind_test_stepped is_other_kind refl refl) refl
-
-no_tifinagh : (c : ℕ) → is_lone c ≡ true → is_in_range 0x2D31 0x2D65 c ≡ false
-unfolding unicode_width
-no_tifinagh c h = (or_parts (is_in_range 0x2D31 0x2D65 c) false
-    (lone_not (in_ranges ((0x2D31, 0x2D65) ∷ [])) (of_ranges ((0x2D31, 0x2D65) ∷ []) refl) refl c h)).0
-
-no_lisu : (c : ℕ) → is_lone c ≡ true → is_in_range 0xA4F8 0xA4FB c ≡ false
-unfolding unicode_width
-no_lisu c h = (or_parts (is_in_range 0xA4F8 0xA4FB c) false
-    (lone_not (in_ranges ((0xA4F8, 0xA4FB) ∷ [])) (of_ranges ((0xA4F8, 0xA4FB) ∷ []) refl) refl c h)).0
+no_other = excluded is_lone (λ c. is_other_kind (kind c)) lone_stepped
+    (kind_test_stepped is_other_kind refl refl) refl
 
 no_indicator : (c : ℕ) → is_lone c ≡ true → is_in_range 0x1F1E6 0x1F1FF c ≡ false
 unfolding unicode_width
-no_indicator c h = (or_parts (is_in_range 0x1F1E6 0x1F1FF c) false
-    (lone_not (in_ranges ((0x1F1E6, 0x1F1FF) ∷ [])) (of_ranges ((0x1F1E6, 0x1F1FF) ∷ []) refl) refl c h)).0
-
-no_tag_letter : (c : ℕ) → is_lone c ≡ true → is_in_range 0xE0061 0xE007A c ≡ false
-unfolding unicode_width
-no_tag_letter c h = (or_parts (is_in_range 0xE0061 0xE007A c) false
-    (lone_not (in_ranges ((0xE0061, 0xE007A) ∷ [])) (of_ranges ((0xE0061, 0xE007A) ∷ []) refl) refl c h)).0
-
-no_tag_digit : (c : ℕ) → is_lone c ≡ true → is_in_range 0xE0030 0xE0039 c ≡ false
-unfolding unicode_width
-no_tag_digit c h = (or_parts (is_in_range 0xE0030 0xE0039 c) false
-    (lone_not (in_ranges ((0xE0030, 0xE0039) ∷ [])) (of_ranges ((0xE0030, 0xE0039) ∷ []) refl) refl c h)).0
+no_indicator = no_range is_lone 0x1F1E6 0x1F1FF lone_stepped (of_ranges ((0x1F1E6, 0x1F1FF) ∷ []) refl) refl
 
 no_modifier : (c : ℕ) → is_lone c ≡ true → is_in_range 0x1F3FB 0x1F3FF c ≡ false
 unfolding unicode_width
-no_modifier c h = (or_parts (is_in_range 0x1F3FB 0x1F3FF c) false
-    (lone_not (in_ranges ((0x1F3FB, 0x1F3FF) ∷ [])) (of_ranges ((0x1F3FB, 0x1F3FF) ∷ []) refl) refl c h)).0
+no_modifier = no_range is_lone 0x1F3FB 0x1F3FF lone_stepped (of_ranges ((0x1F3FB, 0x1F3FF) ∷ []) refl) refl
 
 no_single_quote : (c : ℕ) → is_lone c ≡ true → is_in_range 0x2018 0x2019 c ≡ false
 unfolding unicode_width
-no_single_quote c h = (or_parts (is_in_range 0x2018 0x2019 c) false
-    (lone_not (in_ranges ((0x2018, 0x2019) ∷ [])) (of_ranges ((0x2018, 0x2019) ∷ []) refl) refl c h)).0
+no_single_quote = no_range is_lone 0x2018 0x2019 lone_stepped (of_ranges ((0x2018, 0x2019) ∷ []) refl) refl
 
 no_double_quote : (c : ℕ) → is_lone c ≡ true → is_in_range 0x201C 0x201D c ≡ false
 unfolding unicode_width
-no_double_quote c h = (or_parts (is_in_range 0x201C 0x201D c) false
-    (lone_not (in_ranges ((0x201C, 0x201D) ∷ [])) (of_ranges ((0x201C, 0x201D) ∷ []) refl) refl c h)).0
+no_double_quote = no_range is_lone 0x201C 0x201D lone_stepped (of_ranges ((0x201C, 0x201D) ∷ []) refl) refl
 
-no_one : (c k : ℕ) → is_lone k ≡ false → is_lone c ≡ true → (c == k) ≡ false
-no_one c k n h = ne_eqb c k (λ e. absurd (true≢false (sym h ∙ ap is_lone e ∙ n)))
+lone_few : (c : ℕ) → is_lone c ≡ true → JoinsFew c
+unfolding unicode_width
+lone_few c h = record {
+  ones = excluded is_lone (in_ranges joined_ones) lone_stepped (of_ranges joined_ones refl) refl c h;
+  ranges = excluded is_lone (in_ranges joined_ranges) lone_stepped (of_ranges joined_ranges refl) refl c h;
+}
 
 -- ---- its step is the same before any text
 
 past_low : (c t : ℕ) (s : State) → is_lone c ≡ true → c ≤ 0xA0 → past_emoji false c t s ≡ (t + 1, plain)
 unfolding past_emoji
-past_low c t s h low = rw (no_one c 0x0A refl h, no_one c 0x0D refl h, le-leb c 0xA0 low) refl
+past_low c t s h low = rw (no_one is_lone c 0x0A refl h, no_one is_lone c 0x0D refl h, le-leb c 0xA0 low) refl
 
 no_emoji_kind : (k : Kind) → is_other_kind k ≡ false → is_emoji k ≡ false
 no_emoji_kind kinds.Zero e = absurd (true≢false e)
@@ -183,61 +156,29 @@ own c h = own_kind c (kind c) (no_other c h)
 
 joins_none : (after : After) (c : ℕ) → is_lone c ≡ true → ((alone false c).0 == 0) ≡ false → joins false after c ≡ None
 unfolding joins before_alef
-joins_none afters.Nothing c h some = refl
-joins_none afters.LineFeed c h some = refl
-joins_none afters.EmojiModifier c h some = rw (no_modified c h, no_one c 0x200D refl h) refl
-joins_none afters.RegionalIndicator c h some = rw (no_indicator c h) refl
-joins_none afters.RegionalIndicators c h some = rw (no_indicator c h, no_one c 0x200D refl h) refl
-joins_none afters.Emoji c h some = rw (no_one c 0x200D refl h) refl
-joins_none afters.ZwjEmoji c h some = rw (
-  no_one c 0x20E3 refl h,
-  no_indicator c h,
-  no_modifier c h,
-  no_one c 0xE007F refl h,
-  no_emoji c h,
-) refl
-joins_none afters.KeycapZwjEmoji c h some = refl
-joins_none afters.IndicatorZwj c h some = rw (no_indicator c h) refl
-joins_none afters.EvenIndicatorsZwj c h some = rw (no_indicator c h, no_one c 0x200D refl h) refl
-joins_none afters.OddIndicatorsZwj c h some = rw (no_indicator c h, no_one c 0x200D refl h) refl
-joins_none afters.TagEnd c h some = rw (no_tag_letter c h, no_tag_digit c h) refl
-joins_none afters.TagDigit1 c h some = rw (no_tag_digit c h) refl
-joins_none afters.TagDigit2 c h some = rw (no_tag_digit c h) refl
-joins_none afters.TagDigit3 c h some = rw (no_one c 0x1F3F4 refl h) refl
-joins_none afters.TagLetter1 c h some = rw (no_tag_letter c h, no_tag_digit c h) refl
-joins_none afters.TagLetter2 c h some = rw (no_tag_letter c h, no_tag_digit c h) refl
-joins_none afters.TagLetter3 c h some = rw (no_tag_letter c h, no_tag_digit c h, no_one c 0x1F3F4 refl h) refl
-joins_none afters.TagLetter4 c h some = rw (no_tag_letter c h, no_tag_digit c h, no_one c 0x1F3F4 refl h) refl
-joins_none afters.TagLetter5 c h some = rw (no_tag_letter c h, no_one c 0x1F3F4 refl h) refl
-joins_none afters.TagLetter6 c h some = rw (no_one c 0x1F3F4 refl h) refl
-joins_none afters.KiratE c h some = rw (
-  no_one c 0x16D63 refl h,
-  no_one c 0x16D67 refl h,
-  no_one c 0x16D68 refl h,
-  no_one c 0x16D69 refl h,
-) refl
-joins_none afters.KiratAi c h some = rw (no_one c 0x16D63 refl h) refl
-joins_none afters.Alef c h some = rw (no_lam c h, some) refl
-joins_none afters.Solidus c h some = refl
-joins_none afters.SolidusAlef c h some = refl
-joins_none afters.Lamed c h some = refl
-joins_none afters.ZwjLamed c h some = rw (no_one c 0x05D0 refl h) refl
-joins_none afters.Ya c h some = refl
-joins_none afters.ZwjYa c h some = rw (no_one c 0x1A17 refl h) refl
-joins_none afters.VowelZwjYa c h some = rw (no_one c 0x1A15 refl h) refl
-joins_none afters.Tifinagh c h some = rw (no_one c 0x2D7F refl h) refl
-joins_none afters.ZwjTifinagh c h some = rw (no_one c 0x2D7F refl h, no_tifinagh c h, no_one c 0x2D6F refl h) refl
-joins_none afters.JoinerTifinagh c h some = rw (no_tifinagh c h, no_one c 0x2D6F refl h) refl
-joins_none afters.LisuTone c h some = rw (no_lisu c h) refl
-joins_none afters.OrkhonI c h some = refl
-joins_none afters.ZwjOrkhonI c h some = rw (no_one c 0x10C32 refl h) refl
-joins_none afters.KhmerLetter c h some = rw (no_one c 0x17D2 refl h) refl
+joins_none after c h some = joins_few (λ _ j. j ≡ None) c (lone_few c h) (record {
+  none = λ _. refl;
+  modifier = rw (no_modified c h, no_one is_lone c 0x200D refl h) refl;
+  indicator = rw (no_indicator c h) refl;
+  indicators = rw (no_indicator c h, no_one is_lone c 0x200D refl h) refl;
+  emoji = rw (
+    no_one is_lone c 0x20E3 refl h,
+    no_indicator c h,
+    no_modifier c h,
+    no_one is_lone c 0xE007F refl h,
+    no_emoji c h,
+  ) refl;
+  joined = rw (no_indicator c h) refl;
+  even = rw (no_indicator c h, no_one is_lone c 0x200D refl h) refl;
+  odd = rw (no_indicator c h, no_one is_lone c 0x200D refl h) refl;
+  alef = rw (no_lam c h, some) refl;
+}) after
 
 past_quotes : (c t : ℕ) (after : After) → is_lone c ≡ true → past_selectors false c t after ≡ added t (alone false c)
 unfolding past_selectors
 past_quotes c t after h =
     rw (
-      no_one c 0x200D refl h,
+      no_one is_lone c 0x200D refl h,
       no_transparent c h,
       and_right (skips_marks after) false refl,
       joins_none after c h (own c h),
@@ -247,9 +188,9 @@ in_any_context : (c t : ℕ) (s : State) → is_lone c ≡ true → in_context f
 unfolding in_context
 in_any_context c t s h =
     rw (
-      no_one c 0xFE0F refl h,
-      no_one c 0xFE01 refl h,
-      no_one c 0xFE0E refl h,
+      no_one is_lone c 0xFE0F refl h,
+      no_one is_lone c 0xFE01 refl h,
+      no_one is_lone c 0xFE0E refl h,
       no_presentation c h,
       no_single_quote c h,
       no_double_quote c h,
@@ -262,8 +203,8 @@ past_high : (c t : ℕ) (s : State) → is_lone c ≡ true → 0xA0 < c → past
 unfolding past_emoji
 past_high c t s h high =
     by_cases {C = past_emoji false c t s ≡ added t (alone false c)} (is_plain s)
-    (λ y. rw (no_one c 0x0A refl h, no_one c 0x0D refl h, lt-leb c 0xA0 high, y) refl)
-    (λ n. rw (no_one c 0x0A refl h, no_one c 0x0D refl h, lt-leb c 0xA0 high, n) (in_any_context c t s h))
+    (λ y. rw (no_one is_lone c 0x0A refl h, no_one is_lone c 0x0D refl h, lt-leb c 0xA0 high, y) refl)
+    (λ n. rw (no_one is_lone c 0x0A refl h, no_one is_lone c 0x0D refl h, lt-leb c 0xA0 high, n) (in_any_context c t s h))
 
 -- its width, and what it is for the character before it
 abbrev lone_own : ℕ → ℕ × State

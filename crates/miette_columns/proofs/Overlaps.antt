@@ -1,13 +1,12 @@
 -- A character that closes leaves the same to be read, whatever stands behind it but a selector or a skin tone.
-use Rattle.std.proofs.Common.{ℕ, ◌+◌, ◌<◌, ◌≤◌, ◌≡◌, Bool, true, false, cond, not, ◌&&◌, ◌||◌, ◌==◌, nat_le, List, []}
+use Rattle.std.proofs.Common.{ℕ, ◌+◌, ◌<◌, ◌≤◌, ◌≡◌, Bool, true, false, cond, ◌&&◌, ◌||◌, ◌==◌, nat_le, List, []}
 use Rattle.std.proofs.Common.{◌∷◌, Option, Some, None, refl, sym, ap, subst, ◌∙◌, arith, inl, inr, eqb-true}
 use Rattle.std.specs.Prelude.{if◌then◌else◌}
 use Rattle.std.specs.Int.{is_in_range}
 use Rattle.std.proofs.lemmas.Bool.{true≢false, or_cases, or_left, or_right, and_right, cases_lt, cond-true, cond-false}
-use Rattle.std.proofs.lemmas.Bool.{le-leb, lt-leb, ne_eqb, not-true}
+use Rattle.std.proofs.lemmas.Bool.{le-leb, lt-leb, ne_eqb}
 use Rattle.ucd_table.specs.Rows.{Range, in_ranges}
 use Rattle.ucd_table.proofs.Stepped.{Stepped, of_ranges, map_stepped, zip_stepped}
-use Rattle.ucd_table.proofs.Facts.{always, ends_by, Stepped-everywhere}
 use Rattle.ucd_bidi.specs.JoiningGroup.{joining_group, joining_group_eq}
 use Rattle.ucd_bidi.specs.declared.JoiningGroup.TheVariants.{Lam}
 use Rattle.ucd_bidi.proofs.JoiningGroupLemmas.{joining_group_stepped}
@@ -24,6 +23,7 @@ use Rattle.unicode_width.specs.Width.{first_of, joined_or, Reading, added, skips
 use Rattle.unicode_width.specs.Width.{in_context, past_emoji, step}
 use Rattle.unicode_width.proofs.Computing.{unicode_width}
 use Rattle.miette_columns.specs.steps.Parting.{is_joining, is_closing}
+use Rattle.miette_columns.proofs.Excluding.{excluded}
 use Rattle.miette_columns.proofs.KindTests.{kind_test_stepped}
 use Rattle.miette_columns.proofs.Opening.{is_modifier, IsOpen}
 use Rattle.miette_columns.proofs.PartedTexts.{is_mild_kind, mild, unlisted, no_transparent, no_indicator, no_modifier}
@@ -31,18 +31,6 @@ use Rattle.miette_columns.proofs.PartedTexts.{no_tag_letter, no_tag_digit, no_jo
 use Rattle.miette_columns.proofs.PartedTexts.{no_selector, own_width, unligated, low_parts}
 
 -- ---- letters that join others are no emoji
-
-abbrev unemoji : (p : ℕ → Bool) → Stepped p → Bool
-unfolding unicode_width kind_test_stepped
-unemoji p s =
-    let both = zip_stepped (λ e b. not (b && e)) (λ c. is_emoji (kind c)) p (kind_test_stepped is_emoji refl refl) s in
-    always _ both && (ends_by 0x11_0000 both.steps && both.default)
-
-emoji_not : (p : ℕ → Bool) (s : Stepped p) → unemoji p s ≡ true → (c : ℕ) → p c ≡ true → is_emoji (kind c) ≡ false
-unfolding unicode_width kind_test_stepped
-emoji_not p s ok c h =
-    let both = zip_stepped (λ e b. not (b && e)) (λ c. is_emoji (kind c)) p (kind_test_stepped is_emoji refl refl) s in
-    not-true (is_emoji (kind c)) (subst (λ a. not (a && is_emoji (kind c)) ≡ true) h (Stepped-everywhere _ both ok c))
 
 -- Tifinagh and Lisu letters, and those that are lams
 abbrev letters : List Range
@@ -60,7 +48,7 @@ letter_stepped =
 -- one walk over the table of kinds for all of them
 letter_plain : (c : ℕ) → is_letter c ≡ true → is_emoji (kind c) ≡ false
 unfolding unicode_width kind_test_stepped
-letter_plain = emoji_not is_letter letter_stepped refl
+letter_plain = excluded is_letter (λ c. is_emoji (kind c)) letter_stepped (kind_test_stepped is_emoji refl refl) refl
 
 lam_plain : (c : ℕ) → is_lam c ≡ true → is_emoji (kind c) ≡ false
 unfolding unicode_width

@@ -8,7 +8,7 @@ use Rattle.std.proofs.lemmas.Bool.{true≢false, eqb-true, or_cases, or_parts, a
 use Rattle.std.proofs.lemmas.Bool.{cond-true, cond-false, le-leb, lt-leb, ne_eqb, not-true}
 use Rattle.ucd_table.specs.Rows.{Range, in_ranges}
 use Rattle.ucd_table.proofs.Stepped.{Stepped, of_ranges, zip_stepped}
-use Rattle.ucd_table.proofs.Facts.{always, ends_by, Stepped-everywhere}
+use Rattle.ucd_table.proofs.Facts.{Stepped-everywhere}
 use Rattle.ucd_emoji.specs.Binary.{is_emoji_modifier_base, is_emoji_variation_base}
 use Rattle.unicode_width.specs.declared.kind.Kind.{Kind}
 use Rattle.unicode_width.specs.declared.kind.Kind.TheVariants as kinds
@@ -27,6 +27,7 @@ use Rattle.unicode_width.proofs.Computing.{unicode_width}
 use Rattle.miette_cells.specs.rules.Widths.{width_of}
 use Rattle.miette_basics.proofs.Cases.{by_cases}
 use Rattle.miette_columns.specs.steps.Parting.{is_lone, is_joining, is_closing, may_part}
+use Rattle.miette_columns.proofs.Excluding.{excluded, first_range}
 use Rattle.miette_columns.proofs.KindTests.{kind_test_stepped}
 use Rattle.miette_columns.proofs.Lone.{adds_up, shifted, read_append, or_false, or_turn}
 
@@ -143,20 +144,6 @@ mild c high h =
 
 -- ---- what a character of such a kind is not
 
-abbrev unmild : (p : ℕ → Bool) → Stepped p → Bool
-unfolding unicode_width kind_test_stepped
-unmild p s =
-    let both = zip_stepped (λ m b. not (m && b)) (λ c. is_mild_kind (kind c)) p
-    (kind_test_stepped is_mild_kind refl refl) s in
-    always _ both && (ends_by 0x11_0000 both.steps && both.default)
-
-mild_not : (p : ℕ → Bool) (s : Stepped p) → unmild p s ≡ true → (c : ℕ) → is_mild_kind (kind c) ≡ true → p c ≡ false
-unfolding unicode_width kind_test_stepped
-mild_not p s ok c h =
-    let both = zip_stepped (λ m b. not (m && b)) (λ c. is_mild_kind (kind c)) p
-    (kind_test_stepped is_mild_kind refl refl) s in
-    not-true (p c) (subst (λ a. not (a && p c) ≡ true) h (Stepped-everywhere _ both ok c))
-
 -- ranges of indicators, of skin tones, and of the letters and digits of tags
 abbrev tag_ranges : List Range
 tag_ranges = (0xE0030, 0xE0039) ∷ (0xE0061, 0xE007A) ∷ []
@@ -175,16 +162,10 @@ passed_stepped = zip_stepped (λ a b. a || b) is_ligature_transparent (in_ranges
 -- one walk over the table of kinds for all of them
 not_passed : (c : ℕ) → is_mild_kind (kind c) ≡ true → is_passed c ≡ false
 unfolding unicode_width kind_test_stepped
-not_passed = mild_not is_passed passed_stepped refl
+not_passed = excluded (λ c. is_mild_kind (kind c)) is_passed (kind_test_stepped is_mild_kind refl refl) passed_stepped refl
 
 pub no_transparent : (c : ℕ) → is_mild_kind (kind c) ≡ true → is_ligature_transparent c ≡ false
 no_transparent c h = (or_parts (is_ligature_transparent c) (in_ranges emoji_ranges c) (not_passed c h)).0
-
--- the first range of some, and the others
-first_range : (range : Range) (more : List Range) (c : ℕ) → in_ranges (range ∷ more) c ≡ false
-    → (is_in_range range.0 range.1 c ≡ false) × (in_ranges more c ≡ false)
-unfolding in_ranges
-first_range range more c h = or_parts (is_in_range range.0 range.1 c) (in_ranges more c) h
 
 not_flagged : (c : ℕ) → is_mild_kind (kind c) ≡ true → (is_in_range 0x1F1E6 0x1F1FF c ≡ false)
     × (in_ranges ((0x1F3FB, 0x1F3FF) ∷ tag_ranges) c ≡ false)
