@@ -23,7 +23,7 @@ use Rattle.miette_columns.specs.steps.Trails.{is_faint}
 use Rattle.miette_columns.proofs.Excluding.{excluded}
 use Rattle.miette_columns.proofs.KindTests.{kind_test_stepped}
 use Rattle.miette_columns.proofs.Lone.{read_append}
-use Rattle.miette_columns.proofs.PartedTexts.{width_high}
+use Rattle.miette_columns.proofs.ClosingCharacters.{width_high}
 
 -- ---- what such a character leaves to be read: nothing but selectors
 

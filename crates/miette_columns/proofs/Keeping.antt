@@ -29,7 +29,8 @@ use Rattle.miette_columns.proofs.Excluding.{joins_few}
 use Rattle.miette_columns.proofs.KindTests.{kind_test_stepped}
 use Rattle.miette_columns.proofs.Lone.{or_false, or_turn}
 use Rattle.miette_columns.proofs.Opening.{tones, tone_kinds, is_modifier, is_tone, IsOpen}
-use Rattle.miette_columns.proofs.Overlaps.{JoinsOwn, either, IsApart, step_apart}
+use Rattle.miette_columns.proofs.ClosingCharacters.{JoinsOwn, either}
+use Rattle.miette_columns.proofs.Overlaps.{IsApart, step_apart}
 
 -- ---- what such a character is not
 

@@ -2,8 +2,9 @@ pub mod Columning
 pub mod KindTests
 pub mod Excluding
 pub mod Lone
-pub mod PartedTexts
 pub mod Opening
+pub mod ClosingCharacters
+pub mod PartedTexts
 pub mod Overlaps
 pub mod Keeping
 pub mod SettledTexts
