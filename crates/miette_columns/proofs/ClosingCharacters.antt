@@ -1,9 +1,11 @@
 -- Characters that close: they leave to be read what they leave by themselves, nothing or an emoji, whatever stands
 -- behind them but a selector or a skin tone.
-use Rattle.std.proofs.Common.{ℕ, ◌<◌, ◌≤◌, ◌≡◌, Bool, true, false, cond, not, ◌&&◌, ◌||◌, ◌==◌, nat_le, nat_lt, List, [], ◌∷◌, Option, Some, None, refl, sym, ap, subst, ◌∙◌, arith, inl, inr, eqb-true}
+use Rattle.std.proofs.Common.{ℕ, ◌<◌, ◌≤◌, ◌≡◌, Bool, true, false, cond, not, ◌&&◌, ◌||◌, ◌==◌, nat_le, nat_lt, List}
+use Rattle.std.proofs.Common.{[], ◌∷◌, Option, Some, None, refl, sym, ap, subst, ◌∙◌, arith, inl, inr, eqb-true}
 use Rattle.std.specs.Prelude.{if◌then◌else◌}
 use Rattle.std.specs.Int.{is_in_range}
-use Rattle.std.proofs.lemmas.Bool.{true≢false, eqb-true, or_cases, or_parts, and_parts, le-ltb, cond-true, cond-false, le-leb, lt-leb, ne_eqb, not-true, or_left, or_right}
+use Rattle.std.proofs.lemmas.Bool.{true≢false, eqb-true, or_cases, or_parts, and_parts, le-ltb, cond-true, cond-false}
+use Rattle.std.proofs.lemmas.Bool.{le-leb, lt-leb, ne_eqb, not-true, or_left, or_right}
 use Rattle.ucd_table.specs.Rows.{Range, in_ranges}
 use Rattle.ucd_table.proofs.Stepped.{Stepped, of_ranges, zip_stepped, map_stepped}
 use Rattle.ucd_table.proofs.Facts.{Stepped-everywhere}
@@ -14,7 +16,8 @@ use Rattle.unicode_width.specs.declared.state.After.TheVariants as afters
 use Rattle.unicode_width.specs.declared.state.Change.{Change}
 use Rattle.unicode_width.specs.declared.state.Change.TheVariants.{Less, Same}
 use Rattle.unicode_width.specs.Kind.{kind, is_ligature_transparent}
-use Rattle.unicode_width.specs.Width.{before, of_kind, alone, char_width, before_alef, is_lam, is_emoji, joins, first_of}
+use Rattle.unicode_width.specs.Width.{before, of_kind, alone, char_width, before_alef, is_lam, is_emoji, joins}
+use Rattle.unicode_width.specs.Width.{first_of}
 use Rattle.unicode_width.proofs.KindLemmas.{is_ligature_transparent_stepped}
 use Rattle.unicode_width.proofs.Computing.{unicode_width}
 use Rattle.miette_cells.specs.rules.Widths.{width_of}
@@ -73,14 +76,8 @@ mild_by c kinds.Zero h e = absurd (true≢false (sym h))
 mild_by c kinds.Narrow h e = refl
 mild_by c kinds.Wide h e = refl
 mild_by c kinds.Ambiguous h e = refl
-mild_by c kinds.Alef h e = absurd (true≢false e)
-mild_by c kinds.KhmerLetter h e = absurd (true≢false e)
-mild_by c kinds.TifinaghConsonant h e = absurd (true≢false e)
-mild_by c kinds.LisuTone h e = absurd (true≢false e)
-mild_by c kinds.RegionalIndicator h e = absurd (true≢false e)
-mild_by c kinds.EmojiModifier h e = absurd (true≢false e)
 mild_by c kinds.Emoji h e = refl
-mild_by c kinds.Single h e = absurd (true≢false e)
+mild_by c k h e = absurd (true≢false e)
 
 high_parts : (c : ℕ) → 0xA0 < c → is_closing c ≡ true → (nat_lt 0 (width_of c) && not (is_joining c)) ≡ true
 high_parts c high h = sym (cond-false (nat_le c 0xA0) (not (c == 0x0A)) (nat_lt 0 (width_of c) && not (is_joining c))
@@ -116,7 +113,8 @@ passed_stepped = zip_stepped (λ a b. a || b) is_ligature_transparent (in_ranges
 -- one walk over the table of kinds for all of them
 not_passed : (c : ℕ) → is_mild_kind (kind c) ≡ true → is_passed c ≡ false
 unfolding unicode_width kind_test_stepped
-not_passed = excluded (λ c. is_mild_kind (kind c)) is_passed (kind_test_stepped is_mild_kind refl refl) passed_stepped refl
+not_passed = excluded (λ c. is_mild_kind (kind c)) is_passed (kind_test_stepped is_mild_kind refl refl) passed_stepped
+    refl
 
 pub no_transparent : (c : ℕ) → is_mild_kind (kind c) ≡ true → is_ligature_transparent c ≡ false
 no_transparent c h = (or_parts (is_ligature_transparent c) (in_ranges emoji_ranges c) (not_passed c h)).0
@@ -169,18 +167,11 @@ unfolding unicode_width
 no_selector c h = (no_mark c 0xFE0F refl h, (no_mark c 0xFE01 refl h, no_mark c 0xFE0E refl h))
 
 some_width : (c : ℕ) (k : Kind) → is_mild_kind k ≡ true → ((of_kind false c k).0 == 0) ≡ false
-some_width c kinds.Zero e = absurd (true≢false (sym e))
 some_width c kinds.Narrow e = refl
 some_width c kinds.Wide e = refl
 some_width c kinds.Ambiguous e = refl
-some_width c kinds.Alef e = absurd (true≢false (sym e))
-some_width c kinds.KhmerLetter e = absurd (true≢false (sym e))
-some_width c kinds.TifinaghConsonant e = absurd (true≢false (sym e))
-some_width c kinds.LisuTone e = absurd (true≢false (sym e))
-some_width c kinds.RegionalIndicator e = absurd (true≢false (sym e))
-some_width c kinds.EmojiModifier e = absurd (true≢false (sym e))
 some_width c kinds.Emoji e = refl
-some_width c kinds.Single e = absurd (true≢false (sym e))
+some_width c k e = absurd (true≢false (sym e))
 
 pub own_width : (c : ℕ) → is_mild_kind (kind c) ≡ true → ((alone false c).0 == 0) ≡ false
 unfolding alone
@@ -241,18 +232,11 @@ tifinagh_plain c h =
 
 plain_kind : (c : ℕ) (k : Kind) → is_mild_kind k ≡ true → is_emoji k ≡ false → before afters.Nothing
     ≡ (of_kind false c k).1
-plain_kind c kinds.Zero e n = absurd (true≢false (sym e))
 plain_kind c kinds.Narrow e n = refl
 plain_kind c kinds.Wide e n = refl
 plain_kind c kinds.Ambiguous e n = refl
-plain_kind c kinds.Alef e n = absurd (true≢false (sym e))
-plain_kind c kinds.KhmerLetter e n = absurd (true≢false (sym e))
-plain_kind c kinds.TifinaghConsonant e n = absurd (true≢false (sym e))
-plain_kind c kinds.LisuTone e n = absurd (true≢false (sym e))
-plain_kind c kinds.RegionalIndicator e n = absurd (true≢false (sym e))
-plain_kind c kinds.EmojiModifier e n = absurd (true≢false (sym e))
 plain_kind c kinds.Emoji e n = absurd (true≢false n)
-plain_kind c kinds.Single e n = absurd (true≢false (sym e))
+plain_kind c k e n = absurd (true≢false (sym e))
 
 pub plain_own : (c : ℕ) → is_mild_kind (kind c) ≡ true → is_emoji (kind c) ≡ false → before afters.Nothing
     ≡ (alone false c).1
@@ -260,18 +244,8 @@ unfolding alone
 plain_own c h n = plain_kind c (kind c) h n
 
 emoji_kind : (c : ℕ) (k : Kind) → is_emoji k ≡ true → before afters.Emoji ≡ (of_kind false c k).1
-emoji_kind c kinds.Zero e = absurd (true≢false (sym e))
-emoji_kind c kinds.Narrow e = absurd (true≢false (sym e))
-emoji_kind c kinds.Wide e = absurd (true≢false (sym e))
-emoji_kind c kinds.Ambiguous e = absurd (true≢false (sym e))
-emoji_kind c kinds.Alef e = absurd (true≢false (sym e))
-emoji_kind c kinds.KhmerLetter e = absurd (true≢false (sym e))
-emoji_kind c kinds.TifinaghConsonant e = absurd (true≢false (sym e))
-emoji_kind c kinds.LisuTone e = absurd (true≢false (sym e))
-emoji_kind c kinds.RegionalIndicator e = absurd (true≢false (sym e))
-emoji_kind c kinds.EmojiModifier e = absurd (true≢false (sym e))
 emoji_kind c kinds.Emoji e = refl
-emoji_kind c kinds.Single e = absurd (true≢false (sym e))
+emoji_kind c k e = absurd (true≢false (sym e))
 
 pub emoji_own : (c : ℕ) → is_emoji (kind c) ≡ true → before afters.Emoji ≡ (alone false c).1
 unfolding alone
@@ -322,18 +296,16 @@ own_17d2 : before afters.Nothing ≡ (alone false 0x17D2).1
 unfolding unicode_width
 own_17d2 = refl
 
-pub joins_own : (after : After) (c : ℕ) → is_modifier after ≡ false → is_joining c ≡ false → is_mild_kind (kind c) ≡ true
+pub joins_own : (after : After) (c : ℕ) → is_modifier after ≡ false → is_joining c ≡ false → is_mild_kind (kind c)
+    ≡ true
     → JoinsOwn c (joins false after c)
 unfolding joins before_alef
-joins_own afters.Nothing c u n h = tt
-joins_own afters.LineFeed c u n h = tt
 joins_own afters.EmojiModifier c u n h = absurd (true≢false u)
 joins_own afters.RegionalIndicator c u n h = rw (no_indicator c h) tt
 joins_own afters.RegionalIndicators c u n h = rw (no_indicator c h, no_joiner c h) tt
 joins_own afters.Emoji c u n h = rw (no_joiner c h) tt
 joins_own afters.ZwjEmoji c u n h = rw (no_keycap c h, no_indicator c h, no_modifier c h, no_tag_end c h)
     (either c (is_emoji (kind c)) (Some (Same, afters.Emoji)) None (λ e. emoji_own c e) tt)
-joins_own afters.KeycapZwjEmoji c u n h = tt
 joins_own afters.IndicatorZwj c u n h = rw (no_indicator c h) tt
 joins_own afters.EvenIndicatorsZwj c u n h = rw (no_indicator c h, no_joiner c h) tt
 joins_own afters.OddIndicatorsZwj c u n h = rw (no_indicator c h, no_joiner c h) tt
@@ -361,12 +333,8 @@ joins_own afters.KiratAi c u n h = first_only c _ (either c (c == 0x16D63) (Some
     (λ e. literal 0x16D63 afters.Nothing own_16d63 c e) tt)
 joins_own afters.Alef c u n h = rw (own_width c h) (either c (is_lam c) (Some (Same, afters.Nothing)) None
     (λ e. plain_own c h (lam_plain c e)) tt)
-joins_own afters.Solidus c u n h = tt
-joins_own afters.SolidusAlef c u n h = tt
-joins_own afters.Lamed c u n h = tt
 joins_own afters.ZwjLamed c u n h = first_only c _ (either c (c == 0x05D0) (Some (Same, afters.Nothing)) None
     (λ e. literal 0x05D0 afters.Nothing own_05d0 c e) tt)
-joins_own afters.Ya c u n h = tt
 joins_own afters.ZwjYa c u n h = rw (no_vowel c h) tt
 joins_own afters.VowelZwjYa c u n h = first_only c _ (either c (c == 0x1A15) (Some (Same, afters.Nothing)) None
     (λ e. literal 0x1A15 afters.Nothing own_1a15 c e) tt)
@@ -379,11 +347,11 @@ joins_own afters.JoinerTifinagh c u n h = first_only c _
     (λ e. plain_own c h (tifinagh_plain c e)) tt)
 joins_own afters.LisuTone c u n h = first_only c _ (either c (is_in_range 0xA4F8 0xA4FB c) (Some (Same, afters.Nothing))
     None (λ e. plain_own c h (lisu_plain c e)) tt)
-joins_own afters.OrkhonI c u n h = tt
 joins_own afters.ZwjOrkhonI c u n h = first_only c _ (either c (c == 0x10C32) (Some (Same, afters.Nothing)) None
     (λ e. literal 0x10C32 afters.Nothing own_10c32 c e) tt)
 joins_own afters.KhmerLetter c u n h = first_only c _ (either c (c == 0x17D2) (Some (Less, afters.Nothing)) None
     (λ e. literal 0x17D2 afters.Nothing own_17d2 c e) tt)
+joins_own after c u n h = tt
 
 pub low_parts : (c : ℕ) → c ≤ 0xA0 → is_closing c ≡ true → (c == 0x0A) ≡ false
 low_parts c low h = not-true (c == 0x0A) (sym (cond-true (nat_le c 0xA0) (not (c == 0x0A))

@@ -73,7 +73,8 @@ pub record JoinsFew (c : ℕ) : Type 0 where
   pub ranges : in_ranges joined_ranges c ≡ false
 
 other : (c k : ℕ) → in_ranges joined_ones k ≡ true → JoinsFew c → (c == k) ≡ false
-other c k listed few = ne_eqb c k (λ e. absurd (true≢false (sym listed ∙ ap (in_ranges joined_ones) (sym e) ∙ few.ones)))
+other c k listed few = ne_eqb c k (λ e. absurd (true≢false
+    (sym listed ∙ ap (in_ranges joined_ones) (sym e) ∙ few.ones)))
 
 no_tifinagh : (c : ℕ) → JoinsFew c → is_in_range 0x2D31 0x2D65 c ≡ false
 no_tifinagh c few = (first_range (0x2D31, 0x2D65) _ c few.ranges).0
@@ -98,14 +99,11 @@ no_letter c few = (first_range (0xE0061, 0xE007A) [] c
 pub joins_few : (P : After → Option (Change × After) → Type 0) (c : ℕ) → JoinsFew c → HoldsOfFew P c → (after : After)
     → P after (joins false after c)
 unfolding joins before_alef in_ranges
-joins_few P c few it afters.Nothing = it.none afters.Nothing
-joins_few P c few it afters.LineFeed = it.none afters.LineFeed
 joins_few P c few it afters.EmojiModifier = it.modifier
 joins_few P c few it afters.RegionalIndicator = it.indicator
 joins_few P c few it afters.RegionalIndicators = it.indicators
 joins_few P c few it afters.Emoji = rw (other c 0x200D refl few) (it.none afters.Emoji)
 joins_few P c few it afters.ZwjEmoji = it.emoji
-joins_few P c few it afters.KeycapZwjEmoji = it.none afters.KeycapZwjEmoji
 joins_few P c few it afters.IndicatorZwj = it.joined
 joins_few P c few it afters.EvenIndicatorsZwj = it.even
 joins_few P c few it afters.OddIndicatorsZwj = it.odd
@@ -129,11 +127,7 @@ joins_few P c few it afters.KiratE = rw (
 ) (it.none afters.KiratE)
 joins_few P c few it afters.KiratAi = rw (other c 0x16D63 refl few) (it.none afters.KiratAi)
 joins_few P c few it afters.Alef = it.alef
-joins_few P c few it afters.Solidus = it.none afters.Solidus
-joins_few P c few it afters.SolidusAlef = it.none afters.SolidusAlef
-joins_few P c few it afters.Lamed = it.none afters.Lamed
 joins_few P c few it afters.ZwjLamed = rw (other c 0x05D0 refl few) (it.none afters.ZwjLamed)
-joins_few P c few it afters.Ya = it.none afters.Ya
 joins_few P c few it afters.ZwjYa = rw (other c 0x1A17 refl few) (it.none afters.ZwjYa)
 joins_few P c few it afters.VowelZwjYa = rw (other c 0x1A15 refl few) (it.none afters.VowelZwjYa)
 joins_few P c few it afters.Tifinagh = rw (other c 0x2D7F refl few) (it.none afters.Tifinagh)
@@ -142,6 +136,6 @@ joins_few P c few it afters.ZwjTifinagh = rw (other c 0x2D7F refl few, no_tifina
 joins_few P c few it afters.JoinerTifinagh = rw (no_tifinagh c few, other c 0x2D6F refl few)
     (it.none afters.JoinerTifinagh)
 joins_few P c few it afters.LisuTone = rw (no_lisu c few) (it.none afters.LisuTone)
-joins_few P c few it afters.OrkhonI = it.none afters.OrkhonI
 joins_few P c few it afters.ZwjOrkhonI = rw (other c 0x10C32 refl few) (it.none afters.ZwjOrkhonI)
 joins_few P c few it afters.KhmerLetter = rw (other c 0x17D2 refl few) (it.none afters.KhmerLetter)
+joins_few P c few it after = it.none after

@@ -58,17 +58,8 @@ single_light c =
 
 kind_light : (c : ℕ) (k : Kind) → IsLight (of_kind false c k)
 kind_light c kinds.Zero = λ e. (false, (false, (false, refl)))
-kind_light c kinds.Narrow = λ e. absurd (true≢false (sym e))
-kind_light c kinds.Wide = λ e. absurd (true≢false (sym e))
-kind_light c kinds.Ambiguous = λ e. absurd (true≢false (sym e))
-kind_light c kinds.Alef = λ e. absurd (true≢false (sym e))
-kind_light c kinds.KhmerLetter = λ e. absurd (true≢false (sym e))
-kind_light c kinds.TifinaghConsonant = λ e. absurd (true≢false (sym e))
-kind_light c kinds.LisuTone = λ e. absurd (true≢false (sym e))
-kind_light c kinds.RegionalIndicator = λ e. absurd (true≢false (sym e))
-kind_light c kinds.EmojiModifier = λ e. absurd (true≢false (sym e))
-kind_light c kinds.Emoji = λ e. absurd (true≢false (sym e))
 kind_light c kinds.Single = single_light c
+kind_light c k = λ e. absurd (true≢false (sym e))
 
 pub faint_high : (c : ℕ) → is_faint c ≡ true → 0xA0 < c
 faint_high c h =
@@ -96,17 +87,8 @@ is_faint_kind _ = false
 
 kind_faint : (c : ℕ) (k : Kind) → ((of_kind false c k).0 == 0) ≡ true → is_faint_kind k ≡ true
 kind_faint c kinds.Zero e = refl
-kind_faint c kinds.Narrow e = absurd (true≢false (sym e))
-kind_faint c kinds.Wide e = absurd (true≢false (sym e))
-kind_faint c kinds.Ambiguous e = absurd (true≢false (sym e))
-kind_faint c kinds.Alef e = absurd (true≢false (sym e))
-kind_faint c kinds.KhmerLetter e = absurd (true≢false (sym e))
-kind_faint c kinds.TifinaghConsonant e = absurd (true≢false (sym e))
-kind_faint c kinds.LisuTone e = absurd (true≢false (sym e))
-kind_faint c kinds.RegionalIndicator e = absurd (true≢false (sym e))
-kind_faint c kinds.EmojiModifier e = absurd (true≢false (sym e))
-kind_faint c kinds.Emoji e = absurd (true≢false (sym e))
 kind_faint c kinds.Single e = refl
+kind_faint c k e = absurd (true≢false (sym e))
 
 of_faint_kind : (c : ℕ) → is_faint c ≡ true → is_faint_kind (kind c) ≡ true
 unfolding alone

@@ -31,7 +31,8 @@ use Rattle.miette_columns.specs.declared.overlap.Overlap.{Overlap}
 use Rattle.miette_columns.specs.declared.overlap.Overlap.TheVariants.{Nothing, One, Selected}
 use Rattle.miette_columns.specs.steps.Parting.{may_part_flags}
 use Rattle.miette_columns.specs.steps.Places.{overlap_text, IsHeld}
-use Rattle.miette_columns.proofs.Excluding.{as_stepped, excluded, no_one, no_range, joined_ones, joined_ranges, JoinsFew}
+use Rattle.miette_columns.proofs.Excluding.{as_stepped, excluded, no_one, no_range, joined_ones, joined_ranges}
+use Rattle.miette_columns.proofs.Excluding.{JoinsFew}
 use Rattle.miette_columns.proofs.Excluding.{joins_few}
 use Rattle.miette_columns.proofs.KindTests.{kind_test_stepped}
 use Rattle.miette_columns.proofs.Lone.{read_append, shifted, or_false}
@@ -59,7 +60,8 @@ no_modified = excluded is_indicator is_emoji_modifier_base indicator_stepped is_
 
 no_presentation : (c : ℕ) → is_indicator c ≡ true → is_text_presentation_base c ≡ false
 unfolding unicode_width
-no_presentation = excluded is_indicator is_text_presentation_base indicator_stepped is_text_presentation_base_stepped refl
+no_presentation = excluded is_indicator is_text_presentation_base indicator_stepped is_text_presentation_base_stepped
+    refl
 
 no_transparent : (c : ℕ) → is_indicator c ≡ true → is_ligature_transparent c ≡ false
 unfolding unicode_width
@@ -80,18 +82,8 @@ no_other = excluded is_indicator (λ c. is_other_kind (kind c)) indicator_steppe
     (kind_test_stepped is_other_kind refl refl) refl
 
 own_kind : (c : ℕ) (k : Kind) → is_other_kind k ≡ false → of_kind false c k ≡ (1, before afters.RegionalIndicator)
-own_kind c kinds.Zero e = absurd (true≢false e)
-own_kind c kinds.Narrow e = absurd (true≢false e)
-own_kind c kinds.Wide e = absurd (true≢false e)
-own_kind c kinds.Ambiguous e = absurd (true≢false e)
-own_kind c kinds.Alef e = absurd (true≢false e)
-own_kind c kinds.KhmerLetter e = absurd (true≢false e)
-own_kind c kinds.TifinaghConsonant e = absurd (true≢false e)
-own_kind c kinds.LisuTone e = absurd (true≢false e)
 own_kind c kinds.RegionalIndicator e = refl
-own_kind c kinds.EmojiModifier e = absurd (true≢false e)
-own_kind c kinds.Emoji e = absurd (true≢false e)
-own_kind c kinds.Single e = absurd (true≢false e)
+own_kind c k e = absurd (true≢false e)
 
 own : (c : ℕ) → is_indicator c ≡ true → alone false c ≡ (1, before afters.RegionalIndicator)
 unfolding alone
@@ -174,8 +166,10 @@ past_all : (c t : ℕ) (s : State) → is_indicator c ≡ true → Waves (past_e
 unfolding past_emoji
 past_all c t s h =
     by_cases {C = Waves (past_emoji false c t s)} (is_plain s)
-    (λ y. rw (no_one is_indicator c 0x0A refl h, no_one is_indicator c 0x0D refl h, indicator_high c h, y, own c h) (inl refl))
-    (λ n. rw (no_one is_indicator c 0x0A refl h, no_one is_indicator c 0x0D refl h, indicator_high c h, n) (in_any_context c t s h))
+    (λ y. rw (no_one is_indicator c 0x0A refl h, no_one is_indicator c 0x0D refl h, indicator_high c h, y, own c h)
+    (inl refl))
+    (λ n. rw (no_one is_indicator c 0x0A refl h, no_one is_indicator c 0x0D refl h, indicator_high c h, n)
+    (in_any_context c t s h))
 
 waving_cond : (b : Bool) (x y : Reading) → (b ≡ true → Waves x) → (b ≡ false → Waves y) → Waves (cond b x y)
 waving_cond true x y p q = p refl
@@ -212,7 +206,12 @@ step_joined c t after h some unmarked =
 
 after_nothing : (c t : ℕ) → is_indicator c ≡ true → step false c (t, plain) ≡ (t + 1, before afters.RegionalIndicator)
 unfolding step past_emoji
-after_nothing c t h = rw (no_one is_indicator c 0x0A refl h, no_one is_indicator c 0x0D refl h, indicator_high c h, own c h) refl
+after_nothing c t h = rw (
+  no_one is_indicator c 0x0A refl h,
+  no_one is_indicator c 0x0D refl h,
+  indicator_high c h,
+  own c h,
+) refl
 
 after_one : (c t : ℕ) → is_indicator c ≡ true → step false c (t, before afters.RegionalIndicator)
     ≡ (t + 1, before afters.RegionalIndicators)
@@ -232,7 +231,8 @@ after_joined c t h = step_joined c t afters.IndicatorZwj h refl refl ∙ rw h re
 after_even : (c t : ℕ) → is_indicator c ≡ true → step false c (t, before afters.EvenIndicatorsZwj)
     ≡ (t + 3, before afters.OddIndicatorsZwj)
 unfolding joins
-after_even c t h = step_joined c t afters.EvenIndicatorsZwj h refl refl ∙ rw (no_one is_indicator c 0x200D refl h, h) refl
+after_even c t h = step_joined c t afters.EvenIndicatorsZwj h refl refl
+    ∙ rw (no_one is_indicator c 0x200D refl h, h) refl
 
 after_odd : (c t : ℕ) → is_indicator c ≡ true → step false c (t, before afters.OddIndicatorsZwj)
     ≡ (t - 1, before afters.EvenIndicatorsZwj)

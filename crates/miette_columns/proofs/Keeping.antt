@@ -24,7 +24,8 @@ use Rattle.unicode_width.specs.Width.{before, of_kind, alone, before_alef, is_la
 use Rattle.unicode_width.proofs.KindLemmas.{is_ligature_transparent_stepped}
 use Rattle.unicode_width.proofs.Computing.{unicode_width}
 use Rattle.miette_columns.specs.steps.Parting.{is_keeping}
-use Rattle.miette_columns.proofs.Excluding.{as_stepped, excluded, no_one, no_range, joined_ones, joined_ranges, JoinsFew}
+use Rattle.miette_columns.proofs.Excluding.{as_stepped, excluded, no_one, no_range, joined_ones, joined_ranges}
+use Rattle.miette_columns.proofs.Excluding.{JoinsFew}
 use Rattle.miette_columns.proofs.Excluding.{joins_few}
 use Rattle.miette_columns.proofs.KindTests.{kind_test_stepped}
 use Rattle.miette_columns.proofs.Lone.{or_false, or_turn}
@@ -91,18 +92,8 @@ toned c h =
     subst (λ b. (not b || is_tone (kind c)) ≡ true) inside listed
 
 tone_kind : (c : ℕ) (k : Kind) → is_tone k ≡ true → before afters.EmojiModifier ≡ (of_kind false c k).1
-tone_kind c kinds.Zero e = absurd (true≢false (sym e))
-tone_kind c kinds.Narrow e = absurd (true≢false (sym e))
-tone_kind c kinds.Wide e = absurd (true≢false (sym e))
-tone_kind c kinds.Ambiguous e = absurd (true≢false (sym e))
-tone_kind c kinds.Alef e = absurd (true≢false (sym e))
-tone_kind c kinds.KhmerLetter e = absurd (true≢false (sym e))
-tone_kind c kinds.TifinaghConsonant e = absurd (true≢false (sym e))
-tone_kind c kinds.LisuTone e = absurd (true≢false (sym e))
-tone_kind c kinds.RegionalIndicator e = absurd (true≢false (sym e))
 tone_kind c kinds.EmojiModifier e = refl
-tone_kind c kinds.Emoji e = absurd (true≢false (sym e))
-tone_kind c kinds.Single e = absurd (true≢false (sym e))
+tone_kind c k e = absurd (true≢false (sym e))
 
 tone_own : (c : ℕ) → is_in_range 0x1F3FB 0x1F3FF c ≡ true → before afters.EmojiModifier ≡ (alone false c).1
 unfolding alone
@@ -128,7 +119,13 @@ keeping_apart : (c : ℕ) → is_keeping c ≡ true → IsApart c
 keeping_apart c h = record {
   joiner = no_one is_keeping c 0x200D refl h;
   transparent = no_transparent c h;
-  selector = (no_one is_keeping c 0xFE0F refl h, (no_one is_keeping c 0xFE01 refl h, no_one is_keeping c 0xFE0E refl h));
+  selector = (
+    no_one is_keeping c 0xFE0F refl h,
+    (
+      no_one is_keeping c 0xFE01 refl h,
+      no_one is_keeping c 0xFE0E refl h,
+    ),
+  );
   own = λ after u. joins_kept after c u h;
 }
 

@@ -27,7 +27,8 @@ use Rattle.unicode_width.proofs.KindLemmas.{is_ligature_transparent_stepped, is_
 use Rattle.unicode_width.proofs.Computing.{unicode_width}
 use Rattle.unicode_width.proofs.Rules.{is_simple, str_width-append_simple}
 use Rattle.miette_columns.specs.steps.Parting.{is_lone}
-use Rattle.miette_columns.proofs.Excluding.{as_stepped, excluded, no_one, no_range, joined_ones, joined_ranges, JoinsFew}
+use Rattle.miette_columns.proofs.Excluding.{as_stepped, excluded, no_one, no_range, joined_ones, joined_ranges}
+use Rattle.miette_columns.proofs.Excluding.{JoinsFew}
 use Rattle.miette_columns.proofs.Excluding.{joins_few}
 use Rattle.miette_columns.proofs.KindTests.{kind_test_stepped}
 
@@ -119,36 +120,24 @@ unfolding past_emoji
 past_low c t s h low = rw (no_one is_lone c 0x0A refl h, no_one is_lone c 0x0D refl h, le-leb c 0xA0 low) refl
 
 no_emoji_kind : (k : Kind) → is_other_kind k ≡ false → is_emoji k ≡ false
-no_emoji_kind kinds.Zero e = absurd (true≢false e)
 no_emoji_kind kinds.Narrow e = refl
 no_emoji_kind kinds.Wide e = refl
 no_emoji_kind kinds.Ambiguous e = refl
 no_emoji_kind kinds.Alef e = refl
 no_emoji_kind kinds.KhmerLetter e = refl
-no_emoji_kind kinds.TifinaghConsonant e = absurd (true≢false e)
-no_emoji_kind kinds.LisuTone e = absurd (true≢false e)
-no_emoji_kind kinds.RegionalIndicator e = absurd (true≢false e)
-no_emoji_kind kinds.EmojiModifier e = absurd (true≢false e)
-no_emoji_kind kinds.Emoji e = absurd (true≢false e)
-no_emoji_kind kinds.Single e = absurd (true≢false e)
+no_emoji_kind k e = absurd (true≢false e)
 
 no_emoji : (c : ℕ) → is_lone c ≡ true → is_emoji (kind c) ≡ false
 no_emoji c h = no_emoji_kind (kind c) (no_other c h)
 
 -- it has some width of its own
 own_kind : (c : ℕ) (k : Kind) → is_other_kind k ≡ false → ((of_kind false c k).0 == 0) ≡ false
-own_kind c kinds.Zero e = absurd (true≢false e)
 own_kind c kinds.Narrow e = refl
 own_kind c kinds.Wide e = refl
 own_kind c kinds.Ambiguous e = refl
 own_kind c kinds.Alef e = refl
 own_kind c kinds.KhmerLetter e = refl
-own_kind c kinds.TifinaghConsonant e = absurd (true≢false e)
-own_kind c kinds.LisuTone e = absurd (true≢false e)
-own_kind c kinds.RegionalIndicator e = absurd (true≢false e)
-own_kind c kinds.EmojiModifier e = absurd (true≢false e)
-own_kind c kinds.Emoji e = absurd (true≢false e)
-own_kind c kinds.Single e = absurd (true≢false e)
+own_kind c k e = absurd (true≢false e)
 
 own : (c : ℕ) → is_lone c ≡ true → ((alone false c).0 == 0) ≡ false
 unfolding alone
@@ -204,7 +193,8 @@ unfolding past_emoji
 past_high c t s h high =
     by_cases {C = past_emoji false c t s ≡ added t (alone false c)} (is_plain s)
     (λ y. rw (no_one is_lone c 0x0A refl h, no_one is_lone c 0x0D refl h, lt-leb c 0xA0 high, y) refl)
-    (λ n. rw (no_one is_lone c 0x0A refl h, no_one is_lone c 0x0D refl h, lt-leb c 0xA0 high, n) (in_any_context c t s h))
+    (λ n. rw (no_one is_lone c 0x0A refl h, no_one is_lone c 0x0D refl h, lt-leb c 0xA0 high, n)
+    (in_any_context c t s h))
 
 -- its width, and what it is for the character before it
 abbrev lone_own : ℕ → ℕ × State

@@ -98,10 +98,6 @@ single_open c h =
     (open_cond (c == 0x16D68) _ _ (afters.KiratAi, (refl, refl)) plain_open)))))))
 
 kind_open : (c : ℕ) (k : Kind) → opens c ≡ true → is_tone k ≡ false → IsOpen (of_kind false c k).1
-kind_open c kinds.Zero h n = (afters.Nothing, (refl, refl))
-kind_open c kinds.Narrow h n = (afters.Nothing, (refl, refl))
-kind_open c kinds.Wide h n = (afters.Nothing, (refl, refl))
-kind_open c kinds.Ambiguous h n = (afters.Nothing, (refl, refl))
 kind_open c kinds.Alef h n = (afters.Alef, (refl, refl))
 kind_open c kinds.KhmerLetter h n = (afters.KhmerLetter, (refl, refl))
 kind_open c kinds.TifinaghConsonant h n = (afters.Tifinagh, (refl, refl))
@@ -110,6 +106,7 @@ kind_open c kinds.RegionalIndicator h n = (afters.RegionalIndicator, (refl, refl
 kind_open c kinds.EmojiModifier h n = absurd (true≢false n)
 kind_open c kinds.Emoji h n = (afters.Emoji, (refl, refl))
 kind_open c kinds.Single h n = single_open c h
+kind_open c k h n = (afters.Nothing, (refl, refl))
 
 own_open : (c : ℕ) → opens c ≡ true → IsOpen (alone false c).1
 unfolding alone
@@ -153,8 +150,6 @@ joined_open t (Some j) own p q = (j.1, (refl, p))
 
 joins_open : (after : After) (c : ℕ) → opens c ≡ true → JoinsOpen (joins false after c)
 unfolding joins before_alef
-joins_open afters.Nothing c h = tt
-joins_open afters.LineFeed c h = tt
 joins_open afters.EmojiModifier c h = two (is_emoji_modifier_base c) (c == 0x200D) (Same, afters.Emoji)
     (Same, afters.ZwjEmoji) refl refl
 joins_open afters.RegionalIndicator c h = first_only (if is_indicator c then Some (One, afters.RegionalIndicators)
@@ -167,7 +162,6 @@ joins_open afters.Emoji c h = first_only (if c == 0x200D then Some (Same, afters
 joins_open afters.ZwjEmoji c h = rw (no_skin c h) (four (c == 0x20E3) (is_indicator c) (c == 0xE007F)
     (is_emoji (kind c)) (Same, afters.KeycapZwjEmoji) (One, afters.IndicatorZwj) (Same, afters.TagEnd)
     (Same, afters.Emoji) refl refl refl refl)
-joins_open afters.KeycapZwjEmoji c h = tt
 joins_open afters.IndicatorZwj c h = first_only (if is_indicator c then Some (Less, afters.EvenIndicatorsZwj) else None)
     (either (is_indicator c) (Less, afters.EvenIndicatorsZwj) refl)
 joins_open afters.EvenIndicatorsZwj c h = first_only (if c == 0x200D then Some (Same, afters.ZwjEmoji)
@@ -200,12 +194,8 @@ joins_open afters.KiratAi c h = first_only (if c == 0x16D63 then Some (Same, aft
     (either (c == 0x16D63) (Same, afters.Nothing) refl)
 joins_open afters.Alef c h = two (is_lam c) (((alone false c).0 == 0) && joining_type_eq (joining_type c) Transparent)
     (Same, afters.Nothing) (Same, afters.Alef) refl refl
-joins_open afters.Solidus c h = tt
-joins_open afters.SolidusAlef c h = tt
-joins_open afters.Lamed c h = tt
 joins_open afters.ZwjLamed c h = first_only (if c == 0x05D0 then Some (Same, afters.Nothing) else None)
     (either (c == 0x05D0) (Same, afters.Nothing) refl)
-joins_open afters.Ya c h = tt
 joins_open afters.ZwjYa c h = first_only (if c == 0x1A17 then Some (Same, afters.VowelZwjYa) else None)
     (either (c == 0x1A17) (Same, afters.VowelZwjYa) refl)
 joins_open afters.VowelZwjYa c h = first_only (if c == 0x1A15 then Some (Same, afters.Nothing) else None)
@@ -219,39 +209,15 @@ joins_open afters.JoinerTifinagh c h = first_only (if is_tifinagh c then Some (L
     (either (is_tifinagh c) (Less, afters.Nothing) refl)
 joins_open afters.LisuTone c h = first_only (if is_in_range 0xA4F8 0xA4FB c then Some (Same, afters.Nothing) else None)
     (either (is_in_range 0xA4F8 0xA4FB c) (Same, afters.Nothing) refl)
-joins_open afters.OrkhonI c h = tt
 joins_open afters.ZwjOrkhonI c h = first_only (if c == 0x10C32 then Some (Same, afters.Nothing) else None)
     (either (c == 0x10C32) (Same, afters.Nothing) refl)
 joins_open afters.KhmerLetter c h = first_only (if c == 0x17D2 then Some (Less, afters.Nothing) else None)
     (either (c == 0x17D2) (Less, afters.Nothing) refl)
+joins_open after c h = tt
 
 -- marks are skipped by no modifier
 marked : (after : After) → skips_marks after ≡ true → (is_modifier after ≡ false)
     × (is_modifier (with_joiner after) ≡ false)
-marked afters.Nothing e = absurd (true≢false (sym e))
-marked afters.LineFeed e = absurd (true≢false (sym e))
-marked afters.EmojiModifier e = absurd (true≢false (sym e))
-marked afters.RegionalIndicator e = absurd (true≢false (sym e))
-marked afters.RegionalIndicators e = absurd (true≢false (sym e))
-marked afters.Emoji e = absurd (true≢false (sym e))
-marked afters.ZwjEmoji e = absurd (true≢false (sym e))
-marked afters.KeycapZwjEmoji e = absurd (true≢false (sym e))
-marked afters.IndicatorZwj e = absurd (true≢false (sym e))
-marked afters.EvenIndicatorsZwj e = absurd (true≢false (sym e))
-marked afters.OddIndicatorsZwj e = absurd (true≢false (sym e))
-marked afters.TagEnd e = absurd (true≢false (sym e))
-marked afters.TagDigit1 e = absurd (true≢false (sym e))
-marked afters.TagDigit2 e = absurd (true≢false (sym e))
-marked afters.TagDigit3 e = absurd (true≢false (sym e))
-marked afters.TagLetter1 e = absurd (true≢false (sym e))
-marked afters.TagLetter2 e = absurd (true≢false (sym e))
-marked afters.TagLetter3 e = absurd (true≢false (sym e))
-marked afters.TagLetter4 e = absurd (true≢false (sym e))
-marked afters.TagLetter5 e = absurd (true≢false (sym e))
-marked afters.TagLetter6 e = absurd (true≢false (sym e))
-marked afters.KiratE e = absurd (true≢false (sym e))
-marked afters.KiratAi e = absurd (true≢false (sym e))
-marked afters.Alef e = absurd (true≢false (sym e))
 marked afters.Solidus e = (refl, refl)
 marked afters.SolidusAlef e = (refl, refl)
 marked afters.Lamed e = (refl, refl)
@@ -266,6 +232,7 @@ marked afters.LisuTone e = (refl, refl)
 marked afters.OrkhonI e = (refl, refl)
 marked afters.ZwjOrkhonI e = (refl, refl)
 marked afters.KhmerLetter e = (refl, refl)
+marked after e = absurd (true≢false (sym e))
 
 past_open : (c t : ℕ) (after : After) → opens c ≡ true → IsOpen (past_selectors false c t after).1
 unfolding past_selectors

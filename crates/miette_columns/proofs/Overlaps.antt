@@ -13,7 +13,8 @@ use Rattle.unicode_width.specs.Width.{before, plain, is_line_feed, alone, joins}
 use Rattle.unicode_width.specs.Width.{joined_or, Reading, added, skips_marks, is_plain, past_selectors}
 use Rattle.unicode_width.specs.Width.{in_context, past_emoji, step}
 use Rattle.miette_columns.specs.steps.Parting.{is_joining, is_closing}
-use Rattle.miette_columns.proofs.ClosingCharacters.{is_mild_kind, mild, unlisted, no_transparent, no_indicator, no_joiner}
+use Rattle.miette_columns.proofs.ClosingCharacters.{is_mild_kind, mild, unlisted, no_transparent, no_indicator}
+use Rattle.miette_columns.proofs.ClosingCharacters.{no_joiner}
 use Rattle.miette_columns.proofs.ClosingCharacters.{no_selector, JoinsOwn, joins_own, low_parts}
 use Rattle.miette_columns.proofs.Opening.{is_modifier, IsOpen}
 

@@ -19,7 +19,8 @@ use Rattle.unicode_width.specs.Width.{step, read_before, str_width}
 use Rattle.unicode_width.proofs.Computing.{unicode_width}
 use Rattle.miette_basics.proofs.Cases.{by_cases}
 use Rattle.miette_columns.specs.steps.Parting.{is_lone, is_joining, is_closing, may_part}
-use Rattle.miette_columns.proofs.ClosingCharacters.{is_mild_kind, unlisted, mild, no_joiner, no_transparent, no_selector}
+use Rattle.miette_columns.proofs.ClosingCharacters.{is_mild_kind, unlisted, mild, no_joiner, no_transparent}
+use Rattle.miette_columns.proofs.ClosingCharacters.{no_selector}
 use Rattle.miette_columns.proofs.ClosingCharacters.{plain_own, emoji_own, JoinsOwn, joins_own, low_parts}
 use Rattle.miette_columns.proofs.Lone.{adds_up, shifted, read_append}
 

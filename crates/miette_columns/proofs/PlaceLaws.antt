@@ -102,7 +102,8 @@ one_since text from over new sum wider bytes code size h next u v e w =
           let step = one_over (overlap_text from.overlap) from.widths start ((bytes - from.bytes) + (size + more)) over
           new sum wider (drop bytes text) (drop size (drop bytes text)) (size + more) code size
           (h.each (size + more)) next.first u v e w (omega (arith, next.some)) (omega arith) in
-          subst (λ k. IsOver (overlap_text from.overlap) from.widths start k new wider (drop (bytes + size) text) more) at
+          subst (λ k. IsOver (overlap_text from.overlap) from.widths start k new wider (drop (bytes + size) text) more)
+          at
           (subst (λ r. IsOver (overlap_text from.overlap) from.widths start ((bytes - from.bytes) + (size + more)) new
           wider r more) (drop-drop size bytes text)
           (subst (λ k. IsOver (overlap_text from.overlap) from.widths start ((bytes - from.bytes) + (size + more)) new

@@ -14,7 +14,8 @@ use Rattle.miette_columns.specs.declared.trails.Trail.{Trail}
 use Rattle.miette_columns.specs.rules.Columns.{begun_text, is_boundary, widths, column}
 use Rattle.miette_columns.specs.steps.Places.{IsPlace}
 use Rattle.miette_columns.specs.steps.Trails.{is_faint, AreFaint, IsTrail, first_size}
-use Rattle.miette_columns.proofs.Columning.{IsNext, begun_more, begun_zero, boundary_more, boundary_inside, boundary_zero}
+use Rattle.miette_columns.proofs.Columning.{IsNext, begun_more, begun_zero, boundary_more, boundary_inside}
+use Rattle.miette_columns.proofs.Columning.{boundary_zero}
 use Rattle.miette_columns.proofs.Columning.{behind_boundary, behind_other, twice_boundary, twice_other}
 use Rattle.miette_columns.proofs.FaintCharacters.{faint_behind, faint_width}
 use Rattle.miette_columns.proofs.SettledTexts.{EndsIn}
