@@ -8,6 +8,7 @@ pub mod PartedTexts
 pub mod Overlaps
 pub mod Keeping
 pub mod SettledTexts
+pub mod Indicators
 pub mod Flags
 pub mod PlaceLaws
 pub mod FaintCharacters
