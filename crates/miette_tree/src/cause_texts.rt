@@ -3,6 +3,7 @@ ghost use Rattle.std.specs.Prelude.{◌≡◌, ◌+◌, ◌<◌, ◌≤◌, [], 
 ghost use Rattle.std.specs.Prelude.{vec_len, vec_capacity, IfOk, OnOk, OnErr};
 ghost use Rattle.std.specs.List.{All};
 
+use miette_basics::sums::sum;
 use std::alloc::{AllocError, Global};
 
 /// Texts, the nearest first. In the list as many empty texts stand in front of them as `start` says: one more
@@ -31,9 +32,9 @@ impl CauseTexts {
         &self.list[self.start..]
     }
 
-    /// Puts a text in front. Room for it is made by moving all texts, and then for so many more that each text is
-    /// moved a bounded number of times on the average. `AllocError` where memory for that is refused; the texts are
-    /// then as before.
+    /// Puts a text in front. Where there is no room for it, all texts are moved, and room is made for as many more,
+    /// so that each text is moved a bounded number of times on the average. `AllocError` where memory for that is
+    /// refused; the texts are then as before.
     pub(crate) fn push_front(&mut self, alloc: Global, text: String) -> Result<(), AllocError>
         ensures ok { OnOk result (texts_in self.new ≡ string_bytes text ∷ texts_in self.old) }
         ensures err { OnErr result (self.new ≡ self.old) }
@@ -64,24 +65,21 @@ impl CauseTexts {
     }
 }
 
-// So many empty texts, with room behind them for so many more.
+// `count` empty texts, with room after them for `more`.
 fn empty_texts(alloc: Global, count: usize, more: usize) -> Result<Vec<String>, AllocError>
     ensures count { IfOk result (λ list. vec_len list ≡ count) }
     ensures empty { IfOk result (λ list. All (λ text. string_bytes text ≡ []) list.items) }
     ensures room { IfOk result (λ list. count + more ≤ vec_capacity list) }
 {
-    let Some(capacity) = count.checked_add(more) else {
-        return Err(AllocError);
-    };
-    let mut list = Vec::with_capacity(alloc, capacity)?;
+    let mut list = Vec::with_capacity(alloc, sum(count, more)?)?;
     for _ in 0..count {
         list.push(String::new(alloc))?;
     }
     Ok(list)
 }
 
-/// Puts a copy of a text behind a list. `AllocError` where memory is refused.
-pub(crate) fn push_copy(alloc: Global, list: &mut Vec<String>, text: &str) -> Result<(), AllocError>
+/// Puts a copy of a text at the end of a list. `AllocError` where memory is refused.
+pub(crate) fn push_copy(list: &mut Vec<String>, alloc: Global, text: &str) -> Result<(), AllocError>
     ensures { OnOk result (map string_bytes list.new.items ≡ map string_bytes list.old.items ++ text.now ∷ []) }
 {
     let copy = String::from_str(alloc, text)?;
@@ -89,17 +87,17 @@ pub(crate) fn push_copy(alloc: Global, list: &mut Vec<String>, text: &str) -> Re
     Ok(())
 }
 
-/// Puts copies of texts behind a list. `AllocError` where memory is refused.
+/// Puts copies of texts at the end of a list. `AllocError` where memory is refused.
 pub(crate) fn push_copies(
-    alloc: Global,
     list: &mut Vec<String>,
+    alloc: Global,
     texts: &[String],
 ) -> Result<(), AllocError>
     ensures { OnOk result (map string_bytes list.new.items
         ≡ map string_bytes list.old.items ++ map string_bytes texts.now) }
 {
     for text in texts {
-        push_copy(alloc, list, text.as_str())?;
+        push_copy(list, alloc, text.as_str())?;
     }
     Ok(())
 }

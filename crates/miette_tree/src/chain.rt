@@ -22,7 +22,7 @@ pub struct Chain<'a, D = Box<dyn Diagnostic>, S = Box<dyn SourceCode>> {
     ghost small: { count + length texts.now < 2 ^ 64 },
 }
 
-/// The report behind a diagnostic cause.
+/// The report that is a diagnostic cause.
 fn below<'a, D: Diagnostic, S: SourceCode>(report: &'a Report<D, S>) -> Option<&'a Report<D, S>>
     ensures { spine_from (option_map (λ r. tree_of D.meaning S.source r.now) result)
         ≡ spine_below (cause_of (tree_of D.meaning S.source report.now)) }
@@ -33,7 +33,7 @@ fn below<'a, D: Diagnostic, S: SourceCode>(report: &'a Report<D, S>) -> Option<&
     }
 }
 
-/// The last message of at most that many reports, and how many come before it.
+/// The last message of at most `count` reports, and how many come before it.
 fn last_within<'a, D: Diagnostic, S: SourceCode>(
     report: &'a Report<D, S>,
     count: usize,
@@ -53,7 +53,7 @@ fn last_within<'a, D: Diagnostic, S: SourceCode>(
     (at.message(), count - 1)
 }
 
-/// How many reports there are from this one on, up to that many.
+/// How many reports there are from this one on, up to `count`.
 fn count_within<D: Diagnostic, S: SourceCode>(report: &Report<D, S>, count: usize) -> usize
     ensures is { result ≡ length (take count (spine (tree_of D.meaning S.source report.now))) }
     ensures most { result ≤ count }
@@ -128,7 +128,7 @@ impl<'a, D: Diagnostic, S: SourceCode> ExactSizeIterator for Chain<'a, D, S> {
     }
 }
 
-/// The same place in the same chain.
+/// A clone stands at its place in the chain.
 impl<'a, D: Diagnostic, S: SourceCode> Clone for Chain<'a, D, S> {
     ghost use Rattle.miette_tree.specs.views.RemainingChain.{left_of};
 

@@ -126,7 +126,7 @@ impl<D: Diagnostic, S: SourceCode> From<AllocError> for Report<D, S> {
     }
 }
 
-/// As of an `AllocError`; the value that was not stored is let go.
+/// As of an `AllocError`; the value that was not stored is dropped.
 impl<T: Drop, D: Diagnostic, S: SourceCode> From<AllocFailed<T>> for Report<D, S> {
     ghost use Rattle.miette_tree.specs.rules.WrapErr.{IsRefused};
 

@@ -4,9 +4,8 @@ ghost use Rattle.std.specs.Option.{option_copied};
 ghost use Rattle.miette_protocol.specs.rules.Reading.{plain_source, named_source};
 ghost use Rattle.miette_protocol.specs.rules.Outcome.{Answers};
 
-use miette_protocol::error::MietteError;
 use miette_protocol::protocol::SourceSpan;
-use miette_protocol::source::{IndexedSource, MietteSpanContents, NamedSource, SourceCode};
+use miette_protocol::source::{IndexedSource, NamedSource, ReadResult, SourceCode};
 use std::alloc::{AllocError, Global};
 
 /// The bytes, with a name or without one.
@@ -37,7 +36,7 @@ impl OwnedSource {
     }
 
     /// These bytes, with no name and no language. `AllocError` where there is no memory for the index and its place;
-    /// the bytes are then let go.
+    /// the bytes are then dropped.
     pub fn new(alloc: Global, bytes: Vec<u8>) -> Result<OwnedSource, AllocError>
         ensures { IfOk result (λ it. owned_source it ≡ plain_source bytes.items) }
     {
@@ -45,7 +44,7 @@ impl OwnedSource {
     }
 
     /// These bytes, with a name, and with a language where one is given. `AllocError` where there is no memory
-    /// for the index and its place, the name or the language; the bytes are then let go.
+    /// for the index and its place, the name or the language; the bytes are then dropped.
     pub fn named(
         alloc: Global,
         name: &str,
@@ -70,12 +69,7 @@ impl SourceCode for OwnedSource {
 
     ghost source = { owned_source };
 
-    fn read_span(
-        &self,
-        span: &SourceSpan,
-        before: usize,
-        after: usize,
-    ) -> Result<MietteSpanContents<'_>, MietteError> {
+    fn read_span(&self, span: &SourceSpan, before: usize, after: usize) -> ReadResult<'_> {
         match &*self.bytes {
             Bytes::Plain(source) => source.read_span(span, before, after),
             Bytes::Named(source) => source.read_span(span, before, after),
@@ -118,15 +112,10 @@ impl<'a, S> SourceRef<'a, S> {
 impl<'a, S: SourceCode> SourceRef<'a, S> {
     ghost use Rattle.miette_tree.specs.views.Owned.{shown_source};
 
-    /// Reads a span of the source with so many lines of context before it and after it. Takes memory
-    /// only where the source does. The data, name and language are lent by the report. The errors are those
+    /// Reads a span of the source with `before` lines of context before it and `after` lines after it. Takes
+    /// memory only where the source does. The data, name and language are lent by the report. The errors are those
     /// of `SourceCode::read_span`; an owned source never answers `IoError`.
-    pub fn read_span(
-        self,
-        span: &SourceSpan,
-        before: usize,
-        after: usize,
-    ) -> Result<MietteSpanContents<'a>, MietteError>
+    pub fn read_span(self, span: &SourceSpan, before: usize, after: usize) -> ReadResult<'a>
         ensures { Answers (shown_source S.source self.entry) span.now before after result }
     {
         match self.place {
@@ -142,12 +131,7 @@ impl<'a, S: SourceCode> SourceCode for SourceRef<'a, S> {
 
     ghost source = { shown_source S.source };
 
-    fn read_span(
-        &self,
-        span: &SourceSpan,
-        before: usize,
-        after: usize,
-    ) -> Result<MietteSpanContents<'_>, MietteError> {
+    fn read_span(&self, span: &SourceSpan, before: usize, after: usize) -> ReadResult<'_> {
         SourceRef::read_span(*self, span, before, after)
     }
 }

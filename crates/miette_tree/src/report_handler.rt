@@ -40,8 +40,8 @@ pub trait ReportHandler {
         ensures err { OnErr result (string_bytes out.new ≡ string_bytes out.old) }
         ensures settings { keeps self.old self.new };
 
-    /// Appends the message, or where `alternate` the chain of messages joined by `: `. After an error, which is want of
-    /// memory, `out` is as before.
+    /// Appends the message, or where `alternate` the chain of messages joined by `: `. After an error, which is `Memory`,
+    /// `out` is as before.
     fn display<D: Diagnostic, S: SourceCode>(
         &self,
         report: &Report<D, S>,
@@ -53,15 +53,15 @@ pub trait ReportHandler {
         ensures memory { OnErr result (result ≡ Err RenderError.Memory) }
         ensures err { OnErr result (string_bytes out.new ≡ string_bytes out.old) }
     {
-        push_displayed(report, alternate, out)
+        push_displayed(out, report, alternate)
     }
 }
 
 /// Appends the message, or where `alternate` the chain joined by `: `.
 fn push_displayed<D: Diagnostic, S: SourceCode>(
+    out: &mut String,
     report: &Report<D, S>,
     alternate: bool,
-    out: &mut String,
 ) -> Result<(), RenderError>
     ensures text { OnOk result (string_bytes out.new
         ≡ string_bytes out.old ++ display_text alternate (tree_of D.meaning S.source report.now)) }
@@ -84,13 +84,13 @@ fn displayed_text<D: Diagnostic, S: SourceCode>(
 {
     let mut text = String::from_str(alloc, report.message())?;
     if alternate {
-        push_behind_colons(report, &mut text)?;
+        push_after_colons(&mut text, report)?;
     }
     Ok(text)
 }
 
 /// Appends a text with `: ` in front.
-fn push_behind_colon(text: &str, out: &mut String) -> Result<(), AllocError>
+fn push_after_colon(out: &mut String, text: &str) -> Result<(), AllocError>
     ensures { OnOk result (string_bytes out.new ≡ string_bytes out.old ++ behind_colons (text.now ∷ [])) }
 {
     out.push_str(": ")?;
@@ -98,33 +98,33 @@ fn push_behind_colon(text: &str, out: &mut String) -> Result<(), AllocError>
 }
 
 /// Appends texts, each with `: ` in front.
-fn push_each_behind_colon(texts: &[String], out: &mut String) -> Result<(), AllocError>
+fn push_each_after_colon(out: &mut String, texts: &[String]) -> Result<(), AllocError>
     ensures { OnOk result (string_bytes out.new
         ≡ string_bytes out.old ++ behind_colons (map string_bytes texts.now)) }
 {
     for text in texts {
-        push_behind_colon(text.as_str(), out)?;
+        push_after_colon(out, text.as_str())?;
     }
     Ok(())
 }
 
 /// Appends the causes of a report, each with `: ` in front.
-fn push_behind_colons<D: Diagnostic, S: SourceCode>(
-    report: &Report<D, S>,
+fn push_after_colons<D: Diagnostic, S: SourceCode>(
     out: &mut String,
+    report: &Report<D, S>,
 ) -> Result<(), AllocError>
     ensures { OnOk result (string_bytes out.new
         ≡ string_bytes out.old ++ behind_colons (causes_of (cause_of (tree_of D.meaning S.source report.now)))) }
 {
     let mut at = report;
     while let Cause::Diagnostic(next) = at.cause() {
-        push_behind_colon(next.message(), out)?;
+        push_after_colon(out, next.message())?;
         at = next;
     }
-    push_each_behind_colon(cause_texts(at), out)
+    push_each_after_colon(out, cause_texts(at))
 }
 
-/// Appends a whole text; after an error, which is want of memory, `out` is as before.
+/// Appends a whole text; after an error, which is `Memory`, `out` is as before.
 pub fn append_whole(text: &str, out: &mut String) -> Result<(), RenderError>
     ensures ok { OnOk result (string_bytes out.new ≡ string_bytes out.old ++ text.now) }
     ensures memory { OnErr result (result ≡ Err RenderError.Memory) }

@@ -31,7 +31,7 @@ enum KeptCause<R> {
 }
 
 /// A loop over the causes, so that a long chain takes no more of the stack than a short one. Related reports that have
-/// related reports are let go by calls in one another.
+/// related reports are dropped by calls in one another.
 impl<D: Drop, S: Drop> Drop for Report<D, S> {
     #[cycle(reports)]
     fn drop(mut self) {
@@ -43,7 +43,7 @@ impl<D: Drop, S: Drop> Drop for Report<D, S> {
                 cause,
                 related,
             } = self;
-            let_go(related);
+            drop_related(related);
             match cause {
                 KeptCause::Diagnostic(next) => self = Box::into_inner(next),
                 KeptCause::Texts(_) => return,
@@ -53,9 +53,9 @@ impl<D: Drop, S: Drop> Drop for Report<D, S> {
     }
 }
 
-// Lets related reports go.
+// Drops related reports.
 #[cycle(reports)]
-fn let_go<D: Drop, S: Drop>(related: Option<Vec<Report<D, S>>>) {
+fn drop_related<D: Drop, S: Drop>(related: Option<Vec<Report<D, S>>>) {
     drop(related);
 }
 
@@ -182,7 +182,7 @@ impl<D: Diagnostic, S: SourceCode> Report<D, S> {
     }
 
     /// With this report as its cause, in place of the cause that it had. Where memory is refused, both come back as
-    /// they were: first the one, then its cause. A chain may be of any length: loops show it and let it go.
+    /// they were: first the one, then its cause. A chain may be of any length: loops show it and drop it.
     pub fn with_diagnostic_cause(
         self,
         alloc: Global,
@@ -205,7 +205,7 @@ impl<D: Diagnostic, S: SourceCode> Report<D, S> {
 
     /// With these related reports in place of those that it had. Takes no memory. The list may be of any length. Where
     /// related reports have related reports, each level takes stack: measured, 2.4 KB while a picture is made, less by
-    /// the other handlers, and 0.8 KB when they are let go, so 1 MB of stack holds some 400 levels.
+    /// the other handlers, and 0.8 KB when they are dropped, so 1 MB of stack holds some 400 levels.
     pub fn with_related(self, list: Vec<Report<D, S>>) -> Report<D, S>
         ensures tree { tree_of D.meaning S.source result
             ≡ with_related (trees (map (tree_of D.meaning S.source) list.items)) (tree_of D.meaning S.source self) }
@@ -285,14 +285,14 @@ impl<D: Diagnostic, S: SourceCode> Report<D, S> {
         ensures { IfOk result (λ list. map string_bytes list.items ≡ chain_of (tree_of D.meaning S.source self.now)) }
     {
         let mut list = Vec::new(alloc);
-        push_copy(alloc, &mut list, self.message())?;
+        push_copy(&mut list, alloc, self.message())?;
         let mut at = self;
         while let KeptCause::Diagnostic(next) = &at.cause {
             at = next;
-            push_copy(alloc, &mut list, at.message())?;
+            push_copy(&mut list, alloc, at.message())?;
         }
         if let KeptCause::Texts(texts) = &at.cause {
-            push_copies(alloc, &mut list, texts.as_slice())?;
+            push_copies(&mut list, alloc, texts.as_slice())?;
         }
         Ok(list)
     }

@@ -40,13 +40,9 @@ pub trait WrapErr<T, D: Diagnostic, S: SourceCode>: Sized {
             IsErrAnd result (λ r. (below : _) × stands_behind self below × Tells D.meaning S.source text.now below r) };
 
     /// A message in front that is made only where it is needed, by at most one call.
-    fn wrap_err_with<F: FnOnce() -> Result<String, AllocError>>(
-        self,
-        alloc: Global,
-        make: F,
-    ) -> Result<T, Report<D, S>>
+    fn wrap_err_with<F>(self, alloc: Global, make: F) -> Result<T, Report<D, S>>
     where
-        F: Drop,
+        F: FnOnce() -> Result<String, AllocError> + Drop,
         Report<D, S>: UsualBoxes,
         requires { IsNone (value self) → F.IsAlwaysCallable make }
         ensures value { IfSome (value self) (λ it. result ≡ Ok it) }
@@ -54,13 +50,9 @@ pub trait WrapErr<T, D: Diagnostic, S: SourceCode>: Sized {
             × ((made : _) × F.post make made × TellsMade D.meaning S.source made below r)) };
 
     /// As `wrap_err_with`.
-    fn with_context<F: FnOnce() -> Result<String, AllocError>>(
-        self,
-        alloc: Global,
-        make: F,
-    ) -> Result<T, Report<D, S>>
+    fn with_context<F>(self, alloc: Global, make: F) -> Result<T, Report<D, S>>
     where
-        F: Drop,
+        F: FnOnce() -> Result<String, AllocError> + Drop,
         Report<D, S>: UsualBoxes,
         requires { IsNone (value self) → F.IsAlwaysCallable make }
         ensures value { IfSome (value self) (λ it. result ≡ Ok it) }
@@ -96,9 +88,9 @@ fn report_under<D: Diagnostic, S: SourceCode>(
 }
 
 /// The report of a text that is made now, or of refused memory.
-fn report_by<D: Diagnostic, S: SourceCode, F: FnOnce() -> Result<String, AllocError>>(
-    make: F,
-) -> Report<D, S>
+fn report_by<D: Diagnostic, S: SourceCode, F>(make: F) -> Report<D, S>
+where
+    F: FnOnce() -> Result<String, AllocError>,
     requires { F.IsAlwaysCallable make }
     ensures { (made : _) × F.post make made × TellsMade D.meaning S.source made None result }
 {
@@ -106,12 +98,14 @@ fn report_by<D: Diagnostic, S: SourceCode, F: FnOnce() -> Result<String, AllocEr
 }
 
 /// The report of an error under a text that is made now, or of refused memory.
-fn report_under_by<
-    D: Diagnostic,
-    S: SourceCode,
+fn report_under_by<D: Diagnostic, S: SourceCode, E, F>(
+    alloc: Global,
+    error: E,
+    make: F,
+) -> Report<D, S>
+where
     E: Into<Report<D, S>>,
     F: FnOnce() -> Result<String, AllocError>,
->(alloc: Global, error: E, make: F) -> Report<D, S>
     requires { F.IsAlwaysCallable make }
     ensures { (below : _) × E.converts error below
         × ((made : _) × F.post make made × TellsMade D.meaning S.source made (Some below) result) }
@@ -141,13 +135,9 @@ impl<T, D: Diagnostic, S: SourceCode> WrapErr<T, D, S> for Option<T> {
         self.wrap_err(alloc, text)
     }
 
-    fn wrap_err_with<F: FnOnce() -> Result<String, AllocError>>(
-        self,
-        _alloc: Global,
-        make: F,
-    ) -> Result<T, Report<D, S>>
+    fn wrap_err_with<F>(self, _alloc: Global, make: F) -> Result<T, Report<D, S>>
     where
-        F: Drop,
+        F: FnOnce() -> Result<String, AllocError> + Drop,
         Report<D, S>: UsualBoxes,
     {
         match self {
@@ -156,13 +146,9 @@ impl<T, D: Diagnostic, S: SourceCode> WrapErr<T, D, S> for Option<T> {
         }
     }
 
-    fn with_context<F: FnOnce() -> Result<String, AllocError>>(
-        self,
-        alloc: Global,
-        make: F,
-    ) -> Result<T, Report<D, S>>
+    fn with_context<F>(self, alloc: Global, make: F) -> Result<T, Report<D, S>>
     where
-        F: Drop,
+        F: FnOnce() -> Result<String, AllocError> + Drop,
         Report<D, S>: UsualBoxes,
     {
         self.wrap_err_with(alloc, make)
@@ -192,13 +178,9 @@ impl<T, D: Diagnostic, S: SourceCode, E: Into<Report<D, S>>> WrapErr<T, D, S> fo
         self.wrap_err(alloc, message)
     }
 
-    fn wrap_err_with<F: FnOnce() -> Result<String, AllocError>>(
-        self,
-        alloc: Global,
-        make_message: F,
-    ) -> Result<T, Report<D, S>>
+    fn wrap_err_with<F>(self, alloc: Global, make_message: F) -> Result<T, Report<D, S>>
     where
-        F: Drop,
+        F: FnOnce() -> Result<String, AllocError> + Drop,
         Report<D, S>: UsualBoxes,
     {
         match self {
@@ -207,13 +189,9 @@ impl<T, D: Diagnostic, S: SourceCode, E: Into<Report<D, S>>> WrapErr<T, D, S> fo
         }
     }
 
-    fn with_context<F: FnOnce() -> Result<String, AllocError>>(
-        self,
-        alloc: Global,
-        make_message: F,
-    ) -> Result<T, Report<D, S>>
+    fn with_context<F>(self, alloc: Global, make_message: F) -> Result<T, Report<D, S>>
     where
-        F: Drop,
+        F: FnOnce() -> Result<String, AllocError> + Drop,
         Report<D, S>: UsualBoxes,
     {
         self.wrap_err_with(alloc, make_message)

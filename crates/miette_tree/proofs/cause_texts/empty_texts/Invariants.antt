@@ -2,7 +2,7 @@ use Rattle.std.proofs.Common.{◌≡◌, ◌+◌, ◌≤◌, [], string_bytes, v
 use Rattle.std.specs.List.{All}
 use Rattle.miette_tree.proofs.cause_texts.empty_texts.Given as goal
 
--- so many empty texts as calls so far, and the room that there was at first
+-- as many empty texts as calls so far, and the room that there was at first
 abbrev pub invariant-loop : goal.invariant-loop
 invariant-loop l = record {
   count : vec_len l.list ≡ l.counter;

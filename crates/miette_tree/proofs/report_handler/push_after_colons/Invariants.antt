@@ -3,7 +3,7 @@ use Rattle.miette_tree.specs.rules.Tree.{cause_of, causes_of}
 use Rattle.miette_tree.specs.views.Report.{tree_of}
 use Rattle.miette_tree.specs.rules.Display.{behind_colons}
 use Rattle.miette_tree.proofs.TreeSizes.{tree_size}
-use Rattle.miette_tree.proofs.report_handler.push_behind_colons.Given as goal
+use Rattle.miette_tree.proofs.report_handler.push_after_colons.Given as goal
 
 abbrev pub decreases-loop-next : goal.decreases-loop-next
 decreases-loop-next g l = tree_size (tree_of g.D.Diagnostic.meaning g.S.SourceCode.source l.at)

@@ -1,6 +1,6 @@
 use Rattle.std.proofs.Common.{◌≡◌, ◌++◌, string_bytes, map, drop}
 use Rattle.miette_tree.specs.rules.Display.{behind_colons}
-use Rattle.miette_tree.proofs.report_handler.push_each_behind_colon.Given as goal
+use Rattle.miette_tree.proofs.report_handler.push_each_after_colon.Given as goal
 
 abbrev pub invariant-loop-text : goal.invariant-loop-text
 invariant-loop-text l =
