@@ -13,7 +13,7 @@ use Rattle.miette_json.specs.rules.Json.{json_text}
 use Rattle.miette_json.specs.rules.Denotes.{Denotes, HasTokensOf}
 use Rattle.miette_json.specs.rules.JsonReport.{NameAnswers, unlisted, listed, RelatedNameAnswers, no_more, and_more}
 use Rattle.miette_json.specs.rules.JsonReport.{related_answers, first_answers, later_answers, AreAnswers, AllAnswers}
-use Rattle.miette_json.specs.rules.JsonReport.{report_json, reports_json, maybe, strings, labels_json, file_name}
+use Rattle.miette_json.specs.rules.JsonReport.{report_json, report_object, reports_json, file_name}
 use Rattle.miette_tree.specs.rules.DiagnosticParts.{given_labels, severity_text}
 use Rattle.miette_tree.specs.rules.Answers.{own_fault}
 use Rattle.miette_tree.proofs.Readings.{fault_free}
@@ -118,19 +118,8 @@ mutual
       same_name own labels (own_fault a) p.0 read.0 in
       let others : reports_json own (related_answers a) r ≡ reports_json own no_more r =
       same_values own (related_answers a) r p.1 read.1 in
-      ap (λ n. with_parts n (reports_json own (related_answers a) r)) name
-      ∙ ap (with_parts (option_map (file_name false labels) own)) others where
-        with_parts : Option (List ℕ) → Items → Json
-        with_parts name others = object
-            (member (codes "message") (string m.message)
-            (maybe (codes "code") m.code
-            (member (codes "severity") (string (severity_text m.severity))
-            (member (codes "causes") (array (strings (causes_of c)))
-            (maybe (codes "url") m.url
-            (maybe (codes "help") m.help
-            (maybe (codes "filename") name
-            (member (codes "labels") (array (labels_json (given_labels m.labels)))
-            (member (codes "related") (array others) no_members)))))))))
+      ap (λ n. report_object m (causes_of c) n (reports_json own (related_answers a) r)) name
+      ∙ ap (report_object m (causes_of c) (option_map (file_name false labels) own)) others
 
   same_values : (inherited : Option Source) (a : RelatedNameAnswers) (ts : Trees) → AllAnswers inherited a ts
       → holds_of_all always_reads inherited ts ≡ true → reports_json inherited a ts ≡ reports_json inherited no_more ts

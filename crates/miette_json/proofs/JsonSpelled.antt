@@ -132,49 +132,27 @@ pub record HasLetter (x : ℕ) : Type 0 where
   pub low : x < 128
   pub seen : 0 < x
 
+-- the bytes with one, by the byte
+letter : (x y : ℕ) → x ≡ y → 0 < escape_letter y → short_for (escape_letter y) ≡ y → y < 128 → 0 < y → HasLetter x
+letter x y e above back low seen = subst HasLetter (sym e) (record
+    { above = above; back = back; low = low; seen = seen })
+
 pub letter_cases : (x : ℕ) → HasLetter x ⊎ (escape_letter x ≡ 0)
 letter_cases x =
     elim (eqb_tells x 34) [
-      | inl a ↦ inl (subst HasLetter (sym a.1) (record {
-        above = omega arith;
-        back = refl;
-        low = omega arith;
-        seen =
-            omega arith;
-      }))
+      | inl a ↦ inl (letter x 34 a.1 (omega arith) refl (omega arith) (omega arith))
       | inr a ↦ elim (eqb_tells x 92) [
-        | inl b ↦ inl (subst HasLetter (sym b.1) (record {
-          above = omega arith;
-          back = refl;
-          low = omega arith;
-          seen =
-              omega arith;
-        }))
+        | inl b ↦ inl (letter x 92 b.1 (omega arith) refl (omega arith) (omega arith))
         | inr b ↦ elim (eqb_tells x 8) [
-          | inl d ↦ inl (subst HasLetter (sym d.1) (record {
-            above = omega arith;
-            back = refl;
-            low = omega arith;
-            seen =
-                omega arith;
-          }))
+          | inl d ↦ inl (letter x 8 d.1 (omega arith) refl (omega arith) (omega arith))
           | inr d ↦ elim (eqb_tells x 12) [
-            | inl f ↦ inl (subst HasLetter (sym f.1) (record {
-              above = omega arith;
-              back = refl;
-              low =
-                  omega arith;
-              seen = omega arith;
-            }))
+            | inl f ↦ inl (letter x 12 f.1 (omega arith) refl (omega arith) (omega arith))
             | inr f ↦ elim (eqb_tells x 10) [
-              | inl g ↦ inl (subst HasLetter (sym g.1) (record
-                  { above = omega arith; back = refl; low = omega arith; seen = omega arith }))
+              | inl g ↦ inl (letter x 10 g.1 (omega arith) refl (omega arith) (omega arith))
               | inr g ↦ elim (eqb_tells x 13) [
-                | inl h ↦ inl (subst HasLetter (sym h.1) (record
-                    { above = omega arith; back = refl; low = omega arith; seen = omega arith }))
+                | inl h ↦ inl (letter x 13 h.1 (omega arith) refl (omega arith) (omega arith))
                 | inr h ↦ elim (eqb_tells x 9) [
-                  | inl k ↦ inl (subst HasLetter (sym k.1) (record
-                      { above = omega arith; back = refl; low = omega arith; seen = omega arith }))
+                  | inl k ↦ inl (letter x 9 k.1 (omega arith) refl (omega arith) (omega arith))
                   | inr k ↦ inr (rw (a.0, b.0, d.0, f.0, g.0, h.0, k.0) refl)
                 ]
               ]

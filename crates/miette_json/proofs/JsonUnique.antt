@@ -66,12 +66,9 @@ mutual
   more_items_one no_items (item w more) ts us e = absurd (marks_differ 93 44 _ _ (λ h. omega arith) e)
   more_items_one (item v more) no_items ts us e = absurd (marks_differ 44 93 _ _ (λ h. omega arith) e)
   more_items_one (item v more) (item w others) ts us e =
-      let f : tokens_then v (more_items_then more ts) ≡ tokens_then w (more_items_then others us) = cc in
-      let p = value_one v w _ _ f in
+      let p = value_one v w (more_items_then more ts) (more_items_then others us) cc in
       let q = more_items_one more others ts us p.1 in
-      let a : v ≡ w = p.0 in
-      let b : more ≡ others = q.0 in
-      (cc, q.1)
+      (λ i. item (p.0 i) (q.0 i), q.1)
 
   members_one : (ms ns : Members) (ts us : List Token) → members_then ms ts ≡ members_then ns us → (ms ≡ ns) × (ts ≡ us)
   members_one no_members no_members ts us e = (refl, cc)
@@ -79,12 +76,9 @@ mutual
   members_one (member k v more) no_members ts us e = (cc, cc)
   members_one (member k v more) (member l w others) ts us e =
       let key : k ≡ l = cc in
-      let f : tokens_then v (more_members_then more ts) ≡ tokens_then w (more_members_then others us) = cc in
-      let p = value_one v w _ _ f in
+      let p = value_one v w (more_members_then more ts) (more_members_then others us) cc in
       let q = more_members_one more others ts us p.1 in
-      let a : v ≡ w = p.0 in
-      let b : more ≡ others = q.0 in
-      (cc, q.1)
+      (λ i. member (key i) (p.0 i) (q.0 i), q.1)
 
   more_members_one : (ms ns : Members) (ts us : List Token) → more_members_then ms ts ≡ more_members_then ns us
       → (ms ≡ ns) × (ts ≡ us)
@@ -93,12 +87,9 @@ mutual
   more_members_one (member k v more) no_members ts us e = absurd (marks_differ 44 125 _ _ (λ h. omega arith) e)
   more_members_one (member k v more) (member l w others) ts us e =
       let key : k ≡ l = cc in
-      let f : tokens_then v (more_members_then more ts) ≡ tokens_then w (more_members_then others us) = cc in
-      let p = value_one v w _ _ f in
+      let p = value_one v w (more_members_then more ts) (more_members_then others us) cc in
       let q = more_members_one more others ts us p.1 in
-      let a : v ≡ w = p.0 in
-      let b : more ≡ others = q.0 in
-      (cc, q.1)
+      (λ i. member (key i) (p.0 i) (q.0 i), q.1)
 
 -- ---- strings
 

@@ -150,6 +150,9 @@ member_utf8 k value more a b c =
     IsUtf8-append (quoted_text k) (58 ∷ 32 ∷ (value ++ more)) (quoted_utf8 k a)
     (behind_low 58 _ (omega arith) (behind_low 32 _ (omega arith) (IsUtf8-append value more b c)))
 
+then_utf8 : {x y : List ℕ} {P : Type 0} → IsUtf8 x → IsUtf8 y × P → IsUtf8 (x ++ y) × P
+then_utf8 a b = (IsUtf8-append _ _ a b.0, b.1)
+
 mutual
   value_utf8 : (v : Json) (ts : List Token) → TextsAreUtf8 (tokens_then v ts) → IsUtf8 (json_text v) × TextsAreUtf8 ts
   value_utf8 (number n) ts t = (numeral_utf8 n, t)
@@ -162,16 +165,15 @@ mutual
   items_utf8 no_items ts t = (one_low 93 (omega arith), t)
   items_utf8 (item v more) ts t =
       let a = value_utf8 v (more_items_then more ts) t in
-      let b = more_items_utf8 more ts a.1 in
-      (IsUtf8-append (json_text v) (more_items_text more) a.0 b.0, b.1)
+      then_utf8 a.0 (more_items_utf8 more ts a.1)
 
   more_items_utf8 : (is : Items) (ts : List Token) → TextsAreUtf8 (more_items_then is ts) → IsUtf8 (more_items_text is)
       × TextsAreUtf8 ts
   more_items_utf8 no_items ts t = (one_low 93 (omega arith), t)
   more_items_utf8 (item v more) ts t =
       let a = value_utf8 v (more_items_then more ts) t in
-      let b = more_items_utf8 more ts a.1 in
-      (behind_low 44 _ (omega arith) (IsUtf8-append (json_text v) (more_items_text more) a.0 b.0), b.1)
+      let b = then_utf8 a.0 (more_items_utf8 more ts a.1) in
+      (behind_low 44 _ (omega arith) b.0, b.1)
 
   members_utf8 : (ms : Members) (ts : List Token) → TextsAreUtf8 (members_then ms ts) → IsUtf8 (members_text ms)
       × TextsAreUtf8 ts

@@ -12,7 +12,8 @@ ghost use Rattle.miette_json.specs.steps.JsonParts.{rest_text, head_text, reason
 ghost use Rattle.miette_json.specs.steps.JsonParts.{NamesFile, AppendsPlaces};
 ghost use Rattle.miette_json.specs.steps.JsonParts.{AppendsReport, AppendsRelated};
 
-use crate::text::{push_number, push_quoted};
+use crate::text::push_quoted;
+use miette_basics::numbers::push_number;
 use miette_protocol::protocol::{Diagnostic, LabeledSpan};
 use miette_protocol::source::SourceCode;
 use miette_tree::parts::{cause_texts, labels_of, own_or, severity_name};
@@ -22,27 +23,27 @@ use std::alloc::AllocError;
 /// Appends the object of a report that inherits a source, or none.
 #[cycle(report)]
 pub(crate) fn push_report<'a, D: Diagnostic, S: SourceCode>(
+    out: &mut String,
     report: &'a Report<D, S>,
     inherited: Option<SourceRef<'a, S>>,
-    out: &mut String,
 ) -> Result<(), AllocError>
     ensures { OnOk result (AppendsReport (option_map (shown_source S.source) inherited.entry)
         (tree_of D.meaning S.source report.now) (string_bytes out.old) (string_bytes out.new)) }
 {
     let source = own_or(report, inherited);
-    push_start(report, out)?;
-    push_places(labels_of(report), source, out)?;
+    push_start(out, report)?;
+    push_places(out, labels_of(report), source)?;
     push_list_key(out, "related")?;
-    push_related(report.related(), source, out)?;
+    push_related(out, report.related(), source)?;
     out.push_str("}")
 }
 
 /// Appends the objects of related reports, and the end of their list.
 #[cycle(report)]
 fn push_related<'a, D: Diagnostic, S: SourceCode>(
+    out: &mut String,
     reports: &'a [Report<D, S>],
     source: Option<SourceRef<'a, S>>,
-    out: &mut String,
 ) -> Result<(), AllocError>
     ensures { OnOk result (AppendsRelated (option_map (shown_source S.source) source.entry)
         (trees (map (tree_of D.meaning S.source) reports.now)) (string_bytes out.old) (string_bytes out.new)) }
@@ -50,7 +51,7 @@ fn push_related<'a, D: Diagnostic, S: SourceCode>(
     let mut first = true;
     for report in reports {
         push_comma(out, first)?;
-        push_report(report, source, out)?;
+        push_report(out, report, source)?;
         first = false;
     }
     out.push_str("]")
@@ -58,22 +59,22 @@ fn push_related<'a, D: Diagnostic, S: SourceCode>(
 
 /// The head of a report and its reasons.
 fn push_start<D: Diagnostic, S: SourceCode>(
-    report: &Report<D, S>,
     out: &mut String,
+    report: &Report<D, S>,
 ) -> Result<(), AllocError>
     ensures { OnOk result (string_bytes out.new ≡ (string_bytes out.old
         ++ head_text (head (tree_of D.meaning S.source report.now)))
         ++ reasons_text (causes_of (cause_of (tree_of D.meaning S.source report.now)))
         (head (tree_of D.meaning S.source report.now))) }
 {
-    push_head(report, out)?;
-    push_reasons(report, out)
+    push_head(out, report)?;
+    push_reasons(out, report)
 }
 
 /// `{"message": "m","code": "c","severity": "error"`
 fn push_head<D: Diagnostic, S: SourceCode>(
-    report: &Report<D, S>,
     out: &mut String,
+    report: &Report<D, S>,
 ) -> Result<(), AllocError>
     ensures { OnOk result (string_bytes out.new
         ≡ string_bytes out.old ++ head_text (head (tree_of D.meaning S.source report.now))) }
@@ -86,23 +87,23 @@ fn push_head<D: Diagnostic, S: SourceCode>(
 
 /// `,"causes": ["a","b"],"url": "u","help": "h"`
 fn push_reasons<D: Diagnostic, S: SourceCode>(
-    report: &Report<D, S>,
     out: &mut String,
+    report: &Report<D, S>,
 ) -> Result<(), AllocError>
     ensures { OnOk result (string_bytes out.new ≡ string_bytes out.old
         ++ reasons_text (causes_of (cause_of (tree_of D.meaning S.source report.now)))
         (head (tree_of D.meaning S.source report.now))) }
 {
     push_list_key(out, "causes")?;
-    push_causes(report, out)?;
+    push_causes(out, report)?;
     push_maybe(out, "url", report.url())?;
     push_maybe(out, "help", report.help())
 }
 
 /// `"a","b"]`: the causes of a report, and the end of their list.
 fn push_causes<D: Diagnostic, S: SourceCode>(
-    report: &Report<D, S>,
     out: &mut String,
+    report: &Report<D, S>,
 ) -> Result<(), AllocError>
     ensures { OnOk result (string_bytes out.new
         ≡ string_bytes out.old ++ items_text (strings (causes_of (cause_of (tree_of D.meaning S.source report.now))))) }
@@ -115,11 +116,11 @@ fn push_causes<D: Diagnostic, S: SourceCode>(
         first = false;
         at = next;
     }
-    push_texts(cause_texts(at), first, out)
+    push_texts(out, cause_texts(at), first)
 }
 
 /// Texts in a list, after its first item or as its first ones, and the end of the list.
-fn push_texts(texts: &[String], mut first: bool, out: &mut String) -> Result<(), AllocError>
+fn push_texts(out: &mut String, texts: &[String], mut first: bool) -> Result<(), AllocError>
     ensures { OnOk result (string_bytes out.new
         ≡ string_bytes out.old ++ rest_text first (strings (map string_bytes texts.now))) }
 {
@@ -133,16 +134,16 @@ fn push_texts(texts: &[String], mut first: bool, out: &mut String) -> Result<(),
 
 /// `,"filename": "f","labels": [..]`
 fn push_places<S: SourceCode>(
+    out: &mut String,
     labels: &[LabeledSpan],
     source: Option<SourceRef<'_, S>>,
-    out: &mut String,
 ) -> Result<(), AllocError>
     ensures { OnOk result (AppendsPlaces (option_map (shown_source S.source) source.entry) labels.now
         (string_bytes out.old) (string_bytes out.new)) }
 {
     push_maybe(out, "filename", file_name_for(labels, source))?;
     push_list_key(out, "labels")?;
-    push_labels(labels, out)
+    push_labels(out, labels)
 }
 
 /// The file name, where there is a source.
@@ -173,29 +174,29 @@ fn name_from<'a, S: SourceCode>(labels: &[LabeledSpan], source: SourceRef<'a, S>
 }
 
 /// Labels as the items of a list, and its end.
-fn push_labels(labels: &[LabeledSpan], out: &mut String) -> Result<(), AllocError>
+fn push_labels(out: &mut String, labels: &[LabeledSpan]) -> Result<(), AllocError>
     ensures { OnOk result (string_bytes out.new ≡ string_bytes out.old ++ items_text (labels_json labels.now)) }
 {
     let mut first = true;
     for label in labels {
         push_comma(out, first)?;
-        push_label(label, out)?;
+        push_label(out, label)?;
         first = false;
     }
     out.push_str("]")
 }
 
 /// `{"label": "x","span": {"offset": 9,"length": 1}}`
-fn push_label(label: &LabeledSpan, out: &mut String) -> Result<(), AllocError>
+fn push_label(out: &mut String, label: &LabeledSpan) -> Result<(), AllocError>
     ensures { OnOk result (string_bytes out.new ≡ string_bytes out.old ++ json_text (label_json label.now)) }
 {
-    push_label_start(label, out)?;
-    push_span(label, out)?;
+    push_label_start(out, label)?;
+    push_span(out, label)?;
     out.push_str("}")
 }
 
 /// `{"label": "x","span": `
-fn push_label_start(label: &LabeledSpan, out: &mut String) -> Result<(), AllocError>
+fn push_label_start(out: &mut String, label: &LabeledSpan) -> Result<(), AllocError>
     ensures { OnOk result (string_bytes out.new ≡ string_bytes out.old ++ label_start label.now.text) }
 {
     out.push_str("{")?;
@@ -217,7 +218,7 @@ fn push_before(out: &mut String, key: &str, text: Option<&str>) -> Result<(), Al
 }
 
 /// `{"offset": 9,"length": 1}`
-fn push_span(label: &LabeledSpan, out: &mut String) -> Result<(), AllocError>
+fn push_span(out: &mut String, label: &LabeledSpan) -> Result<(), AllocError>
     ensures { OnOk result (string_bytes out.new ≡ string_bytes out.old ++ json_text (span_json label.now.span)) }
 {
     push_first_key(out, "offset")?;
@@ -252,7 +253,7 @@ fn push_key(out: &mut String, key: &str) -> Result<(), AllocError>
     push_name(out, key)
 }
 
-/// The same for a list, and its bracket.
+/// A comma, the key of a list, and its bracket.
 fn push_list_key(out: &mut String, key: &str) -> Result<(), AllocError>
     ensures { OnOk result (string_bytes out.new ≡ string_bytes out.old ++ list_key_text key.now) }
 {
@@ -268,7 +269,7 @@ fn push_member(out: &mut String, key: &str, text: &str) -> Result<(), AllocError
     push_quoted(out, text)
 }
 
-/// The same where there is a text.
+/// A member with a text after another, where there is a text.
 fn push_maybe(out: &mut String, key: &str, text: Option<&str>) -> Result<(), AllocError>
     ensures { OnOk result (string_bytes out.new
         ≡ string_bytes out.old ++ maybe_text key.now (option_copied text.entry)) }

@@ -1,19 +1,12 @@
-//! Numbers and strings as JSON, appended to a text.
+//! Strings as JSON, appended to a text.
 
 ghost use Rattle.std.specs.Prelude.{◌≡◌, ◌<◌, ◌++◌, true, OnOk, position, string_bytes};
 ghost use Rattle.std.specs.Char.{digit_char};
-ghost use Rattle.miette_json.specs.rules.Json.{numeral, escaped_text, quoted_text};
+ghost use Rattle.miette_json.specs.rules.Json.{escaped_text, quoted_text};
 ghost use Rattle.miette_json.specs.steps.EscapedBytes.{is_escaped, control_text};
 ghost use Rattle.json.specs.Print.{escape_byte};
 
 use std::alloc::AllocError;
-
-/// Appends a number in decimal.
-pub(crate) fn push_number(out: &mut String, n: usize) -> Result<(), AllocError>
-    ensures { OnOk result (string_bytes out.new ≡ string_bytes out.old ++ numeral n) }
-{
-    write!(out, "{n}")
-}
 
 /// Appends a string in quotes, with its escapes.
 pub(crate) fn push_quoted(out: &mut String, text: &str) -> Result<(), AllocError>

@@ -1,7 +1,7 @@
 -- The JSON value of a report, by its tree and by what the reads for its file names answered.
 use Rattle.std.specs.Prelude.{◌≡◌, ℕ, Bool, if◌then◌else◌, List, [], ◌∷◌}
 use Rattle.std.specs.Prelude.{Option, Some, None, option_map, unwrap_or, codes, ⊤}
-use Rattle.miette_protocol.specs.views.Meaning.{Label}
+use Rattle.miette_protocol.specs.views.Meaning.{Label, Meaning}
 use Rattle.miette_protocol.specs.rules.Reading.{Source, Span, is_accepted}
 use Rattle.miette_tree.specs.rules.Tree.{Tree, tree, causes_of, Trees, no_trees, more_trees, effective}
 use Rattle.miette_tree.specs.rules.Answers.{AnswerTree, AnswerTrees, own_fault}
@@ -63,19 +63,26 @@ file_name fault (l ∷ ls) s = if is_accepted s.bytes l.span then (if fault then
 
 -- ---- the value
 
+-- the object of a report, with these texts of causes, this file name and these objects of related reports
+abbrev pub report_object : Meaning → List (List ℕ) → Option (List ℕ) → Items → Json
+report_object m causes name related =
+    object
+    (member (codes "message") (string m.message)
+    (maybe (codes "code") m.code
+    (member (codes "severity") (string (severity_text m.severity))
+    (member (codes "causes") (array (strings causes))
+    (maybe (codes "url") m.url
+    (maybe (codes "help") m.help
+    (maybe (codes "filename") name
+    (member (codes "labels") (array (labels_json (given_labels m.labels)))
+    (member (codes "related") (array related) no_members)))))))))
+
 abbrev mutual
   pub report_json : Option Source → NameAnswers → Tree → Json
   report_json inherited a (tree m s c r) =
-      object
-      (member (codes "message") (string m.message)
-      (maybe (codes "code") m.code
-      (member (codes "severity") (string (severity_text m.severity))
-      (member (codes "causes") (array (strings (causes_of c)))
-      (maybe (codes "url") m.url
-      (maybe (codes "help") m.help
-      (maybe (codes "filename") (option_map (file_name (own_fault a) (given_labels m.labels)) (effective s inherited))
-      (member (codes "labels") (array (labels_json (given_labels m.labels)))
-      (member (codes "related") (array (reports_json (effective s inherited) (related_answers a) r)) no_members)))))))))
+      report_object m (causes_of c)
+      (option_map (file_name (own_fault a) (given_labels m.labels)) (effective s inherited))
+      (reports_json (effective s inherited) (related_answers a) r)
 
   pub reports_json : Option Source → RelatedNameAnswers → Trees → Items
   reports_json inherited a no_trees = no_items

@@ -75,7 +75,7 @@ pub record AppendsPlaces (source : Option Source) (labels : List Label) (old new
   pub possible : MayMeet source fault
   pub appended : new ≡ old ++ places_text fault source labels
 
--- the beginning of an object with a text, where there is one, up to the value behind the second key
+-- the beginning of an object with a text, where there is one, up to the value after the second key
 abbrev pub start_text : List ℕ → List ℕ → Option (List ℕ) → List ℕ
 start_text first second None = 123 ∷ (quoted_text second ++ (58 ∷ 32 ∷ []))
 start_text first second (Some s) = 123 ∷ (quoted_text first ++ (58 ∷ 32 ∷ (quoted_text s ++ key_text second)))

@@ -1,4 +1,4 @@
-use Rattle.std.proofs.Common.{rules, arith, subst, ◌<◌, sym, string_bytes, map}
+use Rattle.std.proofs.Common.{rules, arith, subst, string_bytes, map}
 use Rattle.std.specs.Option.{option_map}
 use Rattle.std.proofs.lemmas.Result.{on_ok_weaker}
 use Rattle.miette_tree.specs.rules.Tree.{trees}
@@ -6,7 +6,7 @@ use Rattle.miette_tree.specs.views.Owned.{shown_source}
 use Rattle.miette_tree.specs.views.Report.{tree_of}
 use Rattle.miette_tree.proofs.Written.{where_written}
 use Rattle.miette_json.proofs.JsonAnswers.{none_so_far, one_more, all_written, at_the_end, report_written, RelatedSoFar}
-use Rattle.miette_tree.proofs.TreeSizes.{tree_size, trees_size, one_falls}
+use Rattle.miette_tree.proofs.TreeSizes.{item_falls}
 use Rattle.miette_tree.proofs.Nesting.{next_of}
 use Rattle.miette_json.proofs.report.+report.Goals as goal
 
@@ -15,10 +15,8 @@ push_related-loop-report-init g t c = none_so_far _ _ _
 
 pub push_related-push_report-requires : goal.push_related-push_report-requires
 push_related-push_report-requires g t c =
-    let value = tree_of g.D.Diagnostic.meaning g.S.SourceCode.source in
-    let small : tree_size (value c.report-item.result) < trees_size (trees (map value c.args.reports.now)) =
-    subst (λ r. tree_size (value r) < trees_size (trees (map value c.args.reports.now))) (sym c.report-item.is)
-    (one_falls value c.args.reports.now c.loop-report.report-index c.report-item.result c.loop-report-test.true) in
+    let small = item_falls (tree_of g.D.Diagnostic.meaning g.S.SourceCode.source) c.args.reports.now
+    c.loop-report.report-index c.report-item.result c.loop-report-test.true c.report-item.is in
     search rules
 
 pub push_related-loop-report-preserved : goal.push_related-loop-report-preserved
