@@ -1,7 +1,7 @@
 -- Characters with the tags before them, stretch by stretch.
 use Rattle.std.proofs.Common.{◌≡◌, true, false, if◌then◌else◌, nat_le, ℕ, zero, suc, ◌+◌, ◌-◌, ◌<◌, ◌≤◌, List, [], ◌∷◌}
 use Rattle.std.proofs.Common.{◌++◌, map, length, length-drop, min, take, drop, drop-drop, get_or, refl, sym, ap, ap₂}
-use Rattle.std.proofs.Common.{◌∙◌, arith, append_assoc, append-nil}
+use Rattle.std.proofs.Common.{◌∙◌, arith, append_assoc, append-nil, leb-true}
 use Rattle.std.proofs.lemmas.Bool.Decides.{nat_tests}
 use Rattle.std.proofs.lemmas.List.{drop_more, drop_all, take_all}
 use Rattle.std.specs.List.{concat}
@@ -11,7 +11,6 @@ use Rattle.miette_runs.specs.rules.Sequences.{Token, Character, spell}
 use Rattle.miette_runs.specs.views.Interleaving.{tag_text, tag_token, upto, beyond, interleaving, cells_at, left_at}
 use Rattle.miette_runs.specs.views.Interleaving.{tags_spelled}
 use Rattle.miette_runs.specs.declared.runs.sign.Tag.{Tag}
-use Rattle.miette_runs.proofs.Appending.{appended}
 
 -- ---- a tag that stands behind a place, or not
 
@@ -74,14 +73,6 @@ text-near p (c ∷ cs) m ms h l =
     (beyond-near p m ms h)
     ∙ simp append_assoc
 
-tags-near : (p : ℕ) (cs : List ℕ) (m : Tag) (ms : List Tag) → m.at ≤ p → 0 < length cs
-    → tags_text (cells_at p cs (m ∷ ms)) ≡ tag_text m ++ tags_text (cells_at p cs ms)
-tags-near p [] m ms h l = absurd (omega arith)
-tags-near p (c ∷ cs) m ms h l =
-    ap₂ (λ us vs. concat (map tag_text us) ++ tags_text (cells_at (suc p) cs vs)) (upto-near p m ms h)
-    (beyond-near p m ms h)
-    ∙ simp append_assoc
-
 left-near : (p : ℕ) (cs : List ℕ) (m : Tag) (ms : List Tag) → m.at ≤ p → 0 < length cs → left_at p cs (m ∷ ms)
     ≡ left_at p cs ms
 left-near p [] m ms h l = absurd (omega arith)
@@ -100,17 +91,9 @@ text-plain : (xs : List ℕ) (cs : List Cell) → piece_text (plain_cells xs ++ 
 text-plain [] cs = refl
 text-plain (x ∷ xs) cs = ap (λ us. x ∷ us) (text-plain xs cs)
 
-tags-plain : (xs : List ℕ) (cs : List Cell) → tags_text (plain_cells xs ++ cs) ≡ tags_text cs
-tags-plain [] cs = refl
-tags-plain (x ∷ xs) cs = tags-plain xs cs
-
 pub text-none : (p : ℕ) (cs : List ℕ) → piece_text (cells_at p cs []) ≡ cs
 text-none p [] = refl
 text-none p (c ∷ cs) = ap (λ xs. c ∷ xs) (text-none (suc p) cs)
-
-pub tags-none : (p : ℕ) (cs : List ℕ) → tags_text (cells_at p cs []) ≡ []
-tags-none p [] = refl
-tags-none p (c ∷ cs) = tags-none (suc p) cs
 
 pub left-none : (p : ℕ) (cs : List ℕ) → left_at p cs [] ≡ []
 left-none p [] = refl
@@ -141,20 +124,6 @@ text-last p k cs m ms e h =
     ∙ text-plain (take k cs) (cells_at (p + k) (drop k cs) (m ∷ ms))
     ∙ ap₂ (λ us vs. us ++ piece_text (cells_at (p + k) vs (m ∷ ms))) (take_all k cs h) (drop_all k cs h)
     ∙ append-nil cs
-
-pub tags-tag : (p k : ℕ) (cs : List ℕ) (m : Tag) (ms : List Tag) → k ≡ m.at - p → k < length cs
-    → tags_text (cells_at p cs (m ∷ ms)) ≡ tag_text m ++ tags_text (cells_at (p + k) (drop k cs) ms)
-tags-tag p k cs m ms e h =
-    ap tags_text (cells-gap k p cs m ms (omega arith))
-    ∙ tags-plain (take k cs) (cells_at (p + k) (drop k cs) (m ∷ ms))
-    ∙ tags-near (p + k) (drop k cs) m ms (omega arith) (drop-some k cs h)
-
-pub tags-last : (p k : ℕ) (cs : List ℕ) (m : Tag) (ms : List Tag) → k ≡ m.at - p → length cs ≤ k
-    → tags_text (cells_at p cs (m ∷ ms)) ≡ []
-tags-last p k cs m ms e h =
-    ap tags_text (cells-gap k p cs m ms (omega arith))
-    ∙ tags-plain (take k cs) (cells_at (p + k) (drop k cs) (m ∷ ms))
-    ∙ ap (λ vs. tags_text (cells_at (p + k) vs (m ∷ ms))) (drop_all k cs h)
 
 pub left-tag : (p k : ℕ) (cs : List ℕ) (m : Tag) (ms : List Tag) → k ≡ m.at - p → k < length cs → left_at p cs (m ∷ ms)
     ≡ left_at (p + k) (drop k cs) ms
@@ -215,36 +184,35 @@ spell-woven p (c ∷ cs) ms =
 
 -- ---- steps of loops over the tags
 
-pub text-step : (spells : List ℕ → List ℕ) (joins : (a b : List ℕ) → spells (a ++ b) ≡ spells a ++ spells b)
-    (o o1 o2 : List ℕ) (p s n k : ℕ) (cs : List ℕ) (ms : List Tag) (m : Tag) →
-    n < length ms → m ≡ get_or ms n m → k ≡ m.at - p → k < length (drop s cs) → o1 ≡ o ++ spells (take k (drop s cs))
-    → o2 ≡ o1 ++ spells (tag_text m) →
-    o2 ++ spells (piece_text (cells_at (p + k) (drop (s + k) cs) (drop (n + 1) ms))) ≡ o
-    ++ spells (piece_text (cells_at p (drop s cs) (drop n ms)))
-text-step spells joins o o1 o2 p s n k cs ms m h i e l f g =
+pub text-step : (o o1 o2 : List ℕ) (p s n k : ℕ) (cs : List ℕ) (ms : List Tag) (m : Tag) →
+    n < length ms → m ≡ get_or ms n m → k ≡ m.at - p → k < length (drop s cs) → o1 ≡ o ++ take k (drop s cs) → o2 ≡ o1
+    ++ tag_text m → o2 ++ piece_text (cells_at (p + k) (drop (s + k) cs) (drop (n + 1) ms)) ≡ o
+    ++ piece_text (cells_at p (drop s cs) (drop n ms))
+text-step o o1 o2 p s n k cs ms m h i e l f g =
     let next = piece_text (cells_at (p + k) (drop (s + k) cs) (drop (n + 1) ms)) in
-    ap (λ xs. xs ++ spells next) (g ∙ ap (λ xs. xs ++ spells (tag_text m)) f)
-    ∙ appended spells joins (o ++ spells (take k (drop s cs))) (tag_text m) next
-    ∙ appended spells joins o (take k (drop s cs)) (tag_text m ++ next)
-    ∙ ap (λ xs. o ++ spells xs)
+    ap (λ xs. xs ++ next) (g ∙ ap (λ xs. xs ++ tag_text m) f)
+    ∙ append_assoc (o ++ take k (drop s cs)) (tag_text m) next
+    ∙ append_assoc o (take k (drop s cs)) (tag_text m ++ next)
+    ∙ ap (λ xs. o ++ xs)
     (ap (λ ds. take k (drop s cs) ++ (tag_text m ++ piece_text (cells_at (p + k) ds (drop (n + 1) ms))))
     (sym (drop-drop k s cs))
     ∙ sym (text-tag p k (drop s cs) m (drop (n + 1) ms) e l)
     ∙ ap (λ vs. piece_text (cells_at p (drop s cs) vs)) (sym (tags-next ms n m h i)))
 
-pub tags-step : (spells : List ℕ → List ℕ) (joins : (a b : List ℕ) → spells (a ++ b) ≡ spells a ++ spells b)
-    (o o1 : List ℕ) (p s n k : ℕ) (cs : List ℕ) (ms : List Tag) (m : Tag) →
-    n < length ms → m ≡ get_or ms n m → k ≡ m.at - p → k < length (drop s cs) → o1 ≡ o ++ spells (tag_text m) →
-    o1 ++ spells (tags_text (cells_at (p + k) (drop (s + k) cs) (drop (n + 1) ms))) ≡ o
-    ++ spells (tags_text (cells_at p (drop s cs) (drop n ms)))
-tags-step spells joins o o1 p s n k cs ms m h i e l f =
-    let next = tags_text (cells_at (p + k) (drop (s + k) cs) (drop (n + 1) ms)) in
-    ap (λ xs. xs ++ spells next) f
-    ∙ appended spells joins o (tag_text m) next
-    ∙ ap (λ xs. o ++ spells xs)
-    (ap (λ ds. tag_text m ++ tags_text (cells_at (p + k) ds (drop (n + 1) ms))) (sym (drop-drop k s cs))
-    ∙ sym (tags-tag p k (drop s cs) m (drop (n + 1) ms) e l)
-    ∙ ap (λ vs. tags_text (cells_at p (drop s cs) vs)) (sym (tags-next ms n m h i)))
+-- where the next tag stands behind the last character
+pub text-rest : (p s n k : ℕ) (cs : List ℕ) (ms : List Tag) (m : Tag) → n < length ms → m ≡ get_or ms n m → k ≡ m.at - p
+    → length (drop s cs) ≤ k → drop s cs ≡ piece_text (cells_at p (drop s cs) (drop n ms))
+text-rest p s n k cs ms m h i e l =
+    sym (text-last p k (drop s cs) m (drop (n + 1) ms) e l)
+    ∙ ap (λ vs. piece_text (cells_at p (drop s cs) vs)) (sym (tags-next ms n m h i))
+
+pub left-rest : (p s n k : ℕ) (cs : List ℕ) (ms : List Tag) (m : Tag) → n < length ms → m ≡ get_or ms n m → k ≡ m.at - p
+    → length (drop s cs) ≤ k → drop n ms ≡ left_at p (drop s cs) (drop n ms)
+left-rest p s n k cs ms m h i e l =
+    let next = tags-next ms n m h i in
+    next
+    ∙ sym (left-last p k (drop s cs) m (drop (n + 1) ms) e l)
+    ∙ ap (λ vs. left_at p (drop s cs) vs) (sym next)
 
 pub left-step : (p s n k : ℕ) (cs : List ℕ) (ms : List Tag) (m : Tag) → n < length ms → m ≡ get_or ms n m → k ≡ m.at - p
     → k < length (drop s cs) →
@@ -254,9 +222,50 @@ left-step p s n k cs ms m h i e l =
     ∙ sym (left-tag p k (drop s cs) m (drop (n + 1) ms) e l)
     ∙ ap (λ vs. left_at p (drop s cs) vs) (sym (tags-next ms n m h i))
 
--- where nothing is left to append
-pub pushed-none : (spells : List ℕ → List ℕ) → spells [] ≡ [] → (o xs : List ℕ) → xs ≡ [] → o ≡ o ++ spells xs
-pushed-none spells none o xs e = sym (ap (λ us. o ++ spells us) e ∙ ap (λ us. o ++ us) none ∙ append-nil o)
+-- ---- the tags up to a later place
+
+upto-later : (p k : ℕ) (ms : List Tag) → p ≤ k → tags_spelled (upto p ms) ++ tags_spelled (upto k (beyond p ms))
+    ≡ tags_spelled (upto k ms)
+upto-later p k [] h = refl
+upto-later p k (m ∷ ms) h = elim (nat_le m.at p) as (λ b. nat_le m.at p ≡ b
+    → tags_spelled (if b then m ∷ upto p ms else []) ++ tags_spelled (upto k (if b then beyond p ms else m ∷ ms))
+    ≡ tags_spelled (upto k (m ∷ ms))) [
+      | true ↦ λ e. append_assoc (tag_text m) (tags_spelled (upto p ms)) (tags_spelled (upto k (beyond p ms)))
+          ∙ ap (λ xs. tag_text m ++ xs) (upto-later p k ms h)
+          ∙ ap tags_spelled (sym (upto-near k m ms (let l = leb-true m.at p e in omega arith)))
+      | false ↦ λ e. refl
+    ] refl
+
+beyond-later : (p k : ℕ) (ms : List Tag) → p ≤ k → beyond k (beyond p ms) ≡ beyond k ms
+beyond-later p k [] h = refl
+beyond-later p k (m ∷ ms) h = elim (nat_le m.at p) as (λ b. nat_le m.at p ≡ b
+    → beyond k (if b then beyond p ms else m ∷ ms) ≡ beyond k (m ∷ ms)) [
+      | true ↦ λ e. beyond-later p k ms h ∙ sym (beyond-near k m ms (let l = leb-true m.at p e in omega arith))
+      | false ↦ λ e. refl
+    ] refl
+
+concat-spelled : (ms : List Tag) → concat (map tag_text ms) ≡ tags_spelled ms
+concat-spelled [] = refl
+concat-spelled (m ∷ ms) = ap (λ xs. tag_text m ++ xs) (concat-spelled ms)
+
+-- the tags of characters are those up to the last of them
+pub tags-upto : (p k : ℕ) (cs : List ℕ) (ms : List Tag) → 0 < length cs → k ≡ (p + length cs) - 1
+    → tags_text (cells_at p cs ms) ≡ tags_spelled (upto k ms)
+tags-upto p k [] ms h e = absurd (omega arith)
+tags-upto p k (c ∷ []) ms h e =
+    append-nil (concat (map tag_text (upto p ms))) ∙ concat-spelled (upto p ms)
+    ∙ ap (λ i. tags_spelled (upto i ms)) (omega arith)
+tags-upto p k (c ∷ d ∷ cs) ms h e =
+    ap₂ (λ us vs. us ++ vs) (concat-spelled (upto p ms)) (tags-upto (suc p) k (d ∷ cs) (beyond p ms) (omega arith)
+    (omega arith))
+    ∙ upto-later p k ms (omega arith)
+
+pub left-upto : (p k : ℕ) (cs : List ℕ) (ms : List Tag) → 0 < length cs → k ≡ (p + length cs) - 1
+    → left_at p cs ms ≡ beyond k ms
+left-upto p k [] ms h e = absurd (omega arith)
+left-upto p k (c ∷ []) ms h e = ap (λ i. beyond i ms) (omega arith)
+left-upto p k (c ∷ d ∷ cs) ms h e =
+    left-upto (suc p) k (d ∷ cs) (beyond p ms) (omega arith) (omega arith) ∙ beyond-later p k ms (omega arith)
 
 pub upto-beyond : (at : ℕ) (tags : List Tag) → map tag_token (upto at tags) ++ map tag_token (beyond at tags)
     ≡ map tag_token tags

@@ -20,6 +20,8 @@ pub mod tags;
 
 use crate::runs::sequences::sequence_at;
 use crate::runs::sign::{Sign, Tag, shared_sign};
+use crate::runs::sink::Sink;
+use miette_page::canvas::Canvas;
 use miette_style::codes::begun_style;
 use miette_style::style::Style;
 use std::alloc::{AllocError, Global};
@@ -67,14 +69,6 @@ impl Runs {
             codes,
             tags: Vec::new(alloc),
         }
-    }
-
-    // Takes room for so many characters more.
-    pub(crate) fn reserve(&mut self, many: usize) -> Result<(), AllocError>
-        ensures { OnOk result (self.new ≡ self.old) }
-    {
-        self.codes.reserve(many)?;
-        Ok(())
     }
 
     /// Appends a character.
@@ -188,14 +182,7 @@ impl Runs {
     pub fn push_run(&mut self, style: Style, text: &str) -> Result<(), AllocError>
         ensures text { OnOk result (spell self.new ≡ spell self.old ++ printed_run style (chars text.now)) }
     {
-        if text.is_empty() || style.is_plain() {
-            self.push_str(text)?;
-            return Ok(());
-        }
-        self.begin(style)?;
-        self.push_str(text)?;
-        self.end()?;
-        Ok(())
+        push_run(self, style, text)
     }
 
     /// Appends characters in a style.
@@ -275,6 +262,55 @@ impl Runs {
             codes: self.codes.as_slice(),
             tags: self.tags.as_slice(),
         }
+    }
+}
+
+/// Appends a text in a style.
+pub(crate) fn push_run<C: Canvas>(out: &mut C, style: Style, text: &str) -> Result<(), AllocError>
+    ensures { OnOk result (C.written out.new ≡ C.written out.old ++ printed_run style (chars text.now)) }
+{
+    if text.is_empty() || style.is_plain() {
+        out.push_str(text)?;
+        return Ok(());
+    }
+    out.begin(style)?;
+    out.push_str(text)?;
+    out.end()?;
+    Ok(())
+}
+
+impl Canvas for Runs {
+    ghost written = { λ runs. spell runs };
+
+    fn reserve(&mut self, _c: char, many: usize) -> Result<(), AllocError> {
+        self.codes.reserve(many)?;
+        Ok(())
+    }
+
+    fn push(&mut self, c: char) -> Result<(), AllocError> {
+        Runs::push(self, c)
+    }
+
+    fn push_chars(&mut self, codes: &[char]) -> Result<(), AllocError> {
+        Runs::push_chars(self, codes)
+    }
+
+    fn push_str(&mut self, text: &str) -> Result<(), AllocError> {
+        Runs::push_str(self, text)
+    }
+
+    fn begin(&mut self, style: Style) -> Result<(), AllocError> {
+        Runs::begin(self, style)
+    }
+
+    fn end(&mut self) -> Result<(), AllocError> {
+        Runs::end(self)
+    }
+}
+
+impl Sink for Runs {
+    fn push_sign(&mut self, sign: &Rc<Sign>) -> Result<(), AllocError> {
+        Runs::push_sign(self, sign)
     }
 }
 

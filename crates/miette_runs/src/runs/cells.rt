@@ -1,13 +1,14 @@
 //! Characters with the signs before them, appended to a sink.
 
 ghost use Rattle.std.specs.Prelude.{◌≡◌, ◌≤◌, ◌++◌, IfOk, OnOk, drop, length};
-ghost use Rattle.miette_runs.specs.rules.Cells.{tags_text, piece_text};
+ghost use Rattle.miette_runs.specs.rules.Cells.{piece_text};
 ghost use Rattle.miette_runs.specs.rules.Sequences.{spell};
-ghost use Rattle.miette_runs.specs.views.Interleaving.{cells_at, left_at, tags_spelled, interleaving};
+ghost use Rattle.miette_runs.specs.views.Interleaving.{beyond, cells_at, left_at, tags_spelled, upto, interleaving};
 
 use crate::runs::RunsSlice;
 use crate::runs::sign::Tag;
 use crate::runs::sink::Sink;
+use crate::runs::tags::upto_len;
 use std::alloc::AllocError;
 
 /// Appends characters, which begin at a place, with the tags before them; gives how many tags that were.
@@ -20,8 +21,8 @@ pub fn push_cells<S: Sink>(
     codes: &[char],
     tags: &[Tag],
 ) -> Result<usize, AllocError>
-    ensures text { OnOk result (S.holds out.new
-        ≡ S.holds out.old ++ S.spells (piece_text (cells_at at codes.now tags.now))) }
+    ensures text { OnOk result (S.written out.new
+        ≡ S.written out.old ++ piece_text (cells_at at codes.now tags.now)) }
     ensures left { IfOk result (λ n. drop n tags.now ≡ left_at at codes.now tags.now) }
     ensures within { IfOk result (λ n. n ≤ length tags.now) }
 {
@@ -34,47 +35,15 @@ pub fn push_cells<S: Sink>(
         let gap = tag.at.saturating_sub(place);
         let rest = &codes[start..];
         if rest.len() <= gap {
-            out.push_codes(rest)?;
+            out.push_chars(rest)?;
             return Ok(n);
         }
-        out.push_codes(&rest[..gap])?;
+        out.push_chars(&rest[..gap])?;
         out.push_sign(&tag.sign)?;
         start += gap;
         place += gap;
     }
-    out.push_codes(&codes[start..])?;
-    Ok(tags.len())
-}
-
-/// Appends the signs alone that stand before characters, which begin at a place; gives how many those were.
-///
-/// # Errors
-/// `AllocError` where memory is refused.
-pub fn push_signs<S: Sink>(
-    out: &mut S,
-    at: usize,
-    codes: &[char],
-    tags: &[Tag],
-) -> Result<usize, AllocError>
-    ensures text { OnOk result (S.holds out.new
-        ≡ S.holds out.old ++ S.spells (tags_text (cells_at at codes.now tags.now))) }
-    ensures left { IfOk result (λ n. drop n tags.now ≡ left_at at codes.now tags.now) }
-    ensures within { IfOk result (λ n. n ≤ length tags.now) }
-{
-    if codes.is_empty() {
-        return Ok(0);
-    }
-    let mut place = at;
-    let mut start: usize = 0;
-    for (n, tag) in tags.iter().enumerate() {
-        let gap = tag.at.saturating_sub(place);
-        if codes.len() - start <= gap {
-            return Ok(n);
-        }
-        out.push_sign(&tag.sign)?;
-        start += gap;
-        place += gap;
-    }
+    out.push_chars(&codes[start..])?;
     Ok(tags.len())
 }
 
@@ -83,7 +52,7 @@ pub fn push_signs<S: Sink>(
 /// # Errors
 /// `AllocError` where memory is refused.
 pub fn push_tags<S: Sink>(out: &mut S, tags: &[Tag]) -> Result<(), AllocError>
-    ensures { OnOk result (S.holds out.new ≡ S.holds out.old ++ S.spells (tags_spelled tags.now)) }
+    ensures { OnOk result (S.written out.new ≡ S.written out.old ++ tags_spelled tags.now) }
 {
     for tag in tags {
         out.push_sign(&tag.sign)?;
@@ -91,13 +60,27 @@ pub fn push_tags<S: Sink>(out: &mut S, tags: &[Tag]) -> Result<(), AllocError>
     Ok(())
 }
 
+/// Appends the signs that stand before the character at a place; gives how many those were.
+///
+/// # Errors
+/// `AllocError` where memory is refused.
+pub fn push_signs<S: Sink>(out: &mut S, at: usize, tags: &[Tag]) -> Result<usize, AllocError>
+    ensures text { OnOk result (S.written out.new ≡ S.written out.old ++ tags_spelled (upto at tags.now)) }
+    ensures left { IfOk result (λ n. drop n tags.now ≡ beyond at tags.now) }
+    ensures within { IfOk result (λ n. n ≤ length tags.now) }
+{
+    let n = upto_len(at, tags);
+    push_tags(out, &tags[..n])?;
+    Ok(n)
+}
+
 /// Appends characters, and the signs between them.
 ///
 /// # Errors
 /// `AllocError` where memory is refused.
 pub fn push_all<S: Sink>(out: &mut S, runs: RunsSlice<'_>) -> Result<(), AllocError>
-    ensures { OnOk result (S.holds out.new ≡ S.holds out.old
-        ++ S.spells (spell (interleaving 0 runs.entry.codes.now runs.entry.tags.now))) }
+    ensures { OnOk result (S.written out.new ≡ S.written out.old
+        ++ spell (interleaving 0 runs.entry.codes.now runs.entry.tags.now)) }
 {
     let n = push_cells(out, 0, runs.codes, runs.tags)?;
     push_tags(out, &runs.tags[n..])?;

@@ -1,23 +1,20 @@
 //! What a report is appended to: a text, which prints it at once, or runs, which can be wrapped again.
 
-ghost use Rattle.std.specs.Prelude.{◌≡◌, ◌++◌, ◌∷◌, ℕ, List, [], IfOk, OnOk, chars, encode_utf8_all, refl};
+ghost use Rattle.std.specs.Prelude.{◌≡◌, ◌++◌, ◌∷◌, ℕ, List, [], IfOk, OnOk, chars, encode_utf8_all};
 ghost use Rattle.std.specs.Prelude.{string_bytes};
 ghost use Rattle.miette_runs.specs.rules.Runs.{link_start, printed_run};
 ghost use Rattle.miette_style.specs.rules.Codes.{colour_start, colour_stop};
 ghost use Rattle.miette_runs.specs.rules.Sequences.{spell};
 
-use crate::runs::Runs;
 use crate::runs::reading::{print, read_text};
 use crate::runs::sign::Sign;
 use crate::runs::sink::Sink;
+use crate::runs::{Runs, push_run};
 use miette_page::canvas::Canvas;
-use miette_style::codes::push_style;
 use miette_style::style::Style;
 use std::alloc::{AllocError, Global};
 use std::marker::Model;
 use std::rc::Rc;
-
-const STYLE_END: &str = "\u{1B}[0m";
 
 /// What is appended to.
 #[derive(Debug, Drop)]
@@ -44,21 +41,6 @@ impl Model for Output {
     ghost use Rattle.miette_runs.specs.views.Outputs.{target_text};
 
     ghost view = { λ o. target_text o.target };
-}
-
-// Appends a text in a style.
-fn print_run(out: &mut String, style: Style, text: &str) -> Result<(), AllocError>
-    ensures { OnOk result (string_bytes out.new
-        ≡ string_bytes out.old ++ encode_utf8_all (printed_run style (chars text.now))) }
-{
-    if text.is_empty() || style.is_plain() {
-        out.push_str(text)?;
-        return Ok(());
-    }
-    push_style(out, style)?;
-    out.push_str(text)?;
-    out.push_str(STYLE_END)?;
-    Ok(())
 }
 
 // Appends what begins a link.
@@ -99,7 +81,7 @@ impl Output {
         ensures { OnOk result (self.new ≡ self.old ++ c ∷ []) }
     {
         match &mut self.target {
-            Target::Printed(text) => text.push(c)?,
+            Target::Printed(text) => Canvas::push(text, c)?,
             Target::Collected(runs) => runs.push(c)?,
         }
         Ok(())
@@ -112,12 +94,9 @@ impl Output {
     pub fn reserve(&mut self, c: char, many: usize) -> Result<(), AllocError>
         ensures { OnOk result (self.new ≡ self.old) }
     {
-        let Some(room) = many.checked_mul(c.len_utf8()) else {
-            return Err(AllocError);
-        };
         match &mut self.target {
-            Target::Printed(text) => text.reserve(room)?,
-            Target::Collected(runs) => runs.reserve(many)?,
+            Target::Printed(text) => Canvas::reserve(text, c, many)?,
+            Target::Collected(runs) => runs.reserve(c, many)?,
         }
         Ok(())
     }
@@ -130,7 +109,7 @@ impl Output {
         ensures { OnOk result (self.new ≡ self.old ++ codes.now) }
     {
         match &mut self.target {
-            Target::Printed(text) => text.push_codes(codes)?,
+            Target::Printed(text) => text.push_chars(codes)?,
             Target::Collected(runs) => runs.push_chars(codes)?,
         }
         Ok(())
@@ -144,7 +123,7 @@ impl Output {
         ensures { OnOk result (self.new ≡ self.old ++ chars text.now) }
     {
         match &mut self.target {
-            Target::Printed(out) => out.push_str(text)?,
+            Target::Printed(out) => Canvas::push_str(out, text)?,
             Target::Collected(runs) => runs.push_str(text)?,
         }
         Ok(())
@@ -158,7 +137,7 @@ impl Output {
         ensures { OnOk result (self.new ≡ self.old ++ colour_start style) }
     {
         match &mut self.target {
-            Target::Printed(text) => push_style(text, style)?,
+            Target::Printed(text) => text.begin(style)?,
             Target::Collected(runs) => runs.begin(style)?,
         }
         Ok(())
@@ -172,7 +151,7 @@ impl Output {
         ensures { OnOk result (self.new ≡ self.old ++ colour_stop) }
     {
         match &mut self.target {
-            Target::Printed(text) => text.push_str(STYLE_END)?,
+            Target::Printed(text) => text.end()?,
             Target::Collected(runs) => runs.end()?,
         }
         Ok(())
@@ -186,7 +165,7 @@ impl Output {
         ensures { OnOk result (self.new ≡ self.old ++ printed_run style (chars text.now)) }
     {
         match &mut self.target {
-            Target::Printed(out) => print_run(out, style, text)?,
+            Target::Printed(out) => push_run(out, style, text)?,
             Target::Collected(runs) => runs.push_run(style, text)?,
         }
         Ok(())
@@ -246,28 +225,6 @@ impl Output {
     }
 }
 
-impl Sink for Output {
-    ghost holds = { λ o. o };
-
-    ghost spells = { λ codes. codes };
-
-    ghost nothing = { refl };
-
-    ghost joins = { λ a b. refl };
-
-    fn push_codes(&mut self, codes: &[char]) -> Result<(), AllocError> {
-        self.push_chars(codes)
-    }
-
-    fn push_sign(&mut self, sign: &Rc<Sign>) -> Result<(), AllocError> {
-        match &mut self.target {
-            Target::Printed(text) => text.push_sign(sign)?,
-            Target::Collected(runs) => runs.push_sign(sign)?,
-        }
-        Ok(())
-    }
-}
-
 impl Canvas for Output {
     ghost written = { λ o. o };
 
@@ -293,5 +250,15 @@ impl Canvas for Output {
 
     fn end(&mut self) -> Result<(), AllocError> {
         Output::end(self)
+    }
+}
+
+impl Sink for Output {
+    fn push_sign(&mut self, sign: &Rc<Sign>) -> Result<(), AllocError> {
+        match &mut self.target {
+            Target::Printed(text) => text.push_sign(sign)?,
+            Target::Collected(runs) => runs.push_sign(sign)?,
+        }
+        Ok(())
     }
 }

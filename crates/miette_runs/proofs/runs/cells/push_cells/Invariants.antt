@@ -5,9 +5,8 @@ use Rattle.miette_runs.proofs.runs.cells.push_cells.Given as goal
 
 abbrev pub invariant-loop-n : goal.invariant-loop-n
 invariant-loop-n g l = record {
-  printed : g.S.Sink.holds l.out ++ g.S.Sink.spells (piece_text
-      (cells_at l.place (drop l.start l.codes) (drop l.n l.tags)))
-      ≡ g.S.Sink.holds l.fn.out ++ g.S.Sink.spells (piece_text (cells_at l.at l.codes l.tags));
+  printed : g.S.Canvas.written l.out ++ piece_text (cells_at l.place (drop l.start l.codes) (drop l.n l.tags))
+      ≡ g.S.Canvas.written l.fn.out ++ piece_text (cells_at l.at l.codes l.tags);
   left : left_at l.place (drop l.start l.codes) (drop l.n l.tags) ≡ left_at l.at l.codes l.tags;
   inside : l.start < length l.codes;
 }

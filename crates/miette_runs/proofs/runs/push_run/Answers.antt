@@ -1,14 +1,13 @@
 use Rattle.std.proofs.Common.{◌≡◌, ◌∙◌, ◌++◌, ap, chars, length, ◌<◌, sym, eqb-true}
 use Rattle.miette_runs.specs.rules.Runs.{printed_run}
-use Rattle.miette_runs.specs.rules.Sequences.{spell}
 use Rattle.miette_runs.proofs.Painting.{run-empty, run-plain, run-pushed}
 use Rattle.miette_page.proofs.Paging.{some-chars, nonzero}
-use Rattle.miette_runs.proofs.runs.Runs.push_run.Goals as goal
-use Rattle.miette_runs.proofs.runs.Runs.push_run.Goals.{then-is_empty-via-then-is_empty}
-use Rattle.miette_runs.proofs.runs.Runs.push_run.Goals.{then-is_empty-via-else-is_empty+then-is_plain}
+use Rattle.miette_runs.proofs.runs.push_run.Goals as goal
+use Rattle.miette_runs.proofs.runs.push_run.Goals.{then-is_empty-via-then-is_empty}
+use Rattle.miette_runs.proofs.runs.push_run.Goals.{then-is_empty-via-else-is_empty+then-is_plain}
 
 pub returns-then-is_empty : goal.returns-then-is_empty
-returns-then-is_empty c =
+returns-then-is_empty g c =
     let s = c.args.style in
     let bs = c.args.text.now in
     let same : printed_run s (chars bs) ≡ chars bs = elim c.then-is_empty.branch [
@@ -16,16 +15,12 @@ returns-then-is_empty c =
       | then-is_empty-via-else-is_empty+then-is_plain w ↦ run-plain s (chars bs)
           (sym w.is_plain.ensures ∙ w.if-is_plain.true)
     ] in
-    record { text = c.in_ok-push_str.ensures.text ∙ ap (λ x. spell c.args.self.now ++ x) (sym same) }
+    c.in_ok-push_str.ensures ∙ ap (λ x. g.C.Canvas.written c.args.out.now ++ x) (sym same)
 
 pub returns : goal.returns
-returns c =
+returns g c =
     let bs = c.args.text.now in
     let some : 0 < length bs = nonzero (length bs) (sym c.is_empty.ensures ∙ c.if-is_empty.false) in
-    record {
-      text =
-          run-pushed c.args.style (chars bs) (spell c.args.self.now) (spell c.begin.new.self)
-          (spell c.push_str-2.new.self) (spell c.end.new.self) (some-chars bs c.utf8.text some)
-          (sym c.is_plain.ensures ∙ c.if-is_plain.false)
-          c.in_ok-begin.ensures.text c.in_ok-push_str-2.ensures.text c.in_ok-end.ensures.text;
-    }
+    run-pushed c.args.style (chars bs) (g.C.Canvas.written c.args.out.now) (g.C.Canvas.written c.begin.new.self)
+    (g.C.Canvas.written c.push_str-2.new.self) (g.C.Canvas.written c.end.new.self) (some-chars bs c.utf8.text some)
+    (sym c.is_plain.ensures ∙ c.if-is_plain.false) c.in_ok-begin.ensures c.in_ok-push_str-2.ensures c.in_ok-end.ensures
