@@ -3,7 +3,7 @@ use Rattle.std.proofs.Common.{ℕ, ◌+◌, ◌-◌, ◌<◌, ◌≤◌, ◌≡�
 use Rattle.std.proofs.Common.{◌∷◌, ◌++◌, map, length, Option, Some, None, refl, sym, ap, ap₂, ◌∙◌, arith, drop}
 use Rattle.std.specs.Prelude.{unwrap_or, option_map}
 use Rattle.std.specs.List.{AllByRecursion, list_any}
-use Rattle.std.proofs.lemmas.Bool.{eq-eqb, lt-ltb, le-leb, ltb-true, and_left, and_right, and_from}
+use Rattle.std.proofs.lemmas.Bool.{eq-eqb, lt-ltb, le-leb, ltb-true, and_left, and_parts, and_right}
 use Rattle.miette_source_lines.specs.rules.Lines.{Line, lines_of, IsCut}
 use Rattle.miette_protocol.specs.views.Meaning.{Label}
 use Rattle.miette_protocol.specs.rules.Reading.{Span, Source, Contents}
@@ -22,7 +22,8 @@ use Rattle.miette_snippet_rules.specs.rules.SnippetLayout.{cells_of, line_or_bre
 use Rattle.miette_snippet_rules.specs.rules.SnippetLayout.{drawn_labels, all_snippets, settings_around, place_of}
 use Rattle.miette_snippet_rules.specs.rules.SnippetLayout.{rows_unless, snippet_rows}
 use Rattle.miette_page.specs.rules.Rows.{Row}
-use Rattle.miette_snippet_laws.specs.laws.Ends.{last_line, stands_behind, EndsStandBehind, AreBehindText, with_ends}
+use Rattle.miette_snippet_laws.specs.laws.Ends.{draws_ends, last_line, stands_behind, EndsStandBehind, AreBehindText}
+use Rattle.miette_snippet_laws.specs.laws.Ends.{with_ends}
 use Rattle.miette_source_lines.proofs.Cuts.{cut_le, lines_cut}
 use Rattle.miette_basics.proofs.Cases.{by_cases}
 use Rattle.miette_labels.proofs.Owning.{own_ordered, order_any}
@@ -75,14 +76,13 @@ some_bytes n lines (label ∷ labels) h =
     (λ f. let no : shows_end n (lines label) label ≡ false = and_left (ltb 0 n) _ f in
     some_bytes n lines labels (sym (ap (λ b. b || list_any (λ label. shows_end n (lines label) label) labels) no) ∙ h))
 
-pub ends_stand : (s : SnippetSettings) (bytes : List ℕ) (labels : List Label) → s.layout.end_labels ≡ true
-    → some_shows_end s.layout.context_lines (length bytes) labels ≡ true → EndsStandBehind s bytes labels
-ends_stand s bytes labels on shows =
+pub ends_stand : (s : SnippetSettings) (bytes : List ℕ) (labels : List Label)
+    → draws_ends s (length bytes) labels ≡ true → EndsStandBehind s bytes labels
+ends_stand s bytes labels drawn =
     let n : ℕ = length bytes in
     let line : Line = last_line (lines_of bytes) in
-    let last = last_of_bytes bytes (some_bytes n _ labels shows) in
-    ap (λ b. map (stands_behind line) (drawn_from b s.theme.styles.highlights n 0 labels))
-    (and_from s.layout.end_labels _ on shows)
+    let last = last_of_bytes bytes (some_bytes n _ labels (and_parts s.layout.end_labels _ drawn).1) in
+    ap (λ b. map (stands_behind line) (drawn_from b s.theme.styles.highlights n 0 labels)) drawn
     ∙ all_stand line s.theme.styles.highlights n 0 labels last.0 last.1
 
 -- ---- their marks

@@ -11,7 +11,7 @@ ghost use Rattle.miette_protocol.specs.views.Meaning.{Label};
 ghost use Rattle.miette_protocol.specs.rules.Reading.{Source, Contents};
 ghost use Rattle.miette_snippet_laws.specs.laws.Belonging.{HasOneGroup};
 ghost use Rattle.miette_snippet_laws.specs.laws.Clean.{AreCleanDrawings, IsCleanLabel, IsCleanRow, IsCleanSource};
-ghost use Rattle.miette_snippet_laws.specs.laws.Ends.{AreBehindText, EndsStandBehind, with_ends, AreBehindShown};
+ghost use Rattle.miette_snippet_laws.specs.laws.Ends.{AreBehindShown, AreBehindText, EndsStandBehind, draws_ends, with_ends};
 ghost use Rattle.miette_snippet_laws.specs.laws.Folding.{EndsPass, FitsIn, IsInside};
 ghost use Rattle.miette_snippet_laws.specs.laws.Cuts.{AreAsWide, AreStretches, Fits, IsWithin, by_nearness, by_stretch};
 ghost use Rattle.miette_snippet_laws.specs.laws.Cuts.{most_columns, pieces_shown};
@@ -148,8 +148,8 @@ pub fn lines_that_fit_stay()
 /// columns of the text, in its row behind what is shown of it. Where none of them has one, or no label is at the end,
 /// or the source is empty, the rows are those of before.
 pub fn ends_are_drawn()
-    ensures lines { (s : SnippetSettings) (bytes : List ℕ) (labels : List Label) → s.layout.end_labels ≡ true →
-        some_shows_end s.layout.context_lines (length bytes) labels ≡ true → EndsStandBehind s bytes labels }
+    ensures lines { (s : SnippetSettings) (bytes : List ℕ) (labels : List Label) →
+        draws_ends s (length bytes) labels ≡ true → EndsStandBehind s bytes labels }
     ensures marks { (text : Text) (labels : List DrawnLabel) → AreBehindText text labels }
     ensures row { (s : SnippetSettings) (labels : List DrawnLabel) (source : List ℕ) (line : Line)
         (pieces : List Highlight) → AreBehindShown s labels line (cells_of s source line) pieces }

@@ -11,7 +11,7 @@ use Rattle.miette_snippet_rules.specs.rules.Folds.{Spread}
 use Rattle.miette_snippet_rules.specs.rules.Settings as snippets
 use Rattle.miette_labels.specs.rules.Groups as grouping
 use Rattle.miette_labels.specs.rules.Groups.{AreAccepted, in_order, lines_of_groups}
-use Rattle.miette_labels.specs.rules.Labels.{DrawnLabel, multi_line, one_line, some_shows_end}
+use Rattle.miette_labels.specs.rules.Labels.{DrawnLabel, multi_line, one_line}
 use Rattle.miette_snippet_rules.specs.rules.SnippetLayout as snippet_layout
 use Rattle.miette_snippet_rules.specs.rules.SnippetLayout.{body_rows, cells_of, line_cut, line_marks, settings_around}
 use Rattle.miette_page.specs.rules.Rows.{Row, columns_of, glyphs_of}
@@ -22,7 +22,7 @@ use Rattle.miette_snippet_laws.specs.laws.Cuts.{AreAsWide, AreStretches, Fits, b
 use Rattle.miette_snippet_laws.specs.laws.Cuts.{most_columns, pieces_shown}
 use Rattle.miette_snippet_rules.specs.rules.Marks.{Mark, marks_at, AreApart}
 use Rattle.miette_snippet_rules.specs.rules.Numbers.{ranges, IsRange, AreParted}
-use Rattle.miette_snippet_laws.specs.laws.Ends.{EndsStandBehind, AreBehindShown}
+use Rattle.miette_snippet_laws.specs.laws.Ends.{AreBehindShown, EndsStandBehind, draws_ends}
 use Rattle.miette_snippet_laws.specs.laws.Folding.{EndsPass, FitsIn, IsInside}
 use Rattle.miette_snippet_laws.specs.laws.Pictures.{BodyShows, marks_of_line, text_of_line}
 use Rattle.miette_snippet_rules.specs.rules.ShownLines.{framed_ranges, line_at}
@@ -218,7 +218,6 @@ pub record EndsBehind (s : Settings) (source : Source) (labels : List Label) : T
 -- where labels at the end are drawn, and one of them has a line of context
 abbrev pub EndsAreDrawn : Settings → PrintedDiagnostic → Type 0
 EndsAreDrawn s p =
-    IfSome p.source (λ source. s.layout.end_labels ≡ true →
-    some_shows_end (group_settings s (given_labels p.meaning.labels)).layout.context_lines (length source.bytes)
+    IfSome p.source (λ source. draws_ends (group_settings s (given_labels p.meaning.labels)) (length source.bytes)
     (in_order (given_labels p.meaning.labels)) ≡ true →
     EndsBehind s source (given_labels p.meaning.labels))

@@ -6,7 +6,7 @@ use Rattle.miette_page.specs.rules.Rows.{columns_of, glyphs_of}
 use Rattle.miette_protocol.specs.views.Meaning.{Label}
 use Rattle.miette_labels.specs.rules.Answers.{Highlight}
 use Rattle.miette_cells.specs.rules.Cells.{Cell}
-use Rattle.miette_labels.specs.rules.Labels.{DrawnLabel, is_at_end, is_empty, is_one_line}
+use Rattle.miette_labels.specs.rules.Labels.{DrawnLabel, is_at_end, is_empty, is_one_line, some_shows_end}
 use Rattle.miette_snippet_rules.specs.rules.Marks.{Text, marks}
 use Rattle.miette_snippet_rules.specs.rules.SnippetLayout.{drawn_labels}
 use Rattle.miette_snippet_laws.specs.laws.Pictures.{marks_of_line, text_of_line}
@@ -21,6 +21,11 @@ last_line (line ∷ next ∷ lines) = last_line (next ∷ lines)
 -- whether a label stands behind a line's text, as an empty one that lies on this line alone
 abbrev pub stands_behind : Line → DrawnLabel → Bool
 stands_behind line label = label.behind && (is_empty label && is_one_line line label)
+
+-- whether the labels at the end of a source of so many bytes are drawn: where the settings say so, and one of them has
+-- a line of context
+abbrev pub draws_ends : SnippetSettings → ℕ → List Label → Bool
+draws_ends s n labels = s.layout.end_labels && some_shows_end s.layout.context_lines n labels
 
 -- just the labels that begin at the source's end stand behind the text of its last line
 abbrev pub EndsStandBehind : SnippetSettings → List ℕ → List Label → Type 0

@@ -131,8 +131,8 @@ returns-clause-texts c = λ s t. each (TextsHang s) (λ p.
 pub returns-clause-ends : goal.returns-clause-ends
 returns-clause-ends c = λ s t. each (EndsAreDrawn s) (λ p.
     let labels = given_labels p.meaning.labels in
-    if_some _ (λ source on shows. record {
-      lines = c.ends_are_drawn.ensures.lines (group_settings s labels) source.bytes (in_order labels) on shows;
+    if_some _ (λ source drawn. record {
+      lines = c.ends_are_drawn.ensures.lines (group_settings s labels) source.bytes (in_order labels) drawn;
       marks = λ k pieces. c.ends_are_drawn.ensures.row (snippet_settings s) (drawn_labels s source labels) source.bytes
           (line_of source k) pieces;
     }) p.source) (diagnostics_of s t)
