@@ -35,6 +35,22 @@ pub struct Wrapping {
     pub word_splitter: WordSplitter,
 }
 
+impl Default for Wrapping {
+    ghost use Rattle.std.specs.Prelude.{◌≡◌};
+    ghost use Rattle.miette_graphical.specs.rules.Settings.{default_wrapping};
+
+    ghost is_default = { λ it. it ≡ default_wrapping };
+
+    fn default() -> Self {
+        Wrapping {
+            wrap_lines: true,
+            break_words: true,
+            word_separator: WordSeparator::AsciiSpace,
+            word_splitter: WordSplitter::HyphenSplitter,
+        }
+    }
+}
+
 /// How a handler prints reports.
 #[derive(Drop)]
 pub struct Settings {
@@ -67,12 +83,7 @@ impl Settings {
         Settings {
             theme,
             layout: LayoutOptions::default(),
-            wrapping: Wrapping {
-                wrap_lines: true,
-                break_words: true,
-                word_separator: WordSeparator::AsciiSpace,
-                word_splitter: WordSplitter::HyphenSplitter,
-            },
+            wrapping: Wrapping::default(),
             width: 200,
             urls: UrlMode::Links,
             link_display_text: None,
