@@ -1,12 +1,14 @@
 -- Characters with tags at their places, without the line feeds at an end.
-use Rattle.std.proofs.Common.{◌≡◌, ℕ, zero, suc, ◌+◌, ◌-◌, ◌<◌, ◌≤◌, min, Bool, true, false, ◌&&◌, nat_le, List, []}
+use Rattle.std.proofs.Common.{◌≡◌, ℕ, zero, suc, ◌+◌, ◌-◌, ◌<◌, ◌≤◌, Bool, true, false, ◌&&◌, nat_le, List, []}
 use Rattle.std.proofs.Common.{◌∷◌, ◌++◌, map, length, take, drop, get_or, set, refl, sym, subst, ap, ap₂, ◌∙◌}
 use Rattle.std.proofs.Common.{if◌then◌else◌, arith, length-drop, length-take}
 use Rattle.std.proofs.lemmas.Bool.{and_parts}
 use Rattle.std.proofs.lemmas.Bool.Decides.{nat_tests}
-use Rattle.std.proofs.lemmas.List.{drop_more, take_all}
+use Rattle.std.proofs.Common.{Vec}
+use Rattle.std.proofs.lemmas.List.{drop_more, length-map, take_all, with_items_is}
 use Rattle.std.proofs.lemmas.List.Elements.{All-map, All-weaker}
 use Rattle.std.proofs.Math.Bool.{and_assoc}
+use Rattle.std.specs.Vec.{with_items}
 use Rattle.miette_runs.specs.rules.Cutting.{cut_end, cut_front, only_feeds}
 use Rattle.miette_runs.specs.steps.Feeds.{are_colours, capped_tag, feeds_len, kept_len, lowered_tag}
 use Rattle.miette_runs.specs.rules.Sequences.{Token, Character, is_line_feed}
@@ -14,6 +16,36 @@ use Rattle.miette_runs.specs.rules.Colours.{is_colour}
 use Rattle.miette_runs.specs.views.Interleaving.{AreWithin, beyond, tag_text, tag_token, upto, interleaving}
 use Rattle.miette_runs.specs.declared.runs.sign.Tag.{Tag}
 use Rattle.miette_runs.proofs.Weaving.{woven-near, upto-beyond}
+
+-- ---- tags at other places
+
+tokens-moved : (f : Tag → Tag) → ((m : Tag) → tag_token (f m) ≡ tag_token m) → (tags : List Tag) → map tag_token tags
+    ≡ map tag_token (map f tags)
+tokens-moved f kept [] = refl
+tokens-moved f kept (m ∷ tags) = ap₂ (λ t us. t ∷ us) (sym (kept m)) (tokens-moved f kept tags)
+
+upto-moved : (f : Tag → Tag) (p q : ℕ) → ((m : Tag) → tag_token (f m) ≡ tag_token m)
+    → ((m : Tag) → nat_le (f m).at q ≡ nat_le m.at p) → (tags : List Tag) → map tag_token (upto p tags)
+    ≡ map tag_token (upto q (map f tags))
+upto-moved f p q kept same [] = refl
+upto-moved f p q kept same (m ∷ tags) =
+    elim (nat_le m.at p) as (λ v. map tag_token (if v then m ∷ upto p tags else [])
+    ≡ map tag_token (if v then f m ∷ upto q (map f tags) else [])) [
+      | true ↦ ap₂ (λ t us. t ∷ us) (sym (kept m)) (upto-moved f p q kept same tags)
+      | false ↦ refl
+    ]
+    ∙ ap (λ (v : Bool). map tag_token (if v then f m ∷ upto q (map f tags) else [])) (sym (same m))
+
+beyond-moved : (f : Tag → Tag) (p q : ℕ) → ((m : Tag) → nat_le (f m).at q ≡ nat_le m.at p) → (tags : List Tag)
+    → map f (beyond p tags) ≡ beyond q (map f tags)
+beyond-moved f p q same [] = refl
+beyond-moved f p q same (m ∷ tags) =
+    elim (nat_le m.at p) as (λ v. map f (if v then beyond p tags else m ∷ tags)
+    ≡ (if v then beyond q (map f tags) else f m ∷ map f tags)) [
+      | true ↦ beyond-moved f p q same tags
+      | false ↦ refl
+    ]
+    ∙ ap (λ (v : Bool). if v then beyond q (map f tags) else f m ∷ map f tags) (sym (same m))
 
 -- ---- the same tags before a later place
 
@@ -93,43 +125,18 @@ front-woven at (c ∷ cs) tags =
 
 -- ---- tags with fewer characters before them
 
-lowered-upto : (n at : ℕ) (tags : List Tag) → map tag_token (upto (at + n) tags)
-    ≡ map tag_token (upto at (map (lowered_tag n) tags))
-lowered-upto n at [] = refl
-lowered-upto n at (m ∷ tags) =
-    let same : nat_le (m.at - n) at ≡ nat_le m.at (at + n) = grind (arith, nat_tests) in
-    elim (nat_le m.at (at + n)) as (λ v. map tag_token (if v then m ∷ upto (at + n) tags else [])
-    ≡ map tag_token (if v then lowered_tag n m ∷ upto at (map (lowered_tag n) tags) else [])) [
-      | true ↦ ap (λ us. tag_token m ∷ us) (lowered-upto n at tags)
-      | false ↦ refl
-    ]
-    ∙ ap (λ (v : Bool). map tag_token (if v then lowered_tag n m ∷ upto at (map (lowered_tag n) tags) else []))
-    (sym same)
-
-lowered-beyond : (n at : ℕ) (tags : List Tag) → map (lowered_tag n) (beyond (at + n) tags)
-    ≡ beyond at (map (lowered_tag n) tags)
-lowered-beyond n at [] = refl
-lowered-beyond n at (m ∷ tags) =
-    let same : nat_le (m.at - n) at ≡ nat_le m.at (at + n) = grind (arith, nat_tests) in
-    elim (nat_le m.at (at + n)) as (λ v. map (lowered_tag n) (if v then beyond (at + n) tags else m ∷ tags)
-    ≡ (if v then beyond at (map (lowered_tag n) tags) else lowered_tag n m ∷ map (lowered_tag n) tags)) [
-      | true ↦ lowered-beyond n at tags
-      | false ↦ refl
-    ]
-    ∙ ap (λ (v : Bool). if v then beyond at (map (lowered_tag n) tags) else lowered_tag n m ∷ map (lowered_tag n) tags)
-    (sym same)
-
-lowered-tokens : (n : ℕ) (tags : List Tag) → map tag_token tags ≡ map tag_token (map (lowered_tag n) tags)
-lowered-tokens n [] = refl
-lowered-tokens n (m ∷ tags) = ap (λ us. tag_token m ∷ us) (lowered-tokens n tags)
+lowered-place : (n at : ℕ) (m : Tag) → nat_le (lowered_tag n m).at at ≡ nat_le m.at (at + n)
+lowered-place n at m = grind (arith, nat_tests)
 
 pub lowered-woven : (n at : ℕ) (cs : List ℕ) (tags : List Tag) → interleaving (at + n) cs tags
     ≡ interleaving at cs (map (lowered_tag n) tags)
-lowered-woven n at [] tags = lowered-tokens n tags
+lowered-woven n at [] tags = tokens-moved (lowered_tag n) (λ m. refl) tags
 lowered-woven n at (c ∷ cs) tags =
     ap (λ k. map tag_token (upto (at + n) tags) ++ Character c ∷ interleaving k cs (beyond (at + n) tags)) (omega arith)
-    ∙ ap₂ (λ us vs. us ++ Character c ∷ vs) (lowered-upto n at tags)
-    (lowered-woven n (suc at) cs (beyond (at + n) tags) ∙ ap (interleaving (suc at) cs) (lowered-beyond n at tags))
+    ∙ ap₂ (λ us vs. us ++ Character c ∷ vs) (upto-moved (lowered_tag n) (at + n) at (λ m. refl) (lowered-place n at)
+    tags)
+    (lowered-woven n (suc at) cs (beyond (at + n) tags) ∙ ap (interleaving (suc at) cs)
+    (beyond-moved (lowered_tag n) (at + n) at (lowered-place n at) tags))
 
 pub lowered-within : (n len : ℕ) (tags : List Tag) → AreWithin len tags → AreWithin (len - n) (map (lowered_tag n) tags)
 lowered-within n len tags h =
@@ -198,42 +205,17 @@ end-woven at (c ∷ cs) tags =
 
 -- ---- tags with no more characters before them than there are
 
-capped-upto : (n at : ℕ) (tags : List Tag) → at < n → map tag_token (upto at tags)
-    ≡ map tag_token (upto at (map (capped_tag n) tags))
-capped-upto n at [] h = refl
-capped-upto n at (m ∷ tags) h =
-    let same : nat_le (min m.at n) at ≡ nat_le m.at at = grind (arith, nat_tests) in
-    elim (nat_le m.at at) as (λ v. map tag_token (if v then m ∷ upto at tags else [])
-    ≡ map tag_token (if v then capped_tag n m ∷ upto at (map (capped_tag n) tags) else [])) [
-      | true ↦ ap (λ us. tag_token m ∷ us) (capped-upto n at tags h)
-      | false ↦ refl
-    ]
-    ∙ ap (λ (v : Bool). map tag_token (if v then capped_tag n m ∷ upto at (map (capped_tag n) tags) else [])) (sym same)
-
-capped-beyond : (n at : ℕ) (tags : List Tag) → at < n → map (capped_tag n) (beyond at tags)
-    ≡ beyond at (map (capped_tag n) tags)
-capped-beyond n at [] h = refl
-capped-beyond n at (m ∷ tags) h =
-    let same : nat_le (min m.at n) at ≡ nat_le m.at at = grind (arith, nat_tests) in
-    elim (nat_le m.at at) as (λ v. map (capped_tag n) (if v then beyond at tags else m ∷ tags)
-    ≡ (if v then beyond at (map (capped_tag n) tags) else capped_tag n m ∷ map (capped_tag n) tags)) [
-      | true ↦ capped-beyond n at tags h
-      | false ↦ refl
-    ]
-    ∙ ap (λ (v : Bool). if v then beyond at (map (capped_tag n) tags) else capped_tag n m ∷ map (capped_tag n) tags)
-    (sym same)
-
-capped-tokens : (n : ℕ) (tags : List Tag) → map tag_token tags ≡ map tag_token (map (capped_tag n) tags)
-capped-tokens n [] = refl
-capped-tokens n (m ∷ tags) = ap (λ us. tag_token m ∷ us) (capped-tokens n tags)
+capped-place : (n at : ℕ) → at < n → (m : Tag) → nat_le (capped_tag n m).at at ≡ nat_le m.at at
+capped-place n at h m = grind (arith, nat_tests)
 
 pub capped-woven : (n at : ℕ) (cs : List ℕ) (tags : List Tag) → at + length cs ≤ n → interleaving at cs tags
     ≡ interleaving at cs (map (capped_tag n) tags)
-capped-woven n at [] tags h = capped-tokens n tags
+capped-woven n at [] tags h = tokens-moved (capped_tag n) (λ m. refl) tags
 capped-woven n at (c ∷ cs) tags h =
-    ap₂ (λ us vs. us ++ Character c ∷ vs) (capped-upto n at tags (omega arith))
+    ap₂ (λ us vs. us ++ Character c ∷ vs) (upto-moved (capped_tag n) at at (λ m. refl) (capped-place n at (omega arith))
+    tags)
     (capped-woven n (suc at) cs (beyond at tags) (omega arith)
-    ∙ ap (interleaving (suc at) cs) (capped-beyond n at tags (omega arith)))
+    ∙ ap (interleaving (suc at) cs) (beyond-moved (capped_tag n) at at (capped-place n at (omega arith)) tags))
 
 pub capped-within : (n : ℕ) (tags : List Tag) → AreWithin n (map (capped_tag n) tags)
 capped-within n tags = All-map (λ (m : Tag). m.at ≤ n) (capped_tag n) tags (λ k d l. omega arith)
@@ -314,13 +296,25 @@ changed f [] i d y l h = absurd (omega arith)
 changed f (x ∷ xs) zero d y l h = ap (λ z. z ∷ xs) h
 changed f (x ∷ xs) (suc i) d y l h = ap (λ zs. f x ∷ zs) (changed f xs i d y (omega arith) h)
 
-pub change-next : {X : Type 0} (f : X → X) (xs ys : List X) (i : ℕ) (d y : X) → i < length xs → ys ≡ map f (take i xs)
+change-next : {X : Type 0} (f : X → X) (xs ys : List X) (i : ℕ) (d y : X) → i < length xs → ys ≡ map f (take i xs)
     ++ drop i xs → y ≡ f (get_or ys i d) → set ys i y ≡ map f (take (i + 1) xs) ++ drop (i + 1) xs
 change-next f xs ys i d y l h k =
     let next : suc i ≡ i + 1 = omega arith in
     ap (λ zs. set zs i y) h
     ∙ changed f xs i d y l (k ∙ ap (λ zs. f (get_or zs i d)) h)
     ∙ ap (λ n. map f (take n xs) ++ drop n xs) next
+
+pub tag-changed : (f : Tag → Tag) (xs ys : List Tag) (i n : ℕ) (d : Tag) → i < length xs → ys ≡ map f (take i xs)
+    ++ drop i xs → n ≡ (f (get_or ys i d)).at → (f (get_or ys i d)).sign ≡ (get_or ys i d).sign →
+    set ys i (record { at = n; sign = (get_or ys i d).sign }) ≡ map f (take (i + 1) xs) ++ drop (i + 1) xs
+tag-changed f xs ys i n d l h e s =
+    change-next f xs ys i d (record { at = n; sign = (get_or ys i d).sign }) l h
+    (ap₂ (λ a b. let m : Tag = record { at = a; sign = b } in m) e (sym s))
+
+-- the tags of runs, written back after each was changed
+pub tags-changed : {Z : Type 0} (f : Tag → Tag) (tags : Vec Tag Z) (now low : List Tag) → now ≡ tags.items → length now
+    ≡ tags.len → low ≡ map f now → (with_items tags low).items ≡ map f tags.items
+tags-changed f tags now low e l h = with_items_is tags low (ap length h ∙ length-map now f ∙ l) ∙ h ∙ ap (map f) e
 
 -- ---- runs, cut
 

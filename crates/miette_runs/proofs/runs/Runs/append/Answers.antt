@@ -30,15 +30,14 @@ loop-tag-preserved c =
 
 pub returns-clause-tokens : goal.returns-clause-tokens
 returns-clause-tokens c =
-    let cs = c.parts-parts.result.codes.now in
-    let ms = c.parts-parts.result.tags.now in
-    let s = c.loop-tag.start in
-    let i = c.loop-tag.tag-index in
-    let o = c.loop-tag.self in
-    let none : drop i ms ≡ [] = drop_all i ms (omega arith) in
+    let xs = drop c.loop-tag.start c.parts-parts.result.codes.now in
+    let none : drop c.loop-tag.tag-index c.parts-parts.result.tags.now ≡ [] =
+    drop_all c.loop-tag.tag-index c.parts-parts.result.tags.now (omega arith) in
     c.in_ok-push_chars-2.ensures.tokens
-    ∙ ap (λ ts. o ++ ts) (ap (map Character) (take_rest cs s) ∙ sym (woven-none s (drop s cs))
-    ∙ ap (λ vs. interleaving s (drop s cs) vs) (sym none))
+    ∙ ap (λ ts. c.loop-tag.self ++ ts)
+    (ap (map Character) (take_rest c.parts-parts.result.codes.now c.loop-tag.start)
+    ∙ sym (woven-none c.loop-tag.start xs)
+    ∙ ap (λ vs. interleaving c.loop-tag.start xs vs) (sym none))
     ∙ c.loop-tag.invariant.woven
     ∙ ap (λ ts. c.args.self.now ++ ts) c.parts-parts.ensures
 

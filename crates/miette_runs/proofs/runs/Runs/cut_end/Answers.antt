@@ -1,9 +1,8 @@
-use Rattle.std.proofs.Common.{◌≡◌, ◌∙◌, ◌≤◌, ap, ap₂, arith, length, map, sym}
-use Rattle.std.proofs.lemmas.List.{length-map, with_items_is}
+use Rattle.std.proofs.Common.{◌≡◌, ◌∙◌, ◌≤◌, ap, ap₂, arith, length, sym}
 use Rattle.std.specs.Vec.{with_items}
 use Rattle.miette_runs.specs.rules.Cutting.{cut_end}
 use Rattle.miette_runs.specs.steps.Feeds.{capped_tag, kept_len}
-use Rattle.miette_runs.proofs.InterleavedCuts.{end-cut, end-whole, end-within}
+use Rattle.miette_runs.proofs.InterleavedCuts.{end-cut, end-whole, end-within, tags-changed}
 use Rattle.miette_runs.proofs.runs.Runs.cut_end.Goals as goal
 
 pub invariant_of-self : goal.invariant_of-self
@@ -11,29 +10,23 @@ invariant_of-self c =
     let codes = c.self.inside.codes.items in
     let tags = c.self.inside.tags in
     let n = c.kept_len-n.result in
-    let low = c.cap.new.tags in
     let within : n ≤ length codes = omega (arith, ap length c.deref.ensures.value, c.kept_len-n.ensures.within) in
-    let is_low : low ≡ map (capped_tag n) tags.items = c.cap.ensures ∙ ap (map (capped_tag n)) c.deref_mut.ensures.value
-    in
-    let long : length low ≡ tags.len = ap length c.cap.ensures ∙ length-map c.deref_mut.result.now (capped_tag n)
-    ∙ c.deref_mut.ensures.len in
-    end-within codes c.truncate.new.self.items tags.items (with_items tags low).items n within c.truncate.ensures.items
-    (with_items_is tags low long ∙ is_low)
+    end-within codes c.truncate.new.self.items tags.items (with_items tags c.cap.new.tags).items n within
+    c.truncate.ensures.items
+    (tags-changed (capped_tag n) tags c.deref_mut.result.now c.cap.new.tags c.deref_mut.ensures.value
+    c.deref_mut.ensures.len c.cap.ensures)
 
 pub returns-then-n-len : goal.returns-then-n-len
 returns-then-n-len c =
     let codes = c.self.inside.codes.items in
     let tags = c.self.inside.tags in
     let n = c.kept_len-n.result in
-    let low = c.cap.new.tags in
     let is_len : n ≡ kept_len 0 codes tags.items = c.kept_len-n.ensures.value
     ∙ ap₂ (kept_len 0) c.deref.ensures.value c.deref-2.ensures.value in
-    let is_low : low ≡ map (capped_tag n) tags.items = c.cap.ensures ∙ ap (map (capped_tag n)) c.deref_mut.ensures.value
-    in
-    let long : length low ≡ tags.len = ap length c.cap.ensures ∙ length-map c.deref_mut.result.now (capped_tag n)
-    ∙ c.deref_mut.ensures.len in
-    end-cut codes c.truncate.new.self.items tags.items (with_items tags low).items n is_len c.truncate.ensures.items
-    (with_items_is tags low long ∙ is_low)
+    end-cut codes c.truncate.new.self.items tags.items (with_items tags c.cap.new.tags).items n is_len
+    c.truncate.ensures.items
+    (tags-changed (capped_tag n) tags c.deref_mut.result.now c.cap.new.tags c.deref_mut.ensures.value
+    c.deref_mut.ensures.len c.cap.ensures)
     ∙ ap cut_end c.self.view_is
 
 pub returns-else-n-len : goal.returns-else-n-len

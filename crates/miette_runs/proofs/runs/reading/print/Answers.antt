@@ -1,10 +1,9 @@
-use Rattle.std.proofs.Common.{◌∙◌, ◌++◌, ap, ap₂, chars}
-use Rattle.std.proofs.lemmas.Str.{chars-nil}
-use Rattle.miette_page.proofs.PrintedText.{text-bytes}
+use Rattle.std.proofs.Common.{◌∙◌, ◌++◌, ap, chars, string_bytes}
 use Rattle.miette_runs.specs.rules.Sequences.{spell}
+use Rattle.miette_runs.proofs.Outputs.{printed-bytes}
 use Rattle.miette_runs.proofs.runs.reading.print.Goals as goal
 
 pub returns : goal.returns
-returns c = text-bytes c.push_all.new.out (spell c.args.runs.now) (c.in_ok-push_all.ensures
-    ∙ ap₂ (λ bs ts. chars bs ++ spell ts) c.in_ok-text.ensures.bytes c.parts-parts.ensures
-    ∙ ap (λ cs. cs ++ spell c.args.runs.now) chars-nil)
+returns c = printed-bytes c.in_ok-text.text c.push_all.new.out (spell c.args.runs.now) c.in_ok-text.ensures.bytes
+    (c.in_ok-push_all.ensures
+    ∙ ap (λ ts. chars (string_bytes c.in_ok-text.text) ++ spell ts) c.parts-parts.ensures)
