@@ -49,35 +49,34 @@ erase_high (b ∷ bs) r h =
 
 -- ---- the length of a colour at the front
 
-high_end : (bs r : List ℕ) → high bs ≡ true → 0 < length bs → colour_end_len (bs ++ r) ≡ 0
-high_end [] r h l = absurd (omega arith)
-high_end (b ∷ bs) r h l = grind (arith, nat_tests)
+none_high : (f : List ℕ → ℕ) → ((b : ℕ) (bs : List ℕ) → 128 ≤ b → f (b ∷ bs) ≡ 0) → (bs r : List ℕ) → high bs ≡ true
+    → 0 < length bs → f (bs ++ r) ≡ 0
+none_high f none [] r h l = absurd (omega arith)
+none_high f none (b ∷ bs) r h l = none b (bs ++ r) (leb-true 128 b (and_parts (nat_le 128 b) (high bs) h).0)
+
+-- a length that is 0 before what isn't ASCII
+encode_first : (f : List ℕ → ℕ) → ((b : ℕ) (bs : List ℕ) → 128 ≤ b → f (b ∷ bs) ≡ 0) → (c : ℕ) (cs : List ℕ)
+    → f (c ∷ encode_utf8_all cs) ≡ f (c ∷ cs) → f (encode_utf8_all (c ∷ cs)) ≡ f (c ∷ cs)
+encode_first f none c cs h = elim (low_or_high c) [
+  | inl a ↦ none_high f none (encode_utf8 c) (encode_utf8_all cs) (above c a) (some_byte c) ∙ sym (none c cs a)
+  | inr b ↦ ap (λ xs. f (xs ++ encode_utf8_all cs)) (encode_ascii c b) ∙ h
+]
 
 end_high : (c : ℕ) (cs : List ℕ) → 128 ≤ c → colour_end_len (c ∷ cs) ≡ 0
 end_high c cs l = grind (arith, nat_tests)
 
 end_encode : (cs : List ℕ) → colour_end_len (encode_utf8_all cs) ≡ colour_end_len cs
 end_encode [] = refl
-end_encode (c ∷ cs) = elim (low_or_high c) [
-  | inl a ↦ high_end (encode_utf8 c) (encode_utf8_all cs) (above c a) (some_byte c) ∙ sym (end_high c cs a)
-  | inr b ↦ ap (λ xs. colour_end_len (xs ++ encode_utf8_all cs)) (encode_ascii c b)
-      ∙ ap (λ n. if c == 109 then 1 else if is_parameter c then one_more n else 0) (end_encode cs)
-]
-
-high_after : (bs r : List ℕ) → high bs ≡ true → 0 < length bs → after_colour_escape_len (bs ++ r) ≡ 0
-high_after [] r h l = absurd (omega arith)
-high_after (b ∷ bs) r h l = grind (arith, nat_tests)
+end_encode (c ∷ cs) = encode_first colour_end_len end_high c cs
+    (ap (λ n. if c == 109 then 1 else if is_parameter c then one_more n else 0) (end_encode cs))
 
 after_high : (c : ℕ) (cs : List ℕ) → 128 ≤ c → after_colour_escape_len (c ∷ cs) ≡ 0
 after_high c cs l = grind (arith, nat_tests)
 
 after_encode : (cs : List ℕ) → after_colour_escape_len (encode_utf8_all cs) ≡ after_colour_escape_len cs
 after_encode [] = refl
-after_encode (c ∷ cs) = elim (low_or_high c) [
-  | inl a ↦ high_after (encode_utf8 c) (encode_utf8_all cs) (above c a) (some_byte c) ∙ sym (after_high c cs a)
-  | inr b ↦ ap (λ xs. after_colour_escape_len (xs ++ encode_utf8_all cs)) (encode_ascii c b)
-      ∙ ap (λ n. if c == 91 then one_more n else 0) (end_encode cs)
-]
+after_encode (c ∷ cs) = encode_first after_colour_escape_len after_high c cs
+    (ap (λ n. if c == 91 then one_more n else 0) (end_encode cs))
 
 -- ---- a colour is ASCII
 

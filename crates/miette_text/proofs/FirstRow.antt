@@ -4,7 +4,7 @@ use Rattle.std.proofs.Common.{◌++◌, map, length, take, drop, get_or, refl, s
 use Rattle.std.proofs.Common.{drop-drop, length-drop, zero-add, eqb-true}
 use Rattle.std.proofs.Math.Seq.{take-add}
 use Rattle.std.proofs.lemmas.Bool.Decides.{nat_tests}
-use Rattle.std.proofs.lemmas.List.{take-map, length-map}
+use Rattle.std.proofs.lemmas.List.{take-map, take_rest, length-map}
 use Rattle.std.proofs.lemmas.List.Sums.{sum_by-cons}
 use Rattle.unicode_width.specs.Width.{char_width}
 use Rattle.miette_text.specs.rules.Wrapping.{Cuts, Word, columns, rows, is_space}
@@ -90,6 +90,27 @@ step-some cuts before end n m codes l p q =
     let k : m ≡ gap_len (drop (part_len cuts before 0 (drop end codes)) (drop end codes)) = q
     ∙ ap (λ n. gap_len (drop n (drop end codes))) p in
     omega arith
+
+-- ---- what stands at a place
+
+pub part-here : (cuts : Cuts) (before s n : ℕ) (cs : List ℕ) → n ≡ part_len cuts before 0
+    (take (length cs - s) (drop s cs)) → n ≡ part_len cuts before 0 (drop s cs)
+part-here cuts before s n cs h = h ∙ ap (part_len cuts before 0) (take_rest cs s)
+
+pub gap-here : (s n m : ℕ) (cs : List ℕ) → m ≡ gap_len (take (length cs - (s + n)) (drop (s + n) cs))
+    → m ≡ gap_len (drop n (drop s cs))
+gap-here s n m cs h = h ∙ ap gap_len (take_rest cs (s + n) ∙ sym (drop-drop n s cs))
+
+pub columns-here : (s n used columns wide : ℕ) (cs : List ℕ) → columns ≡ code_columns
+    (take n (take (length cs - s) (drop s cs))) → wide ≡ used + columns → wide
+    ≡ used + code_columns (take n (drop s cs))
+columns-here s n used columns wide cs h w =
+    w ∙ ap (λ k. used + k) (h ∙ ap (λ xs. code_columns (take n xs)) (take_rest cs s))
+
+pub step-here : (cuts : Cuts) (before s n m : ℕ) (cs : List ℕ) → s < length cs → n ≡ part_len cuts before 0
+    (take (length cs - s) (drop s cs)) → m ≡ gap_len (take (length cs - (s + n)) (drop (s + n) cs)) → 0 < n + m
+step-here cuts before s n m cs l p q =
+    step-some cuts before s n m cs l (part-here cuts before s n cs p) (gap-here s n m cs q)
 
 -- ---- the steps
 

@@ -1,6 +1,6 @@
 -- The cells of characters with tags between them: a beginning, the rest, and a row without its last spaces.
 use Rattle.std.proofs.Common.{◌≡◌, ℕ, zero, suc, ◌+◌, ◌-◌, ◌<◌, ◌≤◌, Bool, false, ◌&&◌, List, [], ◌∷◌, ◌++◌, map}
-use Rattle.std.proofs.Common.{length, take, drop, get_or, refl, sym, ap, ap₂, ◌∙◌, append-nil, if◌then◌else◌, arith}
+use Rattle.std.proofs.Common.{length, take, drop, get_or, refl, sym, ap, ap₂, ◌∙◌, if◌then◌else◌, arith}
 use Rattle.std.proofs.Common.{length-take}
 use Rattle.std.proofs.lemmas.Bool.Decides.{nat_tests}
 use Rattle.std.proofs.lemmas.List.{map_more, length-map}
@@ -26,21 +26,26 @@ cells-take (suc n) at [] ms = refl
 cells-take (suc n) at (c ∷ cs) ms = ap (λ xs. record { tags = map tag_text (upto at ms); code = c } ∷ xs)
     (cells-take n (suc at) cs (beyond at ms))
 
+drop-left : (n at : ℕ) (cs : List ℕ) (ms : List Tag) → (drop n (cells_at at cs ms)
+    ≡ cells_at (at + n) (drop n cs) (left_at at (take n cs) ms)) × (left_at at cs ms
+    ≡ left_at (at + n) (drop n cs) (left_at at (take n cs) ms))
+drop-left zero at cs ms = (ap (λ k. cells_at k cs ms) (omega arith), ap (λ k. left_at k cs ms) (omega arith))
+drop-left (suc n) at [] ms = (refl, refl)
+drop-left (suc n) at (c ∷ cs) ms =
+    let left = left_at (suc at) (take n cs) (beyond at ms) in
+    let rest = drop-left n (suc at) cs (beyond at ms) in (
+      rest.0 ∙ ap (λ k. cells_at k (drop n cs) left) (omega arith),
+      rest.1
+          ∙ ap (λ k. left_at k (drop n cs) left) (omega arith),
+    )
+
 pub cells-drop : (n at : ℕ) (cs : List ℕ) (ms : List Tag) → drop n (cells_at at cs ms)
     ≡ cells_at (at + n) (drop n cs) (left_at at (take n cs) ms)
-cells-drop zero at cs ms = ap (λ k. cells_at k cs ms) (omega arith)
-cells-drop (suc n) at [] ms = refl
-cells-drop (suc n) at (c ∷ cs) ms =
-    cells-drop n (suc at) cs (beyond at ms)
-    ∙ ap (λ k. cells_at k (drop n cs) (left_at (suc at) (take n cs) (beyond at ms))) (omega arith)
+cells-drop n at cs ms = (drop-left n at cs ms).0
 
 pub left-parts : (n at : ℕ) (cs : List ℕ) (ms : List Tag) → left_at at cs ms
     ≡ left_at (at + n) (drop n cs) (left_at at (take n cs) ms)
-left-parts zero at cs ms = ap (λ k. left_at k cs ms) (omega arith)
-left-parts (suc n) at [] ms = refl
-left-parts (suc n) at (c ∷ cs) ms =
-    left-parts n (suc at) cs (beyond at ms)
-    ∙ ap (λ k. left_at k (drop n cs) (left_at (suc at) (take n cs) (beyond at ms))) (omega arith)
+left-parts n at cs ms = (drop-left n at cs ms).1
 
 -- ---- a row without its last spaces
 
@@ -91,7 +96,3 @@ plain_found row n d h k e =
 pub spelled-flat : (ms : List Tag) → concat (map tag_text ms) ≡ tags_spelled ms
 spelled-flat [] = refl
 spelled-flat (m ∷ ms) = ap (λ us. tag_text m ++ us) (spelled-flat ms)
-
--- the tags before a line feed
-pub feed-tags : (at : ℕ) (ms : List Tag) → tags_text (cells_at at (10 ∷ []) ms) ≡ concat (map tag_text (upto at ms))
-feed-tags at ms = append-nil (concat (map tag_text (upto at ms)))

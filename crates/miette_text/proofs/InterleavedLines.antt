@@ -16,7 +16,7 @@ use Rattle.miette_text.specs.steps.WholeText.{indent_text}
 use Rattle.miette_runs.specs.views.Interleaving.{beyond, cells_at, left_at, tag_text, tag_token, tags_spelled, upto}
 use Rattle.miette_runs.specs.views.Interleaving.{interleaving}
 use Rattle.miette_runs.specs.declared.runs.sign.Tag.{Tag}
-use Rattle.miette_runs.proofs.Appending.{appended, spell-append}
+use Rattle.miette_runs.proofs.Appending.{spell-append}
 use Rattle.miette_text.proofs.LineWise.{line-first, line-last, pieces-some}
 use Rattle.miette_text.proofs.Simple.{spell-indented, spell-last}
 use Rattle.miette_text.proofs.InterleavedCells.{spelled-flat}
@@ -199,10 +199,16 @@ end-at indent further s n cs line tags left e l is_line is_left =
 
 -- ---- what is printed, in parts
 
-pub three-pushed : (spells : List ℕ → List ℕ) → ((a b : List ℕ) → spells (a ++ b) ≡ spells a ++ spells b)
-    → (o p q r a b c : List ℕ) →
-    p ≡ o ++ spells a → q ≡ p ++ spells b → r ≡ q ++ spells c → r ≡ o ++ spells (a ++ (b ++ c))
-three-pushed spells joins o p q r a b c h k l =
-    l ∙ ap (λ us. us ++ spells c) (k ∙ ap (λ us. us ++ spells b) h)
-    ∙ appended spells joins (o ++ spells a) b c
-    ∙ appended spells joins o a (b ++ c)
+three-pushed : (o p q r a b c : List ℕ) → p ≡ o ++ a → q ≡ p ++ b → r ≡ q ++ c → r ≡ o ++ (a ++ (b ++ c))
+three-pushed o p q r a b c h k l =
+    l ∙ ap (λ us. us ++ c) (k ∙ ap (λ us. us ++ b) h) ∙ append_assoc (o ++ a) b c ∙ append_assoc o a (b ++ c)
+
+-- a line is printed: its indent, its characters with the signs before them, and signs at its end
+pub line-pushed : (b last : Bool) (indent short : List Token) (s : ℕ) (line : List ℕ) (ms rest : List Tag)
+    (o p q r : List ℕ) → b ≡ last → short ≡ trimmed_row indent →
+    p ≡ o ++ indent_text b (spell indent) (spell short) (plain_cells line) → q ≡ p ++ piece_text (cells_at s line ms)
+    → r ≡ q ++ tags_spelled rest → r ≡ o ++ line_text last indent s line ms rest
+line-pushed b last indent short s line ms rest o p q r e f h k l =
+    three-pushed o p q r (indent_text last (spell indent) (spell (trimmed_row indent)) (plain_cells line))
+    (piece_text (cells_at s line ms)) (tags_spelled rest)
+    (h ∙ ap₂ (λ v us. o ++ indent_text v (spell indent) us (plain_cells line)) e (ap spell f)) k l

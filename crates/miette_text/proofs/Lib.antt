@@ -20,6 +20,8 @@ pub mod FirstRow
 pub mod LineWise
 pub mod InterleavedCells
 pub mod InterleavedRows
+pub mod BareRows
+pub mod Filling
 pub mod InterleavedLines
 pub mod SingleRows
 pub mod Fitting

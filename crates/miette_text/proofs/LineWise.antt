@@ -276,7 +276,7 @@ pub line-at : (cuts : Cuts) (further : List ℕ) (room room' n at : ℕ) (cs : L
     < length cs →
     text_of cuts further room room' (interleaving at cs ms)
     ≡ (line_text cuts further room room' at (take n cs) ms
-    ++ concat (map tag_text (upto (at + n) (left_at at (take n cs) ms))))
+    ++ tags_spelled (upto (at + n) (left_at at (take n cs) ms)))
     ++ ((10 ∷ further) ++ text_of cuts further room' room'
     (interleaving ((at + n) + 1) (drop (n + 1) cs) (beyond (at + n) (left_at at (take n cs) ms))))
 line-at cuts further room room' n at cs ms e l =
@@ -290,8 +290,11 @@ line-at cuts further room room' n at cs ms e l =
     ∙ bare-append further (piece_lines cuts room room' p) (lines_from cuts room' room' (text_lines below))
     (piece-some cuts room room' p) (lines-some cuts room' room' (text_lines below) (pieces-some below))
     ∙ ap (λ us. us ++ ((10 ∷ further) ++ text_of cuts further room' room' below))
-    (piece-text cuts room room' at further (take n cs) ms (rest_of n at cs ms))
-    ∙ ap (λ k. (line_text cuts further room room' at (take n cs) ms ++ concat (rest_of n at cs ms))
+    (piece-text cuts room room' at further (take n cs) ms (rest_of n at cs ms)
+    ∙ ap (λ us. line_text cuts further room room' at (take n cs) ms ++ us)
+    (spelled-flat (upto (at + n) (left_at at (take n cs) ms))))
+    ∙ ap (λ k. (line_text cuts further room room' at (take n cs) ms
+    ++ tags_spelled (upto (at + n) (left_at at (take n cs) ms)))
     ++ ((10 ∷ further) ++ text_of cuts further room' room'
     (interleaving ((at + n) + 1) (drop k cs) (beyond (at + n) (left_at at (take n cs) ms))))) next
 

@@ -4,35 +4,40 @@ use Rattle.std.proofs.Common.{append_assoc, if◌then◌else◌}
 use Rattle.std.specs.List.{concat}
 use Rattle.miette_runs.specs.rules.Sequences.{Token, Character, Sequence, tokens, spell}
 use Rattle.miette_text.specs.rules.Wrapping.{Plan, TextLine, cell_tokens, text_line_tokens, indented_row, last_indented}
-use Rattle.miette_text.specs.rules.Wrapping.{all_white, trimmed_row, map_indents, wrapped_tokens, wrapped_text}
+use Rattle.miette_text.specs.rules.Wrapping.{all_white, filled_text, map_indents, text_lines, trimmed_row, whole_lines}
+use Rattle.miette_text.specs.rules.Wrapping.{wrapped_text, wrapped_tokens}
 use Rattle.miette_runs.specs.rules.Cells.{Cell, piece_text}
 use Rattle.miette_text.specs.steps.WholeText.{indent_text}
 use Rattle.miette_text.proofs.Joining.{spell-tags}
 use Rattle.miette_runs.proofs.Appending.{spell-append}
 
+-- a plan under other indents
+abbrev pub plan_under : Plan (List ℕ) → List Token → List Token → Plan (List Token)
+plan_under p first further = record {
+  room = p.room;
+  first = first;
+  further = further;
+  breaks = p.breaks;
+  wraps = p.wraps;
+  hyphens = p.hyphens;
+}
+
 -- What is wrapped under indents that are read is what is wrapped under their texts.
 pub wrapped-read : (p : Plan (List ℕ)) (first further ts : List Token) (text : List ℕ) → first ≡ tokens p.first
     → further ≡ tokens p.further → ts ≡ tokens text →
-    spell (wrapped_tokens (record {
-      room = p.room;
-      first = first;
-      further = further;
-      breaks = p.breaks;
-      wraps =
-          p.wraps;
-      hyphens = p.hyphens;
-    }) ts) ≡ wrapped_text p text
+    spell (wrapped_tokens (plan_under p first further) ts) ≡ wrapped_text p text
 wrapped-read p first further ts text e f g =
-    ap₂ (λ us vs. spell (wrapped_tokens (record {
-      room = p.room;
-      first = us;
-      further = vs;
-      breaks = p.breaks;
-      wraps =
-          p.wraps;
-      hyphens = p.hyphens;
-    }) ts)) e f
+    ap₂ (λ us vs. spell (wrapped_tokens (plan_under p us vs) ts)) e f
     ∙ ap (λ us. spell (wrapped_tokens (map_indents tokens p) us)) g
+
+pub wrapped-filled : (p : Plan (List Token)) (ts : List Token) → p.wraps ≡ true → filled_text p ts ≡ wrapped_tokens p ts
+wrapped-filled p ts h = ap (λ (v : Bool). if v then filled_text p ts
+    else whole_lines p.first p.further (text_lines ts)) (sym h)
+
+pub wrapped-whole : (p : Plan (List Token)) (ts : List Token) → p.wraps ≡ false → whole_lines p.first p.further
+    (text_lines ts) ≡ wrapped_tokens p ts
+wrapped-whole p ts h = ap (λ (v : Bool). if v then filled_text p ts
+    else whole_lines p.first p.further (text_lines ts)) (sym h)
 
 -- ---- without wrapping
 

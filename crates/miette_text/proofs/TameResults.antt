@@ -18,7 +18,9 @@ use Rattle.miette_text.specs.rules.Wrapping.{trimmed_row, row_tokens, with_rest,
 use Rattle.miette_text.specs.rules.Wrapping.{joined_rows, filled_text, all_white, text_line_tokens, indented_row}
 use Rattle.miette_text.specs.rules.Wrapping.{last_indented, whole_lines, wrapped_tokens}
 use Rattle.miette_runs.specs.rules.Cells.{Cell, width}
+use Rattle.miette_text.specs.laws.FilledRows.{all_words}
 use Rattle.miette_text.proofs.Parsing.{broken_stays}
+use Rattle.miette_text.proofs.RowEnds.{rows-hold}
 
 -- ---- states
 
@@ -45,19 +47,12 @@ freer Escaped t = elim t [ Escaped ↦ true | Broken ↦ true | _ ↦ false ]
 freer Opened t = elim t [ Opened ↦ true | Broken ↦ true | _ ↦ false ]
 freer Broken t = elim t [ Broken ↦ true | _ ↦ false ]
 
-freer_broken : (s : State) → freer s Broken ≡ true
-freer_broken Free = refl
-freer_broken Escaped = refl
-freer_broken Opened = refl
-freer_broken Waiting = refl
-freer_broken Broken = refl
-
-freer_same : (s : State) → freer s s ≡ true
-freer_same Free = refl
-freer_same Escaped = refl
-freer_same Opened = refl
-freer_same Waiting = refl
-freer_same Broken = refl
+freer_self : (s : State) → (freer s Broken ≡ true) × (freer s s ≡ true)
+freer_self Free = (refl, refl)
+freer_self Escaped = (refl, refl)
+freer_self Opened = (refl, refl)
+freer_self Waiting = (refl, refl)
+freer_self Broken = (refl, refl)
 
 freer_trans : (s t u : State) → freer s t ≡ true → freer t u ≡ true → freer s u ≡ true
 freer_trans Free t u h k = refl
@@ -83,32 +78,32 @@ freer_trans Broken Broken u h k = k
 freer_trans Broken _ u h k = cc
 
 freer-step : (s t : State) (k : Token) → freer s t ≡ true → freer (step s k) (step t k) ≡ true
-freer-step Free Free k h = freer_same (step Free k)
-freer-step Free Escaped (Sequence q) h = freer_broken (step Free (Sequence q))
+freer-step Free Free k h = (freer_self (step Free k)).1
+freer-step Free Escaped (Sequence q) h = (freer_self (step Free (Sequence q))).0
 freer-step Free Escaped (Character c) h = grind (arith, nat_tests)
-freer-step Free Opened (Sequence q) h = freer_broken (step Free (Sequence q))
+freer-step Free Opened (Sequence q) h = (freer_self (step Free (Sequence q))).0
 freer-step Free Opened (Character c) h = grind (arith, nat_tests)
 freer-step Free Waiting (Sequence q) h = grind (arith, nat_tests)
 freer-step Free Waiting (Character c) h = grind (arith, nat_tests)
-freer-step Free Broken (Sequence q) h = freer_broken (step Free (Sequence q))
-freer-step Free Broken (Character c) h = freer_broken (step Free (Character c))
+freer-step Free Broken (Sequence q) h = (freer_self (step Free (Sequence q))).0
+freer-step Free Broken (Character c) h = (freer_self (step Free (Character c))).0
 freer-step Waiting Free k h = cc
-freer-step Waiting Waiting k h = freer_same (step Waiting k)
-freer-step Waiting Escaped (Sequence q) h = freer_broken (step Waiting (Sequence q))
+freer-step Waiting Waiting k h = (freer_self (step Waiting k)).1
+freer-step Waiting Escaped (Sequence q) h = (freer_self (step Waiting (Sequence q))).0
 freer-step Waiting Escaped (Character c) h = grind (arith, nat_tests)
-freer-step Waiting Opened (Sequence q) h = freer_broken (step Waiting (Sequence q))
+freer-step Waiting Opened (Sequence q) h = (freer_self (step Waiting (Sequence q))).0
 freer-step Waiting Opened (Character c) h = grind (arith, nat_tests)
-freer-step Waiting Broken (Sequence q) h = freer_broken (step Waiting (Sequence q))
-freer-step Waiting Broken (Character c) h = freer_broken (step Waiting (Character c))
-freer-step Escaped Escaped k h = freer_same (step Escaped k)
+freer-step Waiting Broken (Sequence q) h = (freer_self (step Waiting (Sequence q))).0
+freer-step Waiting Broken (Character c) h = (freer_self (step Waiting (Character c))).0
+freer-step Escaped Escaped k h = (freer_self (step Escaped k)).1
 freer-step Escaped Broken (Sequence q) h = refl
-freer-step Escaped Broken (Character c) h = freer_broken (step Escaped (Character c))
+freer-step Escaped Broken (Character c) h = (freer_self (step Escaped (Character c))).0
 freer-step Escaped _ k h = cc
-freer-step Opened Opened k h = freer_same (step Opened k)
+freer-step Opened Opened k h = (freer_self (step Opened k)).1
 freer-step Opened Broken (Sequence q) h = refl
-freer-step Opened Broken (Character c) h = freer_broken (step Opened (Character c))
+freer-step Opened Broken (Character c) h = (freer_self (step Opened (Character c))).0
 freer-step Opened _ k h = cc
-freer-step Broken Broken k h = freer_same (step Broken k)
+freer-step Broken Broken k h = (freer_self (step Broken k)).1
 freer-step Broken _ k h = cc
 
 pub freer-run : (s t : State) (ts : List Token) → freer s t ≡ true → freer (state_behind s ts) (state_behind t ts)
@@ -444,24 +439,6 @@ all_parts-flat cuts (w ∷ ws) = flat_map-append word_cells (parts cuts w) (flat
 pub cut_words-flat : (cuts : Cuts) (cs : List Cell) → flat_map word_cells (cut_words cuts cs) ≡ cs
 cut_words-flat cuts cs = all_parts-flat cuts (words cs) ∙ words-flat cs
 
-rows_behind-flat : (used room further : ℕ) (ws : List Word) → flat (rows_behind used room further ws) ≡ ws
-rows_behind-flat used room further [] = refl
-rows_behind-flat used room further (w ∷ ws) =
-    elim (nat_lt room (used + columns w.letters)) as (λ b. flat
-    (if b then [] ∷ onto w (rows_behind (columns (word_cells w)) further further ws)
-    else onto w (rows_behind (used + columns (word_cells w)) room further ws)) ≡ w ∷ ws) [
-      | true ↦ flat-onto w (rows_behind (columns (word_cells w)) further further ws)
-          ∙ ap (λ xs. w ∷ xs) (rows_behind-flat (columns (word_cells w)) further further ws)
-      | false ↦ flat-onto w (rows_behind (used + columns (word_cells w)) room further ws)
-          ∙ ap (λ xs. w ∷ xs) (rows_behind-flat (used + columns (word_cells w)) room further ws)
-    ]
-
--- The rows hold the words in order.
-pub rows-flat : (room further : ℕ) (ws : List Word) → flat (rows room further ws) ≡ ws
-rows-flat room further [] = refl
-rows-flat room further (w ∷ ws) = flat-onto w (rows_behind (columns (word_cells w)) room further ws)
-    ∙ ap (λ xs. w ∷ xs) (rows_behind-flat (columns (word_cells w)) room further ws)
-
 rows_some : (room further : ℕ) (ws : List Word) → is_nil (rows room further ws) ≡ false
 rows_some room further [] = refl
 rows_some room further (w ∷ ws) = onto_some w (rows_behind (columns (word_cells w)) room further ws)
@@ -514,10 +491,15 @@ rows-ends s e rest (r ∷ q ∷ rs) n a h =
       )
     ] f
 
+flat-words : (rs : List (List Word)) → flat rs ≡ all_words rs
+flat-words [] = refl
+flat-words (r ∷ rs) = ap (λ ws. r ++ ws) (flat-words rs)
+
 cells-raw : (cuts : Cuts) (room further : ℕ) (p : TextLine) → raw (flat (rows room further (cut_words cuts p.cells)))
     ++ map Sequence p.rest ≡ text_line_tokens p
 cells-raw cuts room further p =
-    ap (λ ws. raw ws ++ map Sequence p.rest) (rows-flat room further (cut_words cuts p.cells))
+    ap (λ ws. raw ws ++ map Sequence p.rest) (flat-words (rows room further (cut_words cuts p.cells))
+    ∙ rows-hold room further (cut_words cuts p.cells))
     ∙ ap (λ cs. flat_map cell_tokens cs ++ map Sequence p.rest) (cut_words-flat cuts p.cells)
 
 piece_rows-ends : (cuts : Cuts) (room further : ℕ) (s : State) (p : TextLine)

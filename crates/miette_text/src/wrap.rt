@@ -96,8 +96,8 @@ pub struct Plan<'a> {
 }
 
 fn push_filled_under<S: Sink>(out: &mut S, plan: Plan<'_>, text: &Runs) -> Result<(), AllocError>
-    ensures { OnOk result (S.holds out.new ≡ S.holds out.old
-        ++ S.spells (spell (filled_text (runs_plan plan.entry) text.now))) }
+    ensures { OnOk result (S.written out.new ≡ S.written out.old
+        ++ spell (filled_text (runs_plan plan.entry) text.now)) }
 {
     let first = plan.first.parts();
     let further = plan.further.parts();
@@ -123,8 +123,8 @@ fn push_filled_under<S: Sink>(out: &mut S, plan: Plan<'_>, text: &Runs) -> Resul
 
 // Runs, wrapped, each sign as it is.
 fn push_wrapped<S: Sink>(out: &mut S, plan: Plan<'_>, text: &Runs) -> Result<(), AllocError>
-    ensures { OnOk result (S.holds out.new ≡ S.holds out.old
-        ++ S.spells (spell (wrapped_tokens (runs_plan plan.entry) text.now))) }
+    ensures { OnOk result (S.written out.new ≡ S.written out.old
+        ++ spell (wrapped_tokens (runs_plan plan.entry) text.now)) }
 {
     if plan.wraps {
         push_filled_under(out, plan, text)?;

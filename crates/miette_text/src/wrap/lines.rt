@@ -41,10 +41,10 @@ pub(crate) fn bare_len(row: &[char]) -> usize
 
 // A line feed and the indent below it.
 fn push_break<S: Sink>(out: &mut S, further: RunsSlice<'_>) -> Result<(), AllocError>
-    ensures { OnOk result (S.holds out.new ≡ S.holds out.old
-        ++ S.spells (10 ∷ spell (interleaving 0 further.entry.codes.now further.entry.tags.now))) }
+    ensures { OnOk result (S.written out.new ≡ S.written out.old
+        ++ 10 ∷ spell (interleaving 0 further.entry.codes.now further.entry.tags.now)) }
 {
-    out.push_codes(&['\n'])?;
+    out.push('\n')?;
     push_all(out, further)?;
     Ok(())
 }
@@ -52,8 +52,8 @@ fn push_break<S: Sink>(out: &mut S, further: RunsSlice<'_>) -> Result<(), AllocE
 // A row, from a place in the text up to the end of what is given, without its last spaces. How many tags are used.
 fn push_row<S: Sink>(out: &mut S, start: usize, row: RunsSlice<'_>) -> Result<usize, AllocError>
     requires { start ≤ length row.codes.now }
-    ensures text { OnOk result (S.holds out.new ≡ S.holds out.old ++ S.spells (spell (trimmed_row
-        (flat_map cell_tokens (cells_at start (drop start row.entry.codes.now) row.entry.tags.now))))) }
+    ensures text { OnOk result (S.written out.new ≡ S.written out.old ++ spell (trimmed_row
+        (flat_map cell_tokens (cells_at start (drop start row.entry.codes.now) row.entry.tags.now)))) }
     ensures left { IfOk result (λ n. drop n row.entry.tags.now
         ≡ left_at start (drop start row.entry.codes.now) row.entry.tags.now) }
     ensures within { IfOk result (λ n. n ≤ length row.entry.tags.now) }
@@ -61,7 +61,10 @@ fn push_row<S: Sink>(out: &mut S, start: usize, row: RunsSlice<'_>) -> Result<us
     let codes = &row.codes[start..];
     let bare = bare_len(codes);
     let used = push_cells(out, start, &codes[..bare], row.tags)?;
-    let dropped = push_signs(out, start + bare, &codes[bare..], &row.tags[used..])?;
+    if bare == codes.len() {
+        return Ok(used);
+    }
+    let dropped = push_signs(out, row.codes.len() - 1, &row.tags[used..])?;
     Ok(used + dropped)
 }
 
@@ -74,10 +77,10 @@ fn push_rows<S: Sink>(
     line: RunsSlice<'_>,
 ) -> Result<usize, AllocError>
     requires { first ≤ length line.codes.now }
-    ensures text { OnOk result (S.holds out.new ≡ S.holds out.old ++ S.spells (spell (joined_rows []
+    ensures text { OnOk result (S.written out.new ≡ S.written out.old ++ spell (joined_rows []
         (interleaving 0 under.entry.further.codes.now under.entry.further.tags.now)
         (text_line_rows cuts under.entry.room under.entry.further_room
-        (record { cells = cells_at first (drop first line.entry.codes.now) line.entry.tags.now; rest = [] }))))) }
+        (record { cells = cells_at first (drop first line.entry.codes.now) line.entry.tags.now; rest = [] })))) }
     ensures left { IfOk result (λ n. drop n line.entry.tags.now
         ≡ left_at first (drop first line.entry.codes.now) line.entry.tags.now) }
     ensures within { IfOk result (λ n. n ≤ length line.entry.tags.now) }
@@ -127,10 +130,10 @@ pub(crate) fn push_filled<S: Sink>(
     under: Under<'_>,
     text: RunsSlice<'_>,
 ) -> Result<(), AllocError>
-    ensures { OnOk result (S.holds out.new ≡ S.holds out.old ++ S.spells (spell (joined_rows []
+    ensures { OnOk result (S.written out.new ≡ S.written out.old ++ spell (joined_rows []
         (interleaving 0 under.entry.further.codes.now under.entry.further.tags.now)
         (text_rows cuts under.entry.room under.entry.further_room
-        (text_lines (interleaving 0 text.entry.codes.now text.entry.tags.now)))))) }
+        (text_lines (interleaving 0 text.entry.codes.now text.entry.tags.now))))) }
 {
     let mut start: usize = 0;
     let mut used: usize = 0;
@@ -149,7 +152,7 @@ pub(crate) fn push_filled<S: Sink>(
             push_tags(out, &text.tags[used..])?;
             return Ok(());
         }
-        let behind = push_signs(out, end, &['\n'], &text.tags[used..])?;
+        let behind = push_signs(out, end, &text.tags[used..])?;
         used += behind;
         push_break(out, under.further)?;
         start = end + 1;

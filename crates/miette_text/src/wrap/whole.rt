@@ -9,9 +9,8 @@ ghost use Rattle.miette_text.specs.rules.Wrapping.{all_white, text_lines, trimme
 
 use crate::wrap::lines::{bare_len, line_len};
 use miette_runs::runs::RunsSlice;
-use miette_runs::runs::cells::{push_all, push_cells, push_tags};
+use miette_runs::runs::cells::{push_all, push_cells, push_signs, push_tags};
 use miette_runs::runs::sink::Sink;
-use miette_runs::runs::tags::upto_len;
 use std::alloc::AllocError;
 
 // An indent without its last spaces; its signs stay.
@@ -45,9 +44,9 @@ fn push_indent<S: Sink>(
     short: RunsSlice<'_>,
     line: &[char],
 ) -> Result<(), AllocError>
-    ensures { OnOk result (S.holds out.new ≡ S.holds out.old
-        ++ S.spells (indent_text last (spell (interleaving 0 indent.entry.codes.now indent.entry.tags.now))
-        (spell (interleaving 0 short.entry.codes.now short.entry.tags.now)) (plain_cells line.now))) }
+    ensures { OnOk result (S.written out.new ≡ S.written out.old
+        ++ indent_text last (spell (interleaving 0 indent.entry.codes.now indent.entry.tags.now))
+        (spell (interleaving 0 short.entry.codes.now short.entry.tags.now)) (plain_cells line.now)) }
 {
     if last && line.is_empty() {
         return Ok(());
@@ -67,10 +66,10 @@ pub(crate) fn push_whole<S: Sink>(
     further: RunsSlice<'_>,
     text: RunsSlice<'_>,
 ) -> Result<(), AllocError>
-    ensures { OnOk result (S.holds out.new ≡ S.holds out.old
-        ++ S.spells (spell (whole_lines (interleaving 0 first.entry.codes.now first.entry.tags.now)
+    ensures { OnOk result (S.written out.new ≡ S.written out.old
+        ++ spell (whole_lines (interleaving 0 first.entry.codes.now first.entry.tags.now)
         (interleaving 0 further.entry.codes.now further.entry.tags.now)
-        (text_lines (interleaving 0 text.entry.codes.now text.entry.tags.now))))) }
+        (text_lines (interleaving 0 text.entry.codes.now text.entry.tags.now)))) }
 {
     let further_short = trim_end(further);
     let mut indent = first;
@@ -88,9 +87,8 @@ pub(crate) fn push_whole<S: Sink>(
             push_tags(out, left)?;
             return Ok(());
         }
-        let (before, behind) = left.split_at(upto_len(end, left));
-        push_tags(out, before)?;
-        out.push_codes(&['\n'])?;
+        let (_, behind) = left.split_at(push_signs(out, end, left)?);
+        out.push('\n')?;
         tags = behind;
         start = end + 1;
         indent = further;

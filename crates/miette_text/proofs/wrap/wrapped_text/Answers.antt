@@ -1,6 +1,6 @@
-use Rattle.std.proofs.Common.{◌≡◌, ◌∙◌, ◌++◌, ap, ap₂, chars, encode_utf8_all, string_bytes}
-use Rattle.miette_runs.specs.rules.Sequences.{spell}
-use Rattle.miette_text.specs.rules.Wrapping.{wrapped_tokens}
+use Rattle.std.proofs.Common.{◌∙◌, ◌++◌, Bool, List, ℕ, ap, chars, string_bytes}
+use Rattle.miette_runs.proofs.Outputs.{printed-bytes}
+use Rattle.miette_text.specs.rules.Wrapping.{Plan, wrapped_text}
 use Rattle.miette_text.specs.views.Plans.{options_plan}
 use Rattle.miette_text.proofs.Simple.{wrapped-read}
 use Rattle.miette_text.proofs.wrap.wrapped_text.Goals as goal
@@ -8,23 +8,18 @@ use Rattle.miette_text.proofs.wrap.wrapped_text.Goals as goal
 pub returns : goal.returns
 returns c =
     let p = options_plan c.args.options.now in
-    let f = c.in_ok-first.first in
-    let f' = c.in_ok-further.further in
-    let t = c.in_ok-read.read in
-    let e : string_bytes c.push_wrapped.new.out ≡ string_bytes c.in_ok-out.out
-    ++ encode_utf8_all (spell (wrapped_tokens (record {
+    let text = chars c.args.text.now in
+    let plan : Bool → Plan (List ℕ) = λ v. record {
       room = p.room;
-      first = f;
-      further = f';
-      breaks =
-          p.breaks;
+      first = p.first;
+      further = p.further;
+      breaks = p.breaks;
       wraps = p.wraps;
-      hyphens = c.cuts_hyphens-hyphens.result;
-    }) t)) = c.in_ok-push_wrapped.ensures
-    in
-    e
-    ∙ ap₂ (λ us v. us ++ encode_utf8_all (spell (wrapped_tokens
-    (record { room = p.room; first = f; further = f'; breaks = p.breaks; wraps = p.wraps; hyphens = v }) t)))
-    c.in_ok-out.ensures.bytes c.cuts_hyphens-hyphens.ensures
-    ∙ ap encode_utf8_all (wrapped-read p f f' t (chars c.args.text.now) c.in_ok-first.ensures.tokens
-    c.in_ok-further.ensures.tokens c.in_ok-read.ensures.tokens)
+      hyphens = v;
+    } in
+    printed-bytes c.in_ok-out.out c.push_wrapped.new.out (wrapped_text p text) c.in_ok-out.ensures.bytes
+    (c.in_ok-push_wrapped.ensures
+    ∙ ap (λ us. chars (string_bytes c.in_ok-out.out) ++ us)
+    (wrapped-read (plan c.cuts_hyphens-hyphens.result) c.in_ok-first.first c.in_ok-further.further c.in_ok-read.read text
+    c.in_ok-first.ensures.tokens c.in_ok-further.ensures.tokens c.in_ok-read.ensures.tokens
+    ∙ ap (λ v. wrapped_text (plan v) text) c.cuts_hyphens-hyphens.ensures))

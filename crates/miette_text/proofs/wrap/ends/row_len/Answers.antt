@@ -1,10 +1,11 @@
 use Rattle.std.proofs.Common.{◌≡◌, ◌∙◌, ◌+◌, ◌<◌, ◌≤◌, ◌&&◌, nat_lt, true, false, length, length-drop, take, drop}
-use Rattle.std.proofs.Common.{drop-drop, sym, ap, arith}
+use Rattle.std.proofs.Common.{sym, ap, arith}
 use Rattle.std.proofs.lemmas.Bool.Decides.{nat_tests}
 use Rattle.std.proofs.lemmas.List.{take_rest}
 use Rattle.miette_text.specs.steps.Ends.{code_behind, gap_len, part_len}
 use Rattle.miette_runs.specs.steps.Cells.{code_columns}
-use Rattle.miette_text.proofs.FirstRow.{behind-last, row-ends, row-fits, row-starts, row-whole, step-some}
+use Rattle.miette_text.proofs.FirstRow.{behind-last, columns-here, gap-here, part-here, row-ends}
+use Rattle.miette_text.proofs.FirstRow.{row-fits, row-starts, row-whole, step-here, step-some}
 use Rattle.miette_text.proofs.Parting.{behind-add}
 use Rattle.miette_text.proofs.wrap.ends.row_len.Goals as goal
 use Rattle.miette_text.proofs.wrap.ends.row_len.Goals.{else-end-gt0-via-then-end-gt0+else-room-wide}
@@ -25,42 +26,28 @@ returns-then-room-wide-clause-value c = λ cells further e.
     let n = c.in_ok-part.part.len in
     let m = c.gap_len-spaces.result in
     let u = c.args.cuts in
-    let p : n ≡ part_len u c.rest.before 0 (drop s cs) = c.in_ok-part.ensures.len
-    ∙ ap (part_len u c.rest.before 0) (take_rest cs s) in
-    let q : m ≡ gap_len (drop n (drop s cs)) = c.gap_len-spaces.ensures.value
-    ∙ ap gap_len (take_rest cs (s + n) ∙ sym (drop-drop n s cs)) in
-    let w : c.in_ok-wide.wide ≡ c.rest.used + code_columns (take n (drop s cs)) = c.in_ok-wide.ensures
-    ∙ ap (λ k. c.rest.used + k) (c.in_ok-part.ensures.columns ∙ ap (λ xs. code_columns (take n xs)) (take_rest cs s))
-    in
+    let p : n ≡ part_len u c.rest.before 0 (drop s cs) = part-here u c.rest.before s n cs c.in_ok-part.ensures.len in
+    let q : m ≡ gap_len (drop n (drop s cs)) = gap-here s n m cs c.gap_len-spaces.ensures.value in
+    let w : c.in_ok-wide.wide ≡ c.rest.used + code_columns (take n (drop s cs)) =
+    columns-here s n c.rest.used c.in_ok-part.part.columns c.in_ok-wide.wide cs c.in_ok-part.ensures.columns
+    c.in_ok-wide.ensures in
     let t : (nat_lt 0 s && nat_lt c.args.room c.in_ok-wide.wide) ≡ true = grind (arith, nat_tests) in
     row-ends u c.args.room further c.args.first c.rest.before s n m c.rest.used c.in_ok-wide.wide cells cs e
     c.rest-test.true p q w t c.rest.invariant.behind (c.rest.invariant.packed cells further e)
 
 pub overflow_sub-before : goal.overflow_sub-before
 overflow_sub-before c =
-    let cs = c.args.codes.now in
-    let s = c.rest.end in
-    let n = c.in_ok-part.part.len in
-    let u = c.args.cuts in
-    let p : n ≡ part_len u c.rest.before 0 (drop s cs) = c.in_ok-part.ensures.len
-    ∙ ap (part_len u c.rest.before 0) (take_rest cs s) in
-    let q : c.gap_len-spaces.result ≡ gap_len (drop n (drop s cs)) = c.gap_len-spaces.ensures.value
-    ∙ ap gap_len (take_rest cs (s + n) ∙ sym (drop-drop n s cs)) in
-    omega (arith, step-some u c.rest.before s n c.gap_len-spaces.result cs c.rest-test.true p q)
+    let some : 0 < c.in_ok-part.part.len + c.gap_len-spaces.result = step-here c.args.cuts c.rest.before c.rest.end
+    c.in_ok-part.part.len c.gap_len-spaces.result c.args.codes.now c.rest-test.true c.in_ok-part.ensures.len
+    c.gap_len-spaces.ensures.value in
+    omega arith
 
 pub rest-smaller : goal.rest-smaller
 rest-smaller c =
-    let cs = c.args.codes.now in
-    let s = c.rest.end in
-    let n = c.in_ok-part.part.len in
-    let u = c.args.cuts in
-    let p : n ≡ part_len u c.rest.before 0 (drop s cs) = c.in_ok-part.ensures.len
-    ∙ ap (part_len u c.rest.before 0) (take_rest cs s) in
-    let q : c.gap_len-spaces.result ≡ gap_len (drop n (drop s cs)) = c.gap_len-spaces.ensures.value
-    ∙ ap gap_len (take_rest cs (s + n) ∙ sym (drop-drop n s cs)) in
-    let some : 0 < n + c.gap_len-spaces.result = step-some u c.rest.before s n c.gap_len-spaces.result cs
-    c.rest-test.true p q in
-    let lt : s < length cs = c.rest-test.true in
+    let some : 0 < c.in_ok-part.part.len + c.gap_len-spaces.result = step-here c.args.cuts c.rest.before c.rest.end
+    c.in_ok-part.part.len c.gap_len-spaces.result c.args.codes.now c.rest-test.true c.in_ok-part.ensures.len
+    c.gap_len-spaces.ensures.value in
+    let lt : c.rest.end < length c.args.codes.now = c.rest-test.true in
     omega arith
 
 pub rest-preserved : goal.rest-preserved
@@ -70,13 +57,11 @@ rest-preserved c =
     let n = c.in_ok-part.part.len in
     let m = c.gap_len-spaces.result in
     let u = c.args.cuts in
-    let p : n ≡ part_len u c.rest.before 0 (drop s cs) = c.in_ok-part.ensures.len
-    ∙ ap (part_len u c.rest.before 0) (take_rest cs s) in
-    let q : m ≡ gap_len (drop n (drop s cs)) = c.gap_len-spaces.ensures.value
-    ∙ ap gap_len (take_rest cs (s + n) ∙ sym (drop-drop n s cs)) in
-    let w : c.in_ok-wide.wide ≡ c.rest.used + code_columns (take n (drop s cs)) = c.in_ok-wide.ensures
-    ∙ ap (λ k. c.rest.used + k) (c.in_ok-part.ensures.columns ∙ ap (λ xs. code_columns (take n xs)) (take_rest cs s))
-    in
+    let p : n ≡ part_len u c.rest.before 0 (drop s cs) = part-here u c.rest.before s n cs c.in_ok-part.ensures.len in
+    let q : m ≡ gap_len (drop n (drop s cs)) = gap-here s n m cs c.gap_len-spaces.ensures.value in
+    let w : c.in_ok-wide.wide ≡ c.rest.used + code_columns (take n (drop s cs)) =
+    columns-here s n c.rest.used c.in_ok-part.part.columns c.in_ok-wide.wide cs c.in_ok-part.ensures.columns
+    c.in_ok-wide.ensures in
     let t : (nat_lt 0 s && nat_lt c.args.room c.in_ok-wide.wide) ≡ false =
     elim c.else-end-gt0.branch [
       | else-end-gt0-via-then-end-gt0+else-room-wide w ↦

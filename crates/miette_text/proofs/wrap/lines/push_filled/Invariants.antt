@@ -6,12 +6,12 @@ use Rattle.miette_text.proofs.wrap.lines.push_filled.Given as goal
 
 abbrev pub invariant-rest : goal.invariant-rest
 invariant-rest g l = record {
-  printed : g.S.Sink.holds l.out ++ g.S.Sink.spells (text_of l.cuts
+  printed : g.S.Canvas.written l.out ++ text_of l.cuts
       (spell (interleaving 0 l.under.further.codes.now l.under.further.tags.now)) l.room l.under.further_room
-      (interleaving l.start (drop l.start l.text.codes.now) (drop l.used l.text.tags.now)))
-      ≡ g.S.Sink.holds l.fn.out ++ g.S.Sink.spells (text_of l.cuts
+      (interleaving l.start (drop l.start l.text.codes.now) (drop l.used l.text.tags.now))
+      ≡ g.S.Canvas.written l.fn.out ++ text_of l.cuts
       (spell (interleaving 0 l.under.further.codes.now l.under.further.tags.now)) l.under.room l.under.further_room
-      (interleaving 0 l.text.codes.now l.text.tags.now));
+      (interleaving 0 l.text.codes.now l.text.tags.now);
   within : l.start ≤ length l.text.codes.now;
   marked : l.used ≤ length l.text.tags.now;
 }

@@ -6,12 +6,12 @@ use Rattle.miette_text.proofs.wrap.lines.push_rows.Given as goal
 
 abbrev pub invariant-rest : goal.invariant-rest
 invariant-rest g l = record {
-  printed : g.S.Sink.holds l.out ++ g.S.Sink.spells (rows_text l.cuts
+  printed : g.S.Canvas.written l.out ++ rows_text l.cuts
       (spell (interleaving 0 l.under.further.codes.now l.under.further.tags.now)) l.before l.room l.under.further_room
-      l.start (drop l.start l.line.codes.now) (drop l.used l.line.tags.now))
-      ≡ g.S.Sink.holds l.fn.out ++ g.S.Sink.spells (rows_text l.cuts
+      l.start (drop l.start l.line.codes.now) (drop l.used l.line.tags.now)
+      ≡ g.S.Canvas.written l.fn.out ++ rows_text l.cuts
       (spell (interleaving 0 l.under.further.codes.now l.under.further.tags.now)) 0 l.under.room
-      l.under.further_room l.first (drop l.first l.line.codes.now) l.line.tags.now);
+      l.under.further_room l.first (drop l.first l.line.codes.now) l.line.tags.now;
   left : left_at l.start (drop l.start l.line.codes.now) (drop l.used l.line.tags.now)
       ≡ left_at l.first (drop l.first l.line.codes.now) l.line.tags.now;
   within : l.start ≤ length l.line.codes.now;

@@ -6,9 +6,9 @@ use Rattle.miette_text.proofs.wrap.whole.push_whole.Given as goal
 
 abbrev pub invariant-rest : goal.invariant-rest
 invariant-rest g l = record {
-  printed : g.S.Sink.holds l.out ++ g.S.Sink.spells (whole_at (interleaving 0 l.indent.codes.now l.indent.tags.now)
+  printed : g.S.Canvas.written l.out ++ (whole_at (interleaving 0 l.indent.codes.now l.indent.tags.now)
       (interleaving 0 l.further.codes.now l.further.tags.now) l.start (drop l.start l.text.codes.now) l.tags)
-      ≡ g.S.Sink.holds l.fn.out ++ g.S.Sink.spells (whole_at (interleaving 0 l.first.codes.now l.first.tags.now)
+      ≡ g.S.Canvas.written l.fn.out ++ (whole_at (interleaving 0 l.first.codes.now l.first.tags.now)
       (interleaving 0 l.further.codes.now l.further.tags.now) 0 l.text.codes.now l.text.tags.now);
   short : interleaving 0 l.short.codes.now l.short.tags.now
       ≡ trimmed_row (interleaving 0 l.indent.codes.now l.indent.tags.now);
