@@ -14,7 +14,7 @@ use Rattle.miette_columns.specs.rules.Columns.{begun_text, is_boundary, widths, 
 use Rattle.miette_columns.specs.declared.places.PartingPlace.{PartingPlace}
 use Rattle.miette_columns.specs.steps.Places.{overlap_text, twice, column_behind}
 
--- a character of a text that begins after so many bytes, and takes so many
+-- a character of a text: how many bytes stand before it, and how many it takes
 pub record IsNext (text : List ℕ) (bytes code size : ℕ) : Type 0 where
   pub first : IsFirst (drop bytes text) (drop size (drop bytes text)) code size
   pub some : 0 < size

@@ -45,9 +45,9 @@ pub first_range : (range : Range) (more : List Range) (c : ℕ) → in_ranges (r
 unfolding in_ranges
 first_range range more c h = or_parts (is_in_range range.0 range.1 c) (in_ranges more c) h
 
--- ---- what is joined only behind a modifier, an alef, indicators, or a joined emoji
+-- ---- what is joined only where a modifier, an alef, indicators, or a joined emoji follow
 
--- the characters, and the letters of Tifinagh and Lisu with the digits and letters of tags, that are joined elsewhere
+-- what is joined elsewhere: these characters, and below letters of Tifinagh and Lisu, digits and letters of tags
 abbrev pub joined_ones : List Range
 joined_ones = (0x5D0, 0x5D0) ∷ (0x17D2, 0x17D2) ∷ (0x1A15, 0x1A15) ∷ (0x1A17, 0x1A17) ∷ (0x200D, 0x200D)
     ∷ (0x2D6F, 0x2D6F) ∷ (0x2D7F, 0x2D7F) ∷ (0x10C32, 0x10C32) ∷ (0x16D63, 0x16D63) ∷ (0x16D67, 0x16D69)
@@ -56,7 +56,7 @@ joined_ones = (0x5D0, 0x5D0) ∷ (0x17D2, 0x17D2) ∷ (0x1A15, 0x1A15) ∷ (0x1A
 abbrev pub joined_ranges : List Range
 joined_ranges = (0x2D31, 0x2D65) ∷ (0xA4F8, 0xA4FB) ∷ (0xE0030, 0xE0039) ∷ (0xE0061, 0xE007A) ∷ []
 
--- what holds behind each of those, and where nothing is joined
+-- what holds where each of those follows, and where nothing is joined
 pub record HoldsOfFew (P : After → Option (Change × After) → Type 0) (c : ℕ) : Type 0 where
   pub none : (after : After) → P after None
   pub modifier : P afters.EmojiModifier (joins false afters.EmojiModifier c)

@@ -39,7 +39,7 @@ impl<'a> Model for TextColumns<'a> {
         × (All (IsPlace it.text.now) it.places.items × All (IsTrail it.text.now) it.trails.items) };
 }
 
-// For so many columns, or fewer, a pass over the text to find places would take longer than the walks.
+// For this number of columns, or fewer, a pass over the text to find places would take longer than the walks.
 const FEW: usize = 2;
 
 impl<'a> TextColumns<'a> {
