@@ -12,7 +12,7 @@ use miette_protocol::source::MietteSpanContents;
 use miette_style::style::Style;
 use std::alloc::{AllocError, Global};
 
-/// Styles what its rules find. At the start of a line, and behind each piece, the first rule that finds something
+/// Styles what its rules find. At the start of a line, and after each piece, the first rule that finds something
 /// there decides; where none does, the word there is plain, or the one character. What a rule finds is at least one
 /// character.
 #[derive(Clone, Debug, Drop)]

@@ -13,7 +13,7 @@ pub struct Delimiters {
     pub opens: String,
     /// What it ends with; a part that never ends goes on to the end of its line.
     pub closes: String,
-    /// A byte, as a backslash, behind which no delimiter is one.
+    /// A byte, as a backslash, after which no delimiter is one.
     pub escape: Option<u8>,
     /// Whether a part that has no end on its line goes on in the next one.
     pub over_lines: bool,
@@ -36,7 +36,7 @@ impl Delimiters {
         })
     }
 
-    /// These delimiters, with a byte behind which no delimiter is one.
+    /// These delimiters, with a byte after which no delimiter is one.
     pub fn escaped_by(self, escape: u8) -> Self
         ensures { result ≡ record self { escape = Some escape } }
     {

@@ -61,7 +61,7 @@ impl PatternHighlighter {
 struct DelimitedPart {
     opens: &'static str,
     closes: &'static str,
-    /// Whether a backslash takes its meaning from the character behind it.
+    /// Whether a backslash takes its meaning from the character after it.
     escapes: bool,
     /// Whether it may go on over lines.
     goes_on: bool,

@@ -109,8 +109,8 @@ fn close_end(delimiters: &Delimiters, start: usize, text: &[u8]) -> Option<usize
     None
 }
 
-// Where what lies behind an opening delimiter ends, the text beginning at a place, and whether it stays open.
-fn inside(delimiters: &Delimiters, start: usize, text: &[u8]) -> (usize, bool)
+// Where what lies after an opening delimiter ends, the text beginning at a place, and whether it stays open.
+fn part_end(delimiters: &Delimiters, start: usize, text: &[u8]) -> (usize, bool)
     requires { start + length text.now < 2 ^ 64 }
     ensures { result ≡ inside delimiters.now start text.now }
 {
@@ -130,7 +130,7 @@ fn match_of(pattern: &Pattern, text: &[u8]) -> Option<(usize, bool)>
         Pattern::From(first, last) if begins_within(*first, *last, text) => Some((word, false)),
         Pattern::Between(delimiters) if text.starts_with(delimiters.opens.as_bytes()) => {
             let start = delimiters.opens.as_bytes().len();
-            Some(inside(delimiters, start, &text[start..]))
+            Some(part_end(delimiters, start, &text[start..]))
         }
         _ => None,
     }
@@ -164,13 +164,17 @@ fn first_match(rules: &[Rule], text: &[u8]) -> Option<Token>
 }
 
 // The rest of what the open rule found before.
-fn running(rules: &[Rule], left_open: Option<usize>, text: &[u8]) -> Option<Token>
+fn running_token(rules: &[Rule], left_open: Option<usize>, text: &[u8]) -> Option<Token>
     ensures { result ≡ running_token rules.now left_open text.now }
 {
     let at = left_open?;
     let rule = rules.get(at)?;
     match &rule.pattern {
-        Pattern::Between(delimiters) => Some(token_of(at, rule.style, inside(delimiters, 0, text))),
+        Pattern::Between(delimiters) => Some(token_of(
+            at,
+            rule.style,
+            part_end(delimiters, 0, text),
+        )),
         _ => None,
     }
 }
@@ -180,7 +184,7 @@ fn running(rules: &[Rule], left_open: Option<usize>, text: &[u8]) -> Option<Toke
 fn token_at(rules: &[Rule], left_open: Option<usize>, text: &[u8]) -> Token
     ensures { result ≡ token_at rules.now left_open text.now }
 {
-    if let Some(token) = running(rules, left_open, text) {
+    if let Some(token) = running_token(rules, left_open, text) {
         return token;
     }
     match first_match(rules, text) {
@@ -193,7 +197,7 @@ fn token_at(rules: &[Rule], left_open: Option<usize>, text: &[u8]) -> Token
     }
 }
 
-// The piece at the start of a text, the rule that it leaves open, and the text behind it.
+// The piece at the start of a text, the rule that it leaves open, and the text after it.
 fn step<'a>(
     rules: &[Rule],
     left_open: Option<usize>,
