@@ -7,7 +7,6 @@ use Rattle.std.proofs.lemmas.Bool.{lt-ltb, le-ltb}
 use Rattle.std.proofs.lemmas.List.{at_drop_more, at_drop_all}
 use Rattle.std.specs.List.{All, AllByRecursion, list_any}
 use Rattle.std.proofs.lemmas.List.Elements.{All-from_recursion, recursion_from_All}
-use Rattle.miette_protocol.specs.views.Meaning.{Label}
 use Rattle.miette_cells.specs.rules.Cells.{Cell}
 use Rattle.miette_basics.proofs.Cases.{by_cases}
 use Rattle.miette_snippet_rules.specs.rules.Marks.{Mark, HasAnchor}
@@ -170,13 +169,13 @@ column-measured (s ∷ later) column =
     ap (λ n. cond (ltb column (columns_in s.cells)) (cond (is_kept (measure s)) column 0)
     (kept_columns (measure s) + n)) (column-measured later (column - columns_in s.cells))
 
-mark-measured : (ls : List Label) (ss : List Stretch) (m : MadeMark) → mark_of ls (made_mark (map measure ss) m)
-    ≡ row_mark ss (mark_of ls m)
-mark-measured ls ss m =
+mark-measured : (ss : List Stretch) (m : MadeMark) → mark_of (made_mark (map measure ss) m)
+    ≡ row_mark ss (mark_of m)
+mark-measured ss m =
     let f = sym (column-measured ss m.from) in
     let u = sym (column-measured ss (m.until - 1)) in
     let a = sym (column-measured ss m.anchor) in
-    let whole : Mark = mark_of ls m in
+    let whole : Mark = mark_of m in
     ap (λ n. record whole {
       from = n;
       until = made_column (map measure ss) (m.until - 1) + 1;
@@ -191,47 +190,47 @@ mark-measured ls ss m =
     }) u
     ∙ ap (λ n. record whole { from = row_column ss m.from; until = row_column ss (m.until - 1) + 1; anchor = n }) a
 
-pub marks-measured : (ls : List Label) (ss : List Stretch) (ms : List MadeMark)
-    → map (mark_of ls) (map (made_mark (map measure ss)) ms) ≡ map (row_mark ss) (map (mark_of ls) ms)
-marks-measured ls ss [] = refl
-marks-measured ls ss (m ∷ ms) = ap (λ x. x ∷ map (mark_of ls) (map (made_mark (map measure ss)) ms))
-    (mark-measured ls ss m) ∙ ap (λ xs. row_mark ss (mark_of ls m) ∷ xs) (marks-measured ls ss ms)
+pub marks-measured : (ss : List Stretch) (ms : List MadeMark)
+    → map mark_of (map (made_mark (map measure ss)) ms) ≡ map (row_mark ss) (map mark_of ms)
+marks-measured ss [] = refl
+marks-measured ss (m ∷ ms) = ap (λ x. x ∷ map mark_of (map (made_mark (map measure ss)) ms))
+    (mark-measured ss m) ∙ ap (λ xs. row_mark ss (mark_of m) ∷ xs) (marks-measured ss ms)
 
 -- the marks of a line that is cut, or isn't
-pub marks_moved : (ls : List Label) (ruled : Option (List Stretch)) (cut : List MadeStretch) (ms moved : List MadeMark)
+pub marks_moved : (ruled : Option (List Stretch)) (cut : List MadeStretch) (ms moved : List MadeMark)
     → Some cut ≡ option_map (map measure) ruled → moved ≡ map (made_mark cut) ms →
-    map (mark_of ls) moved ≡ shown_marks ruled (map (mark_of ls) ms)
-marks_moved ls None cut ms moved e h = absurd (cc)
-marks_moved ls (Some ss) cut ms moved e h =
+    map mark_of moved ≡ shown_marks ruled (map mark_of ms)
+marks_moved None cut ms moved e h = absurd (cc)
+marks_moved (Some ss) cut ms moved e h =
     let same : cut ≡ map measure ss = cc in
-    ap (map (mark_of ls)) h ∙ ap (λ xs. map (mark_of ls) (map (made_mark xs) ms)) same ∙ marks-measured ls ss ms
+    ap (map mark_of) h ∙ ap (λ xs. map mark_of (map (made_mark xs) ms)) same ∙ marks-measured ss ms
 
-pub marks_stay : (ls : List Label) (ruled : Option (List Stretch)) (ms : List MadeMark) → None
-    ≡ option_map (map measure) ruled → map (mark_of ls) ms ≡ shown_marks ruled (map (mark_of ls) ms)
-marks_stay ls None ms e = refl
-marks_stay ls (Some ss) ms e = absurd (cc)
+pub marks_stay : (ruled : Option (List Stretch)) (ms : List MadeMark) → None
+    ≡ option_map (map measure) ruled → map mark_of ms ≡ shown_marks ruled (map mark_of ms)
+marks_stay None ms e = refl
+marks_stay (Some ss) ms e = absurd (cc)
 
 -- ---- the ends of marks
 
-pub ends_more : (ls : List Label) (marks : List MadeMark) (i last : ℕ) (d : MadeMark)
+pub ends_more : (marks : List MadeMark) (i last : ℕ) (d : MadeMark)
     (made one two three whole : List ℕ) → i < length marks → last ≡ (get_or marks i d).until - 1 →
     one ≡ made ++ (get_or marks i d).from ∷ [] → two ≡ one ++ (get_or marks i d).anchor ∷ [] → three ≡ two ++ last ∷ []
     →
-    made ++ ends (map (mark_of ls) (drop i marks)) ≡ whole → three ++ ends (map (mark_of ls) (drop (i + 1) marks))
+    made ++ ends (map mark_of (drop i marks)) ≡ whole → three ++ ends (map mark_of (drop (i + 1) marks))
     ≡ whole
-ends_more ls marks i last d made one two three whole lt l a b c inv =
+ends_more marks i last d made one two three whole lt l a b c inv =
     let m : MadeMark = get_or marks i d in
-    let rest : List ℕ = ends (map (mark_of ls) (drop (i + 1) marks)) in
+    let rest : List ℕ = ends (map mark_of (drop (i + 1) marks)) in
     ap (λ xs. xs ++ rest) c ∙ append_assoc two (last ∷ []) rest
     ∙ ap (λ xs. xs ++ last ∷ rest) b ∙ append_assoc one (m.anchor ∷ []) (last ∷ rest)
     ∙ ap (λ xs. xs ++ m.anchor ∷ last ∷ rest) a ∙ append_assoc made (m.from ∷ []) (m.anchor ∷ last ∷ rest)
     ∙ ap (λ n. made ++ m.from ∷ m.anchor ∷ n ∷ rest) l
-    ∙ ap (λ xs. made ++ ends xs) (sym (at_drop_more (map (mark_of ls)) marks i d lt)) ∙ inv
+    ∙ ap (λ xs. made ++ ends xs) (sym (at_drop_more (map mark_of) marks i d lt)) ∙ inv
 
-pub ends_end : (ls : List Label) (marks : List MadeMark) (i : ℕ) (made whole : List ℕ) → length marks ≤ i → made
-    ++ ends (map (mark_of ls) (drop i marks)) ≡ whole → made ≡ whole
-ends_end ls marks i made whole le inv = sym (append-nil made)
-    ∙ ap (λ xs. made ++ ends xs) (sym (at_drop_all (map (mark_of ls)) marks i le)) ∙ inv
+pub ends_end : (marks : List MadeMark) (i : ℕ) (made whole : List ℕ) → length marks ≤ i → made
+    ++ ends (map mark_of (drop i marks)) ≡ whole → made ≡ whole
+ends_end marks i made whole le inv = sym (append-nil made)
+    ∙ ap (λ xs. made ++ ends xs) (sym (at_drop_all (map mark_of) marks i le)) ∙ inv
 
 -- ---- whether a line is cut
 
@@ -285,29 +284,29 @@ near_nowhere limit es cell i some le inv = sym (at_drop_all (list_any (is_within
 
 -- ---- marks with their anchors
 
-pub marks_anchored : (ls : List Label) (ms : List MadeMark) → All IsAnchored ms
-    → AllByRecursion HasAnchor (map (mark_of ls) ms)
-marks_anchored ls ms h = each ls ms (recursion_from_All IsAnchored ms h)
+pub marks_anchored : (ms : List MadeMark) → All IsAnchored ms
+    → AllByRecursion HasAnchor (map mark_of ms)
+marks_anchored ms h = each ms (recursion_from_All IsAnchored ms h)
   where
-    each : (ls : List Label) (ms : List MadeMark) → AllByRecursion IsAnchored ms
-        → AllByRecursion HasAnchor (map (mark_of ls) ms)
-    each ls [] h = tt
-    each ls (m ∷ ms) h = (h.0, each ls ms h.1)
+    each : (ms : List MadeMark) → AllByRecursion IsAnchored ms
+        → AllByRecursion HasAnchor (map mark_of ms)
+    each [] h = tt
+    each (m ∷ ms) h = (h.0, each ms h.1)
 
-pub made_anchored : (ls : List Label) (ms : List MadeMark) → AllByRecursion HasAnchor (map (mark_of ls) ms)
+pub made_anchored : (ms : List MadeMark) → AllByRecursion HasAnchor (map mark_of ms)
     → All IsAnchored ms
-made_anchored ls ms h = All-from_recursion IsAnchored ms (each ls ms h)
+made_anchored ms h = All-from_recursion IsAnchored ms (each ms h)
   where
-    each : (ls : List Label) (ms : List MadeMark) → AllByRecursion HasAnchor (map (mark_of ls) ms)
+    each : (ms : List MadeMark) → AllByRecursion HasAnchor (map mark_of ms)
         → AllByRecursion IsAnchored ms
-    each ls [] h = tt
-    each ls (m ∷ ms) h = (h.0, each ls ms h.1)
+    each [] h = tt
+    each (m ∷ ms) h = (h.0, each ms h.1)
 
 -- the same, of the marks that are shown
-pub shown_made_anchored : (ls : List Label) (limit : Option ℕ) (own : List Mark) (cells : List Cell)
-    (whole moved : List MadeMark) → AreColumns 0 cells → map (mark_of ls) whole ≡ own → All IsAnchored whole →
-    map (mark_of ls) moved ≡ shown_marks (cut_line limit own cells) own → All IsAnchored moved
-shown_made_anchored ls limit own cells whole moved h w anchored m =
-    made_anchored ls moved (subst (λ (ms : List Mark). AllByRecursion HasAnchor ms) (sym m)
+pub shown_made_anchored : (limit : Option ℕ) (own : List Mark) (cells : List Cell)
+    (whole moved : List MadeMark) → AreColumns 0 cells → map mark_of whole ≡ own → All IsAnchored whole →
+    map mark_of moved ≡ shown_marks (cut_line limit own cells) own → All IsAnchored moved
+shown_made_anchored limit own cells whole moved h w anchored m =
+    made_anchored moved (subst (λ (ms : List Mark). AllByRecursion HasAnchor ms) (sym m)
     (shown_anchored limit own cells h (subst (λ (ms : List Mark). AllByRecursion HasAnchor ms) w
-    (marks_anchored ls whole anchored))))
+    (marks_anchored whole anchored))))

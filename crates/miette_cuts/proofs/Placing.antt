@@ -2,12 +2,11 @@
 use Rattle.std.proofs.Common.{ℕ, ◌+◌, ◌<◌, ◌≤◌, ◌≡◌, List, [], ◌∷◌, ◌++◌, map, length, drop, get_or, append_assoc}
 use Rattle.std.proofs.Common.{append-nil, sym, ap, ◌∙◌}
 use Rattle.std.proofs.lemmas.List.{at_drop_more, at_drop_all, map-append}
-use Rattle.miette_protocol.specs.views.Meaning.{Label}
 use Rattle.miette_labels.specs.declared.sweep.PlacedLabel.{PlacedLabel}
 use Rattle.miette_cuts.specs.declared.marks.Mark.{Mark as MadeMark}
 use Rattle.miette_labels.specs.rules.Labels.{DrawnLabel}
 use Rattle.miette_snippet_rules.specs.rules.Marks.{Text, Mark, mark_from, mark_until, mark_anchor, marks_from}
-use Rattle.miette_labels.specs.views.Sweeping.{label_of, nothing}
+use Rattle.miette_labels.specs.views.Sweeping.{nothing}
 use Rattle.miette_labels.specs.views.GivenLabels.{drawn_of}
 use Rattle.miette_cuts.specs.views.Marks.{mark_of}
 
@@ -15,56 +14,56 @@ abbrev pub no_mark : MadeMark
 no_mark = record { from = 0; until = 0; anchor = 0; label = nothing }
 
 -- one more mark
-pub mark_more : (ls : List Label) (made new : List MadeMark) (mark : MadeMark) (text : Text) (reached : ℕ)
+pub mark_more : (made new : List MadeMark) (mark : MadeMark) (text : Text) (reached : ℕ)
     (placed : List PlacedLabel) (i : ℕ) → i < length placed → new ≡ made ++ mark ∷ [] →
-    mark.from ≡ mark_from text reached (label_of (get_or placed i nothing)) → mark.until
-    ≡ mark_until text reached (label_of (get_or placed i nothing)) → mark.anchor
-    ≡ mark_anchor text reached (label_of (get_or placed i nothing)) → mark.label ≡ get_or placed i nothing →
-    (whole : List Mark) → map (mark_of ls) made ++ marks_from text reached (map (drawn_of ls) (drop i placed)) ≡ whole
-    → map (mark_of ls) new ++ marks_from text mark.until (map (drawn_of ls) (drop (i + 1) placed)) ≡ whole
-mark_more ls made new mark text reached placed i lt n f u a l whole h =
+    mark.from ≡ mark_from text reached (drawn_of (get_or placed i nothing)) → mark.until
+    ≡ mark_until text reached (drawn_of (get_or placed i nothing)) → mark.anchor
+    ≡ mark_anchor text reached (drawn_of (get_or placed i nothing)) → mark.label ≡ get_or placed i nothing →
+    (whole : List Mark) → map mark_of made ++ marks_from text reached (map drawn_of (drop i placed)) ≡ whole
+    → map mark_of new ++ marks_from text mark.until (map drawn_of (drop (i + 1) placed)) ≡ whole
+mark_more made new mark text reached placed i lt n f u a l whole h =
     let p : PlacedLabel = get_or placed i nothing in
-    let rest : List DrawnLabel = map (drawn_of ls) (drop (i + 1) placed) in
-    ap (λ xs. map (mark_of ls) xs ++ marks_from text mark.until rest) n
-    ∙ ap (λ xs. xs ++ marks_from text mark.until rest) (map-append (mark_of ls) made (mark ∷ []))
-    ∙ append_assoc (map (mark_of ls) made) (mark_of ls mark ∷ []) (marks_from text mark.until rest)
-    ∙ ap (λ x. map (mark_of ls) made ++ record {
+    let rest : List DrawnLabel = map drawn_of (drop (i + 1) placed) in
+    ap (λ xs. map mark_of xs ++ marks_from text mark.until rest) n
+    ∙ ap (λ xs. xs ++ marks_from text mark.until rest) (map-append mark_of made (mark ∷ []))
+    ∙ append_assoc (map mark_of made) (mark_of mark ∷ []) (marks_from text mark.until rest)
+    ∙ ap (λ x. map mark_of made ++ record {
       from = x;
       until = mark.until;
       anchor = mark.anchor;
       label =
-          drawn_of ls mark.label;
+          drawn_of mark.label;
     } ∷ marks_from text mark.until rest) f
-    ∙ ap (λ x. map (mark_of ls) made ++ record {
-      from = mark_from text reached (label_of p);
+    ∙ ap (λ x. map mark_of made ++ record {
+      from = mark_from text reached (drawn_of p);
       until = x;
       anchor =
           mark.anchor;
-      label = drawn_of ls mark.label;
+      label = drawn_of mark.label;
     } ∷ marks_from text x rest) u
-    ∙ ap (λ x. map (mark_of ls) made ++ record {
-      from = mark_from text reached (label_of p);
+    ∙ ap (λ x. map mark_of made ++ record {
+      from = mark_from text reached (drawn_of p);
       until =
-          mark_until text reached (label_of p);
+          mark_until text reached (drawn_of p);
       anchor = x;
-      label = drawn_of ls mark.label;
+      label = drawn_of mark.label;
     }
-    ∷ marks_from text (mark_until text reached (label_of p)) rest) a
-    ∙ ap (λ x. map (mark_of ls) made ++ record {
-      from = mark_from text reached (label_of p);
+    ∷ marks_from text (mark_until text reached (drawn_of p)) rest) a
+    ∙ ap (λ x. map mark_of made ++ record {
+      from = mark_from text reached (drawn_of p);
       until =
-          mark_until text reached (label_of p);
-      anchor = mark_anchor text reached (label_of p);
-      label = drawn_of ls x;
+          mark_until text reached (drawn_of p);
+      anchor = mark_anchor text reached (drawn_of p);
+      label = drawn_of x;
     }
-    ∷ marks_from text (mark_until text reached (label_of p)) rest) l
-    ∙ ap (λ xs. map (mark_of ls) made ++ marks_from text reached xs)
-    (sym (at_drop_more (map (drawn_of ls)) placed i nothing lt)) ∙ h
+    ∷ marks_from text (mark_until text reached (drawn_of p)) rest) l
+    ∙ ap (λ xs. map mark_of made ++ marks_from text reached xs)
+    (sym (at_drop_more (map drawn_of) placed i nothing lt)) ∙ h
 
-pub mark_end : (ls : List Label) (made : List MadeMark) (text : Text) (reached : ℕ) (placed : List PlacedLabel) (i : ℕ)
+pub mark_end : (made : List MadeMark) (text : Text) (reached : ℕ) (placed : List PlacedLabel) (i : ℕ)
     → length placed ≤ i →
-    (whole : List Mark) → map (mark_of ls) made ++ marks_from text reached (map (drawn_of ls) (drop i placed)) ≡ whole
-    → map (mark_of ls) made ≡ whole
-mark_end ls made text reached placed i le whole h =
-    sym (append-nil (map (mark_of ls) made)) ∙ ap (λ xs. map (mark_of ls) made ++ marks_from text reached xs)
-    (sym (at_drop_all (map (drawn_of ls)) placed i le)) ∙ h
+    (whole : List Mark) → map mark_of made ++ marks_from text reached (map drawn_of (drop i placed)) ≡ whole
+    → map mark_of made ≡ whole
+mark_end made text reached placed i le whole h =
+    sym (append-nil (map mark_of made)) ∙ ap (λ xs. map mark_of made ++ marks_from text reached xs)
+    (sym (at_drop_all (map drawn_of) placed i le)) ∙ h

@@ -143,7 +143,7 @@ fn row_column_of(cut: &[Stretch], column: usize) -> Result<usize, AllocError>
 }
 
 // A mark in the row of a line's stretches.
-fn row_mark_of(cut: &[Stretch], mark: &Mark) -> Result<Mark, AllocError>
+fn row_mark_of<'a>(cut: &[Stretch], mark: &Mark<'a>) -> Result<Mark<'a>, AllocError>
     ensures { IfOk result (λ moved. moved ≡ made_mark cut.now mark.now) }
 {
     Ok(Mark {
@@ -155,7 +155,11 @@ fn row_mark_of(cut: &[Stretch], mark: &Mark) -> Result<Mark, AllocError>
 }
 
 // Marks in the row of a line's stretches.
-fn row_marks(alloc: Global, cut: &[Stretch], marks: &[Mark]) -> Result<Vec<Mark>, AllocError>
+fn row_marks<'a>(
+    alloc: Global,
+    cut: &[Stretch],
+    marks: &[Mark<'a>],
+) -> Result<Vec<Mark<'a>>, AllocError>
     ensures { IfOk result (λ moved. moved.items ≡ map (made_mark cut.now) marks.now) }
 {
     let mut moved = Vec::new(alloc);
@@ -166,8 +170,8 @@ fn row_marks(alloc: Global, cut: &[Stretch], marks: &[Mark]) -> Result<Vec<Mark>
 }
 
 // The ends of a line: each mark's first column, its anchor and its last column.
-fn ends_of(alloc: Global, marks: &[Mark]) -> Result<Vec<usize>, AllocError>
-    ensures { IfOk result (λ made. (labels : List Label) → made.items ≡ ends (map (mark_of labels) marks.now)) }
+fn ends_of(alloc: Global, marks: &[Mark<'_>]) -> Result<Vec<usize>, AllocError>
+    ensures { IfOk result (λ made. made.items ≡ ends (map mark_of marks.now)) }
 {
     let mut made = Vec::new(alloc);
     for mark in marks {
@@ -191,10 +195,15 @@ fn columns_of_line(walk: Walk<'_>) -> Result<usize, AllocError>
 }
 
 // The stretches of a text of printable ASCII around these marks of it, where it has more columns than the limit.
-fn plain_cut_at(alloc: Global, text: &[u8], marks: &[Mark], limit: usize) -> Result<Cut, AllocError>
+fn plain_cut_at(
+    alloc: Global,
+    text: &[u8],
+    marks: &[Mark<'_>],
+    limit: usize,
+) -> Result<Cut, AllocError>
     requires { list_all is_printable text.now ≡ true }
-    ensures { IfOk result (λ cut. (labels : List Label) (start : ℕ) → option_map (λ made. made.items) cut
-        ≡ option_map (map measure) (cut_line (Some limit) (map (mark_of labels) marks.now)
+    ensures { IfOk result (λ cut. (start : ℕ) → option_map (λ made. made.items) cut
+        ≡ option_map (map measure) (cut_line (Some limit) (map mark_of marks.now)
         (plain_cells start 0 text.now))) }
 {
     if text.len() <= limit {
@@ -206,10 +215,15 @@ fn plain_cut_at(alloc: Global, text: &[u8], marks: &[Mark], limit: usize) -> Res
 }
 
 // The stretches of a line's text around these marks of it, where it has more columns than the limit.
-fn cut_at(alloc: Global, text: &LineText, marks: &[Mark], limit: usize) -> Result<Cut, AllocError>
+fn cut_at(
+    alloc: Global,
+    text: &LineText,
+    marks: &[Mark<'_>],
+    limit: usize,
+) -> Result<Cut, AllocError>
     requires { text.now.start + length text.now.bytes.now < 2 ^ 64 }
-    ensures { IfOk result (λ cut. (labels : List Label) → option_map (λ made. made.items) cut
-        ≡ option_map (map measure) (cut_line (Some limit) (map (mark_of labels) marks.now) (text_cells text.now))) }
+    ensures { IfOk result (λ cut. option_map (λ made. made.items) cut
+        ≡ option_map (map measure) (cut_line (Some limit) (map mark_of marks.now) (text_cells text.now))) }
 {
     if all_printable(text.bytes) {
         let plain = plain_cut_at(alloc, text.bytes, marks, limit)?;
@@ -230,12 +244,12 @@ fn cut_at(alloc: Global, text: &LineText, marks: &[Mark], limit: usize) -> Resul
 pub fn cut_around(
     alloc: Global,
     text: &LineText,
-    marks: &[Mark],
+    marks: &[Mark<'_>],
     most: Option<usize>,
 ) -> Result<Cut, AllocError>
     requires { text.now.start + length text.now.bytes.now < 2 ^ 64 }
-    ensures { IfOk result (λ cut. (labels : List Label) → option_map (λ made. made.items) cut
-        ≡ option_map (map measure) (cut_line most (map (mark_of labels) marks.now) (text_cells text.now))) }
+    ensures { IfOk result (λ cut. option_map (λ made. made.items) cut
+        ≡ option_map (map measure) (cut_line most (map mark_of marks.now) (text_cells text.now))) }
 {
     match most {
         Some(limit) => cut_at(alloc, text, marks, limit),
@@ -245,10 +259,14 @@ pub fn cut_around(
 
 /// The marks of a line, by the columns of its row. `AllocError` where memory is refused, or a column is past the
 /// largest `usize`.
-pub fn marks_shown(alloc: Global, cut: &Cut, marks: Vec<Mark>) -> Result<Vec<Mark>, AllocError>
-    ensures { IfOk result (λ moved. (labels : List Label) (ruled : Option (List RuledStretch)) →
+pub fn marks_shown<'a>(
+    alloc: Global,
+    cut: &Cut,
+    marks: Vec<Mark<'a>>,
+) -> Result<Vec<Mark<'a>>, AllocError>
+    ensures { IfOk result (λ moved. (ruled : Option (List RuledStretch)) →
         option_map (λ made. made.items) cut.now ≡ option_map (map measure) ruled →
-        map (mark_of labels) moved.items ≡ shown_marks ruled (map (mark_of labels) marks.items)) }
+        map mark_of moved.items ≡ shown_marks ruled (map mark_of marks.entry.items)) }
 {
     match cut {
         Some(cut) => {

@@ -8,7 +8,6 @@ ghost use Rattle.miette_snippet_rules.specs.rules.PrintedCells.{last_column as l
 ghost use Rattle.miette_cells.specs.rules.Cells.{cells_from, characters};
 ghost use Rattle.miette_snippet_rules.specs.rules.Marks.{label_from, mark_from, mark_until, mark_anchor, marks};
 ghost use Rattle.miette_snippet_rules.specs.rules.SnippetLayout.{text_of_cells};
-ghost use Rattle.miette_labels.specs.views.Sweeping.{label_of};
 ghost use Rattle.miette_labels.specs.views.GivenLabels.{drawn_of};
 ghost use Rattle.miette_cells.specs.rules.Widths.{width_of};
 ghost use Rattle.miette_cuts.specs.views.Marks.{mark_of, IsAnchored};
@@ -214,8 +213,8 @@ impl<'a> Columns<'a> {
 
     /// The column at which a label's mark begins, unless the mark before it ends behind that: the first one behind the
     /// text, or that of the label's first byte. `AllocError` as of `first_column`.
-    pub(crate) fn label_column(&self, label: &PlacedLabel) -> Result<usize, AllocError>
-        ensures { IfOk result (λ column. column ≡ label_from self.now (label_of label.now)) }
+    pub(crate) fn label_column(&self, label: &PlacedLabel<'_>) -> Result<usize, AllocError>
+        ensures { IfOk result (λ column. column ≡ label_from self.now (drawn_of label.now)) }
     {
         if label.behind {
             return Ok(self.width);
@@ -226,7 +225,7 @@ impl<'a> Columns<'a> {
 
 /// A mark: its columns from the one up to the other, and its label.
 #[derive(Clone, Copy, Debug, PartialEq, Eq, Drop)]
-pub struct Mark {
+pub struct Mark<'a> {
     /// Its first column, counted from 0 where the line's text begins.
     pub from: usize,
     /// The column behind its last one.
@@ -234,14 +233,18 @@ pub struct Mark {
     /// The one of its columns from which the label's text hangs.
     pub anchor: usize,
     /// The label that it marks.
-    pub label: PlacedLabel,
+    pub label: PlacedLabel<'a>,
 }
 
 // The mark of a label, where the mark before it ends at a column.
-fn next_mark(columns: &Columns<'_>, label: &PlacedLabel, reached: usize) -> Result<Mark, AllocError>
-    ensures from { IfOk result (λ mark. mark.from ≡ mark_from columns.now reached (label_of label.now)) }
-    ensures until { IfOk result (λ mark. mark.until ≡ mark_until columns.now reached (label_of label.now)) }
-    ensures anchor { IfOk result (λ mark. mark.anchor ≡ mark_anchor columns.now reached (label_of label.now)) }
+fn next_mark<'a>(
+    columns: &Columns<'_>,
+    label: &PlacedLabel<'a>,
+    reached: usize,
+) -> Result<Mark<'a>, AllocError>
+    ensures from { IfOk result (λ mark. mark.from ≡ mark_from columns.now reached (drawn_of label.now)) }
+    ensures until { IfOk result (λ mark. mark.until ≡ mark_until columns.now reached (drawn_of label.now)) }
+    ensures anchor { IfOk result (λ mark. mark.anchor ≡ mark_anchor columns.now reached (drawn_of label.now)) }
     ensures label { IfOk result (λ mark. mark.label ≡ label.now) }
     ensures anchored { IfOk result IsAnchored }
 {
@@ -261,13 +264,13 @@ fn next_mark(columns: &Columns<'_>, label: &PlacedLabel, reached: usize) -> Resu
 }
 
 // The marks of labels by offset, each behind the one before it.
-fn marks_in(
+fn marks_in<'a>(
     alloc: Global,
     columns: &Columns<'_>,
-    placed: &[PlacedLabel],
-) -> Result<Vec<Mark>, AllocError>
-    ensures is { IfOk result (λ made. (labels : List Label) →
-        map (mark_of labels) made.items ≡ marks columns.now (map (drawn_of labels) placed.now)) }
+    placed: &[PlacedLabel<'a>],
+) -> Result<Vec<Mark<'a>>, AllocError>
+    ensures is { IfOk result (λ made.
+        map mark_of made.items ≡ marks columns.now (map drawn_of placed.now)) }
     ensures anchored { IfOk result (λ made. All IsAnchored made.items) }
 {
     let mut made = Vec::new(alloc);
@@ -284,17 +287,17 @@ fn marks_in(
 /// many columns.
 /// Each has at least one column, and begins at its label's first column or where the mark before it ends, whichever
 /// is later. `AllocError` where memory is refused, or a column is past the largest `usize`.
-pub fn marks_on(
+pub fn marks_on<'a>(
     alloc: Global,
     line: &LineOfText,
     text: &[u8],
     tab: usize,
-    one: &[PlacedLabel],
-) -> Result<Vec<Mark>, AllocError>
+    one: &[PlacedLabel<'a>],
+) -> Result<Vec<Mark<'a>>, AllocError>
     requires { line.now.start + length text.now < 2 ^ 64 }
-    ensures is { IfOk result (λ made. (labels : List Label) → map (mark_of labels) made.items
+    ensures is { IfOk result (λ made. map mark_of made.items
         ≡ marks (text_of_cells (cells_from width_of tab false line.now.start 0 (characters text.now)) line.now.text_end)
-        (map (drawn_of labels) one.now)) }
+        (map drawn_of one.now)) }
     ensures anchored { IfOk result (λ made. All IsAnchored made.items) }
 {
     let columns = Columns::new(alloc, line, text, tab)?;

@@ -6,7 +6,6 @@ use Rattle.std.proofs.Common.{get_or, refl, sym, ap, ◌∙◌}
 use Rattle.std.specs.Prelude.{not, ◌&&◌}
 use Rattle.std.proofs.lemmas.List.{at_drop_more, map-append}
 use Rattle.miette_source_lines.specs.rules.Lines.{Line}
-use Rattle.miette_protocol.specs.views.Meaning.{Label}
 use Rattle.miette_labels.specs.declared.sweep.PlacedLabel.{PlacedLabel}
 use Rattle.miette_page.specs.rules.Rows.{Row}
 use Rattle.miette_labels.specs.rules.Labels.{DrawnLabel, starts_on, ends_on, cut_at_lf, closing_labels}
@@ -89,33 +88,33 @@ chosen s line columns multi start l ls b = rows_tokens
     (cond b (l ∷ closing_labels line ls) (closing_labels line ls))))
 
 pub closing_more : (s : SnippetSettings) (line : Line) (columns : ℕ) (multi : List DrawnLabel) (start : Row)
-    (ls : List Label) (placed : List PlacedLabel) (i : ℕ) (p q whole : Printout) → i < length placed →
-    (ends_on line (drawn_of ls (get_or placed i nothing))
-    && not (starts_on line (drawn_of ls (get_or placed i nothing)))) ≡ true →
-    q ≡ p ⊕ rows_tokens (before_each start (closing_parts s line columns multi (drawn_of ls (get_or placed i nothing))
-    (drawn_of ls (get_or placed i nothing)).parts)) →
-    p ⊕ rest_of s line columns multi start (map (drawn_of ls) (drop i placed)) ≡ whole → q
-    ⊕ rest_of s line columns multi start (map (drawn_of ls) (drop (i + 1) placed)) ≡ whole
-closing_more s line columns multi start ls placed i p q whole lt e hq h =
-    let l : DrawnLabel = drawn_of ls (get_or placed i nothing) in
-    let later : List DrawnLabel = map (drawn_of ls) (drop (i + 1) placed) in
+    (placed : List PlacedLabel) (i : ℕ) (p q whole : Printout) → i < length placed →
+    (ends_on line (drawn_of (get_or placed i nothing))
+    && not (starts_on line (drawn_of (get_or placed i nothing)))) ≡ true →
+    q ≡ p ⊕ rows_tokens (before_each start (closing_parts s line columns multi (drawn_of (get_or placed i nothing))
+    (drawn_of (get_or placed i nothing)).parts)) →
+    p ⊕ rest_of s line columns multi start (map drawn_of (drop i placed)) ≡ whole → q
+    ⊕ rest_of s line columns multi start (map drawn_of (drop (i + 1) placed)) ≡ whole
+closing_more s line columns multi start placed i p q whole lt e hq h =
+    let l : DrawnLabel = drawn_of (get_or placed i nothing) in
+    let later : List DrawnLabel = map drawn_of (drop (i + 1) placed) in
     let own : List Row = closing_parts s line columns multi l l.parts in
     let rest : List Row = closing_rows s line columns multi (closing_labels line later) in
     rows_then (before_each start own) (before_each start rest) p q (q ⊕ rows_tokens (before_each start rest)) hq refl
     ∙ ap (λ xs. p ⊕ rows_tokens xs) (sym (map-append _ own rest))
     ∙ ap (λ b. p ⊕ chosen s line columns multi start l later b) (sym e)
     ∙ ap (λ xs. p ⊕ rest_of s line columns multi start xs)
-    (sym (at_drop_more (map (drawn_of ls)) placed i nothing lt)) ∙ h
+    (sym (at_drop_more (map drawn_of) placed i nothing lt)) ∙ h
 
 pub closing_skip : (s : SnippetSettings) (line : Line) (columns : ℕ) (multi : List DrawnLabel) (start : Row)
-    (ls : List Label) (placed : List PlacedLabel) (i : ℕ) (p whole : Printout) → i < length placed →
-    (ends_on line (drawn_of ls (get_or placed i nothing))
-    && not (starts_on line (drawn_of ls (get_or placed i nothing)))) ≡ false →
-    p ⊕ rest_of s line columns multi start (map (drawn_of ls) (drop i placed)) ≡ whole → p
-    ⊕ rest_of s line columns multi start (map (drawn_of ls) (drop (i + 1) placed)) ≡ whole
-closing_skip s line columns multi start ls placed i p whole lt e h =
-    let l : DrawnLabel = drawn_of ls (get_or placed i nothing) in
-    let later : List DrawnLabel = map (drawn_of ls) (drop (i + 1) placed) in
+    (placed : List PlacedLabel) (i : ℕ) (p whole : Printout) → i < length placed →
+    (ends_on line (drawn_of (get_or placed i nothing))
+    && not (starts_on line (drawn_of (get_or placed i nothing)))) ≡ false →
+    p ⊕ rest_of s line columns multi start (map drawn_of (drop i placed)) ≡ whole → p
+    ⊕ rest_of s line columns multi start (map drawn_of (drop (i + 1) placed)) ≡ whole
+closing_skip s line columns multi start placed i p whole lt e h =
+    let l : DrawnLabel = drawn_of (get_or placed i nothing) in
+    let later : List DrawnLabel = map drawn_of (drop (i + 1) placed) in
     ap (λ b. p ⊕ chosen s line columns multi start l later b) (sym e)
     ∙ ap (λ xs. p ⊕ rest_of s line columns multi start xs)
-    (sym (at_drop_more (map (drawn_of ls)) placed i nothing lt)) ∙ h
+    (sym (at_drop_more (map drawn_of) placed i nothing lt)) ∙ h

@@ -6,7 +6,6 @@ use Rattle.std.proofs.Common.{drop, get_or, replicate, refl, sym, ap, ◌∙◌}
 use Rattle.std.specs.Prelude.{chars, ◌==◌, Option, Some}
 use Rattle.std.proofs.lemmas.List.{at_drop_more, at_drop_all}
 use Rattle.miette_source_lines.specs.rules.Lines.{Line}
-use Rattle.miette_protocol.specs.views.Meaning.{Label}
 use Rattle.miette_style.specs.declared.style.Style.{Style}
 use Rattle.miette_labels.specs.declared.sweep.PlacedLabel.{PlacedLabel}
 use Rattle.miette_page.specs.rules.Rows.{Row, styled_run}
@@ -27,21 +26,21 @@ use Rattle.miette_snippet_rules.specs.rules.Settings.{SnippetSettings}
 abbrev Gutter : Type 0
 Gutter = List DrawnLabel → Row
 
-pub at_end : (f : Gutter) (ls : List Label) (placed : List PlacedLabel) (i : ℕ) (row new whole : Printout)
+pub at_end : (f : Gutter) (placed : List PlacedLabel) (i : ℕ) (row new whole : Printout)
     (own : List Token) → length placed ≤ i →
-    row_tokens (f []) ≡ own → new ≡ row ⊕ own → row ⊕ row_tokens (f (map (drawn_of ls) (drop i placed))) ≡ whole → new
+    row_tokens (f []) ≡ own → new ≡ row ⊕ own → row ⊕ row_tokens (f (map drawn_of (drop i placed))) ≡ whole → new
     ≡ whole
-at_end f ls placed i row new whole own le e n h =
-    n ∙ ap (λ r. row ⊕ r) (sym e) ∙ ap (λ r. row ⊕ row_tokens (f r)) (sym (at_drop_all (map (drawn_of ls)) placed i le))
+at_end f placed i row new whole own le e n h =
+    n ∙ ap (λ r. row ⊕ r) (sym e) ∙ ap (λ r. row ⊕ row_tokens (f r)) (sym (at_drop_all (map drawn_of) placed i le))
     ∙ h
 
-pub at_last : (f : Gutter) (ls : List Label) (placed : List PlacedLabel) (i : ℕ) (row new whole : Printout)
+pub at_last : (f : Gutter) (placed : List PlacedLabel) (i : ℕ) (row new whole : Printout)
     (own : List Token) → i < length placed →
-    row_tokens (f (drawn_of ls (get_or placed i nothing) ∷ map (drawn_of ls) (drop (i + 1) placed))) ≡ own → new ≡ row
-    ⊕ own → row ⊕ row_tokens (f (map (drawn_of ls) (drop i placed))) ≡ whole → new ≡ whole
-at_last f ls placed i row new whole own lt e n h =
+    row_tokens (f (drawn_of (get_or placed i nothing) ∷ map drawn_of (drop (i + 1) placed))) ≡ own → new ≡ row
+    ⊕ own → row ⊕ row_tokens (f (map drawn_of (drop i placed))) ≡ whole → new ≡ whole
+at_last f placed i row new whole own lt e n h =
     n ∙ ap (λ r. row ⊕ r) (sym e) ∙ ap (λ r. row ⊕ row_tokens (f r))
-    (sym (at_drop_more (map (drawn_of ls)) placed i nothing lt)) ∙ h
+    (sym (at_drop_more (map drawn_of) placed i nothing lt)) ∙ h
 
 abbrev more_of_other : SnippetSettings → Line → ℕ → DrawnLabel → List DrawnLabel → Bool → Row
 more_of_other s line left l ls b = cond b (styled_run s.width l.style

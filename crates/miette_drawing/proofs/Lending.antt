@@ -35,7 +35,8 @@ use Rattle.miette_snippet_rules.specs.rules.Highlighting.{EachHasPieces, ArePiec
 use Rattle.miette_snippet_rules.specs.rules.Highlighting.{piece_of}
 use Rattle.miette_drawing.specs.views.SnippetRows.{cells_in, text_in, texts_in, lent_snippet, PutsRows}
 use Rattle.miette_drawing.specs.steps.Widths.{width_of_count, gutter_of}
-use Rattle.miette_labels.specs.views.Placing.{end_drawn, is_told, placed_from}
+use Rattle.miette_labels.specs.views.Placing.{Placed, placed_of, placed_one, placed_from}
+use Rattle.miette_labels.specs.views.Placing.{end_drawn, is_told}
 use Rattle.miette_labels.specs.views.Reads.{IsRead}
 use Rattle.miette_source_lines.specs.views.Walking.{line_of_text}
 use Rattle.miette_labels.specs.views.Sweeping.{is_one, is_multi, nothing, start_at, AreSorted}
@@ -147,23 +148,23 @@ filter_mapped f p q (x ∷ xs) same =
     (λ t. let u : p (f x) ≡ true = same x ∙ t in rw (u, t) (ap (λ r. f x ∷ r) (filter_mapped f p q xs same)))
     (λ g. let u : p (f x) ≡ false = same x ∙ g in rw (u, g) (filter_mapped f p q xs same))
 
-one_same : (labels : List Label) (placed : List PlacedLabel) (line : Line)
-    → map (drawn_of labels) (filter (is_one line) placed) ≡ one_line line (map (drawn_of labels) placed)
-one_same labels placed line = sym (filter_mapped (drawn_of labels) (is_one_line line) (is_one line) placed (λ x. refl))
+one_same : (placed : List PlacedLabel) (line : Line)
+    → map drawn_of (filter (is_one line) placed) ≡ one_line line (map drawn_of placed)
+one_same placed line = sym (filter_mapped drawn_of (is_one_line line) (is_one line) placed (λ x. refl))
 
-multi_same : (labels : List Label) (placed : List PlacedLabel) (line : Line)
-    → map (drawn_of labels) (filter (is_multi line) placed) ≡ multi_line line (map (drawn_of labels) placed)
-multi_same labels placed line = sym (filter_mapped (drawn_of labels) (is_multi_line line) (is_multi line) placed
+multi_same : (placed : List PlacedLabel) (line : Line)
+    → map drawn_of (filter (is_multi line) placed) ≡ multi_line line (map drawn_of placed)
+multi_same placed line = sym (filter_mapped drawn_of (is_multi_line line) (is_multi line) placed
     (λ x. refl))
 
-pub most_is : (labels : List Label) (placed : List PlacedLabel) (lines : List Line) → most_multi placed lines
-    ≡ most_labels (map (drawn_of labels) placed) lines
-most_is labels placed [] = refl
-most_is labels placed (line ∷ lines) =
-    let many : length (filter (is_multi line) placed) ≡ length (multi_line line (map (drawn_of labels) placed)) =
-    sym (length-map (filter (is_multi line) placed) (drawn_of labels)) ∙ ap length (multi_same labels placed line) in
+pub most_is : (placed : List PlacedLabel) (lines : List Line) → most_multi placed lines
+    ≡ most_labels (map drawn_of placed) lines
+most_is placed [] = refl
+most_is placed (line ∷ lines) =
+    let many : length (filter (is_multi line) placed) ≡ length (multi_line line (map drawn_of placed)) =
+    sym (length-map (filter (is_multi line) placed) drawn_of) ∙ ap length (multi_same placed line) in
     ap (λ n. max n (most_multi placed lines)) many
-    ∙ ap (max (length (multi_line line (map (drawn_of labels) placed)))) (most_is labels placed lines)
+    ∙ ap (max (length (multi_line line (map drawn_of placed)))) (most_is placed lines)
 
 width_is : (line : ℕ) (ls : List Line) → width_of_lines line ls ≡ width_of_count line (length ls)
 width_is line [] = refl
@@ -223,33 +224,43 @@ placed_after true offset after le = omega arith
 placed_after false offset after le = le
 
 placed_ascends : (ends : Bool) (styles : List Style) (context : ℕ) (source : Source) (labels : List Label) (from i : ℕ)
-    (reads : List ReadLabel) → All (IsRead context source labels) reads →
+    (reads : List ReadLabel) (ps : List PlacedLabel) → All (IsRead context source labels) reads →
     IsAscending from (spans_of (map (read_of labels) reads)) →
-    Ascends (cond (is_told (end_told ends (length source.bytes)) from) (from - 1) from)
-    (placed_from (end_told ends (length source.bytes)) styles i reads)
-placed_ascends ends styles context source labels from i [] h up = tt
-placed_ascends ends styles context source labels from i (r ∷ rs) h up =
+    map placed_of ps ≡ placed_from (end_told ends (length source.bytes)) styles i labels reads →
+    Ascends (cond (is_told (end_told ends (length source.bytes)) from) (from - 1) from) ps
+placed_ascends ends styles context source labels from i [] [] h up is = tt
+placed_ascends ends styles context source labels from i [] (p ∷ ps) h up is = absurd (cc)
+placed_ascends ends styles context source labels from i (r ∷ rs) [] h up is = absurd (cc)
+placed_ascends ends styles context source labels from i (r ∷ rs) (p ∷ ps) h up is =
+    let end : Option ℕ = end_told ends (length source.bytes) in
     let own : IsRead context source labels r = h 0 r (omega arith) in
     let at : r.span.offset ≡ (label_at labels r.index).span.offset = ap (λ s. s.offset) own.span in
     let next : IsAscending r.span.offset (spans_of (map (read_of labels) rs)) =
-    subst (λ (n : ℕ). IsAscending n (spans_of (map (read_of labels) rs))) (sym at) up.1 in (
-      lower_le ends (length source.bytes) from r.span.offset (omega (arith, at, up.0)) own.accepted.begins,
-      placed_after (is_told (end_told ends (length source.bytes)) r.span.offset) r.span.offset (end_drawn r)
-          (omega arith),
-      placed_ascends ends styles context source labels r.span.offset (i + 1) rs
-          (All-tail (IsRead context source labels) r rs h) next,
+    subst (λ (n : ℕ). IsAscending n (spans_of (map (read_of labels) rs))) (sym at) up.1 in
+    let first : placed_of p ≡ placed_one end styles i labels r =
+    ap (λ xs. slice_index_or xs 0 (placed_of p)) is in
+    let start : p.start ≡ cond (is_told end r.span.offset) (r.span.offset - 1) r.span.offset =
+    ap (λ (x : Placed). x.start) first in
+    let after : p.after ≡ cond (is_told end r.span.offset) (r.span.offset - 1) (end_drawn r) =
+    ap (λ (x : Placed). x.after) first in
+    let low = lower_le ends (length source.bytes) from r.span.offset (omega (arith, at, up.0)) own.accepted.begins in
+    let high = placed_after (is_told end r.span.offset) r.span.offset (end_drawn r) (omega arith) in (
+      omega (arith, start, low),
+      omega (arith, start, after, high),
+      subst (λ (n : ℕ). Ascends n ps) (sym start)
+          (placed_ascends ends styles context source labels r.span.offset (i + 1) rs ps
+          (All-tail (IsRead context source labels) r rs h) next (ap (drop 1) is)),
     )
 
 pub placed_sorted : (ends : Bool) (styles : List Style) (context : ℕ) (source : Source) (labels : List Label)
-    (reads : List ReadLabel) → All (IsRead context source labels) reads →
-    map (read_of labels) reads ≡ in_order labels → AreSorted
-    (placed_from (end_told ends (length source.bytes)) styles 0 reads)
-placed_sorted ends styles context source labels reads h e =
+    (reads : List ReadLabel) (ps : List PlacedLabel) → All (IsRead context source labels) reads →
+    map (read_of labels) reads ≡ in_order labels →
+    map placed_of ps ≡ placed_from (end_told ends (length source.bytes)) styles 0 labels reads → AreSorted ps
+placed_sorted ends styles context source labels reads ps h e is =
     let up : IsAscending 0 (spans_of (map (read_of labels) reads)) =
     subst (λ (ss : List Span). IsAscending 0 ss) (sym (ap spans_of e)) (ordered_ascends labels) in
-    let ps : List PlacedLabel = placed_from (end_told ends (length source.bytes)) styles 0 reads in
     let from : ℕ = cond (is_told (end_told ends (length source.bytes)) 0) (0 - 1) 0 in
-    let k : Ascends from ps = placed_ascends ends styles context source labels 0 0 reads h up in
+    let k : Ascends from ps = placed_ascends ends styles context source labels 0 0 reads ps h up is in
     record { order = λ i j le lt. ascends-order from i j ps k le lt; drawn = λ i lt. ascends-drawn from i ps k lt }
 
 pub told_parts : (p0 p1 p2 p3 : Printout) (top bottom : Row) (body : List Row) → p1 ≡ p0 ⊕ rows_tokens (top ∷ []) → p2
@@ -356,11 +367,11 @@ lines_more_of out gap left s w columns drawn start bytes first blank begun was n
           ∙ rest.3,
     )
 
-pub lines_more : (out : ℕ → Line → Bool) (gap left : Bool) (s : SnippetSettings) (w columns : ℕ) (labels : List Label)
+pub lines_more : (out : ℕ → Line → Bool) (gap left : Bool) (s : SnippetSettings) (w columns : ℕ)
     (placed : List PlacedLabel) (start : ℕ) (bytes : List ℕ) (first : ℕ) (blank : Bool)
     (begun was now : List Call → Type 0) (at number : ℕ) (line : LineOfText) (one multi : List PlacedLabel)
     (pieces : List Highlight) (before page more : Printout) →
-    AreLined out gap s w columns (map (drawn_of labels) placed) start bytes first blank begun was at number before page
+    AreLined out gap s w columns (map drawn_of placed) start bytes first blank begun was at number before page
     → left ≡ out number (line_of_text line) →
     P.lines_from (start + at) (drop at bytes) ≡ line_of_text line
     ∷ P.lines_from line.end (drop (line.end - start) bytes) → start ≤ line.end →
@@ -368,23 +379,23 @@ pub lines_more : (out : ℕ → Line → Bool) (gap left : Bool) (s : SnippetSet
     ArePieces blank (decoded_text (text_in start bytes (line_of_text line))) pieces →
     Leads was (asked (decoded_text (text_in start bytes (line_of_text line))) (map piece_of pieces) ∷ []) now →
     more ≡ page ⊕ rows_tokens (line_or_break_of gap left (line_in s w columns (line_of_text line)
-    (map (drawn_of labels) multi)) (line_shown number (map (drawn_of labels) one)
+    (map drawn_of multi)) (line_shown number (map drawn_of one)
     (cells_in s start bytes (line_of_text line)) pieces)) →
-    AreLined out left s w columns (map (drawn_of labels) placed) start bytes first blank begun now (line.end - start)
+    AreLined out left s w columns (map drawn_of placed) start bytes first blank begun now (line.end - start)
     (number + 1) before more
-lines_more out gap left s w columns labels placed start bytes first blank begun was now at number line one multi pieces
+lines_more out gap left s w columns placed start bytes first blank begun was now at number line one multi pieces
     before page more h leaves part low a b p call e =
-    let drawn : List DrawnLabel = map (drawn_of labels) placed in
+    let drawn : List DrawnLabel = map drawn_of placed in
     let cells : List Cell = cells_in s start bytes (line_of_text line) in
     lines_more_of out gap left s w columns drawn start bytes first blank begun was now at number line pieces before page
     more h leaves part low p call
     (e ∙ ap (λ x. page ⊕ rows_tokens (line_or_break_of gap left
-    (line_in s w columns (line_of_text line) (map (drawn_of labels) multi)) (line_shown number x cells pieces)))
-    (ap (map (drawn_of labels)) a
-    ∙ one_same labels placed (line_of_text line))
+    (line_in s w columns (line_of_text line) (map drawn_of multi)) (line_shown number x cells pieces)))
+    (ap (map drawn_of) a
+    ∙ one_same placed (line_of_text line))
     ∙ ap (λ x. page ⊕ rows_tokens (line_or_break_of gap left (line_in s w columns (line_of_text line) x)
-    (line_shown number (one_line (line_of_text line) drawn) cells pieces))) (ap (map (drawn_of labels)) b
-    ∙ multi_same labels placed (line_of_text line)))
+    (line_shown number (one_line (line_of_text line) drawn) cells pieces))) (ap (map drawn_of) b
+    ∙ multi_same placed (line_of_text line)))
 
 -- all lines are drawn
 pub lines_all : (out : ℕ → Line → Bool) (gap : Bool) (s : SnippetSettings) (w columns : ℕ) (drawn : List DrawnLabel)
@@ -410,23 +421,23 @@ lines_all out gap s w columns drawn start bytes first blank begun now at number 
     }
 
 -- the rows of a snippet whose lines are counted
-told_counted : (s : SnippetSettings) (spreads : List Spread) (labels : List Label) (placed : List PlacedLabel)
+told_counted : (s : SnippetSettings) (spreads : List Spread) (placed : List PlacedLabel)
     (lent : Contents) (place : Option Place) (pieces : List (List Highlight)) (w columns lines most : ℕ)
     (p0 p1 p2 p3 : Printout) →
     lines ≡ length (lines_of_contents lent) → most ≡ most_multi placed (lines_of_contents lent) → w
     ≡ width_of_count lent.line lines → columns ≡ gutter_of most →
     p1 ≡ p0 ⊕ rows_tokens (top_row_of s w lent.name (ltb 1 lines) place ∷ []) →
     p2 ≡ p1 ⊕ rows_tokens (rows_of_lines (left_out s lent.line (lines_of_contents lent) spreads) false
-    (snippet_context s w columns (map (drawn_of labels) placed) (cells_in s lent.span.offset lent.bytes))
+    (snippet_context s w columns (map drawn_of placed) (cells_in s lent.span.offset lent.bytes))
     (lent.line + 1) pieces (lines_of_contents lent)) →
     p3 ≡ p2 ⊕ rows_tokens (bottom_row s w ∷ []) → p3 ≡ p0
-    ⊕ rows_tokens (lent_snippet s spreads (map (drawn_of labels) placed) lent place pieces)
-told_counted s spreads labels placed lent place pieces w columns lines most p0 p1 p2 p3 many widest width gutter a b c =
-    let drawn : List DrawnLabel = map (drawn_of labels) placed in
+    ⊕ rows_tokens (lent_snippet s spreads (map drawn_of placed) lent place pieces)
+told_counted s spreads placed lent place pieces w columns lines most p0 p1 p2 p3 many widest width gutter a b c =
+    let drawn : List DrawnLabel = map drawn_of placed in
     let real : List Line = lines_of_contents lent in
     let out : ℕ → Line → Bool = left_out s lent.line real spreads in
     let whole : w ≡ number_width lent = width ∙ ap (width_of_count lent.line) many ∙ sym (width_is lent.line real) in
-    let room : columns ≡ gutter_columns drawn real = gutter ∙ ap gutter_of (widest ∙ most_is labels placed real) in
+    let room : columns ≡ gutter_columns drawn real = gutter ∙ ap gutter_of (widest ∙ most_is placed real) in
     told_parts p0 p1 p2 p3 (top_row_of s w lent.name (ltb 1 lines) place) (bottom_row s w)
     (rows_of_lines out false (snippet_context s w columns drawn (cells_in s lent.span.offset lent.bytes))
     (lent.line + 1) pieces real) a b c
@@ -443,7 +454,7 @@ told_counted s spreads labels placed lent place pieces w columns lines most p0 p
     pieces real ++ bottom_row s (number_width lent) ∷ [])) room
 
 -- what the getters of a read gave stands for its parts
-pub told_lent : (s : SnippetSettings) (spreads : List Spread) (labels : List Label) (placed : List PlacedLabel)
+pub told_lent : (s : SnippetSettings) (spreads : List Spread) (placed : List PlacedLabel)
     (lent : Contents) (place : Option Place) (blank : Bool) (happen : List Call → Type 0)
     (w columns lines most line start : ℕ) (name : Option (List ℕ)) (bytes : List ℕ) (p0 p1 p2 p3 : Printout) →
     line ≡ lent.line → start ≡ lent.span.offset → name ≡ lent.name → bytes ≡ lent.bytes →
@@ -452,13 +463,13 @@ pub told_lent : (s : SnippetSettings) (spreads : List Spread) (labels : List Lab
     p1 ≡ p0 ⊕ rows_tokens (top_row_of s w name (ltb 1 lines) place ∷ []) →
     PutsRows blank happen (texts_in start bytes (P.lines_from start bytes))
     (λ pieces. rows_of_lines (left_out s line (P.lines_from start bytes) spreads) false
-    (snippet_context s w columns (map (drawn_of labels) placed) (cells_in s start bytes)) (line + 1) pieces
+    (snippet_context s w columns (map drawn_of placed) (cells_in s start bytes)) (line + 1) pieces
     (P.lines_from start bytes)) p1 p2 →
     p3 ≡ p2 ⊕ rows_tokens (bottom_row s w ∷ []) →
-    PutsRows blank happen (lent_texts lent) (lent_snippet s spreads (map (drawn_of labels) placed) lent place) p0 p3
-told_lent s spreads labels placed lent place blank happen w columns lines most line start name bytes p0 p1 p2 p3 la at
+    PutsRows blank happen (lent_texts lent) (lent_snippet s spreads (map drawn_of placed) lent place) p0 p3
+told_lent s spreads placed lent place blank happen w columns lines most line start name bytes p0 p1 p2 p3 la at
     named data' many widest width gutter a b c =
-    let drawn : List DrawnLabel = map (drawn_of labels) placed in
+    let drawn : List DrawnLabel = map drawn_of placed in
     let same : P.lines_from start bytes ≡ lines_of_contents lent = ap (λ n. P.lines_from n bytes) at
     ∙ ap (P.lines_from lent.span.offset) data' in
     record {
@@ -471,7 +482,7 @@ told_lent s spreads labels placed lent place blank happen w columns lines most l
           (subst (λ (n : ℕ). EachHasPieces blank (texts_in n lent.bytes (P.lines_from start bytes)) b.pieces) at
           (subst (λ (bs : List ℕ). EachHasPieces blank (texts_in start bs (P.lines_from start bytes)) b.pieces)
           data' b.are));
-      is = told_counted s spreads labels placed lent place b.pieces w columns lines most p0 p1 p2 p3
+      is = told_counted s spreads placed lent place b.pieces w columns lines most p0 p1 p2 p3
           (many ∙ ap length same) (widest ∙ ap (most_multi placed) same) (width ∙ ap (λ n. width_of_count n lines) la)
           gutter
           (a ∙ ap (λ n. p0 ⊕ rows_tokens (top_row_of s w n (ltb 1 lines) place ∷ [])) named)

@@ -7,7 +7,6 @@ use Rattle.std.specs.Prelude.{chars}
 use Rattle.std.proofs.lemmas.List.{at_drop_more, map-append}
 use Rattle.std.proofs.lemmas.Bool.{eq-eqb, ne_eqb}
 use Rattle.std.specs.List.{range_with_len}
-use Rattle.miette_protocol.specs.views.Meaning.{Label}
 use Rattle.miette_style.specs.declared.style.Style.{Style}
 use Rattle.miette_cuts.specs.declared.marks.Mark.{Mark as MadeMark}
 use Rattle.miette_page.specs.rules.Rows.{glyph_of}
@@ -84,21 +83,21 @@ mark_put v m at x y c p q r s n a le lt ex ey ec hq hr hs hn =
     (range_with_len m.from (m.until - m.from)))))
 
 -- one more mark
-pub mark_more : (v : SnippetSettings) (ls : List Label) (marks : List MadeMark) (i reached gap : ℕ)
+pub mark_more : (v : SnippetSettings) (marks : List MadeMark) (i reached gap : ℕ)
     (d : MadeMark) (row spaced new whole : Printout) → i < length marks → gap ≡ (get_or marks i d).from - reached →
     spaced ≡ row ⊕ styled_tokens plain (replicate gap 32) → new ≡ spaced
-    ⊕ run_tokens (mark_run v (mark_of ls (get_or marks i d))) →
-    row ⊕ row_tokens (mark_runs v reached (map (mark_of ls) (drop i marks))) ≡ whole → new
-    ⊕ row_tokens (mark_runs v (get_or marks i d).until (map (mark_of ls) (drop (i + 1) marks))) ≡ whole
-mark_more v ls marks i reached gap d row spaced new whole lt z s n h =
-    let m : Mark = mark_of ls (get_or marks i d) in
-    let rest : List Token = row_tokens (mark_runs v m.until (map (mark_of ls) (drop (i + 1) marks))) in
+    ⊕ run_tokens (mark_run v (mark_of (get_or marks i d))) →
+    row ⊕ row_tokens (mark_runs v reached (map mark_of (drop i marks))) ≡ whole → new
+    ⊕ row_tokens (mark_runs v (get_or marks i d).until (map mark_of (drop (i + 1) marks))) ≡ whole
+mark_more v marks i reached gap d row spaced new whole lt z s n h =
+    let m : Mark = mark_of (get_or marks i d) in
+    let rest : List Token = row_tokens (mark_runs v m.until (map mark_of (drop (i + 1) marks))) in
     ap (λ r. r ⊕ rest) (n ∙ ap (λ r. r ⊕ run_tokens (mark_run v m))
     (s ∙ ap (λ k. row ⊕ styled_tokens plain (replicate k 32)) z))
     ∙ put_append (row ⊕ styled_tokens plain (replicate (m.from - reached) 32)) (run_tokens (mark_run v m)) rest
     ∙ put_append row (styled_tokens plain (replicate (m.from - reached) 32)) (run_tokens (mark_run v m) ++ rest)
     ∙ ap (λ r. row ⊕ (r ++ (run_tokens (mark_run v m) ++ rest))) (sym (blank_told v (m.from - reached)))
-    ∙ ap (λ xs. row ⊕ row_tokens (mark_runs v reached xs)) (sym (at_drop_more (map (mark_of ls)) marks i d lt)) ∙ h
+    ∙ ap (λ xs. row ⊕ row_tokens (mark_runs v reached xs)) (sym (at_drop_more (map mark_of) marks i d lt)) ∙ h
 
 -- the character of a label with a text
 middle_onto : (t : Characters) (code : ℕ) (parts : List (List ℕ)) → t.underbar ≡ code_with_parts t (onto code parts)

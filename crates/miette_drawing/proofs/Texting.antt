@@ -4,7 +4,6 @@ use Rattle.miette_page.specs.views.Printouts.{Printout, ◌⊕◌}
 use Rattle.std.proofs.Common.{ℕ, ◌+◌, ◌-◌, ◌<◌, ◌≤◌, ◌≡◌, List, [], ◌∷◌, ◌++◌, map, length, drop, take, get_or}
 use Rattle.std.proofs.Common.{replicate, refl, sym, ap, ◌∙◌, append_assoc}
 use Rattle.std.proofs.lemmas.List.{at_drop_more, at_drop_all, map-append, take_more}
-use Rattle.miette_protocol.specs.views.Meaning.{Label}
 use Rattle.miette_style.specs.declared.style.Style.{Style}
 use Rattle.miette_cuts.specs.declared.marks.Mark.{Mark as MadeMark}
 use Rattle.miette_page.specs.rules.Rows.{Row, styled_run}
@@ -58,18 +57,18 @@ start_put s columns many p q r e hq hr =
     ∙ sym (told-append (blank s many ∷ []) (styled_run s.width plain (s.theme.characters.vbar_break ∷ 32 ∷ []) ∷ [])))
 
 -- leads
-pub lead_more : (v : SnippetSettings) (ls : List Label) (marks : List MadeMark) (i reached gap at column : ℕ)
-    (d : MadeMark) (row spaced new whole : Printout) → i < length marks → at ≡ (mark_of ls (get_or marks i d)).anchor
+pub lead_more : (v : SnippetSettings) (marks : List MadeMark) (i reached gap at column : ℕ)
+    (d : MadeMark) (row spaced new whole : Printout) → i < length marks → at ≡ (mark_of (get_or marks i d)).anchor
     → gap ≡ at - reached →
     spaced ≡ row ⊕ styled_tokens plain (replicate gap 32) → new ≡ spaced
     ⊕ styled_tokens (get_or marks i d).label.style (v.theme.characters.vbar ∷ []) →
-    row ⊕ row_tokens (lead_runs v reached (map (mark_of ls) (drop i marks)) column) ≡ whole → new
-    ⊕ row_tokens (lead_runs v (at + 1) (map (mark_of ls) (drop (i + 1) marks)) column) ≡ whole
-lead_more v ls marks i reached gap at column d row spaced new whole lt a z s n h =
-    let m : Mark = mark_of ls (get_or marks i d) in
+    row ⊕ row_tokens (lead_runs v reached (map mark_of (drop i marks)) column) ≡ whole → new
+    ⊕ row_tokens (lead_runs v (at + 1) (map mark_of (drop (i + 1) marks)) column) ≡ whole
+lead_more v marks i reached gap at column d row spaced new whole lt a z s n h =
+    let m : Mark = mark_of (get_or marks i d) in
     let bar : List Token = styled_tokens m.label.style (v.theme.characters.vbar ∷ []) in
-    let rest : List Token = row_tokens (lead_runs v (m.anchor + 1) (map (mark_of ls) (drop (i + 1) marks)) column) in
-    ap (λ k. new ⊕ row_tokens (lead_runs v (k + 1) (map (mark_of ls) (drop (i + 1) marks)) column)) a
+    let rest : List Token = row_tokens (lead_runs v (m.anchor + 1) (map mark_of (drop (i + 1) marks)) column) in
+    ap (λ k. new ⊕ row_tokens (lead_runs v (k + 1) (map mark_of (drop (i + 1) marks)) column)) a
     ∙ ap (λ r. r ⊕ rest) (n ∙ ap (λ r. r ⊕ bar) (s ∙ ap (λ k. row ⊕ styled_tokens plain (replicate k 32))
     (z ∙ ap (λ k. k - reached) a)))
     ∙ put_append (row ⊕ styled_tokens plain (replicate (m.anchor - reached) 32)) bar rest
@@ -77,17 +76,17 @@ lead_more v ls marks i reached gap at column d row spaced new whole lt a z s n h
     ∙ ap (λ r. row ⊕ (r ++ (bar ++ rest))) (sym (blank_told v (m.anchor - reached)))
     ∙ ap (λ r. row ⊕ (run_tokens (blank v (m.anchor - reached)) ++ (r ++ rest)))
     (sym (styled_told v.width m.label.style (v.theme.characters.vbar ∷ [])))
-    ∙ ap (λ xs. row ⊕ row_tokens (lead_runs v reached xs column)) (sym (at_drop_more (map (mark_of ls)) marks i d lt))
+    ∙ ap (λ xs. row ⊕ row_tokens (lead_runs v reached xs column)) (sym (at_drop_more (map mark_of) marks i d lt))
     ∙ h
 
-pub lead_end : (s : SnippetSettings) (ls : List Label) (marks : List MadeMark) (i reached gap column : ℕ)
+pub lead_end : (s : SnippetSettings) (marks : List MadeMark) (i reached gap column : ℕ)
     (row new whole : Printout) → length marks ≤ i → gap ≡ column - reached → new ≡ row
     ⊕ styled_tokens plain (replicate gap 32) →
-    row ⊕ row_tokens (lead_runs s reached (map (mark_of ls) (drop i marks)) column) ≡ whole → new ≡ whole
-lead_end s ls marks i reached gap column row new whole le z n h =
+    row ⊕ row_tokens (lead_runs s reached (map mark_of (drop i marks)) column) ≡ whole → new ≡ whole
+lead_end s marks i reached gap column row new whole le z n h =
     n ∙ ap (λ k. row ⊕ styled_tokens plain (replicate k 32)) z
     ∙ ap (λ r. row ⊕ r) (sym (blank_row s (column - reached)))
-    ∙ ap (λ xs. row ⊕ row_tokens (lead_runs s reached xs column)) (sym (at_drop_all (map (mark_of ls)) marks i le))
+    ∙ ap (λ xs. row ⊕ row_tokens (lead_runs s reached xs column)) (sym (at_drop_all (map mark_of) marks i le))
     ∙ h
 
 -- a row of a text: what stands before the marks, the leads, and a run
@@ -170,28 +169,28 @@ before-append : (before : Row) (a b : List Row) → before_each before (a ++ b) 
 before-append before a b = map-append _ a b
 
 -- the texts of one more mark, from the last to the first
-pub below_more : (s : SnippetSettings) (ls : List Label) (before : Row) (marks : List MadeMark) (next k : ℕ)
+pub below_more : (s : SnippetSettings) (before : Row) (marks : List MadeMark) (next k : ℕ)
     (d : MadeMark) (p q r : Printout) → k < length marks → next ≡ k + 1 →
-    q ≡ p ⊕ rows_tokens (before_each before (rows_below s (map (mark_of ls) (take next marks))
-    (map (mark_of ls) (drop next marks)))) →
-    r ≡ q ⊕ rows_tokens (before_each before (rows_of_parts s (map (mark_of ls) (take k marks))
-    (mark_of ls (get_or marks k d)) (mark_of ls (get_or marks k d)).label.parts)) →
-    r ≡ p ⊕ rows_tokens (before_each before (rows_below s (map (mark_of ls) (take k marks))
-    (map (mark_of ls) (drop k marks))))
-below_more s ls before marks next k d p q r lt z hq hr =
-    let m : Mark = mark_of ls (get_or marks k d) in
-    let earlier : List Mark = map (mark_of ls) (take k marks) in
-    let later : List Mark = map (mark_of ls) (drop (k + 1) marks) in
+    q ≡ p ⊕ rows_tokens (before_each before (rows_below s (map mark_of (take next marks))
+    (map mark_of (drop next marks)))) →
+    r ≡ q ⊕ rows_tokens (before_each before (rows_of_parts s (map mark_of (take k marks))
+    (mark_of (get_or marks k d)) (mark_of (get_or marks k d)).label.parts)) →
+    r ≡ p ⊕ rows_tokens (before_each before (rows_below s (map mark_of (take k marks))
+    (map mark_of (drop k marks))))
+below_more s before marks next k d p q r lt z hq hr =
+    let m : Mark = mark_of (get_or marks k d) in
+    let earlier : List Mark = map mark_of (take k marks) in
+    let later : List Mark = map mark_of (drop (k + 1) marks) in
     let a : List Row = rows_below s (earlier ++ m ∷ []) later in
     let b : List Row = rows_of_parts s earlier m m.label.parts in
     let h : q ≡ p ⊕ rows_tokens (before_each before a) =
-    hq ∙ ap (λ n. p ⊕ rows_tokens (before_each before (rows_below s (map (mark_of ls) (take n marks))
-    (map (mark_of ls) (drop n marks))))) z
-    ∙ ap (λ xs. p ⊕ rows_tokens (before_each before (rows_below s (map (mark_of ls) xs) later)))
+    hq ∙ ap (λ n. p ⊕ rows_tokens (before_each before (rows_below s (map mark_of (take n marks))
+    (map mark_of (drop n marks))))) z
+    ∙ ap (λ xs. p ⊕ rows_tokens (before_each before (rows_below s (map mark_of xs) later)))
     (take_more marks k d lt)
     ∙ ap (λ xs. p ⊕ rows_tokens (before_each before (rows_below s xs later)))
-    (map-append (mark_of ls) (take k marks) (get_or marks k d ∷ [])) in
+    (map-append mark_of (take k marks) (get_or marks k d ∷ [])) in
     rows_then (before_each before a) (before_each before b) p q r h hr
     ∙ ap (λ xs. p ⊕ rows_tokens xs) (sym (before-append before a b))
     ∙ ap (λ xs. p ⊕ rows_tokens (before_each before (rows_below s earlier xs)))
-    (sym (at_drop_more (map (mark_of ls)) marks k d lt))
+    (sym (at_drop_more (map mark_of) marks k d lt))

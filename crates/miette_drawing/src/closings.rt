@@ -7,7 +7,6 @@ ghost use Rattle.miette_labels.specs.rules.Labels.{starts_on, ends_on, cut_at_lf
 ghost use Rattle.miette_snippet_rules.specs.rules.Gutters.{closing_parts, closing_rows};
 ghost use Rattle.miette_snippet_rules.specs.rules.Frames.{other_start};
 ghost use Rattle.miette_snippet_rules.specs.rules.SnippetLayout.{before_each};
-ghost use Rattle.miette_labels.specs.views.Sweeping.{label_of};
 ghost use Rattle.miette_labels.specs.views.GivenLabels.{drawn_of};
 ghost use Rattle.miette_drawing.specs.steps.LineContexts.{settings, multi_labels, closed_line, open_line};
 ghost use Rattle.miette_source_lines.specs.views.Walking.{line_of_text};
@@ -16,16 +15,15 @@ use crate::gutters::{ends, push_open_gutter, push_other_gutter, starts};
 use crate::label_text::{first_part, push_part};
 use crate::line_context::{LineContext, Outcome};
 use crate::texts::push_other_start;
-use miette_labels::drawn_labels::text_of;
 use miette_labels::sweep::PlacedLabel;
 use miette_page::canvas::Canvas;
 use miette_page::page::Page;
 use miette_source_lines::lines::LineOfText;
 
 // Whether a label ends on a line and began before it.
-fn closes(line: &LineOfText, label: &PlacedLabel) -> bool
-    ensures { result ≡ ends_on (line_of_text line.now) (label_of label.now)
-        && not (starts_on (line_of_text line.now) (label_of label.now)) }
+fn closes(line: &LineOfText, label: &PlacedLabel<'_>) -> bool
+    ensures { result ≡ ends_on (line_of_text line.now) (drawn_of label.now)
+        && not (starts_on (line_of_text line.now) (drawn_of label.now)) }
 {
     ends(line, label) && !starts(line, label)
 }
@@ -35,12 +33,12 @@ fn push_closed_row<O: Canvas>(
     page: &mut Page<O>,
     context: &LineContext,
     columns: usize,
-    label: &PlacedLabel,
+    label: &PlacedLabel<'_>,
     bar: char,
     part: &str,
 ) -> Outcome
     ensures { OnOk result (page.new ≡ page.old
-        ⊕ rows_tokens (closed_line context.now columns (drawn_of context.now.labels.now label.now) bar (chars part.now)
+        ⊕ rows_tokens (closed_line context.now columns (drawn_of label.now) bar (chars part.now)
         ∷ [])) }
 {
     push_other_start(page, context)?;
@@ -54,11 +52,11 @@ fn push_open_row<O: Canvas>(
     page: &mut Page<O>,
     context: &LineContext,
     columns: usize,
-    label: &PlacedLabel,
+    label: &PlacedLabel<'_>,
     part: &str,
 ) -> Outcome
     ensures { OnOk result (page.new ≡ page.old
-        ⊕ rows_tokens (open_line context.now columns (drawn_of context.now.labels.now label.now) (chars part.now) ∷ [])) }
+        ⊕ rows_tokens (open_line context.now columns (drawn_of label.now) (chars part.now) ∷ [])) }
 {
     push_other_start(page, context)?;
     push_open_gutter(page, context, columns)?;
@@ -76,11 +74,11 @@ fn push_open_rows<O: Canvas>(
     page: &mut Page<O>,
     context: &LineContext,
     columns: usize,
-    label: &PlacedLabel,
+    label: &PlacedLabel<'_>,
     text: &str,
 ) -> Outcome
     ensures { OnOk result (page.new ≡ page.old
-        ⊕ rows_tokens (map (open_line context.now columns (drawn_of context.now.labels.now label.now))
+        ⊕ rows_tokens (map (open_line context.now columns (drawn_of label.now))
         (cut_at_lf (chars text.now)))) }
 {
     let mut left = Some(text);
@@ -96,15 +94,15 @@ fn push_open_rows<O: Canvas>(
 fn push_closing<O: Canvas>(
     page: &mut Page<O>,
     context: &LineContext,
-    label: &PlacedLabel,
+    label: &PlacedLabel<'_>,
 ) -> Outcome
     ensures { OnOk result (page.new ≡ page.old
         ⊕ rows_tokens (before_each (other_start (settings context.now) context.now.frame.number_width)
         (closing_parts (settings context.now) (line_of_text context.now.line)
         context.now.gutter (multi_labels context.now)
-        (drawn_of context.now.labels.now label.now) (drawn_of context.now.labels.now label.now).parts))) }
+        (drawn_of label.now) (drawn_of label.now).parts))) }
 {
-    let Some(text) = text_of(context.labels, label) else {
+    let Some(text) = label.text else {
         return Ok(());
     };
     let characters = &context.frame.settings.theme.characters;

@@ -4,7 +4,6 @@ ghost use Rattle.std.specs.Prelude.{◌≡◌, ◌++◌, ◌-◌, ◌∷◌, [],
 ghost use Rattle.miette_page.specs.views.Printouts.{◌⊕◌};
 ghost use Rattle.miette_page.specs.views.Tokens.{row_tokens, styled_tokens};
 ghost use Rattle.miette_labels.specs.rules.Labels.{starts_on, ends_on};
-ghost use Rattle.miette_labels.specs.views.Sweeping.{label_of};
 ghost use Rattle.miette_snippet_rules.specs.rules.Gutters.{bar, number_gutter, break_gutter, other_gutter};
 ghost use Rattle.miette_snippet_rules.specs.rules.Gutters.{open_gutter, ending_corner};
 ghost use Rattle.miette_labels.specs.views.GivenLabels.{drawn_of};
@@ -12,7 +11,6 @@ ghost use Rattle.miette_drawing.specs.steps.LineContexts.{settings, multi_labels
 ghost use Rattle.miette_source_lines.specs.views.Walking.{line_of_text};
 
 use crate::line_context::{LineContext, Outcome};
-use miette_labels::drawn_labels::text_of;
 use miette_labels::sweep::PlacedLabel;
 use miette_page::canvas::Canvas;
 use miette_page::page::{PLAIN, Page};
@@ -20,15 +18,15 @@ use miette_source_lines::lines::LineOfText;
 use miette_style::style::Style;
 
 // Whether a label starts on a line.
-pub(crate) fn starts(line: &LineOfText, label: &PlacedLabel) -> bool
-    ensures { result ≡ starts_on (line_of_text line.now) (label_of label.now) }
+pub(crate) fn starts(line: &LineOfText, label: &PlacedLabel<'_>) -> bool
+    ensures { result ≡ starts_on (line_of_text line.now) (drawn_of label.now) }
 {
     line.start <= label.start && label.start < line.end
 }
 
 // Whether a label ends on a line.
-pub(crate) fn ends(line: &LineOfText, label: &PlacedLabel) -> bool
-    ensures { result ≡ ends_on (line_of_text line.now) (label_of label.now) }
+pub(crate) fn ends(line: &LineOfText, label: &PlacedLabel<'_>) -> bool
+    ensures { result ≡ ends_on (line_of_text line.now) (drawn_of label.now) }
 {
     if label.start == label.after {
         line.start <= label.start && label.start < line.end
@@ -38,10 +36,10 @@ pub(crate) fn ends(line: &LineOfText, label: &PlacedLabel) -> bool
 }
 
 // The corner of a label that ends on the line.
-fn corner_at_end(context: &LineContext, label: &PlacedLabel) -> char
-    ensures { result ≡ ending_corner (settings context.now).theme.characters (drawn_of context.now.labels.now label.now).parts }
+fn corner_at_end(context: &LineContext, label: &PlacedLabel<'_>) -> char
+    ensures { result ≡ ending_corner (settings context.now).theme.characters (drawn_of label.now).parts }
 {
-    match text_of(context.labels, label) {
+    match label.text {
         Some(_) => context.frame.settings.theme.characters.lcross,
         None => context.frame.settings.theme.characters.lbot,
     }

@@ -15,8 +15,8 @@ ghost use Rattle.std.specs.Option.{option_map};
 ghost use Rattle.miette_cuts.specs.views.Cuts.{made_runs};
 ghost use Rattle.miette_cuts.specs.views.LineTexts.{text_cells};
 ghost use Rattle.miette_cuts.specs.views.Marks.{mark_of, IsAnchored};
-ghost use Rattle.miette_drawing.specs.steps.LineContexts.{settings, multi_labels, before_marks, number_row, shown_cells};
-ghost use Rattle.miette_drawing.specs.steps.LineContexts.{labels_alone};
+ghost use Rattle.miette_drawing.specs.steps.LineContexts.{settings, multi_labels, before_marks, number_row};
+ghost use Rattle.miette_drawing.specs.steps.LineContexts.{shown_cells, labels_alone};
 ghost use Rattle.miette_source_lines.specs.views.Walking.{line_of_text};
 
 use crate::closings::push_closings;
@@ -67,11 +67,15 @@ fn push_number_row<O: Canvas>(
 }
 
 // The mark row and the rows of texts under it, where there is a mark.
-fn push_marked_rows<O: Canvas>(page: &mut Page<O>, context: &LineContext, marks: &[Mark]) -> Outcome
+fn push_marked_rows<O: Canvas>(
+    page: &mut Page<O>,
+    context: &LineContext,
+    marks: &[Mark<'_>],
+) -> Outcome
     requires { All IsAnchored marks.now }
     ensures { OnOk result (page.new ≡ page.old ⊕ rows_tokens (before_each (before_marks context.now)
         (marked_rows (settings context.now)
-        (map (mark_of context.now.labels.now) marks.now)))) }
+        (map mark_of marks.now)))) }
 {
     if marks.is_empty() {
         return Ok(());
@@ -84,14 +88,14 @@ fn push_marked_rows<O: Canvas>(page: &mut Page<O>, context: &LineContext, marks:
 }
 
 // The marks of the labels that lie on a line alone, by the columns of the whole line.
-fn marks_alone(
+fn marks_alone<'a>(
     alloc: Global,
     context: &LineContext,
-    shown: &ShownLine,
-) -> Result<Vec<Mark>, AllocError>
+    shown: &ShownLine<'a>,
+) -> Result<Vec<Mark<'a>>, AllocError>
     requires { context.now.line.start + length shown.now.text.now < 2 ^ 64 }
     ensures anchored { IfOk result (λ alone. All IsAnchored alone.items) }
-    ensures marks { IfOk result (λ alone. map (mark_of context.now.labels.now) alone.items
+    ensures marks { IfOk result (λ alone. map mark_of alone.items
         ≡ marks (text_of_cells (shown_cells context.now shown.now) context.now.line.text_end)
         (labels_alone context.now shown.now)) }
 {
@@ -110,7 +114,8 @@ fn marks_alone(
 // The row of a break: `...│ │`.
 fn push_break_row<O: Canvas>(page: &mut Page<O>, context: &LineContext) -> Outcome
     ensures { OnOk result (page.new ≡ page.old
-        ⊕ rows_tokens (break_row (settings context.now) context.now.frame.number_width (multi_labels context.now) ∷ [])) }
+        ⊕ rows_tokens (break_row (settings context.now) context.now.frame.number_width (multi_labels context.now)
+        ∷ [])) }
 {
     page.push_blank(context.frame.number_width.saturating_sub(1))?;
     page.push_line(PLAIN, '.', '.', 2)?;
@@ -132,8 +137,8 @@ fn push_break<O: Canvas>(page: &mut Page<O>, context: &LineContext, shown: &Show
     Ok(())
 }
 
-/// The rows of the context's line: the number row, the marks and texts of the labels that lie on it alone, and the texts
-/// of the labels of several lines that end there. Where it is left out, the row of the break that begins with it, if
+/// The rows of the context's line: the number row, the marks and texts of the labels that lie on it alone, and the
+/// texts of the labels of several lines that end there. Where it is left out, the row of the break that begins with it, if
 /// one does. `AllocError` where memory is refused, or a column is past the largest `usize`.
 pub(crate) fn push_line_or_break<O: Canvas>(
     alloc: Global,
@@ -143,7 +148,11 @@ pub(crate) fn push_line_or_break<O: Canvas>(
 ) -> Outcome
     requires { context.now.line.start + length shown.now.text.now < 2 ^ 64 }
     ensures { OnOk result (page.new ≡ page.old
-        ⊕ rows_tokens (line_or_break_of shown.now.gap shown.now.left_out (line_in (settings context.now) context.now.frame.number_width context.now.gutter (line_of_text context.now.line) (multi_labels context.now)) (line_shown shown.now.number (labels_alone context.now shown.now) (shown_cells context.now shown.now) (map highlight_of shown.now.pieces.now)))) }
+        ⊕ rows_tokens (line_or_break_of shown.now.gap shown.now.left_out
+        (line_in (settings context.now) context.now.frame.number_width context.now.gutter
+        (line_of_text context.now.line) (multi_labels context.now))
+        (line_shown shown.now.number (labels_alone context.now shown.now) (shown_cells context.now shown.now)
+        (map highlight_of shown.now.pieces.now)))) }
 {
     if shown.left_out {
         push_break(page, context, shown)?;

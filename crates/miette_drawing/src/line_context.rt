@@ -2,7 +2,6 @@
 
 use crate::frame::Frame;
 use miette_labels::sweep::PlacedLabel;
-use miette_protocol::protocol::LabeledSpan;
 use miette_source_lines::lines::LineOfText;
 use miette_style::style::Style;
 use std::alloc::AllocError;
@@ -19,10 +18,8 @@ pub(crate) struct LineContext<'a> {
     pub(crate) gutter: usize,
     /// The line.
     pub(crate) line: LineOfText,
-    /// The diagnostic's labels, whose texts are drawn.
-    pub(crate) labels: &'a [LabeledSpan],
     /// The labels of several lines that lie on the line, by offset.
-    pub(crate) multi: &'a [PlacedLabel],
+    pub(crate) multi: &'a [PlacedLabel<'a>],
 }
 
 /// A line as its own rows show it.
@@ -33,7 +30,7 @@ pub(crate) struct ShownLine<'a> {
     /// The bytes of its text.
     pub(crate) text: &'a [u8],
     /// The labels that lie on it alone, by offset.
-    pub(crate) one: &'a [PlacedLabel],
+    pub(crate) one: &'a [PlacedLabel<'a>],
     /// A highlighter's pieces of its text, each a length in bytes and a style.
     pub(crate) pieces: &'a [(usize, Style)],
     /// Whether it is left out.

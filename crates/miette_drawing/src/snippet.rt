@@ -45,13 +45,12 @@ use itoa::Buffer;
 use miette_basics::sums::sum;
 use miette_folds::extent::extent_of;
 use miette_folds::folds::{Fold, Spread, folds_in, leaves_out};
-use miette_folds::gaps::{enter_line, next_start, pass_over};
+use miette_folds::gaps::next_start;
 use miette_highlight::highlight::Highlighter;
-use miette_labels::line_sweep::line_at;
-use miette_labels::sweep::{Bounds, PlacedLabel, Sweep, advance};
+use miette_labels::line_sweep::{enter_line, line_at, pass_over};
+use miette_labels::sweep::{PlacedLabel, Sweep};
 use miette_page::canvas::Canvas;
 use miette_page::page::Page;
-use miette_protocol::protocol::LabeledSpan;
 use miette_protocol::source::MietteSpanContents;
 use miette_snippet_rules::options::SnippetSettings;
 use std::alloc::{AllocError, Global};
@@ -61,19 +60,17 @@ use std::alloc::{AllocError, Global};
 pub struct Drawing<'a> {
     /// What snippets are drawn with.
     pub settings: SnippetSettings<'a>,
-    /// The labels as given, whose texts are drawn.
-    pub labels: &'a [LabeledSpan],
     /// The labels as they are drawn, by offset.
-    pub placed: &'a [PlacedLabel],
+    pub placed: &'a [PlacedLabel<'a>],
     /// The labels as they may be folded; none where none is to be.
     pub spreads: &'a [Spread],
 }
 
 /// A sweep over labels, and the offset to which it has come.
 #[derive(Drop)]
-pub struct Passage {
+pub struct Passage<'a> {
     /// What the sweep knows there.
-    pub sweep: Sweep,
+    pub sweep: Sweep<'a>,
     /// The offset.
     pub at: usize,
 }
@@ -133,7 +130,12 @@ fn gutter_width(most: usize) -> Result<usize, AllocError>
 }
 
 // Brings a sweep to an offset.
-fn seek(alloc: Global, labels: &[PlacedLabel], place: usize, passage: &mut Passage) -> Outcome
+fn seek<'a>(
+    alloc: Global,
+    labels: &[PlacedLabel<'a>],
+    place: usize,
+    passage: &mut Passage<'a>,
+) -> Outcome
     requires sorted { AreSorted labels.now }
     requires at { IsAt labels.now passage.old.at passage.old.sweep.next passage.old.sweep.running.items }
     ensures { OnOk result (IsAt labels.now place passage.new.sweep.next passage.new.sweep.running.items) }
@@ -143,25 +145,17 @@ fn seek(alloc: Global, labels: &[PlacedLabel], place: usize, passage: &mut Passa
         passage.sweep = Sweep::new(alloc);
         from = 0;
     }
-    if from < place {
-        let bounds = Bounds {
-            start: from,
-            after: place,
-        };
-        let _passed = advance(alloc, labels, &bounds, &mut passage.sweep)?;
-    }
-    Ok(())
+    pass_over(labels, from, place, &mut passage.sweep)
 }
 
 // The rows of a snippet's lines, in the highlighter's pieces, which is asked for those that are left out too. Where
 // there is none, a gap is passed over at once.
 fn push_lines<'a, H: Highlighter, O: Canvas>(
     drawing: &Drawing<'a>,
-    body: &Body<'a>,
+    body: &Body<'_>,
     highlighter: &mut Option<H>,
     page: &mut Page<O>,
-    sweep: &mut Sweep,
-    one: &mut Vec<PlacedLabel>,
+    sweep: &mut Sweep<'a>,
 ) -> Outcome
     requires sorted { AreSorted drawing.now.placed.now }
     requires at { IsAt drawing.now.placed.now body.now.start sweep.old.next sweep.old.running.items }
@@ -171,7 +165,11 @@ fn push_lines<'a, H: Highlighter, O: Canvas>(
         (AreCallsOn H.may_follow highlighter.old highlighter.new)
         (texts_in body.now.start body.now.bytes.now (lines_from body.now.start body.now.bytes.now))
         (λ pieces. rows_of_lines (left_out (settings_of body.now.frame.settings) body.now.before
-        (lines_from body.now.start body.now.bytes.now) (map spread_of drawing.now.spreads.now)) false (snippet_context (settings_of body.now.frame.settings) body.now.frame.number_width body.now.gutter (map (drawn_of drawing.now.labels.now) drawing.now.placed.now) (cells_in (settings_of body.now.frame.settings) body.now.start body.now.bytes.now)) (body.now.before + 1) pieces (lines_from body.now.start body.now.bytes.now))
+        (lines_from body.now.start body.now.bytes.now) (map spread_of drawing.now.spreads.now)) false
+        (snippet_context (settings_of body.now.frame.settings) body.now.frame.number_width body.now.gutter
+        (map drawn_of drawing.now.placed.now)
+        (cells_in (settings_of body.now.frame.settings) body.now.start body.now.bytes.now)) (body.now.before + 1) pieces
+        (lines_from body.now.start body.now.bytes.now))
         page.old page.new) }
     ensures stays { leaves_plain H.is_blank highlighter.new ≡ leaves_plain H.is_blank highlighter.old }
     ensures at { OnOk result (IsAt drawing.now.placed.now (body.now.start + length body.now.bytes.now) sweep.new.next
@@ -183,12 +181,11 @@ fn push_lines<'a, H: Highlighter, O: Canvas>(
     while at < body.bytes.len() {
         let number = number_of(body.before, place)?;
         let line = line_at(body.bytes, body.start, at);
-        enter_line(drawing.placed, &line, sweep, one)?;
+        enter_line(drawing.placed, &line, sweep)?;
         let context = LineContext {
             frame: body.frame,
             gutter: body.gutter,
             line,
-            labels: drawing.labels,
             multi: &sweep.running,
         };
         let text = &body.bytes[line.start - body.start..line.text_end - body.start];
@@ -202,7 +199,7 @@ fn push_lines<'a, H: Highlighter, O: Canvas>(
         let shown = ShownLine {
             number,
             text,
-            one,
+            one: &sweep.alone,
             pieces: &pieces,
             left_out,
             gap,
@@ -210,7 +207,7 @@ fn push_lines<'a, H: Highlighter, O: Canvas>(
         push_line_or_break(drawing.settings.alloc, page, &context, &shown)?;
         sweep.leave(line.end);
         let next = next_start(body.folds, place, &line, may_pass(highlighter, left_out));
-        pass_over(drawing.placed, line.end, next.offset, sweep, one)?;
+        pass_over(drawing.placed, line.end, next.offset, sweep)?;
         gap = left_out;
         place = next.place;
         at = next.offset - body.start;
@@ -223,7 +220,7 @@ fn push_framed<'a, H: Highlighter, O: Canvas>(
     drawing: &Drawing<'a>,
     highlighter: &mut Option<H>,
     page: &mut Page<O>,
-    sweep: &mut Sweep,
+    sweep: &mut Sweep<'a>,
     lent: &MietteSpanContents<'_>,
     place: Option<(usize, usize)>,
 ) -> Outcome
@@ -242,9 +239,9 @@ fn push_framed<'a, H: Highlighter, O: Canvas>(
     let bytes = lent.data();
     let before = lent.line();
     let folds = folds_in(drawing.settings.alloc, lent, drawing.spreads)?;
-    let mut one = Vec::new(drawing.settings.alloc);
-    let mut ahead = sweep.copy(drawing.settings.alloc)?;
-    let extent = extent_of(bytes, start, &folds, drawing.placed, &mut ahead, &mut one)?;
+    let begun = sweep.copy(drawing.settings.alloc)?;
+    let extent = extent_of(bytes, start, &folds, drawing.placed, sweep)?;
+    sweep.come_back(begun);
     let frame = Frame {
         settings: drawing.settings,
         number_width: number_width(before, extent.lines)?,
@@ -258,7 +255,7 @@ fn push_framed<'a, H: Highlighter, O: Canvas>(
         folds: &folds,
     };
     push_top_row(page, &frame, lent.name(), extent.lines > 1, place)?;
-    push_lines(drawing, &body, highlighter, page, sweep, &mut one)?;
+    push_lines(drawing, &body, highlighter, page, sweep)?;
     push_bottom_row(page, &frame)?;
     Ok(())
 }
@@ -271,7 +268,7 @@ pub fn push_snippet<'a, H: Highlighter, O: Canvas>(
     drawing: &Drawing<'a>,
     highlighter: &mut Option<H>,
     page: &mut Page<O>,
-    passage: &mut Passage,
+    passage: &mut Passage<'a>,
     lent: &MietteSpanContents<'_>,
     place: Option<(usize, usize)>,
 ) -> Outcome

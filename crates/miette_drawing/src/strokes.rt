@@ -12,32 +12,31 @@ ghost use Rattle.miette_drawing.specs.steps.LineContexts.{settings};
 
 use crate::line_context::{LineContext, Outcome};
 use miette_cuts::marks::Mark;
-use miette_labels::drawn_labels::text_of;
 use miette_page::canvas::Canvas;
 use miette_page::page::Page;
 
 // The character at a mark's anchor.
-fn middle_of(context: &LineContext, mark: &Mark) -> char
-    ensures { result ≡ (if is_empty (drawn_of context.now.labels.now mark.now.label)
+fn middle_of(context: &LineContext, mark: &Mark<'_>) -> char
+    ensures { result ≡ (if is_empty (drawn_of mark.now.label)
         then (settings context.now).theme.characters.uarrow
-        else code_with_parts (settings context.now).theme.characters (drawn_of context.now.labels.now mark.now.label).parts) }
+        else code_with_parts (settings context.now).theme.characters (drawn_of mark.now.label).parts) }
 {
     let characters = &context.frame.settings.theme.characters;
     if mark.label.start == mark.label.after {
         return characters.uarrow;
     }
-    match text_of(context.labels, &mark.label) {
+    match mark.label.text {
         Some(_) => characters.underbar,
         None => characters.underline,
     }
 }
 
 // A mark: `──┬──`.
-fn push_mark<O: Canvas>(page: &mut Page<O>, context: &LineContext, mark: &Mark) -> Outcome
+fn push_mark<O: Canvas>(page: &mut Page<O>, context: &LineContext, mark: &Mark<'_>) -> Outcome
     requires { IsAnchored mark.now }
     ensures { OnOk result (page.new ≡ page.old
         ⊕ run_tokens (mark_run (settings context.now)
-        (mark_of context.now.labels.now mark.now))) }
+        (mark_of mark.now))) }
 {
     let line = context.frame.settings.theme.characters.underline;
     page.begin(mark.label.style)?;
@@ -51,12 +50,12 @@ fn push_mark<O: Canvas>(page: &mut Page<O>, context: &LineContext, mark: &Mark) 
 pub(crate) fn push_marks<O: Canvas>(
     page: &mut Page<O>,
     context: &LineContext,
-    marks: &[Mark],
+    marks: &[Mark<'_>],
 ) -> Outcome
     requires { All IsAnchored marks.now }
     ensures { OnOk result (page.new ≡ page.old
         ⊕ row_tokens (mark_runs (settings context.now) 0
-        (map (mark_of context.now.labels.now) marks.now))) }
+        (map mark_of marks.now))) }
 {
     let mut reached: usize = 0;
     for mark in marks {

@@ -16,7 +16,6 @@ use crate::gutters::push_other_gutter;
 use crate::label_text::first_part;
 use crate::line_context::{LineContext, Outcome};
 use miette_cuts::marks::Mark;
-use miette_labels::drawn_labels::text_of;
 use miette_page::canvas::Canvas;
 use miette_page::page::{PLAIN, Page};
 use std::alloc::AllocError;
@@ -24,7 +23,8 @@ use std::alloc::AllocError;
 /// What stands before the gutter of a row that isn't the number row: `   · `. `AllocError` where memory is refused, or
 /// `number_width + 2` is past the largest `usize`.
 pub(crate) fn push_other_start<O: Canvas>(page: &mut Page<O>, context: &LineContext) -> Outcome
-    ensures { OnOk result (page.new ≡ page.old ⊕ row_tokens (other_start (settings context.now) context.now.frame.number_width)) }
+    ensures { OnOk result (page.new ≡ page.old
+        ⊕ row_tokens (other_start (settings context.now) context.now.frame.number_width)) }
 {
     let Some(columns) = context.frame.number_width.checked_add(2) else {
         return Err(AllocError);
@@ -49,7 +49,7 @@ pub(crate) fn push_before_marks<O: Canvas>(page: &mut Page<O>, context: &LineCon
 }
 
 // The column behind the one from which a mark's text hangs.
-fn behind_anchor(mark: &Mark) -> usize
+fn behind_anchor(mark: &Mark<'_>) -> usize
     requires { IsAnchored mark.now }
     ensures { result ≡ mark.now.anchor + 1 }
 {
@@ -61,13 +61,13 @@ fn behind_anchor(mark: &Mark) -> usize
 fn push_leads<O: Canvas>(
     page: &mut Page<O>,
     context: &LineContext,
-    earlier: &[Mark],
+    earlier: &[Mark<'_>],
     column: usize,
 ) -> Outcome
     requires { All IsAnchored earlier.now }
     ensures { OnOk result (page.new ≡ page.old
         ⊕ row_tokens (lead_runs (settings context.now) 0
-        (map (mark_of context.now.labels.now) earlier.now) column)) }
+        (map mark_of earlier.now) column)) }
 {
     let bar = context.frame.settings.theme.characters.vbar;
     let mut reached: usize = 0;
@@ -88,16 +88,16 @@ struct Front(char, char, char);
 fn push_text_row<O: Canvas>(
     page: &mut Page<O>,
     context: &LineContext,
-    earlier: &[Mark],
-    mark: &Mark,
+    earlier: &[Mark<'_>],
+    mark: &Mark<'_>,
     front: Front,
     part: &str,
 ) -> Outcome
     requires earlier { All IsAnchored earlier.now }
     requires own { IsAnchored mark.now }
     ensures { OnOk result (page.new ≡ page.old
-        ⊕ rows_tokens (text_line context.now (map (mark_of context.now.labels.now) earlier.now)
-        (mark_of context.now.labels.now mark.now) (front.0 ∷ front.1 ∷ front.2 ∷ 32 ∷ []) (chars part.now) ∷ [])) }
+        ⊕ rows_tokens (text_line context.now (map mark_of earlier.now)
+        (mark_of mark.now) (front.0 ∷ front.1 ∷ front.2 ∷ 32 ∷ []) (chars part.now) ∷ [])) }
 {
     push_before_marks(page, context)?;
     push_leads(page, context, earlier, mark.anchor)?;
@@ -113,14 +113,14 @@ fn push_text_row<O: Canvas>(
 fn push_more_parts<O: Canvas>(
     page: &mut Page<O>,
     context: &LineContext,
-    earlier: &[Mark],
-    mark: &Mark,
+    earlier: &[Mark<'_>],
+    mark: &Mark<'_>,
     text: &str,
 ) -> Outcome
     requires earlier { All IsAnchored earlier.now }
     requires own { IsAnchored mark.now }
     ensures { OnOk result (page.new ≡ page.old ⊕ rows_tokens (map
-        (text_line context.now (map (mark_of context.now.labels.now) earlier.now) (mark_of context.now.labels.now mark.now)
+        (text_line context.now (map mark_of earlier.now) (mark_of mark.now)
         (beside (settings context.now).theme.characters))
         (cut_at_lf (chars text.now)))) }
 {
@@ -139,17 +139,17 @@ fn push_more_parts<O: Canvas>(
 fn push_text<O: Canvas>(
     page: &mut Page<O>,
     context: &LineContext,
-    earlier: &[Mark],
-    mark: &Mark,
+    earlier: &[Mark<'_>],
+    mark: &Mark<'_>,
 ) -> Outcome
     requires earlier { All IsAnchored earlier.now }
     requires own { IsAnchored mark.now }
     ensures { OnOk result (page.new ≡ page.old ⊕ rows_tokens (before_each (before_marks context.now)
         (rows_of_parts (settings context.now)
-        (map (mark_of context.now.labels.now) earlier.now) (mark_of context.now.labels.now mark.now)
-        (drawn_of context.now.labels.now mark.now.label).parts))) }
+        (map mark_of earlier.now) (mark_of mark.now)
+        (drawn_of mark.now.label).parts))) }
 {
-    let Some(text) = text_of(context.labels, &mark.label) else {
+    let Some(text) = mark.label.text else {
         return Ok(());
     };
     let characters = &context.frame.settings.theme.characters;
@@ -169,12 +169,12 @@ fn push_text<O: Canvas>(
 pub(crate) fn push_texts<O: Canvas>(
     page: &mut Page<O>,
     context: &LineContext,
-    marks: &[Mark],
+    marks: &[Mark<'_>],
 ) -> Outcome
     requires { All IsAnchored marks.now }
     ensures { OnOk result (page.new ≡ page.old ⊕ rows_tokens (before_each (before_marks context.now)
         (rows_below (settings context.now) []
-        (map (mark_of context.now.labels.now) marks.now)))) }
+        (map mark_of marks.now)))) }
 {
     let mut place = marks.len();
     while place > 0 {

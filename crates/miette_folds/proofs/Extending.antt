@@ -12,7 +12,7 @@ use Rattle.miette_labels.specs.declared.sweep.Bounds.{Bounds}
 use Rattle.miette_labels.specs.declared.sweep.PlacedLabel.{PlacedLabel}
 use Rattle.miette_labels.specs.rules.Labels.{reach}
 use Rattle.miette_labels.specs.views.LabelCounts.{most_multi}
-use Rattle.miette_labels.specs.views.Sweeping.{label_of, line_of_bounds, passes, is_multi, nothing, start_at, AreSorted}
+use Rattle.miette_labels.specs.views.Sweeping.{line_of_bounds, passes, is_multi, nothing, start_at, AreSorted}
 use Rattle.miette_labels.specs.views.Sweeping.{IsAt, IsOn}
 use Rattle.miette_source_lines.proofs.Cuts.{cut_le}
 use Rattle.miette_labels.proofs.Swept.{earlier_multi, inside_past, later_none}
@@ -23,6 +23,7 @@ use Rattle.miette_folds.specs.views.Gaps.{next_line, next_start}
 use Rattle.miette_folds.specs.steps.Counting.{begins_before, next_counted}
 use Rattle.miette_folds.proofs.Passing.{next_begins, next_further}
 use Rattle.miette_folds.proofs.Starts.{Begins, RunOf, begins_end, begins_first, begins_next, run_of}
+use Rattle.miette_labels.specs.views.GivenLabels.{drawn_of}
 
 -- ---- the labels on a later line of a gap
 
@@ -30,7 +31,7 @@ use Rattle.miette_folds.proofs.Starts.{Begins, RunOf, begins_end, begins_first, 
 past_first : (line later : Line) (p : PlacedLabel) → line.end ≤ later.start → later.start < later.end → p.start
     < line.end → is_multi later p ≡ true → passes line.end p ≡ true
 past_first line later p after some before on =
-    let r : ℕ = reach (label_of p) in
+    let r : ℕ = reach (drawn_of p) in
     let b : Bounds = record { start = later.start; after = later.end } in
     let past : passes later.start p ≡ true = sym (earlier_multi b p some (omega (arith, before, after))) ∙ on in
     let over : later.start < r = ltb-true later.start r past in
@@ -40,7 +41,7 @@ past_first line later p after some before on =
 on_first : (line later : Line) (p : PlacedLabel) → p.start ≤ p.after → line.start < line.end → line.end ≤ later.start
     → later.start < later.end → p.start < line.end → is_multi later p ≡ true → is_multi line p ≡ true
 on_first line later p ok own after some before on =
-    let r : ℕ = reach (label_of p) in
+    let r : ℕ = reach (drawn_of p) in
     let b : Bounds = record { start = line.start; after = line.end } in
     let past : passes line.end p ≡ true = past_first line later p after some before on in
     ⊎_elim {C = is_multi line p ≡ true}

@@ -3,14 +3,14 @@
 ghost use Rattle.std.specs.Prelude.{◌≡◌, ◌+◌, ◌-◌, ◌<◌, ◌≤◌, ◌^◌, ℕ, true, false, drop, length, IfOk};
 ghost use Rattle.miette_labels.specs.views.Sweeping.{IsAt, AreSorted};
 ghost use Rattle.miette_source_lines.specs.rules.Lines.{lines_from};
-ghost use Rattle.miette_folds.specs.steps.Counting.{begins_before, next_counted};
+ghost use Rattle.miette_folds.specs.steps.Counting.{begins_before, next_counted, some_go_on};
 ghost use Rattle.miette_source_lines.specs.views.Walking.{line_of_text};
 ghost use Rattle.miette_labels.specs.views.LabelCounts.{most_multi};
 ghost use Rattle.miette_folds.specs.views.Folding.{AreFoldsIn};
 
 use crate::folds::{Fold, LineStart};
-use crate::gaps::{enter_line, next_start, pass_over};
-use miette_labels::line_sweep::line_at;
+use crate::gaps::next_start;
+use miette_labels::line_sweep::{enter_line, line_at, pass_over};
 use miette_labels::sweep::{PlacedLabel, Sweep};
 use miette_source_lines::find::FindLines;
 use miette_source_lines::lines::LineOfText;
@@ -30,31 +30,30 @@ pub struct Extent {
 }
 
 // Whether a label begins before an offset, of those from this one on.
-fn begins_before(labels: &[PlacedLabel], first: usize, offset: usize) -> bool
+fn begins_before(labels: &[PlacedLabel<'_>], first: usize, offset: usize) -> bool
     ensures { result ≡ begins_before labels.now first offset }
 {
     first < labels.len() && labels[first].start < offset
 }
 
-// Where the line begins that is counted behind a line, before which so many stand; this label is the first that begins
-// behind it, and `inside` says whether others go on past it. On no line in between lie more labels of several lines
-// than on it, as no label begins there.
+// Where the line begins that is counted after a line that a sweep has left, before which so many stand. On no line in
+// between lie more labels of several lines than on it, as no label begins there.
 fn next_counted(
-    labels: &[PlacedLabel],
-    first: usize,
-    inside: bool,
+    labels: &[PlacedLabel<'_>],
+    sweep: &Sweep<'_>,
     folds: &[Fold],
     place: usize,
     line: &LineOfText,
 ) -> LineStart
     requires { place + 1 < 2 ^ 64 }
-    ensures { result ≡ next_counted labels.now first inside folds.now place (line_of_text line.now) }
+    ensures { result ≡ next_counted labels.now sweep.now.next (some_go_on sweep.now.running.items) folds.now place
+        (line_of_text line.now) }
 {
-    if !inside || folds.is_empty() {
+    if sweep.running.is_empty() || folds.is_empty() {
         return next_start(folds, place, line, false);
     }
     let far = next_start(folds, place, line, true);
-    if begins_before(labels, first, far.offset) {
+    if begins_before(labels, sweep.next, far.offset) {
         return next_start(folds, place, line, false);
     }
     far
@@ -72,20 +71,19 @@ fn count_lines(bytes: &[u8]) -> usize
     Scan(bytes).line_from(0, 0, bytes.len() - 1) + 1
 }
 
-// Whether the lines behind a line are counted at once: no folded label goes on past it, of the labels from this one on
-// none begins before the end, and there are so many bytes that it pays.
+// Whether the lines after a line that a sweep has left are counted at once: no folded label goes on past it, no label
+// begins after it and before the end, and there are so many bytes that it pays.
 fn counts_rest(
-    labels: &[PlacedLabel],
-    first: usize,
-    inside: bool,
+    labels: &[PlacedLabel<'_>],
+    sweep: &Sweep<'_>,
     folds: &[Fold],
     end: usize,
     line: &LineOfText,
 ) -> bool
-    ensures { result ≡ true → begins_before labels.now first end ≡ false }
+    ensures { result ≡ true → begins_before labels.now sweep.now.next end ≡ false }
 {
-    let jumps = inside && !folds.is_empty();
-    !jumps && end.saturating_sub(line.end) > FEW && !begins_before(labels, first, end)
+    let jumps = !sweep.running.is_empty() && !folds.is_empty();
+    !jumps && end.saturating_sub(line.end) > FEW && !begins_before(labels, sweep.next, end)
 }
 
 // Where some bytes end, behind one of their lines, before which so many stand; the lines behind it are counted at once.
@@ -106,14 +104,13 @@ fn counted_end(bytes: &[u8], start: usize, place: usize, line: &LineOfText) -> L
 
 /// The lines of some bytes of a source, which begin at this offset where the sweep is, are counted: those that are left
 /// out inside the folded labels without a look at them, many behind the line where the last label begins at once. The
-/// sweep goes on to their end. What `one` holds is given up, and its room used. `AllocError` where memory is refused.
-pub fn extent_of(
+/// sweep goes on to their end. `AllocError` where memory is refused.
+pub fn extent_of<'a>(
     bytes: &[u8],
     start: usize,
     folds: &[Fold],
-    labels: &[PlacedLabel],
-    sweep: &mut Sweep,
-    one: &mut Vec<PlacedLabel>,
+    labels: &[PlacedLabel<'a>],
+    sweep: &mut Sweep<'a>,
 ) -> Result<Extent, AllocError>
     requires sorted { AreSorted labels.now }
     requires at { IsAt labels.now start sweep.old.next sweep.old.running.items }
@@ -128,16 +125,15 @@ pub fn extent_of(
     let mut most: usize = 0;
     while at < bytes.len() {
         let line = line_at(bytes, start, at);
-        enter_line(labels, &line, sweep, one)?;
+        enter_line(labels, &line, sweep)?;
         most = sweep.running.len().max(most);
         sweep.leave(line.end);
-        let inside = !sweep.running.is_empty();
-        let next = if counts_rest(labels, sweep.next, inside, folds, end, &line) {
+        let next = if counts_rest(labels, sweep, folds, end, &line) {
             counted_end(bytes, start, place, &line)
         } else {
-            next_counted(labels, sweep.next, inside, folds, place, &line)
+            next_counted(labels, sweep, folds, place, &line)
         };
-        pass_over(labels, line.end, next.offset, sweep, one)?;
+        pass_over(labels, line.end, next.offset, sweep)?;
         place = next.place;
         at = next.offset - start;
     }

@@ -1,16 +1,13 @@
-//! Gaps inside folded labels, whose lines are left out: where one ends, and how a sweep over labels passes it.
+//! Gaps inside folded labels, whose lines are left out: where one ends.
 
-ghost use Rattle.std.specs.Prelude.{◌≡◌, ◌+◌, ◌<◌, ◌≤◌, ◌^◌, None, OnOk};
-ghost use Rattle.std.specs.List.{list_any, filter};
+ghost use Rattle.std.specs.Prelude.{◌≡◌, ◌+◌, ◌<◌, ◌^◌, None};
+ghost use Rattle.std.specs.List.{list_any};
 ghost use Rattle.miette_source_lines.specs.views.Walking.{line_of_text};
-ghost use Rattle.miette_labels.specs.views.Sweeping.{IsAt, IsOn, AreSorted, is_one, line_of_bounds};
 ghost use Rattle.miette_folds.specs.views.Gaps.{nearest, further, nearer_stop, nearest_stop, goes_on, gap_end};
 ghost use Rattle.miette_folds.specs.views.Gaps.{next_start};
 
 use crate::folds::{Fold, LineStart, is_around};
-use miette_labels::sweep::{Bounds, PlacedLabel, Sweep};
 use miette_source_lines::lines::LineOfText;
-use std::alloc::AllocError;
 
 // The nearest beginning of a line so far, if there is one, or this one where it's nearer.
 fn nearest(end: Option<LineStart>, stop: LineStart) -> LineStart
@@ -108,53 +105,4 @@ pub fn next_start(folds: &[Fold], place: usize, line: &LineOfText, jumps: bool) 
     } else {
         next
     }
-}
-
-/// Goes on to the labels of a line: `one` gets those that lie on it alone. `AllocError` where memory is refused.
-pub fn enter_line(
-    labels: &[PlacedLabel],
-    line: &LineOfText,
-    sweep: &mut Sweep,
-    one: &mut Vec<PlacedLabel>,
-) -> Result<(), AllocError>
-    requires sorted { AreSorted labels.now }
-    requires some { line.now.start < line.now.end }
-    requires at { IsAt labels.now line.now.start sweep.old.next sweep.old.running.items }
-    ensures one { OnOk result (one.new.items ≡ filter (is_one (line_of_text line.now)) labels.now) }
-    ensures on { OnOk result (IsOn labels.now
-        (line_of_bounds (record { start = line.now.start; after = line.now.end })) sweep.new.next
-        sweep.new.running.items) }
-{
-    let bounds = Bounds {
-        start: line.start,
-        after: line.end,
-    };
-    one.clear();
-    sweep.enter(labels, &bounds, one)
-}
-
-/// Brings a sweep over lines of which nothing is put. `AllocError` where memory is refused.
-pub fn pass_over(
-    labels: &[PlacedLabel],
-    from: usize,
-    to: usize,
-    sweep: &mut Sweep,
-    one: &mut Vec<PlacedLabel>,
-) -> Result<(), AllocError>
-    requires sorted { AreSorted labels.now }
-    requires order { from ≤ to }
-    requires at { IsAt labels.now from sweep.old.next sweep.old.running.items }
-    ensures { OnOk result (IsAt labels.now to sweep.new.next sweep.new.running.items) }
-{
-    if to <= from {
-        return Ok(());
-    }
-    let bounds = Bounds {
-        start: from,
-        after: to,
-    };
-    one.clear();
-    sweep.enter(labels, &bounds, one)?;
-    sweep.leave(to);
-    Ok(())
 }

@@ -7,7 +7,8 @@ use Rattle.std.specs.List.{filter}
 use Rattle.miette_labels.specs.declared.sweep.PlacedLabel.{PlacedLabel}
 use Rattle.miette_labels.specs.declared.sweep.Bounds.{Bounds}
 use Rattle.miette_labels.specs.rules.Labels.{reach}
-use Rattle.miette_labels.specs.views.Sweeping.{label_of, line_of_bounds, passes, is_one, is_multi, nothing, start_at}
+use Rattle.miette_labels.specs.views.GivenLabels.{drawn_of}
+use Rattle.miette_labels.specs.views.Sweeping.{line_of_bounds, passes, is_one, is_multi, nothing, start_at}
 use Rattle.miette_labels.specs.views.Sweeping.{AreSorted, IsAt, IsOn}
 use Rattle.miette_basics.proofs.Cases.{by_cases}
 
@@ -19,8 +20,8 @@ pub record IsSwept (labels : List PlacedLabel) (line : Bounds) (next : ℕ) (one
   pub one_is : one ≡ filter (is_one (line_of_bounds line)) (take next labels)
   pub multi_is : multi ≡ filter (is_multi (line_of_bounds line)) (take next labels)
 
-reach-gt : (p : PlacedLabel) → p.start ≤ p.after → p.start < reach (label_of p)
-reach-gt p le = by_cases {C = p.start < reach (label_of p)} (eqb p.start p.after) (λ t. rw t (omega arith))
+reach-gt : (p : PlacedLabel) → p.start ≤ p.after → p.start < reach (drawn_of p)
+reach-gt p le = by_cases {C = p.start < reach (drawn_of p)} (eqb p.start p.after) (λ t. rw t (omega arith))
     (λ f. rw f (⊎_elim {C = p.start < p.after} (λ lt. lt)
     (λ ge. absurd (eqb-false p.start p.after f (omega (arith, le, ge)))) (cases_lt p.start p.after)))
 
@@ -29,7 +30,7 @@ reach-gt p le = by_cases {C = p.start < reach (label_of p)} (eqb p.start p.after
 pub inside_past : (line : Bounds) (p : PlacedLabel) → p.start ≤ p.after → line.start ≤ p.start → p.start < line.after
     → passes line.after p ≡ true → (is_one (line_of_bounds line) p ≡ false) × (is_multi (line_of_bounds line) p ≡ true)
 inside_past line p ok ge lt past =
-    let r : ℕ = reach (label_of p) in
+    let r : ℕ = reach (drawn_of p) in
     let gt : p.start < r = reach-gt p ok in
     let over : line.after < r = ltb-true line.after r past in
     let a : leb line.start p.start ≡ true = le-leb line.start p.start ge in
@@ -41,7 +42,7 @@ inside_past line p ok ge lt past =
 inside_ends : (line : Bounds) (p : PlacedLabel) → p.start ≤ p.after → line.start ≤ p.start → p.start < line.after
     → passes line.after p ≡ false → (is_one (line_of_bounds line) p ≡ true) × (is_multi (line_of_bounds line) p ≡ false)
 inside_ends line p ok ge lt past =
-    let r : ℕ = reach (label_of p) in
+    let r : ℕ = reach (drawn_of p) in
     let gt : p.start < r = reach-gt p ok in
     let under : r ≤ line.after = ltb-false line.after r past in
     let a : leb line.start p.start ≡ true = le-leb line.start p.start ge in
@@ -56,7 +57,7 @@ earlier_one line p lt = let a : leb line.start p.start ≡ false = lt-leb line.s
 pub earlier_multi : (line : Bounds) (p : PlacedLabel) → line.start < line.after → p.start < line.start
     → is_multi (line_of_bounds line) p ≡ passes line.start p
 earlier_multi line p some lt =
-    let r : ℕ = reach (label_of p) in
+    let r : ℕ = reach (drawn_of p) in
     let a : leb line.start p.start ≡ false = lt-leb line.start p.start lt in
     let f : ltb p.start line.start ≡ true = lt-ltb p.start line.start lt in
     by_cases {C = is_multi (line_of_bounds line) p ≡ passes line.start p} (ltb line.start r)
@@ -69,7 +70,7 @@ earlier_multi line p some lt =
 earlier_past : (line : Bounds) (p : PlacedLabel) → line.start < line.after
     → (passes line.start p && passes line.after p) ≡ passes line.after p
 earlier_past line p some =
-    let r : ℕ = reach (label_of p) in
+    let r : ℕ = reach (drawn_of p) in
     by_cases {C = (passes line.start p && passes line.after p) ≡ passes line.after p} (ltb line.start r)
     (λ c. rw c refl)
     (λ c. let g : ltb line.after r ≡ false = le-ltb line.after r (omega (arith, some, ltb-false line.start r c)) in
@@ -78,7 +79,7 @@ earlier_past line p some =
 pub later_none : (line : Bounds) (p : PlacedLabel) → p.start ≤ p.after → line.start < line.after → line.after ≤ p.start
     → (is_one (line_of_bounds line) p ≡ false) × (is_multi (line_of_bounds line) p ≡ false)
 later_none line p ok some ge =
-    let r : ℕ = reach (label_of p) in
+    let r : ℕ = reach (drawn_of p) in
     let gt : p.start < r = reach-gt p ok in
     let a : leb line.start p.start ≡ true = le-leb line.start p.start (omega (arith, ge, some)) in
     let b : ltb p.start line.after ≡ false = le-ltb p.start line.after ge in

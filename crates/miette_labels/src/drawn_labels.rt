@@ -1,9 +1,9 @@
 //! Labels as they are drawn.
 
-ghost use Rattle.std.specs.Prelude.{option_copied, ◌≡◌, IfOk};
+ghost use Rattle.std.specs.Prelude.{option_copied, ◌≡◌, map, IfOk};
 ghost use Rattle.miette_labels.specs.rules.Labels.{style_at};
 ghost use Rattle.miette_labels.specs.views.GivenLabels.{text_at};
-ghost use Rattle.miette_labels.specs.views.Placing.{placed_from, placed_one, end_drawn, is_told};
+ghost use Rattle.miette_labels.specs.views.Placing.{placed_of, placed_from, placed_one, end_drawn, is_told};
 ghost use Rattle.miette_labels.specs.views.Placing.{lends_before, told_end};
 
 use crate::reading::ReadLabel;
@@ -67,14 +67,25 @@ fn is_told(end: Option<usize>, offset: usize) -> bool
     }
 }
 
+// The text of the label with this number, which is counted from 0.
+fn text_of<'a>(labels: &'a [LabeledSpan], index: usize) -> Option<&'a str>
+    ensures { option_copied result ≡ text_at labels.now index }
+{
+    match labels.get(index) {
+        Some(label) => label.label(),
+        None => None,
+    }
+}
+
 // A label as it is drawn, in the style of the i-th one.
-fn placed_one(
+fn placed_one<'a>(
     end: Option<usize>,
     styles: &[Style],
     i: usize,
+    labels: &'a [LabeledSpan],
     read: &ReadLabel<'_>,
-) -> Result<PlacedLabel, AllocError>
-    ensures { IfOk result (λ placed. placed ≡ placed_one end styles.now i read.now) }
+) -> Result<PlacedLabel<'a>, AllocError>
+    ensures { IfOk result (λ placed. placed_of placed ≡ placed_one end styles.now i labels.now read.now) }
 {
     let offset = read.span.offset();
     let behind = is_told(end, offset);
@@ -89,35 +100,27 @@ fn placed_one(
         start,
         after,
         style: style_of(styles, i),
-        index: read.index,
+        text: text_of(labels, read.index),
         behind,
     })
 }
 
-/// The labels that were read, in the same order, as they are drawn: each with its style by its place in that order.
+/// The labels that were read of these, in the order of their reads, as they are drawn: each with its style by its place
+/// in that order, and its text.
 /// Those that begin where the source is told to end stand behind the text of its last line, as empty ones at its last
 /// byte. `AllocError` where memory is refused, or the span of a label or of its read ends past the largest `usize`.
-pub fn placed_labels(
+pub fn placed_labels<'a>(
     alloc: Global,
     styles: &[Style],
     end: Option<usize>,
+    labels: &'a [LabeledSpan],
     reads: &[ReadLabel<'_>],
-) -> Result<Vec<PlacedLabel>, AllocError>
-    ensures { IfOk result (λ placed. placed.items ≡ placed_from end styles.now 0 reads.now) }
+) -> Result<Vec<PlacedLabel<'a>>, AllocError>
+    ensures { IfOk result (λ placed. map placed_of placed.items ≡ placed_from end styles.now 0 labels.now reads.now) }
 {
     let mut placed = Vec::with_capacity(alloc, reads.len())?;
     for (i, read) in reads.iter().enumerate() {
-        placed.push(placed_one(end, styles, i, read)?)?;
+        placed.push(placed_one(end, styles, i, labels, read)?)?;
     }
     Ok(placed)
-}
-
-/// The text of a placed label.
-pub fn text_of<'a>(labels: &'a [LabeledSpan], placed: &PlacedLabel) -> Option<&'a str>
-    ensures { option_copied result ≡ text_at labels.now placed.now.index }
-{
-    match labels.get(placed.index) {
-        Some(label) => label.label(),
-        None => None,
-    }
 }

@@ -2,23 +2,23 @@
 
 ghost use Rattle.std.specs.Prelude.{◌≡◌, ◌<◌, [], OnOk, IfOk};
 ghost use Rattle.std.specs.List.{filter};
-ghost use Rattle.miette_labels.specs.views.Sweeping.{passes, is_one, is_multi, IsAt, IsOn, AreSorted};
+ghost use Rattle.miette_labels.specs.views.Sweeping.{passes, is_one, IsAt, IsOn, AreSorted};
 ghost use Rattle.miette_labels.specs.views.Sweeping.{line_of_bounds};
 
 use miette_style::style::Style;
 use std::alloc::{AllocError, Global};
 
-/// A label up to its drawn end, with its style, and which label it is.
+/// A label up to its drawn end, with its style and text.
 #[derive(Clone, Copy, Debug, PartialEq, Eq, Drop)]
-pub struct PlacedLabel {
+pub struct PlacedLabel<'a> {
     /// The offset where it begins, in bytes of the source.
     pub start: usize,
     /// The offset of its drawn end: its own end, or that of what its read lent where this comes first.
     pub after: usize,
     /// The style that it is drawn in.
     pub style: Style,
-    /// Its number in the list as given, counted from 0.
-    pub index: usize,
+    /// Its text, if it has one.
+    pub text: Option<&'a str>,
     /// Whether it stands behind the text of its line.
     pub behind: bool,
 }
@@ -32,26 +32,20 @@ pub struct Bounds {
     pub after: usize,
 }
 
-/// The labels that began before a place and go on past it, and how many began before it.
+/// The labels that began before a place and go on past it, how many began before it, and those that lie alone on the
+/// line that was entered last.
 #[derive(Debug, Drop)]
-pub struct Sweep {
+pub struct Sweep<'a> {
     /// The labels that began before the place and go on past it, by offset.
-    pub running: Vec<PlacedLabel>,
+    pub running: Vec<PlacedLabel<'a>>,
     /// How many labels began before the place, which is the index of the next one by offset.
     pub next: usize,
-}
-
-/// The labels that lie on a line alone, and those of several lines that lie on it.
-#[derive(Debug, Drop)]
-pub struct OnLine {
-    /// The labels that lie on the line alone, by offset.
-    pub one: Vec<PlacedLabel>,
-    /// The labels of several lines that lie on the line, by offset.
-    pub multi: Vec<PlacedLabel>,
+    /// The labels that lie alone on the line that was entered last, by offset.
+    pub alone: Vec<PlacedLabel<'a>>,
 }
 
 // Whether a label goes on past a place.
-fn goes_past(label: &PlacedLabel, place: usize) -> bool
+fn goes_past(label: &PlacedLabel<'_>, place: usize) -> bool
     ensures { result ≡ passes place label.now }
 {
     if label.start == label.after {
@@ -61,7 +55,7 @@ fn goes_past(label: &PlacedLabel, place: usize) -> bool
     }
 }
 
-impl Sweep {
+impl<'a> Sweep<'a> {
     /// A sweep before the first label.
     pub fn new(alloc: Global) -> Self
         ensures next { result.next ≡ 0 }
@@ -70,42 +64,48 @@ impl Sweep {
         Sweep {
             running: Vec::new(alloc),
             next: 0,
+            alone: Vec::new(alloc),
         }
     }
 
-    /// A sweep at the same place. `AllocError` where memory is refused.
-    pub fn copy(&self, alloc: Global) -> Result<Sweep, AllocError>
+    /// A sweep at the same place, which has entered no line yet. `AllocError` where memory is refused.
+    pub fn copy(&self, alloc: Global) -> Result<Sweep<'a>, AllocError>
         ensures next { IfOk result (λ copy. copy.next ≡ self.now.next) }
         ensures running { IfOk result (λ copy. copy.running.items ≡ self.now.running.items) }
     {
         Ok(Sweep {
             running: copy_of(alloc, &self.running)?,
             next: self.next,
+            alone: Vec::new(alloc),
         })
     }
 
-    /// Goes on to the labels of the next line: `running` are then those of several lines that lie on it, and `one`
-    /// gets those that lie on it alone. `AllocError` where memory is refused; where the sweep then is, is open.
-    pub fn enter(
-        &mut self,
-        labels: &[PlacedLabel],
-        line: &Bounds,
-        one: &mut Vec<PlacedLabel>,
-    ) -> Result<(), AllocError>
+    /// Comes back to the place of another sweep over the same labels.
+    pub fn come_back(&mut self, place: Sweep<'a>)
+        ensures next { self.new.next ≡ place.entry.next }
+        ensures running { self.new.running.items ≡ place.entry.running.items }
+    {
+        self.running = place.running;
+        self.next = place.next;
+    }
+
+    /// Goes on to the labels of the next line: `running` are then those of several lines that lie on it, and `alone`
+    /// those that lie on it alone. `AllocError` where memory is refused; where the sweep then is, is open.
+    pub fn enter(&mut self, labels: &[PlacedLabel<'a>], line: &Bounds) -> Result<(), AllocError>
         requires sorted { AreSorted labels.now }
         requires some { line.now.start < line.now.after }
         requires at { IsAt labels.now line.now.start self.old.next self.old.running.items }
-        requires none { one.old.items ≡ [] }
-        ensures one { OnOk result (one.new.items ≡ filter (is_one (line_of_bounds line.now)) labels.now) }
+        ensures alone { OnOk result (self.new.alone.items ≡ filter (is_one (line_of_bounds line.now)) labels.now) }
         ensures on { OnOk result (IsOn labels.now (line_of_bounds line.now) self.new.next self.new.running.items) }
     {
+        self.alone.clear();
         let mut next = self.next;
         while next < labels.len() && labels[next].start < line.after {
             let label = labels[next];
             if goes_past(&label, line.after) {
                 self.running.push(label)?;
             } else {
-                one.push(label)?;
+                self.alone.push(label)?;
             }
             next += 1;
         }
@@ -122,7 +122,10 @@ impl Sweep {
     }
 }
 
-fn copy_of(alloc: Global, labels: &[PlacedLabel]) -> Result<Vec<PlacedLabel>, AllocError>
+fn copy_of<'a>(
+    alloc: Global,
+    labels: &[PlacedLabel<'a>],
+) -> Result<Vec<PlacedLabel<'a>>, AllocError>
     ensures { IfOk result (λ copy. copy.items ≡ labels.now) }
 {
     let mut copy = Vec::with_capacity(alloc, labels.len())?;
@@ -130,26 +133,4 @@ fn copy_of(alloc: Global, labels: &[PlacedLabel]) -> Result<Vec<PlacedLabel>, Al
         copy.push(*label)?;
     }
     Ok(copy)
-}
-
-/// Goes on to the end of the next line, and answers which labels lie on it. `AllocError` where memory is refused;
-/// where the sweep then is, is open.
-pub fn advance(
-    alloc: Global,
-    labels: &[PlacedLabel],
-    line: &Bounds,
-    sweep: &mut Sweep,
-) -> Result<OnLine, AllocError>
-    requires sorted { AreSorted labels.now }
-    requires some { line.now.start < line.now.after }
-    requires at { IsAt labels.now line.now.start sweep.old.next sweep.old.running.items }
-    ensures one { IfOk result (λ on. on.one.items ≡ filter (is_one (line_of_bounds line.now)) labels.now) }
-    ensures multi { IfOk result (λ on. on.multi.items ≡ filter (is_multi (line_of_bounds line.now)) labels.now) }
-    ensures at { OnOk result (IsAt labels.now line.now.after sweep.new.next sweep.new.running.items) }
-{
-    let mut one = Vec::new(alloc);
-    sweep.enter(labels, line, &mut one)?;
-    let multi = copy_of(alloc, &sweep.running)?;
-    sweep.leave(line.after);
-    Ok(OnLine { one, multi })
 }

@@ -37,7 +37,7 @@ use Rattle.miette_labels.specs.rules.Labels.{DrawnLabel, drawn_from, some_shows_
 use Rattle.miette_snippet_rules.specs.rules.SnippetLayout.{snippet, all_snippets, drawn_labels, line_or_break, left_out}
 use Rattle.miette_snippet_rules.specs.rules.SnippetLayout.{settings_around, rows_unless, place_of, body_rows}
 use Rattle.miette_drawing.specs.views.SnippetRows.{cells_in, lent_snippet, PutsRows}
-use Rattle.miette_labels.specs.views.Placing.{told_end, placed_from}
+use Rattle.miette_labels.specs.views.Placing.{told_end, placed_of, placed_from}
 use Rattle.miette_labels.specs.views.Primary.{chosen_label, PointsTo, is_unread}
 use Rattle.miette_labels.specs.views.Reads.{IsRead, IsLent, AreGroups, AreGrouped, IsUnread, AreRead, name_of}
 use Rattle.miette_page.specs.views.Tokens.{rows_tokens}
@@ -349,17 +349,14 @@ gives_unread s source labels blank happen reads before order h g =
 pub drawn_is : (s : SnippetSettings) (source : Source) (labels : List Label) (reads : List ReadLabel) (end : Option ℕ)
     (placed : List PlacedLabel) → map (read_of labels) reads ≡ in_order labels →
     All (IsRead s.layout.context_lines source labels) reads → end ≡ cond s.layout.end_labels (told_end reads) None
-    → placed
-    ≡ placed_from end s.theme.styles.highlights 0 reads →
-    map (drawn_of labels) placed ≡ drawn_labels (settings_around s (in_order labels)) (length source.bytes)
-    (in_order labels)
+    → map placed_of placed ≡ placed_from end s.theme.styles.highlights 0 labels reads →
+    map drawn_of placed ≡ drawn_labels (settings_around s (in_order labels)) (length source.bytes) (in_order labels)
 drawn_is s source labels reads end placed order h told e =
     let n : ℕ = length source.bytes in
     let ends : Bool = s.layout.end_labels && some_shows_end s.layout.context_lines n (in_order labels) in
-    ap (map (drawn_of labels)) e
-    ∙ ap (λ x. map (drawn_of labels) (placed_from x s.theme.styles.highlights 0 reads))
-    (told ∙ told_is s.layout.end_labels s.layout.context_lines source labels reads h order)
-    ∙ placed_drawn ends s.theme.styles.highlights s.layout.context_lines source labels 0 reads h
+    placed_drawn ends s.theme.styles.highlights s.layout.context_lines source labels reads placed h
+    (e ∙ ap (λ x. placed_from x s.theme.styles.highlights 0 labels reads)
+    (told ∙ told_is s.layout.end_labels s.layout.context_lines source labels reads h order))
     ∙ ap (drawn_from ends s.theme.styles.highlights n 0) order
     ∙ sym (drawn_around s n (in_order labels))
 
@@ -367,15 +364,12 @@ drawn_is s source labels reads end placed order h told e =
 pub placed_rise : (s : SnippetSettings) (source : Source) (labels : List Label) (reads : List ReadLabel)
     (end : Option ℕ) (placed : List PlacedLabel) → map (read_of labels) reads ≡ in_order labels →
     All (IsRead s.layout.context_lines source labels) reads → end ≡ cond s.layout.end_labels (told_end reads) None
-    → placed
-    ≡ placed_from end s.theme.styles.highlights 0 reads → AreSorted placed
+    → map placed_of placed ≡ placed_from end s.theme.styles.highlights 0 labels reads → AreSorted placed
 placed_rise s source labels reads end placed order h told e =
-    subst (λ (ps : List PlacedLabel). AreSorted ps) (sym (e
-    ∙ ap (λ x. placed_from x s.theme.styles.highlights 0 reads)
-    (told ∙ told_is s.layout.end_labels s.layout.context_lines source labels reads h order)))
-    (placed_sorted (s.layout.end_labels && some_shows_end s.layout.context_lines (length source.bytes)
-    (in_order labels))
-    s.theme.styles.highlights s.layout.context_lines source labels reads h order)
+    placed_sorted (s.layout.end_labels && some_shows_end s.layout.context_lines (length source.bytes)
+    (in_order labels)) s.theme.styles.highlights s.layout.context_lines source labels reads placed h order
+    (e ∙ ap (λ x. placed_from x s.theme.styles.highlights 0 labels reads)
+    (told ∙ told_is s.layout.end_labels s.layout.context_lines source labels reads h order))
 
 pub place_ordered : (context : ℕ) (source : Source) (labels : List Label) (own : Bool) (group : Span)
     (reads : List ReadLabel) (found : Found) → own ≡ has_own labels → map (read_of labels) reads ≡ in_order labels →

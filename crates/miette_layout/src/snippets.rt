@@ -66,7 +66,7 @@ fn read_snippets<'a, 'b, S: SourceCode, H: Highlighter, O: Canvas + Drop>(
 {
     let alloc = settings.alloc;
     let end = end_wanted(settings.layout.end_labels, reads)?;
-    let placed = placed_labels(alloc, &settings.theme.styles.highlights, end, reads)?;
+    let placed = placed_labels(alloc, &settings.theme.styles.highlights, end, labels, reads)?;
     let Some(groups) = groups(alloc, source, settings.layout.context_lines, labels, reads)? else {
         return Ok(None);
     };
@@ -74,7 +74,6 @@ fn read_snippets<'a, 'b, S: SourceCode, H: Highlighter, O: Canvas + Drop>(
     let own = some_own(labels);
     let drawing = Drawing {
         settings: *settings,
-        labels,
         placed: &placed,
         spreads: &spreads,
     };

@@ -20,7 +20,7 @@ use Rattle.miette_labels.specs.rules.Contexts.{contents, end_of_span}
 use Rattle.miette_labels.specs.rules.Around.{has_own, lines_around, group_context}
 use Rattle.miette_labels.specs.rules.Groups.{put_label, in_order, refusal, AreAccepted, groups_of, some_fails}
 use Rattle.miette_labels.specs.rules.Groups as groups
-use Rattle.miette_labels.specs.views.Placing.{placed_one, placed_from}
+use Rattle.miette_labels.specs.views.Placing.{Placed, placed_of, placed_one, placed_from}
 use Rattle.miette_labels.specs.views.Reads.{IsRead, AreRead, IsLent, AreGroups, AreGrouped, IsUnread}
 use Rattle.miette_basics.proofs.Cases.{by_cases}
 use Rattle.miette_labels.proofs.Owning.{order_all}
@@ -53,9 +53,13 @@ text_there : (o : Option Label) → option_map_or (λ label. label.text) o None
 text_there None = refl
 text_there (Some label) = refl
 
+-- a label with its text, where it lies in a source
+abbrev range_placed : Placed → LabelRange
+range_placed p = record { start = p.start; after = p.after; text = p.text }
+
 told_one : (context : ℕ) (source : Source) (labels : List Label) (i : ℕ) (r : ReadLabel) → Reaches
     → IsRead context source labels r →
-    range_of labels (placed_one None [] i r) ≡ label_range (length source.bytes) (read_of labels r)
+    range_placed (placed_one None [] i labels r) ≡ label_range (length source.bytes) (read_of labels r)
 told_one context source labels i r law h =
     let l = read_of labels r in
     let n = length source.bytes in
@@ -71,17 +75,23 @@ told_one context source labels i r law h =
 
 told_reads : (context : ℕ) (source : Source) (labels : List Label) (i : ℕ) (rs : List ReadLabel) → Reaches
     → All (IsRead context source labels) rs →
-    ranges_of labels (placed_from None [] i rs) ≡ map (label_range (length source.bytes)) (map (read_of labels) rs)
+    map range_placed (placed_from None [] i labels rs) ≡ map (label_range (length source.bytes))
+    (map (read_of labels) rs)
 told_reads context source labels i [] law h = refl
 told_reads context source labels i (r ∷ rs) law h =
     ap₂ (λ x xs. x ∷ xs) (told_one context source labels i r law (All-head (IsRead context source labels) r rs h))
     (told_reads context source labels (i + 1) rs law (All-tail (IsRead context source labels) r rs h))
 
+range_twice : (ps : List PlacedLabel) → ranges_of ps ≡ map range_placed (map placed_of ps)
+range_twice [] = refl
+range_twice (p ∷ ps) = ap (λ rs. range_of p ∷ rs) (range_twice ps)
+
 pub told_in_order : (context : ℕ) (source : Source) (labels : List Label) (rs : List ReadLabel) (ps : List PlacedLabel)
     → Reaches → All (IsRead context source labels) rs → map (read_of labels) rs ≡ in_order labels →
-    ps ≡ placed_from None [] 0 rs → ranges_of labels ps ≡ map (label_range (length source.bytes)) (in_order labels)
+    map placed_of ps ≡ placed_from None [] 0 labels rs →
+    ranges_of ps ≡ map (label_range (length source.bytes)) (in_order labels)
 told_in_order context source labels rs ps law h order e =
-    ap (ranges_of labels) e ∙ told_reads context source labels 0 rs law h
+    range_twice ps ∙ ap (map range_placed) e ∙ told_reads context source labels 0 rs law h
     ∙ ap (map (label_range (length source.bytes))) order
 
 -- ---- their order
@@ -103,24 +113,31 @@ order_rises [] = tt
 order_rises (l ∷ ls) = put_rises 0 l (in_order ls) (omega arith) (order_rises ls)
 
 ordered_reads : (context : ℕ) (source : Source) (labels : List Label) (i from : ℕ) (rs : List ReadLabel)
-    → All (IsRead context source labels) rs → Rises from (map (read_of labels) rs) →
-    AreOrdered (placed_from None [] i rs) × BeginsFrom from (placed_from None [] i rs)
-ordered_reads context source labels i from [] h up = (tt, tt)
-ordered_reads context source labels i from (r ∷ rs) h up =
+    (ps : List PlacedLabel) → All (IsRead context source labels) rs → Rises from (map (read_of labels) rs) →
+    map placed_of ps ≡ placed_from None [] i labels rs → AreOrdered ps × BeginsFrom from ps
+ordered_reads context source labels i from [] [] h up e = (tt, tt)
+ordered_reads context source labels i from [] (p ∷ ps) h up e = absurd (cc)
+ordered_reads context source labels i from (r ∷ rs) [] h up e = absurd (cc)
+ordered_reads context source labels i from (r ∷ rs) (p ∷ ps) h up e =
     let start : r.span.offset ≡ (read_of labels r).span.offset =
     ap (λ s. s.offset) (All-head (IsRead context source labels) r rs h).span in
-    let more = ordered_reads context source labels (i + 1) r.span.offset rs
+    let first : placed_of p ≡ placed_one None [] i labels r = ap (λ xs. get_or xs 0 (placed_of p)) e in
+    let from_is : p.start ≡ r.span.offset = ap (λ (x : Placed). x.start) first in
+    let after_is : p.after ≡ max r.span.offset (min (end_of_span r.span) (end_of_span r.contents.span)) =
+    ap (λ (x : Placed). x.after) first in
+    let more = ordered_reads context source labels (i + 1) r.span.offset rs ps
     (All-tail (IsRead context source labels) r rs h)
-    (subst (λ k. Rises k (map (read_of labels) rs)) (sym start) up.1) in
-    ((omega arith, more.1, more.0), omega (arith, start, up.0))
+    (subst (λ k. Rises k (map (read_of labels) rs)) (sym start) up.1) (ap (drop 1) e) in (
+      (omega (arith, from_is, after_is), subst (λ (k : ℕ). BeginsFrom k ps) (sym from_is) more.1, more.0),
+      omega (arith, start, from_is, up.0),
+    )
 
 pub placed_ordered : (context : ℕ) (source : Source) (labels : List Label) (rs : List ReadLabel) (ps : List PlacedLabel)
     → All (IsRead context source labels) rs → map (read_of labels) rs ≡ in_order labels →
-    ps ≡ placed_from None [] 0 rs → AreOrdered ps
+    map placed_of ps ≡ placed_from None [] 0 labels rs → AreOrdered ps
 placed_ordered context source labels rs ps h order e =
-    subst (λ (xs : List PlacedLabel). AreOrdered xs) (sym e)
-    (ordered_reads context source labels 0 0 rs h (subst (λ (ls : List Label). Rises 0 ls) (sym order)
-    (order_rises labels))).0
+    (ordered_reads context source labels 0 0 rs ps h (subst (λ (ls : List Label). Rises 0 ls) (sym order)
+    (order_rises labels)) e).0
 
 -- ---- groups, one after the other
 
@@ -149,9 +166,9 @@ groups_end context source labels gs i out goal le h =
 
 pub snippets_told : (context : ℕ) (source : Source) (labels : List Label) (rs : List ReadLabel) (ps : List PlacedLabel)
     (gs : List Group) (old new : List ℕ) → Reaches → All (IsRead context source labels) rs →
-    map (read_of labels) rs ≡ in_order labels → ps ≡ placed_from None [] 0 rs
+    map (read_of labels) rs ≡ in_order labels → map placed_of ps ≡ placed_from None [] 0 labels rs
     → AreGroups context source (in_order labels) gs →
-    new ≡ old ++ snippets_of (group_context context (in_order labels)) source (ranges_of labels ps)
+    new ≡ old ++ snippets_of (group_context context (in_order labels)) source (ranges_of ps)
     (map (λ g. g.span) gs) → AppendsSnippets context (Some source) labels old new
 snippets_told context source labels rs ps gs old new law h order e are text =
     let fails = are.fails in

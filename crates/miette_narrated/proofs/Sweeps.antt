@@ -4,7 +4,6 @@ use Rattle.std.proofs.Common.{◌||◌, take, drop, refl, sym, ap, ap₂, ◌∙
 use Rattle.std.specs.Prelude.{if◌then◌else◌}
 use Rattle.std.specs.List.{filter}
 use Rattle.std.proofs.lemmas.Bool.{leb-false, lt-leb}
-use Rattle.miette_protocol.specs.views.Meaning.{Label}
 use Rattle.miette_labels.specs.declared.sweep.PlacedLabel.{PlacedLabel}
 use Rattle.miette_basics.proofs.Cases.{by_cases}
 use Rattle.miette_narrated.specs.rules.Labels.{SnippetLine, ends_before, whole_row, start_row, end_row, label_row}
@@ -34,10 +33,10 @@ beyond true reached x y z = refl
 beyond false true x y z = refl
 beyond false false x y z = refl
 
-row_unreached : (it : SnippetLine) (labels : List Label) (p : PlacedLabel) → p.start ≤ p.after
-    → leb it.line.start p.after ≡ false → label_row it (range_of labels p) ≡ []
-row_unreached it labels p le f =
-    let d = range_of labels p in
+row_unreached : (it : SnippetLine) (p : PlacedLabel) → p.start ≤ p.after
+    → leb it.line.start p.after ≡ false → label_row it (range_of p) ≡ []
+row_unreached it p le f =
+    let d = range_of p in
     let begun : leb it.line.start p.start ≡ false = lt-leb it.line.start p.start
     (omega (arith, leb-false it.line.start p.after f)) in
     ap₂ (λ a b. chosen a (ends_before it p.start p.after) (leb p.start it.line.text_end) b (whole_row it d)
@@ -52,10 +51,10 @@ last_text : (is_last : Bool) (far text at : ℕ) → (if is_last then max far te
 last_text true far text at lt = omega arith
 last_text false far text at lt = lt
 
-pub row_beyond : (it : SnippetLine) (labels : List Label) (p : PlacedLabel) → p.start ≤ p.after → last_start it
-    < p.start → label_row it (range_of labels p) ≡ []
-row_beyond it labels p le lt =
-    let d = range_of labels p in
+pub row_beyond : (it : SnippetLine) (p : PlacedLabel) → p.start ≤ p.after → last_start it
+    < p.start → label_row it (range_of p) ≡ []
+row_beyond it p le lt =
+    let d = range_of p in
     let text : it.line.text_end < p.start = last_text it.is_last it.data_end it.line.text_end p.start lt in
     let within : leb p.start it.line.text_end ≡ false = lt-leb p.start it.line.text_end text in
     let after : leb p.after it.line.text_end ≡ false = lt-leb p.after it.line.text_end (omega (arith, text, le)) in
@@ -83,52 +82,52 @@ ordered_dropped (suc n) [] o = tt
 ordered_dropped zero (p ∷ ps) o = o
 ordered_dropped (suc n) (p ∷ ps) o = ordered_dropped n ps o.2
 
-rows_reached : (it : SnippetLine) (labels : List Label) (ps : List PlacedLabel) → AreDrawn ps
-    → label_rows it (ranges_of labels (filter (reaches it.line.start) ps)) ≡ label_rows it (ranges_of labels ps)
-rows_reached it labels [] h = refl
-rows_reached it labels (p ∷ ps) h =
-    let f : Bool → List ℕ = λ b. label_rows it (ranges_of labels
+rows_reached : (it : SnippetLine) (ps : List PlacedLabel) → AreDrawn ps
+    → label_rows it (ranges_of (filter (reaches it.line.start) ps)) ≡ label_rows it (ranges_of ps)
+rows_reached it [] h = refl
+rows_reached it (p ∷ ps) h =
+    let f : Bool → List ℕ = λ b. label_rows it (ranges_of
     (cond b (p ∷ filter (reaches it.line.start) ps) (filter (reaches it.line.start) ps))) in
-    by_cases {C = label_rows it (ranges_of labels (filter (reaches it.line.start) (p ∷ ps)))
-    ≡ label_rows it (ranges_of labels (p ∷ ps))} (leb it.line.start p.after)
-    (λ t. ap f t ∙ ap (λ r. label_row it (range_of labels p) ++ r) (rows_reached it labels ps h.1))
-    (λ g. ap f g ∙ rows_reached it labels ps h.1 ∙ sym (ap (λ r. r ++ label_rows it (ranges_of labels ps))
-    (row_unreached it labels p h.0 g)))
+    by_cases {C = label_rows it (ranges_of (filter (reaches it.line.start) (p ∷ ps)))
+    ≡ label_rows it (ranges_of (p ∷ ps))} (leb it.line.start p.after)
+    (λ t. ap f t ∙ ap (λ r. label_row it (range_of p) ++ r) (rows_reached it ps h.1))
+    (λ g. ap f g ∙ rows_reached it ps h.1 ∙ sym (ap (λ r. r ++ label_rows it (ranges_of ps))
+    (row_unreached it p h.0 g)))
 
 pub lower : (a b : ℕ) (ps : List PlacedLabel) → a ≤ b → BeginsFrom b ps → BeginsFrom a ps
 lower a b [] le h = h
 lower a b (p ∷ ps) le h = omega (arith, h)
 
-rows_beyond : (it : SnippetLine) (labels : List Label) (ps : List PlacedLabel) → AreOrdered ps
-    → BeginsFrom (suc (last_start it)) ps → label_rows it (ranges_of labels ps) ≡ []
-rows_beyond it labels [] o h = refl
-rows_beyond it labels (p ∷ ps) o h =
-    ap (λ r. r ++ label_rows it (ranges_of labels ps)) (row_beyond it labels p o.0 (omega (arith, h)))
-    ∙ rows_beyond it labels ps o.2 (lower (suc (last_start it)) p.start ps h o.1)
+rows_beyond : (it : SnippetLine) (ps : List PlacedLabel) → AreOrdered ps
+    → BeginsFrom (suc (last_start it)) ps → label_rows it (ranges_of ps) ≡ []
+rows_beyond it [] o h = refl
+rows_beyond it (p ∷ ps) o h =
+    ap (λ r. r ++ label_rows it (ranges_of ps)) (row_beyond it p o.0 (omega (arith, h)))
+    ∙ rows_beyond it ps o.2 (lower (suc (last_start it)) p.start ps h o.1)
 
-rows_split : (it : SnippetLine) (labels : List Label) (n : ℕ) (ps : List PlacedLabel)
-    → label_rows it (ranges_of labels (take n ps)) ++ label_rows it (ranges_of labels (drop n ps))
-    ≡ label_rows it (ranges_of labels ps)
-rows_split it labels zero [] = refl
-rows_split it labels (suc n) [] = refl
-rows_split it labels zero (p ∷ ps) = refl
-rows_split it labels (suc n) (p ∷ ps) =
-    append_assoc (label_row it (range_of labels p)) (label_rows it (ranges_of labels (take n ps)))
-    (label_rows it (ranges_of labels (drop n ps)))
-    ∙ ap (λ r. label_row it (range_of labels p) ++ r) (rows_split it labels n ps)
+rows_split : (it : SnippetLine) (n : ℕ) (ps : List PlacedLabel)
+    → label_rows it (ranges_of (take n ps)) ++ label_rows it (ranges_of (drop n ps))
+    ≡ label_rows it (ranges_of ps)
+rows_split it zero [] = refl
+rows_split it (suc n) [] = refl
+rows_split it zero (p ∷ ps) = refl
+rows_split it (suc n) (p ∷ ps) =
+    append_assoc (label_row it (range_of p)) (label_rows it (ranges_of (take n ps)))
+    (label_rows it (ranges_of (drop n ps)))
+    ∙ ap (λ r. label_row it (range_of p) ++ r) (rows_split it n ps)
 
 -- the labels that run have all the rows of a line
-pub rows_swept : (it : SnippetLine) (labels : List Label) (ps : List PlacedLabel) (place next : ℕ)
+pub rows_swept : (it : SnippetLine) (ps : List PlacedLabel) (place next : ℕ)
     (running : List PlacedLabel) → AreOrdered ps → place ≡ it.line.start → IsAt ps place next running →
-    BeginsFrom (suc (last_start it)) (drop next ps) → label_rows it (ranges_of labels running)
-    ≡ label_rows it (ranges_of labels ps)
-rows_swept it labels ps place next running o e at end =
-    ap (λ r. label_rows it (ranges_of labels r)) (at ∙ ap (λ k. filter (reaches k) (take next ps)) e)
-    ∙ rows_reached it labels (take next ps) (drawn_taken next ps o)
-    ∙ sym (append-nil_of (label_rows it (ranges_of labels (take next ps))))
-    ∙ ap (λ r. label_rows it (ranges_of labels (take next ps)) ++ r)
-    (sym (rows_beyond it labels (drop next ps) (ordered_dropped next ps o) end))
-    ∙ rows_split it labels next ps where
+    BeginsFrom (suc (last_start it)) (drop next ps) → label_rows it (ranges_of running)
+    ≡ label_rows it (ranges_of ps)
+rows_swept it ps place next running o e at end =
+    ap (λ r. label_rows it (ranges_of r)) (at ∙ ap (λ k. filter (reaches k) (take next ps)) e)
+    ∙ rows_reached it (take next ps) (drawn_taken next ps o)
+    ∙ sym (append-nil_of (label_rows it (ranges_of (take next ps))))
+    ∙ ap (λ r. label_rows it (ranges_of (take next ps)) ++ r)
+    (sym (rows_beyond it (drop next ps) (ordered_dropped next ps o) end))
+    ∙ rows_split it next ps where
       append-nil_of : (xs : List ℕ) → xs ++ [] ≡ xs
       append-nil_of [] = refl
       append-nil_of (x ∷ xs) = ap (λ r. x ∷ r) (append-nil_of xs)

@@ -9,27 +9,28 @@ ghost use Rattle.miette_narrated.specs.steps.Ends.{AreEnds, IsOrder};
 ghost use Rattle.miette_narrated.specs.steps.Sweeping.{AreOrdered};
 
 use miette_labels::sweep::PlacedLabel;
-use miette_protocol::protocol::LabeledSpan;
 use miette_source_lines::lines::LineOfText;
 use std::alloc::{AllocError, Global};
 
 /// A label, and how many come before it by offset.
 #[derive(Clone, Copy, Drop)]
-pub(crate) struct RankedLabel {
+pub(crate) struct RankedLabel<'a> {
     pub(crate) rank: usize,
-    pub(crate) label: PlacedLabel,
+    pub(crate) label: PlacedLabel<'a>,
 }
 
-/// The labels as given, as they are placed by offset, and the placed ones by where they end.
+/// The labels as they are placed, by offset, and by where they end.
 #[derive(Clone, Copy)]
 pub(crate) struct LabelOrder<'a> {
-    pub(crate) labels: &'a [LabeledSpan],
-    pub(crate) placed: &'a [PlacedLabel],
-    pub(crate) ends: &'a [RankedLabel],
+    pub(crate) placed: &'a [PlacedLabel<'a>],
+    pub(crate) ends: &'a [RankedLabel<'a>],
 }
 
 // Each label with its rank.
-fn with_ranks(alloc: Global, placed: &[PlacedLabel]) -> Result<Vec<RankedLabel>, AllocError>
+fn with_ranks<'a>(
+    alloc: Global,
+    placed: &[PlacedLabel<'a>],
+) -> Result<Vec<RankedLabel<'a>>, AllocError>
     ensures { IfOk result (λ v. v.items ≡ ranked_labels 0 placed.now) }
 {
     let mut made = Vec::new(alloc);
@@ -44,7 +45,10 @@ fn with_ranks(alloc: Global, placed: &[PlacedLabel]) -> Result<Vec<RankedLabel>,
 }
 
 /// Labels that come by offset, by where they end.
-pub(crate) fn by_end(alloc: Global, placed: &[PlacedLabel]) -> Result<Vec<RankedLabel>, AllocError>
+pub(crate) fn by_end<'a>(
+    alloc: Global,
+    placed: &[PlacedLabel<'a>],
+) -> Result<Vec<RankedLabel<'a>>, AllocError>
     ensures { IfOk result (λ v. AreEnds placed.now v.items) }
 {
     let mut ends = with_ranks(alloc, placed)?;
@@ -53,7 +57,7 @@ pub(crate) fn by_end(alloc: Global, placed: &[PlacedLabel]) -> Result<Vec<Ranked
 }
 
 // Of labels by where they end those that end within a line's text, found by halving.
-fn ending<'a>(ends: &'a [RankedLabel], line: &LineOfText) -> &'a [RankedLabel]
+fn ending<'a>(ends: &'a [RankedLabel<'a>], line: &LineOfText) -> &'a [RankedLabel<'a>]
     requires { IsNonDecreasingBy (λ end. end.label.after) ends.now }
     ensures { result.now ≡ filter (λ end. ends_within (line_of_text line.now) end.label) ends.now }
 {
@@ -63,11 +67,11 @@ fn ending<'a>(ends: &'a [RankedLabel], line: &LineOfText) -> &'a [RankedLabel]
 }
 
 // Those that begin before a place.
-fn begun_before(
+fn begun_before<'a>(
     alloc: Global,
-    ends: &[RankedLabel],
+    ends: &[RankedLabel<'a>],
     place: usize,
-) -> Result<Vec<RankedLabel>, AllocError>
+) -> Result<Vec<RankedLabel<'a>>, AllocError>
     ensures { IfOk result (λ v. v.items ≡ filter (λ end. nat_lt end.label.start place) ends.now) }
 {
     let mut kept = Vec::new(alloc);
@@ -80,11 +84,11 @@ fn begun_before(
 }
 
 /// The labels that begin before a line and end within its text, by offset.
-pub(crate) fn ended_on(
+pub(crate) fn ended_on<'a>(
     alloc: Global,
-    order: &LabelOrder<'_>,
+    order: &LabelOrder<'a>,
     line: &LineOfText,
-) -> Result<Vec<RankedLabel>, AllocError>
+) -> Result<Vec<RankedLabel<'a>>, AllocError>
     requires { IsOrder order.now }
     ensures { IfOk result (λ v. without_ranks v.items
         ≡ filter (is_ended (line_of_text line.now)) order.now.placed.now) }
@@ -95,7 +99,10 @@ pub(crate) fn ended_on(
 }
 
 /// The labels that begin within a line's text, found by halving.
-pub(crate) fn begun_on<'a>(placed: &'a [PlacedLabel], line: &LineOfText) -> &'a [PlacedLabel]
+pub(crate) fn begun_on<'a>(
+    placed: &'a [PlacedLabel<'a>],
+    line: &LineOfText,
+) -> &'a [PlacedLabel<'a>]
     requires { AreOrdered placed.now }
     ensures { result.now ≡ filter (is_begun (line_of_text line.now)) placed.now }
 {

@@ -13,27 +13,25 @@ use crate::narrated_line::NarratedLine;
 use crate::words::push_number;
 use miette_basics::sums::sum;
 use miette_columns::text_columns::TextColumns;
-use miette_labels::drawn_labels::text_of;
 use miette_labels::sweep::PlacedLabel;
-use miette_protocol::protocol::LabeledSpan;
 use std::alloc::{AllocError, Global};
 
 /// Whether a label begins on the line or behind it.
-fn begins(it: &NarratedLine<'_>, label: &PlacedLabel) -> bool
+fn begins(it: &NarratedLine<'_>, label: &PlacedLabel<'_>) -> bool
     ensures { result ≡ reaches_line (narrated_line it.now) label.now.start }
 {
     it.line.start <= label.start
 }
 
 /// Whether a label begins before the text's end.
-fn begins_within(it: &NarratedLine<'_>, label: &PlacedLabel) -> bool
+fn begins_within(it: &NarratedLine<'_>, label: &PlacedLabel<'_>) -> bool
     ensures { result ≡ begins_within (narrated_line it.now) label.now.start }
 {
     label.start <= it.line.text_end
 }
 
 /// Whether a label reaches the line.
-fn reaches(it: &NarratedLine<'_>, label: &PlacedLabel) -> bool
+fn reaches(it: &NarratedLine<'_>, label: &PlacedLabel<'_>) -> bool
     ensures { result ≡ reaches_line (narrated_line it.now) label.now.after }
 {
     it.line.start <= label.after
@@ -41,7 +39,7 @@ fn reaches(it: &NarratedLine<'_>, label: &PlacedLabel) -> bool
 
 /// Whether a label ends before the text's end; on a snippet's last line also one does that begins in the data or
 /// where they end.
-fn ends_before(it: &NarratedLine<'_>, label: &PlacedLabel) -> bool
+fn ends_before(it: &NarratedLine<'_>, label: &PlacedLabel<'_>) -> bool
     ensures { result ≡ ends_before (narrated_line it.now) label.now.start label.now.after }
 {
     label.after <= it.line.text_end || it.is_last && label.start <= it.data_end
@@ -71,13 +69,11 @@ fn push_columns(out: &mut String, first: usize, last: usize) -> Result<(), Alloc
     push_number(out, " to ", last)
 }
 
-/// A line of a snippet, the columns of its text, and the labels of its diagnostic.
+/// A line of a snippet, and the columns of its text.
 #[derive(Drop)]
 pub(crate) struct LabelledLine<'r, 'a> {
     line: &'r NarratedLine<'a>,
     columns: TextColumns<'a>,
-    // The labels as given, whose texts are told.
-    labels: &'r [LabeledSpan],
     ghost same: { columns ≡ line.now.text.now },
 }
 
@@ -86,23 +82,17 @@ impl<'r, 'a> LabelledLine<'r, 'a> {
     pub(crate) fn new(
         alloc: Global,
         line: &'r NarratedLine<'a>,
-        labels: &'r [LabeledSpan],
         shown: usize,
     ) -> Result<Self, AllocError>
-        ensures line { IfOk result (λ row. row.line.now ≡ line.now) }
-        ensures labels { IfOk result (λ row. row.labels.now ≡ labels.now) }
+        ensures { IfOk result (λ row. row.line.now ≡ line.now) }
     {
         // A label has at most two columns.
         let columns = TextColumns::new(alloc, line.text, shown.saturating_mul(2))?;
-        Ok(LabelledLine {
-            line,
-            columns,
-            labels,
-        })
+        Ok(LabelledLine { line, columns })
     }
 
     /// The number of a label's first column.
-    fn first_number(&self, alloc: Global, label: &PlacedLabel) -> Result<usize, AllocError>
+    fn first_number(&self, alloc: Global, label: &PlacedLabel<'_>) -> Result<usize, AllocError>
         ensures { IfOk result (λ n. n ≡ first_number (narrated_line self.now.line.now) label.now.start) }
     {
         let start = label.start.saturating_sub(self.line.line.start);
@@ -111,7 +101,7 @@ impl<'r, 'a> LabelledLine<'r, 'a> {
     }
 
     /// The number of its last column; an empty label has one column.
-    fn last_number(&self, alloc: Global, label: &PlacedLabel) -> Result<usize, AllocError>
+    fn last_number(&self, alloc: Global, label: &PlacedLabel<'_>) -> Result<usize, AllocError>
         ensures { IfOk result (λ n. n ≡ last_number (narrated_line self.now.line.now) label.now.start label.now.after) }
     {
         if label.start == label.after {
@@ -126,17 +116,17 @@ impl<'r, 'a> LabelledLine<'r, 'a> {
         &self,
         alloc: Global,
         out: &mut String,
-        label: &PlacedLabel,
+        label: &PlacedLabel<'_>,
     ) -> Result<(), AllocError>
         ensures { OnOk result (string_bytes out.new
             ≡ string_bytes out.old
-            ++ whole_row (narrated_line self.now.line.now) (range_of self.now.labels.now label.now)) }
+            ++ whole_row (narrated_line self.now.line.now) (range_of label.now)) }
     {
         let first = self.first_number(alloc, label)?;
         let last = self.last_number(alloc, label)?;
         push_number(out, "    label at line ", self.line.number)?;
         push_columns(out, first, last)?;
-        push_end(out, text_of(self.labels, label))
+        push_end(out, label.text)
     }
 
     /// The row of one column of a label: `    label starting at line 1, column 1`, whose words are given.
@@ -145,14 +135,14 @@ impl<'r, 'a> LabelledLine<'r, 'a> {
         out: &mut String,
         words: &str,
         column: usize,
-        label: &PlacedLabel,
+        label: &PlacedLabel<'_>,
     ) -> Result<(), AllocError>
         ensures { OnOk result (string_bytes out.new ≡ string_bytes out.old
-            ++ column_row words.now (narrated_line self.now.line.now) column (range_of self.now.labels.now label.now)) }
+            ++ column_row words.now (narrated_line self.now.line.now) column (range_of label.now)) }
     {
         push_number(out, words, self.line.number)?;
         push_number(out, ", column ", column)?;
-        push_end(out, text_of(self.labels, label))
+        push_end(out, label.text)
     }
 
     /// `    label starting at line 1, column 1`
@@ -160,11 +150,11 @@ impl<'r, 'a> LabelledLine<'r, 'a> {
         &self,
         alloc: Global,
         out: &mut String,
-        label: &PlacedLabel,
+        label: &PlacedLabel<'_>,
     ) -> Result<(), AllocError>
         ensures { OnOk result (string_bytes out.new
             ≡ string_bytes out.old
-            ++ start_row (narrated_line self.now.line.now) (range_of self.now.labels.now label.now)) }
+            ++ start_row (narrated_line self.now.line.now) (range_of label.now)) }
     {
         let first = self.first_number(alloc, label)?;
         self.push_column(out, "    label starting at line ", first, label)
@@ -175,10 +165,10 @@ impl<'r, 'a> LabelledLine<'r, 'a> {
         &self,
         alloc: Global,
         out: &mut String,
-        label: &PlacedLabel,
+        label: &PlacedLabel<'_>,
     ) -> Result<(), AllocError>
         ensures { OnOk result (string_bytes out.new ≡ string_bytes out.old
-            ++ end_row (narrated_line self.now.line.now) (range_of self.now.labels.now label.now)) }
+            ++ end_row (narrated_line self.now.line.now) (range_of label.now)) }
     {
         let last = self.last_number(alloc, label)?;
         self.push_column(out, "    label ending at line ", last, label)
@@ -189,11 +179,11 @@ impl<'r, 'a> LabelledLine<'r, 'a> {
         &self,
         alloc: Global,
         out: &mut String,
-        label: &PlacedLabel,
+        label: &PlacedLabel<'_>,
     ) -> Result<(), AllocError>
         ensures { OnOk result (string_bytes out.new
             ≡ string_bytes out.old
-            ++ begun_row (narrated_line self.now.line.now) (range_of self.now.labels.now label.now)) }
+            ++ begun_row (narrated_line self.now.line.now) (range_of label.now)) }
     {
         if ends_before(self.line, label) {
             self.push_whole(alloc, out, label)
@@ -209,11 +199,11 @@ impl<'r, 'a> LabelledLine<'r, 'a> {
         &self,
         alloc: Global,
         out: &mut String,
-        label: &PlacedLabel,
+        label: &PlacedLabel<'_>,
     ) -> Result<(), AllocError>
         ensures { OnOk result (string_bytes out.new
             ≡ string_bytes out.old
-            ++ label_row (narrated_line self.now.line.now) (range_of self.now.labels.now label.now)) }
+            ++ label_row (narrated_line self.now.line.now) (range_of label.now)) }
     {
         if begins(self.line, label) {
             self.push_begun(alloc, out, label)
@@ -229,10 +219,10 @@ impl<'r, 'a> LabelledLine<'r, 'a> {
         &self,
         alloc: Global,
         out: &mut String,
-        placed: &[PlacedLabel],
+        placed: &[PlacedLabel<'_>],
     ) -> Result<(), AllocError>
         ensures { OnOk result (string_bytes out.new ≡ string_bytes out.old
-            ++ label_rows (narrated_line self.now.line.now) (ranges_of self.now.labels.now placed.now)) }
+            ++ label_rows (narrated_line self.now.line.now) (ranges_of placed.now)) }
     {
         for label in placed {
             self.push_label(alloc, out, label)?;
@@ -248,7 +238,7 @@ impl<'r, 'a> LabelledLine<'r, 'a> {
         ended: &[RankedLabel],
     ) -> Result<(), AllocError>
         ensures { OnOk result (string_bytes out.new ≡ string_bytes out.old
-            ++ label_rows (narrated_line self.now.line.now) (ranges_of self.now.labels.now (without_ranks ended.now))) }
+            ++ label_rows (narrated_line self.now.line.now) (ranges_of (without_ranks ended.now))) }
     {
         for end in ended {
             self.push_label(alloc, out, &end.label)?;

@@ -42,18 +42,18 @@ fn last_start(it: &NarratedLine<'_>) -> usize
 }
 
 /// A line's row, and those of its labels.
-fn push_shown(
+fn push_shown<'a>(
     alloc: Global,
     out: &mut String,
     it: &NarratedLine<'_>,
-    order: &LabelOrder<'_>,
-    sweep: &mut ReachSweep,
+    order: &LabelOrder<'a>,
+    sweep: &mut ReachSweep<'a>,
 ) -> Result<(), AllocError>
     requires order { IsOrder order.now }
     requires at { IsAt order.now.placed.now sweep.old.at sweep.old.next sweep.old.running.items }
     ensures rows { OnOk result (string_bytes out.new
         ≡ string_bytes out.old
-        ++ rows_of_line (ranges_of order.now.labels.now order.now.placed.now) (narrated_line it.now)) }
+        ++ rows_of_line (ranges_of order.now.placed.now) (narrated_line it.now)) }
     ensures at { OnOk result (IsAt order.now.placed.now sweep.new.at sweep.new.next sweep.new.running.items) }
 {
     push_line(out, it)?;
@@ -62,7 +62,7 @@ fn push_shown(
         return Ok(());
     }
     come_to(alloc, order.placed, it.line.start, last_start(it), sweep)?;
-    let row = LabelledLine::new(alloc, it, order.labels, sweep.running.len())?;
+    let row = LabelledLine::new(alloc, it, sweep.running.len())?;
     row.push_labels(alloc, out, &sweep.running)
 }
 
@@ -77,12 +77,12 @@ fn push_inner(
     requires inner { it.now.is_last ≡ false }
     ensures { OnOk result (string_bytes out.new
         ≡ string_bytes out.old
-        ++ label_rows (narrated_line it.now) (ranges_of order.now.labels.now order.now.placed.now)) }
+        ++ label_rows (narrated_line it.now) (ranges_of order.now.placed.now)) }
 {
     let ended = ended_on(alloc, order, &it.line)?;
     let begun = begun_on(order.placed, &it.line);
     let shown = ended.len().saturating_add(begun.len());
-    let row = LabelledLine::new(alloc, it, order.labels, shown)?;
+    let row = LabelledLine::new(alloc, it, shown)?;
     row.push_ended(alloc, out, &ended)?;
     row.push_labels(alloc, out, begun)
 }
@@ -112,18 +112,18 @@ fn narrated_line<'a>(
 }
 
 /// The rows of a snippet's lines, from what its read lent.
-pub(crate) fn push_lines(
+pub(crate) fn push_lines<'a>(
     alloc: Global,
     out: &mut String,
     lent: &MietteSpanContents<'_>,
-    order: &LabelOrder<'_>,
-    sweep: &mut ReachSweep,
+    order: &LabelOrder<'a>,
+    sweep: &mut ReachSweep<'a>,
 ) -> Result<(), AllocError>
     requires small { lent.now.span.offset + length lent.now.bytes < 2 ^ 64 }
     requires order { IsOrder order.now }
     requires at { IsAt order.now.placed.now sweep.old.at sweep.old.next sweep.old.running.items }
     ensures rows { OnOk result (string_bytes out.new
-        ≡ string_bytes out.old ++ rows_of_lines (ranges_of order.now.labels.now order.now.placed.now) lent.now
+        ≡ string_bytes out.old ++ rows_of_lines (ranges_of order.now.placed.now) lent.now
         (lent.now.line + 1) (lines_of_contents lent.now)) }
     ensures at { OnOk result (IsAt order.now.placed.now sweep.new.at sweep.new.next sweep.new.running.items) }
 {

@@ -58,17 +58,17 @@ fn push_begin(out: &mut String, lent: &MietteSpanContents<'_>) -> Result<(), All
 }
 
 /// A snippet, from what its read lent.
-fn push_snippet(
+fn push_snippet<'a>(
     alloc: Global,
     out: &mut String,
     lent: &MietteSpanContents<'_>,
-    order: &LabelOrder<'_>,
-    sweep: &mut ReachSweep,
+    order: &LabelOrder<'a>,
+    sweep: &mut ReachSweep<'a>,
 ) -> Result<(), AllocError>
     requires order { IsOrder order.now }
     requires at { IsAt order.now.placed.now sweep.old.at sweep.old.next sweep.old.running.items }
     ensures rows { OnOk result (string_bytes out.new
-        ≡ string_bytes out.old ++ snippet (ranges_of order.now.labels.now order.now.placed.now) lent.now) }
+        ≡ string_bytes out.old ++ snippet (ranges_of order.now.placed.now) lent.now) }
     ensures at { OnOk result (IsAt order.now.placed.now sweep.new.at sweep.new.next sweep.new.running.items) }
 {
     let end = lent.span().offset().checked_add(lent.data().len());
@@ -96,13 +96,12 @@ fn push_read<'a, S: SourceCode>(
     ensures refused { (result ≡ Err RenderError.Refused) → accepts (Some (S.source source.now)) labels.now ≡ false }
 {
     data_reach_the_span();
-    let placed = placed_labels(alloc, &[], None, reads)?;
+    let placed = placed_labels(alloc, &[], None, labels, reads)?;
     let Some(groups) = groups(alloc, source, context, labels, reads)? else {
         return Err(RenderError::Refused);
     };
     let ends = by_end(alloc, &placed)?;
     let order = LabelOrder {
-        labels,
         placed: &placed,
         ends: &ends,
     };

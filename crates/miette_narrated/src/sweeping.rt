@@ -9,21 +9,25 @@ use std::alloc::{AllocError, Global};
 
 /// A sweep that has come to a place: how many labels have come, and those of them that reach the place.
 #[derive(Debug, Drop)]
-pub(crate) struct ReachSweep {
+pub(crate) struct ReachSweep<'a> {
     pub(crate) at: usize,
     pub(crate) next: usize,
-    pub(crate) running: Vec<PlacedLabel>,
+    pub(crate) running: Vec<PlacedLabel<'a>>,
 }
 
 /// Keeps the labels that reach a place.
-fn keep_reaching(running: &mut Vec<PlacedLabel>, place: usize)
+fn keep_reaching(running: &mut Vec<PlacedLabel<'_>>, place: usize)
     ensures { running.new.items ≡ filter (reaches place) running.old.items }
 {
     running.retain(|label| place <= label.after);
 }
 
 /// Puts the labels that begin at `last` or before behind those that run, where they reach the sweep's place.
-fn take_more(labels: &[PlacedLabel], last: usize, sweep: &mut ReachSweep) -> Result<(), AllocError>
+fn take_more<'a>(
+    labels: &[PlacedLabel<'a>],
+    last: usize,
+    sweep: &mut ReachSweep<'a>,
+) -> Result<(), AllocError>
     requires { IsAt labels.now sweep.old.at sweep.old.next sweep.old.running.items }
     ensures place { sweep.new.at ≡ sweep.old.at }
     ensures at { OnOk result (IsAt labels.now sweep.new.at sweep.new.next sweep.new.running.items) }
@@ -42,12 +46,12 @@ fn take_more(labels: &[PlacedLabel], last: usize, sweep: &mut ReachSweep) -> Res
 }
 
 /// Comes to a line that begins at a place: those labels run that began at `last` or before and reach the place.
-pub(crate) fn come_to(
+pub(crate) fn come_to<'a>(
     alloc: Global,
-    labels: &[PlacedLabel],
+    labels: &[PlacedLabel<'a>],
     place: usize,
     last: usize,
-    sweep: &mut ReachSweep,
+    sweep: &mut ReachSweep<'a>,
 ) -> Result<(), AllocError>
     requires { IsAt labels.now sweep.old.at sweep.old.next sweep.old.running.items }
     ensures place { OnOk result (sweep.new.at ≡ place) }

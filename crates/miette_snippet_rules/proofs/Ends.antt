@@ -12,7 +12,9 @@ use Rattle.miette_labels.specs.rules.Contexts.{contents, end_of_span}
 use Rattle.miette_labels.specs.rules.Labels.{DrawnLabel, drawn_from, drawn_label, style_at, parts_of}
 use Rattle.miette_labels.specs.views.GivenLabels.{label_at, text_at, drawn_of}
 use Rattle.miette_labels.specs.views.Reads.{IsRead}
-use Rattle.miette_labels.specs.views.Placing.{end_drawn, is_told, placed_one, placed_from}
+use Rattle.miette_labels.specs.views.Placing.{end_drawn, is_told, placed_of, placed_one, placed_from}
+use Rattle.miette_labels.specs.views.Placing.{drawn_placed}
+use Rattle.miette_labels.specs.declared.sweep.PlacedLabel.{PlacedLabel}
 use Rattle.miette_basics.proofs.Cases.{by_cases}
 use Rattle.miette_protocol.proofs.Wholes.{shown_end}
 use Rattle.miette_labels.proofs.Refusing.{read_of}
@@ -84,7 +86,7 @@ at_last style parts true n offset after =
 -- a label as it is placed is the label as it is drawn
 one_is : (ends : Bool) (styles : List Style) (context : ℕ) (source : Source) (labels : List Label) (i : ℕ)
     (r : ReadLabel) → IsRead context source labels r →
-    drawn_of labels (placed_one (end_told ends (length source.bytes)) styles i r)
+    drawn_placed (placed_one (end_told ends (length source.bytes)) styles i labels r)
     ≡ drawn_label ends styles (length source.bytes) i (label_at labels r.index)
 one_is ends styles context source labels i r h =
     let n : ℕ = length source.bytes in
@@ -99,13 +101,24 @@ one_is ends styles context source labels i r h =
     (text_is labels r.index)
     ∙ at_last style (parts_of l.text) ends n l.span.offset (drawn l.span)
 
-pub placed_drawn : (ends : Bool) (styles : List Style) (context : ℕ) (source : Source) (labels : List Label) (i : ℕ)
+placed_reads : (ends : Bool) (styles : List Style) (context : ℕ) (source : Source) (labels : List Label) (i : ℕ)
     (reads : List ReadLabel) → All (IsRead context source labels) reads →
-    map (drawn_of labels) (placed_from (end_told ends (length source.bytes)) styles i reads)
+    map drawn_placed (placed_from (end_told ends (length source.bytes)) styles i labels reads)
     ≡ drawn_from ends styles (length source.bytes) i (map (read_of labels) reads)
-placed_drawn ends styles context source labels i [] h = refl
-placed_drawn ends styles context source labels i (r ∷ rs) h =
-    ap (λ d. d ∷ map (drawn_of labels) (placed_from (end_told ends (length source.bytes)) styles (i + 1) rs))
+placed_reads ends styles context source labels i [] h = refl
+placed_reads ends styles context source labels i (r ∷ rs) h =
+    ap (λ d. d ∷ map drawn_placed (placed_from (end_told ends (length source.bytes)) styles (i + 1) labels rs))
     (one_is ends styles context source labels i r (h 0 r (omega arith)))
     ∙ ap (λ ds. drawn_label ends styles (length source.bytes) i (label_at labels r.index) ∷ ds)
-    (placed_drawn ends styles context source labels (i + 1) rs (λ k d lt. h (suc k) d (omega arith)))
+    (placed_reads ends styles context source labels (i + 1) rs (λ k d lt. h (suc k) d (omega arith)))
+
+drawn_twice : (placed : List PlacedLabel) → map drawn_of placed ≡ map drawn_placed (map placed_of placed)
+drawn_twice [] = refl
+drawn_twice (p ∷ ps) = ap (λ ds. drawn_of p ∷ ds) (drawn_twice ps)
+
+pub placed_drawn : (ends : Bool) (styles : List Style) (context : ℕ) (source : Source) (labels : List Label)
+    (reads : List ReadLabel) (placed : List PlacedLabel) → All (IsRead context source labels) reads →
+    map placed_of placed ≡ placed_from (end_told ends (length source.bytes)) styles 0 labels reads →
+    map drawn_of placed ≡ drawn_from ends styles (length source.bytes) 0 (map (read_of labels) reads)
+placed_drawn ends styles context source labels reads placed h e =
+    drawn_twice placed ∙ ap (map drawn_placed) e ∙ placed_reads ends styles context source labels 0 reads h

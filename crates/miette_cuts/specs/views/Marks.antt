@@ -1,19 +1,17 @@
 -- Marks, as a program makes them.
-use Rattle.std.specs.Prelude.{List, []}
-use Rattle.miette_protocol.specs.views.Meaning.{Label}
 use Rattle.miette_labels.specs.views.GivenLabels.{drawn_of}
 use Rattle.miette_snippet_rules.specs.rules.Marks.{Mark, HasAnchor}
 use Rattle.miette_cuts.specs.declared.marks.Mark.{Mark as MadeMark}
 
 -- a mark, with its label as it is drawn
-abbrev pub mark_of : List Label → MadeMark → Mark
-mark_of labels m = record {
+abbrev pub mark_of : MadeMark → Mark
+mark_of m = record {
   from = m.from;
   until = m.until;
   anchor = m.anchor;
-  label = drawn_of labels m.label;
+  label = drawn_of m.label;
 }
 
 -- a mark has its anchor, whatever its label
 abbrev pub IsAnchored : MadeMark → Type 0
-IsAnchored m = HasAnchor (mark_of [] m)
+IsAnchored m = HasAnchor (mark_of m)

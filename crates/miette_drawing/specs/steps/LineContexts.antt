@@ -20,7 +20,7 @@ settings context = settings_of context.frame.settings
 
 -- the labels of several lines, with their texts
 abbrev pub multi_labels : LineContext → List DrawnLabel
-multi_labels context = map (drawn_of context.labels.now) context.multi.now
+multi_labels context = map drawn_of context.multi.now
 
 -- the gutter of the line's rows but its number row
 abbrev pub gutter_below : LineContext → Row
@@ -57,7 +57,7 @@ shown_cells context shown =
 
 -- the labels that lie on the line alone, with their texts
 abbrev pub labels_alone : LineContext → ShownLine → List DrawnLabel
-labels_alone context shown = map (drawn_of context.labels.now) shown.one.now
+labels_alone context shown = map drawn_of shown.one.now
 
 -- the number row of the line, with what is shown of its text
 abbrev pub number_row : LineContext → ShownLine → Row → Row

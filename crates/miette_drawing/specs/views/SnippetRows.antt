@@ -1,12 +1,12 @@
 -- The rows of a snippet from what its read lent, where nothing is known of the source beyond.
 use Rattle.std.specs.Prelude.{ℕ, ◌+◌, ◌-◌, ◌≡◌, Bool, List, [], ◌∷◌, ◌++◌, map}
-use Rattle.std.specs.Prelude.{slice_range, Option, false, drop}
+use Rattle.std.specs.Prelude.{slice_range, Option, false}
 use Rattle.std.specs.Option.{option_map}
 use Rattle.miette_source_lines.specs.rules.Lines.{Line}
 use Rattle.miette_protocol.specs.rules.Reading.{Contents}
 use Rattle.miette_highlight.specs.rules.HighlighterCalls.{Call}
 use Rattle.miette_page.specs.rules.Rows.{Row}
-use Rattle.miette_labels.specs.rules.Answers.{Highlight, first_of}
+use Rattle.miette_labels.specs.rules.Answers.{Highlight}
 use Rattle.miette_cells.specs.rules.Cells.{Cell, characters, cells_from}
 use Rattle.miette_labels.specs.rules.Contexts.{lines_of_contents}
 use Rattle.miette_drawing.specs.declared.snippet.Drawing.{Drawing}
@@ -64,4 +64,4 @@ abbrev pub PutsSnippet : Bool → (List Call → Type 0) → Drawing → Content
 PutsSnippet blank happen drawing lent place before after =
     PutsRows blank happen (texts_in lent.span.offset lent.bytes (lines_of_contents lent))
     (lent_snippet (settings_of drawing.settings) (map spread_of drawing.spreads.now)
-    (map (drawn_of drawing.labels.now) drawing.placed.now) lent (option_map place_at place)) before after
+    (map drawn_of drawing.placed.now) lent (option_map place_at place)) before after

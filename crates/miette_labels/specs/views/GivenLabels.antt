@@ -1,6 +1,6 @@
 -- Labels as a program gives them.
 use Rattle.std.specs.Prelude.{ℕ, false, List, Option, None, slice_get, unwrap_or}
-use Rattle.std.specs.Option.{option_map_or}
+use Rattle.std.specs.Option.{option_copied, option_map_or}
 use Rattle.miette_protocol.specs.views.Meaning.{Label}
 use Rattle.miette_labels.specs.declared.sweep.PlacedLabel.{PlacedLabel}
 use Rattle.miette_labels.specs.rules.Labels.{DrawnLabel, parts_of}
@@ -9,13 +9,13 @@ use Rattle.miette_labels.specs.rules.Labels.{DrawnLabel, parts_of}
 abbrev pub text_at : List Label → ℕ → Option (List ℕ)
 text_at labels i = option_map_or (λ label. label.text) (slice_get labels i) None
 
--- a label that a program has placed, with the text that it has among these labels
-abbrev pub drawn_of : List Label → PlacedLabel → DrawnLabel
-drawn_of labels p = record {
+-- a label that a program has placed, with the parts of its text
+abbrev pub drawn_of : PlacedLabel → DrawnLabel
+drawn_of p = record {
   start = p.start;
   after = p.after;
   style = p.style;
-  parts = parts_of (text_at labels p.index);
+  parts = parts_of (option_copied p.text);
   behind = p.behind;
 }
 

@@ -5,7 +5,10 @@ use Rattle.miette_style.specs.declared.style.Style.{Style}
 use Rattle.miette_labels.specs.declared.reading.ReadLabel.{ReadLabel}
 use Rattle.miette_labels.specs.declared.sweep.PlacedLabel.{PlacedLabel}
 use Rattle.miette_labels.specs.rules.Contexts.{end_of_span}
-use Rattle.miette_labels.specs.rules.Labels.{style_at}
+use Rattle.miette_labels.specs.rules.Labels.{DrawnLabel, parts_of, style_at}
+use Rattle.miette_labels.specs.views.GivenLabels.{text_at}
+use Rattle.miette_protocol.specs.views.Meaning.{Label}
+use Rattle.std.specs.Option.{option_copied}
 
 -- the smaller of a label's end and the end of what its read lent, and at least its start
 abbrev pub end_drawn : ReadLabel → ℕ
@@ -26,16 +29,44 @@ abbrev pub is_told : Option ℕ → ℕ → Bool
 is_told None offset = false
 is_told (Some end) offset = offset == end
 
+-- a label as a program places it, with the bytes of its text
+pub record Placed : Type 0 where
+  pub start : ℕ
+  pub after : ℕ
+  pub style : Style
+  pub text : Option (List ℕ)
+  pub behind : Bool
+
+abbrev pub placed_of : PlacedLabel → Placed
+placed_of p = record {
+  start = p.start;
+  after = p.after;
+  style = p.style;
+  text = option_copied p.text;
+  behind = p.behind;
+}
+
+-- as it is drawn
+abbrev pub drawn_placed : Placed → DrawnLabel
+drawn_placed p = record {
+  start = p.start;
+  after = p.after;
+  style = p.style;
+  parts = parts_of p.text;
+  behind = p.behind;
+}
+
 -- a label at the told end stands behind the text of the last line, at the byte before
-abbrev pub placed_one : Option ℕ → List Style → ℕ → ReadLabel → PlacedLabel
-placed_one end styles i read = record {
+abbrev pub placed_one : Option ℕ → List Style → ℕ → List Label → ReadLabel → Placed
+placed_one end styles i labels read = record {
   start = if is_told end read.span.offset then read.span.offset - 1 else read.span.offset;
   after = if is_told end read.span.offset then read.span.offset - 1 else end_drawn read;
   style = style_at styles i;
-  index = read.index;
+  text = text_at labels read.index;
   behind = is_told end read.span.offset;
 }
 
-abbrev pub placed_from : Option ℕ → List Style → ℕ → List ReadLabel → List PlacedLabel
-placed_from end styles i [] = []
-placed_from end styles i (read ∷ reads) = placed_one end styles i read ∷ placed_from end styles (i + 1) reads
+abbrev pub placed_from : Option ℕ → List Style → ℕ → List Label → List ReadLabel → List Placed
+placed_from end styles i labels [] = []
+placed_from end styles i labels (read ∷ reads) =
+    placed_one end styles i labels read ∷ placed_from end styles (i + 1) labels reads

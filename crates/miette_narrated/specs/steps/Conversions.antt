@@ -1,19 +1,17 @@
 -- What a program gives, in the words of the definitions.
-use Rattle.std.specs.Prelude.{List, map}
-use Rattle.miette_protocol.specs.views.Meaning.{Label}
+use Rattle.std.specs.Prelude.{List, map, option_copied}
 use Rattle.miette_labels.specs.declared.sweep.PlacedLabel.{PlacedLabel}
 use Rattle.miette_cells.specs.rules.Cells.{characters}
-use Rattle.miette_labels.specs.views.GivenLabels.{text_at}
 use Rattle.miette_source_lines.specs.views.Walking.{line_of_text}
 use Rattle.miette_narrated.specs.declared.narrated_line.NarratedLine.{NarratedLine}
 use Rattle.miette_narrated.specs.rules.Labels.{LabelRange, SnippetLine}
 
--- a label that has been placed, with the text that it has among these labels
-abbrev pub range_of : List Label → PlacedLabel → LabelRange
-range_of labels p = record { start = p.start; after = p.after; text = text_at labels p.index }
+-- a label that has been placed, with its text
+abbrev pub range_of : PlacedLabel → LabelRange
+range_of p = record { start = p.start; after = p.after; text = option_copied p.text }
 
-abbrev pub ranges_of : List Label → List PlacedLabel → List LabelRange
-ranges_of labels ps = map (range_of labels) ps
+abbrev pub ranges_of : List PlacedLabel → List LabelRange
+ranges_of ps = map range_of ps
 
 -- a line as a program shows it
 abbrev pub narrated_line : NarratedLine → SnippetLine

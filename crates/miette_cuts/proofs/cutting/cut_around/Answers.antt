@@ -1,5 +1,4 @@
-use Rattle.std.proofs.Common.{◌≡◌, ℕ, List, Option, map, option_map, sym, ap, subst, IfOk}
-use Rattle.miette_protocol.specs.views.Meaning.{Label}
+use Rattle.std.proofs.Common.{◌≡◌, ℕ, Option, map, option_map, sym, ap, subst, IfOk}
 use Rattle.miette_snippet_rules.specs.rules.CutLines.{cut_line}
 use Rattle.miette_cuts.specs.views.Cuts.{measure}
 use Rattle.miette_cuts.specs.views.Marks.{mark_of}
@@ -8,11 +7,11 @@ use Rattle.miette_cuts.proofs.cutting.cut_around.Goals as goal
 
 pub returns-in-Some : goal.returns-in-Some
 returns-in-Some c =
-    subst (λ (o : Option ℕ). IfOk c.cut_at.result (λ cut. (labels : List Label) → option_map (λ made. made.items) cut
-    ≡ option_map (map measure) (cut_line o (map (mark_of labels) c.args.marks.now) (text_cells c.args.text.now))))
+    subst (λ (o : Option ℕ). IfOk c.cut_at.result (λ cut. option_map (λ made. made.items) cut
+    ≡ option_map (map measure) (cut_line o (map mark_of c.args.marks.now) (text_cells c.args.text.now))))
     (sym c.in-Some.is) c.cut_at.ensures
 
 pub returns-in-None : goal.returns-in-None
-returns-in-None c = λ labels.
-    ap (λ (o : Option ℕ). option_map (map measure) (cut_line o (map (mark_of labels) c.args.marks.now)
+returns-in-None c =
+    ap (λ (o : Option ℕ). option_map (map measure) (cut_line o (map mark_of c.args.marks.now)
     (text_cells c.args.text.now))) (sym c.in-None.is)

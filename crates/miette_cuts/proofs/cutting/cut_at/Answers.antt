@@ -11,27 +11,27 @@ use Rattle.miette_cuts.proofs.Plaining.{printable_cells}
 use Rattle.miette_cuts.proofs.cutting.cut_at.Goals as goal
 
 pub returns-then-width-limit : goal.returns-then-width-limit
-returns-then-width-limit c = λ labels.
-    cut_none c.args.limit c.in_ok-width.width (map (mark_of labels) c.args.marks.now) (text_cells c.args.text.now)
+returns-then-width-limit c =
+    cut_none c.args.limit c.in_ok-width.width (map mark_of c.args.marks.now) (text_cells c.args.text.now)
     (c.in_ok-width.ensures ∙ ap (cells_width 0) (c.copy.ensures ∙ c.new-walk.ensures)) c.if-width-limit.true
 
 pub returns : goal.returns
-returns c = λ labels.
+returns c =
     let limit : ℕ = c.args.limit in
-    let own : List Mark = map (mark_of labels) c.args.marks.now in
+    let own : List Mark = map mark_of c.args.marks.now in
     let cells : List Cell = text_cells c.args.text.now in
     cut_is limit c.in_ok-width.width own cells c.in_ok-made.made.items
     (c.in_ok-width.ensures ∙ ap (cells_width 0) (c.copy.ensures ∙ c.new-walk.ensures)) c.if-width-limit.false
     (c.in_ok-made.ensures ∙ ap (λ es. map measure (stretches (is_near limit es) false c.new-walk.result))
-    (c.deref.ensures.value ∙ c.in_ok-ends.ensures labels)
+    (c.deref.ensures.value ∙ c.in_ok-ends.ensures)
     ∙ ap (λ cs. map measure (stretches (is_near limit (ends own)) false cs)) c.new-walk.ensures)
 
 pub plain_cut_at-requires : goal.plain_cut_at-requires
 plain_cut_at-requires c = sym c.all_printable.ensures ∙ c.if-all_printable.true
 
 pub returns-then-all_printable : goal.returns-then-all_printable
-returns-then-all_printable c = λ labels.
-    c.in_ok-plain.ensures labels c.args.text.now.start
-    ∙ ap (λ cells. option_map (map measure) (cut_line (Some c.args.limit) (map (mark_of labels) c.args.marks.now)
+returns-then-all_printable c =
+    c.in_ok-plain.ensures c.args.text.now.start
+    ∙ ap (λ cells. option_map (map measure) (cut_line (Some c.args.limit) (map mark_of c.args.marks.now)
     cells)) (sym (printable_cells c.args.text.now.tab c.args.text.now.start 0 c.args.text.now.bytes.now
     (sym c.all_printable.ensures ∙ c.if-all_printable.true)))

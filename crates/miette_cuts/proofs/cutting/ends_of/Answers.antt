@@ -3,12 +3,12 @@ use Rattle.miette_cuts.proofs.Placing.{no_mark}
 use Rattle.miette_cuts.proofs.cutting.ends_of.Goals as goal
 
 pub loop-mark-preserved : goal.loop-mark-preserved
-loop-mark-preserved c = λ labels.
-    ends_more labels c.args.marks.now c.loop-mark.mark-index c.saturating_sub.result no_mark c.loop-mark.made.items
+loop-mark-preserved c =
+    ends_more c.args.marks.now c.loop-mark.mark-index c.saturating_sub.result no_mark c.loop-mark.made.items
     c.push.new.self.items c.push-in-loop-mark.new.self.items c.push-in-loop-mark-2.new.self.items _
     c.loop-mark-test.true c.saturating_sub.ensures
-    c.in_ok-push.ensures.items c.in_ok-push-2.ensures.items c.in_ok-push-3.ensures.items (c.loop-mark.invariant labels)
+    c.in_ok-push.ensures.items c.in_ok-push-2.ensures.items c.in_ok-push-3.ensures.items (c.loop-mark.invariant)
 
 pub returns : goal.returns
-returns c = λ labels. ends_end labels c.args.marks.now c.loop-mark.mark-index c.loop-mark.made.items _
-    c.loop-mark-test.false (c.loop-mark.invariant labels)
+returns c = ends_end c.args.marks.now c.loop-mark.mark-index c.loop-mark.made.items _
+    c.loop-mark-test.false (c.loop-mark.invariant)

@@ -1,9 +1,8 @@
-use Rattle.std.proofs.Common.{◌≡◌, ◌++◌, List, map, drop}
-use Rattle.miette_protocol.specs.views.Meaning.{Label}
+use Rattle.std.proofs.Common.{◌≡◌, ◌++◌, map, drop}
 use Rattle.miette_snippet_rules.specs.rules.CutLines.{ends}
 use Rattle.miette_cuts.specs.views.Marks.{mark_of}
 use Rattle.miette_cuts.proofs.cutting.ends_of.Given as goal
 
 abbrev pub invariant-loop-mark : goal.invariant-loop-mark
-invariant-loop-mark l = (labels : List Label) → l.made.items ++ ends (map (mark_of labels) (drop l.mark-index l.marks))
-    ≡ ends (map (mark_of labels) l.marks)
+invariant-loop-mark l = l.made.items ++ ends (map mark_of (drop l.mark-index l.marks))
+    ≡ ends (map mark_of l.marks)

@@ -8,12 +8,12 @@ use Rattle.miette_cuts.proofs.CutPlain.{plain_cut_is, plain_cut_none}
 use Rattle.miette_cuts.proofs.cutting.plain_cut_at.Goals as goal
 
 pub returns-then-text-limit : goal.returns-then-text-limit
-returns-then-text-limit c = λ labels start. plain_cut_none c.args.limit start (map (mark_of labels) c.args.marks.now)
+returns-then-text-limit c = λ start. plain_cut_none c.args.limit start (map mark_of c.args.marks.now)
     c.args.text.now c.if-text-limit.true
 
 pub returns : goal.returns
-returns c = λ labels start.
-    let own : List Mark = map (mark_of labels) c.args.marks.now in
+returns c = λ start.
+    let own : List Mark = map mark_of c.args.marks.now in
     plain_cut_is c.args.limit start own c.args.text.now c.in_ok-made.made.items c.if-text-limit.false
     (c.in_ok-made.ensures start ∙ ap (λ es. map measure (stretches (is_near c.args.limit es) false
-    (plain_cells start 0 c.args.text.now))) (c.deref.ensures.value ∙ c.in_ok-ends.ensures labels))
+    (plain_cells start 0 c.args.text.now))) (c.deref.ensures.value ∙ c.in_ok-ends.ensures))

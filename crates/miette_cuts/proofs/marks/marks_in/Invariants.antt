@@ -1,6 +1,5 @@
-use Rattle.std.proofs.Common.{◌≡◌, ◌++◌, List, map, drop}
+use Rattle.std.proofs.Common.{◌≡◌, ◌++◌, map, drop}
 use Rattle.std.specs.List.{All}
-use Rattle.miette_protocol.specs.views.Meaning.{Label}
 use Rattle.miette_snippet_rules.specs.rules.Marks.{marks, marks_from}
 use Rattle.miette_cuts.specs.views.Marks.{mark_of, IsAnchored}
 use Rattle.miette_labels.specs.views.GivenLabels.{drawn_of}
@@ -8,8 +7,8 @@ use Rattle.miette_cuts.proofs.marks.marks_in.Given as goal
 
 abbrev pub invariant-loop-label : goal.invariant-loop-label
 invariant-loop-label l = record {
-  told : (labels : List Label) → map (mark_of labels) l.made.items
-      ++ marks_from l.columns l.reached (map (drawn_of labels) (drop l.label-index l.placed))
-      ≡ marks l.columns (map (drawn_of labels) l.placed);
+  told : map mark_of l.made.items
+      ++ marks_from l.columns l.reached (map drawn_of (drop l.label-index l.placed))
+      ≡ marks l.columns (map drawn_of l.placed);
   apart : All IsAnchored l.made.items;
 }

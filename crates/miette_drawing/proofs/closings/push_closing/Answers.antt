@@ -1,24 +1,22 @@
-use Rattle.std.proofs.Common.{◌∙◌, ◌∷◌, ap, sym}
+use Rattle.std.proofs.Common.{◌∙◌, ◌∷◌, ap}
 use Rattle.std.specs.Prelude.{chars, option_copied}
 use Rattle.miette_labels.specs.rules.Labels.{parts_of}
 use Rattle.miette_snippet_rules.specs.rules.Frames.{other_start}
 use Rattle.miette_labels.specs.views.GivenLabels.{drawn_of}
-use Rattle.miette_cells.specs.rules.Widths.{width_of}
 use Rattle.miette_drawing.specs.steps.LineContexts.{settings, multi_labels}
 use Rattle.miette_source_lines.specs.views.Walking.{line_of_text}
 use Rattle.miette_drawing.proofs.Closing.{several_closing}
 use Rattle.miette_drawing.proofs.closings.push_closing.Goals as goal
-use Rattle.miette_style.specs.rules.Themes.{characters_of}
 
 pub returns : goal.returns
 returns g c =
     several_closing (settings c.args.context.now) (line_of_text c.args.context.now.line)
     c.args.context.now.gutter c.saturating_sub-columns.result (multi_labels c.args.context.now)
-    (drawn_of c.args.context.now.labels.now c.args.label.now)
+    (drawn_of c.args.label.now)
     (other_start (settings c.args.context.now) c.args.context.now.frame.number_width) _
     (chars c.first_part.result.0.now)
     (chars c.in-Some-rest.rest.now)
     c.args.page.now c.push_closed_row-2.new.page c.push_open_rows.new.page c.saturating_sub-columns.ensures
-    (ap parts_of (sym c.in-Some.ensures) ∙ c.first_part.ensures.cut
+    (ap (λ o. parts_of (option_copied o)) c.in-Some.is ∙ c.first_part.ensures.cut
     ∙ ap (λ o. chars c.first_part.result.0.now ∷ parts_of (option_copied o)) c.in-Some-rest.is)
     c.in_ok-push_closed_row-2.ensures c.in_ok-push_open_rows.ensures

@@ -12,7 +12,7 @@ invariant-loop-label g l =
     l.page ⊕ rest_of (settings l.fn.context) (line_of_text l.fn.context.line)
     l.fn.context.gutter (multi_labels l.fn.context) (other_start (settings l.fn.context)
     l.fn.context.frame.number_width)
-    (map (drawn_of l.fn.context.labels.now) (drop l.label-index l.fn.context.multi.now))
+    (map drawn_of (drop l.label-index l.fn.context.multi.now))
     ≡ l.fn.page ⊕ rest_of (settings l.fn.context) (line_of_text l.fn.context.line)
     l.fn.context.gutter (multi_labels l.fn.context) (other_start (settings l.fn.context)
     l.fn.context.frame.number_width)

@@ -2,12 +2,10 @@ use Rattle.std.specs.Prelude.{chars}
 use Rattle.miette_snippet_rules.specs.rules.Frames.{other_start}
 use Rattle.miette_snippet_rules.specs.rules.Gutters.{open_gutter}
 use Rattle.miette_labels.specs.views.GivenLabels.{drawn_of}
-use Rattle.miette_cells.specs.rules.Widths.{width_of}
 use Rattle.miette_drawing.specs.steps.LineContexts.{settings, multi_labels}
 use Rattle.miette_source_lines.specs.views.Walking.{line_of_text}
 use Rattle.miette_drawing.proofs.Closing.{closed_put}
 use Rattle.miette_drawing.proofs.closings.push_open_row.Goals as goal
-use Rattle.miette_style.specs.rules.Themes.{characters_of}
 
 pub returns : goal.returns
 returns g c =
@@ -15,7 +13,7 @@ returns g c =
     c.args.context.now.frame.number_width)
     (open_gutter (settings c.args.context.now) (line_of_text c.args.context.now.line)
     c.args.columns (multi_labels c.args.context.now))
-    (drawn_of c.args.context.now.labels.now c.args.label.now)
+    (drawn_of c.args.label.now)
     c.args.context.now.frame.settings.theme.now.characters.vbar
     (chars c.args.part.now)
     c.args.page.now c.push_other_start.new.page c.push_open_gutter.new.page c.push_part.new.page

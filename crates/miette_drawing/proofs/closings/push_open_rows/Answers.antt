@@ -9,7 +9,7 @@ use Rattle.miette_drawing.proofs.closings.push_open_rows.Goals as goal
 
 pub loop-left-preserved : goal.loop-left-preserved
 loop-left-preserved g c =
-    part_more (open_line c.args.context.now c.args.columns (drawn_of c.args.context.now.labels.now c.args.label.now))
+    part_more (open_line c.args.context.now c.args.columns (drawn_of c.args.label.now))
     (parts_of (option_copied c.loop-left.left)) (parts_of (option_copied c.first_part.result.1))
     (chars c.first_part.result.0.now)
     c.loop-left.page c.push_open_row.new.page _

@@ -10,9 +10,9 @@ use Rattle.miette_drawing.proofs.closings.push_open_rows.Given as goal
 
 abbrev pub invariant-loop-left : goal.invariant-loop-left
 invariant-loop-left g l =
-    l.page ⊕ rows_tokens (map (open_line l.fn.context l.fn.columns (drawn_of l.fn.context.labels.now l.fn.label))
+    l.page ⊕ rows_tokens (map (open_line l.fn.context l.fn.columns (drawn_of l.fn.label))
     (parts_of (option_copied l.left)))
-    ≡ l.fn.page ⊕ rows_tokens (map (open_line l.fn.context l.fn.columns (drawn_of l.fn.context.labels.now l.fn.label))
+    ≡ l.fn.page ⊕ rows_tokens (map (open_line l.fn.context l.fn.columns (drawn_of l.fn.label))
     (cut_at_lf (chars l.fn.text)))
 
 abbrev pub decreases-loop-left : goal.decreases-loop-left

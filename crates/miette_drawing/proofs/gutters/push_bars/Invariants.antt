@@ -9,6 +9,6 @@ use Rattle.miette_drawing.proofs.gutters.push_bars.Given as goal
 abbrev pub invariant-loop-label : goal.invariant-loop-label
 invariant-loop-label g l =
     l.page ⊕ row_tokens (map (bar (settings l.fn.context))
-    (map (drawn_of l.fn.context.labels.now) (drop l.label-index l.fn.context.multi.now)))
+    (map drawn_of (drop l.label-index l.fn.context.multi.now)))
     ≡ l.fn.page ⊕ row_tokens (map (bar (settings l.fn.context))
     (multi_labels l.fn.context))

@@ -10,7 +10,7 @@ use Rattle.miette_drawing.proofs.gutters.push_number_gutter.Given as goal
 abbrev pub invariant-loop-label : goal.invariant-loop-label
 invariant-loop-label g l =
     l.page ⊕ row_tokens (number_gutter (settings l.fn.context)
-    (line_of_text l.fn.context.line) l.left (map (drawn_of l.fn.context.labels.now)
+    (line_of_text l.fn.context.line) l.left (map drawn_of
     (drop l.label-index l.fn.context.multi.now)))
     ≡ l.fn.page ⊕ row_tokens (number_gutter (settings l.fn.context)
     (line_of_text l.fn.context.line) l.fn.context.gutter (multi_labels l.fn.context))

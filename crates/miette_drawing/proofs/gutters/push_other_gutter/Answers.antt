@@ -1,28 +1,26 @@
 use Rattle.std.proofs.Common.{◌∙◌, map, drop, get_or, ◌+◌, sym}
 use Rattle.miette_labels.specs.views.Sweeping.{nothing}
 use Rattle.miette_labels.specs.views.GivenLabels.{drawn_of}
-use Rattle.miette_cells.specs.rules.Widths.{width_of}
 use Rattle.miette_source_lines.specs.views.Walking.{line_of_text}
 use Rattle.miette_snippet_rules.specs.rules.Gutters.{other_gutter}
 use Rattle.miette_snippet_rules.proofs.Telling.{blank_row}
 use Rattle.miette_drawing.proofs.Guttering.{at_end, at_last, other_last}
 use Rattle.miette_drawing.proofs.gutters.push_other_gutter.Goals as goal
-use Rattle.miette_style.specs.rules.Themes.{characters_of}
 use Rattle.miette_drawing.specs.steps.LineContexts.{settings}
 
 pub returns-then-ends : goal.returns-then-ends
 returns-then-ends g c =
     at_last (other_gutter (settings c.args.context.now)
-    (line_of_text c.args.context.now.line) c.loop-label.left) c.args.context.now.labels.now c.args.context.now.multi.now
+    (line_of_text c.args.context.now.line) c.loop-label.left) c.args.context.now.multi.now
     c.loop-label.label-index _ _ _ _ c.loop-label-test.true
     (other_last (settings c.args.context.now) (line_of_text c.args.context.now.line)
-    c.loop-label.left c.saturating_sub.result (drawn_of c.args.context.now.labels.now
+    c.loop-label.left c.saturating_sub.result (drawn_of
     (get_or c.args.context.now.multi.now c.loop-label.label-index nothing))
-    (map (drawn_of c.args.context.now.labels.now) (drop (c.loop-label.label-index + 1) c.args.context.now.multi.now))
+    (map drawn_of (drop (c.loop-label.label-index + 1) c.args.context.now.multi.now))
     (sym c.ends.ensures ∙ c.if-ends.true) c.saturating_sub.ensures) c.in_ok-push_line.ensures c.loop-label.invariant
 
 pub returns : goal.returns
 returns g c = at_end (other_gutter (settings c.args.context.now)
-    (line_of_text c.args.context.now.line) c.loop-label.left) c.args.context.now.labels.now c.args.context.now.multi.now
+    (line_of_text c.args.context.now.line) c.loop-label.left) c.args.context.now.multi.now
     c.loop-label.label-index _ _ _ _ c.loop-label-test.false (blank_row (settings c.args.context.now) c.loop-label.left)
     c.in_ok-push_blank.ensures c.loop-label.invariant

@@ -23,7 +23,6 @@ use Rattle.miette_cuts.proofs.CutStretches.{shown_made_anchored}
 use Rattle.miette_cuts.proofs.CutTexting.{shown_made}
 use Rattle.miette_drawing.proofs.Lining.{line_put}
 use Rattle.miette_drawing.proofs.line.push_line_or_break.Goals as goal
-use Rattle.miette_style.specs.rules.Themes.{characters_of}
 use Rattle.miette_snippet_rules.specs.rules.SnippetLayout.{line_in, line_shown}
 
 pub push_marked_rows-requires : goal.push_marked_rows-requires
@@ -32,26 +31,24 @@ push_marked_rows-requires g c =
     let shown = c.args.shown.now in
     let cells : List Cell = shown_cells context shown in
     let own : List Mark = marks (text_of_cells cells context.line.text_end) (labels_alone context shown) in
-    let ls = context.labels.now in
     let o : Option (List Stretch) = cut_line context.frame.settings.layout.now.line_columns own cells in
     let made : option_map (λ v. v.items) c.in_ok-cut.cut ≡ option_map (map measure) o =
-    c.in_ok-cut.ensures ls ∙ ap (λ ms. option_map (map measure)
-    (cut_line context.frame.settings.layout.now.line_columns (map (mark_of ls) ms) cells)) c.deref.ensures.value
+    c.in_ok-cut.ensures ∙ ap (λ ms. option_map (map measure)
+    (cut_line context.frame.settings.layout.now.line_columns (map mark_of ms) cells)) c.deref.ensures.value
     ∙ ap (λ ms. option_map (map measure) (cut_line context.frame.settings.layout.now.line_columns ms cells))
     c.in_ok-whole.ensures.marks in
-    rw c.deref-2.ensures.value (shown_made_anchored ls context.frame.settings.layout.now.line_columns own cells
+    rw c.deref-2.ensures.value (shown_made_anchored context.frame.settings.layout.now.line_columns own cells
     c.in_ok-whole.whole.items
     c.in_ok-marks.marks.items
     (columns_from width_of context.frame.settings.layout.now.tab_width false context.line.start 0
     (characters shown.text.now))
     c.in_ok-whole.ensures.marks c.in_ok-whole.ensures.anchored
-    (c.in_ok-marks.ensures ls o made ∙ ap (shown_marks o) c.in_ok-whole.ensures.marks))
+    (c.in_ok-marks.ensures o made ∙ ap (shown_marks o) c.in_ok-whole.ensures.marks))
 
 pub returns : goal.returns
 returns g c =
     let context = c.args.context.now in
     let shown = c.args.shown.now in
-    let ls = context.labels.now in
     let cells : List Cell = shown_cells context shown in
     let pieces : List Highlight = map highlight_of shown.pieces.now in
     let own : List Mark = marks (text_of_cells cells context.line.text_end) (labels_alone context shown) in
@@ -60,14 +57,14 @@ returns g c =
     let drawn : List Mark → List Row = λ ms. before_each (before_marks context)
     (marked_rows (settings context) ms) in
     let made : option_map (λ v. v.items) c.in_ok-cut.cut ≡ option_map (map measure) o =
-    c.in_ok-cut.ensures ls ∙ ap (λ ms. option_map (map measure)
-    (cut_line context.frame.settings.layout.now.line_columns (map (mark_of ls) ms) cells)) c.deref.ensures.value
+    c.in_ok-cut.ensures ∙ ap (λ ms. option_map (map measure)
+    (cut_line context.frame.settings.layout.now.line_columns (map mark_of ms) cells)) c.deref.ensures.value
     ∙ ap (λ ms. option_map (map measure) (cut_line context.frame.settings.layout.now.line_columns ms cells))
     c.in_ok-whole.ensures.marks in
     let text : made_runs (option_map (λ v. v.items) c.in_ok-cut.cut) pieces cells ≡ shown_runs o pieces cells =
     ap (λ x. made_runs x pieces cells) made ∙ shown_made context.frame.settings.layout.now.line_columns own cells pieces
     in
-    let moved : map (mark_of ls) c.in_ok-marks.marks.items ≡ shown_marks o own = c.in_ok-marks.ensures ls o made
+    let moved : map mark_of c.in_ok-marks.marks.items ≡ shown_marks o own = c.in_ok-marks.ensures o made
     ∙ ap (shown_marks o) c.in_ok-whole.ensures.marks in
     line_put (number_row context shown (shown_runs o pieces cells)) (drawn (shown_marks o own))
     (before_each (other_start (settings context) context.frame.number_width)
@@ -77,7 +74,7 @@ returns g c =
     (c.in_ok-push_number_row.ensures ∙ ap (λ runs. c.args.page.now ⊕ rows_tokens (number_row context shown runs ∷ []))
     text)
     (c.in_ok-push_marked_rows.ensures ∙ ap (λ ms. c.push_number_row.new.page
-    ⊕ rows_tokens (drawn (map (mark_of ls) ms))) c.deref-2.ensures.value
+    ⊕ rows_tokens (drawn (map mark_of ms))) c.deref-2.ensures.value
     ∙ ap (λ ms. c.push_number_row.new.page ⊕ rows_tokens (drawn ms)) moved)
     c.in_ok-push_closings.ensures
     ∙ ap (λ out. c.args.page.now ⊕ rows_tokens (line_or_break_of shown.gap out

@@ -3,23 +3,21 @@ use Rattle.std.proofs.Common.{◌∙◌, ◌<◌, ap, map, [], length, rules}
 use Rattle.miette_snippet_rules.specs.rules.Drawing.{mark_runs, rows_below}
 use Rattle.miette_page.specs.views.Tokens.{rows_tokens}
 use Rattle.miette_snippet_rules.specs.rules.SnippetLayout.{before_each}
-use Rattle.miette_cells.specs.rules.Widths.{width_of}
 use Rattle.miette_cuts.specs.views.Marks.{mark_of}
 use Rattle.miette_drawing.specs.steps.LineContexts.{before_marks}
 use Rattle.miette_drawing.proofs.Lining.{marked_put, marked_some}
 use Rattle.miette_drawing.proofs.line.push_marked_rows.Goals as goal
-use Rattle.miette_style.specs.rules.Themes.{characters_of}
 use Rattle.miette_drawing.specs.steps.LineContexts.{settings}
 
 pub returns : goal.returns
 returns g c =
     let some : 0 < length c.args.marks.now = search rules in
     marked_put (before_marks c.args.context.now) (mark_runs (settings c.args.context.now)
-    0 (map (mark_of c.args.context.now.labels.now) c.args.marks.now))
+    0 (map mark_of c.args.marks.now))
     (rows_below (settings c.args.context.now) []
-    (map (mark_of c.args.context.now.labels.now) c.args.marks.now))
+    (map mark_of c.args.marks.now))
     c.args.page.now c.push_before_marks.new.page c.push_marks.new.page c.end_row.new.self c.push_texts.new.page
     c.in_ok-push_before_marks.ensures c.in_ok-push_marks.ensures c.in_ok-end_row.ensures c.in_ok-push_texts.ensures
     ∙ ap (λ rows. c.args.page.now ⊕ rows_tokens (before_each (before_marks c.args.context.now) rows))
-    (marked_some (settings c.args.context.now) (mark_of c.args.context.now.labels.now)
+    (marked_some (settings c.args.context.now) mark_of
     c.args.marks.now some)

@@ -3,14 +3,12 @@ use Rattle.std.specs.Option.{option_map}
 use Rattle.miette_cuts.specs.views.Cuts.{made_runs}
 use Rattle.miette_snippet_rules.specs.rules.Frames.{number_start}
 use Rattle.miette_snippet_rules.specs.rules.Gutters.{number_gutter}
-use Rattle.miette_cells.specs.rules.Widths.{width_of}
 use Rattle.miette_snippet_rules.specs.rules.Highlighting.{highlight_of}
 use Rattle.miette_cuts.specs.views.LineTexts.{text_cells}
 use Rattle.miette_drawing.specs.steps.LineContexts.{settings, multi_labels}
 use Rattle.miette_source_lines.specs.views.Walking.{line_of_text}
 use Rattle.miette_drawing.proofs.Lining.{number_row_put}
 use Rattle.miette_drawing.proofs.line.push_number_row.Goals as goal
-use Rattle.miette_style.specs.rules.Themes.{characters_of}
 
 pub returns : goal.returns
 returns g c =

@@ -14,7 +14,19 @@ pub extent_of-requires-clause-at : goal.extent_of-requires-clause-at
 extent_of-requires-clause-at g c =
     let at : c.offset-start.result ≡ c.args.lent.now.span.offset = c.offset-start.ensures
     ∙ ap (λ s. s.offset) c.span.ensures in
-    rw (c.in_ok-ahead.ensures.next, c.in_ok-ahead.ensures.running)
+    subst (λ (n : ℕ). IsAt c.args.drawing.now.placed.now n c.args.sweep.now.next c.args.sweep.now.running.items)
+    (sym at) c.requires.at
+
+pub push_lines-requires-clause-at : goal.push_lines-requires-clause-at
+push_lines-requires-clause-at g c =
+    let at : c.offset-start.result ≡ c.args.lent.now.span.offset = c.offset-start.ensures
+    ∙ ap (λ s. s.offset) c.span.ensures in
+    rw (
+      c.come_back.ensures.next,
+      c.come_back.ensures.running,
+      c.in_ok-begun.ensures.next,
+      c.in_ok-begun.ensures.running,
+    )
     (subst (λ (n : ℕ). IsAt c.args.drawing.now.placed.now n c.args.sweep.now.next c.args.sweep.now.running.items)
     (sym at) c.requires.at)
 
@@ -39,8 +51,8 @@ push_lines-requires-clause-folds g c =
 
 pub returns-clause-rows : goal.returns-clause-rows
 returns-clause-rows g c =
-    told_lent (settings_of c.args.drawing.now.settings)
-    (map spread_of c.args.drawing.now.spreads.now) c.args.drawing.now.labels.now c.args.drawing.now.placed.now
+    told_lent (settings_of c.args.drawing.now.settings) (map spread_of c.args.drawing.now.spreads.now)
+    c.args.drawing.now.placed.now
     c.args.lent.now (option_map place_at c.args.place) (leaves_plain g.H.Highlighter.is_blank c.args.highlighter.now)
     (λ calls. Leads (follows g.H.Highlighter.may_follow c.args.highlighter.now) calls
     (follows g.H.Highlighter.may_follow c.push_lines.new.highlighter))

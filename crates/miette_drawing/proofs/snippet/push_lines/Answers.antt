@@ -31,7 +31,7 @@ loop-at-init g c =
       lined = subst (λ (m : ℕ). AreLined (left_out (settings_of body.frame.settings) body.before
           (lines_from body.start body.bytes.now) (map spread_of c.args.drawing.now.spreads.now)) false
           (settings_of body.frame.settings) body.frame.number_width body.gutter
-          (map (drawn_of c.args.drawing.now.labels.now) c.args.drawing.now.placed.now) body.start body.bytes.now
+          (map drawn_of c.args.drawing.now.placed.now) body.start body.bytes.now
           (body.before + 1)
           (leaves_plain g.H.Highlighter.is_blank c.args.highlighter.now)
           (follows g.H.Highlighter.may_follow c.args.highlighter.now)
@@ -39,7 +39,7 @@ loop-at-init g c =
           (lines_first (left_out (settings_of body.frame.settings) body.before
           (lines_from body.start body.bytes.now) (map spread_of c.args.drawing.now.spreads.now))
           (settings_of body.frame.settings) body.frame.number_width body.gutter
-          (map (drawn_of c.args.drawing.now.labels.now) c.args.drawing.now.placed.now) body.start body.bytes.now
+          (map drawn_of c.args.drawing.now.placed.now) body.start body.bytes.now
           (body.before + 1)
           (leaves_plain g.H.Highlighter.is_blank c.args.highlighter.now)
           (follows g.H.Highlighter.may_follow c.args.highlighter.now) c.args.page.now);
@@ -131,7 +131,7 @@ loop-at-preserved g c =
     let lined = subst (λ (n : ℕ). AreLined (left_out (settings_of body.frame.settings) body.before
     (lines_from body.start body.bytes.now) (map spread_of c.args.drawing.now.spreads.now)) c.loop-at.gap
     (settings_of body.frame.settings) body.frame.number_width body.gutter
-    (map (drawn_of c.args.drawing.now.labels.now) placed) body.start body.bytes.now (body.before + 1) blank begun was
+    (map drawn_of placed) body.start body.bytes.now (body.before + 1) blank begun was
     c.loop-at.at n c.args.page.now c.loop-at.page)
     (sym c.in_ok-number.ensures) c.loop-at.invariant.lined in
     let counted : c.loop-at.place ≡ c.in_ok-number.number - (c.args.body.now.before + 1) =
@@ -147,12 +147,12 @@ loop-at-preserved g c =
     (map spread_of c.args.drawing.now.spreads.now) n (line_of_text c.line_at-line.result)) counted in
     let drawn = lines_more (left_out (settings_of body.frame.settings) body.before
     (lines_from body.start body.bytes.now) (map spread_of c.args.drawing.now.spreads.now)) c.loop-at.gap
-    c.leaves_out-left_out.result (settings_of body.frame.settings) body.frame.number_width
-    body.gutter c.args.drawing.now.labels.now placed body.start body.bytes.now (body.before + 1) blank begun was now
+    c.leaves_out-left_out.result (settings_of body.frame.settings) body.frame.number_width body.gutter placed
+    body.start body.bytes.now (body.before + 1) blank begun was now
     c.loop-at.at c.in_ok-number.number c.line_at-line.result
     c.deref-in-loop-at.result.now c.deref.result.now (map highlight_of c.deref-in-loop-at-2.result.now)
     c.args.page.now c.loop-at.page c.push_line_or_break.new.page lined leaves c.line_at-line.ensures.parted low
-    (c.deref-in-loop-at.ensures.value ∙ c.in_ok-enter_line.ensures.one)
+    (c.deref-in-loop-at.ensures.value ∙ c.in_ok-enter_line.ensures.alone)
     (c.deref.ensures.value ∙ c.in_ok-enter_line.ensures.on.multi) own
     (call_for was now text c.deref-in-loop-at-2.result.now c.in_ok-pieces.pieces.items
     c.deref-in-loop-at-2.ensures.value c.in_ok-pieces.ensures.calls)
@@ -162,7 +162,7 @@ loop-at-preserved g c =
     let behind = subst (λ (n : ℕ). AreLined (left_out (settings_of body.frame.settings) body.before
     (lines_from body.start body.bytes.now) (map spread_of c.args.drawing.now.spreads.now))
     c.leaves_out-left_out.result (settings_of body.frame.settings) body.frame.number_width
-    body.gutter (map (drawn_of c.args.drawing.now.labels.now) placed) body.start body.bytes.now (body.before + 1)
+    body.gutter (map drawn_of placed) body.start body.bytes.now (body.before + 1)
     blank begun now (c.line_at-line.result.end - c.args.body.now.start) n c.args.page.now
     c.push_line_or_break.new.page) sums drawn in
     let a : Begins start bytes c.line_at-line.result.end (c.loop-at.place + 1) =
@@ -179,7 +179,7 @@ loop-at-preserved g c =
     record {
       lined = lines_run (settings_of body.frame.settings)
           (map spread_of c.args.drawing.now.spreads.now) c.leaves_out-left_out.result jumps body.frame.number_width
-          body.gutter (map (drawn_of c.args.drawing.now.labels.now) placed) start bytes body.before (body.before + 1)
+          body.gutter (map drawn_of placed) start bytes body.before (body.before + 1)
           blank begun now near far c.args.page.now c.push_line_or_break.new.page
           c.may_pass.ensures.out c.may_pass.ensures.free (λ f. c.next_start-next.ensures
           ∙ not_jumped folds place l jumps f) a b le
@@ -200,7 +200,7 @@ returns-clause-rows g c =
     lines_all (left_out (settings_of body.frame.settings) body.before
     (lines_from body.start body.bytes.now) (map spread_of c.args.drawing.now.spreads.now)) c.loop-at.gap
     (settings_of body.frame.settings) body.frame.number_width body.gutter
-    (map (drawn_of c.args.drawing.now.labels.now) c.args.drawing.now.placed.now) body.start body.bytes.now
+    (map drawn_of c.args.drawing.now.placed.now) body.start body.bytes.now
     (body.before + 1)
     (leaves_plain g.H.Highlighter.is_blank c.args.highlighter.now)
     (follows g.H.Highlighter.may_follow c.args.highlighter.now)

@@ -15,7 +15,7 @@ invariant-loop-at g l = record {
   lined : AreLined (left_out (settings_of l.body.frame.settings) l.body.before
       (lines_from l.body.start l.body.bytes.now) (map spread_of l.drawing.spreads.now)) l.gap
       (settings_of l.body.frame.settings) l.body.frame.number_width l.body.gutter
-      (map (drawn_of l.drawing.labels.now) l.drawing.placed.now) l.body.start l.body.bytes.now (l.body.before + 1)
+      (map drawn_of l.drawing.placed.now) l.body.start l.body.bytes.now (l.body.before + 1)
       (leaves_plain g.H.Highlighter.is_blank l.initial.highlighter)
       (follows g.H.Highlighter.may_follow l.initial.highlighter) (follows g.H.Highlighter.may_follow l.highlighter)
       l.at (l.body.before + l.place + 1) l.initial.page l.page;

@@ -27,11 +27,11 @@ returns-clause-rows g c =
     let rows = c.in_ok-push_framed.ensures.rows in
     subst (λ b. PutsRows b (λ calls. Leads had (restarted lent ∷ calls) now) (lent_texts lent)
     (lent_snippet (settings_of drawing.settings) (map spread_of drawing.spreads.now)
-    (map (drawn_of drawing.labels.now) drawing.placed.now) lent (option_map place_at c.args.place)) c.args.page.now
+    (map drawn_of drawing.placed.now) lent (option_map place_at c.args.place)) c.args.page.now
     c.push_framed.new.page)
     c.restart.ensures.stays (restarted_first (leaves_plain g.H.Highlighter.is_blank c.restart.new.highlighter) had begun
     now (lent_texts lent) (lent_snippet (settings_of drawing.settings)
-    (map spread_of drawing.spreads.now) (map (drawn_of drawing.labels.now) drawing.placed.now) lent
+    (map spread_of drawing.spreads.now) (map drawn_of drawing.placed.now) lent
     (option_map place_at c.args.place)) lent c.args.page.now c.push_framed.new.page c.restart.ensures.calls rows)
 
 pub returns-clause-at : goal.returns-clause-at

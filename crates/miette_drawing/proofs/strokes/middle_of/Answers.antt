@@ -1,4 +1,5 @@
-use Rattle.std.proofs.Common.{sym}
+use Rattle.std.proofs.Common.{ap}
+use Rattle.std.specs.Option.{option_copied}
 use Rattle.miette_drawing.proofs.Stroking.{middle_of_full}
 use Rattle.miette_drawing.proofs.strokes.middle_of.Goals as goal
 use Rattle.miette_style.specs.rules.Themes.{characters_of}
@@ -6,4 +7,4 @@ use Rattle.miette_style.specs.rules.Themes.{characters_of}
 pub returns-in-Some : goal.returns-in-Some
 returns-in-Some c = middle_of_full (characters_of c.args.context.now.frame.settings.theme.now.characters)
     c.args.mark.now.label.start
-    c.args.mark.now.label.after _ c.in-Some.field-0.now c.if-mark.false (sym c.in-Some.ensures)
+    c.args.mark.now.label.after _ c.in-Some.field-0.now c.if-mark.false (ap option_copied c.in-Some.is)

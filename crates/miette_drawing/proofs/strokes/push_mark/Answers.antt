@@ -1,15 +1,13 @@
 use Rattle.std.proofs.Common.{rules, refl, ◌-◌}
-use Rattle.miette_cells.specs.rules.Widths.{width_of}
 use Rattle.miette_cuts.specs.views.Marks.{mark_of}
 use Rattle.miette_drawing.proofs.Stroking.{mark_put}
 use Rattle.miette_drawing.proofs.strokes.push_mark.Goals as goal
-use Rattle.miette_style.specs.rules.Themes.{characters_of}
 use Rattle.miette_drawing.specs.steps.LineContexts.{settings}
 
 pub returns : goal.returns
 returns g c =
     mark_put (settings c.args.context.now)
-    (mark_of c.args.context.now.labels.now c.args.mark.now) c.args.mark.now.anchor
+    (mark_of c.args.mark.now) c.args.mark.now.anchor
     (c.args.mark.now.anchor - c.args.mark.now.from) (c.args.mark.now.until - c.args.mark.now.anchor - 1)
     c.middle_of.result
     c.args.page.now c.begin.new.self c.push_copies.new.self c.push.new.self c.push_copies-2.new.self

@@ -9,6 +9,6 @@ use Rattle.miette_drawing.proofs.strokes.push_marks.Given as goal
 abbrev pub invariant-loop-mark : goal.invariant-loop-mark
 invariant-loop-mark g l =
     l.page ⊕ row_tokens (mark_runs (settings l.fn.context) l.reached
-    (map (mark_of l.fn.context.labels.now) (drop l.mark-index l.marks)))
+    (map mark_of (drop l.mark-index l.marks)))
     ≡ l.fn.page ⊕ row_tokens (mark_runs (settings l.fn.context) 0
-    (map (mark_of l.fn.context.labels.now) l.marks))
+    (map mark_of l.marks))

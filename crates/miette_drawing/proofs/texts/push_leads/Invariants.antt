@@ -9,6 +9,6 @@ use Rattle.miette_drawing.proofs.texts.push_leads.Given as goal
 abbrev pub invariant-loop-mark : goal.invariant-loop-mark
 invariant-loop-mark g l =
     l.page ⊕ row_tokens (lead_runs (settings l.fn.context) l.reached
-    (map (mark_of l.fn.context.labels.now) (drop l.mark-index l.earlier)) l.fn.column)
+    (map mark_of (drop l.mark-index l.earlier)) l.fn.column)
     ≡ l.fn.page ⊕ row_tokens (lead_runs (settings l.fn.context) 0
-    (map (mark_of l.fn.context.labels.now) l.earlier) l.fn.column)
+    (map mark_of l.earlier) l.fn.column)

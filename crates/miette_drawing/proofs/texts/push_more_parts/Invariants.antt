@@ -11,11 +11,11 @@ use Rattle.miette_drawing.proofs.texts.push_more_parts.Given as goal
 
 abbrev pub invariant-loop-left : goal.invariant-loop-left
 invariant-loop-left g l =
-    l.page ⊕ rows_tokens (map (text_line l.fn.context (map (mark_of l.fn.context.labels.now) l.fn.earlier)
-    (mark_of l.fn.context.labels.now l.fn.mark) (beside (settings l.fn.context).theme.characters))
+    l.page ⊕ rows_tokens (map (text_line l.fn.context (map mark_of l.fn.earlier)
+    (mark_of l.fn.mark) (beside (settings l.fn.context).theme.characters))
     (parts_of (option_copied l.left)))
-    ≡ l.fn.page ⊕ rows_tokens (map (text_line l.fn.context (map (mark_of l.fn.context.labels.now) l.fn.earlier)
-    (mark_of l.fn.context.labels.now l.fn.mark) (beside (settings l.fn.context).theme.characters))
+    ≡ l.fn.page ⊕ rows_tokens (map (text_line l.fn.context (map mark_of l.fn.earlier)
+    (mark_of l.fn.mark) (beside (settings l.fn.context).theme.characters))
     (cut_at_lf (chars l.fn.text)))
 
 abbrev pub decreases-loop-left : goal.decreases-loop-left

@@ -1,8 +1,6 @@
 use Rattle.std.proofs.Common.{rules, ◌+◌}
-use Rattle.miette_cells.specs.rules.Widths.{width_of}
 use Rattle.miette_drawing.proofs.Texting.{start_put}
 use Rattle.miette_drawing.proofs.texts.push_other_start.Goals as goal
-use Rattle.miette_style.specs.rules.Themes.{characters_of}
 use Rattle.miette_drawing.specs.steps.LineContexts.{settings}
 
 pub returns : goal.returns

@@ -1,21 +1,19 @@
-use Rattle.std.proofs.Common.{◌∙◌, ◌∷◌, ap, sym, map}
+use Rattle.std.proofs.Common.{◌∙◌, ◌∷◌, ap, map}
 use Rattle.std.specs.Prelude.{chars, option_copied}
 use Rattle.miette_labels.specs.rules.Labels.{parts_of}
-use Rattle.miette_cells.specs.rules.Widths.{width_of}
 use Rattle.miette_cuts.specs.views.Marks.{mark_of}
 use Rattle.miette_drawing.specs.steps.LineContexts.{before_marks}
 use Rattle.miette_drawing.proofs.Texting.{several_parts}
 use Rattle.miette_drawing.proofs.texts.push_text.Goals as goal
-use Rattle.miette_style.specs.rules.Themes.{characters_of}
 use Rattle.miette_drawing.specs.steps.LineContexts.{settings}
 
 pub returns : goal.returns
 returns g c =
     several_parts (settings c.args.context.now) (before_marks c.args.context.now)
-    (map (mark_of c.args.context.now.labels.now) c.args.earlier.now)
-    (mark_of c.args.context.now.labels.now c.args.mark.now)
+    (map mark_of c.args.earlier.now)
+    (mark_of c.args.mark.now)
     _ (chars c.first_part.result.0.now) (chars c.in-Some-rest.rest.now) c.args.page.now c.push_text_row-2.new.page
     c.push_more_parts.new.page
-    (ap parts_of (sym c.in-Some.ensures) ∙ c.first_part.ensures.cut
+    (ap (λ o. parts_of (option_copied o)) c.in-Some.is ∙ c.first_part.ensures.cut
     ∙ ap (λ o. chars c.first_part.result.0.now ∷ parts_of (option_copied o)) c.in-Some-rest.is)
     c.in_ok-push_text_row-2.ensures c.in_ok-push_more_parts.ensures

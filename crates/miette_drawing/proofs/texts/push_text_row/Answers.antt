@@ -1,18 +1,16 @@
 use Rattle.std.proofs.Common.{map, refl}
 use Rattle.std.specs.Prelude.{chars}
-use Rattle.miette_cells.specs.rules.Widths.{width_of}
 use Rattle.miette_cuts.specs.views.Marks.{mark_of}
 use Rattle.miette_drawing.specs.steps.LineContexts.{before_marks}
 use Rattle.miette_drawing.proofs.Texting.{text_put}
 use Rattle.miette_drawing.proofs.texts.push_text_row.Goals as goal
-use Rattle.miette_style.specs.rules.Themes.{characters_of}
 use Rattle.miette_drawing.specs.steps.LineContexts.{settings}
 
 pub returns : goal.returns
 returns g c =
     text_put (settings c.args.context.now) (before_marks c.args.context.now)
-    (map (mark_of c.args.context.now.labels.now) c.args.earlier.now)
-    (mark_of c.args.context.now.labels.now c.args.mark.now)
+    (map mark_of c.args.earlier.now)
+    (mark_of c.args.mark.now)
     c.args.mark.now.anchor c.args.front.0 c.args.front.1 c.args.front.2 (chars c.args.part.now)
     c.args.page.now c.push_before_marks.new.page c.push_leads.new.page c.push_line.new.self c.push.new.self
     c.push-2.new.self c.push_str.new.self c.end_row.new.self

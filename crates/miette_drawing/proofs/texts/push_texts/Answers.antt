@@ -1,10 +1,8 @@
 use Rattle.std.proofs.Common.{◌<◌, ◌-◌, ◌+◌, ◌≡◌, ◌≤◌, length, arith}
-use Rattle.miette_cells.specs.rules.Widths.{width_of}
 use Rattle.miette_drawing.specs.steps.LineContexts.{before_marks}
 use Rattle.miette_cuts.proofs.Placing.{no_mark}
 use Rattle.miette_drawing.proofs.Texting.{below_more}
 use Rattle.miette_drawing.proofs.texts.push_texts.Goals as goal
-use Rattle.miette_style.specs.rules.Themes.{characters_of}
 use Rattle.miette_drawing.specs.steps.LineContexts.{settings}
 
 pub loop-place-preserved : goal.loop-place-preserved
@@ -15,7 +13,7 @@ loop-place-preserved g c =
     let next : c.loop-place.place ≡ c.loop-place.place - 1 + 1 = omega (arith, c.loop-place-test.true) in
     record {
       within = within;
-      told = below_more (settings c.args.context.now) c.args.context.now.labels.now
+      told = below_more (settings c.args.context.now)
           (before_marks c.args.context.now) c.args.marks.now c.loop-place.place (c.loop-place.place - 1) no_mark
           c.args.page.now c.loop-place.page c.push_text.new.page some next c.loop-place.invariant.told
           c.in_ok-push_text.ensures;

@@ -12,8 +12,8 @@ invariant-loop-place g l = record {
   within : l.place ≤ length l.marks;
   told : l.page ≡ l.fn.page ⊕ rows_tokens (before_each (before_marks l.fn.context)
       (rows_below (settings l.fn.context)
-      (map (mark_of l.fn.context.labels.now) (take l.place l.marks))
-      (map (mark_of l.fn.context.labels.now) (drop l.place l.marks))));
+      (map mark_of (take l.place l.marks))
+      (map mark_of (drop l.place l.marks))));
 }
 
 abbrev pub decreases-loop-place : goal.decreases-loop-place

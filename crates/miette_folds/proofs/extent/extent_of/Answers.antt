@@ -1,9 +1,9 @@
-use Rattle.std.proofs.Common.{◌≡◌, ◌+◌, ◌≤◌, ◌<◌, ◌∙◌, ℕ, length, arith, not, refl, sym, ap, subst, rules}
+use Rattle.std.proofs.Common.{◌≡◌, ◌+◌, ◌≤◌, ◌<◌, ◌∙◌, ℕ, length, arith, refl, sym, ap, subst, rules}
 use Rattle.miette_source_lines.specs.views.Walking.{line_of_text}
 use Rattle.miette_labels.specs.views.Sweeping.{IsAt}
 use Rattle.miette_labels.proofs.Swept.{left_at}
 use Rattle.miette_folds.specs.declared.folds.LineStart.{LineStart}
-use Rattle.miette_folds.specs.steps.Counting.{begins_before, next_counted}
+use Rattle.miette_folds.specs.steps.Counting.{begins_before, next_counted, some_go_on}
 use Rattle.miette_folds.proofs.Starts.{begins_few}
 use Rattle.miette_folds.proofs.Extending.{counted_first, counted_more, counted_rest, all_counted}
 use Rattle.miette_folds.proofs.extent.extent_of.Goals.{then-counts_rest, else-counts_rest}
@@ -60,11 +60,13 @@ loop-at-preserved c =
           counted_more c.args.labels.now c.args.start c.args.bytes.now c.args.folds.now c.loop-at.at c.loop-at.place
           c.loop-at.most _ c.loop-at.sweep.next c.pass_over.new.sweep.next
           c.loop-at.sweep.running.items c.enter_line.new.sweep.running.items c.pass_over.new.sweep.running.items
-          c.line_at-line.result c.enter_line.new.sweep.next (not c.is_empty-inside.result) c.if-counts_rest.next
+          c.line_at-line.result c.enter_line.new.sweep.next (some_go_on c.leave.new.self.running.items)
+          c.if-counts_rest.next
           c.requires.sorted c.requires.folds c.loop-at.invariant c.line_at-line.ensures.parted
           (omega (arith, from, some)) some c.line_at-line.ensures.to c.in_ok-enter_line.ensures.on (search rules)
           (w.next-is ∙ w.next_counted-next.ensures ∙ ap (λ n. next_counted c.args.labels.now n
-          (not c.is_empty-inside.result) c.args.folds.now c.loop-at.place (line_of_text c.line_at-line.result))
+          (some_go_on c.leave.new.self.running.items) c.args.folds.now c.loop-at.place
+          (line_of_text c.line_at-line.result))
           c.leave.ensures.next)
           c.in_ok-pass_over.ensures
     ]

@@ -14,7 +14,7 @@ use Rattle.miette_snippet_rules.specs.views.SettingsView.{settings_of}
 use Rattle.miette_labels.specs.views.GivenLabels.{drawn_of}
 use Rattle.miette_snippet_rules.specs.rules.Highlighting.{leaves_plain, follows}
 use Rattle.miette_drawing.specs.views.SnippetRows.{PutsRows, lent_snippet}
-use Rattle.miette_labels.specs.views.Placing.{placed_from}
+use Rattle.miette_labels.specs.views.Placing.{placed_of, placed_from}
 use Rattle.miette_labels.specs.views.Primary.{PointsTo}
 use Rattle.miette_labels.specs.views.Reads.{AreGroups}
 use Rattle.miette_labels.proofs.Collecting.{are_grouped}
@@ -60,8 +60,8 @@ push_snippet-requires-clause-sorted g c =
     placed_rise (settings_of c.args.settings.now)
     (g.S.SourceCode.source c.args.source.now) c.args.labels.now c.args.reads.now c.in_ok-end.end c.deref-2.result.now
     c.requires.order c.requires.each c.in_ok-end.ensures
-    (c.deref-2.ensures.value ∙ c.in_ok-placed.ensures ∙ ap (λ styles. placed_from c.in_ok-end.end styles 0
-    c.args.reads.now) c.deref.ensures.value)
+    (ap (map placed_of) c.deref-2.ensures.value ∙ c.in_ok-placed.ensures
+    ∙ ap (λ styles. placed_from c.in_ok-end.end styles 0 c.args.labels.now c.args.reads.now) c.deref.ensures.value)
 
 pub push_snippet-requires-clause-numbered : goal.push_snippet-requires-clause-numbered
 push_snippet-requires-clause-numbered g c =
@@ -113,21 +113,21 @@ loop-group-preserved g c =
     let given = subst (λ xs. PutsRows (leaves_plain g.H.Highlighter.is_blank c.loop-group.highlighter) happen
     (lent_texts c.group-item.result.contents) (lent_snippet
     (settings_of c.args.settings.now) xs
-    (map (drawn_of c.args.labels.now) c.deref-2.result.now) c.group-item.result.contents
+    (map drawn_of c.deref-2.result.now) c.group-item.result.contents
     (option_map place_at c.begins.result)) c.loop-group.page c.push_snippet.new.page)
     folded c.in_ok-push_snippet.ensures.rows in
     let rows = subst (λ b. PutsRows b happen (lent_texts c.group-item.result.contents)
     (lent_snippet (settings_of c.args.settings.now)
     (spreads_of c.args.settings.now.layout.now.label_lines c.args.settings.now.layout.now.context_lines
     (g.S.SourceCode.source c.args.source.now) (in_order c.args.labels.now))
-    (map (drawn_of c.args.labels.now) c.deref-2.result.now) c.group-item.result.contents
+    (map drawn_of c.deref-2.result.now) c.group-item.result.contents
     (option_map place_at c.begins.result)) c.loop-group.page c.push_snippet.new.page)
     c.loop-group.invariant.stays given in
     let around = puts_around (settings_of c.args.settings.now)
     (group_context c.args.settings.now.layout.now.context_lines (in_order c.args.labels.now)) blank happen
     (lent_texts c.group-item.result.contents) (spreads_of c.args.settings.now.layout.now.label_lines
     c.args.settings.now.layout.now.context_lines (g.S.SourceCode.source c.args.source.now) (in_order c.args.labels.now))
-    (map (drawn_of c.args.labels.now) c.deref-2.result.now) c.group-item.result.contents
+    (map drawn_of c.deref-2.result.now) c.group-item.result.contents
     (option_map place_at c.begins.result) c.loop-group.page c.push_snippet.new.page rows in
     record {
       drawn = drawn_more (settings_around (settings_of c.args.settings.now)
@@ -137,7 +137,7 @@ loop-group-preserved g c =
           (g.S.SourceCode.source c.args.source.now) c.args.labels.now blank
           (follows g.H.Highlighter.may_follow c.args.highlighter.now) was now c.deref-group-items.result.now
           c.loop-group.group-index c.group-item.result c.args.page c.loop-group.page c.push_snippet.new.page
-          (map (drawn_of c.args.labels.now) c.deref-2.result.now) (option_map place_at c.begins.result)
+          (map drawn_of c.deref-2.result.now) (option_map place_at c.begins.result)
           c.loop-group.invariant.drawn c.loop-group-test.true c.group-item.is
           (groups_lent c.args.settings.now.layout.now.context_lines (g.S.SourceCode.source c.args.source.now)
           (in_order c.args.labels.now) c.deref-group-items.result.now c.loop-group.group-index c.group-item.result
@@ -145,8 +145,9 @@ loop-group-preserved g c =
           (drawn_is (settings_of c.args.settings.now)
           (g.S.SourceCode.source c.args.source.now) c.args.labels.now c.args.reads.now c.in_ok-end.end
           c.deref-2.result.now c.requires.order c.requires.each c.in_ok-end.ensures
-          (c.deref-2.ensures.value ∙ c.in_ok-placed.ensures ∙
-          ap (λ styles. placed_from c.in_ok-end.end styles 0 c.args.reads.now) c.deref.ensures.value))
+          (ap (map placed_of) c.deref-2.ensures.value ∙ c.in_ok-placed.ensures ∙
+          ap (λ styles. placed_from c.in_ok-end.end styles 0 c.args.labels.now c.args.reads.now)
+          c.deref.ensures.value))
           (ap (option_map place_at) c.begins.ensures ∙ place_ordered c.args.settings.now.layout.now.context_lines
           (g.S.SourceCode.source c.args.source.now) c.args.labels.now c.some_own-own.result c.group-item.result.span
           c.args.reads.now c.in_ok-place.place c.some_own-own.ensures c.requires.order c.requires.each

@@ -7,7 +7,7 @@ use Rattle.miette_narrated.proofs.lines.push_lines.Goals as goal
 
 pub loop-line-init : goal.loop-line-init
 loop-line-init c = record {
-  left = left_first (ranges_of c.args.order.now.labels.now c.args.order.now.placed.now) c.args.lent.now _ _
+  left = left_first (ranges_of c.args.order.now.placed.now) c.args.lent.now _ _
       (string_bytes c.args.out.now) (search rules) (search rules);
   at = c.requires.at;
 }
@@ -28,7 +28,7 @@ pub loop-line-preserved : goal.loop-line-preserved
 loop-line-preserved c =
     let l = c.loop-line in
     let lent = c.args.lent.now in
-    let told = ranges_of c.args.order.now.labels.now c.args.order.now.placed.now in
+    let told = ranges_of c.args.order.now.placed.now in
     let given = subst (λ (r : Option LineOfText). GivesLine l.line-iterator r c.next.new.self) c.in-Some.is
     c.next.ensures.steps in
     record {
@@ -43,7 +43,7 @@ loop-line-preserved c =
 pub returns-clause-rows : goal.returns-clause-rows
 returns-clause-rows c =
     let l = c.loop-line in
-    let told = ranges_of c.args.order.now.labels.now c.args.order.now.placed.now in
+    let told = ranges_of c.args.order.now.placed.now in
     let given = subst (λ (r : Option LineOfText). GivesLine l.line-iterator r c.next.new.self) c.in-None.is
     c.next.ensures.steps in
     left_none told c.args.lent.now l.before l.line-iterator (string_bytes l.out) _ l.invariant.left given.0

@@ -8,8 +8,8 @@ use Rattle.miette_narrated.proofs.lines.push_lines.Given as goal
 
 abbrev pub invariant-loop-line : goal.invariant-loop-line
 invariant-loop-line l = record {
-  left : AreLeft (ranges_of l.order.labels.now l.order.placed.now) l.lent l.before l.line-iterator (string_bytes l.out)
-      (string_bytes l.fn.out ++ rows_of_lines (ranges_of l.order.labels.now l.order.placed.now) l.lent (l.lent.line + 1)
+  left : AreLeft (ranges_of l.order.placed.now) l.lent l.before l.line-iterator (string_bytes l.out)
+      (string_bytes l.fn.out ++ rows_of_lines (ranges_of l.order.placed.now) l.lent (l.lent.line + 1)
       (lines_of_contents l.lent));
   at : IsAt l.order.placed.now l.sweep.at l.sweep.next l.sweep.running.items;
 }

@@ -1,8 +1,9 @@
-use Rattle.std.proofs.Common.{ap, ◌∙◌, List, string_bytes, subst, sym}
+use Rattle.std.proofs.Common.{ap, ◌∙◌, map, List, string_bytes, subst, sym}
 use Rattle.std.specs.Option.{option_map}
 use Rattle.miette_labels.specs.rules.Around.{group_context}
 use Rattle.miette_labels.specs.rules.Groups.{in_order}
 use Rattle.miette_labels.specs.declared.sweep.PlacedLabel.{PlacedLabel}
+use Rattle.miette_labels.specs.views.Placing.{placed_of}
 use Rattle.miette_labels.specs.views.Reads.{AreGroups}
 use Rattle.miette_labels.proofs.Collecting.{are_grouped}
 use Rattle.miette_narrated.specs.steps.Ends.{AreEnds}
@@ -14,7 +15,8 @@ use Rattle.miette_narrated.proofs.snippets.push_read.Goals as goal
 pub push_snippet-requires-clause-order : goal.push_snippet-requires-clause-order
 push_snippet-requires-clause-order g c = record {
   ordered = placed_ordered c.args.context (g.S.SourceCode.source c.args.source.now) c.args.labels.now c.args.reads.now
-      c.deref-2.result.now c.requires.each c.requires.order (c.deref-2.ensures.value ∙ c.in_ok-placed.ensures);
+      c.deref-2.result.now c.requires.each c.requires.order
+      (ap (map placed_of) c.deref-2.ensures.value ∙ c.in_ok-placed.ensures);
   ended = subst (λ (es : List RankedLabel). AreEnds c.deref-2.result.now es) (sym c.deref-3.ensures.value)
       (subst (λ (ps : List PlacedLabel). AreEnds ps c.in_ok-ends.ends.items)
       (c.deref.ensures.value ∙ sym c.deref-2.ensures.value) c.in_ok-ends.ensures);
@@ -30,7 +32,7 @@ loop-group-preserved g c =
     c.deref-group-items.result.now c.in_ok-groups.ensures (ap (option_map (λ v. v.items)) c.in-Some.is)
     c.deref-group-items.ensures.value in
     record {
-      rows = groups_more c.args.context source (ranges_of c.args.labels.now placed) (in_order c.args.labels.now)
+      rows = groups_more c.args.context source (ranges_of placed) (in_order c.args.labels.now)
           c.deref-group-items.result.now l.group-index c.group-item.result
           (string_bytes l.out) (string_bytes c.push_snippet.new.out) _ grouped c.loop-group-test.true c.group-item.is
           c.in_ok-push_snippet.ensures.rows l.invariant.rows;
@@ -47,9 +49,10 @@ returns-clause-text g c =
     are_grouped c.args.context source (in_order c.args.labels.now) _ c.in-Some.groups.items groups
     c.in_ok-groups.ensures (ap (option_map (λ v. v.items)) c.in-Some.is) c.deref-group-items.ensures.value in
     snippets_told c.args.context source c.args.labels.now c.args.reads.now placed groups _ _
-    c.data_reach_the_span.ensures c.requires.each c.requires.order (c.deref-2.ensures.value ∙ c.in_ok-placed.ensures)
+    c.data_reach_the_span.ensures c.requires.each c.requires.order
+    (ap (map placed_of) c.deref-2.ensures.value ∙ c.in_ok-placed.ensures)
     grouped
-    (groups_end (group_context c.args.context (in_order c.args.labels.now)) source (ranges_of c.args.labels.now placed)
+    (groups_end (group_context c.args.context (in_order c.args.labels.now)) source (ranges_of placed)
     groups l.group-index (string_bytes l.out) _ c.loop-group-test.false l.invariant.rows)
 
 pub returns-in_default-clause-refused : goal.returns-in_default-clause-refused

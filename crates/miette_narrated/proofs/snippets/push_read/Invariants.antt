@@ -9,10 +9,10 @@ use Rattle.miette_narrated.proofs.snippets.push_read.Given as goal
 abbrev pub invariant-loop-group : goal.invariant-loop-group
 invariant-loop-group g l = record {
   rows : string_bytes l.out ++ snippets_of (group_context l.context (in_order l.labels))
-      (g.S.SourceCode.source l.source) (ranges_of l.order.labels.now l.order.placed.now)
+      (g.S.SourceCode.source l.source) (ranges_of l.order.placed.now)
       (map (λ x. x.span) (drop l.group-index l.group-items))
       ≡ string_bytes l.fn.out ++ snippets_of (group_context l.context (in_order l.labels))
-      (g.S.SourceCode.source l.source) (ranges_of l.order.labels.now l.order.placed.now)
+      (g.S.SourceCode.source l.source) (ranges_of l.order.placed.now)
       (map (λ x. x.span) l.group-items);
   at : IsAt l.order.placed.now l.sweep.at l.sweep.next l.sweep.running.items;
 }

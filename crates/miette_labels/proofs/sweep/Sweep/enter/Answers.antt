@@ -5,17 +5,18 @@ use Rattle.miette_labels.proofs.sweep.Sweep.enter.Goals.{then-loop-next-test+els
 
 pub loop-next-init : goal.loop-next-init
 loop-next-init c = swept_first c.args.labels.now c.args.line.now c.args.self.now.next c.args.self.now.running.items
-    c.args.one.now.items c.requires.some c.requires.at c.requires.none
+    c.clear.new.self.items c.requires.some c.requires.at c.clear.ensures.items
 
-pub returns-clause-one : goal.returns-clause-one
-returns-clause-one c =
+pub returns-clause-alone : goal.returns-clause-alone
+returns-clause-alone c =
     let over : IsOver c.args.labels.now c.args.line.now c.loop-next.next =
     λ lt. elim c.loop-next-test.branch [
       | then-loop-next-test+else-labels-next w ↦ omega arith
       | else-loop-next-test w
           ↦ absurd (omega arith)
     ] in
-    swept_one c.args.labels.now c.args.line.now c.loop-next.next c.loop-next.one.items c.loop-next.self.running.items
+    swept_one c.args.labels.now c.args.line.now c.loop-next.next c.loop-next.self.alone.items
+    c.loop-next.self.running.items
     c.requires.sorted c.requires.some over c.loop-next.invariant
 
 pub returns-clause-on : goal.returns-clause-on
@@ -26,5 +27,6 @@ returns-clause-on c =
       | else-loop-next-test w
           ↦ absurd (omega arith)
     ] in
-    swept_on c.args.labels.now c.args.line.now c.loop-next.next c.loop-next.one.items c.loop-next.self.running.items
+    swept_on c.args.labels.now c.args.line.now c.loop-next.next c.loop-next.self.alone.items
+    c.loop-next.self.running.items
     c.requires.sorted c.requires.some over c.loop-next.invariant

@@ -3,7 +3,7 @@ use Rattle.miette_labels.proofs.Swept.{IsSwept}
 use Rattle.miette_labels.proofs.sweep.Sweep.enter.Given as goal
 
 abbrev pub invariant-loop-next : goal.invariant-loop-next
-invariant-loop-next l = IsSwept l.labels l.line l.next l.one.items l.self.running.items
+invariant-loop-next l = IsSwept l.labels l.line l.next l.self.alone.items l.self.running.items
 
 abbrev pub decreases-loop-next : goal.decreases-loop-next
 decreases-loop-next l = length l.labels - l.next

@@ -6,5 +6,5 @@ use Rattle.miette_narrated.proofs.label_rows.LabelledLine.push_ended.Given as go
 
 abbrev pub invariant-loop-end : goal.invariant-loop-end
 invariant-loop-end l = string_bytes l.out ++ label_rows (narrated_line l.self.line.now)
-    (ranges_of l.self.labels.now (without_ranks (drop l.end-index l.ended))) ≡ string_bytes l.fn.out
-    ++ label_rows (narrated_line l.self.line.now) (ranges_of l.self.labels.now (without_ranks l.ended))
+    (ranges_of (without_ranks (drop l.end-index l.ended))) ≡ string_bytes l.fn.out
+    ++ label_rows (narrated_line l.self.line.now) (ranges_of (without_ranks l.ended))

@@ -5,5 +5,5 @@ use Rattle.miette_narrated.proofs.label_rows.LabelledLine.push_labels.Given as g
 
 abbrev pub invariant-loop-label : goal.invariant-loop-label
 invariant-loop-label l = string_bytes l.out ++ label_rows (narrated_line l.self.line.now)
-    (ranges_of l.self.labels.now (drop l.label-index l.placed)) ≡ string_bytes l.fn.out
-    ++ label_rows (narrated_line l.self.line.now) (ranges_of l.self.labels.now l.placed)
+    (ranges_of (drop l.label-index l.placed)) ≡ string_bytes l.fn.out
+    ++ label_rows (narrated_line l.self.line.now) (ranges_of l.placed)

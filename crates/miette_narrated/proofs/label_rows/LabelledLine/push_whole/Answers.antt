@@ -1,7 +1,7 @@
-use Rattle.std.proofs.Common.{ap, ap₂, ◌∙◌, ◌++◌, string_bytes, codes}
+use Rattle.std.proofs.Common.{ap₂, ◌∙◌, ◌++◌, string_bytes, codes}
 use Rattle.std.specs.Prelude.{decimal}
 use Rattle.std.proofs.lemmas.Result.{on_ok_weaker}
-use Rattle.miette_narrated.specs.rules.Labels.{row, columns_text, text_behind, first_number, last_number}
+use Rattle.miette_narrated.specs.rules.Labels.{columns_text, text_behind, first_number, last_number}
 use Rattle.miette_narrated.specs.steps.Conversions.{range_of, narrated_line}
 use Rattle.miette_narrated.proofs.Putting.{label_put}
 use Rattle.miette_narrated.proofs.label_rows.LabelledLine.push_whole.Goals as goal
@@ -9,7 +9,7 @@ use Rattle.miette_narrated.proofs.label_rows.LabelledLine.push_whole.Goals as go
 pub returns : goal.returns
 returns c =
     let it = narrated_line c.args.self.now.line.now in
-    let d = range_of c.args.self.now.labels.now c.args.label.now in
+    let d = range_of c.args.label.now in
     on_ok_weaker c.push_end.result (λ h. label_put (string_bytes c.args.out.now) (string_bytes c.push_number.new.out)
     (string_bytes c.push_columns.new.out) (string_bytes c.push_end.new.out)
     (codes "    label at line ") (decimal it.number) (columns_text (first_number it d.start)
@@ -17,4 +17,4 @@ returns c =
     c.in_ok-push_number.ensures
     (c.in_ok-push_columns.ensures ∙ ap₂ (λ a b. string_bytes c.push_number.new.out ++ columns_text a b)
     c.in_ok-first.ensures c.in_ok-last.ensures)
-    (h ∙ ap (λ t. string_bytes c.push_columns.new.out ++ row (text_behind t)) c.text_of.ensures)) c.push_end.ensures
+    h) c.push_end.ensures

@@ -1,5 +1,5 @@
 use Rattle.miette_labels.proofs.Swept.{left_at}
-use Rattle.miette_folds.proofs.gaps.pass_over.Goals as goal
+use Rattle.miette_labels.proofs.line_sweep.pass_over.Goals as goal
 
 pub returns : goal.returns
 returns c =
