@@ -31,6 +31,7 @@ use Rattle.miette_graphical.specs.rules.Snippets.{snippet_settings, shown_rows, 
 use Rattle.miette_graphical.proofs.PrintedRows.{rows_printed}
 use Rattle.miette_graphical.specs.steps.PartTexts.{AreDrawn, IsDrawn}
 use Rattle.miette_labels.proofs.NoFailures.{next_none, later_none, some_none}
+use Rattle.miette_graphical.specs.views.Painting.{printing}
 use Rattle.miette_labels.proofs.NoFailures.{none_unread, grouped_none}
 
 refusal_none : (bytes : List ℕ) (fails : List Bool) (labels : List Label) → NoneFails fails → refusal bytes fails labels
@@ -151,7 +152,8 @@ calls_same context source labels a h =
 drawn_text : {happen : List Call → Type 0} (s : Settings) (source : Source) (labels : List Label) (blank : Bool)
     (before : List ℕ) (page : Printout) →
     (g : MayGive (snippet_settings s) source labels blank happen (printout_of before) (Some page))
-    → AreDrawn s blank happen source labels (rows_text (drawn_rows s (Some source) labels g.answers))
+    → AreDrawn source labels (record { settings = s; blank = blank; happen = happen })
+    (rows_text (drawn_rows s (Some source) labels g.answers))
 drawn_text {happen} s source labels blank before page g =
     let l = snippet_settings s in
     let a = g.answers in
@@ -187,7 +189,8 @@ drawn_text {happen} s source labels blank before page g =
 pub drawn_page : {happen : List Call → Type 0} (s : Settings) (source : Source) (labels : List Label) (blank : Bool)
     (before : List ℕ) (page : Printout) →
     MayGive (snippet_settings s) source labels blank happen (printout_of before) (Some page)
-    → AppendsOne (AreDrawn s blank happen source labels) before (ended_text page)
+    → AppendsOne (AreDrawn source labels (record { settings = s; blank = blank; happen = happen })) before
+    (ended_text page)
 drawn_page {happen} s source labels blank before page g =
     let l = snippet_settings s in
     let a = g.answers in
@@ -212,7 +215,7 @@ refused_page s source labels blank before g =
 -- ---- a diagnostic's snippets
 
 pub drawn_nowhere : (s : Settings) (blank : Bool) (now : List Call → Type 0) (m : Meaning) (text : List ℕ) → text ≡ []
-    → IsDrawn drawn_rows s blank (λ calls. Leads now calls now) None m text
+    → IsDrawn None m (printing s blank now now) text
 drawn_nowhere s blank now m text e = (
   nothing_listed,
   unlisted_is (snippet_settings s) blank None
@@ -223,7 +226,7 @@ drawn_nowhere s blank now m text e = (
 
 pub drawn_unlabelled : (s : Settings) (blank : Bool) (now : List Call → Type 0) (source : Source) (m : Meaning)
     (text : List ℕ) → given_labels m.labels ≡ [] → text ≡ [] →
-    IsDrawn drawn_rows s blank (λ calls. Leads now calls now) (Some source) m text
+    IsDrawn (Some source) m (printing s blank now now) text
 drawn_unlabelled s blank now source m text e t = (
   nothing_listed,
   unlisted_is (snippet_settings s) blank (Some source) (given_labels m.labels)

@@ -6,6 +6,7 @@ pub mod ReportFading
 pub mod Sizes
 pub mod Lists
 pub mod Outermost
+pub mod Painted
 pub mod Steps
 pub mod Remaining
 pub mod TextLaws

@@ -5,7 +5,7 @@ use Rattle.miette_tree.specs.rules.Tree.{related_of}
 
 abbrev mutual
   pub tree_size : Tree → ℕ
-  tree_size (tree m s c r) = suc (suc (suc (suc (cause_size c + trees_size r))))
+  tree_size (tree m s c r) = suc (suc (suc (suc (suc (cause_size c + trees_size r)))))
 
   pub cause_size : Cause → ℕ
   cause_size (diagnostic t) = tree_size t
@@ -18,5 +18,5 @@ abbrev mutual
 pub cause_falls : (t : Tree) → cause_size (cause_of t) < tree_size t
 cause_falls (tree m s c r) = omega arith
 
-pub related_falls : (t : Tree) → suc (suc (suc (trees_size (related_of t)))) < tree_size t
+pub related_falls : (t : Tree) → suc (suc (suc (suc (trees_size (related_of t))))) < tree_size t
 related_falls (tree m s c r) = omega arith

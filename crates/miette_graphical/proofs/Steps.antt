@@ -14,7 +14,7 @@ use Rattle.miette_graphical.specs.rules.Settings.{Settings}
 use Rattle.miette_graphical.specs.rules.Answers.{Answers, unlisted, listed, no_more, and_more, own_answer}
 use Rattle.miette_graphical.specs.rules.Answers.{cause_answers, related_answers}
 use Rattle.miette_graphical.specs.rules.Indents.{narrow_settings}
-use Rattle.miette_graphical.specs.rules.DiagnosticText.{SnippetRows, rows_text, under_arrow, header, message_text}
+use Rattle.miette_graphical.specs.rules.DiagnosticText.{rows_text, under_arrow, header, message_text}
 use Rattle.miette_graphical.specs.rules.DiagnosticText.{help_text, footer_text, title_text}
 use Rattle.miette_tree.specs.rules.DiagnosticParts.{given_labels}
 use Rattle.miette_graphical.specs.rules.Text.{cause_texts, ends_there, are_last, body, body_over, inner_over}
@@ -23,16 +23,17 @@ use Rattle.miette_tree.specs.rules.Tree.{effective}
 use Rattle.miette_snippet_rules.specs.rules.Settings as snippets
 use Rattle.miette_graphical.specs.rules.PrintedDiagnostics.{all_read, over, diagnostics_of, printed_causes}
 use Rattle.miette_graphical.specs.rules.PrintedDiagnostics.{printed_related}
-use Rattle.miette_graphical.specs.rules.Snippets.{snippet_settings}
+use Rattle.miette_graphical.specs.rules.Snippets.{drawn_rows, snippet_settings}
 use Rattle.miette_graphical.proofs.DrawnRows.{unlisted_is}
 use Rattle.miette_graphical.proofs.Lists.{first_fails, later_fails}
 use Rattle.miette_graphical.proofs.Outermost.{report_over}
 use Rattle.miette_tree.specs.views.Handler.{AppendsOne}
 use Rattle.miette_tree.specs.rules.Reads.{always_reads}
-use Rattle.miette_graphical.specs.rules.PossibleAnswers.{IsAnswer, AreCauseAnswers, AreRelatedAnswers, IsAskedReport}
+use Rattle.miette_graphical.specs.rules.PossibleAnswers.{IsAnswer, AreCauseAnswers, AreRelatedAnswers}
+use Rattle.miette_graphical.specs.views.Painting.{Printing, printing}
 use Rattle.miette_graphical.specs.rules.Calls.{own_calls, cause_calls, related_calls}
 use Rattle.miette_graphical.specs.steps.PartTexts.{IsDrawn, AreCauses, AreRelated, IsInner, IsSibling, IsOneCause}
-use Rattle.miette_graphical.specs.steps.PartTexts.{IsNested, IsOneRelated, AreRootCauses, IsBelow}
+use Rattle.miette_graphical.specs.steps.PartTexts.{IsNested, IsOneRelated, AreRootCauses, IsBelow, IsOutermost}
 use Rattle.miette_graphical.specs.steps.PrintedParts.{printed_inner, printed_sibling, printed_one, printed_root_causes}
 use Rattle.miette_highlight.specs.rules.HighlighterCalls.{Call, Leads}
 
@@ -79,18 +80,18 @@ leads_on a b c xs ys h k = λ later n. subst a (sym (append_assoc xs ys later)) 
 
 -- ---- texts
 
-pub causes_none : (rows : SnippetRows) (s : Settings) (blank : Bool) (now : List Call → Type 0)
+pub causes_none : (s : Settings) (blank : Bool) (now : List Call → Type 0)
     (outer : Option Severity) (inherited : Option Source) (ts : List (List ℕ)) (text : List ℕ) →
-    text ≡ causes_text rows s outer inherited (texts ts) unlisted
-    → AreCauses rows s blank (λ calls. Leads now calls now) outer inherited (texts ts) text
-causes_none rows s blank now outer inherited ts text e = (unlisted, tt, leads_none now, e)
+    text ≡ causes_text drawn_rows s outer inherited (texts ts) unlisted
+    → AreCauses outer inherited (texts ts) (printing s blank now now) text
+causes_none s blank now outer inherited ts text e = (unlisted, tt, leads_none now, e)
 
-pub cause_step : (rows : SnippetRows) (s : Settings) (blank : Bool) (begun mid now : List Call → Type 0)
+pub cause_step : (s : Settings) (blank : Bool) (begun mid now : List Call → Type 0)
     (outer : Option Severity) (inherited : Option Source) (t : Tree) (one more : List ℕ) →
-    IsOneCause rows s blank (λ calls. Leads begun calls mid) outer inherited t one
-    → AreCauses rows s blank (λ calls. Leads mid calls now) outer inherited (cause_of t) more →
-    AreCauses rows s blank (λ calls. Leads begun calls now) outer inherited (diagnostic t) (one ++ more)
-cause_step rows s blank begun mid now outer inherited (tree m own c r) one more p q = (
+    IsOneCause outer inherited t (printing s blank begun mid) one
+    → AreCauses outer inherited (cause_of t) (printing s blank mid now) more →
+    AreCauses outer inherited (diagnostic t) (printing s blank begun now) (one ++ more)
+cause_step s blank begun mid now outer inherited (tree m own c r) one more p q = (
   listed p.1.0 q.0 p.1.1,
   (p.1.2, p.1.3, q.1),
   leads_on begun mid now (own_calls s.layout.context_lines (effective own inherited) m p.1.0
@@ -99,36 +100,35 @@ cause_step rows s blank begun mid now outer inherited (tree m own c r) one more 
   ap₂ (λ x y. x ++ y) (p.2 ∙ ap (under_arrow s outer (ends_there c)) p.1.5) q.3,
 )
 
-pub none_related : {R : Type 0} (rows : SnippetRows) (s : Settings) (blank : Bool) (now : List Call → Type 0)
+pub none_related : {R : Type 0} (s : Settings) (blank : Bool) (now : List Call → Type 0)
     (outer : Option Severity) (inherited : Option Source) (value : R → Tree) (rs : List R) (text : List ℕ) →
-    length rs < 1 → text ≡ [] → AreRelated rows s blank (λ calls. Leads now calls now) outer inherited
-    (trees (map value rs)) text
-none_related rows s blank now outer inherited value [] text h e = (no_more, tt, leads_none now, e)
-none_related rows s blank now outer inherited value (r ∷ rs) text h e = absurd (omega arith)
+    length rs < 1 → text ≡ [] → AreRelated outer inherited (trees (map value rs)) (printing s blank now now) text
+none_related s blank now outer inherited value [] text h e = (no_more, tt, leads_none now, e)
+none_related s blank now outer inherited value (r ∷ rs) text h e = absurd (omega arith)
 
 -- the texts of what stands below a tree's causes
-abbrev pub below_drawn : (rows : SnippetRows) (s : Settings) (blank : Bool) (happen : List Call → Type 0)
-    (source : Option Source) (t : Tree) (text : List ℕ) → IsBelow rows s blank happen source t text → List ℕ
-below_drawn rows s blank happen source t text p = rows_text (rows s source (given_labels (head t).labels) p.0)
+abbrev pub below_drawn : (by : Printing)
+    (source : Option Source) (t : Tree) (text : List ℕ) → IsBelow source t by text → List ℕ
+below_drawn by source t text p = rows_text (drawn_rows by.settings source (given_labels (head t).labels) p.0)
 
-abbrev pub below_related : (rows : SnippetRows) (s : Settings) (blank : Bool) (happen : List Call → Type 0)
-    (source : Option Source) (t : Tree) (text : List ℕ) → IsBelow rows s blank happen source t text → List ℕ
-below_related rows s blank happen source t text p = related_text rows s (head t).severity source (related_of t) p.1
+abbrev pub below_related : (by : Printing)
+    (source : Option Source) (t : Tree) (text : List ℕ) → IsBelow source t by text → List ℕ
+below_related by source t text p = related_text drawn_rows by.settings (head t).severity source (related_of t) p.1
 
-pub inner_step : (rows : SnippetRows) (s : Settings) (blank : Bool) (happen : List Call → Type 0)
-    (source : Option Source) (t : Tree) (text : List ℕ) (p : IsBelow rows s blank happen source t text) →
-    IsInner rows s blank happen source t (inner_over s (head t) (below_drawn rows s blank happen source t text p)
-    (below_related rows s blank happen source t text p))
-inner_step rows s blank happen source (tree m own c r) text p = (p.0, p.1, p.2, p.3, p.4, refl)
+pub inner_step : (by : Printing)
+    (source : Option Source) (t : Tree) (text : List ℕ) (p : IsBelow source t by text) →
+    IsInner source t by (inner_over by.settings (head t) (below_drawn by source t text p)
+    (below_related by source t text p))
+inner_step by source (tree m own c r) text p = (p.0, p.1, p.2, p.3, p.4, refl)
 
-pub sibling_step : (rows : SnippetRows) (s : Settings) (blank : Bool) (begun mid now : List Call → Type 0)
+pub sibling_step : (s : Settings) (blank : Bool) (begun mid now : List Call → Type 0)
     (source : Option Source) (t : Tree) (causes text : List ℕ) →
-    AreCauses rows s blank (λ calls. Leads begun calls mid) (head t).severity source (cause_of t) causes
-    → (p : IsBelow rows s blank (λ calls. Leads mid calls now) source t text) →
-    IsSibling rows s blank (λ calls. Leads begun calls now) source t
-    (title_text s (head t) ++ body_over s (head t) (below_drawn rows s blank (λ calls. Leads mid calls now) source t
-    text p) causes (below_related rows s blank (λ calls. Leads mid calls now) source t text p))
-sibling_step rows s blank begun mid now source (tree m own c r) causes text q p = (
+    AreCauses (head t).severity source (cause_of t) (printing s blank begun mid) causes
+    → (p : IsBelow source t (printing s blank mid now) text) →
+    IsSibling source t (printing s blank begun now)
+    (title_text s (head t) ++ body_over s (head t) (below_drawn (printing s blank mid now) source t
+    text p) causes (below_related (printing s blank mid now) source t text p))
+sibling_step s blank begun mid now source (tree m own c r) causes text q p = (
   p.0,
   q.0,
   p.1,
@@ -138,48 +138,50 @@ sibling_step rows s blank begun mid now source (tree m own c r) causes text q p 
   leads_on begun mid now (cause_calls s.layout.context_lines s.related_as_nested source c q.0)
       (own_calls s.layout.context_lines source m p.0 ++ related_calls s.layout.context_lines s.related_as_nested source
       r p.1) q.2 p.4,
-  ap (λ x. title_text s m ++ body_over s m (rows_text (rows s source (given_labels m.labels) p.0)) x
-      (related_text rows s m.severity source r p.1)) q.3,
+  ap (λ x. title_text s m ++ body_over s m (rows_text (drawn_rows s source (given_labels m.labels) p.0)) x
+      (related_text drawn_rows s m.severity source r p.1)) q.3,
 )
 
 -- one of several related reports, with its answers in one
-one_by : (rows : SnippetRows) (s : Settings) (blank : Bool) (happen : List Call → Type 0) (outer : Option Severity)
+one_by : (by : Printing) (outer : Option Severity)
     (source : Option Source) (last : Bool) (m : Meaning) (own : Option Source) (c : Cause) (r : Trees) (text : List ℕ)
     (nested : Bool) →
-    MatchBool nested (IsNested rows s blank happen outer source last (tree m own c r) text)
-    (IsSibling rows s blank happen source (tree m own c r) text) →
-    (a : Answers) × IsAnswer (snippet_settings s) blank source m (own_answer a)
-    × AreCauseAnswers (snippet_settings s) blank source c (cause_answers a)
-    × AreRelatedAnswers (snippet_settings s) blank source r (related_answers a)
-    × happen ((if nested then [] else cause_calls s.layout.context_lines s.related_as_nested source c (cause_answers a))
-    ++ (own_calls s.layout.context_lines source m (own_answer a)
-    ++ related_calls s.layout.context_lines s.related_as_nested source r
+    MatchBool nested (IsNested outer last source (tree m own c r) by text)
+    (IsSibling source (tree m own c r) by text) →
+    (a : Answers) × IsAnswer (snippet_settings by.settings) by.blank source m (own_answer a)
+    × AreCauseAnswers (snippet_settings by.settings) by.blank source c (cause_answers a)
+    × AreRelatedAnswers (snippet_settings by.settings) by.blank source r (related_answers a)
+    × by.happen ((if nested then [] else cause_calls by.settings.layout.context_lines by.settings.related_as_nested
+    source c (cause_answers a))
+    ++ (own_calls by.settings.layout.context_lines source m (own_answer a)
+    ++ related_calls by.settings.layout.context_lines by.settings.related_as_nested source r
     (related_answers a)))
     × (text ≡ (if nested then
-    under_arrow s outer last (without_trailing (inner_text rows (narrow_settings s outer last) m source (own_answer a)
-    (related_text rows (narrow_settings s outer last) m.severity source r (related_answers a))))
-    else title_text s m ++ body rows s m source (own_answer a)
-    (causes_text rows s m.severity source c (cause_answers a))
-    (related_text rows s m.severity source r (related_answers a))))
-one_by rows s blank happen outer source last m own c r text true p = (
+    under_arrow by.settings outer last (without_trailing (inner_text drawn_rows (narrow_settings by.settings outer last)
+    m source (own_answer a)
+    (related_text drawn_rows (narrow_settings by.settings outer last) m.severity source r (related_answers a))))
+    else title_text by.settings m ++ body drawn_rows by.settings m source (own_answer a)
+    (causes_text drawn_rows by.settings m.severity source c (cause_answers a))
+    (related_text drawn_rows by.settings m.severity source r (related_answers a))))
+one_by by outer source last m own c r text true p = (
   listed p.1.0 unlisted p.1.1,
   p.1.2,
-  causes-unlisted (snippet_settings s) blank source c,
+  causes-unlisted (snippet_settings by.settings) by.blank source c,
   p.1.3,
   p.1.4,
   p.2
-      ∙ ap (λ x. under_arrow s outer last (without_trailing x)) p.1.5,
+      ∙ ap (λ x. under_arrow by.settings outer last (without_trailing x)) p.1.5,
 )
-one_by rows s blank happen outer source last m own c r text false p = (listed p.0 p.1 p.2, p.3, p.4, p.5, p.6, p.7)
+one_by by outer source last m own c r text false p = (listed p.0 p.1 p.2, p.3, p.4, p.5, p.6, p.7)
 
-pub related_step : (rows : SnippetRows) (s : Settings) (blank : Bool) (begun mid now : List Call → Type 0)
+pub related_step : (s : Settings) (blank : Bool) (begun mid now : List Call → Type 0)
     (outer : Option Severity) (inherited : Option Source) (t : Tree) (ts : Trees) (one more : List ℕ) →
-    IsOneRelated rows s blank (λ calls. Leads begun calls mid) outer (effective (source_of t) inherited) (are_last ts) t
-    one → AreRelated rows s blank (λ calls. Leads mid calls now) outer inherited ts more →
-    AreRelated rows s blank (λ calls. Leads begun calls now) outer inherited (more_trees t ts) (one ++ more)
-related_step rows s blank begun mid now outer inherited (tree m own c r) ts one more p q =
+    IsOneRelated outer (are_last ts) (effective (source_of t) inherited) t (printing s blank begun mid)
+    one → AreRelated outer inherited ts (printing s blank mid now) more →
+    AreRelated outer inherited (more_trees t ts) (printing s blank begun now) (one ++ more)
+related_step s blank begun mid now outer inherited (tree m own c r) ts one more p q =
     let source = effective own inherited in
-    let k = one_by rows s blank (λ calls. Leads begun calls mid) outer source (are_last ts) m own c r one
+    let k = one_by (printing s blank begun mid) outer source (are_last ts) m own c r one
     s.related_as_nested p in
     let calls : List Call = (if s.related_as_nested then []
     else cause_calls s.layout.context_lines s.related_as_nested source c (cause_answers k.0))
@@ -193,37 +195,38 @@ related_step rows s blank begun mid now outer inherited (tree m own c r) ts one 
       ap₂ (λ x y. x ++ y) k.5 q.3,
     )
 
-root_by : (rows : SnippetRows) (s : Settings) (blank : Bool) (happen : List Call → Type 0) (m : Meaning)
+root_by : (by : Printing) (m : Meaning)
     (own : Option Source) (c : Cause) (causes : List ℕ) (chain : Bool) →
-    MatchBool chain (AreCauses rows s blank happen m.severity own c causes) (happen [] × (causes ≡ [])) →
-    (a : Answers) × (chain ≡ true → AreCauseAnswers (snippet_settings s) blank own c a)
-    × happen (if chain then cause_calls s.layout.context_lines s.related_as_nested own c a else [])
-    × (causes ≡ only_if chain (causes_text rows s m.severity own c a))
-root_by rows s blank happen m own c causes true p = (p.0, λ h. p.1, p.2, p.3)
-root_by rows s blank happen m own c causes false p = (
+    MatchBool chain (AreCauses m.severity own c by causes) (by.happen [] × (causes ≡ [])) →
+    (a : Answers) × (chain ≡ true → AreCauseAnswers (snippet_settings by.settings) by.blank own c a)
+    × by.happen (if chain then cause_calls by.settings.layout.context_lines by.settings.related_as_nested own c a
+    else [])
+    × (causes ≡ only_if chain (causes_text drawn_rows by.settings m.severity own c a))
+root_by by m own c causes true p = (p.0, λ h. p.1, p.2, p.3)
+root_by by m own c causes false p = (
   unlisted,
-  λ h. causes-unlisted (snippet_settings s) blank own c,
+  λ h. causes-unlisted (snippet_settings by.settings) by.blank own c,
   p.0,
   p.1,
 )
 
-pub root_step : (rows : SnippetRows) (s : Settings) (blank : Bool) (begun mid now : List Call → Type 0) (t : Tree)
+pub root_step : (s : Settings) (blank : Bool) (begun mid now : List Call → Type 0) (t : Tree)
     (causes text : List ℕ) →
-    AreRootCauses rows s blank (λ calls. Leads begun calls mid) t causes
-    → (p : IsBelow rows s blank (λ calls. Leads mid calls now) (source_of t) t text) →
-    IsAskedReport rows s blank (λ calls. Leads begun calls now) t
-    (report_over s (head t) (below_drawn rows s blank (λ calls. Leads mid calls now) (source_of t) t text p) causes
-    (below_related rows s blank (λ calls. Leads mid calls now) (source_of t) t text p))
-root_step rows s blank begun mid now (tree m own c r) causes text q p =
-    let b = root_by rows s blank (λ calls. Leads begun calls mid) m own c causes s.cause_chain q in (
+    AreRootCauses t (printing s blank begun mid) causes
+    → (p : IsBelow (source_of t) t (printing s blank mid now) text) →
+    IsOutermost t (printing s blank begun now)
+    (report_over s (head t) (below_drawn (printing s blank mid now) (source_of t) t text p) causes
+    (below_related (printing s blank mid now) (source_of t) t text p))
+root_step s blank begun mid now (tree m own c r) causes text q p =
+    let b = root_by (printing s blank begun mid) m own c causes s.cause_chain q in (
       listed p.0 b.0 p.1,
       (p.2, b.1, p.3),
       leads_on begun mid now (if s.cause_chain then cause_calls s.layout.context_lines s.related_as_nested own c b.0
           else [])
           (own_calls s.layout.context_lines own m p.0 ++ related_calls s.layout.context_lines s.related_as_nested own r
           p.1) b.2 p.4,
-      ap (λ x. report_over s m (rows_text (rows s own (given_labels m.labels) p.0)) x
-          (related_text rows s m.severity own r p.1)) b.3,
+      ap (λ x. report_over s m (rows_text (drawn_rows s own (given_labels m.labels) p.0)) x
+          (related_text drawn_rows s m.severity own r p.1)) b.3,
     )
 
 -- ---- texts that are appended
@@ -235,33 +238,32 @@ behind old mid new first more p q = q ∙ ap (λ x. x ++ more) p ∙ append_asso
 pub nothing_behind : (P : List ℕ → Type 0) (old : List ℕ) → P [] → AppendsOne P old old
 nothing_behind P old p = record { text = []; is_given = p; appended = sym (append-nil old) }
 
-pub cause_texts_behind : (rows : SnippetRows) (s : Settings) (blank : Bool) (now : List Call → Type 0)
+pub cause_texts_behind : (s : Settings) (blank : Bool) (now : List Call → Type 0)
     (outer : Option Severity) (inherited : Option Source) (ts : List (List ℕ)) (old new : List ℕ) →
-    new ≡ old ++ cause_texts s outer ts → AppendsOne (AreCauses rows s blank (λ calls. Leads now calls now) outer
-    inherited (texts ts)) old new
-cause_texts_behind rows s blank now outer inherited ts old new e =
+    new ≡ old ++ cause_texts s outer ts → AppendsOne (AreCauses outer inherited (texts ts) (printing s blank now now))
+    old new
+cause_texts_behind s blank now outer inherited ts old new e =
     record {
       text = cause_texts s outer ts;
-      is_given = causes_none rows s blank now outer inherited ts
+      is_given = causes_none s blank now outer inherited ts
           (cause_texts s outer ts) refl;
       appended = e;
     }
 
-pub no_related_behind : {R : Type 0} (rows : SnippetRows) (s : Settings) (blank : Bool) (now : List Call → Type 0)
+pub no_related_behind : {R : Type 0} (s : Settings) (blank : Bool) (now : List Call → Type 0)
     (outer : Option Severity) (inherited : Option Source) (value : R → Tree) (rs : List R) (old : List ℕ) →
-    length rs < 1 → AppendsOne (AreRelated rows s blank (λ calls. Leads now calls now) outer inherited
-    (trees (map value rs))) old old
-no_related_behind rows s blank now outer inherited value rs old h =
-    nothing_behind (AreRelated rows s blank (λ calls. Leads now calls now) outer inherited (trees (map value rs))) old
-    (none_related rows s blank now outer inherited value rs [] h refl)
+    length rs < 1 → AppendsOne (AreRelated outer inherited (trees (map value rs)) (printing s blank now now)) old old
+no_related_behind s blank now outer inherited value rs old h =
+    nothing_behind (AreRelated outer inherited (trees (map value rs)) (printing s blank now now)) old
+    (none_related s blank now outer inherited value rs [] h refl)
 
-pub below_behind : (rows : SnippetRows) (s : Settings) (blank : Bool) (begun mid now : List Call → Type 0)
+pub below_behind : (s : Settings) (blank : Bool) (begun mid now : List Call → Type 0)
     (source : Option Source) (t : Tree) (old drawn helped new : List ℕ) →
-    AppendsOne (IsDrawn rows s blank (λ calls. Leads begun calls mid) source (head t)) old drawn → helped ≡ drawn
+    AppendsOne (IsDrawn source (head t) (printing s blank begun mid)) old drawn → helped ≡ drawn
     ++ help_text s (head t).help →
-    AppendsOne (AreRelated rows s blank (λ calls. Leads mid calls now) (head t).severity source (related_of t)) helped
-    new → AppendsOne (IsBelow rows s blank (λ calls. Leads begun calls now) source t) old new
-below_behind rows s blank begun mid now source t old drawn helped new p e q =
+    AppendsOne (AreRelated (head t).severity source (related_of t) (printing s blank mid now)) helped
+    new → AppendsOne (IsBelow source t (printing s blank begun now)) old new
+below_behind s blank begun mid now source t old drawn helped new p e q =
     let own = p.is_given in
     let more = q.is_given in record {
       text = p.text ++ help_text s (head t).help ++ q.text;
@@ -290,54 +292,57 @@ body_behind s m old told caused new drawn causes related below p q r e =
     ∙ ap (λ x. old ++ x) (ap (λ x. message_text s m ++ causes ++ x) e
     ∙ regrouped (message_text s m ++ causes) drawn (help_text s m.help) related)
 
-pub inner_whole : (rows : SnippetRows) (s : Settings) (blank : Bool) (happen : List Call → Type 0)
+pub inner_whole : (by : Printing)
     (source : Option Source) (t : Tree) (old headed told new text : List ℕ) →
-    old ≡ [] → headed ≡ old ++ print (header s (head t)) → told ≡ headed ++ message_text s (head t)
-    → AppendsOne (IsBelow rows s blank happen source t) told new →
-    text ≡ without_leading new → IsInner rows s blank happen source t text
-inner_whole rows s blank happen source t old headed told new text n h m p e =
-    let drawn = below_drawn rows s blank happen source t p.text p.is_given in
-    let related = below_related rows s blank happen source t p.text p.is_given in
-    let body : new ≡ headed ++ body_over s (head t) drawn [] related =
-    body_behind s (head t) headed told told new drawn [] related p.text m (sym (append-nil told)) p.appended
+    old ≡ [] → headed ≡ old ++ print (header by.settings (head t)) → told ≡ headed ++ message_text by.settings (head t)
+    → AppendsOne (IsBelow source t by) told new →
+    text ≡ without_leading new → IsInner source t by text
+inner_whole by source t old headed told new text n h m p e =
+    let drawn = below_drawn by source t p.text p.is_given in
+    let related = below_related by source t p.text p.is_given in
+    let body : new ≡ headed ++ body_over by.settings (head t) drawn [] related =
+    body_behind by.settings (head t) headed told told new drawn [] related p.text m (sym (append-nil told)) p.appended
     p.is_given.5 in
-    subst (λ x. IsInner rows s blank happen source t x)
-    (sym (e ∙ ap without_leading (body ∙ ap (λ x. x ++ body_over s (head t) drawn [] related)
-    (h ∙ ap (λ x. x ++ print (header s (head t))) n))))
-    (inner_step rows s blank happen source t p.text p.is_given)
+    subst (λ x. IsInner source t by x)
+    (sym (e ∙ ap without_leading (body ∙ ap (λ x. x ++ body_over by.settings (head t) drawn [] related)
+    (h ∙ ap (λ x. x ++ print (header by.settings (head t))) n))))
+    (inner_step by source t p.text p.is_given)
 
-pub sibling_behind : (rows : SnippetRows) (s : Settings) (blank : Bool) (begun mid now : List Call → Type 0)
+pub sibling_behind : (s : Settings) (blank : Bool) (begun mid now : List Call → Type 0)
     (source : Option Source) (t : Tree) (old titled told caused new : List ℕ) →
     titled ≡ old ++ title_text s (head t) → told ≡ titled ++ message_text s (head t)
-    → AppendsOne (AreCauses rows s blank (λ calls. Leads begun calls mid) (head t).severity source (cause_of t)) told
+    → AppendsOne (AreCauses (head t).severity source (cause_of t) (printing s blank begun mid)) told
     caused →
-    AppendsOne (IsBelow rows s blank (λ calls. Leads mid calls now) source t) caused new
-    → AppendsOne (IsSibling rows s blank (λ calls. Leads begun calls now) source t) old new
-sibling_behind rows s blank begun mid now source t old titled told caused new h m c p =
-    let drawn = below_drawn rows s blank (λ calls. Leads mid calls now) source t p.text p.is_given in
-    let related = below_related rows s blank (λ calls. Leads mid calls now) source t p.text p.is_given in record {
+    AppendsOne (IsBelow source t (printing s blank mid now)) caused new
+    → AppendsOne (IsSibling source t (printing s blank begun now)) old new
+sibling_behind s blank begun mid now source t old titled told caused new h m c p =
+    let drawn = below_drawn (printing s blank mid now) source t p.text p.is_given in
+    let related = below_related (printing s blank mid now) source t p.text p.is_given in record {
       text = title_text s (head t) ++ body_over s (head t) drawn c.text related;
-      is_given = sibling_step rows s blank begun mid now source t c.text p.text c.is_given p.is_given;
+      is_given = sibling_step s blank begun mid now source t c.text p.text c.is_given p.is_given;
       appended = behind old titled new (title_text s (head t)) (body_over s (head t) drawn c.text related) h
           (body_behind s (head t) titled told caused new drawn c.text related p.text m c.appended p.appended
           p.is_given.5);
     }
 
-pub report_whole : (rows : SnippetRows) (s : Settings) (blank : Bool) (begun mid now : List Call → Type 0) (t : Tree)
-    (old headed told caused drawn text : List ℕ) →
-    old ≡ [] → headed ≡ old ++ print (header s (head t)) → told ≡ headed ++ message_text s (head t)
-    → AppendsOne (AreRootCauses rows s blank (λ calls. Leads begun calls mid) t) told caused →
-    AppendsOne (IsBelow rows s blank (λ calls. Leads mid calls now) (source_of t) t) caused drawn → text ≡ drawn
-    ++ footer_text s → IsAskedReport rows s blank (λ calls. Leads begun calls now) t text
-report_whole rows s blank begun mid now t old headed told caused drawn text n h m c p e =
-    let own = below_drawn rows s blank (λ calls. Leads mid calls now) (source_of t) t p.text p.is_given in
-    let related = below_related rows s blank (λ calls. Leads mid calls now) (source_of t) t p.text p.is_given in
+pub report_whole : (s : Settings) (blank : Bool) (begun mid now : List Call → Type 0) (t : Tree)
+    (old headed told caused drawn new : List ℕ) →
+    headed ≡ old ++ print (header s (head t)) → told ≡ headed ++ message_text s (head t)
+    → AppendsOne (AreRootCauses t (printing s blank begun mid)) told caused →
+    AppendsOne (IsBelow (source_of t) t (printing s blank mid now)) caused drawn → new ≡ drawn ++ footer_text s
+    → AppendsOne (IsOutermost t (printing s blank begun now)) old new
+report_whole s blank begun mid now t old headed told caused drawn new h m c p e =
+    let own = below_drawn (printing s blank mid now) (source_of t) t p.text p.is_given in
+    let related = below_related (printing s blank mid now) (source_of t) t p.text p.is_given in
     let body : drawn ≡ headed ++ body_over s (head t) own c.text related =
     body_behind s (head t) headed told caused drawn own c.text related p.text m c.appended p.appended p.is_given.5 in
-    subst (λ x. IsAskedReport rows s blank (λ calls. Leads begun calls now) t x)
-    (sym (e ∙ ap (λ x. x ++ footer_text s) (body ∙ ap (λ x. x ++ body_over s (head t) own c.text related)
-    (h ∙ ap (λ x. x ++ print (header s (head t))) n))))
-    (root_step rows s blank begun mid now t c.text p.text c.is_given p.is_given)
+    record {
+      text = report_over s (head t) own c.text related;
+      is_given = root_step s blank begun mid now t c.text p.text c.is_given p.is_given;
+      appended = behind old drawn new (print (header s (head t)) ++ body_over s (head t) own c.text related)
+          (footer_text s) (behind old headed drawn (print (header s (head t)))
+          (body_over s (head t) own c.text related) h body) e;
+    }
 
 -- ---- refusals
 

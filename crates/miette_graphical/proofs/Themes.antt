@@ -7,7 +7,7 @@ use Rattle.unicode_width.specs.Width.{char_width}
 use Rattle.unicode_width.proofs.Computing.{unicode_width}
 use Rattle.miette_style.specs.declared.theme.Terminal.{Terminal}
 use Rattle.miette_style.specs.rules.Escapes.{is_escape, no_escape}
-use Rattle.miette_style.specs.rules.Themes.{Characters, Styles, Theme, ansi_styles, ascii_characters, emoji_characters}
+use Rattle.miette_style.specs.rules.Themes.{Characters, Theme, ansi_styles, ascii_characters, emoji_characters}
 use Rattle.miette_style.specs.rules.Themes.{no_styles, refuses_colours, terminal_theme, unicode_characters}
 use Rattle.miette_cells.specs.rules.Widths.{width_of}
 use Rattle.miette_snippet_laws.specs.laws.Clean.{IsClean}

@@ -1,3 +1,4 @@
 -- What the code's values stand for.
 pub mod Handling
 pub mod SettingsView
+pub mod Painting

@@ -73,8 +73,8 @@ impl<H: Highlighter> GraphicalReportHandler<H> {
         }
     }
 
-    /// A handler with these settings, and with this highlighter of the lines of sources. A tab width of at least 1 is the
-    /// caller's condition.
+    /// A handler with these settings, and with this highlighter of the lines of sources. A tab width of at least 1 is
+    /// the caller's condition.
     pub fn with_settings(settings: Settings, highlighter: Option<H>) -> Self
         requires { 1 ≤ settings.layout.tab_width }
         ensures { result ≡ record { settings = handler_settings settings; highlighter = highlighter } }
@@ -224,7 +224,9 @@ impl<H: Highlighter> GraphicalReportHandler<H> {
 
     /// A text under each outermost report.
     pub fn with_footer(mut self, footer: String) -> Self
-        ensures { result ≡ record self { settings = record self.settings { footer = Some (chars (string_bytes footer)) } } }
+        ensures { result ≡ record self {
+          settings = record self.settings { footer = Some (chars (string_bytes footer)) };
+        } }
     {
         self.settings.footer = Some(footer);
         self

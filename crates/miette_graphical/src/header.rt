@@ -4,9 +4,10 @@ ghost use Rattle.std.specs.Prelude.{◌≡◌, ◌++◌, IfOk, OnOk, not, option
 ghost use Rattle.miette_runs.specs.rules.Runs.{print};
 ghost use Rattle.miette_basics.specs.rules.Lists.{is_nil};
 ghost use Rattle.miette_graphical.specs.rules.DiagnosticText as parts;
-ghost use Rattle.miette_graphical.specs.views.SettingsView.{settings_of};
+ghost use Rattle.miette_graphical.specs.views.Painting.{PrintsOnly, settings_of};
 
-use crate::settings::{Fitted, UrlMode};
+use crate::painter::Painter;
+use crate::settings::UrlMode;
 use miette_page::page::PLAIN;
 use miette_style::style::Style;
 use miette_text::runs::output::Output;
@@ -20,7 +21,7 @@ fn push_blank_row(out: &mut Output) -> Result<(), AllocError>
 }
 
 /// Appends the code of a link, and a space behind it.
-fn push_linked_code(style: Style, code: &str, out: &mut Output) -> Result<(), AllocError>
+fn push_linked_code(out: &mut Output, style: Style, code: &str) -> Result<(), AllocError>
     ensures { OnOk result (out.new ≡ out.old ++ print (parts.linked_code style (Some code.now))) }
 {
     if style == PLAIN {
@@ -33,71 +34,77 @@ fn push_linked_code(style: Style, code: &str, out: &mut Output) -> Result<(), Al
     out.end()
 }
 
-fn push_link_header(
-    settings: Fitted<'_>,
+fn push_link_header<H>(
+    painter: &mut Painter<'_, H>,
     style: Style,
     url: &str,
     code: Option<&str>,
-    out: &mut Output,
 ) -> Result<(), AllocError>
-    ensures { OnOk result (out.new ≡ out.old ++ print
-        (parts.link_header (settings_of settings.entry) style url.now (option_map (λ t. t.now) code.entry))) }
+    ensures text { OnOk result (painter.new.out ≡ painter.old.out ++ print
+        (parts.link_header (settings_of painter.old) style url.now (option_map (λ t. t.now) code.entry))) }
+    ensures stays { PrintsOnly painter.old painter.new }
 {
-    out.push_link(url)?;
+    let settings = painter.settings;
+    painter.out.push_link(url)?;
     if let Some(code) = code {
-        push_linked_code(style, code, out)?;
+        push_linked_code(&mut painter.out, style, code)?;
     }
-    out.push_run(settings.own.theme.styles.link, settings.own.link_text())?;
-    out.push_link_end()?;
-    push_blank_row(out)
+    painter
+        .out
+        .push_run(settings.theme.styles.link, settings.link_text())?;
+    painter.out.push_link_end()?;
+    push_blank_row(&mut painter.out)
 }
 
 /// Appends a url in parentheses.
-fn push_url_behind(settings: Fitted<'_>, url: &str, out: &mut Output) -> Result<(), AllocError>
-    ensures { OnOk result (out.new ≡ out.old ++ print (parts.url_behind (settings_of settings.entry) (Some url.now))) }
+fn push_url_behind<H>(painter: &mut Painter<'_, H>, url: &str) -> Result<(), AllocError>
+    ensures text { OnOk result (painter.new.out ≡ painter.old.out
+        ++ print (parts.url_behind (settings_of painter.old) (Some url.now))) }
+    ensures stays { PrintsOnly painter.old painter.new }
 {
-    out.push_chars(&[' ', '('])?;
-    out.push_run(settings.own.theme.styles.link, url)?;
-    out.push(')')
+    let style = painter.settings.theme.styles.link;
+    painter.out.push_chars(&[' ', '('])?;
+    painter.out.push_run(style, url)?;
+    painter.out.push(')')
 }
 
-fn push_code_header(
-    settings: Fitted<'_>,
+fn push_code_header<H>(
+    painter: &mut Painter<'_, H>,
     style: Style,
     url: Option<&str>,
     code: &str,
-    out: &mut Output,
 ) -> Result<(), AllocError>
-    ensures { OnOk result (out.new ≡ out.old ++ print
+    ensures text { OnOk result (painter.new.out ≡ painter.old.out ++ print
         (parts.code_header style (Some code.now)
-        (parts.url_behind (settings_of settings.entry) (option_map (λ t. t.now) url.entry)))) }
+        (parts.url_behind (settings_of painter.old) (option_map (λ t. t.now) url.entry)))) }
+    ensures stays { PrintsOnly painter.old painter.new }
 {
-    out.push_run(style, code)?;
+    painter.out.push_run(style, code)?;
     if let Some(url) = url {
-        push_url_behind(settings, url, out)?;
+        push_url_behind(painter, url)?;
     }
-    push_blank_row(out)
+    push_blank_row(&mut painter.out)
 }
 
 /// Appends a header, and says whether there is one.
-pub fn push_header(
-    settings: Fitted<'_>,
+pub fn push_header<H>(
+    painter: &mut Painter<'_, H>,
     style: Style,
     url: Option<&str>,
     code: Option<&str>,
-    out: &mut Output,
 ) -> Result<bool, AllocError>
-    ensures text { OnOk result (out.new ≡ out.old
-        ++ print (parts.header_by (settings_of settings.entry).urls (settings_of settings.entry) style
+    ensures text { OnOk result (painter.new.out ≡ painter.old.out
+        ++ print (parts.header_by (settings_of painter.old).urls (settings_of painter.old) style
         (option_map (λ t. t.now) url.entry) (option_map (λ t. t.now) code.entry))) }
     ensures shown { IfOk result (λ shown. shown
-        ≡ not (is_nil (parts.header_by (settings_of settings.entry).urls (settings_of settings.entry) style
+        ≡ not (is_nil (parts.header_by (settings_of painter.old).urls (settings_of painter.old) style
         (option_map (λ t. t.now) url.entry) (option_map (λ t. t.now) code.entry)))) }
+    ensures stays { PrintsOnly painter.old painter.new }
 {
-    let behind = match settings.own.urls {
+    let behind = match painter.settings.urls {
         UrlMode::Links => {
             if let Some(url) = url {
-                push_link_header(settings, style, url, code, out)?;
+                push_link_header(painter, style, url, code)?;
                 return Ok(true);
             }
             None
@@ -108,6 +115,6 @@ pub fn push_header(
     let Some(code) = code else {
         return Ok(false);
     };
-    push_code_header(settings, style, behind, code, out)?;
+    push_code_header(painter, style, behind, code)?;
     Ok(true)
 }

@@ -2,7 +2,7 @@
 
 ghost use Rattle.std.specs.Prelude.{◌≡◌, ◌++◌, ◌-◌, ℕ, List, IfOk, OnOk, chars, false, option_map, true};
 ghost use Rattle.miette_text.specs.views.Plans.{cuts_hyphens};
-ghost use Rattle.miette_graphical.specs.views.SettingsView.{settings_of};
+ghost use Rattle.miette_graphical.specs.views.Painting.{PrintsOnly, settings_of};
 ghost use Rattle.miette_graphical.specs.rules.Indents as indents;
 ghost use Rattle.miette_graphical.specs.rules.DiagnosticText as parts;
 ghost use Rattle.miette_text.specs.views.Plans.{printed_plan};
@@ -11,7 +11,8 @@ ghost use Rattle.miette_runs.specs.rules.Runs.{print};
 ghost use Rattle.miette_runs.specs.rules.Sequences.{spell, tokens};
 ghost use Rattle.miette_text.specs.rules.Wrapping.{wrapped_text};
 
-use crate::settings::{Fitted, icon, severity_style};
+use crate::painter::Painter;
+use crate::settings::{icon, severity_style};
 use miette_protocol::protocol::Severity;
 use miette_text::runs::Runs;
 use miette_text::runs::output::Output;
@@ -29,19 +30,20 @@ pub struct Branch {
 }
 
 /// How a text is wrapped under a first and a further indent.
-fn plan<'a>(settings: Fitted<'_>, first: &'a Runs, further: &'a Runs) -> Plan<'a>
-    ensures wraps { result.wraps ≡ (settings_of settings.entry).wrapping.wrap_lines }
-    ensures hyphens { result.hyphens ≡ cuts_hyphens (settings_of settings.entry).wrapping.word_splitter }
-    ensures breaks { result.breaks ≡ (settings_of settings.entry).wrapping.break_words }
-    ensures width { result.width ≡ (settings_of settings.entry).width - 2 }
+fn plan<'a, H>(painter: &Painter<'_, H>, first: &'a Runs, further: &'a Runs) -> Plan<'a>
+    ensures wraps { result.wraps ≡ (settings_of painter.now).wrapping.wrap_lines }
+    ensures hyphens { result.hyphens ≡ cuts_hyphens (settings_of painter.now).wrapping.word_splitter }
+    ensures breaks { result.breaks ≡ (settings_of painter.now).wrapping.break_words }
+    ensures width { result.width ≡ (settings_of painter.now).width - 2 }
     ensures first { result.first.now ≡ first.now }
     ensures further { result.further.now ≡ further.now }
 {
+    let wrapping = painter.settings.wrapping;
     Plan {
-        wraps: settings.own.wrapping.wrap_lines,
-        hyphens: cuts_hyphens(settings.own.wrapping.word_splitter),
-        breaks: settings.own.wrapping.break_words,
-        width: settings.width.saturating_sub(2),
+        wraps: wrapping.wrap_lines,
+        hyphens: cuts_hyphens(wrapping.word_splitter),
+        breaks: wrapping.break_words,
+        width: painter.width.saturating_sub(2),
         first,
         further,
     }
@@ -49,10 +51,10 @@ fn plan<'a>(settings: Fitted<'_>, first: &'a Runs, further: &'a Runs) -> Plan<'a
 
 /// Appends a text, wrapped, and a line feed.
 fn push_wrapped(
+    out: &mut Output,
     alloc: Global,
     plan: Plan<'_>,
     text: &Runs,
-    out: &mut Output,
 ) -> Result<(), AllocError>
     ensures { OnOk result (out.new ≡ out.old ++ (wrapped_text (printed_plan plan.entry) (spell text.now)
         ++ parts.line_feed)) }
@@ -63,47 +65,41 @@ fn push_wrapped(
 
 // Appends a text of characters, wrapped, and a line feed.
 fn push_wrapped_text(
+    out: &mut Output,
     alloc: Global,
     plan: Plan<'_>,
     text: &str,
-    out: &mut Output,
 ) -> Result<(), AllocError>
     ensures { OnOk result (out.new ≡ out.old ++ (wrapped_text (printed_plan plan.entry) (chars text.now)
         ++ parts.line_feed)) }
 {
     let text = read_text(alloc, text)?;
-    push_wrapped(alloc, plan, &text, out)
+    push_wrapped(out, alloc, plan, &text)
 }
 
 // Appends a text behind an indent, and a line feed, where both stand in one row as they are; says whether.
-fn push_row(
-    settings: Fitted<'_>,
-    first: &Runs,
-    text: &str,
-    out: &mut Output,
-) -> Result<bool, AllocError>
-    ensures fits { IfOk result (λ fits. fits ≡ true → (further : List ℕ) → out.new ≡ out.old
-        ++ (indents.wrapped_behind (settings_of settings.entry) (spell first.now) further (chars text.now)
+fn push_row<H>(painter: &mut Painter<'_, H>, first: &Runs, text: &str) -> Result<bool, AllocError>
+    ensures fits { IfOk result (λ fits. fits ≡ true → (further : List ℕ) → painter.new.out ≡ painter.old.out
+        ++ (indents.wrapped_behind (settings_of painter.old) (spell first.now) further (chars text.now)
         ++ parts.line_feed)) }
-    ensures otherwise { IfOk result (λ fits. fits ≡ false → out.new ≡ out.old) }
+    ensures otherwise { IfOk result (λ fits. fits ≡ false → painter.new.out ≡ painter.old.out) }
+    ensures stays { PrintsOnly painter.old painter.new }
 {
-    let width = settings.width.saturating_sub(2);
-    if !push_fitting(settings.own.wrapping.wrap_lines, width, first, text, out)? {
+    let wraps = painter.settings.wrapping.wrap_lines;
+    let width = painter.width.saturating_sub(2);
+    if !push_fitting(wraps, width, first, text, &mut painter.out)? {
         return Ok(false);
     }
-    out.push('\n')?;
+    painter.out.push('\n')?;
     Ok(true)
 }
 
 // `  × `
-fn icon_indent(
-    alloc: Global,
-    settings: Fitted<'_>,
-    severity: Option<Severity>,
-) -> Result<Runs, AllocError>
-    ensures { IfOk result (λ r. spell r ≡ print (indents.icon_indent (settings_of settings.entry) severity)) }
+fn icon_indent<H>(painter: &Painter<'_, H>, severity: Option<Severity>) -> Result<Runs, AllocError>
+    ensures { IfOk result (λ r. spell r ≡ print (indents.icon_indent (settings_of painter.now) severity)) }
 {
-    let mut runs = Runs::new(alloc);
+    let settings = painter.settings;
+    let mut runs = Runs::new(painter.alloc);
     runs.push_chars(&[' ', ' '])?;
     runs.push_run(severity_style(settings, severity), icon(settings, severity))?;
     runs.push(' ')?;
@@ -111,15 +107,12 @@ fn icon_indent(
 }
 
 // `  │ `
-fn bar_indent(
-    alloc: Global,
-    settings: Fitted<'_>,
-    severity: Option<Severity>,
-) -> Result<Runs, AllocError>
-    ensures { IfOk result (λ r. spell r ≡ print (indents.bar_indent (settings_of settings.entry) severity)) }
+fn bar_indent<H>(painter: &Painter<'_, H>, severity: Option<Severity>) -> Result<Runs, AllocError>
+    ensures { IfOk result (λ r. spell r ≡ print (indents.bar_indent (settings_of painter.now) severity)) }
 {
-    let bar = [settings.own.theme.characters.vbar];
-    let mut runs = Runs::new(alloc);
+    let settings = painter.settings;
+    let bar = [settings.theme.characters.vbar];
+    let mut runs = Runs::new(painter.alloc);
     runs.push_chars(&[' ', ' '])?;
     runs.push_run_chars(severity_style(settings, severity), &bar)?;
     runs.push(' ')?;
@@ -127,11 +120,12 @@ fn bar_indent(
 }
 
 // `  ├─▶ `, the last one `  ╰─▶ `
-fn arrow_indent(alloc: Global, settings: Fitted<'_>, branch: Branch) -> Result<Runs, AllocError>
+fn arrow_indent<H>(painter: &Painter<'_, H>, branch: Branch) -> Result<Runs, AllocError>
     ensures { IfOk result (λ r. spell r ≡ print
-        (indents.arrow_indent (settings_of settings.entry) branch.outer branch.is_last)) }
+        (indents.arrow_indent (settings_of painter.now) branch.outer branch.is_last)) }
 {
-    let characters = &settings.own.theme.characters;
+    let settings = painter.settings;
+    let characters = &settings.theme.characters;
     let blank = ' ';
     let last = characters.lbot;
     let other = characters.lcross;
@@ -139,115 +133,109 @@ fn arrow_indent(alloc: Global, settings: Fitted<'_>, branch: Branch) -> Result<R
     let head = characters.rarrow;
     let corner = if branch.is_last { last } else { other };
     let arrow = [blank, blank, corner, hbar, head, blank];
-    let mut runs = Runs::new(alloc);
+    let mut runs = Runs::new(painter.alloc);
     runs.push_run_chars(severity_style(settings, branch.outer), &arrow)?;
     Ok(runs)
 }
 
 // `  │   `, under the last one six spaces
-fn stem_indent(alloc: Global, settings: Fitted<'_>, branch: Branch) -> Result<Runs, AllocError>
+fn stem_indent<H>(painter: &Painter<'_, H>, branch: Branch) -> Result<Runs, AllocError>
     ensures { IfOk result (λ r. spell r ≡ print
-        (indents.stem_indent (settings_of settings.entry) branch.outer branch.is_last)) }
+        (indents.stem_indent (settings_of painter.now) branch.outer branch.is_last)) }
 {
+    let settings = painter.settings;
     let blank = ' ';
-    let vbar = settings.own.theme.characters.vbar;
+    let vbar = settings.theme.characters.vbar;
     let bar = if branch.is_last { blank } else { vbar };
     let stem = [blank, blank, bar, blank, blank, blank];
-    let mut runs = Runs::new(alloc);
+    let mut runs = Runs::new(painter.alloc);
     runs.push_run_chars(severity_style(settings, branch.outer), &stem)?;
     Ok(runs)
 }
 
-// The columns of the indent of what stands under an arrow, behind its first row.
-fn stem_columns(alloc: Global, settings: Fitted<'_>, branch: Branch) -> Result<usize, AllocError>
+// The columns of the indent of what stands under an arrow, after its first row.
+fn stem_columns<H>(painter: &Painter<'_, H>, branch: Branch) -> Result<usize, AllocError>
     ensures { IfOk result (λ n. n ≡ columns_of (tokens (print
-        (indents.stem_indent (settings_of settings.entry) branch.outer branch.is_last)))) }
+        (indents.stem_indent (settings_of painter.now) branch.outer branch.is_last)))) }
 {
-    let stem = stem_indent(alloc, settings, branch)?;
-    let columns = columns_of(alloc, &stem)?;
-    Ok(columns)
+    let stem = stem_indent(painter, branch)?;
+    columns_of(painter.alloc, &stem)
 }
 
-/// The settings of what stands under an arrow.
-pub fn settings_under<'a>(
-    alloc: Global,
-    settings: Fitted<'a>,
-    branch: Branch,
-) -> Result<Fitted<'a>, AllocError>
-    ensures { IfOk result (λ l. settings_of l
-        ≡ indents.narrow_settings (settings_of settings.entry) branch.outer branch.is_last) }
+/// The width of what stands under an arrow.
+pub fn width_under<H>(painter: &Painter<'_, H>, branch: Branch) -> Result<usize, AllocError>
+    ensures { IfOk result (λ width. width
+        ≡ (indents.narrow_settings (settings_of painter.now) branch.outer branch.is_last).width) }
 {
-    let columns = stem_columns(alloc, settings, branch)?;
-    let mut narrow = settings;
-    narrow.width = settings.width.saturating_sub(columns);
-    Ok(narrow)
+    let columns = stem_columns(painter, branch)?;
+    Ok(painter.width.saturating_sub(columns))
 }
 
 /// Appends a cause or a nested related report under its arrow.
-pub fn push_under_arrow(
-    alloc: Global,
-    settings: Fitted<'_>,
+pub fn push_under_arrow<H>(
+    painter: &mut Painter<'_, H>,
     branch: Branch,
     text: &Runs,
-    out: &mut Output,
 ) -> Result<(), AllocError>
-    ensures { OnOk result (out.new ≡ out.old ++ parts.under_arrow (settings_of settings.entry) branch.outer
-        branch.is_last (spell text.now)) }
+    ensures text { OnOk result (painter.new.out ≡ painter.old.out ++ parts.under_arrow (settings_of painter.old)
+        branch.outer branch.is_last (spell text.now)) }
+    ensures stays { PrintsOnly painter.old painter.new }
 {
-    let first = arrow_indent(alloc, settings, branch)?;
-    let further = stem_indent(alloc, settings, branch)?;
-    push_wrapped(alloc, plan(settings, &first, &further), text, out)
+    let first = arrow_indent(painter, branch)?;
+    let further = stem_indent(painter, branch)?;
+    let under = plan(painter, &first, &further);
+    push_wrapped(&mut painter.out, painter.alloc, under, text)
 }
 
 /// Appends a cause that is a text under its arrow.
-pub fn push_text_under_arrow(
-    alloc: Global,
-    settings: Fitted<'_>,
+pub fn push_text_under_arrow<H>(
+    painter: &mut Painter<'_, H>,
     branch: Branch,
     text: &str,
-    out: &mut Output,
 ) -> Result<(), AllocError>
-    ensures { OnOk result (out.new ≡ out.old ++ parts.under_arrow (settings_of settings.entry) branch.outer
-        branch.is_last (chars text.now)) }
+    ensures text { OnOk result (painter.new.out ≡ painter.old.out ++ parts.under_arrow (settings_of painter.old)
+        branch.outer branch.is_last (chars text.now)) }
+    ensures stays { PrintsOnly painter.old painter.new }
 {
-    let first = arrow_indent(alloc, settings, branch)?;
-    if push_row(settings, &first, text, out)? {
+    let first = arrow_indent(painter, branch)?;
+    if push_row(painter, &first, text)? {
         return Ok(());
     }
-    let further = stem_indent(alloc, settings, branch)?;
-    push_wrapped_text(alloc, plan(settings, &first, &further), text, out)
+    let further = stem_indent(painter, branch)?;
+    let under = plan(painter, &first, &further);
+    push_wrapped_text(&mut painter.out, painter.alloc, under, text)
 }
 
-/// Appends a message behind its icon.
-pub fn push_message(
-    alloc: Global,
-    settings: Fitted<'_>,
+/// Appends a message after its icon.
+pub fn push_message<H>(
+    painter: &mut Painter<'_, H>,
     severity: Option<Severity>,
     message: &str,
-    out: &mut Output,
 ) -> Result<(), AllocError>
-    ensures { OnOk result (out.new ≡ out.old ++ (indents.wrapped_under (settings_of settings.entry)
-        (indents.icon_indent (settings_of settings.entry) severity)
-        (indents.bar_indent (settings_of settings.entry) severity) (chars message.now) ++ parts.line_feed)) }
+    ensures text { OnOk result (painter.new.out ≡ painter.old.out ++ (indents.wrapped_under (settings_of painter.old)
+        (indents.icon_indent (settings_of painter.old) severity)
+        (indents.bar_indent (settings_of painter.old) severity) (chars message.now) ++ parts.line_feed)) }
+    ensures stays { PrintsOnly painter.old painter.new }
 {
-    let first = icon_indent(alloc, settings, severity)?;
-    if push_row(settings, &first, message, out)? {
+    let first = icon_indent(painter, severity)?;
+    if push_row(painter, &first, message)? {
         return Ok(());
     }
-    let further = bar_indent(alloc, settings, severity)?;
-    push_wrapped_text(alloc, plan(settings, &first, &further), message, out)
+    let further = bar_indent(painter, severity)?;
+    let under = plan(painter, &first, &further);
+    push_wrapped_text(&mut painter.out, painter.alloc, under, message)
 }
 
 // `  help: `
-fn help_indent(alloc: Global, settings: Fitted<'_>) -> Result<Runs, AllocError>
-    ensures { IfOk result (λ r. spell r ≡ print (indents.help_indent (settings_of settings.entry))) }
+fn help_indent<H>(painter: &Painter<'_, H>) -> Result<Runs, AllocError>
+    ensures { IfOk result (λ r. spell r ≡ print (indents.help_indent (settings_of painter.now))) }
 {
-    let mut runs = Runs::new(alloc);
-    runs.push_run(settings.own.theme.styles.help, "  help: ")?;
+    let mut runs = Runs::new(painter.alloc);
+    runs.push_run(painter.settings.theme.styles.help, "  help: ")?;
     Ok(runs)
 }
 
-// So many spaces.
+// These spaces, as runs.
 fn blank_indent(alloc: Global, spaces: &[char]) -> Result<Runs, AllocError>
     ensures { IfOk result (λ r. spell r ≡ spaces.now) }
 {
@@ -257,37 +245,37 @@ fn blank_indent(alloc: Global, spaces: &[char]) -> Result<Runs, AllocError>
 }
 
 /// Appends a help text, where there is one.
-pub fn push_help(
-    alloc: Global,
-    settings: Fitted<'_>,
-    help: Option<&str>,
-    out: &mut Output,
-) -> Result<(), AllocError>
-    ensures { OnOk result (out.new ≡ out.old ++ parts.help_text (settings_of settings.entry)
+pub fn push_help<H>(painter: &mut Painter<'_, H>, help: Option<&str>) -> Result<(), AllocError>
+    ensures text { OnOk result (painter.new.out ≡ painter.old.out ++ parts.help_text (settings_of painter.old)
         (option_map (λ t. t.now) help.entry)) }
+    ensures stays { PrintsOnly painter.old painter.new }
 {
     let Some(help) = help else {
         return Ok(());
     };
-    let first = help_indent(alloc, settings)?;
-    if push_row(settings, &first, help, out)? {
+    let first = help_indent(painter)?;
+    if push_row(painter, &first, help)? {
         return Ok(());
     }
-    let further = blank_indent(alloc, &[' '; 8])?;
-    push_wrapped_text(alloc, plan(settings, &first, &further), help, out)
+    let further = blank_indent(painter.alloc, &[' '; 8])?;
+    let under = plan(painter, &first, &further);
+    push_wrapped_text(&mut painter.out, painter.alloc, under, help)
 }
 
 /// Appends a blank row and the footer, where there is one.
-pub fn push_footer(alloc: Global, settings: Fitted<'_>, out: &mut Output) -> Result<(), AllocError>
-    ensures { OnOk result (out.new ≡ out.old ++ parts.footer_text (settings_of settings.entry)) }
+pub fn push_footer<H>(painter: &mut Painter<'_, H>) -> Result<(), AllocError>
+    ensures text { OnOk result (painter.new.out ≡ painter.old.out ++ parts.footer_text (settings_of painter.old)) }
+    ensures stays { PrintsOnly painter.old painter.new }
 {
-    let Some(footer) = settings.own.footer() else {
+    let settings = painter.settings;
+    let Some(footer) = settings.footer() else {
         return Ok(());
     };
-    let indent = blank_indent(alloc, &[' ', ' '])?;
-    out.push('\n')?;
-    if push_row(settings, &indent, footer, out)? {
+    let indent = blank_indent(painter.alloc, &[' ', ' '])?;
+    painter.out.push('\n')?;
+    if push_row(painter, &indent, footer)? {
         return Ok(());
     }
-    push_wrapped_text(alloc, plan(settings, &indent, &indent), footer, out)
+    let under = plan(painter, &indent, &indent);
+    push_wrapped_text(&mut painter.out, painter.alloc, under, footer)
 }

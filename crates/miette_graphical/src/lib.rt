@@ -6,7 +6,7 @@ pub mod handler;
 mod header;
 mod indents;
 pub mod laws;
-mod pen;
+mod painter;
 mod printing;
 mod report;
 pub mod settings;

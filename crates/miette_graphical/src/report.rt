@@ -1,18 +1,14 @@
 //! The causes of a report, what stands below them, and its related reports.
 
-ghost use Rattle.std.specs.Prelude.{◌≡◌, IfOk, OnOk, option_map, map};
-ghost use Rattle.std.specs.Prelude.{false};
+ghost use Rattle.std.specs.Prelude.{◌≡◌, [], IfOk, OnOk, false, map};
 ghost use Rattle.miette_graphical.specs.steps.PartTexts.{AreCauses, AreDrawn, AreRelated, IsBelow, IsDrawn, IsInner};
-ghost use Rattle.miette_graphical.specs.steps.PartTexts.{IsNested, IsOneCause, IsOneRelated, IsSibling};
-ghost use Rattle.miette_tree.specs.views.Handler.{AppendsOne};
+ghost use Rattle.miette_graphical.specs.steps.PartTexts.{IsNested, IsOneCause, IsOneRelated, IsSibling, narrowed};
+ghost use Rattle.miette_graphical.specs.views.Painting.{Keeps, Paints, printing_of, settings_of, source_shown};
 ghost use Rattle.miette_graphical.specs.rules.PrintedDiagnostics.{all_read, printed_causes};
 ghost use Rattle.miette_graphical.specs.steps.PrintedParts.{printed_inner, printed_one, printed_sibling};
 ghost use Rattle.miette_graphical.specs.rules.PrintedDiagnostics.{printed_related};
-ghost use Rattle.miette_snippet_rules.specs.rules.Highlighting.{AreCallsOn, leaves_plain};
 ghost use Rattle.miette_tree.specs.views.Owned.{shown_source};
-ghost use Rattle.miette_graphical.specs.rules.Snippets.{drawn_rows};
 ghost use Rattle.miette_graphical.specs.rules.Text as texts;
-ghost use Rattle.miette_graphical.specs.views.SettingsView.{settings_of};
 ghost use Rattle.miette_tree.specs.views.Report.{tree_of};
 ghost use Rattle.miette_tree.specs.rules.Tree.{cause_of, effective, head, source_of, trees};
 ghost use Rattle.miette_tree.specs.rules.DiagnosticParts.{given_labels};
@@ -21,9 +17,8 @@ ghost use Rattle.miette_runs.specs.rules.Cutting.{without_leading};
 ghost use Rattle.miette_runs.specs.rules.Sequences.{spell};
 
 use crate::diagnostic::{is_nil, push_cause_texts, push_sibling_start, push_start};
-use crate::indents::{Branch, push_help, push_under_arrow, settings_under};
-use crate::pen::Pen;
-use crate::settings::Fitted;
+use crate::indents::{Branch, push_help, push_under_arrow, width_under};
+use crate::painter::Painter;
 use miette_highlight::highlight::Highlighter;
 use miette_layout::options::SnippetSettings;
 use miette_layout::snippets::snippets;
@@ -41,76 +36,61 @@ use std::mem;
 
 /// Appends the text of the rows of a diagnostic's snippets, over its effective source.
 fn push_rows<D: Diagnostic, S: SourceCode, H: Highlighter>(
-    pen: &mut Pen<H>,
-    settings: Fitted<'_>,
+    painter: &mut Painter<'_, H>,
     source: Option<SourceRef<'_, S>>,
     report: &Report<D, S>,
-    out: &mut Output,
 ) -> Result<(), RenderError>
-    ensures ok { OnOk result (AppendsOne (IsDrawn drawn_rows (settings_of settings.entry)
-        (leaves_plain H.is_blank pen.old.highlighter)
-        (AreCallsOn H.may_follow pen.old.highlighter pen.new.highlighter)
-        (option_map (shown_source S.source) source.entry)
-        (head (tree_of D.meaning S.source report.now))) out.old out.new) }
-    ensures refused { (result ≡ Err RenderError.Refused) →
-        always_reads (option_map (shown_source S.source) source.entry)
+    ensures ok { OnOk result (Paints H.is_blank H.may_follow (IsDrawn (source_shown S.source source.entry)
+        (head (tree_of D.meaning S.source report.now))) painter.old painter.new) }
+    ensures refused { (result ≡ Err RenderError.Refused) → always_reads (source_shown S.source source.entry)
         (given_labels (head (tree_of D.meaning S.source report.now)).labels) ≡ false }
-    ensures stays { leaves_plain H.is_blank pen.new.highlighter ≡ leaves_plain H.is_blank pen.old.highlighter }
+    ensures keeps { Keeps H.is_blank painter.old painter.new }
 {
     match source {
         None => Ok(()),
-        Some(source) => push_shown(pen, settings, source, report, out),
+        Some(source) => push_shown(painter, source, report),
     }
 }
 
-/// The same over a source that is there.
+/// Appends the text of the rows of a diagnostic's snippets, over a source that is there.
 fn push_shown<D: Diagnostic, S: SourceCode, H: Highlighter>(
-    pen: &mut Pen<H>,
-    settings: Fitted<'_>,
+    painter: &mut Painter<'_, H>,
     source: SourceRef<'_, S>,
     report: &Report<D, S>,
-    out: &mut Output,
 ) -> Result<(), RenderError>
-    ensures ok { OnOk result (AppendsOne (IsDrawn drawn_rows (settings_of settings.entry)
-        (leaves_plain H.is_blank pen.old.highlighter)
-        (AreCallsOn H.may_follow pen.old.highlighter pen.new.highlighter) (Some (shown_source S.source source.entry))
-        (head (tree_of D.meaning S.source report.now))) out.old out.new) }
-    ensures refused { (result ≡ Err RenderError.Refused) →
-        always_reads (Some (shown_source S.source source.entry))
+    ensures ok { OnOk result (Paints H.is_blank H.may_follow (IsDrawn (Some (shown_source S.source source.entry))
+        (head (tree_of D.meaning S.source report.now))) painter.old painter.new) }
+    ensures refused { (result ≡ Err RenderError.Refused) → always_reads (Some (shown_source S.source source.entry))
         (given_labels (head (tree_of D.meaning S.source report.now)).labels) ≡ false }
-    ensures stays { leaves_plain H.is_blank pen.new.highlighter ≡ leaves_plain H.is_blank pen.old.highlighter }
+    ensures keeps { Keeps H.is_blank painter.old painter.new }
 {
     let labels = labels_of(report);
     match labels {
         [] => Ok(()),
-        [_, ..] => push_drawn(pen, settings, source, labels, out),
+        [_, ..] => push_drawn(painter, source, labels),
     }
 }
 
 /// Appends the text of the rows of some labels' snippets, over a source.
 fn push_drawn<S: SourceCode, H: Highlighter>(
-    pen: &mut Pen<H>,
-    settings: Fitted<'_>,
+    painter: &mut Painter<'_, H>,
     source: SourceRef<'_, S>,
     labels: &[LabeledSpan],
-    out: &mut Output,
 ) -> Result<(), RenderError>
-    ensures ok { OnOk result (AppendsOne (AreDrawn (settings_of settings.entry)
-        (leaves_plain H.is_blank pen.old.highlighter)
-        (AreCallsOn H.may_follow pen.old.highlighter pen.new.highlighter)
-        (shown_source S.source source.entry) labels.now) out.old
-        out.new) }
+    ensures ok { OnOk result (Paints H.is_blank H.may_follow (AreDrawn (shown_source S.source source.entry) labels.now)
+        painter.old painter.new) }
     ensures refused { (result ≡ Err RenderError.Refused) → (shown_source S.source source.entry).always_reads ≡ false }
-    ensures stays { leaves_plain H.is_blank pen.new.highlighter ≡ leaves_plain H.is_blank pen.old.highlighter }
+    ensures keeps { Keeps H.is_blank painter.old painter.new }
 {
+    let settings = painter.settings;
     let drawn_with = SnippetSettings {
-        alloc: pen.alloc,
-        theme: &settings.own.theme,
-        layout: &settings.own.layout,
+        alloc: painter.alloc,
+        theme: &settings.theme,
+        layout: &settings.layout,
     };
-    let page = Page::over(mem::replace(out, Output::for_text(pen.alloc)));
-    let page = snippets(&mut pen.highlighter, &drawn_with, &source, labels, page)?;
-    *out = page.into_output()?;
+    let page = Page::over(mem::replace(&mut painter.out, Output::for_text(painter.alloc)));
+    let page = snippets(&mut painter.highlighter, &drawn_with, &source, labels, page)?;
+    painter.out = page.into_output()?;
     Ok(())
 }
 
@@ -136,61 +116,102 @@ fn are_last<D: Diagnostic, S: SourceCode>(reports: &[Report<D, S>]) -> bool
 /// Appends the causes of a report, under arrows in the style of the outer severity.
 #[cycle(report)]
 pub fn push_causes<D: Diagnostic, S: SourceCode, H: Highlighter>(
-    pen: &mut Pen<H>,
-    settings: Fitted<'_>,
+    painter: &mut Painter<'_, H>,
     outer: Option<Severity>,
     inherited: Option<SourceRef<'_, S>>,
     report: &Report<D, S>,
-    out: &mut Output,
 ) -> Result<(), RenderError>
-    ensures ok { OnOk result (AppendsOne (AreCauses drawn_rows (settings_of settings.entry)
-        (leaves_plain H.is_blank pen.old.highlighter)
-        (AreCallsOn H.may_follow pen.old.highlighter pen.new.highlighter)
-        outer (option_map (shown_source S.source) inherited.entry)
-        (cause_of (tree_of D.meaning S.source report.now))) out.old out.new) }
+    ensures ok { OnOk result (Paints H.is_blank H.may_follow (AreCauses outer (source_shown S.source inherited.entry)
+        (cause_of (tree_of D.meaning S.source report.now))) painter.old painter.new) }
     ensures refused { (result ≡ Err RenderError.Refused) →
-        all_read (printed_causes (settings_of settings.entry).related_as_nested (option_map (shown_source S.source) inherited.entry)
+        all_read (printed_causes (settings_of painter.old).related_as_nested (source_shown S.source inherited.entry)
         (cause_of (tree_of D.meaning S.source report.now))) ≡ false }
-    ensures stays { leaves_plain H.is_blank pen.new.highlighter ≡ leaves_plain H.is_blank pen.old.highlighter }
+    ensures keeps { Keeps H.is_blank painter.old painter.new }
 {
     let mut at = report;
     while let Cause::Diagnostic(next) = at.cause() {
-        push_one_cause(pen, settings, outer, inherited, next, out)?;
+        push_one_cause(painter, outer, inherited, next)?;
         at = next;
     }
-    push_cause_texts(pen.alloc, settings, outer, cause_texts(at), out)?;
+    push_cause_texts(painter, outer, cause_texts(at))?;
     Ok(())
 }
 
 /// Appends a diagnostic cause under its arrow.
 #[cycle(report)]
 fn push_one_cause<D: Diagnostic, S: SourceCode, H: Highlighter>(
-    pen: &mut Pen<H>,
-    settings: Fitted<'_>,
+    painter: &mut Painter<'_, H>,
     outer: Option<Severity>,
     inherited: Option<SourceRef<'_, S>>,
     cause: &Report<D, S>,
-    out: &mut Output,
 ) -> Result<(), RenderError>
-    ensures ok { OnOk result (AppendsOne (IsOneCause drawn_rows (settings_of settings.entry)
-        (leaves_plain H.is_blank pen.old.highlighter)
-        (AreCallsOn H.may_follow pen.old.highlighter pen.new.highlighter)
-        outer (option_map (shown_source S.source) inherited.entry)
-        (tree_of D.meaning S.source cause.now)) out.old out.new) }
+    ensures ok { OnOk result (Paints H.is_blank H.may_follow (IsOneCause outer (source_shown S.source inherited.entry)
+        (tree_of D.meaning S.source cause.now)) painter.old painter.new) }
     ensures refused { (result ≡ Err RenderError.Refused) →
-        all_read (printed_inner (settings_of settings.entry).related_as_nested
-        (effective (source_of (tree_of D.meaning S.source cause.now))
-        (option_map (shown_source S.source) inherited.entry)) (tree_of D.meaning S.source cause.now)) ≡ false }
-    ensures stays { leaves_plain H.is_blank pen.new.highlighter ≡ leaves_plain H.is_blank pen.old.highlighter }
+        all_read (printed_inner (settings_of painter.old).related_as_nested
+        (effective (source_of (tree_of D.meaning S.source cause.now)) (source_shown S.source inherited.entry))
+        (tree_of D.meaning S.source cause.now)) ≡ false }
+    ensures keeps { Keeps H.is_blank painter.old painter.new }
 {
     let branch = Branch {
         outer,
         is_last: ends_there(cause),
     };
-    let narrow = settings_under(pen.alloc, settings, branch)?;
-    let inner = inner_text(pen, narrow, own_or(cause, inherited), cause)?;
-    push_under_arrow(pen.alloc, settings, branch, &inner, out)?;
+    let inner = inner_text(painter, branch, own_or(cause, inherited), cause)?;
+    push_under_arrow(painter, branch, &inner)?;
     Ok(())
+}
+
+/// A report that stands under an arrow, over its effective source.
+#[cycle(report)]
+fn inner_text<D: Diagnostic, S: SourceCode, H: Highlighter>(
+    painter: &mut Painter<'_, H>,
+    branch: Branch,
+    source: Option<SourceRef<'_, S>>,
+    report: &Report<D, S>,
+) -> Result<Runs, RenderError>
+    ensures ok { IfOk result (λ r. IsInner (source_shown S.source source.entry) (tree_of D.meaning S.source report.now)
+        (narrowed branch.outer branch.is_last (printing_of H.is_blank H.may_follow painter.old painter.new))
+        (spell r)) }
+    ensures out { painter.new.out ≡ painter.old.out }
+    ensures refused { (result ≡ Err RenderError.Refused) →
+        all_read (printed_inner (settings_of painter.old).related_as_nested (source_shown S.source source.entry)
+        (tree_of D.meaning S.source report.now)) ≡ false }
+    ensures keeps { Keeps H.is_blank painter.old painter.new }
+{
+    let width = width_under(painter, branch)?;
+    let highlighter = painter.highlighter.take();
+    let mut inner = Painter {
+        alloc: painter.alloc,
+        settings: painter.settings,
+        width,
+        highlighter,
+        out: Output::for_runs(painter.alloc),
+    };
+    let text = inner_runs(&mut inner, source, report);
+    painter.highlighter = inner.highlighter;
+    text
+}
+
+/// A report that stands in another one, over its effective source, by a painter that printed nothing before.
+#[cycle(report)]
+fn inner_runs<D: Diagnostic, S: SourceCode, H: Highlighter>(
+    painter: &mut Painter<'_, H>,
+    source: Option<SourceRef<'_, S>>,
+    report: &Report<D, S>,
+) -> Result<Runs, RenderError>
+    ensures ok { IfOk result (λ r. painter.old.out ≡ [] → IsInner (source_shown S.source source.entry)
+        (tree_of D.meaning S.source report.now) (printing_of H.is_blank H.may_follow painter.old painter.new)
+        (spell r)) }
+    ensures refused { (result ≡ Err RenderError.Refused) →
+        all_read (printed_inner (settings_of painter.old).related_as_nested (source_shown S.source source.entry)
+        (tree_of D.meaning S.source report.now)) ≡ false }
+    ensures keeps { Keeps H.is_blank painter.old painter.new }
+{
+    push_start(painter, report)?;
+    push_below(painter, source, report)?;
+    let text = mem::replace(&mut painter.out, Output::for_runs(painter.alloc));
+    Ok(runs_without_leading(painter.alloc, text)?)
 }
 
 // The runs of a text without the line feeds in front.
@@ -200,153 +221,102 @@ fn runs_without_leading(alloc: Global, text: Output) -> Result<Runs, AllocError>
     without_leading(alloc, text.into_runs(alloc)?)
 }
 
-/// A report that stands in another one, over its effective source.
-#[cycle(report)]
-fn inner_text<D: Diagnostic, S: SourceCode, H: Highlighter>(
-    pen: &mut Pen<H>,
-    settings: Fitted<'_>,
-    source: Option<SourceRef<'_, S>>,
-    report: &Report<D, S>,
-) -> Result<Runs, RenderError>
-    ensures ok { IfOk result (λ r. IsInner drawn_rows (settings_of settings.entry)
-        (leaves_plain H.is_blank pen.old.highlighter)
-        (AreCallsOn H.may_follow pen.old.highlighter pen.new.highlighter)
-        (option_map (shown_source S.source) source.entry)
-        (tree_of D.meaning S.source report.now) (spell r)) }
-    ensures refused { (result ≡ Err RenderError.Refused) →
-        all_read (printed_inner (settings_of settings.entry).related_as_nested (option_map (shown_source S.source) source.entry)
-        (tree_of D.meaning S.source report.now)) ≡ false }
-    ensures stays { leaves_plain H.is_blank pen.new.highlighter ≡ leaves_plain H.is_blank pen.old.highlighter }
-{
-    let mut text = Output::for_runs(pen.alloc);
-    push_start(pen.alloc, settings, report, &mut text)?;
-    push_below(pen, settings, source, report, &mut text)?;
-    Ok(runs_without_leading(pen.alloc, text)?)
-}
-
 /// Appends what stands below a report's causes, over its effective source: the rows of its snippets, its help, and
 /// its related reports.
 #[cycle(report)]
 pub fn push_below<D: Diagnostic, S: SourceCode, H: Highlighter>(
-    pen: &mut Pen<H>,
-    settings: Fitted<'_>,
+    painter: &mut Painter<'_, H>,
     source: Option<SourceRef<'_, S>>,
     report: &Report<D, S>,
-    out: &mut Output,
 ) -> Result<(), RenderError>
-    ensures ok { OnOk result (AppendsOne (IsBelow drawn_rows (settings_of settings.entry)
-        (leaves_plain H.is_blank pen.old.highlighter)
-        (AreCallsOn H.may_follow pen.old.highlighter pen.new.highlighter)
-        (option_map (shown_source S.source) source.entry)
-        (tree_of D.meaning S.source report.now)) out.old out.new) }
+    ensures ok { OnOk result (Paints H.is_blank H.may_follow (IsBelow (source_shown S.source source.entry)
+        (tree_of D.meaning S.source report.now)) painter.old painter.new) }
     ensures refused { (result ≡ Err RenderError.Refused) →
-        all_read (printed_inner (settings_of settings.entry).related_as_nested (option_map (shown_source S.source) source.entry)
+        all_read (printed_inner (settings_of painter.old).related_as_nested (source_shown S.source source.entry)
         (tree_of D.meaning S.source report.now)) ≡ false }
-    ensures stays { leaves_plain H.is_blank pen.new.highlighter ≡ leaves_plain H.is_blank pen.old.highlighter }
+    ensures keeps { Keeps H.is_blank painter.old painter.new }
 {
-    push_rows(pen, settings, source, report, out)?;
-    push_help(pen.alloc, settings, report.help(), out)?;
-    let related = report.related();
-    push_related(pen, settings, report.severity(), source, related, out)
+    push_rows(painter, source, report)?;
+    push_help(painter, report.help())?;
+    push_related(painter, report.severity(), source, report.related())
 }
 
 /// Appends a related report as a sibling, over its effective source.
 #[cycle(report)]
 fn push_sibling<D: Diagnostic, S: SourceCode, H: Highlighter>(
-    pen: &mut Pen<H>,
-    settings: Fitted<'_>,
+    painter: &mut Painter<'_, H>,
     source: Option<SourceRef<'_, S>>,
     report: &Report<D, S>,
-    out: &mut Output,
 ) -> Result<(), RenderError>
-    ensures ok { OnOk result (AppendsOne (IsSibling drawn_rows (settings_of settings.entry)
-        (leaves_plain H.is_blank pen.old.highlighter)
-        (AreCallsOn H.may_follow pen.old.highlighter pen.new.highlighter)
-        (option_map (shown_source S.source) source.entry)
-        (tree_of D.meaning S.source report.now)) out.old out.new) }
+    ensures ok { OnOk result (Paints H.is_blank H.may_follow (IsSibling (source_shown S.source source.entry)
+        (tree_of D.meaning S.source report.now)) painter.old painter.new) }
     ensures refused { (result ≡ Err RenderError.Refused) →
-        all_read (printed_sibling (settings_of settings.entry).related_as_nested (option_map (shown_source S.source) source.entry)
+        all_read (printed_sibling (settings_of painter.old).related_as_nested (source_shown S.source source.entry)
         (tree_of D.meaning S.source report.now)) ≡ false }
-    ensures stays { leaves_plain H.is_blank pen.new.highlighter ≡ leaves_plain H.is_blank pen.old.highlighter }
+    ensures keeps { Keeps H.is_blank painter.old painter.new }
 {
-    push_sibling_start(pen.alloc, settings, report, out)?;
-    push_causes(pen, settings, report.severity(), source, report, out)?;
-    push_below(pen, settings, source, report, out)
+    push_sibling_start(painter, report)?;
+    push_causes(painter, report.severity(), source, report)?;
+    push_below(painter, source, report)
 }
 
 /// Appends a related report under its arrow, over its effective source.
 #[cycle(report)]
 fn push_nested<D: Diagnostic, S: SourceCode, H: Highlighter>(
-    pen: &mut Pen<H>,
-    settings: Fitted<'_>,
+    painter: &mut Painter<'_, H>,
     branch: Branch,
     source: Option<SourceRef<'_, S>>,
     report: &Report<D, S>,
-    out: &mut Output,
 ) -> Result<(), RenderError>
-    ensures ok { OnOk result (AppendsOne (IsNested drawn_rows (settings_of settings.entry)
-        (leaves_plain H.is_blank pen.old.highlighter)
-        (AreCallsOn H.may_follow pen.old.highlighter pen.new.highlighter)
-        branch.outer (option_map (shown_source S.source) source.entry)
-        branch.is_last (tree_of D.meaning S.source report.now)) out.old out.new) }
+    ensures ok { OnOk result (Paints H.is_blank H.may_follow (IsNested branch.outer branch.is_last
+        (source_shown S.source source.entry) (tree_of D.meaning S.source report.now)) painter.old painter.new) }
     ensures refused { (result ≡ Err RenderError.Refused) →
-        all_read (printed_inner (settings_of settings.entry).related_as_nested (option_map (shown_source S.source) source.entry)
+        all_read (printed_inner (settings_of painter.old).related_as_nested (source_shown S.source source.entry)
         (tree_of D.meaning S.source report.now)) ≡ false }
-    ensures stays { leaves_plain H.is_blank pen.new.highlighter ≡ leaves_plain H.is_blank pen.old.highlighter }
+    ensures keeps { Keeps H.is_blank painter.old painter.new }
 {
-    let narrow = settings_under(pen.alloc, settings, branch)?;
-    let inner = inner_text(pen, narrow, source, report)?;
-    let cut = without_trailing(pen.alloc, inner)?;
-    push_under_arrow(pen.alloc, settings, branch, &cut, out)?;
+    let inner = inner_text(painter, branch, source, report)?;
+    let cut = without_trailing(painter.alloc, inner)?;
+    push_under_arrow(painter, branch, &cut)?;
     Ok(())
 }
 
 /// Appends one of several related reports, nested or as a sibling, over its effective source.
 #[cycle(report)]
 fn push_one_related<D: Diagnostic, S: SourceCode, H: Highlighter>(
-    pen: &mut Pen<H>,
-    settings: Fitted<'_>,
+    painter: &mut Painter<'_, H>,
     branch: Branch,
     source: Option<SourceRef<'_, S>>,
     report: &Report<D, S>,
-    out: &mut Output,
 ) -> Result<(), RenderError>
-    ensures ok { OnOk result (AppendsOne (IsOneRelated drawn_rows (settings_of settings.entry)
-        (leaves_plain H.is_blank pen.old.highlighter)
-        (AreCallsOn H.may_follow pen.old.highlighter pen.new.highlighter)
-        branch.outer (option_map (shown_source S.source) source.entry)
-        branch.is_last (tree_of D.meaning S.source report.now)) out.old out.new) }
+    ensures ok { OnOk result (Paints H.is_blank H.may_follow (IsOneRelated branch.outer branch.is_last
+        (source_shown S.source source.entry) (tree_of D.meaning S.source report.now)) painter.old painter.new) }
     ensures refused { (result ≡ Err RenderError.Refused) →
-        all_read (printed_one (settings_of settings.entry).related_as_nested (option_map (shown_source S.source) source.entry)
+        all_read (printed_one (settings_of painter.old).related_as_nested (source_shown S.source source.entry)
         (tree_of D.meaning S.source report.now)) ≡ false }
-    ensures stays { leaves_plain H.is_blank pen.new.highlighter ≡ leaves_plain H.is_blank pen.old.highlighter }
+    ensures keeps { Keeps H.is_blank painter.old painter.new }
 {
-    if settings.own.related_as_nested {
-        push_nested(pen, settings, branch, source, report, out)
+    if painter.settings.related_as_nested {
+        push_nested(painter, branch, source, report)
     } else {
-        push_sibling(pen, settings, source, report, out)
+        push_sibling(painter, source, report)
     }
 }
 
 /// Appends related reports, nested or as siblings.
 #[cycle(report)]
 fn push_related<D: Diagnostic, S: SourceCode, H: Highlighter>(
-    pen: &mut Pen<H>,
-    settings: Fitted<'_>,
+    painter: &mut Painter<'_, H>,
     outer: Option<Severity>,
     inherited: Option<SourceRef<'_, S>>,
     reports: &[Report<D, S>],
-    out: &mut Output,
 ) -> Result<(), RenderError>
-    ensures ok { OnOk result (AppendsOne (AreRelated drawn_rows (settings_of settings.entry)
-        (leaves_plain H.is_blank pen.old.highlighter)
-        (AreCallsOn H.may_follow pen.old.highlighter pen.new.highlighter)
-        outer (option_map (shown_source S.source) inherited.entry)
-        (trees (map (tree_of D.meaning S.source) reports.now))) out.old out.new) }
+    ensures ok { OnOk result (Paints H.is_blank H.may_follow (AreRelated outer (source_shown S.source inherited.entry)
+        (trees (map (tree_of D.meaning S.source) reports.now))) painter.old painter.new) }
     ensures refused { (result ≡ Err RenderError.Refused) →
-        all_read (printed_related (settings_of settings.entry).related_as_nested (option_map (shown_source S.source) inherited.entry)
+        all_read (printed_related (settings_of painter.old).related_as_nested (source_shown S.source inherited.entry)
         (trees (map (tree_of D.meaning S.source) reports.now))) ≡ false }
-    ensures stays { leaves_plain H.is_blank pen.new.highlighter ≡ leaves_plain H.is_blank pen.old.highlighter }
+    ensures keeps { Keeps H.is_blank painter.old painter.new }
 {
     let mut rest = reports;
     while let [report, more @ ..] = rest {
@@ -355,7 +325,7 @@ fn push_related<D: Diagnostic, S: SourceCode, H: Highlighter>(
             is_last: are_last(more),
         };
         let source = own_or(report, inherited);
-        push_one_related(pen, settings, branch, source, report, out)?;
+        push_one_related(painter, branch, source, report)?;
         rest = more;
     }
     Ok(())

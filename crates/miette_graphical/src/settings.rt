@@ -2,7 +2,7 @@
 
 ghost use Rattle.std.specs.Prelude.{◌≡◌, chars, option_map};
 ghost use Rattle.miette_graphical.specs.rules.Settings.{default_settings, icon, severity_style};
-ghost use Rattle.miette_graphical.specs.views.SettingsView.{handler_settings, settings_of};
+ghost use Rattle.miette_graphical.specs.views.SettingsView.{handler_settings};
 ghost use Rattle.miette_style.specs.rules.Themes.{theme_of};
 
 use miette_layout::options::LayoutOptions;
@@ -75,8 +75,8 @@ pub struct Settings {
 }
 
 impl Settings {
-    /// The usual settings with this theme: links on, 200 columns wide, the usual layout, with causes, wrapped rows, words
-    /// broken where they are too wide, and related reports one after another.
+    /// The usual settings with this theme: links on, 200 columns wide, the usual layout, with causes, wrapped rows,
+    /// words broken where they are too wide, and related reports one after another.
     pub fn new(theme: GraphicalTheme) -> Self
         ensures { handler_settings result ≡ default_settings (theme_of theme) }
     {
@@ -114,20 +114,11 @@ impl Settings {
     }
 }
 
-/// A handler's settings, with the width that is left for a report.
-#[derive(Clone, Copy)]
-pub struct Fitted<'a> {
-    /// The handler's own.
-    pub own: &'a Settings,
-    /// The columns of a wrapped row.
-    pub width: usize,
-}
-
 /// The style of a severity; that of an error where there is none.
-pub fn severity_style(settings: Fitted<'_>, severity: Option<Severity>) -> Style
-    ensures { result ≡ severity_style (settings_of settings.entry) severity }
+pub fn severity_style(settings: &Settings, severity: Option<Severity>) -> Style
+    ensures { result ≡ severity_style (handler_settings settings.now) severity }
 {
-    let styles = &settings.own.theme.styles;
+    let styles = &settings.theme.styles;
     match severity {
         Some(Severity::Advice) => styles.advice,
         Some(Severity::Warning) => styles.warning,
@@ -136,10 +127,10 @@ pub fn severity_style(settings: Fitted<'_>, severity: Option<Severity>) -> Style
 }
 
 /// The icon of a severity; that of an error where there is none.
-pub fn icon<'a>(settings: Fitted<'a>, severity: Option<Severity>) -> &'a str
-    ensures { chars result.now ≡ icon (settings_of settings.entry) severity }
+pub fn icon<'a>(settings: &'a Settings, severity: Option<Severity>) -> &'a str
+    ensures { chars result.now ≡ icon (handler_settings settings.now) severity }
 {
-    let characters = &settings.own.theme.characters;
+    let characters = &settings.theme.characters;
     match severity {
         Some(Severity::Advice) => characters.advice.as_str(),
         Some(Severity::Warning) => characters.warning.as_str(),

@@ -1,105 +1,111 @@
--- Texts of a report's parts under some answers, which a highlighter gave by calls that happen.
+-- Texts of a report's parts, each by what it is printed.
 use Rattle.std.specs.Prelude.{◌≡◌, ℕ, Bool, List, [], ◌++◌, Option, Some, MatchBool}
 use Rattle.miette_runs.specs.rules.Cutting.{without_trailing}
 use Rattle.miette_protocol.specs.views.Meaning.{Meaning, Label}
 use Rattle.miette_protocol.specs.rules.Reading.{Source}
 use Rattle.miette_tree.specs.rules.Tree.{Tree, tree, Cause, Trees, head, source_of, cause_of, related_of, effective}
 use Rattle.miette_protocol.specs.declared.protocol.Severity.{Severity}
-use Rattle.miette_graphical.specs.rules.Settings.{Settings}
 use Rattle.miette_graphical.specs.rules.Answers.{Answer, Answers, RelatedAnswers}
 use Rattle.miette_graphical.specs.rules.Indents.{narrow_settings}
-use Rattle.miette_graphical.specs.rules.DiagnosticText.{SnippetRows, rows_text, title_text, help_text, under_arrow}
+use Rattle.miette_graphical.specs.rules.DiagnosticText.{rows_text, title_text, help_text, under_arrow}
 use Rattle.miette_tree.specs.rules.DiagnosticParts.{given_labels}
-use Rattle.miette_highlight.specs.rules.HighlighterCalls.{Call}
 use Rattle.miette_snippet_rules.specs.rules.Highlighting.{snippet_calls}
 use Rattle.miette_graphical.specs.rules.Snippets.{drawn_rows, snippet_settings}
 use Rattle.miette_graphical.specs.rules.Calls.{own_calls, cause_calls, related_calls}
 use Rattle.miette_graphical.specs.rules.Text.{ends_there, body, inner_text, causes_text, related_text}
 use Rattle.miette_graphical.specs.rules.PossibleAnswers.{IsAnswerOf, IsAnswer, AreCauseAnswers, AreRelatedAnswers}
+use Rattle.miette_graphical.specs.rules.PossibleAnswers.{IsAskedReport}
+use Rattle.miette_graphical.specs.views.Painting.{Printing}
 
 -- the text of the rows of a diagnostic's snippets
-abbrev pub IsDrawn : SnippetRows → Settings → Bool → (List Call → Type 0) → Option Source → Meaning → List ℕ → Type 0
-IsDrawn rows s blank happen source m text =
-    (a : Answer) × IsAnswer (snippet_settings s) blank source m a × happen (own_calls s.layout.context_lines source m a)
-    × (text ≡ rows_text (rows s source (given_labels m.labels) a))
+abbrev pub IsDrawn : Option Source → Meaning → Printing → List ℕ → Type 0
+IsDrawn source m by text =
+    (a : Answer) × IsAnswer (snippet_settings by.settings) by.blank source m a
+    × by.happen (own_calls by.settings.layout.context_lines source m a)
+    × (text ≡ rows_text (drawn_rows by.settings source (given_labels m.labels) a))
 
 -- the text of the rows of some labels' snippets over a source
-abbrev pub AreDrawn : Settings → Bool → (List Call → Type 0) → Source → List Label → List ℕ → Type 0
-AreDrawn s blank happen source labels text =
-    (a : Answer) × IsAnswerOf (snippet_settings s) blank (Some source) labels source.always_reads a
-    × happen (snippet_calls s.layout.context_lines source labels a)
-    × (text ≡ rows_text (drawn_rows s (Some source) labels a))
+abbrev pub AreDrawn : Source → List Label → Printing → List ℕ → Type 0
+AreDrawn source labels by text =
+    (a : Answer) × IsAnswerOf (snippet_settings by.settings) by.blank (Some source) labels source.always_reads a
+    × by.happen (snippet_calls by.settings.layout.context_lines source labels a)
+    × (text ≡ rows_text (drawn_rows by.settings (Some source) labels a))
 
 -- the causes of a report
-abbrev pub AreCauses : SnippetRows → Settings → Bool → (List Call → Type 0) → Option Severity → Option Source → Cause →
-    List ℕ → Type 0
-AreCauses rows s blank happen outer inherited c text =
-    (a : Answers) × AreCauseAnswers (snippet_settings s) blank inherited c a
-    × happen (cause_calls s.layout.context_lines s.related_as_nested inherited c a)
-    × (text ≡ causes_text rows s outer inherited c a)
+abbrev pub AreCauses : Option Severity → Option Source → Cause → Printing → List ℕ → Type 0
+AreCauses outer inherited c by text =
+    (a : Answers) × AreCauseAnswers (snippet_settings by.settings) by.blank inherited c a
+    × by.happen (cause_calls by.settings.layout.context_lines by.settings.related_as_nested inherited c a)
+    × (text ≡ causes_text drawn_rows by.settings outer inherited c a)
 
 -- its related reports
-abbrev pub AreRelated : SnippetRows → Settings → Bool → (List Call → Type 0) → Option Severity → Option Source →
-    Trees → List ℕ → Type 0
-AreRelated rows s blank happen outer inherited ts text =
-    (more : RelatedAnswers) × AreRelatedAnswers (snippet_settings s) blank inherited ts more
-    × happen (related_calls s.layout.context_lines s.related_as_nested inherited ts more)
-    × (text ≡ related_text rows s outer inherited ts more)
+abbrev pub AreRelated : Option Severity → Option Source → Trees → Printing → List ℕ → Type 0
+AreRelated outer inherited ts by text =
+    (more : RelatedAnswers) × AreRelatedAnswers (snippet_settings by.settings) by.blank inherited ts more
+    × by.happen (related_calls by.settings.layout.context_lines by.settings.related_as_nested inherited ts more)
+    × (text ≡ related_text drawn_rows by.settings outer inherited ts more)
 
 -- what stands below a tree's causes, over its effective source: the rows of its snippets, its help, and its related
 -- reports
-abbrev pub IsBelow : SnippetRows → Settings → Bool → (List Call → Type 0) → Option Source → Tree → List ℕ → Type 0
-IsBelow rows s blank happen source t text =
-    (a : Answer) × (more : RelatedAnswers) × IsAnswer (snippet_settings s) blank source (head t) a
-    × AreRelatedAnswers (snippet_settings s) blank source (related_of t) more
-    × happen (own_calls s.layout.context_lines source (head t) a
-    ++ related_calls s.layout.context_lines s.related_as_nested source (related_of t) more)
-    × (text ≡ rows_text (rows s source (given_labels (head t).labels) a) ++ help_text s (head t).help
-    ++ related_text rows s (head t).severity source (related_of t) more)
+abbrev pub IsBelow : Option Source → Tree → Printing → List ℕ → Type 0
+IsBelow source t by text =
+    (a : Answer) × (more : RelatedAnswers) × IsAnswer (snippet_settings by.settings) by.blank source (head t) a
+    × AreRelatedAnswers (snippet_settings by.settings) by.blank source (related_of t) more
+    × by.happen (own_calls by.settings.layout.context_lines source (head t) a
+    ++ related_calls by.settings.layout.context_lines by.settings.related_as_nested source (related_of t) more)
+    × (text ≡ rows_text (drawn_rows by.settings source (given_labels (head t).labels) a)
+    ++ help_text by.settings (head t).help
+    ++ related_text drawn_rows by.settings (head t).severity source (related_of t) more)
 
 -- a tree as an inner report, over its effective source
-abbrev pub IsInner : SnippetRows → Settings → Bool → (List Call → Type 0) → Option Source → Tree → List ℕ → Type 0
-IsInner rows s blank happen source (tree m own c r) text =
-    (a : Answer) × (more : RelatedAnswers) × IsAnswer (snippet_settings s) blank source m a
-    × AreRelatedAnswers (snippet_settings s) blank source r more
-    × happen (own_calls s.layout.context_lines source m a
-    ++ related_calls s.layout.context_lines s.related_as_nested source r more)
-    × (text ≡ inner_text rows s m source a (related_text rows s m.severity source r more))
+abbrev pub IsInner : Option Source → Tree → Printing → List ℕ → Type 0
+IsInner source (tree m own c r) by text =
+    (a : Answer) × (more : RelatedAnswers) × IsAnswer (snippet_settings by.settings) by.blank source m a
+    × AreRelatedAnswers (snippet_settings by.settings) by.blank source r more
+    × by.happen (own_calls by.settings.layout.context_lines source m a
+    ++ related_calls by.settings.layout.context_lines by.settings.related_as_nested source r more)
+    × (text ≡ inner_text drawn_rows by.settings m source a (related_text drawn_rows by.settings m.severity source r
+    more))
 
 -- a related tree as a sibling
-abbrev pub IsSibling : SnippetRows → Settings → Bool → (List Call → Type 0) → Option Source → Tree → List ℕ → Type 0
-IsSibling rows s blank happen source (tree m own c r) text =
-    (a : Answer) × (below : Answers) × (more : RelatedAnswers) × IsAnswer (snippet_settings s) blank source m a
-    × AreCauseAnswers (snippet_settings s) blank source c below
-    × AreRelatedAnswers (snippet_settings s) blank source r more
-    × happen (cause_calls s.layout.context_lines s.related_as_nested source c below
-    ++ (own_calls s.layout.context_lines source m a ++ related_calls s.layout.context_lines s.related_as_nested source r
-    more))
-    × (text ≡ title_text s m ++ body rows s m source a (causes_text rows s m.severity source c below)
-    (related_text rows s m.severity source r more))
+abbrev pub IsSibling : Option Source → Tree → Printing → List ℕ → Type 0
+IsSibling source (tree m own c r) by text =
+    (a : Answer) × (below : Answers) × (more : RelatedAnswers)
+    × IsAnswer (snippet_settings by.settings) by.blank source m a
+    × AreCauseAnswers (snippet_settings by.settings) by.blank source c below
+    × AreRelatedAnswers (snippet_settings by.settings) by.blank source r more
+    × by.happen (cause_calls by.settings.layout.context_lines by.settings.related_as_nested source c below
+    ++ (own_calls by.settings.layout.context_lines source m a
+    ++ related_calls by.settings.layout.context_lines by.settings.related_as_nested source r more))
+    × (text ≡ title_text by.settings m ++ body drawn_rows by.settings m source a
+    (causes_text drawn_rows by.settings m.severity source c below)
+    (related_text drawn_rows by.settings m.severity source r more))
+
+-- under an arrow: narrower
+abbrev pub narrowed : Option Severity → Bool → Printing → Printing
+narrowed outer is_last by = record by { settings = narrow_settings by.settings outer is_last }
 
 -- a diagnostic cause under its arrow
-abbrev pub IsOneCause : SnippetRows → Settings → Bool → (List Call → Type 0) → Option Severity → Option Source → Tree →
-    List ℕ → Type 0
-IsOneCause rows s blank happen outer inherited t text =
-    (inner : List ℕ) × IsInner rows (narrow_settings s outer (ends_there (cause_of t))) blank happen
-    (effective (source_of t) inherited) t inner
-    × (text ≡ under_arrow s outer (ends_there (cause_of t)) inner)
+abbrev pub IsOneCause : Option Severity → Option Source → Tree → Printing → List ℕ → Type 0
+IsOneCause outer inherited t by text =
+    (inner : List ℕ) × IsInner (effective (source_of t) inherited) t (narrowed outer (ends_there (cause_of t)) by) inner
+    × (text ≡ under_arrow by.settings outer (ends_there (cause_of t)) inner)
 
 -- one of several related trees, over its effective source
-abbrev pub IsNested : SnippetRows → Settings → Bool → (List Call → Type 0) → Option Severity → Option Source → Bool →
-    Tree → List ℕ → Type 0
-IsNested rows s blank happen outer source is_last t text =
-    (inner : List ℕ) × IsInner rows (narrow_settings s outer is_last) blank happen source t inner
-    × (text ≡ under_arrow s outer is_last (without_trailing inner))
+abbrev pub IsNested : Option Severity → Bool → Option Source → Tree → Printing → List ℕ → Type 0
+IsNested outer is_last source t by text =
+    (inner : List ℕ) × IsInner source t (narrowed outer is_last by) inner
+    × (text ≡ under_arrow by.settings outer is_last (without_trailing inner))
 
-abbrev pub IsOneRelated : SnippetRows → Settings → Bool → (List Call → Type 0) → Option Severity → Option Source →
-    Bool → Tree → List ℕ → Type 0
-IsOneRelated rows s blank happen outer source is_last t text =
-    MatchBool s.related_as_nested (IsNested rows s blank happen outer source is_last t text)
-    (IsSibling rows s blank happen source t text)
+abbrev pub IsOneRelated : Option Severity → Bool → Option Source → Tree → Printing → List ℕ → Type 0
+IsOneRelated outer is_last source t by text =
+    MatchBool by.settings.related_as_nested (IsNested outer is_last source t by text) (IsSibling source t by text)
 
 -- the causes of the outermost report
-abbrev pub AreRootCauses : SnippetRows → Settings → Bool → (List Call → Type 0) → Tree → List ℕ → Type 0
-AreRootCauses rows s blank happen (tree m own c r) text =
-    MatchBool s.cause_chain (AreCauses rows s blank happen m.severity own c text) (happen [] × (text ≡ []))
+abbrev pub AreRootCauses : Tree → Printing → List ℕ → Type 0
+AreRootCauses (tree m own c r) by text =
+    MatchBool by.settings.cause_chain (AreCauses m.severity own c by text) (by.happen [] × (text ≡ []))
+
+-- the outermost report
+abbrev pub IsOutermost : Tree → Printing → List ℕ → Type 0
+IsOutermost t by text = IsAskedReport drawn_rows by.settings by.blank by.happen t text

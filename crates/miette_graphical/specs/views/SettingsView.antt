@@ -4,7 +4,6 @@ use Rattle.std.specs.Option.{option_map_or}
 use Rattle.miette_style.specs.rules.Themes.{theme_of}
 use Rattle.miette_graphical.specs.rules.Settings as rules
 use Rattle.miette_graphical.specs.declared.settings.Settings.{Settings}
-use Rattle.miette_graphical.specs.declared.settings.Fitted.{Fitted}
 
 abbrev pub handler_settings : Settings → rules.Settings
 handler_settings s = record {
@@ -18,7 +17,3 @@ handler_settings s = record {
   related_as_nested = s.related_as_nested;
   footer = option_map (λ t. chars (string_bytes t)) s.footer;
 }
-
--- with the width that is left
-abbrev pub settings_of : Fitted → rules.Settings
-settings_of f = record (handler_settings f.own.now) { width = f.width }

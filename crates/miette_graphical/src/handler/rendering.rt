@@ -2,7 +2,6 @@
 
 ghost use Rattle.std.specs.Prelude.{◌≡◌, ◌++◌, ℕ, List, [], OnErr, OnOk, false, true, chars, string_bytes};
 ghost use Rattle.std.specs.Prelude.{encode_utf8_all, option_map};
-ghost use Rattle.std.specs.List.{AllByRecursion};
 ghost use Rattle.miette_graphical.specs.rules.PossibleAnswers.{Appends, AppendsAsked, IsTextOf};
 ghost use Rattle.miette_graphical.specs.rules.Answers.{unlisted};
 ghost use Rattle.miette_graphical.specs.rules.ByLine.{answers_by};
@@ -11,8 +10,8 @@ ghost use Rattle.miette_graphical.specs.rules.Snippets.{drawn_rows};
 ghost use Rattle.miette_graphical.specs.rules.Text.{report_text};
 ghost use Rattle.miette_graphical.specs.laws.Clean.{AreCleanSettings, IsCleanTree};
 ghost use Rattle.miette_graphical.specs.laws.Colourless.{IsColouredText, IsRestyledText, colourless};
-ghost use Rattle.miette_graphical.specs.laws.Headline.{EndsAreDrawn, LabelsAreFolded, LinesAreShown, MarksAreApart};
-ghost use Rattle.miette_graphical.specs.laws.Headline.{TextsHang, CutsAreExact, LinesThatFitStay};
+ghost use Rattle.miette_graphical.specs.laws.Headline.{EachPrinted, EndsAreDrawn, LabelsAreFolded, LinesAreShown};
+ghost use Rattle.miette_graphical.specs.laws.Headline.{CutsAreExact, LinesThatFitStay, MarksAreApart, TextsHang};
 ghost use Rattle.miette_graphical.specs.views.Handling.{AreCallsOf, draws_plain, follows_of};
 ghost use Rattle.miette_tree.specs.views.Handler.{AppendsOne};
 ghost use Rattle.miette_runs.specs.rules.Sequences.{erase};
@@ -23,9 +22,7 @@ ghost use Rattle.miette_tree.specs.views.Report.{tree_of};
 
 use crate::handler::GraphicalReportHandler;
 use crate::laws::{erasing_law, snippets_law};
-use crate::pen::Pen;
 use crate::printing::append_printed;
-use crate::settings::Fitted;
 use crate::whole::report_output;
 use miette_highlight::highlight::Highlighter;
 use miette_protocol::error::RenderError;
@@ -51,17 +48,10 @@ impl<H: Highlighter> GraphicalReportHandler<H> {
         ensures err { OnErr result (string_bytes out.new ≡ string_bytes out.old) }
     {
         let alloc = *out.allocator();
-        let mut pen = Pen {
-            alloc,
-            highlighter: self.highlighter.take(),
-        };
-        let settings = Fitted {
-            own: &self.settings,
-            width: self.settings.width,
-        };
-        let drawn = report_output(&mut pen, settings, report);
-        self.highlighter = pen.highlighter;
-        append_printed(alloc, drawn?, out)?;
+        let mut highlighter = self.highlighter.take();
+        let printed = report_output(alloc, &self.settings, &mut highlighter, report);
+        self.highlighter = highlighter;
+        append_printed(alloc, printed?, out)?;
         Ok(())
     }
 
@@ -70,88 +60,76 @@ impl<H: Highlighter> GraphicalReportHandler<H> {
     /// where memory was refused, to the highlighter too; `Refused` where a printed diagnostic has labels over a
     /// source that doesn't always read, and that source refused the place of a snippet, or a group of labels of which
     /// one has its own number of context lines, which is read again.
-    pub fn render_report(&mut self, report: &Report, out: &mut String) -> Result<(), RenderError>
+    pub fn render_report<D: Diagnostic, S: SourceCode>(
+        &mut self,
+        report: &Report<D, S>,
+        out: &mut String,
+    ) -> Result<(), RenderError>
         ensures settings { self.new.settings ≡ self.old.settings }
         // a blank highlighter stays blank, and one that isn't blank doesn't become so
         ensures blank { draws_plain H.is_blank self.new ≡ draws_plain H.is_blank self.old }
-        ensures ok { let tree = tree_of ⟦<Box<dyn Diagnostic> as Diagnostic>⟧.meaning
-            ⟦<Box<dyn SourceCode> as SourceCode>⟧.source report.now in
-            OnOk result (Appends drawn_rows self.old.settings (draws_plain H.is_blank self.old) tree
-            (string_bytes out.old) (string_bytes out.new)) }
+        ensures ok { OnOk result (Appends drawn_rows self.old.settings (draws_plain H.is_blank self.old)
+            (tree_of D.meaning S.source report.now) (string_bytes out.old) (string_bytes out.new)) }
         // The highlighter gave that text's answers by these calls: restarted once for each snippet with the contents of
         // its read, then asked once for each line of it, in order.
-        ensures calls { let tree = tree_of ⟦<Box<dyn Diagnostic> as Diagnostic>⟧.meaning
-            ⟦<Box<dyn SourceCode> as SourceCode>⟧.source report.now in
-            OnOk result (AppendsAsked drawn_rows self.old.settings (draws_plain H.is_blank self.old)
-            (AreCallsOf H.may_follow self.old self.new) tree (string_bytes out.old) (string_bytes out.new)) }
+        ensures calls { OnOk result (AppendsAsked drawn_rows self.old.settings (draws_plain H.is_blank self.old)
+            (AreCallsOf H.may_follow self.old self.new) (tree_of D.meaning S.source report.now) (string_bytes out.old)
+            (string_bytes out.new)) }
         // Where every source always reads, and a line's pieces are a function of its text, there is one such text.
-        ensures stateless { let tree = tree_of ⟦<Box<dyn Diagnostic> as Diagnostic>⟧.meaning
-            ⟦<Box<dyn SourceCode> as SourceCode>⟧.source report.now in
+        ensures stateless { let tree = tree_of D.meaning S.source report.now in
             OnOk result ((answer : List ℕ → List Piece) →
             ((calls : List Call) → follows_of H.may_follow self.old calls → AnsweredBy answer calls) →
             follows_of H.may_follow self.new [] → all_read (diagnostics_of self.old.settings tree) ≡ true →
             string_bytes out.new ≡ string_bytes out.old ++ encode_utf8_all (report_text drawn_rows self.old.settings
             tree (answers_by answer self.old.settings.layout.context_lines tree))) }
         // where every source always reads, and no highlighter or a blank one is set, there is one such text
-        ensures only { let tree = tree_of ⟦<Box<dyn Diagnostic> as Diagnostic>⟧.meaning
-            ⟦<Box<dyn SourceCode> as SourceCode>⟧.source report.now in
+        ensures only { let tree = tree_of D.meaning S.source report.now in
             OnOk result (draws_plain H.is_blank self.old ≡ true →
             all_read (diagnostics_of self.old.settings tree) ≡ true → string_bytes out.new ≡ string_bytes out.old
             ++ encode_utf8_all (report_text drawn_rows self.old.settings tree unlisted)) }
         // where the texts, the sources with their names, the settings and the theme's characters hold no escape:
         // without its colours, what was appended is the text in plain styles and without a highlighter under the same
         // reads,
-        ensures colours { let tree = tree_of ⟦<Box<dyn Diagnostic> as Diagnostic>⟧.meaning
-            ⟦<Box<dyn SourceCode> as SourceCode>⟧.source report.now in
+        ensures colours { let tree = tree_of D.meaning S.source report.now in
             OnOk result (AreCleanSettings self.old.settings → IsCleanTree tree →
             AppendsOne (IsColouredText drawn_rows self.old.settings (draws_plain H.is_blank self.old) tree)
             (string_bytes out.old) (string_bytes out.new)) }
         // which is one text where every source always reads, whatever a highlighter says
-        ensures colourless { let tree = tree_of ⟦<Box<dyn Diagnostic> as Diagnostic>⟧.meaning
-            ⟦<Box<dyn SourceCode> as SourceCode>⟧.source report.now in
+        ensures colourless { let tree = tree_of D.meaning S.source report.now in
             OnOk result (all_read (diagnostics_of self.old.settings tree) ≡ true → AreCleanSettings self.old.settings →
             IsCleanTree tree →
             AppendsErasing (string_bytes out.old) (string_bytes out.new)
             (encode_utf8_all (report_text drawn_rows (colourless self.old.settings) tree unlisted))) }
         // and the same for all themes with these characters
-        ensures themes { let tree = tree_of ⟦<Box<dyn Diagnostic> as Diagnostic>⟧.meaning
-            ⟦<Box<dyn SourceCode> as SourceCode>⟧.source report.now in
+        ensures themes { let tree = tree_of D.meaning S.source report.now in
             OnOk result (all_read (diagnostics_of self.old.settings tree) ≡ true → AreCleanSettings self.old.settings →
             IsCleanTree tree → (others : List ℕ) → IsRestyledText drawn_rows self.old.settings tree others →
             AppendsErasing (string_bytes out.old) (string_bytes out.new) (erase others)) }
         // of each printed diagnostic: its snippets show the lines in the context of its labels, once and in order,
-        ensures lines { let tree = tree_of ⟦<Box<dyn Diagnostic> as Diagnostic>⟧.meaning
-            ⟦<Box<dyn SourceCode> as SourceCode>⟧.source report.now in
-            OnOk result (AllByRecursion (LinesAreShown self.old.settings) (diagnostics_of self.old.settings tree)) }
+        ensures lines { OnOk result (EachPrinted LinesAreShown self.old.settings
+            (tree_of D.meaning S.source report.now)) }
         // its marks have columns of their own,
-        ensures marks { let tree = tree_of ⟦<Box<dyn Diagnostic> as Diagnostic>⟧.meaning
-            ⟦<Box<dyn SourceCode> as SourceCode>⟧.source report.now in
-            OnOk result (AllByRecursion (MarksAreApart self.old.settings) (diagnostics_of self.old.settings tree)) }
+        ensures marks { OnOk result (EachPrinted MarksAreApart self.old.settings
+            (tree_of D.meaning S.source report.now)) }
         // each line that is cut shows what is near its marks, in a bounded number of columns,
-        ensures cuts { let tree = tree_of ⟦<Box<dyn Diagnostic> as Diagnostic>⟧.meaning
-            ⟦<Box<dyn SourceCode> as SourceCode>⟧.source report.now in
-            OnOk result (AllByRecursion (CutsAreExact self.old.settings) (diagnostics_of self.old.settings tree)) }
+        ensures cuts { OnOk result (EachPrinted CutsAreExact self.old.settings
+            (tree_of D.meaning S.source report.now)) }
         // and where no line of a snippet has more columns than the limit, its rows are those without one,
-        ensures fits { let tree = tree_of ⟦<Box<dyn Diagnostic> as Diagnostic>⟧.meaning
-            ⟦<Box<dyn SourceCode> as SourceCode>⟧.source report.now in
-            OnOk result (AllByRecursion (LinesThatFitStay self.old.settings) (diagnostics_of self.old.settings tree)) }
+        ensures fits { OnOk result (EachPrinted LinesThatFitStay self.old.settings
+            (tree_of D.meaning S.source report.now)) }
         // each text of a label on one line hangs from its own mark,
-        ensures texts { let tree = tree_of ⟦<Box<dyn Diagnostic> as Diagnostic>⟧.meaning
-            ⟦<Box<dyn SourceCode> as SourceCode>⟧.source report.now in
-            OnOk result (AllByRecursion (TextsHang self.old.settings) (diagnostics_of self.old.settings tree)) }
+        ensures texts { OnOk result (EachPrinted TextsHang self.old.settings
+            (tree_of D.meaning S.source report.now)) }
         // where labels at the end of its source are drawn, just these stand behind the text of the last line, and
         // their marks behind what is shown of it,
-        ensures ends { let tree = tree_of ⟦<Box<dyn Diagnostic> as Diagnostic>⟧.meaning
-            ⟦<Box<dyn SourceCode> as SourceCode>⟧.source report.now in
-            OnOk result (AllByRecursion (EndsAreDrawn self.old.settings) (diagnostics_of self.old.settings tree)) }
+        ensures ends { OnOk result (EachPrinted EndsAreDrawn self.old.settings
+            (tree_of D.meaning S.source report.now)) }
         // and where labels are folded, no label begins or ends on a line that is left out, the bars of a break are
         // those of the labels that run through it, and short labels change nothing
-        ensures folds { let tree = tree_of ⟦<Box<dyn Diagnostic> as Diagnostic>⟧.meaning
-            ⟦<Box<dyn SourceCode> as SourceCode>⟧.source report.now in
-            OnOk result (AllByRecursion (LabelsAreFolded self.old.settings) (diagnostics_of self.old.settings tree)) }
-        ensures refused { let tree = tree_of ⟦<Box<dyn Diagnostic> as Diagnostic>⟧.meaning
-            ⟦<Box<dyn SourceCode> as SourceCode>⟧.source report.now in
-            (result ≡ Err RenderError.Refused) → all_read (diagnostics_of self.old.settings tree) ≡ false }
+        ensures folds { OnOk result (EachPrinted LabelsAreFolded self.old.settings
+            (tree_of D.meaning S.source report.now)) }
+        ensures refused { (result ≡ Err RenderError.Refused) →
+            all_read (diagnostics_of self.old.settings (tree_of D.meaning S.source report.now)) ≡ false }
         ensures err { OnErr result (string_bytes out.new ≡ string_bytes out.old) }
     {
         snippets_law();

@@ -2,13 +2,13 @@ use Rattle.std.proofs.Common.{rules, ◌≡◌, ◌++◌, ◌∷◌, [], ◌∙�
 use Rattle.std.specs.Prelude.{chars}
 use Rattle.miette_text.specs.views.Plans.{cuts_hyphens}
 use Rattle.miette_runs.specs.rules.Sequences.{spell}
-use Rattle.miette_graphical.specs.views.SettingsView.{settings_of}
+use Rattle.miette_graphical.specs.views.Painting.{settings_of}
 use Rattle.miette_graphical.specs.rules.Indents.{wrapped_behind}
 use Rattle.miette_graphical.proofs.indents.push_row.Goals as goal
 
 pub returns-clause-fits : goal.returns-clause-fits
-returns-clause-fits c = λ h further.
-    let s = settings_of c.args.settings in
+returns-clause-fits g c = λ h further.
+    let s = settings_of c.args.painter.now in
     let did : c.in_ok-push_fitting.field-0 ≡ true = search rules in
     c.in_ok-push.ensures
     ∙ ap (λ o. o ++ 10 ∷ []) (c.in_ok-push_fitting.ensures.fits did (record {
@@ -19,4 +19,5 @@ returns-clause-fits c = λ h further.
       wraps = s.wrapping.wrap_lines;
       hyphens = cuts_hyphens s.wrapping.word_splitter;
     }) refl (sym c.saturating_sub-width.ensures) refl)
-    ∙ append_assoc c.args.out.now (wrapped_behind s (spell c.args.first.now) further (chars c.args.text.now)) (10 ∷ [])
+    ∙ append_assoc c.args.painter.now.out (wrapped_behind s (spell c.args.first.now) further (chars c.args.text.now))
+    (10 ∷ [])

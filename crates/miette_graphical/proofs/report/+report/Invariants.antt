@@ -1,11 +1,8 @@
-use Rattle.std.proofs.Common.{◌≡◌, length, map, option_map, suc}
-use Rattle.miette_snippet_rules.specs.rules.Highlighting.{follows, leaves_plain}
-use Rattle.miette_tree.specs.views.Owned.{shown_source}
+use Rattle.std.proofs.Common.{length, map, suc}
 use Rattle.miette_tree.specs.rules.Tree.{trees, cause_of, related_of}
 use Rattle.miette_tree.specs.views.Report.{tree_of}
-use Rattle.miette_graphical.specs.rules.Snippets.{drawn_rows}
-use Rattle.miette_graphical.specs.views.SettingsView.{settings_of}
-use Rattle.miette_graphical.proofs.Remaining.{CausesRemain, RelatedRemain}
+use Rattle.miette_graphical.specs.views.Painting.{source_shown}
+use Rattle.miette_graphical.proofs.Remaining.{CausesLeft, RelatedLeft}
 use Rattle.miette_graphical.proofs.Sizes.{tree_size, cause_size, trees_size}
 use Rattle.miette_graphical.proofs.report.+report.Given as goal
 
@@ -16,17 +13,21 @@ abbrev pub decreases-push_below : goal.decreases-push_below
 decreases-push_below g l = suc (trees_size (related_of
     (tree_of g.D.Diagnostic.meaning g.S.SourceCode.source l.report.now)))
 
-abbrev pub decreases-inner_text : goal.decreases-inner_text
-decreases-inner_text g l = suc (suc (trees_size (related_of
+abbrev pub decreases-inner_runs : goal.decreases-inner_runs
+decreases-inner_runs g l = suc (suc (trees_size (related_of
     (tree_of g.D.Diagnostic.meaning g.S.SourceCode.source l.report.now))))
 
+abbrev pub decreases-inner_text : goal.decreases-inner_text
+decreases-inner_text g l = suc (suc (suc (trees_size (related_of
+    (tree_of g.D.Diagnostic.meaning g.S.SourceCode.source l.report.now)))))
+
 abbrev pub decreases-push_one_cause : goal.decreases-push_one_cause
-decreases-push_one_cause g l = suc (suc (suc (trees_size
-    (related_of (tree_of g.D.Diagnostic.meaning g.S.SourceCode.source l.cause.now)))))
+decreases-push_one_cause g l = suc (suc (suc (suc (trees_size
+    (related_of (tree_of g.D.Diagnostic.meaning g.S.SourceCode.source l.cause.now))))))
 
 abbrev pub decreases-push_nested : goal.decreases-push_nested
-decreases-push_nested g l = suc (suc (suc (trees_size (related_of
-    (tree_of g.D.Diagnostic.meaning g.S.SourceCode.source l.report.now)))))
+decreases-push_nested g l = suc (suc (suc (suc (trees_size (related_of
+    (tree_of g.D.Diagnostic.meaning g.S.SourceCode.source l.report.now))))))
 
 abbrev pub decreases-push_sibling : goal.decreases-push_sibling
 decreases-push_sibling g l = tree_size (tree_of g.D.Diagnostic.meaning g.S.SourceCode.source l.report.now)
@@ -44,13 +45,8 @@ decreases-push_causes-loop-next g l = cause_size (cause_of (tree_of g.D.Diagnost
 abbrev pub invariant-push_causes-loop-next : goal.invariant-push_causes-loop-next
 invariant-push_causes-loop-next g l =
     let value = tree_of g.D.Diagnostic.meaning g.S.SourceCode.source in
-    let blank = leaves_plain g.H.Highlighter.is_blank l.fn.pen.highlighter in
-    let begun = follows g.H.Highlighter.may_follow l.fn.pen.highlighter in
-    let state = follows g.H.Highlighter.may_follow l.pen.highlighter in
-    CausesRemain drawn_rows (settings_of l.settings) blank begun state l.outer
-    (option_map (shown_source g.S.SourceCode.source) l.inherited) (cause_of (value l.report)) (cause_of (value l.at))
-    l.fn.out l.out
-    × (leaves_plain g.H.Highlighter.is_blank l.pen.highlighter ≡ blank)
+    CausesLeft g.H.Highlighter.is_blank g.H.Highlighter.may_follow l.fn.painter l.painter l.outer
+    (source_shown g.S.SourceCode.source l.inherited) (cause_of (value l.report)) (cause_of (value l.at))
 
 abbrev pub decreases-push_related-loop-rest : goal.decreases-push_related-loop-rest
 decreases-push_related-loop-rest g l = length l.rest
@@ -58,10 +54,5 @@ decreases-push_related-loop-rest g l = length l.rest
 abbrev pub invariant-push_related-loop-rest : goal.invariant-push_related-loop-rest
 invariant-push_related-loop-rest g l =
     let value = tree_of g.D.Diagnostic.meaning g.S.SourceCode.source in
-    let blank = leaves_plain g.H.Highlighter.is_blank l.fn.pen.highlighter in
-    let begun = follows g.H.Highlighter.may_follow l.fn.pen.highlighter in
-    let state = follows g.H.Highlighter.may_follow l.pen.highlighter in
-    RelatedRemain drawn_rows (settings_of l.settings) blank begun state l.outer
-    (option_map (shown_source g.S.SourceCode.source) l.inherited) (trees (map value l.reports))
-    (trees (map value l.rest)) l.fn.out l.out
-    × (leaves_plain g.H.Highlighter.is_blank l.pen.highlighter ≡ blank)
+    RelatedLeft g.H.Highlighter.is_blank g.H.Highlighter.may_follow l.fn.painter l.painter l.outer
+    (source_shown g.S.SourceCode.source l.inherited) (trees (map value l.reports)) (trees (map value l.rest))

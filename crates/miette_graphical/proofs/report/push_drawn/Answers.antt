@@ -7,30 +7,34 @@ use Rattle.miette_tree.specs.views.Owned.{shown_source}
 use Rattle.miette_layout.specs.views.Outcomes.{MayGive, RefusesWith}
 use Rattle.miette_snippet_rules.specs.rules.Highlighting.{AreCallsOn, leaves_plain}
 use Rattle.miette_graphical.specs.rules.Snippets.{snippet_settings}
-use Rattle.miette_graphical.specs.views.SettingsView.{settings_of}
+use Rattle.miette_graphical.specs.views.Painting.{settings_of}
 use Rattle.miette_graphical.proofs.DrawnRows.{drawn_page, refused_page}
 use Rattle.miette_graphical.proofs.report.push_drawn.Goals as goal
 
 pub returns-in_err-page-clause-refused : goal.returns-in_err-page-clause-refused
 returns-in_err-page-clause-refused g c = λ h.
+    let s = settings_of c.args.painter.now in
+    let was = c.args.painter.now.highlighter in
+    let blank = leaves_plain g.H.Highlighter.is_blank was in
+    let source = shown_source g.S.SourceCode.source c.args.source in
+    let happen = AreCallsOn g.H.Highlighter.may_follow was c.snippets.new.highlighter in
     let refused : c.in_err-page.field-0.0 ≡ errors.Refused = search rules in
-    refused_page (settings_of c.args.settings) (shown_source g.S.SourceCode.source c.args.source) c.args.labels.now
-    (leaves_plain g.H.Highlighter.is_blank c.args.pen.now.highlighter) c.over-page.result
-    (subst (λ e. RefusesWith (snippet_settings (settings_of c.args.settings))
-    (shown_source g.S.SourceCode.source c.args.source) c.args.labels.now
-    (leaves_plain g.H.Highlighter.is_blank c.args.pen.now.highlighter)
-    (AreCallsOn g.H.Highlighter.may_follow c.args.pen.now.highlighter c.snippets.new.highlighter) c.over-page.result
-    e) refused c.in_err-page.ensures.gives)
+    refused_page s source c.args.labels.now blank c.over-page.result
+    (subst (λ e. RefusesWith (snippet_settings s) source c.args.labels.now blank happen c.over-page.result e) refused
+    c.in_err-page.ensures.gives)
 
 pub returns-clause-ok : goal.returns-clause-ok
 returns-clause-ok g c =
-    let s = settings_of c.args.settings in
-    let blank = leaves_plain g.H.Highlighter.is_blank c.args.pen.now.highlighter in
+    let s = settings_of c.args.painter.now in
+    let was = c.args.painter.now.highlighter in
+    let blank = leaves_plain g.H.Highlighter.is_blank was in
     let source = shown_source g.S.SourceCode.source c.args.source in
-    let happen = AreCallsOn g.H.Highlighter.may_follow c.args.pen.now.highlighter c.snippets.new.highlighter in
-    let over : c.over-page.result ≡ printout_of c.args.out.now = search rules in
-    subst (λ out. AppendsOne (AreDrawn s blank happen source c.args.labels.now) c.args.out.now out)
-    (sym c.in_ok-out.ensures)
-    (drawn_page s source c.args.labels.now blank c.args.out.now c.in_ok-page.page
-    (subst (λ before. MayGive (snippet_settings s) source c.args.labels.now blank happen before
+    let happen = AreCallsOn g.H.Highlighter.may_follow was c.snippets.new.highlighter in
+    let before = c.args.painter.now.out in
+    let over : c.over-page.result ≡ printout_of before = search rules in
+    subst (λ out. AppendsOne (AreDrawn source c.args.labels.now
+    (record { settings = s; blank = blank; happen = happen }))
+    before out) (sym c.in_ok-painter.ensures)
+    (drawn_page s source c.args.labels.now blank before c.in_ok-page.page
+    (subst (λ over. MayGive (snippet_settings s) source c.args.labels.now blank happen over
     (Some c.in_ok-page.page)) over c.in_ok-page.ensures.gives))
