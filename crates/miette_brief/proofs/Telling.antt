@@ -13,7 +13,7 @@ use Rattle.miette_tree.specs.rules.Answers.{own_fault}
 use Rattle.miette_tree.proofs.Nesting.{Reads, effective_reads}
 use Rattle.miette_tree.proofs.Readings.{fault_free}
 use Rattle.miette_labels.specs.rules.Groups.{in_order}
-use Rattle.miette_labels.proofs.Owning.{order_all, order_nil}
+use Rattle.miette_labels.proofs.OwnContexts.{order_all, order_nil}
 use Rattle.miette_brief.specs.rules.Rows.{Place, ReportRow, rows_text}
 use Rattle.miette_brief.specs.rules.Places.{diagnostic_place, cause_place}
 use Rattle.miette_brief.specs.rules.Report.{BriefSettings, Answers, RelatedAnswers, unlisted, listed, no_more, and_more}

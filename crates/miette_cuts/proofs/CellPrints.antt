@@ -16,7 +16,7 @@ use Rattle.miette_page.specs.views.Tokens.{Token, begins, row_tokens, text_token
 use Rattle.miette_cuts.specs.steps.CellTokens.{cells_tokens}
 use Rattle.miette_snippet_rules.specs.rules.Highlighting.{highlight_of}
 use Rattle.miette_page.proofs.Paging.{told_append, put_append, put_nil}
-use Rattle.miette_snippet_rules.proofs.Telling.{then}
+use Rattle.miette_snippet_rules.proofs.RowTokens.{then}
 
 -- a cell
 pub codes_of_tab : (n : ℕ) → replicate n 32 ≡ map (λ (p : Glyph). p.code)

@@ -22,17 +22,17 @@ use Rattle.miette_cells.proofs.Plaining.{plain_byte, printable_taken}
 use Rattle.miette_snippet_rules.specs.rules.PrintedCells.{line_runs, printed_glyphs, printed_cells, text_bytes}
 use Rattle.miette_snippet_rules.specs.rules.CutLines.{agree, cut_line, dots, ends, is_near, is_near_after, is_within}
 use Rattle.miette_snippet_rules.specs.rules.CutLines.{stretches}
-use Rattle.miette_snippet_rules.proofs.Telling.{then, told-append}
+use Rattle.miette_snippet_rules.proofs.RowTokens.{then, told-append}
 use Rattle.miette_cuts.specs.declared.stretch.Stretch.{Stretch as MadeStretch}
 use Rattle.miette_cuts.specs.views.Cuts.{measure, is_kept, cut_cells}
 use Rattle.miette_cuts.specs.steps.Cut.{lone, onto_made, even, cell_at, plain_run, plain_told}
 use Rattle.miette_cuts.proofs.CutStretches.{cut_is, cut_none, first_stretch, near_found, near_later, near_nowhere}
 use Rattle.miette_cuts.proofs.CutStretches.{onto-same}
-use Rattle.miette_cuts.proofs.Plaining.{plain_columns, printable_cells}
+use Rattle.miette_cuts.proofs.PlainText.{plain_columns, printable_cells}
 use Rattle.miette_snippet_rules.specs.rules.Highlighting.{highlight_of}
 use Rattle.miette_snippet_rules.specs.rules.Marks.{Mark}
 use Rattle.miette_style.specs.declared.style.Style.{Style}
-use Rattle.miette_cuts.proofs.Untabbing.{printed_code}
+use Rattle.miette_cuts.proofs.TextWithoutTabs.{printed_code}
 
 -- ---- cells of one column
 

@@ -1,9 +1,9 @@
 pub mod CellPrints
 pub mod CutPlain
 pub mod CutStretches
-pub mod CutTexting
-pub mod Placing
-pub mod Plaining
-pub mod Stopping
-pub mod Tabbing
-pub mod Untabbing
+pub mod CutText
+pub mod OffsetColumns
+pub mod PlainText
+pub mod StopColumns
+pub mod TabbedText
+pub mod TextWithoutTabs

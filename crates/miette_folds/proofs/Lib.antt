@@ -1,7 +1,7 @@
-pub mod Extending
-pub mod Folding
+pub mod LineExtent
+pub mod LeftOutLines
 pub mod LineCounts
-pub mod Reaching
-pub mod Passing
-pub mod Spreading
+pub mod LineNumbers
+pub mod GapLines
+pub mod ReadSpreads
 pub mod Starts

@@ -1,8 +1,8 @@
-pub mod Collecting
+pub mod GroupsOfReads
 pub mod NoFailures
-pub mod Gathering
-pub mod Nearing
-pub mod Owning
-pub mod Refusing
-pub mod Sorting
+pub mod GroupsSoFar
+pub mod PrimaryLabel
+pub mod OwnContexts
+pub mod RefusedLabel
+pub mod SortedLabels
 pub mod Swept

@@ -1,2 +1,2 @@
-pub mod Choosing
-pub mod Progressing
+pub mod PrimaryOfReads
+pub mod SnippetSequence

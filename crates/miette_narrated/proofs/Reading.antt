@@ -23,8 +23,8 @@ use Rattle.miette_labels.specs.rules.Groups as groups
 use Rattle.miette_labels.specs.views.Placing.{Placed, placed_of, placed_one, placed_from}
 use Rattle.miette_labels.specs.views.Reads.{IsRead, AreRead, IsLent, AreGroups, AreGrouped, IsUnread}
 use Rattle.miette_basics.proofs.Cases.{by_cases}
-use Rattle.miette_labels.proofs.Owning.{order_all}
-use Rattle.miette_labels.proofs.Refusing.{all_accepted, read_of}
+use Rattle.miette_labels.proofs.OwnContexts.{order_all}
+use Rattle.miette_labels.proofs.RefusedLabel.{all_accepted, read_of}
 use Rattle.miette_narrated.specs.rules.Labels.{LabelRange, label_range}
 use Rattle.miette_narrated.specs.steps.Conversions.{range_of, ranges_of}
 use Rattle.miette_narrated.specs.rules.Snippets.{snippet, snippets_of}

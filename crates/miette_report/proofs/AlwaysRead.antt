@@ -20,8 +20,8 @@ use Rattle.miette_brief.specs.rules.PossibleAnswers as briefly
 use Rattle.miette_brief.specs.rules.Report as brief
 use Rattle.miette_narrated.specs.rules.PossibleAnswers as told
 use Rattle.miette_narrated.specs.rules.Report.{Answers, RelatedAnswers, related_answers, first_answers, later_answers}
-use Rattle.miette_labels.proofs.Refusing.{accepted_is}
-use Rattle.miette_labels.proofs.Owning.{order_all}
+use Rattle.miette_labels.proofs.RefusedLabel.{accepted_is}
+use Rattle.miette_labels.proofs.OwnContexts.{order_all}
 
 -- ---- a graphical report
 

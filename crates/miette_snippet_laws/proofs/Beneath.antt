@@ -24,7 +24,7 @@ use Rattle.miette_snippet_laws.proofs.Apart.{marks_apart}
 use Rattle.miette_snippet_rules.proofs.CutColumns.{AreColumns, shown_apart}
 use Rattle.miette_snippet_laws.proofs.Columns.{columns_of-append, code_at-append}
 use Rattle.miette_snippet_laws.proofs.UnstyledRows.{mark_row, plain_below}
-use Rattle.miette_snippet_laws.proofs.Hanging.{mark_row-at, plain_hang, all_beside, all_more}
+use Rattle.miette_snippet_laws.proofs.HungTexts.{mark_row-at, plain_hang, all_beside, all_more}
 use Rattle.miette_snippet_laws.proofs.Numerals.{AreDigits, are_digits}
 use Rattle.miette_snippet_laws.proofs.Flat.{glyphs_of-append, before_pieces, flat_marks, flat_below}
 use Rattle.miette_snippet_rules.specs.rules.SnippetLayout.{snippet_context}

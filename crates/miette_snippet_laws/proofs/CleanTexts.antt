@@ -22,7 +22,7 @@ use Rattle.miette_cells.specs.rules.Cells.{Character, Cell, cells_from, characte
 use Rattle.miette_snippet_laws.specs.laws.Clean.{IsCleanCode, IsClean, IsCleanRow}
 use Rattle.miette_labels.specs.rules.Labels.{cut_at_lf}
 use Rattle.miette_page.specs.rules.Rows.{Glyph, glyphs_of, glyph_of}
-use Rattle.miette_snippet_rules.proofs.Telling.{codes_drawn}
+use Rattle.miette_snippet_rules.proofs.RowTokens.{codes_drawn}
 
 -- ---- joining and cutting
 

@@ -18,9 +18,9 @@ use Rattle.miette_snippet_rules.specs.rules.SnippetLayout.{cells_of, line_marks,
 use Rattle.miette_snippet_rules.proofs.CutColumns.{AreColumns, columns_in-append}
 use Rattle.miette_snippet_laws.specs.laws.Ends.{AreBehindShown}
 use Rattle.miette_snippet_laws.proofs.CleanTexts.{line_same}
-use Rattle.miette_snippet_laws.proofs.CutShowing.{cut_pieces}
+use Rattle.miette_snippet_laws.proofs.CutShows.{cut_pieces}
 use Rattle.miette_snippet_laws.proofs.CutWidth.{row_width, pieces-columns, cells-columns, whole-columns}
-use Rattle.miette_snippet_laws.proofs.Ending.{behind_text}
+use Rattle.miette_snippet_laws.proofs.EndLabels.{behind_text}
 use Rattle.miette_snippet_laws.proofs.Whole.{line_columns}
 use Rattle.miette_snippet_rules.specs.rules.Settings.{SnippetSettings}
 

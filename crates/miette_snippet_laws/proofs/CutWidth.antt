@@ -18,7 +18,7 @@ use Rattle.miette_snippet_rules.proofs.CutColumns.{AreColumns}
 use Rattle.miette_snippet_laws.specs.laws.Cuts.{AreAsWide, most_columns, pieces_shown}
 use Rattle.miette_snippet_laws.proofs.CleanTexts.{line_same}
 use Rattle.miette_snippet_laws.proofs.Columns.{columns_of-append}
-use Rattle.miette_snippet_laws.proofs.CutShowing.{cut_pieces}
+use Rattle.miette_snippet_laws.proofs.CutShows.{cut_pieces}
 
 -- ---- the columns of what is printed
 

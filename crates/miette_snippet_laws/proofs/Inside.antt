@@ -23,8 +23,8 @@ use Rattle.miette_source_lines.proofs.Cuts.{line_of_there, nonempty, start_befor
 use Rattle.miette_protocol.proofs.Wholes.{end-le-reading, offset-le-reading}
 use Rattle.miette_snippet_rules.proofs.ReadLines.{end_at, start_at}
 use Rattle.miette_snippet_laws.specs.laws.Folding.{IsInside}
-use Rattle.miette_snippet_laws.proofs.Folding.{none_first, none_last}
-use Rattle.miette_snippet_laws.proofs.Owning.{Around}
+use Rattle.miette_snippet_laws.proofs.FoldedRuns.{none_first, none_last}
+use Rattle.miette_snippet_laws.proofs.OwnGroups.{Around}
 
 -- ---- a label keeps the lines that it begins and ends on
 

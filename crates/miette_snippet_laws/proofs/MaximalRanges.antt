@@ -23,16 +23,16 @@ use Rattle.miette_snippet_rules.specs.rules.Numbers.{ranges}
 use Rattle.miette_snippet_rules.specs.rules.ShownLines.{rows_of_ranges, bodies, framed_rows, framed_ranges}
 use Rattle.miette_snippet_rules.specs.rules.Snippets as N
 use Rattle.miette_basics.proofs.Cases.{by_cases}
-use Rattle.miette_snippet_rules.proofs.Merging.{groups_are_runs, no_labels, none_or_some, snippets_nowhere, some_bytes}
+use Rattle.miette_snippet_rules.proofs.ShownRuns.{groups_are_runs, no_labels, none_or_some, snippets_nowhere, some_bytes}
 use Rattle.miette_snippet_rules.proofs.Bodies.{KeepsAlike, joined_bodies, all_framed, none_refused}
 use Rattle.miette_snippet_rules.proofs.Bodies.{ordered_accepted}
 use Rattle.miette_labels.proofs.NoFailures.{some_none}
-use Rattle.miette_snippet_laws.proofs.Owning.{Around, group_blocks, groups_are, groups_there}
-use Rattle.miette_snippet_laws.proofs.Owning.{block_runs, lines_are, block_bodies, nowhere, groups_nowhere}
-use Rattle.miette_snippet_laws.proofs.Owning.{lines_nowhere, body_nowhere}
-use Rattle.miette_snippet_laws.proofs.Folding.{runs_alike, none_alike}
-use Rattle.miette_labels.proofs.Owning.{none_around, own_ordered, order_any, order_each}
-use Rattle.miette_snippet_laws.proofs.Spreading.{numbers_of}
+use Rattle.miette_snippet_laws.proofs.OwnGroups.{Around, group_blocks, groups_are, groups_there}
+use Rattle.miette_snippet_laws.proofs.OwnGroups.{block_runs, lines_are, block_bodies, nowhere, groups_nowhere}
+use Rattle.miette_snippet_laws.proofs.OwnGroups.{lines_nowhere, body_nowhere}
+use Rattle.miette_snippet_laws.proofs.FoldedRuns.{runs_alike, none_alike}
+use Rattle.miette_labels.proofs.OwnContexts.{none_around, own_ordered, order_any, order_each}
+use Rattle.miette_snippet_laws.proofs.Blocks.{numbers_of}
 use Rattle.miette_labels.proofs.NoFailures.{none_unread}
 use Rattle.miette_snippet_rules.specs.rules.Settings.{SnippetSettings}
 

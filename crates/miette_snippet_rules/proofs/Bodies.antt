@@ -24,9 +24,9 @@ use Rattle.miette_snippet_rules.specs.rules.SnippetLayout.{rows_of_lines, left_o
 use Rattle.miette_snippet_rules.specs.rules.SnippetLayout.{snippet, all_snippets, drawn_labels}
 use Rattle.miette_snippet_rules.specs.rules.Snippets.{snippets}
 use Rattle.miette_labels.proofs.NoFailures.{later_none, next_none}
-use Rattle.miette_labels.proofs.Owning.{order_each}
-use Rattle.miette_labels.proofs.Refusing.{accepted_is}
-use Rattle.miette_snippet_rules.proofs.Merging.{groups_are_runs}
+use Rattle.miette_labels.proofs.OwnContexts.{order_each}
+use Rattle.miette_labels.proofs.RefusedLabel.{accepted_is}
+use Rattle.miette_snippet_rules.proofs.ShownRuns.{groups_are_runs}
 use Rattle.miette_snippet_rules.proofs.ReadLines.{many_of, read_lines, read_numbers}
 use Rattle.miette_snippet_rules.specs.rules.SnippetLayout.{snippet_context}
 use Rattle.miette_snippet_rules.specs.rules.Settings.{SnippetSettings}

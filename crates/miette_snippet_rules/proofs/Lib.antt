@@ -1,9 +1,9 @@
 pub mod Bodies
 pub mod CutColumns
-pub mod Endings
-pub mod Ends
-pub mod Merging
+pub mod SourceEnd
+pub mod LabelEnds
+pub mod ShownRuns
 pub mod NoPieces
 pub mod Numbers
 pub mod ReadLines
-pub mod Telling
+pub mod RowTokens

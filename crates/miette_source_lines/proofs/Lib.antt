@@ -2,9 +2,9 @@ pub mod Scans
 pub mod Places
 pub mod Backs
 pub mod Columns
-pub mod Halving
+pub mod BinarySearch
 pub mod Cuts
-pub mod Cutting
+pub mod AreLines
 pub mod Only
 pub mod Firsts
 pub mod Parts

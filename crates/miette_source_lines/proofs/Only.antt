@@ -10,7 +10,7 @@ use Rattle.std.proofs.Math.Seq.{drop-append_seam, take-append_seam}
 use Rattle.miette_source_lines.specs.rules.Lines.{Line, LF, CR, ends_line, with_byte, lines_from, lines_of, is_text}
 use Rattle.miette_source_lines.specs.rules.Lines.{line_start}
 use Rattle.miette_source_lines.specs.rules.Cutting.{IsTerminator, AreLines, BeginsWith}
-use Rattle.miette_source_lines.proofs.Cutting.{lines_are}
+use Rattle.miette_source_lines.proofs.AreLines.{lines_are}
 
 abbrev pub made : ℕ → ℕ → ℕ → Line
 made at text_end end = record { start = at; text_end = text_end; end = end }

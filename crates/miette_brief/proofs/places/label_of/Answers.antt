@@ -1,5 +1,5 @@
 use Rattle.std.proofs.Common.{sym, ◌∙◌}
-use Rattle.miette_labels.proofs.Sorting.{label_got}
+use Rattle.miette_labels.proofs.SortedLabels.{label_got}
 use Rattle.miette_brief.proofs.places.label_of.Goals as goal
 
 pub returns : goal.returns

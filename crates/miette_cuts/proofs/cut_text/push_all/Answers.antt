@@ -1,6 +1,6 @@
 use Rattle.std.proofs.Common.{◌≡◌, ◌<◌, ◌∷◌, [], ◌+◌, ◌-◌, ◌∙◌, take, drop, ap, sym, arith, rules}
 use Rattle.miette_cells.specs.views.Walking.{cell_of}
-use Rattle.miette_cuts.proofs.CutTexting.{take_cell, drop_cell, take_none, drop_none, take_zero, drop_zero, told_stop}
+use Rattle.miette_cuts.proofs.CutText.{take_cell, drop_cell, take_none, drop_none, take_zero, drop_zero, told_stop}
 use Rattle.miette_cuts.proofs.CellPrints.{cells_more}
 use Rattle.miette_cuts.proofs.cut_text.push_all.Goals as goal
 

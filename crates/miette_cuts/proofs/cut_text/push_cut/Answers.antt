@@ -1,6 +1,6 @@
 use Rattle.std.proofs.Common.{map}
 use Rattle.miette_snippet_rules.specs.rules.Highlighting.{highlight_of}
-use Rattle.miette_cuts.proofs.CutTexting.{cut_end, cut_more}
+use Rattle.miette_cuts.proofs.CutText.{cut_end, cut_more}
 use Rattle.miette_cuts.proofs.cut_text.push_cut.Goals as goal
 
 pub loop-stretch-preserved : goal.loop-stretch-preserved

@@ -1,7 +1,7 @@
 use Rattle.std.proofs.Common.{◌≡◌, ◌∷◌, [], ◌-◌, ◌<◌, ◌∙◌, take, ap, sym, arith, rules}
 use Rattle.miette_cells.specs.views.Walking.{cell_of}
-use Rattle.miette_cuts.proofs.CutTexting.{take_cell, drop_cell, take_none, drop_none, take_zero, drop_zero, within_stop}
-use Rattle.miette_cuts.proofs.CutTexting.{beyond_stop}
+use Rattle.miette_cuts.proofs.CutText.{take_cell, drop_cell, take_none, drop_none, take_zero, drop_zero, within_stop}
+use Rattle.miette_cuts.proofs.CutText.{beyond_stop}
 use Rattle.miette_cuts.proofs.CellPrints.{within_more, beyond_more, within_end, beyond_end}
 use Rattle.miette_cuts.proofs.cut_text.push_some.Goals as goal
 

@@ -3,7 +3,7 @@ use Rattle.miette_snippet_rules.specs.rules.CutLines.{pieces_within}
 use Rattle.miette_snippet_rules.specs.rules.Highlighting.{highlight_of}
 use Rattle.miette_snippet_rules.specs.rules.PrintedCells.{line_runs}
 use Rattle.miette_cuts.specs.views.Cuts.{is_kept}
-use Rattle.miette_cuts.proofs.CutTexting.{piece_cut, pieces_end, stretch_dots, stretch_shown}
+use Rattle.miette_cuts.proofs.CutText.{piece_cut, pieces_end, stretch_dots, stretch_shown}
 use Rattle.miette_cuts.proofs.cut_text.push_stretch.Goals as goal
 
 pub returns-then-not-is_shown-clause-told : goal.returns-then-not-is_shown-clause-told

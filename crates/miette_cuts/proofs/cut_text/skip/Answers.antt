@@ -1,6 +1,6 @@
 use Rattle.std.proofs.Common.{◌≡◌, ◌∷◌, [], ◌+◌, ◌-◌, ◌∙◌, drop, ap, sym, arith, rules}
 use Rattle.miette_cells.specs.views.Walking.{cell_of}
-use Rattle.miette_cuts.proofs.CutTexting.{drop_cell, drop_none, drop_zero}
+use Rattle.miette_cuts.proofs.CutText.{drop_cell, drop_none, drop_zero}
 use Rattle.miette_cuts.proofs.cut_text.skip.Goals as goal
 
 pub loop-preserved : goal.loop-preserved

@@ -1,7 +1,7 @@
 use Rattle.std.proofs.Common.{◌≡◌, ◌∷◌, [], ◌∙◌, ap, sym, rules}
 use Rattle.miette_cells.specs.views.Walking.{cell_of}
 use Rattle.miette_snippet_rules.specs.rules.PrintedCells.{cells_width}
-use Rattle.miette_cuts.proofs.Stopping.{width_passed}
+use Rattle.miette_cuts.proofs.StopColumns.{width_passed}
 use Rattle.miette_cuts.proofs.cutting.columns_of_line.Goals as goal
 
 pub loop-cell-preserved : goal.loop-cell-preserved

@@ -7,7 +7,7 @@ use Rattle.miette_cuts.specs.views.Cuts.{measure}
 use Rattle.miette_cuts.specs.views.Marks.{mark_of}
 use Rattle.miette_cuts.specs.views.LineTexts.{text_cells}
 use Rattle.miette_cuts.proofs.CutStretches.{cut_is, cut_none}
-use Rattle.miette_cuts.proofs.Plaining.{printable_cells}
+use Rattle.miette_cuts.proofs.PlainText.{printable_cells}
 use Rattle.miette_cuts.proofs.cutting.cut_at.Goals as goal
 
 pub returns-then-width-limit : goal.returns-then-width-limit

@@ -1,7 +1,7 @@
 use Rattle.std.proofs.Common.{◌≡◌, ◌∷◌, [], ◌∙◌, sym, ap, rules}
 use Rattle.miette_cells.specs.views.Walking.{cell_of}
 use Rattle.miette_snippet_rules.specs.rules.PrintedCells.{last_column}
-use Rattle.miette_cuts.proofs.Stopping.{last_passed}
+use Rattle.miette_cuts.proofs.StopColumns.{last_passed}
 use Rattle.miette_cuts.proofs.marks.column_from.Goals as goal
 
 pub loop-cell-preserved : goal.loop-cell-preserved

@@ -2,7 +2,7 @@ use Rattle.std.proofs.Common.{sym, subst}
 use Rattle.miette_cuts.specs.views.Marks.{IsAnchored}
 use Rattle.std.specs.List.{All}
 use Rattle.std.proofs.lemmas.List.Elements.{All-push}
-use Rattle.miette_cuts.proofs.Placing.{mark_more, mark_end}
+use Rattle.miette_cuts.proofs.OffsetColumns.{mark_more, mark_end}
 use Rattle.miette_cuts.proofs.marks.marks_in.Goals as goal
 
 pub loop-label-preserved : goal.loop-label-preserved

@@ -6,7 +6,7 @@ use Rattle.miette_cells.specs.rules.Cells.{Cell}
 use Rattle.miette_cells.specs.views.Walking.{cell_of}
 use Rattle.miette_cuts.specs.steps.Stops.{IsStop}
 use Rattle.miette_cuts.specs.declared.marks.Stop.{Stop}
-use Rattle.miette_cuts.proofs.Stopping.{first_passed, last_passed, width_passed, cells_left}
+use Rattle.miette_cuts.proofs.StopColumns.{first_passed, last_passed, width_passed, cells_left}
 use Rattle.miette_cuts.proofs.marks.stops_of.Goals as goal
 
 pub loop-stops-preserved-then-left-eq0 : goal.loop-stops-preserved-then-left-eq0

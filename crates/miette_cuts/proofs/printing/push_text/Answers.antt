@@ -1,6 +1,6 @@
 use Rattle.std.proofs.Common.{eqb-true, sym, ◌∙◌}
-use Rattle.miette_cuts.proofs.Untabbing.{untabbed_put}
-use Rattle.miette_cuts.proofs.Tabbing.{tabbed_put, tabbed_ascii}
+use Rattle.miette_cuts.proofs.TextWithoutTabs.{untabbed_put}
+use Rattle.miette_cuts.proofs.TabbedText.{tabbed_put, tabbed_ascii}
 use Rattle.miette_cuts.proofs.printing.push_text.Goals as goal
 
 pub returns-in-Some : goal.returns-in-Some

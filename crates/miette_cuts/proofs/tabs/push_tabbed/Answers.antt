@@ -1,7 +1,7 @@
 use Rattle.std.proofs.Common.{ℕ, ◌+◌, ◌≡◌, rules, arith}
 use Rattle.std.proofs.lemmas.Str.{IsAscii-take, IsAscii-drop}
 use Rattle.std.proofs.lemmas.List.{take_rest}
-use Rattle.miette_cuts.proofs.Tabbing.{stretch_put, rest_put, shorter}
+use Rattle.miette_cuts.proofs.TabbedText.{stretch_put, rest_put, shorter}
 use Rattle.miette_cuts.proofs.tabs.push_tabbed.Goals as goal
 
 pub loop-size-preserved : goal.loop-size-preserved

@@ -1,5 +1,5 @@
 use Rattle.std.proofs.Common.{sym, ◌∙◌}
-use Rattle.miette_cuts.proofs.Untabbing.{none_found, if_any}
+use Rattle.miette_cuts.proofs.TextWithoutTabs.{none_found, if_any}
 use Rattle.miette_cuts.proofs.tabs.text_without_tabs.Goals as goal
 
 pub returns-clause-untabbed : goal.returns-clause-untabbed

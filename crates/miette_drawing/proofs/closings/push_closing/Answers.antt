@@ -5,7 +5,7 @@ use Rattle.miette_snippet_rules.specs.rules.Frames.{other_start}
 use Rattle.miette_labels.specs.views.GivenLabels.{drawn_of}
 use Rattle.miette_drawing.specs.steps.LineContexts.{settings, multi_labels}
 use Rattle.miette_source_lines.specs.views.Walking.{line_of_text}
-use Rattle.miette_drawing.proofs.Closing.{several_closing}
+use Rattle.miette_drawing.proofs.ClosingRows.{several_closing}
 use Rattle.miette_drawing.proofs.closings.push_closing.Goals as goal
 
 pub returns : goal.returns

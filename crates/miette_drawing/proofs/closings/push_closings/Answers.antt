@@ -4,7 +4,7 @@ use Rattle.miette_snippet_rules.specs.rules.Frames.{other_start}
 use Rattle.miette_labels.specs.views.GivenLabels.{drawn_of}
 use Rattle.miette_drawing.specs.steps.LineContexts.{settings, multi_labels}
 use Rattle.miette_source_lines.specs.views.Walking.{line_of_text}
-use Rattle.miette_drawing.proofs.Closing.{closing_more, closing_skip, rest_of}
+use Rattle.miette_drawing.proofs.ClosingRows.{closing_more, closing_skip, rest_of}
 use Rattle.miette_drawing.proofs.closings.push_closings.Goals as goal
 use Rattle.miette_drawing.proofs.closings.push_closings.Goals.{then-closes+in_ok-push_closing, else-closes}
 

@@ -4,7 +4,7 @@ use Rattle.miette_snippet_rules.specs.rules.Gutters.{open_gutter}
 use Rattle.miette_labels.specs.views.GivenLabels.{drawn_of}
 use Rattle.miette_drawing.specs.steps.LineContexts.{settings, multi_labels}
 use Rattle.miette_source_lines.specs.views.Walking.{line_of_text}
-use Rattle.miette_drawing.proofs.Closing.{closed_put}
+use Rattle.miette_drawing.proofs.ClosingRows.{closed_put}
 use Rattle.miette_drawing.proofs.closings.push_open_row.Goals as goal
 
 pub returns : goal.returns

@@ -4,7 +4,7 @@ use Rattle.std.specs.Option.{option_copied}
 use Rattle.miette_labels.specs.rules.Labels.{parts_of}
 use Rattle.miette_labels.specs.views.GivenLabels.{drawn_of}
 use Rattle.miette_drawing.specs.steps.LineContexts.{open_line}
-use Rattle.miette_drawing.proofs.Texting.{part_more}
+use Rattle.miette_drawing.proofs.TextRows.{part_more}
 use Rattle.miette_drawing.proofs.closings.push_open_rows.Goals as goal
 
 pub loop-left-preserved : goal.loop-left-preserved

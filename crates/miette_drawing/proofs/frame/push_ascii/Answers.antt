@@ -1,4 +1,4 @@
-use Rattle.miette_drawing.proofs.Framing.{ascii_put}
+use Rattle.miette_drawing.proofs.FrameRows.{ascii_put}
 use Rattle.miette_drawing.proofs.frame.push_ascii.Goals as goal
 
 pub returns : goal.returns

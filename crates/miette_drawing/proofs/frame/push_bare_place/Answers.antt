@@ -7,7 +7,7 @@ use Rattle.miette_snippet_rules.specs.rules.Frames.{place_text}
 use Rattle.miette_drawing.specs.views.SnippetRows.{place_at}
 use Rattle.miette_cells.specs.rules.Widths.{width_of}
 use Rattle.miette_page.specs.views.Tokens.{row_tokens}
-use Rattle.miette_drawing.proofs.Framing.{bare_put}
+use Rattle.miette_drawing.proofs.FrameRows.{bare_put}
 use Rattle.miette_drawing.proofs.frame.push_bare_place.Goals as goal
 
 pub returns-then-frame : goal.returns-then-frame

@@ -1,6 +1,6 @@
 use Rattle.miette_drawing.specs.steps.FrameParts.{corner_row}
 use Rattle.miette_snippet_rules.specs.views.SettingsView.{settings_of}
-use Rattle.miette_drawing.proofs.Texting.{row_done}
+use Rattle.miette_drawing.proofs.TextRows.{row_done}
 use Rattle.miette_drawing.proofs.frame.push_bottom_row.Goals as goal
 
 pub returns : goal.returns

@@ -1,6 +1,6 @@
 use Rattle.std.proofs.Common.{rules}
 use Rattle.miette_snippet_rules.specs.views.SettingsView.{settings_of}
-use Rattle.miette_drawing.proofs.Framing.{corner_put}
+use Rattle.miette_drawing.proofs.FrameRows.{corner_put}
 use Rattle.miette_drawing.proofs.frame.push_corner.Goals as goal
 
 pub returns : goal.returns

@@ -4,7 +4,7 @@ use Rattle.std.specs.Prelude.{chars, codes}
 use Rattle.miette_snippet_rules.specs.rules.Frames.{place_text}
 use Rattle.miette_drawing.specs.views.SnippetRows.{place_at}
 use Rattle.miette_page.specs.views.Tokens.{styled_tokens}
-use Rattle.miette_drawing.proofs.Framing.{link_put}
+use Rattle.miette_drawing.proofs.FrameRows.{link_put}
 use Rattle.miette_drawing.proofs.frame.push_link.Goals as goal
 
 pub returns : goal.returns

@@ -5,7 +5,7 @@ use Rattle.miette_style.specs.rules.Styles.{plain}
 use Rattle.miette_snippet_rules.specs.rules.Frames.{place_text}
 use Rattle.miette_drawing.specs.views.SnippetRows.{place_at}
 use Rattle.miette_cells.specs.rules.Widths.{width_of}
-use Rattle.miette_drawing.proofs.Framing.{run_then, run_last}
+use Rattle.miette_drawing.proofs.FrameRows.{run_then, run_last}
 use Rattle.miette_drawing.proofs.frame.push_named_place.Goals as goal
 
 pub returns : goal.returns

@@ -1,5 +1,5 @@
 use Rattle.miette_drawing.specs.views.SnippetRows.{place_at}
-use Rattle.miette_drawing.proofs.Framing.{place_put}
+use Rattle.miette_drawing.proofs.FrameRows.{place_put}
 use Rattle.miette_drawing.proofs.frame.push_place.Goals as goal
 
 pub returns : goal.returns

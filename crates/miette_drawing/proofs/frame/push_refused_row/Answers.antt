@@ -7,8 +7,8 @@ use Rattle.miette_snippet_rules.specs.rules.Frames.{refused_front}
 use Rattle.miette_snippet_rules.specs.views.SettingsView.{settings_of}
 use Rattle.miette_cells.specs.rules.Widths.{width_of}
 use Rattle.miette_page.specs.views.Tokens.{styled_tokens}
-use Rattle.miette_drawing.proofs.Texting.{row_done, parts_then}
-use Rattle.miette_drawing.proofs.Framing.{run_then, run_last}
+use Rattle.miette_drawing.proofs.TextRows.{row_done, parts_then}
+use Rattle.miette_drawing.proofs.FrameRows.{run_then, run_last}
 use Rattle.miette_drawing.proofs.frame.push_refused_row.Goals as goal
 
 pub returns : goal.returns

@@ -4,7 +4,7 @@ use Rattle.miette_page.specs.rules.Rows.{Row, styled_run}
 use Rattle.miette_style.specs.rules.Styles.{plain}
 use Rattle.miette_snippet_rules.specs.rules.Frames.{text_or_none}
 use Rattle.miette_cells.specs.rules.Widths.{width_of}
-use Rattle.miette_drawing.proofs.Framing.{run_then, run_last}
+use Rattle.miette_drawing.proofs.FrameRows.{run_then, run_last}
 use Rattle.miette_drawing.proofs.frame.push_refused_text.Goals as goal
 
 pub returns : goal.returns

@@ -4,7 +4,7 @@ use Rattle.miette_snippet_rules.specs.rules.Frames.{location_of}
 use Rattle.miette_drawing.specs.steps.FrameParts.{corner_row}
 use Rattle.miette_drawing.specs.views.SnippetRows.{place_at}
 use Rattle.miette_snippet_rules.specs.views.SettingsView.{settings_of}
-use Rattle.miette_drawing.proofs.Texting.{parts_then, row_done}
+use Rattle.miette_drawing.proofs.TextRows.{parts_then, row_done}
 use Rattle.miette_drawing.proofs.frame.push_top_row.Goals as goal
 
 pub returns : goal.returns

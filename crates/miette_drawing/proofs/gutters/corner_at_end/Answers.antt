@@ -1,4 +1,4 @@
-use Rattle.miette_drawing.proofs.Guttering.{corner_of_some}
+use Rattle.miette_drawing.proofs.GutterRows.{corner_of_some}
 use Rattle.std.proofs.Common.{ap}
 use Rattle.std.specs.Option.{option_copied}
 use Rattle.miette_drawing.proofs.gutters.corner_at_end.Goals as goal

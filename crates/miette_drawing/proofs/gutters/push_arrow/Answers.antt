@@ -1,4 +1,4 @@
-use Rattle.miette_drawing.proofs.Guttering.{arrow_put}
+use Rattle.miette_drawing.proofs.GutterRows.{arrow_put}
 use Rattle.miette_drawing.proofs.gutters.push_arrow.Goals as goal
 use Rattle.miette_style.specs.rules.Themes.{characters_of}
 

@@ -3,8 +3,8 @@ use Rattle.miette_labels.specs.views.Sweeping.{nothing}
 use Rattle.miette_labels.specs.views.GivenLabels.{drawn_of}
 use Rattle.miette_source_lines.specs.views.Walking.{line_of_text}
 use Rattle.miette_snippet_rules.specs.rules.Gutters.{other_gutter}
-use Rattle.miette_snippet_rules.proofs.Telling.{blank_row}
-use Rattle.miette_drawing.proofs.Guttering.{at_end, at_last, other_last}
+use Rattle.miette_snippet_rules.proofs.RowTokens.{blank_row}
+use Rattle.miette_drawing.proofs.GutterRows.{at_end, at_last, other_last}
 use Rattle.miette_drawing.proofs.gutters.push_other_gutter.Goals as goal
 use Rattle.miette_drawing.specs.steps.LineContexts.{settings}
 

@@ -1,6 +1,6 @@
 use Rattle.std.proofs.Common.{rules, ◌≡◌, true, ◌∙◌}
 use Rattle.miette_snippet_rules.specs.rules.Highlighting.{decoded_text, leaves_plain}
-use Rattle.miette_drawing.proofs.Styling.{cut_pieces}
+use Rattle.miette_drawing.proofs.HighlightedPieces.{cut_pieces}
 use Rattle.miette_drawing.proofs.highlighting.pieces_of.Goals as goal
 
 pub returns-else-is_plain-clause-pieces : goal.returns-else-is_plain-clause-pieces

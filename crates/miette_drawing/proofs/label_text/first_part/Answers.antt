@@ -1,6 +1,6 @@
 use Rattle.std.proofs.Common.{◌∷◌, length, length-append, lit<, ap, arith}
 use Rattle.std.proofs.lemmas.Str.Pattern.{split_parts}
-use Rattle.miette_drawing.proofs.Parting.{cut_whole, cut_parted}
+use Rattle.miette_drawing.proofs.TextLines.{cut_whole, cut_parted}
 use Rattle.miette_drawing.proofs.label_text.first_part.Goals as goal
 
 pub returns-in-Some : goal.returns-in-Some

@@ -1,6 +1,6 @@
 use Rattle.std.specs.Prelude.{chars}
 use Rattle.std.proofs.Common.{[], false}
-use Rattle.miette_drawing.proofs.Closing.{part_put}
+use Rattle.miette_drawing.proofs.ClosingRows.{part_put}
 use Rattle.miette_drawing.proofs.label_text.push_part.Goals as goal
 
 pub returns : goal.returns

@@ -20,8 +20,8 @@ use Rattle.miette_drawing.specs.steps.LineContexts.{settings, multi_labels, befo
 use Rattle.miette_drawing.specs.steps.LineContexts.{labels_alone}
 use Rattle.miette_source_lines.specs.views.Walking.{line_of_text}
 use Rattle.miette_cuts.proofs.CutStretches.{shown_made_anchored}
-use Rattle.miette_cuts.proofs.CutTexting.{shown_made}
-use Rattle.miette_drawing.proofs.Lining.{line_put}
+use Rattle.miette_cuts.proofs.CutText.{shown_made}
+use Rattle.miette_drawing.proofs.LineRows.{line_put}
 use Rattle.miette_drawing.proofs.line.push_line_or_break.Goals as goal
 use Rattle.miette_snippet_rules.specs.rules.SnippetLayout.{line_in, line_shown}
 

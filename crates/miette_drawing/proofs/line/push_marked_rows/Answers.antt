@@ -5,7 +5,7 @@ use Rattle.miette_page.specs.views.Tokens.{rows_tokens}
 use Rattle.miette_snippet_rules.specs.rules.SnippetLayout.{before_each}
 use Rattle.miette_cuts.specs.views.Marks.{mark_of}
 use Rattle.miette_drawing.specs.steps.LineContexts.{before_marks}
-use Rattle.miette_drawing.proofs.Lining.{marked_put, marked_some}
+use Rattle.miette_drawing.proofs.LineRows.{marked_put, marked_some}
 use Rattle.miette_drawing.proofs.line.push_marked_rows.Goals as goal
 use Rattle.miette_drawing.specs.steps.LineContexts.{settings}
 

@@ -1,5 +1,5 @@
 use Rattle.miette_drawing.specs.steps.LineContexts.{settings}
-use Rattle.miette_drawing.proofs.Lining.{number_put}
+use Rattle.miette_drawing.proofs.LineRows.{number_put}
 use Rattle.miette_drawing.proofs.line.push_number_start.Goals as goal
 
 pub returns : goal.returns

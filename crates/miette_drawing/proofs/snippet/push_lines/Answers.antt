@@ -15,12 +15,12 @@ use Rattle.miette_source_lines.specs.views.Walking.{line_of_text}
 use Rattle.miette_labels.specs.views.Sweeping.{IsAt}
 use Rattle.miette_labels.proofs.Swept.{left_at}
 use Rattle.miette_highlight.specs.rules.HighlighterCalls.{Call}
-use Rattle.miette_drawing.proofs.Styling.{call_for}
+use Rattle.miette_drawing.proofs.HighlightedPieces.{call_for}
 use Rattle.miette_folds.proofs.Starts.{Begins, begins_first, begins_next, begins_few}
-use Rattle.miette_folds.proofs.Passing.{IsBetween, next_begins, next_further, next_outs}
-use Rattle.miette_drawing.proofs.Skipping.{lines_run}
-use Rattle.miette_folds.proofs.Extending.{not_jumped}
-use Rattle.miette_drawing.proofs.Lending.{AreLined, lines_first, lines_more, lines_all, text_fits}
+use Rattle.miette_folds.proofs.GapLines.{IsBetween, next_begins, next_further, next_outs}
+use Rattle.miette_drawing.proofs.LeftOutRows.{lines_run}
+use Rattle.miette_folds.proofs.LineExtent.{not_jumped}
+use Rattle.miette_drawing.proofs.ReadRows.{AreLined, lines_first, lines_more, lines_all, text_fits}
 use Rattle.miette_drawing.proofs.snippet.push_lines.Goals as goal
 
 pub loop-at-init : goal.loop-at-init

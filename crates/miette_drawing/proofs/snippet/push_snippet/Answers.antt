@@ -8,7 +8,7 @@ use Rattle.miette_drawing.specs.views.SnippetRows.{PutsRows, lent_snippet}
 use Rattle.miette_labels.specs.views.Sweeping.{IsAt}
 use Rattle.miette_highlight.specs.rules.HighlighterCalls.{Call, Leads, restarted}
 use Rattle.miette_snippet_rules.specs.rules.Highlighting.{follows, leaves_plain}
-use Rattle.miette_drawing.proofs.Lending.{lent_texts, restarted_first}
+use Rattle.miette_drawing.proofs.ReadRows.{lent_texts, restarted_first}
 use Rattle.miette_drawing.proofs.snippet.push_snippet.Goals as goal
 
 pub push_framed-requires-clause-at : goal.push_framed-requires-clause-at

@@ -1,6 +1,6 @@
 use Rattle.std.proofs.Common.{ap}
 use Rattle.std.specs.Option.{option_copied}
-use Rattle.miette_drawing.proofs.Stroking.{middle_of_full}
+use Rattle.miette_drawing.proofs.MarkRows.{middle_of_full}
 use Rattle.miette_drawing.proofs.strokes.middle_of.Goals as goal
 use Rattle.miette_style.specs.rules.Themes.{characters_of}
 

@@ -1,6 +1,6 @@
 use Rattle.std.proofs.Common.{rules, refl, ◌-◌}
 use Rattle.miette_cuts.specs.views.Marks.{mark_of}
-use Rattle.miette_drawing.proofs.Stroking.{mark_put}
+use Rattle.miette_drawing.proofs.MarkRows.{mark_put}
 use Rattle.miette_drawing.proofs.strokes.push_mark.Goals as goal
 use Rattle.miette_drawing.specs.steps.LineContexts.{settings}
 

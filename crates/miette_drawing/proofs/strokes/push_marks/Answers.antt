@@ -1,5 +1,5 @@
-use Rattle.miette_cuts.proofs.Placing.{no_mark}
-use Rattle.miette_drawing.proofs.Stroking.{mark_more}
+use Rattle.miette_cuts.proofs.OffsetColumns.{no_mark}
+use Rattle.miette_drawing.proofs.MarkRows.{mark_more}
 use Rattle.miette_drawing.proofs.strokes.push_marks.Goals as goal
 use Rattle.miette_drawing.specs.steps.LineContexts.{settings}
 

@@ -1,6 +1,6 @@
 use Rattle.miette_snippet_rules.specs.rules.Frames.{other_start}
 use Rattle.miette_drawing.specs.steps.LineContexts.{settings, gutter_below}
-use Rattle.miette_drawing.proofs.Texting.{parts_then}
+use Rattle.miette_drawing.proofs.TextRows.{parts_then}
 use Rattle.miette_drawing.proofs.texts.push_before_marks.Goals as goal
 
 pub returns : goal.returns

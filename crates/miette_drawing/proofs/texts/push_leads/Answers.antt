@@ -3,8 +3,8 @@ use Rattle.miette_page.specs.views.Printouts.{◌⊕◌}
 use Rattle.miette_page.specs.views.Tokens.{row_tokens}
 use Rattle.miette_snippet_rules.specs.rules.Drawing.{lead_runs}
 use Rattle.miette_cuts.specs.views.Marks.{mark_of}
-use Rattle.miette_cuts.proofs.Placing.{no_mark}
-use Rattle.miette_drawing.proofs.Texting.{lead_more, lead_end}
+use Rattle.miette_cuts.proofs.OffsetColumns.{no_mark}
+use Rattle.miette_drawing.proofs.TextRows.{lead_more, lead_end}
 use Rattle.miette_drawing.proofs.texts.push_leads.Goals as goal
 use Rattle.miette_drawing.specs.steps.LineContexts.{settings}
 

@@ -5,7 +5,7 @@ use Rattle.miette_labels.specs.rules.Labels.{parts_of}
 use Rattle.miette_snippet_rules.specs.rules.Drawing.{beside}
 use Rattle.miette_cuts.specs.views.Marks.{mark_of}
 use Rattle.miette_drawing.specs.steps.LineContexts.{settings, text_line}
-use Rattle.miette_drawing.proofs.Texting.{part_more}
+use Rattle.miette_drawing.proofs.TextRows.{part_more}
 use Rattle.miette_drawing.proofs.texts.push_more_parts.Goals as goal
 
 pub loop-left-preserved : goal.loop-left-preserved

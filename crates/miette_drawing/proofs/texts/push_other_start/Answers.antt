@@ -1,5 +1,5 @@
 use Rattle.std.proofs.Common.{rules, ◌+◌}
-use Rattle.miette_drawing.proofs.Texting.{start_put}
+use Rattle.miette_drawing.proofs.TextRows.{start_put}
 use Rattle.miette_drawing.proofs.texts.push_other_start.Goals as goal
 use Rattle.miette_drawing.specs.steps.LineContexts.{settings}
 

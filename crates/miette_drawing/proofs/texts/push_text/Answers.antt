@@ -3,7 +3,7 @@ use Rattle.std.specs.Prelude.{chars, option_copied}
 use Rattle.miette_labels.specs.rules.Labels.{parts_of}
 use Rattle.miette_cuts.specs.views.Marks.{mark_of}
 use Rattle.miette_drawing.specs.steps.LineContexts.{before_marks}
-use Rattle.miette_drawing.proofs.Texting.{several_parts}
+use Rattle.miette_drawing.proofs.TextRows.{several_parts}
 use Rattle.miette_drawing.proofs.texts.push_text.Goals as goal
 use Rattle.miette_drawing.specs.steps.LineContexts.{settings}
 

@@ -2,7 +2,7 @@ use Rattle.std.proofs.Common.{map, refl}
 use Rattle.std.specs.Prelude.{chars}
 use Rattle.miette_cuts.specs.views.Marks.{mark_of}
 use Rattle.miette_drawing.specs.steps.LineContexts.{before_marks}
-use Rattle.miette_drawing.proofs.Texting.{text_put}
+use Rattle.miette_drawing.proofs.TextRows.{text_put}
 use Rattle.miette_drawing.proofs.texts.push_text_row.Goals as goal
 use Rattle.miette_drawing.specs.steps.LineContexts.{settings}
 

@@ -1,7 +1,7 @@
 use Rattle.std.proofs.Common.{◌<◌, ◌-◌, ◌+◌, ◌≡◌, ◌≤◌, length, arith}
 use Rattle.miette_drawing.specs.steps.LineContexts.{before_marks}
-use Rattle.miette_cuts.proofs.Placing.{no_mark}
-use Rattle.miette_drawing.proofs.Texting.{below_more}
+use Rattle.miette_cuts.proofs.OffsetColumns.{no_mark}
+use Rattle.miette_drawing.proofs.TextRows.{below_more}
 use Rattle.miette_drawing.proofs.texts.push_texts.Goals as goal
 use Rattle.miette_drawing.specs.steps.LineContexts.{settings}
 

@@ -5,7 +5,7 @@ use Rattle.miette_labels.proofs.Swept.{left_at}
 use Rattle.miette_folds.specs.declared.folds.LineStart.{LineStart}
 use Rattle.miette_folds.specs.steps.Counting.{begins_before, next_counted, some_go_on}
 use Rattle.miette_folds.proofs.Starts.{begins_few}
-use Rattle.miette_folds.proofs.Extending.{counted_first, counted_more, counted_rest, all_counted}
+use Rattle.miette_folds.proofs.LineExtent.{counted_first, counted_more, counted_rest, all_counted}
 use Rattle.miette_folds.proofs.extent.extent_of.Goals.{then-counts_rest, else-counts_rest}
 use Rattle.miette_folds.proofs.extent.extent_of.Goals as goal
 

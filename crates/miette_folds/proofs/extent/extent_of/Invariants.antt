@@ -1,5 +1,5 @@
 use Rattle.std.proofs.Common.{◌-◌, length}
-use Rattle.miette_folds.proofs.Extending.{AreCounted}
+use Rattle.miette_folds.proofs.LineExtent.{AreCounted}
 use Rattle.miette_folds.proofs.extent.extent_of.Given as goal
 
 abbrev pub invariant-loop-at : goal.invariant-loop-at

@@ -1,6 +1,6 @@
 use Rattle.std.proofs.Common.{sym, ◌∙◌}
 use Rattle.miette_source_lines.specs.views.Walking.{line_of_text}
-use Rattle.miette_folds.proofs.Folding.{left_near, left_far}
+use Rattle.miette_folds.proofs.LeftOutLines.{left_near, left_far}
 use Rattle.miette_folds.proofs.folds.is_left_out.Goals as goal
 
 pub returns-then-some_near : goal.returns-then-some_near

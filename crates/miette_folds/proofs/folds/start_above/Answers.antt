@@ -1,6 +1,6 @@
 use Rattle.std.proofs.Common.{◌≡◌, ◌-◌, ◌∙◌, min, length, ap}
 use Rattle.miette_source_lines.specs.rules.Lines.{line_start}
-use Rattle.miette_folds.proofs.Folding.{started}
+use Rattle.miette_folds.proofs.LeftOutLines.{started}
 use Rattle.miette_folds.proofs.folds.start_above.Goals as goal
 
 pub returns : goal.returns

@@ -1,7 +1,7 @@
 use Rattle.std.proofs.Common.{ℕ, ◌≡◌, ◌+◌, ◌-◌, ap, ◌∙◌, refl}
 use Rattle.std.proofs.lemmas.Result.{IfOk-weaker}
 use Rattle.miette_folds.specs.steps.LineNumbers.{IsLineIn}
-use Rattle.miette_folds.proofs.Reaching.{back_is}
+use Rattle.miette_folds.proofs.LineNumbers.{back_is}
 use Rattle.miette_folds.proofs.spreads.line_from_back.Goals as goal
 
 pub returns : goal.returns

@@ -2,7 +2,7 @@ use Rattle.std.proofs.Common.{ℕ, ◌≡◌, ◌+◌, List, ap, ◌∙◌}
 use Rattle.std.proofs.lemmas.Result.{IfOk-weaker}
 use Rattle.miette_source_lines.specs.rules.Lines.{line_of}
 use Rattle.miette_folds.specs.steps.LineNumbers.{IsLineIn}
-use Rattle.miette_folds.proofs.Reaching.{front_is}
+use Rattle.miette_folds.proofs.LineNumbers.{front_is}
 use Rattle.miette_folds.proofs.spreads.line_from_front.Goals as goal
 
 pub returns : goal.returns

@@ -1,5 +1,5 @@
 use Rattle.std.proofs.Common.{ap, ◌∙◌}
-use Rattle.miette_folds.proofs.Reaching.{label_lines}
+use Rattle.miette_folds.proofs.LineNumbers.{label_lines}
 use Rattle.miette_folds.proofs.spreads.spread.Goals as goal
 
 pub returns-clause-lines : goal.returns-clause-lines

@@ -1,4 +1,4 @@
-use Rattle.miette_labels.proofs.Collecting.{reads_accepted, all_lent, grouped_own, grouped_joined}
+use Rattle.miette_labels.proofs.GroupsOfReads.{reads_accepted, all_lent, grouped_own, grouped_joined}
 use Rattle.miette_labels.proofs.grouping.groups.Goals as goal
 
 pub own_groups-requires : goal.own_groups-requires

@@ -1,6 +1,6 @@
 use Rattle.std.proofs.Common.{ap, ◌∙◌}
 use Rattle.miette_labels.specs.views.Reads.{IsLent}
-use Rattle.miette_labels.proofs.Gathering.{loop_first, loop_some, loop_none, loop_end, no_groups, item_lent}
+use Rattle.miette_labels.proofs.GroupsSoFar.{loop_first, loop_some, loop_none, loop_end, no_groups, item_lent}
 use Rattle.miette_labels.proofs.grouping.joined_groups.Goals as goal
 use Rattle.miette_labels.proofs.grouping.joined_groups.Goals.{in-Some-2}
 use Rattle.miette_labels.proofs.grouping.joined_groups.Goals.{in-None+in_ok-own_group-in-None+in_ok-push-in-None}

@@ -1,5 +1,5 @@
 use Rattle.std.proofs.Common.{map, drop}
-use Rattle.miette_labels.proofs.Gathering.{AreGathered}
+use Rattle.miette_labels.proofs.GroupsSoFar.{AreGathered}
 use Rattle.miette_labels.proofs.grouping.joined_groups.Given as goal
 
 abbrev pub invariant-loop-label : goal.invariant-loop-label

@@ -1,6 +1,6 @@
 use Rattle.std.proofs.Common.{ap, ◌∙◌}
 use Rattle.miette_labels.specs.rules.Groups.{joined_stretches}
-use Rattle.miette_labels.proofs.Collecting.{groups_accepted}
+use Rattle.miette_labels.proofs.GroupsOfReads.{groups_accepted}
 use Rattle.miette_labels.proofs.grouping.own_groups.Goals as goal
 
 pub read_all-requires : goal.read_all-requires

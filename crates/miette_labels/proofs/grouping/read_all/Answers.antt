@@ -1,4 +1,4 @@
-use Rattle.miette_labels.proofs.Collecting.{read_more}
+use Rattle.miette_labels.proofs.GroupsOfReads.{read_more}
 use Rattle.miette_labels.proofs.grouping.read_all.Goals as goal
 
 pub loop-span-preserved : goal.loop-span-preserved

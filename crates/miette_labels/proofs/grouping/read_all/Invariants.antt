@@ -1,4 +1,4 @@
-use Rattle.miette_labels.proofs.Collecting.{AreReadTo}
+use Rattle.miette_labels.proofs.GroupsOfReads.{AreReadTo}
 use Rattle.miette_labels.proofs.grouping.read_all.Given as goal
 
 abbrev pub invariant-loop-span : goal.invariant-loop-span

@@ -1,7 +1,7 @@
 use Rattle.std.proofs.Common.{◌<◌, length, rules}
 use Rattle.std.proofs.lemmas.List.Sorted.{All-permutation, IsNonDecreasingBy-from_sort_by_key, answers_always}
 use Rattle.miette_labels.specs.views.GivenLabels.{label_at}
-use Rattle.miette_labels.proofs.Sorting.{ordered}
+use Rattle.miette_labels.proofs.SortedLabels.{ordered}
 use Rattle.miette_labels.proofs.order.by_offset.Goals as goal
 
 pub returns-clause-order : goal.returns-clause-order

@@ -1,4 +1,4 @@
-use Rattle.miette_labels.proofs.Sorting.{turns_more}
+use Rattle.miette_labels.proofs.SortedLabels.{turns_more}
 use Rattle.miette_labels.proofs.order.turns.Goals as goal
 
 pub loop-index-preserved : goal.loop-index-preserved

@@ -1,4 +1,4 @@
-use Rattle.miette_labels.proofs.Sorting.{AreTurns}
+use Rattle.miette_labels.proofs.SortedLabels.{AreTurns}
 use Rattle.miette_labels.proofs.order.turns.Given as goal
 
 abbrev pub invariant-loop-index : goal.invariant-loop-index

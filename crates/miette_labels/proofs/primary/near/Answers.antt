@@ -1,7 +1,7 @@
 use Rattle.std.proofs.Common.{◌≡◌, ℕ, ltb, leb, true, false, get_or, subst, arith, rules}
 use Rattle.std.proofs.lemmas.List.Sorted.{IsPartitionPoint-from_clause, IsPartitionedBy-leb, IsPartitionedBy-ltb}
 use Rattle.std.specs.List.Sorted.{IsPartitionPoint}
-use Rattle.miette_labels.proofs.Nearing.{near_chosen}
+use Rattle.miette_labels.proofs.PrimaryLabel.{near_chosen}
 use Rattle.miette_labels.proofs.primary.near.Goals as goal
 
 pub returns : goal.returns

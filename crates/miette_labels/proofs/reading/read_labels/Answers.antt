@@ -1,6 +1,6 @@
 use Rattle.std.proofs.Common.{length, ◌<◌, refl, slice_index_or}
 use Rattle.miette_labels.specs.views.Reads.{IsRead}
-use Rattle.miette_labels.proofs.Refusing.{read_more, own_read, refused_here}
+use Rattle.miette_labels.proofs.RefusedLabel.{read_more, own_read, refused_here}
 use Rattle.miette_labels.proofs.reading.read_labels.Goals as goal
 
 pub returns-in-Err : goal.returns-in-Err

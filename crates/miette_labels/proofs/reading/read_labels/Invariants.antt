@@ -1,4 +1,4 @@
-use Rattle.miette_labels.proofs.Refusing.{AreReadTo}
+use Rattle.miette_labels.proofs.RefusedLabel.{AreReadTo}
 use Rattle.miette_labels.proofs.reading.read_labels.Given as goal
 
 abbrev pub invariant-loop-turn : goal.invariant-loop-turn

@@ -1,4 +1,4 @@
-use Rattle.miette_labels.proofs.Collecting.{own_nowhere}
+use Rattle.miette_labels.proofs.GroupsOfReads.{own_nowhere}
 use Rattle.miette_labels.proofs.reading.some_own.Goals as goal
 
 pub returns : goal.returns

@@ -3,7 +3,7 @@ use Rattle.miette_snippet_rules.specs.views.SettingsView.{settings_of}
 use Rattle.miette_labels.specs.views.GivenLabels.{label_at}
 use Rattle.miette_snippet_rules.specs.rules.Highlighting.{leaves_plain, follows}
 use Rattle.miette_highlight.specs.rules.HighlighterCalls.{Leads}
-use Rattle.miette_layout.proofs.Progressing.{gives_refused}
+use Rattle.miette_layout.proofs.SnippetSequence.{gives_refused}
 use Rattle.miette_layout.proofs.snippets.all_snippets.Goals as goal
 
 pub returns-clause-gives : goal.returns-clause-gives

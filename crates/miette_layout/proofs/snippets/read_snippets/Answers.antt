@@ -8,7 +8,7 @@ use Rattle.miette_snippet_rules.specs.rules.Folds.{spreads_of}
 use Rattle.miette_folds.specs.declared.folds.Spread.{Spread as MadeSpread}
 use Rattle.miette_folds.specs.views.Spreads.{spread_of}
 use Rattle.miette_folds.specs.views.ReadSpreads.{HasLines}
-use Rattle.miette_folds.proofs.Spreading.{spreads_are}
+use Rattle.miette_folds.proofs.ReadSpreads.{spreads_are}
 use Rattle.miette_snippet_rules.specs.rules.SnippetLayout.{settings_around}
 use Rattle.miette_snippet_rules.specs.views.SettingsView.{settings_of}
 use Rattle.miette_labels.specs.views.GivenLabels.{drawn_of}
@@ -17,14 +17,14 @@ use Rattle.miette_drawing.specs.views.SnippetRows.{PutsRows, lent_snippet}
 use Rattle.miette_labels.specs.views.Placing.{placed_of, placed_from}
 use Rattle.miette_labels.specs.views.Primary.{PointsTo}
 use Rattle.miette_labels.specs.views.Reads.{AreGroups}
-use Rattle.miette_labels.proofs.Collecting.{are_grouped}
-use Rattle.miette_drawing.proofs.Lending.{lent_texts}
+use Rattle.miette_labels.proofs.GroupsOfReads.{are_grouped}
+use Rattle.miette_drawing.proofs.ReadRows.{lent_texts}
 use Rattle.miette_highlight.specs.rules.HighlighterCalls.{Call, Leads, restarted}
-use Rattle.miette_layout.proofs.Choosing.{reads_rise}
-use Rattle.miette_folds.proofs.Reaching.{are_numbered}
-use Rattle.miette_layout.proofs.Progressing.{none_drawn, drawn_more, all_drawn, gives_rows, gives_none, drawn_is}
-use Rattle.miette_layout.proofs.Progressing.{placed_rise, place_ordered, groups_lent, puts_around, none_grouped}
-use Rattle.miette_layout.proofs.Progressing.{gives_unread}
+use Rattle.miette_layout.proofs.PrimaryOfReads.{reads_rise}
+use Rattle.miette_folds.proofs.LineNumbers.{are_numbered}
+use Rattle.miette_layout.proofs.SnippetSequence.{none_drawn, drawn_more, all_drawn, gives_rows, gives_none, drawn_is}
+use Rattle.miette_layout.proofs.SnippetSequence.{placed_rise, place_ordered, groups_lent, puts_around, none_grouped}
+use Rattle.miette_layout.proofs.SnippetSequence.{gives_unread}
 use Rattle.miette_layout.proofs.snippets.read_snippets.Goals as goal
 
 pub near-requires : goal.near-requires

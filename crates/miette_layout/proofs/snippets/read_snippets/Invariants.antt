@@ -5,7 +5,7 @@ use Rattle.miette_snippet_rules.specs.views.SettingsView.{settings_of}
 use Rattle.std.proofs.Common.{◌≡◌}
 use Rattle.miette_snippet_rules.specs.rules.Highlighting.{leaves_plain, follows}
 use Rattle.miette_labels.specs.views.Sweeping.{IsAt}
-use Rattle.miette_layout.proofs.Progressing.{AreDrawn}
+use Rattle.miette_layout.proofs.SnippetSequence.{AreDrawn}
 use Rattle.miette_layout.proofs.snippets.read_snippets.Given as goal
 
 abbrev pub invariant-loop-group : goal.invariant-loop-group

@@ -5,7 +5,7 @@ use Rattle.miette_labels.specs.rules.Groups.{in_order}
 use Rattle.miette_labels.specs.declared.sweep.PlacedLabel.{PlacedLabel}
 use Rattle.miette_labels.specs.views.Placing.{placed_of}
 use Rattle.miette_labels.specs.views.Reads.{AreGroups}
-use Rattle.miette_labels.proofs.Collecting.{are_grouped}
+use Rattle.miette_labels.proofs.GroupsOfReads.{are_grouped}
 use Rattle.miette_narrated.specs.steps.Ends.{AreEnds}
 use Rattle.miette_narrated.specs.declared.label_order.RankedLabel.{RankedLabel}
 use Rattle.miette_narrated.specs.steps.Conversions.{ranges_of}

@@ -1,5 +1,5 @@
 use Rattle.std.proofs.Common.{false}
-use Rattle.miette_snippet_laws.proofs.CutShowing.{cells_near, cut_pieces, is_within_of, stretches_parted, within_is}
+use Rattle.miette_snippet_laws.proofs.CutShows.{cells_near, cut_pieces, is_within_of, stretches_parted, within_is}
 use Rattle.miette_snippet_laws.proofs.laws.cut_lines_are_parted.Goals as goal
 
 pub returns-clause-cells : goal.returns-clause-cells

@@ -1,5 +1,5 @@
 use Rattle.miette_snippet_laws.proofs.CutEnds.{behind_shown}
-use Rattle.miette_snippet_laws.proofs.Ending.{ends_stand, behind_text, rows_alike}
+use Rattle.miette_snippet_laws.proofs.EndLabels.{ends_stand, behind_text, rows_alike}
 use Rattle.miette_snippet_laws.proofs.laws.ends_are_drawn.Goals as goal
 
 pub returns-clause-lines : goal.returns-clause-lines

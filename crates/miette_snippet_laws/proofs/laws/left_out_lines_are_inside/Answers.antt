@@ -1,6 +1,6 @@
 use Rattle.std.proofs.Common.{◌+◌, Some, ◌∙◌}
 use Rattle.miette_labels.specs.rules.Groups.{in_order}
-use Rattle.miette_snippet_laws.proofs.Folding.{kept_ordered}
+use Rattle.miette_snippet_laws.proofs.FoldedRuns.{kept_ordered}
 use Rattle.miette_snippet_laws.proofs.Inside.{left_out_inside, left_out_same}
 use Rattle.miette_snippet_laws.proofs.MaximalRanges.{around_ordered}
 use Rattle.miette_snippet_laws.proofs.laws.left_out_lines_are_inside.Goals as goal

@@ -1,4 +1,4 @@
-use Rattle.miette_snippet_laws.proofs.Folding.{ranges_end_kept}
+use Rattle.miette_snippet_laws.proofs.FoldedRuns.{ranges_end_kept}
 use Rattle.miette_snippet_laws.proofs.laws.ranges_end_kept.Goals as goal
 
 pub returns : goal.returns

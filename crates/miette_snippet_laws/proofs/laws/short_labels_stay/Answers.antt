@@ -1,4 +1,4 @@
-use Rattle.miette_snippet_laws.proofs.Unfolding.{rows_unfolded}
+use Rattle.miette_snippet_laws.proofs.WithoutFolds.{rows_unfolded}
 use Rattle.miette_snippet_laws.proofs.laws.short_labels_stay.Goals as goal
 
 pub returns : goal.returns

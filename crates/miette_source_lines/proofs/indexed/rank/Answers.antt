@@ -1,5 +1,5 @@
 use Rattle.std.proofs.Common.{◌+◌, ◌-◌, ◌/◌, ◌≤◌, length, slice_index, arith}
-use Rattle.miette_source_lines.proofs.Halving.{few_looks, one_more_look, half_left}
+use Rattle.miette_source_lines.proofs.BinarySearch.{few_looks, one_more_look, half_left}
 use Rattle.miette_source_lines.proofs.indexed.rank.Goals as goal
 
 pub look-requires-clause-few : goal.look-requires-clause-few

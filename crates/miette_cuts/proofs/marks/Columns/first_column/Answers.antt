@@ -1,7 +1,7 @@
 use Rattle.std.proofs.Common.{◌≡◌, ◌+◌, ◌-◌, ◌∙◌, [], MatchOption, ap, subst, arith}
 use Rattle.std.specs.Result.{IfOk}
 use Rattle.miette_snippet_rules.specs.rules.PrintedCells.{first_column}
-use Rattle.miette_cuts.proofs.Plaining.{plain_first, plain_first_end}
+use Rattle.miette_cuts.proofs.PlainText.{plain_first, plain_first_end}
 use Rattle.miette_cuts.proofs.marks.Columns.first_column.Goals as goal
 
 pub returns-then-at-self : goal.returns-then-at-self

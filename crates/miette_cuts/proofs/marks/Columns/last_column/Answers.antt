@@ -1,7 +1,7 @@
 use Rattle.std.proofs.Common.{◌≡◌, ◌+◌, ◌-◌, ◌∙◌, [], MatchOption, ap, subst, arith}
 use Rattle.std.specs.Result.{IfOk}
 use Rattle.miette_snippet_rules.specs.rules.PrintedCells.{last_column}
-use Rattle.miette_cuts.proofs.Plaining.{plain_last, plain_last_end}
+use Rattle.miette_cuts.proofs.PlainText.{plain_last, plain_last_end}
 use Rattle.miette_cuts.proofs.marks.Columns.last_column.Goals as goal
 
 pub returns-then-at-self : goal.returns-then-at-self

@@ -5,8 +5,8 @@ use Rattle.miette_cells.specs.views.Printable.{plain_cells}
 use Rattle.miette_cells.specs.rules.Widths.{width_of}
 use Rattle.miette_cuts.specs.steps.Stops.{ComeFrom}
 use Rattle.miette_cells.proofs.Stepping.{cells_end}
-use Rattle.miette_cuts.proofs.Stopping.{cells_come}
-use Rattle.miette_cuts.proofs.Plaining.{plain_text}
+use Rattle.miette_cuts.proofs.StopColumns.{cells_come}
+use Rattle.miette_cuts.proofs.PlainText.{plain_text}
 use Rattle.miette_cuts.proofs.marks.Columns.new.Goals as goal
 
 pub returns-then-all_printable : goal.returns-then-all_printable

@@ -20,7 +20,7 @@ use Rattle.miette_snippet_rules.specs.rules.Numbers.{ranges}
 use Rattle.miette_snippet_rules.specs.rules.ShownLines.{line_at}
 use Rattle.miette_snippet_rules.specs.rules.Snippets as N
 use Rattle.miette_basics.proofs.Cases.{by_cases}
-use Rattle.miette_labels.proofs.Owning.{own_ordered, order_any}
+use Rattle.miette_labels.proofs.OwnContexts.{own_ordered, order_any}
 use Rattle.miette_source_lines.proofs.Places.{line_end_mono, line_of_all, line_of_mono, line_of_next, line_of_within}
 use Rattle.miette_source_lines.proofs.Places.{line_start_mono, line_start_next}
 use Rattle.miette_source_lines.proofs.Cuts.{few_lines, line_of_there, lines_before, nonempty}
@@ -31,7 +31,7 @@ use Rattle.miette_snippet_rules.proofs.ReadLines.{end_at, first-lt, middle_lines
 use Rattle.miette_snippet_rules.proofs.Bodies.{KeepsAlike, LeaveAlike}
 use Rattle.miette_snippet_laws.specs.laws.Folding.{FitsIn, EndsPass}
 use Rattle.miette_snippet_laws.proofs.Stretches.{IsMaximal, range_same, each_run, each_numbers}
-use Rattle.miette_snippet_laws.proofs.Owning.{Around}
+use Rattle.miette_snippet_laws.proofs.OwnGroups.{Around}
 use Rattle.miette_snippet_rules.proofs.Bodies.{last_of-range}
 use Rattle.miette_snippet_rules.specs.rules.Settings.{SnippetSettings}
 

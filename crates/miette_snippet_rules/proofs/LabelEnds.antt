@@ -17,7 +17,7 @@ use Rattle.miette_labels.specs.views.Placing.{drawn_placed}
 use Rattle.miette_labels.specs.declared.sweep.PlacedLabel.{PlacedLabel}
 use Rattle.miette_basics.proofs.Cases.{by_cases}
 use Rattle.miette_protocol.proofs.Wholes.{shown_end}
-use Rattle.miette_labels.proofs.Refusing.{read_of}
+use Rattle.miette_labels.proofs.RefusedLabel.{read_of}
 
 pub cut_is : (c : ℕ) (source : Source) (span : Span) → IsAccepted source.bytes span
     → min (end_of_span span) (end_of_span (contents c source span).span)

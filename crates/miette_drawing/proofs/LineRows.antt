@@ -10,8 +10,8 @@ use Rattle.miette_snippet_rules.specs.rules.Drawing.{blank, mark_runs, rows_belo
 use Rattle.miette_snippet_rules.specs.rules.Frames.{number_start, break_start}
 use Rattle.miette_snippet_rules.specs.rules.SnippetLayout.{before_each}
 use Rattle.miette_page.specs.views.Tokens.{begins, row_end, row_tokens, rows_tokens, styled_tokens, text_tokens}
-use Rattle.miette_snippet_rules.proofs.Telling.{then, told_as, run_one, blank_told, styled_row}
-use Rattle.miette_drawing.proofs.Texting.{row_done, rows_then, parts_then}
+use Rattle.miette_snippet_rules.proofs.RowTokens.{then, told_as, run_one, blank_told, styled_row}
+use Rattle.miette_drawing.proofs.TextRows.{row_done, rows_then, parts_then}
 use Rattle.miette_snippet_rules.specs.rules.Settings.{SnippetSettings}
 
 pub number_put : (s : SnippetSettings) (w number : ℕ) (p b l d v n : Printout) → b ≡ p

@@ -16,7 +16,7 @@ use Rattle.miette_folds.specs.views.Folding.{fold_in, is_around_fold}
 use Rattle.miette_folds.specs.steps.Nearness.{is_near_fold}
 use Rattle.miette_folds.specs.views.Gaps.{next_line, further, nearest, nearer_stop, nearest_stop, goes_on, gap_end}
 use Rattle.miette_folds.specs.views.Gaps.{next_start}
-use Rattle.miette_folds.proofs.Folding.{any_around, any_near}
+use Rattle.miette_folds.proofs.LeftOutLines.{any_around, any_near}
 use Rattle.miette_folds.proofs.Starts.{Begins, begins_start, begins_nearer, begins_further, begun_low, few_among}
 
 -- ---- choices, and tests together

@@ -14,9 +14,9 @@ use Rattle.miette_snippet_rules.specs.rules.SnippetLayout.{before_each}
 use Rattle.miette_labels.specs.views.GivenLabels.{drawn_of}
 use Rattle.miette_labels.specs.views.Sweeping.{nothing}
 use Rattle.miette_page.specs.views.Tokens.{Token, row_end, row_tokens, rows_tokens, styled_tokens, text_tokens}
-use Rattle.miette_snippet_rules.proofs.Telling.{then, told_as, run_more, styled_row}
-use Rattle.miette_drawing.proofs.Texting.{before_mapped, row_done, rows_then, parts_then}
-use Rattle.miette_drawing.proofs.Parting.{cut_some}
+use Rattle.miette_snippet_rules.proofs.RowTokens.{then, told_as, run_more, styled_row}
+use Rattle.miette_drawing.proofs.TextRows.{before_mapped, row_done, rows_then, parts_then}
+use Rattle.miette_drawing.proofs.TextLines.{cut_some}
 use Rattle.miette_snippet_rules.specs.rules.Settings.{SnippetSettings}
 
 pub part_put : (l : DrawnLabel) (bar : ℕ) (part : List ℕ) (p q r n : Printout) → q ≡ p

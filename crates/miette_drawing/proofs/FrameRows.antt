@@ -12,9 +12,9 @@ use Rattle.miette_snippet_rules.specs.rules.Frames.{Place, place_text}
 use Rattle.miette_drawing.specs.steps.FrameParts.{corner_row}
 use Rattle.miette_page.specs.views.Tokens.{begins, row_tokens, styled_tokens, text_tokens}
 use Rattle.miette_page.proofs.Paging.{told_append}
-use Rattle.miette_snippet_rules.proofs.Telling.{ascii_chars, then, told_as, run_one, run_more, blank_row, styled_told}
-use Rattle.miette_snippet_rules.proofs.Telling.{styled_row}
-use Rattle.miette_drawing.proofs.Texting.{parts_then}
+use Rattle.miette_snippet_rules.proofs.RowTokens.{ascii_chars, then, told_as, run_one, run_more, blank_row, styled_told}
+use Rattle.miette_snippet_rules.proofs.RowTokens.{styled_row}
+use Rattle.miette_drawing.proofs.TextRows.{parts_then}
 use Rattle.miette_snippet_rules.specs.rules.Settings.{SnippetSettings}
 
 -- bytes below 128 are their own characters

@@ -19,9 +19,9 @@ use Rattle.miette_labels.specs.views.Primary.{lies_within, chosen_label, PointsT
 use Rattle.miette_labels.specs.views.Reads.{IsRead}
 use Rattle.miette_basics.proofs.Cases.{by_cases}
 use Rattle.miette_labels.specs.rules.Groups.{in_order, spans_of}
-use Rattle.miette_labels.proofs.Nearing.{rise}
-use Rattle.miette_labels.proofs.Refusing.{read_of}
-use Rattle.miette_labels.proofs.Sorting.{IsAscending, ordered_ascends}
+use Rattle.miette_labels.proofs.PrimaryLabel.{rise}
+use Rattle.miette_labels.proofs.RefusedLabel.{read_of}
+use Rattle.miette_labels.proofs.SortedLabels.{IsAscending, ordered_ascends}
 
 -- labels by offset begin one after another
 pub reads_rise : (context : ℕ) (source : Source) (labels : List Label) (reads : List ReadLabel)

@@ -26,8 +26,8 @@ use Rattle.miette_snippet_laws.specs.laws.Ends.{draws_ends, last_line, stands_be
 use Rattle.miette_snippet_laws.specs.laws.Ends.{with_ends}
 use Rattle.miette_source_lines.proofs.Cuts.{cut_le, lines_cut}
 use Rattle.miette_basics.proofs.Cases.{by_cases}
-use Rattle.miette_labels.proofs.Owning.{own_ordered, order_any}
-use Rattle.miette_snippet_rules.proofs.Endings.{shows_around}
+use Rattle.miette_labels.proofs.OwnContexts.{own_ordered, order_any}
+use Rattle.miette_snippet_rules.proofs.SourceEnd.{shows_around}
 use Rattle.miette_snippet_rules.specs.rules.SnippetLayout.{snippet_context}
 use Rattle.miette_snippet_rules.specs.rules.Settings.{SnippetSettings}
 

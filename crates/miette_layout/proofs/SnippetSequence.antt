@@ -43,17 +43,17 @@ use Rattle.miette_labels.specs.views.Reads.{IsRead, IsLent, AreGroups, AreGroupe
 use Rattle.miette_page.specs.views.Tokens.{rows_tokens}
 use Rattle.miette_snippet_rules.proofs.Bodies.{none_refused}
 use Rattle.miette_labels.proofs.NoFailures.{some_none}
-use Rattle.miette_layout.proofs.Choosing.{framed_place, place_is, unread_fails}
-use Rattle.miette_snippet_rules.proofs.Ends.{placed_drawn}
-use Rattle.miette_snippet_rules.proofs.Endings.{told_is, drawn_around}
-use Rattle.miette_drawing.proofs.Styling.{snippets_plain, calls_plain}
+use Rattle.miette_layout.proofs.PrimaryOfReads.{framed_place, place_is, unread_fails}
+use Rattle.miette_snippet_rules.proofs.LabelEnds.{placed_drawn}
+use Rattle.miette_snippet_rules.proofs.SourceEnd.{told_is, drawn_around}
+use Rattle.miette_drawing.proofs.HighlightedPieces.{snippets_plain, calls_plain}
 use Rattle.miette_labels.specs.views.Sweeping.{AreSorted}
-use Rattle.miette_drawing.proofs.Lending.{placed_sorted, lent_body, lent_texts, lent_texts_are}
-use Rattle.miette_snippet_rules.proofs.Telling.{told_rows-append}
+use Rattle.miette_drawing.proofs.ReadRows.{placed_sorted, lent_body, lent_texts, lent_texts_are}
+use Rattle.miette_snippet_rules.proofs.RowTokens.{told_rows-append}
 use Rattle.miette_snippet_rules.proofs.NoPieces.{none_have}
-use Rattle.miette_labels.proofs.Owning.{own_ordered}
-use Rattle.miette_labels.proofs.Refusing.{read_of, all_accepted}
-use Rattle.miette_labels.proofs.Sorting.{label_got}
+use Rattle.miette_labels.proofs.OwnContexts.{own_ordered}
+use Rattle.miette_labels.proofs.RefusedLabel.{read_of, all_accepted}
+use Rattle.miette_labels.proofs.SortedLabels.{label_got}
 use Rattle.miette_snippet_rules.specs.rules.SnippetLayout.{snippet_context, rows_of_lines}
 use Rattle.miette_snippet_rules.specs.rules.Settings.{SnippetSettings}
 

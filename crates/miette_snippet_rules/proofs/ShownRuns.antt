@@ -25,8 +25,8 @@ use Rattle.miette_source_lines.proofs.Cuts.{few_lines}
 use Rattle.miette_source_lines.proofs.Places.{line_of_all, line_of_mono}
 use Rattle.miette_protocol.proofs.Wholes.{count, first-le-last, first_mono, last_mono}
 use Rattle.miette_labels.proofs.NoFailures.{later_none, next_none}
-use Rattle.miette_labels.proofs.Sorting.{IsAscending, ordered_ascends, rises_lower}
-use Rattle.miette_labels.proofs.Owning.{none_around, order_any, order_nil}
+use Rattle.miette_labels.proofs.SortedLabels.{IsAscending, ordered_ascends, rises_lower}
+use Rattle.miette_labels.proofs.OwnContexts.{none_around, order_any, order_nil}
 use Rattle.miette_snippet_rules.proofs.Numbers.{filter-none, filter-front, begins-other, runs-block, BeginsOtherThan}
 use Rattle.miette_snippet_rules.proofs.ReadLines.{first-lt, no_lines, none_in, read_numbers}
 

@@ -21,7 +21,7 @@ use Rattle.miette_labels.specs.views.GivenLabels.{label_at}
 use Rattle.miette_labels.specs.rules.Groups.{refusal, AreAccepted}
 use Rattle.miette_labels.specs.views.Reads.{IsRead, AreRead, name_of}
 use Rattle.miette_basics.proofs.Cases.{by_cases}
-use Rattle.miette_labels.proofs.Sorting.{label_got}
+use Rattle.miette_labels.proofs.SortedLabels.{label_got}
 use Rattle.miette_labels.specs.steps.Reads.{Reason}
 
 pub accepted_is : (source : List ℕ) (span : Span) → IsAccepted source span → is_accepted source span ≡ true

@@ -20,7 +20,7 @@ use Rattle.miette_snippet_rules.specs.rules.SnippetLayout.{settings_around, snip
 use Rattle.miette_snippet_rules.specs.rules.Snippets as N
 use Rattle.miette_snippet_laws.specs.laws.Folding.{FitsIn}
 use Rattle.miette_snippet_laws.proofs.MaximalRanges.{snippets_are_runs}
-use Rattle.miette_snippet_laws.proofs.Folding.{all_kept}
+use Rattle.miette_snippet_laws.proofs.FoldedRuns.{all_kept}
 use Rattle.miette_snippet_rules.specs.rules.SnippetLayout.{snippet_context}
 use Rattle.miette_snippet_rules.specs.rules.Settings.{SnippetSettings}
 

@@ -16,9 +16,9 @@ use Rattle.miette_snippet_rules.specs.rules.SnippetLayout.{before_each}
 use Rattle.miette_cuts.specs.views.Marks.{mark_of}
 use Rattle.miette_page.specs.views.Tokens.{Token, row_end, row_tokens, run_tokens, rows_tokens, styled_tokens}
 use Rattle.miette_page.specs.views.Tokens.{text_tokens}
-use Rattle.miette_snippet_rules.proofs.Telling.{then, told_as, run_one, run_more, blank_told, blank_row, styled_told}
-use Rattle.miette_snippet_rules.proofs.Telling.{styled_row, told-append, told_rows-append}
-use Rattle.miette_drawing.proofs.Parting.{cut_some}
+use Rattle.miette_snippet_rules.proofs.RowTokens.{then, told_as, run_one, run_more, blank_told, blank_row, styled_told}
+use Rattle.miette_snippet_rules.proofs.RowTokens.{styled_row, told-append, told_rows-append}
+use Rattle.miette_drawing.proofs.TextLines.{cut_some}
 use Rattle.miette_snippet_rules.specs.rules.Settings.{SnippetSettings}
 
 -- a row's end

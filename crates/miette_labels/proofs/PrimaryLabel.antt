@@ -11,8 +11,8 @@ use Rattle.miette_labels.specs.rules.Groups.{spans_of}
 use Rattle.miette_labels.specs.views.Primary.{end_within, lies_within, chosen_label}
 use Rattle.miette_labels.specs.views.Reads.{IsRead}
 use Rattle.miette_basics.proofs.Cases.{by_cases}
-use Rattle.miette_labels.proofs.Sorting.{IsAscending}
-use Rattle.miette_labels.proofs.Refusing.{read_of}
+use Rattle.miette_labels.proofs.SortedLabels.{IsAscending}
+use Rattle.miette_labels.proofs.RefusedLabel.{read_of}
 
 pub lt_not : (a b : ℕ) → ltb a b ≡ true → leb b a ≡ false
 lt_not a b h = grind (arith, nat_tests)

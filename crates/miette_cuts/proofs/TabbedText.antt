@@ -22,11 +22,11 @@ use Rattle.miette_basics.proofs.Cases.{by_cases}
 use Rattle.miette_cells.proofs.Plaining.{ascii_decoded, one_column, plain_byte}
 use Rattle.miette_snippet_rules.specs.rules.PrintedCells.{printed_glyphs, printed_cells, line_runs}
 use Rattle.miette_snippet_rules.specs.rules.Highlighting.{highlight_of}
-use Rattle.miette_snippet_rules.proofs.Telling.{then}
+use Rattle.miette_snippet_rules.proofs.RowTokens.{then}
 use Rattle.miette_cuts.specs.steps.CellTokens.{cells_tokens}
 use Rattle.miette_cuts.specs.steps.Tabs.{is_tabbed, tabbed_codes}
 use Rattle.miette_cuts.proofs.CellPrints.{codes_of_tab}
-use Rattle.miette_cuts.proofs.Untabbing.{printed_code}
+use Rattle.miette_cuts.proofs.TextWithoutTabs.{printed_code}
 
 abbrev codes : List Cell → List ℕ
 codes cells = map (λ (p : Glyph). p.code) (printed_cells cells)

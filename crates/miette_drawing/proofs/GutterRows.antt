@@ -17,7 +17,7 @@ use Rattle.miette_labels.specs.views.GivenLabels.{drawn_of}
 use Rattle.miette_labels.specs.views.Sweeping.{nothing}
 use Rattle.miette_page.specs.views.Tokens.{Token, row_tokens, styled_tokens, text_tokens}
 use Rattle.miette_basics.proofs.Cases.{by_cases}
-use Rattle.miette_snippet_rules.proofs.Telling.{styled_told, styled_row, blank_row, then, run_one}
+use Rattle.miette_snippet_rules.proofs.RowTokens.{styled_told, styled_row, blank_row, then, run_one}
 use Rattle.miette_style.specs.rules.Themes.{Characters}
 use Rattle.miette_basics.specs.rules.Lists.{onto}
 use Rattle.miette_snippet_rules.specs.rules.Settings.{SnippetSettings}

@@ -18,7 +18,7 @@ use Rattle.miette_snippet_rules.specs.rules.PrintedCells.{cells_width, cells_wit
 use Rattle.miette_snippet_rules.specs.rules.CutLines.{Stretch, agree, bytes_in, cut_line, cut_runs, dots, ends, is_near}
 use Rattle.miette_snippet_rules.specs.rules.CutLines.{is_near_after, onto_stretches, pieces_within, shown_runs}
 use Rattle.miette_snippet_rules.specs.rules.CutLines.{stretches}
-use Rattle.miette_snippet_rules.proofs.Telling.{then, told-append}
+use Rattle.miette_snippet_rules.proofs.RowTokens.{then, told-append}
 use Rattle.miette_cuts.specs.declared.stretch.Stretch.{Stretch as MadeStretch}
 use Rattle.miette_cuts.specs.views.Cuts.{measure, is_kept, cut_cells, made_runs}
 use Rattle.miette_cuts.specs.steps.CellTokens.{cells_tokens}

@@ -22,7 +22,7 @@ use Rattle.miette_cells.proofs.Stepping.{made}
 use Rattle.miette_basics.proofs.Cases.{by_cases}
 use Rattle.miette_snippet_rules.specs.rules.PrintedCells.{printed_glyphs, printed_cells, line_runs}
 use Rattle.miette_snippet_rules.specs.rules.Highlighting.{highlight_of}
-use Rattle.miette_snippet_rules.proofs.Telling.{then}
+use Rattle.miette_snippet_rules.proofs.RowTokens.{then}
 use Rattle.miette_cuts.specs.steps.CellTokens.{cells_tokens}
 use Rattle.miette_cuts.specs.steps.Tabs.{is_untabbed}
 

@@ -21,7 +21,7 @@ use Rattle.miette_folds.specs.declared.folds.LineStart.{LineStart}
 use Rattle.miette_folds.specs.views.Folding.{AreFoldsIn}
 use Rattle.miette_folds.specs.views.Gaps.{next_line, next_start}
 use Rattle.miette_folds.specs.steps.Counting.{begins_before, next_counted}
-use Rattle.miette_folds.proofs.Passing.{next_begins, next_further}
+use Rattle.miette_folds.proofs.GapLines.{next_begins, next_further}
 use Rattle.miette_folds.proofs.Starts.{Begins, RunOf, begins_end, begins_first, begins_next, run_of}
 use Rattle.miette_labels.specs.views.GivenLabels.{drawn_of}
 

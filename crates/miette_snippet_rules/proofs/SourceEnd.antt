@@ -25,10 +25,10 @@ use Rattle.miette_source_lines.proofs.Places.{line_end_after, line_end_beyond, l
 use Rattle.miette_source_lines.proofs.Places.{line_start_next}
 use Rattle.miette_source_lines.proofs.Cuts.{start_before_end}
 use Rattle.miette_protocol.proofs.Wholes.{data_are, offset-le-reading, start_is}
-use Rattle.miette_labels.proofs.Owning.{own_ordered}
-use Rattle.miette_labels.proofs.Refusing.{read_of}
-use Rattle.miette_snippet_rules.proofs.Ends.{end_told}
-use Rattle.miette_snippet_rules.proofs.Merging.{none_or_some}
+use Rattle.miette_labels.proofs.OwnContexts.{own_ordered}
+use Rattle.miette_labels.proofs.RefusedLabel.{read_of}
+use Rattle.miette_snippet_rules.proofs.LabelEnds.{end_told}
+use Rattle.miette_snippet_rules.proofs.ShownRuns.{none_or_some}
 use Rattle.miette_snippet_rules.proofs.ReadLines.{first-lt}
 use Rattle.miette_snippet_rules.specs.rules.Settings.{SnippetSettings}
 

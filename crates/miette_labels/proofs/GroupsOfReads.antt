@@ -24,10 +24,10 @@ use Rattle.miette_labels.specs.rules.Groups.{some_fails}
 use Rattle.miette_labels.specs.views.Reads.{IsRead, IsLent, AreGroups, AreGrouped}
 use Rattle.miette_basics.proofs.Cases.{by_cases}
 use Rattle.miette_labels.proofs.NoFailures.{none_unread}
-use Rattle.miette_labels.proofs.Gathering.{joined_accepted}
-use Rattle.miette_labels.proofs.Owning.{own_ordered, none_around}
-use Rattle.miette_labels.proofs.Refusing.{read_of}
-use Rattle.miette_labels.proofs.Sorting.{by_begin_is, sort_is, sorted_each}
+use Rattle.miette_labels.proofs.GroupsSoFar.{joined_accepted}
+use Rattle.miette_labels.proofs.OwnContexts.{own_ordered, none_around}
+use Rattle.miette_labels.proofs.RefusedLabel.{read_of}
+use Rattle.miette_labels.proofs.SortedLabels.{by_begin_is, sort_is, sorted_each}
 use Rattle.miette_labels.specs.steps.Reads.{AreJoined}
 
 -- ---- whether some label has its own number

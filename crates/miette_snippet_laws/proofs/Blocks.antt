@@ -14,8 +14,8 @@ use Rattle.miette_snippet_rules.proofs.Numbers.{filter-none}
 use Rattle.miette_basics.proofs.Cases.{by_cases}
 use Rattle.miette_source_lines.proofs.Places.{line_end_mono, line_start_mono, line_start_next}
 use Rattle.miette_source_lines.proofs.Cuts.{start_strict}
-use Rattle.miette_snippet_rules.proofs.Merging.{within, or_assoc, span_run}
-use Rattle.miette_labels.proofs.Sorting.{Rises, put, rises_lower, sorted, sorted_any, sorted_each, sorted_rises}
+use Rattle.miette_snippet_rules.proofs.ShownRuns.{within, or_assoc, span_run}
+use Rattle.miette_labels.proofs.SortedLabels.{Rises, put, rises_lower, sorted, sorted_any, sorted_each, sorted_rises}
 
 -- the numbers of the first and the last of some lines; the last need not be there
 pub record Block : Type 0 where

@@ -21,16 +21,16 @@ use Rattle.miette_snippet_rules.specs.rules.SnippetLayout.{rows_of_lines, left_o
 use Rattle.miette_snippet_rules.specs.rules.Numbers.{ranges}
 use Rattle.miette_snippet_rules.specs.rules.ShownLines.{range_rows, rows_of_ranges, bodies}
 use Rattle.miette_snippet_rules.specs.rules.Snippets as N
-use Rattle.miette_labels.proofs.Sorting.{by_begin_is, sorted_each, sorted_length}
+use Rattle.miette_labels.proofs.SortedLabels.{by_begin_is, sorted_each, sorted_length}
 use Rattle.miette_source_lines.proofs.Places.{line_start_within}
 use Rattle.miette_source_lines.proofs.Parts.{part_length}
 use Rattle.miette_protocol.proofs.Wholes.{end_is, end_within, first-le-last, start_is}
 use Rattle.miette_snippet_rules.proofs.ReadLines.{first-lt, no_lines, none_in}
 use Rattle.miette_snippet_rules.proofs.Bodies.{KeepsAlike, body_from}
 use Rattle.miette_snippet_laws.proofs.Reread.{block_line, block_lines, block_numbers}
-use Rattle.miette_snippet_laws.proofs.Spreading.{Block, IsBlock, AreBlocks, span_of, order_same, joined_same}
-use Rattle.miette_snippet_laws.proofs.Spreading.{blocks_by_begin, joined_blocks, ordered_there, joined_there}
-use Rattle.miette_snippet_laws.proofs.Spreading.{blocks_are_runs, numbers_of, in_blocks, is_in_block}
+use Rattle.miette_snippet_laws.proofs.Blocks.{Block, IsBlock, AreBlocks, span_of, order_same, joined_same}
+use Rattle.miette_snippet_laws.proofs.Blocks.{blocks_by_begin, joined_blocks, ordered_there, joined_there}
+use Rattle.miette_snippet_laws.proofs.Blocks.{blocks_are_runs, numbers_of, in_blocks, is_in_block}
 use Rattle.miette_snippet_rules.specs.rules.SnippetLayout.{snippet_context, cells_of}
 use Rattle.miette_snippet_rules.specs.rules.Settings.{SnippetSettings}
 

@@ -44,10 +44,10 @@ use Rattle.miette_labels.specs.views.LabelCounts.{most_multi}
 use Rattle.miette_page.specs.views.Tokens.{rows_tokens}
 use Rattle.miette_basics.proofs.Cases.{by_cases}
 use Rattle.miette_source_lines.proofs.Cuts.{cut_from, cut_le}
-use Rattle.miette_snippet_rules.proofs.Ends.{end_told}
-use Rattle.miette_labels.proofs.Sorting.{IsAscending, ordered_ascends}
-use Rattle.miette_labels.proofs.Refusing.{read_of}
-use Rattle.miette_snippet_rules.proofs.Telling.{told_rows-append}
+use Rattle.miette_snippet_rules.proofs.LabelEnds.{end_told}
+use Rattle.miette_labels.proofs.SortedLabels.{IsAscending, ordered_ascends}
+use Rattle.miette_labels.proofs.RefusedLabel.{read_of}
+use Rattle.miette_snippet_rules.proofs.RowTokens.{told_rows-append}
 use Rattle.miette_snippet_rules.specs.rules.SnippetLayout.{snippet_context, line_in, line_shown}
 use Rattle.miette_snippet_rules.specs.rules.Settings.{SnippetSettings}
 

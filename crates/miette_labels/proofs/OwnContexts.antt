@@ -8,7 +8,7 @@ use Rattle.miette_basics.specs.rules.Lists.{is_nil}
 use Rattle.miette_labels.specs.rules.Around.{has_own, lines_around}
 use Rattle.miette_labels.specs.rules.Groups.{in_order, put_label}
 use Rattle.miette_basics.proofs.Cases.{by_cases}
-use Rattle.miette_labels.proofs.Sorting.{in_order_is, sorted_all, sorted_any, sorted_each}
+use Rattle.miette_labels.proofs.SortedLabels.{in_order_is, sorted_all, sorted_any, sorted_each}
 
 -- ---- labels in order
 

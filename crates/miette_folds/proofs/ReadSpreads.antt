@@ -14,9 +14,9 @@ use Rattle.miette_labels.specs.views.Placing.{end_drawn}
 use Rattle.miette_labels.specs.views.Reads.{IsRead}
 use Rattle.miette_snippet_rules.specs.rules.Folds.{spread, spreads_of, last_byte}
 use Rattle.miette_folds.specs.views.ReadSpreads.{read_spread, read_spreads}
-use Rattle.miette_labels.proofs.Owning.{own_ordered}
-use Rattle.miette_labels.proofs.Refusing.{read_of}
-use Rattle.miette_snippet_rules.proofs.Ends.{end_is}
+use Rattle.miette_labels.proofs.OwnContexts.{own_ordered}
+use Rattle.miette_labels.proofs.RefusedLabel.{read_of}
+use Rattle.miette_snippet_rules.proofs.LabelEnds.{end_is}
 
 last_by : (o e n d : ℕ) → d ≡ max o (min e n) → max o (d - 1) ≡ max o (min e n - 1)
 last_by o e n d h = omega (arith, h)
