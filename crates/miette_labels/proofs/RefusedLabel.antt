@@ -1,6 +1,6 @@
 -- Labels that were read so far, and the first one that is refused.
 use Rattle.std.proofs.Common.{ℕ, suc, ◌+◌, ◌<◌, ◌≡◌, max, Bool, true, false, cond, leb, List, [], ◌∷◌, ◌++◌, length}
-use Rattle.std.proofs.Common.{map, take, drop, get_or, Some, refl, sym, ap, ◌∙◌, subst, arith, All, append_assoc}
+use Rattle.std.proofs.Common.{map, take, drop, get_or, Some, None, refl, sym, ap, ◌∙◌, subst, arith, All, append_assoc}
 use Rattle.std.proofs.Common.{take-append-drop}
 use Rattle.std.specs.Prelude.{codes, unwrap_or}
 use Rattle.std.proofs.lemmas.Bool.{le-leb, leb-true, and_from, and_left, and_right}
@@ -15,18 +15,29 @@ use Rattle.miette_labels.specs.declared.order.Turn.{Turn}
 use Rattle.miette_labels.specs.declared.reading.ReadLabel.{ReadLabel}
 use Rattle.miette_labels.specs.declared.reading.ReadLabels.TheVariants as reads
 use Rattle.miette_labels.specs.declared.reading.RefusalReason.{RefusalReason}
+use Rattle.miette_labels.specs.rules.Answers.{next_answer, NoneFails}
 use Rattle.miette_labels.specs.rules.Around.{has_own, contents_around}
 use Rattle.miette_labels.specs.rules.Contexts.{contents}
 use Rattle.miette_labels.specs.views.GivenLabels.{label_at}
 use Rattle.miette_labels.specs.rules.Groups.{refusal, AreAccepted}
 use Rattle.miette_labels.specs.views.Reads.{IsRead, AreRead, name_of}
 use Rattle.miette_basics.proofs.Cases.{by_cases}
+use Rattle.miette_labels.proofs.NoFailures.{later_none, next_none}
 use Rattle.miette_labels.proofs.SortedLabels.{label_got}
 use Rattle.miette_labels.specs.steps.Reads.{Reason}
 
 pub accepted_is : (source : List ℕ) (span : Span) → IsAccepted source span → is_accepted source span ≡ true
 accepted_is source span h = and_from _ _ (le-leb span.offset (length source) h.begins)
     (le-leb (span.offset + span.len) (length source + 1) h.ends)
+
+-- where no read fails, labels whose spans are accepted aren't refused
+pub none_refused : (source : List ℕ) (fails : List Bool) (labels : List Label) → NoneFails fails
+    → AreAccepted source labels → refusal source fails labels ≡ None
+none_refused source fails [] h k = refl
+none_refused source fails (label ∷ labels) h k =
+    let next : next_answer fails ≡ false = next_none fails h in
+    let own : is_accepted source label.span ≡ true = accepted_is source label.span k.0 in
+    rw (next, own) (none_refused source (drop 1 fails) labels (later_none fails h) k.1)
 
 -- the labels of reads, and of turns
 abbrev pub read_of : List Label → ReadLabel → Label

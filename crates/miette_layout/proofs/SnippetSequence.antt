@@ -41,7 +41,7 @@ use Rattle.miette_labels.specs.views.Placing.{told_end, placed_of, placed_from}
 use Rattle.miette_labels.specs.views.Primary.{chosen_label, PointsTo, is_unread}
 use Rattle.miette_labels.specs.views.Reads.{IsRead, IsLent, AreGroups, AreGrouped, IsUnread, AreRead, name_of}
 use Rattle.miette_page.specs.views.Tokens.{rows_tokens}
-use Rattle.miette_snippet_rules.proofs.Bodies.{none_refused}
+use Rattle.miette_labels.proofs.RefusedLabel.{none_refused}
 use Rattle.miette_labels.proofs.NoFailures.{some_none}
 use Rattle.miette_layout.proofs.PrimaryOfReads.{framed_place, place_is, unread_fails}
 use Rattle.miette_snippet_rules.proofs.LabelEnds.{placed_drawn}

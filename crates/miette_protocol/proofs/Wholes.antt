@@ -11,7 +11,7 @@ use Rattle.miette_protocol.specs.rules.Context.{first_line, last_line}
 use Rattle.miette_source_lines.proofs.Places.{line_of_mono, line_of_past, line_of_all, line_of_start_before}
 use Rattle.miette_source_lines.proofs.Places.{line_of_next, line_end_le, line_end_after, line_start_next}
 use Rattle.miette_source_lines.proofs.Places.{line_start_mono, line_start_le, terminators_in-is}
-use Rattle.miette_source_lines.proofs.Cuts.{nonempty}
+use Rattle.miette_source_lines.proofs.Cuts.{few_lines, nonempty, some_line}
 use Rattle.miette_source_lines.proofs.Only.{lines_between}
 
 -- where a span's read ends
@@ -64,6 +64,11 @@ pub last_mono : (bytes : List ℕ) (a b : Span) (after : ℕ) → a.offset + a.l
     → last_line bytes a after ≤ last_line bytes b after
 last_mono bytes a b after le =
     omega (arith, line_of_mono bytes (reading_end bytes a) (reading_end bytes b) (reading_mono bytes a b le))
+
+-- with a line of context or more the first one is there
+pub first-lt : (c : ℕ) (bytes : List ℕ) (span : Span) → 1 ≤ c → 0 < length bytes → first_line bytes span c
+    < length (lines_of bytes)
+first-lt c bytes span one some = omega (arith, few_lines bytes span.offset, some_line bytes some, one)
 
 -- with lines of context the data are whole lines
 

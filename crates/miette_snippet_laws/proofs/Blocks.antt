@@ -10,11 +10,11 @@ use Rattle.miette_protocol.specs.rules.Reading.{Span}
 use Rattle.miette_labels.specs.rules.Groups.{joined_span, put_span, by_begin, stretches_from, joined_stretches}
 use Rattle.miette_snippet_rules.specs.rules.Numbers.{ranges}
 use Rattle.miette_labels.specs.rules.Contexts.{end_of_span}
-use Rattle.miette_snippet_rules.proofs.Numbers.{filter-none}
+use Rattle.miette_basics.proofs.Ranges.{filter-none}
 use Rattle.miette_basics.proofs.Cases.{by_cases}
 use Rattle.miette_source_lines.proofs.Places.{line_end_mono, line_start_mono, line_start_next}
 use Rattle.miette_source_lines.proofs.Cuts.{start_strict}
-use Rattle.miette_snippet_rules.proofs.ShownRuns.{within, or_assoc, span_run}
+use Rattle.miette_snippet_laws.proofs.ShownRuns.{within, or_assoc, span_run}
 use Rattle.miette_labels.proofs.SortedLabels.{Rises, put, rises_lower, sorted, sorted_any, sorted_each, sorted_rises}
 
 -- the numbers of the first and the last of some lines; the last need not be there

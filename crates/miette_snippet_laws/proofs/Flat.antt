@@ -10,7 +10,7 @@ use Rattle.miette_snippet_rules.specs.rules.Drawing.{mark_code, mark_runs, lead_
 use Rattle.miette_snippet_rules.specs.rules.Drawing.{corner_of_several, beside, rows_of_parts, rows_below}
 use Rattle.miette_snippet_rules.specs.rules.SnippetLayout.{before_each}
 use Rattle.miette_snippet_laws.specs.laws.Pictures.{mark_at, marks_end}
-use Rattle.miette_snippet_rules.proofs.Numbers.{range_with_len-append}
+use Rattle.miette_basics.proofs.Ranges.{range_with_len-append}
 use Rattle.miette_snippet_laws.proofs.UnstyledRows.{lead_at, lead, corner_pieces, beside_pieces, plain_parts}
 use Rattle.miette_snippet_laws.proofs.UnstyledRows.{plain_below}
 use Rattle.miette_snippet_rules.specs.rules.Settings.{SnippetSettings}

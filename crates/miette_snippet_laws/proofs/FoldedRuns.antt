@@ -27,12 +27,13 @@ use Rattle.miette_source_lines.proofs.Cuts.{few_lines, line_of_there, lines_befo
 use Rattle.miette_source_lines.proofs.Only.{lines_between}
 use Rattle.miette_source_lines.proofs.Parts.{part_place, start_whole}
 use Rattle.miette_protocol.proofs.Wholes.{data_are, end-le-reading, first-le-last, start_is}
-use Rattle.miette_snippet_rules.proofs.ReadLines.{end_at, first-lt, middle_lines, start_at}
-use Rattle.miette_snippet_rules.proofs.Bodies.{KeepsAlike, LeaveAlike}
+use Rattle.miette_protocol.proofs.Wholes.{first-lt}
+use Rattle.miette_snippet_laws.proofs.ReadLines.{end_at, middle_lines, start_at}
+use Rattle.miette_snippet_laws.proofs.SnippetBodies.{KeepsAlike, LeaveAlike}
 use Rattle.miette_snippet_laws.specs.laws.Folding.{FitsIn, EndsPass}
 use Rattle.miette_snippet_laws.proofs.Stretches.{IsMaximal, range_same, each_run, each_numbers}
 use Rattle.miette_snippet_laws.proofs.OwnGroups.{Around}
-use Rattle.miette_snippet_rules.proofs.Bodies.{last_of-range}
+use Rattle.miette_snippet_laws.proofs.SnippetBodies.{last_of-range}
 use Rattle.miette_snippet_rules.specs.rules.Settings.{SnippetSettings}
 
 -- ---- the places of offsets among the lines of a frame

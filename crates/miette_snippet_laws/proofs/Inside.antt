@@ -21,7 +21,7 @@ use Rattle.miette_basics.proofs.Cases.{by_cases}
 use Rattle.miette_source_lines.proofs.Places.{line_of_mono, line_of_next, line_start_next}
 use Rattle.miette_source_lines.proofs.Cuts.{line_of_there, nonempty, start_before_end}
 use Rattle.miette_protocol.proofs.Wholes.{end-le-reading, offset-le-reading}
-use Rattle.miette_snippet_rules.proofs.ReadLines.{end_at, start_at}
+use Rattle.miette_snippet_laws.proofs.ReadLines.{end_at, start_at}
 use Rattle.miette_snippet_laws.specs.laws.Folding.{IsInside}
 use Rattle.miette_snippet_laws.proofs.FoldedRuns.{none_first, none_last}
 use Rattle.miette_snippet_laws.proofs.OwnGroups.{Around}

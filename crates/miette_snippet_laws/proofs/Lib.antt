@@ -1,28 +1,31 @@
 pub mod Apart
-pub mod OneGroup
 pub mod Beneath
 pub mod Bleaching
+pub mod Blocks
 pub mod CleanTexts
+mod Columns
 pub mod CutEnds
 pub mod CutFading
 pub mod CutLaws
 pub mod CutShows
 pub mod CutWidth
-mod Columns
-pub mod MaximalRanges
 pub mod EndLabels
 pub mod Flat
 pub mod FoldedRuns
 pub mod HungTexts
 pub mod Inside
 pub mod Maximal
+pub mod MaximalRanges
 pub mod Numerals
+pub mod OneGroup
 pub mod OwnGroups
 pub mod PaleSnippets
 pub mod Paling
+pub mod ReadLines
 pub mod Reread
-pub mod Blocks
+pub mod ShownRuns
+pub mod SnippetBodies
 pub mod Stretches
-pub mod WithoutFolds
 pub mod UnstyledRows
 pub mod Whole
+pub mod WithoutFolds

@@ -8,7 +8,7 @@ use Rattle.std.proofs.lemmas.List.Elements.{filter_agree}
 use Rattle.std.proofs.lemmas.Bool.{or_parts}
 use Rattle.miette_source_lines.specs.rules.Lines.{lines_of}
 use Rattle.miette_protocol.specs.views.Meaning.{Label}
-use Rattle.miette_protocol.specs.rules.Reading.{Span, Source}
+use Rattle.miette_protocol.specs.rules.Reading.{Span, Source, IsAccepted}
 use Rattle.miette_labels.specs.rules.Answers.{Answers, Highlight, first_of, NoneFails, AlwaysReads}
 use Rattle.miette_labels.specs.rules.Around.{has_own, lines_around, HaveContext, group_context}
 use Rattle.miette_labels.specs.rules.Contexts.{contents}
@@ -23,9 +23,10 @@ use Rattle.miette_snippet_rules.specs.rules.Numbers.{ranges}
 use Rattle.miette_snippet_rules.specs.rules.ShownLines.{rows_of_ranges, bodies, framed_rows, framed_ranges}
 use Rattle.miette_snippet_rules.specs.rules.Snippets as N
 use Rattle.miette_basics.proofs.Cases.{by_cases}
-use Rattle.miette_snippet_rules.proofs.ShownRuns.{groups_are_runs, no_labels, none_or_some, snippets_nowhere, some_bytes}
-use Rattle.miette_snippet_rules.proofs.Bodies.{KeepsAlike, joined_bodies, all_framed, none_refused}
-use Rattle.miette_snippet_rules.proofs.Bodies.{ordered_accepted}
+use Rattle.miette_snippet_laws.proofs.ShownRuns.{groups_are_runs, no_labels, none_or_some, snippets_nowhere}
+use Rattle.miette_snippet_laws.proofs.ShownRuns.{some_bytes}
+use Rattle.miette_snippet_laws.proofs.SnippetBodies.{KeepsAlike, joined_bodies, all_framed}
+use Rattle.miette_labels.proofs.RefusedLabel.{none_refused}
 use Rattle.miette_labels.proofs.NoFailures.{some_none}
 use Rattle.miette_snippet_laws.proofs.OwnGroups.{Around, group_blocks, groups_are, groups_there}
 use Rattle.miette_snippet_laws.proofs.OwnGroups.{block_runs, lines_are, block_bodies, nowhere, groups_nowhere}
@@ -228,9 +229,9 @@ snippets_are_runs s source labels answers h accepted always =
     let gs : List Span = groups_of s.layout.context_lines source answers.join_fails ls in
     let drawn : List DrawnLabel = drawn_labels s' (length source.bytes) ls in
     ap (λ r. rows_unless s source ls answers (option_map (refused_row s) r))
-    (none_refused source.bytes answers.label_fails ls always.labels (ordered_accepted source.bytes labels accepted))
-    ∙ ap₂ (λ a b. cond (a || b) None (Some (all_snippets s'
-    (spreads_of s.layout.label_lines s.layout.context_lines source ls) source ls
+    (none_refused source.bytes answers.label_fails ls always.labels
+    (order_each (λ label. IsAccepted source.bytes label.span) labels accepted))
+    ∙ ap₂ (λ a b. cond (a || b) None (Some (all_snippets s' (spreads_of s.layout.label_lines s.layout.context_lines source ls) source ls
     answers.pieces gs))) (none_unread s.layout.context_lines source answers.join_fails ls always.joins)
     (some_none answers.place_fails gs always.places)
     ∙ ap Some (all_framed s' (spreads_of s.layout.label_lines s.layout.context_lines source ls) source ls answers.pieces

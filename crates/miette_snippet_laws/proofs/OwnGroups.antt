@@ -25,8 +25,9 @@ use Rattle.miette_labels.proofs.SortedLabels.{by_begin_is, sorted_each, sorted_l
 use Rattle.miette_source_lines.proofs.Places.{line_start_within}
 use Rattle.miette_source_lines.proofs.Parts.{part_length}
 use Rattle.miette_protocol.proofs.Wholes.{end_is, end_within, first-le-last, start_is}
-use Rattle.miette_snippet_rules.proofs.ReadLines.{first-lt, no_lines, none_in}
-use Rattle.miette_snippet_rules.proofs.Bodies.{KeepsAlike, body_from}
+use Rattle.miette_protocol.proofs.Wholes.{first-lt}
+use Rattle.miette_snippet_laws.proofs.ReadLines.{no_lines, none_in}
+use Rattle.miette_snippet_laws.proofs.SnippetBodies.{KeepsAlike, body_from}
 use Rattle.miette_snippet_laws.proofs.Reread.{block_line, block_lines, block_numbers}
 use Rattle.miette_snippet_laws.proofs.Blocks.{Block, IsBlock, AreBlocks, span_of, order_same, joined_same}
 use Rattle.miette_snippet_laws.proofs.Blocks.{blocks_by_begin, joined_blocks, ordered_there, joined_there}

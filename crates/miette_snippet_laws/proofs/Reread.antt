@@ -12,7 +12,7 @@ use Rattle.miette_source_lines.proofs.Places.{line_start_next}
 use Rattle.miette_source_lines.proofs.Cuts.{line_of_there}
 use Rattle.miette_source_lines.proofs.Only.{lines_between}
 use Rattle.miette_source_lines.proofs.Parts.{line_whole}
-use Rattle.miette_snippet_rules.proofs.ReadLines.{middle_lines, numbers_within}
+use Rattle.miette_snippet_laws.proofs.ReadLines.{middle_lines, numbers_within}
 use Rattle.miette_snippet_laws.proofs.Blocks.{Block, IsBlock, span_of, block_end, numbers_of}
 
 -- the reading of a span that ends where a line does ends there

@@ -1,9 +1,5 @@
-pub mod Bodies
 pub mod CutColumns
 pub mod SourceEnd
 pub mod LabelEnds
-pub mod ShownRuns
 pub mod NoPieces
-pub mod Numbers
-pub mod ReadLines
 pub mod RowTokens

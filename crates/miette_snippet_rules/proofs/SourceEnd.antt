@@ -6,7 +6,7 @@ use Rattle.std.proofs.Common.{subst, arith, All}
 use Rattle.std.specs.Prelude.{unwrap_or}
 use Rattle.std.specs.List.{list_any}
 use Rattle.std.proofs.lemmas.Bool.{eqb-true, eqb-false, eq-eqb, ne_eqb, lt-ltb, le-ltb, and_left, and_right}
-use Rattle.std.proofs.lemmas.Bool.{and_from}
+use Rattle.std.proofs.lemmas.Bool.{and_from, cases_lt}
 use Rattle.miette_source_lines.specs.rules.Lines.{line_of, line_end}
 use Rattle.miette_protocol.specs.views.Meaning.{Label}
 use Rattle.miette_protocol.specs.rules.Reading.{Span, Source, reading_end}
@@ -28,8 +28,7 @@ use Rattle.miette_protocol.proofs.Wholes.{data_are, offset-le-reading, start_is}
 use Rattle.miette_labels.proofs.OwnContexts.{own_ordered}
 use Rattle.miette_labels.proofs.RefusedLabel.{read_of}
 use Rattle.miette_snippet_rules.proofs.LabelEnds.{end_told}
-use Rattle.miette_snippet_rules.proofs.ShownRuns.{none_or_some}
-use Rattle.miette_snippet_rules.proofs.ReadLines.{first-lt}
+use Rattle.miette_protocol.proofs.Wholes.{first-lt}
 use Rattle.miette_snippet_rules.specs.rules.Settings.{SnippetSettings}
 
 -- ---- one read
@@ -90,9 +89,9 @@ tells zero source span le =
     and_left _ _ (le-ltb span.offset span.offset (omega arith))
     ∙ sym (and_right (ltb 0 (length source.bytes)) _ (and_right (eqb span.offset (length source.bytes)) false refl))
 tells (suc c) source span le =
-    elim (none_or_some (length source.bytes)) [
-      | inl none ↦ none_tells (suc c) source span le none
-      | inr some ↦ some_tells (suc c) source span (omega arith) some le
+    elim (cases_lt 0 (length source.bytes)) [
+      | inl some ↦ some_tells (suc c) source span (omega arith) some le
+      | inr none ↦ none_tells (suc c) source span le (omega (arith, none))
     ]
 
 read_tells : (context : ℕ) (source : Source) (labels : List Label) (r : ReadLabel) → IsRead context source labels r →

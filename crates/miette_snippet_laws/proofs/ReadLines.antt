@@ -1,7 +1,6 @@
 -- Which lines of a source the read of a span shows, by their numbers.
 use Rattle.std.proofs.Common.{ℕ, zero, suc, ◌+◌, ◌-◌, ◌<◌, ◌≤◌, ◌≡◌, min, Bool, false, leb, List, [], ◌∷◌, length, map}
-use Rattle.std.proofs.Common.{take}
-use Rattle.std.proofs.Common.{drop, refl, sym, ap, ◌∙◌, ◌&&◌, arith}
+use Rattle.std.proofs.Common.{take, drop, refl, sym, ap, ◌∙◌, ◌&&◌, arith}
 use Rattle.std.specs.Prelude.{slice_get, slice_range}
 use Rattle.std.specs.Option.{option_map_or}
 use Rattle.std.specs.List.{range_with_len, filter}
@@ -13,9 +12,9 @@ use Rattle.miette_protocol.specs.rules.Reading.{Span, Source, Contents, data_sta
 use Rattle.miette_protocol.specs.rules.Context.{first_line, last_line}
 use Rattle.miette_labels.specs.rules.Contexts.{contents, end_of_span, lines_in, lines_of_contents}
 use Rattle.miette_snippet_rules.specs.rules.ShownLines.{line_at}
-use Rattle.miette_source_lines.proofs.Cuts.{few_lines, some_line}
+use Rattle.miette_source_lines.proofs.Cuts.{few_lines}
 use Rattle.miette_protocol.proofs.Wholes.{between, data_are, lines, start_is}
-use Rattle.miette_snippet_rules.proofs.Numbers.{filter-range}
+use Rattle.miette_basics.proofs.Ranges.{filter-range}
 
 -- ---- lines by their numbers
 
@@ -96,10 +95,6 @@ numbers_within bytes low high from to there e f =
 
 pub first_there : (c : ℕ) (bytes : List ℕ) (span : Span) → first_line bytes span c ≤ length (lines_of bytes)
 first_there c bytes span = omega (arith, few_lines bytes span.offset)
-
-pub first-lt : (c : ℕ) (bytes : List ℕ) (span : Span) → 1 ≤ c → 0 < length bytes → first_line bytes span c
-    < length (lines_of bytes)
-first-lt c bytes span one some = omega (arith, few_lines bytes span.offset, some_line bytes some, one)
 
 -- how many there are
 abbrev pub many_of : ℕ → List ℕ → Span → ℕ

@@ -1,17 +1,17 @@
 -- Snippets draw the maximal runs of shown lines.
-use Rattle.std.proofs.Common.{ℕ, zero, suc, ◌+◌, ◌<◌, ◌≤◌, ◌≡◌, Bool, true, false, List, [], ◌∷◌, ◌++◌, not}
-use Rattle.std.proofs.Common.{length, map, drop, None, refl, sym, ap, subst, ◌∙◌, arith}
+use Rattle.std.proofs.Common.{ℕ, zero, suc, ◌+◌, ◌<◌, ◌≤◌, ◌≡◌, Bool, false, List, [], ◌∷◌, ◌++◌, not}
+use Rattle.std.proofs.Common.{length, map, drop, refl, sym, ap, subst, ◌∙◌, arith}
 use Rattle.std.specs.Prelude.{decimal}
 use Rattle.std.proofs.lemmas.List.FromFn.{length-map-range_with_len}
 use Rattle.std.specs.List.{range_with_len, AllByRecursion}
 use Rattle.miette_source_lines.specs.rules.Lines.{Line, lines_of}
 use Rattle.miette_protocol.specs.views.Meaning.{Label}
-use Rattle.miette_protocol.specs.rules.Reading.{Span, Source, IsAccepted, is_accepted}
+use Rattle.miette_protocol.specs.rules.Reading.{Span, Source}
 use Rattle.miette_protocol.specs.rules.Context.{first_line}
-use Rattle.miette_labels.specs.rules.Answers.{Highlight, next_answer, first_of, NoneFails}
+use Rattle.miette_labels.specs.rules.Answers.{Highlight, first_of, NoneFails}
 use Rattle.miette_labels.specs.rules.Around.{has_own}
 use Rattle.miette_labels.specs.rules.Contexts.{contents, lines_in, lines_of_contents}
-use Rattle.miette_labels.specs.rules.Groups.{groups_answered, in_order, spans_of, refusal, AreAccepted}
+use Rattle.miette_labels.specs.rules.Groups.{groups_answered, in_order, spans_of}
 use Rattle.miette_labels.specs.rules.Groups.{lines_of_groups}
 use Rattle.miette_labels.specs.rules.Labels.{DrawnLabel}
 use Rattle.miette_snippet_rules.specs.rules.Folds.{Spread}
@@ -23,11 +23,8 @@ use Rattle.miette_snippet_rules.specs.rules.ShownLines.{bodies, framed_rows}
 use Rattle.miette_snippet_rules.specs.rules.SnippetLayout.{rows_of_lines, left_out, line_or_break, body_rows, cells_of}
 use Rattle.miette_snippet_rules.specs.rules.SnippetLayout.{snippet, all_snippets, drawn_labels}
 use Rattle.miette_snippet_rules.specs.rules.Snippets.{snippets}
-use Rattle.miette_labels.proofs.NoFailures.{later_none, next_none}
-use Rattle.miette_labels.proofs.OwnContexts.{order_each}
-use Rattle.miette_labels.proofs.RefusedLabel.{accepted_is}
-use Rattle.miette_snippet_rules.proofs.ShownRuns.{groups_are_runs}
-use Rattle.miette_snippet_rules.proofs.ReadLines.{many_of, read_lines, read_numbers}
+use Rattle.miette_snippet_laws.proofs.ShownRuns.{groups_are_runs}
+use Rattle.miette_snippet_laws.proofs.ReadLines.{many_of, read_lines, read_numbers}
 use Rattle.miette_snippet_rules.specs.rules.SnippetLayout.{snippet_context}
 use Rattle.miette_snippet_rules.specs.rules.Settings.{SnippetSettings}
 
@@ -145,15 +142,3 @@ all_framed s spreads source labels pieces [] = refl
 all_framed s spreads source labels pieces (group ∷ groups) =
     ap (λ r. snippet s spreads source labels group (first_of pieces) ++ r)
     (all_framed s spreads source labels (drop 1 pieces) groups)
-
-pub ordered_accepted : (source : List ℕ) (labels : List Label) → AreAccepted source labels
-    → AreAccepted source (in_order labels)
-ordered_accepted source labels h = order_each (λ label. IsAccepted source label.span) labels h
-
-pub none_refused : (source : List ℕ) (fails : List Bool) (labels : List Label) → NoneFails fails
-    → AreAccepted source labels → refusal source fails labels ≡ None
-none_refused source fails [] h k = refl
-none_refused source fails (label ∷ labels) h k =
-    let next : next_answer fails ≡ false = next_none fails h in
-    let own : is_accepted source label.span ≡ true = accepted_is source label.span k.0 in
-    rw (next, own) (none_refused source (drop 1 fails) labels (later_none fails h) k.1)

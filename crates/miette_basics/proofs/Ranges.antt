@@ -1,11 +1,8 @@
--- Numbers upwards, a filter of them, and their runs.
-use Rattle.std.proofs.Common.{ℕ, zero, suc, ◌+◌, ◌<◌, ◌≤◌, ◌≡◌, ◌≢◌, Bool, true, false, cond, eqb, List, [], ◌∷◌, ◌++◌}
-use Rattle.std.proofs.Common.{refl, ap, ◌∙◌, append-nil, arith}
-use Rattle.std.proofs.lemmas.Bool.{eq-eqb, ne_eqb}
+-- Numbers upwards, and a filter of them.
+use Rattle.std.proofs.Common.{ℕ, zero, suc, ◌+◌, ◌<◌, ◌≤◌, ◌≡◌, Bool, true, false, cond, [], ◌∷◌, ◌++◌, refl}
+use Rattle.std.proofs.Common.{ap, ◌∙◌, append-nil, arith}
 use Rattle.std.proofs.lemmas.List.Elements.{filter-append}
 use Rattle.std.specs.List.{range_with_len, filter}
-use Rattle.miette_snippet_rules.specs.rules.Numbers.{onto_range, ranges}
-use Rattle.miette_basics.proofs.Cases.{by_cases}
 
 pub range_with_len-append : (from x y : ℕ) → range_with_len from (x + y) ≡ range_with_len from x
     ++ range_with_len (from + x) y
@@ -38,33 +35,6 @@ filter-same p q from zero h = refl
 filter-same p q from (suc many) h =
     rw (h from (omega arith) (omega arith)) (ap (λ r. cond (q from) (from ∷ r) r)
     (filter-same p q (from + 1) many (λ k a b. h k (omega arith) (omega arith))))
-
--- the list is empty or begins with something else
-abbrev pub BeginsOtherThan : ℕ → List ℕ → Type 0
-BeginsOtherThan x [] = Unit {0}
-BeginsOtherThan x (y ∷ ys) = y ≢ x
-
-alone : (k y : ℕ) (rs : List (List ℕ)) → y ≢ k + 1 → onto_range k (onto_range y rs) ≡ (k ∷ []) ∷ onto_range y rs
-alone k y [] h = rw (ne_eqb y (k + 1) h) refl
-alone k y ([] ∷ later) h = rw (ne_eqb y (k + 1) h) refl
-alone k y ((next ∷ run) ∷ later) h =
-    elim (eqb next (y + 1)) as (λ b. onto_range k (cond b ((y ∷ next ∷ run) ∷ later) ((y ∷ []) ∷ (next ∷ run) ∷ later))
-    ≡ (k ∷ []) ∷ cond b ((y ∷ next ∷ run) ∷ later) ((y ∷ []) ∷ (next ∷ run) ∷ later))
-    [ true ↦ rw (ne_eqb y (k + 1) h) refl | false ↦ rw (ne_eqb y (k + 1) h) refl ]
-
-one : (k : ℕ) (ys : List ℕ) → BeginsOtherThan (k + 1) ys → ranges (k ∷ ys) ≡ (k ∷ []) ∷ ranges ys
-one k [] h = refl
-one k (y ∷ ys) h = alone k y (ranges ys) h
-
--- consecutive numbers, and then none that is the next one: a run of its own
-pub runs-block : (from many : ℕ) (ys : List ℕ) → BeginsOtherThan (from + suc many) ys
-    → ranges (range_with_len from (suc many) ++ ys) ≡ range_with_len from (suc many) ∷ ranges ys
-runs-block from zero ys h = let e : from + 1 ≡ from + suc zero = omega arith in one from ys (rw e h)
-runs-block from (suc many) ys h =
-    let e : from + suc (suc many) ≡ from + 1 + suc many = omega arith in
-    let rest : ranges (range_with_len (from + 1) (suc many) ++ ys) ≡ range_with_len (from + 1) (suc many) ∷ ranges ys =
-    runs-block (from + 1) many ys (rw e at h) in
-    ap (onto_range from) rest ∙ rw (eq-eqb (from + 1) (from + 1) refl) refl
 
 -- numbers that pass from one place up to another, and nowhere else
 pub filter-range : (p : ℕ → Bool) (low many rest : ℕ) → ((k : ℕ) → k < low → p k ≡ false)
@@ -105,11 +75,3 @@ filter-front p q low many rest below within none same =
     ∙ filter-append p (range_with_len 0 (low + many)) (range_with_len (0 + (low + many)) rest)
     ∙ ap (λ r. filter p r ++ filter p (range_with_len (0 + (low + many)) rest)) (range_with_len-append 0 low many)
     ∙ rw (z, y, last, filter-append p (range_with_len 0 low) (range_with_len low many), first, mid, whole) refl
-
--- what doesn't pass isn't first in a filter
-pub begins-other : (q : ℕ → Bool) (x : ℕ) (xs : List ℕ) → q x ≡ false → BeginsOtherThan x (filter q xs)
-begins-other q x [] h = tt
-begins-other q x (y ∷ ys) h =
-    by_cases {C = BeginsOtherThan x (filter q (y ∷ ys))} (q y)
-    (λ t. rw t (λ e. let f : q y ≡ q x = ap q e in cc (f, t, h)))
-    (λ f. rw f (begins-other q x ys h))

@@ -1,9 +1,9 @@
 -- Spans by offset are joined exactly where their lines touch, so groups show the maximal runs of the shown lines.
 use Rattle.std.proofs.Common.{ℕ, zero, suc, ◌+◌, ◌-◌, ◌<◌, ◌≤◌, ◌≡◌, ◌⊎◌, inl, inr, min, max, Bool, true, false, leb}
-use Rattle.std.proofs.Common.{List, []}
-use Rattle.std.proofs.Common.{◌∷◌, ◌++◌, length, refl, sym, ap, ap₂, ◌∙◌, ⊎_elim, ◌&&◌, ◌||◌, arith, drop}
+use Rattle.std.proofs.Common.{List, [], ◌∷◌, ◌++◌, ◌≢◌, cond, eqb, length}
+use Rattle.std.proofs.Common.{refl, sym, ap, ap₂, ◌∙◌, ⊎_elim, ◌&&◌, ◌||◌, arith, drop}
 use Rattle.std.specs.Prelude.{is_some}
-use Rattle.std.proofs.lemmas.Bool.{le-leb, lt-leb, leb-true, leb-false, cases_lt, and_right, or_parts}
+use Rattle.std.proofs.lemmas.Bool.{le-leb, lt-leb, leb-true, leb-false, cases_lt, and_right, or_parts, eq-eqb, ne_eqb}
 use Rattle.std.proofs.lemmas.Bool.Decides.{nat_tests}
 use Rattle.std.proofs.lemmas.List.Elements.{filter_agree}
 use Rattle.std.specs.List.{range_with_len, filter, list_any}
@@ -18,7 +18,7 @@ use Rattle.miette_labels.specs.rules.Contexts.{contents, end_of_span, lines_in}
 use Rattle.miette_labels.specs.rules.Groups.{joined_span, joins_before, groups_from, groups_answered, spans_of}
 use Rattle.miette_labels.specs.rules.Groups.{in_order}
 use Rattle.miette_labels.specs.rules.Groups.{lines_of_groups}
-use Rattle.miette_snippet_rules.specs.rules.Numbers.{ranges}
+use Rattle.miette_snippet_rules.specs.rules.Numbers.{onto_range, ranges}
 use Rattle.miette_snippet_rules.specs.rules.Snippets.{is_in_context, shown_numbers, snippets}
 use Rattle.miette_basics.proofs.Cases.{by_cases}
 use Rattle.miette_source_lines.proofs.Cuts.{few_lines}
@@ -27,8 +27,48 @@ use Rattle.miette_protocol.proofs.Wholes.{count, first-le-last, first_mono, last
 use Rattle.miette_labels.proofs.NoFailures.{later_none, next_none}
 use Rattle.miette_labels.proofs.SortedLabels.{IsAscending, ordered_ascends, rises_lower}
 use Rattle.miette_labels.proofs.OwnContexts.{none_around, order_any, order_nil}
-use Rattle.miette_snippet_rules.proofs.Numbers.{filter-none, filter-front, begins-other, runs-block, BeginsOtherThan}
-use Rattle.miette_snippet_rules.proofs.ReadLines.{first-lt, no_lines, none_in, read_numbers}
+use Rattle.miette_basics.proofs.Ranges.{filter-none, filter-front}
+use Rattle.miette_protocol.proofs.Wholes.{first-lt}
+use Rattle.miette_snippet_laws.proofs.ReadLines.{no_lines, none_in, read_numbers}
+
+-- ---- runs of numbers
+
+-- the list is empty or begins with something else
+abbrev pub BeginsOtherThan : ℕ → List ℕ → Type 0
+BeginsOtherThan x [] = Unit {0}
+BeginsOtherThan x (y ∷ ys) = y ≢ x
+
+alone : (k y : ℕ) (rs : List (List ℕ)) → y ≢ k + 1 → onto_range k (onto_range y rs) ≡ (k ∷ []) ∷ onto_range y rs
+alone k y [] h = rw (ne_eqb y (k + 1) h) refl
+alone k y ([] ∷ later) h = rw (ne_eqb y (k + 1) h) refl
+alone k y ((next ∷ run) ∷ later) h =
+    elim (eqb next (y + 1)) as (λ b. onto_range k (cond b ((y ∷ next ∷ run) ∷ later) ((y ∷ []) ∷ (next ∷ run) ∷ later))
+    ≡ (k ∷ []) ∷ cond b ((y ∷ next ∷ run) ∷ later) ((y ∷ []) ∷ (next ∷ run) ∷ later))
+    [ true ↦ rw (ne_eqb y (k + 1) h) refl | false ↦ rw (ne_eqb y (k + 1) h) refl ]
+
+one : (k : ℕ) (ys : List ℕ) → BeginsOtherThan (k + 1) ys → ranges (k ∷ ys) ≡ (k ∷ []) ∷ ranges ys
+one k [] h = refl
+one k (y ∷ ys) h = alone k y (ranges ys) h
+
+-- consecutive numbers, and then none that is the next one: a run of its own
+pub runs-block : (from many : ℕ) (ys : List ℕ) → BeginsOtherThan (from + suc many) ys
+    → ranges (range_with_len from (suc many) ++ ys) ≡ range_with_len from (suc many) ∷ ranges ys
+runs-block from zero ys h = let e : from + 1 ≡ from + suc zero = omega arith in one from ys (rw e h)
+runs-block from (suc many) ys h =
+    let e : from + suc (suc many) ≡ from + 1 + suc many = omega arith in
+    let rest : ranges (range_with_len (from + 1) (suc many) ++ ys) ≡ range_with_len (from + 1) (suc many) ∷ ranges ys =
+    runs-block (from + 1) many ys (rw e at h) in
+    ap (onto_range from) rest ∙ rw (eq-eqb (from + 1) (from + 1) refl) refl
+
+-- what doesn't pass isn't first in a filter
+pub begins-other : (q : ℕ → Bool) (x : ℕ) (xs : List ℕ) → q x ≡ false → BeginsOtherThan x (filter q xs)
+begins-other q x [] h = tt
+begins-other q x (y ∷ ys) h =
+    by_cases {C = BeginsOtherThan x (filter q (y ∷ ys))} (q y)
+    (λ t. rw t (λ e. let f : q y ≡ q x = ap q e in cc (f, t, h)))
+    (λ f. rw f (begins-other q x ys h))
+
+-- ---- spans whose lines touch
 
 -- no line before the first line of the least offset is shown
 none-below : (c : ℕ) (bytes : List ℕ) (from k : ℕ) (spans : List Span) → IsAscending from spans → k
