@@ -1,4 +1,5 @@
--- Characters that close: they leave to be read what they leave by themselves, nothing or an emoji, whatever follows them
+-- Characters that close: they leave to be read what they leave by themselves, nothing or an emoji, whatever follows
+-- them
 -- but a selector or a skin tone.
 use Rattle.std.proofs.Common.{ℕ, ◌<◌, ◌≤◌, ◌≡◌, Bool, true, false, cond, not, ◌&&◌, ◌||◌, ◌==◌, nat_le, nat_lt, List}
 use Rattle.std.proofs.Common.{[], ◌∷◌, Option, Some, None, refl, sym, ap, subst, ◌∙◌, arith, inl, inr, eqb-true}

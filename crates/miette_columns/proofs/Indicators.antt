@@ -198,7 +198,8 @@ step_joined c t after h some unmarked =
       own c h,
     ) refl
 
-pub after_nothing : (c t : ℕ) → is_indicator c ≡ true → step false c (t, plain) ≡ (t + 1, before afters.RegionalIndicator)
+pub after_nothing : (c t : ℕ) → is_indicator c ≡ true → step false c (t, plain)
+    ≡ (t + 1, before afters.RegionalIndicator)
 unfolding step past_emoji
 after_nothing c t h = rw (
   no_one is_indicator c 0x0A refl h,

@@ -1,14 +1,14 @@
 -- The rows that are drawn from what a read lent are those of the definition, which has the whole source.
 use Rattle.miette_page.proofs.Paging.{put_append, put_nil}
 use Rattle.miette_page.specs.views.Printouts.{Printout, ◌⊕◌}
-use Rattle.std.proofs.Common.{ℕ, zero, suc, ◌+◌, ◌-◌, ◌^◌, ◌<◌, ◌≤◌, ◌≡◌, max, Bool, true, false, cond, eqb, ltb, List}
+use Rattle.std.proofs.Common.{ℕ, ◌+◌, ◌-◌, ◌^◌, ◌<◌, ◌≤◌, ◌≡◌, max, Bool, true, false, cond, eqb, ltb, List}
 use Rattle.std.proofs.Common.{[], ◌∷◌, ◌++◌, length, map, take, drop, Option, refl, sym, ap, ◌∙◌, subst, arith, All}
-use Rattle.std.specs.Prelude.{slice_range, slice_index_or}
+use Rattle.std.specs.Prelude.{slice_range}
 use Rattle.std.specs.List.{AllByRecursion, filter}
 use Rattle.std.proofs.lemmas.List.{drop-drop, drop-take, length-take, length-map, drop_all}
 use Rattle.std.proofs.Math.Seq.{take-take}
 use Rattle.std.proofs.lemmas.Bool.{ne_eqb, eqb-true, eqb-false}
-use Rattle.std.proofs.lemmas.List.Elements.{All-tail}
+use Rattle.std.proofs.lemmas.List.Elements.{All-from_recursion, All-tail}
 use Rattle.miette_source_lines.specs.rules.Lines as P
 use Rattle.miette_source_lines.specs.rules.Lines.{Line, IsCut}
 use Rattle.miette_protocol.specs.views.Meaning.{Label}
@@ -25,8 +25,8 @@ use Rattle.miette_labels.specs.rules.Contexts.{contents, lines_of_contents}
 use Rattle.miette_snippet_rules.specs.rules.Folds.{Spread}
 use Rattle.miette_snippet_rules.specs.rules.Frames.{Place, top_row, top_row_of, bottom_row}
 use Rattle.miette_snippet_rules.specs.rules.Frames.{number_width, width_of_lines}
-use Rattle.miette_labels.specs.views.GivenLabels.{drawn_of, label_at}
-use Rattle.miette_labels.specs.rules.Groups.{in_order, spans_of}
+use Rattle.miette_labels.specs.views.GivenLabels.{drawn_of}
+use Rattle.miette_labels.specs.rules.Groups.{in_order}
 use Rattle.miette_snippet_rules.specs.rules.Gutters.{gutter_columns, most_labels}
 use Rattle.miette_labels.specs.rules.Labels.{DrawnLabel, is_one_line, is_multi_line, one_line, multi_line}
 use Rattle.miette_snippet_rules.specs.rules.SnippetLayout.{cells_of, line_or_break, line_or_break_of, rows_of_lines}
@@ -39,13 +39,14 @@ use Rattle.miette_labels.specs.views.Placing.{Placed, placed_of, placed_one, pla
 use Rattle.miette_labels.specs.views.Placing.{end_drawn, is_told}
 use Rattle.miette_labels.specs.views.Reads.{IsRead}
 use Rattle.miette_source_lines.specs.views.Walking.{line_of_text}
-use Rattle.miette_labels.specs.views.Sweeping.{is_one, is_multi, nothing, start_at, AreSorted}
+use Rattle.miette_labels.specs.views.Sweeping.{is_one, is_multi, nothing, AreSorted}
 use Rattle.miette_labels.specs.views.LabelCounts.{most_multi}
 use Rattle.miette_page.specs.views.Tokens.{rows_tokens}
 use Rattle.miette_basics.proofs.Cases.{by_cases}
 use Rattle.miette_source_lines.proofs.Cuts.{cut_from, cut_le}
 use Rattle.miette_snippet_rules.proofs.LabelEnds.{end_told}
-use Rattle.miette_labels.proofs.SortedLabels.{IsAscending, ordered_ascends}
+use Rattle.miette_labels.proofs.GroupsOfReads.{reads_ascend}
+use Rattle.miette_labels.proofs.SortedLabels.{Rises, non_decreasing}
 use Rattle.miette_labels.proofs.RefusedLabel.{read_of}
 use Rattle.miette_snippet_rules.proofs.RowTokens.{told_rows-append}
 use Rattle.miette_snippet_rules.specs.rules.SnippetLayout.{snippet_context, line_in, line_shown}
@@ -183,30 +184,6 @@ told_snippet before top bottom body =
 
 -- placed labels come by offset
 
-abbrev Ascends : ℕ → List PlacedLabel → Type 0
-Ascends from [] = Unit {0}
-Ascends from (p ∷ ps) = (from ≤ p.start) × (p.start ≤ p.after) × Ascends p.start ps
-
-ascends-low : (from k : ℕ) (ps : List PlacedLabel) → Ascends from ps → k < length ps → from ≤ start_at ps k
-ascends-low from k [] h lt = absurd (omega (arith, lt))
-ascends-low from zero (p ∷ ps) h lt = h.0
-ascends-low from (suc k) (p ∷ ps) h lt = omega (arith, h.0, ascends-low p.start k ps h.2 (omega (arith, lt)))
-
-ascends-order : (from j k : ℕ) (ps : List PlacedLabel) → Ascends from ps → j ≤ k → k < length ps → start_at ps j
-    ≤ start_at ps k
-ascends-order from j k [] h le lt = absurd (omega (arith, lt))
-ascends-order from zero zero (p ∷ ps) h le lt = omega arith
-ascends-order from zero (suc k) (p ∷ ps) h le lt = ascends-low p.start k ps h.2 (omega (arith, lt))
-ascends-order from (suc j) zero (p ∷ ps) h le lt = absurd (omega (arith, le))
-ascends-order from (suc j) (suc k) (p ∷ ps) h le lt = ascends-order p.start j k ps h.2 (omega (arith, le))
-    (omega (arith, lt))
-
-ascends-drawn : (from k : ℕ) (ps : List PlacedLabel) → Ascends from ps → k < length ps → start_at ps k
-    ≤ (slice_index_or ps k nothing).after
-ascends-drawn from k [] h lt = absurd (omega (arith, lt))
-ascends-drawn from zero (p ∷ ps) h lt = h.1
-ascends-drawn from (suc k) (p ∷ ps) h lt = ascends-drawn p.start k ps h.2 (omega (arith, lt))
-
 -- a label further on is placed further on
 lower_le : (ends : Bool) (n a b : ℕ) → a ≤ b → b ≤ n → cond (is_told (end_told ends n) a) (a - 1) a
     ≤ cond (is_told (end_told ends n) b) (b - 1) b
@@ -225,31 +202,31 @@ placed_after false offset after le = le
 
 placed_ascends : (ends : Bool) (styles : List Style) (context : ℕ) (source : Source) (labels : List Label) (from i : ℕ)
     (reads : List ReadLabel) (ps : List PlacedLabel) → All (IsRead context source labels) reads →
-    IsAscending from (spans_of (map (read_of labels) reads)) →
+    Rises (λ r. r.span.offset) from reads →
     map placed_of ps ≡ placed_from (end_told ends (length source.bytes)) styles i labels reads →
-    Ascends (cond (is_told (end_told ends (length source.bytes)) from) (from - 1) from) ps
-placed_ascends ends styles context source labels from i [] [] h up is = tt
+    Rises (λ (p : PlacedLabel). p.start) (cond (is_told (end_told ends (length source.bytes)) from) (from - 1) from) ps
+    × AllByRecursion (λ (p : PlacedLabel). p.start ≤ p.after) ps
+placed_ascends ends styles context source labels from i [] [] h up is = (tt, tt)
 placed_ascends ends styles context source labels from i [] (p ∷ ps) h up is = absurd (cc)
 placed_ascends ends styles context source labels from i (r ∷ rs) [] h up is = absurd (cc)
 placed_ascends ends styles context source labels from i (r ∷ rs) (p ∷ ps) h up is =
     let end : Option ℕ = end_told ends (length source.bytes) in
     let own : IsRead context source labels r = h 0 r (omega arith) in
-    let at : r.span.offset ≡ (label_at labels r.index).span.offset = ap (λ s. s.offset) own.span in
-    let next : IsAscending r.span.offset (spans_of (map (read_of labels) rs)) =
-    subst (λ (n : ℕ). IsAscending n (spans_of (map (read_of labels) rs))) (sym at) up.1 in
+    let next = placed_ascends ends styles context source labels r.span.offset (i + 1) rs ps
+    (All-tail (IsRead context source labels) r rs h) up.1 (ap (drop 1) is) in
     let first : placed_of p ≡ placed_one end styles i labels r =
     ap (λ xs. slice_index_or xs 0 (placed_of p)) is in
     let start : p.start ≡ cond (is_told end r.span.offset) (r.span.offset - 1) r.span.offset =
     ap (λ (x : Placed). x.start) first in
     let after : p.after ≡ cond (is_told end r.span.offset) (r.span.offset - 1) (end_drawn r) =
     ap (λ (x : Placed). x.after) first in
-    let low = lower_le ends (length source.bytes) from r.span.offset (omega (arith, at, up.0)) own.accepted.begins in
+    let low = lower_le ends (length source.bytes) from r.span.offset up.0 own.accepted.begins in
     let high = placed_after (is_told end r.span.offset) r.span.offset (end_drawn r) (omega arith) in (
-      omega (arith, start, low),
-      omega (arith, start, after, high),
-      subst (λ (n : ℕ). Ascends n ps) (sym start)
-          (placed_ascends ends styles context source labels r.span.offset (i + 1) rs ps
-          (All-tail (IsRead context source labels) r rs h) next (ap (drop 1) is)),
+      (
+        omega (arith, start, low),
+        subst (λ (n : ℕ). Rises (λ (q : PlacedLabel). q.start) n ps) (sym start) next.0,
+      ),
+      (omega (arith, start, after, high), next.1),
     )
 
 pub placed_sorted : (ends : Bool) (styles : List Style) (context : ℕ) (source : Source) (labels : List Label)
@@ -257,11 +234,13 @@ pub placed_sorted : (ends : Bool) (styles : List Style) (context : ℕ) (source 
     map (read_of labels) reads ≡ in_order labels →
     map placed_of ps ≡ placed_from (end_told ends (length source.bytes)) styles 0 labels reads → AreSorted ps
 placed_sorted ends styles context source labels reads ps h e is =
-    let up : IsAscending 0 (spans_of (map (read_of labels) reads)) =
-    subst (λ (ss : List Span). IsAscending 0 ss) (sym (ap spans_of e)) (ordered_ascends labels) in
     let from : ℕ = cond (is_told (end_told ends (length source.bytes)) 0) (0 - 1) 0 in
-    let k : Ascends from ps = placed_ascends ends styles context source labels 0 0 reads ps h up is in
-    record { order = λ i j le lt. ascends-order from i j ps k le lt; drawn = λ i lt. ascends-drawn from i ps k lt }
+    let both = placed_ascends ends styles context source labels 0 0 reads ps h
+    (reads_ascend context source labels reads e h) is in
+    record {
+      order = λ i j le lt. non_decreasing (λ (p : PlacedLabel). p.start) from ps both.0 i j nothing le lt;
+      drawn = λ i lt. All-from_recursion (λ (p : PlacedLabel). p.start ≤ p.after) ps both.1 i nothing lt;
+    }
 
 pub told_parts : (p0 p1 p2 p3 : Printout) (top bottom : Row) (body : List Row) → p1 ≡ p0 ⊕ rows_tokens (top ∷ []) → p2
     ≡ p1 ⊕ rows_tokens body → p3 ≡ p2 ⊕ rows_tokens (bottom ∷ []) →

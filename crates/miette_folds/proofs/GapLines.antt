@@ -3,7 +3,8 @@ use Rattle.std.proofs.Common.{ℕ, ◌+◌, ◌-◌, ◌<◌, ◌≤◌, ◌≡�
 use Rattle.std.proofs.Common.{ltb, leb, List, [], ◌∷◌, map, Option, Some, None, refl, sym, ap, ◌∙◌, subst, arith}
 use Rattle.std.specs.List.{AllByRecursion, list_any}
 use Rattle.std.specs.Option.{option_map_or}
-use Rattle.std.proofs.lemmas.Bool.{and_from, and_parts, le-ltb, leb-false, leb-true, lt-ltb, ltb-false, ltb-true, not-true, or_from, or_parts, or_right}
+use Rattle.std.proofs.lemmas.Bool.{and_from, and_parts, le-ltb, leb-false, leb-true, lt-ltb, ltb-false, ltb-true}
+use Rattle.std.proofs.lemmas.Bool.{not-true, or_from, or_parts, or_right}
 use Rattle.miette_source_lines.specs.rules.Lines as P
 use Rattle.miette_source_lines.specs.rules.Lines.{Line}
 use Rattle.miette_basics.proofs.Cases.{by_cases}

@@ -1,7 +1,8 @@
-pub mod LineExtent
+pub mod GapLines
 pub mod LeftOutLines
 pub mod LineCounts
+pub mod LineExtent
 pub mod LineNumbers
-pub mod GapLines
+pub mod PartCounts
 pub mod ReadSpreads
 pub mod Starts

@@ -7,8 +7,8 @@ use Rattle.std.proofs.lemmas.Bool.{and_parts, cases_lt, eqb-true}
 use Rattle.miette_source_lines.specs.rules.Lines.{LF, CR, is_terminated, lines_from, line_of}
 use Rattle.miette_source_lines.proofs.Places.{line_of_mono, line_of_within, line_of_start_before}
 use Rattle.miette_source_lines.proofs.Places.{terminators_in-line_of}
-use Rattle.miette_source_lines.proofs.Parts.{IsWhole, past_whole, line_whole, part_line, part_length, rest_line}
-use Rattle.miette_source_lines.proofs.Parts.{part_place, part_count}
+use Rattle.miette_source_lines.proofs.Parts.{IsWhole, past_whole, line_whole, part_length, part_place}
+use Rattle.miette_folds.proofs.PartCounts.{line_in_part, part_count, rest_line}
 use Rattle.miette_protocol.specs.views.Meaning.{Label}
 use Rattle.miette_protocol.specs.rules.Reading.{Span, Source, Contents, IsAccepted, span_end, splits_crlf, reading_end}
 use Rattle.miette_protocol.specs.rules.Reading.{data_start, data_end}
@@ -43,7 +43,8 @@ behind_lf : (bytes : List ℕ) (e : ℕ) → splits_crlf bytes e ≡ true → Is
 behind_lf bytes e t = λ k s.
     let here : k ≡ e = omega (arith, s) in
     let lf : slice_index bytes k ≡ 10 = ap (slice_index bytes) here
-    ∙ eqb-true (slice_index bytes e) 10 ((and_parts (slice_index bytes (e - 1) == CR) (slice_index bytes e == LF) t).1) in
+    ∙ eqb-true (slice_index bytes e) 10 ((and_parts (slice_index bytes (e - 1) == CR) (slice_index bytes e == LF) t).1)
+    in
     ap (λ (b : ℕ). (b == CR) && (slice_index bytes (suc k) == LF)) lf
 
 not_parted : (bytes : List ℕ) (e : ℕ) → splits_crlf bytes e ≡ false → IsWhole bytes e
@@ -132,7 +133,7 @@ front_is lent offset before lines line b l e = λ context source span h low high
     let here : before ≡ offset - from = omega (arith, b, size, high) in
     let own : lines ≡ line_of (slice_range bytes from to) (offset - from) = l
     ∙ ap₂ (λ xs n. line_of xs n) p.data_are here in
-    omega (arith, e, own, p.line, part_line bytes from to offset low high p.whole)
+    omega (arith, e, own, p.line, line_in_part bytes from to offset low high p.whole)
 
 pub back_is : (lent : Contents) (offset before ended lines line : ℕ) (held rest : List ℕ) → before
     ≡ min (offset - lent.span.offset) (length lent.bytes) → held ≡ lent.bytes →

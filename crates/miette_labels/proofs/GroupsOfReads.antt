@@ -27,7 +27,8 @@ use Rattle.miette_labels.proofs.NoFailures.{none_unread}
 use Rattle.miette_labels.proofs.GroupsSoFar.{joined_accepted}
 use Rattle.miette_labels.proofs.OwnContexts.{own_ordered, none_around}
 use Rattle.miette_labels.proofs.RefusedLabel.{read_of}
-use Rattle.miette_labels.proofs.SortedLabels.{by_begin_is, sort_is, sorted_each}
+use Rattle.miette_labels.proofs.SortedLabels.{IsAscending, Rises, by_begin_is, non_decreasing, ordered_ascends, sort_is}
+use Rattle.miette_labels.proofs.SortedLabels.{sorted_each}
 use Rattle.miette_labels.specs.steps.Reads.{AreJoined}
 
 -- ---- whether some label has its own number
@@ -208,6 +209,25 @@ spans_same context source labels [] h = refl
 spans_same context source labels (r ∷ rs) h =
     let own : IsRead context source labels r = h 0 r (omega arith) in
     ap₂ (λ x xs. x ∷ xs) own.span (spans_same context source labels rs (All-tail (IsRead context source labels) r rs h))
+
+-- labels that were read in order come by offset
+reads_mapped : (from : ℕ) (reads : List ReadLabel) → IsAscending from (map (λ r. r.span) reads)
+    → Rises (λ r. r.span.offset) from reads
+reads_mapped from [] h = tt
+reads_mapped from (r ∷ rs) h = (h.0, reads_mapped r.span.offset rs h.1)
+
+pub reads_ascend : (context : ℕ) (source : Source) (labels : List Label) (reads : List ReadLabel)
+    → map (read_of labels) reads ≡ in_order labels → All (IsRead context source labels) reads
+    → Rises (λ r. r.span.offset) 0 reads
+reads_ascend context source labels reads e h =
+    reads_mapped 0 reads (subst (λ (ss : List Span). IsAscending 0 ss)
+    (sym (spans_same context source labels reads h ∙ ap spans_of e)) (ordered_ascends labels))
+
+pub reads_rise : (context : ℕ) (source : Source) (labels : List Label) (reads : List ReadLabel)
+    → map (read_of labels) reads ≡ in_order labels → All (IsRead context source labels) reads
+    → IsNonDecreasingBy (λ r. r.span.offset) reads
+reads_rise context source labels reads e h =
+    non_decreasing (λ r. r.span.offset) 0 reads (reads_ascend context source labels reads e h)
 
 pub grouped_joined : (context : ℕ) (source : Source) (labels : List Label) (reads : List ReadLabel) (own : Bool)
     (groups : List Group) → map (read_of labels) reads ≡ in_order labels → All (IsRead context source labels) reads →

@@ -1,18 +1,12 @@
 -- The label that a frame points to.
 use Rattle.std.proofs.Common.{ℕ, zero, suc, ◌+◌, ◌-◌, ◌<◌, ◌≤◌, ◌≡◌, Bool, true, false, leb, ltb, List, [], ◌∷◌, length}
-use Rattle.std.proofs.Common.{map, take, drop, get_or, Option, Some, None, refl, sym, ap, arith, All, unwrap_or}
+use Rattle.std.proofs.Common.{take, drop, get_or, Option, Some, None, refl, sym, arith, unwrap_or}
 use Rattle.std.proofs.lemmas.Bool.Decides.{nat_tests}
-use Rattle.miette_protocol.specs.views.Meaning.{Label}
-use Rattle.miette_protocol.specs.rules.Reading.{Span, Source}
+use Rattle.miette_protocol.specs.rules.Reading.{Span}
 use Rattle.miette_labels.specs.declared.reading.ReadLabel.{ReadLabel}
 use Rattle.miette_labels.specs.rules.Contexts.{end_of_span}
-use Rattle.miette_labels.specs.views.GivenLabels.{label_at}
-use Rattle.miette_labels.specs.rules.Groups.{spans_of}
 use Rattle.miette_labels.specs.views.Primary.{end_within, lies_within, chosen_label}
-use Rattle.miette_labels.specs.views.Reads.{IsRead}
 use Rattle.miette_basics.proofs.Cases.{by_cases}
-use Rattle.miette_labels.proofs.SortedLabels.{IsAscending}
-use Rattle.miette_labels.proofs.RefusedLabel.{read_of}
 
 pub lt_not : (a b : ℕ) → ltb a b ≡ true → leb b a ≡ false
 lt_not a b h = grind (arith, nat_tests)
@@ -84,41 +78,3 @@ near_chosen own group a b m reads ma mb bl low high =
     between_chosen own group None m (b - m) reads
     (λ j d lm lt. begins_before own group (get_or reads j d).span (low j d (omega (arith, lm, ma))))
     (λ j d le lt. begins_behind own group (get_or reads j d).span (high j d (omega (arith, le, mb)) lt))
-
--- labels that were read in order come by offset
-
-pub low : (context : ℕ) (source : Source) (labels : List Label) (from k : ℕ) (reads : List ReadLabel) (d : ReadLabel)
-    → All (IsRead context source labels) reads →
-    IsAscending from (spans_of (map (read_of labels) reads)) → k < length reads → from ≤ (get_or reads k d).span.offset
-low context source labels from k [] d h up lt = absurd (omega (arith, lt))
-low context source labels from zero (r ∷ rs) d h up lt =
-    let own : IsRead context source labels r = h 0 r (omega arith) in
-    let at : r.span.offset ≡ (label_at labels r.index).span.offset = ap (λ s. s.offset) own.span in
-    omega (arith, at, up.0)
-low context source labels from (suc k) (r ∷ rs) d h up lt =
-    omega (
-      arith,
-      up.0,
-      low context source labels (label_at labels r.index).span.offset k rs d
-          (λ j e l. h (suc j) e (omega (arith, l))) up.1 (omega (arith, lt)),
-    )
-
-pub rise : (context : ℕ) (source : Source) (labels : List Label) (from i j : ℕ) (reads : List ReadLabel) (d : ReadLabel)
-    → All (IsRead context source labels) reads →
-    IsAscending from (spans_of (map (read_of labels) reads)) → i ≤ j → j < length reads → (get_or reads i d).span.offset
-    ≤ (get_or reads j d).span.offset
-rise context source labels from i j [] d h up le lt = absurd (omega (arith, lt))
-rise context source labels from zero zero (r ∷ rs) d h up le lt = omega arith
-rise context source labels from zero (suc j) (r ∷ rs) d h up le lt =
-    let own : IsRead context source labels r = h 0 r (omega arith) in
-    let at : r.span.offset ≡ (label_at labels r.index).span.offset = ap (λ s. s.offset) own.span in
-    omega (
-      arith,
-      at,
-      low context source labels (label_at labels r.index).span.offset j rs d
-          (λ k e l. h (suc k) e (omega (arith, l))) up.1 (omega (arith, lt)),
-    )
-rise context source labels from (suc i) zero (r ∷ rs) d h up le lt = absurd (omega (arith, le))
-rise context source labels from (suc i) (suc j) (r ∷ rs) d h up le lt =
-    rise context source labels (label_at labels r.index).span.offset i j rs d (λ k e l. h (suc k) e (omega (arith, l)))
-    up.1 (omega (arith, le)) (omega (arith, lt))

@@ -1,5 +1,5 @@
--- A stable sort by a number gives the one list that rises and keeps ties as they were.
-use Rattle.std.proofs.Common.{ℕ, zero, suc, ◌+◌, ◌<◌, ◌≤◌, ◌≡◌, Bool, true, false, cond, ltb, leb, eqb, not, ◌&&◌, ◌||◌}
+-- A stable sort by a number gives the one list that rises and keeps ties as they were. Labels and spans, sorted so.
+use Rattle.std.proofs.Common.{ℕ, zero, suc, ◌+◌, ◌<◌, ◌≤◌, ◌≡◌, Bool, true, false, cond, ltb, leb, eqb, not, ◌&&◌}
 use Rattle.std.proofs.Common.{List}
 use Rattle.std.proofs.Common.{[], ◌∷◌, ◌++◌, length, map, take, get_or, refl, sym, ap, ◌∙◌, arith, All, ⊎_elim, subst}
 use Rattle.std.specs.List.{AllByRecursion, filter, list_all, list_any}
@@ -10,7 +10,11 @@ use Rattle.std.proofs.lemmas.List.Elements.{filter_agree}
 use Rattle.miette_protocol.specs.views.Meaning.{Label}
 use Rattle.miette_protocol.specs.rules.Reading.{Span}
 use Rattle.std.proofs.lemmas.List.{map-append}
-use Rattle.std.proofs.lemmas.List.Elements.{All-push, recursion_from_All}
+use Rattle.std.proofs.lemmas.List.Elements.{All-from_recursion, All-push, recursion_from_All}
+use Rattle.std.proofs.lemmas.List.Sorted.{All-permutation, IsPermutation-cons, IsPermutation-middle, IsPermutation-refl}
+use Rattle.std.proofs.lemmas.List.Sorted.{IsPermutation-sym, IsPermutation-trans, length_permutation}
+use Rattle.std.proofs.lemmas.List.Sorted.{list_any-IsPermutation}
+use Rattle.std.proofs.Common.{IsPermutation}
 use Rattle.miette_labels.specs.declared.order.Turn.{Turn}
 use Rattle.miette_labels.specs.views.GivenLabels.{label_at}
 use Rattle.miette_labels.specs.rules.Groups.{put_label, in_order, spans_of, put_span, by_begin}
@@ -97,6 +101,24 @@ sorted_at n v (x ∷ xs) = put_at n v x (sorted n xs) ∙ ap (λ r. cond (eqb (n
 
 -- what std's sort says, in these words
 
+rises_low : {X : Type 0} (n : X → ℕ) (from k : ℕ) (d : X) (xs : List X) → Rises n from xs → k < length xs → from
+    ≤ n (get_or xs k d)
+rises_low n from k d [] h lt = absurd (omega (arith, lt))
+rises_low n from zero d (x ∷ xs) h lt = h.0
+rises_low n from (suc k) d (x ∷ xs) h lt = omega (arith, h.0, rises_low n (n x) k d xs h.1 (omega (arith, lt)))
+
+rises_at : {X : Type 0} (n : X → ℕ) (from i j : ℕ) (d : X) (xs : List X) → Rises n from xs → i ≤ j → j < length xs
+    → n (get_or xs i d) ≤ n (get_or xs j d)
+rises_at n from i j d [] h le lt = absurd (omega (arith, lt))
+rises_at n from zero zero d (x ∷ xs) h le lt = omega arith
+rises_at n from zero (suc j) d (x ∷ xs) h le lt = rises_low n (n x) j d xs h.1 (omega (arith, lt))
+rises_at n from (suc i) zero d (x ∷ xs) h le lt = absurd (omega (arith, le))
+rises_at n from (suc i) (suc j) d (x ∷ xs) h le lt = rises_at n (n x) i j d xs h.1 (omega (arith, le))
+    (omega (arith, lt))
+
+pub non_decreasing : {X : Type 0} (n : X → ℕ) (from : ℕ) (xs : List X) → Rises n from xs → IsNonDecreasingBy n xs
+non_decreasing n from xs h = λ i j d le lt. rises_at n from i j d xs h le lt
+
 pub rises_from : {X : Type 0} (n : X → ℕ) (from : ℕ) (xs : List X) → IsNonDecreasingBy n xs
     → ((d : X) → 0 < length xs → from ≤ n (get_or xs 0 d)) → Rises n from xs
 rises_from n from [] h low = tt
@@ -128,63 +150,40 @@ sort_is n xs ys up stable =
 
 -- ---- what doesn't depend on the order
 
--- what holds of each
-put_each : {X : Type 0} (n : X → ℕ) (P : X → Type 0) (x : X) (ys : List X) → P x → AllByRecursion P ys
-    → AllByRecursion P (put n x ys)
-put_each n P x [] own h = (own, tt)
-put_each n P x (y ∷ ys) own h =
-    by_cases {C = AllByRecursion P (put n x (y ∷ ys))} (leb (n x) (n y)) (λ t. rw t (own, h))
-    (λ f. rw f (h.0, put_each n P x ys own h.1))
+put_permutes : {X : Type 0} (n : X → ℕ) (x : X) (ys : List X) → IsPermutation (x ∷ ys) (put n x ys)
+put_permutes n x [] = IsPermutation-refl (x ∷ [])
+put_permutes n x (y ∷ ys) =
+    by_cases {C = IsPermutation (x ∷ y ∷ ys) (put n x (y ∷ ys))} (leb (n x) (n y))
+    (λ t. rw t (IsPermutation-refl (x ∷ y ∷ ys)))
+    (λ f. rw f (IsPermutation-trans (x ∷ y ∷ ys) (y ∷ x ∷ ys) (y ∷ put n x ys)
+    (IsPermutation-sym (y ∷ x ∷ ys) (x ∷ y ∷ ys) (IsPermutation-middle (y ∷ []) x ys))
+    (IsPermutation-cons y (x ∷ ys) (put n x ys) (put_permutes n x ys))))
 
+sorted_permutes : {X : Type 0} (n : X → ℕ) (xs : List X) → IsPermutation xs (sorted n xs)
+sorted_permutes n [] = IsPermutation-refl []
+sorted_permutes n (x ∷ xs) = IsPermutation-trans (x ∷ xs) (x ∷ sorted n xs) (put n x (sorted n xs))
+    (IsPermutation-cons x xs (sorted n xs) (sorted_permutes n xs)) (put_permutes n x (sorted n xs))
+
+-- what holds of each, what some pass, what all pass, and how many there are
 pub sorted_each : {X : Type 0} (n : X → ℕ) (P : X → Type 0) (xs : List X) → AllByRecursion P xs
     → AllByRecursion P (sorted n xs)
-sorted_each n P [] h = tt
-sorted_each n P (x ∷ xs) h = put_each n P x (sorted n xs) h.0 (sorted_each n P xs h.1)
-
--- what some pass
-swap_or : (x y z : Bool) → (x || (y || z)) ≡ (y || (x || z))
-swap_or true true z = refl
-swap_or true false z = refl
-swap_or false y z = refl
-
-put_any : {X : Type 0} (n : X → ℕ) (p : X → Bool) (x : X) (ys : List X) → list_any p (put n x ys)
-    ≡ (p x || list_any p ys)
-put_any n p x [] = refl
-put_any n p x (y ∷ ys) =
-    by_cases {C = list_any p (put n x (y ∷ ys)) ≡ (p x || list_any p (y ∷ ys))} (leb (n x) (n y)) (λ t. rw t refl)
-    (λ f. rw f (ap (λ b. p y || b) (put_any n p x ys) ∙ swap_or (p y) (p x) (list_any p ys)))
+sorted_each n P xs h = recursion_from_All P (sorted n xs)
+    (All-permutation P xs (sorted n xs) (sorted_permutes n xs) (All-from_recursion P xs h))
 
 pub sorted_any : {X : Type 0} (n : X → ℕ) (p : X → Bool) (xs : List X) → list_any p (sorted n xs) ≡ list_any p xs
-sorted_any n p [] = refl
-sorted_any n p (x ∷ xs) = put_any n p x (sorted n xs) ∙ ap (λ b. p x || b) (sorted_any n p xs)
+sorted_any n p xs = sym (list_any-IsPermutation p xs (sorted n xs) (sorted_permutes n xs))
 
--- what all pass
-swap_and : (x y z : Bool) → (x && (y && z)) ≡ (y && (x && z))
-swap_and true y z = refl
-swap_and false true z = refl
-swap_and false false z = refl
-
-put_all : {X : Type 0} (n : X → ℕ) (p : X → Bool) (x : X) (ys : List X) → list_all p (put n x ys)
-    ≡ (p x && list_all p ys)
-put_all n p x [] = refl
-put_all n p x (y ∷ ys) =
-    by_cases {C = list_all p (put n x (y ∷ ys)) ≡ (p x && list_all p (y ∷ ys))} (leb (n x) (n y)) (λ t. rw t refl)
-    (λ f. rw f (ap (λ b. p y && b) (put_all n p x ys) ∙ swap_and (p y) (p x) (list_all p ys)))
+not_any : {X : Type 0} (p : X → Bool) (xs : List X) → list_all p xs ≡ not (list_any (λ x. not (p x)) xs)
+not_any p [] = refl
+not_any p (x ∷ xs) =
+    by_cases {C = list_all p (x ∷ xs) ≡ not (list_any (λ x. not (p x)) (x ∷ xs))} (p x)
+    (λ t. rw t (not_any p xs)) (λ f. rw f refl)
 
 pub sorted_all : {X : Type 0} (n : X → ℕ) (p : X → Bool) (xs : List X) → list_all p (sorted n xs) ≡ list_all p xs
-sorted_all n p [] = refl
-sorted_all n p (x ∷ xs) = put_all n p x (sorted n xs) ∙ ap (λ b. p x && b) (sorted_all n p xs)
-
--- how many there are
-put_length : {X : Type 0} (n : X → ℕ) (x : X) (ys : List X) → length (put n x ys) ≡ suc (length ys)
-put_length n x [] = refl
-put_length n x (y ∷ ys) =
-    by_cases {C = length (put n x (y ∷ ys)) ≡ suc (suc (length ys))} (leb (n x) (n y)) (λ t. rw t refl)
-    (λ f. rw f (ap suc (put_length n x ys)))
+sorted_all n p xs = not_any p (sorted n xs) ∙ ap not (sorted_any n (λ x. not (p x)) xs) ∙ sym (not_any p xs)
 
 pub sorted_length : {X : Type 0} (n : X → ℕ) (xs : List X) → length (sorted n xs) ≡ length xs
-sorted_length n [] = refl
-sorted_length n (x ∷ xs) = put_length n x (sorted n xs) ∙ ap suc (sorted_length n xs)
+sorted_length n xs = length_permutation xs (sorted n xs) (sorted_permutes n xs)
 
 pub rises_lower : {X : Type 0} (n : X → ℕ) (low from : ℕ) (xs : List X) → low ≤ from → Rises n from xs
     → Rises n low xs
@@ -274,7 +273,8 @@ pub ordered : {X : Type 0} (n : X → ℕ) (f : X → Label) (labels : List Labe
     → All (λ x. n x ≡ (f x).span.offset) xs →
     IsNonDecreasingBy n ys → IsStableByKey n nat_cmp xs ys → map f ys ≡ in_order labels
 ordered n f labels xs ys e keys up stable =
-    ap (map f) (sort_is n xs ys up stable) ∙ sorted_mapped n f xs (recursion_from_All (λ x. n x ≡ (f x).span.offset) xs keys)
+    ap (map f) (sort_is n xs ys up stable) ∙ sorted_mapped n f xs
+    (recursion_from_All (λ x. n x ≡ (f x).span.offset) xs keys)
     ∙ ap in_order e
 
 -- One more label: what the list of turns shows afterwards.

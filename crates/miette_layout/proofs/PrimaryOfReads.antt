@@ -3,7 +3,6 @@ use Rattle.std.proofs.Common.{ℕ, Bool, ◌≡◌, true, false, cond, List, [],
 use Rattle.std.proofs.Common.{◌∙◌, subst, arith, All, unwrap_or}
 use Rattle.std.proofs.lemmas.List.Elements.{All-tail}
 use Rattle.std.specs.List.{filter}
-use Rattle.std.specs.List.Sorted.{IsNonDecreasingBy}
 use Rattle.std.specs.Option.{option_map}
 use Rattle.miette_protocol.specs.views.Meaning.{Label}
 use Rattle.miette_protocol.specs.rules.Reading.{Span, Source, IsAccepted}
@@ -18,20 +17,7 @@ use Rattle.miette_snippet_rules.specs.rules.SnippetLayout.{is_within, first_mark
 use Rattle.miette_labels.specs.views.Primary.{lies_within, chosen_label, PointsTo, begins_of, is_unread}
 use Rattle.miette_labels.specs.views.Reads.{IsRead}
 use Rattle.miette_basics.proofs.Cases.{by_cases}
-use Rattle.miette_labels.specs.rules.Groups.{in_order, spans_of}
-use Rattle.miette_labels.proofs.PrimaryLabel.{rise}
 use Rattle.miette_labels.proofs.RefusedLabel.{read_of}
-use Rattle.miette_labels.proofs.SortedLabels.{IsAscending, ordered_ascends}
-
--- labels by offset begin one after another
-pub reads_rise : (context : ℕ) (source : Source) (labels : List Label) (reads : List ReadLabel)
-    → map (read_of labels) reads ≡ in_order labels → All (IsRead context source labels) reads →
-    IsNonDecreasingBy (λ r. r.span.offset) reads
-reads_rise context source labels reads e h =
-    let up : IsAscending 0 (spans_of (map (read_of labels) reads)) =
-    subst (λ (ss : List Span). IsAscending 0 ss) (sym (ap spans_of e)) (ordered_ascends labels)
-    in
-    λ i j d le lt. rise context source labels 0 i j reads d h up le lt
 
 -- the span of the first label that is marked, else of the first one that was found
 abbrev marked : Option Span → List Label → Option Span

@@ -231,7 +231,8 @@ snippets_are_runs s source labels answers h accepted always =
     ap (λ r. rows_unless s source ls answers (option_map (refused_row s) r))
     (none_refused source.bytes answers.label_fails ls always.labels
     (order_each (λ label. IsAccepted source.bytes label.span) labels accepted))
-    ∙ ap₂ (λ a b. cond (a || b) None (Some (all_snippets s' (spreads_of s.layout.label_lines s.layout.context_lines source ls) source ls
+    ∙ ap₂ (λ a b. cond (a || b) None (Some (all_snippets s'
+    (spreads_of s.layout.label_lines s.layout.context_lines source ls) source ls
     answers.pieces gs))) (none_unread s.layout.context_lines source answers.join_fails ls always.joins)
     (some_none answers.place_fails gs always.places)
     ∙ ap Some (all_framed s' (spreads_of s.layout.label_lines s.layout.context_lines source ls) source ls answers.pieces

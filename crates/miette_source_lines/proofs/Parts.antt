@@ -3,12 +3,10 @@ use Rattle.std.proofs.Common.{ℕ, zero, suc, ◌+◌, ◌-◌, ◌<◌, ◌≤�
 use Rattle.std.proofs.Common.{List, [], ◌∷◌, length, take, drop, refl, sym, ap, ap₂, ◌∙◌, inl, inr, subst, arith}
 use Rattle.std.specs.Prelude.{◌==◌, nat_le, count_by, slice_index, slice_range}
 use Rattle.std.proofs.lemmas.Bool.{and_parts, and_right, cases_lt, eqb-true, false_from_ne_true}
-use Rattle.std.proofs.lemmas.List.{drop-drop, drop-take, get_or-drop, get_or_past, length-drop, length-take-le}
-use Rattle.std.proofs.lemmas.List.{take_rest}
-use Rattle.std.proofs.lemmas.List.Sums.{sum_by-cons}
-use Rattle.miette_source_lines.specs.rules.Lines.{Line, LF, CR, ends_line, is_terminated, lines_from, line_of}
+use Rattle.std.proofs.lemmas.List.{get_or-drop, get_or_past, length-drop, length-take-le}
+use Rattle.miette_source_lines.specs.rules.Lines.{LF, CR, ends_line, is_terminated, lines_from, line_of}
 use Rattle.miette_source_lines.specs.rules.Lines.{line_start, line_end}
-use Rattle.miette_source_lines.proofs.Scans.{ends_before, ends_by, ends_count, ends_count-lines_from}
+use Rattle.miette_source_lines.proofs.Scans.{ends_before, ends_count-lines_from}
 use Rattle.miette_source_lines.proofs.Places.{line_of-is, line_of_no, line_of_end, line_end_past, line_start_next}
 use Rattle.miette_source_lines.proofs.Places.{line_start_le, line_start_after, line_start_first, ends_by-le}
 
@@ -99,43 +97,20 @@ ends_part bs from to o le w =
 
 -- ---- the line of an offset
 
--- of an offset in a part, by the line where the part begins
-pub part_line : (bs : List ℕ) (from to o : ℕ) → from ≤ o → o ≤ to → IsWhole bs to →
-    line_of (slice_range bs from to) (o - from) + line_of bs from ≡ line_of bs o
-part_line bs from to o low high w =
-    let part : List ℕ = slice_range bs from to in
-    let a : ends_before (o - from) part + ends_before from bs ≡ ends_before (max from (min o to)) bs =
-    ends_part bs from to o (omega (arith, low, high)) w in
-    let s : max from (min o to) ≡ o = omega (arith, low, high) in
-    let b : ends_before (max from (min o to)) bs ≡ ends_before o bs = ap (λ (n : ℕ). ends_before n bs) s in
-    omega (arith, a, b, line_of-is part (o - from), line_of-is bs from, line_of-is bs o)
-
--- what is left of a part from an offset on is a part
-part_rest : (bs : List ℕ) (from to o : ℕ) → from ≤ o → o ≤ to → drop (o - from) (slice_range bs from to)
-    ≡ slice_range bs o to
-part_rest bs from to o low high =
-    let s : to - from ≡ o - from + (to - o) = omega (arith, low, high) in
-    let t : from + (o - from) ≡ o = omega (arith, low) in
-    ap (λ (n : ℕ). drop (o - from) (take n (drop from bs))) s
-    ∙ drop-take (o - from) (to - o) (drop from bs)
-    ∙ ap (take (to - o)) (drop-drop (o - from) from bs)
-    ∙ ap (λ (n : ℕ). take (to - o) (drop n bs)) t
+-- by the line where the part begins
+pub part_line : (bs : List ℕ) (from to o : ℕ) → from ≤ to → IsWhole bs to →
+    line_of (slice_range bs from to) (o - from) + line_of bs from ≡ line_of bs (max from (min o to))
+part_line bs from to o le w =
+    omega (
+      arith,
+      ends_part bs from to o le w,
+      line_of-is (slice_range bs from to) (o - from),
+      line_of-is bs from,
+      line_of-is bs (max from (min o to)),
+    )
 
 pub part_length : (bs : List ℕ) (from to : ℕ) → to ≤ length bs → length (slice_range bs from to) ≡ to - from
 part_length bs from to within = length-take-le (to - from) (drop from bs) (omega (arith, within, length-drop from bs))
-
--- by the line where the part ends, and the lines from the offset on
-pub rest_line : (bs : List ℕ) (from to o at : ℕ) (rest : List ℕ) → from ≤ o → o ≤ to → to ≤ length bs → IsWhole bs to
-    → at ≡ o - from →
-    rest ≡ take (length (slice_range bs from to) - at) (drop at (slice_range bs from to)) → line_of rest (length rest)
-    + line_of bs o ≡ line_of bs to
-rest_line bs from to o at rest low high within w here is =
-    let e : rest ≡ slice_range bs o to =
-    is ∙ take_rest (slice_range bs from to) at ∙ ap (λ (n : ℕ). drop n (slice_range bs from to)) here
-    ∙ part_rest bs from to o low high in
-    let size : length rest ≡ to - o = ap length e ∙ part_length bs o to within in
-    let a : line_of rest (length rest) ≡ line_of (slice_range bs o to) (to - o) = ap₂ (λ xs n. line_of xs n) e size in
-    omega (arith, a, part_line bs o to to high (omega arith) w)
 
 -- ---- the place of an offset among the lines of a part
 
@@ -149,46 +124,7 @@ pub part_place : (bs : List ℕ) (from to o : ℕ) → from ≤ to → IsWhole b
     count_by (λ l. is_terminated l && nat_le l.end o) (lines_from from (slice_range bs from to)) + line_of bs from
     ≡ line_of bs (max from (min o to))
 part_place bs from to o le w =
-    omega (
-      arith,
-      place_shifted from (slice_range bs from to) o,
-      line_of-is (slice_range bs from to) (o - from),
-      ends_part bs from to o le w,
-      line_of-is bs from,
-      line_of-is bs (max from (min o to)),
-    )
-
--- ---- how many lines of a part have a terminator
-
-and_true : (b : Bool) → b ≡ (b && true)
-and_true true = refl
-and_true false = refl
-
-all_counted : (ls : List Line) → count_by is_terminated ls ≡ ends_count (λ e. true) ls
-all_counted [] = refl
-all_counted (l ∷ ls) =
-    sum_by-cons (λ m. cond (is_terminated m) 1 0) l ls
-    ∙ ap₂ (λ b n. cond b 1 0 + n) (and_true (is_terminated l)) (all_counted ls)
-    ∙ sym (sum_by-cons (λ m. cond (is_terminated m && true) 1 0) l ls)
-
-one_more : (x : Bool) (m n : ℕ) → m ≡ n → cond x (1 + m) m ≡ cond x (suc n) n
-one_more true m n e = omega (arith, e)
-one_more false m n e = e
-
-ends_by_all : (at : ℕ) (bs : List ℕ) → ends_by (λ e. true) at bs ≡ ends_before (length bs) bs
-ends_by_all at [] = refl
-ends_by_all at (b ∷ bs) =
-    one_more (ends_line b (slice_index bs 0)) (ends_by (λ e. true) (at + 1) bs) (ends_before (length bs) bs)
-    (ends_by_all (at + 1) bs)
-
-pub part_count : (bs : List ℕ) (from to : ℕ) → from ≤ to → to ≤ length bs → IsWhole bs to →
-    count_by is_terminated (lines_from from (slice_range bs from to)) + line_of bs from ≡ line_of bs to
-part_count bs from to le within w =
-    let part : List ℕ = slice_range bs from to in
-    let a : count_by is_terminated (lines_from from part) ≡ ends_before (length part) part =
-    all_counted (lines_from from part) ∙ ends_count-lines_from (λ e. true) from part ∙ ends_by_all from part in
-    let b : line_of part (length part) ≡ line_of part (to - from) = ap (line_of part) (part_length bs from to within) in
-    omega (arith, a, b, line_of-is part (length part), part_line bs from to to le (omega arith) w)
+    omega (arith, place_shifted from (slice_range bs from to) o, part_line bs from to o le w)
 
 -- ---- where no CRLF is parted
 

@@ -14,7 +14,8 @@ returns-in_err-report-clause-description g c e =
     (option_map (λ b. value b.value) c.args.one)
     (option_map (λ v. map string_bytes v.items) c.args.parts.several)
     (option_map (λ v. trees (map value v.items)) c.args.list)
-    (option_map (λ v. map string_bytes v.items) c.args.parts.contexts) (c.in_err-report.ensures.description (search rules))
+    (option_map (λ v. map string_bytes v.items) c.args.parts.contexts)
+    (c.in_err-report.ensures.description (search rules))
 
 pub returns-clause-ok : goal.returns-clause-ok
 returns-clause-ok g c =

@@ -20,7 +20,7 @@ use Rattle.miette_labels.specs.views.Reads.{AreGroups}
 use Rattle.miette_labels.proofs.GroupsOfReads.{are_grouped}
 use Rattle.miette_drawing.proofs.ReadRows.{lent_texts}
 use Rattle.miette_highlight.specs.rules.HighlighterCalls.{Call, Leads, restarted}
-use Rattle.miette_layout.proofs.PrimaryOfReads.{reads_rise}
+use Rattle.miette_labels.proofs.GroupsOfReads.{reads_rise}
 use Rattle.miette_folds.proofs.LineNumbers.{are_numbered}
 use Rattle.miette_layout.proofs.SnippetSequence.{none_drawn, drawn_more, all_drawn, gives_rows, gives_none, drawn_is}
 use Rattle.miette_layout.proofs.SnippetSequence.{placed_rise, place_ordered, groups_lent, puts_around, none_grouped}

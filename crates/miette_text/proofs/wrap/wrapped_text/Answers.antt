@@ -20,6 +20,7 @@ returns c =
     printed-bytes c.in_ok-out.out c.push_wrapped.new.out (wrapped_text p text) c.in_ok-out.ensures.bytes
     (c.in_ok-push_wrapped.ensures
     ∙ ap (λ us. chars (string_bytes c.in_ok-out.out) ++ us)
-    (wrapped-read (plan c.cuts_hyphens-hyphens.result) c.in_ok-first.first c.in_ok-further.further c.in_ok-read.read text
+    (wrapped-read (plan c.cuts_hyphens-hyphens.result) c.in_ok-first.first c.in_ok-further.further c.in_ok-read.read
+    text
     c.in_ok-first.ensures.tokens c.in_ok-further.ensures.tokens c.in_ok-read.ensures.tokens
     ∙ ap (λ v. wrapped_text (plan v) text) c.cuts_hyphens-hyphens.ensures))
