@@ -1,7 +1,15 @@
-//! Callers of the library, under contracts of their own and as programs write them: what the clauses of a picture say
-//! of one report, what a message in front keeps, and an error on its way up. `report_tests` runs them.
+//! Callers of the library, under contracts of their own and as programs write them. The pages for callers begin with
+//! them, each by the name of its crate. `handlers` says what the clauses of a picture give
+//! of one report, `load` is an error on its way up. `report_tests` runs some.
 #![tactic(auto)]
 
-pub mod boxes;
-pub mod clauses;
+pub mod brief;
+pub mod descriptions;
+pub mod handlers;
+pub mod highlight;
+pub mod layout;
 pub mod load;
+pub mod narrated;
+pub mod protocol;
+pub mod text;
+pub mod tree;

@@ -2,7 +2,7 @@
 //! narrated, stands first in `cases/gallery.jsonl`.
 
 use crate::comparing::gives;
-use callers::clauses::{draw_both, warning};
+use callers::handlers::{draw_both, warning};
 use miette::diagnostic::MietteDiagnostic;
 use miette::error::RenderError;
 use miette::handlers::GraphicalReportHandler;

@@ -47,8 +47,10 @@ pub fn draw_both(alloc: Global, report: &Report) -> Result<Pictures, RenderError
     ensures plain { IfOk result (λ p. string_bytes p.plain
         ≡ encode_utf8_all (report_text drawn_rows plain warning_tree unlisted)) }
     // and without their colours they are the same
-    ensures colours { IfOk result (λ p. erase (string_bytes p.coloured) ≡ erase (string_bytes p.plain)) }
-    // its snippet shows the two lines, the label's mark is the column of the name, and its text hangs from it
+    ensures colours { IfOk result (λ p.
+        erase (string_bytes p.coloured) ≡ erase (string_bytes p.plain)) }
+    // its snippet shows the two lines, the label's mark is the column of the name, and its text
+    // hangs from it
     ensures lines { IfOk result (λ p. ShowsBothLines plain) }
     ensures marks { IfOk result (λ p. HasOwnMark plain) }
     ensures texts { IfOk result (λ p. TextHangs plain) }

@@ -1,0 +1,37 @@
+//! The snippets of a text by themselves.
+
+ghost use Rattle.std.specs.Prelude.{IfOk};
+ghost use Rattle.miette_protocol.specs.rules.Reading.{plain_source};
+ghost use Rattle.callers.specs.Rows.{AreSnippets};
+
+use miette_highlight::highlight::BlankHighlighter;
+use miette_layout::options::{LayoutOptions, SnippetSettings};
+use miette_layout::page::Page;
+use miette_layout::snippets::snippets;
+use miette_protocol::error::RenderError;
+use miette_protocol::protocol::LabeledSpan;
+use miette_style::theme::GraphicalTheme;
+use miette_text::runs::output::Output;
+use std::alloc::Global;
+
+/// The rows of the labels' snippets, by the usual layout and without a highlighter.
+pub fn snippets_in(
+    alloc: Global,
+    theme: &GraphicalTheme,
+    source: &[u8],
+    labels: &[LabeledSpan],
+) -> Result<Output, RenderError>
+    ensures { IfOk result (λ output.
+        AreSnippets theme.now (plain_source source.now) labels.now output) }
+{
+    let layout = LayoutOptions::default();
+    let settings = SnippetSettings {
+        alloc,
+        theme,
+        layout: &layout,
+    };
+    let mut highlighter: Option<BlankHighlighter> = None;
+    let page = Page::over(Output::for_text(alloc));
+    let page = snippets(&mut highlighter, &settings, &source, labels, page)?;
+    Ok(page.into_output()?)
+}

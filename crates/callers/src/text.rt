@@ -1,0 +1,26 @@
+//! A hint in rows.
+
+ghost use Rattle.std.specs.Prelude.{◌≡◌, ◌++◌, OnErr, OnOk, chars, encode_utf8_all, string_bytes};
+ghost use Rattle.miette_text.specs.rules.Wrapping.{wrapped_text};
+ghost use Rattle.callers.specs.Rows.{hint_plan};
+
+use miette_text::wrap::{WordSeparator, WordSplitter, WrapOptions, fill};
+use std::alloc::AllocError;
+
+/// Appends a hint in rows of a width, the first behind `hint: `, the others below its text.
+pub fn push_hint(hint: &str, width: usize, out: &mut String) -> Result<(), AllocError>
+    ensures ok { OnOk result (string_bytes out.new ≡ string_bytes out.old
+        ++ encode_utf8_all (wrapped_text (hint_plan width) (chars hint.now))) }
+    ensures err { OnErr result (string_bytes out.new ≡ string_bytes out.old) }
+{
+    let options = WrapOptions {
+        width,
+        first_indent: "hint: ",
+        further_indent: "      ",
+        break_words: true,
+        wrap_lines: true,
+        separator: WordSeparator::AsciiSpace,
+        splitter: WordSplitter::HyphenSplitter,
+    };
+    fill(hint, &options, out)
+}

@@ -1,0 +1,36 @@
+//! Reports over boxes, as users write them: what a message in front keeps.
+
+ghost use Rattle.std.specs.Prelude.{◌≡◌, ◌⊎◌, IfOk, IfErr, codes};
+ghost use Rattle.miette_tree.specs.rules.Tree.{head, alone, wrapped_tree};
+ghost use Rattle.miette_tree.specs.views.Report.{tree_of, out_of_memory_alone};
+
+use miette_protocol::protocol::Diagnostic;
+use miette_protocol::source::SourceCode;
+use miette_tree::report::{Report, Result, WrapErr};
+use std::alloc::Global;
+
+/// A report with a text in front has the labels that it had, and the text as its message.
+pub fn under(alloc: Global, report: Report, text: &str) -> Result<Report, Report>
+    ensures labels { IfOk result (λ r.
+        let tree = tree_of ⟦<Box<dyn Diagnostic> as Diagnostic>⟧.meaning
+        ⟦<Box<dyn SourceCode> as SourceCode>⟧.source in
+        (head (tree r)).labels ≡ (head (tree report)).labels) }
+    ensures message { IfOk result (λ r.
+        let tree = tree_of ⟦<Box<dyn Diagnostic> as Diagnostic>⟧.meaning
+        ⟦<Box<dyn SourceCode> as SourceCode>⟧.source in
+        (head (tree r)).message ≡ text.now) }
+{
+    report.wrap_err(alloc, text)
+}
+
+/// What a step gave; where it failed, its report says so.
+pub fn step(alloc: Global, outcome: Result<u32>) -> Result<u32>
+    ensures ok { IfOk outcome (λ value. result ≡ Ok value) }
+    ensures err { IfErr outcome (λ report. IfErr result (λ r.
+        let tree = tree_of ⟦<Box<dyn Diagnostic> as Diagnostic>⟧.meaning
+        ⟦<Box<dyn SourceCode> as SourceCode>⟧.source in
+        (tree r ≡ wrapped_tree (codes "the step failed") (tree report))
+        ⊎ (tree r ≡ alone out_of_memory_alone))) }
+{
+    outcome.wrap_err(alloc, "the step failed")
+}
