@@ -1,5 +1,5 @@
 //! Callers of the library, under contracts of their own and as programs write them. The pages for callers begin with
-//! them, each by the name of its crate. `handlers` says what the clauses of a picture give
+//! them, each by the name of its crate, `miette`'s with `printing`. `handlers` says what the clauses of a picture give
 //! of one report, `load` is an error on its way up. `report_tests` runs some.
 #![tactic(auto)]
 
@@ -10,6 +10,7 @@ pub mod highlight;
 pub mod layout;
 pub mod load;
 pub mod narrated;
+pub mod printing;
 pub mod protocol;
 pub mod text;
 pub mod tree;
