@@ -1,24 +1,11 @@
 -- What begins a style is a colour.
-use Rattle.std.proofs.Common.{◌≡◌, ℕ, zero, suc, ◌/◌, ◌<◌, Bool, true, false, ◌&&◌, ◌==◌, List, [], ◌∷◌, ◌++◌, refl, ap}
-use Rattle.std.proofs.Common.{ap₂, arith, if◌then◌else◌, decimal, codes, Option, Some, None, ◌%◌}
-use Rattle.std.proofs.lemmas.Bool.{and_parts}
+use Rattle.std.proofs.Common.{◌≡◌, ℕ, true, false, ◌==◌, List, [], ◌∷◌, ◌++◌, refl, arith}
 use Rattle.std.proofs.lemmas.Bool.Decides.{nat_tests}
+use Rattle.miette_page.proofs.StyleBytes.{parameters, separated_style}
 use Rattle.miette_runs.specs.rules.Sequences.{is_parameter}
 use Rattle.miette_runs.specs.rules.Colours.{is_colour, is_colour_end}
-use Rattle.miette_style.specs.declared.style.Color.{Color}
-use Rattle.miette_style.specs.declared.style.Color.TheVariants.{Red, Green, Yellow, Blue, Magenta, Cyan, Rgb}
 use Rattle.miette_style.specs.declared.style.Style.{Style}
-use Rattle.miette_style.specs.rules.Codes.{foreground, foreground_codes, flag, style_codes, separated_codes}
-use Rattle.miette_style.specs.rules.Codes.{colour_start, behind_separators}
-use Rattle.std.specs.Fmt.{digit_glyph, digits, digits_onto}
-
-abbrev parameters : List ℕ → Bool
-parameters [] = true
-parameters (c ∷ cs) = is_parameter c && parameters cs
-
-parameters-append : (x y : List ℕ) → parameters x ≡ true → parameters y ≡ true → parameters (x ++ y) ≡ true
-parameters-append [] y h k = k
-parameters-append (c ∷ x) y h k = grind (arith, nat_tests, parameters-append x y)
+use Rattle.miette_style.specs.rules.Codes.{colour_start, separated_codes, style_codes}
 
 parameter_end : (c : ℕ) → is_parameter c ≡ true → (c == 109) ≡ false
 parameter_end c h = grind (arith, nat_tests)
@@ -27,85 +14,5 @@ parameters_end : (x : List ℕ) → parameters x ≡ true → is_colour_end (x +
 parameters_end [] h = refl
 parameters_end (c ∷ x) h = grind (arith, nat_tests, parameter_end c, parameters_end x)
 
--- a digit
-digit_parameter : (d : ℕ) → d < 10 → is_parameter (digit_glyph false d) ≡ true
-digit_parameter d h = grind (arith, nat_tests)
-
-digits_parameters : (k n : ℕ) (acc : List ℕ) → parameters acc ≡ true → parameters (digits_onto k 10 false n acc) ≡ true
-digits_parameters zero n acc h = h
-digits_parameters (suc k) n acc h =
-    let first : parameters (digit_glyph false (n % 10) ∷ acc) ≡ true =
-    ap₂ (λ a b. a && b) (digit_parameter (n % 10) (omega arith)) h in
-    elim (n / 10 == 0) as (λ b. parameters (if b then digit_glyph false (n % 10) ∷ acc
-    else digits_onto k 10 false (n / 10) (digit_glyph false (n % 10) ∷ acc)) ≡ true) [
-      | true ↦ first
-      | false ↦ digits_parameters k (n / 10) (digit_glyph false (n % 10) ∷ acc) first
-    ]
-
-decimal_parameters : (n : ℕ) → parameters (decimal n) ≡ true
-unfolding digits
-decimal_parameters n = digits_parameters 64 n [] refl
-
-foreground_parameters : (c : Color) → parameters (foreground c) ≡ true
-foreground_parameters Red = refl
-foreground_parameters Green = refl
-foreground_parameters Yellow = refl
-foreground_parameters Blue = refl
-foreground_parameters Magenta = refl
-foreground_parameters Cyan = refl
-foreground_parameters (Rgb r g b) =
-    parameters-append (codes "38;2;" ++ decimal r ++ codes ";" ++ decimal g ++ codes ";") (decimal b)
-    (parameters-append (codes "38;2;" ++ decimal r ++ codes ";" ++ decimal g) (codes ";")
-    (parameters-append (codes "38;2;" ++ decimal r ++ codes ";") (decimal g)
-    (parameters-append (codes "38;2;" ++ decimal r) (codes ";")
-    (parameters-append (codes "38;2;") (decimal r) refl (decimal_parameters r)) refl)
-    (decimal_parameters g))
-    refl)
-    (decimal_parameters b)
-
-abbrev each_parameters : List (List ℕ) → Bool
-each_parameters [] = true
-each_parameters (x ∷ xs) = parameters x && each_parameters xs
-
-behind_parameters : (xs : List (List ℕ)) → each_parameters xs ≡ true → parameters (behind_separators xs) ≡ true
-behind_parameters [] h = refl
-behind_parameters (x ∷ xs) h =
-    let p = and_parts (parameters x) (each_parameters xs) h in
-    parameters-append (59 ∷ x) (behind_separators xs) p.0 (behind_parameters xs p.1)
-
-separated_parameters : (xs : List (List ℕ)) → each_parameters xs ≡ true → parameters (separated_codes xs) ≡ true
-separated_parameters [] h = refl
-separated_parameters (x ∷ xs) h =
-    let p = and_parts (parameters x) (each_parameters xs) h in
-    parameters-append x (behind_separators xs) p.0 (behind_parameters xs p.1)
-
-each-append : (xs ys : List (List ℕ)) → each_parameters xs ≡ true → each_parameters ys ≡ true
-    → each_parameters (xs ++ ys) ≡ true
-each-append [] ys h k = k
-each-append (x ∷ xs) ys h k = grind (arith, nat_tests, each-append xs ys)
-
-flag-each : (b : Bool) (x : List ℕ) → parameters x ≡ true → each_parameters (flag b x) ≡ true
-flag-each true x h = ap (λ v. v && true) h
-flag-each false x h = refl
-
-foreground-each : (c : Option Color) → each_parameters (foreground_codes c) ≡ true
-foreground-each None = refl
-foreground-each (Some c) = ap (λ v. v && true) (foreground_parameters c)
-
-style_parameters : (s : Style) → each_parameters (style_codes s) ≡ true
-style_parameters s =
-    each-append (foreground_codes s.fg ++ flag s.bold (codes "1") ++ flag s.dimmed (codes "2")
-    ++ flag s.italic (codes "3")) (flag s.underline (codes "4"))
-    (each-append (foreground_codes s.fg ++ flag s.bold (codes "1") ++ flag s.dimmed (codes "2"))
-    (flag s.italic (codes "3"))
-    (each-append (foreground_codes s.fg ++ flag s.bold (codes "1")) (flag s.dimmed (codes "2"))
-    (each-append (foreground_codes s.fg) (flag s.bold (codes "1")) (foreground-each s.fg)
-    (flag-each s.bold (codes "1") refl))
-    (flag-each s.dimmed (codes "2") refl))
-    (flag-each s.italic (codes "3") refl))
-    (flag-each s.underline (codes "4") refl)
-
--- what begins a style is a colour
 pub start_colour : (s : Style) → is_colour (colour_start s) ≡ true
-start_colour s = parameters_end (separated_codes (style_codes s))
-    (separated_parameters (style_codes s) (style_parameters s))
+start_colour s = parameters_end (separated_codes (style_codes s)) (separated_style s)

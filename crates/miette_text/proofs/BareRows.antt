@@ -29,17 +29,23 @@ bare-row s n cs ms e l =
 pub bare-left : (s n : ℕ) (cs : List ℕ) (ms : List Tag) → length cs ≤ n → left_at s (take n cs) ms ≡ left_at s cs ms
 bare-left s n cs ms l = ap (λ xs. left_at s xs ms) (take_all n cs l)
 
--- a row that ends with spaces, the last of them at the place k
-pub spaced-row : (s n k : ℕ) (cs : List ℕ) (ms : List Tag) → n ≡ bare_len (plain_cells cs) → n < length cs
-    → k ≡ (s + length cs) - 1 →
-    piece_text (cells_at s (take n cs) ms) ++ tags_spelled (upto k (left_at s (take n cs) ms)) ≡ row_text s cs ms
-spaced-row s n k cs ms e l h =
-    ap (λ us. piece_text (cells_at s (take n cs) ms) ++ us) (sym (tags-upto (s + n) k (drop n cs)
-    (left_at s (take n cs) ms) (omega (arith, length-drop {A = ℕ} n cs)) (omega (arith, length-drop {A = ℕ} n cs))))
-    ∙ sym (spell-trimmed (cells_at s cs ms) ∙ cells-shown s n cs ms e)
+-- a row that ends with spaces: the signs up to the last place stand in it
+pub spaced-row : (s n : ℕ) (cs : List ℕ) (ms : List Tag) → n ≡ bare_len (plain_cells (drop s cs)) → n
+    < length (drop s cs) → piece_text (cells_at s (take n (drop s cs)) ms)
+    ++ tags_spelled (upto (length cs - 1) (left_at s (take n (drop s cs)) ms)) ≡ row_text s (drop s cs) ms
+spaced-row s n cs ms e l =
+    let xs = drop s cs in
+    let left = left_at s (take n xs) ms in
+    let some : 0 < length (drop n xs) = omega (arith, length-drop {A = ℕ} n xs) in
+    ap (λ us. piece_text (cells_at s (take n xs) ms) ++ us)
+    (sym (tags-upto (s + n) (length cs - 1) (drop n xs) left some
+    (omega (arith, length-drop {A = ℕ} n xs, length-drop {A = ℕ} s cs))))
+    ∙ sym (spell-trimmed (cells_at s xs ms) ∙ cells-shown s n xs ms e)
 
-pub spaced-left : (s n k : ℕ) (cs : List ℕ) (ms : List Tag) → n < length cs → k ≡ (s + length cs) - 1
-    → beyond k (left_at s (take n cs) ms) ≡ left_at s cs ms
-spaced-left s n k cs ms l h =
-    sym (left-parts n s cs ms ∙ left-upto (s + n) k (drop n cs) (left_at s (take n cs) ms)
-    (omega (arith, length-drop {A = ℕ} n cs)) (omega (arith, length-drop {A = ℕ} n cs)))
+pub spaced-left : (s n : ℕ) (cs : List ℕ) (ms : List Tag) → n < length (drop s cs) → beyond (length cs - 1)
+    (left_at s (take n (drop s cs)) ms) ≡ left_at s (drop s cs) ms
+spaced-left s n cs ms l =
+    let xs = drop s cs in
+    let some : 0 < length (drop n xs) = omega (arith, length-drop {A = ℕ} n xs) in
+    sym (left-parts n s xs ms ∙ left-upto (s + n) (length cs - 1) (drop n xs) (left_at s (take n xs) ms) some
+    (omega (arith, length-drop {A = ℕ} n xs, length-drop {A = ℕ} s cs)))

@@ -80,34 +80,30 @@ map-on_first : {A : Type 0} (f g h : A → A) → ((x : A) → f (g x) ≡ h (f 
 map-on_first f g h e [] = refl
 map-on_first f g h e (x ∷ xs) = ap (λ y. y ∷ map f xs) (e x)
 
+-- what is left of a piece with a sequence in front, which is a colour or not
+abbrev stripped : List ℕ → TextLine → Bool → TextLine
+stripped s p b = elim p.cells [
+  | [] ↦ record { cells = []; rest = if b then kept p.rest else s ∷ kept p.rest }
+  | c ∷ cs ↦ record {
+    cells = record { tags = if b then kept c.tags else s ∷ kept c.tags; code = c.code } ∷ map strip cs;
+    rest = kept p.rest;
+  }
+]
+
+strip-with : (s : List ℕ) (p : TextLine) → strip_piece (with_tag s p) ≡ stripped s p (is_colour s)
+strip-with s p = elim p.cells as (λ cs. strip_piece (with_tag s (record { cells = cs; rest = p.rest }))
+    ≡ stripped s (record { cells = cs; rest = p.rest }) (is_colour s)) [ [] ↦ refl | c ∷ cs ↦ refl ]
+
 strip-tag : (s : List ℕ) → is_colour s ≡ false → (p : TextLine) → strip_piece (with_tag s p)
     ≡ with_tag s (strip_piece p)
-strip-tag s h p = elim p.cells as (λ cs. strip_piece (with_tag s (record { cells = cs; rest = p.rest }))
-    ≡ with_tag s (strip_piece (record { cells = cs; rest = p.rest }))) [
-      | [] ↦ ap (λ (b : Bool). record { cells = []; rest = if b then kept p.rest else s ∷ kept p.rest }) h
-      | c ∷ cs ↦ ap (λ (b : Bool). record {
-        cells = record {
-          tags = (if b then kept c.tags else s ∷ kept c.tags);
-          code =
-              c.code;
-        } ∷ map strip cs;
-        rest = kept p.rest;
-      }) h
-    ]
+strip-tag s h p = strip-with s p ∙ ap (stripped s p) h
+    ∙ elim p.cells as (λ cs. stripped s (record { cells = cs; rest = p.rest }) false
+    ≡ with_tag s (strip_piece (record { cells = cs; rest = p.rest }))) [ [] ↦ refl | c ∷ cs ↦ refl ]
 
 strip-colour : (s : List ℕ) → is_colour s ≡ true → (p : TextLine) → strip_piece (with_tag s p) ≡ strip_piece p
-strip-colour s h p = elim p.cells as (λ cs. strip_piece (with_tag s (record { cells = cs; rest = p.rest }))
-    ≡ strip_piece (record { cells = cs; rest = p.rest })) [
-      | [] ↦ ap (λ (b : Bool). record { cells = []; rest = if b then kept p.rest else s ∷ kept p.rest }) h
-      | c ∷ cs ↦ ap (λ (b : Bool). record {
-        cells = record {
-          tags = (if b then kept c.tags else s ∷ kept c.tags);
-          code =
-              c.code;
-        } ∷ map strip cs;
-        rest = kept p.rest;
-      }) h
-    ]
+strip-colour s h p = strip-with s p ∙ ap (stripped s p) h
+    ∙ elim p.cells as (λ cs. stripped s (record { cells = cs; rest = p.rest }) true
+    ≡ strip_piece (record { cells = cs; rest = p.rest })) [ [] ↦ refl | c ∷ cs ↦ refl ]
 
 on_first_same : {A B : Type 0} (f : A → B) (g : A → A) → ((x : A) → f (g x) ≡ f x) → (xs : List A)
     → map f (on_first g xs) ≡ map f xs

@@ -93,19 +93,30 @@ step-some cuts before end n m codes l p q =
 
 -- ---- what stands at a place
 
-pub part-here : (cuts : Cuts) (before s n : ℕ) (cs : List ℕ) → n ≡ part_len cuts before 0
+part-here : (cuts : Cuts) (before s n : ℕ) (cs : List ℕ) → n ≡ part_len cuts before 0
     (take (length cs - s) (drop s cs)) → n ≡ part_len cuts before 0 (drop s cs)
 part-here cuts before s n cs h = h ∙ ap (part_len cuts before 0) (take_rest cs s)
 
-pub gap-here : (s n m : ℕ) (cs : List ℕ) → m ≡ gap_len (take (length cs - (s + n)) (drop (s + n) cs))
+gap-here : (s n m : ℕ) (cs : List ℕ) → m ≡ gap_len (take (length cs - (s + n)) (drop (s + n) cs))
     → m ≡ gap_len (drop n (drop s cs))
 gap-here s n m cs h = h ∙ ap gap_len (take_rest cs (s + n) ∙ sym (drop-drop n s cs))
 
-pub columns-here : (s n used columns wide : ℕ) (cs : List ℕ) → columns ≡ code_columns
+columns-here : (s n used columns wide : ℕ) (cs : List ℕ) → columns ≡ code_columns
     (take n (take (length cs - s) (drop s cs))) → wide ≡ used + columns → wide
     ≡ used + code_columns (take n (drop s cs))
 columns-here s n used columns wide cs h w =
     w ∙ ap (λ k. used + k) (h ∙ ap (λ xs. code_columns (take n xs)) (take_rest cs s))
+
+pub word-here : (cuts : Cuts) (before s n m used columns wide : ℕ) (cs : List ℕ) → n ≡ part_len cuts before 0
+    (take (length cs - s) (drop s cs)) → m ≡ gap_len (take (length cs - (s + n)) (drop (s + n) cs)) → columns
+    ≡ code_columns (take n (take (length cs - s) (drop s cs))) → wide ≡ used + columns →
+    (n ≡ part_len cuts before 0 (drop s cs)) × (m ≡ gap_len (drop n (drop s cs)))
+    × (wide ≡ used + code_columns (take n (drop s cs)))
+word-here cuts before s n m used columns wide cs p q h w = (
+  part-here cuts before s n cs p,
+  gap-here s n m cs q,
+  columns-here s n used columns wide cs h w,
+)
 
 pub step-here : (cuts : Cuts) (before s n m : ℕ) (cs : List ℕ) → s < length cs → n ≡ part_len cuts before 0
     (take (length cs - s) (drop s cs)) → m ≡ gap_len (take (length cs - (s + n)) (drop (s + n) cs)) → 0 < n + m

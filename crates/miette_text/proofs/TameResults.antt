@@ -25,19 +25,11 @@ use Rattle.miette_text.proofs.RowEnds.{rows-hold}
 -- ---- states
 
 abbrev pub alive : State → Bool
-alive Broken = false
-alive Free = true
-alive Escaped = true
-alive Opened = true
-alive Waiting = true
+alive s = elim s [ Broken ↦ false | _ ↦ true ]
 
 -- where a row may begin
 abbrev pub settled : State → Bool
-settled Free = true
-settled Waiting = true
-settled Escaped = false
-settled Opened = false
-settled Broken = false
+settled s = elim s [ Free ↦ true | Waiting ↦ true | _ ↦ false ]
 
 -- s allows at least what t does
 abbrev pub freer : State → State → Bool

@@ -1,4 +1,4 @@
-use Rattle.std.proofs.Common.{◌≡◌, ◌∙◌, ◌≤◌, ap, ap₂, arith, length, sym}
+use Rattle.std.proofs.Common.{◌∙◌, ◌≤◌, ap, ap₂, arith, length, sym}
 use Rattle.std.specs.Vec.{with_items}
 use Rattle.miette_runs.specs.rules.Cutting.{cut_end}
 use Rattle.miette_runs.specs.steps.Feeds.{capped_tag, kept_len}
@@ -18,23 +18,21 @@ invariant_of-self c =
 
 pub returns-then-n-len : goal.returns-then-n-len
 returns-then-n-len c =
-    let codes = c.self.inside.codes.items in
     let tags = c.self.inside.tags in
-    let n = c.kept_len-n.result in
-    let is_len : n ≡ kept_len 0 codes tags.items = c.kept_len-n.ensures.value
-    ∙ ap₂ (kept_len 0) c.deref.ensures.value c.deref-2.ensures.value in
-    end-cut codes c.truncate.new.self.items tags.items (with_items tags c.cap.new.tags).items n is_len
+    end-cut c.self.inside.codes.items c.truncate.new.self.items tags.items (with_items tags c.cap.new.tags).items
+    c.kept_len-n.result
+    (c.kept_len-n.ensures.value ∙ ap₂ (kept_len 0) c.deref.ensures.value c.deref-2.ensures.value)
     c.truncate.ensures.items
-    (tags-changed (capped_tag n) tags c.deref_mut.result.now c.cap.new.tags c.deref_mut.ensures.value
+    (tags-changed (capped_tag c.kept_len-n.result) tags c.deref_mut.result.now c.cap.new.tags c.deref_mut.ensures.value
     c.deref_mut.ensures.len c.cap.ensures)
     ∙ ap cut_end c.self.view_is
 
 pub returns-else-n-len : goal.returns-else-n-len
 returns-else-n-len c =
     let codes = c.self.inside.codes.items in
-    let tags = c.self.inside.tags.items in
     let n = c.kept_len-n.result in
-    let is_len : n ≡ kept_len 0 codes tags = c.kept_len-n.ensures.value
-    ∙ ap₂ (kept_len 0) c.deref.ensures.value c.deref-2.ensures.value in
     let all : length codes ≤ n = (let e = c.if-n-len.false in let o = c.self.inside.codes.ok.0 in omega arith) in
-    sym c.self.view_is ∙ end-whole codes tags n is_len all ∙ ap cut_end c.self.view_is
+    sym c.self.view_is
+    ∙ end-whole codes c.self.inside.tags.items n (c.kept_len-n.ensures.value
+    ∙ ap₂ (kept_len 0) c.deref.ensures.value c.deref-2.ensures.value) all
+    ∙ ap cut_end c.self.view_is

@@ -1,4 +1,4 @@
-use Rattle.std.proofs.Common.{◌≡◌, ◌∙◌, ap, ap₂, arith, sym}
+use Rattle.std.proofs.Common.{◌∙◌, ap, ap₂, arith, sym}
 use Rattle.std.specs.Vec.{with_items}
 use Rattle.miette_runs.specs.rules.Cutting.{cut_front}
 use Rattle.miette_runs.specs.steps.Feeds.{feeds_len, lowered_tag}
@@ -17,22 +17,21 @@ invariant_of-self c =
 
 pub returns-then-n-gt0 : goal.returns-then-n-gt0
 returns-then-n-gt0 c =
-    let codes = c.self.inside.codes.items in
     let tags = c.self.inside.tags in
-    let n = c.feeds_len-n.result in
-    let is_len : n ≡ feeds_len 0 codes tags.items = c.feeds_len-n.ensures.value
-    ∙ ap₂ (feeds_len 0) c.deref.ensures.value c.deref-2.ensures.value in
-    front-cut codes c.drop-drain.new.self.0.items tags.items (with_items tags c.lower.new.tags).items n is_len
-    (c.drop-drain.ensures.items ∙ c.drain.ensures.kept) (tags-changed (lowered_tag n) tags c.deref_mut.result.now
-    c.lower.new.tags c.deref_mut.ensures.value
+    front-cut c.self.inside.codes.items c.drop-drain.new.self.0.items tags.items
+    (with_items tags c.lower.new.tags).items c.feeds_len-n.result
+    (c.feeds_len-n.ensures.value ∙ ap₂ (feeds_len 0) c.deref.ensures.value c.deref-2.ensures.value)
+    (c.drop-drain.ensures.items ∙ c.drain.ensures.kept)
+    (tags-changed (lowered_tag c.feeds_len-n.result) tags c.deref_mut.result.now c.lower.new.tags
+    c.deref_mut.ensures.value
     c.deref_mut.ensures.len c.lower.ensures)
     ∙ ap cut_front c.self.view_is
 
 pub returns-else-n-gt0 : goal.returns-else-n-gt0
 returns-else-n-gt0 c =
     let codes = c.self.inside.codes.items in
-    let tags = c.self.inside.tags.items in
     let n = c.feeds_len-n.result in
-    let is_len : n ≡ feeds_len 0 codes tags = c.feeds_len-n.ensures.value
-    ∙ ap₂ (feeds_len 0) c.deref.ensures.value c.deref-2.ensures.value in
-    sym c.self.view_is ∙ front-whole codes tags n is_len (omega (arith, c.if-n-gt0.false)) ∙ ap cut_front c.self.view_is
+    sym c.self.view_is
+    ∙ front-whole codes c.self.inside.tags.items n (c.feeds_len-n.ensures.value
+    ∙ ap₂ (feeds_len 0) c.deref.ensures.value c.deref-2.ensures.value) (omega (arith, c.if-n-gt0.false))
+    ∙ ap cut_front c.self.view_is

@@ -1,4 +1,4 @@
-use Rattle.std.proofs.Common.{◌≡◌, ◌∙◌, ◌<◌, ◌≤◌, ◌++◌, [], ap, arith, drop, length, length-drop, sym, take}
+use Rattle.std.proofs.Common.{◌≡◌, ◌∙◌, ◌<◌, ◌++◌, [], ap, arith, drop, length, length-drop, sym, take}
 use Rattle.std.proofs.lemmas.List.{take_rest, drop_all}
 use Rattle.miette_runs.specs.rules.Cells.{piece_text}
 use Rattle.miette_runs.specs.views.Interleaving.{cells_at, left_at}
@@ -7,24 +7,16 @@ use Rattle.miette_runs.proofs.runs.cells.push_cells.Goals as goal
 
 pub returns-then-rest-gap-clause-text : goal.returns-then-rest-gap-clause-text
 returns-then-rest-gap-clause-text g c =
-    let cs = c.args.codes.now in
-    let s = c.loop-n.start in
-    let l : length (drop s cs) ≤ c.saturating_sub-gap.result = omega
-    (arith, c.if-rest-gap.true, ap length (take_rest cs s)) in
     c.in_ok-push_chars.ensures
-    ∙ ap (λ us. g.S.Canvas.written c.loop-n.out ++ us) (take_rest cs s
-    ∙ text-rest c.loop-n.place s c.loop-n.n c.saturating_sub-gap.result cs c.args.tags.now c.index-tags-n.result
-    c.loop-n-test.true c.index-tags-n.is c.saturating_sub-gap.ensures l)
+    ∙ ap (λ us. g.S.Canvas.written c.loop-n.out ++ us) (text-rest c.loop-n.place c.loop-n.start c.loop-n.n
+    c.saturating_sub-gap.result c.args.codes.now c.args.tags.now c.index-tags-n.result c.loop-n-test.true
+    c.index-tags-n.is c.saturating_sub-gap.ensures c.if-rest-gap.true)
     ∙ c.loop-n.invariant.printed
 
 pub returns-then-rest-gap-clause-left : goal.returns-then-rest-gap-clause-left
 returns-then-rest-gap-clause-left g c =
-    let cs = c.args.codes.now in
-    let s = c.loop-n.start in
-    let l : length (drop s cs) ≤ c.saturating_sub-gap.result = omega
-    (arith, c.if-rest-gap.true, ap length (take_rest cs s)) in
-    left-rest c.loop-n.place s c.loop-n.n c.saturating_sub-gap.result cs c.args.tags.now c.index-tags-n.result
-    c.loop-n-test.true c.index-tags-n.is c.saturating_sub-gap.ensures l
+    left-rest c.loop-n.place c.loop-n.start c.loop-n.n c.saturating_sub-gap.result c.args.codes.now c.args.tags.now
+    c.index-tags-n.result c.loop-n-test.true c.index-tags-n.is c.saturating_sub-gap.ensures c.if-rest-gap.true
     ∙ c.loop-n.invariant.left
 
 pub loop-n-preserved : goal.loop-n-preserved

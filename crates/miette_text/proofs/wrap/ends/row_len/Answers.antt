@@ -1,10 +1,9 @@
-use Rattle.std.proofs.Common.{◌≡◌, ◌∙◌, ◌+◌, ◌<◌, ◌≤◌, ◌&&◌, nat_lt, true, false, length, length-drop, take, drop}
+use Rattle.std.proofs.Common.{◌≡◌, ◌∙◌, ◌+◌, ◌<◌, ◌≤◌, ◌&&◌, nat_lt, true, false, length, length-drop, drop}
 use Rattle.std.proofs.Common.{sym, ap, arith}
 use Rattle.std.proofs.lemmas.Bool.Decides.{nat_tests}
 use Rattle.std.proofs.lemmas.List.{take_rest}
-use Rattle.miette_text.specs.steps.Ends.{code_behind, gap_len, part_len}
-use Rattle.miette_runs.specs.steps.Cells.{code_columns}
-use Rattle.miette_text.proofs.FirstRow.{behind-last, columns-here, gap-here, part-here, row-ends}
+use Rattle.miette_text.specs.steps.Ends.{code_behind}
+use Rattle.miette_text.proofs.FirstRow.{behind-last, row-ends, word-here}
 use Rattle.miette_text.proofs.FirstRow.{row-fits, row-starts, row-whole, step-here, step-some}
 use Rattle.miette_text.proofs.Parting.{behind-add}
 use Rattle.miette_text.proofs.wrap.ends.row_len.Goals as goal
@@ -21,19 +20,13 @@ rest-init c = record {
 
 pub returns-then-room-wide-clause-value : goal.returns-then-room-wide-clause-value
 returns-then-room-wide-clause-value c = λ cells further e.
-    let cs = c.args.codes.now in
-    let s = c.rest.end in
-    let n = c.in_ok-part.part.len in
-    let m = c.gap_len-spaces.result in
-    let u = c.args.cuts in
-    let p : n ≡ part_len u c.rest.before 0 (drop s cs) = part-here u c.rest.before s n cs c.in_ok-part.ensures.len in
-    let q : m ≡ gap_len (drop n (drop s cs)) = gap-here s n m cs c.gap_len-spaces.ensures.value in
-    let w : c.in_ok-wide.wide ≡ c.rest.used + code_columns (take n (drop s cs)) =
-    columns-here s n c.rest.used c.in_ok-part.part.columns c.in_ok-wide.wide cs c.in_ok-part.ensures.columns
-    c.in_ok-wide.ensures in
-    let t : (nat_lt 0 s && nat_lt c.args.room c.in_ok-wide.wide) ≡ true = grind (arith, nat_tests) in
-    row-ends u c.args.room further c.args.first c.rest.before s n m c.rest.used c.in_ok-wide.wide cells cs e
-    c.rest-test.true p q w t c.rest.invariant.behind (c.rest.invariant.packed cells further e)
+    let w = word-here c.args.cuts c.rest.before c.rest.end c.in_ok-part.part.len c.gap_len-spaces.result c.rest.used
+    c.in_ok-part.part.columns c.in_ok-wide.wide c.args.codes.now c.in_ok-part.ensures.len c.gap_len-spaces.ensures.value
+    c.in_ok-part.ensures.columns c.in_ok-wide.ensures in
+    let t : (nat_lt 0 c.rest.end && nat_lt c.args.room c.in_ok-wide.wide) ≡ true = grind (arith, nat_tests) in
+    row-ends c.args.cuts c.args.room further c.args.first c.rest.before c.rest.end c.in_ok-part.part.len
+    c.gap_len-spaces.result c.rest.used c.in_ok-wide.wide cells c.args.codes.now e c.rest-test.true w.0 w.1 w.2 t
+    c.rest.invariant.behind (c.rest.invariant.packed cells further e)
 
 pub overflow_sub-before : goal.overflow_sub-before
 overflow_sub-before c =
@@ -57,19 +50,16 @@ rest-preserved c =
     let n = c.in_ok-part.part.len in
     let m = c.gap_len-spaces.result in
     let u = c.args.cuts in
-    let p : n ≡ part_len u c.rest.before 0 (drop s cs) = part-here u c.rest.before s n cs c.in_ok-part.ensures.len in
-    let q : m ≡ gap_len (drop n (drop s cs)) = gap-here s n m cs c.gap_len-spaces.ensures.value in
-    let w : c.in_ok-wide.wide ≡ c.rest.used + code_columns (take n (drop s cs)) =
-    columns-here s n c.rest.used c.in_ok-part.part.columns c.in_ok-wide.wide cs c.in_ok-part.ensures.columns
-    c.in_ok-wide.ensures in
+    let w = word-here u c.rest.before s n m c.rest.used c.in_ok-part.part.columns c.in_ok-wide.wide cs
+    c.in_ok-part.ensures.len c.gap_len-spaces.ensures.value c.in_ok-part.ensures.columns c.in_ok-wide.ensures in
     let t : (nat_lt 0 s && nat_lt c.args.room c.in_ok-wide.wide) ≡ false =
     elim c.else-end-gt0.branch [
-      | else-end-gt0-via-then-end-gt0+else-room-wide w ↦
-          (let a = w.if-room-wide.false in grind (arith, nat_tests))
-      | else-end-gt0-via-else-end-gt0 w ↦
-          (let a = w.if-end-gt0.false in grind (arith, nat_tests))
+      | else-end-gt0-via-then-end-gt0+else-room-wide v ↦
+          (let a = v.if-room-wide.false in grind (arith, nat_tests))
+      | else-end-gt0-via-else-end-gt0 v ↦
+          (let a = v.if-end-gt0.false in grind (arith, nat_tests))
     ] in
-    let some : 0 < n + m = step-some u c.rest.before s n m cs c.rest-test.true p q in
+    let some : 0 < n + m = step-some u c.rest.before s n m cs c.rest-test.true w.0 w.1 in
     let inside : (s + n) + m ≤ length cs = omega (
       arith,
       c.gap_len-spaces.ensures.within,
@@ -88,7 +78,7 @@ rest-preserved c =
       packed = λ cells further e.
           c.rest.invariant.packed cells further e
           ∙ row-fits u c.args.room further c.rest.before s n m c.rest.used c.in_ok-wide.wide c.index-codes-end.result
-          c.in_ok-used.used cells cs e c.rest-test.true p q w t (b1 ∙ sym b2) c.in_ok-used.ensures;
+          c.in_ok-used.used cells cs e c.rest-test.true w.0 w.1 w.2 t (b1 ∙ sym b2) c.in_ok-used.ensures;
       behind = b1;
       within = inside;
     }

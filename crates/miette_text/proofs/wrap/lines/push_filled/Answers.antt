@@ -1,4 +1,4 @@
-use Rattle.std.proofs.Common.{◌∙◌, ◌+◌, ◌-◌, ◌<◌, ◌≤◌, ◌++◌, ap, arith, drop, length, length-drop, sym, take}
+use Rattle.std.proofs.Common.{◌∙◌, ◌+◌, ◌<◌, ◌++◌, ap, arith, drop, length, length-drop, sym}
 use Rattle.std.proofs.lemmas.List.{take_rest}
 use Rattle.miette_runs.specs.views.Interleaving.{interleaving}
 use Rattle.miette_text.proofs.Filling.{last-filled, next-filled}
@@ -28,13 +28,16 @@ rest-preserved g c =
     let all = c.args.text.tags.now in
     let s = c.rest.start in
     let n = c.line_len-n.result in
+    let less : n < length (drop s cs) = omega (
+      arith,
+      c.line_len-n.ensures.within,
+      c.if-end-text.false,
+      c.rest.invariant.within,
+      ap length (take_rest cs s),
+      length-drop s cs,
+    ) in
     let k = c.rest.used in
     let m = c.in_ok-inside.inside in
-    let inside : n ≤ length (take (length cs - s) (drop s cs)) = c.line_len-n.ensures.within in
-    let not_all = c.if-end-text.false in
-    let within = c.rest.invariant.within in
-    let marked = c.rest.invariant.marked in
-    let less : n < length (drop s cs) = omega (arith, ap length (take_rest cs s), length-drop s cs) in
     record {
       printed =
           next-filled c.args.cuts (interleaving 0 c.args.under.further.codes.now c.args.under.further.tags.now)
@@ -47,6 +50,7 @@ rest-preserved g c =
       within = omega (arith, length-drop s cs);
       marked = omega (
         arith,
+        c.rest.invariant.marked,
         c.in_ok-inside.ensures.within,
         c.in_ok-behind.ensures.within,
         ap length (take_rest all k),

@@ -12,7 +12,6 @@ returns-then-last g c =
     let cs = c.args.text.codes.now in
     let s = c.rest.start in
     let n = c.line_len.result in
-    let ms = c.rest.tags.now in
     let line = take ((s + n) - s) (drop s cs) in
     let left = c.split_at.result.1.now in
     let indent = interleaving 0 c.rest.indent.codes.now c.rest.indent.tags.now in
@@ -20,10 +19,11 @@ returns-then-last g c =
     let within : s ≤ length cs = c.rest.invariant.within in
     let is_last : nat_eq (s + n) (length cs) ≡ true = (let e = c.if-last.true in grind (arith, nat_tests)) in
     line-pushed (nat_eq (s + n) (length cs)) true indent (interleaving 0 c.rest.short.codes.now c.rest.short.tags.now) s
-    line ms left o (g.S.Canvas.written c.push_indent.new.out) (g.S.Canvas.written c.push_cells.new.out)
+    line c.rest.tags.now left o (g.S.Canvas.written c.push_indent.new.out) (g.S.Canvas.written c.push_cells.new.out)
     (g.S.Canvas.written c.push_tags.new.out) is_last c.rest.invariant.short c.in_ok-push_indent.ensures
     c.in_ok-used.ensures.text c.in_ok-push_tags.ensures
-    ∙ ap (λ us. o ++ us) (end-at indent (interleaving 0 c.args.further.codes.now c.args.further.tags.now) s n cs line ms
+    ∙ ap (λ us. o ++ us) (end-at indent (interleaving 0 c.args.further.codes.now c.args.further.tags.now) s n cs line
+    c.rest.tags.now
     left (c.line_len.ensures.value ∙ ap line_len (take_rest cs s)) (omega (arith, c.if-last.true, length-drop s cs))
     (ap (λ k. take k (drop s cs)) (omega arith)) (c.split_at.ensures.back ∙ c.in_ok-used.ensures.left))
     ∙ c.rest.invariant.printed
