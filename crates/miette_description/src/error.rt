@@ -15,6 +15,9 @@ pub enum BuildError {
     Description,
 }
 
+/// What is built, or why it isn't.
+pub(crate) type Built<T> = Result<T, BuildError>;
+
 impl From<AllocError> for BuildError {
     ghost from_gives = { λ _ e. e ≡ Memory };
 

@@ -10,7 +10,7 @@ ghost use Rattle.miette_description.specs.rules.Members.{at_key, optional_value,
 ghost use Rattle.miette_description.specs.rules.Members.{label_of};
 ghost use Rattle.miette_description.specs.rules.Members.{source_of, meaning_in};
 
-use crate::error::BuildError;
+use crate::error::{BuildError, Built};
 use crate::json_values::{list_in, member_at, text_in};
 use crate::members::{lines_at, needed_text_at, text_at, truth_at, whole_at};
 use json::Value;
@@ -18,6 +18,14 @@ use miette_protocol::diagnostic::MietteDiagnostic;
 use miette_protocol::protocol::{LabeledSpan, Severity};
 use miette_tree::report::OwnedSource;
 use std::alloc::{AllocError, Global};
+
+// What is found, or that the description is bad.
+fn described<T>(found: Option<T>) -> Built<T>
+    ensures ok { IfOk result (λ it. found ≡ Some it) }
+    ensures description { (result ≡ Err BuildError.Description) → found ≡ None }
+{
+    found.ok_or(BuildError::Description)
+}
 
 fn copy_of(alloc: Global, text: Option<&str>) -> Result<Option<String>, AllocError>
     ensures { IfOk result (λ o. option_map string_bytes o ≡ option_copied text.entry) }
@@ -28,26 +36,16 @@ fn copy_of(alloc: Global, text: Option<&str>) -> Result<Option<String>, AllocErr
     }
 }
 
-fn label_from(alloc: Global, value: &Value<'_>) -> Result<LabeledSpan, BuildError>
+fn label_from(alloc: Global, value: &Value<'_>) -> Built<LabeledSpan>
     ensures ok { IfOk result (λ l. label_of (value_data value.now) ≡ Some l) }
     ensures description { (result ≡ Err BuildError.Description) → label_of (value_data value.now) ≡ None }
 {
-    let Some(offset) = whole_at(value, "offset") else {
-        return Err(BuildError::Description);
-    };
-    let Some(length) = whole_at(value, "length") else {
-        return Err(BuildError::Description);
-    };
+    let offset = described(whole_at(value, "offset"))?;
+    let length = described(whole_at(value, "length"))?;
     let span = (offset as usize, length as usize);
-    let Some(text) = text_at(value, "label") else {
-        return Err(BuildError::Description);
-    };
-    let Some(primary) = truth_at(value, "primary") else {
-        return Err(BuildError::Description);
-    };
-    let Some(lines) = lines_at(value, "context") else {
-        return Err(BuildError::Description);
-    };
+    let text = described(text_at(value, "label"))?;
+    let primary = described(truth_at(value, "primary"))?;
+    let lines = described(lines_at(value, "context"))?;
     let Ok(text) = copy_of(alloc, text) else {
         return Err(BuildError::Memory);
     };
@@ -62,13 +60,11 @@ fn label_from(alloc: Global, value: &Value<'_>) -> Result<LabeledSpan, BuildErro
     }
 }
 
-fn labels_from(alloc: Global, value: &Value<'_>) -> Result<Vec<LabeledSpan>, BuildError>
+fn labels_from(alloc: Global, value: &Value<'_>) -> Built<Vec<LabeledSpan>>
     ensures ok { IfOk result (λ v. list_of label_of (value_data value.now) ≡ Some v.items) }
     ensures description { (result ≡ Err BuildError.Description) → list_of label_of (value_data value.now) ≡ None }
 {
-    let Some(list) = list_in(value) else {
-        return Err(BuildError::Description);
-    };
+    let list = described(list_in(value))?;
     let mut labels = Vec::new(alloc);
     for item in list {
         let label = label_from(alloc, item)?;
@@ -79,11 +75,7 @@ fn labels_from(alloc: Global, value: &Value<'_>) -> Result<Vec<LabeledSpan>, Bui
     Ok(labels)
 }
 
-fn labels_at(
-    alloc: Global,
-    value: &Value<'_>,
-    key: &str,
-) -> Result<Option<Vec<LabeledSpan>>, BuildError>
+fn labels_at(alloc: Global, value: &Value<'_>, key: &str) -> Built<Option<Vec<LabeledSpan>>>
     ensures ok { IfOk result (λ o. optional_value (list_of label_of) (at_key key.now (value_data value.now))
         ≡ Some (option_map (λ v. v.items) o)) }
     ensures description { (result ≡ Err BuildError.Description) →
@@ -95,18 +87,14 @@ fn labels_at(
     }
 }
 
-fn texts_from(alloc: Global, value: &Value<'_>) -> Result<Vec<String>, BuildError>
+fn texts_from(alloc: Global, value: &Value<'_>) -> Built<Vec<String>>
     ensures ok { IfOk result (λ v. list_of as_str (value_data value.now) ≡ Some (map string_bytes v.items)) }
     ensures description { (result ≡ Err BuildError.Description) → list_of as_str (value_data value.now) ≡ None }
 {
-    let Some(list) = list_in(value) else {
-        return Err(BuildError::Description);
-    };
+    let list = described(list_in(value))?;
     let mut texts = Vec::new(alloc);
     for item in list {
-        let Some(text) = text_in(item) else {
-            return Err(BuildError::Description);
-        };
+        let text = described(text_in(item))?;
         let Ok(copy) = String::from_str(alloc, text) else {
             return Err(BuildError::Memory);
         };
@@ -117,11 +105,7 @@ fn texts_from(alloc: Global, value: &Value<'_>) -> Result<Vec<String>, BuildErro
     Ok(texts)
 }
 
-pub(crate) fn texts_at(
-    alloc: Global,
-    value: &Value<'_>,
-    key: &str,
-) -> Result<Option<Vec<String>>, BuildError>
+pub(crate) fn texts_at(alloc: Global, value: &Value<'_>, key: &str) -> Built<Option<Vec<String>>>
     ensures ok { IfOk result (λ o. optional_value (list_of as_str) (at_key key.now (value_data value.now))
         ≡ Some (option_map (λ v. map string_bytes v.items) o)) }
     ensures description { (result ≡ Err BuildError.Description) →
@@ -134,11 +118,7 @@ pub(crate) fn texts_at(
 }
 
 /// Copies of these texts at the end of the list.
-pub(crate) fn push_texts(
-    alloc: Global,
-    list: &mut Vec<String>,
-    texts: &[String],
-) -> Result<(), BuildError>
+pub(crate) fn push_texts(list: &mut Vec<String>, alloc: Global, texts: &[String]) -> Built<()>
     ensures ok { OnOk result (map string_bytes list.new.items
         ≡ map string_bytes list.old.items ++ map string_bytes texts.now) }
     ensures memory { (result ≡ Err BuildError.Description) → ⊥ }
@@ -178,19 +158,13 @@ fn severity_at(value: &Value<'_>, key: &str) -> Option<Option<Severity>>
     }
 }
 
-fn source_from(alloc: Global, value: &Value<'_>) -> Result<OwnedSource, BuildError>
+fn source_from(alloc: Global, value: &Value<'_>) -> Built<OwnedSource>
     ensures ok { IfOk result (λ s. source_of (value_data value.now) ≡ Some (owned_source s)) }
     ensures description { (result ≡ Err BuildError.Description) → source_of (value_data value.now) ≡ None }
 {
-    let Some(text) = needed_text_at(value, "text") else {
-        return Err(BuildError::Description);
-    };
-    let Some(name) = text_at(value, "name") else {
-        return Err(BuildError::Description);
-    };
-    let Some(language) = text_at(value, "language") else {
-        return Err(BuildError::Description);
-    };
+    let text = described(needed_text_at(value, "text"))?;
+    let name = described(text_at(value, "name"))?;
+    let language = described(text_at(value, "language"))?;
     let Ok(bytes) = Vec::from_slice(alloc, text.as_bytes()) else {
         return Err(BuildError::Memory);
     };
@@ -200,11 +174,7 @@ fn source_from(alloc: Global, value: &Value<'_>) -> Result<OwnedSource, BuildErr
     }
 }
 
-pub(crate) fn source_at(
-    alloc: Global,
-    value: &Value<'_>,
-    key: &str,
-) -> Result<Option<OwnedSource>, BuildError>
+pub(crate) fn source_at(alloc: Global, value: &Value<'_>, key: &str) -> Built<Option<OwnedSource>>
     ensures ok { IfOk result (λ o. optional_value source_of (at_key key.now (value_data value.now))
         ≡ Some (option_map owned_source o)) }
     ensures description { (result ≡ Err BuildError.Description) →
@@ -216,28 +186,15 @@ pub(crate) fn source_at(
     Ok(Some(source_from(alloc, found)?))
 }
 
-pub(crate) fn diagnostic_from(
-    alloc: Global,
-    value: &Value<'_>,
-) -> Result<MietteDiagnostic, BuildError>
+pub(crate) fn diagnostic_from(alloc: Global, value: &Value<'_>) -> Built<MietteDiagnostic>
     ensures ok { IfOk result (λ d. meaning_in (value_data value.now) ≡ Some (meaning_of d)) }
     ensures description { (result ≡ Err BuildError.Description) → meaning_in (value_data value.now) ≡ None }
 {
-    let Some(message) = needed_text_at(value, "message") else {
-        return Err(BuildError::Description);
-    };
-    let Some(code) = text_at(value, "code") else {
-        return Err(BuildError::Description);
-    };
-    let Some(severity) = severity_at(value, "severity") else {
-        return Err(BuildError::Description);
-    };
-    let Some(help) = text_at(value, "help") else {
-        return Err(BuildError::Description);
-    };
-    let Some(url) = text_at(value, "url") else {
-        return Err(BuildError::Description);
-    };
+    let message = described(needed_text_at(value, "message"))?;
+    let code = described(text_at(value, "code"))?;
+    let severity = described(severity_at(value, "severity"))?;
+    let help = described(text_at(value, "help"))?;
+    let url = described(text_at(value, "url"))?;
     let labels = labels_at(alloc, value, "labels")?;
     Ok(MietteDiagnostic {
         message: String::from_str(alloc, message)?,

@@ -4,7 +4,7 @@ ghost use Rattle.std.specs.Prelude.{◌≡◌, ◌<◌, length, Some, None, IfOk
 ghost use Rattle.json.specs.Json.{value, items, members};
 ghost use Rattle.json.specs.Value.{value_view, items_view, members_view};
 
-use crate::error::BuildError;
+use crate::error::{BuildError, Built};
 use json::{Reader, Token, Value};
 use std::alloc::{AllocError, Global};
 
@@ -28,7 +28,7 @@ pub(crate) fn read_value<'a>(
     alloc: Global,
     reader: &mut Reader<'a>,
     depth: usize,
-) -> Result<Value<'a>, BuildError>
+) -> Built<Value<'a>>
     ensures ok { IfOk result (λ v. value depth reader.old ≡ Some (value_view v, reader.new)) }
     ensures shorter { OnOk result (length reader.new < length reader.old) }
     ensures description { (result ≡ Err BuildError.Description) → value depth reader.old ≡ None }
@@ -61,11 +61,7 @@ pub(crate) fn read_value<'a>(
 
 #[cycle(read)]
 #[inline(never)]
-fn read_items<'a>(
-    alloc: Global,
-    reader: &mut Reader<'a>,
-    depth: usize,
-) -> Result<Vec<Value<'a>>, BuildError>
+fn read_items<'a>(alloc: Global, reader: &mut Reader<'a>, depth: usize) -> Built<Vec<Value<'a>>>
     ensures ok { IfOk result
         (λ v. items (value depth) (length reader.old) reader.old ≡ Some (items_view v.items, reader.new)) }
     ensures shorter { OnOk result (length reader.new < length reader.old) }
@@ -88,7 +84,7 @@ fn read_members<'a>(
     alloc: Global,
     reader: &mut Reader<'a>,
     depth: usize,
-) -> Result<Vec<(&'a str, Value<'a>)>, BuildError>
+) -> Built<Vec<(&'a str, Value<'a>)>>
     ensures ok { IfOk result
         (λ v. members (value depth) (length reader.old) reader.old ≡ Some (members_view v.items, reader.new)) }
     ensures shorter { OnOk result (length reader.new < length reader.old) }

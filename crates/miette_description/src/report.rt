@@ -18,7 +18,7 @@ ghost use Rattle.miette_description.specs.rules.Description.{one_cause, wrapped_
 ghost use Rattle.miette_description.specs.rules.Description.{described_tree, report_from, reports_in, tree_for};
 ghost use Rattle.miette_description.specs.steps.OptionalParts.{maybe_sourced, maybe_related};
 
-use crate::error::BuildError;
+use crate::error::{BuildError, Built};
 use crate::json_values::{list_in, member_at};
 use crate::numbers::{is_whole, value_has_float};
 use crate::parts::{diagnostic_from, push_texts, source_at, texts_at};
@@ -35,11 +35,7 @@ use std::alloc::Global;
 const DEPTH: usize = 127;
 
 /// The parsed text, at most 127 deep.
-fn value_of<'a>(
-    alloc: Global,
-    text: &'a str,
-    scratch: &'a mut Scratch,
-) -> Result<Value<'a>, BuildError>
+fn value_of<'a>(alloc: Global, text: &'a str, scratch: &'a mut Scratch) -> Built<Value<'a>>
     ensures ok { IfOk result (λ v. read text.now ≡ of_json (value_view v)) }
     ensures description { (result ≡ Err BuildError.Description) → read text.now ≡ None }
 {
@@ -52,7 +48,7 @@ fn value_of<'a>(
 }
 
 /// Whether the JSON value of a text has a number that is neither a `u64` nor an `i64`.
-fn text_has_float(alloc: Global, text: &str) -> Result<bool, BuildError>
+fn text_has_float(alloc: Global, text: &str) -> Built<bool>
     ensures ok { IfOk result (λ b. IfSome (read text.now) (λ d. b ≡ has_float d)) }
     ensures some { OnOk result (IsSome (read text.now)) }
     ensures description { (result ≡ Err BuildError.Description) → read text.now ≡ None }
@@ -72,7 +68,7 @@ fn text_has_float(alloc: Global, text: &str) -> Result<bool, BuildError>
 /// Refuses a text whose value has a number that is neither a `u64` nor an `i64`, and one with a number that is too
 /// large for any. Where each number is a `u64` the parsed text shows it. Otherwise the whole value is made: in the
 /// parsed text there may be numbers that a later value of their key hides.
-fn refuse_float(alloc: Global, text: &str, value: &Value<'_>) -> Result<(), BuildError>
+fn refuse_float(alloc: Global, text: &str, value: &Value<'_>) -> Built<()>
     requires { read text.now ≡ of_json (value_view value.now) }
     ensures ok { OnOk result ((read text.now ≡ Some (value_data value.now))
         × (has_float (value_data value.now) ≡ false)) }
@@ -121,7 +117,7 @@ fn report_with_cause<D: Diagnostic, S: SourceCode>(
     alloc: Global,
     report: Report<D, S>,
     causes: Causes<D, S>,
-) -> Result<Report<D, S>, BuildError>
+) -> Built<Report<D, S>>
     requires { cause_of (tree_of D.meaning S.source report) ≡ texts [] }
     ensures ok { IfOk result (λ r.
         let value = tree_of D.meaning S.source in
@@ -155,7 +151,7 @@ fn report_under<D: Diagnostic, S: SourceCode>(
     alloc: Global,
     report: Report<D, S>,
     contexts: Option<Vec<String>>,
-) -> Result<Report<D, S>, BuildError>
+) -> Built<Report<D, S>>
     ensures ok { IfOk result (λ r.
         let value = tree_of D.meaning S.source in
         value r ≡ wrapped_in (unwrap_or (option_map (λ v. map string_bytes v.items) contexts) []) (value report)) }
@@ -172,7 +168,7 @@ fn report_under<D: Diagnostic, S: SourceCode>(
         return Err(BuildError::Memory);
     };
     list.reverse();
-    push_texts(alloc, &mut list, cause_texts(&made))?;
+    push_texts(&mut list, alloc, cause_texts(&made))?;
     Ok(made.with_cause_texts(list))
 }
 
@@ -209,7 +205,7 @@ fn report_with_related<D: Diagnostic, S: SourceCode>(
 fn box_of<D: Diagnostic, S: SourceCode>(
     alloc: Global,
     report: Report<D, S>,
-) -> Result<Box<Report<D, S>>, BuildError>
+) -> Built<Box<Report<D, S>>>
     ensures ok { IfOk result (λ b. b.value ≡ report) }
     ensures memory { (result ≡ Err BuildError.Description) → ⊥ }
 {
@@ -228,7 +224,7 @@ struct OwnParts {
 }
 
 /// The parts of a description beside its cause and its related reports.
-fn own_parts(alloc: Global, value: &Value<'_>) -> Result<OwnParts, BuildError>
+fn own_parts(alloc: Global, value: &Value<'_>) -> Built<OwnParts>
     ensures diagnostic { IfOk result (λ p. meaning_in (value_data value.now) ≡ Some (meaning_of p.diagnostic)) }
     ensures source { IfOk result (λ p. optional_value source_of (at_key (codes "source") (value_data value.now))
         ≡ Some (option_map owned_source p.source)) }
@@ -258,7 +254,7 @@ fn report_of_parts<D: Diagnostic, S: SourceCode>(
     parts: OwnParts,
     one: Option<Box<Report<D, S>>>,
     list: Option<Vec<Report<D, S>>>,
-) -> Result<Report<D, S>, BuildError>
+) -> Built<Report<D, S>>
     ensures ok { IfOk result (λ r.
         tree_of_parts (meaning_of parts.diagnostic) (option_map owned_source parts.source)
         (option_map (λ b. tree_of D.meaning S.source b.value) one)
@@ -291,7 +287,7 @@ fn report_with<D: Diagnostic, S: SourceCode>(
     value: &Value<'_>,
     one: Option<Box<Report<D, S>>>,
     list: Option<Vec<Report<D, S>>>,
-) -> Result<Box<Report<D, S>>, BuildError>
+) -> Built<Box<Report<D, S>>>
     ensures ok { IfOk result (λ made.
         report_from (Some (option_map (λ b. tree_of D.meaning S.source b.value) one))
         (Some (option_map (λ v. trees (map (tree_of D.meaning S.source) v.items)) list)) (value_data value.now)
@@ -311,7 +307,7 @@ fn report_with<D: Diagnostic, S: SourceCode>(
 fn report_from<D: Diagnostic, S: SourceCode>(
     alloc: Global,
     value: &Value<'_>,
-) -> Result<Box<Report<D, S>>, BuildError>
+) -> Built<Box<Report<D, S>>>
     ensures ok { IfOk result (λ b. report_in (value_data value.now) ≡ Some (tree_of D.meaning S.source b.value)) }
     ensures description { (result ≡ Err BuildError.Description) → report_in (value_data value.now) ≡ None }
 {
@@ -326,7 +322,7 @@ fn cause_at<D: Diagnostic, S: SourceCode>(
     alloc: Global,
     value: &Value<'_>,
     key: &str,
-) -> Result<Option<Box<Report<D, S>>>, BuildError>
+) -> Built<Option<Box<Report<D, S>>>>
     ensures ok { IfOk result (λ o. optional_value report_in (at_key key.now (value_data value.now))
         ≡ Some (option_map (λ b. tree_of D.meaning S.source b.value) o)) }
     ensures description { (result ≡ Err BuildError.Description) →
@@ -344,7 +340,7 @@ fn related_at<D: Diagnostic, S: SourceCode>(
     alloc: Global,
     value: &Value<'_>,
     key: &str,
-) -> Result<Option<Vec<Report<D, S>>>, BuildError>
+) -> Built<Option<Vec<Report<D, S>>>>
     ensures ok { IfOk result (λ o.
         optional_value reports_in (at_key key.now (value_data value.now))
         ≡ Some (option_map (λ v. trees (map (tree_of D.meaning S.source) v.items)) o)) }
@@ -364,7 +360,7 @@ fn related_at<D: Diagnostic, S: SourceCode>(
 fn reports_from<D: Diagnostic, S: SourceCode>(
     alloc: Global,
     list: &[Value<'_>],
-) -> Result<Vec<Report<D, S>>, BuildError>
+) -> Built<Vec<Report<D, S>>>
     ensures ok { IfOk result (λ v. all_of report_in (list_data list.now)
         ≡ Some (map (tree_of D.meaning S.source) v.items)) }
     ensures description { (result ≡ Err BuildError.Description) → all_of report_in (list_data list.now) ≡ None }

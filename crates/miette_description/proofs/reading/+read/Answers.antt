@@ -1,14 +1,25 @@
-use Rattle.std.proofs.Common.{◌≡◌, ◌-◌, ◌<◌, [], ◌∷◌, ◌++◌, length, Some, None, sym, ap, ap₂, ◌∙◌, arith, rules}
+use Rattle.std.proofs.Common.{◌≡◌, ℕ, ◌-◌, ◌<◌, List, [], ◌∷◌, ◌++◌, length, Some, None, sym, ap, ap₂}
+use Rattle.std.proofs.Common.{◌∙◌, Global, arith, rules}
 use Rattle.json.specs.Token.{Token}
+use Rattle.json.specs.declared.token.Token as read
 use Rattle.json.specs.Json.{Json, array, object, parse_map, after_end_array, read_key, items, members, value}
 use Rattle.json.specs.Reads.{token_of}
 use Rattle.json.specs.Value.{value_view, members_view}
-use Rattle.json.specs.declared.value.Value.{String, Number, Bool, Null, the_lemmas}
+use Rattle.json.specs.declared.value.Value.{Value, String, Number, Bool, Null, the_lemmas}
 use Rattle.json.proofs.Grammar.{value_is, value-begin_array, value-begin_object, read_key-shorter, items_end}
 use Rattle.json.proofs.Grammar.{items_fail, items_more, members_end, members_no_key, members_fail, members_more}
 use Rattle.json.proofs.Trees.{items_before, members_before, items_before-no_items, members_before-no_members}
 use Rattle.json.proofs.Trees.{one_more_item, one_more_member, none_before, view-Array, view-Object}
 use Rattle.miette_description.proofs.reading.+read.Goals as goal
+
+-- a first token, by its kind
+begun : (r s : List Token) (t k : read.Token) → r ≡ token_of t ∷ s → t ≡ k → r ≡ token_of k ∷ s
+begun r s t k first is = first ∙ ap (λ x. token_of x ∷ s) is
+
+-- a value of one token
+leaf : (d : ℕ) (r s : List Token) (k : Token) (v : Value Global) (j : Json) → r ≡ k ∷ s → value_view v ≡ j
+    → value d (k ∷ s) ≡ Some (j, s) → value d r ≡ Some (value_view v, s)
+leaf d r s k v j first seen is = ap (value d) first ∙ is ∙ ap (λ x. Some (x, s)) (sym seen)
 
 pub read_value-returns-in_default-clause-description : goal.read_value-returns-in_default-clause-description
 read_value-returns-in_default-clause-description t c invalid =
@@ -18,62 +29,54 @@ read_value-returns-in_default-clause-description t c invalid =
 pub read_value-returns-then-depth-eq0-clause-description : goal.read_value-returns-then-depth-eq0-clause-description
 unfolding value
 read_value-returns-then-depth-eq0-clause-description t c never =
-    let first : c.args.reader.now ≡ token_of c.in-Some.token ∷ c.next.new.self = grind arith in
     let none : c.args.depth ≡ 0 = omega arith in
-    ap₂ value none (first ∙ ap (λ k. token_of k ∷ c.next.new.self) c.in-BeginArray.is)
+    ap₂ value none (begun c.args.reader.now c.next.new.self c.in-Some.token _ (grind arith) c.in-BeginArray.is)
 
 pub read_value-returns-in_err-read_items-in-BeginArray-clause-description :
     goal.read_value-returns-in_err-read_items-in-BeginArray-clause-description
 read_value-returns-in_err-read_items-in-BeginArray-clause-description t c invalid =
-    let first : c.args.reader.now ≡ token_of c.in-Some.token ∷ c.next.new.self = grind arith in
-    let opened = ap (value c.args.depth) (first ∙ ap (λ k. token_of k ∷ c.next.new.self) c.in-BeginArray.is)
-    ∙ value-begin_array c.args.depth c.next.new.self (omega arith) in
+    let opened = ap (value c.args.depth) (begun c.args.reader.now c.next.new.self c.in-Some.token _ (grind arith)
+    c.in-BeginArray.is) ∙ value-begin_array c.args.depth c.next.new.self (omega arith) in
     let failed : items (value (c.args.depth - 1)) (length c.next.new.self) c.next.new.self ≡ None = grind arith in
     opened ∙ ap (parse_map array) failed
 
 pub read_value-returns-then-depth-eq0-2-clause-description : goal.read_value-returns-then-depth-eq0-2-clause-description
 unfolding value
 read_value-returns-then-depth-eq0-2-clause-description t c never =
-    let first : c.args.reader.now ≡ token_of c.in-Some.token ∷ c.next.new.self = grind arith in
     let none : c.args.depth ≡ 0 = omega arith in
-    ap₂ value none (first ∙ ap (λ k. token_of k ∷ c.next.new.self) c.in-BeginObject.is)
+    ap₂ value none (begun c.args.reader.now c.next.new.self c.in-Some.token _ (grind arith) c.in-BeginObject.is)
 
 pub read_value-returns-in_err-read_members-in-BeginObject-clause-description :
     goal.read_value-returns-in_err-read_members-in-BeginObject-clause-description
 read_value-returns-in_err-read_members-in-BeginObject-clause-description t c invalid =
-    let first : c.args.reader.now ≡ token_of c.in-Some.token ∷ c.next.new.self = grind arith in
-    let opened = ap (value c.args.depth) (first ∙ ap (λ k. token_of k ∷ c.next.new.self) c.in-BeginObject.is)
-    ∙ value-begin_object c.args.depth c.next.new.self (omega arith) in
+    let opened = ap (value c.args.depth) (begun c.args.reader.now c.next.new.self c.in-Some.token _ (grind arith)
+    c.in-BeginObject.is) ∙ value-begin_object c.args.depth c.next.new.self (omega arith) in
     let failed : members (value (c.args.depth - 1)) (length c.next.new.self) c.next.new.self ≡ None = grind arith in
     opened ∙ ap (parse_map object) failed
 
 pub read_value-returns-in-String-clause-ok : goal.read_value-returns-in-String-clause-ok
 read_value-returns-in-String-clause-ok t c =
     let first : c.args.reader.now ≡ token_of c.in-Some.token ∷ c.next.new.self = grind arith in
-    let is : c.args.reader.now ≡ Token.string c.in-String.text.now ∷ c.next.new.self = grind (arith, first) in
-    let seen : value_view (String c.in-String.text) ≡ Json.string c.in-String.text.now = search (rules, the_lemmas) in
-    ap (value c.args.depth) is ∙ value_is c.args.depth _ ∙ ap (λ j. Some (j, c.next.new.self)) (sym seen)
+    leaf c.args.depth c.args.reader.now c.next.new.self (Token.string c.in-String.text.now) (String c.in-String.text) (Json.string c.in-String.text.now)
+    (grind (arith, first)) (search (rules, the_lemmas)) (value_is c.args.depth _)
 
 pub read_value-returns-in-Number-clause-ok : goal.read_value-returns-in-Number-clause-ok
 read_value-returns-in-Number-clause-ok t c =
     let first : c.args.reader.now ≡ token_of c.in-Some.token ∷ c.next.new.self = grind arith in
-    let is : c.args.reader.now ≡ Token.number c.in-Number.text.now ∷ c.next.new.self = grind (arith, first) in
-    let seen : value_view (Number c.in-Number.text) ≡ Json.number c.in-Number.text.now = search (rules, the_lemmas) in
-    ap (value c.args.depth) is ∙ value_is c.args.depth _ ∙ ap (λ j. Some (j, c.next.new.self)) (sym seen)
+    leaf c.args.depth c.args.reader.now c.next.new.self (Token.number c.in-Number.text.now) (Number c.in-Number.text) (Json.number c.in-Number.text.now)
+    (grind (arith, first)) (search (rules, the_lemmas)) (value_is c.args.depth _)
 
 pub read_value-returns-in-Bool-clause-ok : goal.read_value-returns-in-Bool-clause-ok
 read_value-returns-in-Bool-clause-ok t c =
     let first : c.args.reader.now ≡ token_of c.in-Some.token ∷ c.next.new.self = grind arith in
-    let is : c.args.reader.now ≡ Token.boolean c.in-Bool.b ∷ c.next.new.self = grind (arith, first) in
-    let seen : value_view (Bool c.in-Bool.b) ≡ Json.boolean c.in-Bool.b = search (rules, the_lemmas) in
-    ap (value c.args.depth) is ∙ value_is c.args.depth _ ∙ ap (λ j. Some (j, c.next.new.self)) (sym seen)
+    leaf c.args.depth c.args.reader.now c.next.new.self (Token.boolean c.in-Bool.b) (Bool c.in-Bool.b) (Json.boolean c.in-Bool.b)
+    (grind (arith, first)) (search (rules, the_lemmas)) (value_is c.args.depth _)
 
 pub read_value-returns-in-Null-clause-ok : goal.read_value-returns-in-Null-clause-ok
 read_value-returns-in-Null-clause-ok t c =
     let first : c.args.reader.now ≡ token_of c.in-Some.token ∷ c.next.new.self = grind arith in
-    let is : c.args.reader.now ≡ Token.null ∷ c.next.new.self = grind (arith, first) in
-    let seen : value_view (Null) ≡ Json.null = search (rules, the_lemmas) in
-    ap (value c.args.depth) is ∙ value_is c.args.depth _ ∙ ap (λ j. Some (j, c.next.new.self)) (sym seen)
+    leaf c.args.depth c.args.reader.now c.next.new.self Token.null Null Json.null
+    (grind (arith, first)) (search (rules, the_lemmas)) (value_is c.args.depth _)
 
 pub read_value-returns-in-EndObject-clause-description : goal.read_value-returns-in-EndObject-clause-description
 read_value-returns-in-EndObject-clause-description t c invalid =
@@ -83,9 +86,8 @@ read_value-returns-in-EndObject-clause-description t c invalid =
 pub read_value-returns-in_ok-read_items-in-BeginArray-clause-ok :
     goal.read_value-returns-in_ok-read_items-in-BeginArray-clause-ok
 read_value-returns-in_ok-read_items-in-BeginArray-clause-ok t c =
-    let first : c.args.reader.now ≡ token_of c.in-Some.token ∷ c.next.new.self = grind arith in
-    let opened = ap (value c.args.depth) (first ∙ ap (λ k. token_of k ∷ c.next.new.self) c.in-BeginArray.is)
-    ∙ value-begin_array c.args.depth c.next.new.self (omega arith) in
+    let opened = ap (value c.args.depth) (begun c.args.reader.now c.next.new.self c.in-Some.token _ (grind arith)
+    c.in-BeginArray.is) ∙ value-begin_array c.args.depth c.next.new.self (omega arith) in
     let found = c.in_ok-read_items-in-BeginArray in
     opened ∙ ap (parse_map array) found.ensures.ok ∙ ap (λ j. Some (j, c.read_items.new.reader))
     (sym (view-Array found.field-0))
@@ -93,9 +95,8 @@ read_value-returns-in_ok-read_items-in-BeginArray-clause-ok t c =
 pub read_value-returns-in_ok-read_members-in-BeginObject-clause-ok :
     goal.read_value-returns-in_ok-read_members-in-BeginObject-clause-ok
 read_value-returns-in_ok-read_members-in-BeginObject-clause-ok t c =
-    let first : c.args.reader.now ≡ token_of c.in-Some.token ∷ c.next.new.self = grind arith in
-    let opened = ap (value c.args.depth) (first ∙ ap (λ k. token_of k ∷ c.next.new.self) c.in-BeginObject.is)
-    ∙ value-begin_object c.args.depth c.next.new.self (omega arith) in
+    let opened = ap (value c.args.depth) (begun c.args.reader.now c.next.new.self c.in-Some.token _ (grind arith)
+    c.in-BeginObject.is) ∙ value-begin_object c.args.depth c.next.new.self (omega arith) in
     let found = c.in_ok-read_members-in-BeginObject in
     opened ∙ ap (parse_map object) found.ensures.ok ∙ ap (λ j. Some (j, c.read_members.new.reader))
     (sym (view-Object found.field-0))
