@@ -7,7 +7,7 @@ mutual
     unlisted : AnswerTree A
     listed : A → AnswerTree A → AnswerTrees A → AnswerTree A
 
-  -- of related reports, one behind the other
+  -- of related reports, one after the other
   pub data AnswerTrees (A : Type 0) : Type 0 where
     no_more : AnswerTrees A
     and_more : AnswerTree A → AnswerTrees A → AnswerTrees A
