@@ -23,7 +23,9 @@ pub struct Chain<'a, D = Box<dyn Diagnostic>, S = Box<dyn SourceCode>> {
 }
 
 /// The report that is a diagnostic cause.
-fn below<'a, D: Diagnostic, S: SourceCode>(report: &'a Report<D, S>) -> Option<&'a Report<D, S>>
+fn cause_report<'a, D: Diagnostic, S: SourceCode>(
+    report: &'a Report<D, S>,
+) -> Option<&'a Report<D, S>>
     ensures { spine_from (option_map (λ r. tree_of D.meaning S.source r.now) result)
         ≡ spine_below (cause_of (tree_of D.meaning S.source report.now)) }
 {
@@ -45,7 +47,7 @@ fn last_within<'a, D: Diagnostic, S: SourceCode>(
 {
     let mut at = report;
     for before in 1..count {
-        match below(at) {
+        match cause_report(at) {
             Some(next) => at = next,
             None => return (at.message(), before - 1),
         }
@@ -60,7 +62,7 @@ fn count_within<D: Diagnostic, S: SourceCode>(report: &Report<D, S>, count: usiz
 {
     let mut at = report;
     for before in 0..count {
-        match below(at) {
+        match cause_report(at) {
             Some(next) => at = next,
             None => return before + 1,
         }
@@ -83,7 +85,7 @@ impl<'a, D: Diagnostic, S: SourceCode> Iterator for Chain<'a, D, S> {
             && let Some(report) = self.at
         {
             self.count -= 1;
-            self.at = below(report);
+            self.at = cause_report(report);
             return Some(report.message());
         }
         match self.texts.split_first() {
