@@ -2,7 +2,7 @@
 use Rattle.std.proofs.Common.{◌≡◌, ◌≢◌, ◌⊎◌, inl, inr, ℕ, zero, suc, ◌+◌, ◌-◌, ◌*◌, ◌/◌, ◌%◌, ◌^◌, ◌<◌, ◌≤◌, Bool, true}
 use Rattle.std.proofs.Common.{false, cond, List, [], ◌∷◌, ◌++◌, refl, sym, ap, ◌∙◌, subst, arith, append_assoc}
 use Rattle.std.proofs.Common.{append-nil, add-one, length, get_or, take, drop}
-use Rattle.std.specs.Prelude.{nat_lt, not, Some, None, position}
+use Rattle.std.specs.Prelude.{◌==◌, nat_lt, not, Some, None, position}
 use Rattle.std.specs.List.{position_or_len, prefix_len}
 use Rattle.std.proofs.Math.Seq.{drop-cons}
 use Rattle.std.proofs.lemmas.List.Quantifiers.{position-Some}
@@ -132,35 +132,25 @@ pub record HasLetter (x : ℕ) : Type 0 where
   pub low : x < 128
   pub seen : 0 < x
 
--- the bytes with one, by the byte
-letter : (x y : ℕ) → x ≡ y → 0 < escape_letter y → short_for (escape_letter y) ≡ y → y < 128 → 0 < y → HasLetter x
-letter x y e above back low seen = subst HasLetter (sym e) (record
-    { above = above; back = back; low = low; seen = seen })
+-- a byte is this one, which has a short escape, or what is known of another holds
+letter_or : (x y : ℕ) → 0 < escape_letter y → short_for (escape_letter y) ≡ y → y < 128 → 0 < y
+    → ((x == y) ≡ false → HasLetter x ⊎ (escape_letter x ≡ 0)) → HasLetter x ⊎ (escape_letter x ≡ 0)
+letter_or x y above back low seen other =
+    elim (eqb_tells x y) [
+      | inl e ↦ inl (subst HasLetter (sym e.1) (record { above = above; back = back; low = low; seen = seen }))
+      | inr e ↦ other e.0
+    ]
 
 pub letter_cases : (x : ℕ) → HasLetter x ⊎ (escape_letter x ≡ 0)
 letter_cases x =
-    elim (eqb_tells x 34) [
-      | inl a ↦ inl (letter x 34 a.1 (omega arith) refl (omega arith) (omega arith))
-      | inr a ↦ elim (eqb_tells x 92) [
-        | inl b ↦ inl (letter x 92 b.1 (omega arith) refl (omega arith) (omega arith))
-        | inr b ↦ elim (eqb_tells x 8) [
-          | inl d ↦ inl (letter x 8 d.1 (omega arith) refl (omega arith) (omega arith))
-          | inr d ↦ elim (eqb_tells x 12) [
-            | inl f ↦ inl (letter x 12 f.1 (omega arith) refl (omega arith) (omega arith))
-            | inr f ↦ elim (eqb_tells x 10) [
-              | inl g ↦ inl (letter x 10 g.1 (omega arith) refl (omega arith) (omega arith))
-              | inr g ↦ elim (eqb_tells x 13) [
-                | inl h ↦ inl (letter x 13 h.1 (omega arith) refl (omega arith) (omega arith))
-                | inr h ↦ elim (eqb_tells x 9) [
-                  | inl k ↦ inl (letter x 9 k.1 (omega arith) refl (omega arith) (omega arith))
-                  | inr k ↦ inr (rw (a.0, b.0, d.0, f.0, g.0, h.0, k.0) refl)
-                ]
-              ]
-            ]
-          ]
-        ]
-      ]
-    ]
+    letter_or x 34 (omega arith) refl (omega arith) (omega arith) (λ a.
+    letter_or x 92 (omega arith) refl (omega arith) (omega arith) (λ b.
+    letter_or x 8 (omega arith) refl (omega arith) (omega arith) (λ d.
+    letter_or x 12 (omega arith) refl (omega arith) (omega arith) (λ f.
+    letter_or x 10 (omega arith) refl (omega arith) (omega arith) (λ g.
+    letter_or x 13 (omega arith) refl (omega arith) (omega arith) (λ h.
+    letter_or x 9 (omega arith) refl (omega arith) (omega arith) (λ k.
+    inr (rw (a, b, d, f, g, h, k) refl))))))))
 
 -- the three ways to write a byte
 pub byte_short : (x : ℕ) → 0 < escape_letter x → escape_byte x ≡ 92 ∷ escape_letter x ∷ []

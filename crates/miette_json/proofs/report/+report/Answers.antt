@@ -22,13 +22,12 @@ push_related-push_report-requires g t c =
 pub push_related-loop-report-preserved : goal.push_related-loop-report-preserved
 push_related-loop-report-preserved g t c =
     let l = c.loop-report in
-    let value = tree_of g.D.Diagnostic.meaning g.S.SourceCode.source in
-    let inherited = option_map (shown_source g.S.SourceCode.source) c.args.source in
-    let all = trees (map value c.args.reports.now) in
-    let so_far = subst (λ ts. RelatedSoFar inherited all ts l.first (string_bytes c.args.out.now) (string_bytes l.out))
-    (next_of value c.args.reports.now l.report-index c.report-item.result c.loop-report-test.true c.report-item.is)
-    l.invariant in
-    one_more inherited all _ _ l.first _ _ _ _ so_far c.in_ok-push_comma.ensures c.in_ok-push_report.ensures
+    let next = next_of (tree_of g.D.Diagnostic.meaning g.S.SourceCode.source) c.args.reports.now l.report-index
+    c.report-item.result c.loop-report-test.true c.report-item.is in
+    let so_far = subst (λ ts. RelatedSoFar (option_map (shown_source g.S.SourceCode.source) c.args.source)
+    (trees (map (tree_of g.D.Diagnostic.meaning g.S.SourceCode.source) c.args.reports.now)) ts l.first
+    (string_bytes c.args.out.now) (string_bytes l.out)) next l.invariant in
+    one_more _ _ _ _ l.first _ _ _ _ so_far c.in_ok-push_comma.ensures c.in_ok-push_report.ensures
 
 pub push_related-returns : goal.push_related-returns
 push_related-returns g t c =
