@@ -1,4 +1,4 @@
--- A piece in front of the pieces of what comes behind it.
+-- A piece in front of the pieces of what comes after it.
 use Rattle.std.proofs.Common.{arith, ◌≡◌, ℕ, ◌+◌, ◌∙◌, List, [], ◌∷◌, ◌++◌, length, drop, sym, ap, subst, append_assoc}
 use Rattle.std.proofs.Common.{zero-add}
 use Rattle.std.proofs.Math.Seq.{drop-append_seam}
@@ -12,13 +12,13 @@ use Rattle.miette_highlight.specs.declared.rule.Rule.{Rule}
 use Rattle.miette_highlight.specs.rules.Characters.{AreCharacters}
 use Rattle.miette_highlight.specs.rules.Tokens.{AreTokens, token_at}
 
--- what holds with a piece in front of more holds behind the push of that piece
+-- what holds with a piece in front of more holds after the push of that piece
 pub goes_on : (P : List Piece → Type 0) (pieces pushed : List Piece) (p : Piece) (more : List Piece) → pushed ≡ pieces
     ++ (p ∷ [])
     → P (pieces ++ (p ∷ more)) → P (pushed ++ more)
 goes_on P pieces pushed p more e h = subst P (sym (ap (λ list. list ++ more) e ∙ append_assoc pieces (p ∷ []) more)) h
 
--- a character's piece in front of a cut of what comes behind it
+-- a character's piece in front of a cut of what comes after it
 pub cuts_char : (rest after : List ℕ) (c n : ℕ) (style : Style) (more : List Piece) → IsUtf8 rest → rest ≡ encode_utf8 c
     ++ after
     → n ≡ length (encode_utf8 c) → CutsLine after more → CutsLine rest ((n, style) ∷ more)

@@ -110,7 +110,7 @@ fn close_end(delimiters: &Delimiters, start: usize, text: &[u8]) -> Option<usize
 }
 
 // Where what lies after an opening delimiter ends, the text beginning at a place, and whether it stays open.
-fn part_end(delimiters: &Delimiters, start: usize, text: &[u8]) -> (usize, bool)
+fn end_of(delimiters: &Delimiters, start: usize, text: &[u8]) -> (usize, bool)
     requires { start + length text.now < 2 ^ 64 }
     ensures { result ≡ inside delimiters.now start text.now }
 {
@@ -130,7 +130,7 @@ fn match_of(pattern: &Pattern, text: &[u8]) -> Option<(usize, bool)>
         Pattern::From(first, last) if begins_within(*first, *last, text) => Some((word, false)),
         Pattern::Between(delimiters) if text.starts_with(delimiters.opens.as_bytes()) => {
             let start = delimiters.opens.as_bytes().len();
-            Some(part_end(delimiters, start, &text[start..]))
+            Some(end_of(delimiters, start, &text[start..]))
         }
         _ => None,
     }
@@ -170,11 +170,7 @@ fn running_token(rules: &[Rule], left_open: Option<usize>, text: &[u8]) -> Optio
     let at = left_open?;
     let rule = rules.get(at)?;
     match &rule.pattern {
-        Pattern::Between(delimiters) => Some(token_of(
-            at,
-            rule.style,
-            part_end(delimiters, 0, text),
-        )),
+        Pattern::Between(delimiters) => Some(token_of(at, rule.style, end_of(delimiters, 0, text))),
         _ => None,
     }
 }

@@ -21,7 +21,7 @@ pub data Call : Type 0 where
   asked : List ℕ → List Piece → Call
 
 -- Calls lead from one state of a highlighter to another, where a state is told by the calls that may follow it: what
--- may follow the later state may follow the earlier one behind these calls.
+-- may follow the later state may follow the earlier one after these calls.
 abbrev pub Leads : (List Call → Type 0) → List Call → (List Call → Type 0) → Type 0
 Leads before calls after = (later : List Call) → after later → before (calls ++ later)
 

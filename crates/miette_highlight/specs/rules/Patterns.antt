@@ -32,7 +32,7 @@ abbrev pub escapes_next : Option ℕ → ℕ → Bool
 escapes_next None b = false
 escapes_next (Some escape) b = escape == b
 
--- where the first closing delimiter ends that isn't escaped, the text beginning at a place, behind an escape or not
+-- where the first closing delimiter ends that isn't escaped, the text beginning at a place, after an escape or not
 abbrev pub close_end : Delimiters → Bool → ℕ → List ℕ → Option ℕ
 close_end delimiters escaped at [] = None
 close_end delimiters escaped at (b ∷ bs) =
@@ -45,7 +45,7 @@ abbrev pub closed_at : Option ℕ → ℕ → Bool → ℕ × Bool
 closed_at (Some end) line_end over_lines = (end, false)
 closed_at None line_end over_lines = (line_end, over_lines)
 
--- where what lies behind an opening delimiter ends, the text beginning at a place, and whether it stays open
+-- where what lies after an opening delimiter ends, the text beginning at a place, and whether it stays open
 abbrev pub inside : Delimiters → ℕ → List ℕ → ℕ × Bool
 inside delimiters at text = closed_at (close_end delimiters false at text) (at + length text) delimiters.over_lines
 

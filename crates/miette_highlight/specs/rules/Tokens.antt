@@ -12,7 +12,7 @@ use Rattle.miette_highlight.specs.declared.rule.Pattern.TheVariants.{Words, From
 use Rattle.miette_highlight.specs.declared.rule.Rule.{Rule}
 use Rattle.miette_highlight.specs.declared.tokens.Token.{Token}
 
--- what the rule of this number found: so many bytes, which stay open or not
+-- what the rule of this number found: a number of bytes, which stay open or not
 abbrev pub token_of : ℕ → Style → ℕ × Bool → Token
 token_of rule style found = record { bytes = found.0; style = style; left_open = if found.1 then Some rule else None }
 
@@ -50,7 +50,7 @@ unfoldable pub token_at : List Rule → Option ℕ → List ℕ → Token
 token_at rules left_open text =
     unwrap_or (running_token rules left_open text) (unwrap_or (first_match 0 rules text) (plain_token text))
 
--- k is where the first character ends at or behind n
+-- k is where the first character ends at or after n
 pub record EndsFrom (text : List ℕ) (n k : ℕ) : Type 0 where
   pub bound : n ≤ length text → n ≤ k
   pub boundary : IsCharBoundary text k

@@ -4,7 +4,7 @@ use Rattle.miette_highlight.specs.rules.Pieces.{Piece, CutsLine}
 use Rattle.miette_highlight.specs.rules.Characters.{AreCharacters}
 use Rattle.miette_highlight.proofs.characters.by_char.Given as goal
 
--- whatever cuts the rest of the line, behind the pieces so far, is a cut of the line; and so with the styles
+-- whatever cuts the rest of the line, after the pieces so far, is a cut of the line; and so with the styles
 abbrev pub invariant-loop-c : goal.invariant-loop-c
 invariant-loop-c g l = record {
   utf8 : IsUtf8 l.c-iterator.rest.now;
