@@ -6,7 +6,7 @@ ghost use Rattle.serde_json.specs.Find.{as_bool, as_str, as_array, get};
 ghost use Rattle.miette_description.specs.rules.Members.{at_key, whole};
 ghost use Rattle.miette_description.specs.steps.ParsedValues.{value_data, list_data};
 
-use crate::numbers::natural;
+use crate::numbers::natural_number;
 use json::Value;
 
 /// What stands at a key, null too.
@@ -42,7 +42,7 @@ pub(crate) fn truth_in(value: &Value<'_>) -> Option<bool>
 pub(crate) fn whole_in(value: &Value<'_>) -> Option<u64>
     ensures { result ≡ whole (value_data value.now) }
 {
-    natural(value.as_number()?)
+    natural_number(value.as_number()?)
 }
 
 /// The list that it is.

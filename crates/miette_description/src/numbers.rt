@@ -11,7 +11,7 @@ use fast_float::Numeral;
 use serde_json::Map;
 
 /// The `u64` that a number's text writes, without point and exponent.
-pub(crate) fn natural(text: &str) -> Option<u64>
+pub(crate) fn natural_number(text: &str) -> Option<u64>
     ensures { result ≡ as_u64 (number_data text.now) }
 {
     let bytes = text.as_bytes();
@@ -35,7 +35,7 @@ pub(crate) fn is_whole(value: &json::Value<'_>) -> bool
     ensures { result ≡ is_integral (value_view value.now) }
 {
     match value {
-        json::Value::Number(text) => natural(text).is_some(),
+        json::Value::Number(text) => natural_number(text).is_some(),
         json::Value::Array(list) => are_whole(list),
         json::Value::Object(members) => have_whole(members),
         json::Value::Null => true,

@@ -9,7 +9,7 @@ use json::{Reader, Token, Value};
 use std::alloc::{AllocError, Global};
 
 /// The list with no room for more.
-fn exact<T: Drop>(alloc: Global, list: Vec<T>) -> Result<Vec<T>, AllocError>
+fn exact_list<T: Drop>(alloc: Global, list: Vec<T>) -> Result<Vec<T>, AllocError>
     ensures { IfOk result (λ made. made.items ≡ list.items) }
 {
     if list.len() == list.capacity() {
@@ -98,7 +98,7 @@ fn read_members<'a>(
             return Err(BuildError::Memory);
         }
     }
-    match exact(alloc, found) {
+    match exact_list(alloc, found) {
         Ok(made) => Ok(made),
         Err(_) => Err(BuildError::Memory),
     }

@@ -5,7 +5,7 @@ use Rattle.serde_json.specs.Data.{Num, unsigned, float}
 use Rattle.serde_json.specs.Find.{as_u64, to_float}
 use Rattle.serde_json.specs.Read.{number_of, number_from}
 use Rattle.miette_description.proofs.NumberSteps.{signed_is, natural_is}
-use Rattle.miette_description.proofs.numbers.natural.Goals as goal
+use Rattle.miette_description.proofs.numbers.natural_number.Goals as goal
 
 pub returns-then-has_minus : goal.returns-then-has_minus
 unfolding number_of
