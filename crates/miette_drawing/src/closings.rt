@@ -11,9 +11,10 @@ ghost use Rattle.miette_labels.specs.views.GivenLabels.{drawn_of};
 ghost use Rattle.miette_drawing.specs.steps.LineContexts.{settings, multi_labels, closed_line, open_line};
 ghost use Rattle.miette_source_lines.specs.views.Walking.{line_of_text};
 
+use crate::frame::Outcome;
 use crate::gutters::{ends, push_open_gutter, push_other_gutter, starts};
 use crate::label_text::{first_part, push_part};
-use crate::line_context::{LineContext, Outcome};
+use crate::line_context::LineContext;
 use crate::texts::push_other_start;
 use miette_labels::sweep::PlacedLabel;
 use miette_page::canvas::Canvas;

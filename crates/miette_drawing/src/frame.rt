@@ -12,7 +12,6 @@ ghost use Rattle.miette_snippet_rules.specs.views.SettingsView.{settings_of};
 ghost use Rattle.miette_drawing.specs.steps.FrameParts.{corner_row};
 ghost use Rattle.miette_drawing.specs.views.SnippetRows.{place_at};
 
-use crate::line_context::Outcome;
 use miette_basics::sums::sum;
 use miette_page::canvas::Canvas;
 use miette_page::page::{PLAIN, Page};
@@ -20,6 +19,9 @@ use miette_protocol::protocol::LabeledSpan;
 use miette_snippet_rules::options::SnippetSettings;
 use miette_style::style::Style;
 use std::alloc::AllocError;
+
+/// What putting rows onto a page gives: nothing, or that memory was refused.
+pub(crate) type Outcome = Result<(), AllocError>;
 
 /// What a snippet's frame is drawn with.
 #[derive(Clone, Copy)]

@@ -10,7 +10,8 @@ ghost use Rattle.miette_labels.specs.views.GivenLabels.{drawn_of};
 ghost use Rattle.miette_drawing.specs.steps.LineContexts.{settings, multi_labels};
 ghost use Rattle.miette_source_lines.specs.views.Walking.{line_of_text};
 
-use crate::line_context::{LineContext, Outcome};
+use crate::frame::Outcome;
+use crate::line_context::LineContext;
 use miette_labels::sweep::PlacedLabel;
 use miette_page::canvas::Canvas;
 use miette_page::page::{PLAIN, Page};

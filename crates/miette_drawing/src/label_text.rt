@@ -5,7 +5,7 @@ ghost use Rattle.miette_labels.specs.rules.Labels.{cut_at_lf, parts_of};
 ghost use Rattle.miette_page.specs.views.Printouts.{◌⊕◌};
 ghost use Rattle.miette_page.specs.views.Tokens.{row_end, styled_tokens};
 
-use crate::line_context::Outcome;
+use crate::frame::Outcome;
 use miette_page::canvas::Canvas;
 use miette_page::page::Page;
 use miette_style::style::Style;

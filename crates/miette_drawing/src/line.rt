@@ -20,8 +20,9 @@ ghost use Rattle.miette_drawing.specs.steps.LineContexts.{shown_cells, labels_al
 ghost use Rattle.miette_source_lines.specs.views.Walking.{line_of_text};
 
 use crate::closings::push_closings;
+use crate::frame::Outcome;
 use crate::gutters::{push_break_gutter, push_number_gutter};
-use crate::line_context::{LineContext, Outcome, ShownLine};
+use crate::line_context::{LineContext, ShownLine};
 use crate::strokes::push_marks;
 use crate::texts::{push_before_marks, push_texts};
 use miette_cuts::cutting::{cut_around, marks_shown};

@@ -4,10 +4,6 @@ use crate::frame::Frame;
 use miette_labels::sweep::PlacedLabel;
 use miette_source_lines::lines::LineOfText;
 use miette_style::style::Style;
-use std::alloc::AllocError;
-
-/// What putting rows onto a page gives: nothing, or that memory was refused.
-pub(crate) type Outcome = Result<(), AllocError>;
 
 /// What all rows of a line are drawn with.
 #[derive(Clone, Copy)]

@@ -37,10 +37,10 @@ ghost use Rattle.miette_labels.specs.views.GivenLabels.{drawn_of};
 ghost use Rattle.miette_snippet_rules.specs.rules.Highlighting.{AreCallsOn, leaves_plain};
 ghost use Rattle.miette_snippet_rules.specs.rules.SnippetLayout.{left_out};
 
-use crate::frame::{Frame, push_bottom_row, push_top_row};
+use crate::frame::{Frame, Outcome, push_bottom_row, push_top_row};
 use crate::highlighting::{may_pass, pieces_of, restart};
 use crate::line::push_line_or_break;
-use crate::line_context::{LineContext, Outcome, ShownLine};
+use crate::line_context::{LineContext, ShownLine};
 use itoa::Buffer;
 use miette_basics::sums::sum;
 use miette_folds::extent::extent_of;

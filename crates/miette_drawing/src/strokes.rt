@@ -10,7 +10,8 @@ ghost use Rattle.miette_snippet_rules.specs.rules.Drawing.{code_with_parts, mark
 ghost use Rattle.miette_cuts.specs.views.Marks.{mark_of, IsAnchored};
 ghost use Rattle.miette_drawing.specs.steps.LineContexts.{settings};
 
-use crate::line_context::{LineContext, Outcome};
+use crate::frame::Outcome;
+use crate::line_context::LineContext;
 use miette_cuts::marks::Mark;
 use miette_page::canvas::Canvas;
 use miette_page::page::Page;

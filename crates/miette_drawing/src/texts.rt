@@ -12,9 +12,10 @@ ghost use Rattle.miette_labels.specs.views.GivenLabels.{drawn_of};
 ghost use Rattle.miette_cuts.specs.views.Marks.{mark_of, IsAnchored};
 ghost use Rattle.miette_drawing.specs.steps.LineContexts.{settings, before_marks, text_line};
 
+use crate::frame::Outcome;
 use crate::gutters::push_other_gutter;
 use crate::label_text::first_part;
-use crate::line_context::{LineContext, Outcome};
+use crate::line_context::LineContext;
 use miette_cuts::marks::Mark;
 use miette_page::canvas::Canvas;
 use miette_page::page::{PLAIN, Page};
