@@ -40,8 +40,8 @@ pub trait ReportHandler {
         ensures err { OnErr result (string_bytes out.new ≡ string_bytes out.old) }
         ensures settings { keeps self.old self.new };
 
-    /// Appends the message, or where `alternate` the chain of messages joined by `: `. After an error, which is `Memory`,
-    /// `out` is as before.
+    /// Appends the message, or where `alternate` the chain of messages joined by `: `. After an error, which is
+    /// `Memory`, `out` is as before.
     fn display<D: Diagnostic, S: SourceCode>(
         &self,
         report: &Report<D, S>,
