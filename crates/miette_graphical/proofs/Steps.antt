@@ -30,7 +30,10 @@ use Rattle.miette_graphical.proofs.Outermost.{report_over}
 use Rattle.miette_tree.specs.views.Handler.{AppendsOne}
 use Rattle.miette_tree.specs.rules.Reads.{always_reads}
 use Rattle.miette_graphical.specs.rules.PossibleAnswers.{IsAnswer, AreCauseAnswers, AreRelatedAnswers}
-use Rattle.miette_graphical.specs.views.Painting.{Printing, printing}
+use Rattle.miette_graphical.specs.views.Painting.{Keeps, Paints, Printing, PrintsOnly, printing, settings_of}
+use Rattle.miette_graphical.specs.declared.painter.Painter.{Painter}
+use Rattle.miette_snippet_rules.specs.rules.Highlighting.{follows, leaves_plain}
+use Rattle.miette_graphical.proofs.Painted.{keeps_on, only_kept, paints_after, paints_before}
 use Rattle.miette_graphical.specs.rules.Calls.{own_calls, cause_calls, related_calls}
 use Rattle.miette_graphical.specs.steps.PartTexts.{IsDrawn, AreCauses, AreRelated, IsInner, IsSibling, IsOneCause}
 use Rattle.miette_graphical.specs.steps.PartTexts.{IsNested, IsOneRelated, AreRootCauses, IsBelow, IsOutermost}
@@ -257,27 +260,34 @@ no_related_behind s blank now outer inherited value rs old h =
     nothing_behind (AreRelated outer inherited (trees (map value rs)) (printing s blank now now)) old
     (none_related s blank now outer inherited value rs [] h refl)
 
-pub below_behind : (s : Settings) (blank : Bool) (begun mid now : List Call → Type 0)
-    (source : Option Source) (t : Tree) (old drawn helped new : List ℕ) →
-    AppendsOne (IsDrawn source (head t) (printing s blank begun mid)) old drawn → helped ≡ drawn
-    ++ help_text s (head t).help →
-    AppendsOne (AreRelated (head t).severity source (related_of t) (printing s blank mid now)) helped
-    new → AppendsOne (IsBelow source t (printing s blank begun now)) old new
-below_behind s blank begun mid now source t old drawn helped new p e q =
+-- the rows of snippets, help, and related reports
+pub below_behind : {H : Type 0} (is_blank : H → Bool) (may_follow : H → List Call → Type 0) (source : Option Source)
+    (t : Tree) (old drawn helped new : Painter H) →
+    Paints is_blank may_follow (IsDrawn source (head t)) old drawn → Keeps is_blank old drawn
+    → helped.out ≡ drawn.out ++ help_text (settings_of drawn) (head t).help → PrintsOnly drawn helped →
+    Paints is_blank may_follow (AreRelated (head t).severity source (related_of t)) helped new
+    → Paints is_blank may_follow (IsBelow source t) old new
+below_behind is_blank may_follow source t old drawn helped new p kept e only r =
+    let s = settings_of old in
+    let help = help_text s (head t).help in
+    let q = paints_after is_blank may_follow (AreRelated (head t).severity source (related_of t)) old drawn helped new
+    kept only r in
     let own = p.is_given in
     let more = q.is_given in record {
-      text = p.text ++ help_text s (head t).help ++ q.text;
+      text = p.text ++ help ++ q.text;
       is_given = (
         own.0,
         more.0,
         own.1,
         more.1,
-        leads_on begun mid now (own_calls s.layout.context_lines source (head t) own.0)
+        leads_on (follows may_follow old.highlighter) (follows may_follow drawn.highlighter)
+            (follows may_follow new.highlighter) (own_calls s.layout.context_lines source (head t) own.0)
             (related_calls s.layout.context_lines s.related_as_nested source (related_of t) more.0) own.2 more.2,
-        ap₂ (λ x y. x ++ help_text s (head t).help ++ y) own.3 more.3,
+        ap₂ (λ x y. x ++ help ++ y) own.3 more.3,
       );
-      appended = behind old helped new (p.text ++ help_text s (head t).help) q.text
-          (behind old drawn helped p.text (help_text s (head t).help) p.appended e) q.appended;
+      appended = behind old.out helped.out new.out (p.text ++ help) q.text
+          (behind old.out drawn.out helped.out p.text help p.appended
+          (subst (λ s. helped.out ≡ drawn.out ++ help_text s (head t).help) kept.0 e)) q.appended;
     }
 
 regrouped : (a b c d : List ℕ) → a ++ (b ++ c ++ d) ≡ a ++ b ++ c ++ d
@@ -308,41 +318,67 @@ inner_whole by source t old headed told new text n h m p e =
     (h ∙ ap (λ x. x ++ print (header by.settings (head t))) n))))
     (inner_step by source t p.text p.is_given)
 
-pub sibling_behind : (s : Settings) (blank : Bool) (begun mid now : List Call → Type 0)
-    (source : Option Source) (t : Tree) (old titled told caused new : List ℕ) →
-    titled ≡ old ++ title_text s (head t) → told ≡ titled ++ message_text s (head t)
-    → AppendsOne (AreCauses (head t).severity source (cause_of t) (printing s blank begun mid)) told
-    caused →
-    AppendsOne (IsBelow source t (printing s blank mid now)) caused new
-    → AppendsOne (IsSibling source t (printing s blank begun now)) old new
-sibling_behind s blank begun mid now source t old titled told caused new h m c p =
-    let drawn = below_drawn (printing s blank mid now) source t p.text p.is_given in
-    let related = below_related (printing s blank mid now) source t p.text p.is_given in record {
+-- title, message, causes, and what stands below them
+pub sibling_behind : {H : Type 0} (is_blank : H → Bool) (may_follow : H → List Call → Type 0) (source : Option Source)
+    (t : Tree) (old told caused new : Painter H) →
+    told.out ≡ (old.out ++ title_text (settings_of old) (head t)) ++ message_text (settings_of old) (head t)
+    → PrintsOnly old told →
+    Paints is_blank may_follow (AreCauses (head t).severity source (cause_of t)) told caused
+    → Keeps is_blank told caused
+    → Paints is_blank may_follow (IsBelow source t) caused new → Paints is_blank may_follow (IsSibling source t) old new
+sibling_behind is_blank may_follow source t old told caused new e only causes kept below =
+    let s = settings_of old in
+    let blank = leaves_plain is_blank old.highlighter in
+    let by = printing s blank (follows may_follow caused.highlighter) (follows may_follow new.highlighter) in
+    let titled = old.out ++ title_text s (head t) in
+    let c = paints_after is_blank may_follow (AreCauses (head t).severity source (cause_of t)) old old told caused
+    (refl, refl) only causes in
+    let p = paints_after is_blank may_follow (IsBelow source t) old caused caused new
+    (keeps_on is_blank old told caused (only_kept is_blank old told only) kept) (refl, refl) below in
+    let drawn = below_drawn by source t p.text p.is_given in
+    let related = below_related by source t p.text p.is_given in record {
       text = title_text s (head t) ++ body_over s (head t) drawn c.text related;
-      is_given = sibling_step s blank begun mid now source t c.text p.text c.is_given p.is_given;
-      appended = behind old titled new (title_text s (head t)) (body_over s (head t) drawn c.text related) h
-          (body_behind s (head t) titled told caused new drawn c.text related p.text m c.appended p.appended
+      is_given = sibling_step s blank (follows may_follow old.highlighter) (follows may_follow caused.highlighter)
+          (follows may_follow new.highlighter) source t c.text p.text c.is_given p.is_given;
+      appended = behind old.out titled new.out (title_text s (head t)) (body_over s (head t) drawn c.text related) refl
+          (body_behind s (head t) titled told.out caused.out new.out drawn c.text related p.text e c.appended p.appended
           p.is_given.5);
     }
 
-pub report_whole : (s : Settings) (blank : Bool) (begun mid now : List Call → Type 0) (t : Tree)
-    (old headed told caused drawn new : List ℕ) →
-    headed ≡ old ++ print (header s (head t)) → told ≡ headed ++ message_text s (head t)
-    → AppendsOne (AreRootCauses t (printing s blank begun mid)) told caused →
-    AppendsOne (IsBelow (source_of t) t (printing s blank mid now)) caused drawn → new ≡ drawn ++ footer_text s
-    → AppendsOne (IsOutermost t (printing s blank begun now)) old new
-report_whole s blank begun mid now t old headed told caused drawn new h m c p e =
-    let own = below_drawn (printing s blank mid now) (source_of t) t p.text p.is_given in
-    let related = below_related (printing s blank mid now) (source_of t) t p.text p.is_given in
-    let body : drawn ≡ headed ++ body_over s (head t) own c.text related =
-    body_behind s (head t) headed told caused drawn own c.text related p.text m c.appended p.appended p.is_given.5 in
-    record {
+-- header, message, causes, what stands below them, and the footer
+pub report_whole : {H : Type 0} (is_blank : H → Bool) (may_follow : H → List Call → Type 0) (t : Tree)
+    (old told caused drawn new : Painter H) →
+    told.out ≡ (old.out ++ print (header (settings_of old) (head t))) ++ message_text (settings_of old) (head t)
+    → PrintsOnly old told →
+    Paints is_blank may_follow (AreRootCauses t) told caused → Keeps is_blank told caused
+    → Paints is_blank may_follow (IsBelow (source_of t) t) caused drawn → Keeps is_blank caused drawn →
+    new.out ≡ drawn.out ++ footer_text (settings_of drawn) → PrintsOnly drawn new
+    → Paints is_blank may_follow (IsOutermost t) old new
+report_whole is_blank may_follow t old told caused drawn new e only causes kept below later f last =
+    let s = settings_of old in
+    let blank = leaves_plain is_blank old.highlighter in
+    let by = printing s blank (follows may_follow caused.highlighter) (follows may_follow drawn.highlighter) in
+    let headed = old.out ++ print (header s (head t)) in
+    let c = paints_after is_blank may_follow (AreRootCauses t) old old told caused (refl, refl) only causes in
+    let known = keeps_on is_blank old told caused (only_kept is_blank old told only) kept in
+    let p = paints_after is_blank may_follow (IsBelow (source_of t) t) old caused caused drawn known (refl, refl) below
+    in
+    let own = below_drawn by (source_of t) t p.text p.is_given in
+    let related = below_related by (source_of t) t p.text p.is_given in
+    let body : drawn.out ≡ headed ++ body_over s (head t) own c.text related =
+    body_behind s (head t) headed told.out caused.out drawn.out own c.text related p.text e c.appended p.appended
+    p.is_given.5 in
+    paints_before is_blank may_follow (IsOutermost t) old drawn new last (record {
       text = report_over s (head t) own c.text related;
-      is_given = root_step s blank begun mid now t c.text p.text c.is_given p.is_given;
-      appended = behind old drawn new (print (header s (head t)) ++ body_over s (head t) own c.text related)
-          (footer_text s) (behind old headed drawn (print (header s (head t)))
-          (body_over s (head t) own c.text related) h body) e;
-    }
+      is_given = root_step s blank (follows may_follow old.highlighter) (follows may_follow caused.highlighter)
+          (follows may_follow drawn.highlighter) t c.text p.text c.is_given p.is_given;
+      appended = behind old.out drawn.out new.out (print (header s (head t)) ++ body_over s (head t) own c.text related)
+          (footer_text s)
+          (behind old.out headed drawn.out (print (header s (head t))) (body_over s (head t) own c.text related) refl
+          body)
+          (subst (λ s. new.out ≡ drawn.out ++ footer_text s)
+          (keeps_on is_blank old caused drawn known later).0 f);
+    })
 
 -- ---- refusals
 

@@ -29,15 +29,10 @@ use Rattle.miette_snippet_rules.specs.rules.ShownLines.{framed_ranges, line_at}
 use Rattle.miette_snippet_rules.specs.rules.Snippets.{shown_numbers, snippets, is_kept}
 use Rattle.miette_graphical.specs.rules.Answers.{pieces_listed}
 use Rattle.miette_tree.specs.rules.DiagnosticParts.{given_labels}
-use Rattle.miette_graphical.specs.rules.PrintedDiagnostics.{PrintedDiagnostic, diagnostics_of}
-use Rattle.miette_tree.specs.rules.Tree.{Tree}
+use Rattle.miette_graphical.specs.rules.PrintedDiagnostics.{PrintedDiagnostic}
 use Rattle.miette_graphical.specs.rules.Settings.{Settings}
 use Rattle.miette_graphical.specs.laws.CharacterSets.{AreNarrow}
 use Rattle.miette_graphical.specs.rules.Snippets.{snippet_settings, shown_rows, drawn_rows}
-
--- something holds of each diagnostic that a report prints
-abbrev pub EachPrinted : (Settings → PrintedDiagnostic → Type 0) → Settings → Tree → Type 0
-EachPrinted holds s t = AllByRecursion (holds s) (diagnostics_of s t)
 
 -- ---- the lines of the snippets
 

@@ -10,9 +10,9 @@ ghost use Rattle.miette_graphical.specs.rules.Snippets.{drawn_rows};
 ghost use Rattle.miette_graphical.specs.rules.Text.{report_text};
 ghost use Rattle.miette_graphical.specs.laws.Clean.{AreCleanSettings, IsCleanTree};
 ghost use Rattle.miette_graphical.specs.laws.Colourless.{IsColouredText, IsRestyledText, colourless};
-ghost use Rattle.miette_graphical.specs.laws.Headline.{EachPrinted, EndsAreDrawn, LabelsAreFolded, LinesAreShown};
+ghost use Rattle.miette_graphical.specs.laws.Headline.{EndsAreDrawn, LabelsAreFolded, LinesAreShown};
 ghost use Rattle.miette_graphical.specs.laws.Headline.{CutsAreExact, LinesThatFitStay, MarksAreApart, TextsHang};
-ghost use Rattle.miette_graphical.specs.views.Handling.{AreCallsOf, draws_plain, follows_of};
+ghost use Rattle.miette_graphical.specs.views.Handling.{AreCallsOf, EachPrinted, draws_plain, follows_of};
 ghost use Rattle.miette_tree.specs.views.Handler.{AppendsOne};
 ghost use Rattle.miette_runs.specs.rules.Sequences.{erase};
 ghost use Rattle.miette_text.specs.rules.ColouredTexts.{AppendsErasing};
@@ -106,28 +106,21 @@ impl<H: Highlighter> GraphicalReportHandler<H> {
             IsCleanTree tree → (others : List ℕ) → IsRestyledText drawn_rows self.old.settings tree others →
             AppendsErasing (string_bytes out.old) (string_bytes out.new) (erase others)) }
         // of each printed diagnostic: its snippets show the lines in the context of its labels, once and in order,
-        ensures lines { OnOk result (EachPrinted LinesAreShown self.old.settings
-            (tree_of D.meaning S.source report.now)) }
+        ensures lines { OnOk result (EachPrinted LinesAreShown self.old (tree_of D.meaning S.source report.now)) }
         // its marks have columns of their own,
-        ensures marks { OnOk result (EachPrinted MarksAreApart self.old.settings
-            (tree_of D.meaning S.source report.now)) }
+        ensures marks { OnOk result (EachPrinted MarksAreApart self.old (tree_of D.meaning S.source report.now)) }
         // each line that is cut shows what is near its marks, in a bounded number of columns,
-        ensures cuts { OnOk result (EachPrinted CutsAreExact self.old.settings
-            (tree_of D.meaning S.source report.now)) }
+        ensures cuts { OnOk result (EachPrinted CutsAreExact self.old (tree_of D.meaning S.source report.now)) }
         // and where no line of a snippet has more columns than the limit, its rows are those without one,
-        ensures fits { OnOk result (EachPrinted LinesThatFitStay self.old.settings
-            (tree_of D.meaning S.source report.now)) }
+        ensures fits { OnOk result (EachPrinted LinesThatFitStay self.old (tree_of D.meaning S.source report.now)) }
         // each text of a label on one line hangs from its own mark,
-        ensures texts { OnOk result (EachPrinted TextsHang self.old.settings
-            (tree_of D.meaning S.source report.now)) }
+        ensures texts { OnOk result (EachPrinted TextsHang self.old (tree_of D.meaning S.source report.now)) }
         // where labels at the end of its source are drawn, just these stand behind the text of the last line, and
         // their marks behind what is shown of it,
-        ensures ends { OnOk result (EachPrinted EndsAreDrawn self.old.settings
-            (tree_of D.meaning S.source report.now)) }
+        ensures ends { OnOk result (EachPrinted EndsAreDrawn self.old (tree_of D.meaning S.source report.now)) }
         // and where labels are folded, no label begins or ends on a line that is left out, the bars of a break are
         // those of the labels that run through it, and short labels change nothing
-        ensures folds { OnOk result (EachPrinted LabelsAreFolded self.old.settings
-            (tree_of D.meaning S.source report.now)) }
+        ensures folds { OnOk result (EachPrinted LabelsAreFolded self.old (tree_of D.meaning S.source report.now)) }
         ensures refused { (result ≡ Err RenderError.Refused) →
             all_read (diagnostics_of self.old.settings (tree_of D.meaning S.source report.now)) ≡ false }
         ensures err { OnErr result (string_bytes out.new ≡ string_bytes out.old) }

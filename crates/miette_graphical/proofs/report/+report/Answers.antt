@@ -1,5 +1,5 @@
 use Rattle.std.proofs.Common.{◌≡◌, ◌≤◌, ◌<◌, suc, ◌++◌, ◌-◌, length, take, drop, get_or, ap, ◌∙◌, subst, map}
-use Rattle.std.proofs.Common.{option_map, false, refl, string_bytes, arith, rules, List}
+use Rattle.std.proofs.Common.{false, refl, string_bytes, arith, rules, List}
 use Rattle.std.proofs.lemmas.Result.{IfOk-weaker, on_ok_weaker}
 use Rattle.miette_runs.specs.rules.Cutting.{without_leading, without_trailing}
 use Rattle.miette_runs.specs.rules.Runs.{print}
@@ -14,12 +14,12 @@ use Rattle.miette_tree.specs.views.Handler.{AppendsOne}
 use Rattle.miette_tree.proofs.Nesting.{texts_shown}
 use Rattle.miette_graphical.specs.rules.PrintedDiagnostics.{all_read, printed_causes, printed_related}
 use Rattle.miette_graphical.specs.rules.Indents.{narrow_settings}
-use Rattle.miette_graphical.specs.rules.DiagnosticText.{header, help_text, title_text, under_arrow}
+use Rattle.miette_graphical.specs.rules.DiagnosticText.{header, help_text, under_arrow}
 use Rattle.miette_graphical.specs.rules.Text.{are_last, cause_texts, ends_there}
 use Rattle.miette_graphical.specs.views.Painting.{Paints, printing, printing_of, settings_of, source_shown}
-use Rattle.miette_graphical.proofs.Remaining.{all_remain, cause_left, causes_appended, related_left, related_appended}
-use Rattle.miette_graphical.proofs.Remaining.{first_falls}
-use Rattle.miette_graphical.proofs.Painted.{arrow_after, keeps_on, only_kept, paints_after, paints_before}
+use Rattle.miette_graphical.proofs.Remaining.{all_printed, all_remain, cause_printed, causes_under, first_falls}
+use Rattle.miette_graphical.proofs.Remaining.{related_printed, related_under}
+use Rattle.miette_graphical.proofs.Painted.{arrow_after, paints_after, paints_before}
 use Rattle.miette_graphical.proofs.Sizes.{tree_size, cause_size, trees_size, related_falls}
 use Rattle.miette_graphical.proofs.Steps.{cause_texts_behind, no_related_behind, below_behind, inner_whole}
 use Rattle.miette_graphical.proofs.Steps.{sibling_behind, first_and_more, one_cause_fails, inner_rows_fail}
@@ -29,7 +29,7 @@ use Rattle.miette_graphical.proofs.report.+report.Goals as goal
 use Rattle.miette_graphical.specs.steps.PrintedParts.{printed_inner, printed_one}
 
 pub push_causes-loop-next-init : goal.push_causes-loop-next-init
-push_causes-loop-next-init g t c = (all_remain _ _ _ _ _ _ _ _, (refl, refl))
+push_causes-loop-next-init g t c = (all_remain _ _ _ _, (refl, refl))
 
 pub push_causes-push_one_cause-requires : goal.push_causes-push_one_cause-requires
 push_causes-push_one_cause-requires g t c =
@@ -46,7 +46,7 @@ push_causes-push_one_cause-requires g t c =
 pub push_causes-loop-next-preserved : goal.push_causes-loop-next-preserved
 push_causes-loop-next-preserved g t c =
     let value = tree_of g.D.Diagnostic.meaning g.S.SourceCode.source in
-    cause_left g.H.Highlighter.is_blank g.H.Highlighter.may_follow c.args.painter.now c.loop-next.painter
+    cause_printed g.H.Highlighter.is_blank g.H.Highlighter.may_follow c.args.painter.now c.loop-next.painter
     c.push_one_cause.new.painter c.args.outer (source_shown g.S.SourceCode.source c.args.inherited)
     (cause_of (value c.args.report.now)) (cause_of (value c.loop-next.at.now)) (value c.in-Diagnostic.next.now)
     c.loop-next.invariant c.in-Diagnostic.ensures.value c.in_ok-push_one_cause.ensures.ok
@@ -73,7 +73,6 @@ push_causes-returns-clause-ok g t c =
     let new = c.push_cause_texts.new.painter in
     let s = settings_of old in
     let blank = leaves_plain is_blank old.highlighter in
-    let begun : List Call → Type 0 = follows may old.highlighter in
     let was : List Call → Type 0 = follows may now.highlighter in
     let outer = c.args.outer in
     let inherited = source_shown g.S.SourceCode.source c.args.inherited in
@@ -86,10 +85,10 @@ push_causes-returns-clause-ok g t c =
     let told : new.out ≡ now.out ++ cause_texts s outer ts =
     subst (λ s. new.out ≡ now.out ++ cause_texts s outer ts) c.loop-next.invariant.1.0
     c.in_ok-push_cause_texts.ensures.text in
-    paints_before is_blank may (AreCauses outer inherited all) old now new c.push_cause_texts.ensures.stays
-    (causes_appended s blank begun was was outer inherited all left old.out now.out new.out c.loop-next.invariant.0
+    all_printed is_blank may (causes_under outer inherited) old now new all left c.loop-next.invariant
+    c.push_cause_texts.ensures.stays
     (subst (λ x. AppendsOne (AreCauses outer inherited x (printing s blank was was)) now.out new.out)
-    last (cause_texts_behind s blank was outer inherited ts now.out new.out told)))
+    last (cause_texts_behind s blank was outer inherited ts now.out new.out told))
 
 pub push_one_cause-returns-clause-ok : goal.push_one_cause-returns-clause-ok
 push_one_cause-returns-clause-ok g t c =
@@ -176,32 +175,18 @@ pub push_below-returns-clause-ok : goal.push_below-returns-clause-ok
 push_below-returns-clause-ok g t c =
     let is_blank = g.H.Highlighter.is_blank in
     let may = g.H.Highlighter.may_follow in
-    let old = c.args.painter.now in
     let drawn = c.push_rows.new.painter in
     let helped = c.push_help.new.painter in
     let new = c.push_related.new.painter in
-    let s = settings_of old in
-    let blank = leaves_plain is_blank old.highlighter in
-    let mid : List Call → Type 0 = follows may drawn.highlighter in
-    let now : List Call → Type 0 = follows may new.highlighter in
     let source = source_shown g.S.SourceCode.source c.args.source in
     let value = tree_of g.D.Diagnostic.meaning g.S.SourceCode.source c.args.report.now in
-    let given = trees (map (tree_of g.D.Diagnostic.meaning g.S.SourceCode.source) c.related.result.now) in
-    let help : helped.out ≡ drawn.out ++ help_text s (head value).help =
-    subst (λ o. helped.out ≡ drawn.out ++ help_text s o) c.help.ensures
-    (subst (λ s. helped.out ≡ drawn.out ++ help_text s (option_map (λ t. t.now) c.help.result))
-    c.push_rows.ensures.keeps.0 c.in_ok-push_help.ensures.text) in
     on_ok_weaker c.push_related.result (λ h.
-    let related : AppendsOne (AreRelated (head value).severity source (related_of value) (printing s blank mid now))
-    helped.out new.out =
-    subst (λ v. AppendsOne (AreRelated v source (related_of value) (printing s blank mid now)) helped.out new.out)
-    c.severity.ensures
-    (subst (λ r. AppendsOne (AreRelated c.severity.result source r (printing s blank mid now)) helped.out new.out)
-    c.related.ensures
-    (paints_after is_blank may (AreRelated c.severity.result source given) old drawn helped new
-    c.push_rows.ensures.keeps c.push_help.ensures.stays h)) in
-    below_behind s blank (follows may old.highlighter) mid now source value old.out drawn.out helped.out new.out
-    c.in_ok-push_rows.ensures.ok help related) c.push_related.ensures.ok
+    below_behind is_blank may source value c.args.painter.now drawn helped new c.in_ok-push_rows.ensures.ok
+    c.push_rows.ensures.keeps (subst (λ o. helped.out ≡ drawn.out ++ help_text (settings_of drawn) o) c.help.ensures
+    c.in_ok-push_help.ensures.text) c.push_help.ensures.stays
+    (subst (λ v. Paints is_blank may (AreRelated v source (related_of value)) helped new) c.severity.ensures
+    (subst (λ r. Paints is_blank may (AreRelated c.severity.result source r) helped new) c.related.ensures h)))
+    c.push_related.ensures.ok
 
 pub push_sibling-returns-in_err-push_causes-clause-refused : goal.push_sibling-returns-in_err-push_causes-clause-refused
 push_sibling-returns-in_err-push_causes-clause-refused g t c = λ h.
@@ -223,30 +208,14 @@ pub push_sibling-returns-clause-ok : goal.push_sibling-returns-clause-ok
 push_sibling-returns-clause-ok g t c =
     let is_blank = g.H.Highlighter.is_blank in
     let may = g.H.Highlighter.may_follow in
-    let old = c.args.painter.now in
     let told = c.push_sibling_start.new.painter in
     let caused = c.push_causes.new.painter in
-    let new = c.push_below.new.painter in
-    let s = settings_of old in
-    let blank = leaves_plain is_blank old.highlighter in
-    let begun : List Call → Type 0 = follows may old.highlighter in
-    let mid : List Call → Type 0 = follows may caused.highlighter in
-    let now : List Call → Type 0 = follows may new.highlighter in
     let source = source_shown g.S.SourceCode.source c.args.source in
     let value = tree_of g.D.Diagnostic.meaning g.S.SourceCode.source c.args.report.now in
-    let causes : AppendsOne (AreCauses (head value).severity source (cause_of value) (printing s blank begun mid))
-    told.out caused.out =
-    subst (λ v. AppendsOne (AreCauses v source (cause_of value) (printing s blank begun mid)) told.out caused.out)
-    c.severity.ensures
-    (paints_after is_blank may (AreCauses c.severity.result source (cause_of value)) old old told caused (refl, refl)
-    c.push_sibling_start.ensures.stays c.in_ok-push_causes.ensures.ok) in
-    let kept = keeps_on is_blank old told caused (only_kept is_blank old told c.push_sibling_start.ensures.stays)
-    c.push_causes.ensures.keeps in
-    on_ok_weaker c.push_below.result (λ h.
-    sibling_behind s blank begun mid now source value old.out (old.out ++ title_text s (head value)) told.out caused.out
-    new.out refl c.in_ok-push_sibling_start.ensures.text causes
-    (paints_after is_blank may (IsBelow source value) old caused caused new kept (refl, refl) h))
-    c.push_below.ensures.ok
+    on_ok_weaker c.push_below.result (sibling_behind is_blank may source value c.args.painter.now told caused
+    c.push_below.new.painter c.in_ok-push_sibling_start.ensures.text c.push_sibling_start.ensures.stays
+    (subst (λ v. Paints is_blank may (AreCauses v source (cause_of value)) told caused) c.severity.ensures
+    c.in_ok-push_causes.ensures.ok) c.push_causes.ensures.keeps) c.push_below.ensures.ok
 
 pub push_nested-returns-clause-ok : goal.push_nested-returns-clause-ok
 push_nested-returns-clause-ok g t c =
@@ -269,7 +238,7 @@ push_nested-returns-clause-ok g t c =
     })
 
 pub push_related-loop-rest-init : goal.push_related-loop-rest-init
-push_related-loop-rest-init g t c = (all_remain _ _ _ _ _ _ _ _, (refl, refl))
+push_related-loop-rest-init g t c = (all_remain _ _ _ _, (refl, refl))
 
 pub push_related-push_one_related-requires : goal.push_related-push_one_related-requires
 push_related-push_one_related-requires g t c =
@@ -303,7 +272,7 @@ push_related-loop-rest-preserved g t c =
     (value r)) now new) c.report-item.is
     (subst (λ o. Paints is_blank may (IsOneRelated outer c.are_last.result o (value item)) now new)
     c.own_or-source.ensures c.in_ok-push_one_related.ensures.ok)) in
-    related_left is_blank may c.args.painter.now now new outer inherited (trees (map value c.args.reports.now))
+    related_printed is_blank may c.args.painter.now now new outer inherited (trees (map value c.args.reports.now))
     (trees (map value rs)) (value first) (trees (map value more)) c.loop-rest.invariant
     (first_and_more value rs item c.in-len1-up.len_at_least) one c.push_one_related.ensures.keeps
 
@@ -334,12 +303,11 @@ push_related-returns-clause-ok g t c =
     let may = g.H.Highlighter.may_follow in
     let old = c.args.painter.now in
     let now = c.loop-rest.painter in
-    let s = settings_of old in
-    let blank = leaves_plain is_blank old.highlighter in
-    let was : List Call → Type 0 = follows may now.highlighter in
+    let outer = c.args.outer in
     let inherited = source_shown g.S.SourceCode.source c.args.inherited in
     let value = tree_of g.D.Diagnostic.meaning g.S.SourceCode.source in
-    related_appended s blank (follows may old.highlighter) was was c.args.outer inherited
-    (trees (map value c.args.reports.now)) (trees (map value c.loop-rest.rest.now)) old.out now.out now.out
-    c.loop-rest.invariant.0
-    (no_related_behind s blank was c.args.outer inherited value c.loop-rest.rest.now now.out c.in_default.len_below)
+    let rest = c.loop-rest.rest.now in
+    all_printed is_blank may (related_under outer inherited) old now now (trees (map value c.args.reports.now))
+    (trees (map value rest)) c.loop-rest.invariant (refl, refl)
+    (no_related_behind (settings_of old) (leaves_plain is_blank old.highlighter) (follows may now.highlighter) outer
+    inherited value rest now.out c.in_default.len_below)

@@ -2,7 +2,7 @@ use Rattle.std.proofs.Common.{length, map, suc}
 use Rattle.miette_tree.specs.rules.Tree.{trees, cause_of, related_of}
 use Rattle.miette_tree.specs.views.Report.{tree_of}
 use Rattle.miette_graphical.specs.views.Painting.{source_shown}
-use Rattle.miette_graphical.proofs.Remaining.{CausesLeft, RelatedLeft}
+use Rattle.miette_graphical.proofs.Remaining.{Left, causes_under, related_under}
 use Rattle.miette_graphical.proofs.Sizes.{tree_size, cause_size, trees_size}
 use Rattle.miette_graphical.proofs.report.+report.Given as goal
 
@@ -45,8 +45,9 @@ decreases-push_causes-loop-next g l = cause_size (cause_of (tree_of g.D.Diagnost
 abbrev pub invariant-push_causes-loop-next : goal.invariant-push_causes-loop-next
 invariant-push_causes-loop-next g l =
     let value = tree_of g.D.Diagnostic.meaning g.S.SourceCode.source in
-    CausesLeft g.H.Highlighter.is_blank g.H.Highlighter.may_follow l.fn.painter l.painter l.outer
-    (source_shown g.S.SourceCode.source l.inherited) (cause_of (value l.report)) (cause_of (value l.at))
+    Left g.H.Highlighter.is_blank g.H.Highlighter.may_follow
+    (causes_under l.outer (source_shown g.S.SourceCode.source l.inherited)) l.fn.painter l.painter
+    (cause_of (value l.report)) (cause_of (value l.at))
 
 abbrev pub decreases-push_related-loop-rest : goal.decreases-push_related-loop-rest
 decreases-push_related-loop-rest g l = length l.rest
@@ -54,5 +55,6 @@ decreases-push_related-loop-rest g l = length l.rest
 abbrev pub invariant-push_related-loop-rest : goal.invariant-push_related-loop-rest
 invariant-push_related-loop-rest g l =
     let value = tree_of g.D.Diagnostic.meaning g.S.SourceCode.source in
-    RelatedLeft g.H.Highlighter.is_blank g.H.Highlighter.may_follow l.fn.painter l.painter l.outer
-    (source_shown g.S.SourceCode.source l.inherited) (trees (map value l.reports)) (trees (map value l.rest))
+    Left g.H.Highlighter.is_blank g.H.Highlighter.may_follow
+    (related_under l.outer (source_shown g.S.SourceCode.source l.inherited)) l.fn.painter l.painter
+    (trees (map value l.reports)) (trees (map value l.rest))
