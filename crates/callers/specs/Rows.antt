@@ -14,7 +14,7 @@ use Rattle.miette_style.specs.declared.theme.GraphicalTheme.{GraphicalTheme}
 use Rattle.miette_style.specs.rules.Themes.{theme_of}
 use Rattle.miette_text.specs.rules.Wrapping.{Plan}
 
--- rows of this width, the first behind `hint: `, the others below its text
+-- rows of this width, the first after `hint: `, the others below its text
 abbrev pub hint_plan : ℕ → Plan (List ℕ)
 hint_plan width = record {
   room = width;
