@@ -2,15 +2,14 @@
 use Rattle.std.proofs.Common.{◌≡◌, ◌<◌, ◌^◌, ℕ, Bool, true, false, ◌&&◌, if◌then◌else◌, List, [], ◌∷◌, length, Option}
 use Rattle.std.proofs.Common.{Some, None, Result, map, String, string_bytes, codes, bytes_eq, ◌==◌, refl, sym, ap, ◌∙◌}
 use Rattle.std.proofs.Common.{subst, arith}
-use Rattle.std.specs.Option.{option_map_or}
+use Rattle.std.specs.Option.{option_and_then, option_map_or}
 use Rattle.std.specs.Str.{all_ascii_digits}
 use Rattle.std.specs.Str.Parse.{AllDigits, digits_value}
 use Rattle.std.proofs.lemmas.Bool.{eqb-true, lt-ltb, ltb-true, false_from_ne_true}
 use Rattle.std.proofs.lemmas.Slice.Eq.{bytes_eq-Decides}
 use Rattle.std.proofs.lemmas.Str.Parse.{tells_all_ascii_digits, tells_digits}
-use Rattle.miette_report.specs.rules.OptionWords.{JobRequest, read_number, with_answer, with_name, with_number}
-use Rattle.miette_report.specs.rules.OptionWords.{with_read}
-use Rattle.miette_report.specs.rules.OptionWords.{with_words}
+use Rattle.miette_report.specs.rules.OptionWords.{JobRequest, read_number, with_answer, with_name, with_number, with_read}
+use Rattle.miette_report.specs.rules.OptionWords.{with_value, with_words, with_words_after}
 use Rattle.miette_report.specs.rules.Words.{IsReadAs}
 use Rattle.miette_report.specs.steps.AskedWords.{AreGiven}
 use Rattle.miette_report.specs.declared.arguments.Arguments.{Arguments}
@@ -93,6 +92,13 @@ of_name word value o r result is e not_yes not_no =
     (differ value (codes "no") not_no) ∙ sym (read word value o None r is e))
 
 -- ---- the words that are left
+
+pub valued : {Z : Type 0} (word : List ℕ) (words rest : List (String Z)) (x : String Z) (value : List ℕ)
+    → words ≡ x ∷ rest → value ≡ string_bytes x → (r : JobRequest) → with_words_after word (map string_bytes words) r
+    ≡ option_and_then (with_words (map string_bytes rest)) (with_value word value r)
+valued word words rest x value are is = λ r.
+    ap (λ ws. with_words_after word (map string_bytes ws) r) are
+    ∙ ap (λ v. option_and_then (with_words (map string_bytes rest)) (with_value word v r)) (sym is)
 
 pub all_done : {Z : Type 0} (rest : List (String Z)) (r : JobRequest) → true ≡ (length rest == 0)
     → with_words (map string_bytes rest) r ≡ Some r

@@ -4,27 +4,25 @@ use Rattle.std.proofs.Common.{OnOk, IfSome, refl, sym, ◌∙◌, ap, ap₂, sub
 use Rattle.miette_protocol.specs.views.Meaning.{Meaning}
 use Rattle.miette_tree.specs.rules.Tree.{Tree}
 use Rattle.miette_tree.specs.rules.Reads.{AlwaysReads}
-use Rattle.miette_style.specs.rules.Themes.{characters_of, no_styles, styles_of, theme_of, unicode_characters}
+use Rattle.miette_style.specs.rules.Themes.{no_styles, theme_of, unicode_characters}
 use Rattle.miette_style.specs.declared.theme.GraphicalTheme.{GraphicalTheme}
 use Rattle.miette_graphical.specs.rules.Answers.{unlisted}
 use Rattle.miette_graphical.specs.rules.PrintedDiagnostics.{all_read, diagnostics_of}
 use Rattle.miette_graphical.specs.views.Handling.{Handling, draws_plain, without_highlighter}
-use Rattle.miette_graphical.specs.rules.Settings.{default_settings}
 use Rattle.miette_graphical.specs.rules.Snippets.{drawn_rows}
 use Rattle.miette_graphical.specs.rules.Text.{report_text}
 use Rattle.miette_brief.specs.rules.Report as rows
 use Rattle.miette_report.proofs.AlwaysRead.{printed-reads}
-use Rattle.miette_report.specs.views.DrawReports.{draw_settings, drawn_tree, over_input, IsPicture, Pictures}
+use Rattle.miette_report.specs.views.DrawReports.{draw_settings, drawn_tree, over_input, settings_in, IsPicture}
+use Rattle.miette_report.specs.views.DrawReports.{Pictures}
 use Rattle.miette_report.specs.rules.Words.{AreDrawWords, IsNoDrawCall}
 use Rattle.miette_report.specs.steps.DrawCalls.{CallPictures, IsReadWhole}
 
 -- what the handler is made with
 pub plain-settings : {H : Type 0} (limit : Option ℕ) (theme : GraphicalTheme) (made : Handling H) → theme_of theme
     ≡ record { characters = unicode_characters; styles = no_styles }
-    → made ≡ without_highlighter (record (default_settings (characters_of theme.characters) (styles_of theme.styles))
-    { width = 80; line_columns = limit }) → made ≡ without_highlighter (draw_settings limit)
-plain-settings limit theme made is m = m ∙ ap (λ t. without_highlighter
-    (record (default_settings t) { width = 80; line_columns = limit })) is
+    → made ≡ without_highlighter (settings_in (theme_of theme) limit) → made ≡ without_highlighter (draw_settings limit)
+plain-settings limit theme made is m = m ∙ ap (λ t. without_highlighter (settings_in t limit)) is
 
 reads-whole : {H : Type 0} (limit : Option ℕ) (theme : GraphicalTheme) (h : Handling H) (t : Tree) → h
     ≡ without_highlighter (draw_settings limit) → IsReadWhole limit t → all_read (diagnostics_of h.settings t) ≡ true

@@ -85,58 +85,32 @@ impl Arguments {
     }
 
     /// With another report.
-    fn with_report(self, asked: ReportAsked) -> Arguments
+    fn with_report(mut self, asked: ReportAsked) -> Arguments
         ensures { asked_of result ≡ table.with_report asked (asked_of self) }
     {
-        let Arguments {
-            choice,
-            options,
-            terminal,
-        } = self;
-        let (choice, options) = match asked {
-            ReportAsked::Json => (Choice::Json, options),
-            ReportAsked::Debug => (Choice::Debug, options),
-            ReportAsked::Brief => (choice, options.force_brief(true)),
-            ReportAsked::Narrated => (choice, options.force_narrated(true)),
-            ReportAsked::Graphical => (choice, options.force_graphical(true)),
-        };
-        Arguments {
-            choice,
-            options,
-            terminal,
+        match asked {
+            ReportAsked::Json => self.choice = Choice::Json,
+            ReportAsked::Debug => self.choice = Choice::Debug,
+            ReportAsked::Brief => self.options = self.options.force_brief(true),
+            ReportAsked::Narrated => self.options = self.options.force_narrated(true),
+            ReportAsked::Graphical => self.options = self.options.force_graphical(true),
         }
+        self
     }
 
-    /// With a word and its value, which of two words is any text.
-    fn with_value(self, alloc: Global, word: &str, value: &str) -> Result<Arguments, Fault>
+    /// With a word and its value: of two words that is any text.
+    fn with_value(mut self, alloc: Global, word: &str, value: &str) -> Result<Arguments, Fault>
         ensures { AreGiven (table.with_value word.now value.now (asked_of self)) result }
     {
-        let Arguments {
-            choice,
-            options,
-            terminal,
-        } = self;
         match word {
-            "--footer" => Ok(Arguments {
-                choice,
-                options: options.footer(String::from_str(alloc, value)?),
-                terminal,
-            }),
-            "--no-graphics" => Ok(Arguments {
-                choice,
-                options,
-                terminal: Terminal {
-                    no_graphics: Some(String::from_str(alloc, value)?),
-                    ..terminal
-                },
-            }),
-            _ => Arguments {
-                choice,
-                options,
-                terminal,
+            "--footer" => {
+                let footer = String::from_str(alloc, value)?;
+                self.options = self.options.footer(footer);
             }
-            .with_read(alloc, word, value),
+            "--no-graphics" => self.terminal.no_graphics = Some(String::from_str(alloc, value)?),
+            _ => return self.with_read(alloc, word, value),
         }
+        Ok(self)
     }
 
     /// With a word whose value is a number, `yes`, `no` or a name.
@@ -154,127 +128,89 @@ impl Arguments {
     }
 
     /// With a word whose value is a number.
-    fn with_number(self, word: &str, number: usize) -> Result<Arguments, Fault>
+    fn with_number(mut self, word: &str, number: usize) -> Result<Arguments, Fault>
         ensures { AreGiven (table.with_number word.now number (asked_of self)) result }
     {
-        let Arguments {
-            choice,
-            options,
-            mut terminal,
-        } = self;
-        let options = match word {
-            "--width" => options.width(number),
-            "--context" => options.context_lines(number),
-            "--term-width" => {
-                terminal.width = Some(number);
-                options
-            }
-            _ => {
-                return Arguments {
-                    choice,
-                    options,
-                    terminal,
-                }
-                .with_count(word, number);
-            }
-        };
-        Ok(Arguments {
-            choice,
-            options,
-            terminal,
-        })
+        match word {
+            "--width" => self.options = self.options.width(number),
+            "--context" => self.options = self.options.context_lines(number),
+            "--term-width" => self.terminal.width = Some(number),
+            _ => return self.with_count(word, number),
+        }
+        Ok(self)
     }
 
     /// With a word whose value is a number from 1.
-    fn with_count(self, word: &str, count: usize) -> Result<Arguments, Fault>
+    fn with_count(mut self, word: &str, count: usize) -> Result<Arguments, Fault>
         ensures { AreGiven (table.with_count word.now count (asked_of self)) result }
     {
         if count == 0 {
             return Err(Fault::Usage);
         }
-        let Arguments {
-            choice,
-            options,
-            terminal,
-        } = self;
-        let options = match word {
-            "--tab" => options.tab_width(count),
-            "--label-lines" => options.label_lines(count),
-            "--line-columns" => options.line_columns(count),
+        self.options = match word {
+            "--tab" => self.options.tab_width(count),
+            "--label-lines" => self.options.label_lines(count),
+            "--line-columns" => self.options.line_columns(count),
             _ => return Err(Fault::Usage),
         };
-        Ok(Arguments {
-            choice,
-            options,
-            terminal,
-        })
+        Ok(self)
     }
 
     /// With a word whose value is `yes` or `no`.
-    fn with_answer(self, word: &str, yes: bool) -> Result<Arguments, Fault>
+    fn with_answer(mut self, word: &str, yes: bool) -> Result<Arguments, Fault>
         ensures { AreGiven (table.with_answer word.now yes (asked_of self)) result }
     {
-        let Arguments {
-            choice,
-            options,
-            mut terminal,
-        } = self;
-        let options = match word {
-            "--unicode" => options.unicode(yes),
-            "--color" => options.color(yes),
-            "--links" => options.terminal_links(yes),
-            "--chain" if yes => options.with_cause_chain(),
-            "--chain" => options.without_cause_chain(),
-            "--nested" if yes => options.show_related_errors_as_nested(),
-            "--nested" => options.show_related_errors_as_siblings(),
-            "--wrap" => options.wrap_lines(yes),
-            "--break" => options.break_words(yes),
-            "--hyphens" if yes => options.word_splitter(WordSplitter::HyphenSplitter),
-            "--hyphens" => options.word_splitter(WordSplitter::NoHyphenation),
-            "--end-labels" => options.end_labels(yes),
-            "--term-unicode" => {
-                terminal.unicode = yes;
-                options
-            }
-            "--term-links" => {
-                terminal.hyperlinks = yes;
-                options
-            }
-            _ => return Err(Fault::Usage),
+        self.options = match word {
+            "--unicode" => self.options.unicode(yes),
+            "--color" => self.options.color(yes),
+            "--links" => self.options.terminal_links(yes),
+            "--chain" if yes => self.options.with_cause_chain(),
+            "--chain" => self.options.without_cause_chain(),
+            "--nested" if yes => self.options.show_related_errors_as_nested(),
+            "--nested" => self.options.show_related_errors_as_siblings(),
+            "--wrap" => self.options.wrap_lines(yes),
+            "--break" => self.options.break_words(yes),
+            "--hyphens" if yes => self.options.word_splitter(WordSplitter::HyphenSplitter),
+            "--hyphens" => self.options.word_splitter(WordSplitter::NoHyphenation),
+            "--end-labels" => self.options.end_labels(yes),
+            _ => return self.with_terminal(word, yes),
         };
-        Ok(Arguments {
-            choice,
-            options,
-            terminal,
-        })
+        Ok(self)
+    }
+
+    /// With a word whose value is `yes` or `no`, and which speaks of the terminal.
+    fn with_terminal(mut self, word: &str, yes: bool) -> Result<Arguments, Fault>
+        ensures { AreGiven (table.with_terminal word.now yes (asked_of self)) result }
+    {
+        match word {
+            "--term-unicode" => self.terminal.unicode = yes,
+            "--term-links" => self.terminal.hyperlinks = yes,
+            _ => return Err(Fault::Usage),
+        }
+        Ok(self)
     }
 
     /// With a word whose value is a name.
-    fn with_name(self, alloc: Global, word: &str, name: &str) -> Result<Arguments, Fault>
+    fn with_name(mut self, alloc: Global, word: &str, name: &str) -> Result<Arguments, Fault>
         ensures { AreGiven (table.with_name word.now name.now (asked_of self)) result }
     {
-        let Arguments {
-            choice,
-            options,
-            mut terminal,
-        } = self;
-        let options = match word {
-            "--theme" => options.graphical_theme(theme_named(alloc, name)?),
-            "--rgb" => options.rgb_colors(rgb_named(name).ok_or(Fault::Usage)?),
+        match word {
+            "--theme" => {
+                let theme = theme_named(alloc, name)?;
+                self.options = self.options.graphical_theme(theme);
+            }
+            "--rgb" => {
+                let colors = rgb_named(name).ok_or(Fault::Usage)?;
+                self.options = self.options.rgb_colors(colors);
+            }
             "--highlight" => {
                 let language = language_named(name).ok_or(Fault::Usage)?;
-                options.with_syntax_highlighting(LanguageHighlighter::new(alloc, language)?)
+                let highlighter = LanguageHighlighter::new(alloc, language)?;
+                self.options = self.options.with_syntax_highlighting(highlighter);
             }
-            "--term-color" => {
-                terminal.color = color_named(name).ok_or(Fault::Usage)?;
-                options
-            }
+            "--term-color" => self.terminal.color = color_named(name).ok_or(Fault::Usage)?,
             _ => return Err(Fault::Usage),
-        };
-        Ok(Arguments {
-            choice,
-            options,
-            terminal,
-        })
+        }
+        Ok(self)
     }
 }

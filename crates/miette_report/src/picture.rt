@@ -5,10 +5,9 @@ ghost use Rattle.miette.specs.Diagnostic.{meaning_of};
 ghost use Rattle.miette.specs.Report.{tree_of};
 ghost use Rattle.miette_brief.specs.rules.Report.{brief, unlisted};
 ghost use Rattle.miette_brief.specs.rules.Report.{default_settings as brief_settings};
-ghost use Rattle.miette_graphical.specs.rules.Settings.{default_settings};
 ghost use Rattle.miette_graphical.specs.views.Handling.{without_highlighter};
-ghost use Rattle.miette_style.specs.rules.Themes.{characters_of, styles_of};
-ghost use Rattle.miette_report.specs.views.DrawReports.{over_input, IsPicture};
+ghost use Rattle.miette_style.specs.rules.Themes.{theme_of};
+ghost use Rattle.miette_report.specs.views.DrawReports.{over_input, settings_in, IsPicture};
 ghost use Rattle.miette_report.specs.steps.DrawCalls.{IsReadWhole};
 
 use miette::diagnostic::MietteDiagnostic;
@@ -39,9 +38,7 @@ fn report<D: Diagnostic, S: SourceCode>(
 
 // What draws in this theme, with lines cut at a limit, if there is one.
 fn drawing(theme: GraphicalTheme, limit: Option<usize>) -> GraphicalReportHandler
-    ensures { result ≡ without_highlighter (record
-        (default_settings (characters_of theme.characters) (styles_of theme.styles))
-        { width = 80; line_columns = limit }) }
+    ensures { result ≡ without_highlighter (settings_in (theme_of theme) limit) }
 {
     let handler = GraphicalReportHandler::themed(theme).with_width(WIDTH);
     match limit {

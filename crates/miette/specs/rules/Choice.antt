@@ -9,8 +9,8 @@ use Rattle.miette_style.specs.declared.theme.Terminal.{Terminal}
 use Rattle.miette_brief.specs.rules.Report.{BriefSettings}
 use Rattle.miette_narrated.specs.rules.Report as narrated
 use Rattle.miette_graphical.specs.views.Handling.{Handling}
-use Rattle.miette_graphical.specs.views.Modes.{splits}
-use Rattle.miette_graphical.specs.rules.Settings.{Settings, Urls, default_settings, links_shown}
+use Rattle.miette_graphical.specs.rules.Settings.{Settings, default_settings, links_shown}
+use Rattle.miette_graphical.specs.declared.settings.UrlMode.{UrlMode}
 use Rattle.miette.specs.rules.Options.{Options}
 use Rattle.miette.specs.declared.options.builder.RgbColors.{RgbColors}
 use Rattle.miette.specs.declared.options.builder.RgbColors.TheVariants.{Always, Preferred, Never}
@@ -30,7 +30,7 @@ is_graphical o t =
 abbrev pub chosen_width : {H : Type 0} → Options H → Terminal → ℕ
 chosen_width o t = unwrap_or o.width (unwrap_or t.width 80)
 
-abbrev pub chosen_urls : {H : Type 0} → Options H → Terminal → Urls
+abbrev pub chosen_urls : {H : Type 0} → Options H → Terminal → UrlMode
 chosen_urls o t = links_shown (unwrap_or o.links t.hyperlinks)
 
 abbrev pub takes_colours : {H : Type 0} → Options H → Terminal → Bool
@@ -58,20 +58,13 @@ chosen_highlighter o t = if takes_colours o t then o.highlighter else None
 -- how pictures are drawn
 abbrev pub picture_settings : {H : Type 0} → Options H → Terminal → Settings
 picture_settings o t =
-    record (default_settings (chosen_theme o t).characters (chosen_theme o t).styles) {
-      tab = o.layout.tab_width;
-      context = o.layout.context_lines;
-      primary_start = o.layout.primary_start;
-      end_labels = o.layout.end_labels;
-      label_lines = o.layout.label_lines;
-      line_columns = o.layout.line_columns;
-      wraps = o.wrapping.wrap_lines;
-      breaks = o.wrapping.break_words;
-      hyphens = splits o.wrapping.word_splitter;
+    record (default_settings (chosen_theme o t)) {
+      layout = o.layout;
+      wrapping = o.wrapping;
       width = chosen_width o t;
       urls = chosen_urls o t;
-      chain = o.cause_chain;
-      nested = o.related_as_nested;
+      cause_chain = o.cause_chain;
+      related_as_nested = o.related_as_nested;
       footer = option_map chars o.footer;
     }
 

@@ -1,12 +1,11 @@
 -- What a user may ask for, each option as it was set last. What is nothing is left to the terminal; layout, wrapping,
--- causes and related reports are as a handler has them where they weren't set. The parameter is the type of
--- highlighters.
+-- causes and related reports are as a handler has them where they weren't set. The parameter is the type of highlighters.
 use Rattle.std.specs.Prelude.{ℕ, Bool, true, false, List, Option, None}
+use Rattle.miette_snippet_rules.specs.rules.Defaults.{default_layout}
 use Rattle.miette_snippet_rules.specs.declared.options.LayoutOptions.{LayoutOptions}
 use Rattle.miette_style.specs.rules.Themes.{Theme}
-use Rattle.miette_text.specs.declared.wrap.WordSeparator.TheVariants.{AsciiSpace}
-use Rattle.miette_text.specs.declared.wrap.WordSplitter.TheVariants.{HyphenSplitter}
-use Rattle.miette.specs.declared.options.builder.Wrapping.{Wrapping}
+use Rattle.miette_graphical.specs.rules.Settings.{default_wrapping}
+use Rattle.miette_graphical.specs.declared.settings.Wrapping.{Wrapping}
 use Rattle.miette.specs.declared.options.builder.RgbColors.{RgbColors}
 use Rattle.miette.specs.declared.options.builder.RgbColors.TheVariants.{Never}
 
@@ -26,26 +25,6 @@ pub record Options (H : Type 0) : Type 0 where
   pub related_as_nested : Bool
   pub footer : Option (List ℕ)
   pub highlighter : Option H
-
--- TEMP
-abbrev pub default_layout : LayoutOptions
-default_layout = record {
-  tab_width = 4;
-  context_lines = 1;
-  primary_start = true;
-  end_labels = false;
-  label_lines = None;
-  line_columns = None;
-}
-
--- TEMP
-abbrev pub default_wrapping : Wrapping
-default_wrapping = record {
-  wrap_lines = true;
-  break_words = true;
-  word_separator = AsciiSpace;
-  word_splitter = HyphenSplitter;
-}
 
 abbrev pub no_options : {H : Type 0} → Options H
 no_options = record {

@@ -2,10 +2,11 @@
 
 ghost use Rattle.std.specs.Prelude.{◌≡◌, ◌↔◌, ◌≤◌, IsTrue, None, Some, false, string_bytes, true};
 ghost use Rattle.miette_style.specs.rules.Themes.{theme_of};
-ghost use Rattle.miette.specs.rules.Options.{default_layout, default_wrapping, no_options};
+ghost use Rattle.miette.specs.rules.Options.{no_options};
 
 mod choice;
 
+use miette_graphical::settings::Wrapping;
 use miette_highlight::highlight::Highlighter;
 use miette_snippet_rules::options::LayoutOptions;
 use miette_style::theme::GraphicalTheme;
@@ -31,19 +32,6 @@ pub fn rgb_colors_law()
     ensures cloned { (a b : RgbColors) → ⟦<RgbColors as Clone>⟧.is_clone a b → b ≡ a }
     ensures default { (it : RgbColors) → ⟦<RgbColors as Default>⟧.is_default it → it ≡ RgbColors.Never }
 {}
-
-/// How texts are wrapped.
-#[derive(Clone, Copy, Debug, PartialEq, Eq)]
-pub struct Wrapping {
-    /// Whether rows are wrapped to the width.
-    pub wrap_lines: bool,
-    /// Whether a word that is wider than its row is broken.
-    pub break_words: bool,
-    /// How words are told apart.
-    pub word_separator: WordSeparator,
-    /// Where words may be cut.
-    pub word_splitter: WordSplitter,
-}
 
 /// What a user asks of a handler. An option that is set twice counts as it was set last. Where one isn't set, the
 /// terminal decides what depends on it, and all else is as a handler has it of itself.
@@ -112,8 +100,8 @@ impl<H> Default for MietteHandlerOpts<H> {
             unicode: None,
             color: None,
             rgb_colors: RgbColors::Never,
-            layout: usual_layout(),
-            wrapping: usual_wrapping(),
+            layout: LayoutOptions::default(),
+            wrapping: Wrapping::default(),
             width: None,
             links: None,
             cause_chain: true,
@@ -121,32 +109,6 @@ impl<H> Default for MietteHandlerOpts<H> {
             footer: None,
             highlighter: None,
         }
-    }
-}
-
-/// TEMP
-fn usual_layout() -> LayoutOptions
-    ensures { result ≡ default_layout }
-{
-    LayoutOptions {
-        tab_width: 4,
-        context_lines: 1,
-        primary_start: true,
-        end_labels: false,
-        label_lines: None,
-        line_columns: None,
-    }
-}
-
-/// TEMP
-fn usual_wrapping() -> Wrapping
-    ensures { result ≡ default_wrapping }
-{
-    Wrapping {
-        wrap_lines: true,
-        break_words: true,
-        word_separator: WordSeparator::AsciiSpace,
-        word_splitter: WordSplitter::HyphenSplitter,
     }
 }
 

@@ -125,10 +125,16 @@ with_number word n r =
     else (if bytes_eq word (codes "--term-width") then knows r (record r.facts { width = Some n })
     else with_count word n r))
 
--- where words may be cut, where it is at hyphens or not
+-- where words are cut: at hyphens, or nowhere
 abbrev pub splitter : Bool → WordSplitter
 splitter true = HyphenSplitter
 splitter false = NoHyphenation
+
+-- a word whose value is `yes` or `no`, and which speaks of the terminal
+abbrev pub with_terminal : List ℕ → Bool → JobRequest → Option JobRequest
+with_terminal word on r =
+    if bytes_eq word (codes "--term-unicode") then knows r (record r.facts { unicode = on })
+    else (if bytes_eq word (codes "--term-links") then knows r (record r.facts { hyperlinks = on }) else None)
 
 -- a word whose value is `yes` or `no`
 abbrev pub with_answer : List ℕ → Bool → JobRequest → Option JobRequest
@@ -140,20 +146,16 @@ with_answer word on r =
     else (if bytes_eq word (codes "--chain") then asks r (record o { cause_chain = on })
     else (if bytes_eq word (codes "--nested") then asks r (record o { related_as_nested = on })
     else (if bytes_eq word (codes "--wrap") then asks r (record o { wrapping = record o.wrapping { wrap_lines = on } })
-    else (if bytes_eq word (codes "--break") then asks r (record o
-    { wrapping = record o.wrapping { break_words = on } })
+    else (if bytes_eq word (codes "--break") then asks r (record o { wrapping = record o.wrapping { break_words = on } })
     else (if bytes_eq word (codes "--hyphens")
     then asks r (record o { wrapping = record o.wrapping { word_splitter = splitter on } })
     else (if bytes_eq word (codes "--end-labels")
-    then asks r (record o { layout = record o.layout { end_labels = on } })
-    else (if bytes_eq word (codes "--term-unicode") then knows r (record r.facts { unicode = on })
-    else (if bytes_eq word (codes "--term-links") then knows r (record r.facts { hyperlinks = on }) else None))))))))))
+    then asks r (record o { layout = record o.layout { end_labels = on } }) else with_terminal word on r))))))))
 
 abbrev pub theme_named : List ℕ → Option Theme
 theme_named name =
     if bytes_eq name (codes "ascii") then Some (record { characters = ascii_characters; styles = ansi_styles })
-    else (if bytes_eq name (codes "unicode") then Some (record
-    { characters = unicode_characters; styles = ansi_styles })
+    else (if bytes_eq name (codes "unicode") then Some (record { characters = unicode_characters; styles = ansi_styles })
     else (if bytes_eq name (codes "unicode_nocolor")
     then Some (record { characters = unicode_characters; styles = no_styles })
     else (if bytes_eq name (codes "none") then Some (record { characters = ascii_characters; styles = no_styles })
@@ -204,7 +206,7 @@ with_read word value r =
     (if bytes_eq value (codes "yes") then with_answer word true r
     else (if bytes_eq value (codes "no") then with_answer word false r else with_name word value r))
 
--- a word with the word after it as its value, which of two words is any text
+-- a word with the word after it as its value: of two words that is any text
 abbrev pub with_value : List ℕ → List ℕ → JobRequest → Option JobRequest
 with_value word value r =
     if bytes_eq word (codes "--footer") then asks r (record r.options { footer = Some value })

@@ -4,7 +4,7 @@ use Rattle.miette.specs.Diagnostic.{message_alone}
 use Rattle.miette.specs.Meaning.{Label, Meaning}
 use Rattle.miette.specs.Reading.{named_source, plain_source}
 use Rattle.miette.specs.Tree.{Tree, alone, with_source}
-use Rattle.miette_style.specs.rules.Themes.{no_styles, unicode_characters}
+use Rattle.miette_style.specs.rules.Themes.{Theme, no_styles, unicode_characters}
 use Rattle.miette_graphical.specs.rules.Answers.{unlisted}
 use Rattle.miette_graphical.specs.rules.Settings.{Settings, default_settings}
 use Rattle.miette_graphical.specs.rules.Snippets.{drawn_rows}
@@ -35,9 +35,15 @@ over_input name meaning input = with_source (named_source (plain_source input) n
 abbrev pub drawn_tree : List ℕ → ℕ → ℕ → List ℕ → List ℕ → List ℕ → Tree
 drawn_tree name offset length label message input = over_input name (drawn_meaning offset length label message) input
 
--- in the characters of Unicode, plain, and 80 columns wide, with lines cut at a limit, if there is one
+-- in this theme and 80 columns wide, with lines cut at a limit, if there is one
+abbrev pub settings_in : Theme → Option ℕ → Settings
+settings_in theme limit =
+    let default = default_settings theme in
+    record default { width = 80; layout = record default.layout { line_columns = limit } }
+
+-- in the characters of Unicode, and plain
 abbrev pub draw_settings : Option ℕ → Settings
-draw_settings limit = record (default_settings unicode_characters no_styles) { width = 80; line_columns = limit }
+draw_settings = settings_in (record { characters = unicode_characters; styles = no_styles })
 
 -- the text of a report that is read whole
 abbrev pub IsPicture : Option ℕ → Tree → List ℕ → Type 0

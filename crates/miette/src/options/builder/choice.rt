@@ -1,19 +1,19 @@
 //! From options and a terminal to a handler.
 
-ghost use Rattle.std.specs.Prelude.{◌≡◌, ◌≤◌, IfOk, None, chars, option_map, unwrap_or};
-ghost use Rattle.miette_graphical.specs.views.Modes.{splits};
+ghost use Rattle.std.specs.Prelude.{◌≡◌, IfOk, None};
+ghost use Rattle.miette_graphical.specs.views.SettingsView.{handler_settings};
 ghost use Rattle.miette_style.specs.rules.Themes.{characters_of, styles_of, theme_of};
-ghost use Rattle.miette.specs.rules.Choice.{IsChosen, IsDrawing, chosen_highlighter, chosen_theme, chosen_width};
-ghost use Rattle.miette.specs.rules.Choice.{brief_settings, coloured_styles, fitting_theme, is_graphical};
-ghost use Rattle.miette.specs.rules.Choice.{takes_colours, narration_settings};
+ghost use Rattle.miette.specs.rules.Choice.{IsChosen, IsDrawing, brief_settings, chosen_highlighter, chosen_theme};
+ghost use Rattle.miette.specs.rules.Choice.{chosen_urls, chosen_width, coloured_styles, fitting_theme, is_graphical};
+ghost use Rattle.miette.specs.rules.Choice.{narration_settings, picture_settings, takes_colours};
 
-use crate::options::builder::{MietteHandlerOpts, RgbColors, Wrapping};
+use crate::options::builder::{MietteHandlerOpts, RgbColors};
 use crate::options::handler::MietteHandler;
+use miette_graphical::settings::{Settings, UrlMode};
 use miette_handlers::handlers::{
     BriefReportHandler, GraphicalReportHandler, NarratableReportHandler,
 };
 use miette_highlight::highlight::Highlighter;
-use miette_snippet_rules::options::LayoutOptions;
 use miette_style::theme::{GraphicalTheme, Terminal, ThemeCharacters, ThemeStyles};
 use std::alloc::{AllocError, Global};
 
@@ -43,15 +43,37 @@ impl<H: Highlighter> MietteHandlerOpts<H> {
     {
         let theme = self.take_theme(alloc, terminal)?;
         let highlighter = self.take_highlighter(terminal);
-        let handler = GraphicalReportHandler::themed(theme)
-            .with_width(self.chosen_width(terminal))
-            .with_links(self.shows_links(terminal));
-        let handler = with_layout(self.layout, with_wrapping(self.wrapping, handler));
-        let handler = match highlighter {
-            Some(highlighter) => handler.with_syntax_highlighting(highlighter),
-            None => handler,
-        };
-        Ok(self.with_parts(handler))
+        let settings = self.picture_settings(theme, terminal);
+        Ok(GraphicalReportHandler::with_settings(settings, highlighter))
+    }
+
+    /// How pictures are drawn, with this theme.
+    fn picture_settings(self, theme: GraphicalTheme, terminal: &Terminal) -> Settings
+        ensures settings { handler_settings result
+            ≡ record (picture_settings self terminal.now) { theme = theme_of theme } }
+        ensures layout { result.layout ≡ self.layout }
+    {
+        let width = self.chosen_width(terminal);
+        let urls = self.chosen_urls(terminal);
+        let MietteHandlerOpts {
+            layout,
+            wrapping,
+            cause_chain,
+            related_as_nested,
+            footer,
+            ..
+        } = self;
+        Settings {
+            theme,
+            layout,
+            wrapping,
+            width,
+            urls,
+            link_display_text: None,
+            cause_chain,
+            related_as_nested,
+            footer,
+        }
     }
 
     fn is_graphical(&self, terminal: &Terminal) -> bool
@@ -163,10 +185,14 @@ impl<H: Highlighter> MietteHandlerOpts<H> {
         }
     }
 
-    fn shows_links(&self, terminal: &Terminal) -> bool
-        ensures { result ≡ unwrap_or self.now.links terminal.now.hyperlinks }
+    fn chosen_urls(&self, terminal: &Terminal) -> UrlMode
+        ensures { result ≡ chosen_urls self.now terminal.now }
     {
-        self.links.unwrap_or(terminal.hyperlinks)
+        if self.links.unwrap_or(terminal.hyperlinks) {
+            UrlMode::Links
+        } else {
+            UrlMode::Text
+        }
     }
 
     /// The highlighter that was set, where there are colours; it is then taken out.
@@ -182,113 +208,11 @@ impl<H: Highlighter> MietteHandlerOpts<H> {
         }
     }
 
-    /// With the causes, the related reports and the footer.
-    fn with_parts(self, handler: GraphicalReportHandler<H>) -> GraphicalReportHandler<H>
-        requires { handler.settings.footer ≡ None }
-        ensures { result ≡ record handler {
-          settings = record handler.settings {
-            chain = self.cause_chain;
-            nested = self.related_as_nested;
-            footer = option_map chars self.footer;
-          };
-        } }
-    {
-        let MietteHandlerOpts {
-            cause_chain,
-            related_as_nested,
-            footer,
-            ..
-        } = self;
-        let handler = handler.with_show_related_as_nested(related_as_nested);
-        let handler = if cause_chain {
-            handler.with_cause_chain()
-        } else {
-            handler.without_cause_chain()
-        };
-        match footer {
-            Some(footer) => handler.with_footer(footer),
-            None => handler,
-        }
-    }
-
     fn takes_colours(&self, terminal: &Terminal) -> bool
         ensures { result ≡ takes_colours self.now terminal.now }
     {
         self.color.unwrap_or(terminal.color.is_some())
     }
-}
-
-/// The handler with this layout, in place of the one that it has of itself.
-fn with_layout<H: Highlighter>(
-    layout: LayoutOptions,
-    handler: GraphicalReportHandler<H>,
-) -> GraphicalReportHandler<H>
-    requires tab { 1 ≤ layout.tab_width }
-    requires lines { 1 ≤ unwrap_or layout.label_lines 1 }
-    requires folds { handler.settings.label_lines ≡ None }
-    requires cuts { handler.settings.line_columns ≡ None }
-    ensures { result ≡ record handler {
-      settings = record handler.settings {
-        tab = layout.tab_width;
-        context = layout.context_lines;
-        primary_start = layout.primary_start;
-        end_labels = layout.end_labels;
-        label_lines = layout.label_lines;
-        line_columns = layout.line_columns;
-      };
-    } }
-{
-    let handler = with_flags(layout.primary_start, layout.end_labels, handler);
-    let handler = handler
-        .tab_width(layout.tab_width)
-        .with_context_lines(layout.context_lines);
-    let handler = match layout.label_lines {
-        Some(lines) => handler.with_label_lines(lines),
-        None => handler,
-    };
-    match layout.line_columns {
-        Some(columns) => handler.with_line_columns(columns),
-        None => handler,
-    }
-}
-
-fn with_flags<H: Highlighter>(
-    start: bool,
-    ends: bool,
-    handler: GraphicalReportHandler<H>,
-) -> GraphicalReportHandler<H>
-    ensures { result ≡ record handler {
-      settings = record handler.settings { primary_start = start; end_labels = ends };
-    } }
-{
-    let handler = if start {
-        handler.with_primary_span_start()
-    } else {
-        handler.without_primary_span_start()
-    };
-    if ends {
-        handler.with_end_labels()
-    } else {
-        handler.without_end_labels()
-    }
-}
-
-fn with_wrapping<H: Highlighter>(
-    wrapping: Wrapping,
-    handler: GraphicalReportHandler<H>,
-) -> GraphicalReportHandler<H>
-    ensures { result ≡ record handler {
-      settings = record handler.settings {
-        wraps = wrapping.wrap_lines;
-        breaks = wrapping.break_words;
-        hyphens = splits wrapping.word_splitter;
-      };
-    } }
-{
-    handler
-        .with_wrap_lines(wrapping.wrap_lines)
-        .with_break_words(wrapping.break_words)
-        .with_word_splitter(wrapping.word_splitter)
 }
 
 /// The styles where colours are taken, of a terminal that has 16 million or not.
