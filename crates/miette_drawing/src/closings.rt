@@ -29,22 +29,28 @@ fn closes(line: &LineOfText, label: &PlacedLabel<'_>) -> bool
     ends(line, label) && !starts(line, label)
 }
 
+// A part of a label's text after the corner of the gutter, which has so many columns, and a bar.
+#[derive(Clone, Copy)]
+struct ClosingPart<'a> {
+    columns: usize,
+    bar: char,
+    text: &'a str,
+}
+
 // A row of a text behind the corner of the gutter: `   · │╰─── a label's text`.
 fn push_closed_row<O: Canvas>(
     page: &mut Page<O>,
     context: &LineContext,
-    columns: usize,
     label: &PlacedLabel<'_>,
-    bar: char,
-    part: &str,
+    part: &ClosingPart<'_>,
 ) -> Outcome
     ensures { OnOk result (page.new ≡ page.old
-        ⊕ rows_tokens (closed_line context.now columns (drawn_of label.now) bar (chars part.now)
-        ∷ [])) }
+        ⊕ rows_tokens (closed_line context.now part.now.columns (drawn_of label.now) part.now.bar
+        (chars part.now.text.now) ∷ [])) }
 {
     push_other_start(page, context)?;
-    push_other_gutter(page, context, columns)?;
-    push_part(page, label.style, bar, part)?;
+    push_other_gutter(page, context, part.columns)?;
+    push_part(page, label.style, part.bar, part.text)?;
     Ok(())
 }
 
@@ -109,11 +115,21 @@ fn push_closing<O: Canvas>(
     let characters = &context.frame.settings.theme.characters;
     let (first, rest) = first_part(text);
     let Some(rest) = rest else {
-        push_closed_row(page, context, context.gutter, label, characters.hbar, first)?;
+        let part = ClosingPart {
+            columns: context.gutter,
+            bar: characters.hbar,
+            text: first,
+        };
+        push_closed_row(page, context, label, &part)?;
         return Ok(());
     };
     let columns = context.gutter.saturating_sub(1);
-    push_closed_row(page, context, columns, label, characters.rcross, first)?;
+    let part = ClosingPart {
+        columns,
+        bar: characters.rcross,
+        text: first,
+    };
+    push_closed_row(page, context, label, &part)?;
     push_open_rows(page, context, columns, label, rest)?;
     Ok(())
 }

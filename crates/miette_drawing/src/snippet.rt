@@ -66,6 +66,15 @@ pub struct Drawing<'a> {
     pub spreads: &'a [Spread],
 }
 
+/// A snippet: what its read lent, and the line and column that its frame points to.
+#[derive(Clone, Copy)]
+pub struct Snippet<'a> {
+    /// What its read lent.
+    pub contents: &'a MietteSpanContents<'a>,
+    /// The line and column, both counted from 0; none where it points nowhere.
+    pub place: Option<(usize, usize)>,
+}
+
 /// A sweep over labels, and the offset to which it has come.
 #[derive(Drop)]
 pub struct Passage<'a> {
@@ -221,24 +230,26 @@ fn push_framed<'a, H: Highlighter, O: Canvas>(
     highlighter: &mut Option<H>,
     page: &mut Page<O>,
     sweep: &mut Sweep<'a>,
-    lent: &MietteSpanContents<'_>,
-    place: Option<(usize, usize)>,
+    snippet: &Snippet<'_>,
 ) -> Outcome
     requires sorted { AreSorted drawing.now.placed.now }
-    requires at { IsAt drawing.now.placed.now lent.now.span.offset sweep.old.next sweep.old.running.items }
-    requires small { lent.now.span.offset + length lent.now.bytes < 2 ^ 64 }
-    requires numbered { AreNumbered lent.now drawing.now.spreads.now }
+    requires at { IsAt drawing.now.placed.now snippet.now.contents.now.span.offset sweep.old.next
+        sweep.old.running.items }
+    requires small { snippet.now.contents.now.span.offset + length snippet.now.contents.now.bytes < 2 ^ 64 }
+    requires numbered { AreNumbered snippet.now.contents.now drawing.now.spreads.now }
     ensures rows { OnOk result (PutsSnippet (leaves_plain H.is_blank highlighter.old)
         (AreCallsOn H.may_follow highlighter.old highlighter.new)
-        drawing.now lent.now place page.old page.new) }
+        drawing.now snippet.now page.old page.new) }
     ensures stays { leaves_plain H.is_blank highlighter.new ≡ leaves_plain H.is_blank highlighter.old }
-    ensures at { OnOk result (IsAt drawing.now.placed.now (lent.now.span.offset + length lent.now.bytes) sweep.new.next
+    ensures at { OnOk result (IsAt drawing.now.placed.now
+        (snippet.now.contents.now.span.offset + length snippet.now.contents.now.bytes) sweep.new.next
         sweep.new.running.items) }
 {
-    let start = lent.span().offset();
-    let bytes = lent.data();
-    let before = lent.line();
-    let folds = folds_in(drawing.settings.alloc, lent, drawing.spreads)?;
+    let contents = snippet.contents;
+    let start = contents.span().offset();
+    let bytes = contents.data();
+    let before = contents.line();
+    let folds = folds_in(drawing.settings.alloc, contents, drawing.spreads)?;
     let begun = sweep.copy(drawing.settings.alloc)?;
     let extent = extent_of(bytes, start, &folds, drawing.placed, sweep)?;
     sweep.come_back(begun);
@@ -254,41 +265,45 @@ fn push_framed<'a, H: Highlighter, O: Canvas>(
         bytes,
         folds: &folds,
     };
-    push_top_row(page, &frame, lent.name(), extent.lines > 1, place)?;
+    push_top_row(
+        page,
+        &frame,
+        contents.name(),
+        extent.lines > 1,
+        snippet.place,
+    )?;
     push_lines(drawing, &body, highlighter, page, sweep)?;
     push_bottom_row(page, &frame)?;
     Ok(())
 }
 
-/// The rows of a snippet from what its read lent: its frame, which points to this line and column, and its lines, in
-/// the pieces of the highlighter, which is restarted. The sweep over the labels comes to where the lent bytes end.
-/// `AllocError` where memory is refused, to the highlighter too, or an offset, a line's number or a column is past
-/// the largest `usize`.
+/// The rows of a snippet: its frame, and its lines in the pieces of the highlighter, which is restarted. The sweep over
+/// the labels comes to where the lent bytes end. `AllocError` where memory is refused, to the highlighter too, or an
+/// offset, a line's number or a column is past the largest `usize`.
 pub fn push_snippet<'a, H: Highlighter, O: Canvas>(
     drawing: &Drawing<'a>,
     highlighter: &mut Option<H>,
     page: &mut Page<O>,
     passage: &mut Passage<'a>,
-    lent: &MietteSpanContents<'_>,
-    place: Option<(usize, usize)>,
+    snippet: &Snippet<'_>,
 ) -> Outcome
     requires sorted { AreSorted drawing.now.placed.now }
     requires at { IsAt drawing.now.placed.now passage.old.at passage.old.sweep.next passage.old.sweep.running.items }
-    requires numbered { AreNumbered lent.now drawing.now.spreads.now }
+    requires numbered { AreNumbered snippet.now.contents.now drawing.now.spreads.now }
     ensures rows { OnOk result (PutsSnippet (leaves_plain H.is_blank highlighter.old)
-        (λ calls. AreCallsOn H.may_follow highlighter.old highlighter.new (restarted lent.now ∷ calls)) drawing.now
-        lent.now place page.old page.new) }
+        (λ calls. AreCallsOn H.may_follow highlighter.old highlighter.new (restarted snippet.now.contents.now ∷ calls))
+        drawing.now snippet.now page.old page.new) }
     ensures stays { leaves_plain H.is_blank highlighter.new ≡ leaves_plain H.is_blank highlighter.old }
     ensures at { OnOk result (IsAt drawing.now.placed.now passage.new.at passage.new.sweep.next
         passage.new.sweep.running.items) }
 {
-    let start = lent.span().offset();
-    let Some(end) = start.checked_add(lent.data().len()) else {
+    let start = snippet.contents.span().offset();
+    let Some(end) = start.checked_add(snippet.contents.data().len()) else {
         return Err(AllocError);
     };
     seek(drawing.settings.alloc, drawing.placed, start, passage)?;
-    restart(highlighter, lent);
-    push_framed(drawing, highlighter, page, &mut passage.sweep, lent, place)?;
+    restart(highlighter, snippet.contents);
+    push_framed(drawing, highlighter, page, &mut passage.sweep, snippet)?;
     passage.at = end;
     Ok(())
 }

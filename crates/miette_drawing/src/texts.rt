@@ -81,9 +81,14 @@ fn push_leads<O: Canvas>(
     Ok(())
 }
 
-// The first three characters before a part of a text; the fourth is a space.
+// A part of a mark's text, after the characters that lead to it and a space: `╰── a label's text`.
 #[derive(Clone, Copy)]
-struct Front(char, char, char);
+struct TextPart<'a> {
+    corner: char,
+    line: char,
+    end: char,
+    text: &'a str,
+}
 
 // A row of a text: `   ·   │ ╰── a label's text`.
 fn push_text_row<O: Canvas>(
@@ -91,21 +96,20 @@ fn push_text_row<O: Canvas>(
     context: &LineContext,
     earlier: &[Mark<'_>],
     mark: &Mark<'_>,
-    front: Front,
-    part: &str,
+    part: &TextPart<'_>,
 ) -> Outcome
     requires earlier { All IsAnchored earlier.now }
     requires own { IsAnchored mark.now }
     ensures { OnOk result (page.new ≡ page.old
         ⊕ rows_tokens (text_line context.now (map mark_of earlier.now)
-        (mark_of mark.now) (front.0 ∷ front.1 ∷ front.2 ∷ 32 ∷ []) (chars part.now) ∷ [])) }
+        (mark_of mark.now) (part.now.corner ∷ part.now.line ∷ part.now.end ∷ 32 ∷ []) (chars part.now.text.now) ∷ [])) }
 {
     push_before_marks(page, context)?;
     push_leads(page, context, earlier, mark.anchor)?;
-    page.push_line(mark.label.style, front.0, front.1, 1)?;
-    page.push(front.2)?;
+    page.push_line(mark.label.style, part.corner, part.line, 1)?;
+    page.push(part.end)?;
     page.push(' ')?;
-    page.push_str(part)?;
+    page.push_str(part.text)?;
     page.end_row()?;
     Ok(())
 }
@@ -125,11 +129,17 @@ fn push_more_parts<O: Canvas>(
         (beside (settings context.now).theme.characters))
         (cut_at_lf (chars text.now)))) }
 {
-    let front = Front(' ', ' ', context.frame.settings.theme.characters.vbar);
+    let vbar = context.frame.settings.theme.characters.vbar;
     let mut left = Some(text);
     while let Some(text) = left {
-        let (part, rest) = first_part(text);
-        push_text_row(page, context, earlier, mark, front, part)?;
+        let (text, rest) = first_part(text);
+        let part = TextPart {
+            corner: ' ',
+            line: ' ',
+            end: vbar,
+            text,
+        };
+        push_text_row(page, context, earlier, mark, &part)?;
         left = rest;
     }
     Ok(())
@@ -156,12 +166,22 @@ fn push_text<O: Canvas>(
     let characters = &context.frame.settings.theme.characters;
     let (first, rest) = first_part(text);
     let Some(rest) = rest else {
-        let front = Front(characters.lbot, characters.hbar, characters.hbar);
-        push_text_row(page, context, earlier, mark, front, first)?;
+        let part = TextPart {
+            corner: characters.lbot,
+            line: characters.hbar,
+            end: characters.hbar,
+            text: first,
+        };
+        push_text_row(page, context, earlier, mark, &part)?;
         return Ok(());
     };
-    let front = Front(characters.lbot, characters.hbar, characters.rcross);
-    push_text_row(page, context, earlier, mark, front, first)?;
+    let part = TextPart {
+        corner: characters.lbot,
+        line: characters.hbar,
+        end: characters.rcross,
+        text: first,
+    };
+    push_text_row(page, context, earlier, mark, &part)?;
     push_more_parts(page, context, earlier, mark, rest)?;
     Ok(())
 }

@@ -11,7 +11,7 @@ ghost use Rattle.miette_labels.specs.views.Placing.{told_end};
 ghost use Rattle.miette_labels.specs.views.Reads.{IsRead, name_of as name_of_reason};
 
 use miette_drawing::frame::{Frame, push_refused_row};
-use miette_drawing::snippet::{Drawing, Passage, push_snippet};
+use miette_drawing::snippet::{Drawing, Passage, Snippet, push_snippet};
 use miette_folds::spreads::spreads;
 use miette_highlight::highlight::Highlighter;
 use miette_labels::drawn_labels::{placed_labels, told_end};
@@ -88,14 +88,11 @@ fn read_snippets<'a, 'b, S: SourceCode, H: Highlighter, O: Canvas + Drop>(
         if place.is_unread() {
             return Ok(None);
         }
-        push_snippet(
-            &drawing,
-            highlighter,
-            &mut page,
-            &mut passage,
-            &group.contents,
-            place.begins(),
-        )?;
+        let snippet = Snippet {
+            contents: &group.contents,
+            place: place.begins(),
+        };
+        push_snippet(&drawing, highlighter, &mut page, &mut passage, &snippet)?;
     }
     Ok(Some(page))
 }

@@ -10,6 +10,7 @@ use Rattle.miette_labels.specs.rules.Answers.{Highlight}
 use Rattle.miette_cells.specs.rules.Cells.{Cell, characters, cells_from}
 use Rattle.miette_labels.specs.rules.Contexts.{lines_of_contents}
 use Rattle.miette_drawing.specs.declared.snippet.Drawing.{Drawing}
+use Rattle.miette_drawing.specs.declared.snippet.Snippet.{Snippet}
 use Rattle.miette_folds.specs.views.Spreads.{spread_of}
 use Rattle.miette_snippet_rules.specs.views.SettingsView.{settings_of}
 use Rattle.miette_labels.specs.views.GivenLabels.{drawn_of}
@@ -58,10 +59,10 @@ pub record PutsRows (blank : Bool) (happen : List Call → Type 0) (texts : List
   pub calls : happen (line_calls texts pieces)
   pub is : after ≡ before ⊕ rows_tokens (rows pieces)
 
--- The same of a snippet: its frame points to this line and column, and a highlighter is given the texts of its lines.
-abbrev pub PutsSnippet : Bool → (List Call → Type 0) → Drawing → Contents → Option (ℕ × ℕ) → Printout → Printout →
-    Type 0
-PutsSnippet blank happen drawing lent place before after =
-    PutsRows blank happen (texts_in lent.span.offset lent.bytes (lines_of_contents lent))
+-- The same of a snippet: a highlighter is given the texts of its lines.
+abbrev pub PutsSnippet : Bool → (List Call → Type 0) → Drawing → Snippet → Printout → Printout → Type 0
+PutsSnippet blank happen drawing snippet before after =
+    PutsRows blank happen
+    (texts_in snippet.contents.now.span.offset snippet.contents.now.bytes (lines_of_contents snippet.contents.now))
     (lent_snippet (settings_of drawing.settings) (map spread_of drawing.spreads.now)
-    (map drawn_of drawing.placed.now) lent (option_map place_at place)) before after
+    (map drawn_of drawing.placed.now) snippet.contents.now (option_map place_at snippet.place)) before after

@@ -12,7 +12,7 @@ returns g c =
     closed_put (settings c.args.context.now) (other_start (settings c.args.context.now)
     c.args.context.now.frame.number_width)
     (other_gutter (settings c.args.context.now) (line_of_text c.args.context.now.line)
-    c.args.columns (multi_labels c.args.context.now))
-    (drawn_of c.args.label.now) c.args.bar (chars c.args.part.now)
+    c.args.part.now.columns (multi_labels c.args.context.now))
+    (drawn_of c.args.label.now) c.args.part.now.bar (chars c.args.part.now.text.now)
     c.args.page.now c.push_other_start.new.page c.push_other_gutter.new.page c.push_part.new.page
     c.in_ok-push_other_start.ensures c.in_ok-push_other_gutter.ensures c.in_ok-push_part.ensures

@@ -12,14 +12,14 @@ use Rattle.miette_drawing.proofs.snippet.push_framed.Goals as goal
 
 pub extent_of-requires-clause-at : goal.extent_of-requires-clause-at
 extent_of-requires-clause-at g c =
-    let at : c.offset-start.result ≡ c.args.lent.now.span.offset = c.offset-start.ensures
+    let at : c.offset-start.result ≡ c.args.snippet.now.contents.now.span.offset = c.offset-start.ensures
     ∙ ap (λ s. s.offset) c.span.ensures in
     subst (λ (n : ℕ). IsAt c.args.drawing.now.placed.now n c.args.sweep.now.next c.args.sweep.now.running.items)
     (sym at) c.requires.at
 
 pub push_lines-requires-clause-at : goal.push_lines-requires-clause-at
 push_lines-requires-clause-at g c =
-    let at : c.offset-start.result ≡ c.args.lent.now.span.offset = c.offset-start.ensures
+    let at : c.offset-start.result ≡ c.args.snippet.now.contents.now.span.offset = c.offset-start.ensures
     ∙ ap (λ s. s.offset) c.span.ensures in
     rw (
       c.come_back.ensures.next,
@@ -33,27 +33,27 @@ push_lines-requires-clause-at g c =
 pub extent_of-requires-clause-folds : goal.extent_of-requires-clause-folds
 extent_of-requires-clause-folds g c =
     let spreads = c.args.drawing.now.spreads.now in
-    let at : c.args.lent.now.span.offset ≡ c.offset-start.result =
+    let at : c.args.snippet.now.contents.now.span.offset ≡ c.offset-start.result =
     sym (c.offset-start.ensures ∙ ap (λ s. s.offset) c.span.ensures) in
     record {
       labels = c.args.drawing.now.spreads.now;
-      are = c.deref.ensures.value ∙ c.in_ok-folds.ensures ∙ ap (λ n. map (fold_in n c.args.lent.now.bytes) spreads) at
+      are = c.deref.ensures.value ∙ c.in_ok-folds.ensures ∙ ap (λ n. map (fold_in n c.args.snippet.now.contents.now.bytes) spreads) at
           ∙ ap (λ bs. map (fold_in c.offset-start.result bs) spreads) (sym c.data-bytes.ensures);
     }
 
 pub push_lines-requires-clause-folds : goal.push_lines-requires-clause-folds
 push_lines-requires-clause-folds g c =
     let spreads = c.args.drawing.now.spreads.now in
-    let at : c.args.lent.now.span.offset ≡ c.offset-start.result =
+    let at : c.args.snippet.now.contents.now.span.offset ≡ c.offset-start.result =
     sym (c.offset-start.ensures ∙ ap (λ s. s.offset) c.span.ensures) in
-    c.deref-2.ensures.value ∙ c.in_ok-folds.ensures ∙ ap (λ n. map (fold_in n c.args.lent.now.bytes) spreads) at
+    c.deref-2.ensures.value ∙ c.in_ok-folds.ensures ∙ ap (λ n. map (fold_in n c.args.snippet.now.contents.now.bytes) spreads) at
     ∙ ap (λ bs. map (fold_in c.offset-start.result bs) spreads) (sym c.data-bytes.ensures)
 
 pub returns-clause-rows : goal.returns-clause-rows
 returns-clause-rows g c =
     told_lent (settings_of c.args.drawing.now.settings) (map spread_of c.args.drawing.now.spreads.now)
     c.args.drawing.now.placed.now
-    c.args.lent.now (option_map place_at c.args.place) (leaves_plain g.H.Highlighter.is_blank c.args.highlighter.now)
+    c.args.snippet.now.contents.now (option_map place_at c.args.snippet.now.place) (leaves_plain g.H.Highlighter.is_blank c.args.highlighter.now)
     (λ calls. Leads (follows g.H.Highlighter.may_follow c.args.highlighter.now) calls
     (follows g.H.Highlighter.may_follow c.push_lines.new.highlighter))
     c.in_ok-number_width.field-0 c.in_ok-gutter_width.field-0 c.in_ok-extent.extent.lines c.in_ok-extent.extent.most

@@ -19,7 +19,7 @@ push_framed-requires-clause-at g c =
 
 pub returns-clause-rows : goal.returns-clause-rows
 returns-clause-rows g c =
-    let lent = c.args.lent.now in
+    let lent = c.args.snippet.now.contents.now in
     let drawing = c.args.drawing.now in
     let had : List Call → Type 0 = follows g.H.Highlighter.may_follow c.args.highlighter.now in
     let begun : List Call → Type 0 = follows g.H.Highlighter.may_follow c.restart.new.highlighter in
@@ -27,18 +27,18 @@ returns-clause-rows g c =
     let rows = c.in_ok-push_framed.ensures.rows in
     subst (λ b. PutsRows b (λ calls. Leads had (restarted lent ∷ calls) now) (lent_texts lent)
     (lent_snippet (settings_of drawing.settings) (map spread_of drawing.spreads.now)
-    (map drawn_of drawing.placed.now) lent (option_map place_at c.args.place)) c.args.page.now
+    (map drawn_of drawing.placed.now) lent (option_map place_at c.args.snippet.now.place)) c.args.page.now
     c.push_framed.new.page)
     c.restart.ensures.stays (restarted_first (leaves_plain g.H.Highlighter.is_blank c.restart.new.highlighter) had begun
     now (lent_texts lent) (lent_snippet (settings_of drawing.settings)
     (map spread_of drawing.spreads.now) (map drawn_of drawing.placed.now) lent
-    (option_map place_at c.args.place)) lent c.args.page.now c.push_framed.new.page c.restart.ensures.calls rows)
+    (option_map place_at c.args.snippet.now.place)) lent c.args.page.now c.push_framed.new.page c.restart.ensures.calls rows)
 
 pub returns-clause-at : goal.returns-clause-at
 returns-clause-at g c =
-    let e : c.args.lent.now.span.offset + length c.args.lent.now.bytes ≡ c.in-Some.end =
+    let e : c.args.snippet.now.contents.now.span.offset + length c.args.snippet.now.contents.now.bytes ≡ c.in-Some.end =
     sym (c.in-Some.ensures.1 ∙ ap (λ n. n + length c.data.result.now)
     (c.offset-start.ensures ∙ ap (λ s. s.offset) c.span.ensures)
-    ∙ ap (λ b. c.args.lent.now.span.offset + length b) c.data.ensures) in
+    ∙ ap (λ b. c.args.snippet.now.contents.now.span.offset + length b) c.data.ensures) in
     subst (λ (n : ℕ). IsAt c.args.drawing.now.placed.now n c.push_framed.new.sweep.next
     c.push_framed.new.sweep.running.items) e c.in_ok-push_framed.ensures.at

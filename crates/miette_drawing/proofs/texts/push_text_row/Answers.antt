@@ -11,7 +11,7 @@ returns g c =
     text_put (settings c.args.context.now) (before_marks c.args.context.now)
     (map mark_of c.args.earlier.now)
     (mark_of c.args.mark.now)
-    c.args.mark.now.anchor c.args.front.0 c.args.front.1 c.args.front.2 (chars c.args.part.now)
+    c.args.mark.now.anchor c.args.part.now.corner c.args.part.now.line c.args.part.now.end (chars c.args.part.now.text.now)
     c.args.page.now c.push_before_marks.new.page c.push_leads.new.page c.push_line.new.self c.push.new.self
     c.push-2.new.self c.push_str.new.self c.end_row.new.self
     refl c.in_ok-push_before_marks.ensures c.in_ok-push_leads.ensures c.in_ok-push_line.ensures c.in_ok-push.ensures
