@@ -8,7 +8,8 @@ use Rattle.std.specs.Str.Parse.{AllDigits, digits_value}
 use Rattle.std.proofs.lemmas.Bool.{eqb-true, lt-ltb, ltb-true, false_from_ne_true}
 use Rattle.std.proofs.lemmas.Slice.Eq.{bytes_eq-Decides}
 use Rattle.std.proofs.lemmas.Str.Parse.{tells_all_ascii_digits, tells_digits}
-use Rattle.miette_report.specs.rules.OptionWords.{JobRequest, read_number, with_answer, with_name, with_number, with_read}
+use Rattle.miette_report.specs.rules.OptionWords.{JobRequest, read_number, with_answer, with_name, with_number}
+use Rattle.miette_report.specs.rules.OptionWords.{with_read}
 use Rattle.miette_report.specs.rules.OptionWords.{with_value, with_words, with_words_after}
 use Rattle.miette_report.specs.rules.Words.{IsReadAs}
 use Rattle.miette_report.specs.steps.AskedWords.{AreGiven}

@@ -1,5 +1,6 @@
 -- What a user may ask for, each option as it was set last. What is nothing is left to the terminal; layout, wrapping,
--- causes and related reports are as a handler has them where they weren't set. The parameter is the type of highlighters.
+-- causes and related reports are as a handler has them where they weren't set. The parameter is the type of
+-- highlighters.
 use Rattle.std.specs.Prelude.{ℕ, Bool, true, false, List, Option, None}
 use Rattle.miette_snippet_rules.specs.rules.Defaults.{default_layout}
 use Rattle.miette_snippet_rules.specs.declared.options.LayoutOptions.{LayoutOptions}

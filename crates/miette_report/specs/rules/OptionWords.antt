@@ -146,7 +146,8 @@ with_answer word on r =
     else (if bytes_eq word (codes "--chain") then asks r (record o { cause_chain = on })
     else (if bytes_eq word (codes "--nested") then asks r (record o { related_as_nested = on })
     else (if bytes_eq word (codes "--wrap") then asks r (record o { wrapping = record o.wrapping { wrap_lines = on } })
-    else (if bytes_eq word (codes "--break") then asks r (record o { wrapping = record o.wrapping { break_words = on } })
+    else (if bytes_eq word (codes "--break")
+    then asks r (record o { wrapping = record o.wrapping { break_words = on } })
     else (if bytes_eq word (codes "--hyphens")
     then asks r (record o { wrapping = record o.wrapping { word_splitter = splitter on } })
     else (if bytes_eq word (codes "--end-labels")
@@ -155,7 +156,8 @@ with_answer word on r =
 abbrev pub theme_named : List ℕ → Option Theme
 theme_named name =
     if bytes_eq name (codes "ascii") then Some (record { characters = ascii_characters; styles = ansi_styles })
-    else (if bytes_eq name (codes "unicode") then Some (record { characters = unicode_characters; styles = ansi_styles })
+    else (if bytes_eq name (codes "unicode")
+    then Some (record { characters = unicode_characters; styles = ansi_styles })
     else (if bytes_eq name (codes "unicode_nocolor")
     then Some (record { characters = unicode_characters; styles = no_styles })
     else (if bytes_eq name (codes "none") then Some (record { characters = ascii_characters; styles = no_styles })
