@@ -18,7 +18,8 @@ use Rattle.miette_tree.specs.rules.DiagnosticParts.{given_labels}
 use Rattle.miette_tree.specs.rules.Reads.{always_reads}
 use Rattle.miette_graphical.specs.rules.PrintedDiagnostics.{all_read, diagnostics_of, printed_causes, printed_related}
 use Rattle.miette_graphical.specs.rules.Snippets.{snippet_settings}
-use Rattle.miette_graphical.specs.rules.Text.{ends_there, are_last, only_if, body, inner_text, causes_text}
+use Rattle.miette_graphical.specs.rules.Text.{ends_there, are_last, only_if, inner_text, causes_text, body_over}
+use Rattle.miette_graphical.specs.rules.Text.{drawn_text}
 use Rattle.miette_graphical.specs.rules.Text.{related_text, report_text}
 use Rattle.miette_graphical.specs.rules.PossibleAnswers.{IsAnswerOf, AreCauseAnswers, AreRelatedAnswers, AreAnswers}
 use Rattle.miette_graphical.proofs.Lists.{both_read}
@@ -76,9 +77,10 @@ mutual
       ap₂ (λ x y. x ++ y)
       (if_same s.related_as_nested _ _ _ _
       (λ y. absurd (cc))
-      (λ y. ap (λ x. title_text s m ++ body rows s m source x (causes_text rows s m.severity source c (cause_answers a))
+      (λ y. ap (λ x. title_text s m ++ body_over s m (drawn_text rows s m source x)
+      (causes_text rows s m.severity source c (cause_answers a))
       (related_text rows s m.severity source r (related_answers a))) (unlisted_here h.0 q.0)
-      ∙ ap₂ (λ x y. title_text s m ++ body rows s m source nothing_listed x y)
+      ∙ ap₂ (λ x y. title_text s m ++ body_over s m (drawn_text rows s m source nothing_listed) x y)
       (same-causes l rows s m.severity source c (cause_answers a) false w h.1 o.0)
       (same-related l rows s m.severity source r (related_answers a) false w h.2 o.1)))
       (same-related l rows s outer inherited ts (later_answers more) false w h.3 p.1)

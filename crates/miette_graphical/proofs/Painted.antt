@@ -12,9 +12,6 @@ pub keeps_on : {H : Type 0} (is_blank : H → Bool) (old mid new : Painter H) �
     → Keeps is_blank mid new → Keeps is_blank old new
 keeps_on is_blank old mid new k m = (m.0 ∙ k.0, m.1 ∙ k.1)
 
-pub prints_on : {H : Type 0} (old mid new : Painter H) → PrintsOnly old mid → PrintsOnly mid new → PrintsOnly old new
-prints_on old mid new k m = (m.0 ∙ k.0, m.1 ∙ k.1)
-
 pub only_kept : {H : Type 0} (is_blank : H → Bool) (old new : Painter H) → PrintsOnly old new → Keeps is_blank old new
 only_kept is_blank old new e = (e.0, ap (leaves_plain is_blank) e.1)
 

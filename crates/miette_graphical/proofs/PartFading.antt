@@ -22,7 +22,7 @@ use Rattle.miette_graphical.specs.rules.DiagnosticText.{footer_of, line_feed, he
 use Rattle.miette_graphical.specs.rules.DiagnosticText.{help_text, footer_text, under_arrow, header_or_end, title_text}
 use Rattle.miette_graphical.specs.rules.DiagnosticText.{SnippetRows, rows_text}
 use Rattle.miette_tree.specs.rules.DiagnosticParts.{given_labels, severity_title}
-use Rattle.miette_graphical.specs.rules.Text.{cause_texts, body, inner_text}
+use Rattle.miette_graphical.specs.rules.Text.{cause_texts, inner_text, body_over, drawn_text}
 use Rattle.miette_tree.specs.rules.Tree.{effective}
 use Rattle.std.specs.List.{AllByRecursion}
 use Rattle.miette_snippet_laws.specs.laws.Clean.{IsClean, IsCleanText, IsCleanLabel, IsCleanSource}
@@ -245,7 +245,8 @@ module _ (laws : TextLaws) where
       → (s : Settings) (m : Meaning) (source : Option Source) (a : Answer) (causes causes2 related related2 : List ℕ) →
       AreCleanSettings s → IsCleanMeaning m → IfSome source IsCleanSource → Fades causes causes2
       → Fades related related2 →
-      Fades (body rows s m source a causes related) (body rows (colourless s) m source (unhighlighted_answer a) causes2
+      Fades (body_over s m (drawn_text rows s m source a) causes related)
+      (body_over (colourless s) m (drawn_text rows (colourless s) m source (unhighlighted_answer a)) causes2
       related2)
   fades-body rows law s m source a causes causes2 related related2 h k j p q =
       let ls = given_labels m.labels in
@@ -271,9 +272,11 @@ module _ (laws : TextLaws) where
       Fades (inner_text rows s m source a related) (inner_text rows (colourless s) m source (unhighlighted_answer a)
       related2)
   fades-inner rows law s m source a related related2 h k j q =
-      fades-leading laws (print (header s m) ++ body rows s m source a [] related)
-      (print (header (colourless s) m) ++ body rows (colourless s) m source (unhighlighted_answer a) [] related2)
-      (fades-append laws (print (header s m)) (print (header (colourless s) m)) (body rows s m source a [] related)
-      (body rows (colourless s) m source (unhighlighted_answer a) [] related2)
+      fades-leading laws (print (header s m) ++ body_over s m (drawn_text rows s m source a) [] related)
+      (print (header (colourless s) m) ++ body_over (colourless s) m
+      (drawn_text rows (colourless s) m source (unhighlighted_answer a)) [] related2)
+      (fades-append laws (print (header s m)) (print (header (colourless s) m))
+      (body_over s m (drawn_text rows s m source a) [] related)
+      (body_over (colourless s) m (drawn_text rows (colourless s) m source (unhighlighted_answer a)) [] related2)
       (fades-header s m h k) (fades-body rows law s m source a [] [] related related2 h k j (fades-clean laws [] refl)
       q))

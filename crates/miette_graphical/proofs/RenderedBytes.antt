@@ -1,7 +1,7 @@
 -- What is known of the bytes that a handler appended for a tree.
 use Rattle.std.proofs.Common.{◌≡◌, ◌∙◌, ap, subst, ℕ, Bool, true, List, ◌++◌, Result, Ok, Err, OnOk, encode_utf8_all}
 use Rattle.miette_highlight.specs.rules.HighlighterCalls.{Call}
-use Rattle.miette_graphical.specs.rules.PossibleAnswers.{Appends, AppendsAsked, IsReport, IsTextOf}
+use Rattle.miette_graphical.specs.rules.PossibleAnswers.{Appends, IsAskedText, IsReport, IsTextOf}
 use Rattle.miette_graphical.specs.rules.Answers.{unlisted}
 use Rattle.miette_graphical.specs.rules.PrintedDiagnostics.{all_read, diagnostics_of}
 use Rattle.miette_graphical.specs.rules.Settings.{Settings}
@@ -17,7 +17,7 @@ use Rattle.miette_graphical.proofs.Only.{same-report}
 
 -- by whatever calls
 pub unasked : (s : Settings) (blank : Bool) (happen : List Call → Type 0) (t : Tree) (old new : List ℕ)
-    → AppendsAsked drawn_rows s blank happen t old new → Appends drawn_rows s blank t old new
+    → AppendsOne (IsAskedText drawn_rows s blank happen t) old new → Appends drawn_rows s blank t old new
 unasked s blank happen t old new ok =
     let given = ok.is_given.1 in record {
       text = ok.text;
@@ -26,7 +26,7 @@ unasked s blank happen t old new ok =
     }
 
 pub rendered-ok : {A E : Type 0} (r : Result A E) (s : Settings) (blank : Bool) (happen : List Call → Type 0) (t : Tree)
-    (old new : List ℕ) → OnOk r (AppendsAsked drawn_rows s blank happen t old new)
+    (old new : List ℕ) → OnOk r (AppendsOne (IsAskedText drawn_rows s blank happen t) old new)
     → OnOk r (Appends drawn_rows s blank t old new)
 rendered-ok (Err e) s blank happen t old new ok = tt
 rendered-ok (Ok x) s blank happen t old new ok = unasked s blank happen t old new ok

@@ -12,7 +12,8 @@ use Rattle.miette_graphical.specs.rules.Answers.{Answer, Answers, RelatedAnswers
 use Rattle.miette_graphical.specs.rules.Answers.{related_answers, first_answers, later_answers}
 use Rattle.miette_graphical.specs.rules.Indents.{narrow_settings}
 use Rattle.miette_graphical.specs.rules.DiagnosticText.{SnippetRows, header, footer_text, under_arrow, title_text}
-use Rattle.miette_graphical.specs.rules.Text.{ends_there, are_last, only_if, body, inner_text, causes_text}
+use Rattle.miette_graphical.specs.rules.Text.{ends_there, are_last, only_if, inner_text, causes_text, body_over}
+use Rattle.miette_graphical.specs.rules.Text.{drawn_text}
 use Rattle.miette_graphical.specs.rules.Text.{related_text, report_text}
 use Rattle.miette_tree.specs.rules.Tree.{effective}
 use Rattle.miette_snippet_laws.specs.laws.Clean.{IsCleanSource}
@@ -57,7 +58,7 @@ module _ (laws : TextLaws) where
   report-end : (rows : SnippetRows) (s : Settings) (m : Meaning) (own : Option Source) (c : Cause) (r : Trees)
       (a : Answers) →
       print (header (colourless s) m)
-      ++ body rows (colourless s) m own (unhighlighted_answer (own_answer a))
+      ++ body_over (colourless s) m (drawn_text rows (colourless s) m own (unhighlighted_answer (own_answer a)))
       (only_if s.cause_chain (causes_text rows (colourless s) m.severity own c
       (unhighlighted_answers (cause_answers a))))
       (related_text rows (colourless s) m.severity own r (unhighlighted_related_answers (related_answers a)))
@@ -66,7 +67,7 @@ module _ (laws : TextLaws) where
   report-end rows s m own c r a =
       let f = λ (o : Answer) (below : Answers) (beside : RelatedAnswers).
       print (header (colourless s) m)
-      ++ body rows (colourless s) m own o (only_if s.cause_chain
+      ++ body_over (colourless s) m (drawn_text rows (colourless s) m own o) (only_if s.cause_chain
       (causes_text rows (colourless s) m.severity own c below))
       (related_text rows (colourless s) m.severity own r beside)
       ++ footer_text (colourless s) in
@@ -81,8 +82,8 @@ module _ (laws : TextLaws) where
       (own_answer (unhighlighted_answers (first_answers more)))
       (related_text rows (narrow_settings (colourless s) outer (are_last ts)) m.severity source r
       (related_answers (unhighlighted_answers (first_answers more))))))
-      else title_text (colourless s) m ++ body rows (colourless s) m source
-      (unhighlighted_answer (own_answer (first_answers more)))
+      else title_text (colourless s) m ++ body_over (colourless s) m
+      (drawn_text rows (colourless s) m source (unhighlighted_answer (own_answer (first_answers more))))
       (causes_text rows (colourless s) m.severity source c (unhighlighted_answers (cause_answers (first_answers more))))
       (related_text rows (colourless s) m.severity source r
       (unhighlighted_related_answers (related_answers (first_answers more)))))
@@ -93,8 +94,8 @@ module _ (laws : TextLaws) where
       (own_answer (first_answers (unhighlighted_related_answers more)))
       (related_text rows (narrow_settings (colourless s) outer (are_last ts)) m.severity source r
       (related_answers (first_answers (unhighlighted_related_answers more))))))
-      else title_text (colourless s) m ++ body rows (colourless s) m source
-      (own_answer (first_answers (unhighlighted_related_answers more)))
+      else title_text (colourless s) m ++ body_over (colourless s) m
+      (drawn_text rows (colourless s) m source (own_answer (first_answers (unhighlighted_related_answers more))))
       (causes_text rows (colourless s) m.severity source c
       (cause_answers (first_answers (unhighlighted_related_answers more))))
       (related_text rows (colourless s) m.severity source r
@@ -108,7 +109,7 @@ module _ (laws : TextLaws) where
       (own_answer nested)
       (related_text rows (narrow_settings (colourless s) outer (are_last ts)) m.severity source r
       (related_answers nested))))
-      else title_text (colourless s) m ++ body rows (colourless s) m source o
+      else title_text (colourless s) m ++ body_over (colourless s) m (drawn_text rows (colourless s) m source o)
       (causes_text rows (colourless s) m.severity source c below)
       (related_text rows (colourless s) m.severity source r beside))
       ++ related_text rows (colourless s) outer inherited ts later in

@@ -29,7 +29,8 @@ use Rattle.miette_snippet_rules.specs.rules.SnippetLayout.{settings_around}
 use Rattle.miette_tree.specs.rules.DiagnosticParts.{given_labels}
 use Rattle.miette_tree.specs.rules.Tree.{Tree, tree, Cause, diagnostic, texts, Trees, no_trees, more_trees, effective}
 use Rattle.miette_tree.specs.rules.Reads.{always_reads}
-use Rattle.miette_graphical.specs.rules.PossibleAnswers.{AppendsAsked, AreAnswers, AreCauseAnswers, AreRelatedAnswers}
+use Rattle.miette_tree.specs.views.Handler.{AppendsOne}
+use Rattle.miette_graphical.specs.rules.PossibleAnswers.{IsAskedText, AreAnswers, AreCauseAnswers, AreRelatedAnswers}
 use Rattle.miette_graphical.specs.rules.Answers.{Answer, Answers, RelatedAnswers, pieces_listed, own_answer}
 use Rattle.miette_graphical.specs.rules.Answers.{cause_answers, related_answers, first_answers, later_answers}
 use Rattle.miette_graphical.specs.rules.ByLine.{answers_by, causes_by, labels_by, own_by, related_by}
@@ -240,7 +241,7 @@ report_text_by f s blank (tree m own c r) a h e b =
 -- ---- what was appended
 
 stateless-text : (s : Settings) (blank : Bool) (before after : List Call → Type 0) (t : Tree) (old new : List ℕ)
-    → AppendsAsked drawn_rows s blank (λ calls. Leads before calls after) t old new
+    → AppendsOne (IsAskedText drawn_rows s blank (λ calls. Leads before calls after) t) old new
     → (f : List ℕ → List Piece) → ((calls : List Call) → before calls → AnsweredBy f calls) → after []
     → all_read (diagnostics_of s t) ≡ true
     → new ≡ old ++ encode_utf8_all (report_text drawn_rows s t (answers_by f s.layout.context_lines t))
@@ -253,7 +254,7 @@ stateless-text s blank before after t old new ok f by over reads =
 
 pub rendered-stateless : {A E : Type 0} (r : Result A E) (s : Settings) (blank : Bool)
     (before after : List Call → Type 0) (t : Tree) (old new : List ℕ)
-    → OnOk r (AppendsAsked drawn_rows s blank (λ calls. Leads before calls after) t old new)
+    → OnOk r (AppendsOne (IsAskedText drawn_rows s blank (λ calls. Leads before calls after) t) old new)
     → OnOk r ((f : List ℕ → List Piece) → ((calls : List Call) → before calls → AnsweredBy f calls) → after []
     → all_read (diagnostics_of s t) ≡ true
     → new ≡ old ++ encode_utf8_all (report_text drawn_rows s t (answers_by f s.layout.context_lines t)))

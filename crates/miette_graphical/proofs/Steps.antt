@@ -17,7 +17,7 @@ use Rattle.miette_graphical.specs.rules.Indents.{narrow_settings}
 use Rattle.miette_graphical.specs.rules.DiagnosticText.{rows_text, under_arrow, header, message_text}
 use Rattle.miette_graphical.specs.rules.DiagnosticText.{help_text, footer_text, title_text}
 use Rattle.miette_tree.specs.rules.DiagnosticParts.{given_labels}
-use Rattle.miette_graphical.specs.rules.Text.{cause_texts, ends_there, are_last, body, body_over, inner_over}
+use Rattle.miette_graphical.specs.rules.Text.{cause_texts, ends_there, are_last, body_over, inner_over, drawn_text}
 use Rattle.miette_graphical.specs.rules.Text.{inner_text, causes_text, related_text, only_if}
 use Rattle.miette_tree.specs.rules.Tree.{effective}
 use Rattle.miette_snippet_rules.specs.rules.Settings as snippets
@@ -163,7 +163,7 @@ one_by : (by : Printing) (outer : Option Severity)
     under_arrow by.settings outer last (without_trailing (inner_text drawn_rows (narrow_settings by.settings outer last)
     m source (own_answer a)
     (related_text drawn_rows (narrow_settings by.settings outer last) m.severity source r (related_answers a))))
-    else title_text by.settings m ++ body drawn_rows by.settings m source (own_answer a)
+    else title_text by.settings m ++ body_over by.settings m (drawn_text drawn_rows by.settings m source (own_answer a))
     (causes_text drawn_rows by.settings m.severity source c (cause_answers a))
     (related_text drawn_rows by.settings m.severity source r (related_answers a))))
 one_by by outer source last m own c r text true p = (

@@ -94,7 +94,3 @@ IsTextOf rows s blank t bytes = (text : List ℕ) × IsReport rows s blank t tex
 -- a whole report is appended
 abbrev pub Appends : SnippetRows → Settings → Bool → Tree → List ℕ → List ℕ → Type 0
 Appends rows s blank t old new = AppendsOne (IsTextOf rows s blank t) old new
-
--- a whole report is appended, by calls that happen
-abbrev pub AppendsAsked : SnippetRows → Settings → Bool → (List Call → Type 0) → Tree → List ℕ → List ℕ → Type 0
-AppendsAsked rows s blank happen t old new = AppendsOne (IsAskedText rows s blank happen t) old new

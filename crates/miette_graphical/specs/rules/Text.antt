@@ -32,23 +32,16 @@ only_if false text = []
 abbrev pub body_over : Settings → Meaning → List ℕ → List ℕ → List ℕ → List ℕ
 body_over s m drawn causes related = message_text s m ++ causes ++ drawn ++ help_text s m.help ++ related
 
-abbrev pub body : SnippetRows → Settings → Meaning → Option Source → Answer → List ℕ → List ℕ → List ℕ
-body rows s m source answer causes related = body_over s m (rows_text (rows s source (given_labels m.labels) answer))
-    causes related
+-- the rows of a diagnostic's snippets
+abbrev pub drawn_text : SnippetRows → Settings → Meaning → Option Source → Answer → List ℕ
+drawn_text rows s m source answer = rows_text (rows s source (given_labels m.labels) answer)
 
 -- A report that stands in another one, without its causes and without line feeds at its beginning.
 abbrev pub inner_over : Settings → Meaning → List ℕ → List ℕ → List ℕ
 inner_over s m drawn related = without_leading (print (header s m) ++ body_over s m drawn [] related)
 
 abbrev pub inner_text : SnippetRows → Settings → Meaning → Option Source → Answer → List ℕ → List ℕ
-inner_text rows s m source answer related = inner_over s m (rows_text (rows s source (given_labels m.labels) answer))
-    related
-
--- The same under an arrow: narrower, its related reports too.
-abbrev pub inner_at : SnippetRows → Settings → Option Severity → Bool → Meaning → Option Source → Answer →
-    (Settings → List ℕ) → List ℕ
-inner_at rows s outer is_last m source answer related =
-    inner_text rows (narrow_settings s outer is_last) m source answer (related (narrow_settings s outer is_last))
+inner_text rows s m source answer related = inner_over s m (drawn_text rows s m source answer) related
 
 abbrev pub cause_texts : Settings → Option Severity → List (List ℕ) → List ℕ
 cause_texts s outer [] = []
@@ -60,8 +53,9 @@ abbrev mutual
   causes_text rows s outer inherited (texts ts) a = cause_texts s outer ts
   causes_text rows s outer inherited (diagnostic (tree m own c r)) a =
       under_arrow s outer (ends_there c)
-      (inner_at rows s outer (ends_there c) m (effective own inherited) (own_answer a)
-      (λ n. related_text rows n m.severity (effective own inherited) r (related_answers a)))
+      (inner_text rows (narrow_settings s outer (ends_there c)) m (effective own inherited) (own_answer a)
+      (related_text rows (narrow_settings s outer (ends_there c)) m.severity (effective own inherited) r
+      (related_answers a)))
       ++ causes_text rows s outer inherited c (cause_answers a)
 
   -- The related reports of a report of a severity: nested as inner reports, or one after the other with their causes.
@@ -70,10 +64,12 @@ abbrev mutual
   related_text rows s outer inherited (more_trees (tree m own c r) ts) more =
       (if s.related_as_nested then
       under_arrow s outer (are_last ts)
-      (without_trailing (inner_at rows s outer (are_last ts) m (effective own inherited)
+      (without_trailing (inner_text rows (narrow_settings s outer (are_last ts)) m (effective own inherited)
       (own_answer (first_answers more))
-      (λ n. related_text rows n m.severity (effective own inherited) r (related_answers (first_answers more)))))
-      else title_text s m ++ body rows s m (effective own inherited) (own_answer (first_answers more))
+      (related_text rows (narrow_settings s outer (are_last ts)) m.severity (effective own inherited) r
+      (related_answers (first_answers more)))))
+      else title_text s m ++ body_over s m (drawn_text rows s m (effective own inherited)
+      (own_answer (first_answers more)))
       (causes_text rows s m.severity (effective own inherited) c (cause_answers (first_answers more)))
       (related_text rows s m.severity (effective own inherited) r (related_answers (first_answers more))))
       ++ related_text rows s outer inherited ts (later_answers more)
@@ -83,7 +79,7 @@ abbrev mutual
 abbrev pub report_text : SnippetRows → Settings → Tree → Answers → List ℕ
 report_text rows s (tree m own c r) a =
     print (header s m)
-    ++ body rows s m own (own_answer a)
+    ++ body_over s m (drawn_text rows s m own (own_answer a))
     (only_if s.cause_chain (causes_text rows s m.severity own c (cause_answers a)))
     (related_text rows s m.severity own r (related_answers a))
     ++ footer_text s

@@ -12,7 +12,7 @@ use Rattle.miette_tree.specs.rules.DiagnosticParts.{given_labels}
 use Rattle.miette_snippet_rules.specs.rules.Highlighting.{snippet_calls}
 use Rattle.miette_graphical.specs.rules.Snippets.{drawn_rows, snippet_settings}
 use Rattle.miette_graphical.specs.rules.Calls.{own_calls, cause_calls, related_calls}
-use Rattle.miette_graphical.specs.rules.Text.{ends_there, body, inner_text, causes_text, related_text}
+use Rattle.miette_graphical.specs.rules.Text.{ends_there, inner_text, causes_text, related_text, body_over, drawn_text}
 use Rattle.miette_graphical.specs.rules.PossibleAnswers.{IsAnswerOf, IsAnswer, AreCauseAnswers, AreRelatedAnswers}
 use Rattle.miette_graphical.specs.rules.PossibleAnswers.{IsAskedReport}
 use Rattle.miette_graphical.specs.views.Painting.{Printing}
@@ -77,7 +77,7 @@ IsSibling source (tree m own c r) by text =
     × by.happen (cause_calls by.settings.layout.context_lines by.settings.related_as_nested source c below
     ++ (own_calls by.settings.layout.context_lines source m a
     ++ related_calls by.settings.layout.context_lines by.settings.related_as_nested source r more))
-    × (text ≡ title_text by.settings m ++ body drawn_rows by.settings m source a
+    × (text ≡ title_text by.settings m ++ body_over by.settings m (drawn_text drawn_rows by.settings m source a)
     (causes_text drawn_rows by.settings m.severity source c below)
     (related_text drawn_rows by.settings m.severity source r more))
 

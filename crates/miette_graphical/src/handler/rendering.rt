@@ -2,7 +2,7 @@
 
 ghost use Rattle.std.specs.Prelude.{◌≡◌, ◌++◌, ℕ, List, [], OnErr, OnOk, false, true, chars, string_bytes};
 ghost use Rattle.std.specs.Prelude.{encode_utf8_all, option_map};
-ghost use Rattle.miette_graphical.specs.rules.PossibleAnswers.{Appends, AppendsAsked, IsTextOf};
+ghost use Rattle.miette_graphical.specs.rules.PossibleAnswers.{Appends, IsAskedText, IsTextOf};
 ghost use Rattle.miette_graphical.specs.rules.Answers.{unlisted};
 ghost use Rattle.miette_graphical.specs.rules.ByLine.{answers_by};
 ghost use Rattle.miette_graphical.specs.rules.PrintedDiagnostics.{all_read, diagnostics_of};
@@ -40,9 +40,9 @@ impl<H: Highlighter> GraphicalReportHandler<H> {
     ) -> Result<(), RenderError>
         ensures settings { self.new.settings ≡ self.old.settings }
         ensures blank { draws_plain H.is_blank self.new ≡ draws_plain H.is_blank self.old }
-        ensures calls { OnOk result (AppendsAsked drawn_rows self.old.settings (draws_plain H.is_blank self.old)
-            (AreCallsOf H.may_follow self.old self.new) (tree_of D.meaning S.source report.now) (string_bytes out.old)
-            (string_bytes out.new)) }
+        ensures calls { OnOk result (AppendsOne (IsAskedText drawn_rows self.old.settings
+            (draws_plain H.is_blank self.old) (AreCallsOf H.may_follow self.old self.new)
+            (tree_of D.meaning S.source report.now)) (string_bytes out.old) (string_bytes out.new)) }
         ensures refused { (result ≡ Err RenderError.Refused) →
             all_read (diagnostics_of self.old.settings (tree_of D.meaning S.source report.now)) ≡ false }
         ensures err { OnErr result (string_bytes out.new ≡ string_bytes out.old) }
@@ -72,9 +72,9 @@ impl<H: Highlighter> GraphicalReportHandler<H> {
             (tree_of D.meaning S.source report.now) (string_bytes out.old) (string_bytes out.new)) }
         // The highlighter gave that text's answers by these calls: restarted once for each snippet with the contents of
         // its read, then asked once for each line of it, in order.
-        ensures calls { OnOk result (AppendsAsked drawn_rows self.old.settings (draws_plain H.is_blank self.old)
-            (AreCallsOf H.may_follow self.old self.new) (tree_of D.meaning S.source report.now) (string_bytes out.old)
-            (string_bytes out.new)) }
+        ensures calls { OnOk result (AppendsOne (IsAskedText drawn_rows self.old.settings
+            (draws_plain H.is_blank self.old) (AreCallsOf H.may_follow self.old self.new)
+            (tree_of D.meaning S.source report.now)) (string_bytes out.old) (string_bytes out.new)) }
         // Where every source always reads, and a line's pieces are a function of its text, there is one such text.
         ensures stateless { let tree = tree_of D.meaning S.source report.now in
             OnOk result ((answer : List ℕ → List Piece) →
