@@ -1,7 +1,7 @@
 use Rattle.std.proofs.Common.{refl, inl}
 use Rattle.miette_style.specs.rules.Themes.{ansi_styles, unicode_characters}
 use Rattle.callers.proofs.ClauseSteps.{both_lines, coloured-one, one_text, own_mark, plain-one, text_hangs}
-use Rattle.callers.proofs.clauses.draw_both.Goals as goal
+use Rattle.callers.proofs.handlers.draw_both.Goals as goal
 
 pub returns-clause-colours : goal.returns-clause-colours
 returns-clause-colours g c =
