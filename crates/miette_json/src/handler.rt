@@ -69,6 +69,6 @@ fn json_of<D: Diagnostic, S: SourceCode>(
     laws::the_spelling_denotes_its_value();
     laws::a_text_denotes_one_value();
     let mut text = String::new(alloc);
-    push_report(report, None, &mut text)?;
+    push_report(&mut text, report, None)?;
     Ok(text)
 }
