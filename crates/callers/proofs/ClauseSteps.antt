@@ -6,7 +6,7 @@ use Rattle.bstr.specs.Utf8.{pieces_from}
 use Rattle.unicode_width.specs.Width.{char_width}
 use Rattle.miette_source_lines.specs.rules.Lines.{ends_line, line_of}
 use Rattle.miette_tree.specs.rules.Tree.{Tree}
-use Rattle.miette_style.specs.rules.Themes.{characters_of, styles_of, theme_of, ansi_styles, no_styles}
+use Rattle.miette_style.specs.rules.Themes.{theme_of, ansi_styles, no_styles}
 use Rattle.miette_style.specs.rules.Themes.{unicode_characters}
 use Rattle.miette_style.specs.declared.theme.GraphicalTheme.{GraphicalTheme}
 use Rattle.miette_graphical.specs.rules.PossibleAnswers.{Appends, IsTextOf}
@@ -27,13 +27,13 @@ use Rattle.miette_cells.specs.rules.Widths.{width_of}
 
 pub plain-one : {H : Type 0} (theme : GraphicalTheme) (made : Handling H) → theme_of theme
     ≡ record { characters = unicode_characters; styles = no_styles }
-    → made ≡ without_highlighter (default_settings (characters_of theme.characters) (styles_of theme.styles)) → made
+    → made ≡ without_highlighter (default_settings (theme_of theme)) → made
     ≡ without_highlighter plain
 plain-one theme made is m = m ∙ ap (λ t. without_highlighter (default_settings t)) is
 
 pub coloured-one : {H : Type 0} (theme : GraphicalTheme) (made : Handling H) → theme_of theme
     ≡ record { characters = unicode_characters; styles = ansi_styles }
-    → made ≡ without_highlighter (default_settings (characters_of theme.characters) (styles_of theme.styles)) → made
+    → made ≡ without_highlighter (default_settings (theme_of theme)) → made
     ≡ without_highlighter in_colours
 coloured-one theme made is m = m ∙ ap (λ t. without_highlighter (default_settings t)) is
 
@@ -98,7 +98,7 @@ one_text other_blank h g t old new old' new' p q r none none' themes tame given 
     let tree : IsCleanTree t = subst IsCleanTree (sym r) clean in
     let other : IsTextOf drawn_rows g.settings (draws_plain other_blank g) t given.text = given.is_given in
     let same : record h.settings { theme = record h.settings.theme { styles = no_styles } } ≡ g.settings =
-    ap (λ u. record u.settings { styles = no_styles }) p ∙ sym (ap (λ u. u.settings) q) in
+    ap (λ u. record u.settings { theme = record u.settings.theme { styles = no_styles } }) p ∙ sym (ap (λ u. u.settings) q) in
     let restyled : IsTextOf drawn_rows (record h.settings { theme = record h.settings.theme { styles = no_styles } })
     (draws_plain other_blank g) t
     given.text =

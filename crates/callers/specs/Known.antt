@@ -32,10 +32,10 @@ warning_tree = with_source settings_file
 -- ---- how it is drawn
 
 abbrev pub in_colours : Settings
-in_colours = default_settings unicode_characters ansi_styles
+in_colours = default_settings (record { characters = unicode_characters; styles = ansi_styles })
 
 abbrev pub plain : Settings
-plain = default_settings unicode_characters no_styles
+plain = default_settings (record { characters = unicode_characters; styles = no_styles })
 
 -- ---- what its snippet shows
 

@@ -9,7 +9,8 @@ returns-clause-colours g c =
     (coloured-one c.in_ok-unicode.field-0 _ c.in_ok-unicode.ensures c.new_themed-handler.ensures)
     (plain-one c.in_ok-unicode_nocolor.field-0 _ c.in_ok-unicode_nocolor.ensures c.new_themed-handler-2.ensures)
     c.requires c.new-coloured.ensures.bytes c.new-plain.ensures.bytes
-    c.in_ok-render_report.ensures.themes (c.themes_law.ensures.settings unicode_characters ansi_styles (inl refl))
+    c.in_ok-render_report.ensures.themes
+    (c.themes_law.ensures.settings (record { characters = unicode_characters; styles = ansi_styles }) (inl refl))
     c.in_ok-render_report-2.ensures.ok
 
 pub returns-clause-lines : goal.returns-clause-lines
