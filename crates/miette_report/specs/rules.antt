@@ -1,5 +1,6 @@
 -- What users rely on, in the words of docs/RULES.md.
 pub mod Words
+pub mod LanguageRules
 pub mod OptionWords
 pub mod Job
 pub mod Faults

@@ -1,6 +1,9 @@
 //! Languages by their names, and their highlighters.
 
 ghost use Rattle.std.specs.Prelude.{◌≡◌, IfOk, None, false};
+ghost use Rattle.miette_highlight.specs.rules.FollowingCalls.{FollowTokens};
+ghost use Rattle.miette_highlight.specs.rules.Languages.{rule_texts};
+ghost use Rattle.miette_report.specs.rules.LanguageRules.{language_rules};
 
 use miette::highlight::{Highlighter, PatternHighlighter};
 use miette::source::MietteSpanContents;
@@ -33,7 +36,9 @@ impl LanguageHighlighter {
     /// # Errors
     /// Where no memory is found for its rules.
     pub fn new(alloc: Global, language: Language) -> Result<Self, AllocError>
-        ensures { IfOk result (λ it. it.language ≡ language) }
+        ensures language { IfOk result (λ it. it.language ≡ language) }
+        ensures rules { IfOk result (λ it. rule_texts it.patterns.rules.items ≡ language_rules language) }
+        ensures closed { IfOk result (λ it. it.patterns.left_open ≡ None) }
     {
         let patterns = match language {
             Language::Toml => PatternHighlighter::toml(alloc)?,
@@ -45,6 +50,8 @@ impl LanguageHighlighter {
 }
 
 impl Highlighter for LanguageHighlighter {
+    ghost may_follow = { λ it. FollowTokens it.patterns.rules.items it.patterns.left_open };
+
     fn restart(&mut self, contents: &MietteSpanContents<'_>)
         ensures stays { false ≡ false }
         // Nothing of the text before stays open.

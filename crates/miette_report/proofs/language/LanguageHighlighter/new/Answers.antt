@@ -1,5 +1,5 @@
 use Rattle.std.proofs.Common.{refl}
 use Rattle.miette_report.proofs.language.LanguageHighlighter.new.Goals as goal
 
-pub returns : goal.returns
-returns c = refl
+pub returns-clause-language : goal.returns-clause-language
+returns-clause-language c = refl
