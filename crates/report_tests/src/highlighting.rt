@@ -1,6 +1,8 @@
 //! Reports whose source lines a highlighter styles.
 
+use crate::comparing::same;
 use crate::renderings::draws;
+use callers::highlight::digits_in_cyan;
 use miette::diagnostic::MietteDiagnostic;
 use miette::handlers::GraphicalReportHandler;
 use miette::highlight::{BlankHighlighter, Highlighter};
@@ -88,4 +90,13 @@ fn what_is_taken_back(rt: HostRuntime) {
     let at_the_end = over_ab(alloc, LabeledSpan::new(None, 2, 0));
     let bare = "  × m\n   ╭────\n 1 │ ab\n   ╰────\n";
     draws(&rt, alloc, reset_handler(alloc), at_the_end, bare);
+}
+
+#[test]
+fn a_piece_for_each_character(rt: HostRuntime) -> Result<(), AllocError> {
+    let cyan = Style::new().color(Color::Cyan);
+    let wanted = [(1, Style::new()), (2, Style::new()), (1, cyan)];
+    let found = digits_in_cyan(rt.alloc(), "aé1")?;
+    same(&rt, found.as_slice(), wanted.as_slice());
+    Ok(())
 }

@@ -14,15 +14,6 @@ use miette_text::runs::output::Output;
 use std::alloc::{AllocError, Global};
 use std::process::Abort;
 
-const OPTIONS: LayoutOptions = LayoutOptions {
-    tab_width: 4,
-    context_lines: 1,
-    primary_start: true,
-    end_labels: false,
-    label_lines: None,
-    line_columns: None,
-};
-
 /// Tells of each read the number of its first line and how many bytes it has, and the text of each line.
 #[derive(Drop)]
 struct Telling {
@@ -66,7 +57,7 @@ fn draw<S: SourceCode>(
     let settings = SnippetSettings {
         alloc,
         theme: &theme,
-        layout: &OPTIONS,
+        layout: &LayoutOptions::default(),
     };
     let page = Page::over(Output::for_text(alloc));
     let page = snippets(highlighter, &settings, source, &labels, page)?;

@@ -1,27 +1,13 @@
 //! Lines that rules style, with what they style in brackets and a letter behind them.
 
 use crate::comparing::same;
-use miette_highlight::highlight::{
-    Delimiters, Highlighter, Pattern, PatternHighlighter, Rule, by_char,
-};
+use miette_highlight::highlight::{Delimiters, Highlighter, Pattern, PatternHighlighter, Rule};
 use miette_protocol::protocol::SourceSpan;
 use miette_protocol::source::MietteSpanContents;
 use miette_style::style::{Color, Style};
 use std::alloc::{AllocError, Global};
 use std::process::Abort;
 use std::test::Fail;
-
-/// The pieces of a line with its digits in cyan, and the rest plain.
-fn digits_in_cyan(alloc: Global, line: &str) -> Result<Vec<(usize, Style)>, AllocError> {
-    let cyan = Style::new().color(Color::Cyan);
-    by_char(alloc, line, |c| {
-        if c.is_ascii_digit() {
-            cyan
-        } else {
-            Style::new()
-        }
-    })
-}
 
 // The letter of a style.
 fn letter(style: Style) -> &'static str {
@@ -71,15 +57,6 @@ fn paints(
     for (line, wanted) in lines {
         same(rt, paint(alloc, it, line)?.as_str(), *wanted);
     }
-    Ok(())
-}
-
-#[test]
-fn a_piece_for_each_character(rt: HostRuntime) -> Result<(), AllocError> {
-    let cyan = Style::new().color(Color::Cyan);
-    let wanted = [(1, Style::new()), (2, Style::new()), (1, cyan)];
-    let found = digits_in_cyan(rt.alloc(), "aé1")?;
-    same(&rt, found.as_slice(), wanted.as_slice());
     Ok(())
 }
 
