@@ -18,7 +18,7 @@ use Rattle.miette_folds.specs.steps.Nearness.{is_near_fold}
 use Rattle.miette_folds.specs.views.Gaps.{next_line, further, nearest, nearer_stop, nearest_stop, goes_on, gap_end}
 use Rattle.miette_folds.specs.views.Gaps.{next_start}
 use Rattle.miette_folds.proofs.LeftOutLines.{any_around, any_near}
-use Rattle.miette_folds.proofs.Starts.{Begins, begins_start, begins_nearer, begins_further, begun_low, few_among}
+use Rattle.miette_folds.proofs.Starts.{Begins, begins_start, begins_both, begun_low, few_among}
 
 -- ---- choices, and tests together
 
@@ -46,7 +46,7 @@ begins_nearest : (start : ℕ) (bytes : List ℕ) (end : Option LineStart) (stop
     → Begins start bytes stop.offset stop.place →
     Begins start bytes (nearest end stop).offset (nearest end stop).place
 begins_nearest start bytes None stop h k = k
-begins_nearest start bytes (Some end) stop h k = begins_nearer start bytes end stop h k
+begins_nearest start bytes (Some end) stop h k = (begins_both start bytes end stop h k).0
 
 begins_by : (start : ℕ) (bytes : List ℕ) (line : Line) (end : Option LineStart) (label : MadeSpread)
     → BeginsIf start bytes end → BeginsIf start bytes (nearer_stop line end (fold_in start bytes label))
@@ -74,7 +74,7 @@ gap_begins : (start : ℕ) (bytes : List ℕ) (some : LineStart → Bool) (next 
 gap_begins start bytes some next None h k = h
 gap_begins start bytes some next (Some end) h k =
     chosen (λ s. Begins start bytes s.offset s.place) (some end) (further next end) next
-    (begins_further start bytes next end h k) h
+    (begins_both start bytes next end h k).1 h
 
 next_begins_in : (start : ℕ) (bytes : List ℕ) (labels : List MadeSpread) (place : ℕ) (line : Line) (jumps : Bool)
     → Begins start bytes line.end (place + 1) →

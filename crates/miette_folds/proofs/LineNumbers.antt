@@ -121,6 +121,13 @@ part_lent context source span lent h = subst (λ (c : Contents). IsPart source.b
 
 -- ---- the line of an offset that a read reaches
 
+-- it stands so far into what the read lent
+reached : (bytes : List ℕ) (span : Span) (lent : Contents) (offset before : ℕ) → IsPart bytes span lent
+    → offset ≤ end_of_span lent.span → before ≡ min (offset - lent.span.offset) (length lent.bytes)
+    → before ≡ offset - lent.span.offset
+reached bytes span lent offset before p high b =
+    omega (arith, b, high, ap length p.data_are, part_length bytes lent.span.offset (end_of_span lent.span) p.within)
+
 pub front_is : (lent : Contents) (offset before lines line : ℕ) → before
     ≡ min (offset - lent.span.offset) (length lent.bytes) → lines ≡ line_of lent.bytes before → line ≡ lent.line + lines
     → IsLineIn lent offset line
@@ -129,8 +136,7 @@ front_is lent offset before lines line b l e = λ context source span h low high
     let from : ℕ = lent.span.offset in
     let to : ℕ = end_of_span lent.span in
     let p : IsPart bytes span lent = part_lent context source span lent h in
-    let size : length lent.bytes ≡ to - from = ap length p.data_are ∙ part_length bytes from to p.within in
-    let here : before ≡ offset - from = omega (arith, b, size, high) in
+    let here : before ≡ offset - from = reached bytes span lent offset before p high b in
     let own : lines ≡ line_of (slice_range bytes from to) (offset - from) = l
     ∙ ap₂ (λ xs n. line_of xs n) p.data_are here in
     omega (arith, e, own, p.line, line_in_part bytes from to offset low high p.whole)
@@ -144,8 +150,7 @@ back_is lent offset before ended lines line held rest b d r l m e = λ context s
     let from : ℕ = lent.span.offset in
     let to : ℕ = end_of_span lent.span in
     let p : IsPart bytes span lent = part_lent context source span lent h in
-    let size : length lent.bytes ≡ to - from = ap length p.data_are ∙ part_length bytes from to p.within in
-    let here : before ≡ offset - from = omega (arith, b, size, high) in
+    let here : before ≡ offset - from = reached bytes span lent offset before p high b in
     let is : rest ≡ take (length (slice_range bytes from to) - before) (drop before (slice_range bytes from to)) =
     r ∙ ap (λ (xs : List ℕ). take (length xs - before) (drop before xs)) (d ∙ p.data_are) in
     let left : line_of rest (length rest) + line_of bytes offset ≡ line_of bytes to =

@@ -198,33 +198,26 @@ begins_few start bytes offset place h =
     let size : 0 + length r.run ≡ place = r.size in
     omega (arith, grows, size)
 
--- the nearer and the further one of two beginnings
+-- the nearer and the further one of two beginnings are beginnings
 
 begins_as : (start : ℕ) (bytes : List ℕ) (a b : LineStart) → Begins start bytes a.offset a.place → a.offset ≡ b.offset
     → a.place ≡ b.place → Begins start bytes b.offset b.place
 begins_as start bytes a b h p q = subst (λ (n : ℕ). Begins start bytes n b.place) p
     (subst (λ (n : ℕ). Begins start bytes a.offset n) q h)
 
-pub begins_nearer : (start : ℕ) (bytes : List ℕ) (a b : LineStart) → Begins start bytes a.offset a.place
+pub begins_both : (start : ℕ) (bytes : List ℕ) (a b : LineStart) → Begins start bytes a.offset a.place
     → Begins start bytes b.offset b.place → Begins start bytes (nearer a b).offset (nearer a b).place
-begins_nearer start bytes a b h k =
+    × Begins start bytes (further a b).offset (further a b).place
+begins_both start bytes a b h k =
     elim (cases_lt a.offset b.offset) [
       | inl lt ↦
-          (let le : a.place ≤ b.place = places_by start bytes a b h k (omega (arith, lt)) in
-          begins_as start bytes a (nearer a b) h (omega (arith, lt)) (omega (arith, le)))
+          (let le : a.place ≤ b.place = places_by start bytes a b h k (omega (arith, lt)) in (
+            begins_as start bytes a (nearer a b) h (omega (arith, lt)) (omega (arith, le)),
+            begins_as start bytes b (further a b) k (omega (arith, lt)) (omega (arith, le)),
+          ))
       | inr ge ↦
-          (let le : b.place ≤ a.place = places_by start bytes b a k h ge in
-          begins_as start bytes b (nearer a b) k (omega (arith, ge)) (omega (arith, le)))
-    ]
-
-pub begins_further : (start : ℕ) (bytes : List ℕ) (a b : LineStart) → Begins start bytes a.offset a.place
-    → Begins start bytes b.offset b.place → Begins start bytes (further a b).offset (further a b).place
-begins_further start bytes a b h k =
-    elim (cases_lt a.offset b.offset) [
-      | inl lt ↦
-          (let le : a.place ≤ b.place = places_by start bytes a b h k (omega (arith, lt)) in
-          begins_as start bytes b (further a b) k (omega (arith, lt)) (omega (arith, le)))
-      | inr ge ↦
-          (let le : b.place ≤ a.place = places_by start bytes b a k h ge in
-          begins_as start bytes a (further a b) h (omega (arith, ge)) (omega (arith, le)))
+          (let le : b.place ≤ a.place = places_by start bytes b a k h ge in (
+            begins_as start bytes b (nearer a b) k (omega (arith, ge)) (omega (arith, le)),
+            begins_as start bytes a (further a b) h (omega (arith, ge)) (omega (arith, le)),
+          ))
     ]

@@ -8,13 +8,7 @@ use Rattle.miette_folds.specs.declared.folds.Spread.{Spread as MadeSpread}
 use Rattle.miette_snippet_rules.specs.rules.Folds.{Spread, place_among}
 
 abbrev pub spread_of : MadeSpread → Spread
-spread_of label = record {
-  first = label.first;
-  last = label.last;
-  from = label.from;
-  until = label.until;
-  around = label.around;
-}
+spread_of s = record { first = s.first; last = s.last; from = s.from; until = s.until; around = s.around }
 
 -- which of the lines that a read lent a line with this number is; behind the last one, how many are terminated
 abbrev pub place_in : Contents → ℕ → ℕ
