@@ -43,11 +43,7 @@ is_mild_kind _ = false
 -- kinds whose characters may join letters or signs
 abbrev is_odd_kind : Kind → Bool
 is_odd_kind kinds.Zero = false
-is_odd_kind kinds.Narrow = false
-is_odd_kind kinds.Wide = false
-is_odd_kind kinds.Ambiguous = false
-is_odd_kind kinds.Emoji = false
-is_odd_kind _ = true
+is_odd_kind k = not (is_mild_kind k)
 
 abbrev joining_ranges : List Range
 joining_ranges =
@@ -146,21 +142,21 @@ no_tag_digit c h = (not_tagged c h).0
 no_mark : (c k : ℕ) → is_mild_kind (kind k) ≡ false → is_mild_kind (kind c) ≡ true → (c == k) ≡ false
 no_mark c k n h = ne_eqb c k (λ e. absurd (true≢false (sym h ∙ ap (λ x. is_mild_kind (kind x)) e ∙ n)))
 
-pub no_joiner : (c : ℕ) → is_mild_kind (kind c) ≡ true → (c == 0x200D) ≡ false
-unfolding unicode_width
-no_joiner c = no_mark c 0x200D refl
+-- a joiner, the mark of a key, the end of a tag, and the vowel that follows Ya
+pub record IsNoMark (c : ℕ) : Type 0 where
+  pub joiner : (c == 0x200D) ≡ false
+  pub keycap : (c == 0x20E3) ≡ false
+  pub tag_end : (c == 0xE007F) ≡ false
+  pub vowel : (c == 0x1A17) ≡ false
 
-pub no_keycap : (c : ℕ) → is_mild_kind (kind c) ≡ true → (c == 0x20E3) ≡ false
+pub no_marks : (c : ℕ) → is_mild_kind (kind c) ≡ true → IsNoMark c
 unfolding unicode_width
-no_keycap c = no_mark c 0x20E3 refl
-
-pub no_tag_end : (c : ℕ) → is_mild_kind (kind c) ≡ true → (c == 0xE007F) ≡ false
-unfolding unicode_width
-no_tag_end c = no_mark c 0xE007F refl
-
-pub no_vowel : (c : ℕ) → is_mild_kind (kind c) ≡ true → (c == 0x1A17) ≡ false
-unfolding unicode_width
-no_vowel c = no_mark c 0x1A17 refl
+no_marks c h = record {
+  joiner = no_mark c 0x200D refl h;
+  keycap = no_mark c 0x20E3 refl h;
+  tag_end = no_mark c 0xE007F refl h;
+  vowel = no_mark c 0x1A17 refl h;
+}
 
 pub no_selector : (c : ℕ) → is_mild_kind (kind c) ≡ true → ((c == 0xFE0F) ≡ false)
     × (((c == 0xFE01) ≡ false) × ((c == 0xFE0E) ≡ false))
@@ -269,33 +265,32 @@ literal : (k : ℕ) (after : After) → before after ≡ (alone false k).1 → (
     ≡ (alone false c).1
 literal k after own c e = subst (λ x. before after ≡ (alone false x).1) (sym (eqb-true c k e)) own
 
-own_1f3f4 : before afters.Emoji ≡ (alone false 0x1F3F4).1
+-- the flag that tags stand behind
+own_flag : before afters.Emoji ≡ (alone false 0x1F3F4).1
 unfolding unicode_width
-own_1f3f4 = refl
+own_flag = refl
 
-own_16d63 : before afters.Nothing ≡ (alone false 0x16D63).1
-unfolding unicode_width
-own_16d63 = refl
+-- vowels, an alef and other letters that are joined to what stands behind them, and leave nothing by themselves
+record OwnNothing : Type 0 where
+  kirat_ai : before afters.Nothing ≡ (alone false 0x16D63).1
+  kirat_au : before afters.Nothing ≡ (alone false 0x16D69).1
+  alef : before afters.Nothing ≡ (alone false 0x05D0).1
+  buginese : before afters.Nothing ≡ (alone false 0x1A15).1
+  orkhon : before afters.Nothing ≡ (alone false 0x10C32).1
+  khmer : before afters.Nothing ≡ (alone false 0x17D2).1
 
-own_16d69 : before afters.Nothing ≡ (alone false 0x16D69).1
+own_nothing : OwnNothing
 unfolding unicode_width
-own_16d69 = refl
+own_nothing = record { kirat_ai = refl; kirat_au = refl; alef = refl; buginese = refl; orkhon = refl; khmer = refl }
 
-own_05d0 : before afters.Nothing ≡ (alone false 0x05D0).1
-unfolding unicode_width
-own_05d0 = refl
+flag_own : (c : ℕ) → JoinsOwn c (cond (c == 0x1F3F4) (Some (Same, afters.Emoji)) None)
+flag_own c =
+    either c (c == 0x1F3F4) (Some (Same, afters.Emoji)) None (λ e. literal 0x1F3F4 afters.Emoji own_flag c e) tt
 
-own_1a15 : before afters.Nothing ≡ (alone false 0x1A15).1
-unfolding unicode_width
-own_1a15 = refl
-
-own_10c32 : before afters.Nothing ≡ (alone false 0x10C32).1
-unfolding unicode_width
-own_10c32 = refl
-
-own_17d2 : before afters.Nothing ≡ (alone false 0x17D2).1
-unfolding unicode_width
-own_17d2 = refl
+letter_own : (c k : ℕ) (change : Change) (other : Option (Change × After)) → before afters.Nothing ≡ (alone false k).1
+    → JoinsOwn c other → JoinsOwn c (first_of (cond (c == k) (Some (change, afters.Nothing)) other) None)
+letter_own c k change other own rest =
+    first_only c _ (either c (c == k) (Some (change, afters.Nothing)) other (λ e. literal k afters.Nothing own c e) rest)
 
 pub joins_own : (after : After) (c : ℕ) → is_modifier after ≡ false → is_joining c ≡ false → is_mild_kind (kind c)
     ≡ true
@@ -303,42 +298,33 @@ pub joins_own : (after : After) (c : ℕ) → is_modifier after ≡ false → is
 unfolding joins before_alef
 joins_own afters.EmojiModifier c u n h = absurd (true≢false u)
 joins_own afters.RegionalIndicator c u n h = rw (no_indicator c h) tt
-joins_own afters.RegionalIndicators c u n h = rw (no_indicator c h, no_joiner c h) tt
-joins_own afters.Emoji c u n h = rw (no_joiner c h) tt
-joins_own afters.ZwjEmoji c u n h = rw (no_keycap c h, no_indicator c h, no_modifier c h, no_tag_end c h)
+joins_own afters.RegionalIndicators c u n h = rw (no_indicator c h, (no_marks c h).joiner) tt
+joins_own afters.Emoji c u n h = rw ((no_marks c h).joiner) tt
+joins_own afters.ZwjEmoji c u n h = rw ((no_marks c h).keycap, no_indicator c h, no_modifier c h, (no_marks c h).tag_end)
     (either c (is_emoji (kind c)) (Some (Same, afters.Emoji)) None (λ e. emoji_own c e) tt)
 joins_own afters.IndicatorZwj c u n h = rw (no_indicator c h) tt
-joins_own afters.EvenIndicatorsZwj c u n h = rw (no_indicator c h, no_joiner c h) tt
-joins_own afters.OddIndicatorsZwj c u n h = rw (no_indicator c h, no_joiner c h) tt
+joins_own afters.EvenIndicatorsZwj c u n h = rw (no_indicator c h, (no_marks c h).joiner) tt
+joins_own afters.OddIndicatorsZwj c u n h = rw (no_indicator c h, (no_marks c h).joiner) tt
 joins_own afters.TagEnd c u n h = rw (no_tag_letter c h, no_tag_digit c h) tt
 joins_own afters.TagDigit1 c u n h = rw (no_tag_digit c h) tt
 joins_own afters.TagDigit2 c u n h = rw (no_tag_digit c h) tt
-joins_own afters.TagDigit3 c u n h = (either c (c == 0x1F3F4) (Some (Same, afters.Emoji)) None
-    (λ e. literal 0x1F3F4 afters.Emoji own_1f3f4 c e) tt)
+joins_own afters.TagDigit3 c u n h = flag_own c
 joins_own afters.TagLetter1 c u n h = rw (no_tag_letter c h, no_tag_digit c h) tt
 joins_own afters.TagLetter2 c u n h = rw (no_tag_letter c h, no_tag_digit c h) tt
-joins_own afters.TagLetter3 c u n h = rw (no_tag_letter c h, no_tag_digit c h)
-    (either c (c == 0x1F3F4) (Some (Same, afters.Emoji)) None (λ e. literal 0x1F3F4 afters.Emoji own_1f3f4 c e) tt)
-joins_own afters.TagLetter4 c u n h = rw (no_tag_letter c h, no_tag_digit c h)
-    (either c (c == 0x1F3F4) (Some (Same, afters.Emoji)) None (λ e. literal 0x1F3F4 afters.Emoji own_1f3f4 c e) tt)
-joins_own afters.TagLetter5 c u n h = rw (no_tag_letter c h)
-    (either c (c == 0x1F3F4) (Some (Same, afters.Emoji)) None (λ e. literal 0x1F3F4 afters.Emoji own_1f3f4 c e) tt)
-joins_own afters.TagLetter6 c u n h = (either c (c == 0x1F3F4) (Some (Same, afters.Emoji)) None
-    (λ e. literal 0x1F3F4 afters.Emoji own_1f3f4 c e) tt)
+joins_own afters.TagLetter3 c u n h = rw (no_tag_letter c h, no_tag_digit c h) (flag_own c)
+joins_own afters.TagLetter4 c u n h = rw (no_tag_letter c h, no_tag_digit c h) (flag_own c)
+joins_own afters.TagLetter5 c u n h = rw (no_tag_letter c h) (flag_own c)
+joins_own afters.TagLetter6 c u n h = flag_own c
 joins_own afters.KiratE c u n h = rw (unligated c 0x16D67 refl n, unligated c 0x16D68 refl n)
-    (first_only c _ (either c (c == 0x16D63) (Some (Same, afters.Nothing))
-    (if c == 0x16D69 then Some (Same, afters.Nothing) else None) (λ e. literal 0x16D63 afters.Nothing own_16d63 c e)
-    (either c (c == 0x16D69) (Some (Same, afters.Nothing)) None (λ e. literal 0x16D69 afters.Nothing own_16d69 c e)
-    tt)))
-joins_own afters.KiratAi c u n h = first_only c _ (either c (c == 0x16D63) (Some (Same, afters.Nothing)) None
-    (λ e. literal 0x16D63 afters.Nothing own_16d63 c e) tt)
+    (letter_own c 0x16D63 Same (if c == 0x16D69 then Some (Same, afters.Nothing) else None) own_nothing.kirat_ai
+    (either c (c == 0x16D69) (Some (Same, afters.Nothing)) None
+    (λ e. literal 0x16D69 afters.Nothing own_nothing.kirat_au c e) tt))
+joins_own afters.KiratAi c u n h = letter_own c 0x16D63 Same None own_nothing.kirat_ai tt
 joins_own afters.Alef c u n h = rw (own_width c h) (either c (is_lam c) (Some (Same, afters.Nothing)) None
     (λ e. plain_own c h (lam_plain c e)) tt)
-joins_own afters.ZwjLamed c u n h = first_only c _ (either c (c == 0x05D0) (Some (Same, afters.Nothing)) None
-    (λ e. literal 0x05D0 afters.Nothing own_05d0 c e) tt)
-joins_own afters.ZwjYa c u n h = rw (no_vowel c h) tt
-joins_own afters.VowelZwjYa c u n h = first_only c _ (either c (c == 0x1A15) (Some (Same, afters.Nothing)) None
-    (λ e. literal 0x1A15 afters.Nothing own_1a15 c e) tt)
+joins_own afters.ZwjLamed c u n h = letter_own c 0x05D0 Same None own_nothing.alef tt
+joins_own afters.ZwjYa c u n h = rw ((no_marks c h).vowel) tt
+joins_own afters.VowelZwjYa c u n h = letter_own c 0x1A15 Same None own_nothing.buginese tt
 joins_own afters.Tifinagh c u n h = rw (unligated c 0x2D7F refl n) tt
 joins_own afters.ZwjTifinagh c u n h = rw (unligated c 0x2D7F refl n)
     (first_only c _ (either c (is_in_range 0x2D31 0x2D65 c || (c == 0x2D6F)) (Some (Same, afters.Nothing)) None
@@ -348,10 +334,8 @@ joins_own afters.JoinerTifinagh c u n h = first_only c _
     (λ e. plain_own c h (tifinagh_plain c e)) tt)
 joins_own afters.LisuTone c u n h = first_only c _ (either c (is_in_range 0xA4F8 0xA4FB c) (Some (Same, afters.Nothing))
     None (λ e. plain_own c h (lisu_plain c e)) tt)
-joins_own afters.ZwjOrkhonI c u n h = first_only c _ (either c (c == 0x10C32) (Some (Same, afters.Nothing)) None
-    (λ e. literal 0x10C32 afters.Nothing own_10c32 c e) tt)
-joins_own afters.KhmerLetter c u n h = first_only c _ (either c (c == 0x17D2) (Some (Less, afters.Nothing)) None
-    (λ e. literal 0x17D2 afters.Nothing own_17d2 c e) tt)
+joins_own afters.ZwjOrkhonI c u n h = letter_own c 0x10C32 Same None own_nothing.orkhon tt
+joins_own afters.KhmerLetter c u n h = letter_own c 0x17D2 Less None own_nothing.khmer tt
 joins_own after c u n h = tt
 
 pub low_parts : (c : ℕ) → c ≤ 0xA0 → is_closing c ≡ true → (c == 0x0A) ≡ false

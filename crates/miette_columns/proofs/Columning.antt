@@ -20,18 +20,29 @@ pub record IsNext (text : List ℕ) (bytes code size : ℕ) : Type 0 where
   pub some : 0 < size
   pub within : bytes + size ≤ length text
 
-pub is_next : (text : List ℕ) (bytes code size : ℕ) → bytes < length text
-    → code ≡ or_replacement (decoded (take (length text - bytes) (drop bytes text))).char
-    → size ≡ (decoded (take (length text - bytes) (drop bytes text))).size → 0 < size
-    → size ≤ length (take (length text - bytes) (drop bytes text)) → IsNext text bytes code size
-is_next text bytes code size h c s some within =
+pub begins : (bytes left : List ℕ) (code size : ℕ) → 0 < length bytes → left ≡ drop size bytes
+    → code ≡ or_replacement (decoded bytes).char → size ≡ (decoded bytes).size → IsFirst bytes left code size
+begins bytes left code size some l c s = record { some = some; left_is = l; code_is = c; size_is = s }
+
+-- what is known of a character that was read behind so many bytes of a text
+abbrev pub IsRead : List ℕ → ℕ → ℕ → ℕ → Type 0
+IsRead text bytes c s = record {
+  code : c ≡ or_replacement (decoded (take (length text - bytes) (drop bytes text))).char;
+  size : s ≡ (decoded (take (length text - bytes) (drop bytes text))).size;
+  some : 0 < s;
+  within : s ≤ length (take (length text - bytes) (drop bytes text));
+}
+
+pub is_next : (text : List ℕ) (bytes code size : ℕ) → bytes < length text → IsRead text bytes code size
+    → IsNext text bytes code size
+is_next text bytes code size h read =
     let slice = take (length text - bytes) (drop bytes text) in
     let all : length slice ≡ length text - bytes = ap length (take_rest text bytes) ∙ length-drop bytes text in
     record {
       first = subst (λ b. IsFirst b (drop size b) code size) (take_rest text bytes)
-          (record { some = omega (arith, all, h); left_is = refl; code_is = c; size_is = s });
-      some = some;
-      within = omega (arith, within, all, h);
+          (begins slice (drop size slice) code size (omega (arith, all, h)) refl read.code read.size);
+      some = read.some;
+      within = omega (arith, read.within, all, h);
     }
 
 -- some characters are over, and so many bytes of the rest are left; the characters and the sum of widths began with

@@ -1,26 +1,21 @@
 -- Characters that take no columns, one behind another at the end of a text: only the first one is seen from before it.
-use Rattle.std.proofs.Common.{ℕ, ◌+◌, ◌<◌, ◌≡◌, Bool, true, false, cond, ◌||◌, ◌==◌, nat_lt, List, [], ◌∷◌}
+use Rattle.std.proofs.Common.{ℕ, ◌+◌, ◌<◌, ◌≡◌, Bool, true, false, cond, ◌==◌, nat_lt, List, [], ◌∷◌}
 use Rattle.std.proofs.Common.{◌++◌, None, refl, sym, ap, subst, add-zero, ◌∙◌, arith, eqb-true, inl, inr}
-use Rattle.std.specs.Int.{is_in_range}
 use Rattle.std.specs.List.{list_all}
-use Rattle.std.proofs.lemmas.Bool.{true≢false, and_parts, and_right, or_parts, cases_lt, le-ltb, lt-leb, ne_eqb}
-use Rattle.ucd_table.specs.Rows.{Range, in_ranges}
-use Rattle.ucd_table.proofs.Stepped.{Stepped, of_ranges, zip_stepped}
-use Rattle.ucd_emoji.specs.Binary.{is_emoji_variation_base}
-use Rattle.ucd_emoji.proofs.BinaryLemmas.{is_emoji_variation_base_stepped}
+use Rattle.std.proofs.lemmas.Bool.{true≢false, and_parts, cases_lt, le-ltb, lt-leb, ne_eqb}
 use Rattle.unicode_width.specs.declared.kind.Kind.{Kind}
 use Rattle.unicode_width.specs.declared.kind.Kind.TheVariants as kinds
 use Rattle.unicode_width.specs.declared.state.After.TheVariants as afters
 use Rattle.unicode_width.specs.declared.state.State.{State}
-use Rattle.unicode_width.specs.Kind.{kind, is_text_presentation_base}
+use Rattle.unicode_width.specs.Kind.{kind}
 use Rattle.unicode_width.specs.Width.{before, plain, of_kind, single, alone, joins, Reading, added, is_plain}
 use Rattle.unicode_width.specs.Width.{past_selectors, in_context, past_emoji, step, read_before, str_width}
-use Rattle.unicode_width.proofs.KindLemmas.{is_text_presentation_base_stepped}
 use Rattle.unicode_width.proofs.Computing.{unicode_width}
 use Rattle.miette_cells.specs.rules.Widths.{width_of}
 use Rattle.miette_basics.proofs.Cases.{by_cases}
 use Rattle.miette_columns.specs.steps.Trails.{is_faint}
 use Rattle.miette_columns.proofs.Excluding.{excluded}
+use Rattle.miette_columns.proofs.Ordinary.{IsUnselected, is_selected, selected_stepped, unselected, past_context}
 use Rattle.miette_columns.proofs.KindTests.{kind_test_stepped}
 use Rattle.miette_columns.proofs.Lone.{read_append}
 use Rattle.miette_columns.proofs.ClosingCharacters.{width_high}
@@ -94,53 +89,12 @@ of_faint_kind : (c : ℕ) → is_faint c ≡ true → is_faint_kind (kind c) ≡
 unfolding alone
 of_faint_kind c h = kind_faint c (kind c) (ap (λ n. n == 0) (faint_alone c h))
 
--- what a selector changes, and the quotation marks
-abbrev quotes : List Range
-quotes = (0x2018, 0x2019) ∷ (0x201C, 0x201D) ∷ []
-
-abbrev is_presented : ℕ → Bool
-is_presented c = is_text_presentation_base c || in_ranges quotes c
-
-abbrev is_selected : ℕ → Bool
-is_selected c = is_emoji_variation_base c || is_presented c
-
-abbrev presented_stepped : Stepped is_presented
-unfolding unicode_width
-presented_stepped = zip_stepped (λ a b. a || b) is_text_presentation_base (in_ranges quotes)
-    is_text_presentation_base_stepped (of_ranges quotes refl)
-
-abbrev selected_stepped : Stepped is_selected
-unfolding unicode_width
-selected_stepped = zip_stepped (λ a b. a || b) is_emoji_variation_base is_presented is_emoji_variation_base_stepped
-    presented_stepped
-
 -- one walk over the table of kinds for all of them
-not_selected : (c : ℕ) → is_faint_kind (kind c) ≡ true → is_selected c ≡ false
+no_selected : (c : ℕ) → is_faint_kind (kind c) ≡ true → IsUnselected c
 unfolding unicode_width kind_test_stepped
-not_selected = excluded (λ c. is_faint_kind (kind c)) is_selected (kind_test_stepped is_faint_kind refl refl)
-    selected_stepped refl
-
-no_variation : (c : ℕ) → is_faint_kind (kind c) ≡ true → is_emoji_variation_base c ≡ false
-no_variation c h = (or_parts (is_emoji_variation_base c) (is_presented c) (not_selected c h)).0
-
-not_presented : (c : ℕ) → is_faint_kind (kind c) ≡ true → is_presented c ≡ false
-not_presented c h = (or_parts (is_emoji_variation_base c) (is_presented c) (not_selected c h)).1
-
-no_presentation : (c : ℕ) → is_faint_kind (kind c) ≡ true → is_text_presentation_base c ≡ false
-no_presentation c h = (or_parts (is_text_presentation_base c) (in_ranges quotes c) (not_presented c h)).0
-
-no_quote : (c : ℕ) → is_faint_kind (kind c) ≡ true → (is_in_range 0x2018 0x2019 c
-    || (is_in_range 0x201C 0x201D c || false)) ≡ false
-unfolding in_ranges
-no_quote c h = (or_parts (is_text_presentation_base c) (in_ranges quotes c) (not_presented c h)).1
-
-no_single_quote : (c : ℕ) → is_faint_kind (kind c) ≡ true → is_in_range 0x2018 0x2019 c ≡ false
-no_single_quote c h = (or_parts (is_in_range 0x2018 0x2019 c) (is_in_range 0x201C 0x201D c || false) (no_quote c h)).0
-
-no_double_quote : (c : ℕ) → is_faint_kind (kind c) ≡ true → is_in_range 0x201C 0x201D c ≡ false
-no_double_quote c h =
-    (or_parts (is_in_range 0x201C 0x201D c) false (or_parts (is_in_range 0x2018 0x2019 c)
-    (is_in_range 0x201C 0x201D c || false) (no_quote c h)).1).0
+no_selected c h = unselected c
+    (excluded (λ c. is_faint_kind (kind c)) is_selected (kind_test_stepped is_faint_kind refl refl) selected_stepped refl
+    c h)
 
 -- ---- its step before others such
 
@@ -166,18 +120,7 @@ past_nothing c t = rw (nothing_joins c) refl
 
 past_others : (c t : ℕ) (e x q : Bool) → is_faint_kind (kind c) ≡ true → (c == 0xFE0F) ≡ false → (c == 0xFE01) ≡ false
     → (c == 0xFE0E) ≡ false → in_context false c t (bare e x q) ≡ added t (alone false c)
-unfolding in_context
-past_others c t e x q k f g h =
-    rw (
-      f,
-      g,
-      h,
-      no_presentation c k,
-      no_single_quote c k,
-      no_double_quote c k,
-      and_right x false refl,
-      and_right q false refl,
-    ) (past_nothing c t)
+past_others c t e x q k f g h = past_context c t (bare e x q) f g h (no_selected c k) ∙ past_nothing c t
 
 in_bare_context : (c t : ℕ) (e x q : Bool) → is_faint_kind (kind c) ≡ true → in_context false c t (bare e x q)
     ≡ added t (alone false c)
@@ -203,7 +146,7 @@ past_bare c t e x q high k =
 step_bare : (c t : ℕ) (e x q : Bool) → 0xA0 < c → is_faint_kind (kind c) ≡ true → step false c (t, bare e x q)
     ≡ added t (alone false c)
 unfolding step
-step_bare c t true x q high k = rw (no_variation c k) (past_bare c t false false false high k)
+step_bare c t true x q high k = rw ((no_selected c k).variation) (past_bare c t false false false high k)
 step_bare c t false x q high k = past_bare c t false x q high k
 
 step_faint : (c t : ℕ) (s : State) → is_faint c ≡ true → IsBare s → step false c (t, s) ≡ (t, (alone false c).1)

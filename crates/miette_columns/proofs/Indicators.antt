@@ -1,33 +1,26 @@
 -- Regional indicators, and what one leaves to be read before others.
 use Rattle.std.proofs.Common.{ℕ, ◌+◌, ◌-◌, ◌<◌, ◌≡◌, Bool, true, false, cond, not, ◌&&◌, nat_le, ◌⊎◌, List, []}
-use Rattle.std.proofs.Common.{◌∷◌, Option, Some, None, refl, sym, ap, ◌∙◌}
+use Rattle.std.proofs.Common.{◌∷◌, Option, Some, None, refl, sym, ap, subst, ◌∙◌}
 use Rattle.std.proofs.Common.{arith, inl, inr}
 use Rattle.std.specs.Prelude.{if◌then◌else◌}
-use Rattle.std.specs.Int.{is_in_range}
 use Rattle.std.proofs.lemmas.Bool.{true≢false, and_right, le-leb}
 use Rattle.miette_basics.proofs.Cases.{by_cases}
 use Rattle.ucd_table.specs.Rows.{Range, in_ranges}
-use Rattle.ucd_table.proofs.Stepped.{Stepped, of_ranges, map_stepped}
-use Rattle.ucd_emoji.specs.Binary.{is_emoji_modifier_base, is_emoji_variation_base}
-use Rattle.ucd_emoji.proofs.BinaryLemmas.{is_emoji_modifier_base_stepped, is_emoji_variation_base_stepped}
-use Rattle.ucd_bidi.specs.JoiningGroup.{joining_group, joining_group_eq}
-use Rattle.ucd_bidi.specs.declared.JoiningGroup.TheVariants.{Lam}
-use Rattle.ucd_bidi.proofs.JoiningGroupLemmas.{joining_group_stepped}
+use Rattle.ucd_table.proofs.Stepped.{Stepped, of_ranges}
+use Rattle.ucd_emoji.specs.Binary.{is_emoji_variation_base}
 use Rattle.unicode_width.specs.declared.kind.Kind.{Kind}
 use Rattle.unicode_width.specs.declared.kind.Kind.TheVariants as kinds
 use Rattle.unicode_width.specs.declared.state.After.{After}
 use Rattle.unicode_width.specs.declared.state.After.TheVariants as afters
 use Rattle.unicode_width.specs.declared.state.State.{State}
 use Rattle.unicode_width.specs.declared.state.Change.{Change}
-use Rattle.unicode_width.specs.Kind.{kind, is_ligature_transparent, is_text_presentation_base}
+use Rattle.unicode_width.specs.Kind.{kind}
 use Rattle.unicode_width.specs.Width.{before, plain, is_indicator, is_nothing, is_joined_emoji, of_kind, alone}
-use Rattle.unicode_width.specs.Width.{before_alef, is_lam, joins, joined_or, Reading, if_kept, skips_marks, is_plain}
+use Rattle.unicode_width.specs.Width.{before_alef, joins, joined_or, Reading, if_kept, skips_marks, is_plain}
 use Rattle.unicode_width.specs.Width.{past_selectors, in_context, past_emoji, step}
-use Rattle.unicode_width.proofs.KindLemmas.{is_ligature_transparent_stepped, is_text_presentation_base_stepped}
 use Rattle.unicode_width.proofs.Computing.{unicode_width}
-use Rattle.miette_columns.proofs.Excluding.{as_stepped, excluded, no_one, no_range, joined_ones, joined_ranges}
-use Rattle.miette_columns.proofs.Excluding.{JoinsFew}
-use Rattle.miette_columns.proofs.Excluding.{joins_few}
+use Rattle.miette_columns.proofs.Excluding.{as_stepped, no_one, no_range, joins_few}
+use Rattle.miette_columns.proofs.Ordinary.{IsOrdinary, ordinary, past_context, no_kind}
 use Rattle.miette_columns.proofs.KindTests.{kind_test_stepped}
 use Rattle.miette_columns.proofs.Lone.{or_false}
 
@@ -36,35 +29,10 @@ use Rattle.miette_columns.proofs.Lone.{or_false}
 abbrev indicator_ranges : List Range
 indicator_ranges = (0x1F1E6, 0x1F1FF) ∷ []
 
-ranged : (c : ℕ) → is_indicator c ≡ in_ranges indicator_ranges c
-unfolding in_ranges
-ranged c = or_false (is_indicator c)
-
 abbrev indicator_stepped : Stepped is_indicator
-unfolding unicode_width
-indicator_stepped = as_stepped is_indicator (in_ranges indicator_ranges) ranged (of_ranges indicator_ranges refl)
-
-no_variation : (c : ℕ) → is_indicator c ≡ true → is_emoji_variation_base c ≡ false
-unfolding unicode_width
-no_variation = excluded is_indicator is_emoji_variation_base indicator_stepped is_emoji_variation_base_stepped refl
-
-no_modified : (c : ℕ) → is_indicator c ≡ true → is_emoji_modifier_base c ≡ false
-unfolding unicode_width
-no_modified = excluded is_indicator is_emoji_modifier_base indicator_stepped is_emoji_modifier_base_stepped refl
-
-no_presentation : (c : ℕ) → is_indicator c ≡ true → is_text_presentation_base c ≡ false
-unfolding unicode_width
-no_presentation = excluded is_indicator is_text_presentation_base indicator_stepped is_text_presentation_base_stepped
-    refl
-
-no_transparent : (c : ℕ) → is_indicator c ≡ true → is_ligature_transparent c ≡ false
-unfolding unicode_width
-no_transparent = excluded is_indicator is_ligature_transparent indicator_stepped is_ligature_transparent_stepped refl
-
-no_lam : (c : ℕ) → is_indicator c ≡ true → is_lam c ≡ false
-unfolding unicode_width
-no_lam = excluded is_indicator (λ c. joining_group_eq (joining_group c) Lam) indicator_stepped
-    (map_stepped (λ g. joining_group_eq g Lam) joining_group joining_group_stepped) refl
+unfolding in_ranges unicode_width
+indicator_stepped = as_stepped is_indicator (in_ranges indicator_ranges) (λ c. or_false (is_indicator c))
+    (of_ranges indicator_ranges refl)
 
 abbrev is_other_kind : Kind → Bool
 is_other_kind kinds.RegionalIndicator = false
@@ -72,8 +40,7 @@ is_other_kind _ = true
 
 no_other : (c : ℕ) → is_indicator c ≡ true → is_other_kind (kind c) ≡ false
 unfolding unicode_width kind_test_stepped
-no_other = excluded is_indicator (λ c. is_other_kind (kind c)) indicator_stepped
-    (kind_test_stepped is_other_kind refl refl) refl
+no_other = no_kind is_indicator indicator_stepped is_other_kind refl refl refl
 
 own_kind : (c : ℕ) (k : Kind) → is_other_kind k ≡ false → of_kind false c k ≡ (1, before afters.RegionalIndicator)
 own_kind c kinds.RegionalIndicator e = refl
@@ -83,20 +50,9 @@ own : (c : ℕ) → is_indicator c ≡ true → alone false c ≡ (1, before aft
 unfolding alone
 own c h = own_kind c (kind c) (no_other c h)
 
-no_single_quote : (c : ℕ) → is_indicator c ≡ true → is_in_range 0x2018 0x2019 c ≡ false
+indicator_ordinary : (c : ℕ) → is_indicator c ≡ true → IsOrdinary c
 unfolding unicode_width
-no_single_quote = no_range is_indicator 0x2018 0x2019 indicator_stepped (of_ranges ((0x2018, 0x2019) ∷ []) refl) refl
-
-no_double_quote : (c : ℕ) → is_indicator c ≡ true → is_in_range 0x201C 0x201D c ≡ false
-unfolding unicode_width
-no_double_quote = no_range is_indicator 0x201C 0x201D indicator_stepped (of_ranges ((0x201C, 0x201D) ∷ []) refl) refl
-
-indicator_few : (c : ℕ) → is_indicator c ≡ true → JoinsFew c
-unfolding unicode_width
-indicator_few c h = record {
-  ones = excluded is_indicator (in_ranges joined_ones) indicator_stepped (of_ranges joined_ones refl) refl c h;
-  ranges = excluded is_indicator (in_ranges joined_ranges) indicator_stepped (of_ranges joined_ranges refl) refl c h;
-}
+indicator_ordinary = ordinary is_indicator indicator_stepped refl
 
 -- ---- what an indicator leaves to be read
 
@@ -113,16 +69,16 @@ JoinsWaving t (Some j) = Waves (joined_or t (Some j) (0, plain))
 
 joins_waving : (after : After) (c t : ℕ) → is_indicator c ≡ true → JoinsWaving t (joins false after c)
 unfolding joins before_alef
-joins_waving after c t h = joins_few (λ _. JoinsWaving t) c (indicator_few c h) (record {
+joins_waving after c t h = joins_few (λ _. JoinsWaving t) c (indicator_ordinary c h).few (record {
   none = λ _. tt;
-  modifier = rw (no_modified c h, no_one is_indicator c 0x200D refl h) tt;
+  modifier = rw ((indicator_ordinary c h).modified, no_one is_indicator c 0x200D refl h) tt;
   indicator = rw h (inr (inl refl));
   indicators = rw h (inr (inl refl));
   emoji = rw (no_one is_indicator c 0x20E3 refl h, h) (inr (inr (inr (omega arith, inl refl))));
   joined = rw h (inr (inr (inl refl)));
   even = rw (no_one is_indicator c 0x200D refl h, h) (inr (inr (inr (omega arith, inr refl))));
   odd = rw (no_one is_indicator c 0x200D refl h, h) (inr (inr (inl refl)));
-  alef = rw (no_lam c h, own c h) tt;
+  alef = rw ((indicator_ordinary c h).lam, own c h) tt;
 }) after
 
 waving_joined : (t : ℕ) (j : Option (Change × After)) → JoinsWaving t j
@@ -133,22 +89,14 @@ waving_joined t (Some j) p = p
 past_quotes : (c t : ℕ) (after : After) → is_indicator c ≡ true → Waves (past_selectors false c t after)
 unfolding past_selectors
 past_quotes c t after h =
-    rw (no_one is_indicator c 0x200D refl h, no_transparent c h, and_right (skips_marks after) false refl, own c h)
+    let is = indicator_ordinary c h in
+    rw (no_one is_indicator c 0x200D refl h, is.transparent, and_right (skips_marks after) false refl, own c h)
     (waving_joined t (joins false after c) (joins_waving after c t h))
 
 in_any_context : (c t : ℕ) (s : State) → is_indicator c ≡ true → Waves (in_context false c t s)
-unfolding in_context
 in_any_context c t s h =
-    rw (
-      no_one is_indicator c 0xFE0F refl h,
-      no_one is_indicator c 0xFE01 refl h,
-      no_one is_indicator c 0xFE0E refl h,
-      no_presentation c h,
-      no_single_quote c h,
-      no_double_quote c h,
-      and_right s.text false refl,
-      and_right s.quote false refl,
-    )
+    subst Waves (sym (past_context c t s (no_one is_indicator c 0xFE0F refl h) (no_one is_indicator c 0xFE01 refl h)
+    (no_one is_indicator c 0xFE0E refl h) (indicator_ordinary c h).selected))
     (past_quotes c t s.after h)
 
 indicator_high : (c : ℕ) → is_indicator c ≡ true → nat_le c 0xA0 ≡ false
@@ -178,7 +126,7 @@ step_waves c (t, s) h =
     (λ e. past_all c t s h)
     (λ e. waving_cond (is_emoji_variation_base c) (t + (if is_joined_emoji s.after then 0 else 2), before afters.Emoji)
     (past_emoji false c t (record (if_kept s) { emoji = false }))
-    (λ y. absurd (true≢false (sym y ∙ no_variation c h))) (λ n. past_all c t (record (if_kept s) { emoji = false }) h))
+    (λ y. absurd (true≢false (sym y ∙ (indicator_ordinary c h).selected.variation))) (λ n. past_all c t (record (if_kept s) { emoji = false }) h))
 
 -- ---- indicators before one another
 

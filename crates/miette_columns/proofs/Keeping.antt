@@ -1,17 +1,13 @@
 -- Skin tones, and letters that nothing behind them joins: they leave the same to be read, whatever stands behind them
--- but a selector or a
--- skin tone.
+-- but a selector or a skin tone.
 use Rattle.std.proofs.Common.{ℕ, ◌≡◌, true, false, not, ◌&&◌, ◌||◌, ◌==◌, nat_le, List, [], ◌∷◌, Some, None, refl}
 use Rattle.std.proofs.Common.{sym, ap, subst, ◌∙◌, arith, inl, inr}
 use Rattle.std.specs.Int.{is_in_range}
 use Rattle.std.proofs.lemmas.Bool.{and_parts, true≢false, and_right, cases_lt, le-leb}
 use Rattle.ucd_table.specs.Rows.{Range, in_ranges}
 use Rattle.ucd_table.proofs.Stepped.{Stepped, of_ranges, map_stepped}
-use Rattle.ucd_bidi.specs.JoiningGroup.{joining_group, joining_group_eq}
 use Rattle.ucd_bidi.specs.JoiningType.{joining_type, joining_type_eq}
-use Rattle.ucd_bidi.specs.declared.JoiningGroup.TheVariants.{Lam}
 use Rattle.ucd_bidi.specs.declared.JoiningType.TheVariants.{Transparent}
-use Rattle.ucd_bidi.proofs.JoiningGroupLemmas.{joining_group_stepped}
 use Rattle.ucd_bidi.proofs.JoiningTypeLemmas.{joining_type_stepped}
 use Rattle.unicode_width.specs.declared.kind.Kind.{Kind}
 use Rattle.unicode_width.specs.declared.kind.Kind.TheVariants as kinds
@@ -19,14 +15,12 @@ use Rattle.unicode_width.specs.declared.state.After.{After}
 use Rattle.unicode_width.specs.declared.state.After.TheVariants as afters
 use Rattle.unicode_width.specs.declared.state.State.{State}
 use Rattle.unicode_width.specs.declared.state.Change.TheVariants.{Same}
-use Rattle.unicode_width.specs.Kind.{kind, is_ligature_transparent}
-use Rattle.unicode_width.specs.Width.{before, of_kind, alone, before_alef, is_lam, is_emoji, joins, step}
-use Rattle.unicode_width.proofs.KindLemmas.{is_ligature_transparent_stepped}
+use Rattle.unicode_width.specs.Kind.{kind}
+use Rattle.unicode_width.specs.Width.{before, of_kind, alone, before_alef, is_emoji, joins, step}
 use Rattle.unicode_width.proofs.Computing.{unicode_width}
 use Rattle.miette_columns.specs.steps.Parting.{is_keeping}
-use Rattle.miette_columns.proofs.Excluding.{as_stepped, excluded, no_one, no_range, joined_ones, joined_ranges}
-use Rattle.miette_columns.proofs.Excluding.{JoinsFew}
-use Rattle.miette_columns.proofs.Excluding.{joins_few}
+use Rattle.miette_columns.proofs.Excluding.{as_stepped, excluded, no_one, no_range, joins_few}
+use Rattle.miette_columns.proofs.Ordinary.{IsOrdinary, ordinary, no_kind}
 use Rattle.miette_columns.proofs.KindTests.{kind_test_stepped}
 use Rattle.miette_columns.proofs.Lone.{or_false, or_turn}
 use Rattle.miette_columns.proofs.Opening.{tones, tone_kinds, is_modifier, is_tone, IsOpen}
@@ -39,22 +33,10 @@ abbrev keeping_ranges : List Range
 keeping_ranges = (0x5DC, 0x5DC) ∷ (0x671, 0x675) ∷ (0x773, 0x774) ∷ (0x870, 0x882) ∷ (0x1A10, 0x1A10) ∷ (0xA4FC, 0xA4FD)
     ∷ (0xFB3C, 0xFB3C) ∷ (0x10C03, 0x10C03) ∷ (0x1F3FB, 0x1F3FF) ∷ []
 
-ranged : (c : ℕ) → is_keeping c ≡ in_ranges keeping_ranges c
-unfolding in_ranges
-ranged c = or_false (is_keeping c) ∙ simp or_turn
-
 abbrev keeping_stepped : Stepped is_keeping
-unfolding unicode_width
-keeping_stepped = as_stepped is_keeping (in_ranges keeping_ranges) ranged (of_ranges keeping_ranges refl)
-
-no_transparent : (c : ℕ) → is_keeping c ≡ true → is_ligature_transparent c ≡ false
-unfolding unicode_width
-no_transparent = excluded is_keeping is_ligature_transparent keeping_stepped is_ligature_transparent_stepped refl
-
-no_lam : (c : ℕ) → is_keeping c ≡ true → is_lam c ≡ false
-unfolding unicode_width
-no_lam = excluded is_keeping (λ c. joining_group_eq (joining_group c) Lam) keeping_stepped
-    (map_stepped (λ g. joining_group_eq g Lam) joining_group joining_group_stepped) refl
+unfolding in_ranges unicode_width
+keeping_stepped = as_stepped is_keeping (in_ranges keeping_ranges) (λ c. or_false (is_keeping c) ∙ simp or_turn)
+    (of_ranges keeping_ranges refl)
 
 no_mark : (c : ℕ) → is_keeping c ≡ true → joining_type_eq (joining_type c) Transparent ≡ false
 unfolding unicode_width
@@ -63,7 +45,7 @@ no_mark = excluded is_keeping (λ c. joining_type_eq (joining_type c) Transparen
 
 no_emoji : (c : ℕ) → is_keeping c ≡ true → is_emoji (kind c) ≡ false
 unfolding unicode_width kind_test_stepped
-no_emoji = excluded is_keeping (λ c. is_emoji (kind c)) keeping_stepped (kind_test_stepped is_emoji refl refl) refl
+no_emoji = no_kind is_keeping keeping_stepped is_emoji refl refl refl
 
 pub no_indicator : (c : ℕ) → is_keeping c ≡ true → is_in_range 0x1F1E6 0x1F1FF c ≡ false
 unfolding unicode_width
@@ -74,12 +56,9 @@ unfolding unicode_width
 keeping_high c h = sym (ap (λ b. b && nat_le c 0xA0) (le-leb 0 c (omega arith)))
     ∙ no_range is_keeping 0 0xA0 keeping_stepped (of_ranges ((0, 0xA0) ∷ []) refl) refl c h
 
-keeping_few : (c : ℕ) → is_keeping c ≡ true → JoinsFew c
+keeping_ordinary : (c : ℕ) → is_keeping c ≡ true → IsOrdinary c
 unfolding unicode_width
-keeping_few c h = record {
-  ones = excluded is_keeping (in_ranges joined_ones) keeping_stepped (of_ranges joined_ones refl) refl c h;
-  ranges = excluded is_keeping (in_ranges joined_ranges) keeping_stepped (of_ranges joined_ranges refl) refl c h;
-}
+keeping_ordinary = ordinary is_keeping keeping_stepped refl
 
 -- ---- what it leaves
 
@@ -102,7 +81,7 @@ tone_own c h = tone_kind c (kind c) (toned c h)
 joins_kept : (after : After) (c : ℕ) → is_modifier after ≡ false → is_keeping c ≡ true
     → JoinsOwn c (joins false after c)
 unfolding joins before_alef
-joins_kept after c u h = joins_few (λ a j. is_modifier a ≡ false → JoinsOwn c j) c (keeping_few c h) (record {
+joins_kept after c u h = joins_few (λ a j. is_modifier a ≡ false → JoinsOwn c j) c (keeping_ordinary c h).few (record {
   none = λ _ _. tt;
   modifier = λ m. absurd (true≢false m);
   indicator = rw (no_indicator c h) (λ _. tt);
@@ -112,13 +91,13 @@ joins_kept after c u h = joins_few (λ a j. is_modifier a ≡ false → JoinsOwn
   joined = rw (no_indicator c h) (λ _. tt);
   even = rw (no_one is_keeping c 0x200D refl h, no_indicator c h) (λ _. tt);
   odd = rw (no_one is_keeping c 0x200D refl h, no_indicator c h) (λ _. tt);
-  alef = rw (no_lam c h, no_mark c h, and_right ((alone false c).0 == 0) false refl) (λ _. tt);
+  alef = rw ((keeping_ordinary c h).lam, no_mark c h, and_right ((alone false c).0 == 0) false refl) (λ _. tt);
 }) after u
 
 keeping_apart : (c : ℕ) → is_keeping c ≡ true → IsApart c
 keeping_apart c h = record {
   joiner = no_one is_keeping c 0x200D refl h;
-  transparent = no_transparent c h;
+  transparent = (keeping_ordinary c h).transparent;
   selector = (
     no_one is_keeping c 0xFE0F refl h,
     (

@@ -1,6 +1,7 @@
 pub mod Columning
 pub mod KindTests
 pub mod Excluding
+pub mod Ordinary
 pub mod Lone
 pub mod Opening
 pub mod ClosingCharacters

@@ -8,28 +8,22 @@ use Rattle.std.proofs.lemmas.Bool.{true≢false, and_right, cases_lt, cond-true,
 use Rattle.std.proofs.lemmas.Bool.{lt-leb}
 use Rattle.miette_basics.proofs.Cases.{by_cases}
 use Rattle.ucd_table.specs.Rows.{Range, in_ranges}
-use Rattle.ucd_table.proofs.Stepped.{Stepped, of_ranges, map_stepped}
-use Rattle.ucd_emoji.specs.Binary.{is_emoji_modifier_base, is_emoji_variation_base}
-use Rattle.ucd_emoji.proofs.BinaryLemmas.{is_emoji_modifier_base_stepped, is_emoji_variation_base_stepped}
-use Rattle.ucd_bidi.specs.JoiningGroup.{joining_group, joining_group_eq}
-use Rattle.ucd_bidi.specs.declared.JoiningGroup.TheVariants.{Lam}
-use Rattle.ucd_bidi.proofs.JoiningGroupLemmas.{joining_group_stepped}
+use Rattle.ucd_table.proofs.Stepped.{Stepped, of_ranges}
+use Rattle.ucd_emoji.specs.Binary.{is_emoji_variation_base}
 use Rattle.unicode_width.specs.declared.kind.Kind.{Kind}
 use Rattle.unicode_width.specs.declared.kind.Kind.TheVariants as kinds
 use Rattle.unicode_width.specs.declared.state.After.{After}
 use Rattle.unicode_width.specs.declared.state.After.TheVariants as afters
 use Rattle.unicode_width.specs.declared.state.State.{State}
-use Rattle.unicode_width.specs.Kind.{kind, is_ligature_transparent, is_text_presentation_base}
-use Rattle.unicode_width.specs.Width.{before, plain, is_joined_emoji, of_kind, alone, before_alef, is_lam, is_emoji}
+use Rattle.unicode_width.specs.Kind.{kind}
+use Rattle.unicode_width.specs.Width.{before, plain, is_joined_emoji, of_kind, alone, before_alef, is_emoji}
 use Rattle.unicode_width.specs.Width.{joins, Reading, added, if_kept, skips_marks, is_plain, past_selectors, in_context}
 use Rattle.unicode_width.specs.Width.{past_emoji, step, read_before, str_width}
-use Rattle.unicode_width.proofs.KindLemmas.{is_ligature_transparent_stepped, is_text_presentation_base_stepped}
 use Rattle.unicode_width.proofs.Computing.{unicode_width}
 use Rattle.unicode_width.proofs.Rules.{is_simple, str_width-append_simple}
 use Rattle.miette_columns.specs.steps.Parting.{is_lone}
-use Rattle.miette_columns.proofs.Excluding.{as_stepped, excluded, no_one, no_range, joined_ones, joined_ranges}
-use Rattle.miette_columns.proofs.Excluding.{JoinsFew}
-use Rattle.miette_columns.proofs.Excluding.{joins_few}
+use Rattle.miette_columns.proofs.Excluding.{as_stepped, no_one, no_range, joins_few}
+use Rattle.miette_columns.proofs.Ordinary.{IsOrdinary, ordinary, past_context, no_kind}
 use Rattle.miette_columns.proofs.KindTests.{kind_test_stepped}
 
 -- ---- what such a character is not
@@ -48,34 +42,10 @@ pub or_turn : (a b d : Bool) → ((a || b) || d) ≡ (a || (b || d))
 or_turn true b d = refl
 or_turn false b d = refl
 
-ranged : (c : ℕ) → is_lone c ≡ in_ranges lone_ranges c
-unfolding in_ranges
-ranged c = or_false (is_lone c) ∙ simp or_turn
-
 abbrev lone_stepped : Stepped is_lone
-unfolding unicode_width
-lone_stepped = as_stepped is_lone (in_ranges lone_ranges) ranged (of_ranges lone_ranges refl)
-
-no_variation : (c : ℕ) → is_lone c ≡ true → is_emoji_variation_base c ≡ false
-unfolding unicode_width
-no_variation = excluded is_lone is_emoji_variation_base lone_stepped is_emoji_variation_base_stepped refl
-
-no_modified : (c : ℕ) → is_lone c ≡ true → is_emoji_modifier_base c ≡ false
-unfolding unicode_width
-no_modified = excluded is_lone is_emoji_modifier_base lone_stepped is_emoji_modifier_base_stepped refl
-
-no_presentation : (c : ℕ) → is_lone c ≡ true → is_text_presentation_base c ≡ false
-unfolding unicode_width
-no_presentation = excluded is_lone is_text_presentation_base lone_stepped is_text_presentation_base_stepped refl
-
-no_transparent : (c : ℕ) → is_lone c ≡ true → is_ligature_transparent c ≡ false
-unfolding unicode_width
-no_transparent = excluded is_lone is_ligature_transparent lone_stepped is_ligature_transparent_stepped refl
-
-no_lam : (c : ℕ) → is_lone c ≡ true → is_lam c ≡ false
-unfolding unicode_width
-no_lam = excluded is_lone (λ c. joining_group_eq (joining_group c) Lam) lone_stepped
-    (map_stepped (λ g. joining_group_eq g Lam) joining_group joining_group_stepped) refl
+unfolding in_ranges unicode_width
+lone_stepped = as_stepped is_lone (in_ranges lone_ranges) (λ c. or_false (is_lone c) ∙ simp or_turn)
+    (of_ranges lone_ranges refl)
 
 abbrev is_other_kind : Kind → Bool
 is_other_kind kinds.Narrow = false
@@ -87,8 +57,7 @@ is_other_kind _ = true
 
 no_other : (c : ℕ) → is_lone c ≡ true → is_other_kind (kind c) ≡ false
 unfolding unicode_width kind_test_stepped
-no_other = excluded is_lone (λ c. is_other_kind (kind c)) lone_stepped
-    (kind_test_stepped is_other_kind refl refl) refl
+no_other = no_kind is_lone lone_stepped is_other_kind refl refl refl
 
 no_indicator : (c : ℕ) → is_lone c ≡ true → is_in_range 0x1F1E6 0x1F1FF c ≡ false
 unfolding unicode_width
@@ -98,20 +67,9 @@ no_modifier : (c : ℕ) → is_lone c ≡ true → is_in_range 0x1F3FB 0x1F3FF c
 unfolding unicode_width
 no_modifier = no_range is_lone 0x1F3FB 0x1F3FF lone_stepped (of_ranges ((0x1F3FB, 0x1F3FF) ∷ []) refl) refl
 
-no_single_quote : (c : ℕ) → is_lone c ≡ true → is_in_range 0x2018 0x2019 c ≡ false
+lone_ordinary : (c : ℕ) → is_lone c ≡ true → IsOrdinary c
 unfolding unicode_width
-no_single_quote = no_range is_lone 0x2018 0x2019 lone_stepped (of_ranges ((0x2018, 0x2019) ∷ []) refl) refl
-
-no_double_quote : (c : ℕ) → is_lone c ≡ true → is_in_range 0x201C 0x201D c ≡ false
-unfolding unicode_width
-no_double_quote = no_range is_lone 0x201C 0x201D lone_stepped (of_ranges ((0x201C, 0x201D) ∷ []) refl) refl
-
-lone_few : (c : ℕ) → is_lone c ≡ true → JoinsFew c
-unfolding unicode_width
-lone_few c h = record {
-  ones = excluded is_lone (in_ranges joined_ones) lone_stepped (of_ranges joined_ones refl) refl c h;
-  ranges = excluded is_lone (in_ranges joined_ranges) lone_stepped (of_ranges joined_ranges refl) refl c h;
-}
+lone_ordinary = ordinary is_lone lone_stepped refl
 
 -- ---- its step is the same before any text
 
@@ -145,9 +103,9 @@ own c h = own_kind c (kind c) (no_other c h)
 
 joins_none : (after : After) (c : ℕ) → is_lone c ≡ true → ((alone false c).0 == 0) ≡ false → joins false after c ≡ None
 unfolding joins before_alef
-joins_none after c h some = joins_few (λ _ j. j ≡ None) c (lone_few c h) (record {
+joins_none after c h some = joins_few (λ _ j. j ≡ None) c (lone_ordinary c h).few (record {
   none = λ _. refl;
-  modifier = rw (no_modified c h, no_one is_lone c 0x200D refl h) refl;
+  modifier = rw ((lone_ordinary c h).modified, no_one is_lone c 0x200D refl h) refl;
   indicator = rw (no_indicator c h) refl;
   indicators = rw (no_indicator c h, no_one is_lone c 0x200D refl h) refl;
   emoji = rw (
@@ -160,7 +118,7 @@ joins_none after c h some = joins_few (λ _ j. j ≡ None) c (lone_few c h) (rec
   joined = rw (no_indicator c h) refl;
   even = rw (no_indicator c h, no_one is_lone c 0x200D refl h) refl;
   odd = rw (no_indicator c h, no_one is_lone c 0x200D refl h) refl;
-  alef = rw (no_lam c h, some) refl;
+  alef = rw ((lone_ordinary c h).lam, some) refl;
 }) after
 
 past_quotes : (c t : ℕ) (after : After) → is_lone c ≡ true → past_selectors false c t after ≡ added t (alone false c)
@@ -168,25 +126,16 @@ unfolding past_selectors
 past_quotes c t after h =
     rw (
       no_one is_lone c 0x200D refl h,
-      no_transparent c h,
+      (lone_ordinary c h).transparent,
       and_right (skips_marks after) false refl,
       joins_none after c h (own c h),
     ) refl
 
 in_any_context : (c t : ℕ) (s : State) → is_lone c ≡ true → in_context false c t s ≡ added t (alone false c)
-unfolding in_context
 in_any_context c t s h =
-    rw (
-      no_one is_lone c 0xFE0F refl h,
-      no_one is_lone c 0xFE01 refl h,
-      no_one is_lone c 0xFE0E refl h,
-      no_presentation c h,
-      no_single_quote c h,
-      no_double_quote c h,
-      and_right s.text false refl,
-      and_right s.quote false refl,
-    )
-    (past_quotes c t s.after h)
+    past_context c t s (no_one is_lone c 0xFE0F refl h) (no_one is_lone c 0xFE01 refl h)
+    (no_one is_lone c 0xFE0E refl h) (lone_ordinary c h).selected
+    ∙ past_quotes c t s.after h
 
 past_high : (c t : ℕ) (s : State) → is_lone c ≡ true → 0xA0 < c → past_emoji false c t s ≡ added t (alone false c)
 unfolding past_emoji
@@ -217,7 +166,7 @@ unfolding step
 step_lone c t s h =
     chosen s.emoji (is_emoji_variation_base c) (past_emoji false c t s)
     (t + (if is_joined_emoji s.after then 0 else 2), before afters.Emoji)
-    (past_emoji false c t (record (if_kept s) { emoji = false })) (added t (lone_own c)) (no_variation c h)
+    (past_emoji false c t (record (if_kept s) { emoji = false })) (added t (lone_own c)) (lone_ordinary c h).selected.variation
     (past_all c t s h)
     (past_all c t (record (if_kept s) { emoji = false }) h)
 

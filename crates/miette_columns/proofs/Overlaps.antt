@@ -14,7 +14,7 @@ use Rattle.unicode_width.specs.Width.{joined_or, Reading, added, skips_marks, is
 use Rattle.unicode_width.specs.Width.{in_context, past_emoji, step}
 use Rattle.miette_columns.specs.steps.Parting.{is_joining, is_closing}
 use Rattle.miette_columns.proofs.ClosingCharacters.{is_mild_kind, mild, unlisted, no_transparent, no_indicator}
-use Rattle.miette_columns.proofs.ClosingCharacters.{no_joiner}
+use Rattle.miette_columns.proofs.ClosingCharacters.{no_marks}
 use Rattle.miette_columns.proofs.ClosingCharacters.{no_selector, JoinsOwn, joins_own, low_parts}
 use Rattle.miette_columns.proofs.Opening.{is_modifier, IsOpen}
 
@@ -73,7 +73,7 @@ step_low c t s low (after, (e, u)) n = ap (λ x. (step false c (t, x)).1) e ∙ 
 
 closing_apart : (c : ℕ) → is_joining c ≡ false → is_mild_kind (kind c) ≡ true → IsApart c
 closing_apart c n h = record {
-  joiner = no_joiner c h;
+  joiner = (no_marks c h).joiner;
   transparent = no_transparent c h;
   selector =
       no_selector c h;

@@ -19,7 +19,7 @@ use Rattle.unicode_width.specs.Width.{step, read_before, str_width}
 use Rattle.unicode_width.proofs.Computing.{unicode_width}
 use Rattle.miette_basics.proofs.Cases.{by_cases}
 use Rattle.miette_columns.specs.steps.Parting.{is_lone, is_joining, is_closing, may_part}
-use Rattle.miette_columns.proofs.ClosingCharacters.{is_mild_kind, unlisted, mild, no_joiner, no_transparent}
+use Rattle.miette_columns.proofs.ClosingCharacters.{is_mild_kind, unlisted, mild, no_marks, no_transparent}
 use Rattle.miette_columns.proofs.ClosingCharacters.{no_selector}
 use Rattle.miette_columns.proofs.ClosingCharacters.{plain_own, emoji_own, JoinsOwn, joins_own, low_parts}
 use Rattle.miette_columns.proofs.Lone.{adds_up, shifted, read_append}
@@ -100,7 +100,7 @@ quiet_modifier false = tt
 joins_quietly : (after : After) (c : ℕ) → is_joining c ≡ false → is_mild_kind (kind c) ≡ true
     → JoinsQuietly (joins false after c)
 unfolding joins
-joins_quietly afters.EmojiModifier c n h = rw (no_joiner c h) (quiet_modifier (is_emoji_modifier_base c))
+joins_quietly afters.EmojiModifier c n h = rw ((no_marks c h).joiner) (quiet_modifier (is_emoji_modifier_base c))
 joins_quietly after c n h = quiet_own c (joins false after c) (own c h) (joins_own after c refl n h)
 
 -- ---- its step
@@ -109,7 +109,7 @@ past_quotes : (c t : ℕ) (after : After) → is_joining c ≡ false → is_mild
     → IsQuiet (past_selectors false c t after).1
 unfolding past_selectors
 past_quotes c t after n h =
-    rw (no_joiner c h, no_transparent c h, and_right (skips_marks after) false refl)
+    rw ((no_marks c h).joiner, no_transparent c h, and_right (skips_marks after) false refl)
     (quiet_joined t (joins false after c) (alone false c) (joins_quietly after c n h) (own c h))
 
 in_any_context : (c t : ℕ) (s : State) → is_joining c ≡ false → is_mild_kind (kind c) ≡ true

@@ -1,11 +1,12 @@
 -- Places of a line's text from which a walk over its characters goes on.
-use Rattle.std.proofs.Common.{ℕ, zero, suc, ◌+◌, ◌-◌, ◌≤◌, ◌≡◌, ◌||◌, Bool, true, false, inl, inr, List, [], ◌∷◌}
+use Rattle.std.proofs.Common.{ℕ, zero, suc, ◌+◌, ◌-◌, ◌<◌, ◌≤◌, ◌≡◌, ◌||◌, Bool, true, false, inl, inr, List, [], ◌∷◌}
 use Rattle.std.proofs.Common.{◌++◌, Option, Some, None, length, drop, refl, sym, ap, subst, ◌∙◌, append_assoc}
-use Rattle.std.proofs.Common.{append-nil, arith}
+use Rattle.std.proofs.Common.{append-nil, arith, string_bytes, String}
 use Rattle.std.specs.Prelude.{IsUtf8, chars, encode_utf8, if◌then◌else◌}
 use Rattle.std.proofs.lemmas.Bool.{or_cases, cond-true, cond-false}
 use Rattle.std.proofs.lemmas.List.{drop-drop}
 use Rattle.std.proofs.lemmas.Option.{none-some, same_Some}
+use Rattle.std.proofs.lemmas.Str.{IsUtf8-string_bytes}
 use Rattle.ucd_emoji.specs.Binary.{is_emoji_variation_base}
 use Rattle.unicode_width.specs.Width.{str_width}
 use Rattle.miette_cells.specs.rules.Cells.{characters}
@@ -18,7 +19,8 @@ use Rattle.miette_columns.specs.declared.places.PartingPlace.{PartingPlace}
 use Rattle.miette_columns.specs.rules.Columns.{begun_text, is_boundary, column}
 use Rattle.miette_columns.specs.steps.Parting.{may_part, may_part_flags, opens, end_overlap, overlap_between}
 use Rattle.miette_columns.specs.steps.Places.{overlap_text, IsHeld, twice, column_behind, IsPlace}
-use Rattle.miette_columns.proofs.Columning.{IsNext, IsOver, none_over, one_over, begun_more, begun_zero, chars_pushed}
+use Rattle.miette_columns.proofs.Columning.{IsNext, IsRead, is_next, IsOver, none_over, one_over, begun_more, begun_zero}
+use Rattle.miette_columns.proofs.Columning.{chars_pushed}
 use Rattle.miette_columns.proofs.Columning.{at_boundary, off_boundary, behind_boundary, behind_other, twice_boundary}
 use Rattle.miette_columns.proofs.Columning.{twice_other, told_column, boundary_at_zero, all_at_zero}
 use Rattle.miette_columns.proofs.PartedTexts.{parted, no_width}
@@ -109,6 +111,16 @@ one_since text from over new sum wider bytes code size h next u v e w =
           (subst (λ k. IsOver (overlap_text from.overlap) from.widths start ((bytes - from.bytes) + (size + more)) new
           wider (drop size (drop bytes text)) k) left step));
     }
+
+-- the same of the texts that a walk had before and behind a character that it read
+pub since_read : {Z : Type 0} (text : List ℕ) (from : PartingPlace) (over new : String Z)
+    (sum wider bytes code size : ℕ)
+    → IsSince text from (string_bytes over) sum bytes → bytes < length text → IsRead text bytes code size
+    → string_bytes new ≡ string_bytes over ++ encode_utf8 code → wider ≡ sum + width_of code
+    → IsSince text from (string_bytes new) wider (bytes + size)
+since_read text from over new sum wider bytes code size h inside read e w =
+    one_since text from (string_bytes over) (string_bytes new) sum wider bytes code size h
+    (is_next text bytes code size inside read) (IsUtf8-string_bytes over) (IsUtf8-string_bytes new) e w
 
 pub ends_pushed : (old new : List ℕ) (code : ℕ) → IsUtf8 old → IsUtf8 new → new ≡ old ++ encode_utf8 code
     → EndsIn new (code ∷ [])

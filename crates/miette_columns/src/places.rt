@@ -25,6 +25,15 @@ pub(crate) struct PartingPlace {
     pub(crate) twice: usize,
 }
 
+// Where a place lies: how many bytes of the text lie before it, how many columns their characters have each by itself,
+// and what a walk from it begins with.
+#[derive(Clone, Copy)]
+struct Stop {
+    bytes: usize,
+    widths: usize,
+    overlap: Overlap,
+}
+
 /// How many bytes lie at least between two places.
 pub(crate) const APART: usize = 64;
 
@@ -68,30 +77,28 @@ pub(crate) fn column_after(from: PartingPlace, text: &str) -> Result<usize, Allo
     Ok(both.saturating_sub(from.twice))
 }
 
-// The place behind so many bytes, which holds some characters, where a text is over since another place.
+// The place where a walk stops behind another place, since which a text is over.
 fn place_at(
     alloc: Global,
     from: PartingPlace,
     over: &str,
-    bytes: usize,
-    widths: usize,
-    first: Overlap,
+    stop: Stop,
 ) -> Result<PartingPlace, AllocError>
-    ensures bytes { IfOk result (λ place. place.bytes ≡ bytes) }
+    ensures bytes { IfOk result (λ place. place.bytes ≡ stop.bytes) }
     ensures column { IfOk result (λ place. place.column
         ≡ (from.column + str_width false (chars over.now)) - from.twice) }
-    ensures widths { IfOk result (λ place. place.widths ≡ widths) }
-    ensures overlap { IfOk result (λ place. place.overlap ≡ first) }
-    ensures twice { IfOk result (λ place. place.twice ≡ str_width false (overlap_text first)) }
+    ensures widths { IfOk result (λ place. place.widths ≡ stop.widths) }
+    ensures overlap { IfOk result (λ place. place.overlap ≡ stop.overlap) }
+    ensures twice { IfOk result (λ place. place.twice ≡ str_width false (overlap_text stop.overlap)) }
 {
     let column = column_after(from, over)?;
-    let text = overlap_text(alloc, first)?;
+    let text = overlap_text(alloc, stop.overlap)?;
     let twice = text.as_str().width();
     Ok(PartingPlace {
-        bytes,
+        bytes: stop.bytes,
         column,
-        widths,
-        overlap: first,
+        widths: stop.widths,
+        overlap: stop.overlap,
         twice,
     })
 }
@@ -114,8 +121,13 @@ fn next_place(
     while bytes < text.len() {
         let (code, size) = first_character(&text[bytes..]);
         if bytes - from.bytes >= APART {
-            if let Some(first) = overlap_between(before, last, is_half, code) {
-                let place = place_at(alloc, from, over.as_str(), bytes, widths, first)?;
+            if let Some(overlap) = overlap_between(before, last, is_half, code) {
+                let stop = Stop {
+                    bytes,
+                    widths,
+                    overlap,
+                };
+                let place = place_at(alloc, from, over.as_str(), stop)?;
                 return Ok(Some(place));
             }
         }

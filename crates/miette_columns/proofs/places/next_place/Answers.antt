@@ -1,4 +1,4 @@
-use Rattle.std.proofs.Common.{◌≡◌, ◌+◌, ◌-◌, ◌<◌, Some, false, sym, drop, string_bytes, ap, ◌∙◌, refl}
+use Rattle.std.proofs.Common.{◌≡◌, ◌+◌, ◌-◌, ◌<◌, Some, false, sym, string_bytes, ap, ◌∙◌, refl}
 use Rattle.std.proofs.Common.{rules, arith}
 use Rattle.std.specs.Prelude.{chars}
 use Rattle.std.proofs.lemmas.Bool.{true≢false}
@@ -8,7 +8,7 @@ use Rattle.unicode_width.specs.Width.{str_width}
 use Rattle.unicode_width.proofs.Computing.{unicode_width}
 use Rattle.miette_columns.proofs.Columning.{is_next, chars_pushed}
 use Rattle.miette_columns.proofs.Flags.{no_flags, flags_pushed}
-use Rattle.miette_columns.proofs.PlaceLaws.{none_since, one_since, ends_pushed, ends_twice, is_next_place}
+use Rattle.miette_columns.proofs.PlaceLaws.{none_since, since_read, ends_pushed, ends_twice, is_next_place}
 use Rattle.miette_columns.specs.steps.Parting.{overlap_between}
 use Rattle.miette_columns.proofs.places.next_place.Goals as goal
 
@@ -27,19 +27,13 @@ loop-bytes-init c = record {
 
 pub loop-bytes-preserved : goal.loop-bytes-preserved
 loop-bytes-preserved c =
-    let text = c.args.text.now in
-    let bytes = c.loop-bytes.bytes in
     let code = c.first_character-code.result.0 in
-    let size = c.first_character-code.result.1 in
-    let read = c.first_character-code.ensures in
-    let next = is_next text bytes code size c.loop-bytes-test.true read.code read.size read.some read.within in
     let ends = ends_pushed (string_bytes c.loop-bytes.over) (string_bytes c.push.new.self) code
     (IsUtf8-string_bytes c.loop-bytes.over) (IsUtf8-string_bytes c.push.new.self) c.in_ok-push.ensures.bytes in
     record {
-      since = one_since text c.args.from (string_bytes c.loop-bytes.over) (string_bytes c.push.new.self)
-          c.loop-bytes.widths c.in_ok-wider.wider bytes code size c.loop-bytes.invariant.since next
-          (IsUtf8-string_bytes c.loop-bytes.over) (IsUtf8-string_bytes c.push.new.self) c.in_ok-push.ensures.bytes
-          (search rules);
+      since = since_read c.args.text.now c.args.from c.loop-bytes.over c.push.new.self _ _ _ _ _
+          c.loop-bytes.invariant.since c.loop-bytes-test.true c.first_character-code.ensures
+          c.in_ok-push.ensures.bytes (search rules);
       flags = flags_pushed (string_bytes c.loop-bytes.over) (string_bytes c.push.new.self) c.loop-bytes.last code
           c.loop-bytes.is_half _ c.loop-bytes.invariant.flags
           (chars_pushed (string_bytes c.loop-bytes.over) (string_bytes c.push.new.self) code
@@ -54,19 +48,17 @@ loop-bytes-preserved c =
 
 pub returns-in-Some : goal.returns-in-Some
 returns-in-Some c =
-    let text = c.args.text.now in
     let from = c.args.from in
     let bytes = c.loop-bytes.bytes in
     let code = c.first_character-code.result.0 in
     let size = c.first_character-code.result.1 in
-    let read = c.first_character-code.ensures in
-    let next = is_next text bytes code size c.loop-bytes-test.true read.code read.size read.some read.within in
+    let next = is_next c.args.text.now bytes code size c.loop-bytes-test.true c.first_character-code.ensures in
     let behind : from.bytes < bytes = search rules in
-    let some : overlap_between c.loop-bytes.before c.loop-bytes.last c.loop-bytes.is_half code ≡ Some c.in-Some.first =
+    let some : overlap_between c.loop-bytes.before c.loop-bytes.last c.loop-bytes.is_half code ≡ Some c.in-Some.overlap =
     search rules in
     let at : c.in_ok-place.place.bytes ≡ bytes = c.in_ok-place.ensures.bytes in (
-      is_next_place text from c.in_ok-place.place (string_bytes c.loop-bytes.over) (drop size (drop bytes text)) code
-          size c.loop-bytes.widths bytes c.loop-bytes.before c.loop-bytes.last c.loop-bytes.is_half c.in-Some.first
+      is_next_place c.args.text.now from c.in_ok-place.place (string_bytes c.loop-bytes.over) _ code
+          size c.loop-bytes.widths bytes c.loop-bytes.before c.loop-bytes.last c.loop-bytes.is_half c.in-Some.overlap
           c.requires c.loop-bytes.invariant.since next.first (c.loop-bytes.invariant.last behind)
           c.loop-bytes.invariant.before c.loop-bytes.invariant.flags some
           at c.in_ok-place.ensures.widths c.in_ok-place.ensures.overlap

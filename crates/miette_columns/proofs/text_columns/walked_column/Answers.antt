@@ -1,12 +1,11 @@
-use Rattle.std.proofs.Common.{◌≡◌, ◌+◌, ◌-◌, ◌<◌, take, drop, length, string_bytes, ap, sym, subst, ◌∙◌, rules, arith}
+use Rattle.std.proofs.Common.{◌+◌, ◌-◌, drop, string_bytes, ap, sym, subst, ◌∙◌, rules, arith}
 use Rattle.std.proofs.Common.{eqb-true, false, refl}
 use Rattle.std.specs.Prelude.{chars}
 use Rattle.std.proofs.lemmas.List.{nil_from_length, take_rest}
 use Rattle.std.proofs.lemmas.Result.{IfOk-weaker}
 use Rattle.std.proofs.lemmas.Str.{IsUtf8-string_bytes}
 use Rattle.unicode_width.specs.Width.{str_width}
-use Rattle.miette_cells.specs.rules.Widths.{width_of}
-use Rattle.miette_columns.proofs.Columning.{IsOver, none_over, one_over, over_at_zero, over_past_end, over_inside}
+use Rattle.miette_columns.proofs.Columning.{IsOver, begins, none_over, one_over, over_at_zero, over_past_end, over_inside}
 use Rattle.miette_columns.proofs.PlaceLaws.{column_from}
 use Rattle.miette_columns.specs.steps.Places.{overlap_text}
 use Rattle.miette_columns.proofs.text_columns.walked_column.Goals as goal
@@ -32,41 +31,25 @@ pub returns-then-left-size : goal.returns-then-left-size
 returns-then-left-size c =
     let from = c.args.from in
     let rest = c.loop-left.rest.now in
-    let size = c.first_character-code.result.1 in
-    let code = c.first_character-code.result.0 in
-    let some : 0 < length rest = search rules in
-    let wider : c.in_ok-wider.wider ≡ c.loop-left.widths + width_of code = search rules in
+    let read = c.first_character-code.ensures in
     column_from c.args.text.now from c.args.bytes c.in_ok-wider.wider c.requires.place c.requires.before
     (over_inside from (drop from.bytes c.args.text.now) (c.args.bytes - from.bytes) (string_bytes c.loop-left.begun)
-    c.loop-left.widths c.in_ok-wider.wider rest (drop size rest) c.loop-left.left code size c.loop-left.invariant
-    (record {
-      some = some;
-      left_is = refl;
-      code_is = c.first_character-code.ensures.code;
-      size_is =
-          c.first_character-code.ensures.size;
-    }) wider c.loop-left-test.true c.if-left-size.true)
+    c.loop-left.widths c.in_ok-wider.wider rest (drop c.first_character-code.result.1 rest) c.loop-left.left
+    c.first_character-code.result.0 c.first_character-code.result.1 c.loop-left.invariant
+    (begins rest _ _ _ (search rules) refl read.code read.size) (search rules) c.loop-left-test.true
+    c.if-left-size.true)
 
 pub loop-left-preserved : goal.loop-left-preserved
 loop-left-preserved c =
     let from = c.args.from in
     let rest = c.loop-left.rest.now in
-    let size = c.first_character-code.result.1 in
-    let code = c.first_character-code.result.0 in
-    let some : 0 < length rest = search rules in
-    let wider : c.in_ok-wider.wider ≡ c.loop-left.widths + width_of code = search rules in
+    let read = c.first_character-code.ensures in
     one_over (overlap_text from.overlap) from.widths (drop from.bytes c.args.text.now) (c.args.bytes - from.bytes)
-    (string_bytes c.loop-left.begun) (string_bytes c.push.new.self) c.loop-left.widths c.in_ok-wider.wider rest
-    (take (length rest - size) (drop size rest)) c.loop-left.left code size c.loop-left.invariant
-    (record {
-      some = some;
-      left_is = take_rest rest size;
-      code_is = c.first_character-code.ensures.code;
-      size_is =
-          c.first_character-code.ensures.size;
-    })
-    (IsUtf8-string_bytes c.loop-left.begun) (IsUtf8-string_bytes c.push.new.self) c.in_ok-push.ensures.bytes wider
-    c.loop-left-test.true c.if-left-size.false
+    (string_bytes c.loop-left.begun) (string_bytes c.push.new.self) c.loop-left.widths c.in_ok-wider.wider rest _
+    c.loop-left.left c.first_character-code.result.0 c.first_character-code.result.1 c.loop-left.invariant
+    (begins rest _ _ _ (search rules) (take_rest rest c.first_character-code.result.1) read.code read.size)
+    (IsUtf8-string_bytes c.loop-left.begun) (IsUtf8-string_bytes c.push.new.self) c.in_ok-push.ensures.bytes
+    (search rules) c.loop-left-test.true c.if-left-size.false
 
 pub returns : goal.returns
 returns c =

@@ -5,22 +5,13 @@ use Rattle.miette_columns.proofs.trails.behind_first.Goals as goal
 
 pub returns-clause-trail : goal.returns-clause-trail
 returns-clause-trail c =
-    let text = c.args.text.now in
-    let trail = c.args.trail in
-    let code = c.first_character-size.result.0 in
-    let size = c.first_character-size.result.1 in
-    let read = c.first_character-size.ensures in
-    let inside : trail.bytes < length text = omega (arith, c.requires.some, c.requires.trail.0.1.0) in
-    let next = is_next text trail.bytes code size inside read.code read.size read.some read.within in
-    next_trail text trail _ code size c.requires.trail c.requires.some next.first next.some refl refl refl refl
+    let inside : c.args.trail.bytes < length c.args.text.now = omega (arith, c.requires.some, c.requires.trail.0.1.0) in
+    let next = is_next _ _ _ _ inside c.first_character-size.ensures in
+    next_trail c.args.text.now c.args.trail _ _ _ c.requires.trail c.requires.some next.first next.some refl refl refl
+    refl
 
 pub returns-clause-bytes : goal.returns-clause-bytes
 returns-clause-bytes c =
-    let text = c.args.text.now in
-    let trail = c.args.trail in
-    let code = c.first_character-size.result.0 in
-    let size = c.first_character-size.result.1 in
-    let read = c.first_character-size.ensures in
-    let inside : trail.bytes < length text = omega (arith, c.requires.some, c.requires.trail.0.1.0) in
-    let next = is_next text trail.bytes code size inside read.code read.size read.some read.within in
-    ap (λ n. trail.bytes + n) (first_bytes text trail.bytes code size next.first)
+    let inside : c.args.trail.bytes < length c.args.text.now = omega (arith, c.requires.some, c.requires.trail.0.1.0) in
+    ap (λ n. c.args.trail.bytes + n) (first_bytes c.args.text.now c.args.trail.bytes _ _
+    (is_next _ _ _ _ inside c.first_character-size.ensures).first)

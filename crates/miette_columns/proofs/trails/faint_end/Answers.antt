@@ -11,13 +11,8 @@ returns-then-not-is_faint c = all_faint c.args.text.now c.args.from c.loop-bytes
 
 pub loop-bytes-preserved : goal.loop-bytes-preserved
 loop-bytes-preserved c =
-    let text = c.args.text.now in
-    let bytes = c.loop-bytes.bytes in
-    let code = c.first_character-code.result.0 in
-    let size = c.first_character-code.result.1 in
-    let read = c.first_character-code.ensures in
-    one_faint text c.args.from bytes code size c.loop-bytes.invariant
-    (is_next text bytes code size c.loop-bytes-test.true read.code read.size read.some read.within)
+    one_faint c.args.text.now c.args.from c.loop-bytes.bytes _ _ c.loop-bytes.invariant
+    (is_next _ _ _ _ c.loop-bytes-test.true c.first_character-code.ensures)
     (sym c.is_faint.ensures ∙ c.if-not-is_faint.false)
 
 pub returns : goal.returns
