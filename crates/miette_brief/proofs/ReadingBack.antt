@@ -8,9 +8,11 @@ use Rattle.std.proofs.lemmas.Bool.{and_parts, not-true}
 use Rattle.std.proofs.lemmas.Bool.Decides.{nat_tests}
 use Rattle.std.proofs.lemmas.Fmt.{decimal_is_IsNumeral, decimal_nonempty}
 use Rattle.miette_brief.specs.declared.rows.Position.{Position}
-use Rattle.miette_brief.specs.rules.Rows.{ReportRow, one_row, place_text, kind_text, row_text}
+use Rattle.miette_protocol.specs.declared.protocol.Severity.TheVariants.{Advice, Warning, Error}
+use Rattle.miette_brief.specs.rules.Rows.{ReportRow, Kind, finding, note, cause, help, one_row, place_text, kind_text}
+use Rattle.miette_brief.specs.rules.Rows.{row_text}
 use Rattle.miette_brief.specs.laws.ReadBack.{has_no_colon, before_colon, after_colon, number_before, position_in}
-use Rattle.miette_brief.specs.laws.ReadBack.{ReadsBack}
+use Rattle.miette_brief.specs.laws.ReadBack.{ReadsBack, numbers_in, is_digit, position_first}
 use Rattle.miette_brief.proofs.Counting.{decimal_all}
 
 before_past : (xs ys : List ℕ) → has_no_colon xs ≡ true → before_colon (xs ++ (58 ∷ ys)) ≡ xs
@@ -49,11 +51,7 @@ digit_no_space d h = grind (arith, nat_tests)
 
 -- no position stands behind a space, and one behind anything else
 position_there : (ds rest : List ℕ) → 0 < length ds → list_all (λ b. not (b == 32)) ds ≡ true
-    → position_in (ds ++ rest) ≡ Some (record {
-      line = number_before (ds ++ rest);
-      column =
-          number_before (after_colon (ds ++ rest));
-    })
+    → position_in (ds ++ rest) ≡ Some (numbers_in (ds ++ rest))
 position_there [] rest some h = absurd (omega arith)
 position_there (d ∷ ds) rest some h = rw (not-true (d == 32)
     (and_parts (not (d == 32)) (list_all (λ b. not (b == 32)) ds) h).0) refl
@@ -101,3 +99,50 @@ place_back row name en free fits =
     let rest = kind_text row.kind ++ one_row row.text in
     subst (λ n. ReadsBack (one_row name) row.place.position (place_text n row.place.position ++ rest)) (sym en)
     (text_back name rest row.place.position free fits)
+
+-- ---- rows without a name
+
+decimal_digits : (n : ℕ) → list_all is_digit (decimal n) ≡ true
+decimal_digits n = decimal_all is_digit (λ d h. grind (arith, nat_tests)) n
+
+first_there : (ds rest : List ℕ) → 0 < length ds → list_all is_digit ds ≡ true
+    → position_first (ds ++ rest) ≡ Some (numbers_in (ds ++ rest))
+first_there [] rest some h = absurd (omega arith)
+first_there (d ∷ ds) rest some h = rw ((and_parts (is_digit d) (list_all is_digit ds) h).0) refl
+
+shape_first : (l c rest : List ℕ) → ((l ++ (58 ∷ c)) ++ (58 ∷ 32 ∷ [])) ++ rest ≡ l ++ (58 ∷ (c ++ (58 ∷ (32 ∷ rest))))
+shape_first l c rest = simp append_assoc
+
+first_past : (at : Position) (rest : List ℕ) → at.line < 2 ^ 64 → at.column < 2 ^ 64
+    → position_first (place_text None (Some at) ++ rest) ≡ Some at
+first_past at rest line column =
+    let last = decimal at.column ++ (58 ∷ (32 ∷ rest)) in
+    let whole = decimal at.line ++ (58 ∷ last) in
+    ap position_first (shape_first (decimal at.line) (decimal at.column) rest)
+    ∙ first_there (decimal at.line) (58 ∷ last) (decimal_nonempty at.line line) (decimal_digits at.line)
+    ∙ same_position (number_before whole) (number_before (after_colon whole)) at (number_past at.line last line)
+    (ap number_before (after_past (decimal at.line) last (decimal_no_colon at.line))
+    ∙ number_past at.column (32 ∷ rest) column)
+
+-- no kind begins with a digit
+kind_first : (kind : Kind) (rest : List ℕ) → position_first (kind_text kind ++ rest) ≡ None
+kind_first (finding None code) rest = refl
+kind_first (finding (Some Error) code) rest = refl
+kind_first (finding (Some Warning) code) rest = refl
+kind_first (finding (Some Advice) code) rest = refl
+kind_first note rest = refl
+kind_first cause rest = refl
+kind_first help rest = refl
+
+first_back : (position : Option Position) (kind : Kind) (text : List ℕ)
+    → IfSome position (λ at. (at.line < 2 ^ 64) × (at.column < 2 ^ 64))
+    → position_first (place_text None position ++ (kind_text kind ++ text)) ≡ position
+first_back None kind text fits = kind_first kind text
+first_back (Some at) kind text fits = first_past at (kind_text kind ++ text) fits.0 fits.1
+
+pub nameless_back : (row : ReportRow) → row.place.name ≡ None
+    → IfSome row.place.position (λ at. (at.line < 2 ^ 64) × (at.column < 2 ^ 64))
+    → position_first (row_text row) ≡ row.place.position
+nameless_back row en fits =
+    ap (λ n. position_first (place_text n row.place.position ++ (kind_text row.kind ++ one_row row.text))) en
+    ∙ first_back row.place.position row.kind (one_row row.text) fits

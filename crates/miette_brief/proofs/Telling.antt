@@ -1,17 +1,19 @@
 -- The rows and the answers of a tree, put together from those of its parts.
-use Rattle.std.proofs.Common.{◌≡◌, ℕ, ◌≤◌, List, [], ◌∷◌, ◌++◌, length, map, drop, Bool, true, false, ◌&&◌, ◌||◌}
+use Rattle.std.proofs.Common.{◌≡◌, ℕ, ◌+◌, ◌<◌, ◌≤◌, List, [], ◌∷◌, ◌++◌, length, get_or, map, drop, Bool, true, false}
+use Rattle.std.proofs.Common.{◌&&◌, ◌||◌}
 use Rattle.std.proofs.Common.{Option, Some, None, refl, sym, ap, ap₂, subst, ◌∙◌, append_assoc, append-nil}
 use Rattle.std.proofs.lemmas.List.{drop_all}
 use Rattle.miette_protocol.specs.rules.Reading.{Source, is_accepted}
-use Rattle.miette_protocol.specs.views.Meaning.{Label}
+use Rattle.miette_protocol.specs.views.Meaning.{Label, Meaning}
 use Rattle.miette_tree.specs.rules.Tree.{Tree, tree, Cause, diagnostic, texts, Trees, no_trees, more_trees, trees}
 use Rattle.miette_tree.specs.rules.Tree.{effective, head, source_of, cause_of, related_of}
 use Rattle.miette_tree.specs.rules.DiagnosticParts.{given_labels}
 use Rattle.miette_tree.specs.rules.Reads.{AlwaysReads, CauseAlwaysReads, AllAlwaysRead, holds_of, holds_of_all, accepts}
 use Rattle.miette_tree.specs.rules.Reads.{MayMeet}
 use Rattle.miette_tree.specs.rules.Answers.{own_fault}
-use Rattle.miette_tree.proofs.Nesting.{Reads, effective_reads}
+use Rattle.miette_tree.proofs.Nesting.{Reads, effective_reads, next_of}
 use Rattle.miette_tree.proofs.Readings.{fault_free}
+use Rattle.miette_tree.proofs.TreeSizes.{tree_size, trees_size, one_falls}
 use Rattle.miette_labels.specs.rules.Groups.{in_order}
 use Rattle.miette_labels.proofs.OwnContexts.{order_all, order_nil}
 use Rattle.miette_brief.specs.rules.Rows.{Place, ReportRow, rows_text}
@@ -24,7 +26,8 @@ use Rattle.miette_brief.specs.rules.PossibleAnswers.{HasAccepted, AreCauseAnswer
 use Rattle.miette_brief.specs.rules.PossibleAnswers.{AllAnswers, IsBrief}
 use Rattle.miette_brief.specs.steps.Reads.{IsDiagnosticPlace}
 use Rattle.miette_brief.proofs.Putting.{rows_joined}
-use Rattle.miette_brief.specs.steps.AppendedParts.{AppendsCauses, AppendsBelow, AppendsOwn, AppendsReport}
+use Rattle.miette_brief.proofs.SoFar.{ToldSoFar, one_so_far}
+use Rattle.miette_brief.specs.steps.AppendedParts.{AppendsCauses, AppendsLabelled, AppendsOwn, AppendsReport}
 use Rattle.miette_brief.specs.steps.AppendedParts.{AppendsRelated}
 
 -- ---- causes that aren't told
@@ -52,44 +55,47 @@ untold at source c old new e = record {
 
 -- ---- one diagnostic
 
-four : (old a b p new x y z w : List ℕ) → a ≡ old ++ x → b ≡ a ++ y → p ≡ b ++ z → new ≡ p ++ w → new ≡ old
-    ++ (x ++ (y ++ (z ++ w)))
-four old a b p new x y z w e f g h = h ∙ ap (λ l. l ++ w) (g ∙ ap (λ l. l ++ z) (f ∙ ap (λ l. l ++ y) e))
-    ∙ simp append_assoc
+three : (old a b new x y z : List ℕ) → a ≡ old ++ x → b ≡ a ++ y → new ≡ b ++ z → new ≡ old ++ (x ++ (y ++ z))
+three old a b new x y z e f g = g ∙ ap (λ l. l ++ z) (f ∙ ap (λ l. l ++ y) e) ∙ simp append_assoc
 
-rows_of_four : (row : ReportRow) (notes causes help : List ReportRow) → rows_text (row ∷ (notes ++ (causes ++ help)))
-    ≡ rows_text (row ∷ []) ++ (rows_text notes ++ (rows_text causes ++ rows_text help))
-rows_of_four row notes causes help =
-    rows_joined (row ∷ []) (notes ++ (causes ++ help)) ∙ ap (λ l. rows_text (row ∷ []) ++ l)
-    (rows_joined notes (causes ++ help) ∙ ap (λ l. rows_text notes ++ l) (rows_joined causes help))
+rows_of_three : (labelled causes help : List ReportRow) → rows_text (labelled ++ (causes ++ help))
+    ≡ rows_text labelled ++ (rows_text causes ++ rows_text help)
+rows_of_three labelled causes help =
+    rows_joined labelled (causes ++ help) ∙ ap (λ l. rows_text labelled ++ l) (rows_joined causes help)
 
-pub own_told : (chain : Bool) (source : Option Source) (t : Tree) (labels order : List Label) (at : Place)
-    (old a b new : List ℕ)
-    → labels ≡ given_labels (head t).labels → order ≡ in_order labels → IsDiagnosticPlace source order at
-    → a ≡ old ++ rows_text (finding_row at (head t) ∷ []) → b ≡ a ++ rows_text (note_rows source order)
-    → HasAccepted source order
-    → AppendsBelow chain at source (cause_of t) (head t).help b new
-    → AppendsOwn chain source (head t) (cause_of t) old new
-own_told chain source t labels order at old a b new el eo placed e f accepted below =
-    let m = head t in
-    let c = cause_of t in
+-- a diagnostic and its labels in this order
+pub labelled : (source : Option Source) (m : Meaning) (labels order : List Label) (at : Place) (old mid new : List ℕ)
+    → labels ≡ given_labels m.labels → order ≡ in_order labels → IsDiagnosticPlace source order at
+    → mid ≡ old ++ rows_text (finding_row at m ∷ []) → new ≡ mid ++ rows_text (note_rows source order)
+    → HasAccepted source order → AppendsLabelled source m at old new
+labelled source m labels order at old mid new el eo placed e f accepted =
     let ls : List Label = in_order (given_labels m.labels) in
     let same : order ≡ ls = eo ∙ ap in_order el in
-    let here : IsDiagnosticPlace source ls at = subst (λ (l : List Label). IsDiagnosticPlace source l at) same placed in
-    let notes : b ≡ a ++ rows_text (note_rows source ls) = f ∙ ap (λ l. a ++ rows_text (note_rows source l)) same in
-    let causes = below.causes in
-    let answers : Answers = listed here.fault causes.answers no_more in
+    record {
+      placed = subst (λ (l : List Label). IsDiagnosticPlace source l at) same placed;
+      accepted = subst (λ (l : List Label). HasAccepted source l) same accepted;
+      appended = f ∙ ap (λ l. mid ++ rows_text (note_rows source l)) same
+          ∙ ap (λ x. x ++ rows_text (note_rows source ls)) e
+          ∙ append_assoc old (rows_text (finding_row at m ∷ [])) (rows_text (note_rows source ls))
+          ∙ ap (λ x. old ++ x) (sym (rows_joined (finding_row at m ∷ []) (note_rows source ls)));
+    }
+
+pub own_told : (chain : Bool) (source : Option Source) (m : Meaning) (c : Cause) (at : Place) (old mid caused : List ℕ)
+    (new : List ℕ) → AppendsLabelled source m at old mid → AppendsCauses chain at source c mid caused
+    → new ≡ caused ++ rows_text (help_rows at m.help) → AppendsOwn chain source m c old new
+own_told chain source m c at old mid caused new head causes e =
+    let rows : List ReportRow = finding_row at m ∷ note_rows source (in_order (given_labels m.labels)) in
+    let told : List ReportRow = cause_rows_if chain at source causes.answers c in
+    let answers : Answers = listed head.placed.fault causes.answers no_more in
     record {
       answers = answers;
-      accepted = subst (λ (l : List Label). HasAccepted source l) same accepted;
-      possible = here.possible;
+      accepted = head.accepted;
+      possible = head.placed.possible;
       causes = causes.possible;
-      appended = four old a b below.caused new (rows_text (finding_row at m ∷ [])) (rows_text (note_rows source ls))
-          (rows_text (cause_rows_if chain at source causes.answers c)) (rows_text (help_rows at m.help)) e notes
-          causes.appended below.appended
-          ∙ ap (λ l. old ++ l) (sym (rows_of_four (finding_row at m) (note_rows source ls)
-          (cause_rows_if chain at source causes.answers c) (help_rows at m.help)))
-          ∙ ap (λ q. old ++ rows_text (rows_at chain q source answers m c)) here.is;
+      appended = three old mid caused new (rows_text rows) (rows_text told) (rows_text (help_rows at m.help))
+          head.appended causes.appended e
+          ∙ ap (λ l. old ++ l) (sym (rows_of_three rows told (help_rows at m.help)))
+          ∙ ap (λ q. old ++ rows_text (rows_at chain q source answers m c)) head.placed.is;
     }
 
 -- ---- a report
@@ -116,46 +122,47 @@ report_told chain inherited (tree m s c rs) source related old mid new es er own
 
 -- ---- related reports, one after the other
 
--- Some are told, and these are left: whatever answers these have, the whole has some.
-pub record RelatedSoFar (chain : Bool) (inherited : Option Source) (all left : Trees) (old now : List ℕ) : Type 0 where
-  pub with_rest : RelatedAnswers → RelatedAnswers
-  pub possible : (more : RelatedAnswers) → AllAnswers inherited more left → AllAnswers inherited (with_rest more) all
-  pub joined : (more : RelatedAnswers) → now ++ rows_text (related_rows chain inherited more left) ≡ old
-      ++ rows_text (related_rows chain inherited (with_rest more) all)
+-- each is smaller than all of them
+pub falls : {R : Type 0} (value : R → Tree) (rs : List R) (i : ℕ) (r : R) → i < length rs → r ≡ get_or rs i r
+    → tree_size (value r) < trees_size (trees (map value rs))
+falls value rs i r test is =
+    subst (λ r. tree_size (value r) < trees_size (trees (map value rs))) (sym is) (one_falls value rs i r test)
 
-pub none_so_far : (chain : Bool) (inherited : Option Source) (all : Trees) (old : List ℕ)
-    → RelatedSoFar chain inherited all all old old
-none_so_far chain inherited all old = record { with_rest = λ more. more; possible = λ more p. p; joined = λ more. refl }
+-- some of these reports are told, up to this one
+abbrev pub RelatedSoFar : {R : Type 0} → (R → Tree) → Bool → Option Source → List R → ℕ → List ℕ → List ℕ → Type 0
+RelatedSoFar value chain inherited rs i old now =
+    ToldSoFar (λ more ts. AllAnswers inherited more ts) (λ more ts. rows_text (related_rows chain inherited more ts))
+    (trees (map value rs)) (trees (map value (drop i rs))) old now
 
-pub one_more : (chain : Bool) (inherited : Option Source) (all : Trees) (t : Tree) (ts : Trees) (old now new : List ℕ)
-    → RelatedSoFar chain inherited all (more_trees t ts) old now → AppendsReport chain inherited t now new
-    → RelatedSoFar chain inherited all ts old new
-one_more chain inherited all t ts old now new r a = record {
-  with_rest = λ more. r.with_rest (and_more a.answers more);
-  possible = λ more p. r.possible (and_more a.answers more) (a.possible, p);
-  joined = λ more. ap (λ l. l ++ rows_text (related_rows chain inherited more ts)) a.appended
-      ∙ append_assoc now (rows_text (report_rows chain inherited a.answers t))
-      (rows_text (related_rows chain inherited more ts))
-      ∙ ap (λ l. now ++ l) (sym (rows_joined (report_rows chain inherited a.answers t)
-      (related_rows chain inherited more ts)))
-      ∙ r.joined (and_more a.answers more);
-}
+pub one_more : {R : Type 0} (value : R → Tree) (chain : Bool) (inherited : Option Source) (rs : List R) (i : ℕ) (r : R)
+    (old now new : List ℕ)
+    → i < length rs → r ≡ get_or rs i r → RelatedSoFar value chain inherited rs i old now
+    → AppendsReport chain inherited (value r) now new → RelatedSoFar value chain inherited rs (i + 1) old new
+one_more value chain inherited rs i r old now new test is so_far a =
+    let left = trees (map value (drop (i + 1) rs)) in
+    one_so_far _ _ (trees (map value rs)) (more_trees (value r) left) left (and_more a.answers) old now new
+    (rows_text (report_rows chain inherited a.answers (value r)))
+    (subst (λ (ts : Trees). ToldSoFar (λ more ts. AllAnswers inherited more ts)
+    (λ more ts. rows_text (related_rows chain inherited more ts)) (trees (map value rs)) ts old now)
+    (next_of value rs i r test is) so_far)
+    (λ more p. (a.possible, p))
+    (λ more. rows_joined (report_rows chain inherited a.answers (value r)) (related_rows chain inherited more left))
+    a.appended
 
-pub all_told : (chain : Bool) (inherited : Option Source) (all : Trees) (old now : List ℕ)
-    → RelatedSoFar chain inherited all no_trees old now → AppendsRelated chain inherited all old now
-all_told chain inherited all old now r = record {
-  answers = r.with_rest no_more;
-  possible =
-      r.possible no_more tt;
-  appended = sym (append-nil now) ∙ r.joined no_more;
-}
-
-pub at_the_end : {R : Type 0} (value : R → Tree) (chain : Bool) (inherited : Option Source) (rs : List R) (all : Trees)
-    (i : ℕ) (old now : List ℕ) → length rs ≤ i
-    → RelatedSoFar chain inherited all (trees (map value (drop i rs))) old now
-    → RelatedSoFar chain inherited all no_trees old now
-at_the_end value chain inherited rs all i old now h r =
-    subst (λ l. RelatedSoFar chain inherited all (trees (map value l)) old now) (drop_all i rs h) r
+pub all_told : {R : Type 0} (value : R → Tree) (chain : Bool) (inherited : Option Source) (rs : List R) (i : ℕ)
+    (old now : List ℕ) → length rs ≤ i → RelatedSoFar value chain inherited rs i old now
+    → AppendsRelated chain inherited (trees (map value rs)) old now
+all_told value chain inherited rs i old now end so_far =
+    let last : AllAnswers inherited no_more (trees (map value (drop i rs))) =
+    subst (λ l. AllAnswers inherited no_more (trees (map value l))) (sym (drop_all i rs end)) tt in
+    record {
+      answers = so_far.with_rest no_more;
+      possible = so_far.possible no_more last;
+      appended = sym (append-nil now)
+          ∙ ap (λ l. now ++ rows_text (related_rows chain inherited no_more (trees (map value l))))
+          (sym (drop_all i rs end))
+          ∙ so_far.joined no_more;
+    }
 
 -- ---- where something is refused
 
@@ -170,6 +177,14 @@ pub refused_here : (t : Tree) (inherited source : Option Source) → source ≡ 
 refused_here (tree m s c r) inherited source es e =
     ap (λ b. b && holds_of_all accepts (effective s inherited) r)
     (sym (ap (λ o. accepts o (given_labels m.labels)) es) ∙ (sym (accepts_order source (given_labels m.labels)) ∙ e))
+
+-- labels in an order that is refused
+pub order_refused : {X : Type 0} (label : List Label → X → Label) (source : Option Source) (labels given : List Label)
+    (order : List X) → labels ≡ given → map (label given) order ≡ in_order given
+    → accepts source (map (label labels) order) ≡ false → accepts source (in_order given) ≡ false
+order_refused label source labels given order e ordered refused =
+    subst (λ (ls : List Label). accepts source ls ≡ false) (ap (λ (ls : List Label). map (label ls) order) e ∙ ordered)
+    refused
 
 -- ---- where every source always reads
 

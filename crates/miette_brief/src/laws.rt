@@ -1,12 +1,15 @@
 //! What holds of every brief report. Each law is the contract of a function that does nothing; a caller cites it by
 //! calling it.
 
-ghost use Rattle.std.specs.Prelude.{◌≡◌, ◌<◌, ◌^◌, ℕ, List, Some, IfSome, true};
+ghost use Rattle.std.specs.Prelude.{◌≡◌, ◌<◌, ◌^◌, ◌++◌, ℕ, List, Some, None, IfSome, true};
 ghost use Rattle.miette_tree.specs.rules.Tree.{Tree};
+ghost use Rattle.miette_tree.specs.rules.Reads.{AlwaysReads};
+ghost use Rattle.miette_tree.specs.views.Handler.{AppendsOne};
 ghost use Rattle.miette_brief.specs.rules.Rows.{ReportRow, one_row, row_text};
-ghost use Rattle.miette_brief.specs.rules.Report.{BriefSettings, Answers, brief};
+ghost use Rattle.miette_brief.specs.rules.Report.{BriefSettings, Answers, brief, unlisted};
+ghost use Rattle.miette_brief.specs.rules.PossibleAnswers.{IsBrief};
 ghost use Rattle.miette_brief.specs.laws.Parts.{parts, IsRows};
-ghost use Rattle.miette_brief.specs.laws.ReadBack.{has_no_colon, ReadsBack};
+ghost use Rattle.miette_brief.specs.laws.ReadBack.{has_no_colon, ReadsBack, position_first};
 
 /// A report has exactly one row for each of its parts: its message, its labels with a text, its causes where they are
 /// told, its help, and the parts of each report related to it. None is empty, none holds a control character, and each
@@ -22,4 +25,21 @@ pub fn a_place_reads_back()
     ensures { (row : ReportRow) (name : List ℕ) → row.place.name ≡ Some name → has_no_colon (one_row name) ≡ true →
         IfSome row.place.position (λ at. (at.line < 2 ^ 64) × (at.column < 2 ^ 64)) →
         ReadsBack (one_row name) row.place.position (row_text row) }
+{}
+
+/// In a row without a name the position reads back: the line stands up to the first colon, and the column up to the next
+/// one. A row that has no position either begins with no digit.
+pub fn a_nameless_place_reads_back()
+    ensures { (row : ReportRow) → row.place.name ≡ None →
+        IfSome row.place.position (λ at. (at.line < 2 ^ 64) × (at.column < 2 ^ 64)) →
+        position_first (row_text row) ≡ row.place.position }
+{}
+
+/// Where every source of a report always reads, it has one brief text: `ReportHandler::debug`, and what stands on it,
+/// then appends this one.
+pub fn a_read_report_has_one_text()
+    ensures text { (s : BriefSettings) (t : Tree) (text : List ℕ) → IsBrief s t text → AlwaysReads t →
+        text ≡ brief s t unlisted }
+    ensures appended { (s : BriefSettings) (t : Tree) (old new : List ℕ) → AppendsOne (IsBrief s t) old new →
+        AlwaysReads t → new ≡ old ++ brief s t unlisted }
 {}

@@ -18,7 +18,7 @@ ghost use Rattle.miette_brief.specs.rules.PossibleAnswers.{HasAccepted};
 ghost use Rattle.miette_brief.specs.rules.PossibleAnswers.{IsBrief};
 ghost use Rattle.miette_brief.specs.steps.Conversions.{place_of};
 ghost use Rattle.miette_brief.specs.steps.Reads.{IsUnread, IsReadAt};
-ghost use Rattle.miette_brief.specs.steps.AppendedParts.{AppendsCauses, AppendsBelow, AppendsOwn, AppendsReport};
+ghost use Rattle.miette_brief.specs.steps.AppendedParts.{AppendsCauses, AppendsLabelled, AppendsOwn, AppendsReport};
 ghost use Rattle.miette_brief.specs.steps.AppendedParts.{AppendsRelated};
 
 use crate::places::{cause_place, diagnostic_place, label_of, label_place};
@@ -131,51 +131,27 @@ fn push_help(out: &mut String, at: Place<'_>, help: Option<&str>) -> Result<(), 
     push_row(out, at, Kind::Help, help)
 }
 
-/// The rows of the causes of a report that lies at a place, where causes are told, and the row of its help.
-fn push_below<'a, D: Diagnostic, S: SourceCode>(
-    alloc: Global,
-    told: bool,
-    report: &'a Report<D, S>,
-    at: Place<'a>,
-    source: Option<SourceRef<'a, S>>,
-    out: &mut String,
-) -> Result<(), AllocError>
-    ensures { OnOk result (AppendsBelow told (place_of at.entry) (option_map (shown_source S.source) source.entry)
-        (cause_of (tree_of D.meaning S.source report.now)) (head (tree_of D.meaning S.source report.now)).help
-        (string_bytes out.old) (string_bytes out.new)) }
-{
-    if told {
-        push_causes(alloc, report, at, source, out)?;
-    }
-    push_help(out, at, report.help())
-}
-
-/// The rows of a report over a source, or over none, by this order of its labels, without those of related reports.
-fn push_ordered<'a, D: Diagnostic, S: SourceCode>(
-    alloc: Global,
-    chain: bool,
+/// The rows of a report over a source, or over none, and of its labels in this order; where the report lies.
+fn push_labelled<'a, D: Diagnostic, S: SourceCode>(
     report: &'a Report<D, S>,
     source: Option<SourceRef<'a, S>>,
     order: &[Turn],
     out: &mut String,
-) -> Result<(), RenderError>
+) -> Result<Place<'a>, RenderError>
     requires inside { All (λ turn. turn.index
         < length (given_labels (head (tree_of D.meaning S.source report.now)).labels)) order.now }
     requires ordered { map (λ turn. label_at (given_labels (head (tree_of D.meaning S.source report.now)).labels)
         turn.index) order.now ≡ in_order (given_labels (head (tree_of D.meaning S.source report.now)).labels) }
-    ensures text { OnOk result (AppendsOwn chain (option_map (shown_source S.source) source.entry)
-        (head (tree_of D.meaning S.source report.now)) (cause_of (tree_of D.meaning S.source report.now))
-        (string_bytes out.old) (string_bytes out.new)) }
-    ensures refused { (result ≡ Err RenderError.Refused) →
-        accepts (option_map (shown_source S.source) source.entry)
+    ensures text { IfOk result (λ at. AppendsLabelled (option_map (shown_source S.source) source.entry)
+        (head (tree_of D.meaning S.source report.now)) (place_of at) (string_bytes out.old) (string_bytes out.new)) }
+    ensures refused { (result ≡ Err RenderError.Refused) → accepts (option_map (shown_source S.source) source.entry)
         (in_order (given_labels (head (tree_of D.meaning S.source report.now)).labels)) ≡ false }
 {
     let labels = labels_of(report);
     let at = diagnostic_place(source, labels, order)?;
     push_head(report, at, out)?;
     push_notes(source, labels, order, out)?;
-    push_below(alloc, chain, report, at, source, out)?;
-    Ok(())
+    Ok(at)
 }
 
 /// The rows of a report over a source, or over none, without those of related reports.
@@ -194,7 +170,12 @@ fn push_own<'a, D: Diagnostic, S: SourceCode>(
         (in_order (given_labels (head (tree_of D.meaning S.source report.now)).labels)) ≡ false }
 {
     let order = by_offset(alloc, labels_of(report))?;
-    push_ordered(alloc, chain, report, source, &order, out)
+    let at = push_labelled(report, source, &order, out)?;
+    if chain {
+        push_causes(alloc, report, at, source, out)?;
+    }
+    push_help(out, at, report.help())?;
+    Ok(())
 }
 
 /// Appends a report, below one with this source.

@@ -1,5 +1,6 @@
 -- How the place of a row is read back.
-use Rattle.std.specs.Prelude.{◌≡◌, ℕ, ◌==◌, Bool, not, List, [], ◌∷◌, Option, Some, None, if◌then◌else◌}
+use Rattle.std.specs.Prelude.{◌≡◌, ℕ, ◌==◌, nat_le, Bool, not, ◌&&◌, List, [], ◌∷◌, Option, Some, None}
+use Rattle.std.specs.Prelude.{if◌then◌else◌}
 use Rattle.std.specs.List.{list_all}
 use Rattle.std.specs.Str.Parse.{digits_value}
 use Rattle.miette_brief.specs.declared.rows.Position.{Position}
@@ -21,12 +22,22 @@ after_colon (b ∷ bs) = if b == 58 then bs else after_colon bs
 abbrev pub number_before : List ℕ → ℕ
 number_before bs = digits_value 10 (before_colon bs)
 
--- what stands behind a name's colon: a line and a column, each up to a colon, or a space, and then no position
+-- a line and a column, each up to a colon
+abbrev pub numbers_in : List ℕ → Position
+numbers_in bs = record { line = number_before bs; column = number_before (after_colon bs) }
+
+-- what stands behind a name's colon: a line and a column, or a space, and then no position
 abbrev pub position_in : List ℕ → Option Position
 position_in [] = None
-position_in (b ∷ bs) =
-    if b == 32 then None
-    else Some (record { line = number_before (b ∷ bs); column = number_before (after_colon (b ∷ bs)) })
+position_in (b ∷ bs) = if b == 32 then None else Some (numbers_in (b ∷ bs))
+
+abbrev pub is_digit : ℕ → Bool
+is_digit b = nat_le 48 b && nat_le b 57
+
+-- what a row without a name begins with: a line and a column, or no digit, and then no position
+abbrev pub position_first : List ℕ → Option Position
+position_first [] = None
+position_first (b ∷ bs) = if is_digit b then Some (numbers_in (b ∷ bs)) else None
 
 -- a row begins with this name, up to a colon, and with this position, or with none
 pub record ReadsBack (name : List ℕ) (position : Option Position) (row : List ℕ) : Type 0 where

@@ -1,5 +1,5 @@
 -- What is appended for the parts of a report, under some answers.
-use Rattle.std.specs.Prelude.{◌≡◌, ℕ, Bool, List, ◌++◌, Option}
+use Rattle.std.specs.Prelude.{◌≡◌, ℕ, Bool, List, ◌∷◌, ◌++◌, Option}
 use Rattle.miette_protocol.specs.views.Meaning.{Meaning}
 use Rattle.miette_protocol.specs.rules.Reading.{Source}
 use Rattle.miette_tree.specs.rules.Tree.{Tree, Cause, Trees}
@@ -8,9 +8,10 @@ use Rattle.miette_tree.specs.rules.Answers.{own_fault}
 use Rattle.miette_tree.specs.rules.Reads.{MayMeet}
 use Rattle.miette_labels.specs.rules.Groups.{in_order}
 use Rattle.miette_brief.specs.rules.Rows.{Place, rows_text}
-use Rattle.miette_brief.specs.rules.Report.{Answers, RelatedAnswers, cause_answers, cause_rows_if, help_rows, own_rows}
-use Rattle.miette_brief.specs.rules.Report.{report_rows, related_rows}
+use Rattle.miette_brief.specs.rules.Report.{Answers, RelatedAnswers, cause_answers, cause_rows_if, finding_row}
+use Rattle.miette_brief.specs.rules.Report.{note_rows, own_rows, report_rows, related_rows}
 use Rattle.miette_brief.specs.rules.PossibleAnswers.{HasAccepted, AreCauseAnswers, AreAnswers, AllAnswers}
+use Rattle.miette_brief.specs.steps.Reads.{IsDiagnosticPlace}
 
 -- new is old and then the rows of a cause where causes are told, for some answers
 pub record AppendsCauses (chain : Bool) (at : Place) (inherited : Option Source) (c : Cause) (old new : List ℕ) : Type 0
@@ -19,12 +20,11 @@ pub record AppendsCauses (chain : Bool) (at : Place) (inherited : Option Source)
     pub possible : AreCauseAnswers inherited answers c
     pub appended : new ≡ old ++ rows_text (cause_rows_if chain at inherited answers c)
 
--- new is old and then the rows of a cause where causes are told, for some answers, and the row of help
-pub record AppendsBelow (chain : Bool) (at : Place) (inherited : Option Source) (c : Cause) (help : Option (List ℕ))
-    (old new : List ℕ) : Type 0 where
-  pub caused : List ℕ
-  pub causes : AppendsCauses chain at inherited c old caused
-  pub appended : new ≡ caused ++ rows_text (help_rows at help)
+-- new is old and then the row of a diagnostic that lies at this place, and those of its labels, which were accepted
+pub record AppendsLabelled (source : Option Source) (m : Meaning) (at : Place) (old new : List ℕ) : Type 0 where
+  pub placed : IsDiagnosticPlace source (in_order (given_labels m.labels)) at
+  pub accepted : HasAccepted source (in_order (given_labels m.labels))
+  pub appended : new ≡ old ++ rows_text (finding_row at m ∷ note_rows source (in_order (given_labels m.labels)))
 
 -- new is old and then the rows of a diagnostic with its cause, for some answers
 pub record AppendsOwn (chain : Bool) (source : Option Source) (m : Meaning) (c : Cause) (old new : List ℕ) : Type 0

@@ -1,4 +1,4 @@
-use Rattle.std.proofs.Common.{string_bytes, map, drop}
+use Rattle.std.proofs.Common.{string_bytes, map}
 use Rattle.std.specs.Option.{option_map}
 use Rattle.miette_tree.specs.rules.Tree.{trees}
 use Rattle.miette_tree.specs.views.Owned.{shown_source}
@@ -7,15 +7,15 @@ use Rattle.miette_tree.proofs.TreeSizes.{tree_size, trees_size}
 use Rattle.miette_brief.proofs.Telling.{RelatedSoFar}
 use Rattle.miette_brief.proofs.report.+report.Given as goal
 
+abbrev pub invariant-push_related-loop-report : goal.invariant-push_related-loop-report
+invariant-push_related-loop-report g l =
+    RelatedSoFar (tree_of g.D.Diagnostic.meaning g.S.SourceCode.source) l.chain
+    (option_map (shown_source g.S.SourceCode.source) l.source) l.reports l.report-index (string_bytes l.fn.out)
+    (string_bytes l.out)
+
 abbrev pub decreases-push_report : goal.decreases-push_report
 decreases-push_report g l = tree_size (tree_of g.D.Diagnostic.meaning g.S.SourceCode.source l.report.now)
 
 abbrev pub decreases-push_related : goal.decreases-push_related
 decreases-push_related g l = trees_size (trees (map (tree_of g.D.Diagnostic.meaning g.S.SourceCode.source)
     l.reports.now))
-
-abbrev pub invariant-push_related-loop-report : goal.invariant-push_related-loop-report
-invariant-push_related-loop-report g l =
-    let value = tree_of g.D.Diagnostic.meaning g.S.SourceCode.source in
-    RelatedSoFar l.chain (option_map (shown_source g.S.SourceCode.source) l.source) (trees (map value l.reports))
-    (trees (map value (drop l.report-index l.reports))) (string_bytes l.fn.out) (string_bytes l.out)

@@ -6,7 +6,8 @@ use Rattle.miette_tree.specs.views.Report.{tree_of}
 use Rattle.miette_tree.specs.views.Owned.{shown_source}
 use Rattle.miette_tree.proofs.Nesting.{texts_shown}
 use Rattle.miette_brief.specs.steps.Conversions.{place_of}
-use Rattle.miette_brief.proofs.Causing.{none_so_far, one_more, all_told}
+use Rattle.miette_brief.proofs.SoFar.{none_so_far}
+use Rattle.miette_brief.proofs.Causing.{one_more, all_told}
 use Rattle.miette_brief.proofs.report.push_causes.Goals as goal
 
 pub loop-next-init : goal.loop-next-init
