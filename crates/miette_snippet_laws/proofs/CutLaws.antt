@@ -1,7 +1,7 @@
--- Lines that are cut, in the rows of snippets: how wide they are, and that lines which fit stay as they are.
-use Rattle.std.proofs.Common.{◌≡◌, ℕ, suc, ◌+◌, ◌≤◌, Bool, false, cond, List, [], ◌∷◌, ◌++◌, length, refl, sym, ap, ap₂}
-use Rattle.std.proofs.Common.{subst, Option, Some, None, drop}
-use Rattle.std.proofs.lemmas.Bool.{le-ltb}
+-- Lines that are cut, in the rows of snippets: which are, how wide they are, and that lines which fit stay as they are.
+use Rattle.std.proofs.Common.{◌≡◌, ◌≢◌, ℕ, suc, ◌+◌, ◌<◌, ◌≤◌, Bool, false, cond, ltb, List, [], ◌∷◌, ◌++◌, length, refl, sym}
+use Rattle.std.proofs.Common.{ap, ap₂, ◌∙◌, subst, Option, Some, None, drop}
+use Rattle.std.proofs.lemmas.Bool.{le-ltb, lt-ltb}
 use Rattle.std.specs.List.{AllByRecursion}
 use Rattle.miette_source_lines.specs.rules.Lines.{Line}
 use Rattle.miette_protocol.specs.rules.Reading.{Contents}
@@ -10,7 +10,9 @@ use Rattle.miette_cells.specs.rules.Cells.{Cell}
 use Rattle.miette_labels.specs.rules.Contexts.{lines_of_contents}
 use Rattle.miette_labels.specs.rules.Labels.{DrawnLabel, one_line, multi_line}
 use Rattle.miette_page.specs.rules.Rows.{columns_of, glyphs_of}
-use Rattle.miette_snippet_rules.specs.rules.CutLines.{cut_line, shown_marks, shown_runs}
+use Rattle.miette_basics.proofs.Cases.{by_cases}
+use Rattle.miette_snippet_rules.specs.rules.CutLines.{Stretch, cut_line, ends, is_near, shown_marks, shown_runs}
+use Rattle.miette_snippet_rules.specs.rules.CutLines.{stretches}
 use Rattle.miette_snippet_rules.specs.rules.Drawing.{marked_rows}
 use Rattle.miette_snippet_rules.specs.rules.Folds.{Spread}
 use Rattle.miette_snippet_rules.specs.rules.Frames.{number_start, other_start, number_width}
@@ -18,7 +20,7 @@ use Rattle.miette_snippet_rules.specs.rules.Gutters.{closing_rows, gutter_column
 use Rattle.miette_snippet_rules.specs.rules.Marks.{Mark, Text, mark_until, marks_from}
 use Rattle.miette_snippet_rules.specs.rules.PrintedCells.{cells_width}
 use Rattle.miette_snippet_rules.specs.rules.SnippetLayout.{before_each, body_rows, break_row, cells_of, left_out}
-use Rattle.miette_snippet_rules.specs.rules.SnippetLayout.{line_marks, line_or_break, line_rows, rows_of_lines}
+use Rattle.miette_snippet_rules.specs.rules.SnippetLayout.{line_cut, line_marks, line_or_break, line_rows, rows_of_lines}
 use Rattle.miette_snippet_rules.specs.rules.SnippetLayout.{text_of_cells}
 use Rattle.miette_labels.specs.rules.Labels.{closing_labels}
 use Rattle.miette_snippet_laws.specs.laws.Cuts.{AreAsWide, Fits, most_columns}
@@ -48,11 +50,50 @@ rows_narrow s labels source line pieces limit widest is wide =
     ≤ most_columns limit (length own) widest) (sym is)
     (row_bound limit widest pieces own cells (line_columns s source line) wide))
 
+-- ---- which lines are cut
+
+cut_some : (limit : ℕ) (ms : List Mark) (cells : List Cell) → limit < cells_width 0 cells
+    → cut_line (Some limit) ms cells ≡ Some (stretches (is_near limit (ends ms)) false cells)
+cut_some limit ms cells lt = rw (lt-ltb limit (cells_width 0 cells) lt) refl
+
+some_not : (o : Option (List Stretch)) (ss : List Stretch) → o ≡ Some ss → o ≢ None
+some_not o ss some none = absurd (cc)
+
+pub wide_cut : (s : SnippetSettings) (labels : List DrawnLabel) (source : List ℕ) (line : Line) (limit : ℕ)
+    → s.layout.line_columns ≡ Some limit → limit < cells_width 0 (cells_of s source line) →
+    line_cut s line (cells_of s source line) (one_line line labels) ≢ None
+wide_cut s labels source line limit is lt =
+    let cells : List Cell = cells_of s source line in
+    let own : List Mark = line_marks line cells (one_line line labels) in
+    subst (λ (o : Option ℕ). cut_line o own cells ≢ None) (sym is)
+    (some_not (cut_line (Some limit) own cells) (stretches (is_near limit (ends own)) false cells)
+    (cut_some limit own cells lt))
+
+-- a line that is cut is cut at some limit
+pub cut_limit : (o : Option ℕ) (ms : List Mark) (cells : List Cell) (cut : List Stretch)
+    → cut_line o ms cells ≡ Some cut →
+    (limit : ℕ) × (cut ≡ stretches (is_near limit (ends ms)) false cells)
+cut_limit None ms cells cut is = absurd (cc)
+cut_limit (Some n) ms cells cut is =
+    let own : List Stretch = stretches (is_near n (ends ms)) false cells in
+    by_cases {C = (limit : ℕ) × (cut ≡ stretches (is_near limit (ends ms)) false cells)}
+    (ltb n (cells_width 0 cells))
+    (λ y. let there : Some own ≡ Some cut = sym (ap (λ b. cond b (Some own) None) y) ∙ is in
+    let same : cut ≡ own = cc in (n, same))
+    (λ f. let none : None ≡ Some cut = sym (ap (λ b. cond b (Some own) None) f) ∙ is in absurd (cc))
+
 -- ---- lines that fit
 
 cut_none : (limit : Option ℕ) (ms : List Mark) (cells : List Cell) → Fits limit cells → cut_line limit ms cells ≡ None
 cut_none None ms cells h = refl
 cut_none (Some limit) ms cells h = rw (le-ltb limit (cells_width 0 cells) h) refl
+
+pub fits_whole : (s : SnippetSettings) (labels : List DrawnLabel) (source : List ℕ) (line : Line)
+    → Fits s.layout.line_columns (cells_of s source line) →
+    line_cut s line (cells_of s source line) (one_line line labels) ≡ None
+fits_whole s labels source line fits =
+    let cells : List Cell = cells_of s source line in
+    cut_none s.layout.line_columns (line_marks line cells (one_line line labels)) cells fits
 
 line_stays : (s : SnippetSettings) (w columns : ℕ) (labels : List DrawnLabel) (line : Line) (number : ℕ)
     (cells : List Cell) (pieces : List Highlight) → Fits s.layout.line_columns cells →

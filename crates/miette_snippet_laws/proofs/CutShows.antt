@@ -14,7 +14,7 @@ use Rattle.miette_snippet_laws.specs.laws.Cuts.{AreStretches, IsWithin, by_nearn
 use Rattle.miette_snippet_laws.proofs.CleanTexts.{line_same}
 use Rattle.miette_snippet_laws.proofs.Flat.{glyphs_of-append}
 
-agree-same : (a b : Bool) → agree a b ≡ true → b ≡ a
+pub agree-same : (a b : Bool) → agree a b ≡ true → b ≡ a
 agree-same true b h = h
 agree-same false true h = sym h
 agree-same false false h = refl
@@ -46,6 +46,25 @@ cells_near near before (c ∷ cs) =
     let here : Bool = is_near_after near before c in
     onto_stretch (record { near = here; cells = c ∷ [] }) (stretches near here cs)
     ∙ ap (λ xs. (c, here) ∷ xs) (cells_near near here cs)
+
+-- the cells of stretches are those of the line
+abbrev pub cells_in : List Stretch → List Cell
+cells_in [] = []
+cells_in (s ∷ later) = s.cells ++ cells_in later
+
+onto_cells : (s : Stretch) (ss : List Stretch) → cells_in (onto_stretches s ss) ≡ s.cells ++ cells_in ss
+onto_cells s [] = refl
+onto_cells s (next ∷ later) =
+    by_cases {C = cells_in (onto_stretches s (next ∷ later)) ≡ s.cells ++ cells_in (next ∷ later)}
+    (agree s.near next.near) (λ y. rw y (append_assoc s.cells next.cells (cells_in later))) (λ n. rw n refl)
+
+pub whole_cells : (near : Cell → Bool) (before : Bool) (cells : List Cell)
+    → cells_in (stretches near before cells) ≡ cells
+whole_cells near before [] = refl
+whole_cells near before (c ∷ cs) =
+    let here : Bool = is_near_after near before c in
+    onto_cells (record { near = here; cells = c ∷ [] }) (stretches near here cs)
+    ∙ ap (λ xs. c ∷ xs) (whole_cells near here cs)
 
 -- ---- stretches are parted
 

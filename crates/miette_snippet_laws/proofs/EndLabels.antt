@@ -1,8 +1,8 @@
 -- Labels at the end of a source stand behind the text of its last line, and the rows of no other label change.
-use Rattle.std.proofs.Common.{ℕ, ◌+◌, ◌-◌, ◌<◌, ◌≤◌, ◌≡◌, max, Bool, true, false, cond, eqb, ltb, leb, ◌||◌, List, []}
+use Rattle.std.proofs.Common.{ℕ, ◌+◌, ◌-◌, ◌<◌, ◌≡◌, max, Bool, true, false, cond, eqb, ltb, leb, ◌||◌, List, []}
 use Rattle.std.proofs.Common.{◌∷◌, ◌++◌, map, length, Option, Some, None, refl, sym, ap, ap₂, ◌∙◌, arith, drop}
 use Rattle.std.specs.Prelude.{unwrap_or, option_map}
-use Rattle.std.specs.List.{AllByRecursion, list_any}
+use Rattle.std.specs.List.{list_any}
 use Rattle.std.proofs.lemmas.Bool.{eq-eqb, lt-ltb, le-leb, ltb-true, and_left, and_parts, and_right}
 use Rattle.miette_source_lines.specs.rules.Lines.{Line, lines_of, IsCut}
 use Rattle.miette_protocol.specs.views.Meaning.{Label}
@@ -23,7 +23,7 @@ use Rattle.miette_snippet_rules.specs.rules.SnippetLayout.{drawn_labels, all_sni
 use Rattle.miette_snippet_rules.specs.rules.SnippetLayout.{rows_unless, snippet_rows}
 use Rattle.miette_page.specs.rules.Rows.{Row}
 use Rattle.miette_snippet_laws.specs.laws.Ends.{draws_ends, last_line, stands_behind, EndsStandBehind, AreBehindText}
-use Rattle.miette_snippet_laws.specs.laws.Ends.{with_ends}
+use Rattle.miette_snippet_laws.specs.laws.Ends.{BeginBehind, with_ends}
 use Rattle.miette_source_lines.proofs.Cuts.{cut_le, lines_cut}
 use Rattle.miette_basics.proofs.Cases.{by_cases}
 use Rattle.miette_labels.proofs.OwnContexts.{own_ordered, order_any}
@@ -87,11 +87,12 @@ ends_stand s bytes labels drawn =
 
 -- ---- their marks
 
-far : (text : Text) (reached : ℕ) (label : DrawnLabel) → label.behind ≡ true → text.width ≤ mark_from text reached label
-far text reached label h = rw h (omega arith)
+far : (text : Text) (reached : ℕ) (label : DrawnLabel) → label.behind ≡ true
+    → mark_from text reached label ≡ max text.width reached
+far text reached label h = rw h refl
 
 far_from : (text : Text) (reached : ℕ) (labels : List DrawnLabel)
-    → AllByRecursion (λ mark. mark.label.behind ≡ true → text.width ≤ mark.from) (marks_from text reached labels)
+    → BeginBehind text.width reached (marks_from text reached labels)
 far_from text reached [] = tt
 far_from text reached (label ∷ labels) = (far text reached label, far_from text (mark_until text reached label) labels)
 

@@ -7,6 +7,7 @@ mod Columns
 pub mod CutEnds
 pub mod CutFading
 pub mod CutLaws
+pub mod CutMarks
 pub mod CutShows
 pub mod CutWidth
 pub mod EndLabels
@@ -16,6 +17,7 @@ pub mod HungTexts
 pub mod Inside
 pub mod Maximal
 pub mod MaximalRanges
+pub mod NearColumns
 pub mod Numerals
 pub mod OneGroup
 pub mod OwnGroups

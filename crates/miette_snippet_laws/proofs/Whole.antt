@@ -10,7 +10,7 @@ use Rattle.miette_labels.specs.rules.Labels.{DrawnLabel, one_line}
 use Rattle.miette_snippet_rules.specs.rules.Drawing.{IsNarrow}
 use Rattle.miette_snippet_rules.specs.rules.Gutters.{gutter_columns}
 use Rattle.miette_snippet_rules.specs.rules.Frames.{width_of_lines}
-use Rattle.miette_snippet_rules.specs.rules.SnippetLayout.{cells_of, line_marks, text_of_cells}
+use Rattle.miette_snippet_rules.specs.rules.SnippetLayout.{cells_of, line_marks, snippet_context, text_of_cells}
 use Rattle.miette_snippet_laws.specs.laws.Pictures.{LinesShow, BodyShows, marks_of_line}
 use Rattle.miette_snippet_rules.specs.rules.Marks.{AreApart}
 use Rattle.miette_snippet_laws.proofs.Apart.{marks_apart}
@@ -35,7 +35,7 @@ lines_show : (s : SnippetSettings) (w columns last : ℕ) (labels : List DrawnLa
     (pieces : List (List Highlight)) (lines : List Line) → IsNarrow s.width s.theme.characters →
     number + length lines ≡ last + 1 → length (decimal last) ≤ w
     → AllByRecursion (λ line. HasRoom labels line columns) lines
-    → LinesShow s w columns labels source number pieces lines
+    → LinesShow (snippet_context s w columns labels (cells_of s source)) number pieces lines
 lines_show s w columns last labels source number pieces [] n sum fits room = tt
 lines_show s w columns last labels source number pieces (line ∷ lines) n sum fits room =
     let below : number ≤ last = omega (arith, sum) in
@@ -52,7 +52,8 @@ width-fits line l ls = omega arith
 
 body_from : (s : SnippetSettings) (labels : List DrawnLabel) (source : List ℕ) (line : ℕ)
     (pieces : List (List Highlight)) (lines : List Line) → IsNarrow s.width s.theme.characters →
-    LinesShow s (width_of_lines line lines) (gutter_columns labels lines) labels source (line + 1) pieces lines
+    LinesShow (snippet_context s (width_of_lines line lines) (gutter_columns labels lines) labels (cells_of s source))
+    (line + 1) pieces lines
 body_from s labels source line pieces [] n = tt
 body_from s labels source line pieces (l ∷ ls) n =
     lines_show s (width_of_lines line (l ∷ ls)) (gutter_columns labels (l ∷ ls)) (line + length (l ∷ ls)) labels source

@@ -1,6 +1,6 @@
 //! What holds of the rows of snippets, as laws of their definitions.
 
-ghost use Rattle.std.specs.Prelude.{◌≡◌, ◌≤◌, ℕ, List, ◌∷◌, [], Option, Some, None, Bool, true, false, map, length};
+ghost use Rattle.std.specs.Prelude.{◌≡◌, ◌≢◌, ◌≤◌, ℕ, List, ◌∷◌, [], Option, Some, None, Bool, true, false, map, length};
 ghost use Rattle.std.specs.Prelude.{IfSome, ◌<◌, ◌+◌};
 ghost use Rattle.std.specs.Option.{option_map};
 ghost use Rattle.std.specs.List.{AllByRecursion, concat};
@@ -11,10 +11,11 @@ ghost use Rattle.miette_protocol.specs.views.Meaning.{Label};
 ghost use Rattle.miette_protocol.specs.rules.Reading.{Source, Contents};
 ghost use Rattle.miette_snippet_laws.specs.laws.Belonging.{HasOneGroup};
 ghost use Rattle.miette_snippet_laws.specs.laws.Clean.{AreCleanDrawings, IsCleanLabel, IsCleanRow, IsCleanSource};
-ghost use Rattle.miette_snippet_laws.specs.laws.Ends.{AreBehindShown, AreBehindText, EndsStandBehind, draws_ends, with_ends};
+ghost use Rattle.miette_snippet_laws.specs.laws.Ends.{AreBehindShown, AreBehindText, EndsStandBehind, draws_ends};
+ghost use Rattle.miette_snippet_laws.specs.laws.Ends.{with_ends};
 ghost use Rattle.miette_snippet_laws.specs.laws.Folding.{EndsPass, FitsIn, IsInside};
 ghost use Rattle.miette_snippet_laws.specs.laws.Cuts.{AreAsWide, AreStretches, Fits, IsWithin, by_nearness, by_stretch};
-ghost use Rattle.miette_snippet_laws.specs.laws.Cuts.{most_columns, pieces_shown};
+ghost use Rattle.miette_snippet_laws.specs.laws.Cuts.{AreMoved, IsSameAt, is_shown_at, most_columns, pieces_shown};
 ghost use Rattle.miette_snippet_laws.specs.laws.Fading.{IsPlainRow, colourless, unhighlighted_answer};
 ghost use Rattle.miette_page.specs.rules.Rows.{columns_of, glyphs_of};
 ghost use Rattle.miette_labels.specs.rules.Answers.{Answers, AlwaysReads, Highlight, NoneFails};
@@ -26,11 +27,14 @@ ghost use Rattle.miette_snippet_rules.specs.rules.Marks.{Text, marks, marks_at, 
 ghost use Rattle.miette_source_lines.specs.rules.Lines.{Line};
 ghost use Rattle.miette_cells.specs.rules.Cells.{Cell};
 ghost use Rattle.miette_labels.specs.rules.Contexts.{lines_of_contents};
-ghost use Rattle.miette_snippet_rules.specs.rules.CutLines.{Stretch, cut_runs, is_within, stretches};
+ghost use Rattle.miette_snippet_rules.specs.rules.CutLines.{Stretch, cut_runs, is_within, row_column};
+ghost use Rattle.miette_snippet_rules.specs.rules.CutLines.{stretches};
+ghost use Rattle.miette_snippet_rules.specs.rules.PrintedCells.{cells_width};
 ghost use Rattle.miette_snippet_rules.specs.rules.Drawing.{IsNarrow};
 ghost use Rattle.miette_snippet_rules.specs.rules.Folds.{Spread};
 ghost use Rattle.miette_snippet_rules.specs.rules.Settings.{SnippetSettings};
-ghost use Rattle.miette_snippet_rules.specs.rules.SnippetLayout.{snippet_rows, body_rows, cells_of};
+ghost use Rattle.miette_snippet_rules.specs.rules.SnippetLayout.{snippet_rows, body_rows, cells_of, line_cut};
+ghost use Rattle.miette_snippet_rules.specs.rules.SnippetLayout.{line_marks};
 ghost use Rattle.miette_snippet_laws.specs.laws.Pictures.{BodyShows, marks_of_line, text_of_line};
 ghost use Rattle.miette_snippet_rules.specs.rules.ShownLines.{framed_ranges, line_at};
 
@@ -124,8 +128,36 @@ pub fn cut_lines_are_parted()
         glyphs_of (cut_runs pieces 0 cut) ≡ pieces_shown cut }
 {}
 
+/// Where there is a limit, each line with more columns is cut (`wide`); none is that has no more, or where there is no
+/// limit (`fits`).
+pub fn wide_lines_are_cut()
+    ensures wide { (s : SnippetSettings) (labels : List DrawnLabel) (source : List ℕ) (line : Line) (limit : ℕ) →
+        s.layout.line_columns ≡ Some limit → limit < cells_width 0 (cells_of s source line) →
+        line_cut s line (cells_of s source line) (one_line line labels) ≢ None }
+    ensures fits { (s : SnippetSettings) (labels : List DrawnLabel) (source : List ℕ) (line : Line) →
+        Fits s.layout.line_columns (cells_of s source line) →
+        line_cut s line (cells_of s source line) (one_line line labels) ≡ None }
+{}
+
+/// In the row of a line that is cut, at the column to which one that is shown is moved, stands what stands at that one
+/// in the whole line; behind the text it is as far behind (`columns`). So under the line's marks stand their own
+/// characters: at the first column of each, its anchor, its last column, and each column of it that is shown (`marks`).
+pub fn marks_stand_on_their_characters()
+    ensures columns { (near : Cell → Bool) (cells : List Cell) (column : ℕ) →
+        is_shown_at (stretches near false cells) column ≡ true →
+        IsSameAt cells (stretches near false cells) column (row_column (stretches near false cells) column) }
+    ensures marks { (s : SnippetSettings) (labels : List DrawnLabel) (source : List ℕ) (line : Line)
+        (cut : List Stretch) → line_cut s line (cells_of s source line) (one_line line labels) ≡ Some cut →
+        AreMoved (cells_of s source line) cut (line_marks line (cells_of s source line) (one_line line labels))
+        (marks_of_line s labels line (cells_of s source line)) }
+{}
+
 /// Where there is a limit, the columns of a line's text in its row are bounded by it, the number of labels that lie on
-/// the line alone, and the widest cell of the line.
+/// the line alone, and the widest cell of the line. The bound is reached: without labels by a line that has a widest
+/// cell in its last column within the limit, and more than three columns behind that; with labels by a line on which
+/// they are far from its ends and one another, and of so many columns that their anchors are far from their ends, where
+/// the limit is at least four, or the widest cell has one column: each end then has a widest cell on the first column
+/// of its reach, and one on the last, and dots stand between.
 pub fn cut_rows_are_narrow()
     ensures { (s : SnippetSettings) (labels : List DrawnLabel) (source : List ℕ) (line : Line)
         (pieces : List Highlight) (limit widest : ℕ) → s.layout.line_columns ≡ Some limit →
@@ -144,9 +176,9 @@ pub fn lines_that_fit_stay()
 {}
 
 /// Where the labels at the end of a source are drawn, and one of them has a line of context, just these labels stand
-/// behind the text of the last line, each as an empty label that lies on that line alone; its mark begins behind the
-/// columns of the text, in its row behind what is shown of it. Where none of them has one, or no label is at the end,
-/// or the source is empty, the rows are those of before.
+/// behind the text of the last line, each as an empty label that lies on that line alone; its mark begins in the column
+/// after the text, in its row in the one after what is shown of it, or where the mark before it ends, if that is later.
+/// Where none of them has one, or no label is at the end, or the source is empty, the rows are those of before.
 pub fn ends_are_drawn()
     ensures lines { (s : SnippetSettings) (bytes : List ℕ) (labels : List Label) →
         draws_ends s (length bytes) labels ≡ true → EndsStandBehind s bytes labels }

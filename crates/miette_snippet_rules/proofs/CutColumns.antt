@@ -146,7 +146,7 @@ within_own reach cell column le lt = and_from (leb cell.from (column + reach)) (
 less_none : (n : ℕ) → n ≡ n - 0
 less_none n = omega arith
 
-ends_near : (limit : ℕ) (all : List ℕ) (cells : List Cell) (ms : List Mark) → AreColumns 0 cells
+pub ends_near : (limit : ℕ) (all : List ℕ) (cells : List Cell) (ms : List Mark) → AreColumns 0 cells
     → ((p : ℕ → Bool) → list_any p (ends ms) ≡ true → list_any p all ≡ true) →
     AllByRecursion (HasNearEnds (stretches (is_near limit all) false cells)) ms
 ends_near limit all cells [] h in' = tt

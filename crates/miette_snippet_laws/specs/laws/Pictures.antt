@@ -16,7 +16,7 @@ use Rattle.miette_labels.specs.rules.Contexts.{lines_of_contents}
 use Rattle.miette_snippet_rules.specs.rules.Gutters.{gutter_columns}
 use Rattle.miette_snippet_rules.specs.rules.SnippetLayout.{line_rows, line_marks, line_cut, cells_of}
 use Rattle.miette_style.specs.rules.Themes.{Characters}
-use Rattle.miette_snippet_rules.specs.rules.SnippetLayout.{snippet_context}
+use Rattle.miette_snippet_rules.specs.rules.SnippetLayout.{SnippetContext, snippet_context}
 use Rattle.miette_snippet_rules.specs.rules.Settings.{SnippetSettings}
 
 -- what stands at a column of the mark row
@@ -86,18 +86,18 @@ HasText start text (row ∷ rows) = Begins (glyphs_of row) start (glyphs_of text
 
 -- The rows of lines, numbered from here on: in each line's rows the text begins at one column, and the texts of the
 -- labels that lie on it alone hang from their marks.
-abbrev pub LinesShow : SnippetSettings → ℕ → ℕ → List DrawnLabel → List ℕ → ℕ → List (List Highlight) → List Line →
-    Type 0
-LinesShow s w columns labels source number pieces [] = Unit {0}
-LinesShow s w columns labels source number pieces (line ∷ lines) =
-    HasText (text_start w columns) (text_of_line s labels line (cells_of s source line) (first_of pieces))
-    (line_rows (snippet_context s w columns labels (cells_of s source)) line number (first_of pieces))
-    × ShowMarks s (text_start w columns) (marks_of_line s labels line (cells_of s source line))
-    (line_rows (snippet_context s w columns labels (cells_of s source)) line number (first_of pieces))
-    × LinesShow s w columns labels source (number + 1) (drop 1 pieces) lines
+abbrev pub LinesShow : SnippetContext → ℕ → List (List Highlight) → List Line → Type 0
+LinesShow c number pieces [] = Unit {0}
+LinesShow c number pieces (line ∷ lines) =
+    HasText (text_start c.number_width c.gutter)
+    (text_of_line c.settings c.labels line (c.cells line) (first_of pieces))
+    (line_rows c line number (first_of pieces))
+    × ShowMarks c.settings (text_start c.number_width c.gutter)
+    (marks_of_line c.settings c.labels line (c.cells line)) (line_rows c line number (first_of pieces))
+    × LinesShow c (number + 1) (drop 1 pieces) lines
 
 -- that of a snippet's read
 abbrev pub BodyShows : SnippetSettings → List DrawnLabel → List ℕ → Contents → List (List Highlight) → Type 0
 BodyShows s labels source read pieces =
-    LinesShow s (number_width read) (gutter_columns labels (lines_of_contents read)) labels source (read.line + 1)
-    pieces (lines_of_contents read)
+    LinesShow (snippet_context s (number_width read) (gutter_columns labels (lines_of_contents read)) labels
+    (cells_of s source)) (read.line + 1) pieces (lines_of_contents read)
