@@ -5,7 +5,6 @@ ghost use Rattle.std.specs.Option.{option_copied};
 use miette_protocol::diagnostic::MietteDiagnostic;
 use miette_protocol::error::RenderError;
 use miette_protocol::protocol::{Diagnostic, LabeledSpan, Severity};
-use std::alloc::AllocError;
 
 /// The error that a report was made of, below the messages that were put in front of it.
 #[derive(Drop)]
@@ -19,6 +18,7 @@ pub(crate) enum Innermost<D> {
 
 /// What a report was made of: what `Report::kind` shows of the innermost error, whatever messages
 /// were put in front of it.
+#[derive_where(Clone, Copy)]
 pub enum ReportKind<'a, D = Box<dyn Diagnostic>> {
     /// A message alone.
     Message,
@@ -29,18 +29,6 @@ pub enum ReportKind<'a, D = Box<dyn Diagnostic>> {
     /// Memory that was refused.
     OutOfMemory,
 }
-
-impl<'a, D> Clone for ReportKind<'a, D> {
-    ghost is_clone = { λ x y. y ≡ x };
-
-    ghost is_infallible = { λ _. Unit {0} };
-
-    fn clone(&self) -> Result<ReportKind<'a, D>, AllocError> {
-        Ok(*self)
-    }
-}
-
-impl<'a, D> Copy for ReportKind<'a, D> {}
 
 impl<D: Diagnostic> Innermost<D> {
     ghost use Rattle.miette_tree.specs.views.Report.{innermost_meaning};

@@ -85,21 +85,10 @@ pub(crate) enum OwnSource<S> {
 }
 
 /// The source of a report, lent: a reference to the place where the report keeps it.
+#[derive_where(Clone, Copy)]
 pub struct SourceRef<'a, S = Box<dyn SourceCode>> {
     place: &'a OwnSource<S>,
 }
-
-impl<'a, S> Clone for SourceRef<'a, S> {
-    ghost is_clone = { λ x y. y ≡ x };
-
-    ghost is_infallible = { λ _. Unit {0} };
-
-    fn clone(&self) -> Result<SourceRef<'a, S>, AllocError> {
-        Ok(*self)
-    }
-}
-
-impl<'a, S> Copy for SourceRef<'a, S> {}
 
 impl<'a, S> SourceRef<'a, S> {
     pub(crate) fn to(place: &'a OwnSource<S>) -> SourceRef<'a, S>

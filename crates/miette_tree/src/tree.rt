@@ -60,6 +60,7 @@ fn drop_related<D: Drop, S: Drop>(related: Option<Vec<Report<D, S>>>) {
 }
 
 /// The cause of a report.
+#[derive_where(Clone, Copy)]
 pub enum Cause<'a, D = Box<dyn Diagnostic>, S = Box<dyn SourceCode>> {
     /// No cause, or an empty list of texts.
     None,
@@ -68,18 +69,6 @@ pub enum Cause<'a, D = Box<dyn Diagnostic>, S = Box<dyn SourceCode>> {
     /// Texts, the nearest first; there is at least one.
     Texts(&'a [String]),
 }
-
-impl<'a, D, S> Clone for Cause<'a, D, S> {
-    ghost is_clone = { λ x y. y ≡ x };
-
-    ghost is_infallible = { λ _. Unit {0} };
-
-    fn clone(&self) -> Result<Cause<'a, D, S>, AllocError> {
-        Ok(*self)
-    }
-}
-
-impl<'a, D, S> Copy for Cause<'a, D, S> {}
 
 /// Constructors and setters, for boxes of any kind.
 impl<D: Diagnostic, S: SourceCode> Report<D, S> {
