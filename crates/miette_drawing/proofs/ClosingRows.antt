@@ -29,12 +29,12 @@ part_put l bar part p q r n hq hr hn =
     (run_more l.style (bar ∷ 32 ∷ []) part)) hn
 
 -- a row: what stands before the gutter, the gutter, a part of the text
-pub closed_put : (s : SnippetSettings) (start gutter : Row) (l : DrawnLabel) (bar : ℕ) (part : List ℕ)
+pub part_row_put : (s : SnippetSettings) (start gutter : Row) (l : DrawnLabel) (bar : ℕ) (part : List ℕ)
     (p b g n : Printout) → b
     ≡ p ⊕ row_tokens start → g ≡ b ⊕ row_tokens gutter → n ≡ g
     ⊕ (styled_tokens l.style (bar ∷ 32 ∷ part) ++ row_end ∷ []) →
     n ≡ p ⊕ rows_tokens ((start ++ (gutter ++ part_run s l bar part ∷ [])) ∷ [])
-closed_put s start gutter l bar part p b g n hb hg hn =
+part_row_put s start gutter l bar part p b g n hb hg hn =
     let own : Row = part_run s l bar part ∷ [] in
     row_done (start ++ (gutter ++ own)) p (g ⊕ row_tokens own) n
     (parts_then start (gutter ++ own) p b (g ⊕ row_tokens own) hb

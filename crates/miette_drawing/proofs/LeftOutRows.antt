@@ -81,14 +81,17 @@ each_out s ahead lines spreads from to outs (l ∷ run) at k number cut low firs
           (omega (arith, first)) (omega (arith, size)) (omega (arith, e)),
     )
 
+-- every line between two places is left out
+abbrev pub AllOut : SnippetSettings → List Spread → ℕ → List ℕ → LineStart → LineStart → Type 0
+AllOut s spreads start bytes near far = (k : ℕ) (other : Line) → IsBetween near far k other →
+    leaves_out s.layout.label_lines (P.lines_from start bytes) spreads k other ≡ true
+
 run_skipped : (s : SnippetSettings) (spreads : List Spread) (w columns : ℕ) (drawn : List DrawnLabel) (start : ℕ)
     (bytes : List ℕ) (ahead first : ℕ) (blank : Bool) (begun now : List Call → Type 0) (near far : LineStart)
     (before page : Printout) →
     ((calls : List Call) → now calls) → Begins start bytes near.offset near.place
     → Begins start bytes far.offset far.place → near.offset ≤ far.offset →
-    ((k : ℕ) (other : Line) → IsBetween near far k other → leaves_out s.layout.label_lines (P.lines_from start bytes)
-    spreads k
-    other ≡ true) →
+    AllOut s spreads start bytes near far →
     AreLined (left_out s ahead (P.lines_from start bytes) spreads) true s w columns drawn start bytes first blank begun
     now (near.offset - start) (ahead + near.place + 1) before page →
     AreLined (left_out s ahead (P.lines_from start bytes) spreads) true s w columns drawn start bytes first blank begun
@@ -122,9 +125,7 @@ pub lines_run : (s : SnippetSettings) (spreads : List Spread) (left jumps : Bool
     (begun now : List Call → Type 0) (near far : LineStart) (before page : Printout) →
     (jumps ≡ true → left ≡ true) → (jumps ≡ true → (calls : List Call) → now calls) → (jumps ≡ false → far ≡ near)
     → Begins start bytes near.offset near.place → Begins start bytes far.offset far.place → near.offset ≤ far.offset →
-    ((k : ℕ) (other : Line) → IsBetween near far k other → leaves_out s.layout.label_lines (P.lines_from start bytes)
-    spreads k
-    other ≡ true) →
+    AllOut s spreads start bytes near far →
     AreLined (left_out s ahead (P.lines_from start bytes) spreads) left s w columns drawn start bytes first blank begun
     now (near.offset - start) (ahead + near.place + 1) before page →
     AreLined (left_out s ahead (P.lines_from start bytes) spreads) left s w columns drawn start bytes first blank begun

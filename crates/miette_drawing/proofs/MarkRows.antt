@@ -11,16 +11,15 @@ use Rattle.miette_style.specs.declared.style.Style.{Style}
 use Rattle.miette_cuts.specs.declared.marks.Mark.{Mark as MadeMark}
 use Rattle.miette_page.specs.rules.Rows.{glyph_of}
 use Rattle.miette_style.specs.rules.Styles.{plain}
-use Rattle.miette_labels.specs.rules.Labels.{parts_of, cut_at_lf, is_empty}
+use Rattle.miette_labels.specs.rules.Labels.{parts_of, is_empty}
 use Rattle.miette_snippet_rules.specs.rules.Marks.{Mark}
 use Rattle.miette_snippet_rules.specs.rules.Drawing.{mark_code, mark_run, mark_runs, code_with_parts}
 use Rattle.miette_cuts.specs.views.Marks.{mark_of}
 use Rattle.miette_page.specs.views.Tokens.{Token, begins, row_tokens, run_tokens, styled_tokens, text_tokens}
 use Rattle.miette_basics.proofs.Ranges.{range_with_len-append}
-use Rattle.miette_basics.proofs.Cases.{by_cases}
+use Rattle.miette_drawing.proofs.TextLines.{cut_some}
 use Rattle.miette_snippet_rules.proofs.RowTokens.{then, told_as, run_one, run_more, blank_told}
 use Rattle.miette_style.specs.rules.Themes.{Characters}
-use Rattle.miette_basics.specs.rules.Lists.{onto}
 use Rattle.miette_snippet_rules.specs.rules.Settings.{SnippetSettings}
 
 mapped_codes : (w f : ℕ → ℕ) (ks : List ℕ) → map (λ p. p.code) (map (λ k. glyph_of w (f k)) ks) ≡ map f ks
@@ -100,20 +99,10 @@ mark_more v marks i reached gap d row spaced new whole lt z s n h =
     ∙ ap (λ xs. row ⊕ row_tokens (mark_runs v reached xs)) (sym (at_drop_more (map mark_of) marks i d lt)) ∙ h
 
 -- the character of a label with a text
-middle_onto : (t : Characters) (code : ℕ) (parts : List (List ℕ)) → t.underbar ≡ code_with_parts t (onto code parts)
-middle_onto t code [] = refl
-middle_onto t code (part ∷ parts) = refl
-
-middle_of_cut : (t : Characters) (codes : List ℕ) → t.underbar ≡ code_with_parts t (cut_at_lf codes)
-middle_of_cut t [] = refl
-middle_of_cut t (c ∷ cs) = by_cases (eqb c 10) (λ e. ap (λ b. code_with_parts t
-    (cond b ([] ∷ cut_at_lf cs) (onto c (cut_at_lf cs)))) (sym e))
-    (λ e. middle_onto t c (cut_at_lf cs) ∙ ap (λ b. code_with_parts t
-    (cond b ([] ∷ cut_at_lf cs) (onto c (cut_at_lf cs)))) (sym e))
-
 pub middle_of_some : (t : Characters) (text : Option (List ℕ)) (bytes : List ℕ) → text ≡ Some bytes → t.underbar
     ≡ code_with_parts t (parts_of text)
-middle_of_some t text bytes e = middle_of_cut t (chars bytes) ∙ ap (λ x. code_with_parts t (parts_of x)) (sym e)
+middle_of_some t text bytes e = sym (ap (λ x. code_with_parts t (parts_of x)) e
+    ∙ ap (code_with_parts t) (cut_some (chars bytes)).1.1)
 
 pub middle_of_full : (t : Characters) (start after : ℕ) (text : Option (List ℕ)) (bytes : List ℕ) → (start ≡ after → ⊥)
     → text ≡ Some bytes → t.underbar ≡ cond (eqb start after) t.uarrow (code_with_parts t (parts_of text))

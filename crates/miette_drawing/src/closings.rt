@@ -8,11 +8,11 @@ ghost use Rattle.miette_snippet_rules.specs.rules.Gutters.{closing_parts, closin
 ghost use Rattle.miette_snippet_rules.specs.rules.Frames.{other_start};
 ghost use Rattle.miette_snippet_rules.specs.rules.SnippetLayout.{before_each};
 ghost use Rattle.miette_labels.specs.views.GivenLabels.{drawn_of};
-ghost use Rattle.miette_drawing.specs.steps.LineContexts.{settings, multi_labels, closed_line, open_line};
+ghost use Rattle.miette_drawing.specs.steps.LineContexts.{settings, multi_labels, part_line, open_line};
 ghost use Rattle.miette_source_lines.specs.views.Walking.{line_of_text};
 
 use crate::frame::Outcome;
-use crate::gutters::{ends, push_open_gutter, push_other_gutter, starts};
+use crate::gutters::{GutterEnd, ends, push_gutter, starts};
 use crate::label_text::{first_part, push_part};
 use crate::line_context::LineContext;
 use crate::texts::push_other_start;
@@ -29,50 +29,29 @@ fn closes(line: &LineOfText, label: &PlacedLabel<'_>) -> bool
     ends(line, label) && !starts(line, label)
 }
 
-// A part of a label's text after the corner of the gutter, which has so many columns, and a bar.
+// A part of a label's text, behind a gutter of so many columns and a bar.
 #[derive(Clone, Copy)]
 struct ClosingPart<'a> {
+    end: GutterEnd,
     columns: usize,
     bar: char,
     text: &'a str,
 }
 
-// A row of a text behind the corner of the gutter: `   · │╰─── a label's text`.
-fn push_closed_row<O: Canvas>(
+// A row of a part: `   · │╰─── a label's text`, or `   · │   │ a label's text`.
+fn push_part_row<O: Canvas>(
     page: &mut Page<O>,
     context: &LineContext,
     label: &PlacedLabel<'_>,
     part: &ClosingPart<'_>,
 ) -> Outcome
     ensures { OnOk result (page.new ≡ page.old
-        ⊕ rows_tokens (closed_line context.now part.now.columns (drawn_of label.now) part.now.bar
+        ⊕ rows_tokens (part_line context.now part.now.end part.now.columns (drawn_of label.now) part.now.bar
         (chars part.now.text.now) ∷ [])) }
 {
     push_other_start(page, context)?;
-    push_other_gutter(page, context, part.columns)?;
+    push_gutter(page, context, part.columns, part.end)?;
     push_part(page, label.style, part.bar, part.text)?;
-    Ok(())
-}
-
-// A row of a text behind the gutter's bars: `   · │   │ a label's text`.
-fn push_open_row<O: Canvas>(
-    page: &mut Page<O>,
-    context: &LineContext,
-    columns: usize,
-    label: &PlacedLabel<'_>,
-    part: &str,
-) -> Outcome
-    ensures { OnOk result (page.new ≡ page.old
-        ⊕ rows_tokens (open_line context.now columns (drawn_of label.now) (chars part.now) ∷ [])) }
-{
-    push_other_start(page, context)?;
-    push_open_gutter(page, context, columns)?;
-    push_part(
-        page,
-        label.style,
-        context.frame.settings.theme.characters.vbar,
-        part,
-    )?;
     Ok(())
 }
 
@@ -88,10 +67,17 @@ fn push_open_rows<O: Canvas>(
         ⊕ rows_tokens (map (open_line context.now columns (drawn_of label.now))
         (cut_at_lf (chars text.now)))) }
 {
+    let bar = context.frame.settings.theme.characters.vbar;
     let mut left = Some(text);
     while let Some(text) = left {
-        let (part, rest) = first_part(text);
-        push_open_row(page, context, columns, label, part)?;
+        let (text, rest) = first_part(text);
+        let part = ClosingPart {
+            end: GutterEnd::Open,
+            columns,
+            bar,
+            text,
+        };
+        push_part_row(page, context, label, &part)?;
         left = rest;
     }
     Ok(())
@@ -116,20 +102,22 @@ fn push_closing<O: Canvas>(
     let (first, rest) = first_part(text);
     let Some(rest) = rest else {
         let part = ClosingPart {
+            end: GutterEnd::Corner,
             columns: context.gutter,
             bar: characters.hbar,
             text: first,
         };
-        push_closed_row(page, context, label, &part)?;
+        push_part_row(page, context, label, &part)?;
         return Ok(());
     };
     let columns = context.gutter.saturating_sub(1);
     let part = ClosingPart {
+        end: GutterEnd::Corner,
         columns,
         bar: characters.rcross,
         text: first,
     };
-    push_closed_row(page, context, label, &part)?;
+    push_part_row(page, context, label, &part)?;
     push_open_rows(page, context, columns, label, rest)?;
     Ok(())
 }

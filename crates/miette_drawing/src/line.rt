@@ -21,7 +21,7 @@ ghost use Rattle.miette_source_lines.specs.views.Walking.{line_of_text};
 
 use crate::closings::push_closings;
 use crate::frame::Outcome;
-use crate::gutters::{push_break_gutter, push_number_gutter};
+use crate::gutters::{GutterEnd, push_break_gutter, push_gutter};
 use crate::line_context::{LineContext, ShownLine};
 use crate::strokes::push_marks;
 use crate::texts::{push_before_marks, push_texts};
@@ -61,7 +61,7 @@ fn push_number_row<O: Canvas>(
         (text_cells text.now)) ∷ [])) }
 {
     push_number_start(page, context, shown.number)?;
-    push_number_gutter(page, context)?;
+    push_gutter(page, context, context.gutter, GutterEnd::Arrow)?;
     push_shown_text(page, text, shown.pieces, cut)?;
     page.end_row()?;
     Ok(())

@@ -13,7 +13,7 @@ ghost use Rattle.miette_cuts.specs.views.Marks.{mark_of, IsAnchored};
 ghost use Rattle.miette_drawing.specs.steps.LineContexts.{settings, before_marks, text_line};
 
 use crate::frame::Outcome;
-use crate::gutters::push_other_gutter;
+use crate::gutters::{GutterEnd, push_gutter};
 use crate::label_text::first_part;
 use crate::line_context::LineContext;
 use miette_cuts::marks::Mark;
@@ -45,7 +45,7 @@ pub(crate) fn push_before_marks<O: Canvas>(page: &mut Page<O>, context: &LineCon
     ensures { OnOk result (page.new ≡ page.old ⊕ row_tokens (before_marks context.now)) }
 {
     push_other_start(page, context)?;
-    push_other_gutter(page, context, context.gutter)?;
+    push_gutter(page, context, context.gutter, GutterEnd::Corner)?;
     Ok(())
 }
 

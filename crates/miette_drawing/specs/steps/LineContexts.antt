@@ -2,6 +2,9 @@
 use Rattle.std.specs.Prelude.{ℕ, List, [], ◌∷◌, ◌++◌, map, false}
 use Rattle.miette_drawing.specs.declared.line_context.LineContext.{LineContext}
 use Rattle.miette_drawing.specs.declared.line_context.ShownLine.{ShownLine}
+use Rattle.miette_drawing.specs.declared.gutters.GutterEnd.{GutterEnd}
+use Rattle.miette_drawing.specs.declared.gutters.GutterEnd.TheVariants as ends
+use Rattle.miette_drawing.specs.steps.GutterEnds.{gutter_with}
 use Rattle.miette_page.specs.rules.Rows.{Row}
 use Rattle.miette_snippet_rules.specs.rules.Marks.{Mark}
 use Rattle.miette_snippet_rules.specs.rules.Drawing.{text_row}
@@ -9,7 +12,7 @@ use Rattle.miette_labels.specs.rules.Labels.{DrawnLabel}
 use Rattle.miette_snippet_rules.specs.views.SettingsView.{settings_of}
 use Rattle.miette_labels.specs.views.GivenLabels.{drawn_of}
 use Rattle.miette_cells.specs.rules.Widths.{width_of}
-use Rattle.miette_snippet_rules.specs.rules.Gutters.{number_gutter, other_gutter, open_gutter, part_run}
+use Rattle.miette_snippet_rules.specs.rules.Gutters.{number_gutter, other_gutter, part_run}
 use Rattle.miette_snippet_rules.specs.rules.Frames.{number_start, other_start}
 use Rattle.miette_cells.specs.rules.Cells.{Cell, cells_from, characters}
 use Rattle.miette_source_lines.specs.views.Walking.{line_of_text}
@@ -37,17 +40,16 @@ text_line context earlier mark front part = before_marks context
     ++ text_row (settings context) earlier mark front part
 
 -- a row of the text of a label that ends on the line, in a gutter of so many columns
-abbrev pub closed_line : LineContext → ℕ → DrawnLabel → ℕ → List ℕ → Row
-closed_line context columns label bar part =
+abbrev pub part_line : LineContext → GutterEnd → ℕ → DrawnLabel → ℕ → List ℕ → Row
+part_line context end columns label bar part =
     other_start (settings context) context.frame.number_width
-    ++ (other_gutter (settings context) (line_of_text context.line) columns
-    (multi_labels context) ++ part_run (settings context) label bar part ∷ [])
+    ++ (gutter_with end (settings context) (line_of_text context.line) columns (multi_labels context)
+    ++ part_run (settings context) label bar part ∷ [])
 
+-- that of a part after the first
 abbrev pub open_line : LineContext → ℕ → DrawnLabel → List ℕ → Row
 open_line context columns label part =
-    other_start (settings context) context.frame.number_width
-    ++ (open_gutter (settings context) (line_of_text context.line) columns
-    (multi_labels context) ++ part_run (settings context) label (settings context).theme.characters.vbar part ∷ [])
+    part_line context ends.Open columns label (settings context).theme.characters.vbar part
 
 -- the cells of the line's text
 abbrev pub shown_cells : LineContext → ShownLine → List Cell

@@ -10,13 +10,12 @@ use Rattle.miette_drawing.proofs.closings.push_closing.Goals as goal
 
 pub returns : goal.returns
 returns g c =
-    several_closing (settings c.args.context.now) (line_of_text c.args.context.now.line)
-    c.args.context.now.gutter c.saturating_sub-columns.result (multi_labels c.args.context.now)
-    (drawn_of c.args.label.now)
-    (other_start (settings c.args.context.now) c.args.context.now.frame.number_width) _
-    (chars c.first_part.result.0.now)
-    (chars c.in-Some-rest.rest.now)
-    c.args.page.now c.push_closed_row-2.new.page c.push_open_rows.new.page c.saturating_sub-columns.ensures
+    let context = c.args.context.now in
+    let first = chars c.first_part.result.0.now in
+    several_closing (settings context) (line_of_text context.line) context.gutter c.saturating_sub-columns.result
+    (multi_labels context) (drawn_of c.args.label.now) (other_start (settings context) context.frame.number_width) _
+    first (chars c.in-Some-rest.rest.now)
+    c.args.page.now c.push_part_row-2.new.page c.push_open_rows.new.page c.saturating_sub-columns.ensures
     (ap (λ o. parts_of (option_copied o)) c.in-Some.is ∙ c.first_part.ensures.cut
-    ∙ ap (λ o. chars c.first_part.result.0.now ∷ parts_of (option_copied o)) c.in-Some-rest.is)
-    c.in_ok-push_closed_row-2.ensures c.in_ok-push_open_rows.ensures
+    ∙ ap (λ o. first ∷ parts_of (option_copied o)) c.in-Some-rest.is)
+    c.in_ok-push_part_row-2.ensures c.in_ok-push_open_rows.ensures

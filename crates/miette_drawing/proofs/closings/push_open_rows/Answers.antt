@@ -12,6 +12,6 @@ loop-left-preserved g c =
     part_more (open_line c.args.context.now c.args.columns (drawn_of c.args.label.now))
     (parts_of (option_copied c.loop-left.left)) (parts_of (option_copied c.first_part.result.1))
     (chars c.first_part.result.0.now)
-    c.loop-left.page c.push_open_row.new.page _
-    (ap (λ o. parts_of (option_copied o)) c.in-Some.is ∙ c.first_part.ensures.cut) c.in_ok-push_open_row.ensures
+    c.loop-left.page c.push_part_row.new.page _
+    (ap (λ o. parts_of (option_copied o)) c.in-Some.is ∙ c.first_part.ensures.cut) c.in_ok-push_part_row.ensures
     c.loop-left.invariant

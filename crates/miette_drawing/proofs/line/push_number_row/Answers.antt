@@ -18,7 +18,7 @@ returns g c =
     (multi_labels context))
     (made_runs (option_map (λ made. made.items) c.args.cut.now) (map highlight_of c.args.shown.now.pieces.now)
     (text_cells c.args.text.now))
-    c.args.page.now c.push_number_start.new.page c.push_number_gutter.new.page c.push_shown_text.new.page
+    c.args.page.now c.push_number_start.new.page c.push_gutter.new.page c.push_shown_text.new.page
     c.end_row.new.self
-    c.in_ok-push_number_start.ensures c.in_ok-push_number_gutter.ensures c.in_ok-push_shown_text.ensures
+    c.in_ok-push_number_start.ensures c.in_ok-push_gutter.ensures c.in_ok-push_shown_text.ensures
     c.in_ok-end_row.ensures

@@ -1,4 +1,4 @@
-use Rattle.std.proofs.Common.{ℕ, ◌≡◌, ap, sym, subst, ◌∙◌, map}
+use Rattle.std.proofs.Common.{ℕ, ◌≡◌, List, ap, sym, subst, ◌∙◌, map}
 use Rattle.std.specs.Option.{option_map}
 use Rattle.miette_folds.specs.views.Spreads.{spread_of}
 use Rattle.miette_drawing.specs.views.SnippetRows.{place_at}
@@ -6,7 +6,7 @@ use Rattle.miette_folds.specs.views.Folding.{fold_in}
 use Rattle.miette_labels.specs.views.Sweeping.{IsAt}
 use Rattle.miette_snippet_rules.specs.views.SettingsView.{settings_of}
 use Rattle.miette_snippet_rules.specs.rules.Highlighting.{leaves_plain, follows}
-use Rattle.miette_highlight.specs.rules.HighlighterCalls.{Leads}
+use Rattle.miette_highlight.specs.rules.HighlighterCalls.{Call, Leads}
 use Rattle.miette_drawing.proofs.ReadRows.{told_lent}
 use Rattle.miette_drawing.proofs.snippet.push_framed.Goals as goal
 
@@ -32,30 +32,34 @@ push_lines-requires-clause-at g c =
 
 pub extent_of-requires-clause-folds : goal.extent_of-requires-clause-folds
 extent_of-requires-clause-folds g c =
+    let lent = c.args.snippet.now.contents.now in
     let spreads = c.args.drawing.now.spreads.now in
-    let at : c.args.snippet.now.contents.now.span.offset ≡ c.offset-start.result =
+    let at : lent.span.offset ≡ c.offset-start.result =
     sym (c.offset-start.ensures ∙ ap (λ s. s.offset) c.span.ensures) in
     record {
-      labels = c.args.drawing.now.spreads.now;
-      are = c.deref.ensures.value ∙ c.in_ok-folds.ensures ∙ ap (λ n. map (fold_in n c.args.snippet.now.contents.now.bytes) spreads) at
+      labels = spreads;
+      are = c.deref.ensures.value ∙ c.in_ok-folds.ensures ∙ ap (λ n. map (fold_in n lent.bytes) spreads) at
           ∙ ap (λ bs. map (fold_in c.offset-start.result bs) spreads) (sym c.data-bytes.ensures);
     }
 
 pub push_lines-requires-clause-folds : goal.push_lines-requires-clause-folds
 push_lines-requires-clause-folds g c =
+    let lent = c.args.snippet.now.contents.now in
     let spreads = c.args.drawing.now.spreads.now in
-    let at : c.args.snippet.now.contents.now.span.offset ≡ c.offset-start.result =
+    let at : lent.span.offset ≡ c.offset-start.result =
     sym (c.offset-start.ensures ∙ ap (λ s. s.offset) c.span.ensures) in
-    c.deref-2.ensures.value ∙ c.in_ok-folds.ensures ∙ ap (λ n. map (fold_in n c.args.snippet.now.contents.now.bytes) spreads) at
+    c.deref-2.ensures.value ∙ c.in_ok-folds.ensures ∙ ap (λ n. map (fold_in n lent.bytes) spreads) at
     ∙ ap (λ bs. map (fold_in c.offset-start.result bs) spreads) (sym c.data-bytes.ensures)
 
 pub returns-clause-rows : goal.returns-clause-rows
 returns-clause-rows g c =
-    told_lent (settings_of c.args.drawing.now.settings) (map spread_of c.args.drawing.now.spreads.now)
-    c.args.drawing.now.placed.now
-    c.args.snippet.now.contents.now (option_map place_at c.args.snippet.now.place) (leaves_plain g.H.Highlighter.is_blank c.args.highlighter.now)
-    (λ calls. Leads (follows g.H.Highlighter.may_follow c.args.highlighter.now) calls
-    (follows g.H.Highlighter.may_follow c.push_lines.new.highlighter))
+    let drawing = c.args.drawing.now in
+    let snippet = c.args.snippet.now in
+    let blank = leaves_plain g.H.Highlighter.is_blank c.args.highlighter.now in
+    let had : List Call → Type 0 = follows g.H.Highlighter.may_follow c.args.highlighter.now in
+    let now : List Call → Type 0 = follows g.H.Highlighter.may_follow c.push_lines.new.highlighter in
+    told_lent (settings_of drawing.settings) (map spread_of drawing.spreads.now) drawing.placed.now
+    snippet.contents.now (option_map place_at snippet.place) blank (λ calls. Leads had calls now)
     c.in_ok-number_width.field-0 c.in_ok-gutter_width.field-0 c.in_ok-extent.extent.lines c.in_ok-extent.extent.most
     c.line-before.result c.offset-start.result
     _ c.data-bytes.result.now c.args.page.now c.push_top_row.new.page c.push_lines.new.page c.push_bottom_row.new.page

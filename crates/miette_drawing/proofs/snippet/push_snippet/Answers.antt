@@ -8,6 +8,8 @@ use Rattle.miette_drawing.specs.views.SnippetRows.{PutsRows, lent_snippet}
 use Rattle.miette_labels.specs.views.Sweeping.{IsAt}
 use Rattle.miette_highlight.specs.rules.HighlighterCalls.{Call, Leads, restarted}
 use Rattle.miette_snippet_rules.specs.rules.Highlighting.{follows, leaves_plain}
+use Rattle.miette_page.specs.rules.Rows.{Row}
+use Rattle.miette_labels.specs.rules.Answers.{Highlight}
 use Rattle.miette_drawing.proofs.ReadRows.{lent_texts, restarted_first}
 use Rattle.miette_drawing.proofs.snippet.push_snippet.Goals as goal
 
@@ -24,15 +26,14 @@ returns-clause-rows g c =
     let had : List Call → Type 0 = follows g.H.Highlighter.may_follow c.args.highlighter.now in
     let begun : List Call → Type 0 = follows g.H.Highlighter.may_follow c.restart.new.highlighter in
     let now : List Call → Type 0 = follows g.H.Highlighter.may_follow c.push_framed.new.highlighter in
-    let rows = c.in_ok-push_framed.ensures.rows in
-    subst (λ b. PutsRows b (λ calls. Leads had (restarted lent ∷ calls) now) (lent_texts lent)
-    (lent_snippet (settings_of drawing.settings) (map spread_of drawing.spreads.now)
-    (map drawn_of drawing.placed.now) lent (option_map place_at c.args.snippet.now.place)) c.args.page.now
-    c.push_framed.new.page)
-    c.restart.ensures.stays (restarted_first (leaves_plain g.H.Highlighter.is_blank c.restart.new.highlighter) had begun
-    now (lent_texts lent) (lent_snippet (settings_of drawing.settings)
+    let blank = leaves_plain g.H.Highlighter.is_blank c.restart.new.highlighter in
+    let drawn : List (List Highlight) → List Row = lent_snippet (settings_of drawing.settings)
     (map spread_of drawing.spreads.now) (map drawn_of drawing.placed.now) lent
-    (option_map place_at c.args.snippet.now.place)) lent c.args.page.now c.push_framed.new.page c.restart.ensures.calls rows)
+    (option_map place_at c.args.snippet.now.place) in
+    subst (λ b. PutsRows b (λ calls. Leads had (restarted lent ∷ calls) now) (lent_texts lent) drawn c.args.page.now
+    c.push_framed.new.page) c.restart.ensures.stays
+    (restarted_first blank had begun now (lent_texts lent) drawn lent c.args.page.now c.push_framed.new.page
+    c.restart.ensures.calls c.in_ok-push_framed.ensures.rows)
 
 pub returns-clause-at : goal.returns-clause-at
 returns-clause-at g c =

@@ -7,5 +7,5 @@ pub returns : goal.returns
 returns g c =
     parts_then (other_start (settings c.args.context.now) c.args.context.now.frame.number_width)
     (gutter_below c.args.context.now)
-    c.args.page.now c.push_other_start.new.page c.push_other_gutter.new.page c.in_ok-push_other_start.ensures
-    c.in_ok-push_other_gutter.ensures
+    c.args.page.now c.push_other_start.new.page c.push_gutter.new.page c.in_ok-push_other_start.ensures
+    c.in_ok-push_gutter.ensures
