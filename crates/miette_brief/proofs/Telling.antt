@@ -13,7 +13,6 @@ use Rattle.miette_tree.specs.rules.Reads.{MayMeet}
 use Rattle.miette_tree.specs.rules.Answers.{own_fault}
 use Rattle.miette_tree.proofs.Nesting.{Reads, effective_reads, next_of}
 use Rattle.miette_tree.proofs.Readings.{fault_free}
-use Rattle.miette_tree.proofs.TreeSizes.{tree_size, trees_size, one_falls}
 use Rattle.miette_labels.specs.rules.Groups.{in_order}
 use Rattle.miette_labels.proofs.OwnContexts.{order_all, order_nil}
 use Rattle.miette_brief.specs.rules.Rows.{Place, ReportRow, rows_text}
@@ -80,10 +79,11 @@ labelled source m labels order at old mid new el eo placed e f accepted =
           ∙ ap (λ x. old ++ x) (sym (rows_joined (finding_row at m ∷ []) (note_rows source ls)));
     }
 
-pub own_told : (chain : Bool) (source : Option Source) (m : Meaning) (c : Cause) (at : Place) (old mid caused : List ℕ)
-    (new : List ℕ) → AppendsLabelled source m at old mid → AppendsCauses chain at source c mid caused
-    → new ≡ caused ++ rows_text (help_rows at m.help) → AppendsOwn chain source m c old new
-own_told chain source m c at old mid caused new head causes e =
+pub own_told : (chain : Bool) (source : Option Source) (m : Meaning) (c : Cause) (at : Place)
+    (given : Option (List ℕ)) (old mid caused new : List ℕ)
+    → given ≡ m.help → AppendsLabelled source m at old mid → AppendsCauses chain at source c mid caused
+    → new ≡ caused ++ rows_text (help_rows at given) → AppendsOwn chain source m c old new
+own_told chain source m c at given old mid caused new eh head causes e =
     let rows : List ReportRow = finding_row at m ∷ note_rows source (in_order (given_labels m.labels)) in
     let told : List ReportRow = cause_rows_if chain at source causes.answers c in
     let answers : Answers = listed head.placed.fault causes.answers no_more in
@@ -93,7 +93,7 @@ own_told chain source m c at old mid caused new head causes e =
       possible = head.placed.possible;
       causes = causes.possible;
       appended = three old mid caused new (rows_text rows) (rows_text told) (rows_text (help_rows at m.help))
-          head.appended causes.appended e
+          head.appended causes.appended (e ∙ ap (λ o. caused ++ rows_text (help_rows at o)) eh)
           ∙ ap (λ l. old ++ l) (sym (rows_of_three rows told (help_rows at m.help)))
           ∙ ap (λ q. old ++ rows_text (rows_at chain q source answers m c)) head.placed.is;
     }
@@ -121,12 +121,6 @@ report_told chain inherited (tree m s c rs) source related old mid new es er own
     }
 
 -- ---- related reports, one after the other
-
--- each is smaller than all of them
-pub falls : {R : Type 0} (value : R → Tree) (rs : List R) (i : ℕ) (r : R) → i < length rs → r ≡ get_or rs i r
-    → tree_size (value r) < trees_size (trees (map value rs))
-falls value rs i r test is =
-    subst (λ r. tree_size (value r) < trees_size (trees (map value rs))) (sym is) (one_falls value rs i r test)
 
 -- some of these reports are told, up to this one
 abbrev pub RelatedSoFar : {R : Type 0} → (R → Tree) → Bool → Option Source → List R → ℕ → List ℕ → List ℕ → Type 0

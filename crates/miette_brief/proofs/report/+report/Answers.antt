@@ -4,17 +4,15 @@ use Rattle.std.proofs.lemmas.Result.{on_ok_weaker}
 use Rattle.miette_tree.specs.rules.Tree.{trees}
 use Rattle.miette_tree.specs.views.Owned.{shown_source}
 use Rattle.miette_tree.specs.views.Report.{tree_of}
+use Rattle.miette_tree.proofs.TreeSizes.{item_falls}
 use Rattle.miette_tree.proofs.Readings.{refused_below, one_refused}
 use Rattle.miette_brief.proofs.SoFar.{none_so_far}
-use Rattle.miette_brief.proofs.Telling.{falls, one_more, all_told, report_told, refused_here}
+use Rattle.miette_brief.proofs.Telling.{one_more, all_told, report_told, refused_here}
 use Rattle.miette_brief.proofs.report.+report.Goals as goal
-
-pub push_related-loop-report-init : goal.push_related-loop-report-init
-push_related-loop-report-init g t c = none_so_far _ _ _ _
 
 pub push_related-push_report-requires : goal.push_related-push_report-requires
 push_related-push_report-requires g t c =
-    let small = falls (tree_of g.D.Diagnostic.meaning g.S.SourceCode.source) c.args.reports.now
+    let small = item_falls (tree_of g.D.Diagnostic.meaning g.S.SourceCode.source) c.args.reports.now
     c.loop-report.report-index c.report-item.result c.loop-report-test.true c.report-item.is in
     search rules
 
@@ -23,6 +21,9 @@ push_related-loop-report-preserved g t c =
     one_more (tree_of g.D.Diagnostic.meaning g.S.SourceCode.source) c.args.chain _ c.args.reports.now
     c.loop-report.report-index c.report-item.result _ _ _ c.loop-report-test.true c.report-item.is
     c.loop-report.invariant c.in_ok-push_report.ensures.text
+
+pub push_related-loop-report-init : goal.push_related-loop-report-init
+push_related-loop-report-init g t c = none_so_far _ _ _ _
 
 pub push_related-returns-in_err-push_report-clause-refused : goal.push_related-returns-in_err-push_report-clause-refused
 push_related-returns-in_err-push_report-clause-refused g t c = λ h.

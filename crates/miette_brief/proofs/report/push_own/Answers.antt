@@ -1,4 +1,4 @@
-use Rattle.std.proofs.Common.{◌≡◌, ◌<◌, ◌++◌, ℕ, Bool, true, List, sym, ap, ◌∙◌, subst, map, length, string_bytes}
+use Rattle.std.proofs.Common.{◌≡◌, ◌<◌, ℕ, Bool, true, List, sym, ap, subst, map, length, string_bytes}
 use Rattle.std.specs.List.{All}
 use Rattle.std.specs.Option.{option_map}
 use Rattle.miette_protocol.specs.views.Meaning.{Label}
@@ -9,8 +9,6 @@ use Rattle.miette_tree.specs.views.Report.{tree_of}
 use Rattle.miette_labels.specs.rules.Groups.{in_order}
 use Rattle.miette_labels.specs.views.GivenLabels.{label_at}
 use Rattle.miette_labels.specs.declared.order.Turn.{Turn}
-use Rattle.miette_brief.specs.rules.Rows.{rows_text}
-use Rattle.miette_brief.specs.rules.Report.{help_rows}
 use Rattle.miette_brief.specs.steps.AppendedParts.{AppendsCauses}
 use Rattle.miette_brief.specs.steps.Conversions.{place_of}
 use Rattle.miette_brief.proofs.Telling.{untold, own_told}
@@ -51,6 +49,5 @@ returns-clause-text g c =
       | else-chain w ↦ subst (λ (b : Bool). AppendsCauses b at source (cause_of value) mid caused)
           (sym w.if-chain.false) (untold at source (cause_of value) mid caused (ap string_bytes w.out-is))
     ] in
-    own_told c.args.chain source (head value) (cause_of value) at (string_bytes c.args.out.now) mid caused
-    (string_bytes c.push_help.new.out) c.in_ok-at.ensures.text causes
-    (c.in_ok-push_help.ensures ∙ ap (λ o. caused ++ rows_text (help_rows at o)) c.help.ensures)
+    own_told c.args.chain source (head value) (cause_of value) at _ (string_bytes c.args.out.now) mid caused
+    (string_bytes c.push_help.new.out) c.help.ensures c.in_ok-at.ensures.text causes c.in_ok-push_help.ensures
