@@ -1,2 +1,1 @@
 pub mod rules
-pub mod steps

@@ -2,12 +2,11 @@
 
 ghost use Rattle.std.specs.Prelude.{◌≡◌, IfOk, OnOk, string_bytes};
 ghost use Rattle.std.specs.Option.{option_copied};
-ghost use Rattle.miette_tree.specs.rules.Tree.{cause_of, causes_of};
+ghost use Rattle.miette_tree.specs.rules.Tree.{head, cause_of, causes_of};
 ghost use Rattle.miette_tree.specs.views.Handler.{AppendsOne};
 ghost use Rattle.miette_tree.specs.views.Report.{tree_of};
-ghost use Rattle.miette_debug.specs.rules.DebugText.{IsDebugText, IsField, IsLabelsField, IsQuoted};
+ghost use Rattle.miette_debug.specs.rules.DebugText.{IsDebugText, AreFields, IsField, IsLabelsField, IsQuoted};
 ghost use Rattle.miette_debug.specs.rules.DebugText.{nearest, severity_variant};
-ghost use Rattle.miette_debug.specs.steps.DebugParts.{AreFields};
 
 use miette_protocol::protocol::{Diagnostic, LabeledSpan, Severity};
 use miette_protocol::source::SourceCode;
@@ -38,35 +37,25 @@ fn push_fields<D: Diagnostic, S: SourceCode>(
 {
     out.push_str("Diagnostic { message: ")?;
     push_quoted(alloc, out, report.message())?;
-    push_members(
-        alloc,
-        out,
-        report.code(),
-        report.severity(),
-        report.url(),
-        report.help(),
-    )?;
+    push_members(alloc, out, report)?;
     push_labels(alloc, out, labels_of(report))?;
     push_field(alloc, out, "caused by", cause_name(report))?;
     out.push_str(" }\n")
 }
 
 /// `, code: "c", severity: "Warning", url: "u", help: "h"`, with those that are there.
-fn push_members(
+fn push_members<D: Diagnostic, S: SourceCode>(
     alloc: Global,
     out: &mut String,
-    code: Option<&str>,
-    severity: Option<Severity>,
-    url: Option<&str>,
-    help: Option<&str>,
+    report: &Report<D, S>,
 ) -> Result<(), AllocError>
-    ensures { OnOk result (AppendsOne (AreFields (option_copied code.entry) severity (option_copied url.entry)
-        (option_copied help.entry)) (string_bytes out.old) (string_bytes out.new)) }
+    ensures { OnOk result (AppendsOne (AreFields (head (tree_of D.meaning S.source report.now)))
+        (string_bytes out.old) (string_bytes out.new)) }
 {
-    push_field(alloc, out, "code", code)?;
-    push_field(alloc, out, "severity", severity_variant(severity))?;
-    push_field(alloc, out, "url", url)?;
-    push_field(alloc, out, "help", help)
+    push_field(alloc, out, "code", report.code())?;
+    push_field(alloc, out, "severity", severity_variant(report.severity()))?;
+    push_field(alloc, out, "url", report.url())?;
+    push_field(alloc, out, "help", report.help())
 }
 
 /// A text in quotes, with its escapes.

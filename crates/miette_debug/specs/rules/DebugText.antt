@@ -1,7 +1,7 @@
 -- The text of the debug report.
 use Rattle.std.specs.Prelude.{◌≡◌, ℕ, List, [], ◌∷◌, ◌++◌, Option, Some, None, IfSome, codes}
 use Rattle.std.specs.Fmt.{debug_str}
-use Rattle.miette_protocol.specs.views.Meaning.{Label}
+use Rattle.miette_protocol.specs.views.Meaning.{Label, Meaning}
 use Rattle.miette_protocol.specs.declared.protocol.Severity.{Severity}
 use Rattle.miette_protocol.specs.declared.protocol.Severity.TheVariants.{Advice, Warning, Error}
 use Rattle.miette_tree.specs.rules.Tree.{Tree, head, cause_of, causes_of}
@@ -39,22 +39,28 @@ abbrev pub nearest : List (List ℕ) → Option (List ℕ)
 nearest [] = None
 nearest (cause ∷ further) = Some cause
 
--- `Diagnostic { message: "m", code: "c", severity: "Warning", url: "u", help: "h", labels: "..", caused by: "b" }` and
--- a line feed, with the fields of the parts that are there
-pub record IsDebugText (t : Tree) (text : List ℕ) : Type 0 where
-  pub message : List ℕ
+-- the fields of code, severity, url and help, of those that are there
+pub record AreFields (m : Meaning) (fields : List ℕ) : Type 0 where
   pub code : List ℕ
   pub severity : List ℕ
   pub url : List ℕ
   pub help : List ℕ
+  pub is_code : IsField (codes "code") m.code code
+  pub is_severity : IsField (codes "severity") (severity_variant m.severity) severity
+  pub is_url : IsField (codes "url") m.url url
+  pub is_help : IsField (codes "help") m.help help
+  pub is : fields ≡ code ++ (severity ++ (url ++ help))
+
+-- `Diagnostic { message: "m", code: "c", severity: "Warning", url: "u", help: "h", labels: "..", caused by: "b" }` and
+-- a line feed, with the fields of the parts that are there
+pub record IsDebugText (t : Tree) (text : List ℕ) : Type 0 where
+  pub message : List ℕ
+  pub fields : List ℕ
   pub labels : List ℕ
   pub cause : List ℕ
   pub is_message : IsQuoted (head t).message message
-  pub is_code : IsField (codes "code") (head t).code code
-  pub is_severity : IsField (codes "severity") (severity_variant (head t).severity) severity
-  pub is_url : IsField (codes "url") (head t).url url
-  pub is_help : IsField (codes "help") (head t).help help
+  pub are_fields : AreFields (head t) fields
   pub are_labels : IsLabelsField (given_labels (head t).labels) labels
   pub is_cause : IsField (codes "caused by") (nearest (causes_of (cause_of t))) cause
-  pub is : text ≡ codes "Diagnostic { message: " ++ (message ++ (code ++ (severity ++ (url ++ (help ++ (labels
-      ++ (cause ++ (codes " }" ++ 10 ∷ []))))))))
+  pub is : text ≡ codes "Diagnostic { message: " ++ (message ++ (fields ++ (labels ++ (cause ++ (codes " }" ++ 10
+      ∷ [])))))

@@ -7,9 +7,7 @@ use Rattle.miette_debug.proofs.debug_text.push_fields.Goals as goal
 pub returns : goal.returns
 returns g c =
     let t = tree_of g.D.Diagnostic.meaning g.S.SourceCode.source c.args.report.now in
-    on_ok_weaker c.push_str-2.result (fields_put t _ _ _ _ _ _ _ _ _ _ _ _ _ _ c.message.ensures c.code.ensures
-    c.severity.ensures
-    c.url.ensures c.help.ensures c.labels_of.ensures c.cause_name.ensures c.in_ok-push_str.ensures.bytes
-    c.in_ok-push_quoted.ensures c.in_ok-push_members.ensures
+    on_ok_weaker c.push_str-2.result (fields_put t _ _ _ _ _ _ _ _ _ _ c.message.ensures c.labels_of.ensures
+    c.cause_name.ensures c.in_ok-push_str.ensures.bytes c.in_ok-push_quoted.ensures c.in_ok-push_members.ensures
     c.in_ok-push_labels.ensures c.in_ok-push_field.ensures)
     (where_written c.push_str-2.result _ _ _ c.push_str-2.ensures.bytes)
