@@ -89,6 +89,10 @@ pub begun_more : (left code size : ℕ) (cs : List Character) → 0 < left → b
     ∷ begun_text (left - size) cs
 begun_more left code size cs h = rw (nonzero left h) refl
 
+pub begun_zero : (cs : List Character) → begun_text 0 cs ≡ []
+begun_zero [] = refl
+begun_zero (c ∷ cs) = refl
+
 pub boundary_more : (left code size : ℕ) (cs : List Character) → 0 < left → size ≤ left
     → is_boundary left (made code size ∷ cs) ≡ is_boundary (left - size) cs
 boundary_more left code size cs h k = rw (nonzero left h, le-ltb left size k) refl
@@ -96,10 +100,6 @@ boundary_more left code size cs h k = rw (nonzero left h, le-ltb left size k) re
 pub boundary_inside : (left code size : ℕ) (cs : List Character) → 0 < left → left < size
     → is_boundary left (made code size ∷ cs) ≡ false
 boundary_inside left code size cs h k = rw (nonzero left h, lt-ltb left size k) refl
-
-pub begun_zero : (cs : List Character) → begun_text 0 cs ≡ []
-begun_zero [] = refl
-begun_zero (c ∷ cs) = refl
 
 pub boundary_zero : (cs : List Character) → is_boundary 0 cs ≡ true
 boundary_zero [] = refl
