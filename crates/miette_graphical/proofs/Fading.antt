@@ -12,7 +12,8 @@ use Rattle.miette_graphical.proofs.TextLaws.{TextLaws, plain-tame, plain-erase}
 use Rattle.miette_graphical.specs.rules.Settings.{Settings}
 use Rattle.miette_snippet_laws.specs.laws.Clean.{IsClean}
 use Rattle.miette_graphical.specs.laws.Clean.{HaveNoEscapes}
-use Rattle.miette_graphical.specs.laws.Colourless.{colourless}
+use Rattle.miette_graphical.specs.laws.Colourless.{restyled}
+use Rattle.miette_style.specs.rules.Themes.{Styles}
 use Rattle.miette_graphical.specs.rules.Indents.{wrapped_under}
 use Rattle.miette_graphical.specs.rules.DiagnosticText.{rows_text, line_feed}
 use Rattle.miette_graphical.specs.rules.Text.{only_if}
@@ -81,9 +82,9 @@ module _ (laws : TextLaws) where
     hyphens = cuts_hyphens s.wrapping.word_splitter;
   }
 
-  pub fades-under : (s : Settings) (f f2 g g2 : List Fragment) (x y : List ℕ) → Pales f f2 → Pales g g2 → Fades x y →
-      Fades (wrapped_under s f g x) (wrapped_under (colourless s) f2 g2 y)
-  fades-under s f f2 g g2 x y a b h =
+  pub fades-under : (s : Settings) (styles : Styles) (f f2 g g2 : List Fragment) (x y : List ℕ) → Pales f f2 →
+      Pales g g2 → Fades x y → Fades (wrapped_under s f g x) (wrapped_under (restyled s styles) f2 g2 y)
+  fades-under s styles f f2 g g2 x y a b h =
       let p = fades-print f f2 a in
       let q = fades-print g g2 b in
       let all : AllTame (plan s (print f) (print g)) x = record { first = p.tame; further = q.tame; inner = h.tame } in

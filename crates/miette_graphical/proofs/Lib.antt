@@ -14,6 +14,7 @@ pub mod Only
 pub mod PrintedRows
 pub mod Paths
 pub mod Alike
+pub mod PrintedAnswers
 pub mod DrawnRows
 pub mod SnippetsFading
 pub mod Styling

@@ -12,7 +12,8 @@ use Rattle.miette_graphical.specs.rules.Settings.{Settings, icon, icon_in, style
 use Rattle.miette_graphical.specs.declared.settings.UrlMode.{UrlMode}
 use Rattle.miette_graphical.specs.declared.settings.UrlMode.TheVariants.{Links, Text, Hidden}
 use Rattle.miette_graphical.specs.rules.Settings.{severity_style}
-use Rattle.miette_style.specs.rules.Themes.{Characters, Styles}
+use Rattle.miette_style.specs.rules.Themes.{Characters}
+use Rattle.miette_style.specs.declared.style.Style.{Style}
 use Rattle.miette_graphical.proofs.TextLaws.{TextLaws}
 use Rattle.miette_graphical.specs.rules.Answers.{Answer}
 use Rattle.miette_graphical.specs.rules.Indents.{bare_text, spaces, wrapped_under, icon_indent, bar_indent, arrow_text}
@@ -26,24 +27,26 @@ use Rattle.miette_graphical.specs.rules.Text.{cause_texts, inner_text, body_over
 use Rattle.miette_tree.specs.rules.Tree.{effective}
 use Rattle.std.specs.List.{AllByRecursion}
 use Rattle.miette_snippet_laws.specs.laws.Clean.{IsClean, IsCleanText, IsCleanLabel, IsCleanSource}
-use Rattle.miette_snippet_laws.specs.laws.Fading.{faded_styles}
+use Rattle.miette_snippet_laws.specs.laws.Fading.{AreAllPlain, unhighlighted_answer}
+use Rattle.miette_snippet_laws.proofs.PlainStyles.{faded_are_plain, faded_styles}
 use Rattle.miette_snippet_laws.proofs.CleanTexts.{clean_cons, clean_append}
-use Rattle.miette_snippet_laws.specs.laws.Fading.{unhighlighted_answer}
 use Rattle.miette_graphical.specs.laws.Clean.{AreCleanCharacters, AreCleanSettings, AreCleanLabels, IsCleanMeaning}
-use Rattle.miette_graphical.specs.laws.Colourless.{colourless, AreSnippets}
+use Rattle.miette_graphical.specs.laws.Colourless.{AreSnippets, restyled}
 use Rattle.miette_graphical.proofs.Fading.{Fades, Pales, fades-to, fades-append, fades-clean, fades-print}
 use Rattle.miette_graphical.proofs.Fading.{fades-leading, fades-under, fades-feed, fades-rows, columns-pale}
 
-module _ (laws : TextLaws) where
-  -- ---- texts
+-- in plain styles with these highlights
+abbrev pub faded : List Style → Settings → Settings
+faded hs s = restyled s (faded_styles hs)
 
+module _ (laws : TextLaws) (hs : List Style) (bare : AreAllPlain hs) where
   -- ---- styles and characters
 
-  style-faded : (s : Styles) (v : Option Severity) → plain ≡ style_in (faded_styles s) v
-  style-faded s None = refl
-  style-faded s (Some Error) = refl
-  style-faded s (Some Warning) = refl
-  style-faded s (Some Advice) = refl
+  style-faded : (v : Option Severity) → plain ≡ style_in (faded_styles hs) v
+  style-faded None = refl
+  style-faded (Some Error) = refl
+  style-faded (Some Warning) = refl
+  style-faded (Some Advice) = refl
 
   icon-clean : (c : Characters) (v : Option Severity) → AreCleanCharacters c → IsClean (icon_in c v)
   icon-clean c None h = h.error
@@ -68,55 +71,55 @@ module _ (laws : TextLaws) where
   -- ---- indents
 
   pale-icon : (s : Settings) (v : Option Severity) → AreCleanSettings s
-      → Pales (icon_indent s v) (icon_indent (colourless s) v)
+      → Pales (icon_indent s v) (icon_indent (faded hs s) v)
   pale-icon s v h = record {
     clean = (refl, (icon-clean s.theme.characters v h.0, (refl, tt)));
     same = ap (λ st. bare_text (spaces 2) ∷ Styled st (icon s v) ∷ bare_text (spaces 1) ∷ [])
-        (style-faded s.theme.styles v);
+        (style-faded v);
   }
 
   pale-bar : (s : Settings) (v : Option Severity) → AreCleanSettings s
-      → Pales (bar_indent s v) (bar_indent (colourless s) v)
+      → Pales (bar_indent s v) (bar_indent (faded hs s) v)
   pale-bar s v h = let k = h.0.drawings in record {
     clean = (refl, (clean_cons s.theme.characters.vbar [] k.vbar refl, (refl, tt)));
     same = ap (λ st. bare_text (spaces 2) ∷ Styled st (s.theme.characters.vbar ∷ []) ∷ bare_text (spaces 1) ∷ [])
-        (style-faded s.theme.styles v);
+        (style-faded v);
   }
 
   -- what an arrow draws is the same in all styles
-  arrow-same : (s : Settings) (b : Bool) → arrow_text s b ≡ arrow_text (colourless s) b
+  arrow-same : (s : Settings) (b : Bool) → arrow_text s b ≡ arrow_text (faded hs s) b
   arrow-same s true = refl
   arrow-same s false = refl
 
-  stem-same : (s : Settings) (b : Bool) → stem_text s b ≡ stem_text (colourless s) b
+  stem-same : (s : Settings) (b : Bool) → stem_text s b ≡ stem_text (faded hs s) b
   stem-same s true = refl
   stem-same s false = refl
 
   pale-arrow : (s : Settings) (v : Option Severity) (b : Bool) → AreCleanSettings s
-      → Pales (arrow_indent s v b) (arrow_indent (colourless s) v b)
+      → Pales (arrow_indent s v b) (arrow_indent (faded hs s) v b)
   pale-arrow s v b h = record {
     clean = (arrow-clean s b h, tt);
-    same = ap₂ (λ st t. Styled st t ∷ []) (style-faded s.theme.styles v) (arrow-same s b);
+    same = ap₂ (λ st t. Styled st t ∷ []) (style-faded v) (arrow-same s b);
   }
 
   pale-stem : (s : Settings) (v : Option Severity) (b : Bool) → AreCleanSettings s
-      → Pales (stem_indent s v b) (stem_indent (colourless s) v b)
+      → Pales (stem_indent s v b) (stem_indent (faded hs s) v b)
   pale-stem s v b h = record {
     clean = (stem-clean s b h, tt);
-    same = ap₂ (λ st t. Styled st t ∷ []) (style-faded s.theme.styles v) (stem-same s b);
+    same = ap₂ (λ st t. Styled st t ∷ []) (style-faded v) (stem-same s b);
   }
 
   -- Colours change no inner width.
   pub narrowed-faded : (s : Settings) (v : Option Severity) (b : Bool) → AreCleanSettings s
-      → colourless (narrow_settings s v b) ≡ narrow_settings (colourless s) v b
-  narrowed-faded s v b h = ap (λ n. record (colourless s) { width = s.width - n })
-      (sym (columns-pale laws (stem_indent s v b) (stem_indent (colourless s) v b) (pale-stem s v b h)))
+      → faded hs (narrow_settings s v b) ≡ narrow_settings (faded hs s) v b
+  narrowed-faded s v b h = ap (λ n. record (faded hs s) { width = s.width - n })
+      (sym (columns-pale laws (stem_indent s v b) (stem_indent (faded hs s) v b) (pale-stem s v b h)))
 
   -- ---- header
 
   pale-header_by : (u : UrlMode) (s : Settings) (v : Option Severity) (url code : Option (List ℕ)) → AreCleanSettings s
       → IfSome url IsCleanText → IfSome code IsCleanText →
-      Pales (header_by u s (severity_style s v) url code) (header_by u (colourless s) plain url code)
+      Pales (header_by u s (severity_style s v) url code) (header_by u (faded hs s) plain url code)
   pale-header_by Links s v (Some url) (Some code) h k j =
       record { clean = (k, (clean_append (chars code) (32 ∷ []) j refl, (h.1, (tt, (refl, tt))))); same = refl }
   pale-header_by Links s v (Some url) None h k j = record { clean = (k, (h.1, (tt, (refl, tt)))); same = refl }
@@ -131,13 +134,13 @@ module _ (laws : TextLaws) where
   pale-header_by Hidden s v url None h k j = record { clean = tt; same = refl }
 
   pale-header : (s : Settings) (m : Meaning) → AreCleanSettings s → IsCleanMeaning m
-      → Pales (header s m) (header (colourless s) m)
+      → Pales (header s m) (header (faded hs s) m)
   pale-header s m h k =
       let p = pale-header_by s.urls s m.severity m.url m.code h k.url k.code in
       record {
         clean = p.clean;
-        same = p.same ∙ ap (λ st. header_by s.urls (colourless s) st m.url m.code)
-            (style-faded s.theme.styles m.severity);
+        same = p.same ∙ ap (λ st. header_by s.urls (faded hs s) st m.url m.code)
+            (style-faded m.severity);
       }
 
   pale-or_end : (xs ys : List Fragment) → Pales xs ys → Pales (header_or_end xs) (header_or_end ys)
@@ -147,8 +150,8 @@ module _ (laws : TextLaws) where
   -- ---- message, help, footer
 
   pub fades-header : (s : Settings) (m : Meaning) → AreCleanSettings s → IsCleanMeaning m
-      → Fades (print (header s m)) (print (header (colourless s) m))
-  fades-header s m h k = fades-print laws (header s m) (header (colourless s) m) (pale-header s m h k)
+      → Fades (print (header s m)) (print (header (faded hs s) m))
+  fades-header s m h k = fades-print laws (header s m) (header (faded hs s) m) (pale-header s m h k)
 
   title-clean : (v : Option Severity) → IsClean (severity_title v)
   title-clean None = refl
@@ -157,28 +160,28 @@ module _ (laws : TextLaws) where
   title-clean (Some Advice) = refl
 
   pub fades-title : (s : Settings) (m : Meaning) → AreCleanSettings s → IsCleanMeaning m
-      → Fades (title_text s m) (title_text (colourless s) m)
+      → Fades (title_text s m) (title_text (faded hs s) m)
   fades-title s m h k =
       fades-append laws (line_feed ++ severity_title m.severity) (line_feed ++ severity_title m.severity)
-      (print (header_or_end (header s m))) (print (header_or_end (header (colourless s) m)))
+      (print (header_or_end (header s m))) (print (header_or_end (header (faded hs s) m)))
       (fades-clean laws (line_feed ++ severity_title m.severity) (title-clean m.severity))
-      (fades-print laws (header_or_end (header s m)) (header_or_end (header (colourless s) m))
-      (pale-or_end (header s m) (header (colourless s) m) (pale-header s m h k)))
+      (fades-print laws (header_or_end (header s m)) (header_or_end (header (faded hs s) m))
+      (pale-or_end (header s m) (header (faded hs s) m) (pale-header s m h k)))
 
   fades-line : (x y : List ℕ) → Fades x y → Fades (x ++ line_feed) (y ++ line_feed)
   fades-line x y h = fades-append laws x y line_feed line_feed h (fades-feed laws)
 
   fades-message : (s : Settings) (m : Meaning) → AreCleanSettings s → IsCleanMeaning m
-      → Fades (message_text s m) (message_text (colourless s) m)
+      → Fades (message_text s m) (message_text (faded hs s) m)
   fades-message s m h k =
       fades-line (wrapped_under s (icon_indent s m.severity) (bar_indent s m.severity) (chars m.message))
-      (wrapped_under (colourless s) (icon_indent (colourless s) m.severity) (bar_indent (colourless s) m.severity)
+      (wrapped_under (faded hs s) (icon_indent (faded hs s) m.severity) (bar_indent (faded hs s) m.severity)
       (chars m.message))
-      (fades-under laws s (icon_indent s m.severity) (icon_indent (colourless s) m.severity) (bar_indent s m.severity)
-      (bar_indent (colourless s) m.severity) (chars m.message) (chars m.message)
+      (fades-under laws s (faded_styles hs) (icon_indent s m.severity) (icon_indent (faded hs s) m.severity)
+      (bar_indent s m.severity) (bar_indent (faded hs s) m.severity) (chars m.message) (chars m.message)
       (pale-icon s m.severity h) (pale-bar s m.severity h) (fades-clean laws (chars m.message) k.message))
 
-  pale-help : (s : Settings) → AreCleanSettings s → Pales (help_indent s) (help_indent (colourless s))
+  pale-help : (s : Settings) → AreCleanSettings s → Pales (help_indent s) (help_indent (faded hs s))
   pale-help s h = record { clean = (refl, tt); same = refl }
 
   pale-spaces : Pales further_help_indent further_help_indent
@@ -188,44 +191,44 @@ module _ (laws : TextLaws) where
   pale-footer = record { clean = (refl, tt); same = refl }
 
   fades-help : (s : Settings) (help : Option (List ℕ)) → AreCleanSettings s → IfSome help IsCleanText
-      → Fades (help_text s help) (help_text (colourless s) help)
+      → Fades (help_text s help) (help_text (faded hs s) help)
   fades-help s None h k = fades-clean laws [] refl
   fades-help s (Some help) h k =
       fades-line (wrapped_under s (help_indent s) further_help_indent (chars help))
-      (wrapped_under (colourless s) (help_indent (colourless s)) further_help_indent (chars help))
-      (fades-under laws s (help_indent s) (help_indent (colourless s)) further_help_indent further_help_indent
-      (chars help) (chars help) (pale-help s h) pale-spaces (fades-clean laws (chars help) k))
+      (wrapped_under (faded hs s) (help_indent (faded hs s)) further_help_indent (chars help))
+      (fades-under laws s (faded_styles hs) (help_indent s) (help_indent (faded hs s)) further_help_indent
+      further_help_indent (chars help) (chars help) (pale-help s h) pale-spaces (fades-clean laws (chars help) k))
 
   fades-footer_of : (s : Settings) (footer : Option (List ℕ)) → IfSome footer IsClean
-      → Fades (footer_of s footer) (footer_of (colourless s) footer)
+      → Fades (footer_of s footer) (footer_of (faded hs s) footer)
   fades-footer_of s None k = fades-clean laws [] refl
   fades-footer_of s (Some footer) k =
       fades-line (line_feed ++ wrapped_under s footer_indent footer_indent footer)
-      (line_feed ++ wrapped_under (colourless s) footer_indent footer_indent footer)
+      (line_feed ++ wrapped_under (faded hs s) footer_indent footer_indent footer)
       (fades-append laws line_feed line_feed (wrapped_under s footer_indent footer_indent footer)
-      (wrapped_under (colourless s) footer_indent footer_indent footer) (fades-feed laws)
-      (fades-under laws s footer_indent footer_indent footer_indent footer_indent footer footer pale-footer pale-footer
-      (fades-clean laws footer k)))
+      (wrapped_under (faded hs s) footer_indent footer_indent footer) (fades-feed laws)
+      (fades-under laws s (faded_styles hs) footer_indent footer_indent footer_indent footer_indent footer footer
+      pale-footer pale-footer (fades-clean laws footer k)))
 
-  pub fades-footer : (s : Settings) → AreCleanSettings s → Fades (footer_text s) (footer_text (colourless s))
+  pub fades-footer : (s : Settings) → AreCleanSettings s → Fades (footer_text s) (footer_text (faded hs s))
   fades-footer s h = fades-footer_of s s.footer h.2
 
   -- ---- causes
 
   pub fades-under_arrow : (s : Settings) (v : Option Severity) (b : Bool) (x y : List ℕ) → AreCleanSettings s
-      → Fades x y → Fades (under_arrow s v b x) (under_arrow (colourless s) v b y)
+      → Fades x y → Fades (under_arrow s v b x) (under_arrow (faded hs s) v b y)
   fades-under_arrow s v b x y h k =
       fades-line (wrapped_under s (arrow_indent s v b) (stem_indent s v b) x)
-      (wrapped_under (colourless s) (arrow_indent (colourless s) v b) (stem_indent (colourless s) v b) y)
-      (fades-under laws s (arrow_indent s v b) (arrow_indent (colourless s) v b) (stem_indent s v b)
-      (stem_indent (colourless s) v b) x y (pale-arrow s v b h) (pale-stem s v b h) k)
+      (wrapped_under (faded hs s) (arrow_indent (faded hs s) v b) (stem_indent (faded hs s) v b) y)
+      (fades-under laws s (faded_styles hs) (arrow_indent s v b) (arrow_indent (faded hs s) v b) (stem_indent s v b)
+      (stem_indent (faded hs s) v b) x y (pale-arrow s v b h) (pale-stem s v b h) k)
 
   pub fades-cause_texts : (s : Settings) (v : Option Severity) (ts : List (List ℕ)) → AreCleanSettings s
-      → AllByRecursion IsCleanText ts → Fades (cause_texts s v ts) (cause_texts (colourless s) v ts)
+      → AllByRecursion IsCleanText ts → Fades (cause_texts s v ts) (cause_texts (faded hs s) v ts)
   fades-cause_texts s v [] h k = fades-clean laws [] refl
   fades-cause_texts s v (t ∷ ts) h k =
-      fades-append laws (under_arrow s v (is_nil ts) (chars t)) (under_arrow (colourless s) v (is_nil ts) (chars t))
-      (cause_texts s v ts) (cause_texts (colourless s) v ts)
+      fades-append laws (under_arrow s v (is_nil ts) (chars t)) (under_arrow (faded hs s) v (is_nil ts) (chars t))
+      (cause_texts s v ts) (cause_texts (faded hs s) v ts)
       (fades-under_arrow s v (is_nil ts) (chars t) (chars t) h (fades-clean laws (chars t) k.0))
       (fades-cause_texts s v ts h k.1)
 
@@ -246,37 +249,37 @@ module _ (laws : TextLaws) where
       AreCleanSettings s → IsCleanMeaning m → IfSome source IsCleanSource → Fades causes causes2
       → Fades related related2 →
       Fades (body_over s m (drawn_text rows s m source a) causes related)
-      (body_over (colourless s) m (drawn_text rows (colourless s) m source (unhighlighted_answer a)) causes2
+      (body_over (faded hs s) m (drawn_text rows (faded hs s) m source (unhighlighted_answer a)) causes2
       related2)
   fades-body rows law s m source a causes causes2 related related2 h k j p q =
       let ls = given_labels m.labels in
       let rs = rows s source ls a in
-      let rs2 = rows (colourless s) source ls (unhighlighted_answer a) in
+      let rs2 = rows (faded hs s) source ls (unhighlighted_answer a) in
       let snippets : Fades (rows_text rs) (rows_text rs2) =
       fades-to (fades-rows laws rs (law.clean s source ls a h j (labels-clean m.labels k.labels)))
-      (sym (law.fade s source ls a)) in
-      let one = fades-append laws (message_text s m) (message_text (colourless s) m) causes causes2
+      (sym (law.fade s (faded_styles hs) source ls a (faded_are_plain hs bare))) in
+      let one = fades-append laws (message_text s m) (message_text (faded hs s) m) causes causes2
       (fades-message s m h k) p in
-      let two = fades-append laws (message_text s m ++ causes) (message_text (colourless s) m ++ causes2) (rows_text rs)
+      let two = fades-append laws (message_text s m ++ causes) (message_text (faded hs s) m ++ causes2) (rows_text rs)
       (rows_text rs2) one snippets in
       let three = fades-append laws (message_text s m ++ causes ++ rows_text rs)
-      (message_text (colourless s) m ++ causes2 ++ rows_text rs2) (help_text s m.help)
-      (help_text (colourless s) m.help) two (fades-help s m.help h k.help) in
+      (message_text (faded hs s) m ++ causes2 ++ rows_text rs2) (help_text s m.help)
+      (help_text (faded hs s) m.help) two (fades-help s m.help h k.help) in
       fades-append laws (message_text s m ++ causes ++ rows_text rs ++ help_text s m.help)
-      (message_text (colourless s) m ++ causes2 ++ rows_text rs2 ++ help_text (colourless s) m.help) related related2
+      (message_text (faded hs s) m ++ causes2 ++ rows_text rs2 ++ help_text (faded hs s) m.help) related related2
       three q
 
   pub fades-inner : (rows : SnippetRows) → AreSnippets rows
       → (s : Settings) (m : Meaning) (source : Option Source) (a : Answer) (related related2 : List ℕ) →
       AreCleanSettings s → IsCleanMeaning m → IfSome source IsCleanSource → Fades related related2 →
-      Fades (inner_text rows s m source a related) (inner_text rows (colourless s) m source (unhighlighted_answer a)
+      Fades (inner_text rows s m source a related) (inner_text rows (faded hs s) m source (unhighlighted_answer a)
       related2)
   fades-inner rows law s m source a related related2 h k j q =
       fades-leading laws (print (header s m) ++ body_over s m (drawn_text rows s m source a) [] related)
-      (print (header (colourless s) m) ++ body_over (colourless s) m
-      (drawn_text rows (colourless s) m source (unhighlighted_answer a)) [] related2)
-      (fades-append laws (print (header s m)) (print (header (colourless s) m))
+      (print (header (faded hs s) m) ++ body_over (faded hs s) m
+      (drawn_text rows (faded hs s) m source (unhighlighted_answer a)) [] related2)
+      (fades-append laws (print (header s m)) (print (header (faded hs s) m))
       (body_over s m (drawn_text rows s m source a) [] related)
-      (body_over (colourless s) m (drawn_text rows (colourless s) m source (unhighlighted_answer a)) [] related2)
+      (body_over (faded hs s) m (drawn_text rows (faded hs s) m source (unhighlighted_answer a)) [] related2)
       (fades-header s m h k) (fades-body rows law s m source a [] [] related related2 h k j (fades-clean laws [] refl)
       q))

@@ -1,5 +1,5 @@
 -- Answers without a highlighter's pieces are possible in plain styles: the snippets have rows there too.
-use Rattle.std.proofs.Common.{◌≡◌, Bool, true, List, Option, Some, None, is_some, map, option_map, refl, ap, subst}
+use Rattle.std.proofs.Common.{◌≡◌, Bool, true, List, Option, Some, None, is_some, map, option_map, refl, ap, ◌∙◌, subst}
 use Rattle.miette_protocol.specs.views.Meaning.{Label, Meaning}
 use Rattle.miette_protocol.specs.rules.Reading.{Source}
 use Rattle.miette_tree.specs.rules.DiagnosticParts.{given_labels}
@@ -9,26 +9,28 @@ use Rattle.miette_labels.specs.rules.Around.{group_context}
 use Rattle.miette_labels.specs.rules.Groups.{groups_of, in_order}
 use Rattle.miette_snippet_laws.specs.laws.Fading as fading
 use Rattle.miette_snippet_laws.specs.laws.Fading.{unhighlighted_answer}
+use Rattle.miette_snippet_laws.proofs.PlainStyles.{none_are_plain}
+use Rattle.miette_style.specs.rules.Themes.{Styles, no_styles}
 use Rattle.miette_snippet_rules.specs.rules.Settings as snippets
 use Rattle.miette_snippet_rules.specs.rules.SnippetLayout.{snippet_rows}
 use Rattle.miette_snippet_rules.proofs.NoPieces.{none_have}
 use Rattle.miette_page.specs.rules.Rows.{Row, glyphs_of}
 use Rattle.miette_graphical.specs.rules.Settings.{Settings}
 use Rattle.miette_graphical.specs.rules.Snippets.{snippet_settings}
-use Rattle.miette_graphical.specs.rules.Answers.{Answer, Answers, unlisted, RelatedAnswers, no_more, and_more}
+use Rattle.miette_graphical.specs.rules.Answers.{Answer, Answers, RelatedAnswers, first_answers, later_answers}
 use Rattle.miette_graphical.specs.rules.Answers.{own_answer, cause_answers, related_answers}
 use Rattle.miette_graphical.specs.rules.PossibleAnswers.{AreAnswers, AreCauseAnswers, AreRelatedAnswers, HasPieces}
 use Rattle.miette_graphical.specs.rules.PossibleAnswers.{HasRows, IsAnswer, IsAnswerOf}
 use Rattle.miette_tree.specs.rules.Reads.{always_reads}
 use Rattle.miette_graphical.specs.laws.Colourless.{colourless, unhighlighted_answers, unhighlighted_related_answers}
-use Rattle.miette_graphical.proofs.Bare.{own-bare, cause-bare, related-bare}
+use Rattle.miette_graphical.proofs.Bare.{own-bare, cause-bare, related-bare, first-bare, later-bare}
 
 -- in plain styles the rows have the same characters, which the layer of snippets promises
 abbrev pub AreRowsKept : Type 0
-AreRowsKept = (s : snippets.SnippetSettings) (source : Source) (labels : List Label) (answers : snippet_answers.Answers)
-    →
-    option_map (map glyphs_of) (snippet_rows (fading.colourless s) source labels (fading.unhighlighted_answer answers))
-    ≡ option_map (map glyphs_of) (snippet_rows s source labels answers)
+AreRowsKept = (s : snippets.SnippetSettings) (styles : Styles) (source : Source) (labels : List Label)
+    (answers : snippet_answers.Answers) → fading.ArePlain styles →
+    option_map (map glyphs_of) (snippet_rows (fading.restyled s styles) source labels
+    (fading.unhighlighted_answer answers)) ≡ option_map (map glyphs_of) (snippet_rows s source labels answers)
 
 some_kept : (plain rows : Option (List Row)) → option_map (map glyphs_of) plain ≡ option_map (map glyphs_of) rows
     → is_some rows ≡ true → is_some plain ≡ true
@@ -40,7 +42,7 @@ module _ (kept : AreRowsKept) where
   rows_kept : (l : snippets.SnippetSettings) (source : Option Source) (labels : List Label) (a : Answer)
       → HasRows l source labels a → HasRows (fading.colourless l) source labels (unhighlighted_answer a)
   rows_kept l None labels a h = tt
-  rows_kept l (Some source) labels a h = some_kept _ _ (kept l source labels a) h
+  rows_kept l (Some source) labels a h = some_kept _ _ (kept l no_styles source labels a none_are_plain) h
 
   no_pieces : (l : snippets.SnippetSettings) (source : Option Source) (labels : List Label) (a : Answer)
       → HasPieces (fading.colourless l) true source labels (unhighlighted_answer a)
@@ -85,21 +87,19 @@ module _ (kept : AreRowsKept) where
         (more : RelatedAnswers) → AreRelatedAnswers l blank inherited ts more →
         AreRelatedAnswers (fading.colourless l) true inherited ts (unhighlighted_related_answers more)
     related_possible l blank inherited no_trees more h = tt
-    related_possible l blank inherited (more_trees (tree m own c r) ts) no_more h =
-        let source = effective own inherited in (
-          own_possible l blank source m unlisted h.0,
-          causes_possible l blank source c unlisted h.1,
-          related_possible l blank source r no_more h.2,
-          related_possible l blank inherited ts no_more h.3,
-        )
-    related_possible l blank inherited (more_trees (tree m own c r) ts) (and_more a later) h =
-        let source = effective own inherited in (
-          own_possible l blank source m a h.0,
-          subst (AreCauseAnswers (fading.colourless l) true source c) (cause-bare a)
+    related_possible l blank inherited (more_trees (tree m own c r) ts) more h =
+        let source = effective own inherited in
+        let a = first_answers more in (
+          subst (λ b. IsAnswer (fading.colourless l) true source m (own_answer b)) (first-bare more)
+              (own_possible l blank source m a h.0),
+          subst (AreCauseAnswers (fading.colourless l) true source c)
+              (cause-bare a ∙ ap cause_answers (first-bare more))
               (causes_possible l blank source c (cause_answers a) h.1),
-          subst (AreRelatedAnswers (fading.colourless l) true source r) (related-bare a)
+          subst (AreRelatedAnswers (fading.colourless l) true source r)
+              (related-bare a ∙ ap related_answers (first-bare more))
               (related_possible l blank source r (related_answers a) h.2),
-          related_possible l blank inherited ts later h.3,
+          subst (AreRelatedAnswers (fading.colourless l) true inherited ts) (later-bare more)
+              (related_possible l blank inherited ts (later_answers more) h.3),
         )
 
   pub answers_possible : (s : Settings) (blank : Bool) (t : Tree) (a : Answers) → AreAnswers s blank t a

@@ -1,19 +1,21 @@
 -- What is known of the bytes that a handler appended for a tree.
 use Rattle.std.proofs.Common.{◌≡◌, ◌∙◌, ap, subst, ℕ, Bool, true, List, ◌++◌, Result, Ok, Err, OnOk, encode_utf8_all}
 use Rattle.miette_highlight.specs.rules.HighlighterCalls.{Call}
-use Rattle.miette_graphical.specs.rules.PossibleAnswers.{Appends, IsAskedText, IsReport, IsTextOf}
+use Rattle.miette_graphical.specs.rules.PossibleAnswers.{Appends, IsAskedText, IsTextOf}
 use Rattle.miette_graphical.specs.rules.Answers.{unlisted}
 use Rattle.miette_graphical.specs.rules.PrintedDiagnostics.{all_read, diagnostics_of}
 use Rattle.miette_graphical.specs.rules.Settings.{Settings}
 use Rattle.miette_graphical.specs.rules.Snippets.{drawn_rows}
 use Rattle.miette_graphical.specs.rules.Text.{report_text}
 use Rattle.miette_graphical.specs.laws.Clean.{AreCleanSettings, IsCleanTree}
-use Rattle.miette_graphical.specs.laws.Colourless.{IsColouredText, IsRestyledText, colourless}
+use Rattle.miette_graphical.specs.laws.Colourless.{IsColouredText, IsRestyledText, colourless, restyled}
+use Rattle.miette_snippet_laws.specs.laws.Fading.{ArePlain}
+use Rattle.miette_style.specs.rules.Themes.{Styles}
 use Rattle.miette_runs.specs.rules.Sequences.{erase}
 use Rattle.miette_text.specs.rules.ColouredTexts.{AppendsErasing}
 use Rattle.miette_tree.specs.rules.Tree.{Tree}
 use Rattle.miette_tree.specs.views.Handler.{AppendsOne}
-use Rattle.miette_graphical.proofs.Only.{same-report}
+use Rattle.miette_graphical.proofs.Only.{only-text}
 
 -- by whatever calls
 pub unasked : (s : Settings) (blank : Bool) (happen : List Call → Type 0) (t : Tree) (old new : List ℕ)
@@ -31,22 +33,19 @@ pub rendered-ok : {A E : Type 0} (r : Result A E) (s : Settings) (blank : Bool) 
 rendered-ok (Err e) s blank happen t old new ok = tt
 rendered-ok (Ok x) s blank happen t old new ok = unasked s blank happen t old new ok
 
-only-text : (s : Settings) (blank : Bool) (t : Tree) (old new : List ℕ) → Appends drawn_rows s blank t old new → blank
-    ≡ true → all_read (diagnostics_of s t) ≡ true
+only-appended : (s : Settings) (blank : Bool) (t : Tree) (old new : List ℕ) → Appends drawn_rows s blank t old new
+    → blank ≡ true → all_read (diagnostics_of s t) ≡ true
     → new ≡ old ++ encode_utf8_all (report_text drawn_rows s t unlisted)
-only-text s blank t old new ok plain reads =
-    let answered : IsReport drawn_rows s true t ok.is_given.0 =
-    subst (λ b. IsReport drawn_rows s b t ok.is_given.0) plain ok.is_given.1 in
-    let only : ok.is_given.0 ≡ report_text drawn_rows s t unlisted = answered.2
-    ∙ same-report drawn_rows s t answered.0 answered.1 reads in
-    ok.appended ∙ ap (λ x. old ++ x) (ok.is_given.2 ∙ ap encode_utf8_all only)
+only-appended s blank t old new ok plain reads =
+    ok.appended ∙ ap (λ x. old ++ x)
+    (only-text s t ok.text (subst (λ b. IsTextOf drawn_rows s b t ok.text) plain ok.is_given) reads)
 
 pub rendered-only : {A E : Type 0} (r : Result A E) (s : Settings) (blank : Bool) (t : Tree) (old new : List ℕ)
     → OnOk r (Appends drawn_rows s blank t old new)
     → OnOk r (blank ≡ true → all_read (diagnostics_of s t) ≡ true → new ≡ old
     ++ encode_utf8_all (report_text drawn_rows s t unlisted))
 rendered-only (Err e) s blank t old new ok = tt
-rendered-only (Ok x) s blank t old new ok = only-text s blank t old new ok
+rendered-only (Ok x) s blank t old new ok = only-appended s blank t old new ok
 
 pub rendered-colours : {A E : Type 0} (r : Result A E) (s : Settings) (blank : Bool) (t : Tree) (old new : List ℕ)
     → ((s : Settings) (blank : Bool) (t : Tree) (bytes : List ℕ) → AreCleanSettings s → IsCleanTree t
@@ -71,6 +70,18 @@ pub rendered-colourless : {A E : Type 0} (r : Result A E) (s : Settings) (blank 
 rendered-colourless (Err e) s blank t old new law ok = tt
 rendered-colourless (Ok x) s blank t old new law ok = λ reads settings tree.
     (ok.text, ok.appended, law s blank t ok.text settings tree ok.is_given reads)
+
+pub rendered-plain : {A E : Type 0} (r : Result A E) (s : Settings) (blank : Bool) (t : Tree) (old new : List ℕ)
+    → ((s : Settings) (styles : Styles) (blank : Bool) (t : Tree) (bytes : List ℕ) → AreCleanSettings s
+    → IsCleanTree t → ArePlain styles → IsTextOf drawn_rows s blank t bytes → all_read (diagnostics_of s t) ≡ true
+    → erase bytes ≡ encode_utf8_all (report_text drawn_rows (restyled s styles) t unlisted))
+    → OnOk r (Appends drawn_rows s blank t old new)
+    → OnOk r (all_read (diagnostics_of s t) ≡ true → AreCleanSettings s → IsCleanTree t → (styles : Styles)
+    → ArePlain styles
+    → AppendsErasing old new (encode_utf8_all (report_text drawn_rows (restyled s styles) t unlisted)))
+rendered-plain (Err e) s blank t old new law ok = tt
+rendered-plain (Ok x) s blank t old new law ok = λ reads settings tree styles bare.
+    (ok.text, ok.appended, law s styles blank t ok.text settings tree bare ok.is_given reads)
 
 pub rendered-themes : {A E : Type 0} (r : Result A E) (s : Settings) (blank : Bool) (t : Tree) (old new : List ℕ)
     → ((s : Settings) (blank : Bool) (t : Tree) (bytes others : List ℕ) → AreCleanSettings s → IsCleanTree t

@@ -16,26 +16,27 @@ use Rattle.miette_style.specs.rules.Escapes.{no_escape}
 use Rattle.miette_labels.specs.rules.Answers as snippet_answers
 use Rattle.miette_snippet_laws.specs.laws.Clean.{IsCleanLabel, IsCleanRow, IsCleanSource, AreCleanDrawings}
 use Rattle.miette_snippet_laws.specs.laws.Fading as fading
-use Rattle.miette_snippet_laws.specs.laws.Fading.{IsPlainRow, unhighlighted_answer}
+use Rattle.miette_snippet_laws.specs.laws.Fading.{ArePlain, IsPlainRow, unhighlighted_answer}
+use Rattle.miette_style.specs.rules.Themes.{Styles}
 use Rattle.miette_snippet_rules.specs.rules.Settings as snippets
 use Rattle.miette_snippet_rules.specs.rules.SnippetLayout.{snippet_rows}
 use Rattle.miette_page.specs.rules.Rows.{Glyph, Row, Run, glyphs_of}
 use Rattle.miette_graphical.specs.rules.Answers.{Answer}
 use Rattle.miette_graphical.specs.laws.Clean.{AreCleanSettings, HaveNoEscapes}
-use Rattle.miette_graphical.specs.laws.Colourless.{AreSnippets, colourless}
+use Rattle.miette_graphical.specs.laws.Colourless.{AreSnippets, restyled}
 use Rattle.miette_graphical.specs.rules.DiagnosticText.{line_feed, rows_text}
 use Rattle.miette_graphical.specs.rules.Settings.{Settings}
 use Rattle.miette_graphical.specs.rules.Snippets.{drawn_rows, snippet_settings, run_text, runs_of_row, shown_rows}
 
 -- the clauses of the laws of that layer
 pub record LayoutLaws : Type 0 where
-  pub same : (s : snippets.SnippetSettings) (source : Source) (labels : List Label) (answers : snippet_answers.Answers)
-      →
-      option_map (map glyphs_of) (snippet_rows (fading.colourless s) source labels
+  pub same : (s : snippets.SnippetSettings) (styles : Styles) (source : Source) (labels : List Label)
+      (answers : snippet_answers.Answers) → ArePlain styles →
+      option_map (map glyphs_of) (snippet_rows (fading.restyled s styles) source labels
       (fading.unhighlighted_answer answers)) ≡ option_map (map glyphs_of) (snippet_rows s source labels answers)
-  pub plain : (s : snippets.SnippetSettings) (source : Source) (labels : List Label) (answers : snippet_answers.Answers)
-      →
-      IfSome (snippet_rows (fading.colourless s) source labels (fading.unhighlighted_answer answers))
+  pub plain : (s : snippets.SnippetSettings) (styles : Styles) (source : Source) (labels : List Label)
+      (answers : snippet_answers.Answers) → ArePlain styles →
+      IfSome (snippet_rows (fading.restyled s styles) source labels (fading.unhighlighted_answer answers))
       (AllByRecursion IsPlainRow)
   pub clean : (s : snippets.SnippetSettings) (source : Source) (labels : List Label) (answers : snippet_answers.Answers)
       →
@@ -166,15 +167,15 @@ clean_shown (Some rows) h = clean_rows rows h
 
 -- ---- the rows of a diagnostic's snippets
 
-drawn_fade : LayoutLaws → (s : Settings) (source : Option Source) (labels : List Label) (a : Answer) →
-    rows_text (drawn_rows (colourless s) source labels (unhighlighted_answer a))
+drawn_fade : LayoutLaws → (s : Settings) (styles : Styles) (source : Option Source) (labels : List Label) (a : Answer)
+    → ArePlain styles → rows_text (drawn_rows (restyled s styles) source labels (unhighlighted_answer a))
     ≡ rows_text (map (map plain_run) (drawn_rows s source labels a))
-drawn_fade laws s None labels a = refl
-drawn_fade laws s (Some source) labels a =
+drawn_fade laws s styles None labels a bare = refl
+drawn_fade laws s styles (Some source) labels a bare =
     let l = snippet_settings s in
-    plain_shown (snippet_rows (fading.colourless l) source labels (fading.unhighlighted_answer a))
-    (laws.plain l source labels a)
-    ∙ ap shown_text (laws.same l source labels a) ∙ sym (bare_shown (snippet_rows l source labels a))
+    plain_shown (snippet_rows (fading.restyled l styles) source labels (fading.unhighlighted_answer a))
+    (laws.plain l styles source labels a bare)
+    ∙ ap shown_text (laws.same l styles source labels a bare) ∙ sym (bare_shown (snippet_rows l source labels a))
 
 drawn_clean : LayoutLaws → (s : Settings) (source : Option Source) (labels : List Label) (a : Answer) →
     AreCleanSettings s → IfSome source IsCleanSource → AllByRecursion IsCleanLabel labels

@@ -7,7 +7,7 @@ ghost use Rattle.miette_graphical.specs.rules.Answers.{Answers, unlisted};
 ghost use Rattle.miette_graphical.specs.laws.Clean.{AreCleanCharacters, AreCleanSettings, IsCleanTree};
 ghost use Rattle.miette_graphical.specs.laws.Alike.{AreAnsweredAlike, AreDrawnAlike};
 ghost use Rattle.miette_graphical.specs.laws.Colourless.{AreSnippets, IsColouredText, IsRestyledText};
-ghost use Rattle.miette_graphical.specs.laws.Colourless.{colourless, unhighlighted_answers};
+ghost use Rattle.miette_graphical.specs.laws.Colourless.{ArePlain, colourless, restyled, unhighlighted_answers};
 ghost use Rattle.std.specs.List.{AllByRecursion, Contains};
 ghost use Rattle.miette_graphical.specs.laws.Headline.{EndsAreDrawn, LabelsAreFolded, LinesAreShown, MarksAreApart};
 ghost use Rattle.miette_graphical.specs.laws.Headline.{TextsHang, CutsAreExact, LinesThatFitStay};
@@ -20,7 +20,7 @@ ghost use Rattle.miette_graphical.specs.rules.Snippets.{drawn_rows};
 ghost use Rattle.miette_graphical.specs.rules.Text.{report_text};
 ghost use Rattle.miette_tree.specs.rules.Tree.{Tree};
 ghost use Rattle.miette_style.specs.declared.theme.Terminal.{Terminal};
-ghost use Rattle.miette_style.specs.rules.Themes.{Characters, terminal_theme, Theme};
+ghost use Rattle.miette_style.specs.rules.Themes.{Characters, no_styles, Styles, terminal_theme, Theme};
 ghost use Rattle.miette_runs.specs.rules.Sequences.{erase};
 ghost use Rattle.miette_text.specs.laws.Tame.{IsTame};
 ghost use Rattle.miette_cells.specs.rules.Widths.{width_of};
@@ -50,6 +50,10 @@ pub fn colours_law()
         AreCleanSettings s → AreCleanSettings u → IsCleanTree t →
         colourless s ≡ colourless u → unhighlighted_answers a ≡ unhighlighted_answers b →
         erase (report_text rows s t a) ≡ erase (report_text rows u t b) }
+    // The text without its colours is that of any plain styles, with however many highlights.
+    ensures plain { (rows : SnippetRows) (s : Settings) (styles : Styles) (t : Tree) (a : Answers) →
+        AreSnippets rows → AreCleanSettings s → IsCleanTree t → ArePlain styles →
+        erase (report_text rows s t a) ≡ report_text rows (restyled s styles) t (unhighlighted_answers a) }
 {
     wrapping_law();
     joining_law();
@@ -68,7 +72,8 @@ pub fn drawn_rows_law()
 
 /// Of each text that may be printed of such a report: without its colours it is the text in plain styles under the
 /// same reads, and one that may be printed in plain styles without a highlighter. Where every source always reads,
-/// that is one text (`only`), and themes with equal characters leave the same one, whatever their styles (`themes`).
+/// that is one text (`only`), that of each theme with the same characters and plain styles (`plain`), and themes with
+/// equal characters leave the same one, whatever their styles (`themes`).
 pub fn erasing_law()
     ensures text { (s : Settings) (blank : Bool) (t : Tree) (bytes : List ℕ) → AreCleanSettings s → IsCleanTree t →
         IsTextOf drawn_rows s blank t bytes → IsColouredText drawn_rows s blank t bytes }
@@ -77,6 +82,10 @@ pub fn erasing_law()
     ensures only { (s : Settings) (blank : Bool) (t : Tree) (bytes : List ℕ) → AreCleanSettings s → IsCleanTree t →
         IsTextOf drawn_rows s blank t bytes → all_read (diagnostics_of s t) ≡ true →
         erase bytes ≡ encode_utf8_all (report_text drawn_rows (colourless s) t unlisted) }
+    ensures plain { (s : Settings) (styles : Styles) (blank : Bool) (t : Tree) (bytes : List ℕ) →
+        AreCleanSettings s → IsCleanTree t → ArePlain styles →
+        IsTextOf drawn_rows s blank t bytes → all_read (diagnostics_of s t) ≡ true →
+        erase bytes ≡ encode_utf8_all (report_text drawn_rows (restyled s styles) t unlisted) }
     ensures themes { (s : Settings) (blank : Bool) (t : Tree) (bytes others : List ℕ) → AreCleanSettings s →
         IsCleanTree t → IsTextOf drawn_rows s blank t bytes → all_read (diagnostics_of s t) ≡ true →
         IsRestyledText drawn_rows s t others → erase bytes ≡ erase others }
@@ -86,6 +95,29 @@ pub fn erasing_law()
     encoding_law();
     rows_fade();
 }
+
+/// A text in plain styles is its own without colours: by the definition, where no line has a highlighter's pieces
+/// (`text`), and so each that a handler may print whose highlighter leaves lines plain (`printed`). The styles of the
+/// shipped themes without colours are plain (`shipped`).
+pub fn plain_law()
+    ensures text { (rows : SnippetRows) (s : Settings) (t : Tree) (a : Answers) → AreSnippets rows →
+        AreCleanSettings s → IsCleanTree t → ArePlain s.theme.styles → unhighlighted_answers a ≡ a →
+        erase (report_text rows s t a) ≡ report_text rows s t a }
+    ensures printed { (s : Settings) (t : Tree) (bytes : List ℕ) → AreCleanSettings s → IsCleanTree t →
+        ArePlain s.theme.styles → IsTextOf drawn_rows s true t bytes → erase bytes ≡ bytes }
+    ensures shipped { ArePlain no_styles }
+{
+    colours_law();
+    drawn_rows_law();
+    encoding_law();
+}
+
+/// Where every source always reads and lines are plain, one text may be printed of a report: the one in which nothing
+/// is listed.
+pub fn only_law()
+    ensures { (s : Settings) (t : Tree) (bytes : List ℕ) → IsTextOf drawn_rows s true t bytes →
+        all_read (diagnostics_of s t) ≡ true → bytes ≡ encode_utf8_all (report_text drawn_rows s t unlisted) }
+{}
 
 /// The snippets of each printed diagnostic show the lines in the context of its labels, its marks are apart, each line
 /// that is cut shows what is near them, lines that fit stay as they are, each text hangs from its own mark, labels at

@@ -7,12 +7,14 @@ use Rattle.miette_protocol.specs.views.Meaning.{Label}
 use Rattle.miette_style.specs.declared.style.Style.{Style}
 use Rattle.std.specs.Prelude.{nat_le}
 use Rattle.miette_snippet_laws.specs.laws.Clean.{IsClean, IsCleanText, IsCleanLabel}
+use Rattle.miette_snippet_laws.specs.laws.Fading.{AreAllPlain}
 use Rattle.miette_snippet_rules.specs.rules.Gutters.{most_labels, gutter_columns}
 use Rattle.miette_labels.specs.rules.Labels.{DrawnLabel, parts_of, drawn_label, drawn_from, multi_line, is_multi_line}
 use Rattle.miette_snippet_rules.specs.rules.Marks.{Text, Mark, marks_from, marks, mark_from, mark_until, mark_anchor}
 use Rattle.miette_labels.specs.rules.Groups.{put_label, in_order}
 use Rattle.miette_snippet_laws.proofs.CleanTexts.{clean_parts}
 use Rattle.miette_basics.proofs.Cases.{by_cases}
+use Rattle.miette_snippet_laws.proofs.PlainStyles.{plain_at}
 use Rattle.miette_snippet_laws.proofs.Paling.{bleached, bleached_mark, HasCleanParts, IsCleanMark}
 
 -- a filter that styles don't matter to
@@ -86,11 +88,12 @@ gutter_bleached labels lines = ap (λ most. if most == 0 then 0 else most + 3) (
 
 -- ---- labels as they are drawn
 
-pub drawn_bleached : (ends : Bool) (styles : List Style) (n i : ℕ) (labels : List Label) → drawn_from ends [] n i labels
-    ≡ map bleached (drawn_from ends styles n i labels)
-drawn_bleached ends styles n i [] = refl
-drawn_bleached ends styles n i (label ∷ labels) =
-    ap (λ r. bleached (drawn_label ends styles n i label) ∷ r) (drawn_bleached ends styles n (i + 1) labels)
+pub drawn_bleached : (hs : List Style) → AreAllPlain hs → (ends : Bool) (styles : List Style) (n i : ℕ)
+    (labels : List Label) → drawn_from ends hs n i labels ≡ map bleached (drawn_from ends styles n i labels)
+drawn_bleached hs bare ends styles n i [] = refl
+drawn_bleached hs bare ends styles n i (label ∷ labels) =
+    ap₂ (λ (style : Style) r. record (drawn_label ends styles n i label) { style = style } ∷ r) (plain_at hs i bare)
+    (drawn_bleached hs bare ends styles n (i + 1) labels)
 
 text_clean : (text : Option (List ℕ)) → IfSome text IsCleanText → AllByRecursion IsClean (parts_of text)
 text_clean None h = tt

@@ -21,7 +21,9 @@ pub mod NearColumns
 pub mod Numerals
 pub mod OneGroup
 pub mod OwnGroups
+pub mod PlainStyles
 pub mod PaleSnippets
+pub mod PlainSnippets
 pub mod Paling
 pub mod ReadLines
 pub mod Reread

@@ -14,7 +14,7 @@ use Rattle.miette_snippet_laws.specs.laws.Clean.{IsClean, IsCleanText, IsCleanRo
 use Rattle.miette_snippet_laws.specs.laws.Clean.{AreCleanDrawings}
 use Rattle.miette_labels.specs.rules.Contexts.{contents, lines_of_contents}
 use Rattle.miette_snippet_rules.specs.rules.Drawing.{marked_rows}
-use Rattle.miette_snippet_laws.specs.laws.Fading.{colourless, unhighlighted_answer, IsPlainRow}
+use Rattle.miette_snippet_laws.specs.laws.Fading.{AreAllPlain, ArePlain, IsPlainRow, restyled, unhighlighted_answer}
 use Rattle.miette_snippet_rules.specs.rules.Folds.{Spread, spreads_of}
 use Rattle.miette_snippet_rules.specs.rules.Frames.{Place, text_or_none, refused_row, number_start}
 use Rattle.miette_snippet_rules.specs.rules.Frames.{other_start, break_start, place_text, location, location_of}
@@ -30,7 +30,9 @@ use Rattle.miette_snippet_rules.specs.rules.SnippetLayout.{body_rows, place_of, 
 use Rattle.miette_snippet_rules.specs.rules.SnippetLayout.{settings_around, rows_unless, snippet_rows, line_cut}
 use Rattle.miette_snippet_rules.specs.rules.Marks.{marks}
 use Rattle.miette_page.specs.rules.Rows.{Run, Row, glyphs_of, plain_run}
+use Rattle.miette_style.specs.declared.style.Style.{Style}
 use Rattle.miette_style.specs.rules.Styles.{plain}
+use Rattle.miette_style.specs.rules.Themes.{Styles}
 use Rattle.miette_snippet_laws.proofs.Bleaching.{filter_bleached, all_filter, marks_bleached, marks_clean}
 use Rattle.miette_snippet_laws.proofs.Bleaching.{gutter_bleached, drawn_bleached, drawn_clean, ordered_clean}
 use Rattle.miette_snippet_laws.proofs.CleanTexts.{AreCleanCells, clean_cons, clean_append, clean_replicate, clean_if}
@@ -41,6 +43,7 @@ use Rattle.miette_snippet_laws.proofs.Paling.{pale_blank, pale_number_gutter, pa
 use Rattle.miette_snippet_laws.proofs.Paling.{pale_closing_rows, pale_marked, all_append, bleached_mark}
 use Rattle.miette_snippet_laws.proofs.CutFading.{cut_bleached, cut_clean, pale_shown, shown_bleached, shown_clean}
 use Rattle.miette_snippet_laws.proofs.Flat.{before_pieces}
+use Rattle.miette_snippet_laws.proofs.PlainStyles.{faded_styles, are_faded}
 use Rattle.miette_snippet_rules.specs.rules.SnippetLayout.{snippet_context, line_in, line_shown}
 use Rattle.miette_snippet_rules.specs.rules.Settings.{SnippetSettings}
 
@@ -49,24 +52,23 @@ before_all : (Q : Run → Type 0) (front : Row) (rows : List Row) → AllByRecur
 before_all Q front [] h k = tt
 before_all Q front (row ∷ rows) h k = (all_append Q front row h k.0, before_all Q front rows h k.1)
 
-record IsCleanRefusal (refused : Refusal) : Type 0 where
+pub record IsCleanRefusal (refused : Refusal) : Type 0 where
   pub label : IsCleanLabel refused.label
   pub name : IsClean refused.name
 
--- rows for rows, and none for none
-pub record PaleGiven (P : Type 0) (x y : Option (List Row)) : Type 0 where
-  pub same : option_map (map glyphs_of) x ≡ option_map (map glyphs_of) y
-  pub plain : IfSome x (AllByRecursion IsPlainRow)
-  pub clean : P → IfSome y (AllByRecursion IsCleanRow)
+-- in plain styles with these highlights
+abbrev pub faded : List Style → SnippetSettings → SnippetSettings
+faded hs s = restyled s (faded_styles hs)
 
-module _ (P : Type 0) (s : SnippetSettings) (clean : P → AreCleanDrawings s.theme.characters) where
+module _ (P : Type 0) (s : SnippetSettings) (hs : List Style) (bare : AreAllPlain hs)
+    (clean : P → AreCleanDrawings s.theme.characters) where
   pale_unstyled : (text : List ℕ) → (P → IsClean text) → PaleRow P (plain_run s.width text ∷ [])
       (plain_run s.width text ∷ [])
   pale_unstyled text h = pale_cons P (pale_styled P s.width plain text h) (pale_nil P)
 
   -- ---- what stands before gutters
 
-  pale_number_start : (w number : ℕ) → PaleRow P (number_start (colourless s) w number) (number_start s w number)
+  pale_number_start : (w number : ℕ) → PaleRow P (number_start (faded hs s) w number) (number_start s w number)
   pale_number_start w number =
       pale_cons P (pale_blank P s 1)
       (pale_cons P (pale_styled P s.width s.theme.styles.linum
@@ -78,7 +80,7 @@ module _ (P : Type 0) (s : SnippetSettings) (clean : P → AreCleanDrawings s.th
       (λ p. clean_cons 32 (s.theme.characters.vbar ∷ 32 ∷ []) refl
       (clean_cons s.theme.characters.vbar (32 ∷ []) (clean p).vbar refl))))
 
-  pale_other_start : (w : ℕ) → PaleRow P (other_start (colourless s) w) (other_start s w)
+  pale_other_start : (w : ℕ) → PaleRow P (other_start (faded hs s) w) (other_start s w)
   pale_other_start w =
       pale_cons P (pale_blank P s (w + 2))
       (pale_unstyled (s.theme.characters.vbar_break ∷ 32 ∷ []) (λ p. clean_cons s.theme.characters.vbar_break (32 ∷ [])
@@ -93,7 +95,7 @@ module _ (P : Type 0) (s : SnippetSettings) (clean : P → AreCleanDrawings s.th
       (clean_decimal (place.column + 1))
 
   pale_location : (name : Option (List ℕ)) (several : Bool) (place : Place) → (P → IfSome name IsCleanText)
-      → PaleRow P (location (colourless s) name several place) (location s name several place)
+      → PaleRow P (location (faded hs s) name several place) (location s name several place)
   pale_location (Some name) several place h =
       pale_cons P (pale_styled P s.width plain (codes "[") (λ p. refl))
       (pale_cons P (pale_styled P s.width s.theme.styles.link (if s.layout.primary_start then chars name ++ codes ":"
@@ -111,12 +113,12 @@ module _ (P : Type 0) (s : SnippetSettings) (clean : P → AreCleanDrawings s.th
       (λ p. clean_replicate 3 s.theme.characters.hbar (clean p).hbar))
 
   pale_location_of : (name : Option (List ℕ)) (several : Bool) (place : Option Place) → (P → IfSome name IsCleanText)
-      → PaleRow P (location_of (colourless s) name several place) (location_of s name several place)
+      → PaleRow P (location_of (faded hs s) name several place) (location_of s name several place)
   pale_location_of name several None h = pale_nil P
   pale_location_of name several (Some place) h = pale_location name several place h
 
   pale_top : (w : ℕ) (name : Option (List ℕ)) (several : Bool) (place : Option Place) → (P → IfSome name IsCleanText)
-      → PaleRow P (top_row_of (colourless s) w name several place) (top_row_of s w name several place)
+      → PaleRow P (top_row_of (faded hs s) w name several place) (top_row_of s w name several place)
   pale_top w name several place h =
       pale_cons P (pale_blank P s (w + 2))
       (pale_cons P (pale_styled P s.width plain (s.theme.characters.ltop ∷ s.theme.characters.hbar ∷ [])
@@ -124,7 +126,7 @@ module _ (P : Type 0) (s : SnippetSettings) (clean : P → AreCleanDrawings s.th
       (clean_cons s.theme.characters.hbar [] (clean p).hbar refl)))
       (pale_location_of name several place h))
 
-  pale_bottom : (w : ℕ) → PaleRow P (bottom_row (colourless s) w) (bottom_row s w)
+  pale_bottom : (w : ℕ) → PaleRow P (bottom_row (faded hs s) w) (bottom_row s w)
   pale_bottom w =
       pale_cons P (pale_blank P s (w + 2))
       (pale_unstyled (s.theme.characters.lbot ∷ replicate 4 s.theme.characters.hbar)
@@ -145,7 +147,7 @@ module _ (P : Type 0) (s : SnippetSettings) (clean : P → AreCleanDrawings s.th
   pale_line_rows_of : (w columns : ℕ) (one multi : List DrawnLabel) (line : Line) (number : ℕ) (cells : List Cell)
       (pieces : List Highlight) →
       (P → AllByRecursion HasCleanParts one) → (P → AllByRecursion HasCleanParts multi) → (P → AreCleanCells cells) →
-      PaleRows P (line_rows_of (line_in (colourless s) w columns line (map bleached multi))
+      PaleRows P (line_rows_of (line_in (faded hs s) w columns line (map bleached multi))
       (line_shown number (map bleached one) cells []))
       (line_rows_of (line_in s w columns line multi) (line_shown number one cells pieces))
   pale_line_rows_of w columns one multi line number cells pieces h k j =
@@ -166,15 +168,15 @@ module _ (P : Type 0) (s : SnippetSettings) (clean : P → AreCleanDrawings s.th
       ap₂ shown_marks pale_cut_is (marks_bleached text one) ∙ shown_bleached cut found in
       let numbers = pale_number_gutter P s clean line columns multi in
       let others = pale_other_gutter P s clean line columns multi in
-      let start = pale_append P (number_start (colourless s) w number) (number_start s w number)
+      let start = pale_append P (number_start (faded hs s) w number) (number_start s w number)
       (number_gutter s line columns (map bleached multi)) (number_gutter s line columns multi)
       (pale_number_start w number) numbers in
-      let first = pale_append P (number_start (colourless s) w number
+      let first = pale_append P (number_start (faded hs s) w number
       ++ number_gutter s line columns (map bleached multi))
       (number_start s w number ++ number_gutter s line columns multi)
       (shown_runs (line_cut s line cells (map bleached one)) [] cells) (shown_runs cut pieces cells) start pale_text
       in
-      let below = pale_append P (other_start (colourless s) w) (other_start s w)
+      let below = pale_append P (other_start (faded hs s) w) (other_start s w)
       (other_gutter s line columns (map bleached multi)) (other_gutter s line columns multi)
       (pale_other_start w) others in
       let pale_marks = shown_marks (line_cut s line cells (map bleached one)) pale_found in
@@ -191,11 +193,11 @@ module _ (P : Type 0) (s : SnippetSettings) (clean : P → AreCleanDrawings s.th
       (pale_closing_rows P s clean line columns multi (closing_labels line multi)
       (λ p. all_filter HasCleanParts (λ label. ends_on line label && not (starts_on line label)) multi (k p))) in
       rows_cons P first
-      (rows_append P (before_each (other_start (colourless s) w
+      (rows_append P (before_each (other_start (faded hs s) w
       ++ other_gutter s line columns (map bleached multi)) (marked_rows s pale_marks))
       (before_each (other_start s w ++ other_gutter s line columns multi)
       (marked_rows s (shown_marks cut found)))
-      (before_each (other_start (colourless s) w) (closing_rows s line columns (map bleached multi)
+      (before_each (other_start (faded hs s) w) (closing_rows s line columns (map bleached multi)
       (closing_labels line (map bleached multi)))) (before_each (other_start s w)
       (closing_rows s line columns multi (closing_labels line multi)))
       (pale_before (marked_rows s pale_marks) (marked_rows s (shown_marks cut found)) below marked)
@@ -205,15 +207,15 @@ module _ (P : Type 0) (s : SnippetSettings) (clean : P → AreCleanDrawings s.th
   pale_line_rows : (w columns : ℕ) (labels : List DrawnLabel) (line : Line) (number : ℕ) (cells : List Cell)
       (pieces : List Highlight) →
       (P → AllByRecursion HasCleanParts labels) → (P → AreCleanCells cells) →
-      PaleRows P (line_rows (snippet_context (colourless s) w columns (map bleached labels) (λ _. cells)) line number
+      PaleRows P (line_rows (snippet_context (faded hs s) w columns (map bleached labels) (λ _. cells)) line number
       [])
       (line_rows (snippet_context s w columns labels (λ _. cells)) line number pieces)
   pale_line_rows w columns labels line number cells pieces h j =
       let y = line_rows (snippet_context s w columns labels (λ _. cells)) line number pieces in
-      subst (λ one. PaleRows P (line_rows_of (line_in (colourless s) w columns line
+      subst (λ one. PaleRows P (line_rows_of (line_in (faded hs s) w columns line
       (multi_line line (map bleached labels))) (line_shown number one cells [])) y)
       (sym (filter_bleached (is_one_line line) (λ label. refl) labels))
-      (subst (λ multi. PaleRows P (line_rows_of (line_in (colourless s) w columns line multi)
+      (subst (λ multi. PaleRows P (line_rows_of (line_in (faded hs s) w columns line multi)
       (line_shown number (map bleached (one_line line labels)) cells [])) y)
       (sym (filter_bleached (is_multi_line line) (λ label. refl) labels))
       (pale_line_rows_of w columns (one_line line labels) (multi_line line labels) line number cells pieces
@@ -222,17 +224,17 @@ module _ (P : Type 0) (s : SnippetSettings) (clean : P → AreCleanDrawings s.th
 
   -- ---- snippets
 
-  pale_break_start : (w : ℕ) → PaleRow P (break_start (colourless s) w) (break_start s w)
+  pale_break_start : (w : ℕ) → PaleRow P (break_start (faded hs s) w) (break_start s w)
   pale_break_start w =
       pale_cons P (pale_blank P s (w - 1))
       (pale_unstyled (codes "..." ++ s.theme.characters.vbar ∷ [])
       (λ p. clean_append (codes "...") (s.theme.characters.vbar ∷ []) refl
       (clean_cons s.theme.characters.vbar [] (clean p).vbar refl)))
 
-  pale_break : (w : ℕ) (labels : List DrawnLabel) → PaleRow P (break_row (colourless s) w (map bleached labels))
+  pale_break : (w : ℕ) (labels : List DrawnLabel) → PaleRow P (break_row (faded hs s) w (map bleached labels))
       (break_row s w labels)
   pale_break w labels =
-      pale_append P (break_start (colourless s) w) (break_start s w)
+      pale_append P (break_start (faded hs s) w) (break_start s w)
       (break_gutter s (map bleached labels)) (break_gutter s labels)
       (pale_break_start w) (pale_break_gutter P s clean labels)
 
@@ -244,13 +246,13 @@ module _ (P : Type 0) (s : SnippetSettings) (clean : P → AreCleanDrawings s.th
   pale_line_or_break : (gap out : Bool) (w columns : ℕ) (labels : List DrawnLabel) (line : Line) (number : ℕ)
       (cells : List Cell) (pieces : List Highlight) →
       (P → AllByRecursion HasCleanParts labels) → (P → AreCleanCells cells) →
-      PaleRows P (line_or_break gap out (snippet_context (colourless s) w columns (map bleached labels) (λ _. cells))
+      PaleRows P (line_or_break gap out (snippet_context (faded hs s) w columns (map bleached labels) (λ _. cells))
       line number [])
       (line_or_break gap out (snippet_context s w columns labels (λ _. cells)) line number pieces)
   pale_line_or_break gap out w columns labels line number cells pieces h j =
-      let break : PaleRow P (break_row (colourless s) w (multi_line line (map bleached labels)))
+      let break : PaleRow P (break_row (faded hs s) w (multi_line line (map bleached labels)))
       (break_row s w (multi_line line labels)) =
-      subst (λ multi. PaleRow P (break_row (colourless s) w multi) (break_row s w (multi_line line labels)))
+      subst (λ multi. PaleRow P (break_row (faded hs s) w multi) (break_row s w (multi_line line labels)))
       (sym (filter_bleached (is_multi_line line) (λ label. refl) labels)) (pale_break w (multi_line line labels)) in
       rows_if out (rows_if gap (rows_nil P) (rows_cons P break (rows_nil P)))
       (pale_line_rows w columns labels line number cells pieces h j)
@@ -258,16 +260,16 @@ module _ (P : Type 0) (s : SnippetSettings) (clean : P → AreCleanDrawings s.th
   pale_lines : (out : ℕ → Line → Bool) (gap : Bool) (w columns : ℕ) (labels : List DrawnLabel) (source : List ℕ)
       (number : ℕ) (pieces : List (List Highlight)) (lines : List Line) →
       (P → AllByRecursion HasCleanParts labels) → (P → IsClean source) →
-      PaleRows P (rows_of_lines out gap (snippet_context (colourless s) w columns (map bleached labels)
-      (cells_of (colourless s) source)) number [] lines)
+      PaleRows P (rows_of_lines out gap (snippet_context (faded hs s) w columns (map bleached labels)
+      (cells_of (faded hs s) source)) number [] lines)
       (rows_of_lines out gap (snippet_context s w columns labels (cells_of s source)) number pieces lines)
   pale_lines out gap w columns labels source number pieces [] h k = rows_nil P
   pale_lines out gap w columns labels source number pieces (line ∷ lines) h k =
-      rows_append P (line_or_break gap (out number line) (snippet_context (colourless s) w columns (map bleached labels)
+      rows_append P (line_or_break gap (out number line) (snippet_context (faded hs s) w columns (map bleached labels)
       (cells_of s source)) line number []) (line_or_break gap (out number line)
       (snippet_context s w columns labels (cells_of s source)) line number (first_of pieces))
-      (rows_of_lines out (out number line) (snippet_context (colourless s) w columns (map bleached labels)
-      (cells_of (colourless s) source)) (number + 1) [] lines)
+      (rows_of_lines out (out number line) (snippet_context (faded hs s) w columns (map bleached labels)
+      (cells_of (faded hs s) source)) (number + 1) [] lines)
       (rows_of_lines out (out number line) (snippet_context s w columns labels (cells_of s source)) (number + 1)
       (drop 1 pieces) lines)
       (pale_line_or_break gap (out number line) w columns labels line number (cells_of s source line) (first_of pieces)
@@ -279,49 +281,49 @@ module _ (P : Type 0) (s : SnippetSettings) (clean : P → AreCleanDrawings s.th
 
   pale_body : (spreads : List Spread) (labels : List DrawnLabel) (source : List ℕ) (read : Contents)
       (pieces : List (List Highlight)) → (P → AllByRecursion HasCleanParts labels) → (P → IsClean source) →
-      PaleRows P (body_rows (colourless s) spreads (map bleached labels) source read [])
+      PaleRows P (body_rows (faded hs s) spreads (map bleached labels) source read [])
       (body_rows s spreads labels source read pieces)
   pale_body spreads labels source read pieces h k =
       let lines = lines_of_contents read in
       subst (λ columns. PaleRows P (rows_of_lines (left_out s read.line lines spreads) false
-      (snippet_context (colourless s) (number_width read) columns (map bleached labels)
-      (cells_of (colourless s) source)) (read.line + 1) [] lines)
+      (snippet_context (faded hs s) (number_width read) columns (map bleached labels)
+      (cells_of (faded hs s) source)) (read.line + 1) [] lines)
       (body_rows s spreads labels source read pieces)) (sym (gutter_bleached labels lines))
       (pale_lines (left_out s read.line lines spreads) false (number_width read) (gutter_columns labels lines) labels
       source (read.line + 1) pieces lines h k)
 
   pale_snippet : (spreads : List Spread) (source : Source) (labels : List Label) (group : Span)
       (pieces : List (List Highlight)) → (P → IsCleanSource source) → (P → AllByRecursion IsCleanLabel labels) →
-      PaleRows P (snippet (colourless s) spreads source labels group []) (snippet s spreads source labels group pieces)
+      PaleRows P (snippet (faded hs s) spreads source labels group []) (snippet s spreads source labels group pieces)
   pale_snippet spreads source labels group pieces h k =
       let n = length source.bytes in
       let read = contents s.layout.context_lines source group in
       let ends : Bool = s.layout.end_labels && some_shows_end s.layout.context_lines n labels in
       let drawn = drawn_labels s n labels in
-      let body : PaleRows P (body_rows (colourless s) spreads (drawn_labels (colourless s) n labels) source.bytes read
+      let body : PaleRows P (body_rows (faded hs s) spreads (drawn_labels (faded hs s) n labels) source.bytes read
       []) (body_rows s spreads drawn source.bytes read pieces) =
-      subst (λ ls. PaleRows P (body_rows (colourless s) spreads ls source.bytes read [])
+      subst (λ ls. PaleRows P (body_rows (faded hs s) spreads ls source.bytes read [])
       (body_rows s spreads drawn source.bytes read pieces))
-      (sym (drawn_bleached ends s.theme.styles.highlights n 0 labels))
+      (sym (drawn_bleached hs bare ends s.theme.styles.highlights n 0 labels))
       (pale_body spreads drawn source.bytes read pieces (λ p. drawn_clean ends s.theme.styles.highlights n 0 labels
       (k p))
       (λ p. (h p).bytes)) in
       rows_cons P (pale_top (number_width read) source.name (nat_lt 1 (length (lines_of_contents read)))
       (place_of source group labels) (λ p. (h p).name))
-      (rows_append P (body_rows (colourless s) spreads (drawn_labels (colourless s) n labels) source.bytes read [])
+      (rows_append P (body_rows (faded hs s) spreads (drawn_labels (faded hs s) n labels) source.bytes read [])
       (body_rows s spreads drawn source.bytes read pieces)
-      (bottom_row (colourless s) (number_width read) ∷ []) (bottom_row s (number_width read) ∷ []) body
+      (bottom_row (faded hs s) (number_width read) ∷ []) (bottom_row s (number_width read) ∷ []) body
       (rows_cons P (pale_bottom (number_width read)) (rows_nil P)))
 
-  pale_all : (spreads : List Spread) (source : Source) (labels : List Label) (pieces : List (List (List Highlight)))
+  pub pale_all : (spreads : List Spread) (source : Source) (labels : List Label) (pieces : List (List (List Highlight)))
       (groups : List Span) → (P → IsCleanSource source) → (P → AllByRecursion IsCleanLabel labels) →
-      PaleRows P (all_snippets (colourless s) spreads source labels [] groups)
+      PaleRows P (all_snippets (faded hs s) spreads source labels [] groups)
       (all_snippets s spreads source labels pieces groups)
   pale_all spreads source labels pieces [] h k = rows_nil P
   pale_all spreads source labels pieces (group ∷ groups) h k =
-      rows_append P (snippet (colourless s) spreads source labels group [])
+      rows_append P (snippet (faded hs s) spreads source labels group [])
       (snippet s spreads source labels group (first_of pieces))
-      (all_snippets (colourless s) spreads source labels [] groups)
+      (all_snippets (faded hs s) spreads source labels [] groups)
       (all_snippets s spreads source labels (drop 1 pieces) groups)
       (pale_snippet spreads source labels group (first_of pieces) h k)
       (pale_all spreads source labels (drop 1 pieces) groups h k)
@@ -332,8 +334,8 @@ module _ (P : Type 0) (s : SnippetSettings) (clean : P → AreCleanDrawings s.th
   none_clean None h = refl
   none_clean (Some text) h = h
 
-  pale_refused : (refused : Refusal) → (P → IsCleanRefusal refused)
-      → PaleRow P (refused_row (colourless s) refused) (refused_row s refused)
+  pub pale_refused : (refused : Refusal) → (P → IsCleanRefusal refused)
+      → PaleRow P (refused_row (faded hs s) refused) (refused_row s refused)
   pale_refused refused h =
       pale_cons P (pale_styled P s.width plain (codes "  [") (λ p. refl))
       (pale_cons P (pale_styled P s.width s.theme.styles.error (codes "Failed to read contents for label") (λ p. refl))
@@ -355,7 +357,7 @@ module _ (P : Type 0) (s : SnippetSettings) (clean : P → AreCleanDrawings s.th
   refused_if true x y h k = h
   refused_if false x y h k = k
 
-  refusal_clean : (bytes : List ℕ) (fails : List Bool) (labels : List Label) → AllByRecursion IsCleanLabel labels
+  pub refusal_clean : (bytes : List ℕ) (fails : List Bool) (labels : List Label) → AllByRecursion IsCleanLabel labels
       → IfSome (refusal bytes fails labels) IsCleanRefusal
   refusal_clean bytes fails [] h = tt
   refusal_clean bytes fails (label ∷ labels) h =
@@ -366,39 +368,3 @@ module _ (P : Type 0) (s : SnippetSettings) (clean : P → AreCleanDrawings s.th
       (record { label = h.0; name = refl })
       (refused_if (is_accepted bytes label.span) (refusal bytes (drop 1 fails) labels) (Some outside)
       (refusal_clean bytes (drop 1 fails) labels h.1) (record { label = h.0; name = refl }))
-
-  -- ---- all rows
-
-  given : {xs ys : List Row} → PaleRows P xs ys → PaleGiven P (Some xs) (Some ys)
-  given h = record { same = ap Some h.same; plain = h.plain; clean = h.clean }
-
-  given_unless : (b : Bool) {xs ys : List Row} → PaleRows P xs ys
-      → PaleGiven P (if b then None else Some xs) (if b then None else Some ys)
-  given_unless true h = record { same = refl; plain = tt; clean = λ p. tt }
-  given_unless false h = given h
-
--- the rows of groups, with the lines of context with which they are read
-module _ (P : Type 0) (s : SnippetSettings) (clean : P → AreCleanDrawings s.theme.characters) where
-  pale_unless : (source : Source) (labels : List Label) (answers : Answers) (refused : Option Refusal) →
-      (P → IsCleanSource source) → (P → AllByRecursion IsCleanLabel labels) → (P → IfSome refused IsCleanRefusal) →
-      PaleGiven P (rows_unless (colourless s) source labels (unhighlighted_answer answers)
-      (option_map (refused_row (colourless s)) refused))
-      (rows_unless s source labels answers (option_map (refused_row s) refused))
-  pale_unless source labels answers (Some refused) h k j =
-      given P s clean (rows_cons P (pale_refused P s clean refused j) (rows_nil P))
-  pale_unless source labels answers None h k j =
-      let groups = groups_of s.layout.context_lines source answers.join_fails labels in
-      given_unless P s clean (groups_fail s.layout.context_lines source answers.join_fails labels
-      || some_fails answers.place_fails groups)
-      (pale_all P (settings_around s labels) clean (spreads_of s.layout.label_lines s.layout.context_lines source
-      labels) source labels
-      answers.pieces groups h k)
-
-  pub pale_snippets : (source : Source) (labels : List Label) (answers : Answers) → (P → IsCleanSource source)
-      → (P → AllByRecursion IsCleanLabel labels) →
-      PaleGiven P (snippet_rows (colourless s) source labels (unhighlighted_answer answers))
-      (snippet_rows s source labels answers)
-  pale_snippets source labels answers h k =
-      pale_unless source (in_order labels) answers (refusal source.bytes answers.label_fails (in_order labels)) h
-      (λ p. ordered_clean labels (k p))
-      (λ p. refusal_clean P s clean source.bytes answers.label_fails (in_order labels) (ordered_clean labels (k p)))

@@ -16,7 +16,8 @@ ghost use Rattle.miette_snippet_laws.specs.laws.Ends.{with_ends};
 ghost use Rattle.miette_snippet_laws.specs.laws.Folding.{EndsPass, FitsIn, IsInside};
 ghost use Rattle.miette_snippet_laws.specs.laws.Cuts.{AreAsWide, AreStretches, Fits, IsWithin, by_nearness, by_stretch};
 ghost use Rattle.miette_snippet_laws.specs.laws.Cuts.{AreMoved, IsSameAt, is_shown_at, most_columns, pieces_shown};
-ghost use Rattle.miette_snippet_laws.specs.laws.Fading.{IsPlainRow, colourless, unhighlighted_answer};
+ghost use Rattle.miette_snippet_laws.specs.laws.Fading.{ArePlain, IsPlainRow, restyled, unhighlighted_answer};
+ghost use Rattle.miette_style.specs.rules.Themes.{Styles};
 ghost use Rattle.miette_page.specs.rules.Rows.{columns_of, glyphs_of};
 ghost use Rattle.miette_labels.specs.rules.Answers.{Answers, AlwaysReads, Highlight, NoneFails};
 ghost use Rattle.miette_labels.specs.rules.Around.{HaveContext, group_context};
@@ -199,14 +200,17 @@ pub fn texts_hang()
         IsNarrow s.width s.theme.characters → BodyShows s labels source read pieces }
 {}
 
-/// In plain styles and without a highlighter's pieces the snippets have the same rows of the same characters in the
-/// same columns, and all of them are plain.
+/// In plain styles, with any number of highlights, and without a highlighter's pieces the snippets have the same rows
+/// of the same characters in the same columns, and all of them are plain.
 pub fn rows_fade()
-    ensures same { (s : SnippetSettings) (source : Source) (labels : List Label) (answers : Answers) →
-        option_map (map glyphs_of) (snippet_rows (colourless s) source labels (unhighlighted_answer answers))
+    ensures same { (s : SnippetSettings) (styles : Styles) (source : Source) (labels : List Label)
+        (answers : Answers) → ArePlain styles →
+        option_map (map glyphs_of) (snippet_rows (restyled s styles) source labels (unhighlighted_answer answers))
         ≡ option_map (map glyphs_of) (snippet_rows s source labels answers) }
-    ensures plain { (s : SnippetSettings) (source : Source) (labels : List Label) (answers : Answers) →
-        IfSome (snippet_rows (colourless s) source labels (unhighlighted_answer answers)) (AllByRecursion IsPlainRow) }
+    ensures plain { (s : SnippetSettings) (styles : Styles) (source : Source) (labels : List Label)
+        (answers : Answers) → ArePlain styles →
+        IfSome (snippet_rows (restyled s styles) source labels (unhighlighted_answer answers))
+        (AllByRecursion IsPlainRow) }
 {}
 
 /// Where the characters that are drawn, the source's name and bytes, and the labels' texts hold no escape, the rows

@@ -1,23 +1,29 @@
--- The same settings with every style plain, and the same answers with the blank highlighter.
+-- The same settings with every style plain, as in the shipped themes without colours, and the same answers with the
+-- blank highlighter.
 use Rattle.std.specs.Prelude.{◌≡◌, ℕ, Bool, true, List, map, Option, IfSome, encode_utf8_all}
 use Rattle.miette_runs.specs.rules.Runs.{plain_run}
 use Rattle.miette_runs.specs.rules.Sequences.{erase}
 use Rattle.miette_protocol.specs.views.Meaning.{Label}
 use Rattle.miette_protocol.specs.rules.Reading.{Source}
 use Rattle.miette_graphical.specs.rules.Settings.{Settings}
-use Rattle.miette_style.specs.rules.Themes.{Styles}
+use Rattle.miette_style.specs.rules.Themes.{Styles, no_styles}
 use Rattle.miette_graphical.specs.rules.Answers.{Answer, Answers, unlisted, listed, RelatedAnswers, no_more, and_more}
 use Rattle.miette_graphical.specs.rules.PossibleAnswers.{AreAnswers, IsTextOf}
 use Rattle.miette_graphical.specs.rules.DiagnosticText.{SnippetRows, rows_text}
 use Rattle.miette_graphical.specs.rules.Text.{report_text}
 use Rattle.miette_tree.specs.rules.Tree.{Tree}
 use Rattle.std.specs.List.{AllByRecursion}
-use Rattle.miette_snippet_laws.specs.laws.Fading.{faded_styles, unhighlighted_answer}
+use Rattle.miette_snippet_laws.specs.laws.Fading.{unhighlighted_answer}
+pub use Rattle.miette_snippet_laws.specs.laws.Fading.{ArePlain}
 use Rattle.miette_snippet_laws.specs.laws.Clean.{IsCleanLabel, IsCleanSource}
 use Rattle.miette_graphical.specs.laws.Clean.{AreCleanSettings, HaveNoEscapes}
 
+-- the same settings in other styles
+abbrev pub restyled : Settings → Styles → Settings
+restyled s styles = record s { theme = record s.theme { styles = styles } }
+
 abbrev pub colourless : Settings → Settings
-colourless s = record s { theme = record s.theme { styles = faded_styles s.theme.styles } }
+colourless s = restyled s no_styles
 
 abbrev mutual
   pub unhighlighted_answers : Answers → Answers
@@ -33,14 +39,13 @@ abbrev mutual
 -- a text that may be printed with a theme of the same characters, in whatever styles and with whatever highlighter
 abbrev pub IsRestyledText : SnippetRows → Settings → Tree → List ℕ → Type 0
 IsRestyledText rows s t bytes =
-    (styles : Styles) × (blank : Bool) × IsTextOf rows (record s { theme = record s.theme { styles = styles } }) blank t
-    bytes
+    (styles : Styles) × (blank : Bool) × IsTextOf rows (restyled s styles) blank t bytes
 
 -- What a diagnostic's snippet rows have to be: in plain styles and without pieces they print the same rows with each
 -- style made plain; and they hold no escape where nothing that they are made of does.
 pub record AreSnippets (rows : SnippetRows) : Type 0 where
-  pub fade : (s : Settings) (source : Option Source) (labels : List Label) (a : Answer) →
-      rows_text (rows (colourless s) source labels (unhighlighted_answer a))
+  pub fade : (s : Settings) (styles : Styles) (source : Option Source) (labels : List Label) (a : Answer) →
+      ArePlain styles → rows_text (rows (restyled s styles) source labels (unhighlighted_answer a))
       ≡ rows_text (map (map plain_run) (rows s source labels a))
   pub clean : (s : Settings) (source : Option Source) (labels : List Label) (a : Answer) →
       AreCleanSettings s → IfSome source IsCleanSource → AllByRecursion IsCleanLabel labels →

@@ -9,12 +9,14 @@ ghost use Rattle.miette_graphical.specs.rules.PrintedDiagnostics.{all_read, diag
 ghost use Rattle.miette_graphical.specs.rules.Snippets.{drawn_rows};
 ghost use Rattle.miette_graphical.specs.rules.Text.{report_text};
 ghost use Rattle.miette_graphical.specs.laws.Clean.{AreCleanSettings, IsCleanTree};
-ghost use Rattle.miette_graphical.specs.laws.Colourless.{IsColouredText, IsRestyledText, colourless};
+ghost use Rattle.miette_graphical.specs.laws.Colourless.{ArePlain, IsColouredText, IsRestyledText, colourless};
+ghost use Rattle.miette_graphical.specs.laws.Colourless.{restyled};
 ghost use Rattle.miette_graphical.specs.laws.Headline.{EndsAreDrawn, LabelsAreFolded, LinesAreShown};
 ghost use Rattle.miette_graphical.specs.laws.Headline.{CutsAreExact, LinesThatFitStay, MarksAreApart, TextsHang};
 ghost use Rattle.miette_graphical.specs.views.Handling.{AreCallsOf, EachPrinted, draws_plain, follows_of};
 ghost use Rattle.miette_tree.specs.views.Handler.{AppendsOne};
 ghost use Rattle.miette_runs.specs.rules.Sequences.{erase};
+ghost use Rattle.miette_style.specs.rules.Themes.{Styles};
 ghost use Rattle.miette_text.specs.rules.ColouredTexts.{AppendsErasing};
 ghost use Rattle.miette_highlight.specs.rules.HighlighterCalls.{AnsweredBy, Call};
 ghost use Rattle.miette_highlight.specs.rules.Pieces.{Piece};
@@ -94,12 +96,18 @@ impl<H: Highlighter> GraphicalReportHandler<H> {
             OnOk result (AreCleanSettings self.old.settings → IsCleanTree tree →
             AppendsOne (IsColouredText drawn_rows self.old.settings (draws_plain H.is_blank self.old) tree)
             (string_bytes out.old) (string_bytes out.new)) }
-        // which is one text where every source always reads, whatever a highlighter says
+        // which is one text where every source always reads, whatever a highlighter says,
         ensures colourless { let tree = tree_of D.meaning S.source report.now in
             OnOk result (all_read (diagnostics_of self.old.settings tree) ≡ true → AreCleanSettings self.old.settings →
             IsCleanTree tree →
             AppendsErasing (string_bytes out.old) (string_bytes out.new)
             (encode_utf8_all (report_text drawn_rows (colourless self.old.settings) tree unlisted))) }
+        // that in the same characters and any plain styles,
+        ensures plain { let tree = tree_of D.meaning S.source report.now in
+            OnOk result (all_read (diagnostics_of self.old.settings tree) ≡ true → AreCleanSettings self.old.settings →
+            IsCleanTree tree → (styles : Styles) → ArePlain styles →
+            AppendsErasing (string_bytes out.old) (string_bytes out.new)
+            (encode_utf8_all (report_text drawn_rows (restyled self.old.settings styles) tree unlisted))) }
         // and the same for all themes with these characters
         ensures themes { let tree = tree_of D.meaning S.source report.now in
             OnOk result (all_read (diagnostics_of self.old.settings tree) ≡ true → AreCleanSettings self.old.settings →

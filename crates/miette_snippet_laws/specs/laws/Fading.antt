@@ -1,26 +1,33 @@
 -- The settings of snippets and answers without colours, and rows that are plain.
-use Rattle.std.specs.Prelude.{◌≡◌, []}
+use Rattle.std.specs.Prelude.{◌≡◌, List, []}
 use Rattle.std.specs.List.{AllByRecursion}
 use Rattle.miette_labels.specs.rules.Answers.{Answers}
 use Rattle.miette_page.specs.rules.Rows.{Row}
+use Rattle.miette_style.specs.declared.style.Style.{Style}
 use Rattle.miette_style.specs.rules.Styles.{plain}
-use Rattle.miette_style.specs.rules.Themes.{Styles}
+use Rattle.miette_style.specs.rules.Themes.{Styles, no_styles}
 use Rattle.miette_snippet_rules.specs.rules.Settings.{SnippetSettings}
 
-abbrev pub faded_styles : Styles → Styles
-faded_styles s = record {
-  error = plain;
-  warning = plain;
-  advice = plain;
-  help = plain;
-  link = plain;
-  linum = plain;
-  highlights = [];
-}
+abbrev pub AreAllPlain : List Style → Type 0
+AreAllPlain = AllByRecursion (λ style. style ≡ plain)
 
--- the same settings with every style plain
+-- styles without a colour, with any number of highlights
+pub record ArePlain (s : Styles) : Type 0 where
+  pub error : s.error ≡ plain
+  pub warning : s.warning ≡ plain
+  pub advice : s.advice ≡ plain
+  pub help : s.help ≡ plain
+  pub link : s.link ≡ plain
+  pub linum : s.linum ≡ plain
+  pub highlights : AreAllPlain s.highlights
+
+-- the same settings in other styles
+abbrev pub restyled : SnippetSettings → Styles → SnippetSettings
+restyled s styles = record s { theme = record s.theme { styles = styles } }
+
+-- the same settings with every style plain, as in the shipped themes without colours
 abbrev pub colourless : SnippetSettings → SnippetSettings
-colourless s = record s { theme = record s.theme { styles = faded_styles s.theme.styles } }
+colourless s = restyled s no_styles
 
 -- the same reads without a highlighter
 abbrev pub unhighlighted_answer : Answers → Answers

@@ -1,7 +1,9 @@
 use Rattle.std.proofs.Common.{sym, ap₂, ◌∙◌}
 use Rattle.miette_graphical.specs.rules.Text.{report_text}
 use Rattle.miette_graphical.proofs.TextLaws.{TextLaws}
-use Rattle.miette_graphical.proofs.ReportFading.{fades-report}
+use Rattle.miette_graphical.proofs.ReportFading.{fades-plain}
+use Rattle.miette_snippet_laws.proofs.PlainStyles.{none_are_plain}
+use Rattle.miette_style.specs.rules.Themes.{no_styles}
 use Rattle.miette_graphical.proofs.laws.colours_law.Goals as goal
 
 pub returns : goal.returns
@@ -19,9 +21,11 @@ returns c =
       print-erase = c.printing_law.ensures.erase;
       erase-columns = c.columns_law.ensures;
     } in record {
-      erase = λ rows s t a law h k. (fades-report laws rows law s t a h k).same;
-      tame = λ rows s t a law h k. (fades-report laws rows law s t a h k).tame;
+      erase = λ rows s t a law h k. (fades-plain laws rows law s no_styles t a h k none_are_plain).same;
+      tame = λ rows s t a law h k. (fades-plain laws rows law s no_styles t a h k none_are_plain).tame;
       alike = λ rows s u t a b law h j k e d.
-          (fades-report laws rows law s t a h k).same ∙ ap₂ (λ v o. report_text rows v t o) e d
-          ∙ sym (fades-report laws rows law u t b j k).same;
+          (fades-plain laws rows law s no_styles t a h k none_are_plain).same
+          ∙ ap₂ (λ v o. report_text rows v t o) e d
+          ∙ sym (fades-plain laws rows law u no_styles t b j k none_are_plain).same;
+      plain = λ rows s styles t a law h k bare. (fades-plain laws rows law s styles t a h k bare).same;
     }

@@ -1,10 +1,12 @@
 use Rattle.std.proofs.Common.{refl, ap, ◌∙◌, encode_utf8_all, sym}
 use Rattle.miette_runs.specs.rules.Sequences.{erase}
-use Rattle.miette_graphical.specs.laws.Colourless.{colourless, unhighlighted_answers}
+use Rattle.miette_graphical.specs.laws.Colourless.{colourless, restyled, unhighlighted_answers}
 use Rattle.miette_graphical.specs.rules.PrintedDiagnostics.{all_read}
 use Rattle.miette_graphical.specs.rules.Snippets.{drawn_rows}
 use Rattle.miette_graphical.specs.rules.Text.{report_text}
 use Rattle.miette_graphical.proofs.Bare.{bare-report, restyled-printed}
+use Rattle.miette_snippet_laws.proofs.PlainStyles.{none_are_plain}
+use Rattle.miette_style.specs.rules.Themes.{no_styles}
 use Rattle.miette_graphical.proofs.Possible.{answers_possible}
 use Rattle.miette_graphical.proofs.laws.erasing_law.Goals as goal
 
@@ -35,17 +37,20 @@ returns-clause-possible c = λ s blank t bytes settings tree printed. (
       tree),
 )
 
-pub returns-clause-only : goal.returns-clause-only
-returns-clause-only c = λ s blank t bytes settings tree printed reads.
+pub returns-clause-plain : goal.returns-clause-plain
+returns-clause-plain c = λ s styles blank t bytes settings tree bare printed reads.
     ap erase printed.2 ∙ c.encoding_law.ensures printed.0
     ∙ ap (λ text. encode_utf8_all (erase text)) printed.1.2
-    ∙ ap encode_utf8_all (c.colours_law.ensures.erase drawn_rows s t printed.1.0 c.drawn_rows_law.ensures settings
-    tree)
-    ∙ ap encode_utf8_all (bare-report drawn_rows s blank t printed.1.0 printed.1.1 reads)
+    ∙ ap encode_utf8_all (c.colours_law.ensures.plain drawn_rows s styles t printed.1.0 c.drawn_rows_law.ensures
+    settings tree bare)
+    ∙ ap encode_utf8_all (bare-report drawn_rows s styles blank t printed.1.0 printed.1.1 reads)
+
+pub returns-clause-only : goal.returns-clause-only
+returns-clause-only c = λ s blank t bytes settings tree printed reads.
+    returns-clause-plain c s no_styles blank t bytes settings tree none_are_plain printed reads
 
 pub returns-clause-themes : goal.returns-clause-themes
 returns-clause-themes c = λ s blank t bytes others settings tree printed reads again.
     returns-clause-only c s blank t bytes settings tree printed reads
-    ∙ sym (returns-clause-only c (record s { theme = record s.theme { styles = again.0 } }) again.1 t others settings
-    tree again.2
+    ∙ sym (returns-clause-only c (restyled s again.0) again.1 t others settings tree again.2
     (ap all_read (restyled-printed s again.0 t) ∙ reads))

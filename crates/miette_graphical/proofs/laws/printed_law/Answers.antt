@@ -1,8 +1,7 @@
-use Rattle.std.proofs.Common.{ap}
-use Rattle.miette_tree.specs.rules.DiagnosticParts.{given_labels}
 use Rattle.miette_graphical.specs.laws.Alike.{AreDrawnAlike}
 use Rattle.miette_graphical.specs.rules.PrintedDiagnostics.{diagnostics_of}
 use Rattle.miette_graphical.proofs.Paths.{printed_there}
+use Rattle.miette_graphical.proofs.PrintedAnswers.{answered_alike}
 use Rattle.miette_graphical.proofs.Alike.{holds_there, report_alike}
 use Rattle.miette_graphical.proofs.laws.printed_law.Goals as goal
 
@@ -12,6 +11,4 @@ returns-clause-rows c = λ rows others s t a alike.
     alike (printed_there s t path p found) u _)
 
 pub returns-clause-answers : goal.returns-clause-answers
-returns-clause-answers c = λ rows s t a b alike.
-    report_alike rows rows s t a b (λ path p found u. ap (rows u p.source (given_labels p.meaning.labels))
-    (alike path p found))
+returns-clause-answers c = λ rows s t a b alike. answered_alike rows s t a b alike

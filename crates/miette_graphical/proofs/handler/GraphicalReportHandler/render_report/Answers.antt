@@ -1,6 +1,6 @@
 use Rattle.miette_graphical.specs.views.Handling.{AreCallsOf, follows_of}
 use Rattle.miette_graphical.proofs.RenderedBytes.{rendered-ok, rendered-only, rendered-colours, rendered-colourless}
-use Rattle.miette_graphical.proofs.RenderedBytes.{rendered-themes}
+use Rattle.miette_graphical.proofs.RenderedBytes.{rendered-plain, rendered-themes}
 use Rattle.miette_graphical.proofs.Stateless.{rendered-stateless}
 use Rattle.miette_graphical.proofs.handler.GraphicalReportHandler.render_report.Goals as goal
 
@@ -14,24 +14,16 @@ returns-clause-stateless g c =
     (follows_of g.H.Highlighter.may_follow c.draw.new.self) _ _ _ c.draw.ensures.calls
 
 pub returns-clause-only : goal.returns-clause-only
-returns-clause-only g c =
-    rendered-only _ _ _ _ _ _ (rendered-ok _ _ _ (AreCallsOf g.H.Highlighter.may_follow c.args.self.now c.draw.new.self)
-    _ _ _ c.draw.ensures.calls)
+returns-clause-only g c = rendered-only _ _ _ _ _ _ (returns-clause-ok g c)
 
 pub returns-clause-colours : goal.returns-clause-colours
-returns-clause-colours g c =
-    rendered-colours _ _ _ _ _ _ c.erasing_law.ensures.text
-    (rendered-ok _ _ _ (AreCallsOf g.H.Highlighter.may_follow c.args.self.now c.draw.new.self) _ _ _
-    c.draw.ensures.calls)
+returns-clause-colours g c = rendered-colours _ _ _ _ _ _ c.erasing_law.ensures.text (returns-clause-ok g c)
 
 pub returns-clause-colourless : goal.returns-clause-colourless
-returns-clause-colourless g c =
-    rendered-colourless _ _ _ _ _ _ c.erasing_law.ensures.only
-    (rendered-ok _ _ _ (AreCallsOf g.H.Highlighter.may_follow c.args.self.now c.draw.new.self) _ _ _
-    c.draw.ensures.calls)
+returns-clause-colourless g c = rendered-colourless _ _ _ _ _ _ c.erasing_law.ensures.only (returns-clause-ok g c)
+
+pub returns-clause-plain : goal.returns-clause-plain
+returns-clause-plain g c = rendered-plain _ _ _ _ _ _ c.erasing_law.ensures.plain (returns-clause-ok g c)
 
 pub returns-clause-themes : goal.returns-clause-themes
-returns-clause-themes g c =
-    rendered-themes _ _ _ _ _ _ c.erasing_law.ensures.themes
-    (rendered-ok _ _ _ (AreCallsOf g.H.Highlighter.may_follow c.args.self.now c.draw.new.self) _ _ _
-    c.draw.ensures.calls)
+returns-clause-themes g c = rendered-themes _ _ _ _ _ _ c.erasing_law.ensures.themes (returns-clause-ok g c)
