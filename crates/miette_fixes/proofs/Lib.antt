@@ -1,0 +1,3 @@
+pub mod Moving
+pub mod Overlaps
+pub mod Sorting

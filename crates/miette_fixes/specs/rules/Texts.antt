@@ -1,0 +1,20 @@
+-- What errors and names print.
+use Rattle.std.specs.Prelude.{ℕ, List, codes}
+use Rattle.miette_fixes.specs.declared.applicability.Applicability.{Applicability}
+use Rattle.miette_fixes.specs.declared.applicability.Applicability.TheVariants.{MachineApplicable, MaybeIncorrect}
+use Rattle.miette_fixes.specs.declared.applicability.Applicability.TheVariants.{HasPlaceholders, Unspecified}
+use Rattle.miette_fixes.specs.declared.error.FixError.{FixError}
+use Rattle.miette_fixes.specs.declared.error.FixError.TheVariants.{OutOfBounds, Overlap, Memory}
+
+-- how sure a fix is, as descriptions and JSON name it
+abbrev pub applicability_name : Applicability → List ℕ
+applicability_name MachineApplicable = codes "machine-applicable"
+applicability_name MaybeIncorrect = codes "maybe-incorrect"
+applicability_name HasPlaceholders = codes "has-placeholders"
+applicability_name Unspecified = codes "unspecified"
+
+-- what is printed of a fix that isn't applied
+abbrev pub fix_error_text : FixError → List ℕ
+fix_error_text OutOfBounds = codes "an edit ends behind the end of the source"
+fix_error_text Overlap = codes "two edits overlap"
+fix_error_text Memory = codes "memory allocation failed"

@@ -1,0 +1,6 @@
+//! Fixes and their edits.
+
+pub use crate::applicability::Applicability;
+pub use crate::edit::Edit;
+pub use crate::error::FixError;
+pub use crate::proposal::Fix;

@@ -1,0 +1,11 @@
+//! Fixes: edits of a source that a tool proposes, and the text that applying them gives.
+#![tactic(auto)]
+
+mod applicability;
+mod apply;
+mod edit;
+mod error;
+pub mod fix;
+pub mod laws;
+mod order;
+mod proposal;
