@@ -1,3 +1,4 @@
 pub mod Moving
 pub mod Overlaps
 pub mod Sorting
+pub mod Taking

@@ -3,6 +3,7 @@
 
 mod applicability;
 mod apply;
+mod apply_all;
 mod edit;
 mod error;
 pub mod fix;

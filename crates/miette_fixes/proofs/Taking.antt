@@ -1,0 +1,279 @@
+-- Edits that conflict with none of those that count are applied beside them, in any order of their fixes.
+use Rattle.std.proofs.Common.{ℕ, zero, suc, ◌≡◌, Bool, true, false, eqb, inl, inr, take, ◌⊎◌, not, List, [], ◌∷◌, ◌++◌, refl, sym}
+use Rattle.std.proofs.Common.{ap, ◌∙◌, ◌+◌, ◌<◌, ◌≤◌, arith, append_assoc, drop, get_or, length, subst}
+use Rattle.std.specs.Prelude.{◌≢◌, Option, None, Some, is_none, slice_get}
+use denote.Ref.{Bor}
+use Rattle.std.specs.List.{filter, list_any}
+use Rattle.std.specs.List.Sorted.{ties}
+use Rattle.std.proofs.lemmas.Bool.{and_parts, eq-eqb, not-true, or_from, or_left, or_parts, or_right, true≢false}
+use Rattle.std.proofs.lemmas.Option.{same_Some}
+use Rattle.std.proofs.lemmas.List.{append-nil, drop_more}
+use Rattle.std.proofs.lemmas.List.Elements.{filter-append}
+use Rattle.std.proofs.lemmas.List.Folds.{list_any-append}
+use Rattle.miette_basics.proofs.Cases.{by_cases}
+use Rattle.miette_fixes.specs.rules.Applying.{applied, by_offset, refusal, text_from}
+use Rattle.miette_fixes.specs.rules.ApplyingAll.{all_of, conflict, counted, counted_with, counts, is_among}
+use Rattle.miette_fixes.specs.rules.ApplyingAll.{is_taken, lists_of, some_conflict, taken}
+use Rattle.miette_fixes.specs.declared.error.FixError.{FixError}
+use Rattle.miette_fixes.specs.rules.Edits.{Proposal, Replacement, ends_behind, overlap, some_overlap}
+use Rattle.miette_fixes.proofs.Overlaps.{none_refused, overlap_turned, unrefused}
+use Rattle.miette_fixes.proofs.Sorting.{less, not_behind, same_order}
+
+-- ---- what can be applied
+
+-- an edit that others don't conflict with overlaps none of them
+head_free : (x : Replacement) (xs ys : List Replacement) → some_conflict ys (x ∷ xs) ≡ false
+    → list_any (overlap x) ys ≡ false
+head_free x xs [] h = refl
+head_free x xs (y ∷ ys) h =
+    let parts : (list_any (conflict y) (x ∷ xs) ≡ false) × (some_conflict ys (x ∷ xs) ≡ false) =
+    or_parts (list_any (conflict y) (x ∷ xs)) (some_conflict ys (x ∷ xs)) h in
+    let first : (conflict y x ≡ false) × (list_any (conflict y) xs ≡ false) =
+    or_parts (conflict y x) (list_any (conflict y) xs) parts.0 in
+    let apart : (eqb y.span.offset x.span.offset ≡ false) × (overlap y x ≡ false) =
+    or_parts (eqb y.span.offset x.span.offset) (overlap y x) first.0 in
+    or_from (overlap x y) (list_any (overlap x) ys) (overlap_turned x y ∙ apart.1) (head_free x xs ys parts.1)
+
+rest_free : (x : Replacement) (xs ys : List Replacement) → some_conflict ys (x ∷ xs) ≡ false
+    → some_conflict ys xs ≡ false
+rest_free x xs [] h = refl
+rest_free x xs (y ∷ ys) h =
+    let parts : (list_any (conflict y) (x ∷ xs) ≡ false) × (some_conflict ys (x ∷ xs) ≡ false) =
+    or_parts (list_any (conflict y) (x ∷ xs)) (some_conflict ys (x ∷ xs)) h in
+    let first : (conflict y x ≡ false) × (list_any (conflict y) xs ≡ false) =
+    or_parts (conflict y x) (list_any (conflict y) xs) parts.0 in
+    or_from (list_any (conflict y) xs) (some_conflict ys xs) first.1 (rest_free x xs ys parts.1)
+
+joined : (xs ys : List Replacement) → some_overlap xs ≡ false → some_overlap ys ≡ false
+    → some_conflict ys xs ≡ false → some_overlap (xs ++ ys) ≡ false
+joined [] ys h k free = k
+joined (x ∷ xs) ys h k free =
+    let parts : (list_any (overlap x) xs ≡ false) × (some_overlap xs ≡ false) =
+    or_parts (list_any (overlap x) xs) (some_overlap xs) h in
+    or_from (list_any (overlap x) (xs ++ ys)) (some_overlap (xs ++ ys))
+    (list_any-append (overlap x) xs ys
+    ∙ or_from (list_any (overlap x) xs) (list_any (overlap x) ys) parts.0 (head_free x xs ys free))
+    (joined xs ys parts.1 k (rest_free x xs ys free))
+
+-- all edits of the lists, and one list more
+pub all_of_more : (lists : List (List Replacement)) (edits : List Replacement)
+    → all_of (lists ++ edits ∷ []) ≡ all_of lists ++ edits
+all_of_more [] edits = append-nil edits
+all_of_more (xs ∷ lists) edits = ap (λ r. xs ++ r) (all_of_more lists edits) ∙ sym (append_assoc xs (all_of lists) edits)
+
+some_none : (o : Option FixError) → is_none o ≡ true → o ≡ None
+some_none None h = refl
+some_none (Some e) h = let bad = h in cc
+
+-- what counts is applied beside what counts already
+counted_fit : (n : ℕ) (others edits : List Replacement) → refusal n others ≡ None → counts n others edits ≡ true
+    → refusal n (others ++ edits) ≡ None
+counted_fit n others edits h may =
+    let parts : (is_none (refusal n edits) ≡ true) × (not (some_conflict edits others) ≡ true) =
+    and_parts (is_none (refusal n edits)) (not (some_conflict edits others)) may in
+    let own : (list_any (ends_behind n) edits ≡ false) × (some_overlap edits ≡ false) =
+    none_refused n edits (some_none (refusal n edits) parts.0) in
+    let before : (list_any (ends_behind n) others ≡ false) × (some_overlap others ≡ false) = none_refused n others h in
+    unrefused n (others ++ edits)
+    (list_any-append (ends_behind n) others edits
+    ∙ or_from (list_any (ends_behind n) others) (list_any (ends_behind n) edits) before.0 own.0)
+    (joined others edits before.1 own.1 (not-true (some_conflict edits others) parts.1))
+
+-- After some fixes: the edits that count, which can be applied together, and what comes of the fixes that are left.
+pub record AreChosen (n : ℕ) (given rest before : List (List Replacement)) (edits : List Replacement)
+    (flags : List Bool) : Type 0 where
+  pub all : edits ≡ all_of before
+  pub fit : refusal n edits ≡ None
+  pub lists : counted n before rest ≡ counted n [] given
+  pub answers : flags ++ taken n before rest ≡ taken n [] given
+
+pub chosen_more : (n : ℕ) (given rest after before : List (List Replacement)) (edits fix : List Replacement)
+    (flags : List Bool) → AreChosen n given rest before edits flags → rest ≡ fix ∷ after → counts n edits fix ≡ true
+    → AreChosen n given after (before ++ fix ∷ []) (edits ++ fix) (flags ++ true ∷ [])
+chosen_more n given rest after before edits fix flags h is may =
+    let met : counts n (all_of before) fix ≡ true = ap (λ es. counts n es fix) (sym h.all) ∙ may in
+    let next : counted_with n before fix ≡ before ++ fix ∷ [] = rw met refl in
+    let flag : is_taken n before fix ≡ true = rw met refl in
+    record {
+      all = ap (λ es. es ++ fix) h.all ∙ sym (all_of_more before fix);
+      fit = counted_fit n edits fix h.fit may;
+      lists = ap (λ b. counted n b after) (sym next) ∙ ap (counted n before) (sym is) ∙ h.lists;
+      answers = append_assoc flags (true ∷ []) (taken n (before ++ fix ∷ []) after)
+          ∙ ap (λ r. flags ++ r) (ap (λ b. true ∷ taken n b after) (sym next)
+          ∙ ap (λ x. x ∷ taken n (counted_with n before fix) after) (sym flag) ∙ ap (taken n before) (sym is))
+          ∙ h.answers;
+    }
+
+pub chosen_not : (n : ℕ) (given rest after before : List (List Replacement)) (edits fix : List Replacement)
+    (flags : List Bool) → AreChosen n given rest before edits flags → rest ≡ fix ∷ after → counts n edits fix ≡ false
+    → AreChosen n given after before edits (flags ++ is_among fix before ∷ [])
+chosen_not n given rest after before edits fix flags h is not_so =
+    let met : counts n (all_of before) fix ≡ false = ap (λ es. counts n es fix) (sym h.all) ∙ not_so in
+    let next : counted_with n before fix ≡ before = rw met refl in
+    let flag : is_taken n before fix ≡ is_among fix before = rw met refl in
+    record {
+      all = h.all;
+      fit = h.fit;
+      lists = ap (λ b. counted n b after) (sym next) ∙ ap (counted n before) (sym is) ∙ h.lists;
+      answers = append_assoc flags (is_among fix before ∷ []) (taken n before after)
+          ∙ ap (λ r. flags ++ r) (ap (λ b. is_among fix before ∷ taken n b after) (sym next)
+          ∙ ap (λ x. x ∷ taken n (counted_with n before fix) after) (sym flag) ∙ ap (taken n before) (sym is))
+          ∙ h.answers;
+    }
+
+pub chosen_then : (n : ℕ) (given rest after before more : List (List Replacement)) (edits fix edits' : List Replacement)
+    (flags flags' : List Bool) → AreChosen n given rest before edits flags → rest ≡ fix ∷ after
+    → counts n edits fix ≡ true → more ≡ before ++ fix ∷ [] → edits' ≡ edits ++ fix → flags' ≡ flags ++ true ∷ []
+    → AreChosen n given after more edits' flags'
+chosen_then n given rest after before more edits fix edits' flags flags' h is may b e f =
+    subst (λ (x : List (List Replacement)). AreChosen n given after x edits' flags') (sym b)
+    (subst (λ (x : List Replacement). AreChosen n given after (before ++ fix ∷ []) x flags') (sym e)
+    (subst (λ (x : List Bool). AreChosen n given after (before ++ fix ∷ []) (edits ++ fix) x) (sym f)
+    (chosen_more n given rest after before edits fix flags h is may)))
+
+pub chosen_else : (n : ℕ) (given rest after before more : List (List Replacement)) (edits fix edits' : List Replacement)
+    (flags flags' : List Bool) → AreChosen n given rest before edits flags → rest ≡ fix ∷ after
+    → counts n edits fix ≡ false → more ≡ before → edits' ≡ edits → flags' ≡ flags ++ is_among fix before ∷ []
+    → AreChosen n given after more edits' flags'
+chosen_else n given rest after before more edits fix edits' flags flags' h is not_so b e f =
+    subst (λ (x : List (List Replacement)). AreChosen n given after x edits' flags') (sym b)
+    (subst (λ (x : List Replacement). AreChosen n given after before x flags') (sym e)
+    (subst (λ (x : List Bool). AreChosen n given after before edits x) (sym f)
+    (chosen_not n given rest after before edits fix flags h is not_so)))
+
+-- the edits of fixes from one on
+pub lists_more : (fixes : List (Bor Proposal)) (i : ℕ) (fix : Bor Proposal) → i < length fixes
+    → fix ≡ get_or fixes i fix → lists_of (drop i fixes) ≡ fix.now.edits ∷ lists_of (drop (i + 1) fixes)
+lists_more fixes i fix lt is =
+    ap lists_of (drop_more fixes i fix lt)
+    ∙ ap (λ (f : Bor Proposal). f.now.edits ∷ lists_of (drop (i + 1) fixes)) (sym is)
+
+-- ---- in any order
+
+-- edits that stand at one place in the order begin at one offset
+tied_offset : (z x : Replacement) → ties less z x ≡ true → x.span.offset ≡ z.span.offset
+tied_offset z x h =
+    let parts : (not (less z x) ≡ true) × (not (less x z) ≡ true) = and_parts (not (less z x)) (not (less x z)) h in
+    let a : (x.span.offset ≤ z.span.offset) × (z.span.offset ≡ x.span.offset → x.span.len ≤ z.span.len) =
+    not_behind x z (not-true (less z x) parts.0) in
+    let b : (z.span.offset ≤ x.span.offset) × (x.span.offset ≡ z.span.offset → z.span.len ≤ x.span.len) =
+    not_behind z x (not-true (less x z) parts.1) in
+    let a0 : x.span.offset ≤ z.span.offset = a.0 in
+    let b0 : z.span.offset ≤ x.span.offset = b.0 in
+    omega (arith, a0, b0)
+
+filter_none : (p : Replacement → Bool) (xs : List Replacement) → list_any p xs ≡ false → filter p xs ≡ []
+filter_none p [] h = refl
+filter_none p (x ∷ xs) h =
+    let parts : (p x ≡ false) × (list_any p xs ≡ false) = or_parts (p x) (list_any p xs) h in
+    let no : p x ≡ false = parts.0 in rw no (filter_none p xs parts.1)
+
+one_meets : (z x : Replacement) (ys : List Replacement) → ties less z x ≡ true → list_any (ties less z) ys ≡ true
+    → list_any (conflict x) ys ≡ true
+one_meets z x [] h k = k
+one_meets z x (y ∷ ys) h k =
+    by_cases {C = list_any (conflict x) (y ∷ ys) ≡ true} (ties less z y)
+    (λ t. let same : eqb x.span.offset y.span.offset ≡ true =
+    eq-eqb x.span.offset y.span.offset (tied_offset z x h ∙ sym (tied_offset z y t)) in
+    or_left (conflict x y) (list_any (conflict x) ys)
+    (or_left (eqb x.span.offset y.span.offset) (overlap x y) same))
+    (λ f. or_right (conflict x y) (list_any (conflict x) ys) (one_meets z x ys h (rw f at k)))
+
+meet : (z : Replacement) (xs ys : List Replacement) → list_any (ties less z) xs ≡ true
+    → list_any (ties less z) ys ≡ true → some_conflict xs ys ≡ true
+meet z [] ys h k = h
+meet z (x ∷ xs) ys h k =
+    by_cases {C = some_conflict (x ∷ xs) ys ≡ true} (ties less z x)
+    (λ t. or_left (list_any (conflict x) ys) (some_conflict xs ys) (one_meets z x ys t k))
+    (λ f. or_right (list_any (conflict x) ys) (some_conflict xs ys) (meet z xs ys (rw f at h) k))
+
+-- of two lists that don't conflict, one has no edit at a place
+turned : (z : Replacement) (xs ys : List Replacement) → some_conflict xs ys ≡ false
+    → filter (ties less z) xs ++ filter (ties less z) ys ≡ filter (ties less z) ys ++ filter (ties less z) xs
+turned z xs ys free =
+    by_cases {C = filter (ties less z) xs ++ filter (ties less z) ys ≡ filter (ties less z) ys
+    ++ filter (ties less z) xs} (list_any (ties less z) xs)
+    (λ t. by_cases {C = filter (ties less z) xs ++ filter (ties less z) ys ≡ filter (ties less z) ys
+    ++ filter (ties less z) xs} (list_any (ties less z) ys)
+    (λ u. let bad : true ≡ false = sym (meet z xs ys t u) ∙ free in cc)
+    (λ g. let none : filter (ties less z) ys ≡ [] = filter_none (ties less z) ys g in
+    ap (λ r. filter (ties less z) xs ++ r) none ∙ append-nil (filter (ties less z) xs)
+    ∙ ap (λ r. r ++ filter (ties less z) xs) (sym none)))
+    (λ f. let none : filter (ties less z) xs ≡ [] = filter_none (ties less z) xs f in
+    ap (λ r. r ++ filter (ties less z) ys) none ∙ sym (append-nil (filter (ties less z) ys))
+    ∙ ap (λ r. filter (ties less z) ys ++ r) (sym none))
+
+turned_within : (z : Replacement) (before xs ys after : List Replacement) → some_conflict xs ys ≡ false
+    → filter (ties less z) (before ++ (xs ++ (ys ++ after))) ≡ filter (ties less z) (before ++ (ys ++ (xs ++ after)))
+turned_within z before xs ys after free =
+    let p : Replacement → Bool = ties less z in
+    let two : (us vs : List Replacement) → filter p (us ++ (vs ++ after)) ≡ (filter p us ++ filter p vs)
+    ++ filter p after = λ us vs. filter-append p us (vs ++ after)
+    ∙ ap (λ r. filter p us ++ r) (filter-append p vs after)
+    ∙ sym (append_assoc (filter p us) (filter p vs) (filter p after)) in
+    filter-append p before (xs ++ (ys ++ after))
+    ∙ ap (λ r. filter p before ++ r) (two xs ys ∙ ap (λ r. r ++ filter p after) (turned z xs ys free) ∙ sym (two ys xs))
+    ∙ sym (filter-append p before (ys ++ (xs ++ after)))
+
+all_of_split : (before after : List (List Replacement)) → all_of (before ++ after) ≡ all_of before ++ all_of after
+all_of_split [] after = refl
+all_of_split (xs ∷ before) after =
+    ap (λ r. xs ++ r) (all_of_split before after) ∙ sym (append_assoc xs (all_of before) (all_of after))
+
+-- two neighbours that don't conflict change places
+pub neighbours : (source : List ℕ) (before after : List (List Replacement)) (xs ys : List Replacement)
+    → some_conflict xs ys ≡ false
+    → applied source (all_of (before ++ xs ∷ ys ∷ after)) ≡ applied source (all_of (before ++ ys ∷ xs ∷ after))
+neighbours source before after xs ys free =
+    let order : by_offset (all_of before ++ (xs ++ (ys ++ all_of after)))
+    ≡ by_offset (all_of before ++ (ys ++ (xs ++ all_of after))) =
+    same_order (all_of before ++ (xs ++ (ys ++ all_of after))) (all_of before ++ (ys ++ (xs ++ all_of after)))
+    (λ z. turned_within z (all_of before) xs ys (all_of after) free) in
+    ap (λ es. text_from source 0 (by_offset es)) (all_of_split before (xs ∷ ys ∷ after))
+    ∙ ap (text_from source 0) order
+    ∙ ap (λ es. text_from source 0 (by_offset es)) (sym (all_of_split before (ys ∷ xs ∷ after)))
+
+-- ---- which fixes are taken
+
+-- whether the fix at a place is taken
+taken_at : (n : ℕ) (before fixes : List (List Replacement)) (k : ℕ) → k < length fixes
+    → slice_get (taken n before fixes) k ≡ Some (is_taken n (counted n before (take k fixes)) (get_or fixes k []))
+taken_at n before [] k lt = absurd (omega (arith, lt))
+taken_at n before (f ∷ fs) zero lt = refl
+taken_at n before (f ∷ fs) (suc k) lt = taken_at n (counted_with n before f) fs k (omega (arith, lt))
+
+not_taken : (n : ℕ) (before : List (List Replacement)) (edits : List Replacement) → is_taken n before edits ≡ false
+    → (refusal n edits ≢ None) ⊎ (some_conflict edits (all_of before) ≡ true)
+not_taken n before edits h =
+    let parts : (counts n (all_of before) edits ≡ false) × (is_among edits before ≡ false) =
+    or_parts (counts n (all_of before) edits) (is_among edits before) h in
+    by_cases {C = (refusal n edits ≢ None) ⊎ (some_conflict edits (all_of before) ≡ true)}
+    (some_conflict edits (all_of before)) (λ t. inr t)
+    (λ f. inl (λ e. let none : is_none (refusal n edits) ≡ true = ap is_none e in
+    let bad : true ≡ false = rw (none, f) at parts.0 in true≢false bad))
+
+pub maximal : (n : ℕ) (fixes : List (List Replacement)) (k : ℕ) → k < length fixes
+    → slice_get (taken n [] fixes) k ≡ Some false
+    → (refusal n (get_or fixes k []) ≢ None)
+    ⊎ (some_conflict (get_or fixes k []) (all_of (counted n [] (take k fixes))) ≡ true)
+maximal n fixes k lt h =
+    let e : Some (is_taken n (counted n [] (take k fixes)) (get_or fixes k [])) ≡ Some false =
+    sym (taken_at n [] fixes k lt) ∙ h in
+    not_taken n (counted n [] (take k fixes)) (get_or fixes k [])
+    (same_Some (is_taken n (counted n [] (take k fixes)) (get_or fixes k [])) false e)
+
+-- the edits that count can be applied together
+counted_together : (n : ℕ) (before fixes : List (List Replacement)) → refusal n (all_of before) ≡ None
+    → refusal n (all_of (counted n before fixes)) ≡ None
+counted_together n before [] h = h
+counted_together n before (f ∷ fs) h =
+    by_cases {C = refusal n (all_of (counted n before (f ∷ fs))) ≡ None} (counts n (all_of before) f)
+    (λ t. let next : counted_with n before f ≡ before ++ f ∷ [] = rw t refl in
+    let fit : refusal n (all_of (before ++ f ∷ [])) ≡ None =
+    ap (refusal n) (all_of_more before f) ∙ counted_fit n (all_of before) f h t in
+    ap (λ b. refusal n (all_of (counted n b fs))) next ∙ counted_together n (before ++ f ∷ []) fs fit)
+    (λ g. let next : counted_with n before f ≡ before = rw g refl in
+    ap (λ b. refusal n (all_of (counted n b fs))) next ∙ counted_together n before fs h)
+
+pub together : (n : ℕ) (fixes : List (List Replacement)) → refusal n (all_of (counted n [] fixes)) ≡ None
+together n fixes = counted_together n [] fixes (unrefused n [] refl refl)
