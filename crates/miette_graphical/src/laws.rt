@@ -27,9 +27,9 @@ ghost use Rattle.miette_cells.specs.rules.Widths.{width_of};
 
 use miette_layout::laws::{
     cut_lines_are_parted, cut_rows_are_narrow, ends_are_drawn, groups_are_ranges,
-    left_out_lines_are_inside, lines_that_fit_stay, marks_are_apart, ranges_are_maximal,
-    ranges_end_kept, rows_fade, rows_hold_no_escape, short_labels_stay, snippets_draw_ranges,
-    texts_hang,
+    left_out_lines_are_inside, lines_that_fit_stay, marks_are_apart,
+    marks_stand_on_their_characters, ranges_are_maximal, ranges_end_kept, rows_fade,
+    rows_hold_no_escape, short_labels_stay, snippets_draw_ranges, texts_hang, wide_lines_are_cut,
 };
 use miette_text::wrap::laws::{
     columns_law, cutting_law, encoding_law, joining_law, printing_law, wrapping_law,
@@ -120,9 +120,10 @@ pub fn only_law()
 {}
 
 /// The snippets of each printed diagnostic show the lines in the context of its labels, its marks are apart, each line
-/// that is cut shows what is near them, lines that fit stay as they are, each text hangs from its own mark, labels at
-/// the end of a source stand behind what is shown of its last line, where they are drawn, and no label begins, ends or
-/// is missed where lines are left out inside folded labels.
+/// that is too wide is cut, shows what is near them, and has them under their own characters, lines that fit stay as
+/// they are, each text hangs from its own mark, labels at the end of a source stand in the column after what is shown
+/// of its last line, where they are drawn, and no label begins, ends or is missed where lines are left out inside
+/// folded labels.
 pub fn snippets_law()
     ensures lines { (s : Settings) (t : Tree) → AllByRecursion (LinesAreShown s) (diagnostics_of s t) }
     ensures marks { (s : Settings) (t : Tree) → AllByRecursion (MarksAreApart s) (diagnostics_of s t) }
@@ -137,7 +138,9 @@ pub fn snippets_law()
     ranges_are_maximal();
     ranges_end_kept();
     marks_are_apart();
+    wide_lines_are_cut();
     cut_lines_are_parted();
+    marks_stand_on_their_characters();
     cut_rows_are_narrow();
     lines_that_fit_stay();
     texts_hang();

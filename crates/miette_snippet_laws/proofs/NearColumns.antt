@@ -74,15 +74,8 @@ inside_end reach widest end column (c ∷ cs) h w lt =
     (λ n. ap (λ t. cond t true (near c)) n ∙ close) in
     let step : need near true (c ∷ cs) ≡ ((c.until - c.from) + 0) + need near true cs =
     need_step near true true true c cs close here in
-    omega (
-      arith,
-      step,
-      low,
-      h.0,
-      h.1,
-      w.0,
-      inside_end reach widest end c.until cs h.2 w.1 (omega (arith, h.0, h.1, lt)),
-    ))
+    let later = inside_end reach widest end c.until cs h.2 w.1 (omega (arith, h.0, h.1, lt)) in
+    omega (arith, step, low, h.0, h.1, w.0, later))
     (λ n. omega (
       arith,
       past near (end + reach + 1) column true (c ∷ cs) h (omega (arith, leb-false column (end + reach) n))
@@ -108,16 +101,8 @@ beside_end reach widest end column (c ∷ cs) h w =
     let here : is_near_after near false c ≡ true = ap (λ t. cond t false (near c)) some ∙ y in
     let step : need near false (c ∷ cs) ≡ ((c.until - c.from) + 3) + need near true cs =
     need_step near false true true c cs y here in
-    omega (
-      arith,
-      step,
-      low,
-      high,
-      h.1,
-      w.0,
-      less c.from c.until some h.1,
-      inside_end reach widest end c.until cs h.2 w.1 high,
-    ))
+    let later = inside_end reach widest end c.until cs h.2 w.1 high in
+    omega (arith, step, low, high, h.1, w.0, less c.from c.until some h.1, later))
     (λ n. let here : is_near_after near false c ≡ false = ap (λ t. cond t false (near c)) some ∙ n in
     let step : need near false (c ∷ cs) ≡ (0 + 0) + need near false cs =
     need_step near false false false c cs n here in

@@ -1,5 +1,6 @@
 -- What holds of the snippets of each printed diagnostic, over its effective source and by its labels.
-use Rattle.std.specs.Prelude.{◌≡◌, ◌<◌, ◌+◌, ℕ, Bool, true, false, List, [], ◌∷◌, length, Some, None, IfSome, ◌≤◌}
+use Rattle.std.specs.Prelude.{◌≡◌, ◌≢◌, ◌<◌, ◌+◌, ℕ, Bool, true, false, List, [], ◌∷◌, length, Option, Some, None}
+use Rattle.std.specs.Prelude.{IfSome, ◌≤◌}
 use Rattle.std.specs.List.{AllByRecursion, concat}
 use Rattle.miette_source_lines.specs.rules.Lines.{Line, lines_of}
 use Rattle.miette_protocol.specs.views.Meaning.{Label}
@@ -11,16 +12,17 @@ use Rattle.miette_snippet_rules.specs.rules.Folds.{Spread}
 use Rattle.miette_snippet_rules.specs.rules.Settings as snippets
 use Rattle.miette_labels.specs.rules.Groups as grouping
 use Rattle.miette_labels.specs.rules.Groups.{AreAccepted, in_order, lines_of_groups}
-use Rattle.miette_labels.specs.rules.Labels.{DrawnLabel, multi_line, one_line}
+use Rattle.miette_labels.specs.rules.Labels.{DrawnLabel, multi_line, one_line, some_shows_end}
 use Rattle.miette_snippet_rules.specs.rules.SnippetLayout as snippet_layout
 use Rattle.miette_snippet_rules.specs.rules.SnippetLayout.{body_rows, cells_of, line_cut, line_marks, settings_around}
 use Rattle.miette_page.specs.rules.Rows.{Row, columns_of, glyphs_of}
 use Rattle.miette_cells.specs.rules.Cells.{Cell}
 use Rattle.miette_cells.specs.rules.Widths.{width_of}
 use Rattle.miette_snippet_rules.specs.rules.CutLines.{Stretch, ends, is_near}
-use Rattle.miette_snippet_laws.specs.laws.Cuts.{AreAsWide, AreStretches, Fits, by_nearness, by_stretch}
+use Rattle.miette_snippet_laws.specs.laws.Cuts.{AreAsWide, AreMoved, AreStretches, Fits, by_nearness, by_stretch}
 use Rattle.miette_snippet_laws.specs.laws.Cuts.{most_columns, pieces_shown}
 use Rattle.miette_snippet_rules.specs.rules.Marks.{Mark, marks_at, AreApart}
+use Rattle.miette_snippet_rules.specs.rules.PrintedCells.{cells_width}
 use Rattle.miette_snippet_rules.specs.rules.Numbers.{ranges, IsRange, AreParted}
 use Rattle.miette_snippet_laws.specs.laws.Ends.{AreBehindShown, EndsStandBehind, draws_ends}
 use Rattle.miette_snippet_laws.specs.laws.Folding.{EndsPass, FitsIn, IsInside}
@@ -146,26 +148,42 @@ abbrev pub text_shown : Settings → Source → List Label → ℕ → List High
 text_shown s source labels k pieces =
     text_of_line (snippet_settings s) (drawn_labels s source labels) (line_of source k) (cells_under s source k) pieces
 
+-- the marks of line k, by the columns of the whole line
+abbrev pub whole_marks : Settings → Source → List Label → ℕ → List Mark
+whole_marks s source labels k =
+    line_marks (line_of source k) (cells_under s source k) (labels_under s source labels k)
+
+-- the stretches into which line k is cut, if it is
+abbrev pub cut_under : Settings → Source → List Label → ℕ → Option (List Stretch)
+cut_under s source labels k =
+    line_cut (snippet_settings s) (line_of source k) (cells_under s source k) (labels_under s source labels k)
+
 -- Line k is cut into stretches that have its cells, each once and in order, and are near where the cells are. Of each
--- stretch that is near or at most three columns wide the cells are printed, and dots in place of each other one, in no
--- more columns than limit, labels and widest cell ask for.
+-- stretch that is near or at most three columns wide the cells are printed, and dots in place of each other one. At the
+-- columns of a mark stands what stands at them in the whole line.
 pub record IsCutExactly (s : Settings) (source : Source) (labels : List Label) (k limit : ℕ) (cut : List Stretch) :
     Type 0 where
-  pub cells : by_stretch cut
-      ≡ by_nearness (is_near limit (ends (line_marks (line_of source k) (cells_under s source k)
-      (labels_under s source labels k)))) false (cells_under s source k)
+  pub cells : by_stretch cut ≡ by_nearness (is_near limit (ends (whole_marks s source labels k))) false
+      (cells_under s source k)
   pub parted : AreStretches cut
   pub printed : (pieces : List Highlight) → glyphs_of (text_shown s source labels k pieces) ≡ pieces_shown cut
+  pub marks : AreMoved (cells_under s source k) cut (whole_marks s source labels k) (marks_under s source labels k)
+
+-- Line k is cut where it has more columns than the limit, and just there, exactly; and has no more columns then than
+-- limit, labels and widest cell ask for.
+pub record IsCutAt (s : Settings) (source : Source) (labels : List Label) (k limit : ℕ) : Type 0 where
+  pub wide : limit < cells_width 0 (cells_under s source k) → cut_under s source labels k ≢ None
+  pub fits : cells_width 0 (cells_under s source k) ≤ limit → cut_under s source labels k ≡ None
+  pub exact : (cut : List Stretch) → cut_under s source labels k ≡ Some cut →
+      IsCutExactly s source labels k limit cut
   pub narrow : (pieces : List Highlight) (widest : ℕ) → AreAsWide widest (cells_under s source k) →
       columns_of (glyphs_of (text_shown s source labels k pieces))
       ≤ most_columns limit (length (labels_under s source labels k)) widest
 
--- each line of a diagnostic's source that is cut
+-- each line of a diagnostic's source, where there is a limit
 abbrev pub CutsAreExact : Settings → PrintedDiagnostic → Type 0
-CutsAreExact s p = IfSome p.source (λ source. (k limit : ℕ) (cut : List Stretch) → s.layout.line_columns ≡ Some limit →
-    line_cut (snippet_settings s) (line_of source k) (cells_under s source k)
-    (labels_under s source (given_labels p.meaning.labels) k) ≡ Some cut →
-    IsCutExactly s source (given_labels p.meaning.labels) k limit cut)
+CutsAreExact s p = IfSome p.source (λ source. (k limit : ℕ) → s.layout.line_columns ≡ Some limit →
+    IsCutAt s source (given_labels p.meaning.labels) k limit)
 
 -- In the rows of a snippet, however its labels are folded and in whatever pieces its lines are, nothing changes where
 -- none of its lines has more columns than the limit.
@@ -208,16 +226,22 @@ TextsHang s p =
 -- ---- labels at the end of the source
 
 -- Just these labels stand behind the text of the last line, and in the row of each line, in whatever pieces, the marks
--- of such labels begin behind what is shown of its text.
+-- of such labels begin in the column after what is shown of its text, or where the mark before them ends.
 pub record EndsBehind (s : Settings) (source : Source) (labels : List Label) : Type 0 where
   pub lines : EndsStandBehind (group_settings s labels) source.bytes (in_order labels)
   pub marks : (k : ℕ) (pieces : List Highlight) →
       AreBehindShown (snippet_settings s) (drawn_labels s source labels) (line_of source k) (cells_under s source k)
       pieces
 
--- where labels at the end are drawn, and one of them has a line of context
+-- where labels at the end are drawn, and one of them has a line of context; and where none has one, the rows are those
+-- without the setting
 abbrev pub EndsAreDrawn : Settings → PrintedDiagnostic → Type 0
 EndsAreDrawn s p =
-    IfSome p.source (λ source. draws_ends (group_settings s (given_labels p.meaning.labels)) (length source.bytes)
-    (in_order (given_labels p.meaning.labels)) ≡ true →
-    EndsBehind s source (given_labels p.meaning.labels))
+    IfSome p.source (λ source.
+    (draws_ends (group_settings s (given_labels p.meaning.labels)) (length source.bytes)
+    (in_order (given_labels p.meaning.labels)) ≡ true → EndsBehind s source (given_labels p.meaning.labels))
+    × (some_shows_end s.layout.context_lines (length source.bytes) (given_labels p.meaning.labels) ≡ false →
+    (pieces : List (List (List Highlight))) →
+    drawn_rows s (Some source) (given_labels p.meaning.labels) (pieces_listed pieces)
+    ≡ drawn_rows (record s { layout = record s.layout { end_labels = false } }) (Some source)
+    (given_labels p.meaning.labels) (pieces_listed pieces)))

@@ -117,14 +117,15 @@ impl<H: Highlighter> GraphicalReportHandler<H> {
         ensures lines { OnOk result (EachPrinted LinesAreShown self.old (tree_of D.meaning S.source report.now)) }
         // its marks have columns of their own,
         ensures marks { OnOk result (EachPrinted MarksAreApart self.old (tree_of D.meaning S.source report.now)) }
-        // each line that is cut shows what is near its marks, in a bounded number of columns,
+        // each line with more columns than the limit is cut, and no other; it shows what is near its marks, in a
+        // bounded number of columns, and they stand under their own characters,
         ensures cuts { OnOk result (EachPrinted CutsAreExact self.old (tree_of D.meaning S.source report.now)) }
         // and where no line of a snippet has more columns than the limit, its rows are those without one,
         ensures fits { OnOk result (EachPrinted LinesThatFitStay self.old (tree_of D.meaning S.source report.now)) }
         // each text of a label on one line hangs from its own mark,
         ensures texts { OnOk result (EachPrinted TextsHang self.old (tree_of D.meaning S.source report.now)) }
         // where labels at the end of its source are drawn, just these stand behind the text of the last line, and
-        // their marks behind what is shown of it,
+        // their marks in the column after what is shown of it; where there is none, nothing changes,
         ensures ends { OnOk result (EachPrinted EndsAreDrawn self.old (tree_of D.meaning S.source report.now)) }
         // and where labels are folded, no label begins or ends on a line that is left out, the bars of a break are
         // those of the labels that run through it, and short labels change nothing

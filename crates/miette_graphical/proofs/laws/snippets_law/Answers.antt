@@ -1,4 +1,4 @@
-use Rattle.std.proofs.Common.{ℕ, ◌≡◌, List, [], ◌∷◌, Option, Some, None, IfSome, refl, ap, ◌∙◌, false, cond, ltb, sym}
+use Rattle.std.proofs.Common.{ℕ, ◌≡◌, ◌≤◌, List, [], ◌∷◌, Option, Some, None, IfSome, refl, ap, ◌∙◌, false, cond, ltb, sym}
 use Rattle.std.proofs.Common.{subst}
 use Rattle.std.specs.List.{AllByRecursion}
 use Rattle.miette_protocol.specs.views.Meaning.{Label}
@@ -11,13 +11,13 @@ use Rattle.miette_page.specs.rules.Rows.{glyphs_of}
 use Rattle.miette_snippet_rules.specs.rules.CutLines.{Stretch, cut_line, ends, is_near, shown_runs, stretches}
 use Rattle.miette_snippet_rules.specs.rules.Marks.{Mark}
 use Rattle.miette_snippet_rules.specs.rules.PrintedCells.{cells_width}
-use Rattle.miette_snippet_rules.specs.rules.SnippetLayout.{line_marks}
-use Rattle.miette_snippet_laws.specs.laws.Cuts.{AreStretches, by_stretch}
+use Rattle.miette_snippet_laws.specs.laws.Cuts.{AreStretches, Fits, by_stretch}
 use Rattle.miette_graphical.specs.rules.Answers.{pieces_listed}
 use Rattle.miette_graphical.specs.rules.Settings.{Settings}
 use Rattle.miette_graphical.specs.laws.Headline.{EndsAreDrawn, LabelsAreFolded, LinesAreShown, MarksAreApart, TextsHang}
-use Rattle.miette_graphical.specs.laws.Headline.{SnippetHangs, drawn_labels, groups_of, group_settings, labels_under}
+use Rattle.miette_graphical.specs.laws.Headline.{SnippetHangs, drawn_labels, groups_of, group_settings}
 use Rattle.miette_graphical.specs.laws.Headline.{shown_lines, CutsAreExact, LinesThatFitStay, SnippetStays, cells_under}
+use Rattle.miette_graphical.specs.laws.Headline.{whole_marks}
 use Rattle.miette_graphical.specs.laws.Headline.{line_of}
 use Rattle.miette_tree.specs.rules.DiagnosticParts.{given_labels}
 use Rattle.miette_graphical.specs.rules.PrintedDiagnostics.{diagnostics_of}
@@ -93,21 +93,34 @@ returns-clause-marks c = λ s t. each (MarksAreApart s) (λ p.
           (drawn_labels s source (given_labels p.meaning.labels)) source.bytes (line_of source k);
     }) p.source) (diagnostics_of s t)
 
+-- a line fits within the limit that there is
+fits_in : (o : Option ℕ) (limit : ℕ) (cells : List Cell) → o ≡ Some limit → cells_width 0 cells ≤ limit → Fits o cells
+fits_in o limit cells some le = subst (λ (it : Option ℕ). Fits it cells) (sym some) le
+
 pub returns-clause-cuts : goal.returns-clause-cuts
 returns-clause-cuts c = λ s t. each (CutsAreExact s) (λ p.
     let labels = given_labels p.meaning.labels in
-    if_some _ (λ source k limit cut some is.
+    if_some _ (λ source k limit some.
     let lay = snippet_settings s in
+    let drawn = drawn_labels s source labels in
+    let line = line_of source k in
     let cells = cells_under s source k in
-    let own = line_marks (line_of source k) cells (labels_under s source labels k) in
-    let whole : cut ≡ stretches (is_near limit (ends own)) false cells =
-    cut_whole lay.layout.line_columns limit own cells cut some is in record {
-      cells = ap by_stretch whole ∙ c.cut_lines_are_parted.ensures.cells (is_near limit (ends own)) cells;
-      parted = subst AreStretches (sym whole) (c.cut_lines_are_parted.ensures.parted (is_near limit (ends own)) cells);
-      printed = λ pieces. ap (λ o. glyphs_of (shown_runs o pieces cells)) is
-          ∙ c.cut_lines_are_parted.ensures.printed pieces cut;
-      narrow = λ pieces widest wide. c.cut_rows_are_narrow.ensures lay (drawn_labels s source labels) source.bytes
-          (line_of source k) pieces limit widest some wide;
+    let own = whole_marks s source labels k in record {
+      wide = c.wide_lines_are_cut.ensures.wide lay drawn source.bytes line limit some;
+      fits = λ le. c.wide_lines_are_cut.ensures.fits lay drawn source.bytes line
+          (fits_in s.layout.line_columns limit cells some le);
+      exact = λ cut is.
+          let whole : cut ≡ stretches (is_near limit (ends own)) false cells =
+          cut_whole lay.layout.line_columns limit own cells cut some is in record {
+            cells = ap by_stretch whole ∙ c.cut_lines_are_parted.ensures.cells (is_near limit (ends own)) cells;
+            parted = subst AreStretches (sym whole)
+                (c.cut_lines_are_parted.ensures.parted (is_near limit (ends own)) cells);
+            printed = λ pieces. ap (λ o. glyphs_of (shown_runs o pieces cells)) is
+                ∙ c.cut_lines_are_parted.ensures.printed pieces cut;
+            marks = c.marks_stand_on_their_characters.ensures.marks lay drawn source.bytes line cut is;
+          };
+      narrow = λ pieces widest wide. c.cut_rows_are_narrow.ensures lay drawn source.bytes line pieces limit widest some
+          wide;
     }) p.source) (diagnostics_of s t)
 
 pub returns-clause-fits : goal.returns-clause-fits
@@ -131,11 +144,15 @@ returns-clause-texts c = λ s t. each (TextsHang s) (λ p.
 pub returns-clause-ends : goal.returns-clause-ends
 returns-clause-ends c = λ s t. each (EndsAreDrawn s) (λ p.
     let labels = given_labels p.meaning.labels in
-    if_some _ (λ source drawn. record {
-      lines = c.ends_are_drawn.ensures.lines (group_settings s labels) source.bytes (in_order labels) drawn;
-      marks = λ k pieces. c.ends_are_drawn.ensures.row (snippet_settings s) (drawn_labels s source labels) source.bytes
-          (line_of source k) pieces;
-    }) p.source) (diagnostics_of s t)
+    if_some _ (λ source. (
+      λ drawn. record {
+        lines = c.ends_are_drawn.ensures.lines (group_settings s labels) source.bytes (in_order labels) drawn;
+        marks = λ k pieces. c.ends_are_drawn.ensures.row (snippet_settings s) (drawn_labels s source labels)
+            source.bytes (line_of source k) pieces;
+      },
+      λ none pieces. ap (λ rows. shown_rows rows) (c.ends_are_drawn.ensures.others s.layout.end_labels
+          (snippet_settings s) source labels (pieces_listed pieces) none),
+    )) p.source) (diagnostics_of s t)
 
 pub returns-clause-folds : goal.returns-clause-folds
 returns-clause-folds c = λ s t. each (LabelsAreFolded s) (λ p.
