@@ -8,6 +8,7 @@ pub mod descriptions;
 pub mod handlers;
 pub mod highlight;
 pub mod layout;
+pub mod line_breaks;
 pub mod load;
 pub mod narrated;
 pub mod printing;

@@ -1,0 +1,103 @@
+//! What the rules see of a character.
+
+ghost use Rattle.std.specs.Prelude.{◌≡◌};
+ghost use Rattle.ucd_category.specs.GeneralCategory.{general_category};
+ghost use Rattle.ucd_east_asian.specs.EastAsianWidth.{east_asian_width};
+ghost use Rattle.ucd_emoji.specs.Binary.{is_extended_pictographic};
+ghost use Rattle.miette_line_breaks.specs.rules.Characters.{character_of, lone_mark, resolved};
+ghost use Rattle.miette_line_breaks.specs.rules.Characters.{is_combining, is_decimal, is_unassigned, is_wide};
+
+use ucd_breaks::LineBreak;
+use ucd_category::GeneralCategory;
+use ucd_east_asian::EastAsianWidth;
+use ucd_emoji::is_extended_pictographic;
+
+/// The class of a character after LB1, whether its East Asian width is F, W or H, and whether it is an emoji of which
+/// only the code point is known yet.
+#[derive(Clone, Copy, Debug, PartialEq, Eq)]
+pub(crate) struct Character {
+    pub(crate) class: LineBreak,
+    pub(crate) is_wide: bool,
+    pub(crate) is_future_emoji: bool,
+}
+
+impl Character {
+    pub(crate) const LONE_MARK: Character = Character {
+        class: LineBreak::Alphabetic,
+        is_wide: false,
+        is_future_emoji: false,
+    };
+
+    pub(crate) fn of(c: char) -> Character
+        ensures { result ≡ character_of c }
+    {
+        Character {
+            class: resolved(c, LineBreak::for_char(c)),
+            is_wide: is_wide(EastAsianWidth::for_char(c)),
+            is_future_emoji: is_extended_pictographic(c)
+                && is_unassigned(GeneralCategory::for_char(c)),
+        }
+    }
+}
+
+fn is_decimal(category: GeneralCategory) -> bool
+    ensures { result ≡ is_decimal category }
+{
+    matches!(category, GeneralCategory::DecimalNumber)
+}
+
+fn is_combining(category: GeneralCategory) -> bool
+    ensures { result ≡ is_combining category }
+{
+    matches!(
+        category,
+        GeneralCategory::NonspacingMark | GeneralCategory::SpacingMark
+    )
+}
+
+fn is_unassigned(category: GeneralCategory) -> bool
+    ensures { result ≡ is_unassigned category }
+{
+    matches!(category, GeneralCategory::Unassigned)
+}
+
+fn is_wide(width: EastAsianWidth) -> bool
+    ensures { result ≡ is_wide width }
+{
+    matches!(
+        width,
+        EastAsianWidth::Fullwidth | EastAsianWidth::Wide | EastAsianWidth::Halfwidth
+    )
+}
+
+/// LB1: the class that stands for those about which the rules say nothing; classes that Unicode 15.0 didn't have count
+/// as what their characters were there.
+fn resolved(c: char, class: LineBreak) -> LineBreak
+    ensures { result ≡ resolved c class }
+{
+    match class {
+        LineBreak::Ambiguous
+        | LineBreak::Surrogate
+        | LineBreak::Unknown
+        | LineBreak::Aksara
+        | LineBreak::AksaraPrebase => LineBreak::Alphabetic,
+        LineBreak::AksaraStart => {
+            if is_decimal(GeneralCategory::for_char(c)) {
+                LineBreak::Numeric
+            } else {
+                LineBreak::Alphabetic
+            }
+        }
+        LineBreak::Virama | LineBreak::ViramaFinal => LineBreak::CombiningMark,
+        LineBreak::UnambiguousHyphen => LineBreak::BreakAfter,
+        LineBreak::ConditionalJapaneseStarter => LineBreak::Nonstarter,
+        LineBreak::ComplexContext => {
+            if is_combining(GeneralCategory::for_char(c)) {
+                LineBreak::CombiningMark
+            } else {
+                LineBreak::Alphabetic
+            }
+        }
+        class => class,
+    }
+}

@@ -1,0 +1,213 @@
+//! What the rules need of all characters before a place.
+
+ghost use Rattle.std.specs.Prelude.{◌≡◌};
+ghost use Rattle.miette_line_breaks.specs.rules.Rules.{joins, joins_letter, joins_number, joins_parenthesis};
+ghost use Rattle.miette_line_breaks.specs.rules.Rules.{joins_syllable, takes_marks};
+ghost use Rattle.miette_line_breaks.specs.steps.States.{attaches, base_behind, base_of, break_in, is_start, joined_behind};
+ghost use Rattle.miette_line_breaks.specs.steps.States.{keeps_direct, keeps_in, state_behind, state_of};
+ghost use Rattle.std.specs.Prelude.{[]};
+
+use crate::breaks::BreakOpportunity;
+use crate::characters::Character;
+use crate::classes::*;
+use ucd_breaks::LineBreak;
+
+/// What stands before a place: the last character that is no space and has its marks, whether spaces or a zero width
+/// joiner follow it, whether a Hebrew letter stands before it, and whether it opens half a flag.
+#[derive(Clone, Copy, Debug, PartialEq, Eq)]
+pub(crate) struct State {
+    pub(crate) base: Character,
+    pub(crate) is_spaced: bool,
+    pub(crate) is_joined: bool,
+    pub(crate) follows_hebrew: bool,
+    pub(crate) has_half_flag: bool,
+}
+
+impl State {
+    /// At the start of a text, where the class of no character stands.
+    pub(crate) fn start() -> State
+        ensures { result ≡ state_of [] }
+    {
+        State {
+            base: Character {
+                class: LineBreak::Space,
+                is_wide: false,
+                is_future_emoji: false,
+            },
+            is_spaced: false,
+            is_joined: false,
+            follows_hebrew: false,
+            has_half_flag: false,
+        }
+    }
+
+    pub(crate) fn is_start(&self) -> bool
+        ensures { result ≡ is_start self.now }
+    {
+        is_space(self.base.class) && !self.is_spaced
+    }
+
+    fn attaches(&self) -> bool
+        ensures { result ≡ attaches self.now }
+    {
+        !self.is_spaced && takes_marks(self.base.class)
+    }
+
+    /// Behind one more character.
+    pub(crate) fn behind(&self, x: Character) -> State
+        ensures { result ≡ state_behind self.now x }
+    {
+        if is_mark(x.class) && self.attaches() {
+            State {
+                is_joined: is_joiner(x.class),
+                ..*self
+            }
+        } else {
+            self.with_base(base_of(x), is_joiner(x.class))
+        }
+    }
+
+    fn with_base(&self, base: Character, is_joined: bool) -> State
+        ensures { result ≡ base_behind self.now base is_joined }
+    {
+        State {
+            base: if is_space(base.class) {
+                self.base
+            } else {
+                base
+            },
+            is_spaced: is_space(base.class),
+            is_joined,
+            follows_hebrew: !self.is_spaced && is_hebrew(self.base.class),
+            has_half_flag: is_regional(base.class) && !self.has_half_flag,
+        }
+    }
+
+    /// The opportunity before a character, if there is one.
+    pub(crate) fn before(&self, x: Character) -> Option<BreakOpportunity>
+        ensures { result ≡ break_in self.now x }
+    {
+        if self.is_start() {
+            None
+        } else if !self.is_spaced && is_carriage_return(self.base.class) && is_line_feed(x.class) {
+            None
+        } else if !self.is_spaced && is_hard(self.base.class) {
+            Some(BreakOpportunity::Mandatory)
+        } else if is_hard(x.class) || is_space(x.class) || is_zero_width_space(x.class) {
+            None
+        } else if is_zero_width_space(self.base.class) {
+            Some(BreakOpportunity::Allowed)
+        } else if self.is_joined || (is_mark(x.class) && self.attaches()) {
+            None
+        } else if self.keeps(base_of(x)) {
+            None
+        } else {
+            Some(BreakOpportunity::Allowed)
+        }
+    }
+
+    /// Whether no line is broken before this base.
+    fn keeps(&self, next: Character) -> bool
+        ensures { result ≡ keeps_in self.now next }
+    {
+        is_word_joiner(next.class)
+            || is_closing(next.class)
+            || is_opening(self.base.class)
+            || (is_quotation(self.base.class) && is_opening(next.class))
+            || (is_bracket_end(self.base.class) && is_nonstarter(next.class))
+            || (is_dash(self.base.class) && is_dash(next.class))
+            || self.keeps_direct(next)
+    }
+
+    /// The same by the rules that hold without spaces between.
+    fn keeps_direct(&self, next: Character) -> bool
+        ensures { result ≡ keeps_direct self.now next }
+    {
+        let last = self.base;
+        !self.is_spaced
+            && (is_word_joiner(last.class)
+                || is_glue(last.class)
+                || (is_glue(next.class) && !is_hyphen(last.class))
+                || is_quotation(last.class)
+                || is_quotation(next.class)
+                || (!(is_contingent(last.class) || is_contingent(next.class))
+                    && (joins(last, next)
+                        || (is_hyphen(last.class) && self.follows_hebrew)
+                        || (self.has_half_flag && is_regional(next.class)))))
+    }
+}
+
+/// The character, or what a mark is that belongs to none.
+fn base_of(x: Character) -> Character
+    ensures { result ≡ base_of x }
+{
+    if is_mark(x.class) {
+        Character::LONE_MARK
+    } else {
+        x
+    }
+}
+
+fn takes_marks(class: LineBreak) -> bool
+    ensures { result ≡ takes_marks class }
+{
+    !(is_hard(class) || is_space(class) || is_zero_width_space(class))
+}
+
+fn joins(last: Character, next: Character) -> bool
+    ensures { result ≡ joins last next }
+{
+    is_hyphen(next.class)
+        || is_nonstarter(next.class)
+        || is_break_before(last.class)
+        || (is_slash(last.class) && is_hebrew(next.class))
+        || is_inseparable(next.class)
+        || joins_letter(last.class, next.class)
+        || joins_number(last.class, next.class)
+        || joins_syllable(last.class, next.class)
+        || joins_parenthesis(last, next)
+        || ((is_emoji_base(last.class) || last.is_future_emoji) && is_emoji_modifier(next.class))
+}
+
+fn joins_letter(last: LineBreak, next: LineBreak) -> bool
+    ensures { result ≡ joins_letter last next }
+{
+    (is_letter(last) && is_numeric(next))
+        || (is_numeric(last) && is_letter(next))
+        || (is_prefix(last) && is_ideograph(next))
+        || (is_ideograph(last) && is_postfix(next))
+        || (is_affix(last) && is_letter(next))
+        || (is_letter(last) && is_affix(next))
+        || (is_letter(last) && is_letter(next))
+        || (is_infix(last) && is_letter(next))
+}
+
+fn joins_number(last: LineBreak, next: LineBreak) -> bool
+    ensures { result ≡ joins_number last next }
+{
+    (is_bracket_end(last) && is_affix(next))
+        || (is_numeric(last) && is_affix(next))
+        || (is_affix(last) && is_opening(next))
+        || (is_affix(last) && is_numeric(next))
+        || ((is_plain_hyphen(last) || is_infix(last) || is_numeric(last) || is_slash(last))
+            && is_numeric(next))
+}
+
+fn joins_syllable(last: LineBreak, next: LineBreak) -> bool
+    ensures { result ≡ joins_syllable last next }
+{
+    (is_leading_jamo(last) && joins_leading_jamo(next))
+        || (is_open_syllable(last) && joins_open_syllable(next))
+        || (is_closed_syllable(last) && is_trailing_jamo(next))
+        || (is_hangul(last) && is_postfix(next))
+        || (is_prefix(last) && is_hangul(next))
+}
+
+fn joins_parenthesis(last: Character, next: Character) -> bool
+    ensures { result ≡ joins_parenthesis last next }
+{
+    ((is_letter(last.class) || is_numeric(last.class)) && is_opening(next.class) && !next.is_wide)
+        || (is_parenthesis_end(last.class)
+            && !last.is_wide
+            && (is_letter(next.class) || is_numeric(next.class)))
+}
