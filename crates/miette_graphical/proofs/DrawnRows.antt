@@ -151,7 +151,8 @@ calls_same context source labels a h =
 
 drawn_text : {happen : List Call → Type 0} (s : Settings) (source : Source) (labels : List Label) (blank : Bool)
     (before : List ℕ) (page : Printout) →
-    (g : MayGive (snippet_settings s) source labels blank happen (printout_of before) (Some page))
+    (g : MayGive (record { settings = snippet_settings s; blank = blank; happen = happen }) source labels
+    (printout_of before) (Some page))
     → AreDrawn source labels (record { settings = s; blank = blank; happen = happen })
     (rows_text (drawn_rows s (Some source) labels g.answers))
 drawn_text {happen} s source labels blank before page g =
@@ -188,7 +189,8 @@ drawn_text {happen} s source labels blank before page g =
 
 pub drawn_page : {happen : List Call → Type 0} (s : Settings) (source : Source) (labels : List Label) (blank : Bool)
     (before : List ℕ) (page : Printout) →
-    MayGive (snippet_settings s) source labels blank happen (printout_of before) (Some page)
+    MayGive (record { settings = snippet_settings s; blank = blank; happen = happen }) source labels
+    (printout_of before) (Some page)
     → AppendsOne (AreDrawn source labels (record { settings = s; blank = blank; happen = happen })) before
     (ended_text page)
 drawn_page {happen} s source labels blank before page g =
@@ -203,8 +205,9 @@ drawn_page {happen} s source labels blank before page g =
     }
 
 pub refused_page : {happen : List Call → Type 0} (s : Settings) (source : Source) (labels : List Label) (blank : Bool)
-    (before : Printout) → MayGive (snippet_settings s) source labels blank happen before None → source.always_reads
-    ≡ false
+    (before : Printout) →
+    MayGive (record { settings = snippet_settings s; blank = blank; happen = happen }) source labels before None
+    → source.always_reads ≡ false
 refused_page s source labels blank before g =
     elim (cases_Bool source.always_reads) [
       | inl reads ↦ absurd (no_rows_fail (snippet_settings s) source labels g.answers (g.always reads)

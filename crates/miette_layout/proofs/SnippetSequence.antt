@@ -251,7 +251,7 @@ pub gives_rows : (s : SnippetSettings) (source : Source) (labels : List Label) (
     → IsWhole (settings_around s (in_order labels)) (spreads_of s.layout.label_lines s.layout.context_lines source
     (in_order labels))
     source labels blank happen groups before page →
-    MayGive s source labels blank happen before (Some page)
+    MayGive (record { settings = s; blank = blank; happen = happen }) source labels before (Some page)
 gives_rows s source labels blank happen reads groups before page order h g e =
     let ls : List Label = in_order labels in
     let s' : SnippetSettings = settings_around s ls in
@@ -295,7 +295,7 @@ pub gives_none : (s : SnippetSettings) (source : Source) (labels : List Label) (
     → AreGroups s.layout.context_lines source (in_order labels) groups → i < length groups
     →
     PointsTo source (chosen_label own span None reads) found → is_unread found ≡ true
-    → MayGive s source labels blank happen before None
+    → MayGive (record { settings = s; blank = blank; happen = happen }) source labels before None
 gives_none s source labels blank happen own reads groups i span found before order h g lt p u =
     let ls : List Label = in_order labels in
     let s' : SnippetSettings = settings_around s ls in
@@ -324,7 +324,7 @@ gives_none s source labels blank happen own reads groups i span found before ord
 pub gives_unread : (s : SnippetSettings) (source : Source) (labels : List Label) (blank : Bool)
     (happen : List Call → Type 0) (reads : List ReadLabel) (before : Printout) → map (read_of labels) reads
     ≡ in_order labels → All (IsRead s.layout.context_lines source labels) reads →
-    IsUnread s.layout.context_lines source (in_order labels) → MayGive s source labels blank happen before None
+    IsUnread s.layout.context_lines source (in_order labels) → MayGive (record { settings = s; blank = blank; happen = happen }) source labels before None
 gives_unread s source labels blank happen reads before order h g =
     let ls : List Label = in_order labels in
     let s' : SnippetSettings = settings_around s ls in
@@ -393,7 +393,7 @@ pub gives_refused : (s : SnippetSettings) (source : Source) (labels order : List
     ≡ in_order labels → label
     ≡ get_or labels index label → text ≡ name_of reason →
     page ≡ before ⊕ rows_tokens (refused_row s (record { label = label; name = chars text }) ∷ []) → happen []
-    → MayGive s source labels blank happen before (Some page)
+    → MayGive (record { settings = s; blank = blank; happen = happen }) source labels before (Some page)
 gives_refused s source labels order blank happen read index reason label text before page h is same at called e nothing
     =
     let name : List ℕ = chars text in

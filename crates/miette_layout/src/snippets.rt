@@ -2,13 +2,13 @@
 
 ghost use Rattle.std.specs.Prelude.{◌≡◌, Some, None, map, IfOk, MatchResult, if◌then◌else◌};
 ghost use Rattle.std.specs.List.{All};
-ghost use Rattle.miette_layout.specs.views.Outcomes.{MayGive, RefusesWith};
+ghost use Rattle.miette_labels.specs.views.Placing.{told_end};
+ghost use Rattle.miette_labels.specs.views.Reads.{IsRead, name_of as name_of_reason};
+ghost use Rattle.miette_layout.specs.views.Outcomes.{MayGive, RefusesWith, printing_of};
 ghost use Rattle.miette_snippet_rules.specs.views.SettingsView.{settings_of};
 ghost use Rattle.miette_labels.specs.views.GivenLabels.{label_at};
 ghost use Rattle.miette_labels.specs.rules.Groups.{in_order};
-ghost use Rattle.miette_snippet_rules.specs.rules.Highlighting.{AreCallsOn, leaves_plain};
-ghost use Rattle.miette_labels.specs.views.Placing.{told_end};
-ghost use Rattle.miette_labels.specs.views.Reads.{IsRead, name_of as name_of_reason};
+ghost use Rattle.miette_snippet_rules.specs.rules.Highlighting.{leaves_plain};
 
 use miette_drawing::frame::{Frame, push_refused_row};
 use miette_drawing::snippet::{Drawing, Passage, Snippet, push_snippet};
@@ -48,23 +48,33 @@ fn end_wanted(wanted: bool, reads: &[ReadLabel<'_>]) -> Result<Option<usize>, Al
     told_end(reads)
 }
 
+// Labels, and what was read of each, by offset.
+#[derive(Clone, Copy)]
+struct LabelReads<'a, 'b, 'c> {
+    labels: &'b [LabeledSpan],
+    reads: &'c [ReadLabel<'a>],
+}
+
 // The snippets of labels that were read, or none where the read of a group or of some place failed.
 fn read_snippets<'a, 'b, S: SourceCode, H: Highlighter, O: Canvas + Drop>(
     highlighter: &mut Option<H>,
     settings: &SnippetSettings<'b>,
     source: &'a S,
-    labels: &'b [LabeledSpan],
-    reads: &[ReadLabel<'a>],
+    given: &LabelReads<'a, 'b, '_>,
     page: Page<O>,
 ) -> Result<Option<Page<O>>, AllocError>
-    requires order { map (λ read. label_at labels.now read.index) reads.now ≡ in_order labels.now }
-    requires each { All (IsRead settings.now.layout.now.context_lines (S.source source.now) labels.now) reads.now }
-    ensures gives { IfOk result (λ given. MayGive (settings_of settings.now)
-        (S.source source.now) labels.now (leaves_plain H.is_blank highlighter.old)
-        (AreCallsOn H.may_follow highlighter.old highlighter.new) page given) }
+    requires order { map (λ read. label_at given.now.labels.now read.index) given.now.reads.now
+        ≡ in_order given.now.labels.now }
+    requires each { All (IsRead settings.now.layout.now.context_lines (S.source source.now) given.now.labels.now)
+        given.now.reads.now }
+    ensures gives { IfOk result (λ made. MayGive
+        (printing_of H.is_blank H.may_follow (settings_of settings.now) highlighter.old highlighter.new)
+        (S.source source.now) given.now.labels.now page made) }
     ensures stays { leaves_plain H.is_blank highlighter.new ≡ leaves_plain H.is_blank highlighter.old }
 {
     let alloc = settings.alloc;
+    let labels = given.labels;
+    let reads = given.reads;
     let end = end_wanted(settings.layout.end_labels, reads)?;
     let placed = placed_labels(alloc, &settings.theme.styles.highlights, end, labels, reads)?;
     let Some(groups) = groups(alloc, source, settings.layout.context_lines, labels, reads)? else {
@@ -105,9 +115,9 @@ fn all_snippets<'b, S: SourceCode, H: Highlighter, O: Canvas + Drop>(
     labels: &'b [LabeledSpan],
     page: Page<O>,
 ) -> Result<Option<Page<O>>, AllocError>
-    ensures gives { IfOk result (λ given. MayGive (settings_of settings.now)
-        (S.source source.now) labels.now (leaves_plain H.is_blank highlighter.old)
-        (AreCallsOn H.may_follow highlighter.old highlighter.new) page given) }
+    ensures gives { IfOk result (λ made. MayGive
+        (printing_of H.is_blank H.may_follow (settings_of settings.now) highlighter.old highlighter.new)
+        (S.source source.now) labels.now page made) }
     ensures stays { leaves_plain H.is_blank highlighter.new ≡ leaves_plain H.is_blank highlighter.old }
 {
     let order = by_offset(settings.alloc, labels)?;
@@ -119,7 +129,11 @@ fn all_snippets<'b, S: SourceCode, H: Highlighter, O: Canvas + Drop>(
         &order,
     )? {
         ReadLabels::All(reads) => {
-            read_snippets(highlighter, settings, source, labels, &reads, page)
+            let given = LabelReads {
+                labels,
+                reads: &reads,
+            };
+            read_snippets(highlighter, settings, source, &given, page)
         }
         ReadLabels::Refused(index, refusal) => {
             let frame = Frame {
@@ -147,12 +161,12 @@ pub fn snippets<'b, S: SourceCode, H: Highlighter, O: Canvas + Drop>(
     page: Page<O>,
 ) -> Result<Page<O>, RenderError>
     ensures gives { MatchResult result
-        (λ given. MayGive (settings_of settings.now) (S.source source.now) labels.now
-        (leaves_plain H.is_blank highlighter.old)
-        (AreCallsOn H.may_follow highlighter.old highlighter.new) page (Some given))
-        (λ e. RefusesWith (settings_of settings.now) (S.source source.now) labels.now
-        (leaves_plain H.is_blank highlighter.old)
-        (AreCallsOn H.may_follow highlighter.old highlighter.new) page e) }
+        (λ made. MayGive
+        (printing_of H.is_blank H.may_follow (settings_of settings.now) highlighter.old highlighter.new)
+        (S.source source.now) labels.now page (Some made))
+        (λ e. RefusesWith
+        (printing_of H.is_blank H.may_follow (settings_of settings.now) highlighter.old highlighter.new)
+        (S.source source.now) labels.now page e) }
     ensures stays { leaves_plain H.is_blank highlighter.new ≡ leaves_plain H.is_blank highlighter.old }
 {
     match all_snippets(highlighter, settings, source, labels, page) {

@@ -20,8 +20,8 @@ returns-in_err-page-clause-refused g c = λ h.
     let happen = AreCallsOn g.H.Highlighter.may_follow was c.snippets.new.highlighter in
     let refused : c.in_err-page.field-0.0 ≡ errors.Refused = search rules in
     refused_page s source c.args.labels.now blank c.over-page.result
-    (subst (λ e. RefusesWith (snippet_settings s) source c.args.labels.now blank happen c.over-page.result e) refused
-    c.in_err-page.ensures.gives)
+    (subst (λ e. RefusesWith (record { settings = snippet_settings s; blank = blank; happen = happen }) source
+    c.args.labels.now c.over-page.result e) refused c.in_err-page.ensures.gives)
 
 pub returns-clause-ok : goal.returns-clause-ok
 returns-clause-ok g c =
@@ -36,5 +36,5 @@ returns-clause-ok g c =
     (record { settings = s; blank = blank; happen = happen }))
     before out) (sym c.in_ok-painter.ensures)
     (drawn_page s source c.args.labels.now blank before c.in_ok-page.page
-    (subst (λ over. MayGive (snippet_settings s) source c.args.labels.now blank happen over
-    (Some c.in_ok-page.page)) over c.in_ok-page.ensures.gives))
+    (subst (λ over. MayGive (record { settings = snippet_settings s; blank = blank; happen = happen }) source
+    c.args.labels.now over (Some c.in_ok-page.page)) over c.in_ok-page.ensures.gives))
