@@ -290,7 +290,8 @@ flag_own c =
 letter_own : (c k : ℕ) (change : Change) (other : Option (Change × After)) → before afters.Nothing ≡ (alone false k).1
     → JoinsOwn c other → JoinsOwn c (first_of (cond (c == k) (Some (change, afters.Nothing)) other) None)
 letter_own c k change other own rest =
-    first_only c _ (either c (c == k) (Some (change, afters.Nothing)) other (λ e. literal k afters.Nothing own c e) rest)
+    first_only c _ (either c (c == k) (Some (change, afters.Nothing)) other (λ e. literal k afters.Nothing own c e)
+    rest)
 
 pub joins_own : (after : After) (c : ℕ) → is_modifier after ≡ false → is_joining c ≡ false → is_mild_kind (kind c)
     ≡ true
@@ -300,7 +301,12 @@ joins_own afters.EmojiModifier c u n h = absurd (true≢false u)
 joins_own afters.RegionalIndicator c u n h = rw (no_indicator c h) tt
 joins_own afters.RegionalIndicators c u n h = rw (no_indicator c h, (no_marks c h).joiner) tt
 joins_own afters.Emoji c u n h = rw ((no_marks c h).joiner) tt
-joins_own afters.ZwjEmoji c u n h = rw ((no_marks c h).keycap, no_indicator c h, no_modifier c h, (no_marks c h).tag_end)
+joins_own afters.ZwjEmoji c u n h = rw (
+  (no_marks c h).keycap,
+  no_indicator c h,
+  no_modifier c h,
+  (no_marks c h).tag_end,
+)
     (either c (is_emoji (kind c)) (Some (Same, afters.Emoji)) None (λ e. emoji_own c e) tt)
 joins_own afters.IndicatorZwj c u n h = rw (no_indicator c h) tt
 joins_own afters.EvenIndicatorsZwj c u n h = rw (no_indicator c h, (no_marks c h).joiner) tt

@@ -92,9 +92,9 @@ of_faint_kind c h = kind_faint c (kind c) (ap (λ n. n == 0) (faint_alone c h))
 -- one walk over the table of kinds for all of them
 no_selected : (c : ℕ) → is_faint_kind (kind c) ≡ true → IsUnselected c
 unfolding unicode_width kind_test_stepped
-no_selected c h = unselected c
-    (excluded (λ c. is_faint_kind (kind c)) is_selected (kind_test_stepped is_faint_kind refl refl) selected_stepped refl
-    c h)
+no_selected c h =
+    unselected c (excluded (λ c. is_faint_kind (kind c)) is_selected (kind_test_stepped is_faint_kind refl refl)
+    selected_stepped refl c h)
 
 -- ---- its step before others such
 

@@ -126,7 +126,8 @@ step_waves c (t, s) h =
     (λ e. past_all c t s h)
     (λ e. waving_cond (is_emoji_variation_base c) (t + (if is_joined_emoji s.after then 0 else 2), before afters.Emoji)
     (past_emoji false c t (record (if_kept s) { emoji = false }))
-    (λ y. absurd (true≢false (sym y ∙ (indicator_ordinary c h).selected.variation))) (λ n. past_all c t (record (if_kept s) { emoji = false }) h))
+    (λ y. absurd (true≢false (sym y ∙ (indicator_ordinary c h).selected.variation)))
+    (λ n. past_all c t (record (if_kept s) { emoji = false }) h))
 
 -- ---- indicators before one another
 

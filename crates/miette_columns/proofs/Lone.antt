@@ -166,7 +166,8 @@ unfolding step
 step_lone c t s h =
     chosen s.emoji (is_emoji_variation_base c) (past_emoji false c t s)
     (t + (if is_joined_emoji s.after then 0 else 2), before afters.Emoji)
-    (past_emoji false c t (record (if_kept s) { emoji = false })) (added t (lone_own c)) (lone_ordinary c h).selected.variation
+    (past_emoji false c t (record (if_kept s) { emoji = false })) (added t (lone_own c))
+    (lone_ordinary c h).selected.variation
     (past_all c t s h)
     (past_all c t (record (if_kept s) { emoji = false }) h)
 

@@ -102,7 +102,8 @@ sign_stepped =
     (map_stepped (λ g. joining_group_eq g Lam) joining_group joining_group_stepped) joined in
     let ligated = zip_stepped (λ a b. a || b) is_ligature_transparent is_lam_or_joined is_ligature_transparent_stepped
     letters in
-    let changed = zip_stepped (λ a b. a || b) is_emoji_modifier_base is_ligated is_emoji_modifier_base_stepped ligated in
+    let changed = zip_stepped (λ a b. a || b) is_emoji_modifier_base is_ligated is_emoji_modifier_base_stepped ligated
+    in
     zip_stepped (λ a b. a || b) is_selected is_changed selected_stepped changed
 
 pub record IsOrdinary (c : ℕ) : Type 0 where

@@ -19,8 +19,8 @@ use Rattle.miette_columns.specs.declared.places.PartingPlace.{PartingPlace}
 use Rattle.miette_columns.specs.rules.Columns.{begun_text, is_boundary, column}
 use Rattle.miette_columns.specs.steps.Parting.{may_part, may_part_flags, opens, end_overlap, overlap_between}
 use Rattle.miette_columns.specs.steps.Places.{overlap_text, IsHeld, twice, column_behind, IsPlace}
-use Rattle.miette_columns.proofs.Columning.{IsNext, IsRead, is_next, IsOver, none_over, one_over, begun_more, begun_zero}
-use Rattle.miette_columns.proofs.Columning.{chars_pushed}
+use Rattle.miette_columns.proofs.Columning.{IsNext, IsRead, is_next, IsOver, none_over, one_over, begun_more}
+use Rattle.miette_columns.proofs.Columning.{begun_zero, chars_pushed}
 use Rattle.miette_columns.proofs.Columning.{at_boundary, off_boundary, behind_boundary, behind_other, twice_boundary}
 use Rattle.miette_columns.proofs.Columning.{twice_other, told_column, boundary_at_zero, all_at_zero}
 use Rattle.miette_columns.proofs.PartedTexts.{parted, no_width}

@@ -54,7 +54,8 @@ returns-in-Some c =
     let size = c.first_character-code.result.1 in
     let next = is_next c.args.text.now bytes code size c.loop-bytes-test.true c.first_character-code.ensures in
     let behind : from.bytes < bytes = search rules in
-    let some : overlap_between c.loop-bytes.before c.loop-bytes.last c.loop-bytes.is_half code ≡ Some c.in-Some.overlap =
+    let some : overlap_between c.loop-bytes.before c.loop-bytes.last c.loop-bytes.is_half code
+    ≡ Some c.in-Some.overlap =
     search rules in
     let at : c.in_ok-place.place.bytes ≡ bytes = c.in_ok-place.ensures.bytes in (
       is_next_place c.args.text.now from c.in_ok-place.place (string_bytes c.loop-bytes.over) _ code

@@ -5,7 +5,8 @@ use Rattle.std.proofs.lemmas.List.{nil_from_length, take_rest}
 use Rattle.std.proofs.lemmas.Result.{IfOk-weaker}
 use Rattle.std.proofs.lemmas.Str.{IsUtf8-string_bytes}
 use Rattle.unicode_width.specs.Width.{str_width}
-use Rattle.miette_columns.proofs.Columning.{IsOver, begins, none_over, one_over, over_at_zero, over_past_end, over_inside}
+use Rattle.miette_columns.proofs.Columning.{IsOver, begins, none_over, one_over, over_at_zero, over_past_end}
+use Rattle.miette_columns.proofs.Columning.{over_inside}
 use Rattle.miette_columns.proofs.PlaceLaws.{column_from}
 use Rattle.miette_columns.specs.steps.Places.{overlap_text}
 use Rattle.miette_columns.proofs.text_columns.walked_column.Goals as goal
