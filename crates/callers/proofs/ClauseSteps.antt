@@ -98,7 +98,8 @@ one_text other_blank h g t old new old' new' p q r none none' themes tame given 
     let tree : IsCleanTree t = subst IsCleanTree (sym r) clean in
     let other : IsTextOf drawn_rows g.settings (draws_plain other_blank g) t given.text = given.is_given in
     let same : record h.settings { theme = record h.settings.theme { styles = no_styles } } ≡ g.settings =
-    ap (λ u. record u.settings { theme = record u.settings.theme { styles = no_styles } }) p ∙ sym (ap (λ u. u.settings) q) in
+    ap (λ u. record u.settings { theme = record u.settings.theme { styles = no_styles } }) p
+    ∙ sym (ap (λ u. u.settings) q) in
     let restyled : IsTextOf drawn_rows (record h.settings { theme = record h.settings.theme { styles = no_styles } })
     (draws_plain other_blank g) t
     given.text =

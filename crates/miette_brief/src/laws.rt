@@ -27,8 +27,8 @@ pub fn a_place_reads_back()
         ReadsBack (one_row name) row.place.position (row_text row) }
 {}
 
-/// In a row without a name the position reads back: the line stands up to the first colon, and the column up to the next
-/// one. A row that has no position either begins with no digit.
+/// In a row without a name the position reads back: the line stands up to the first colon, and the column up to the
+/// next one. A row that has no position either begins with no digit.
 pub fn a_nameless_place_reads_back()
     ensures { (row : ReportRow) → row.place.name ≡ None →
         IfSome row.place.position (λ at. (at.line < 2 ^ 64) × (at.column < 2 ^ 64)) →

@@ -1,5 +1,6 @@
 -- Edits that conflict with none of those that count are applied beside them, in any order of their fixes.
-use Rattle.std.proofs.Common.{ℕ, zero, suc, ◌≡◌, Bool, true, false, eqb, inl, inr, take, ◌⊎◌, not, List, [], ◌∷◌, ◌++◌, refl, sym}
+use Rattle.std.proofs.Common.{ℕ, zero, suc, ◌≡◌, Bool, true, false, eqb, inl, inr, take, ◌⊎◌, not, List, [], ◌∷◌, ◌++◌}
+use Rattle.std.proofs.Common.{refl, sym}
 use Rattle.std.proofs.Common.{ap, ◌∙◌, ◌+◌, ◌<◌, ◌≤◌, arith, append_assoc, drop, get_or, length, subst}
 use Rattle.std.specs.Prelude.{◌≢◌, Option, None, Some, is_none, slice_get}
 use denote.Ref.{Bor}

@@ -97,8 +97,8 @@ fn with_edits<'a>(mut list: Vec<&'a Edit>, edits: &'a [Edit]) -> Result<Vec<&'a 
 }
 
 /// Takes fixes of a source in the order given, each whole or not at all, and applies all edits of those that it took.
-/// A fix is taken where it can be applied by itself and none of its edits conflicts with one taken before: they overlap,
-/// or begin at the same offset. One with the same edits as one taken is taken with it, and these count once.
+/// A fix is taken where it can be applied by itself and none of its edits conflicts with one taken before: they
+/// overlap, or begin at the same offset. One with the same edits as one taken is taken with it, and these count once.
 ///
 /// # Errors
 /// `AllocError` where memory is refused.

@@ -324,7 +324,8 @@ gives_none s source labels blank happen own reads groups i span found before ord
 pub gives_unread : (s : SnippetSettings) (source : Source) (labels : List Label) (blank : Bool)
     (happen : List Call → Type 0) (reads : List ReadLabel) (before : Printout) → map (read_of labels) reads
     ≡ in_order labels → All (IsRead s.layout.context_lines source labels) reads →
-    IsUnread s.layout.context_lines source (in_order labels) → MayGive (record { settings = s; blank = blank; happen = happen }) source labels before None
+    IsUnread s.layout.context_lines source (in_order labels) →
+    MayGive (record { settings = s; blank = blank; happen = happen }) source labels before None
 gives_unread s source labels blank happen reads before order h g =
     let ls : List Label = in_order labels in
     let s' : SnippetSettings = settings_around s ls in

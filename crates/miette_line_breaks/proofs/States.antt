@@ -1,5 +1,6 @@
 -- The state stands for the characters before, and gives what the rules say of them.
-use Rattle.std.proofs.Common.{◌≡◌, refl, ◌||◌, sym, ap, ◌∙◌, ℕ, ◌+◌, Bool, true, false, not, ◌&&◌, if◌then◌else◌, arith, List, [], ◌∷◌, length, encode_utf8, Option}
+use Rattle.std.proofs.Common.{◌≡◌, refl, ◌||◌, sym, ap, ◌∙◌, ℕ, ◌+◌, Bool, true, false, not, ◌&&◌, if◌then◌else◌, arith}
+use Rattle.std.proofs.Common.{List, [], ◌∷◌, length, encode_utf8, Option}
 use Rattle.miette_basics.specs.rules.Lists.{is_nil}
 use Rattle.ucd_breaks.specs.declared.LineBreak.{LineBreak}
 use Rattle.ucd_breaks.specs.declared.LineBreak.TheVariants.{Space}
@@ -8,12 +9,15 @@ use Rattle.miette_line_breaks.specs.declared.breaks.BreakOpportunity.{BreakOppor
 use Rattle.miette_line_breaks.specs.rules.Characters.{character_of, lone_mark}
 use Rattle.miette_line_breaks.specs.rules.Classes.{is_bracket_end, is_carriage_return, is_dash, is_hard, is_hebrew}
 use Rattle.miette_line_breaks.specs.rules.Classes.{is_joiner, is_mark, is_opening, is_quotation, is_space}
-use Rattle.miette_line_breaks.specs.rules.Classes.{is_zero_width_space, is_word_joiner, is_glue, is_hyphen, is_contingent}
+use Rattle.miette_line_breaks.specs.rules.Classes.{is_zero_width_space, is_word_joiner, is_glue, is_hyphen}
+use Rattle.miette_line_breaks.specs.rules.Classes.{is_contingent}
 use Rattle.miette_line_breaks.specs.rules.Classes.{is_regional}
 use Rattle.miette_line_breaks.specs.rules.Rules.{bases, between, break_before, breaks_from, ends_joined, keeps}
-use Rattle.miette_line_breaks.specs.rules.Rules.{ends_in_half_flag, joins, keeps_beside, listed, nearest_is, past_spaces, takes_marks}
+use Rattle.miette_line_breaks.specs.rules.Rules.{ends_in_half_flag, joins, keeps_beside, listed, nearest_is}
+use Rattle.miette_line_breaks.specs.rules.Rules.{past_spaces, takes_marks}
 use Rattle.miette_line_breaks.specs.steps.States.{base_behind, break_in, breaks_behind, is_start, joined_behind}
-use Rattle.miette_line_breaks.specs.steps.States.{base_of, keeps_direct, keeps_in, nearest_of, state_behind, state_of, state_over}
+use Rattle.miette_line_breaks.specs.steps.States.{base_of, keeps_direct, keeps_in, nearest_of, state_behind, state_of}
+use Rattle.miette_line_breaks.specs.steps.States.{state_over}
 
 space_is : (class : LineBreak) → is_space class ≡ true → class ≡ Space
 space_is Space h = refl

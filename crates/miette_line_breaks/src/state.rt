@@ -3,7 +3,8 @@
 ghost use Rattle.std.specs.Prelude.{◌≡◌};
 ghost use Rattle.miette_line_breaks.specs.rules.Rules.{joins, joins_letter, joins_number, joins_parenthesis};
 ghost use Rattle.miette_line_breaks.specs.rules.Rules.{joins_syllable, takes_marks};
-ghost use Rattle.miette_line_breaks.specs.steps.States.{attaches, base_behind, base_of, break_in, is_start, joined_behind};
+ghost use Rattle.miette_line_breaks.specs.steps.States.{attaches, base_behind, base_of, break_in, is_start};
+ghost use Rattle.miette_line_breaks.specs.steps.States.{joined_behind};
 ghost use Rattle.miette_line_breaks.specs.steps.States.{keeps_direct, keeps_in, state_behind, state_of};
 ghost use Rattle.std.specs.Prelude.{[]};
 

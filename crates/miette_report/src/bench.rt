@@ -1,6 +1,7 @@
 //! The program `bench`, which renders one report many times: speed is measured by it.
 
-ghost use Rattle.std.specs.Prelude.{◌≡◌, ◌⊎◌, ◌<◌, IfOk, IfSome, IsUtf8, OnErr, OnOk, Some, None, drop, map, string_bytes};
+ghost use Rattle.std.specs.Prelude.{◌≡◌, ◌⊎◌, ◌<◌, IfOk, IfSome, IsUtf8, OnErr, OnOk, Some, None, drop, map};
+ghost use Rattle.std.specs.Prelude.{string_bytes};
 ghost use Rattle.miette_report.specs.rules.OptionWords.{chosen_by};
 ghost use Rattle.miette_description.specs.rules.Description.{tree_for};
 ghost use Rattle.miette_report.specs.rules.Job.{IsDescription, IsTelling, IsRefused};

@@ -1,5 +1,6 @@
 -- Lines that are cut, in the rows of snippets: which are, how wide they are, and that lines which fit stay as they are.
-use Rattle.std.proofs.Common.{◌≡◌, ◌≢◌, ℕ, suc, ◌+◌, ◌<◌, ◌≤◌, Bool, false, cond, ltb, List, [], ◌∷◌, ◌++◌, length, refl, sym}
+use Rattle.std.proofs.Common.{◌≡◌, ◌≢◌, ℕ, suc, ◌+◌, ◌<◌, ◌≤◌, Bool, false, cond, ltb, List, [], ◌∷◌, ◌++◌, length}
+use Rattle.std.proofs.Common.{refl, sym}
 use Rattle.std.proofs.Common.{ap, ap₂, ◌∙◌, subst, Option, Some, None, drop}
 use Rattle.std.proofs.lemmas.Bool.{le-ltb, lt-ltb}
 use Rattle.std.specs.List.{AllByRecursion}
@@ -20,7 +21,8 @@ use Rattle.miette_snippet_rules.specs.rules.Gutters.{closing_rows, gutter_column
 use Rattle.miette_snippet_rules.specs.rules.Marks.{Mark, Text, mark_until, marks_from}
 use Rattle.miette_snippet_rules.specs.rules.PrintedCells.{cells_width}
 use Rattle.miette_snippet_rules.specs.rules.SnippetLayout.{before_each, body_rows, break_row, cells_of, left_out}
-use Rattle.miette_snippet_rules.specs.rules.SnippetLayout.{line_cut, line_marks, line_or_break, line_rows, rows_of_lines}
+use Rattle.miette_snippet_rules.specs.rules.SnippetLayout.{line_cut, line_marks, line_or_break, line_rows}
+use Rattle.miette_snippet_rules.specs.rules.SnippetLayout.{rows_of_lines}
 use Rattle.miette_snippet_rules.specs.rules.SnippetLayout.{text_of_cells}
 use Rattle.miette_labels.specs.rules.Labels.{closing_labels}
 use Rattle.miette_snippet_laws.specs.laws.Cuts.{AreAsWide, Fits, most_columns}

@@ -39,8 +39,8 @@ is_wide Wide = true
 is_wide Halfwidth = true
 is_wide _ = false
 
--- LB1: the class that stands for those about which the rules say nothing. Classes that Unicode 15.0 didn't have count as
--- what their characters were there.
+-- LB1: the class that stands for those about which the rules say nothing. Classes that Unicode 15.0 didn't have count
+-- as what their characters were there.
 abbrev pub resolved : ℕ → LineBreak → LineBreak
 resolved c Ambiguous = Alphabetic
 resolved c Surrogate = Alphabetic

@@ -1,10 +1,12 @@
 -- Sets of classes that the rules of UAX #14 speak of.
 use Rattle.std.specs.Prelude.{Bool, true, false}
 use Rattle.ucd_breaks.specs.declared.LineBreak.{LineBreak}
-use Rattle.ucd_breaks.specs.declared.LineBreak.TheVariants.{Alphabetic, BreakAfter, BreakBefore, BreakBoth, BreakSymbols}
+use Rattle.ucd_breaks.specs.declared.LineBreak.TheVariants.{Alphabetic, BreakAfter, BreakBefore, BreakBoth}
+use Rattle.ucd_breaks.specs.declared.LineBreak.TheVariants.{BreakSymbols}
 use Rattle.ucd_breaks.specs.declared.LineBreak.TheVariants.{CarriageReturn, CloseParenthesis, ClosePunctuation}
 use Rattle.ucd_breaks.specs.declared.LineBreak.TheVariants.{CombiningMark, ContingentBreak, EBase, EModifier}
-use Rattle.ucd_breaks.specs.declared.LineBreak.TheVariants.{Exclamation, Glue, H2, H3, HebrewLetter, Hyphen, Ideographic}
+use Rattle.ucd_breaks.specs.declared.LineBreak.TheVariants.{Exclamation, Glue, H2, H3, HebrewLetter, Hyphen}
+use Rattle.ucd_breaks.specs.declared.LineBreak.TheVariants.{Ideographic}
 use Rattle.ucd_breaks.specs.declared.LineBreak.TheVariants.{InfixNumeric, Inseparable, Jl, Jt, Jv, LineFeed}
 use Rattle.ucd_breaks.specs.declared.LineBreak.TheVariants.{MandatoryBreak, NextLine, Nonstarter, Numeric}
 use Rattle.ucd_breaks.specs.declared.LineBreak.TheVariants.{OpenPunctuation, PostfixNumeric, PrefixNumeric, Quotation}

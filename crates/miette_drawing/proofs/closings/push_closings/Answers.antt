@@ -17,12 +17,13 @@ loop-label-preserved g c =
     let multi = multi_labels context in
     let start = other_start s context.frame.number_width in
     let i = c.loop-label.label-index in
-    let later : List Token = rest_of s line context.gutter multi start (map drawn_of (drop (i + 1) context.multi.now)) in
+    let later : List Token =
+    rest_of s line context.gutter multi start (map drawn_of (drop (i + 1) context.multi.now)) in
     elim c.if-closes.branch [
       | then-closes+in_ok-push_closing w ↦
           ap (λ x. x ⊕ later) w.page-is
-          ∙ closing_more s line context.gutter multi start context.multi.now i c.loop-label.page w.push_closing.new.page _
-          c.loop-label-test.true (sym c.closes.ensures ∙ w.if-closes.true) w.in_ok-push_closing.ensures
+          ∙ closing_more s line context.gutter multi start context.multi.now i c.loop-label.page
+          w.push_closing.new.page _ c.loop-label-test.true (sym c.closes.ensures ∙ w.if-closes.true) w.in_ok-push_closing.ensures
           c.loop-label.invariant
       | else-closes w ↦
           ap (λ x. x ⊕ later) w.page-is

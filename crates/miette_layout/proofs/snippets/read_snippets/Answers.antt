@@ -79,7 +79,8 @@ loop-group-init g c =
     record {
       grouped = are_grouped s.layout.context_lines source ls _ c.in-Some.groups.items c.deref-group-items.result.now
           c.in_ok-groups.ensures (ap (option_map (λ v. v.items)) c.in-Some.is) c.deref-group-items.ensures.value;
-      drawn = none_drawn (settings_around s ls) (spreads_of s.layout.label_lines s.layout.context_lines source ls) source
+      drawn =
+          none_drawn (settings_around s ls) (spreads_of s.layout.label_lines s.layout.context_lines source ls) source
           c.args.given.now.labels.now (leaves_plain g.H.Highlighter.is_blank c.args.highlighter.now)
           (follows g.H.Highlighter.may_follow c.args.highlighter.now) c.deref-group-items.result.now c.args.page;
       state = search rules;
@@ -111,7 +112,8 @@ loop-group-preserved g c =
     let rows = subst (λ b. PutsRows b happen (lent_texts group.contents)
     (lent_snippet s spreads drawn group.contents place) c.loop-group.page c.push_snippet.new.page)
     c.loop-group.invariant.stays told in
-    let around = puts_around s (group_context s.layout.context_lines ls) blank happen (lent_texts group.contents) spreads
+    let around =
+    puts_around s (group_context s.layout.context_lines ls) blank happen (lent_texts group.contents) spreads
     drawn group.contents place c.loop-group.page c.push_snippet.new.page rows in
     record {
       grouped = c.loop-group.invariant.grouped;
