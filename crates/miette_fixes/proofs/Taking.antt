@@ -60,7 +60,8 @@ joined (x ∷ xs) ys h k free =
 pub all_of_more : (lists : List (List Replacement)) (edits : List Replacement)
     → all_of (lists ++ edits ∷ []) ≡ all_of lists ++ edits
 all_of_more [] edits = append-nil edits
-all_of_more (xs ∷ lists) edits = ap (λ r. xs ++ r) (all_of_more lists edits) ∙ sym (append_assoc xs (all_of lists) edits)
+all_of_more (xs ∷ lists) edits =
+    ap (λ r. xs ++ r) (all_of_more lists edits) ∙ sym (append_assoc xs (all_of lists) edits)
 
 some_none : (o : Option FixError) → is_none o ≡ true → o ≡ None
 some_none None h = refl

@@ -23,8 +23,8 @@ loop-label-preserved g c =
       | then-closes+in_ok-push_closing w ↦
           ap (λ x. x ⊕ later) w.page-is
           ∙ closing_more s line context.gutter multi start context.multi.now i c.loop-label.page
-          w.push_closing.new.page _ c.loop-label-test.true (sym c.closes.ensures ∙ w.if-closes.true) w.in_ok-push_closing.ensures
-          c.loop-label.invariant
+          w.push_closing.new.page _ c.loop-label-test.true (sym c.closes.ensures ∙ w.if-closes.true)
+          w.in_ok-push_closing.ensures c.loop-label.invariant
       | else-closes w ↦
           ap (λ x. x ⊕ later) w.page-is
           ∙ closing_skip s line context.gutter multi start context.multi.now i c.loop-label.page _
