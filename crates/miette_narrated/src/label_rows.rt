@@ -3,7 +3,7 @@
 ghost use Rattle.std.specs.Prelude.{◌≡◌, ◌++◌, IfOk, OnOk, string_bytes, option_copied};
 ghost use Rattle.miette_narrated.specs.rules.Labels.{row, begins_within, reaches_line, ends_before};
 ghost use Rattle.miette_narrated.specs.rules.Labels.{first_number, last_number, columns_text, text_behind, whole_row};
-ghost use Rattle.miette_narrated.specs.rules.Labels.{column_row, start_row, end_row, begun_row, label_row};
+ghost use Rattle.miette_narrated.specs.rules.Labels.{column_row, begun_row, reaching_row, label_row};
 ghost use Rattle.miette_narrated.specs.rules.Labels.{label_rows};
 ghost use Rattle.miette_narrated.specs.steps.Ends.{without_ranks};
 ghost use Rattle.miette_narrated.specs.steps.Conversions.{range_of, ranges_of, narrated_line};
@@ -69,9 +69,10 @@ fn push_columns(out: &mut String, first: usize, last: usize) -> Result<(), Alloc
     push_number(out, " to ", last)
 }
 
-/// A line of a snippet, and the columns of its text.
+/// A line of a snippet, and the columns of its text, which are told by reading it.
 #[derive(Drop)]
 pub(crate) struct LabelledLine<'r, 'a> {
+    alloc: Global,
     line: &'r NarratedLine<'a>,
     columns: TextColumns<'a>,
     ghost same: { columns ≡ line.now.text.now },
@@ -88,42 +89,40 @@ impl<'r, 'a> LabelledLine<'r, 'a> {
     {
         // A label has at most two columns.
         let columns = TextColumns::new(alloc, line.text, shown.saturating_mul(2))?;
-        Ok(LabelledLine { line, columns })
+        Ok(LabelledLine {
+            alloc,
+            line,
+            columns,
+        })
     }
 
     /// The number of a label's first column.
-    fn first_number(&self, alloc: Global, label: &PlacedLabel<'_>) -> Result<usize, AllocError>
+    fn first_number(&self, label: &PlacedLabel<'_>) -> Result<usize, AllocError>
         ensures { IfOk result (λ n. n ≡ first_number (narrated_line self.now.line.now) label.now.start) }
     {
         let start = label.start.saturating_sub(self.line.line.start);
-        let before = self.columns.column(alloc, start)?;
+        let before = self.columns.column(self.alloc, start)?;
         sum(before, 1)
     }
 
     /// The number of its last column; an empty label has one column.
-    fn last_number(&self, alloc: Global, label: &PlacedLabel<'_>) -> Result<usize, AllocError>
+    fn last_number(&self, label: &PlacedLabel<'_>) -> Result<usize, AllocError>
         ensures { IfOk result (λ n. n ≡ last_number (narrated_line self.now.line.now) label.now.start label.now.after) }
     {
         if label.start == label.after {
-            return self.first_number(alloc, label);
+            return self.first_number(label);
         }
         let after = label.after.saturating_sub(self.line.line.start);
-        self.columns.column(alloc, after)
+        self.columns.column(self.alloc, after)
     }
 
     /// `    label at line 2, columns 3 to 6: This bit here`
-    fn push_whole(
-        &self,
-        alloc: Global,
-        out: &mut String,
-        label: &PlacedLabel<'_>,
-    ) -> Result<(), AllocError>
-        ensures { OnOk result (string_bytes out.new
-            ≡ string_bytes out.old
+    fn push_whole(&self, out: &mut String, label: &PlacedLabel<'_>) -> Result<(), AllocError>
+        ensures { OnOk result (string_bytes out.new ≡ string_bytes out.old
             ++ whole_row (narrated_line self.now.line.now) (range_of label.now)) }
     {
-        let first = self.first_number(alloc, label)?;
-        let last = self.last_number(alloc, label)?;
+        let first = self.first_number(label)?;
+        let last = self.last_number(label)?;
         push_number(out, "    label at line ", self.line.number)?;
         push_columns(out, first, last)?;
         push_end(out, label.text)
@@ -145,70 +144,44 @@ impl<'r, 'a> LabelledLine<'r, 'a> {
         push_end(out, label.text)
     }
 
-    /// `    label starting at line 1, column 1`
-    fn push_start(
-        &self,
-        alloc: Global,
-        out: &mut String,
-        label: &PlacedLabel<'_>,
-    ) -> Result<(), AllocError>
-        ensures { OnOk result (string_bytes out.new
-            ≡ string_bytes out.old
-            ++ start_row (narrated_line self.now.line.now) (range_of label.now)) }
-    {
-        let first = self.first_number(alloc, label)?;
-        self.push_column(out, "    label starting at line ", first, label)
-    }
-
-    /// `    label ending at line 2, column 0`
-    fn push_ending(
-        &self,
-        alloc: Global,
-        out: &mut String,
-        label: &PlacedLabel<'_>,
-    ) -> Result<(), AllocError>
+    /// The row of a label that begins on the line or behind it, where it has one there:
+    /// `    label starting at line 1, column 1`, or that of a label that ends there too.
+    fn push_begun(&self, out: &mut String, label: &PlacedLabel<'_>) -> Result<(), AllocError>
         ensures { OnOk result (string_bytes out.new ≡ string_bytes out.old
-            ++ end_row (narrated_line self.now.line.now) (range_of label.now)) }
-    {
-        let last = self.last_number(alloc, label)?;
-        self.push_column(out, "    label ending at line ", last, label)
-    }
-
-    /// The row of a label that begins on the line or behind it, where it has one there.
-    fn push_begun(
-        &self,
-        alloc: Global,
-        out: &mut String,
-        label: &PlacedLabel<'_>,
-    ) -> Result<(), AllocError>
-        ensures { OnOk result (string_bytes out.new
-            ≡ string_bytes out.old
             ++ begun_row (narrated_line self.now.line.now) (range_of label.now)) }
     {
         if ends_before(self.line, label) {
-            self.push_whole(alloc, out, label)
-        } else if begins_within(self.line, label) {
-            self.push_start(alloc, out, label)
+            return self.push_whole(out, label);
+        }
+        if !begins_within(self.line, label) {
+            return Ok(());
+        }
+        let first = self.first_number(label)?;
+        self.push_column(out, "    label starting at line ", first, label)
+    }
+
+    /// The row of a label that began before the line, where it ends there: `    label ending at line 2, column 0`
+    fn push_reaching(&self, out: &mut String, label: &PlacedLabel<'_>) -> Result<(), AllocError>
+        ensures { OnOk result (string_bytes out.new ≡ string_bytes out.old
+            ++ reaching_row (narrated_line self.now.line.now) (range_of label.now)) }
+    {
+        if ends_before(self.line, label) {
+            let last = self.last_number(label)?;
+            self.push_column(out, "    label ending at line ", last, label)
         } else {
             Ok(())
         }
     }
 
     /// The row of a label under the line, where it has one there; one that began before the line has one where it ends.
-    fn push_label(
-        &self,
-        alloc: Global,
-        out: &mut String,
-        label: &PlacedLabel<'_>,
-    ) -> Result<(), AllocError>
-        ensures { OnOk result (string_bytes out.new
-            ≡ string_bytes out.old
+    fn push_label(&self, out: &mut String, label: &PlacedLabel<'_>) -> Result<(), AllocError>
+        ensures { OnOk result (string_bytes out.new ≡ string_bytes out.old
             ++ label_row (narrated_line self.now.line.now) (range_of label.now)) }
     {
         if begins(self.line, label) {
-            self.push_begun(alloc, out, label)
-        } else if reaches(self.line, label) && ends_before(self.line, label) {
-            self.push_ending(alloc, out, label)
+            self.push_begun(out, label)
+        } else if reaches(self.line, label) {
+            self.push_reaching(out, label)
         } else {
             Ok(())
         }
@@ -217,7 +190,6 @@ impl<'r, 'a> LabelledLine<'r, 'a> {
     /// The rows of labels under the line, in order.
     pub(crate) fn push_labels(
         &self,
-        alloc: Global,
         out: &mut String,
         placed: &[PlacedLabel<'_>],
     ) -> Result<(), AllocError>
@@ -225,23 +197,18 @@ impl<'r, 'a> LabelledLine<'r, 'a> {
             ++ label_rows (narrated_line self.now.line.now) (ranges_of placed.now)) }
     {
         for label in placed {
-            self.push_label(alloc, out, label)?;
+            self.push_label(out, label)?;
         }
         Ok(())
     }
 
     /// The rows of labels that end on the line, in order.
-    pub(crate) fn push_ended(
-        &self,
-        alloc: Global,
-        out: &mut String,
-        ended: &[RankedLabel],
-    ) -> Result<(), AllocError>
+    pub(crate) fn push_ends(&self, out: &mut String, ends: &[RankedLabel]) -> Result<(), AllocError>
         ensures { OnOk result (string_bytes out.new ≡ string_bytes out.old
-            ++ label_rows (narrated_line self.now.line.now) (ranges_of (without_ranks ended.now))) }
+            ++ label_rows (narrated_line self.now.line.now) (ranges_of (without_ranks ends.now))) }
     {
-        for end in ended {
-            self.push_label(alloc, out, &end.label)?;
+        for end in ends {
+            self.push_label(out, &end.label)?;
         }
         Ok(())
     }

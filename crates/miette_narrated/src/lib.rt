@@ -5,6 +5,7 @@ mod decoding;
 pub mod handler;
 mod label_order;
 mod label_rows;
+pub mod laws;
 mod lines;
 mod narrated_line;
 mod report;

@@ -63,7 +63,7 @@ fn push_shown<'a>(
     }
     come_to(alloc, order.placed, it.line.start, last_start(it), sweep)?;
     let row = LabelledLine::new(alloc, it, sweep.running.len())?;
-    row.push_labels(alloc, out, &sweep.running)
+    row.push_labels(out, &sweep.running)
 }
 
 /// The rows of labels under a line that isn't the snippet's last: only labels that begin or end there are gone through.
@@ -83,8 +83,8 @@ fn push_inner(
     let begun = begun_on(order.placed, &it.line);
     let shown = ended.len().saturating_add(begun.len());
     let row = LabelledLine::new(alloc, it, shown)?;
-    row.push_ended(alloc, out, &ended)?;
-    row.push_labels(alloc, out, begun)
+    row.push_ends(out, &ended)?;
+    row.push_labels(out, begun)
 }
 
 /// A line of what a snippet's read lent.

@@ -22,18 +22,18 @@ use miette_tree::parts::{cause_texts, labels_of, own_or, severity_name, severity
 use miette_tree::report::{Cause, Report, SourceRef};
 use std::alloc::{AllocError, Global};
 
+/// That rows were appended, or `AllocError` where memory is refused.
+type Appended = Result<(), AllocError>;
+
 /// `    Diagnostic severity: error`
-fn push_severity(out: &mut String, severity: Option<Severity>) -> Result<(), AllocError>
+fn push_severity(out: &mut String, severity: Option<Severity>) -> Appended
     ensures { OnOk result (string_bytes out.new ≡ string_bytes out.old ++ severity_row severity) }
 {
     push_row(out, "    Diagnostic severity: ", severity_name(severity))
 }
 
 /// The message and the severity of the outermost report.
-fn push_head<D: Diagnostic, S: SourceCode>(
-    report: &Report<D, S>,
-    out: &mut String,
-) -> Result<(), AllocError>
+fn push_head<D: Diagnostic, S: SourceCode>(report: &Report<D, S>, out: &mut String) -> Appended
     ensures { OnOk result (string_bytes out.new
         ≡ string_bytes out.old ++ head_rows (head (tree_of D.meaning S.source report.now))) }
 {
@@ -42,10 +42,7 @@ fn push_head<D: Diagnostic, S: SourceCode>(
 }
 
 /// The message of a related report behind its title, its severity, and a blank row.
-fn push_titled<D: Diagnostic, S: SourceCode>(
-    report: &Report<D, S>,
-    out: &mut String,
-) -> Result<(), AllocError>
+fn push_titled<D: Diagnostic, S: SourceCode>(report: &Report<D, S>, out: &mut String) -> Appended
     ensures { OnOk result (string_bytes out.new
         ≡ string_bytes out.old ++ titled_rows (head (tree_of D.meaning S.source report.now))) }
 {
@@ -55,10 +52,7 @@ fn push_titled<D: Diagnostic, S: SourceCode>(
 }
 
 /// A row for each cause of a report.
-fn push_causes<D: Diagnostic, S: SourceCode>(
-    report: &Report<D, S>,
-    out: &mut String,
-) -> Result<(), AllocError>
+fn push_causes<D: Diagnostic, S: SourceCode>(report: &Report<D, S>, out: &mut String) -> Appended
     ensures { OnOk result (string_bytes out.new
         ≡ string_bytes out.old ++ cause_rows (causes_of (cause_of (tree_of D.meaning S.source report.now)))) }
 {
@@ -78,7 +72,7 @@ fn push_causes_if<D: Diagnostic, S: SourceCode>(
     told: bool,
     report: &Report<D, S>,
     out: &mut String,
-) -> Result<(), AllocError>
+) -> Appended
     ensures { OnOk result (string_bytes out.new
         ≡ string_bytes out.old ++ causes_if told (causes_of (cause_of (tree_of D.meaning S.source report.now)))) }
 {
@@ -90,7 +84,7 @@ fn push_causes_if<D: Diagnostic, S: SourceCode>(
 }
 
 /// Where more is written, on a row of its own.
-fn push_url(out: &mut String, url: Option<&str>) -> Result<(), AllocError>
+fn push_url(out: &mut String, url: Option<&str>) -> Appended
     ensures { OnOk result (string_bytes out.new ≡ string_bytes out.old ++ url_rows (option_copied url.entry)) }
 {
     if let Some(url) = url {
@@ -102,10 +96,7 @@ fn push_url(out: &mut String, url: Option<&str>) -> Result<(), AllocError>
 }
 
 /// Help, code and url.
-fn push_advice<D: Diagnostic, S: SourceCode>(
-    report: &Report<D, S>,
-    out: &mut String,
-) -> Result<(), AllocError>
+fn push_advice<D: Diagnostic, S: SourceCode>(report: &Report<D, S>, out: &mut String) -> Appended
     ensures { OnOk result (string_bytes out.new
         ≡ string_bytes out.old ++ advice_rows (head (tree_of D.meaning S.source report.now))) }
 {
@@ -137,7 +128,7 @@ fn push_snippets_of<S: SourceCode>(
 fn push_blank_before<D: Diagnostic, S: SourceCode>(
     reports: &[Report<D, S>],
     out: &mut String,
-) -> Result<(), AllocError>
+) -> Appended
     ensures { OnOk result (string_bytes out.new
         ≡ string_bytes out.old ++ blank_before (trees (map (tree_of D.meaning S.source) reports.now))) }
 {

@@ -82,7 +82,6 @@ fn push_snippet<'a>(
 /// The snippets of labels that were read. Fails with `Refused` where a group of them can't be read, and with `Memory`
 /// where memory is refused.
 fn push_read<'a, S: SourceCode>(
-    alloc: Global,
     out: &mut String,
     context: usize,
     source: &'a S,
@@ -96,6 +95,7 @@ fn push_read<'a, S: SourceCode>(
     ensures refused { (result ≡ Err RenderError.Refused) → accepts (Some (S.source source.now)) labels.now ≡ false }
 {
     data_reach_the_span();
+    let alloc = *out.allocator();
     let placed = placed_labels(alloc, &[], None, labels, reads)?;
     let Some(groups) = groups(alloc, source, context, labels, reads)? else {
         return Err(RenderError::Refused);
@@ -131,7 +131,7 @@ pub(crate) fn push_snippets<S: SourceCode>(
 {
     let order = by_offset(alloc, labels)?;
     match read_labels(alloc, source, context, labels, &order)? {
-        ReadLabels::All(reads) => push_read(alloc, out, context, source, labels, &reads),
+        ReadLabels::All(reads) => push_read(out, context, source, labels, &reads),
         ReadLabels::Refused(_, _) => Err(RenderError::Refused),
     }
 }

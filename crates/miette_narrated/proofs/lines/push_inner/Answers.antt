@@ -17,9 +17,9 @@ returns c =
     let rows : List PlacedLabel → List ℕ = λ ps. label_rows it (ranges_of ps) in
     let same : (ps : List PlacedLabel) → label_rows (narrated_line row.line.now) (ranges_of ps) ≡ rows ps
     = λ ps. ap (λ line. label_rows (narrated_line line) (ranges_of ps)) c.in_ok-row.ensures in
-    let q = string_bytes c.push_ended.new.out in
+    let q = string_bytes c.push_ends.new.out in
     on_ok_weaker c.push_labels.result (λ h. then out q (string_bytes c.push_labels.new.out) _ _
-    (c.in_ok-push_ended.ensures
+    (c.in_ok-push_ends.ensures
     ∙ ap (λ r. out ++ r) (same _ ∙ ap rows (ap without_ranks c.deref.ensures.value ∙ c.in_ok-ended.ensures)))
     (h ∙ ap (λ r. q ++ r) (same _ ∙ ap rows c.begun_on-begun.ensures))
     ∙ ap (λ r. out ++ r) (sym (rows_apart it order.placed.now c.requires.inner

@@ -1,0 +1,18 @@
+//! What holds of every narrated report. The law is the contract of a function that does nothing; a caller cites it by
+//! calling it.
+
+ghost use Rattle.std.specs.Prelude.{◌≡◌, ◌++◌, ℕ, List, true};
+ghost use Rattle.miette_tree.specs.rules.Tree.{Tree};
+ghost use Rattle.miette_tree.specs.rules.Reads.{report_reads};
+ghost use Rattle.miette_tree.specs.views.Handler.{AppendsOne};
+ghost use Rattle.miette_narrated.specs.rules.Report.{NarrationSettings, narration, unlisted};
+ghost use Rattle.miette_narrated.specs.rules.PossibleAnswers.{IsNarrated};
+
+/// Where every source that labels are read from always reads, a report has one narrated text: `ReportHandler::debug`,
+/// and what stands on it, then appends this one.
+pub fn a_read_report_has_one_text()
+    ensures text { (s : NarrationSettings) (t : Tree) (text : List ℕ) → IsNarrated s t text → report_reads t ≡ true →
+        text ≡ narration s t unlisted }
+    ensures appended { (s : NarrationSettings) (t : Tree) (old new : List ℕ) → AppendsOne (IsNarrated s t) old new →
+        report_reads t ≡ true → new ≡ old ++ narration s t unlisted }
+{}
