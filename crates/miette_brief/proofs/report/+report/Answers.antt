@@ -10,12 +10,6 @@ use Rattle.miette_brief.proofs.SoFar.{none_so_far}
 use Rattle.miette_brief.proofs.Telling.{one_more, all_told, report_told, refused_here}
 use Rattle.miette_brief.proofs.report.+report.Goals as goal
 
-pub push_related-push_report-requires : goal.push_related-push_report-requires
-push_related-push_report-requires g t c =
-    let small = item_falls (tree_of g.D.Diagnostic.meaning g.S.SourceCode.source) c.args.reports.now
-    c.loop-report.report-index c.report-item.result c.loop-report-test.true c.report-item.is in
-    search rules
-
 pub push_related-loop-report-preserved : goal.push_related-loop-report-preserved
 push_related-loop-report-preserved g t c =
     one_more (tree_of g.D.Diagnostic.meaning g.S.SourceCode.source) c.args.chain _ c.args.reports.now
@@ -57,3 +51,9 @@ push_report-returns-clause-refused g t c = λ h.
     (option_map (shown_source g.S.SourceCode.source) c.own_or-source.result)
     (trees (map (tree_of g.D.Diagnostic.meaning g.S.SourceCode.source) c.related.result.now)) c.own_or-source.ensures
     c.related.ensures (c.push_related.ensures.refused h)
+
+pub push_related-push_report-requires : goal.push_related-push_report-requires
+push_related-push_report-requires g t c =
+    let small = item_falls (tree_of g.D.Diagnostic.meaning g.S.SourceCode.source) c.args.reports.now
+    c.loop-report.report-index c.report-item.result c.loop-report-test.true c.report-item.is in
+    search rules
