@@ -4,7 +4,7 @@ use Rattle.std.proofs.Common.{Bool, true, false, refl, subst, IfSome, codes, nat
 use Rattle.std.specs.Prelude.{is_some, unwrap_or, if◌then◌else◌}
 use Rattle.std.specs.Ordering.{match_ordering}
 use Rattle.std.specs.Cmp.Lexicographic.{slice_cmp}
-use Rattle.serde_json.specs.Data.{Data, null, boolean, number, string, array, object, Items, no_items, item, Members}
+use Rattle.serde_json.specs.Data.{Data, array, object, Items, no_items, item, Members}
 use Rattle.serde_json.specs.Data.{no_members, member}
 use Rattle.serde_json.specs.Find.{as_null, as_str}
 use Rattle.serde_json.specs.Written.{has_float}
@@ -115,12 +115,8 @@ parts_read cause related d c r =
 
 mutual
   report_reads : (d : Data) → IfSome (report_in d) AlwaysReads
-  report_reads null = tt
-  report_reads (boolean b) = tt
-  report_reads (number n) = tt
-  report_reads (string s) = tt
-  report_reads (array ds) = tt
   report_reads (object ms) = parts_read (cause_in ms) (related_in ms) (object ms) (cause_reads ms) (list_reads ms)
+  report_reads d = tt
 
   cause_reads : (ms : Members) → Maybe AlwaysReads (cause_in ms)
   cause_reads no_members = tt
@@ -135,12 +131,8 @@ mutual
       (nullable_with AllAlwaysRead (is_some (as_null d)) (reports_in d) (reports_read d)) (list_reads ms)
 
   reports_read : (d : Data) → IfSome (reports_in d) AllAlwaysRead
-  reports_read null = tt
-  reports_read (boolean b) = tt
-  reports_read (number n) = tt
-  reports_read (string s) = tt
   reports_read (array ds) = each_reads ds
-  reports_read (object ms) = tt
+  reports_read d = tt
 
   each_reads : (ds : Items) → IfSome (each_in ds) AllAlwaysRead
   each_reads no_items = tt

@@ -25,6 +25,7 @@ returns-clause-ok c =
 pub loop-item-preserved : goal.loop-item-preserved
 loop-item-preserved c =
     let pushed : c.push.new.self.items ≡ c.loop-item.labels.items ++ c.in_ok-label.label ∷ [] = search rules in
-    let more = one_read label_of c.in_ok-list.list.now c.loop-item.labels.items c.loop-item.item-index c.item-item.result
-    c.in_ok-label.label c.loop-item-test.true c.item-item.is c.in_ok-label.ensures.ok c.loop-item.invariant in
+    let more = one_read label_of c.in_ok-list.list.now c.loop-item.labels.items c.loop-item.item-index
+    c.item-item.result c.in_ok-label.label c.loop-item-test.true c.item-item.is c.in_ok-label.ensures.ok
+    c.loop-item.invariant in
     subst (λ xs. ReadSoFar label_of c.in_ok-list.list.now xs (c.loop-item.item-index + 1)) (sym pushed) more

@@ -57,20 +57,20 @@ read_value-returns-in_err-read_members-in-BeginObject-clause-description t c inv
 pub read_value-returns-in-String-clause-ok : goal.read_value-returns-in-String-clause-ok
 read_value-returns-in-String-clause-ok t c =
     let first : c.args.reader.now ≡ token_of c.in-Some.token ∷ c.next.new.self = grind arith in
-    leaf c.args.depth c.args.reader.now c.next.new.self (Token.string c.in-String.text.now) (String c.in-String.text) (Json.string c.in-String.text.now)
-    (grind (arith, first)) (search (rules, the_lemmas)) (value_is c.args.depth _)
+    leaf c.args.depth c.args.reader.now c.next.new.self (Token.string c.in-String.text.now) (String c.in-String.text)
+    (Json.string c.in-String.text.now) (grind (arith, first)) (search (rules, the_lemmas)) (value_is c.args.depth _)
 
 pub read_value-returns-in-Number-clause-ok : goal.read_value-returns-in-Number-clause-ok
 read_value-returns-in-Number-clause-ok t c =
     let first : c.args.reader.now ≡ token_of c.in-Some.token ∷ c.next.new.self = grind arith in
-    leaf c.args.depth c.args.reader.now c.next.new.self (Token.number c.in-Number.text.now) (Number c.in-Number.text) (Json.number c.in-Number.text.now)
-    (grind (arith, first)) (search (rules, the_lemmas)) (value_is c.args.depth _)
+    leaf c.args.depth c.args.reader.now c.next.new.self (Token.number c.in-Number.text.now) (Number c.in-Number.text)
+    (Json.number c.in-Number.text.now) (grind (arith, first)) (search (rules, the_lemmas)) (value_is c.args.depth _)
 
 pub read_value-returns-in-Bool-clause-ok : goal.read_value-returns-in-Bool-clause-ok
 read_value-returns-in-Bool-clause-ok t c =
     let first : c.args.reader.now ≡ token_of c.in-Some.token ∷ c.next.new.self = grind arith in
-    leaf c.args.depth c.args.reader.now c.next.new.self (Token.boolean c.in-Bool.b) (Bool c.in-Bool.b) (Json.boolean c.in-Bool.b)
-    (grind (arith, first)) (search (rules, the_lemmas)) (value_is c.args.depth _)
+    leaf c.args.depth c.args.reader.now c.next.new.self (Token.boolean c.in-Bool.b) (Bool c.in-Bool.b)
+    (Json.boolean c.in-Bool.b) (grind (arith, first)) (search (rules, the_lemmas)) (value_is c.args.depth _)
 
 pub read_value-returns-in-Null-clause-ok : goal.read_value-returns-in-Null-clause-ok
 read_value-returns-in-Null-clause-ok t c =
