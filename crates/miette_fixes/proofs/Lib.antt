@@ -1,4 +1,5 @@
 pub mod Moving
 pub mod Overlaps
+pub mod Reaching
 pub mod Sorting
 pub mod Taking

@@ -1,7 +1,6 @@
 -- Edits that conflict with none of those that count are applied beside them, in any order of their fixes.
 use Rattle.std.proofs.Common.{ℕ, zero, suc, ◌≡◌, Bool, true, false, eqb, inl, inr, take, ◌⊎◌, not, List, [], ◌∷◌, ◌++◌}
-use Rattle.std.proofs.Common.{refl, sym}
-use Rattle.std.proofs.Common.{ap, ◌∙◌, ◌+◌, ◌<◌, ◌≤◌, arith, append_assoc, drop, get_or, length, subst}
+use Rattle.std.proofs.Common.{refl, sym, ap, ◌∙◌, ◌+◌, ◌<◌, ◌≤◌, arith, append_assoc, drop, get_or, length, subst}
 use Rattle.std.specs.Prelude.{◌≢◌, Option, None, Some, is_none, slice_get}
 use denote.Ref.{Bor}
 use Rattle.std.specs.List.{filter, list_any}
@@ -142,6 +141,15 @@ chosen_else n given rest after before more edits fix edits' flags flags' h is no
     (subst (λ (x : List Replacement). AreChosen n given after before x flags') (sym e)
     (subst (λ (x : List Bool). AreChosen n given after before edits x) (sym f)
     (chosen_not n given rest after before edits fix flags h is not_so)))
+
+-- none of the edits that count ends behind the source's end
+pub counts_inside : (n : ℕ) (others edits : List Replacement) → counts n others edits ≡ true
+    → list_any (ends_behind n) edits ≡ false
+counts_inside n others edits may =
+    let parts : (is_none (refusal n edits) ≡ true) × (not (some_conflict edits others) ≡ true) =
+    and_parts (is_none (refusal n edits)) (not (some_conflict edits others)) may in
+    let own : (list_any (ends_behind n) edits ≡ false) × (some_overlap edits ≡ false) =
+    none_refused n edits (some_none (refusal n edits) parts.0) in own.0
 
 -- the edits of fixes from one on
 pub lists_more : (fixes : List (Bor Proposal)) (i : ℕ) (fix : Bor Proposal) → i < length fixes

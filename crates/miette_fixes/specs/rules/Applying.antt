@@ -22,8 +22,7 @@ abbrev pub by_offset : List Replacement → List Replacement
 by_offset [] = []
 by_offset (edit ∷ edits) = put_edit edit (by_offset edits)
 
--- From a place of the source on: its bytes up to the first edit's offset, that edit's text, and so on from where it
--- ends.
+-- From a place of the source on: its bytes up to the first edit's offset, that edit's text, and so on from its end.
 abbrev pub text_from : List ℕ → ℕ → List Replacement → List ℕ
 text_from source at [] = drop at source
 text_from source at (edit ∷ edits) =

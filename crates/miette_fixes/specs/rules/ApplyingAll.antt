@@ -31,8 +31,7 @@ is_among edits lists = list_any (pointwise same_edit edits) lists
 abbrev pub all_of : List (List Replacement) → List Replacement
 all_of lists = flat_map (λ edits. edits) lists
 
--- Whether a fix's edits count, beside others that do: they can be applied, and none of them conflicts with one of
--- these.
+-- Whether a fix's edits count, beside others that do: they can be applied, and none conflicts with one of these.
 abbrev pub counts : ℕ → List Replacement → List Replacement → Bool
 counts n others edits = is_none (refusal n edits) && not (some_conflict edits others)
 
