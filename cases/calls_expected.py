@@ -36,6 +36,15 @@ def label(text, offset, length, lines="None"):
     return struct("LabeledSpan", label=label, span=span, primary="false", context_lines=lines)
 
 
+def edit(offset, length, text):
+    span = struct("SourceSpan", offset=f"SourceOffset({offset})", length=length)
+    return struct("Edit", span=span, text=quoted(text))
+
+
+def fix(*edits):
+    return struct("Fix", message=quoted("m"), applicability="Unspecified", edits=listed(edits))
+
+
 def diagnostic(message="oops!", code="a::b", help="try", url="http://x", labels=None):
     parts = {key: some(quoted(value)) for key, value in (("code", code), ("help", help), ("url", url))}
     labels = some(listed(labels)) if labels else "None"
@@ -259,6 +268,13 @@ ROWS = {
     "GraphicalTheme::none": [theme(ASCII, PLAIN)],
     "GraphicalTheme::for_terminal": [TERMINAL, theme(UNICODE, PLAIN)],
     "GraphicalTheme::clone": [theme(UNICODE, ANSI)] * 3,
+    "Edit::delete": [edit(0, 1, "")],
+    "Edit::clone": [edit(4, 0, ":")] * 3,
+    "Fix::new": [fix()],
+    "Fix::with_edit": [fix(edit(4, 0, ":"))],
+    "Fix::with_edits_from": [fix(edit(4, 0, ":"), edit(0, 1, ""))],
+    "Fix::apply": [listed(str(it) for it in b"f x:")],
+    "apply_all": [struct("Applied", text=listed(str(it) for it in b"f x:"), taken="[true]")],
     "Highlighter::highlight_line for BlankHighlighter": [f"[(10, {style()})]"],
     "Highlighter::highlight_line for Box": [f"[(10, {style()})]"],
     "by_char": [pieces("a", ("1", style("Cyan")))],

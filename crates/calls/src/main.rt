@@ -8,6 +8,7 @@
 
 mod diagnostics;
 mod examples;
+mod fixes;
 mod fixtures;
 mod handlers;
 mod highlighters;
@@ -88,10 +89,11 @@ enum Subject {
     Texts,
     Runs,
     Handlers,
+    Fixes,
     Printing,
 }
 
-static SUBJECTS: [Subject; 10] = [
+static SUBJECTS: [Subject; 11] = [
     Subject::Labels,
     Subject::Diagnostics,
     Subject::Sources,
@@ -101,6 +103,7 @@ static SUBJECTS: [Subject; 10] = [
     Subject::Texts,
     Subject::Runs,
     Subject::Handlers,
+    Subject::Fixes,
     Subject::Printing,
 ];
 
@@ -115,6 +118,7 @@ fn names(subject: Subject) -> &'static [&'static str] {
         Subject::Texts => &texts::NAMES,
         Subject::Runs => &runs::NAMES,
         Subject::Handlers => &handlers::NAMES,
+        Subject::Fixes => &fixes::NAMES,
         Subject::Printing => &printing::NAMES,
     }
 }
@@ -166,6 +170,7 @@ fn make<R: Env + AllocGlobal + Streams, W: Write>(
         Subject::Texts => texts::make(alloc, name, out),
         Subject::Runs => runs::make(alloc, name, out),
         Subject::Handlers => handlers::make(alloc, name, out),
+        Subject::Fixes => fixes::make(alloc, name, out),
         Subject::Printing => printing::make(rt, name, out),
     }
 }

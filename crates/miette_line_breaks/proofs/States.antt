@@ -5,7 +5,7 @@ use Rattle.miette_basics.specs.rules.Lists.{is_nil}
 use Rattle.ucd_breaks.specs.declared.LineBreak.{LineBreak}
 use Rattle.ucd_breaks.specs.declared.LineBreak.TheVariants.{Space}
 use Rattle.miette_line_breaks.specs.declared.characters.Character.{Character}
-use Rattle.miette_line_breaks.specs.declared.breaks.BreakOpportunity.{BreakOpportunity}
+use Rattle.miette_line_breaks.specs.declared.opportunity.BreakOpportunity.{BreakOpportunity}
 use Rattle.miette_line_breaks.specs.rules.Characters.{character_of, lone_mark}
 use Rattle.miette_line_breaks.specs.rules.Classes.{is_bracket_end, is_carriage_return, is_dash, is_hard, is_hebrew}
 use Rattle.miette_line_breaks.specs.rules.Classes.{is_joiner, is_mark, is_opening, is_quotation, is_space}

@@ -4,16 +4,8 @@ ghost use Rattle.std.specs.Prelude.{◌≡◌};
 ghost use Rattle.miette_line_breaks.specs.rules.Rules.{breaks_of};
 ghost use Rattle.miette_line_breaks.specs.views.Left.{breaks_left};
 
+pub use crate::opportunity::BreakOpportunity;
 pub use crate::remaining::LineBreaks;
-
-/// What a place between two characters is to who breaks lines.
-#[derive(Clone, Copy, Debug, PartialEq, Eq)]
-pub enum BreakOpportunity {
-    /// A line ends here.
-    Mandatory,
-    /// A line may end here.
-    Allowed,
-}
 
 /// Where the text may be broken into lines, by the rules of UAX #14 of Unicode 15.0: each place, in bytes from the
 /// text's start, with whether a line must end there; after the last character one must, unless the text is empty.

@@ -4,5 +4,6 @@
 pub mod breaks;
 mod characters;
 mod classes;
+mod opportunity;
 mod remaining;
 mod state;

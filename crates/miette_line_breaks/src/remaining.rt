@@ -2,8 +2,8 @@
 
 ghost use Rattle.std.specs.Prelude.{◌≡◌, ◌<◌, ◌+◌, ◌^◌, ◌∷◌, ◌++◌, [], chars, encode_utf8, length, MatchOption};
 
-use crate::breaks::BreakOpportunity;
 use crate::characters::Character;
+use crate::opportunity::BreakOpportunity;
 use crate::state::State;
 
 /// The opportunities of a text that are still to come.

@@ -8,9 +8,9 @@ ghost use Rattle.miette_line_breaks.specs.steps.States.{joined_behind};
 ghost use Rattle.miette_line_breaks.specs.steps.States.{keeps_direct, keeps_in, state_behind, state_of};
 ghost use Rattle.std.specs.Prelude.{[]};
 
-use crate::breaks::BreakOpportunity;
 use crate::characters::Character;
 use crate::classes::*;
+use crate::opportunity::BreakOpportunity;
 use ucd_breaks::LineBreak;
 
 /// What stands before a place: the last character that is no space and has its marks, whether spaces or a zero width

@@ -4,8 +4,8 @@ use Rattle.std.specs.Prelude.{ℕ, ◌+◌, Bool, true, false, not, ◌&&◌, �
 use Rattle.std.specs.Prelude.{List, [], ◌∷◌, Option, Some, None, chars, length, encode_utf8}
 use Rattle.ucd_breaks.specs.declared.LineBreak.{LineBreak}
 use Rattle.miette_line_breaks.specs.declared.characters.Character.{Character}
-use Rattle.miette_line_breaks.specs.declared.breaks.BreakOpportunity.{BreakOpportunity}
-use Rattle.miette_line_breaks.specs.declared.breaks.BreakOpportunity.TheVariants.{Allowed, Mandatory}
+use Rattle.miette_line_breaks.specs.declared.opportunity.BreakOpportunity.{BreakOpportunity}
+use Rattle.miette_line_breaks.specs.declared.opportunity.BreakOpportunity.TheVariants.{Allowed, Mandatory}
 use Rattle.miette_line_breaks.specs.rules.Characters.{character_of, lone_mark}
 use Rattle.miette_line_breaks.specs.rules.Classes.{is_affix, is_bracket_end, is_break_before, is_carriage_return}
 use Rattle.miette_line_breaks.specs.rules.Classes.{is_closed_syllable, is_closing, is_contingent, is_dash}

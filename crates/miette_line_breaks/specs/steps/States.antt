@@ -4,8 +4,8 @@ use Rattle.std.specs.Prelude.{List, [], ◌∷◌, Option, Some, None, length, e
 use Rattle.ucd_breaks.specs.declared.LineBreak.TheVariants.{Space}
 use Rattle.miette_line_breaks.specs.declared.characters.Character.{Character}
 use Rattle.miette_line_breaks.specs.declared.state.State.{State}
-use Rattle.miette_line_breaks.specs.declared.breaks.BreakOpportunity.{BreakOpportunity}
-use Rattle.miette_line_breaks.specs.declared.breaks.BreakOpportunity.TheVariants.{Allowed, Mandatory}
+use Rattle.miette_line_breaks.specs.declared.opportunity.BreakOpportunity.{BreakOpportunity}
+use Rattle.miette_line_breaks.specs.declared.opportunity.BreakOpportunity.TheVariants.{Allowed, Mandatory}
 use Rattle.miette_line_breaks.specs.rules.Characters.{character_of, lone_mark}
 use Rattle.miette_line_breaks.specs.rules.Classes.{is_bracket_end, is_carriage_return, is_closing, is_contingent}
 use Rattle.miette_line_breaks.specs.rules.Classes.{is_dash, is_glue, is_hard, is_hebrew, is_hyphen, is_line_feed}

@@ -1,6 +1,6 @@
 -- The opportunities that an iterator has left.
 use Rattle.std.specs.Prelude.{ℕ, List, chars}
-use Rattle.miette_line_breaks.specs.declared.breaks.BreakOpportunity.{BreakOpportunity}
+use Rattle.miette_line_breaks.specs.declared.opportunity.BreakOpportunity.{BreakOpportunity}
 use Rattle.miette_line_breaks.specs.declared.remaining.LineBreaks.{LineBreaks}
 use Rattle.miette_line_breaks.specs.steps.States.{breaks_behind}
 
