@@ -155,19 +155,19 @@ fn push_labelled<'a, D: Diagnostic, S: SourceCode>(
 
 /// The rows of a report over a source, or over none, without those of related reports.
 fn push_own<'a, D: Diagnostic, S: SourceCode>(
-    alloc: Global,
     chain: bool,
     report: &'a Report<D, S>,
     source: Option<SourceRef<'a, S>>,
     out: &mut String,
 ) -> Result<(), RenderError>
-    ensures text { OnOk result (AppendsOwn chain (option_map (shown_source S.source) source.entry)
-        (head (tree_of D.meaning S.source report.now)) (cause_of (tree_of D.meaning S.source report.now))
-        (string_bytes out.old) (string_bytes out.new)) }
+    ensures text { OnOk result (AppendsOwn chain
+        (option_map (shown_source S.source) source.entry) (head (tree_of D.meaning S.source report.now))
+        (cause_of (tree_of D.meaning S.source report.now)) (string_bytes out.old) (string_bytes out.new)) }
     ensures refused { (result ≡ Err RenderError.Refused) →
         accepts (option_map (shown_source S.source) source.entry)
         (in_order (given_labels (head (tree_of D.meaning S.source report.now)).labels)) ≡ false }
 {
+    let alloc = *out.allocator();
     let order = by_offset(alloc, labels_of(report))?;
     let at = push_labelled(report, source, &order, out)?;
     if chain {
@@ -193,7 +193,7 @@ fn push_report<'a, D: Diagnostic, S: SourceCode>(
         ≡ false }
 {
     let source = own_or(report, inherited);
-    push_own(alloc, chain, report, source, out)?;
+    push_own(chain, report, source, out)?;
     push_related(alloc, chain, report.related(), source, out)
 }
 
