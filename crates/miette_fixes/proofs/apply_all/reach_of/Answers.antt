@@ -1,7 +1,5 @@
-use Rattle.std.proofs.Common.{◌≡◌, ◌+◌, ◌≤◌, arith, drop}
-use Rattle.std.specs.Prelude.{false}
-use Rattle.std.specs.List.{list_any}
-use Rattle.miette_fixes.specs.rules.Edits.{end_of, ends_behind}
+use Rattle.std.proofs.Common.{◌≤◌, arith}
+use Rattle.miette_fixes.specs.rules.Edits.{end_of}
 use Rattle.miette_fixes.proofs.Reaching.{reach_step, rest_inside}
 use Rattle.miette_fixes.proofs.apply_all.reach_of.Goals as goal
 
