@@ -21,3 +21,5 @@ pub mod Styling
 pub mod Themes
 pub mod RenderedBytes
 pub mod Stateless
+pub mod Rows
+pub mod Holding

@@ -14,14 +14,13 @@ use Rattle.miette_graphical.specs.laws.Paths.{Step, to_cause, to_related, at_cau
 
 -- ---- lists
 
-pub none : (p : PrintedDiagnostic) → Contains [] p → ⊥
+pub none : {A : Type 0} (p : A) → Contains [] p → ⊥
 none p h = let below = h.1 in omega arith
 
-only_one : (q p : PrintedDiagnostic) → Contains (q ∷ []) p → q ≡ p
+only_one : {A : Type 0} (q p : A) → Contains (q ∷ []) p → q ≡ p
 only_one q p h = elim (Contains-push_cases [] q p h) [ inl nowhere ↦ absurd (none p nowhere) | inr same ↦ same ]
 
-pub first_or_later : (q : PrintedDiagnostic) (ps : List PrintedDiagnostic) (p : PrintedDiagnostic) → Contains (q ∷ ps) p
-    → (q ≡ p) ⊎ Contains ps p
+pub first_or_later : {A : Type 0} (q : A) (ps : List A) (p : A) → Contains (q ∷ ps) p → (q ≡ p) ⊎ Contains ps p
 first_or_later q ps p h = elim (Contains-append_cases (q ∷ []) ps p h)
     [ inl here ↦ inl (only_one q p here) | inr later ↦ inr later ]
 

@@ -11,6 +11,7 @@ use Rattle.miette_graphical.specs.laws.Clean.{AreCleanSettings, IsCleanTree}
 use Rattle.miette_graphical.specs.laws.Colourless.{IsColouredText, IsRestyledText, colourless, restyled}
 use Rattle.miette_snippet_laws.specs.laws.Fading.{ArePlain}
 use Rattle.miette_style.specs.rules.Themes.{Styles}
+use Rattle.miette_graphical.specs.laws.Holding.{IsHoldingText}
 use Rattle.miette_runs.specs.rules.Sequences.{erase}
 use Rattle.miette_text.specs.rules.ColouredTexts.{AppendsErasing}
 use Rattle.miette_tree.specs.rules.Tree.{Tree}
@@ -93,3 +94,15 @@ pub rendered-themes : {A E : Type 0} (r : Result A E) (s : Settings) (blank : Bo
 rendered-themes (Err e) s blank t old new law ok = tt
 rendered-themes (Ok x) s blank t old new law ok = λ reads settings tree others again.
     (ok.text, ok.appended, law s blank t ok.text others settings tree ok.is_given reads again)
+
+pub rendered-holds : {A E : Type 0} (r : Result A E) (s : Settings) (blank : Bool) (t : Tree) (old new : List ℕ)
+    → ((s : Settings) (blank : Bool) (t : Tree) (bytes : List ℕ) → IsTextOf drawn_rows s blank t bytes
+    → IsHoldingText drawn_rows s blank t bytes)
+    → OnOk r (Appends drawn_rows s blank t old new) → OnOk r (AppendsOne (IsHoldingText drawn_rows s blank t) old new)
+rendered-holds (Err e) s blank t old new law ok = tt
+rendered-holds (Ok x) s blank t old new law ok =
+    let bytes : List ℕ = ok.text in record {
+      text = bytes;
+      is_given = law s blank t bytes ok.is_given;
+      appended = ok.appended;
+    }

@@ -5,3 +5,4 @@ pub mod Paths
 pub mod Alike
 pub mod CharacterSets
 pub mod Headline
+pub mod Holding

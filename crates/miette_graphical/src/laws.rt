@@ -13,6 +13,7 @@ ghost use Rattle.miette_graphical.specs.laws.Headline.{EndsAreDrawn, LabelsAreFo
 ghost use Rattle.miette_graphical.specs.laws.Headline.{TextsHang, CutsAreExact, LinesThatFitStay};
 ghost use Rattle.miette_graphical.specs.rules.DiagnosticText.{SnippetRows};
 ghost use Rattle.miette_graphical.specs.laws.Paths.{HasPath, Step, printed_at};
+ghost use Rattle.miette_graphical.specs.laws.Holding.{HoldsRows, HoldsSnippets, IsHoldingText};
 ghost use Rattle.miette_graphical.specs.laws.CharacterSets.{AreNarrow, AreShipped};
 ghost use Rattle.miette_graphical.specs.rules.PrintedDiagnostics.{PrintedDiagnostic, all_read, diagnostics_of};
 ghost use Rattle.miette_graphical.specs.rules.Settings.{Settings, default_settings};
@@ -167,6 +168,18 @@ pub fn printed_law()
         report_text rows s t a ≡ report_text others s t a }
     ensures answers { (rows : SnippetRows) (s : Settings) (t : Tree) (a b : Answers) → AreAnsweredAlike s t a b →
         report_text rows s t a ≡ report_text rows s t b }
+{}
+
+/// Of each printed diagnostic a report's text holds the snippets: at each path, under the arrows that are on it, as they
+/// are where there is none (`holds`). There each row stands in the bytes, with the line feed behind it, at the beginning
+/// of a line (`rows`). So it is of each text that may be printed (`text`).
+pub fn holding_law()
+    ensures holds { (rows : SnippetRows) (s : Settings) (t : Tree) (a : Answers) →
+        HoldsSnippets rows s t a (report_text rows s t a) }
+    ensures rows { (rows : SnippetRows) (s : Settings) (t : Tree) (a : Answers) →
+        HoldsRows rows s t a (encode_utf8_all (report_text rows s t a)) }
+    ensures text { (rows : SnippetRows) (s : Settings) (blank : Bool) (t : Tree) (bytes : List ℕ) →
+        IsTextOf rows s blank t bytes → IsHoldingText rows s blank t bytes }
 {}
 
 /// Of the characters of the shipped themes: those that frames, gutters and marks are drawn with are one column wide

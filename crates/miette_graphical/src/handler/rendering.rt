@@ -11,6 +11,7 @@ ghost use Rattle.miette_graphical.specs.rules.Text.{report_text};
 ghost use Rattle.miette_graphical.specs.laws.Clean.{AreCleanSettings, IsCleanTree};
 ghost use Rattle.miette_graphical.specs.laws.Colourless.{ArePlain, IsColouredText, IsRestyledText, colourless};
 ghost use Rattle.miette_graphical.specs.laws.Colourless.{restyled};
+ghost use Rattle.miette_graphical.specs.laws.Holding.{IsHoldingText};
 ghost use Rattle.miette_graphical.specs.laws.Headline.{EndsAreDrawn, LabelsAreFolded, LinesAreShown};
 ghost use Rattle.miette_graphical.specs.laws.Headline.{CutsAreExact, LinesThatFitStay, MarksAreApart, TextsHang};
 ghost use Rattle.miette_graphical.specs.views.Handling.{AreCallsOf, EachPrinted, draws_plain, follows_of};
@@ -23,7 +24,7 @@ ghost use Rattle.miette_highlight.specs.rules.Pieces.{Piece};
 ghost use Rattle.miette_tree.specs.views.Report.{tree_of};
 
 use crate::handler::GraphicalReportHandler;
-use crate::laws::{erasing_law, snippets_law};
+use crate::laws::{erasing_law, holding_law, snippets_law};
 use crate::printing::append_printed;
 use crate::whole::report_output;
 use miette_highlight::highlight::Highlighter;
@@ -113,6 +114,11 @@ impl<H: Highlighter> GraphicalReportHandler<H> {
             OnOk result (all_read (diagnostics_of self.old.settings tree) ≡ true → AreCleanSettings self.old.settings →
             IsCleanTree tree → (others : List ℕ) → IsRestyledText drawn_rows self.old.settings tree others →
             AppendsErasing (string_bytes out.old) (string_bytes out.new) (erase others)) }
+        // It holds the snippets of each printed diagnostic: their rows as they are, each on a line of its own, where no
+        // arrow leads there, and else in the text that is wrapped under each arrow.
+        ensures holds { OnOk result (AppendsOne (IsHoldingText drawn_rows self.old.settings
+            (draws_plain H.is_blank self.old) (tree_of D.meaning S.source report.now))
+            (string_bytes out.old) (string_bytes out.new)) }
         // of each printed diagnostic: its snippets show the lines in the context of its labels, once and in order,
         ensures lines { OnOk result (EachPrinted LinesAreShown self.old (tree_of D.meaning S.source report.now)) }
         // its marks have columns of their own,
@@ -136,6 +142,7 @@ impl<H: Highlighter> GraphicalReportHandler<H> {
     {
         snippets_law();
         erasing_law();
+        holding_law();
         self.draw(report, out)
     }
 }

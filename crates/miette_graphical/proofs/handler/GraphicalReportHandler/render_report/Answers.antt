@@ -1,6 +1,7 @@
+use Rattle.miette_graphical.specs.rules.Snippets.{drawn_rows}
 use Rattle.miette_graphical.specs.views.Handling.{AreCallsOf, follows_of}
 use Rattle.miette_graphical.proofs.RenderedBytes.{rendered-ok, rendered-only, rendered-colours, rendered-colourless}
-use Rattle.miette_graphical.proofs.RenderedBytes.{rendered-plain, rendered-themes}
+use Rattle.miette_graphical.proofs.RenderedBytes.{rendered-holds, rendered-plain, rendered-themes}
 use Rattle.miette_graphical.proofs.Stateless.{rendered-stateless}
 use Rattle.miette_graphical.proofs.handler.GraphicalReportHandler.render_report.Goals as goal
 
@@ -27,3 +28,7 @@ returns-clause-plain g c = rendered-plain _ _ _ _ _ _ c.erasing_law.ensures.plai
 
 pub returns-clause-themes : goal.returns-clause-themes
 returns-clause-themes g c = rendered-themes _ _ _ _ _ _ c.erasing_law.ensures.themes (returns-clause-ok g c)
+
+pub returns-clause-holds : goal.returns-clause-holds
+returns-clause-holds g c =
+    rendered-holds _ _ _ _ _ _ (c.holding_law.ensures.text drawn_rows) (returns-clause-ok g c)

@@ -1,0 +1,158 @@
+-- Texts of whole rows, and parts of texts that begin at the beginning of a row.
+use Rattle.std.proofs.Common.{◌≡◌, inl, inr, ℕ, Bool, List, [], ◌∷◌, ◌++◌, refl, sym, ap, ◌∙◌, subst, append_assoc}
+use Rattle.std.proofs.Common.{append-nil, chars, Option, Some, None, encode_utf8_all, arith}
+use Rattle.std.specs.List.{Contains}
+use Rattle.std.proofs.lemmas.Str.{encode_ascii, encodes-append}
+use Rattle.miette_runs.specs.rules.Runs.{Fragment, print}
+use Rattle.miette_protocol.specs.declared.protocol.Severity.{Severity}
+use Rattle.miette_protocol.specs.views.Meaning.{Meaning}
+use Rattle.miette_graphical.specs.rules.DiagnosticText.{help_text, line_feed, message_text, rows_text, under_arrow}
+use Rattle.miette_graphical.specs.rules.Indents.{arrow_indent, bar_indent, further_help_indent, help_indent}
+use Rattle.miette_graphical.specs.rules.Indents.{icon_indent, stem_indent, wrapped_under}
+use Rattle.miette_graphical.specs.rules.Settings.{Settings}
+use Rattle.miette_graphical.specs.rules.Text.{body_over, cause_texts}
+use Rattle.miette_basics.specs.rules.Lists.{is_nil}
+use Rattle.miette_graphical.specs.laws.Holding.{EndsRow, StandsIn}
+use Rattle.miette_graphical.proofs.Paths.{first_or_later, none}
+
+-- ---- whole rows
+
+-- what ends with a line feed
+abbrev pub IsEnded : List ℕ → Type 0
+IsEnded text = (before : List ℕ) × (text ≡ before ++ line_feed)
+
+pub ended-behind : (x y : List ℕ) → IsEnded y → IsEnded (x ++ y)
+ended-behind x y h = (x ++ h.0, ap (λ t. x ++ t) h.1 ∙ sym (append_assoc x h.0 line_feed))
+
+pub ended-rows : (x y : List ℕ) → IsEnded x → EndsRow y → IsEnded (x ++ y)
+ended-rows x y h k = elim k [
+  | inl none ↦ (h.0, ap (λ t. x ++ t) none ∙ append-nil x ∙ h.1)
+  | inr e ↦ ended-behind x y e
+]
+
+pub rows-behind : (x y : List ℕ) → EndsRow x → EndsRow y → EndsRow (x ++ y)
+rows-behind x y h k = elim h [
+  | inl none ↦ subst EndsRow (sym (ap (λ t. t ++ y) none)) k
+  | inr e ↦ inr (ended-rows x y e k)
+]
+
+-- ---- the parts of a report
+
+pub arrow-ended : (s : Settings) (outer : Option Severity) (is_last : Bool) (text : List ℕ)
+    → IsEnded (under_arrow s outer is_last text)
+arrow-ended s outer is_last text = (
+  wrapped_under s (arrow_indent s outer is_last) (stem_indent s outer is_last) text,
+  refl,
+)
+
+pub message-ended : (s : Settings) (m : Meaning) → IsEnded (message_text s m)
+message-ended s m = (wrapped_under s (icon_indent s m.severity) (bar_indent s m.severity) (chars m.message), refl)
+
+pub help-rows : (s : Settings) (help : Option (List ℕ)) → EndsRow (help_text s help)
+help-rows s None = inl refl
+help-rows s (Some help) = inr (wrapped_under s (help_indent s) further_help_indent (chars help), refl)
+
+pub drawn-rows : (rows : List (List Fragment)) → EndsRow (rows_text rows)
+drawn-rows [] = inl refl
+drawn-rows (row ∷ rows) = inr (ended-rows (print row ++ line_feed) (rows_text rows) (print row, refl) (drawn-rows rows))
+
+pub texts-rows : (s : Settings) (outer : Option Severity) (xs : List (List ℕ)) → EndsRow (cause_texts s outer xs)
+texts-rows s outer [] = inl refl
+texts-rows s outer (x ∷ xs) =
+    inr (ended-rows (under_arrow s outer (is_nil xs) (chars x)) (cause_texts s outer xs)
+    (arrow-ended s outer (is_nil xs) (chars x)) (texts-rows s outer xs))
+
+-- what stands in front of a body belongs to its first row
+grouped : (x a b c d e : List ℕ) → x ++ (a ++ b ++ c ++ d ++ e) ≡ (x ++ a) ++ b ++ c ++ d ++ e
+grouped x a b c d e =
+    sym (append_assoc x (a ++ b ++ c ++ d) e)
+    ∙ ap (λ t. t ++ e) (sym (append_assoc x (a ++ b ++ c) d)
+    ∙ ap (λ t. t ++ d) (sym (append_assoc x (a ++ b) c)
+    ∙ ap (λ t. t ++ c) (sym (append_assoc x a b))))
+
+pub body-grouped : (x : List ℕ) (s : Settings) (m : Meaning) (drawn causes related : List ℕ)
+    → x ++ body_over s m drawn causes related ≡ (x ++ message_text s m) ++ causes ++ drawn ++ help_text s m.help
+    ++ related
+body-grouped x s m drawn causes related = grouped x (message_text s m) causes drawn (help_text s m.help) related
+
+pub above-ended : (x : List ℕ) (s : Settings) (m : Meaning) → IsEnded (x ++ message_text s m)
+above-ended x s m = ended-behind x (message_text s m) (message-ended s m)
+
+pub drawn-ended : (x : List ℕ) (s : Settings) (m : Meaning) (drawn causes : List ℕ) → EndsRow drawn → EndsRow causes
+    → IsEnded ((x ++ message_text s m) ++ causes ++ drawn ++ help_text s m.help)
+drawn-ended x s m drawn causes d h =
+    let above = x ++ message_text s m in
+    ended-rows (above ++ causes ++ drawn) (help_text s m.help)
+    (ended-rows (above ++ causes) drawn (ended-rows above causes (above-ended x s m) h) d) (help-rows s m.help)
+
+pub body-ended : (x : List ℕ) (s : Settings) (m : Meaning) (drawn causes related : List ℕ) → EndsRow drawn
+    → EndsRow causes → EndsRow related → IsEnded (x ++ body_over s m drawn causes related)
+body-ended x s m drawn causes related d h r =
+    subst IsEnded (sym (body-grouped x s m drawn causes related))
+    (ended-rows ((x ++ message_text s m) ++ causes ++ drawn ++ help_text s m.help) related
+    (drawn-ended x s m drawn causes d h) r)
+
+-- ---- parts of texts
+
+pub whole-stands : (text : List ℕ) → StandsIn text text
+whole-stands text = record { front = []; back = []; whole = sym (append-nil text); begins = inl refl }
+
+pub here-stands : (part back : List ℕ) → StandsIn part (part ++ back)
+here-stands part back = record { front = []; back = back; whole = refl; begins = inl refl }
+
+pub ahead-stands : (x part text : List ℕ) → EndsRow x → StandsIn part text → StandsIn part (x ++ text)
+ahead-stands x part text h k = record {
+  front = x ++ k.front;
+  back = k.back;
+  whole = ap (λ t. x ++ t) k.whole ∙ sym (append_assoc x (k.front ++ part) k.back)
+      ∙ ap (λ t. t ++ k.back) (sym (append_assoc x k.front part));
+  begins = rows-behind x k.front h k.begins;
+}
+
+pub behind-stands : (y part text : List ℕ) → StandsIn part text → StandsIn part (text ++ y)
+behind-stands y part text k = record {
+  front = k.front;
+  back = k.back ++ y;
+  whole = ap (λ t. t ++ y) k.whole ∙ append_assoc (k.front ++ part) k.back y;
+  begins = k.begins;
+}
+
+pub within-stands : (part text outer : List ℕ) → StandsIn part text → StandsIn text outer → StandsIn part outer
+within-stands part text outer h k = subst (StandsIn part) (sym k.whole)
+    (behind-stands k.back part (k.front ++ text) (ahead-stands k.front part text k.begins h))
+
+-- a row among rows
+pub row-stands : (rows : List (List Fragment)) (row : List Fragment) → Contains rows row
+    → StandsIn (print row ++ line_feed) (rows_text rows)
+row-stands [] row h = absurd (none row h)
+row-stands (q ∷ rows) row h =
+    let first = print q ++ line_feed in
+    elim (first_or_later q rows row h) [
+      | inl same ↦ subst (λ r. StandsIn (print r ++ line_feed) (rows_text (q ∷ rows))) same
+          (here-stands first (rows_text rows))
+      | inr there ↦ ahead-stands first (print row ++ line_feed) (rows_text rows) (inr (print q, refl))
+          (row-stands rows row there)
+    ]
+
+-- ---- in bytes
+
+fed-bytes : encode_utf8_all line_feed ≡ line_feed
+fed-bytes = ap (λ bs. bs ++ []) (encode_ascii 10 (omega arith))
+
+ended-bytes : (text : List ℕ) → EndsRow text → EndsRow (encode_utf8_all text)
+ended-bytes text h = elim h [
+  | inl none ↦ inl (ap encode_utf8_all none)
+  | inr e ↦ inr (
+    encode_utf8_all e.0,
+    ap encode_utf8_all e.1 ∙ encodes-append e.0 line_feed ∙ ap (λ bs. encode_utf8_all e.0 ++ bs) fed-bytes,
+  )
+]
+
+pub bytes-stand : (part text : List ℕ) → StandsIn part text → StandsIn (encode_utf8_all part) (encode_utf8_all text)
+bytes-stand part text k = record {
+  front = encode_utf8_all k.front;
+  back = encode_utf8_all k.back;
+  whole = ap encode_utf8_all k.whole ∙ encodes-append (k.front ++ part) k.back
+      ∙ ap (λ bs. bs ++ encode_utf8_all k.back) (encodes-append k.front part);
+  begins = ended-bytes k.front k.begins;
+}
