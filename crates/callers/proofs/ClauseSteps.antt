@@ -1,22 +1,25 @@
 -- What the clauses of a picture say of one report.
 use Rattle.std.proofs.Common.{◌≡◌, ℕ, Bool, List, [], ◌++◌, true, refl, sym, ◌∙◌, ap, ap₂, subst, arith}
+use Rattle.std.proofs.Common.{encode_utf8_all}
 use Rattle.std.specs.List.{AllByRecursion}
 use Rattle.std.specs.Str.{chars}
 use Rattle.bstr.specs.Utf8.{pieces_from}
 use Rattle.unicode_width.specs.Width.{char_width}
 use Rattle.miette_source_lines.specs.rules.Lines.{ends_line, line_of}
 use Rattle.miette_tree.specs.rules.Tree.{Tree}
-use Rattle.miette_style.specs.rules.Themes.{theme_of, ansi_styles, no_styles}
+use Rattle.miette_style.specs.rules.Themes.{Styles, theme_of, ansi_styles, no_styles}
 use Rattle.miette_style.specs.rules.Themes.{unicode_characters}
 use Rattle.miette_style.specs.declared.theme.GraphicalTheme.{GraphicalTheme}
+use Rattle.miette_graphical.specs.rules.Answers.{unlisted}
 use Rattle.miette_graphical.specs.rules.PossibleAnswers.{Appends, IsTextOf}
 use Rattle.miette_graphical.specs.laws.Clean.{AreCleanSettings, IsCleanTree}
-use Rattle.miette_graphical.specs.laws.Colourless.{IsRestyledText}
+use Rattle.miette_graphical.specs.laws.Colourless.{ArePlain, restyled}
 use Rattle.miette_graphical.specs.laws.Headline.{LinesAreShown, MarksAreApart, TextsHang}
 use Rattle.miette_graphical.specs.laws.CharacterSets.{AreNarrow}
 use Rattle.miette_graphical.specs.rules.PrintedDiagnostics.{all_read, diagnostics_of}
-use Rattle.miette_graphical.specs.rules.Settings.{default_settings}
+use Rattle.miette_graphical.specs.rules.Settings.{Settings, default_settings}
 use Rattle.miette_graphical.specs.rules.Snippets.{drawn_rows}
+use Rattle.miette_graphical.specs.rules.Text.{report_text}
 use Rattle.miette_graphical.specs.views.Handling.{Handling, draws_plain, without_highlighter}
 use Rattle.miette_runs.specs.rules.Sequences.{erase}
 use Rattle.miette_text.specs.rules.ColouredTexts.{AppendsErasing}
@@ -81,29 +84,46 @@ text_hangs h t p q narrow all =
     (subst (λ g. AllByRecursion (TextsHang g.settings) (diagnostics_of g.settings t)) p all) in
     here.0 narrow
 
--- ---- both pictures are one without their colours
+-- ---- the plain picture is the text of the definition, and the coloured one is it too, without its colours
 
-pub one_text : {H G : Type 0} (other_blank : G → Bool) (h : Handling H) (g : Handling G) (t : Tree)
-    (old new old' new' : List ℕ)
-    → h ≡ without_highlighter in_colours → g ≡ without_highlighter plain → t ≡ warning_tree → old ≡ [] → old' ≡ []
-    → (all_read (diagnostics_of h.settings t) ≡ true → AreCleanSettings h.settings → IsCleanTree t → (others : List ℕ)
-    → IsRestyledText drawn_rows h.settings t others → AppendsErasing old new (erase others))
-    → AreCleanSettings in_colours
-    → Appends drawn_rows g.settings (draws_plain other_blank g) t old' new'
-    → erase new ≡ erase new'
-one_text other_blank h g t old new old' new' p q r none none' themes tame given =
-    let reads : all_read (diagnostics_of h.settings t) ≡ true = ap₂ (λ u w. all_read (diagnostics_of u.settings w)) p r
-    in
+are_read : {H : Type 0} (h : Handling H) (t : Tree) (s : Settings) → h ≡ without_highlighter s → t ≡ warning_tree
+    → all_read (diagnostics_of s warning_tree) ≡ true → all_read (diagnostics_of h.settings t) ≡ true
+are_read h t s p r read = ap₂ (λ u w. all_read (diagnostics_of u.settings w)) p r ∙ read
+
+pub plain_text : {H : Type 0} (is_blank : H → Bool) (h : Handling H) (t : Tree) (old new : List ℕ)
+    → h ≡ without_highlighter plain → t ≡ warning_tree → old ≡ []
+    → (draws_plain is_blank h ≡ true → all_read (diagnostics_of h.settings t) ≡ true
+    → new ≡ old ++ encode_utf8_all (report_text drawn_rows h.settings t unlisted))
+    → new ≡ encode_utf8_all (report_text drawn_rows plain warning_tree unlisted)
+plain_text is_blank h t old new p r none only =
+    only (ap (draws_plain is_blank) p) (are_read h t plain p r refl)
+    ∙ ap (λ o. o ++ encode_utf8_all (report_text drawn_rows h.settings t unlisted)) none
+    ∙ ap₂ (λ u w. encode_utf8_all (report_text drawn_rows u.settings w unlisted)) p r
+
+pub bare_text : {H : Type 0} (h : Handling H) (t : Tree) (old new : List ℕ)
+    → h ≡ without_highlighter in_colours → t ≡ warning_tree → old ≡ []
+    → (all_read (diagnostics_of h.settings t) ≡ true → AreCleanSettings h.settings → IsCleanTree t
+    → (styles : Styles) → ArePlain styles
+    → AppendsErasing old new (encode_utf8_all (report_text drawn_rows (restyled h.settings styles) t unlisted)))
+    → AreCleanSettings in_colours → ArePlain no_styles
+    → erase new ≡ encode_utf8_all (report_text drawn_rows plain warning_tree unlisted)
+bare_text h t old new p r none coloured tame bare =
     let settings : AreCleanSettings h.settings = subst (λ u. AreCleanSettings u.settings) (sym p) tame in
-    let tree : IsCleanTree t = subst IsCleanTree (sym r) clean in
-    let other : IsTextOf drawn_rows g.settings (draws_plain other_blank g) t given.text = given.is_given in
-    let same : record h.settings { theme = record h.settings.theme { styles = no_styles } } ≡ g.settings =
-    ap (λ u. record u.settings { theme = record u.settings.theme { styles = no_styles } }) p
-    ∙ sym (ap (λ u. u.settings) q) in
-    let restyled : IsTextOf drawn_rows (record h.settings { theme = record h.settings.theme { styles = no_styles } })
-    (draws_plain other_blank g) t
-    given.text =
-    subst (λ s. IsTextOf drawn_rows s (draws_plain other_blank g) t given.text) (sym same) other in
-    let bare = themes reads settings tree given.text (no_styles, draws_plain other_blank g, restyled) in
-    ap erase (bare.1 ∙ ap (λ o. o ++ bare.0) none) ∙ bare.2
-    ∙ sym (ap erase (given.appended ∙ ap (λ o. o ++ given.text) none'))
+    let appended = coloured (are_read h t in_colours p r refl) settings (subst IsCleanTree (sym r) clean) no_styles
+    bare in
+    ap erase (appended.1 ∙ ap (λ o. o ++ appended.0) none) ∙ appended.2
+    ∙ ap₂ (λ u w. encode_utf8_all (report_text drawn_rows (restyled u.settings no_styles) w unlisted)) p r
+
+-- ---- what every handler appends, where it can be one text alone
+
+pub debugged : {H : Type 0} (is_blank : H → Bool) (h : Handling H) (t : Tree) (old new : List ℕ)
+    → h ≡ without_highlighter plain → t ≡ warning_tree → old ≡ []
+    → Appends drawn_rows h.settings (draws_plain is_blank h) t old new
+    → ((s : Settings) (t : Tree) (bytes : List ℕ) → IsTextOf drawn_rows s true t bytes
+    → all_read (diagnostics_of s t) ≡ true → bytes ≡ encode_utf8_all (report_text drawn_rows s t unlisted))
+    → new ≡ encode_utf8_all (report_text drawn_rows plain warning_tree unlisted)
+debugged is_blank h t old new p r none given law =
+    let known : IsTextOf drawn_rows plain true warning_tree given.text =
+    subst (λ w. IsTextOf drawn_rows plain true w given.text) r
+    (subst (λ u. IsTextOf drawn_rows u.settings (draws_plain is_blank u) t given.text) p given.is_given) in
+    given.appended ∙ ap (λ o. o ++ given.text) none ∙ law plain warning_tree given.text known refl

@@ -10,12 +10,12 @@ ghost use Rattle.callers.specs.Known.{HasOwnMark, ShowsBothLines, TextHangs, pla
 
 use miette::diagnostic::MietteDiagnostic;
 use miette::error::RenderError;
-use miette::handlers::GraphicalReportHandler;
+use miette::handlers::{GraphicalReportHandler, ReportHandler};
 use miette::protocol::{Diagnostic, LabeledSpan};
 use miette::report::{OwnedSource, Report};
 use miette::source::SourceCode;
 use miette::theme::GraphicalTheme;
-use miette_graphical::laws::themes_law;
+use miette_graphical::laws::{only_law, plain_law, themes_law};
 use std::alloc::{AllocError, Global};
 
 /// A report in colours, and in plain characters.
@@ -46,9 +46,8 @@ pub fn draw_both(alloc: Global, report: &Report) -> Result<Pictures, RenderError
     // the plain one is the text of the definition,
     ensures plain { IfOk result (λ p. string_bytes p.plain
         ≡ encode_utf8_all (report_text drawn_rows plain warning_tree unlisted)) }
-    // and without their colours they are the same
-    ensures colours { IfOk result (λ p.
-        erase (string_bytes p.coloured) ≡ erase (string_bytes p.plain)) }
+    // and the coloured one is it too, without its colours
+    ensures colours { IfOk result (λ p. erase (string_bytes p.coloured) ≡ string_bytes p.plain) }
     // its snippet shows the two lines, the label's mark is the column of the name, and its text
     // hangs from it
     ensures lines { IfOk result (λ p. ShowsBothLines plain) }
@@ -56,6 +55,7 @@ pub fn draw_both(alloc: Global, report: &Report) -> Result<Pictures, RenderError
     ensures texts { IfOk result (λ p. TextHangs plain) }
 {
     themes_law();
+    plain_law();
     let mut coloured = String::new(alloc);
     let mut plain = String::new(alloc);
     let mut handler = GraphicalReportHandler::new_themed(GraphicalTheme::unicode(alloc)?);
@@ -63,4 +63,18 @@ pub fn draw_both(alloc: Global, report: &Report) -> Result<Pictures, RenderError
     let mut handler = GraphicalReportHandler::new_themed(GraphicalTheme::unicode_nocolor(alloc)?);
     handler.render_report(report, &mut plain)?;
     Ok(Pictures { coloured, plain })
+}
+
+/// The plain one alone, by the call that every handler has.
+pub fn debug_plain(alloc: Global, report: &Report) -> Result<String, RenderError>
+    requires { tree_of ⟦<Box<dyn Diagnostic> as Diagnostic>⟧.meaning
+        ⟦<Box<dyn SourceCode> as SourceCode>⟧.source report.now ≡ warning_tree }
+    ensures { IfOk result (λ text. string_bytes text
+        ≡ encode_utf8_all (report_text drawn_rows plain warning_tree unlisted)) }
+{
+    only_law();
+    let mut text = String::new(alloc);
+    let mut handler = GraphicalReportHandler::new_themed(GraphicalTheme::unicode_nocolor(alloc)?);
+    handler.debug(report, &mut text)?;
+    Ok(text)
 }

@@ -1,17 +1,23 @@
-use Rattle.std.proofs.Common.{refl, inl}
+use Rattle.std.proofs.Common.{refl, inl, sym, ◌∙◌}
 use Rattle.miette_style.specs.rules.Themes.{ansi_styles, unicode_characters}
-use Rattle.callers.proofs.ClauseSteps.{both_lines, coloured-one, one_text, own_mark, plain-one, text_hangs}
+use Rattle.callers.proofs.ClauseSteps.{bare_text, both_lines, coloured-one, own_mark, plain-one, plain_text}
+use Rattle.callers.proofs.ClauseSteps.{text_hangs}
 use Rattle.callers.proofs.handlers.draw_both.Goals as goal
+
+pub returns-clause-plain : goal.returns-clause-plain
+returns-clause-plain g c =
+    plain_text _ c.new_themed-handler-2.result _ _ _
+    (plain-one c.in_ok-unicode_nocolor.field-0 _ c.in_ok-unicode_nocolor.ensures c.new_themed-handler-2.ensures)
+    c.requires c.new-plain.ensures.bytes c.in_ok-render_report-2.ensures.only
 
 pub returns-clause-colours : goal.returns-clause-colours
 returns-clause-colours g c =
-    one_text _ c.new_themed-handler.result c.new_themed-handler-2.result _ _ _ _ _
+    bare_text c.new_themed-handler.result _ _ _
     (coloured-one c.in_ok-unicode.field-0 _ c.in_ok-unicode.ensures c.new_themed-handler.ensures)
-    (plain-one c.in_ok-unicode_nocolor.field-0 _ c.in_ok-unicode_nocolor.ensures c.new_themed-handler-2.ensures)
-    c.requires c.new-coloured.ensures.bytes c.new-plain.ensures.bytes
-    c.in_ok-render_report.ensures.themes
+    c.requires c.new-coloured.ensures.bytes c.in_ok-render_report.ensures.plain
     (c.themes_law.ensures.settings (record { characters = unicode_characters; styles = ansi_styles }) (inl refl))
-    c.in_ok-render_report-2.ensures.ok
+    c.plain_law.ensures.shipped
+    ∙ sym (returns-clause-plain g c)
 
 pub returns-clause-lines : goal.returns-clause-lines
 returns-clause-lines g c =
