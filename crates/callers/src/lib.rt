@@ -5,6 +5,7 @@
 
 pub mod brief;
 pub mod descriptions;
+pub mod fixes;
 pub mod handlers;
 pub mod highlight;
 pub mod layout;

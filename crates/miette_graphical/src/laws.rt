@@ -170,9 +170,9 @@ pub fn printed_law()
         report_text rows s t a ≡ report_text rows s t b }
 {}
 
-/// Of each printed diagnostic a report's text holds the snippets: at each path, under the arrows that are on it, as they
-/// are where there is none (`holds`). There each row stands in the bytes, with the line feed behind it, at the beginning
-/// of a line (`rows`). So it is of each text that may be printed (`text`).
+/// Of each printed diagnostic a report's text holds the snippets: at each path, under the arrows that are on it, as
+/// they are where there is none (`holds`). There each row stands in the bytes, with the line feed behind it, at the
+/// beginning of a line (`rows`). So it is of each text that may be printed (`text`).
 pub fn holding_law()
     ensures holds { (rows : SnippetRows) (s : Settings) (t : Tree) (a : Answers) →
         HoldsSnippets rows s t a (report_text rows s t a) }
