@@ -2,6 +2,7 @@
 //! their text. This crate names what its users need from the layers below.
 #![tactic(auto)]
 
+pub mod laws;
 pub mod options;
 pub mod prelude;
 pub mod print;

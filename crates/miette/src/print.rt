@@ -1,14 +1,16 @@
 //! Reports on standard output and standard error, and the status that a program ends with.
 
-ghost use Rattle.std.specs.Prelude.{◌≡◌, ◌⊎◌, OnOk, OnErr};
+ghost use Rattle.std.specs.Prelude.{◌≡◌, ◌⊎◌, IfOk, OnOk, OnErr};
+ghost use Rattle.std.specs.Io.KnownBytes.{Appends};
 ghost use Rattle.std.specs.Process.{exit_status};
 ghost use Rattle.miette_tree.specs.views.Report.{tree_of};
 ghost use Rattle.miette.specs.declared.print.PrintError.TheVariants.{Memory};
+ghost use Rattle.miette.specs.rules.Detection.{IsToldBy};
 ghost use Rattle.miette.specs.rules.Options.{no_options};
-ghost use Rattle.miette.specs.rules.Printing.{IsPrinted, WritesOne};
+ghost use Rattle.miette.specs.rules.Printing.{IsPrinted, MayRefuse, WritesOne, unprinted_row};
 
 use crate::options::MietteHandlerOpts;
-use crate::terminal::{Stream, Streams, detect};
+use crate::terminal::{Lookup, Stream, Streams, detect};
 use miette_handlers::handlers::ReportHandler;
 use miette_highlight::highlight::{BlankHighlighter, Highlighter};
 use miette_protocol::error::RenderError;
@@ -16,10 +18,9 @@ use miette_protocol::protocol::Diagnostic;
 use miette_protocol::source::SourceCode;
 use miette_tree::report::Report;
 use std::alloc::{AllocError, Global};
-use std::env::Env;
-use std::fmt;
 use std::io::Write;
 use std::process::ExitCode;
+use std::{fmt, io};
 
 /// Why a report wasn't printed.
 #[derive(Clone, Copy, Debug, PartialEq, Eq)]
@@ -32,13 +33,30 @@ pub enum PrintError {
     Write,
 }
 
+/// Prints which of the three it is.
 impl fmt::Display for PrintError {
+    ghost use Rattle.std.specs.Prelude.{Some};
+    ghost use Rattle.miette.specs.rules.Printing.{print_text};
+
+    ghost output = { λ it. Some (print_text it) };
+
     fn fmt<W: fmt::Write>(&self, f: &mut fmt::Formatter<W>) -> fmt::Result {
-        f.write_str(match self {
+        f.write_str(self.text())
+    }
+}
+
+impl PrintError {
+    ghost use Rattle.miette.specs.rules.Printing.{print_text};
+
+    /// What it prints. Takes no memory.
+    pub fn text(&self) -> &'static str
+        ensures { result.now ≡ print_text self.now }
+    {
+        match self {
             PrintError::Memory => "out of memory",
             PrintError::Refused => "a source could not be read",
             PrintError::Write => "write fault",
-        })
+        }
     }
 }
 
@@ -63,9 +81,28 @@ impl From<RenderError> for PrintError {
     }
 }
 
+/// Where a report is printed, and what is told where that fails.
+#[derive(Drop)]
+pub struct Outputs<W, F> {
+    /// Takes the report.
+    pub writer: W,
+    /// Takes the row that says why it was not printed.
+    pub faults: F,
+}
+
+impl<W, F> Outputs<W, F> {
+    /// These two.
+    pub fn new(writer: W, faults: F) -> Self
+        ensures writer { result.writer ≡ writer }
+        ensures faults { result.faults ≡ faults }
+    {
+        Outputs { writer, faults }
+    }
+}
+
 /// Prints a report on standard error, as its terminal has it, and gives the status 1, with which `main` ends a program
-/// that failed. Where that fails, standard error is told why.
-pub fn eprint_report<R: Env + AllocGlobal + Streams, D: Diagnostic, S: SourceCode>(
+/// that failed. Where that fails, standard error is told why, as by `print_on`.
+pub fn eprint_report<R: Lookup + AllocGlobal + Streams, D: Diagnostic, S: SourceCode>(
     rt: &R,
     report: &Report<D, S>,
 ) -> ExitCode
@@ -75,7 +112,7 @@ pub fn eprint_report<R: Env + AllocGlobal + Streams, D: Diagnostic, S: SourceCod
 }
 
 /// As `eprint_report`, on standard output.
-pub fn print_report<R: Env + AllocGlobal + Streams, D: Diagnostic, S: SourceCode>(
+pub fn print_report<R: Lookup + AllocGlobal + Streams, D: Diagnostic, S: SourceCode>(
     rt: &R,
     report: &Report<D, S>,
 ) -> ExitCode
@@ -86,36 +123,76 @@ pub fn print_report<R: Env + AllocGlobal + Streams, D: Diagnostic, S: SourceCode
 
 /// As `eprint_report`, by the handler that these options choose.
 pub fn eprint_report_with<
-    R: Env + AllocGlobal + Streams,
+    R: Lookup + AllocGlobal + Streams,
     H: Highlighter,
     D: Diagnostic,
     S: SourceCode,
 >(rt: &R, options: MietteHandlerOpts<H>, report: &Report<D, S>) -> ExitCode
     ensures { exit_status result ≡ 1 }
 {
-    let printed = print_to(rt, Stream::Stderr, options, report, &mut rt.faults());
-    exit_code_of(printed, rt.faults())
+    let mut outputs = Outputs::new(rt.faults(), rt.faults());
+    failed(print_on(rt, Stream::Stderr, options, report, &mut outputs))
 }
 
 /// As `print_report`, by the handler that these options choose.
 pub fn print_report_with<
-    R: Env + AllocGlobal + Streams,
+    R: Lookup + AllocGlobal + Streams,
     H: Highlighter,
     D: Diagnostic,
     S: SourceCode,
 >(rt: &R, options: MietteHandlerOpts<H>, report: &Report<D, S>) -> ExitCode
     ensures { exit_status result ≡ 1 }
 {
-    let printed = print_to(rt, Stream::Stdout, options, report, &mut rt.output());
-    exit_code_of(printed, rt.faults())
+    let mut outputs = Outputs::new(rt.output(), rt.faults());
+    failed(print_on(rt, Stream::Stdout, options, report, &mut outputs))
+}
+
+/// Prints a report on a writer, by the handler that the options choose for the terminal of the stream: the status 0.
+/// Where that fails, `faults` is told why, by a row, `a report could not be printed: write fault`: the status 1.
+///
+/// # Errors
+/// That of `faults`, where it was told and did not take the row.
+pub fn print_on<
+    R: Lookup + AllocGlobal + Streams,
+    H: Highlighter,
+    D: Diagnostic,
+    S: SourceCode,
+    W: Write,
+    F: Write,
+>(
+    rt: &R,
+    stream: Stream,
+    options: MietteHandlerOpts<H>,
+    report: &Report<D, S>,
+    outputs: &mut Outputs<W, F>,
+) -> io::Result<ExitCode>
+    ensures status { IfOk result (λ code. (exit_status code ≡ 0) ⊎ (exit_status code ≡ 1)) }
+    ensures printed { IfOk result (λ code. exit_status code ≡ 0 →
+        WritesOne (IsPrinted (IsToldBy (R.variable_may_be rt.now) (R.terminal_may_be rt.now)) H.is_blank options stream
+        (tree_of D.meaning S.source report.now)) (W.contents outputs.old.writer) (W.contents outputs.new.writer)) }
+    ensures silent { IfOk result (λ code. exit_status code ≡ 0 → outputs.new.faults ≡ outputs.old.faults) }
+    ensures told { IfOk result (λ code. exit_status code ≡ 1 → (why : PrintError)
+        × Appends (F.contents outputs.old.faults) (F.contents outputs.new.faults) (unprinted_row why)
+        × ((why ≡ PrintError.Write) ⊎ (outputs.new.writer ≡ outputs.old.writer))
+        × (why ≡ PrintError.Refused → MayRefuse (IsToldBy (R.variable_may_be rt.now) (R.terminal_may_be rt.now))
+        options stream (tree_of D.meaning S.source report.now))) }
+{
+    match print_to(rt, stream, options, report, &mut outputs.writer) {
+        Ok(()) => Ok(ExitCode::SUCCESS),
+        Err(why) => {
+            tell(why, &mut outputs.faults)?;
+            Ok(ExitCode::FAILURE)
+        }
+    }
 }
 
 /// Writes a report, by the handler that the options choose for the terminal of the stream.
 ///
 /// # Errors
-/// `Memory` and `Refused`, after which nothing was written, and `Write` where the writer failed.
+/// `Memory`; `Refused` as that handler says: nothing was written then. `Write` where the writer failed, which may have
+/// taken a beginning of the text.
 pub fn print_to<
-    R: Env + AllocGlobal + Streams,
+    R: Lookup + AllocGlobal + Streams,
     H: Highlighter,
     D: Diagnostic,
     S: SourceCode,
@@ -127,8 +204,12 @@ pub fn print_to<
     report: &Report<D, S>,
     writer: &mut W,
 ) -> Result<(), PrintError>
-    ensures ok { OnOk result (WritesOne (IsPrinted H.is_blank options stream (tree_of D.meaning S.source report.now))
+    ensures ok { OnOk result (WritesOne (IsPrinted (IsToldBy (R.variable_may_be rt.now) (R.terminal_may_be rt.now))
+        H.is_blank options stream (tree_of D.meaning S.source report.now))
         (W.contents writer.old) (W.contents writer.new)) }
+    ensures refused { (result ≡ Err PrintError.Refused) → MayRefuse
+        (IsToldBy (R.variable_may_be rt.now) (R.terminal_may_be rt.now)) options stream
+        (tree_of D.meaning S.source report.now) }
     ensures untouched { OnErr result ((result ≡ Err PrintError.Write) ⊎ (writer.new ≡ writer.old)) }
 {
     let terminal = detect(rt, stream)?;
@@ -169,12 +250,16 @@ fn plain() -> MietteHandlerOpts<BlankHighlighter>
     MietteHandlerOpts::default()
 }
 
-// The status of a program that printed a report, or tried to.
-fn exit_code_of<F: Write + Drop>(printed: Result<(), PrintError>, mut faults: F) -> ExitCode
+// The row that says why a report was not printed.
+fn tell<F: Write>(why: PrintError, faults: &mut F) -> io::Result<()>
+    ensures { OnOk result (Appends (F.contents faults.old) (F.contents faults.new) (unprinted_row why)) }
+{
+    writeln!(faults, "a report could not be printed: {why}")
+}
+
+// The status of a program that failed, whether its report was printed or not.
+fn failed(_printed: io::Result<ExitCode>) -> ExitCode
     ensures { exit_status result ≡ 1 }
 {
-    if let Err(error) = printed {
-        let _ = writeln!(faults, "a report could not be printed: {error}");
-    }
-    ExitCode::from(1)
+    ExitCode::FAILURE
 }

@@ -1,11 +1,12 @@
 //! What a program is told of its terminal: by variables, and by its streams.
 
-ghost use Rattle.std.specs.Prelude.{◌≡◌, IfOk, Some, option_map, string_bytes};
+ghost use Rattle.std.specs.Prelude.{◌≡◌, ℕ, List, Bool, Option, IfOk, OnOk, Some, option_map, string_bytes};
 ghost use Rattle.miette_style.specs.rules.Themes.{refuses_colours};
-ghost use Rattle.miette.specs.rules.Detection.{IsDetected, IsWidth, colours_of, draws_unicode, forced_colours};
-ghost use Rattle.miette.specs.rules.Detection.{goes_to_terminal, has_many_colours, is_dumb, is_linking_kind};
-ghost use Rattle.miette.specs.rules.Detection.{is_linking_program, is_set_to, is_utf8_locale, lacks_colours};
-ghost use Rattle.miette.specs.rules.Detection.{names_utf8, own_colours, shows_links};
+ghost use Rattle.miette.specs.declared.terminal.Stream.{Stream};
+ghost use Rattle.miette.specs.rules.Detection.{AreLookedUp, IsDetected, IsToldBy, IsWidth, colours_of, draws_unicode};
+ghost use Rattle.miette.specs.rules.Detection.{forced_colours, goes_to_terminal, has_many_colours, is_dumb};
+ghost use Rattle.miette.specs.rules.Detection.{is_linking_kind, is_linking_program, is_set_to, is_utf8_locale};
+ghost use Rattle.miette.specs.rules.Detection.{lacks_colours, names_utf8, own_colours, shows_links};
 
 use miette_style::theme::Terminal;
 use std::alloc::AllocError;
@@ -30,17 +31,27 @@ pub trait Streams {
     /// Standard error.
     type Faults: Write + IsTerminal + Drop;
 
+    /// What may be answered of a stream: whether it goes to a terminal.
+    ghost terminal_may_be: { Self → Stream → Bool → Type 0 };
+
     /// Standard output.
     fn output(&self) -> Self::Out;
 
     /// Standard error.
     fn faults(&self) -> Self::Faults;
+
+    /// Whether this stream goes to a terminal.
+    fn goes_to_terminal(&self, stream: Stream) -> bool
+        ensures { terminal_may_be self.now stream result };
 }
 
+/// The streams of the program. No clause says whether they go to terminals: that is the system's.
 impl Streams for HostRuntime {
     type Out = Stdout;
 
     type Faults = Stderr;
+
+    ghost terminal_may_be = { λ _ _ _. Unit {0} };
 
     fn output(&self) -> Stdout {
         self.stdout()
@@ -48,6 +59,39 @@ impl Streams for HostRuntime {
 
     fn faults(&self) -> Stderr {
         self.stderr()
+    }
+
+    fn goes_to_terminal(&self, stream: Stream) -> bool {
+        match stream {
+            Stream::Stdout => self.stdout().is_terminal(),
+            Stream::Stderr => self.stderr().is_terminal(),
+        }
+    }
+}
+
+/// A handle that gives variables by their names.
+pub trait Lookup {
+    /// What may be answered of a name: the variable's text, or nothing where it isn't set.
+    ghost variable_may_be: { Self → List ℕ → Option (List ℕ) → Type 0 };
+
+    /// The variable of this name, where it is set. One that isn't UTF-8 counts as not set.
+    ///
+    /// # Errors
+    /// Where no memory is found for it.
+    fn variable(&self, name: &str) -> Result<Option<String>, AllocError>
+        ensures { IfOk result (λ text. variable_may_be self.now name.now (option_map string_bytes text)) };
+}
+
+/// The variables of the program. No clause says what they are: that is the system's.
+impl<R: Env + AllocGlobal> Lookup for R {
+    ghost variable_may_be = { λ _ _ _. Unit {0} };
+
+    fn variable(&self, name: &str) -> Result<Option<String>, AllocError> {
+        match env::var(self, name) {
+            Ok(text) => Ok(Some(text)),
+            Err(VarError::OutOfMemory) => Err(AllocError),
+            Err(VarError::NotPresent | VarError::NotUnicode) => Ok(None),
+        }
     }
 }
 
@@ -93,55 +137,56 @@ pub struct Variables {
 ///
 /// # Errors
 /// Where no memory is found for the variables.
-pub fn detect<R: Env + AllocGlobal + Streams>(
-    rt: &R,
-    stream: Stream,
-) -> Result<Terminal, AllocError>
-    ensures { IfOk result (λ it. (v : _) × IsDetected v stream it) }
+pub fn detect<R: Lookup + Streams>(rt: &R, stream: Stream) -> Result<Terminal, AllocError>
+    ensures { IfOk result (λ it. (v : _) × IsToldBy (R.variable_may_be rt.now) (R.terminal_may_be rt.now) v
+        × IsDetected v stream it) }
 {
-    let out = rt.output().is_terminal();
-    let faults = rt.faults().is_terminal();
-    Ok(Variables::read(rt, out, faults)?.terminal(stream))
+    let output = rt.goes_to_terminal(Stream::Stdout);
+    let faults = rt.goes_to_terminal(Stream::Stderr);
+    Ok(Variables::read(rt, output, faults)?.terminal(stream))
 }
 
 impl Variables {
-    /// The variables of the program, with what is known of its two streams. One that isn't UTF-8 counts as not set.
+    /// Each variable as it is looked up by its name, with what is known of the two streams. The program's own are those
+    /// of its `HostRuntime`.
     ///
     /// # Errors
     /// Where no memory is found for them.
-    pub fn read<R: Env + AllocGlobal>(
-        rt: &R,
+    pub fn read<L: Lookup>(
+        lookup: &L,
         stdout_terminal: bool,
         stderr_terminal: bool,
     ) -> Result<Variables, AllocError>
+        ensures variables { IfOk result (AreLookedUp (L.variable_may_be lookup.now)) }
         ensures output { IfOk result (λ it. it.stdout_terminal ≡ stdout_terminal) }
         ensures faults { IfOk result (λ it. it.stderr_terminal ≡ stderr_terminal) }
     {
         let mut it = Variables::default();
         it.stdout_terminal = stdout_terminal;
         it.stderr_terminal = stderr_terminal;
-        it.read_all(rt)?;
+        it.read_all(lookup)?;
         Ok(it)
     }
 
-    fn read_all<R: Env + AllocGlobal>(&mut self, rt: &R) -> Result<(), AllocError>
+    fn read_all<L: Lookup>(&mut self, lookup: &L) -> Result<(), AllocError>
+        ensures variables { OnOk result (AreLookedUp (L.variable_may_be lookup.now) self.new) }
         ensures output { self.new.stdout_terminal ≡ self.old.stdout_terminal }
         ensures faults { self.new.stderr_terminal ≡ self.old.stderr_terminal }
     {
-        fill(rt, "FORCE_COLOR", &mut self.force_color)?;
-        fill(rt, "NO_COLOR", &mut self.no_color)?;
-        fill(rt, "CLICOLOR", &mut self.clicolor)?;
-        fill(rt, "COLORTERM", &mut self.colorterm)?;
-        fill(rt, "TERM", &mut self.term)?;
-        fill(rt, "TERM_PROGRAM", &mut self.term_program)?;
-        fill(rt, "VTE_VERSION", &mut self.vte_version)?;
-        fill(rt, "KONSOLE_VERSION", &mut self.konsole_version)?;
-        fill(rt, "WT_SESSION", &mut self.wt_session)?;
-        fill(rt, "LC_ALL", &mut self.lc_all)?;
-        fill(rt, "LC_CTYPE", &mut self.lc_ctype)?;
-        fill(rt, "LANG", &mut self.lang)?;
-        fill(rt, "COLUMNS", &mut self.columns)?;
-        fill(rt, "NO_GRAPHICS", &mut self.no_graphics)?;
+        fill(lookup, "FORCE_COLOR", &mut self.force_color)?;
+        fill(lookup, "NO_COLOR", &mut self.no_color)?;
+        fill(lookup, "CLICOLOR", &mut self.clicolor)?;
+        fill(lookup, "COLORTERM", &mut self.colorterm)?;
+        fill(lookup, "TERM", &mut self.term)?;
+        fill(lookup, "TERM_PROGRAM", &mut self.term_program)?;
+        fill(lookup, "VTE_VERSION", &mut self.vte_version)?;
+        fill(lookup, "KONSOLE_VERSION", &mut self.konsole_version)?;
+        fill(lookup, "WT_SESSION", &mut self.wt_session)?;
+        fill(lookup, "LC_ALL", &mut self.lc_all)?;
+        fill(lookup, "LC_CTYPE", &mut self.lc_ctype)?;
+        fill(lookup, "LANG", &mut self.lang)?;
+        fill(lookup, "COLUMNS", &mut self.columns)?;
+        fill(lookup, "NO_GRAPHICS", &mut self.no_graphics)?;
         Ok(())
     }
 
@@ -246,23 +291,12 @@ impl Variables {
     }
 }
 
-// A variable goes into its slot where it is set.
-fn fill<R: Env + AllocGlobal>(
-    rt: &R,
-    name: &str,
-    slot: &mut Option<String>,
-) -> Result<(), AllocError> {
-    *slot = variable(rt, name)?;
+// What is looked up by this name goes into its slot.
+fn fill<L: Lookup>(lookup: &L, name: &str, slot: &mut Option<String>) -> Result<(), AllocError>
+    ensures { OnOk result (L.variable_may_be lookup.now name.now (option_map string_bytes slot.new)) }
+{
+    *slot = lookup.variable(name)?;
     Ok(())
-}
-
-// A variable where it is set.
-fn variable<R: Env + AllocGlobal>(rt: &R, name: &str) -> Result<Option<String>, AllocError> {
-    match env::var(rt, name) {
-        Ok(text) => Ok(Some(text)),
-        Err(VarError::OutOfMemory) => Err(AllocError),
-        Err(VarError::NotPresent | VarError::NotUnicode) => Ok(None),
-    }
 }
 
 fn is_set_to(variable: &Option<String>, wanted: &str) -> bool

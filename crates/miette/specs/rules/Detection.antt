@@ -13,6 +13,32 @@ use Rattle.miette.specs.declared.terminal.Stream.{Stream}
 use Rattle.miette.specs.declared.terminal.Stream.TheVariants.{Stdout, Stderr}
 use Rattle.miette.specs.declared.terminal.Variables.{Variables}
 
+-- ---- where the variables come from
+
+-- each is what may be answered of its name
+pub record AreLookedUp (may_be : List ℕ → Option (List ℕ) → Type 0) (v : Variables) : Type 0 where
+  pub force_color : may_be (codes "FORCE_COLOR") (option_map string_bytes v.force_color)
+  pub no_color : may_be (codes "NO_COLOR") (option_map string_bytes v.no_color)
+  pub clicolor : may_be (codes "CLICOLOR") (option_map string_bytes v.clicolor)
+  pub colorterm : may_be (codes "COLORTERM") (option_map string_bytes v.colorterm)
+  pub term : may_be (codes "TERM") (option_map string_bytes v.term)
+  pub term_program : may_be (codes "TERM_PROGRAM") (option_map string_bytes v.term_program)
+  pub vte_version : may_be (codes "VTE_VERSION") (option_map string_bytes v.vte_version)
+  pub konsole_version : may_be (codes "KONSOLE_VERSION") (option_map string_bytes v.konsole_version)
+  pub wt_session : may_be (codes "WT_SESSION") (option_map string_bytes v.wt_session)
+  pub lc_all : may_be (codes "LC_ALL") (option_map string_bytes v.lc_all)
+  pub lc_ctype : may_be (codes "LC_CTYPE") (option_map string_bytes v.lc_ctype)
+  pub lang : may_be (codes "LANG") (option_map string_bytes v.lang)
+  pub columns : may_be (codes "COLUMNS") (option_map string_bytes v.columns)
+  pub no_graphics : may_be (codes "NO_GRAPHICS") (option_map string_bytes v.no_graphics)
+
+-- and the streams go to terminals as may be answered of them
+abbrev pub IsToldBy : (List ℕ → Option (List ℕ) → Type 0) → (Stream → Bool → Type 0) → Variables → Type 0
+IsToldBy variables terminals v =
+    AreLookedUp variables v × terminals Stdout v.stdout_terminal × terminals Stderr v.stderr_terminal
+
+-- ---- single variables
+
 -- a variable is set to this text
 abbrev pub is_set_to : Option (String Global) → List ℕ → Bool
 is_set_to None wanted = false

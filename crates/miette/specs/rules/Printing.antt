@@ -1,5 +1,5 @@
 -- What printing a report writes.
-use Rattle.std.specs.Prelude.{ℕ, Bool, List, Option}
+use Rattle.std.specs.Prelude.{ℕ, Bool, List, Option, ◌++◌, codes}
 use Rattle.std.specs.Io.KnownBytes.{Appends}
 use Rattle.miette_protocol.specs.declared.error.RenderError.{RenderError}
 use Rattle.miette_protocol.specs.declared.error.RenderError.TheVariants as rendering
@@ -7,7 +7,7 @@ use Rattle.miette_style.specs.declared.theme.Terminal.{Terminal}
 use Rattle.miette_tree.specs.rules.Tree.{Tree}
 use Rattle.miette.specs.rules.Choice.{IsChosen}
 use Rattle.miette.specs.rules.Detection.{IsDetected}
-use Rattle.miette.specs.views.Handler.{Gives}
+use Rattle.miette.specs.views.Handler.{Gives, Refuses}
 use Rattle.miette.specs.rules.Options.{Options}
 use Rattle.miette.specs.declared.options.handler.MietteHandler.{MietteHandler}
 use Rattle.miette.specs.declared.print.PrintError.{PrintError}
@@ -19,11 +19,30 @@ use Rattle.miette.specs.declared.terminal.Variables.{Variables}
 abbrev pub WritesOne : (List ℕ → Type 0) → Option (List ℕ) → Option (List ℕ) → Type 0
 WritesOne given old new = (text : List ℕ) × given text × Appends old new text
 
--- the text is one that the handler may give that options and the terminal of the stream choose
-abbrev pub IsPrinted : {H : Type 0} → (H → Bool) → Options H → Stream → Tree → List ℕ → Type 0
-IsPrinted {H} is_blank o stream t text =
-    (v : Variables) × (terminal : Terminal) × IsDetected v stream terminal
-    × ((handler : MietteHandler H) × IsChosen o terminal handler × Gives is_blank handler t text)
+-- options choose the handler for the terminal of a stream, by what the program may be told
+abbrev pub IsChosenFor : {H : Type 0} → (Variables → Type 0) → Options H → Stream → MietteHandler H → Type 0
+IsChosenFor is_told o stream handler =
+    (v : Variables) × (terminal : Terminal) × is_told v × IsDetected v stream terminal × IsChosen o terminal handler
+
+-- the text is one that such a handler may give
+abbrev pub IsPrinted : {H : Type 0} → (Variables → Type 0) → (H → Bool) → Options H → Stream → Tree → List ℕ → Type 0
+IsPrinted {H} is_told is_blank o stream t text =
+    (handler : MietteHandler H) × IsChosenFor is_told o stream handler × Gives is_blank handler t text
+
+-- such a handler may refuse the report
+abbrev pub MayRefuse : {H : Type 0} → (Variables → Type 0) → Options H → Stream → Tree → Type 0
+MayRefuse {H} is_told o stream t =
+    (handler : MietteHandler H) × IsChosenFor is_told o stream handler × Refuses handler t
+
+-- what is said of a report that was not printed
+abbrev pub print_text : PrintError → List ℕ
+print_text printing.Memory = codes "out of memory"
+print_text printing.Refused = codes "a source could not be read"
+print_text printing.Write = codes "write fault"
+
+-- the row that says so
+abbrev pub unprinted_row : PrintError → List ℕ
+unprinted_row why = codes "a report could not be printed: " ++ (print_text why ++ codes "\n")
 
 -- how printing fails where rendering does
 abbrev pub print_error : RenderError → PrintError
