@@ -2,6 +2,7 @@
 import os
 import shutil
 import subprocess
+import tty
 from concurrent.futures import ThreadPoolExecutor
 
 HERE = os.path.dirname(os.path.abspath(__file__))
@@ -32,6 +33,34 @@ def run(words, given=b"", variables=None, **named):
     command, named = [program(name), *rest], {"timeout": 60, **named}
     done = subprocess.run(command, input=given, capture_output=True, env=variables, **named)
     return done.returncode, done.stdout, done.stderr
+
+
+def passed_on(terminal):
+    """All that is written to a terminal, until its last writer is done."""
+    shown = b""
+    try:
+        while part := os.read(terminal, 4096):
+            shown += part
+    except OSError:
+        pass
+    return shown
+
+
+def run_in_terminal(words, given=b"", variables=None, **named):
+    """As `run`, but standard output is a terminal, which passes on what it gets as it is."""
+    name, *rest = words
+    command, named = [program(name), *rest], {"timeout": 60, **named}
+    mine, its = os.openpty()
+    tty.setraw(its)
+    with ThreadPoolExecutor(1) as pool:
+        shown = pool.submit(passed_on, mine)
+        try:
+            done = subprocess.run(command, input=given, stdout=its, stderr=subprocess.PIPE, env=variables, **named)
+        finally:
+            os.close(its)
+        text = shown.result()
+    os.close(mine)
+    return done.returncode, text, done.stderr
 
 
 def library_in(folder, name):

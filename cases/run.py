@@ -4,7 +4,7 @@
 Each line of the file is a JSON object: `argv` (the program's name and its words), `stdin` and `stdout` (base64), or
 in their place `stdin_text` and `stdout_text` (plain) or `report` (the description that is the input), `status` and
 `stderr`. `what` says what a case shows. `folder` is where the program runs, `variables` are all that it is told of its
-surroundings. With `beginnings` a case is one for each beginning of its input but the whole. The first mismatches are
+surroundings. With `terminal` standard output is a terminal. With `beginnings` a case is one for each beginning of its input but the whole. The first mismatches are
 shown in full. The last line is 'N passed, M failed', and the exit status is 0 only where nothing failed."""
 import base64
 import json
@@ -12,7 +12,7 @@ import os
 import subprocess
 import sys
 
-from programs import ROOT, SHOWN, counted, each, run
+from programs import ROOT, SHOWN, counted, each, run, run_in_terminal
 
 
 def bytes_of(case, name):
@@ -35,8 +35,9 @@ def read(line):
 def answer(case):
     """What the program of a case answers: status, standard output, standard error."""
     folder = os.path.join(ROOT, case.get("folder", "."))
+    runs = run_in_terminal if case.get("terminal") else run
     try:
-        return run(case["argv"], case["given"], case.get("variables"), cwd=folder)
+        return runs(case["argv"], case["given"], case.get("variables"), cwd=folder)
     except (OSError, subprocess.TimeoutExpired) as fault:
         return (str(fault), b"", b"")
 

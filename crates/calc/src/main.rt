@@ -5,6 +5,7 @@ mod sums;
 
 use crate::sums::{Fault, value_of};
 use miette::highlight::Highlighter;
+use miette::options::RgbColors;
 use miette::prelude::{
     IntoDiagnostic, LabeledSpan, MietteHandlerOpts, OwnedSource, Report, Result, WrapErr,
     print_report_with,
@@ -22,8 +23,8 @@ fn main(rt: HostRuntime) -> ExitCode {
     match run(&rt) {
         Ok(()) => ExitCode::SUCCESS,
         Err(report) => {
-            let options = MietteHandlerOpts::default().with_syntax_highlighting(Cyan);
-            print_report_with(&rt, options, &report)
+            let options = MietteHandlerOpts::default().rgb_colors(RgbColors::Preferred);
+            print_report_with(&rt, options.with_syntax_highlighting(Cyan), &report)
         }
     }
 }

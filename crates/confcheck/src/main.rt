@@ -71,6 +71,7 @@ fn bad_port(alloc: Global, text: &str, table: &Table) -> Result<Report> {
         in alloc;
         code = "settings::port",
         help = "write a number, as in `port = 8080`",
+        url = "https://toml.io/en/v1.0.0#integer",
         labels = labels,
         "the port is missing or wrong"
     );
