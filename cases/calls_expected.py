@@ -378,6 +378,7 @@ ROWS = {
     "detect": [quoted("detected")],
     "write_report": [quoted(TOLD + FOOT)],
     "print_to": [quoted(TOLD + FOOT)],
+    "print_on": [quoted(TOLD + FOOT)],
 }
 # what these print stands in a row between two of theirs, or on standard error
 PICTURE = "  × oops!\n"

@@ -26,7 +26,17 @@ WORDS_READ = "the words of the program"
 UNPRINTED = "a report could not be printed: out of memory\n"
 BEFORE = "no memory before the call"
 # what these hand back or append to is as before
-KEEPING = ("render", "debug", "display", "fill", "append_whole", "write_report", "print_to", "render_report")
+KEEPING = (
+    "render",
+    "debug",
+    "display",
+    "fill",
+    "append_whole",
+    "write_report",
+    "print_to",
+    "print_on",
+    "render_report",
+)
 HANDING = (
     "Report::wrap_err",
     "Report::context",

@@ -6,21 +6,23 @@ use miette::handlers::NarratableReportHandler;
 use miette::highlight::BlankHighlighter;
 use miette::options::MietteHandlerOpts;
 use miette::print::{
-    PrintError, eprint_report, eprint_report_with, print_report, print_report_with, print_to,
-    write_report,
+    Outputs, PrintError, eprint_report, eprint_report_with, print_on, print_report,
+    print_report_with, print_to, write_report,
 };
 use miette::report::Report;
 use miette::terminal::{Stream, Streams, Variables, detect};
+use std::alloc::{AllocError, Global};
 use std::env::Env;
 use std::io;
 use std::io::Write;
 
 /// The calls of this module.
-pub static NAMES: [&str; 8] = [
+pub static NAMES: [&str; 9] = [
     "Variables::read",
     "detect",
     "write_report",
     "print_to",
+    "print_on",
     "print_report",
     "print_report_with",
     "eprint_report",
@@ -36,6 +38,7 @@ pub fn make<R: Env + AllocGlobal + Streams, W: Write>(rt: &R, name: &str, out: &
         "Variables::read" => write_answer(out, Variables::read(rt, true, true).map(|_| "read")),
         "detect" => write_answer(out, detect(rt, Stream::Stdout).map(|_| "detected")),
         "write_report" | "print_to" => write_narration(rt, name, out),
+        "print_on" => write_outputs(rt, out),
         _ => write_printing(rt, name, out),
     }
 }
@@ -72,6 +75,17 @@ struct Room {
     held: Vec<u8>,
 }
 
+impl Room {
+    fn new(alloc: Global) -> Result<Room, AllocError> {
+        let held = Vec::with_capacity(alloc, 4096)?;
+        Ok(Room { held })
+    }
+
+    fn text(&self) -> &str {
+        str::from_utf8(self.held.as_slice()).unwrap_or("no text")
+    }
+}
+
 impl Write for Room {
     fn write(&mut self, buf: &[u8]) -> io::Result<usize> {
         self.held.extend_from_slice(buf)?;
@@ -89,11 +103,23 @@ fn write_narration<R: Env + AllocGlobal + Streams, W: Write>(
     out: &mut W,
 ) -> Done {
     let report = full_report(rt.alloc())?;
-    let mut room = Room {
-        held: Vec::with_capacity(rt.alloc(), 4096)?,
-    };
+    let mut room = Room::new(rt.alloc())?;
     let answer = narrate(rt, name, &report, &mut room);
     write_room(out, answer, &room)
+}
+
+fn write_outputs<R: Env + AllocGlobal + Streams, W: Write>(rt: &R, out: &mut W) -> Done {
+    let report = full_report(rt.alloc())?;
+    let mut outputs = Outputs::new(Room::new(rt.alloc())?, Room::new(rt.alloc())?);
+    let options: MietteHandlerOpts<BlankHighlighter> = MietteHandlerOpts::default();
+    let options = options.force_narrated(true);
+    let _ = print_on(rt, Stream::Stdout, options, &report, &mut outputs);
+    let answer = match outputs.faults.text() {
+        "" => Ok(()),
+        "a report could not be printed: out of memory\n" => Err(PrintError::Memory),
+        _ => Err(PrintError::Write),
+    };
+    write_room(out, answer, &outputs.writer)
 }
 
 fn narrate<R: Env + AllocGlobal + Streams>(
@@ -122,7 +148,7 @@ fn narrate<R: Env + AllocGlobal + Streams>(
 }
 
 fn write_room<W: Write>(out: &mut W, answer: Result<(), PrintError>, room: &Room) -> Done {
-    let held = str::from_utf8(room.held.as_slice()).unwrap_or("no text");
+    let held = room.text();
     match answer {
         Ok(()) => write!(out, "\t{held:?}")?,
         Err(PrintError::Memory) => write!(out, "\trefused: {held:?}")?,
