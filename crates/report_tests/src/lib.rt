@@ -22,6 +22,8 @@ mod narrated;
 #[cfg(test)]
 mod options;
 #[cfg(test)]
+mod printing;
+#[cfg(test)]
 mod renderings;
 #[cfg(test)]
 mod trees;
