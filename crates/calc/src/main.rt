@@ -23,8 +23,8 @@ fn main(rt: HostRuntime) -> ExitCode {
     match run(&rt) {
         Ok(()) => ExitCode::SUCCESS,
         Err(report) => {
-            let options = MietteHandlerOpts::default().rgb_colors(RgbColors::Preferred);
-            print_report_with(&rt, options.with_syntax_highlighting(Cyan), &report)
+            let options = MietteHandlerOpts::default().with_syntax_highlighting(Cyan);
+            print_report_with(&rt, options.rgb_colors(RgbColors::Preferred), &report)
         }
     }
 }
