@@ -23,3 +23,7 @@ pub mod RenderedBytes
 pub mod Stateless
 pub mod Rows
 pub mod Holding
+pub mod Feeds
+pub mod FittingRows
+pub mod Arrows
+pub mod ArrowRows

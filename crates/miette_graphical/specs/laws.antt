@@ -6,3 +6,5 @@ pub mod Alike
 pub mod CharacterSets
 pub mod Headline
 pub mod Holding
+pub mod FittingRows
+pub mod Arrows

@@ -1,7 +1,7 @@
 //! What holds of the definition of a report's text: of its colours, and of the snippets of each diagnostic that it
 //! prints.
 
-ghost use Rattle.std.specs.Prelude.{◌≡◌, ℕ, Bool, List, Some, encode_utf8_all, true};
+ghost use Rattle.std.specs.Prelude.{◌≡◌, ℕ, Bool, List, [], ◌∷◌, Option, Some, encode_utf8_all, map, true};
 ghost use Rattle.miette_graphical.specs.rules.PossibleAnswers.{IsTextOf};
 ghost use Rattle.miette_graphical.specs.rules.Answers.{Answers, unlisted};
 ghost use Rattle.miette_graphical.specs.laws.Clean.{AreCleanCharacters, AreCleanSettings, IsCleanTree};
@@ -11,9 +11,13 @@ ghost use Rattle.miette_graphical.specs.laws.Colourless.{ArePlain, colourless, r
 ghost use Rattle.std.specs.List.{AllByRecursion, Contains};
 ghost use Rattle.miette_graphical.specs.laws.Headline.{EndsAreDrawn, LabelsAreFolded, LinesAreShown, MarksAreApart};
 ghost use Rattle.miette_graphical.specs.laws.Headline.{TextsHang, CutsAreExact, LinesThatFitStay};
-ghost use Rattle.miette_graphical.specs.rules.DiagnosticText.{SnippetRows};
+ghost use Rattle.miette_graphical.specs.rules.DiagnosticText.{SnippetRows, rows_text};
 ghost use Rattle.miette_graphical.specs.laws.Paths.{HasPath, Step, printed_at};
-ghost use Rattle.miette_graphical.specs.laws.Holding.{HoldsRows, HoldsSnippets, IsHoldingText};
+ghost use Rattle.miette_graphical.specs.laws.Holding.{Arrow, HoldsRows, HoldsSnippets, HoldsUnder, IsHoldingText};
+ghost use Rattle.miette_graphical.specs.laws.Arrows.{DrawnRowsStand, FirstStands, InnerRowsStand, RowsStand};
+ghost use Rattle.miette_graphical.specs.laws.FittingRows.{fed_rows};
+ghost use Rattle.miette_runs.specs.rules.Runs.{Fragment, print};
+ghost use Rattle.miette_protocol.specs.declared.protocol.Severity.{Severity};
 ghost use Rattle.miette_graphical.specs.laws.CharacterSets.{AreNarrow, AreShipped};
 ghost use Rattle.miette_graphical.specs.rules.PrintedDiagnostics.{PrintedDiagnostic, all_read, diagnostics_of};
 ghost use Rattle.miette_graphical.specs.rules.Settings.{Settings, default_settings};
@@ -180,6 +184,22 @@ pub fn holding_law()
         HoldsRows rows s t a (encode_utf8_all (report_text rows s t a)) }
     ensures text { (rows : SnippetRows) (s : Settings) (blank : Bool) (t : Tree) (bytes : List ℕ) →
         IsTextOf rows s blank t bytes → IsHoldingText rows s blank t bytes }
+{}
+
+/// Where rows are wrapped, rows of a text that have room stand under an arrow one after the other, without their last
+/// spaces and in their colours, each behind the bar that goes down from the arrow (`rows`); the first one stands behind
+/// the arrow (`first`). So do the rows of an inner report, of which line feeds are cut off (`inner`), and what is drawn
+/// in a text that holds it under one arrow (`drawn`). The rows of snippets are such rows (`printed`).
+pub fn arrows_law()
+    ensures rows { (s : Settings) (outer : Option Severity) (is_last : Bool) (text : List ℕ) →
+        s.wrapping.wrap_lines ≡ true → RowsStand s outer is_last text }
+    ensures first { (s : Settings) (outer : Option Severity) (is_last : Bool) (text : List ℕ) →
+        s.wrapping.wrap_lines ≡ true → FirstStands s outer is_last text }
+    ensures inner { (s : Settings) (arrow : Arrow) (front back : List ℕ) (rows : List (List ℕ)) →
+        s.wrapping.wrap_lines ≡ true → InnerRowsStand s arrow front back rows }
+    ensures drawn { (s : Settings) (arrow : Arrow) (drawn : Settings → List ℕ) (text : List ℕ) →
+        s.wrapping.wrap_lines ≡ true → HoldsUnder (arrow ∷ []) s drawn text → DrawnRowsStand s arrow drawn text }
+    ensures printed { (rows : List (List Fragment)) → fed_rows (map print rows) ≡ rows_text rows }
 {}
 
 /// Of the characters of the shipped themes: those that frames, gutters and marks are drawn with are one column wide
