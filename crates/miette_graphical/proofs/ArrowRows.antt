@@ -1,5 +1,5 @@
 -- What is drawn in rows, in a text that holds it under one arrow.
-use Rattle.std.proofs.Common.{◌≡◌, ℕ, inl, inr, Bool, true, false, ◌&&◌, List, [], ◌∷◌, ◌++◌, refl, sym, ap, ◌∙◌}
+use Rattle.std.proofs.Common.{◌≡◌, ℕ, inl, inr, true, false, ◌&&◌, List, [], ◌∷◌, ◌++◌, refl, sym, ap, ◌∙◌}
 use Rattle.std.proofs.Common.{append_assoc, subst}
 use Rattle.miette_runs.specs.rules.Colours.{is_colour}
 use Rattle.miette_runs.specs.rules.Cutting.{only_feeds}
