@@ -205,7 +205,8 @@ more-some : (xs ys : List (List Token)) → 0 < length xs → 0 < length (xs ++ 
 more-some [] ys h = absurd (omega arith)
 more-some (x ∷ xs) ys h = omega arith
 
-text-some : (c : Cuts) (room further : ℕ) (ps : List TextLine) → 0 < length ps → 0 < length (text_rows c room further ps)
+text-some : (c : Cuts) (room further : ℕ) (ps : List TextLine) → 0 < length ps →
+    0 < length (text_rows c room further ps)
 text-some c room further [] h = absurd (omega arith)
 text-some c room further (p ∷ ps) h =
     let ws = cut_words c p.cells in

@@ -46,8 +46,8 @@ InnerRowsStand s arrow front back rows =
     StandsIn (rows_under s arrow.outer arrow.is_last rows)
     (under_arrow s arrow.outer arrow.is_last (cut_text arrow (front ++ line_feed ++ fed_rows rows ++ back)))
 
--- Of what is drawn in rows, those that have room stand in a text that holds it under one arrow, where there is something
--- to be seen in the rows above them, and where the arrow is of a related report also in those below them.
+-- Of what is drawn in rows, those that have room stand in a text that holds it under one arrow, where there is
+-- something to be seen in the rows above them, and where the arrow is of a related report also in those below them.
 abbrev pub DrawnRowsStand : Settings → Arrow → (Settings → List ℕ) → List ℕ → Type 0
 DrawnRowsStand s arrow drawn text = (above rows below : List (List ℕ)) →
     drawn (narrow_settings s arrow.outer arrow.is_last) ≡ fed_rows (above ++ rows ++ below) →
