@@ -2,7 +2,7 @@
 use Rattle.std.proofs.Common.{◌≡◌, ℕ, Bool, List, [], length, ◌++◌, ◌∙◌, ap, Option, None, Some, IfSome, Result, Ok}
 use Rattle.std.proofs.Common.{Err, IfOk, OnOk, OnErr, IsUtf8, String, string_bytes, true, false, encode_utf8_all, refl}
 use Rattle.std.proofs.Common.{sym, subst, not, ◌&&◌}
-use Rattle.miette_graphical.proofs.Only.{same-report}
+use Rattle.miette_graphical.proofs.Only as one_text
 use Rattle.miette.specs.rules.Choice.{is_graphical}
 use Rattle.miette.specs.rules.Options.{Options}
 use Rattle.miette.specs.declared.options.handler.MietteHandler.TheVariants as handler
@@ -57,10 +57,8 @@ only-text : {H : Type 0} (is_blank : H → Bool) (it : Handling H) (t : Tree) (t
     → drawn.IsTextOf drawn_rows it.settings (draws_plain is_blank it) t text
     → draws_plain is_blank it ≡ true → text ≡ encode_utf8_all (report_text drawn_rows it.settings t unlisted)
 only-text is_blank it t text reads given plain =
-    let answered : drawn.IsReport drawn_rows it.settings true t given.0 =
-    subst (λ b. drawn.IsReport drawn_rows it.settings b t given.0) plain given.1 in
-    given.2 ∙ ap encode_utf8_all (answered.2 ∙ same-report drawn_rows it.settings t answered.0 answered.1
-    (printed-reads it.settings t reads))
+    one_text.only-text it.settings t text
+    (subst (λ b. drawn.IsTextOf drawn_rows it.settings b t text) plain given) (printed-reads it.settings t reads)
 
 pub graphical-given : {A E H : Type 0} (is_blank : H → Bool) (h : JobHandler H) (it : Handling H) (t : Tree)
     (old new : List ℕ) (r : Result A E) → h ≡ chosen.Built (handler.Graphical it) → AlwaysReads t
