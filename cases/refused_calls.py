@@ -53,6 +53,7 @@ NO_GROWTH = (
     "without_leading",
     "without_trailing",
     "columns_of",
+    "Edit::delete",
 )
 
 
