@@ -16,26 +16,23 @@ fn in_range(code: u32, low: u32, high: u32) -> bool
     low <= code && code <= high
 }
 
+// Whether a code lies in one of some ranges.
+macro_rules! lies_in {
+    ($code:ident in $low:literal..=$high:literal $(, $next_low:literal..=$next_high:literal)*) => {
+        in_range($code, $low, $high) $(|| in_range($code, $next_low, $next_high))*
+    };
+}
+
 /// Whether a character joins nothing that stands behind it. Those that are looked for are ASCII characters and letters.
 fn is_lone(character: char) -> bool
     ensures { result ≡ is_lone character }
 {
     let code = character as u32;
-    in_range(code, 0x20, 0x22)
-        || in_range(code, 0x24, 0x29)
-        || in_range(code, 0x2b, 0x2f)
-        || in_range(code, 0x3a, 0x7e)
-        || in_range(code, 0xaf, 0x2ff)
-        || in_range(code, 0x391, 0x482)
-        || in_range(code, 0x48a, 0x52f)
-        || in_range(code, 0x621, 0x643)
-        || in_range(code, 0x1780, 0x17b3)
-        || in_range(code, 0x3001, 0x3029)
-        || in_range(code, 0x3041, 0x3096)
-        || in_range(code, 0x30a0, 0x30ff)
-        || in_range(code, 0x3400, 0x4dbf)
-        || in_range(code, 0x4e00, 0x9fff)
-        || in_range(code, 0xac00, 0xd7a3)
+    lies_in!(code in
+        0x20..=0x22, 0x24..=0x29, 0x2b..=0x2f, 0x3a..=0x7e, 0xaf..=0x2ff, 0x391..=0x482,
+        0x48a..=0x52f, 0x621..=0x643, 0x1780..=0x17b3, 0x3001..=0x3029, 0x3041..=0x3096,
+        0x30a0..=0x30ff, 0x3400..=0x4dbf, 0x4e00..=0x9fff, 0xac00..=0xd7a3
+    )
 }
 
 /// Whether a character lies where letters and signs lie that may join others.
@@ -43,22 +40,11 @@ fn is_joining(character: char) -> bool
     ensures { result ≡ is_joining character }
 {
     let code = character as u32;
-    in_range(code, 0x338, 0x338)
-        || in_range(code, 0x5dc, 0x5dc)
-        || in_range(code, 0x622, 0x627)
-        || in_range(code, 0x671, 0x675)
-        || in_range(code, 0x773, 0x774)
-        || in_range(code, 0x870, 0x882)
-        || in_range(code, 0x1780, 0x17d8)
-        || in_range(code, 0x1a10, 0x1a10)
-        || in_range(code, 0x2d31, 0x2d7f)
-        || in_range(code, 0xa4fc, 0xa4fd)
-        || in_range(code, 0xfb3c, 0xfb3c)
-        || in_range(code, 0xfe00, 0xfe0f)
-        || in_range(code, 0x10c03, 0x10c03)
-        || in_range(code, 0x16d67, 0x16d68)
-        || in_range(code, 0x1f1e6, 0x1f1ff)
-        || in_range(code, 0x1f3fb, 0x1f3ff)
+    lies_in!(code in
+        0x338..=0x338, 0x5dc..=0x5dc, 0x622..=0x627, 0x671..=0x675, 0x773..=0x774, 0x870..=0x882,
+        0x1780..=0x17d8, 0x1a10..=0x1a10, 0x2d31..=0x2d7f, 0xa4fc..=0xa4fd, 0xfb3c..=0xfb3c,
+        0xfe00..=0xfe0f, 0x10c03..=0x10c03, 0x16d67..=0x16d68, 0x1f1e6..=0x1f1ff, 0x1f3fb..=0x1f3ff
+    )
 }
 
 /// Whether only a joiner before a character joins it to what stands there, whatever stands behind it.
@@ -98,15 +84,10 @@ fn is_keeping(character: char) -> bool
     ensures { result ≡ is_keeping character }
 {
     let code = character as u32;
-    in_range(code, 0x5dc, 0x5dc)
-        || in_range(code, 0x671, 0x675)
-        || in_range(code, 0x773, 0x774)
-        || in_range(code, 0x870, 0x882)
-        || in_range(code, 0x1a10, 0x1a10)
-        || in_range(code, 0xa4fc, 0xa4fd)
-        || in_range(code, 0xfb3c, 0xfb3c)
-        || in_range(code, 0x10c03, 0x10c03)
-        || in_range(code, 0x1f3fb, 0x1f3ff)
+    lies_in!(code in
+        0x5dc..=0x5dc, 0x671..=0x675, 0x773..=0x774, 0x870..=0x882, 0x1a10..=0x1a10,
+        0xa4fc..=0xa4fd, 0xfb3c..=0xfb3c, 0x10c03..=0x10c03, 0x1f3fb..=0x1f3ff
+    )
 }
 
 /// Whether a character is no selector and no skin tone.
@@ -114,7 +95,7 @@ fn opens(character: char) -> bool
     ensures { result ≡ opens character }
 {
     let code = character as u32;
-    !(in_range(code, 0xfe00, 0xfe0f) || in_range(code, 0x1f3fb, 0x1f3ff))
+    !lies_in!(code in 0xfe00..=0xfe0f, 0x1f3fb..=0x1f3ff)
 }
 
 // What is overlap where a text may be told from its last characters.
