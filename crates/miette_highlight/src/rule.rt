@@ -37,23 +37,19 @@ impl Delimiters {
     }
 
     /// These delimiters, with a byte after which no delimiter is one.
-    pub fn escaped_by(self, escape: u8) -> Self
+    pub fn escaped_by(mut self, escape: u8) -> Self
         ensures { result ≡ record self { escape = Some escape } }
     {
-        Delimiters {
-            escape: Some(escape),
-            ..self
-        }
+        self.escape = Some(escape);
+        self
     }
 
     /// These delimiters, of parts that go on over lines.
-    pub fn over_lines(self) -> Self
+    pub fn over_lines(mut self) -> Self
         ensures { result ≡ record self { over_lines = true } }
     {
-        Delimiters {
-            over_lines: true,
-            ..self
-        }
+        self.over_lines = true;
+        self
     }
 }
 

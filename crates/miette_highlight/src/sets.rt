@@ -20,10 +20,8 @@ impl PatternHighlighter {
         ensures rules { IfOk result (λ it. rule_texts it.rules.items ≡ json_rules) }
         ensures closed { IfOk result (λ it. it.left_open ≡ None) }
     {
-        let mut rules = Vec::new(alloc);
-        push_parts(&mut rules, alloc, &JSON_PARTS)?;
-        push_values(&mut rules, alloc, &["true", "false", "null"])?;
-        Ok(PatternHighlighter::new(rules))
+        let rules = rules_of(alloc, &JSON_PARTS)?;
+        with_values(alloc, rules, &["true", "false", "null"])
     }
 
     /// The highlighter of TOML. Keys are plain, in quotes they are texts.
@@ -34,10 +32,8 @@ impl PatternHighlighter {
         ensures rules { IfOk result (λ it. rule_texts it.rules.items ≡ toml_rules) }
         ensures closed { IfOk result (λ it. it.left_open ≡ None) }
     {
-        let mut rules = Vec::new(alloc);
-        push_parts(&mut rules, alloc, &TOML_PARTS)?;
-        push_values(&mut rules, alloc, &["true", "false", "inf", "nan"])?;
-        Ok(PatternHighlighter::new(rules))
+        let rules = rules_of(alloc, &TOML_PARTS)?;
+        with_values(alloc, rules, &["true", "false", "inf", "nan"])
     }
 
     /// The highlighter of Rust. A block comment ends at the first `*/`, and characters in quotes are plain, but for a
@@ -49,11 +45,9 @@ impl PatternHighlighter {
         ensures rules { IfOk result (λ it. rule_texts it.rules.items ≡ rust_rules) }
         ensures closed { IfOk result (λ it. it.left_open ≡ None) }
     {
-        let mut rules = Vec::new(alloc);
-        push_parts(&mut rules, alloc, &RUST_PARTS)?;
+        let mut rules = rules_of(alloc, &RUST_PARTS)?;
         push_words(&mut rules, alloc, &RUST_WORDS, Color::Magenta)?;
-        push_values(&mut rules, alloc, &["true", "false"])?;
-        Ok(PatternHighlighter::new(rules))
+        with_values(alloc, rules, &["true", "false"])
     }
 }
 
@@ -188,14 +182,11 @@ fn delimiters_of(alloc: Global, part: &DelimitedPart) -> Result<Delimiters, Allo
     Ok(delimiters)
 }
 
-// Texts are green, and comments dimmed.
-fn push_parts(
-    rules: &mut Vec<Rule>,
-    alloc: Global,
-    parts: &[DelimitedPart],
-) -> Result<(), AllocError>
-    ensures { OnOk result (rule_texts rules.new.items ≡ rule_texts rules.old.items ++ map part_rule parts.now) }
+// The rules of these parts. Texts are green, and comments dimmed.
+fn rules_of(alloc: Global, parts: &[DelimitedPart]) -> Result<Vec<Rule>, AllocError>
+    ensures { IfOk result (λ rules. rule_texts rules.items ≡ map part_rule parts.now) }
 {
+    let mut rules = Vec::new(alloc);
     for part in parts {
         let style = if part.is_comment {
             Style::new().dimmed()
@@ -205,7 +196,7 @@ fn push_parts(
         let pattern = Pattern::Between(delimiters_of(alloc, part)?);
         rules.push(Rule { pattern, style })?;
     }
-    Ok(())
+    Ok(rules)
 }
 
 // These words have one colour.
@@ -224,14 +215,19 @@ fn push_words(
     Ok(())
 }
 
-// These words are values, and so are words that begin with a digit.
-fn push_values(rules: &mut Vec<Rule>, alloc: Global, words: &[&str]) -> Result<(), AllocError>
-    ensures { OnOk result (rule_texts rules.new.items ≡ rule_texts rules.old.items
-        ++ values (map (λ word. word.now) words.now)) }
+// The highlighter of these rules and of values: these words, and words that begin with a digit.
+fn with_values(
+    alloc: Global,
+    mut rules: Vec<Rule>,
+    words: &[&str],
+) -> Result<PatternHighlighter, AllocError>
+    ensures rules { IfOk result (λ it. rule_texts it.rules.items
+        ≡ rule_texts rules.items ++ values (map (λ word. word.now) words.now)) }
+    ensures closed { IfOk result (λ it. it.left_open ≡ None) }
 {
-    push_words(rules, alloc, words, Color::Yellow)?;
+    push_words(&mut rules, alloc, words, Color::Yellow)?;
     let style = Style::new().color(Color::Cyan);
     let pattern = Pattern::From(b'0', b'9');
     rules.push(Rule { pattern, style })?;
-    Ok(())
+    Ok(PatternHighlighter::new(rules))
 }
