@@ -10,16 +10,17 @@ use crate::overlap::Overlap;
 use miette_cells::cells::columns_of;
 use ucd_emoji::is_emoji_variation_base;
 
-fn in_range(code: u32, low: u32, high: u32) -> bool
-    ensures { result ≡ is_in_range low high code }
+fn in_range(character: char, low: u32, high: u32) -> bool
+    ensures { result ≡ is_in_range low high character }
 {
+    let code = character as u32;
     low <= code && code <= high
 }
 
-// Whether a code lies in one of some ranges.
+// Whether a character lies in one of some ranges of codes.
 macro_rules! lies_in {
-    ($code:ident in $low:literal..=$high:literal $(, $next_low:literal..=$next_high:literal)*) => {
-        in_range($code, $low, $high) $(|| in_range($code, $next_low, $next_high))*
+    ($c:ident in $low:literal..=$high:literal $(, $next_low:literal..=$next_high:literal)*) => {
+        in_range($c, $low, $high) $(|| in_range($c, $next_low, $next_high))*
     };
 }
 
@@ -27,8 +28,7 @@ macro_rules! lies_in {
 fn is_lone(character: char) -> bool
     ensures { result ≡ is_lone character }
 {
-    let code = character as u32;
-    lies_in!(code in
+    lies_in!(character in
         0x20..=0x22, 0x24..=0x29, 0x2b..=0x2f, 0x3a..=0x7e, 0xaf..=0x2ff, 0x391..=0x482,
         0x48a..=0x52f, 0x621..=0x643, 0x1780..=0x17b3, 0x3001..=0x3029, 0x3041..=0x3096,
         0x30a0..=0x30ff, 0x3400..=0x4dbf, 0x4e00..=0x9fff, 0xac00..=0xd7a3
@@ -39,8 +39,7 @@ fn is_lone(character: char) -> bool
 fn is_joining(character: char) -> bool
     ensures { result ≡ is_joining character }
 {
-    let code = character as u32;
-    lies_in!(code in
+    lies_in!(character in
         0x338..=0x338, 0x5dc..=0x5dc, 0x622..=0x627, 0x671..=0x675, 0x773..=0x774, 0x870..=0x882,
         0x1780..=0x17d8, 0x1a10..=0x1a10, 0x2d31..=0x2d7f, 0xa4fc..=0xa4fd, 0xfb3c..=0xfb3c,
         0xfe00..=0xfe0f, 0x10c03..=0x10c03, 0x16d67..=0x16d68, 0x1f1e6..=0x1f1ff, 0x1f3fb..=0x1f3ff
@@ -69,7 +68,7 @@ fn may_part(last: char, next: char) -> bool
 pub(crate) fn is_indicator(character: char) -> bool
     ensures { result ≡ is_indicator character }
 {
-    in_range(character as u32, 0x1f1e6, 0x1f1ff)
+    in_range(character, 0x1f1e6, 0x1f1ff)
 }
 
 /// Whether a text may be parted between two regional indicators, where the first one ends a flag or is half of one.
@@ -83,8 +82,7 @@ fn may_part_flags(last: char, is_half: bool, next: char) -> bool
 fn is_keeping(character: char) -> bool
     ensures { result ≡ is_keeping character }
 {
-    let code = character as u32;
-    lies_in!(code in
+    lies_in!(character in
         0x5dc..=0x5dc, 0x671..=0x675, 0x773..=0x774, 0x870..=0x882, 0x1a10..=0x1a10,
         0xa4fc..=0xa4fd, 0xfb3c..=0xfb3c, 0x10c03..=0x10c03, 0x1f3fb..=0x1f3ff
     )
@@ -94,8 +92,7 @@ fn is_keeping(character: char) -> bool
 fn opens(character: char) -> bool
     ensures { result ≡ opens character }
 {
-    let code = character as u32;
-    !lies_in!(code in 0xfe00..=0xfe0f, 0x1f3fb..=0x1f3ff)
+    !lies_in!(character in 0xfe00..=0xfe0f, 0x1f3fb..=0x1f3ff)
 }
 
 // What is overlap where a text may be told from its last characters.
