@@ -1,5 +1,4 @@
 pub mod Ends
-pub mod Missing
 pub mod Nesting
 pub mod ChainLaws
 pub mod TreeSizes

@@ -30,6 +30,17 @@ pub enum ReportKind<'a, D = Box<dyn Diagnostic>> {
     OutOfMemory,
 }
 
+// What a diagnostic says of itself: nothing where there is none.
+macro_rules! diagnostic_part {
+    ($innermost:expr, $part:ident) => {
+        match $innermost {
+            Innermost::Built(diagnostic) => diagnostic.$part(),
+            Innermost::Boxed(diagnostic) => diagnostic.$part(),
+            _ => None,
+        }
+    };
+}
+
 impl<D: Diagnostic> Innermost<D> {
     ghost use Rattle.miette_tree.specs.views.Report.{innermost_meaning};
     ghost use Rattle.miette_tree.specs.views.Kind.{innermost_kind, kind_shown};
@@ -49,51 +60,31 @@ impl<D: Diagnostic> Innermost<D> {
     pub(crate) fn code(&self) -> Option<&str>
         ensures { option_copied result ≡ (innermost_meaning D.meaning self.now).code }
     {
-        match self {
-            Innermost::Built(diagnostic) => diagnostic.code(),
-            Innermost::Boxed(diagnostic) => diagnostic.code(),
-            _ => None,
-        }
+        diagnostic_part!(self, code)
     }
 
     pub(crate) fn severity(&self) -> Option<Severity>
         ensures { result ≡ (innermost_meaning D.meaning self.now).severity }
     {
-        match self {
-            Innermost::Built(diagnostic) => diagnostic.severity(),
-            Innermost::Boxed(diagnostic) => diagnostic.severity(),
-            _ => None,
-        }
+        diagnostic_part!(self, severity)
     }
 
     pub(crate) fn help(&self) -> Option<&str>
         ensures { option_copied result ≡ (innermost_meaning D.meaning self.now).help }
     {
-        match self {
-            Innermost::Built(diagnostic) => diagnostic.help(),
-            Innermost::Boxed(diagnostic) => diagnostic.help(),
-            _ => None,
-        }
+        diagnostic_part!(self, help)
     }
 
     pub(crate) fn url(&self) -> Option<&str>
         ensures { option_copied result ≡ (innermost_meaning D.meaning self.now).url }
     {
-        match self {
-            Innermost::Built(diagnostic) => diagnostic.url(),
-            Innermost::Boxed(diagnostic) => diagnostic.url(),
-            _ => None,
-        }
+        diagnostic_part!(self, url)
     }
 
     pub(crate) fn labels(&self) -> Option<&[LabeledSpan]>
         ensures { option_copied result ≡ (innermost_meaning D.meaning self.now).labels }
     {
-        match self {
-            Innermost::Built(diagnostic) => diagnostic.labels(),
-            Innermost::Boxed(diagnostic) => diagnostic.labels(),
-            _ => None,
-        }
+        diagnostic_part!(self, labels)
     }
 
     pub(crate) fn kind(&self) -> ReportKind<'_, D>

@@ -34,24 +34,28 @@ pub fn labels_of<D: Diagnostic, S: SourceCode>(report: &Report<D, S>) -> &[Label
     report.labels().unwrap_or(&[])
 }
 
+/// The name of a severity, and what names it in front of a message.
+fn name_and_title(severity: Option<Severity>) -> (&'static str, &'static str)
+    ensures name { result.0.now ≡ severity_text severity }
+    ensures title { result.1.now ≡ severity_title severity }
+{
+    match severity {
+        Some(Severity::Advice) => ("advice", "Advice: "),
+        Some(Severity::Warning) => ("warning", "Warning: "),
+        _ => ("error", "Error: "),
+    }
+}
+
 /// The name of a severity, `error` where there is none.
 pub fn severity_name(severity: Option<Severity>) -> &'static str
     ensures { result.now ≡ severity_text severity }
 {
-    match severity {
-        Some(Severity::Advice) => "advice",
-        Some(Severity::Warning) => "warning",
-        _ => "error",
-    }
+    name_and_title(severity).0
 }
 
 /// What names a severity in front of a message; that of an error where there is none.
 pub fn severity_title(severity: Option<Severity>) -> &'static str
     ensures { result.now ≡ severity_title severity }
 {
-    match severity {
-        Some(Severity::Advice) => "Advice: ",
-        Some(Severity::Warning) => "Warning: ",
-        _ => "Error: ",
-    }
+    name_and_title(severity).1
 }

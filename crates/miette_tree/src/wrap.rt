@@ -23,22 +23,6 @@ pub trait WrapErr<T, D: Diagnostic, S: SourceCode>: Sized {
     /// What a text stands in front of, where the value is missing: the report of the error, or nothing.
     ghost stands_behind: { Self → Option (Report D S) → Type 0 };
 
-    /// A message in front.
-    fn wrap_err(self, alloc: Global, text: &str) -> Result<T, Report<D, S>>
-    where
-        Report<D, S>: UsualBoxes,
-        ensures value { IfSome (value self) (λ it. result ≡ Ok it) }
-        ensures missing { IsNone (value self) →
-            IsErrAnd result (λ r. (below : _) × stands_behind self below × Tells D.meaning S.source text.now below r) };
-
-    /// As `wrap_err`.
-    fn context(self, alloc: Global, text: &str) -> Result<T, Report<D, S>>
-    where
-        Report<D, S>: UsualBoxes,
-        ensures value { IfSome (value self) (λ it. result ≡ Ok it) }
-        ensures missing { IsNone (value self) →
-            IsErrAnd result (λ r. (below : _) × stands_behind self below × Tells D.meaning S.source text.now below r) };
-
     /// A message in front that is made only where it is needed, by at most one call.
     fn wrap_err_with<F>(self, alloc: Global, make: F) -> Result<T, Report<D, S>>
     where
@@ -58,6 +42,28 @@ pub trait WrapErr<T, D: Diagnostic, S: SourceCode>: Sized {
         ensures value { IfSome (value self) (λ it. result ≡ Ok it) }
         ensures missing { IsNone (value self) → IsErrAnd result (λ r. (below : _) × stands_behind self below
             × ((made : _) × F.post make made × TellsMade D.meaning S.source made below r)) };
+
+    /// A message in front.
+    fn wrap_err(self, alloc: Global, text: &str) -> Result<T, Report<D, S>>
+    where
+        Report<D, S>: UsualBoxes,
+        ensures value { IfSome (value self) (λ it. result ≡ Ok it) }
+        ensures missing { IsNone (value self) →
+            IsErrAnd result (λ r. (below : _) × stands_behind self below × Tells D.meaning S.source text.now below r) }
+    {
+        self.wrap_err_with(alloc, || String::from_str(alloc, text))
+    }
+
+    /// As `wrap_err`.
+    fn context(self, alloc: Global, text: &str) -> Result<T, Report<D, S>>
+    where
+        Report<D, S>: UsualBoxes,
+        ensures value { IfSome (value self) (λ it. result ≡ Ok it) }
+        ensures missing { IsNone (value self) →
+            IsErrAnd result (λ r. (below : _) × stands_behind self below × Tells D.meaning S.source text.now below r) }
+    {
+        self.wrap_err(alloc, text)
+    }
 }
 
 /// The report of a text, or of refused memory.
@@ -118,23 +124,6 @@ impl<T, D: Diagnostic, S: SourceCode> WrapErr<T, D, S> for Option<T> {
 
     ghost stands_behind = { λ _ below. below ≡ None };
 
-    fn wrap_err(self, alloc: Global, text: &str) -> Result<T, Report<D, S>>
-    where
-        Report<D, S>: UsualBoxes,
-    {
-        match self {
-            Some(value) => Ok(value),
-            None => Err(report_of(String::from_str(alloc, text))),
-        }
-    }
-
-    fn context(self, alloc: Global, text: &str) -> Result<T, Report<D, S>>
-    where
-        Report<D, S>: UsualBoxes,
-    {
-        self.wrap_err(alloc, text)
-    }
-
     fn wrap_err_with<F>(self, _alloc: Global, make: F) -> Result<T, Report<D, S>>
     where
         F: FnOnce() -> Result<String, AllocError> + Drop,
@@ -160,23 +149,6 @@ impl<T, D: Diagnostic, S: SourceCode, E: Into<Report<D, S>>> WrapErr<T, D, S> fo
 
     ghost stands_behind = { λ outcome below. IfErr outcome
         (λ error. (report : _) × E.converts error report × (below ≡ Some report)) };
-
-    fn wrap_err(self, alloc: Global, message: &str) -> Result<T, Report<D, S>>
-    where
-        Report<D, S>: UsualBoxes,
-    {
-        match self {
-            Ok(value) => Ok(value),
-            Err(error) => Err(report_under(alloc, error.into(), String::from_str(alloc, message))),
-        }
-    }
-
-    fn context(self, alloc: Global, message: &str) -> Result<T, Report<D, S>>
-    where
-        Report<D, S>: UsualBoxes,
-    {
-        self.wrap_err(alloc, message)
-    }
 
     fn wrap_err_with<F>(self, alloc: Global, make_message: F) -> Result<T, Report<D, S>>
     where
