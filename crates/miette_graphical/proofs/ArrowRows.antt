@@ -15,12 +15,12 @@ use Rattle.miette_graphical.proofs.Rows.{IsEnded, ended-rows, within-stands}
 
 -- ---- rows one after the other
 
-fed-append : (xs ys : List (List ℕ)) → fed_rows (xs ++ ys) ≡ fed_rows xs ++ fed_rows ys
+pub fed-append : (xs ys : List (List ℕ)) → fed_rows (xs ++ ys) ≡ fed_rows xs ++ fed_rows ys
 fed-append [] ys = refl
 fed-append (x ∷ xs) ys = ap (λ t. x ++ 10 ∷ t) (fed-append xs ys)
     ∙ sym (append_assoc x (10 ∷ fed_rows xs) (fed_rows ys))
 
-fed-ends : (rows : List (List ℕ)) → EndsRow (fed_rows rows)
+pub fed-ends : (rows : List (List ℕ)) → EndsRow (fed_rows rows)
 fed-ends [] = inl refl
 fed-ends (row ∷ rows) =
     inr (subst IsEnded (append_assoc row line_feed (fed_rows rows))
@@ -28,7 +28,7 @@ fed-ends (row ∷ rows) =
 
 -- ---- something is to be seen
 
-abbrev IsSeen : List ℕ → Type 0
+abbrev pub IsSeen : List ℕ → Type 0
 IsSeen text = only_feeds (tokens text) ≡ false
 
 feeds-front : (us vs : List Token) → only_feeds us ≡ false → only_feeds (us ++ vs) ≡ false
@@ -43,16 +43,16 @@ feeds-fed [] = refl
 feeds-fed (Character c ∷ us) = ap (λ b. is_line_feed c && b) (feeds-fed us)
 feeds-fed (Sequence s ∷ us) = ap (λ b. is_colour s && b) (feeds-fed us)
 
-seen-before : (x : List ℕ) → IsSeen (x ++ line_feed) → IsSeen x
+pub seen-before : (x : List ℕ) → IsSeen (x ++ line_feed) → IsSeen x
 seen-before x h = sym (ap only_feeds (tokens-fed x []) ∙ feeds-fed (tokens x)) ∙ h
 
-seen-below : (front x : List ℕ) → EndsRow front → IsSeen x → IsSeen (front ++ x)
+pub seen-below : (front x : List ℕ) → EndsRow front → IsSeen x → IsSeen (front ++ x)
 seen-below front x h k = elim h [
   | inl none ↦ subst IsSeen (sym (ap (λ t. t ++ x) none)) k
   | inr e ↦ subst IsSeen (sym (ap (λ t. t ++ x) e.1 ∙ append_assoc e.0 line_feed x)) (seen-behind e.0 x k)
 ]
 
-seen-above : (x y : List ℕ) → EndsRow x → IsSeen x → IsSeen (x ++ y)
+pub seen-above : (x y : List ℕ) → EndsRow x → IsSeen x → IsSeen (x ++ y)
 seen-above x y h k = elim h [
   | inl none ↦ (let not : true ≡ false = sym (ap (λ t. only_feeds (tokens t)) none) ∙ k in absurd (cc))
   | inr e ↦ subst IsSeen (sym (ap (λ t. t ++ y) e.1 ∙ append_assoc e.0 line_feed y))
@@ -62,7 +62,7 @@ seen-above x y h k = elim h [
 
 -- ---- what is drawn
 
-grouped : (f x l r b o : List ℕ) → f ++ (x ++ l ++ r ++ b) ++ o ≡ (f ++ x) ++ l ++ r ++ (b ++ o)
+pub grouped : (f x l r b o : List ℕ) → f ++ (x ++ l ++ r ++ b) ++ o ≡ (f ++ x) ++ l ++ r ++ (b ++ o)
 grouped f x l r b o =
     ap (λ t. t ++ o) (sym (append_assoc f (x ++ l ++ r) b)
     ∙ ap (λ t. t ++ b) (sym (append_assoc f (x ++ l) r) ∙ ap (λ t. t ++ r) (sym (append_assoc f x l))))

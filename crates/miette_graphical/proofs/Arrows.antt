@@ -17,7 +17,7 @@ use Rattle.miette_graphical.specs.laws.Arrows.{FirstStands, InnerRowsStand, Rows
 use Rattle.miette_graphical.specs.laws.Holding.{Arrow, cut_text}
 
 -- how what stands under an arrow is wrapped
-abbrev arrow_plan : Settings → Option Severity → Bool → Plan (List ℕ)
+abbrev pub arrow_plan : Settings → Option Severity → Bool → Plan (List ℕ)
 arrow_plan s outer is_last = record {
   room = s.width - 2;
   first = print (arrow_indent s outer is_last);
@@ -86,10 +86,10 @@ trailing-cut front rows back h =
     ∙ sym (grouped front (fed_rows rows) (without_trailing back))
 
 -- the rows stand in what is left
-abbrev LeavesRows : List (List ℕ) → List ℕ → Type 0
+abbrev pub LeavesRows : List (List ℕ) → List ℕ → Type 0
 LeavesRows rows text = (front back : List ℕ) × (text ≡ front ++ line_feed ++ fed_rows rows ++ back)
 
-left-by : (is_related : Bool) (front back : List ℕ) (rows : List (List ℕ)) → only_feeds (tokens front) ≡ false
+pub left-by : (is_related : Bool) (front back : List ℕ) (rows : List (List ℕ)) → only_feeds (tokens front) ≡ false
     → (is_related ≡ true → only_feeds (tokens back) ≡ false) →
     LeavesRows rows (if is_related then without_trailing (without_leading (front ++ line_feed ++ fed_rows rows ++ back))
     else without_leading (front ++ line_feed ++ fed_rows rows ++ back))

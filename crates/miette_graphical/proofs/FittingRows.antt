@@ -1,7 +1,7 @@
 -- Rows that have room stand in a wrapped text each behind an indent.
 use Rattle.std.proofs.Common.{◌≡◌, ℕ, zero, suc, ◌+◌, ◌<◌, ◌≤◌, Bool, true, false, not, ◌&&◌, List, [], ◌∷◌, ◌++◌, map}
 use Rattle.std.proofs.Common.{flat_map, length, refl, sym, ap, ap₂, ◌∙◌, append_assoc, arith}
-use Rattle.std.proofs.Common.{if◌then◌else◌, nat_lt}
+use Rattle.std.proofs.Common.{if◌then◌else◌, nat_lt, subst}
 use Rattle.std.proofs.lemmas.Bool.{and_parts, not-true}
 use Rattle.std.proofs.lemmas.List.{length-append}
 use Rattle.std.proofs.lemmas.Bool.Decides.{nat_tests}
@@ -234,6 +234,43 @@ rows-fed c further room (row ∷ rows) h =
     ap (λ rs. fed further further (rs ++ text_rows c room room (row_lines rows))) (row-row c room room row h.0.1)
     ∙ ap (λ t. spell further ++ bare_row row ++ 10 ∷ t) (rows-fed c further room rows h.1)
 
+-- ---- what begins with an indent
+
+abbrev pub IsBehind : List ℕ → List ℕ → Type 0
+IsBehind indent text = (rest : List ℕ) × (text ≡ indent ++ rest)
+
+joined-behind : (first further : List Token) (rs : List (List Token)) → 0 < length rs
+    → IsBehind (spell first) (spell (joined_rows first further rs))
+joined-behind first further [] h = absurd (omega arith)
+joined-behind first further (r ∷ []) h = (spell r, spell-append first r)
+joined-behind first further (r ∷ s ∷ rs) h =
+    let below = line_feed ∷ joined_rows further further (s ∷ rs) in (
+      spell r ++ spell below,
+      spell-append (first ++ r) below ∙ ap (λ t. t ++ spell below) (spell-append first r)
+          ∙ append_assoc (spell first) (spell r) (spell below),
+    )
+
+fed-behind : (first further : List Token) (rs : List (List Token)) → 0 < length rs
+    → IsBehind (spell first) (fed first further rs)
+fed-behind first further [] h = absurd (omega arith)
+fed-behind first further (r ∷ rs) h = (
+  spell r ++ 10 ∷ fed further further rs,
+  append_assoc (spell first) (spell r) (10 ∷ fed further further rs),
+)
+
+-- where there are more than one line, some are left without the last one
+some-left : {A : Type 0} (xs ys zs left : List A) (e : A) → xs ++ e ∷ [] ≡ ys ++ zs → xs ≡ ys ++ left → 1 < length zs
+    → 0 < length left
+some-left xs ys zs left e same parted h = omega (
+  arith,
+  ap length same,
+  length-append ys zs,
+  length-append xs (e ∷ []),
+  ap length parted,
+  length-append ys left,
+  h,
+)
+
 -- the last of some lists on both sides
 cut-last : {A : Type 0} (xs ys zs : List A) (e : A) → xs ++ e ∷ [] ≡ ys ++ zs → 0 < length zs
     → (left : List A) × (xs ≡ ys ++ left)
@@ -287,9 +324,19 @@ module _ (p : Plan (List ℕ)) (text : List ℕ) where
             (spell-tokens p.first),
       )
 
+  -- a text that ends with a line feed has a line behind it
+  two-lines : (back more : List ℕ) → back ≡ more ++ 10 ∷ [] → 1 < length (lines back)
+  two-lines back more same = omega (
+    arith,
+    ap length (ap lines same ∙ lines-fed more []),
+    length-append (lines more) (no_characters ∷ []),
+    pieces-some (tokens more),
+  )
+
   pub rows-wrapped : (front back : List ℕ) (rows : List (List ℕ)) → p.wraps ≡ true → text ++ 10 ∷ [] ≡ front
       ++ 10 ∷ fed_rows rows ++ back → AllByRecursion (FitsRow (further_room plan)) rows
       → (above below : List ℕ) × (wrapped_text p text ++ 10 ∷ [] ≡ above ++ 10 ∷ indented_rows p.further rows ++ below)
+      × IsBehind p.first above × ((more : List ℕ) → back ≡ more ++ 10 ∷ [] → IsBehind p.further below)
   rows-wrapped front back rows w same h =
       let f = plan.further in
       let head = lines front in
@@ -321,4 +368,11 @@ module _ (p : Plan (List ℕ)) (text : List ℕ) where
             ∙ ap₂ (λ x y. x ++ y) (sym (joined-fed plan.first f (rows_of head) filled)) drawn
             ∙ sym (append_assoc (above ++ 10 ∷ []) shown below)
             ∙ ap (λ t. t ++ below) (append_assoc above (10 ∷ []) shown),
+        subst (λ indent. IsBehind indent above) (spell-tokens p.first)
+            (joined-behind plan.first f (rows_of head) filled),
+        λ more fed_back. subst (λ indent. IsBehind indent below) (spell-tokens p.further)
+            (fed-behind f f (below_of left.0)
+            (text-some (cuts_of plan) (further_room plan) (further_room plan) left.0
+            (some-left (lines text) (head ++ own) (lines back) left.0 no_characters
+            (sym (lines-fed text []) ∙ all) left.1 (two-lines back more fed_back)))),
       )

@@ -27,3 +27,5 @@ pub mod Feeds
 pub mod FittingRows
 pub mod Arrows
 pub mod ArrowRows
+pub mod Levels
+pub mod Barred

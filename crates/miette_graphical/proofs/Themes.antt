@@ -31,7 +31,7 @@ pub is_narrow : (c : Characters) → AreNarrow width_of c → IsNarrow width_of 
 is_narrow c h = record { drawings = h; space = space_narrow; digits = digit_narrow }
 
 -- what each table has, the shipped characters have
-shipped : {X : Type 0} (c : Characters) → AreShipped c → (f : Characters → X) (x : X) → f unicode_characters ≡ x
+pub shipped : {X : Type 0} (c : Characters) → AreShipped c → (f : Characters → X) (x : X) → f unicode_characters ≡ x
     → f emoji_characters ≡ x → f ascii_characters ≡ x → f c ≡ x
 shipped c h f x unicode emoji ascii = elim h [
   | inl same ↦ ap f same ∙ unicode

@@ -8,3 +8,4 @@ pub mod Headline
 pub mod Holding
 pub mod FittingRows
 pub mod Arrows
+pub mod Levels

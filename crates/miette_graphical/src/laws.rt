@@ -16,6 +16,8 @@ ghost use Rattle.miette_graphical.specs.laws.Paths.{HasPath, Step, printed_at};
 ghost use Rattle.miette_graphical.specs.laws.Holding.{Arrow, HoldsRows, HoldsSnippets, HoldsUnder, IsHoldingText};
 ghost use Rattle.miette_graphical.specs.laws.Arrows.{DrawnRowsStand, FirstStands, InnerRowsStand, RowsStand};
 ghost use Rattle.miette_graphical.specs.laws.FittingRows.{fed_rows};
+ghost use Rattle.miette_graphical.specs.laws.Levels.{HasPlainBars, HaveRoom, HoldsLevels, LevelRowsStand};
+ghost use Rattle.miette_graphical.specs.laws.Levels.{StandBehindBars};
 ghost use Rattle.miette_runs.specs.rules.Runs.{Fragment, print};
 ghost use Rattle.miette_protocol.specs.declared.protocol.Severity.{Severity};
 ghost use Rattle.miette_graphical.specs.laws.CharacterSets.{AreNarrow, AreShipped};
@@ -200,6 +202,24 @@ pub fn arrows_law()
     ensures drawn { (s : Settings) (arrow : Arrow) (drawn : Settings → List ℕ) (text : List ℕ) →
         s.wrapping.wrap_lines ≡ true → HoldsUnder (arrow ∷ []) s drawn text → DrawnRowsStand s arrow drawn text }
     ensures printed { (rows : List (List Fragment)) → fed_rows (map print rows) ≡ rows_text rows }
+{}
+
+/// Where rows are wrapped, the same under any number of arrows, each inside the one before: what is drawn in rows that
+/// have room on each level stands in a text that holds it, one row after the other, behind the bars of all arrows
+/// (`drawn`). So stand the rows of the snippets at each path, on lines of their own, in the bytes of a text that holds
+/// them, as each that may be printed does (`bytes`). Rows of at most the columns that are left under the innermost arrow
+/// have room on each level (`room`), and those in which something is to be seen stand behind all bars at once (`bars`),
+/// in themes whose bar is a visible character, as that of each shipped one is (`shipped`).
+pub fn levels_law()
+    ensures drawn { (s : Settings) (arrows : List Arrow) (drawn : Settings → List ℕ) (text : List ℕ) →
+        s.wrapping.wrap_lines ≡ true → HoldsUnder arrows s drawn text → LevelRowsStand s arrows drawn text }
+    ensures bytes { (rows : SnippetRows) (s : Settings) (t : Tree) (a : Answers) (text : List ℕ) →
+        s.wrapping.wrap_lines ≡ true → HoldsSnippets rows s t a text → HoldsLevels rows s t a (encode_utf8_all text) }
+    ensures room { (s : Settings) (arrows : List Arrow) (rows : List (List ℕ)) → HasPlainBars s →
+        HaveRoom s arrows rows }
+    ensures bars { (s : Settings) (arrows : List Arrow) (rows : List (List ℕ)) → HasPlainBars s →
+        StandBehindBars s arrows rows }
+    ensures shipped { (s : Settings) → AreShipped s.theme.characters → HasPlainBars s }
 {}
 
 /// Of the characters of the shipped themes: those that frames, gutters and marks are drawn with are one column wide
