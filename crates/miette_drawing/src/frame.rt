@@ -23,6 +23,9 @@ use std::alloc::AllocError;
 /// What putting rows onto a page gives: nothing, or that memory was refused.
 pub(crate) type Outcome = Result<(), AllocError>;
 
+/// A line and a column, both counted from 0.
+pub(crate) type Place = (usize, usize);
+
 /// What a snippet's frame is drawn with.
 #[derive(Clone, Copy)]
 pub struct Frame<'a> {
@@ -30,6 +33,17 @@ pub struct Frame<'a> {
     pub settings: SnippetSettings<'a>,
     /// The columns of the line numbers.
     pub number_width: usize,
+}
+
+/// What the row over a snippet's lines tells.
+#[derive(Clone, Copy)]
+pub(crate) struct Heading<'a> {
+    /// What the source is called, if it has a name.
+    pub(crate) name: Option<&'a str>,
+    /// Whether the snippet has more than one line.
+    pub(crate) several: bool,
+    /// Where its primary label begins, if it has one.
+    pub(crate) place: Option<Place>,
 }
 
 // A run of ASCII characters.
@@ -75,7 +89,7 @@ fn push_corner<O: Canvas>(page: &mut Page<O>, frame: &Frame, corner: char, many:
 }
 
 // A line's and a column's number, counted from 1 where they are given from 0: `2:3`.
-fn push_place<O: Canvas>(page: &mut Page<O>, place: (usize, usize)) -> Outcome
+fn push_place<O: Canvas>(page: &mut Page<O>, place: Place) -> Outcome
     ensures { OnOk result (page.new ≡ page.old ⊕ text_tokens (place_text (place_at place))) }
 {
     let line = sum(place.0, 1)?;
@@ -87,12 +101,7 @@ fn push_place<O: Canvas>(page: &mut Page<O>, place: (usize, usize)) -> Outcome
 }
 
 // What a place is called in a source with a name: `name:2:3`, or `name`.
-fn push_link<O: Canvas>(
-    page: &mut Page<O>,
-    frame: &Frame,
-    name: &str,
-    place: (usize, usize),
-) -> Outcome
+fn push_link<O: Canvas>(page: &mut Page<O>, frame: &Frame, name: &str, place: Place) -> Outcome
     ensures { OnOk result (page.new ≡ page.old ⊕ styled_tokens frame.now.settings.theme.now.styles.link
         (if frame.now.settings.layout.now.primary_start then chars name.now ++ codes ":" ++ place_text (place_at place)
         else chars name.now)) }
@@ -111,7 +120,7 @@ fn push_named_place<O: Canvas>(
     page: &mut Page<O>,
     frame: &Frame,
     name: &str,
-    place: (usize, usize),
+    place: Place,
 ) -> Outcome
     ensures { OnOk result (page.new ≡ page.old
         ⊕ row_tokens (location (settings_of frame.now.settings) (Some name.now) false
@@ -128,7 +137,7 @@ fn push_bare_place<O: Canvas>(
     page: &mut Page<O>,
     frame: &Frame,
     several: bool,
-    place: (usize, usize),
+    place: Place,
 ) -> Outcome
     ensures { OnOk result (page.new ≡ page.old
         ⊕ row_tokens (location (settings_of frame.now.settings) None several (place_at place))) }
@@ -145,50 +154,39 @@ fn push_bare_place<O: Canvas>(
 }
 
 // Where a snippet's primary label begins, if it has one.
-fn push_location<O: Canvas>(
-    page: &mut Page<O>,
-    frame: &Frame,
-    name: Option<&str>,
-    several: bool,
-    place: Option<(usize, usize)>,
-) -> Outcome
+fn push_location<O: Canvas>(page: &mut Page<O>, frame: &Frame, heading: &Heading) -> Outcome
     ensures { OnOk result (page.new ≡ page.old
-        ⊕ row_tokens (location_of (settings_of frame.now.settings) (option_copied name.entry) several
-        (option_map place_at place))) }
+        ⊕ row_tokens (location_of (settings_of frame.now.settings) (option_copied heading.now.name) heading.now.several
+        (option_map place_at heading.now.place))) }
 {
-    let Some(place) = place else {
+    let Some(place) = heading.place else {
         return Ok(());
     };
-    match name {
+    match heading.name {
         Some(name) => {
             push_named_place(page, frame, name, place)?;
             Ok(())
         }
         None => {
-            push_bare_place(page, frame, several, place)?;
+            push_bare_place(page, frame, heading.several, place)?;
             Ok(())
         }
     }
 }
 
-/// The row over a snippet's lines: `   ╭─[name:2:3]`.
-///
-/// `several` says whether the snippet has more than one line; `place` is where its primary label begins, line and
-/// column counted from 0. `AllocError` where memory is refused, or `number_width + 2` or a number counted from 1 is
-/// past the largest `usize`.
+/// The row over a snippet's lines: `   ╭─[name:2:3]`. `AllocError` where memory is refused, or `number_width + 2` or a
+/// number counted from 1 is past the largest `usize`.
 pub(crate) fn push_top_row<O: Canvas>(
     page: &mut Page<O>,
     frame: &Frame,
-    name: Option<&str>,
-    several: bool,
-    place: Option<(usize, usize)>,
+    heading: &Heading,
 ) -> Outcome
     ensures { OnOk result (page.new ≡ page.old
         ⊕ rows_tokens (top_row_of (settings_of frame.now.settings) frame.now.number_width
-        (option_copied name.entry) several (option_map place_at place) ∷ [])) }
+        (option_copied heading.now.name) heading.now.several (option_map place_at heading.now.place) ∷ [])) }
 {
     push_corner(page, frame, frame.settings.theme.characters.ltop, 1)?;
-    push_location(page, frame, name, several, place)?;
+    push_location(page, frame, heading)?;
     page.end_row()?;
     Ok(())
 }

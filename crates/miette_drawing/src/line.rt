@@ -68,11 +68,7 @@ fn push_number_row<O: Canvas>(
 }
 
 // The mark row and the rows of texts under it, where there is a mark.
-fn push_marked_rows<O: Canvas>(
-    page: &mut Page<O>,
-    context: &LineContext,
-    marks: &[Mark<'_>],
-) -> Outcome
+fn push_marked_rows<O: Canvas>(page: &mut Page<O>, context: &LineContext, marks: &[Mark]) -> Outcome
     requires { All IsAnchored marks.now }
     ensures { OnOk result (page.new ≡ page.old ⊕ rows_tokens (before_each (before_marks context.now)
         (marked_rows (settings context.now)

@@ -28,16 +28,15 @@ ghost use Rattle.miette_highlight.specs.rules.HighlighterCalls.{restarted};
 ghost use Rattle.miette_folds.specs.views.Folding.{fold_in};
 ghost use Rattle.miette_folds.specs.views.Spreads.{spread_of, AreNumbered};
 ghost use Rattle.miette_snippet_rules.specs.views.SettingsView.{settings_of};
-ghost use Rattle.miette_snippet_rules.specs.rules.SnippetLayout.{snippet_context, rows_of_lines};
+ghost use Rattle.miette_snippet_rules.specs.rules.SnippetLayout.{left_out, rows_of_lines, snippet_context};
 ghost use Rattle.miette_labels.specs.views.Sweeping.{IsAt, AreSorted};
 ghost use Rattle.miette_drawing.specs.steps.Widths.{width_of_count, gutter_of};
 ghost use Rattle.miette_drawing.specs.views.SnippetRows.{PutsRows, PutsSnippet, cells_in, texts_in};
 ghost use Rattle.miette_source_lines.specs.rules.Lines.{lines_from};
 ghost use Rattle.miette_labels.specs.views.GivenLabels.{drawn_of};
 ghost use Rattle.miette_snippet_rules.specs.rules.Highlighting.{AreCallsOn, leaves_plain};
-ghost use Rattle.miette_snippet_rules.specs.rules.SnippetLayout.{left_out};
 
-use crate::frame::{Frame, Outcome, push_bottom_row, push_top_row};
+use crate::frame::{Frame, Heading, Outcome, push_bottom_row, push_top_row};
 use crate::highlighting::{may_pass, pieces_of, restart};
 use crate::line::push_line_or_break;
 use crate::line_context::{LineContext, ShownLine};
@@ -265,13 +264,12 @@ fn push_framed<'a, H: Highlighter, O: Canvas>(
         bytes,
         folds: &folds,
     };
-    push_top_row(
-        page,
-        &frame,
-        contents.name(),
-        extent.lines > 1,
-        snippet.place,
-    )?;
+    let heading = Heading {
+        name: contents.name(),
+        several: extent.lines > 1,
+        place: snippet.place,
+    };
+    push_top_row(page, &frame, &heading)?;
     push_lines(drawing, &body, highlighter, page, sweep)?;
     push_bottom_row(page, &frame)?;
     Ok(())

@@ -17,7 +17,7 @@ use miette_page::canvas::Canvas;
 use miette_page::page::Page;
 
 // The character at a mark's anchor.
-fn middle_of(context: &LineContext, mark: &Mark<'_>) -> char
+fn middle_of(context: &LineContext, mark: &Mark) -> char
     ensures { result ≡ (if is_empty (drawn_of mark.now.label)
         then (settings context.now).theme.characters.uarrow
         else code_with_parts (settings context.now).theme.characters (drawn_of mark.now.label).parts) }
@@ -33,7 +33,7 @@ fn middle_of(context: &LineContext, mark: &Mark<'_>) -> char
 }
 
 // A mark: `──┬──`.
-fn push_mark<O: Canvas>(page: &mut Page<O>, context: &LineContext, mark: &Mark<'_>) -> Outcome
+fn push_mark<O: Canvas>(page: &mut Page<O>, context: &LineContext, mark: &Mark) -> Outcome
     requires { IsAnchored mark.now }
     ensures { OnOk result (page.new ≡ page.old
         ⊕ run_tokens (mark_run (settings context.now)
@@ -48,11 +48,7 @@ fn push_mark<O: Canvas>(page: &mut Page<O>, context: &LineContext, mark: &Mark<'
 }
 
 /// The marks, each behind the spaces before it: `  ──┬── ▲ ─┬─`. `AllocError` where memory is refused.
-pub(crate) fn push_marks<O: Canvas>(
-    page: &mut Page<O>,
-    context: &LineContext,
-    marks: &[Mark<'_>],
-) -> Outcome
+pub fn push_marks<O: Canvas>(page: &mut Page<O>, context: &LineContext, marks: &[Mark]) -> Outcome
     requires { All IsAnchored marks.now }
     ensures { OnOk result (page.new ≡ page.old
         ⊕ row_tokens (mark_runs (settings context.now) 0

@@ -50,7 +50,7 @@ pub(crate) fn push_before_marks<O: Canvas>(page: &mut Page<O>, context: &LineCon
 }
 
 // The column behind the one from which a mark's text hangs.
-fn behind_anchor(mark: &Mark<'_>) -> usize
+fn behind_anchor(mark: &Mark) -> usize
     requires { IsAnchored mark.now }
     ensures { result ≡ mark.now.anchor + 1 }
 {
@@ -62,7 +62,7 @@ fn behind_anchor(mark: &Mark<'_>) -> usize
 fn push_leads<O: Canvas>(
     page: &mut Page<O>,
     context: &LineContext,
-    earlier: &[Mark<'_>],
+    earlier: &[Mark],
     column: usize,
 ) -> Outcome
     requires { All IsAnchored earlier.now }
@@ -81,65 +81,64 @@ fn push_leads<O: Canvas>(
     Ok(())
 }
 
-// A part of a mark's text, after the characters that lead to it and a space: `╰── a label's text`.
+// The text that hangs from a mark: the line of the mark, the marks before it, and the mark.
 #[derive(Clone, Copy)]
-struct TextPart<'a> {
+struct HungText<'a, 'b> {
+    context: &'a LineContext<'a>,
+    earlier: &'b [Mark<'b>],
+    mark: &'b Mark<'b>,
+}
+
+// The characters that lead to a part of a text, before a space: `╰──`.
+#[derive(Clone, Copy)]
+struct Leader {
     corner: char,
     line: char,
     end: char,
-    text: &'a str,
 }
 
 // A row of a text: `   ·   │ ╰── a label's text`.
 fn push_text_row<O: Canvas>(
     page: &mut Page<O>,
-    context: &LineContext,
-    earlier: &[Mark<'_>],
-    mark: &Mark<'_>,
-    part: &TextPart<'_>,
+    hung: &HungText,
+    leader: Leader,
+    part: &str,
 ) -> Outcome
-    requires earlier { All IsAnchored earlier.now }
-    requires own { IsAnchored mark.now }
+    requires earlier { All IsAnchored hung.now.earlier.now }
+    requires own { IsAnchored hung.now.mark.now }
     ensures { OnOk result (page.new ≡ page.old
-        ⊕ rows_tokens (text_line context.now (map mark_of earlier.now)
-        (mark_of mark.now) (part.now.corner ∷ part.now.line ∷ part.now.end ∷ 32 ∷ []) (chars part.now.text.now) ∷ [])) }
+        ⊕ rows_tokens (text_line hung.now.context.now (map mark_of hung.now.earlier.now)
+        (mark_of hung.now.mark.now) (leader.corner ∷ leader.line ∷ leader.end ∷ 32 ∷ []) (chars part.now) ∷ [])) }
 {
-    push_before_marks(page, context)?;
-    push_leads(page, context, earlier, mark.anchor)?;
-    page.push_line(mark.label.style, part.corner, part.line, 1)?;
-    page.push(part.end)?;
+    push_before_marks(page, hung.context)?;
+    push_leads(page, hung.context, hung.earlier, hung.mark.anchor)?;
+    page.push_line(hung.mark.label.style, leader.corner, leader.line, 1)?;
+    page.push(leader.end)?;
     page.push(' ')?;
-    page.push_str(part.text)?;
+    page.push_str(part)?;
     page.end_row()?;
     Ok(())
 }
 
 // The rows of a text's parts after the first: `   ·   │   │ a label's text`.
-fn push_more_parts<O: Canvas>(
-    page: &mut Page<O>,
-    context: &LineContext,
-    earlier: &[Mark<'_>],
-    mark: &Mark<'_>,
-    text: &str,
-) -> Outcome
-    requires earlier { All IsAnchored earlier.now }
-    requires own { IsAnchored mark.now }
+fn push_more_parts<O: Canvas>(page: &mut Page<O>, hung: &HungText, text: &str) -> Outcome
+    requires earlier { All IsAnchored hung.now.earlier.now }
+    requires own { IsAnchored hung.now.mark.now }
     ensures { OnOk result (page.new ≡ page.old ⊕ rows_tokens (map
-        (text_line context.now (map mark_of earlier.now) (mark_of mark.now)
-        (beside (settings context.now).theme.characters))
+        (text_line hung.now.context.now (map mark_of hung.now.earlier.now) (mark_of hung.now.mark.now)
+        (beside (settings hung.now.context.now).theme.characters))
         (cut_at_lf (chars text.now)))) }
 {
-    let vbar = context.frame.settings.theme.characters.vbar;
+    let context = hung.context;
+    let leader = Leader {
+        corner: ' ',
+        line: ' ',
+        end: context.frame.settings.theme.characters.vbar,
+    };
     let mut left = Some(text);
     while let Some(text) = left {
-        let (text, rest) = first_part(text);
-        let part = TextPart {
-            corner: ' ',
-            line: ' ',
-            end: vbar,
-            text,
-        };
-        push_text_row(page, context, earlier, mark, &part)?;
+        let (part, rest) = first_part(text);
+        push_text_row(page, hung, leader, part)?;
         left = rest;
     }
     Ok(())
@@ -147,51 +146,41 @@ fn push_more_parts<O: Canvas>(
 
 // The rows of a mark's text, where these marks stand before it: `╰── text`, or `╰─┤ text` and a row for each further
 // part.
-fn push_text<O: Canvas>(
-    page: &mut Page<O>,
-    context: &LineContext,
-    earlier: &[Mark<'_>],
-    mark: &Mark<'_>,
-) -> Outcome
-    requires earlier { All IsAnchored earlier.now }
-    requires own { IsAnchored mark.now }
-    ensures { OnOk result (page.new ≡ page.old ⊕ rows_tokens (before_each (before_marks context.now)
-        (rows_of_parts (settings context.now)
-        (map mark_of earlier.now) (mark_of mark.now)
-        (drawn_of mark.now.label).parts))) }
+fn push_text<O: Canvas>(page: &mut Page<O>, hung: &HungText) -> Outcome
+    requires earlier { All IsAnchored hung.now.earlier.now }
+    requires own { IsAnchored hung.now.mark.now }
+    ensures { OnOk result (page.new ≡ page.old ⊕ rows_tokens (before_each (before_marks hung.now.context.now)
+        (rows_of_parts (settings hung.now.context.now)
+        (map mark_of hung.now.earlier.now) (mark_of hung.now.mark.now)
+        (drawn_of hung.now.mark.now.label).parts))) }
 {
-    let Some(text) = mark.label.text else {
+    let Some(text) = hung.mark.label.text else {
         return Ok(());
     };
+    let context = hung.context;
     let characters = &context.frame.settings.theme.characters;
     let (first, rest) = first_part(text);
     let Some(rest) = rest else {
-        let part = TextPart {
+        let leader = Leader {
             corner: characters.lbot,
             line: characters.hbar,
             end: characters.hbar,
-            text: first,
         };
-        push_text_row(page, context, earlier, mark, &part)?;
+        push_text_row(page, hung, leader, first)?;
         return Ok(());
     };
-    let part = TextPart {
+    let leader = Leader {
         corner: characters.lbot,
         line: characters.hbar,
         end: characters.rcross,
-        text: first,
     };
-    push_text_row(page, context, earlier, mark, &part)?;
-    push_more_parts(page, context, earlier, mark, rest)?;
+    push_text_row(page, hung, leader, first)?;
+    push_more_parts(page, hung, rest)?;
     Ok(())
 }
 
 /// The rows of the texts of all marks, the last one's first. It fails as `push_other_start` does.
-pub(crate) fn push_texts<O: Canvas>(
-    page: &mut Page<O>,
-    context: &LineContext,
-    marks: &[Mark<'_>],
-) -> Outcome
+pub fn push_texts<O: Canvas>(page: &mut Page<O>, context: &LineContext, marks: &[Mark]) -> Outcome
     requires { All IsAnchored marks.now }
     ensures { OnOk result (page.new ≡ page.old ⊕ rows_tokens (before_each (before_marks context.now)
         (rows_below (settings context.now) []
@@ -200,7 +189,12 @@ pub(crate) fn push_texts<O: Canvas>(
     let mut place = marks.len();
     while place > 0 {
         place -= 1;
-        push_text(page, context, &marks[..place], &marks[place])?;
+        let hung = HungText {
+            context: &*context,
+            earlier: &marks[..place],
+            mark: &marks[place],
+        };
+        push_text(page, &hung)?;
     }
     Ok(())
 }

@@ -7,21 +7,21 @@ ghost use Rattle.miette_narrated.specs.steps.Conversions.{ranges_of, narrated_li
 ghost use Rattle.miette_narrated.specs.rules.Lines.{snippet_line, line_row, rows_of_line, rows_of_lines};
 ghost use Rattle.miette_narrated.specs.steps.Ends.{IsOrder};
 ghost use Rattle.miette_narrated.specs.rules.Labels.{label_rows};
-ghost use Rattle.miette_narrated.specs.steps.Sweeping.{IsAt, last_start};
+ghost use Rattle.miette_narrated.specs.steps.Sweeping.{IsUnderWay, last_start};
 
 use crate::decoding::push_decoded;
 use crate::label_order::{LabelOrder, begun_on, ended_on};
 use crate::label_rows::LabelledLine;
 use crate::narrated_line::NarratedLine;
-use crate::sweeping::{ReachSweep, come_to};
-use crate::words::push_number;
+use crate::sweeping::{LabelWalk, come_to};
+use crate::words::{Appended, push_number};
 use miette_basics::sums::sum;
 use miette_protocol::source::MietteSpanContents;
 use miette_source_lines::lines::{LineOfText, Lines};
-use std::alloc::{AllocError, Global};
+use std::alloc::Global;
 
 /// `snippet line 2:   text`
-fn push_line(out: &mut String, it: &NarratedLine<'_>) -> Result<(), AllocError>
+fn push_line(out: &mut String, it: &NarratedLine<'_>) -> Appended
     ensures { OnOk result (string_bytes out.new ≡ string_bytes out.old ++ line_row (narrated_line it.now)) }
 {
     push_number(out, "snippet line ", it.number)?;
@@ -42,28 +42,31 @@ fn last_start(it: &NarratedLine<'_>) -> usize
 }
 
 /// A line's row, and those of its labels.
-fn push_shown<'a>(
-    alloc: Global,
-    out: &mut String,
-    it: &NarratedLine<'_>,
-    order: &LabelOrder<'a>,
-    sweep: &mut ReachSweep<'a>,
-) -> Result<(), AllocError>
-    requires order { IsOrder order.now }
-    requires at { IsAt order.now.placed.now sweep.old.at sweep.old.next sweep.old.running.items }
+fn push_shown(out: &mut String, it: &NarratedLine<'_>, walk: &mut LabelWalk<'_>) -> Appended
+    requires order { IsOrder walk.old.order }
+    requires at { IsUnderWay walk.old }
     ensures rows { OnOk result (string_bytes out.new
         ≡ string_bytes out.old
-        ++ rows_of_line (ranges_of order.now.placed.now) (narrated_line it.now)) }
-    ensures at { OnOk result (IsAt order.now.placed.now sweep.new.at sweep.new.next sweep.new.running.items) }
+        ++ rows_of_line (ranges_of walk.old.order.placed.now) (narrated_line it.now)) }
+    ensures order { walk.new.order ≡ walk.old.order }
+    ensures at { OnOk result (IsUnderWay walk.new) }
 {
+    let alloc = *out.allocator();
+    let order = walk.order;
     push_line(out, it)?;
     if !it.is_last {
-        push_inner(alloc, out, it, order)?;
+        push_inner(alloc, out, it, &order)?;
         return Ok(());
     }
-    come_to(alloc, order.placed, it.line.start, last_start(it), sweep)?;
-    let row = LabelledLine::new(alloc, it, sweep.running.len())?;
-    row.push_labels(out, &sweep.running)
+    come_to(
+        alloc,
+        order.placed,
+        it.line.start,
+        last_start(it),
+        &mut walk.sweep,
+    )?;
+    let row = LabelledLine::new(alloc, it, walk.sweep.running.len())?;
+    row.push_labels(out, &walk.sweep.running)
 }
 
 /// The rows of labels under a line that isn't the snippet's last: only labels that begin or end there are gone through.
@@ -72,7 +75,7 @@ fn push_inner(
     out: &mut String,
     it: &NarratedLine<'_>,
     order: &LabelOrder<'_>,
-) -> Result<(), AllocError>
+) -> Appended
     requires order { IsOrder order.now }
     requires inner { it.now.is_last ≡ false }
     ensures { OnOk result (string_bytes out.new
@@ -112,20 +115,19 @@ fn narrated_line<'a>(
 }
 
 /// The rows of a snippet's lines, from what its read lent.
-pub(crate) fn push_lines<'a>(
-    alloc: Global,
+pub(crate) fn push_lines(
     out: &mut String,
     lent: &MietteSpanContents<'_>,
-    order: &LabelOrder<'a>,
-    sweep: &mut ReachSweep<'a>,
-) -> Result<(), AllocError>
+    walk: &mut LabelWalk<'_>,
+) -> Appended
     requires small { lent.now.span.offset + length lent.now.bytes < 2 ^ 64 }
-    requires order { IsOrder order.now }
-    requires at { IsAt order.now.placed.now sweep.old.at sweep.old.next sweep.old.running.items }
+    requires order { IsOrder walk.old.order }
+    requires at { IsUnderWay walk.old }
     ensures rows { OnOk result (string_bytes out.new
-        ≡ string_bytes out.old ++ rows_of_lines (ranges_of order.now.placed.now) lent.now
+        ≡ string_bytes out.old ++ rows_of_lines (ranges_of walk.old.order.placed.now) lent.now
         (lent.now.line + 1) (lines_of_contents lent.now)) }
-    ensures at { OnOk result (IsAt order.now.placed.now sweep.new.at sweep.new.next sweep.new.running.items) }
+    ensures order { walk.new.order ≡ walk.old.order }
+    ensures at { OnOk result (IsUnderWay walk.new) }
 {
     let start = lent.span().offset();
     let end = start + lent.data().len();
@@ -133,7 +135,7 @@ pub(crate) fn push_lines<'a>(
     for line in Lines::new(lent.data(), start) {
         let number = sum(before, 1)?;
         let it = narrated_line(lent, line, number, line.end == end);
-        push_shown(alloc, out, &it, order, sweep)?;
+        push_shown(out, &it, walk)?;
         before = number;
     }
     Ok(())

@@ -14,16 +14,13 @@ ghost use Rattle.miette_narrated.specs.steps.NarrationSettings.{settings_of};
 
 use crate::settings::NarrationSettings;
 use crate::snippets::push_snippets;
-use crate::words::{push_row, push_row_if};
+use crate::words::{Appended, push_row, push_row_if};
 use miette_protocol::error::RenderError;
 use miette_protocol::protocol::{Diagnostic, LabeledSpan, Severity};
 use miette_protocol::source::SourceCode;
 use miette_tree::parts::{cause_texts, labels_of, own_or, severity_name, severity_title};
 use miette_tree::report::{Cause, Report, SourceRef};
-use std::alloc::{AllocError, Global};
-
-/// That rows were appended, or `AllocError` where memory is refused.
-type Appended = Result<(), AllocError>;
+use std::alloc::Global;
 
 /// `    Diagnostic severity: error`
 fn push_severity(out: &mut String, severity: Option<Severity>) -> Appended

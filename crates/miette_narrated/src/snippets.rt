@@ -10,13 +10,13 @@ ghost use Rattle.miette_narrated.specs.steps.Conversions.{ranges_of};
 ghost use Rattle.miette_tree.specs.rules.Reads.{accepts};
 ghost use Rattle.miette_narrated.specs.rules.Snippets.{name_text, begin_rows, snippet};
 ghost use Rattle.miette_narrated.specs.steps.Ends.{IsOrder};
-ghost use Rattle.miette_narrated.specs.steps.Sweeping.{IsAt};
+ghost use Rattle.miette_narrated.specs.steps.Sweeping.{IsUnderWay};
 ghost use Rattle.miette_narrated.specs.steps.AppendedParts.{AppendsSnippets};
 
 use crate::label_order::{LabelOrder, by_end};
 use crate::lines::push_lines;
-use crate::sweeping::ReachSweep;
-use crate::words::push_number;
+use crate::sweeping::{LabelWalk, ReachSweep};
+use crate::words::{Appended, push_number};
 use miette_basics::sums::sum;
 use miette_labels::drawn_labels::placed_labels;
 use miette_labels::grouping::groups;
@@ -29,7 +29,7 @@ use miette_protocol::source::{MietteSpanContents, SourceCode};
 use std::alloc::{AllocError, Global};
 
 /// ` for bad_file.rs`
-fn push_name(out: &mut String, name: Option<&str>) -> Result<(), AllocError>
+fn push_name(out: &mut String, name: Option<&str>) -> Appended
     ensures { OnOk result (string_bytes out.new ≡ string_bytes out.old ++ name_text (option_copied name.entry)) }
 {
     if let Some(name) = name {
@@ -40,14 +40,14 @@ fn push_name(out: &mut String, name: Option<&str>) -> Result<(), AllocError>
 }
 
 /// ` starting at line 1, column 1`, from a line and a column that are counted from 0
-fn push_place(out: &mut String, words: &str, before: usize) -> Result<(), AllocError>
+fn push_place(out: &mut String, words: &str, before: usize) -> Appended
     ensures { OnOk result (string_bytes out.new ≡ string_bytes out.old ++ (words.now ++ decimal (before + 1))) }
 {
     push_number(out, words, sum(before, 1)?)
 }
 
 /// `Begin snippet for bad_file.rs starting at line 1, column 1`, and a blank row
-fn push_begin(out: &mut String, lent: &MietteSpanContents<'_>) -> Result<(), AllocError>
+fn push_begin(out: &mut String, lent: &MietteSpanContents<'_>) -> Appended
     ensures { OnOk result (string_bytes out.new ≡ string_bytes out.old ++ begin_rows lent.now) }
 {
     out.push_str("Begin snippet")?;
@@ -58,25 +58,24 @@ fn push_begin(out: &mut String, lent: &MietteSpanContents<'_>) -> Result<(), All
 }
 
 /// A snippet, from what its read lent.
-fn push_snippet<'a>(
-    alloc: Global,
+fn push_snippet(
     out: &mut String,
     lent: &MietteSpanContents<'_>,
-    order: &LabelOrder<'a>,
-    sweep: &mut ReachSweep<'a>,
-) -> Result<(), AllocError>
-    requires order { IsOrder order.now }
-    requires at { IsAt order.now.placed.now sweep.old.at sweep.old.next sweep.old.running.items }
+    walk: &mut LabelWalk<'_>,
+) -> Appended
+    requires order { IsOrder walk.old.order }
+    requires at { IsUnderWay walk.old }
     ensures rows { OnOk result (string_bytes out.new
-        ≡ string_bytes out.old ++ snippet (ranges_of order.now.placed.now) lent.now) }
-    ensures at { OnOk result (IsAt order.now.placed.now sweep.new.at sweep.new.next sweep.new.running.items) }
+        ≡ string_bytes out.old ++ snippet (ranges_of walk.old.order.placed.now) lent.now) }
+    ensures order { walk.new.order ≡ walk.old.order }
+    ensures at { OnOk result (IsUnderWay walk.new) }
 {
     let end = lent.span().offset().checked_add(lent.data().len());
     if end.is_none() {
         return Err(AllocError);
     }
     push_begin(out, lent)?;
-    push_lines(alloc, out, lent, order, sweep)
+    push_lines(out, lent, walk)
 }
 
 /// The snippets of labels that were read. Fails with `Refused` where a group of them can't be read, and with `Memory`
@@ -105,13 +104,14 @@ fn push_read<'a, S: SourceCode>(
         placed: &placed,
         ends: &ends,
     };
-    let mut sweep = ReachSweep {
+    let sweep = ReachSweep {
         at: 0,
         next: 0,
         running: Vec::new(alloc),
     };
+    let mut walk = LabelWalk { order, sweep };
     for group in &groups {
-        push_snippet(alloc, out, &group.contents, &order, &mut sweep)?;
+        push_snippet(out, &group.contents, &mut walk)?;
     }
     Ok(())
 }

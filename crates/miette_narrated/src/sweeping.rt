@@ -4,6 +4,7 @@ ghost use Rattle.std.specs.Prelude.{◌≡◌, OnOk, drop, suc};
 ghost use Rattle.std.specs.List.{filter};
 ghost use Rattle.miette_narrated.specs.steps.Sweeping.{reaches, IsAt, BeginsFrom};
 
+use crate::label_order::LabelOrder;
 use miette_labels::sweep::PlacedLabel;
 use std::alloc::{AllocError, Global};
 
@@ -13,6 +14,13 @@ pub(crate) struct ReachSweep<'a> {
     pub(crate) at: usize,
     pub(crate) next: usize,
     pub(crate) running: Vec<PlacedLabel<'a>>,
+}
+
+/// The labels of a source in their orders, and a sweep over them.
+#[derive(Drop)]
+pub(crate) struct LabelWalk<'a> {
+    pub(crate) order: LabelOrder<'a>,
+    pub(crate) sweep: ReachSweep<'a>,
 }
 
 /// Keeps the labels that reach a place.

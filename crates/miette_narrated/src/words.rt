@@ -7,8 +7,11 @@ ghost use Rattle.miette_narrated.specs.rules.Report.{row_if};
 use itoa::Buffer;
 use std::alloc::AllocError;
 
+/// That rows were appended, or `AllocError` where memory is refused.
+pub(crate) type Appended = Result<(), AllocError>;
+
 /// Appends words and a number in decimal.
-pub(crate) fn push_number(out: &mut String, words: &str, number: usize) -> Result<(), AllocError>
+pub(crate) fn push_number(out: &mut String, words: &str, number: usize) -> Appended
     ensures { OnOk result (string_bytes out.new ≡ string_bytes out.old ++ (words.now ++ decimal number)) }
 {
     out.push_str(words)?;
@@ -18,7 +21,7 @@ pub(crate) fn push_number(out: &mut String, words: &str, number: usize) -> Resul
 }
 
 /// Appends a row: words, a text, and a line feed.
-pub(crate) fn push_row(out: &mut String, words: &str, text: &str) -> Result<(), AllocError>
+pub(crate) fn push_row(out: &mut String, words: &str, text: &str) -> Appended
     ensures { OnOk result (string_bytes out.new ≡ string_bytes out.old ++ row (words.now ++ text.now)) }
 {
     out.push_str(words)?;
@@ -27,11 +30,7 @@ pub(crate) fn push_row(out: &mut String, words: &str, text: &str) -> Result<(), 
 }
 
 /// The same where there is a text.
-pub(crate) fn push_row_if(
-    out: &mut String,
-    words: &str,
-    text: Option<&str>,
-) -> Result<(), AllocError>
+pub(crate) fn push_row_if(out: &mut String, words: &str, text: Option<&str>) -> Appended
     ensures { OnOk result (string_bytes out.new ≡ string_bytes out.old ++ row_if words.now (option_copied text.entry)) }
 {
     match text {

@@ -2,6 +2,7 @@
 use Rattle.std.specs.Prelude.{ℕ, ◌≤◌, ◌≡◌, ⊤, List, [], ◌∷◌, take, max, Bool, nat_le, if◌then◌else◌}
 use Rattle.std.specs.List.{filter}
 use Rattle.miette_labels.specs.declared.sweep.PlacedLabel.{PlacedLabel}
+use Rattle.miette_narrated.specs.declared.sweeping.LabelWalk.{LabelWalk}
 use Rattle.miette_narrated.specs.rules.Labels.{SnippetLine}
 
 -- whether a label reaches a place
@@ -11,6 +12,10 @@ reaches place p = nat_le place p.after
 -- so many labels have come, and these of them reach the place
 abbrev pub IsAt : List PlacedLabel → ℕ → ℕ → List PlacedLabel → Type 0
 IsAt labels place next running = running ≡ filter (reaches place) (take next labels)
+
+-- the sweep of a walk has come to its place
+abbrev pub IsUnderWay : LabelWalk → Type 0
+IsUnderWay walk = IsAt walk.order.placed.now walk.sweep.at walk.sweep.next walk.sweep.running.items
 
 -- the first of some labels begins at a place or behind it
 abbrev pub BeginsFrom : ℕ → List PlacedLabel → Type 0

@@ -11,7 +11,8 @@ pub returns : goal.returns
 returns g c =
     let s = settings_of c.args.frame.now.settings in
     let corner = corner_row s c.args.frame.now.number_width c.args.frame.now.settings.theme.now.characters.ltop 1 in
-    let location = location_of s (option_copied c.args.name) c.args.several (option_map place_at c.args.place) in
+    let heading = c.args.heading.now in
+    let location = location_of s (option_copied heading.name) heading.several (option_map place_at heading.place) in
     row_done (corner ++ location) c.args.page.now c.push_location.new.page c.end_row.new.self
     (parts_then corner location c.args.page.now c.push_corner.new.page c.push_location.new.page
     c.in_ok-push_corner.ensures c.in_ok-push_location.ensures)

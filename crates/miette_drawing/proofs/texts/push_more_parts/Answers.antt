@@ -10,8 +10,8 @@ use Rattle.miette_drawing.proofs.texts.push_more_parts.Goals as goal
 
 pub loop-left-preserved : goal.loop-left-preserved
 loop-left-preserved g c =
-    part_more (text_line c.args.context.now (map mark_of c.args.earlier.now)
-    (mark_of c.args.mark.now) (beside (settings c.args.context.now).theme.characters))
+    part_more (text_line c.args.hung.now.context.now (map mark_of c.args.hung.now.earlier.now)
+    (mark_of c.args.hung.now.mark.now) (beside (settings c.args.hung.now.context.now).theme.characters))
     (parts_of (option_copied c.loop-left.left)) (parts_of (option_copied c.first_part.result.1))
     (chars c.first_part.result.0.now)
     c.loop-left.page c.push_text_row.new.page _

@@ -11,11 +11,11 @@ use Rattle.miette_drawing.proofs.texts.push_more_parts.Given as goal
 
 abbrev pub invariant-loop-left : goal.invariant-loop-left
 invariant-loop-left g l =
-    l.page ⊕ rows_tokens (map (text_line l.fn.context (map mark_of l.fn.earlier)
-    (mark_of l.fn.mark) (beside (settings l.fn.context).theme.characters))
+    l.page ⊕ rows_tokens (map (text_line l.fn.hung.context.now (map mark_of l.fn.hung.earlier.now)
+    (mark_of l.fn.hung.mark.now) (beside (settings l.fn.hung.context.now).theme.characters))
     (parts_of (option_copied l.left)))
-    ≡ l.fn.page ⊕ rows_tokens (map (text_line l.fn.context (map mark_of l.fn.earlier)
-    (mark_of l.fn.mark) (beside (settings l.fn.context).theme.characters))
+    ≡ l.fn.page ⊕ rows_tokens (map (text_line l.fn.hung.context.now (map mark_of l.fn.hung.earlier.now)
+    (mark_of l.fn.hung.mark.now) (beside (settings l.fn.hung.context.now).theme.characters))
     (cut_at_lf (chars l.fn.text)))
 
 abbrev pub decreases-loop-left : goal.decreases-loop-left

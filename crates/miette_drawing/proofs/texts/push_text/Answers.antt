@@ -9,9 +9,9 @@ use Rattle.miette_drawing.specs.steps.LineContexts.{settings}
 
 pub returns : goal.returns
 returns g c =
-    several_parts (settings c.args.context.now) (before_marks c.args.context.now)
-    (map mark_of c.args.earlier.now)
-    (mark_of c.args.mark.now)
+    several_parts (settings c.args.hung.now.context.now) (before_marks c.args.hung.now.context.now)
+    (map mark_of c.args.hung.now.earlier.now)
+    (mark_of c.args.hung.now.mark.now)
     _ (chars c.first_part.result.0.now) (chars c.in-Some-rest.rest.now) c.args.page.now c.push_text_row-2.new.page
     c.push_more_parts.new.page
     (ap (λ o. parts_of (option_copied o)) c.in-Some.is ∙ c.first_part.ensures.cut

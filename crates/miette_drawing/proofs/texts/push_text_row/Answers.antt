@@ -8,10 +8,12 @@ use Rattle.miette_drawing.specs.steps.LineContexts.{settings}
 
 pub returns : goal.returns
 returns g c =
-    let mark = c.args.mark.now in
-    let part = c.args.part.now in
-    text_put (settings c.args.context.now) (before_marks c.args.context.now)
-    (map mark_of c.args.earlier.now) (mark_of mark) mark.anchor part.corner part.line part.end (chars part.text.now)
+    let hung = c.args.hung.now in
+    let mark = hung.mark.now in
+    let leader = c.args.leader in
+    text_put (settings hung.context.now) (before_marks hung.context.now)
+    (map mark_of hung.earlier.now) (mark_of mark) mark.anchor leader.corner leader.line leader.end
+    (chars c.args.part.now)
     c.args.page.now c.push_before_marks.new.page c.push_leads.new.page c.push_line.new.self c.push.new.self
     c.push-2.new.self c.push_str.new.self c.end_row.new.self
     refl c.in_ok-push_before_marks.ensures c.in_ok-push_leads.ensures c.in_ok-push_line.ensures c.in_ok-push.ensures

@@ -1,15 +1,16 @@
-use Rattle.std.proofs.Common.{◌+◌, ◌++◌, string_bytes}
+use Rattle.std.proofs.Common.{◌≡◌, ◌+◌, ◌++◌, string_bytes}
 use Rattle.miette_labels.specs.rules.Contexts.{lines_of_contents}
 use Rattle.miette_narrated.specs.steps.Conversions.{ranges_of}
 use Rattle.miette_narrated.specs.rules.Lines.{rows_of_lines}
-use Rattle.miette_narrated.specs.steps.Sweeping.{IsAt}
+use Rattle.miette_narrated.specs.steps.Sweeping.{IsUnderWay}
 use Rattle.miette_narrated.proofs.Lining.{AreLeft}
 use Rattle.miette_narrated.proofs.lines.push_lines.Given as goal
 
 abbrev pub invariant-loop-line : goal.invariant-loop-line
 invariant-loop-line l = record {
-  left : AreLeft (ranges_of l.order.placed.now) l.lent l.before l.line-iterator (string_bytes l.out)
-      (string_bytes l.fn.out ++ rows_of_lines (ranges_of l.order.placed.now) l.lent (l.lent.line + 1)
+  left : AreLeft (ranges_of l.fn.walk.order.placed.now) l.lent l.before l.line-iterator (string_bytes l.out)
+      (string_bytes l.fn.out ++ rows_of_lines (ranges_of l.fn.walk.order.placed.now) l.lent (l.lent.line + 1)
       (lines_of_contents l.lent));
-  at : IsAt l.order.placed.now l.sweep.at l.sweep.next l.sweep.running.items;
+  order : l.walk.order ≡ l.fn.walk.order;
+  at : IsUnderWay l.walk;
 }

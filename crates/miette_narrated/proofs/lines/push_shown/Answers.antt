@@ -11,7 +11,7 @@ use Rattle.miette_narrated.proofs.lines.push_shown.Goals as goal
 pub returns-clause-rows : goal.returns-clause-rows
 returns-clause-rows c =
     let it = narrated_line c.args.it.now in
-    let placed = c.args.order.now.placed.now in
+    let placed = c.args.walk.now.order.placed.now in
     let sweep = c.come_to.new.sweep in
     let q = string_bytes c.push_line.new.out in
     on_ok_weaker c.push_labels.result (λ h. then (string_bytes c.args.out.now) q (string_bytes c.push_labels.new.out)
