@@ -1,2 +1,3 @@
 pub mod Plaining
+pub mod Prefixes
 pub mod Stepping

@@ -1,6 +1,6 @@
 -- Texts of printable ASCII characters.
 use Rattle.std.proofs.Common.{ℕ, ◌<◌, ◌≤◌, ◌≡◌, true, false, leb, ltb, eqb, List, ◌∷◌, length, refl, sym, ap, arith}
-use Rattle.std.proofs.Common.{zero, suc, [], take}
+use Rattle.std.proofs.Common.{zero, suc, ◌+◌, ◌++◌, [], take, drop, ◌∙◌, ap₂}
 use Rattle.std.specs.Prelude.{slice_index}
 use Rattle.std.specs.List.{list_all}
 use Rattle.std.specs.Int.{is_in_range}
@@ -9,10 +9,10 @@ use Rattle.std.proofs.lemmas.Bool.Decides.{nat_tests}
 use Rattle.unicode_width.specs.Width.{char_width}
 use Rattle.bstr.specs.Utf8.{decoded, good, or_replacement}
 use Rattle.bstr.proofs.lemmas.PieceLemmas.{value-1}
-use Rattle.miette_cells.specs.rules.Cells.{characters}
+use Rattle.miette_cells.specs.rules.Cells.{Cell, cells_from, characters, hides_next, width_at}
 use Rattle.miette_cells.specs.rules.Widths.{width_of}
-use Rattle.miette_cells.specs.views.Printable.{is_printable}
-use Rattle.miette_cells.proofs.Stepping.{made, characters_step}
+use Rattle.miette_cells.specs.views.Printable.{is_printable, plain_cells}
+use Rattle.miette_cells.proofs.Stepping.{made, cells_step, characters_step}
 
 -- what a printable character is not
 pub record IsPlain (b : ℕ) : Type 0 where
@@ -60,3 +60,34 @@ printable_taken zero bs h = refl
 printable_taken (suc n) [] h = refl
 printable_taken (suc n) (b ∷ bs) h = let parts = and_parts (is_printable b) (list_all is_printable bs) h in
     rw (parts.0) (printable_taken n bs parts.1)
+
+plain_width : (tab column b : ℕ) → is_printable b ≡ true → 1 ≡ width_at width_of tab false column b
+plain_width tab column b h =
+    let p = plain_byte b h in
+    rw (p.escape, p.tab) (sym (one_column b h))
+
+plain_hides : (b : ℕ) → is_printable b ≡ true → false ≡ hides_next false b
+plain_hides b h = let p = plain_byte b h in rw (p.escape) refl
+
+-- so many of them come first among the cells of a text
+pub printable_then : (tab offset column n : ℕ) (bs : List ℕ) → n ≤ length bs → list_all is_printable (take n bs) ≡ true
+    → cells_from width_of tab false offset column (characters bs) ≡ plain_cells offset column (take n bs)
+    ++ cells_from width_of tab false (offset + n) (column + n) (characters (drop n bs))
+printable_then tab offset column zero bs le h =
+    let at : offset ≡ offset + 0 = omega arith in
+    let here : column ≡ column + 0 = omega arith in
+    ap₂ (λ p q. cells_from width_of tab false p q (characters bs)) at here
+printable_then tab offset column (suc n) [] le h = absurd (omega (arith, le))
+printable_then tab offset column (suc n) (b ∷ bs) le h =
+    let parts = and_parts (is_printable b) (list_all is_printable (take n bs)) h in
+    let p = plain_byte b parts.0 in
+    let is = ascii_decoded b bs (omega (arith, p.high)) in
+    let at : offset + 1 + n ≡ offset + suc n = omega arith in
+    let here : column + 1 + n ≡ column + suc n = omega arith in
+    let first : Cell = record { code = b; start = offset; after = offset + 1; from = column; until = column + 1 } in
+    cells_step width_of tab false false offset column (b ∷ bs) bs b 1 1 (column + 1) (omega arith) refl
+    (sym (ap (λ d. or_replacement d.char) is)) (sym (ap (λ d. d.size) is)) (plain_width tab column b parts.0) refl
+    (plain_hides b parts.0)
+    ∙ ap (λ cells. first ∷ cells) (printable_then tab (offset + 1) (column + 1) n bs (omega (arith, le)) parts.1)
+    ∙ ap₂ (λ x y. first ∷ plain_cells (offset + 1) (column + 1) (take n bs)
+    ++ cells_from width_of tab false x y (characters (drop n bs))) at here

@@ -3,11 +3,12 @@
 ghost use Rattle.std.specs.Prelude.{◌≡◌, ◌<◌, ◌≤◌, ◌+◌, ◌-◌, ◌%◌, ◌^◌, List, [], ◌∷◌, length, false, IfOk};
 ghost use Rattle.std.specs.Prelude.{MatchOption};
 ghost use Rattle.bstr.specs.Utf8.{decoded, or_replacement};
-ghost use Rattle.miette_cells.specs.views.Walking.{cell_of};
+ghost use Rattle.miette_cells.specs.views.Walking.{cell_of, ComeFirst};
 ghost use Rattle.miette_cells.specs.rules.Widths.{width_of};
 ghost use Rattle.miette_cells.specs.rules.Cells.{width_at};
 ghost use Rattle.miette_cells.specs.rules.Cells.{Cell as TextCell, cells_from, characters, is_hidden, hides_next};
 
+use crate::plain::plain_len;
 use std::alloc::AllocError;
 use std::marker::Model;
 use unicode_width::UnicodeWidthChar;
@@ -29,6 +30,17 @@ pub struct Cell {
     pub until: usize,
 }
 
+/// Cells of printable ASCII, one behind the other: each is one byte and has one column.
+#[derive(Clone, Copy, Debug, PartialEq, Eq, Drop)]
+pub struct PlainCells {
+    /// The offset of the first one in the source.
+    pub start: usize,
+    /// Its column, counted from 0.
+    pub from: usize,
+    /// How many they are.
+    pub many: usize,
+}
+
 /// A walk over the cells of a line's text; it holds those that are left.
 #[derive(Drop)]
 pub struct Walk<'a> {
@@ -48,6 +60,7 @@ impl<'a> Model for Walk<'a> {
 }
 
 /// The columns of a character by itself, 0 where it has none.
+#[inline(always)]
 pub fn columns_of(character: char) -> usize
     ensures { result ≡ width_of character }
 {
@@ -68,8 +81,10 @@ fn hides_later(hidden: bool, character: char) -> bool
     hides(hidden, character) && character != 'm'
 }
 
-// The columns of a character that stands at a column.
-fn width_there(tab: usize, hidden: bool, column: usize, character: char) -> usize
+// The columns of a character that stands at a column and has so many by itself.
+#[inline(always)]
+fn width_there(tab: usize, hidden: bool, column: usize, character: char, columns: usize) -> usize
+    requires { columns ≡ width_of character }
     ensures { result ≡ width_at width_of tab hidden column character }
 {
     if hides(hidden, character) {
@@ -77,7 +92,7 @@ fn width_there(tab: usize, hidden: bool, column: usize, character: char) -> usiz
     } else if character == '\t' {
         if tab == 0 { 0 } else { tab - column % tab }
     } else {
-        columns_of(character)
+        columns
     }
 }
 
@@ -92,18 +107,58 @@ pub fn first_character(bytes: &[u8]) -> (char, usize)
     bstr::decode_lossy(bytes)
 }
 
+// The first character of some bytes, how many bytes it takes, and its columns by itself.
+#[inline(never)]
+fn measured_character(bytes: &[u8]) -> (char, usize, usize)
+    requires { 0 < length bytes.now }
+    ensures code { result.0 ≡ or_replacement (decoded bytes.now).char }
+    ensures size { result.1 ≡ (decoded bytes.now).size }
+    ensures some { 0 < result.1 }
+    ensures within { result.1 ≤ length bytes.now }
+    ensures columns { result.2 ≡ width_of result.0 }
+{
+    let (code, size) = first_character(bytes);
+    (code, size, columns_of(code))
+}
+
+// The same; most characters are ASCII, and are measured in the caller's loop.
+#[inline(always)]
+fn measured(bytes: &[u8]) -> (char, usize, usize)
+    requires { 0 < length bytes.now }
+    ensures code { result.0 ≡ or_replacement (decoded bytes.now).char }
+    ensures size { result.1 ≡ (decoded bytes.now).size }
+    ensures some { 0 < result.1 }
+    ensures within { result.1 ≤ length bytes.now }
+    ensures columns { result.2 ≡ width_of result.0 }
+{
+    let first = bytes[0];
+    if first < 0x80 {
+        let code = char::from(first);
+        return (code, 1, columns_of(code));
+    }
+    measured_character(bytes)
+}
+
 impl<'a> Walk<'a> {
     /// The cells of a text that begins at an offset of the source, with tabs of so many columns.
     pub fn new(text: &'a [u8], offset: usize, tab: usize) -> Self
         requires { offset + length text.now < 2 ^ 64 }
         ensures { result ≡ cells_from width_of tab false offset 0 (characters text.now) }
     {
+        Self::from_column(text, offset, 0, tab)
+    }
+
+    /// The same of a text that begins in a column.
+    pub fn from_column(text: &'a [u8], offset: usize, column: usize, tab: usize) -> Self
+        requires { offset + length text.now < 2 ^ 64 }
+        ensures { result ≡ cells_from width_of tab false offset column (characters text.now) }
+    {
         Walk {
             rest: text,
             tab,
             hidden: false,
             offset,
-            column: 0,
+            column,
         }
     }
 
@@ -121,6 +176,7 @@ impl<'a> Walk<'a> {
     }
 
     /// The next cell, if there is one. Columns past the largest `usize` are refused as want of memory.
+    #[inline(always)]
     pub fn next(&mut self) -> Result<Option<Cell>, AllocError>
         ensures { IfOk result (λ next. MatchOption next ((self.old ≡ []) × (self.new ≡ []))
             (λ cell. self.old ≡ cell_of cell ∷ self.new)) }
@@ -128,8 +184,8 @@ impl<'a> Walk<'a> {
         if self.rest.is_empty() {
             return Ok(None);
         }
-        let (code, size) = first_character(self.rest);
-        let width = width_there(self.tab, self.hidden, self.column, code);
+        let (code, size, columns) = measured(self.rest);
+        let width = width_there(self.tab, self.hidden, self.column, code, columns);
         let Some(until) = self.column.checked_add(width) else {
             return Err(AllocError);
         };
@@ -145,5 +201,30 @@ impl<'a> Walk<'a> {
         self.offset += size;
         self.column = until;
         Ok(Some(cell))
+    }
+
+    /// Goes past the cells of printable ASCII that come next, at most so many. Columns past the largest `usize` are
+    /// refused as want of memory.
+    pub fn pass_plain(&mut self, most: usize) -> Result<PlainCells, AllocError>
+        ensures few { IfOk result (λ passed. passed.many ≤ most) }
+        ensures passed { IfOk result (λ passed. ComeFirst passed self.old self.new) }
+    {
+        let start = self.offset;
+        let from = self.column;
+        if self.hidden {
+            return Ok(PlainCells {
+                start,
+                from,
+                many: 0,
+            });
+        }
+        let many = plain_len(&self.rest[..self.rest.len().min(most)]);
+        let Some(behind) = from.checked_add(many) else {
+            return Err(AllocError);
+        };
+        self.rest = &self.rest[many..];
+        self.offset += many;
+        self.column = behind;
+        Ok(PlainCells { start, from, many })
     }
 }

@@ -16,13 +16,13 @@ pub returns : goal.returns
 returns c =
     let some : 0 < length c.self.inside.rest.now = search rules in
     let until : c.in-Some.until ≡ c.self.inside.column + c.width_there-width.result = search rules in
-    let left : take (length c.self.inside.rest.now - c.first_character-code.result.1)
-    (drop c.first_character-code.result.1 c.self.inside.rest.now)
-    ≡ drop c.first_character-code.result.1 c.self.inside.rest.now = grind (arith, common_steps) in
+    let left : take (length c.self.inside.rest.now - c.measured-code.result.1)
+    (drop c.measured-code.result.1 c.self.inside.rest.now)
+    ≡ drop c.measured-code.result.1 c.self.inside.rest.now = grind (arith, common_steps) in
     sym c.self.view_is ∙ cells_step width_of c.self.inside.tab c.self.inside.hidden c.hides_later-self-inside.result
     c.self.inside.offset c.self.inside.column c.self.inside.rest.now
-    (take (length c.self.inside.rest.now - c.first_character-code.result.1)
-    (drop c.first_character-code.result.1 c.self.inside.rest.now))
-    c.first_character-code.result.0 c.first_character-code.result.1 c.width_there-width.result c.in-Some.until some left
-    c.first_character-code.ensures.code c.first_character-code.ensures.size c.width_there-width.ensures until
+    (take (length c.self.inside.rest.now - c.measured-code.result.1)
+    (drop c.measured-code.result.1 c.self.inside.rest.now))
+    c.measured-code.result.0 c.measured-code.result.1 c.width_there-width.result c.in-Some.until some left
+    c.measured-code.ensures.code c.measured-code.ensures.size c.width_there-width.ensures until
     c.hides_later-self-inside.ensures
