@@ -4,3 +4,4 @@ pub mod ChainLaws
 pub mod TreeSizes
 pub mod Readings
 pub mod Written
+pub mod Leading

@@ -2,6 +2,7 @@
 ghost use Rattle.std.specs.Prelude.{◌≡◌, Some, IfOk};
 
 use crate::innermost::Innermost;
+use crate::messages::write_causes;
 use crate::tree::Report;
 use miette_protocol::diagnostic::MietteDiagnostic;
 use miette_protocol::error::RenderError;
@@ -88,16 +89,15 @@ impl<D: Diagnostic, S: SourceCode> fmt::Display for Report<D, S> {
 /// Prints the message and the causes, joined by `: `, as a program does that returns a report from
 /// its `main`.
 impl<D: Diagnostic, S: SourceCode> fmt::Debug for Report<D, S> {
+    ghost use Rattle.std.specs.Prelude.{true};
+    ghost use Rattle.miette_tree.specs.rules.Display.{display_text};
+    ghost use Rattle.miette_tree.specs.views.Report.{tree_of};
+
+    ghost debug_output = { λ r. Some (display_text true (tree_of D.meaning S.source r)) };
+
     fn fmt<W: fmt::Write>(&self, f: &mut fmt::Formatter<W>) -> fmt::Result {
-        let mut is_behind = false;
-        for text in self.chain() {
-            if is_behind {
-                f.write_str(": ")?;
-            }
-            f.write_str(text)?;
-            is_behind = true;
-        }
-        Ok(())
+        fmt::Display::fmt(self, f)?;
+        write_causes(f, self)
     }
 }
 

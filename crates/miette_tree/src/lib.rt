@@ -7,6 +7,7 @@ mod constructors;
 mod innermost;
 pub mod laws;
 pub mod macros;
+mod messages;
 mod owned;
 pub mod parts;
 pub mod report;

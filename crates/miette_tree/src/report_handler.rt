@@ -1,13 +1,12 @@
 //! What every handler offers.
 
-ghost use Rattle.std.specs.Prelude.{◌≡◌, ◌++◌, ◌∷◌, [], List, ℕ, map, IfOk, OnOk, OnErr, string_bytes};
-ghost use Rattle.miette_tree.specs.rules.Tree.{Tree, cause_of, causes_of};
+ghost use Rattle.std.specs.Prelude.{◌≡◌, ◌++◌, List, ℕ, IfOk, OnOk, OnErr, string_bytes};
+ghost use Rattle.miette_tree.specs.rules.Tree.{Tree};
 ghost use Rattle.miette_tree.specs.views.Report.{tree_of};
-ghost use Rattle.miette_tree.specs.rules.Display.{display_text, behind_colons};
+ghost use Rattle.miette_tree.specs.rules.Display.{display_text};
 ghost use Rattle.miette_tree.specs.views.Handler.{AppendsOne};
 
-use crate::parts::cause_texts;
-use crate::report::{Cause, Report};
+use crate::report::Report;
 use miette_protocol::error::RenderError;
 use miette_protocol::protocol::Diagnostic;
 use miette_protocol::source::SourceCode;
@@ -25,6 +24,10 @@ pub trait ReportHandler {
     /// What a call keeps of the handler: all of it, unless the handler has a state of its own.
     ghost keeps: { Self → Self → Type 0 } = { λ old new. new ≡ old };
 
+    /// What a call that appends a text makes of the handler: of one with a highlighter, by which calls on it the text
+    /// has its answers. The handler before and after the call, the report, and the text before and after.
+    ghost asks: { Self → Self → Tree → List ℕ → List ℕ → Type 0 } = { λ _ _ _ _ _. Unit {0} };
+
     /// Appends the report's text; the handler's settings stay. After an error `out` is as before: `Memory` where
     /// memory was refused, `Refused` where a read of a source was refused for which the text has no row. The JSON and
     /// the debug report are never `Refused`.
@@ -34,6 +37,8 @@ pub trait ReportHandler {
         out: &mut String,
     ) -> Result<(), RenderError>
         ensures text { OnOk result (AppendsOne (gives self.old (tree_of D.meaning S.source report.now))
+            (string_bytes out.old) (string_bytes out.new)) }
+        ensures asks { OnOk result (asks self.old self.new (tree_of D.meaning S.source report.now)
             (string_bytes out.old) (string_bytes out.new)) }
         ensures refused { (result ≡ Err RenderError.Refused) →
             refuses self.old (tree_of D.meaning S.source report.now) }
@@ -82,46 +87,11 @@ fn displayed_text<D: Diagnostic, S: SourceCode>(
 ) -> Result<String, AllocError>
     ensures { IfOk result (λ text. string_bytes text ≡ display_text alternate (tree_of D.meaning S.source report.now)) }
 {
-    let mut text = String::from_str(alloc, report.message())?;
     if alternate {
-        push_after_colons(&mut text, report)?;
+        format!(in alloc; "{report:?}")
+    } else {
+        String::from_str(alloc, report.message())
     }
-    Ok(text)
-}
-
-/// Appends a text with `: ` in front.
-fn push_after_colon(out: &mut String, text: &str) -> Result<(), AllocError>
-    ensures { OnOk result (string_bytes out.new ≡ string_bytes out.old ++ behind_colons (text.now ∷ [])) }
-{
-    out.push_str(": ")?;
-    out.push_str(text)
-}
-
-/// Appends texts, each with `: ` in front.
-fn push_each_after_colon(out: &mut String, texts: &[String]) -> Result<(), AllocError>
-    ensures { OnOk result (string_bytes out.new
-        ≡ string_bytes out.old ++ behind_colons (map string_bytes texts.now)) }
-{
-    for text in texts {
-        push_after_colon(out, text.as_str())?;
-    }
-    Ok(())
-}
-
-/// Appends the causes of a report, each with `: ` in front.
-fn push_after_colons<D: Diagnostic, S: SourceCode>(
-    out: &mut String,
-    report: &Report<D, S>,
-) -> Result<(), AllocError>
-    ensures { OnOk result (string_bytes out.new
-        ≡ string_bytes out.old ++ behind_colons (causes_of (cause_of (tree_of D.meaning S.source report.now)))) }
-{
-    let mut at = report;
-    while let Cause::Diagnostic(next) = at.cause() {
-        push_after_colon(out, next.message())?;
-        at = next;
-    }
-    push_each_after_colon(out, cause_texts(at))
 }
 
 /// Appends a whole text; after an error, which is `Memory`, `out` is as before.

@@ -78,12 +78,12 @@ impl<D: Diagnostic, S: SourceCode> Report<D, S> {
     ghost use Rattle.miette_tree.specs.rules.Tree.{with_related, chain_of};
     ghost use Rattle.miette_tree.specs.views.Report.{tree_of, innermost_meaning};
     ghost use Rattle.miette_tree.specs.views.Owned.{owned_source, kept_source};
-    ghost use Rattle.miette_tree.specs.views.Kind.{kind_of, innermost_kind, built, message};
+    ghost use Rattle.miette_tree.specs.views.Kind.{held_of, held_alone, kind_of, innermost_kind, built, message};
     ghost use Rattle.miette_tree.specs.rules.WrapErr.{Prints};
 
     pub(crate) fn from_innermost(innermost: Innermost<D>) -> Report<D, S>
         ensures tree { tree_of D.meaning S.source result ≡ alone (innermost_meaning D.meaning innermost) }
-        ensures kind { kind_of result ≡ innermost_kind innermost }
+        ensures held { held_of result ≡ held_alone (innermost_kind innermost) }
     {
         Report {
             front: None,
@@ -124,7 +124,7 @@ impl<D: Diagnostic, S: SourceCode> Report<D, S> {
     pub fn with_source_code(self, source: S) -> Report<D, S>
         ensures tree { tree_of D.meaning S.source result
             ≡ with_source (S.source source) (tree_of D.meaning S.source self) }
-        ensures kind { kind_of result ≡ kind_of self }
+        ensures held { held_of result ≡ held_of self }
     {
         self.with_kept(OwnSource::Boxed(source))
     }
@@ -133,7 +133,7 @@ impl<D: Diagnostic, S: SourceCode> Report<D, S> {
     pub fn with_owned_source(self, source: OwnedSource) -> Report<D, S>
         ensures tree { tree_of D.meaning S.source result
             ≡ with_source (owned_source source) (tree_of D.meaning S.source self) }
-        ensures kind { kind_of result ≡ kind_of self }
+        ensures held { held_of result ≡ held_of self }
     {
         self.with_kept(OwnSource::Owned(source))
     }
@@ -141,7 +141,7 @@ impl<D: Diagnostic, S: SourceCode> Report<D, S> {
     fn with_kept(self, place: OwnSource<S>) -> Report<D, S>
         ensures tree { tree_of D.meaning S.source result
             ≡ with_source (kept_source S.source place) (tree_of D.meaning S.source self) }
-        ensures kind { kind_of result ≡ kind_of self }
+        ensures held { held_of result ≡ held_of self }
     {
         let Report {
             front,
@@ -163,7 +163,7 @@ impl<D: Diagnostic, S: SourceCode> Report<D, S> {
     pub fn with_cause_texts(self, list: Vec<String>) -> Report<D, S>
         ensures tree { tree_of D.meaning S.source result
             ≡ with_cause (texts (map string_bytes list.items)) (tree_of D.meaning S.source self) }
-        ensures kind { kind_of result ≡ kind_of self }
+        ensures held { held_of result ≡ record (held_of self) { cause = None } }
     {
         let mut report = self;
         report.cause = KeptCause::Texts(CauseTexts::new(list));
@@ -179,7 +179,7 @@ impl<D: Diagnostic, S: SourceCode> Report<D, S> {
     ) -> Result<Report<D, S>, (Report<D, S>, Report<D, S>)>
         ensures tree { IfOk result (λ r. tree_of D.meaning S.source r
             ≡ with_cause (diagnostic (tree_of D.meaning S.source cause)) (tree_of D.meaning S.source self)) }
-        ensures kind { IfOk result (λ r. kind_of r ≡ kind_of self) }
+        ensures held { IfOk result (λ r. held_of r ≡ record (held_of self) { cause = Some cause }) }
         ensures err { IfErr result (λ both. both ≡ (self, cause)) }
     {
         let mut report = self;
@@ -198,7 +198,7 @@ impl<D: Diagnostic, S: SourceCode> Report<D, S> {
     pub fn with_related(self, list: Vec<Report<D, S>>) -> Report<D, S>
         ensures tree { tree_of D.meaning S.source result
             ≡ with_related (trees (map (tree_of D.meaning S.source) list.items)) (tree_of D.meaning S.source self) }
-        ensures kind { kind_of result ≡ kind_of self }
+        ensures held { held_of result ≡ record (held_of self) { related = list.items } }
     {
         let mut report = self;
         report.related = Some(list);
@@ -210,7 +210,7 @@ impl<D: Diagnostic, S: SourceCode> Report<D, S> {
     pub fn wrap_err(self, alloc: Global, message: &str) -> Result<Report<D, S>, Report<D, S>>
         ensures tree { IfOk result (λ r. tree_of D.meaning S.source r
             ≡ wrapped_tree message.now (tree_of D.meaning S.source self)) }
-        ensures kind { IfOk result (λ r. kind_of r ≡ kind_of self) }
+        ensures held { IfOk result (λ r. held_of r ≡ record (held_of self) { cause = None }) }
         ensures err { IfErr result (λ r. r ≡ self) }
     {
         let Ok(front) = String::from_str(alloc, message) else {
@@ -227,7 +227,7 @@ impl<D: Diagnostic, S: SourceCode> Report<D, S> {
     ) -> Result<Report<D, S>, Report<D, S>>
         ensures tree { IfOk result (λ r. tree_of D.meaning S.source r
             ≡ wrapped_tree (string_bytes front) (tree_of D.meaning S.source self)) }
-        ensures kind { IfOk result (λ r. kind_of r ≡ kind_of self) }
+        ensures held { IfOk result (λ r. held_of r ≡ record (held_of self) { cause = None }) }
         ensures err { IfErr result (λ r. r ≡ self) }
     {
         let Ok(front) = Box::new(alloc, front) else {
@@ -247,7 +247,7 @@ impl<D: Diagnostic, S: SourceCode> Report<D, S> {
     pub fn context(self, alloc: Global, message: &str) -> Result<Report<D, S>, Report<D, S>>
         ensures tree { IfOk result (λ r. tree_of D.meaning S.source r
             ≡ wrapped_tree message.now (tree_of D.meaning S.source self)) }
-        ensures kind { IfOk result (λ r. kind_of r ≡ kind_of self) }
+        ensures held { IfOk result (λ r. held_of r ≡ record (held_of self) { cause = None }) }
         ensures err { IfErr result (λ r. r ≡ self) }
     {
         self.wrap_err(alloc, message)
@@ -258,7 +258,7 @@ impl<D: Diagnostic, S: SourceCode> Report<D, S> {
         ensures tree { OnOk result (tree_of D.meaning S.source self.new
             ≡ with_cause (texts (chain_of (tree_of D.meaning S.source self.old)))
             (tree_of D.meaning S.source self.old)) }
-        ensures kind { OnOk result (kind_of self.new ≡ kind_of self.old) }
+        ensures held { OnOk result (held_of self.new ≡ record (held_of self.old) { cause = None }) }
         ensures err { OnErr result (self.new ≡ self.old) }
     {
         let message = String::from_str(alloc, self.message())?;
@@ -292,7 +292,7 @@ impl<D: Diagnostic, S: SourceCode> Report<D, S> {
     ghost use Rattle.miette_tree.specs.rules.Tree.{head, source_of, cause_of, related_of, trees};
     ghost use Rattle.miette_tree.specs.views.Report.{tree_of, cause_shown, IsNoEmptyList};
     ghost use Rattle.miette_tree.specs.views.Owned.{shown_source};
-    ghost use Rattle.miette_tree.specs.views.Kind.{kind_of, kind_shown};
+    ghost use Rattle.miette_tree.specs.views.Kind.{held_of, kind_of, kind_shown, report_shown};
 
     /// The message: the one that was last put in front, else that of what the report was made of.
     pub fn message(&self) -> &str
@@ -354,6 +354,7 @@ impl<D: Diagnostic, S: SourceCode> Report<D, S> {
         ensures value { cause_shown D.meaning S.source result ≡ cause_of (tree_of D.meaning S.source self.now) }
         // An empty list of texts is no cause.
         ensures nonempty { IsNoEmptyList result }
+        ensures report { report_shown result ≡ (held_of self.now).cause }
     {
         match &self.cause {
             KeptCause::None => Cause::None,
@@ -371,8 +372,9 @@ impl<D: Diagnostic, S: SourceCode> Report<D, S> {
 
     /// The reports that are related to it.
     pub fn related(&self) -> &[Report<D, S>]
-        ensures { trees (map (tree_of D.meaning S.source) result.now)
+        ensures value { trees (map (tree_of D.meaning S.source) result.now)
             ≡ related_of (tree_of D.meaning S.source self.now) }
+        ensures reports { result.now ≡ (held_of self.now).related }
     {
         match &self.related {
             Some(list) => list.as_slice(),

@@ -9,7 +9,7 @@ use Rattle.miette_protocol.specs.rules.Texts.{render_text}
 use Rattle.miette_protocol.specs.declared.error.RenderError.{RenderError}
 use Rattle.miette_protocol.specs.declared.error.RenderError.TheVariants as unwritten
 use Rattle.miette_tree.specs.rules.Tree.{alone, wrapped_tree}
-use Rattle.miette_tree.specs.views.Kind.{kind_of, message, out_of_memory}
+use Rattle.miette_tree.specs.views.Kind.{held_of, kind_of, message, out_of_memory}
 use Rattle.miette_tree.specs.views.Report.{tree_of, out_of_memory_alone}
 use Rattle.miette_tree.specs.declared.tree.Report.{Report}
 
@@ -28,7 +28,7 @@ module _ {D S : Type 0} (means : D → Meaning) (is : S → Source) where
   abbrev pub IsFronted : List ℕ → Option (Report D S) → Report D S → Type 0
   IsFronted text None r = (tree_of means is r ≡ alone (message_alone text)) × (kind_of r ≡ message)
   IsFronted text (Some below) r = (tree_of means is r ≡ wrapped_tree text (tree_of means is below))
-      × (kind_of r ≡ kind_of below)
+      × (held_of r ≡ record (held_of below) { cause = None })
 
   -- that, or the report of refused memory
   abbrev pub Tells : List ℕ → Option (Report D S) → Report D S → Type 0

@@ -35,7 +35,7 @@ push_report-returns-clause-text g t c =
     on_ok_weaker c.push_related.result (λ h. report_told c.args.chain
     (option_map (shown_source g.S.SourceCode.source) c.args.inherited)
     (tree_of g.D.Diagnostic.meaning g.S.SourceCode.source c.args.report.now) _ _ _ _ _ c.own_or-source.ensures
-    c.related.ensures c.in_ok-push_own.ensures.text h) c.push_related.ensures.text
+    c.related.ensures.value c.in_ok-push_own.ensures.text h) c.push_related.ensures.text
 
 pub push_report-returns-in_err-push_own-clause-refused : goal.push_report-returns-in_err-push_own-clause-refused
 push_report-returns-in_err-push_own-clause-refused g t c = λ h.
@@ -50,7 +50,7 @@ push_report-returns-clause-refused g t c = λ h.
     (option_map (shown_source g.S.SourceCode.source) c.args.inherited)
     (option_map (shown_source g.S.SourceCode.source) c.own_or-source.result)
     (trees (map (tree_of g.D.Diagnostic.meaning g.S.SourceCode.source) c.related.result.now)) c.own_or-source.ensures
-    c.related.ensures (c.push_related.ensures.refused h)
+    c.related.ensures.value (c.push_related.ensures.refused h)
 
 pub push_related-push_report-requires : goal.push_related-push_report-requires
 push_related-push_report-requires g t c =

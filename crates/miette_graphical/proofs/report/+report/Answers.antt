@@ -166,7 +166,7 @@ push_below-returns-clause-refused g t c = λ h.
     let value = tree_of g.D.Diagnostic.meaning g.S.SourceCode.source c.args.report.now in
     let nested = (settings_of c.args.painter.now).related_as_nested in
     inner_related_fail nested source value
-    (subst (λ r. all_read (printed_related nested source r) ≡ false) c.related.ensures
+    (subst (λ r. all_read (printed_related nested source r) ≡ false) c.related.ensures.value
     (subst (λ s. all_read (printed_related s.related_as_nested source
     (trees (map (tree_of g.D.Diagnostic.meaning g.S.SourceCode.source) c.related.result.now))) ≡ false)
     (c.push_help.ensures.stays.0 ∙ c.push_rows.ensures.keeps.0) (c.push_related.ensures.refused h)))
@@ -185,7 +185,7 @@ push_below-returns-clause-ok g t c =
     c.push_rows.ensures.keeps (subst (λ o. helped.out ≡ drawn.out ++ help_text (settings_of drawn) o) c.help.ensures
     c.in_ok-push_help.ensures.text) c.push_help.ensures.stays
     (subst (λ v. Paints is_blank may (AreRelated v source (related_of value)) helped new) c.severity.ensures
-    (subst (λ r. Paints is_blank may (AreRelated c.severity.result source r) helped new) c.related.ensures h)))
+    (subst (λ r. Paints is_blank may (AreRelated c.severity.result source r) helped new) c.related.ensures.value h)))
     c.push_related.ensures.ok
 
 pub push_sibling-returns-in_err-push_causes-clause-refused : goal.push_sibling-returns-in_err-push_causes-clause-refused

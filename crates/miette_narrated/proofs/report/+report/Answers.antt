@@ -55,7 +55,7 @@ push_report-returns-clause-text g t c =
     let value = tree_of g.D.Diagnostic.meaning g.S.SourceCode.source c.args.report.now in
     let inherited = option_map (shown_source g.S.SourceCode.source) c.args.inherited in
     on_ok_weaker c.push_related.result (λ h. report_told c.args.context inherited value _ _ _ _ _ _ _ _ _
-    c.own_or-source.ensures c.labels_of.ensures c.related.ensures
+    c.own_or-source.ensures c.labels_of.ensures c.related.ensures.value
     c.in_ok-push_titled.ensures c.in_ok-push_causes.ensures c.in_ok-push_snippets_of.ensures.text
     c.in_ok-push_advice.ensures h) c.push_related.ensures.text
 
@@ -66,4 +66,4 @@ push_report-returns-clause-refused g t c = λ h.
     let source = option_map (shown_source g.S.SourceCode.source) c.own_or-source.result in
     let related = trees (map value c.related.result.now) in
     let below : holds_of_all accepts source related ≡ false = c.push_related.ensures.refused h in
-    refused_below (value c.args.report.now) inherited source related c.own_or-source.ensures c.related.ensures below
+    refused_below (value c.args.report.now) inherited source related c.own_or-source.ensures c.related.ensures.value below

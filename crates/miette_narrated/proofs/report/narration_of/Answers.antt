@@ -13,7 +13,7 @@ use Rattle.miette_narrated.proofs.report.narration_of.Goals as goal
 pub returns-clause-text : goal.returns-clause-text
 returns-clause-text g c =
     whole_told (settings_of c.args.settings) (tree_of g.D.Diagnostic.meaning g.S.SourceCode.source c.args.report.now) _
-    _ _ _ _ _ _ _ _ _ c.own_or-source.ensures c.labels_of.ensures c.related.ensures c.new-text.ensures.bytes
+    _ _ _ _ _ _ _ _ _ c.own_or-source.ensures c.labels_of.ensures c.related.ensures.value c.new-text.ensures.bytes
     c.in_ok-push_head.ensures c.in_ok-push_causes_if.ensures c.in_ok-push_snippets_of.ensures.text
     c.in_ok-push_advice.ensures c.in_ok-push_related.ensures.text c.in_ok-push_row_if.ensures
 
@@ -23,4 +23,4 @@ returns-in_err-push_related-clause-refused g c = λ h.
     let source = option_map (shown_source g.S.SourceCode.source) c.own_or-source.result in
     let related = trees (map value c.related.result.now) in
     let below : holds_of_all accepts source related ≡ false = c.in_err-push_related.ensures.refused (search rules) in
-    refused_below (value c.args.report.now) None source related c.own_or-source.ensures c.related.ensures below
+    refused_below (value c.args.report.now) None source related c.own_or-source.ensures c.related.ensures.value below
