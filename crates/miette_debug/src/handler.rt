@@ -26,7 +26,7 @@ impl DebugReportHandler {
 
     /// Appends the report's fields. After an error, which is want of memory, `out` is as before.
     pub fn render_report(&self, report: &Report, out: &mut String) -> Result<(), RenderError>
-        // All of the text but what the field of the labels shows, and what stands for texts past ASCII.
+        // All of the text but what stands for texts past ASCII.
         ensures text { let tree = tree_of ⟦<Box<dyn Diagnostic> as Diagnostic>⟧.meaning
             ⟦<Box<dyn SourceCode> as SourceCode>⟧.source report.now in
             OnOk result (AppendsOne (IsDebugText tree) (string_bytes out.old) (string_bytes out.new)) }

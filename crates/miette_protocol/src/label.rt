@@ -3,15 +3,17 @@
 ghost use Rattle.std.specs.Prelude.{◌≡◌, ◌==◌, ◌≤◌, Some, None, IfOk, true, false, string_bytes};
 ghost use Rattle.std.specs.Option.{option_map, option_copied, ForSome};
 
+use crate::debug_field::write_field;
 use crate::span::{ByteOffset, SourceSpan};
 use serde::{Deserialize, Serialize};
 use std::alloc::{AllocError, Global};
+use std::fmt;
 use std::marker::Model;
 use std::num::NonZeroUsize;
 
 /// A span of a source, with a text where there is one. It may be marked as the primary label of
 /// its diagnostic, and may ask for its own number of context lines.
-#[derive(Debug, Drop, Serialize, Deserialize)]
+#[derive(Drop, Serialize, Deserialize)]
 pub struct LabeledSpan {
     #[serde(skip_serializing_if = "Option::is_none")]
     label: Option<String>,
@@ -86,6 +88,30 @@ impl Clone for LabeledSpan {
             primary: self.primary,
             context_lines: self.context_lines,
         })
+    }
+}
+
+/// Prints `LabeledSpan { label: .., span: .., primary: .., context_lines: .. }`.
+impl fmt::Debug for LabeledSpan {
+    ghost use Rattle.miette_protocol.specs.rules.DebugForms.{label_form};
+
+    ghost debug_output = { label_form };
+
+    fn fmt<W: fmt::Write>(&self, f: &mut fmt::Formatter<W>) -> fmt::Result {
+        if f.alternate() {
+            return f
+                .debug_struct("LabeledSpan")
+                .field("label", &self.label)
+                .field("span", &self.span)
+                .field("primary", &self.primary)
+                .field("context_lines", &self.context_lines)
+                .finish();
+        }
+        write_field(f, "LabeledSpan { label: ", &self.label)?;
+        write_field(f, ", span: ", &self.span)?;
+        write_field(f, ", primary: ", &self.primary)?;
+        write_field(f, ", context_lines: ", &self.context_lines)?;
+        f.write_str(" }")
     }
 }
 

@@ -7,6 +7,7 @@ ghost use Rattle.std.specs.Cmp.Lexicographic.{slice_cmp};
 ghost use Rattle.std.specs.Option.{option_cmp};
 ghost use Rattle.miette_protocol.specs.views.Named.{inner_of, name_of, given_language};
 
+use crate::debug_field::write_field;
 use crate::named::NamedSource;
 use std::alloc::AllocError;
 use std::fmt;
@@ -61,11 +62,21 @@ pub fn named_source_hash_law<S: Hash>()
 
 /// Prints the name and the language, and `"<redacted>"` in place of the source.
 impl<S> fmt::Debug for NamedSource<S> {
+    ghost use Rattle.miette_protocol.specs.rules.DebugForms.{named_form};
+
+    ghost debug_output = { λ it. named_form (name_of it) (given_language it) };
+
     fn fmt<W: fmt::Write>(&self, f: &mut fmt::Formatter<W>) -> fmt::Result {
-        f.debug_struct("NamedSource")
-            .field("name", &self.name)
-            .field("source", &"<redacted>")
-            .field("language", &self.language)
-            .finish()
+        if f.alternate() {
+            return f
+                .debug_struct("NamedSource")
+                .field("name", &self.name)
+                .field("source", &"<redacted>")
+                .field("language", &self.language)
+                .finish();
+        }
+        write_field(f, "NamedSource { name: ", &self.name)?;
+        write_field(f, ", source: \"<redacted>\", language: ", &self.language)?;
+        f.write_str(" }")
     }
 }

@@ -4,6 +4,7 @@ ghost use Rattle.std.specs.Prelude.{◌≡◌, ◌==◌, ℕ, ◌+◌, ◌-◌, 
 ghost use Rattle.miette_protocol.specs.rules.Location.{IsLocation};
 ghost use Rattle.std.specs.Range.{range_inclusive_start, range_inclusive_end};
 
+use crate::debug_field::write_field;
 use serde::{Deserialize, Serialize};
 use std::error::Error;
 use std::fmt;
@@ -14,7 +15,7 @@ use std::ops::{Range, RangeInclusive};
 pub type ByteOffset = usize;
 
 /// A place in a source: a number of bytes from its start.
-#[derive(Clone, Copy, Debug, PartialEq, Eq, PartialOrd, Ord, Hash, Serialize, Deserialize)]
+#[derive(Clone, Copy, PartialEq, Eq, PartialOrd, Ord, Hash, Serialize, Deserialize)]
 #[serde(transparent)]
 pub struct SourceOffset(usize);
 
@@ -61,6 +62,22 @@ impl SourceOffset {
     }
 }
 
+/// Prints `SourceOffset(9)`.
+impl fmt::Debug for SourceOffset {
+    ghost use Rattle.std.specs.Prelude.{Some};
+    ghost use Rattle.miette_protocol.specs.rules.DebugForms.{offset_form};
+
+    ghost debug_output = { λ it. Some (offset_form it) };
+
+    fn fmt<W: fmt::Write>(&self, f: &mut fmt::Formatter<W>) -> fmt::Result {
+        if f.alternate() {
+            return f.debug_tuple("SourceOffset").field(&self.0).finish();
+        }
+        write_field(f, "SourceOffset(", &self.0)?;
+        f.write_str(")")
+    }
+}
+
 /// A text has one location for a line and a column.
 pub fn location_law()
     ensures { (text : List ℕ) (line column a b : ℕ)
@@ -77,7 +94,7 @@ impl From<ByteOffset> for SourceOffset {
 }
 
 /// A range of a source: where it begins, and its length, both in bytes.
-#[derive(Clone, Copy, Debug, PartialEq, Eq, PartialOrd, Ord, Hash, Serialize, Deserialize)]
+#[derive(Clone, Copy, PartialEq, Eq, PartialOrd, Ord, Hash, Serialize, Deserialize)]
 pub struct SourceSpan {
     offset: SourceOffset,
     length: usize,
@@ -133,6 +150,27 @@ impl SourceSpan {
         ensures { result ≡ (self.now.len == 0) }
     {
         self.len() == 0
+    }
+}
+
+/// Prints `SourceSpan { offset: SourceOffset(9), length: 4 }`.
+impl fmt::Debug for SourceSpan {
+    ghost use Rattle.std.specs.Prelude.{Some};
+    ghost use Rattle.miette_protocol.specs.rules.DebugForms.{span_form};
+
+    ghost debug_output = { λ it. Some (span_form it) };
+
+    fn fmt<W: fmt::Write>(&self, f: &mut fmt::Formatter<W>) -> fmt::Result {
+        if f.alternate() {
+            return f
+                .debug_struct("SourceSpan")
+                .field("offset", &self.offset)
+                .field("length", &self.length)
+                .finish();
+        }
+        write_field(f, "SourceSpan { offset: ", &self.offset)?;
+        write_field(f, ", length: ", &self.length)?;
+        f.write_str(" }")
     }
 }
 

@@ -1,6 +1,7 @@
 -- The text of the debug report.
 use Rattle.std.specs.Prelude.{◌≡◌, ℕ, List, [], ◌∷◌, ◌++◌, Option, Some, None, IfSome, codes}
-use Rattle.std.specs.Fmt.{debug_str}
+use Rattle.std.specs.Fmt.{debug_list, debug_str}
+use Rattle.miette_protocol.specs.rules.DebugForms.{label_form}
 use Rattle.miette_protocol.specs.views.Meaning.{Label, Meaning}
 use Rattle.miette_protocol.specs.declared.protocol.Severity.{Severity}
 use Rattle.miette_protocol.specs.declared.protocol.Severity.TheVariants.{Advice, Warning, Error}
@@ -29,10 +30,14 @@ severity_variant (Some Error) = Some (codes "Error")
 severity_variant (Some Warning) = Some (codes "Warning")
 severity_variant (Some Advice) = Some (codes "Advice")
 
--- one field for all labels, none for an empty list; which text it shows isn't said
+-- the labels in brackets, as `{:?}` writes them; of labels with a text that is not all ASCII nothing is said
+abbrev pub AreFormed : List Label → List ℕ → Type 0
+AreFormed labels form = IfSome (debug_list label_form labels) (λ text. form ≡ text)
+
+-- one field for all labels, none for an empty list
 abbrev pub IsLabelsField : List Label → List ℕ → Type 0
 IsLabelsField [] field = field ≡ []
-IsLabelsField (l ∷ ls) field = (form : List ℕ) × IsShown (codes "labels") form field
+IsLabelsField (l ∷ ls) field = (form : List ℕ) × AreFormed (l ∷ ls) form × IsShown (codes "labels") form field
 
 -- the nearest of the causes, where there is one
 abbrev pub nearest : List (List ℕ) → Option (List ℕ)
