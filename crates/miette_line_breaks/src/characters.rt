@@ -5,7 +5,7 @@ ghost use Rattle.ucd_category.specs.GeneralCategory.{general_category};
 ghost use Rattle.ucd_east_asian.specs.EastAsianWidth.{east_asian_width};
 ghost use Rattle.ucd_emoji.specs.Binary.{is_extended_pictographic};
 ghost use Rattle.miette_line_breaks.specs.rules.Characters.{character_of, lone_mark, resolved};
-ghost use Rattle.miette_line_breaks.specs.rules.Characters.{is_combining, is_decimal, is_unassigned, is_wide};
+ghost use Rattle.miette_line_breaks.specs.rules.Characters.{is_combining, is_unassigned, is_wide};
 
 use ucd_breaks::LineBreak;
 use ucd_category::GeneralCategory;
@@ -38,12 +38,6 @@ impl Character {
                 && is_unassigned(GeneralCategory::for_char(c)),
         }
     }
-}
-
-fn is_decimal(category: GeneralCategory) -> bool
-    ensures { result ≡ is_decimal category }
-{
-    matches!(category, GeneralCategory::DecimalNumber)
 }
 
 fn is_combining(category: GeneralCategory) -> bool
@@ -81,13 +75,10 @@ fn resolved(c: char, class: LineBreak) -> LineBreak
         | LineBreak::Unknown
         | LineBreak::Aksara
         | LineBreak::AksaraPrebase => LineBreak::Alphabetic,
-        LineBreak::AksaraStart => {
-            if is_decimal(GeneralCategory::for_char(c)) {
-                LineBreak::Numeric
-            } else {
-                LineBreak::Alphabetic
-            }
-        }
+        LineBreak::AksaraStart => match GeneralCategory::for_char(c) {
+            GeneralCategory::DecimalNumber => LineBreak::Numeric,
+            _ => LineBreak::Alphabetic,
+        },
         LineBreak::Virama | LineBreak::ViramaFinal => LineBreak::CombiningMark,
         LineBreak::UnambiguousHyphen => LineBreak::BreakAfter,
         LineBreak::ConditionalJapaneseStarter => LineBreak::Nonstarter,

@@ -170,38 +170,41 @@ fn joins(last: Character, next: Character) -> bool
         || ((is_emoji_base(last.class) || last.is_future_emoji) && is_emoji_modifier(next.class))
 }
 
+// Whether two neighbours are of such classes in one of these ways.
+macro_rules! are_neighbours {
+    ($last:ident, $next:ident: $a:ident before $b:ident $(, $c:ident before $d:ident)*) => {
+        ($a($last) && $b($next)) $(|| ($c($last) && $d($next)))*
+    };
+}
+
 fn joins_letter(last: LineBreak, next: LineBreak) -> bool
     ensures { result ≡ joins_letter last next }
 {
-    (is_letter(last) && is_numeric(next))
-        || (is_numeric(last) && is_letter(next))
-        || (is_prefix(last) && is_ideograph(next))
-        || (is_ideograph(last) && is_postfix(next))
-        || (is_affix(last) && is_letter(next))
-        || (is_letter(last) && is_affix(next))
-        || (is_letter(last) && is_letter(next))
-        || (is_infix(last) && is_letter(next))
+    are_neighbours!(last, next:
+        is_letter before is_numeric, is_numeric before is_letter, is_prefix before is_ideograph,
+        is_ideograph before is_postfix, is_affix before is_letter, is_letter before is_affix,
+        is_letter before is_letter, is_infix before is_letter
+    )
 }
 
 fn joins_number(last: LineBreak, next: LineBreak) -> bool
     ensures { result ≡ joins_number last next }
 {
-    (is_bracket_end(last) && is_affix(next))
-        || (is_numeric(last) && is_affix(next))
-        || (is_affix(last) && is_opening(next))
-        || (is_affix(last) && is_numeric(next))
-        || ((is_plain_hyphen(last) || is_infix(last) || is_numeric(last) || is_slash(last))
-            && is_numeric(next))
+    are_neighbours!(last, next:
+        is_bracket_end before is_affix, is_numeric before is_affix, is_affix before is_opening,
+        is_affix before is_numeric
+    ) || ((is_plain_hyphen(last) || is_infix(last) || is_numeric(last) || is_slash(last))
+        && is_numeric(next))
 }
 
 fn joins_syllable(last: LineBreak, next: LineBreak) -> bool
     ensures { result ≡ joins_syllable last next }
 {
-    (is_leading_jamo(last) && joins_leading_jamo(next))
-        || (is_open_syllable(last) && joins_open_syllable(next))
-        || (is_closed_syllable(last) && is_trailing_jamo(next))
-        || (is_hangul(last) && is_postfix(next))
-        || (is_prefix(last) && is_hangul(next))
+    are_neighbours!(last, next:
+        is_leading_jamo before joins_leading_jamo, is_open_syllable before joins_open_syllable,
+        is_closed_syllable before is_trailing_jamo, is_hangul before is_postfix,
+        is_prefix before is_hangul
+    )
 }
 
 fn joins_parenthesis(last: Character, next: Character) -> bool
