@@ -100,8 +100,7 @@ fn is_whole_sign(sign: &Sign) -> bool
     ensures { result ≡ is_whole (sign_text sign.now) }
 {
     match sign {
-        Sign::Begin(_) => true,
-        Sign::End => true,
+        Sign::Begin(_) | Sign::End => true,
         Sign::Sequence(codes) => is_whole(codes),
     }
 }

@@ -59,8 +59,7 @@ fn is_colour_sign(sign: &Sign) -> bool
     ensures { result ≡ is_colour (sign_text sign.now) }
 {
     match sign {
-        Sign::Begin(_) => true,
-        Sign::End => true,
+        Sign::Begin(_) | Sign::End => true,
         Sign::Sequence(codes) => is_colour(codes),
     }
 }
