@@ -311,43 +311,41 @@ fn report_from<D: Diagnostic, S: SourceCode>(
     ensures ok { IfOk result (λ b. report_in (value_data value.now) ≡ Some (tree_of D.meaning S.source b.value)) }
     ensures description { (result ≡ Err BuildError.Description) → report_in (value_data value.now) ≡ None }
 {
-    let one = cause_at(alloc, value, "cause")?;
-    let list = related_at(alloc, value, "related")?;
+    let one = cause_in(alloc, value)?;
+    let list = related_in(alloc, value)?;
     report_with(alloc, value, one, list)
 }
 
-/// The cause that is a description, where one stands at the key.
+/// The cause that is a description, where there is one.
 #[cycle(description)]
-fn cause_at<D: Diagnostic, S: SourceCode>(
+fn cause_in<D: Diagnostic, S: SourceCode>(
     alloc: Global,
     value: &Value<'_>,
-    key: &str,
 ) -> Built<Option<Box<Report<D, S>>>>
-    ensures ok { IfOk result (λ o. optional_value report_in (at_key key.now (value_data value.now))
+    ensures ok { IfOk result (λ o. optional_value report_in (at_key (codes "cause") (value_data value.now))
         ≡ Some (option_map (λ b. tree_of D.meaning S.source b.value) o)) }
     ensures description { (result ≡ Err BuildError.Description) →
-        optional_value report_in (at_key key.now (value_data value.now)) ≡ None }
+        optional_value report_in (at_key (codes "cause") (value_data value.now)) ≡ None }
 {
-    let Some(found) = member_at(value, key) else {
+    let Some(found) = member_at(value, "cause") else {
         return Ok(None);
     };
     Ok(Some(report_from(alloc, found)?))
 }
 
-/// The list of descriptions at the key, where there is one.
+/// The list of related descriptions, where there is one.
 #[cycle(description)]
-fn related_at<D: Diagnostic, S: SourceCode>(
+fn related_in<D: Diagnostic, S: SourceCode>(
     alloc: Global,
     value: &Value<'_>,
-    key: &str,
 ) -> Built<Option<Vec<Report<D, S>>>>
     ensures ok { IfOk result (λ o.
-        optional_value reports_in (at_key key.now (value_data value.now))
+        optional_value reports_in (at_key (codes "related") (value_data value.now))
         ≡ Some (option_map (λ v. trees (map (tree_of D.meaning S.source) v.items)) o)) }
     ensures description { (result ≡ Err BuildError.Description) →
-        optional_value reports_in (at_key key.now (value_data value.now)) ≡ None }
+        optional_value reports_in (at_key (codes "related") (value_data value.now)) ≡ None }
 {
-    let Some(found) = member_at(value, key) else {
+    let Some(found) = member_at(value, "related") else {
         return Ok(None);
     };
     let Some(list) = list_in(found) else {

@@ -1,4 +1,4 @@
-use Rattle.std.proofs.Common.{rules, ◌≡◌, ◌<◌, ◌+◌, ◌*◌, ◌++◌, [], ◌∷◌, map, ap, sym, ◌∙◌, Some, option_map, arith}
+use Rattle.std.proofs.Common.{rules, ◌≡◌, ◌<◌, ◌+◌, ◌*◌, ◌++◌, [], ◌∷◌, map, ap, sym, ◌∙◌, Some, option_map, arith, codes}
 use Rattle.std.proofs.lemmas.Result.{IfOk-weaker}
 use Rattle.miette_description.proofs.Lists.{none_read, one_fails, one_read_as, all_read}
 use Rattle.serde_json.specs.Data.{depth, items_depth}
@@ -11,36 +11,36 @@ use Rattle.miette_description.proofs.Shape.{report_parts, with_nested, without_c
 use Rattle.miette_description.proofs.Shape.{array-depth, item-depth, related_read}
 use Rattle.miette_description.proofs.report.+description.Goals as goal
 
-pub cause_at-report_from-requires : goal.cause_at-report_from-requires
-cause_at-report_from-requires g t c =
+pub cause_in-report_from-requires : goal.cause_in-report_from-requires
+cause_in-report_from-requires g t c =
     let less : depth (value_data c.in-Some.found.now) < depth (value_data c.args.value.now) =
-    at_key-depth c.args.key.now (value_data c.args.value.now) (value_data c.in-Some.found.now) (sym c.in-Some.ensures)
+    at_key-depth (codes "cause") (value_data c.args.value.now) (value_data c.in-Some.found.now) (sym c.in-Some.ensures)
     in
     let small : 4 * depth (value_data c.in-Some.found.now) + 2 < 4 * depth (value_data c.args.value.now) + 1 =
     omega arith in
     search rules
 
-pub related_at-reports_from-requires : goal.related_at-reports_from-requires
-related_at-reports_from-requires g t c =
+pub related_in-reports_from-requires : goal.related_in-reports_from-requires
+related_in-reports_from-requires g t c =
     let found = value_data c.in-Some.found.now in
     let less : depth found < depth (value_data c.args.value.now) =
-    at_key-depth c.args.key.now (value_data c.args.value.now) found (sym c.in-Some.ensures) in
+    at_key-depth (codes "related") (value_data c.args.value.now) found (sym c.in-Some.ensures) in
     let within : items_depth (list_data c.in-Some-list_in.list.now) < depth found =
     array-depth found (list_data c.in-Some-list_in.list.now) (sym c.in-Some-list_in.ensures) in
     let small : 4 * items_depth (list_data c.in-Some-list_in.list.now) + 3 < 4 * depth (value_data c.args.value.now)
     + 1 = omega arith in
     search rules
 
-pub related_at-returns-in_err-reports_from-clause-description :
-    goal.related_at-returns-in_err-reports_from-clause-description
-related_at-returns-in_err-reports_from-clause-description g t c e =
-    related_read (at_key c.args.key.now (value_data c.args.value.now)) (value_data c.in-Some.found.now)
+pub related_in-returns-in_err-reports_from-clause-description :
+    goal.related_in-returns-in_err-reports_from-clause-description
+related_in-returns-in_err-reports_from-clause-description g t c e =
+    related_read (at_key (codes "related") (value_data c.args.value.now)) (value_data c.in-Some.found.now)
     (list_data c.in-Some-list_in.list.now) c.in-Some.ensures c.in-Some-list_in.ensures
     ∙ ap (λ o. option_map Some (option_map trees o)) (c.in_err-reports_from.ensures.description (search rules))
 
-pub related_at-returns-clause-ok : goal.related_at-returns-clause-ok
-related_at-returns-clause-ok g t c =
-    related_read (at_key c.args.key.now (value_data c.args.value.now)) (value_data c.in-Some.found.now)
+pub related_in-returns-clause-ok : goal.related_in-returns-clause-ok
+related_in-returns-clause-ok g t c =
+    related_read (at_key (codes "related") (value_data c.args.value.now)) (value_data c.in-Some.found.now)
     (list_data c.in-Some-list_in.list.now) c.in-Some.ensures c.in-Some-list_in.ensures
     ∙ ap (λ o. option_map Some (option_map trees o)) c.in_ok-reports_from.ensures.ok
 
@@ -98,11 +98,11 @@ reports_from-returns-clause-ok g t c =
     all_read report_in c.args.list.now (map value c.loop-value.reports.items) c.loop-value.value-index
     c.loop-value-test.false c.loop-value.invariant
 
-pub cause_at-returns-in_err-report_from-clause-description : goal.cause_at-returns-in_err-report_from-clause-description
-cause_at-returns-in_err-report_from-clause-description g t c e =
+pub cause_in-returns-in_err-report_from-clause-description : goal.cause_in-returns-in_err-report_from-clause-description
+cause_in-returns-in_err-report_from-clause-description g t c e =
     ap (optional_value report_in) (sym c.in-Some.ensures)
     ∙ ap (option_map Some) (c.in_err-report_from.ensures.description (search rules))
 
-pub cause_at-returns-clause-ok : goal.cause_at-returns-clause-ok
-cause_at-returns-clause-ok g t c =
+pub cause_in-returns-clause-ok : goal.cause_in-returns-clause-ok
+cause_in-returns-clause-ok g t c =
     ap (optional_value report_in) (sym c.in-Some.ensures) ∙ ap (option_map Some) c.in_ok-report_from.ensures.ok

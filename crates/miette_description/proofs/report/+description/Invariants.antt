@@ -17,8 +17,8 @@ invariant-reports_from-loop-value g l =
     ReadSoFar report_in l.list (map (tree_of g.D.Diagnostic.meaning g.S.SourceCode.source) l.reports.items)
     l.value-index
 
-abbrev pub decreases-cause_at : goal.decreases-cause_at
-decreases-cause_at g l = 4 * depth (value_data l.value.now) + 1
+abbrev pub decreases-cause_in : goal.decreases-cause_in
+decreases-cause_in g l = 4 * depth (value_data l.value.now) + 1
 
-abbrev pub decreases-related_at : goal.decreases-related_at
-decreases-related_at g l = 4 * depth (value_data l.value.now) + 1
+abbrev pub decreases-related_in : goal.decreases-related_in
+decreases-related_in g l = 4 * depth (value_data l.value.now) + 1
