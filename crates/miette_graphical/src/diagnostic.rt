@@ -11,7 +11,7 @@ ghost use Rattle.miette_runs.specs.rules.Runs as runs;
 ghost use Rattle.miette_basics.specs.rules.Lists.{is_nil};
 
 use crate::header::push_header;
-use crate::indents::{Branch, push_message, push_text_under_arrow};
+use crate::indents::{Branch, TextKind, push_text};
 use crate::painter::Painter;
 use crate::settings::severity_style;
 use miette_protocol::protocol::{Diagnostic, Severity};
@@ -36,18 +36,6 @@ fn push_header_of<D: Diagnostic, S: SourceCode, H>(
     push_header(painter, style, report.url(), report.code())
 }
 
-// Appends a report's message after its icon.
-fn push_message_of<D: Diagnostic, S: SourceCode, H>(
-    painter: &mut Painter<'_, H>,
-    report: &Report<D, S>,
-) -> Result<(), AllocError>
-    ensures text { OnOk result (painter.new.out ≡ painter.old.out ++ parts.message_text (settings_of painter.old)
-        (head (tree_of D.meaning S.source report.now))) }
-    ensures stays { PrintsOnly painter.old painter.new }
-{
-    push_message(painter, report.severity(), report.message())
-}
-
 /// Appends what names a severity in front of a message.
 fn push_severity_title(out: &mut Output, severity: Option<Severity>) -> Result<(), AllocError>
     ensures { OnOk result (out.new ≡ out.old ++ severity_title severity) }
@@ -66,7 +54,8 @@ pub fn push_start<D: Diagnostic, S: SourceCode, H>(
     ensures stays { PrintsOnly painter.old painter.new }
 {
     push_header_of(painter, report)?;
-    push_message_of(painter, report)
+    let kind = TextKind::Message(report.severity());
+    push_text(painter, kind, report.message())
 }
 
 // Appends what a sibling begins with: its severity, and its header or else the end of the row.
@@ -97,7 +86,8 @@ pub fn push_sibling_start<D: Diagnostic, S: SourceCode, H>(
     ensures stays { PrintsOnly painter.old painter.new }
 {
     push_title(painter, report)?;
-    push_message_of(painter, report)
+    let kind = TextKind::Message(report.severity());
+    push_text(painter, kind, report.message())
 }
 
 /// Whether there is no text.
@@ -126,7 +116,7 @@ pub fn push_cause_texts<H>(
             outer,
             is_last: is_nil(more),
         };
-        push_text_under_arrow(painter, branch, text.as_str())?;
+        push_text(painter, TextKind::Cause(branch), text.as_str())?;
         rest = more;
     }
     Ok(())

@@ -1,15 +1,16 @@
 //! What stands in front of rows, and text wrapped under it.
 
-ghost use Rattle.std.specs.Prelude.{◌≡◌, ◌++◌, ◌-◌, ℕ, List, IfOk, OnOk, chars, false, option_map, true};
-ghost use Rattle.miette_text.specs.views.Plans.{cuts_hyphens};
-ghost use Rattle.miette_graphical.specs.views.Painting.{PrintsOnly, settings_of};
-ghost use Rattle.miette_graphical.specs.rules.Indents as indents;
+ghost use Rattle.std.specs.Prelude.{◌≡◌, ◌++◌, ◌∷◌, [], ◌-◌, ℕ, List, IfOk, OnOk, chars, false, option_map, true};
 ghost use Rattle.miette_graphical.specs.rules.DiagnosticText as parts;
-ghost use Rattle.miette_text.specs.views.Plans.{printed_plan};
+ghost use Rattle.miette_graphical.specs.rules.Indents as indents;
+ghost use Rattle.miette_graphical.specs.rules.Settings.{severity_style};
+ghost use Rattle.miette_graphical.specs.steps.TextKinds.{first_indent, further_indent};
+ghost use Rattle.miette_graphical.specs.views.Painting.{PrintsOnly, settings_of};
 ghost use Rattle.miette_runs.specs.rules.Cells.{columns_of};
-ghost use Rattle.miette_runs.specs.rules.Runs.{print};
+ghost use Rattle.miette_runs.specs.rules.Runs.{Styled, print};
 ghost use Rattle.miette_runs.specs.rules.Sequences.{spell, tokens};
 ghost use Rattle.miette_text.specs.rules.Wrapping.{wrapped_text};
+ghost use Rattle.miette_text.specs.views.Plans.{cuts_hyphens, printed_plan};
 
 use crate::painter::Painter;
 use crate::settings::{icon, severity_style};
@@ -27,6 +28,19 @@ use std::alloc::{AllocError, Global};
 pub struct Branch {
     pub outer: Option<Severity>,
     pub is_last: bool,
+}
+
+/// What a text of a report is, which says what stands in front of its rows.
+#[derive(Clone, Copy)]
+pub enum TextKind {
+    /// A diagnostic's message, by its severity.
+    Message(Option<Severity>),
+    /// A cause that is a text.
+    Cause(Branch),
+    /// A help.
+    Help,
+    /// The footer.
+    Footer,
 }
 
 /// How a text is wrapped under a first and a further indent.
@@ -61,20 +75,6 @@ fn push_wrapped(
 {
     wrap(alloc, plan, text, out)?;
     out.push('\n')
-}
-
-// Appends a text of characters, wrapped, and a line feed.
-fn push_wrapped_text(
-    out: &mut Output,
-    alloc: Global,
-    plan: Plan<'_>,
-    text: &str,
-) -> Result<(), AllocError>
-    ensures { OnOk result (out.new ≡ out.old ++ (wrapped_text (printed_plan plan.entry) (chars text.now)
-        ++ parts.line_feed)) }
-{
-    let text = read_text(alloc, text)?;
-    push_wrapped(out, alloc, plan, &text)
 }
 
 // Appends a text behind an indent, and a line feed, where both stand in one row as they are; says whether.
@@ -119,13 +119,26 @@ fn bar_indent<H>(painter: &Painter<'_, H>, severity: Option<Severity>) -> Result
     Ok(runs)
 }
 
+// These characters, in the style of a severity.
+fn styled_indent<H>(
+    painter: &Painter<'_, H>,
+    severity: Option<Severity>,
+    characters: &[char],
+) -> Result<Runs, AllocError>
+    ensures { IfOk result (λ r. spell r
+        ≡ print (Styled (severity_style (settings_of painter.now) severity) characters.now ∷ [])) }
+{
+    let mut runs = Runs::new(painter.alloc);
+    runs.push_run_chars(severity_style(painter.settings, severity), characters)?;
+    Ok(runs)
+}
+
 // `  ├─▶ `, the last one `  ╰─▶ `
 fn arrow_indent<H>(painter: &Painter<'_, H>, branch: Branch) -> Result<Runs, AllocError>
     ensures { IfOk result (λ r. spell r ≡ print
         (indents.arrow_indent (settings_of painter.now) branch.outer branch.is_last)) }
 {
-    let settings = painter.settings;
-    let characters = &settings.theme.characters;
+    let characters = &painter.settings.theme.characters;
     let blank = ' ';
     let last = characters.lbot;
     let other = characters.lcross;
@@ -133,9 +146,7 @@ fn arrow_indent<H>(painter: &Painter<'_, H>, branch: Branch) -> Result<Runs, All
     let head = characters.rarrow;
     let corner = if branch.is_last { last } else { other };
     let arrow = [blank, blank, corner, hbar, head, blank];
-    let mut runs = Runs::new(painter.alloc);
-    runs.push_run_chars(severity_style(settings, branch.outer), &arrow)?;
-    Ok(runs)
+    styled_indent(painter, branch.outer, &arrow)
 }
 
 // `  │   `, under the last one six spaces
@@ -143,14 +154,11 @@ fn stem_indent<H>(painter: &Painter<'_, H>, branch: Branch) -> Result<Runs, Allo
     ensures { IfOk result (λ r. spell r ≡ print
         (indents.stem_indent (settings_of painter.now) branch.outer branch.is_last)) }
 {
-    let settings = painter.settings;
     let blank = ' ';
-    let vbar = settings.theme.characters.vbar;
+    let vbar = painter.settings.theme.characters.vbar;
     let bar = if branch.is_last { blank } else { vbar };
     let stem = [blank, blank, bar, blank, blank, blank];
-    let mut runs = Runs::new(painter.alloc);
-    runs.push_run_chars(severity_style(settings, branch.outer), &stem)?;
-    Ok(runs)
+    styled_indent(painter, branch.outer, &stem)
 }
 
 // The columns of the indent of what stands under an arrow, after its first row.
@@ -187,45 +195,6 @@ pub fn push_under_arrow<H>(
     push_wrapped(&mut painter.out, painter.alloc, under, text)
 }
 
-/// Appends a cause that is a text under its arrow.
-pub fn push_text_under_arrow<H>(
-    painter: &mut Painter<'_, H>,
-    branch: Branch,
-    text: &str,
-) -> Result<(), AllocError>
-    ensures text { OnOk result (painter.new.out ≡ painter.old.out ++ parts.under_arrow (settings_of painter.old)
-        branch.outer branch.is_last (chars text.now)) }
-    ensures stays { PrintsOnly painter.old painter.new }
-{
-    let first = arrow_indent(painter, branch)?;
-    if push_row(painter, &first, text)? {
-        return Ok(());
-    }
-    let further = stem_indent(painter, branch)?;
-    let under = plan(painter, &first, &further);
-    push_wrapped_text(&mut painter.out, painter.alloc, under, text)
-}
-
-/// Appends a message after its icon.
-pub fn push_message<H>(
-    painter: &mut Painter<'_, H>,
-    severity: Option<Severity>,
-    message: &str,
-) -> Result<(), AllocError>
-    ensures text { OnOk result (painter.new.out ≡ painter.old.out ++ (indents.wrapped_under (settings_of painter.old)
-        (indents.icon_indent (settings_of painter.old) severity)
-        (indents.bar_indent (settings_of painter.old) severity) (chars message.now) ++ parts.line_feed)) }
-    ensures stays { PrintsOnly painter.old painter.new }
-{
-    let first = icon_indent(painter, severity)?;
-    if push_row(painter, &first, message)? {
-        return Ok(());
-    }
-    let further = bar_indent(painter, severity)?;
-    let under = plan(painter, &first, &further);
-    push_wrapped_text(&mut painter.out, painter.alloc, under, message)
-}
-
 // `  help: `
 fn help_indent<H>(painter: &Painter<'_, H>) -> Result<Runs, AllocError>
     ensures { IfOk result (λ r. spell r ≡ print (indents.help_indent (settings_of painter.now))) }
@@ -244,6 +213,51 @@ fn blank_indent(alloc: Global, spaces: &[char]) -> Result<Runs, AllocError>
     Ok(runs)
 }
 
+// What stands in front of a text's first row.
+fn first_indent<H>(painter: &Painter<'_, H>, kind: TextKind) -> Result<Runs, AllocError>
+    ensures { IfOk result (λ r. spell r ≡ print (first_indent (settings_of painter.now) kind)) }
+{
+    match kind {
+        TextKind::Message(severity) => icon_indent(painter, severity),
+        TextKind::Cause(branch) => arrow_indent(painter, branch),
+        TextKind::Help => help_indent(painter),
+        TextKind::Footer => blank_indent(painter.alloc, &[' ', ' ']),
+    }
+}
+
+// What stands in front of its other rows.
+fn further_indent<H>(painter: &Painter<'_, H>, kind: TextKind) -> Result<Runs, AllocError>
+    ensures { IfOk result (λ r. spell r ≡ print (further_indent (settings_of painter.now) kind)) }
+{
+    match kind {
+        TextKind::Message(severity) => bar_indent(painter, severity),
+        TextKind::Cause(branch) => stem_indent(painter, branch),
+        TextKind::Help => blank_indent(painter.alloc, &[' '; 8]),
+        TextKind::Footer => blank_indent(painter.alloc, &[' ', ' ']),
+    }
+}
+
+/// Appends a text behind its indents, wrapped, and a line feed.
+pub fn push_text<H>(
+    painter: &mut Painter<'_, H>,
+    kind: TextKind,
+    text: &str,
+) -> Result<(), AllocError>
+    ensures text { OnOk result (painter.new.out ≡ painter.old.out ++ (indents.wrapped_under (settings_of painter.old)
+        (first_indent (settings_of painter.old) kind) (further_indent (settings_of painter.old) kind)
+        (chars text.now) ++ parts.line_feed)) }
+    ensures stays { PrintsOnly painter.old painter.new }
+{
+    let first = first_indent(painter, kind)?;
+    if push_row(painter, &first, text)? {
+        return Ok(());
+    }
+    let further = further_indent(painter, kind)?;
+    let text = read_text(painter.alloc, text)?;
+    let under = plan(painter, &first, &further);
+    push_wrapped(&mut painter.out, painter.alloc, under, &text)
+}
+
 /// Appends a help text, where there is one.
 pub fn push_help<H>(painter: &mut Painter<'_, H>, help: Option<&str>) -> Result<(), AllocError>
     ensures text { OnOk result (painter.new.out ≡ painter.old.out ++ parts.help_text (settings_of painter.old)
@@ -253,13 +267,7 @@ pub fn push_help<H>(painter: &mut Painter<'_, H>, help: Option<&str>) -> Result<
     let Some(help) = help else {
         return Ok(());
     };
-    let first = help_indent(painter)?;
-    if push_row(painter, &first, help)? {
-        return Ok(());
-    }
-    let further = blank_indent(painter.alloc, &[' '; 8])?;
-    let under = plan(painter, &first, &further);
-    push_wrapped_text(&mut painter.out, painter.alloc, under, help)
+    push_text(painter, TextKind::Help, help)
 }
 
 /// Appends a blank row and the footer, where there is one.
@@ -271,11 +279,6 @@ pub fn push_footer<H>(painter: &mut Painter<'_, H>) -> Result<(), AllocError>
     let Some(footer) = settings.footer() else {
         return Ok(());
     };
-    let indent = blank_indent(painter.alloc, &[' ', ' '])?;
     painter.out.push('\n')?;
-    if push_row(painter, &indent, footer)? {
-        return Ok(());
-    }
-    let under = plan(painter, &indent, &indent);
-    push_wrapped_text(&mut painter.out, painter.alloc, under, footer)
+    push_text(painter, TextKind::Footer, footer)
 }

@@ -24,7 +24,7 @@ use Rattle.miette_snippet_laws.specs.laws.Cuts.{most_columns, pieces_shown}
 use Rattle.miette_snippet_rules.specs.rules.Marks.{Mark, marks_at, AreApart}
 use Rattle.miette_snippet_rules.specs.rules.PrintedCells.{cells_width}
 use Rattle.miette_snippet_rules.specs.rules.Numbers.{ranges, IsRange, AreParted}
-use Rattle.miette_snippet_laws.specs.laws.Ends.{AreBehindShown, EndsStandBehind, draws_ends}
+use Rattle.miette_snippet_laws.specs.laws.Ends.{AreBehindShown, EndsStandBehind, draws_ends, with_ends}
 use Rattle.miette_snippet_laws.specs.laws.Folding.{EndsPass, FitsIn, IsInside}
 use Rattle.miette_snippet_laws.specs.laws.Pictures.{BodyShows, marks_of_line, text_of_line}
 use Rattle.miette_snippet_rules.specs.rules.ShownLines.{framed_ranges, line_at}
@@ -233,6 +233,10 @@ pub record EndsBehind (s : Settings) (source : Source) (labels : List Label) : T
       AreBehindShown (snippet_settings s) (drawn_labels s source labels) (line_of source k) (cells_under s source k)
       pieces
 
+-- the same settings, with which labels at the end aren't drawn
+abbrev pub without_ends : Settings → Settings
+without_ends s = record s { layout = (with_ends false (snippet_settings s)).layout }
+
 -- where labels at the end are drawn, and one of them has a line of context; and where none has one, the rows are those
 -- without the setting
 abbrev pub EndsAreDrawn : Settings → PrintedDiagnostic → Type 0
@@ -243,5 +247,4 @@ EndsAreDrawn s p =
     × (some_shows_end s.layout.context_lines (length source.bytes) (given_labels p.meaning.labels) ≡ false →
     (pieces : List (List (List Highlight))) →
     drawn_rows s (Some source) (given_labels p.meaning.labels) (pieces_listed pieces)
-    ≡ drawn_rows (record s { layout = record s.layout { end_labels = false } }) (Some source)
-    (given_labels p.meaning.labels) (pieces_listed pieces)))
+    ≡ drawn_rows (without_ends s) (Some source) (given_labels p.meaning.labels) (pieces_listed pieces)))

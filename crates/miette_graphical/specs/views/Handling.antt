@@ -1,5 +1,5 @@
 -- A graphical handler.
-use Rattle.std.specs.Prelude.{Bool, List, Option, None}
+use Rattle.std.specs.Prelude.{◌≡◌, Bool, List, Option, None}
 use Rattle.miette_highlight.specs.rules.HighlighterCalls.{Call}
 use Rattle.miette_snippet_rules.specs.rules.Highlighting.{AreCallsOn, follows, leaves_plain}
 use Rattle.miette_snippet_rules.specs.declared.options.LayoutOptions.{LayoutOptions}
@@ -27,6 +27,11 @@ wrapped_by it wrapping = record it { settings = record it.settings { wrapping = 
 -- whether it leaves the lines of sources plain
 abbrev pub draws_plain : {H : Type 0} → (H → Bool) → Handling H → Bool
 draws_plain is_blank it = leaves_plain is_blank it.highlighter
+
+-- Its settings stay, a blank highlighter stays blank, and one that isn't blank doesn't become so.
+abbrev pub Keeps : {H : Type 0} → (H → Bool) → Handling H → Handling H → Type 0
+Keeps is_blank old new =
+    (new.settings ≡ old.settings) × (draws_plain is_blank new ≡ draws_plain is_blank old)
 
 -- what may follow for its highlighter, and calls that bring it from one state to another
 abbrev pub follows_of : {H : Type 0} → (H → List Call → Type 0) → Handling H → List Call → Type 0

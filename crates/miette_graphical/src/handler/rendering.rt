@@ -2,26 +2,26 @@
 
 ghost use Rattle.std.specs.Prelude.{◌≡◌, ◌++◌, ℕ, List, [], OnErr, OnOk, false, true, chars, string_bytes};
 ghost use Rattle.std.specs.Prelude.{encode_utf8_all, option_map};
-ghost use Rattle.miette_graphical.specs.rules.PossibleAnswers.{Appends, IsAskedText, IsTextOf};
-ghost use Rattle.miette_graphical.specs.rules.Answers.{unlisted};
-ghost use Rattle.miette_graphical.specs.rules.ByLine.{answers_by};
-ghost use Rattle.miette_graphical.specs.rules.PrintedDiagnostics.{all_read, diagnostics_of};
-ghost use Rattle.miette_graphical.specs.rules.Snippets.{drawn_rows};
-ghost use Rattle.miette_graphical.specs.rules.Text.{report_text};
 ghost use Rattle.miette_graphical.specs.laws.Clean.{AreCleanSettings, IsCleanTree};
 ghost use Rattle.miette_graphical.specs.laws.Colourless.{ArePlain, IsColouredText, IsRestyledText, colourless};
 ghost use Rattle.miette_graphical.specs.laws.Colourless.{restyled};
-ghost use Rattle.miette_graphical.specs.laws.Holding.{IsHoldingText};
-ghost use Rattle.miette_graphical.specs.laws.Headline.{EndsAreDrawn, LabelsAreFolded, LinesAreShown};
 ghost use Rattle.miette_graphical.specs.laws.Headline.{CutsAreExact, LinesThatFitStay, MarksAreApart, TextsHang};
-ghost use Rattle.miette_graphical.specs.views.Handling.{AreCallsOf, EachPrinted, draws_plain, follows_of};
+ghost use Rattle.miette_graphical.specs.laws.Headline.{EndsAreDrawn, LabelsAreFolded, LinesAreShown};
+ghost use Rattle.miette_graphical.specs.laws.Holding.{IsHoldingText};
+ghost use Rattle.miette_graphical.specs.rules.Answers.{unlisted};
+ghost use Rattle.miette_graphical.specs.rules.ByLine.{answers_by};
+ghost use Rattle.miette_graphical.specs.rules.PossibleAnswers.{Appends, IsAskedText, IsTextOf};
+ghost use Rattle.miette_graphical.specs.rules.PrintedDiagnostics.{all_read, diagnostics_of};
+ghost use Rattle.miette_graphical.specs.rules.Snippets.{drawn_rows};
+ghost use Rattle.miette_graphical.specs.rules.Text.{report_text};
+ghost use Rattle.miette_graphical.specs.views.Handling.{AreCallsOf, EachPrinted, Keeps, draws_plain, follows_of};
 ghost use Rattle.miette_tree.specs.views.Handler.{AppendsOne};
+ghost use Rattle.miette_tree.specs.views.Report.{tree_of};
+ghost use Rattle.miette_highlight.specs.rules.HighlighterCalls.{AnsweredBy, Call};
+ghost use Rattle.miette_highlight.specs.rules.Pieces.{Piece};
 ghost use Rattle.miette_runs.specs.rules.Sequences.{erase};
 ghost use Rattle.miette_style.specs.rules.Themes.{Styles};
 ghost use Rattle.miette_text.specs.rules.ColouredTexts.{AppendsErasing};
-ghost use Rattle.miette_highlight.specs.rules.HighlighterCalls.{AnsweredBy, Call};
-ghost use Rattle.miette_highlight.specs.rules.Pieces.{Piece};
-ghost use Rattle.miette_tree.specs.views.Report.{tree_of};
 
 use crate::handler::GraphicalReportHandler;
 use crate::laws::{erasing_law, holding_law, snippets_law};
@@ -41,8 +41,7 @@ impl<H: Highlighter> GraphicalReportHandler<H> {
         report: &Report<D, S>,
         out: &mut String,
     ) -> Result<(), RenderError>
-        ensures settings { self.new.settings ≡ self.old.settings }
-        ensures blank { draws_plain H.is_blank self.new ≡ draws_plain H.is_blank self.old }
+        ensures keeps { Keeps H.is_blank self.old self.new }
         ensures calls { OnOk result (AppendsOne (IsAskedText drawn_rows self.old.settings
             (draws_plain H.is_blank self.old) (AreCallsOf H.may_follow self.old self.new)
             (tree_of D.meaning S.source report.now)) (string_bytes out.old) (string_bytes out.new)) }
@@ -152,8 +151,7 @@ impl<H: Highlighter> ReportHandler for GraphicalReportHandler<H> {
 
     ghost refuses = { λ it t. all_read (diagnostics_of it.settings t) ≡ false };
 
-    ghost keeps = { λ old new. (new.settings ≡ old.settings)
-        × (draws_plain H.is_blank new ≡ draws_plain H.is_blank old) };
+    ghost keeps = { λ old new. Keeps H.is_blank old new };
 
     fn debug<D: Diagnostic, S: SourceCode>(
         &mut self,
