@@ -9,6 +9,7 @@ pub mod fault;
 pub mod job;
 mod job_handler;
 pub mod language;
+pub mod laws;
 pub mod lint;
 mod lint_lines;
 mod option_words;
