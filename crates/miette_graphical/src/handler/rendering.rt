@@ -153,6 +153,9 @@ impl<H: Highlighter> ReportHandler for GraphicalReportHandler<H> {
 
     ghost keeps = { λ old new. Keeps H.is_blank old new };
 
+    ghost asks = { λ old new t before after. AppendsOne (IsAskedText drawn_rows old.settings
+        (draws_plain H.is_blank old) (AreCallsOf H.may_follow old new) t) before after };
+
     fn debug<D: Diagnostic, S: SourceCode>(
         &mut self,
         report: &Report<D, S>,
