@@ -42,7 +42,7 @@ coloured-one theme made is m = m ∙ ap (λ t. without_highlighter (default_sett
 
 -- ---- the report is read whole, and holds no escape
 
-clean : IsCleanTree warning_tree
+pub clean : IsCleanTree warning_tree
 unfolding chars
 clean = (
   record { message = refl; code = tt; help = tt; url = tt; labels = (refl, tt) },

@@ -1,1 +1,3 @@
 pub mod ClauseSteps
+pub mod SumSteps
+pub mod ColourSteps

@@ -1,5 +1,5 @@
 -- What is known of the pictures of one report.
-use Rattle.std.specs.Prelude.{◌≡◌, ℕ, false, List, [], ◌∷◌, Some, None, codes}
+use Rattle.std.specs.Prelude.{◌≡◌, ℕ, false, List, [], ◌∷◌, Some, None, codes, encode_utf8_all}
 use Rattle.miette_protocol.specs.views.Diagnostic.{message_alone}
 use Rattle.miette_protocol.specs.views.Meaning.{Label}
 use Rattle.miette_protocol.specs.rules.Reading.{Source, named_source, plain_source}
@@ -7,7 +7,13 @@ use Rattle.miette_tree.specs.rules.Tree.{Tree, alone, with_source}
 use Rattle.miette_style.specs.rules.Themes.{ansi_styles, no_styles, unicode_characters}
 use Rattle.miette_snippet_rules.specs.rules.Marks.{Mark}
 use Rattle.miette_snippet_rules.specs.rules.Numbers.{ranges}
+use Rattle.miette_highlight.specs.rules.HighlighterCalls.{AnsweredBy}
+use Rattle.miette_highlight.specs.rules.Pieces.{plain_pieces}
+use Rattle.miette_graphical.specs.rules.Answers.{Answers}
+use Rattle.miette_graphical.specs.rules.Calls.{report_calls}
 use Rattle.miette_graphical.specs.rules.Settings.{Settings, default_settings}
+use Rattle.miette_graphical.specs.rules.Snippets.{drawn_rows}
+use Rattle.miette_graphical.specs.rules.Text.{report_text}
 use Rattle.miette_graphical.specs.laws.Headline.{AreOwnMarks, ShowsRanges, SnippetHangs, groups_of, marks_under}
 use Rattle.miette_graphical.specs.laws.Headline.{shown_lines}
 use Rattle.std.specs.List.{AllByRecursion}
@@ -57,3 +63,11 @@ pub record HasOwnMark (s : Settings) : Type 0 where
 abbrev pub TextHangs : Settings → Type 0
 TextHangs s = AllByRecursion (SnippetHangs s settings_file (name_label ∷ []))
     (groups_of s settings_file (name_label ∷ []))
+
+-- ---- how a highlighter that leaves lines plain is asked
+
+-- A text of that warning, under answers to calls that were answered by one plain piece for each line.
+pub record IsAskedPlainly (text : List ℕ) : Type 0 where
+  pub answers : Answers
+  pub plainly : AnsweredBy plain_pieces (report_calls plain warning_tree answers)
+  pub is : text ≡ encode_utf8_all (report_text drawn_rows plain warning_tree answers)

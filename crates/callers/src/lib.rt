@@ -4,6 +4,7 @@
 #![tactic(auto)]
 
 pub mod brief;
+pub mod colours;
 pub mod descriptions;
 pub mod fixes;
 pub mod handlers;
@@ -12,6 +13,7 @@ pub mod layout;
 pub mod line_breaks;
 pub mod load;
 pub mod narrated;
+pub mod pictures;
 pub mod printing;
 pub mod protocol;
 pub mod text;

@@ -1,0 +1,80 @@
+-- What the clauses of a picture say of a report with a cause.
+use Rattle.std.proofs.Common.{◌≡◌, ℕ, Bool, List, [], ◌++◌, true, refl, sym, ◌∙◌, ap, subst}
+use Rattle.std.proofs.Common.{arith, encode_utf8_all, Some}
+use Rattle.std.specs.List.{AllByRecursion, Contains}
+use Rattle.bstr.specs.Utf8.{pieces_from}
+use Rattle.unicode_width.specs.Width.{char_width}
+use Rattle.miette_runs.specs.rules.Runs.{print}
+use Rattle.miette_source_lines.specs.rules.Lines.{ends_line, line_of}
+use Rattle.miette_labels.specs.rules.Groups.{AreAccepted}
+use Rattle.miette_snippet_rules.specs.rules.PrintedCells.{cells_width}
+use Rattle.miette_tree.specs.rules.Tree.{Tree}
+use Rattle.miette_tree.specs.views.Handler.{AppendsOne}
+use Rattle.miette_graphical.specs.laws.Headline.{CutsAreExact, EndsAreDrawn, LabelsAreFolded, LinesThatFitStay}
+use Rattle.miette_graphical.specs.laws.Headline.{cells_under}
+use Rattle.miette_graphical.specs.laws.Holding.{IsHoldingText, StandsIn}
+use Rattle.miette_graphical.specs.rules.Answers.{Answers, nothing_listed, own_answer, pieces_listed}
+use Rattle.miette_graphical.specs.rules.DiagnosticText.{line_feed}
+use Rattle.miette_graphical.specs.rules.PossibleAnswers.{AreAnswers}
+use Rattle.miette_graphical.specs.rules.PrintedDiagnostics.{PrintedDiagnostic, diagnostics_of}
+use Rattle.miette_graphical.specs.rules.Settings.{Settings}
+use Rattle.miette_graphical.specs.rules.Snippets.{drawn_rows}
+use Rattle.miette_graphical.specs.views.Handling.{Handling, draws_plain, without_highlighter}
+use Rattle.callers.specs.Sums.{CauseStays, EndStandsBehind, IsCut, IsLeftOut, RowsStand, narrow, sum_file, sum_labels}
+use Rattle.callers.specs.Sums.{sum_tree}
+
+-- ---- of the handler and the tree that are known
+
+pub known : {H : Type 0} (P : Settings → PrintedDiagnostic → Type 0) (h : Handling H) (t : Tree)
+    → h ≡ without_highlighter narrow → t ≡ sum_tree → AllByRecursion (P h.settings) (diagnostics_of h.settings t)
+    → AllByRecursion (P narrow) (diagnostics_of narrow sum_tree)
+known P h t p q all =
+    subst (λ u. AllByRecursion (P narrow) (diagnostics_of narrow u)) q
+    (subst (λ g. AllByRecursion (P g.settings) (diagnostics_of g.settings t)) p all)
+
+-- ---- lines that are cut, and lines that fit
+
+pub is_cut : AllByRecursion (CutsAreExact narrow) (diagnostics_of narrow sum_tree) → IsCut
+unfolding ends_line pieces_from char_width
+is_cut all =
+    let long : cells_width 0 (cells_under narrow sum_file 5) ≡ 31 = refl in
+    let short : cells_width 0 (cells_under narrow sum_file 0) ≡ 5 = refl in
+    record { long = (all.0 5 12 refl).wide (omega (arith, long)); short = (all.0 0 12 refl).fits (omega (arith, short)) }
+
+pub cause_stays : AllByRecursion (LinesThatFitStay narrow) (diagnostics_of narrow sum_tree) → CauseStays
+cause_stays all = all.1.0
+
+-- ---- labels at the end, and folded ones
+
+pub end_stands : AllByRecursion (EndsAreDrawn narrow) (diagnostics_of narrow sum_tree) → EndStandsBehind
+unfolding ends_line line_of
+end_stands all = all.0.0 refl
+
+pub left_out : AllByRecursion (LabelsAreFolded narrow) (diagnostics_of narrow sum_tree) → IsLeftOut
+unfolding ends_line line_of
+left_out all =
+    let accepted : AreAccepted sum_file.bytes sum_labels = (
+      record { begins = omega arith; ends = omega arith },
+      (record { begins = omega arith; ends = omega arith }, (record { begins = omega arith; ends = omega arith }, tt)),
+    ) in
+    let folded = all.0 refl accepted (omega arith, (omega arith, (omega arith, tt))) in
+    record { out = refl; inside = folded.inside 2 (omega arith) refl }
+
+-- ---- the rows in the text
+
+-- where every source always reads and lines are plain, answers say nothing
+own_nothing : (a : Answers) → AreAnswers narrow true sum_tree a → own_answer a ≡ nothing_listed
+own_nothing a are = are.0.read refl ∙ ap pieces_listed (are.0.plain refl)
+
+pub rows_stand : {H : Type 0} (is_blank : H → Bool) (h : Handling H) (t : Tree) (old new : List ℕ)
+    → h ≡ without_highlighter narrow → t ≡ sum_tree → old ≡ []
+    → AppendsOne (IsHoldingText drawn_rows h.settings (draws_plain is_blank h) t) old new → RowsStand new
+rows_stand is_blank h t old new p q none appended row there =
+    let held : IsHoldingText drawn_rows narrow true sum_tree appended.text =
+    subst (λ u. IsHoldingText drawn_rows narrow true u appended.text) q
+    (subst (λ g. IsHoldingText drawn_rows g.settings (draws_plain is_blank g) t appended.text) p appended.is_given) in
+    let whole : new ≡ appended.text = appended.appended ∙ ap (λ o. o ++ appended.text) none in
+    subst (StandsIn (encode_utf8_all (print row ++ line_feed))) (sym whole)
+    (held.rows_stand [] _ refl refl row
+    (subst (λ a. Contains (drawn_rows narrow (Some sum_file) sum_labels a) row)
+    (sym (own_nothing held.answers held.are)) there))

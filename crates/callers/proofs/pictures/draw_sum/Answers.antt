@@ -1,0 +1,26 @@
+use Rattle.callers.proofs.SumSteps.{cause_stays, end_stands, is_cut, known, left_out, rows_stand}
+use Rattle.miette_graphical.specs.laws.Headline.{CutsAreExact, EndsAreDrawn, LabelsAreFolded, LinesThatFitStay}
+use Rattle.callers.proofs.pictures.draw_sum.Goals as goal
+
+pub returns-clause-rows : goal.returns-clause-rows
+returns-clause-rows g c =
+    rows_stand _ _ _ _ _ c.in_ok-handler.ensures c.requires c.new-text.ensures.bytes
+    c.in_ok-render_report.ensures.holds
+
+pub returns-clause-cut : goal.returns-clause-cut
+returns-clause-cut g c =
+    is_cut (known CutsAreExact _ _ c.in_ok-handler.ensures c.requires c.in_ok-render_report.ensures.cuts)
+
+pub returns-clause-cause : goal.returns-clause-cause
+returns-clause-cause g c =
+    cause_stays (known LinesThatFitStay _ _ c.in_ok-handler.ensures c.requires
+    c.in_ok-render_report.ensures.fits)
+
+pub returns-clause-end : goal.returns-clause-end
+returns-clause-end g c =
+    end_stands (known EndsAreDrawn _ _ c.in_ok-handler.ensures c.requires c.in_ok-render_report.ensures.ends)
+
+pub returns-clause-folded : goal.returns-clause-folded
+returns-clause-folded g c =
+    left_out (known LabelsAreFolded _ _ c.in_ok-handler.ensures c.requires
+    c.in_ok-render_report.ensures.folds)

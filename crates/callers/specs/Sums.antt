@@ -1,0 +1,93 @@
+-- What is known of the picture of a report with a folded label, a line that is cut, a label at the end of its source,
+-- and a cause.
+use Rattle.std.specs.Prelude.{◌≡◌, ◌≢◌, ◌++◌, ℕ, true, false, List, [], ◌∷◌, Some, None, codes}
+use Rattle.std.specs.Prelude.{encode_utf8_all}
+use Rattle.std.specs.List.{AllByRecursion, Contains}
+use Rattle.miette_protocol.specs.views.Diagnostic.{message_alone}
+use Rattle.miette_protocol.specs.views.Meaning.{Label}
+use Rattle.miette_protocol.specs.rules.Reading.{Source, named_source, plain_source}
+use Rattle.miette_runs.specs.rules.Runs.{Fragment, print}
+use Rattle.miette_tree.specs.rules.Tree.{Tree, alone, diagnostic, head, with_cause, with_source}
+use Rattle.miette_graphical.specs.rules.Answers.{nothing_listed}
+use Rattle.miette_graphical.specs.rules.DiagnosticText.{line_feed}
+use Rattle.miette_graphical.specs.rules.Settings.{Settings}
+use Rattle.miette_graphical.specs.rules.Snippets.{drawn_rows}
+use Rattle.miette_graphical.specs.rules.PrintedDiagnostics.{PrintedDiagnostic, over}
+use Rattle.miette_graphical.specs.laws.Headline.{EndsBehind, SnippetStays, cut_under, drawn_labels}
+use Rattle.miette_graphical.specs.laws.Headline.{groups_of, is_kept_at, line_of}
+use Rattle.miette_graphical.specs.laws.Holding.{StandsIn}
+use Rattle.miette_snippet_laws.specs.laws.Folding.{IsInside}
+use Rattle.callers.specs.Known.{plain}
+
+-- ---- the report: a call over five lines, and below it a long line at whose end a term is missing
+
+abbrev pub sum_file : Source
+sum_file = named_source
+    (plain_source (codes "call(\n  one,\n  two,\n  three,\n  four)\nlet total = one + two + three +"))
+    (codes "sum.x") None
+
+abbrev pub label_at : ℕ → ℕ → List ℕ → Label
+label_at offset len text = record {
+  text = Some text;
+  span = record { offset = offset; len = len };
+  primary = false;
+  context = None;
+}
+
+abbrev pub sum_labels : List Label
+sum_labels = label_at 0 36 (codes "a call") ∷ label_at 41 5 (codes "the sum") ∷ label_at 68 0 (codes "a term") ∷ []
+
+-- its cause, over another file
+abbrev pub depth_file : Source
+depth_file = named_source (plain_source (codes "depth = 1\n")) (codes "app.toml") None
+
+abbrev pub depth_labels : List Label
+depth_labels = label_at 8 1 (codes "set here") ∷ []
+
+abbrev pub depth_tree : Tree
+depth_tree = with_source depth_file (alone (record (message_alone (codes "too deep")) { labels = Some depth_labels }))
+
+abbrev pub sum_tree : Tree
+sum_tree = with_cause (diagnostic depth_tree) (with_source sum_file
+    (alone (record (message_alone (codes "no term")) { labels = Some sum_labels })))
+
+-- ---- how it is drawn: lines of more than 12 columns are cut, labels of more than two lines folded
+
+abbrev pub narrow : Settings
+narrow = record plain {
+  layout =
+      record plain.layout { line_columns = Some 12; label_lines = Some 2; end_labels = true };
+}
+
+-- ---- what its picture is known to show
+
+-- each row of its own snippets stands in a text, on a line of its own
+abbrev pub RowsStand : List ℕ → Type 0
+RowsStand text = (row : List Fragment) →
+    Contains (drawn_rows narrow (Some sum_file) sum_labels nothing_listed) row
+    → StandsIn (encode_utf8_all (print row ++ line_feed)) text
+
+-- the long line is cut, the first one of the call isn't
+pub record IsCut : Type 0 where
+  pub long : cut_under narrow sum_file sum_labels 5 ≢ None
+  pub short : cut_under narrow sum_file sum_labels 0 ≡ None
+
+-- the rows of the cause's snippet are those without a limit
+abbrev pub CauseStays : Type 0
+CauseStays = AllByRecursion (SnippetStays narrow depth_file depth_labels) (groups_of narrow depth_file depth_labels)
+
+-- the third line is left out, on which no label begins or ends
+pub record IsLeftOut : Type 0 where
+  pub out : is_kept_at 2 narrow sum_file sum_labels 2 ≡ false
+  pub inside : AllByRecursion (IsInside (line_of sum_file 2)) (drawn_labels narrow sum_file sum_labels)
+
+-- the label at the end stands in the column after what is shown of the long line
+abbrev pub EndStandsBehind : Type 0
+EndStandsBehind = EndsBehind narrow sum_file sum_labels
+
+-- the outermost diagnostic, and that of the cause
+abbrev pub printed_sum : PrintedDiagnostic
+printed_sum = over (Some sum_file) (head sum_tree)
+
+abbrev pub printed_cause : PrintedDiagnostic
+printed_cause = over (Some depth_file) (head depth_tree)

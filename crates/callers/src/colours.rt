@@ -1,0 +1,72 @@
+//! What the clauses of a picture on colours and highlighters give a caller.
+
+ghost use Rattle.std.specs.Prelude.{◌≡◌, IfOk, true, encode_utf8_all, string_bytes};
+ghost use Rattle.miette_graphical.specs.laws.Colourless.{colourless};
+ghost use Rattle.miette_graphical.specs.rules.Answers.{unlisted};
+ghost use Rattle.miette_graphical.specs.rules.ByLine.{answers_by};
+ghost use Rattle.miette_graphical.specs.rules.PossibleAnswers.{IsTextOf};
+ghost use Rattle.miette_graphical.specs.rules.Snippets.{drawn_rows};
+ghost use Rattle.miette_graphical.specs.rules.Text.{report_text};
+ghost use Rattle.miette_highlight.specs.rules.Pieces.{plain_pieces};
+ghost use Rattle.miette_runs.specs.rules.Sequences.{erase};
+ghost use Rattle.miette_tree.specs.views.Report.{tree_of};
+ghost use Rattle.callers.specs.Known.{IsAskedPlainly, in_colours, plain, warning_tree};
+
+use crate::handlers::Pictures;
+use miette::error::RenderError;
+use miette::handlers::GraphicalReportHandler;
+use miette::protocol::Diagnostic;
+use miette::report::Report;
+use miette::source::SourceCode;
+use miette::theme::GraphicalTheme;
+use miette_graphical::laws::themes_law;
+use miette_highlight::highlight::{BlankHighlighter, Highlighter};
+use std::alloc::Global;
+
+/// The warning in colours by one highlighter, and in plain styles by another one, each of any kind.
+pub fn highlighted_both<H: Highlighter, K: Highlighter>(
+    alloc: Global,
+    first: H,
+    second: K,
+    report: &Report,
+) -> Result<Pictures, RenderError>
+    requires { tree_of ⟦<Box<dyn Diagnostic> as Diagnostic>⟧.meaning
+        ⟦<Box<dyn SourceCode> as SourceCode>⟧.source report.now ≡ warning_tree }
+    // without their colours they are one text: by `themes`, and `ok` of the second
+    ensures alike { IfOk result (λ p. erase (string_bytes p.coloured) ≡ erase (string_bytes p.plain)) }
+    // which is that of no highlighter: by `colourless`
+    ensures bare { IfOk result (λ p. erase (string_bytes p.coloured)
+        ≡ encode_utf8_all (report_text drawn_rows plain warning_tree unlisted)) }
+    // and may be printed by a handler of plain styles: by `colours`
+    ensures printed { IfOk result (λ p. IsTextOf drawn_rows plain true warning_tree (erase (string_bytes p.coloured))) }
+{
+    themes_law();
+    let mut coloured = String::new(alloc);
+    let mut plain = String::new(alloc);
+    let theme = GraphicalTheme::unicode(alloc)?;
+    let mut one = GraphicalReportHandler::themed(theme).with_syntax_highlighting(first);
+    one.render_report(report, &mut coloured)?;
+    let theme = GraphicalTheme::unicode_nocolor(alloc)?;
+    let mut other = GraphicalReportHandler::themed(theme).with_syntax_highlighting(second);
+    other.render_report(report, &mut plain)?;
+    Ok(Pictures { coloured, plain })
+}
+
+/// The warning by the highlighter that leaves each line plain.
+pub fn draw_blank(alloc: Global, report: &Report) -> Result<String, RenderError>
+    requires { tree_of ⟦<Box<dyn Diagnostic> as Diagnostic>⟧.meaning
+        ⟦<Box<dyn SourceCode> as SourceCode>⟧.source report.now ≡ warning_tree }
+    // it was asked for the lines, and answered one plain piece for each: by `calls`
+    ensures asked { IfOk result (λ text. IsAskedPlainly (string_bytes text)) }
+    // so that is the text: by `stateless`
+    ensures text { IfOk result (λ text. string_bytes text ≡ encode_utf8_all
+        (report_text drawn_rows plain warning_tree (answers_by plain_pieces 1 warning_tree))) }
+{
+    let mut text = String::new(alloc);
+    let theme = GraphicalTheme::unicode_nocolor(alloc)?;
+    let mut handler = GraphicalReportHandler::themed(theme).with_syntax_highlighting(
+        BlankHighlighter,
+    );
+    handler.render_report(report, &mut text)?;
+    Ok(text)
+}

@@ -1,0 +1,148 @@
+//! What each clause of a picture gives a caller, of a report with a folded label, a line that is cut, a label at the
+//! end of its source, and a cause.
+
+ghost use Rattle.std.specs.Prelude.{◌≡◌, ◌++◌, ℕ, List, IfOk, Some, false, true, string_bytes};
+ghost use Rattle.std.specs.List.{Contains};
+ghost use Rattle.miette_graphical.specs.laws.Alike.{AreDrawnAlike};
+ghost use Rattle.miette_graphical.specs.laws.Paths.{HasPath};
+ghost use Rattle.miette_graphical.specs.rules.Answers.{Answers};
+ghost use Rattle.miette_graphical.specs.rules.DiagnosticText.{SnippetRows};
+ghost use Rattle.miette_graphical.specs.rules.PrintedDiagnostics.{diagnostics_of};
+ghost use Rattle.miette_graphical.specs.rules.Text.{report_text};
+ghost use Rattle.miette_graphical.specs.views.Handling.{draws_plain, without_highlighter};
+ghost use Rattle.miette_tree.specs.views.Report.{tree_of};
+ghost use Rattle.callers.specs.Sums.{CauseStays, EndStandsBehind, IsCut, IsLeftOut, RowsStand, depth_tree, narrow};
+ghost use Rattle.callers.specs.Sums.{printed_cause, printed_sum, sum_tree};
+
+use miette::diagnostic::MietteDiagnostic;
+use miette::error::RenderError;
+use miette::handlers::GraphicalReportHandler;
+use miette::protocol::{Diagnostic, LabeledSpan};
+use miette::report::{OwnedSource, Report};
+use miette::source::SourceCode;
+use miette::theme::GraphicalTheme;
+use miette_graphical::laws::{paths_law, printed_law};
+use miette_highlight::highlight::{BlankHighlighter, Highlighter};
+use std::alloc::{AllocError, Global};
+
+/// The cause: a setting that is too large.
+pub fn depth(alloc: Global) -> Result<Report, AllocError>
+    ensures { IfOk result (λ r. tree_of ⟦<Box<dyn Diagnostic> as Diagnostic>⟧.meaning
+        ⟦<Box<dyn SourceCode> as SourceCode>⟧.source r ≡ depth_tree) }
+{
+    let label = LabeledSpan::at(alloc, (8, 1), "set here")?;
+    let diagnostic = MietteDiagnostic::new(alloc, "too deep")?.with_label(alloc, label)?;
+    let settings = "depth = 1\n".as_bytes().to_vec(alloc)?;
+    let source = OwnedSource::named(alloc, "app.toml", None, settings)?;
+    Ok(Report::new(diagnostic).with_owned_source(source))
+}
+
+/// A call over five lines, below it a long line at whose end a term is missing, and the cause.
+pub fn sum(alloc: Global) -> Result<Report, AllocError>
+    ensures { IfOk result (λ r. tree_of ⟦<Box<dyn Diagnostic> as Diagnostic>⟧.meaning
+        ⟦<Box<dyn SourceCode> as SourceCode>⟧.source r ≡ sum_tree) }
+{
+    let call = LabeledSpan::at(alloc, (0, 36), "a call")?;
+    let total = LabeledSpan::at(alloc, (41, 5), "the sum")?;
+    let term = LabeledSpan::at(alloc, (68, 0), "a term")?;
+    let labels = vec![in alloc; call, total, term]?;
+    let diagnostic = MietteDiagnostic::new(alloc, "no term")?.with_labels(labels);
+    let code = "call(\n  one,\n  two,\n  three,\n  four)\nlet total = one + two + three +"
+        .as_bytes()
+        .to_vec(alloc)?;
+    let source = OwnedSource::named(alloc, "sum.x", None, code)?;
+    let report = Report::new(diagnostic).with_owned_source(source);
+    match report.with_diagnostic_cause(alloc, depth(alloc)?) {
+        Ok(report) => Ok(report),
+        Err(_) => Err(AllocError),
+    }
+}
+
+/// A handler that cuts lines of more than 12 columns, folds labels of more than two lines, and draws labels at the end.
+pub fn narrow_handler<H: Highlighter>(
+    alloc: Global,
+) -> Result<GraphicalReportHandler<H>, AllocError>
+    ensures { IfOk result (λ it. it ≡ without_highlighter narrow) }
+{
+    let theme = GraphicalTheme::unicode_nocolor(alloc)?;
+    Ok(
+        GraphicalReportHandler::themed(theme)
+            .with_line_columns(12)
+            .with_label_lines(2)
+            .with_end_labels(),
+    )
+}
+
+/// The picture of that report.
+pub fn draw_sum(alloc: Global, report: &Report) -> Result<String, RenderError>
+    requires { tree_of ⟦<Box<dyn Diagnostic> as Diagnostic>⟧.meaning
+        ⟦<Box<dyn SourceCode> as SourceCode>⟧.source report.now ≡ sum_tree }
+    // each row of its snippet stands in the text, on a line of its own: by `holds`
+    ensures rows { IfOk result (λ text. RowsStand (string_bytes text)) }
+    // its long line is cut, and no other: by `cuts`
+    ensures cut { IfOk result (λ text. IsCut) }
+    // its cause is drawn as without a limit: by `fits`
+    ensures cause { IfOk result (λ text. CauseStays) }
+    // the label at the end stands behind what is shown of the long line: by `ends`
+    ensures end { IfOk result (λ text. EndStandsBehind) }
+    // the third line is left out, inside the call: by `folds`
+    ensures folded { IfOk result (λ text. IsLeftOut) }
+{
+    let mut handler: GraphicalReportHandler<BlankHighlighter> = narrow_handler(alloc)?;
+    let mut text = String::new(alloc);
+    handler.render_report(report, &mut text)?;
+    Ok(text)
+}
+
+/// Appends that picture, and says whether it did; the highlighter is one of any kind.
+pub fn add_sum<H: Highlighter>(
+    handler: &mut GraphicalReportHandler<H>,
+    report: &Report,
+    out: &mut String,
+) -> bool
+    // where it isn't drawn, the text is as before: by `err`
+    ensures none { result ≡ false → string_bytes out.new ≡ string_bytes out.old }
+    // where it is, the old text stays in front: by `ok`
+    ensures some { result ≡ true →
+        (text : List ℕ) × (string_bytes out.new ≡ string_bytes out.old ++ text) }
+    // the handler keeps its settings, and leaves lines plain if it did: by `settings`, `blank`
+    ensures settings { handler.new.settings ≡ handler.old.settings }
+    ensures plain { draws_plain H.is_blank handler.new ≡ draws_plain H.is_blank handler.old }
+{
+    match handler.render_report(report, out) {
+        Ok(()) => true,
+        Err(_) => false,
+    }
+}
+
+/// That picture, where memory isn't refused: its sources always read, so nothing else can be, by `refused`.
+pub fn sum_or_memory(alloc: Global, report: &Report) -> Result<String, AllocError>
+    requires { tree_of ⟦<Box<dyn Diagnostic> as Diagnostic>⟧.meaning
+        ⟦<Box<dyn SourceCode> as SourceCode>⟧.source report.now ≡ sum_tree }
+{
+    let mut handler: GraphicalReportHandler<BlankHighlighter> = narrow_handler(alloc)?;
+    let mut text = String::new(alloc);
+    match handler.render_report(report, &mut text) {
+        Ok(()) => Ok(text),
+        Err(RenderError::Memory) => Err(AllocError),
+        Err(RenderError::Refused) => unreachable!(),
+    }
+}
+
+/// The cause is among the printed diagnostics, since it stands at a path, and each of those stands at one.
+pub fn cause_is_printed()
+    ensures printed { Contains (diagnostics_of narrow sum_tree) printed_cause }
+    ensures path { HasPath narrow sum_tree printed_cause }
+{
+    paths_law();
+}
+
+/// Of no source but these two does the text hold a snippet: rows that are the same for both diagnostics give the same
+/// text, whatever they are for others.
+pub fn no_others_are_drawn()
+    ensures { (rows others : SnippetRows) (a : Answers) → AreDrawnAlike rows others printed_sum →
+        AreDrawnAlike rows others printed_cause →
+        report_text rows narrow sum_tree a ≡ report_text others narrow sum_tree a }
+{
+    printed_law();
+}
