@@ -1,12 +1,12 @@
 //! What the rules need of all characters before a place.
 
-ghost use Rattle.std.specs.Prelude.{◌≡◌};
-ghost use Rattle.miette_line_breaks.specs.rules.Rules.{joins, joins_letter, joins_number, joins_parenthesis};
+ghost use Rattle.std.specs.Prelude.{◌≡◌, ℕ, List, [], ◌∷◌};
+ghost use Rattle.miette_line_breaks.specs.rules.Rules.{break_before, joins, joins_letter, joins_number, joins_parenthesis};
 ghost use Rattle.miette_line_breaks.specs.rules.Rules.{joins_syllable, takes_marks};
 ghost use Rattle.miette_line_breaks.specs.steps.States.{attaches, base_behind, base_of, break_in, is_start};
 ghost use Rattle.miette_line_breaks.specs.steps.States.{joined_behind};
-ghost use Rattle.miette_line_breaks.specs.steps.States.{keeps_direct, keeps_in, state_behind, state_of};
-ghost use Rattle.std.specs.Prelude.{[]};
+ghost use Rattle.miette_line_breaks.specs.steps.States.{keeps_direct, keeps_in, state_behind};
+ghost use Rattle.miette_line_breaks.specs.views.Places.{behind, found_before, state_of};
 
 use crate::characters::Character;
 use crate::classes::*;
@@ -16,7 +16,7 @@ use ucd_breaks::LineBreak;
 /// What stands before a place: the last character that is no space and has its marks, whether spaces or a zero width
 /// joiner follow it, whether a Hebrew letter stands before it, and whether it opens half a flag.
 #[derive(Clone, Copy, Debug, PartialEq, Eq)]
-pub(crate) struct State {
+pub struct State {
     pub(crate) base: Character,
     pub(crate) is_spaced: bool,
     pub(crate) is_joined: bool,
@@ -26,7 +26,7 @@ pub(crate) struct State {
 
 impl State {
     /// At the start of a text, where the class of no character stands.
-    pub(crate) fn start() -> State
+    pub fn start() -> State
         ensures { result ≡ state_of [] }
     {
         State {
@@ -46,6 +46,19 @@ impl State {
         ensures { result ≡ is_start self.now }
     {
         is_space(self.base.class) && !self.is_spaced
+    }
+
+    /// The opportunity before a character that stands at this place, and what stands before the place behind it.
+    pub fn step(&self, c: char) -> (Option<BreakOpportunity>, State)
+        ensures found { result.0 ≡ found_before self.now c }
+        ensures behind { result.1 ≡ behind self.now c }
+        ensures rules { (before : List ℕ) → self.now ≡ state_of before →
+            (result.0 ≡ break_before before c) × (result.1 ≡ state_of (c ∷ before)) }
+    {
+        let next = Character::of(c);
+        let found = self.before(next);
+        let state = self.behind(next);
+        (found, state)
     }
 
     fn attaches(&self) -> bool

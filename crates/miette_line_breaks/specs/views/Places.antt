@@ -1,0 +1,18 @@
+-- What stands before a place of a text, and what a character there does.
+use Rattle.std.specs.Prelude.{ℕ, List, Option}
+use Rattle.miette_line_breaks.specs.declared.opportunity.BreakOpportunity.{BreakOpportunity}
+use Rattle.miette_line_breaks.specs.declared.state.State.{State}
+use Rattle.miette_line_breaks.specs.rules.Characters.{character_of}
+use Rattle.miette_line_breaks.specs.steps.States as steps
+
+-- behind these characters, nearest first
+abbrev pub state_of : List ℕ → State
+state_of = steps.state_of
+
+-- the opportunity before a character at this place
+abbrev pub found_before : State → ℕ → Option BreakOpportunity
+found_before s c = steps.break_in s (character_of c)
+
+-- behind this character
+abbrev pub behind : State → ℕ → State
+behind s c = steps.state_behind s (character_of c)
