@@ -12,6 +12,7 @@ use Rattle.miette_snippet_rules.specs.rules.Settings.{SnippetSettings}
 use Rattle.miette_snippet_rules.specs.rules.SnippetLayout.{snippet_rows}
 use Rattle.miette_style.specs.declared.theme.GraphicalTheme.{GraphicalTheme}
 use Rattle.miette_style.specs.rules.Themes.{theme_of}
+use Rattle.miette_text.specs.declared.wrap.WordSeparator.TheVariants.{AsciiSpace}
 use Rattle.miette_text.specs.rules.Wrapping.{Plan}
 
 -- rows of this width, the first after `hint: `, the others below its text
@@ -22,6 +23,7 @@ hint_plan width = record {
   further = chars (codes "      ");
   breaks = true;
   wraps = true;
+  separator = AsciiSpace;
   hyphens = true;
 }
 

@@ -100,6 +100,7 @@ fn wrap_text(alloc: Global, output: &mut Output) -> Result<Result<(), AllocError
     let further = read_text(alloc, "| ")?;
     let plan = Plan {
         wraps: true,
+        separator: WordSeparator::AsciiSpace,
         hyphens: true,
         breaks: true,
         width: 12,

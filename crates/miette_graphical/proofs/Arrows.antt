@@ -24,6 +24,7 @@ arrow_plan s outer is_last = record {
   further = print (stem_indent s outer is_last);
   breaks = s.wrapping.break_words;
   wraps = s.wrapping.wrap_lines;
+  separator = s.wrapping.word_separator;
   hyphens = cuts_hyphens s.wrapping.word_splitter;
 }
 

@@ -79,6 +79,7 @@ module _ (laws : TextLaws) where
     breaks = s.wrapping.break_words;
     wraps =
         s.wrapping.wrap_lines;
+    separator = s.wrapping.word_separator;
     hyphens = cuts_hyphens s.wrapping.word_splitter;
   }
 

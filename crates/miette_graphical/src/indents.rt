@@ -46,6 +46,7 @@ pub enum TextKind {
 /// How a text is wrapped under a first and a further indent.
 fn plan<'a, H>(painter: &Painter<'_, H>, first: &'a Runs, further: &'a Runs) -> Plan<'a>
     ensures wraps { result.wraps ≡ (settings_of painter.now).wrapping.wrap_lines }
+    ensures separator { result.separator ≡ (settings_of painter.now).wrapping.word_separator }
     ensures hyphens { result.hyphens ≡ cuts_hyphens (settings_of painter.now).wrapping.word_splitter }
     ensures breaks { result.breaks ≡ (settings_of painter.now).wrapping.break_words }
     ensures width { result.width ≡ (settings_of painter.now).width - 2 }
@@ -55,6 +56,7 @@ fn plan<'a, H>(painter: &Painter<'_, H>, first: &'a Runs, further: &'a Runs) -> 
     let wrapping = painter.settings.wrapping;
     Plan {
         wraps: wrapping.wrap_lines,
+        separator: wrapping.word_separator,
         hyphens: cuts_hyphens(wrapping.word_splitter),
         breaks: wrapping.break_words,
         width: painter.width.saturating_sub(2),

@@ -7,8 +7,9 @@ use Rattle.std.proofs.lemmas.List.{map-append}
 use Rattle.miette_runs.specs.rules.Sequences.{Token, Character, Sequence, is_line_feed}
 use Rattle.miette_runs.specs.rules.Colours.{is_colour}
 use Rattle.miette_text.specs.rules.Wrapping.{TextLine, Word, Cuts, Plan, map_indents, on_first, with_tag, with_code}
-use Rattle.miette_text.specs.rules.Wrapping.{no_characters, text_lines, cell_tokens, columns, is_space, with_letter}
-use Rattle.miette_text.specs.rules.Wrapping.{with_space, words, is_alphanumeric, begins_alphanumeric, hyphen_parts}
+use Rattle.miette_text.specs.rules.Wrapping.{no_characters, text_lines, cell_tokens, columns, is_space, words}
+use Rattle.miette_text.specs.rules.Wrapping.{ends_word, in_front, pieces, word_of}
+use Rattle.miette_text.specs.rules.Wrapping.{is_alphanumeric, begins_alphanumeric, hyphen_parts}
 use Rattle.miette_text.specs.rules.Wrapping.{broken_parts, with_spaces, first_room, further_room, cuts_of}
 use Rattle.miette_text.specs.rules.Wrapping.{hyphenated_parts, narrow_parts, parts, cut_words, word_cells, rows_behind}
 use Rattle.miette_text.specs.rules.Wrapping.{rows, only_spaces, trimmed_row, row_tokens, with_rest, text_line_rows}
@@ -16,7 +17,8 @@ use Rattle.miette_text.specs.rules.Wrapping.{text_rows, line_feed, joined_rows, 
 use Rattle.miette_text.specs.rules.Wrapping.{text_line_tokens, indented_row, last_indented, whole_lines, wrapped_tokens}
 use Rattle.miette_runs.specs.rules.Cells.{Cell, width, token_width, columns_of}
 use Rattle.miette_text.proofs.ErasedTokens.{erased}
-use Rattle.miette_basics.specs.rules.Lists.{onto}
+use Rattle.miette_basics.specs.rules.Lists.{is_nil, onto}
+use Rattle.miette_text.specs.declared.wrap.WordSeparator.{WordSeparator}
 
 abbrev pub kept : List (List ℕ) → List (List ℕ)
 kept [] = []
@@ -130,36 +132,57 @@ pieces-erased (Sequence s ∷ ts) =
 
 -- ---- words
 
-with_space-strip : (c : Cell) (ws : List Word) → with_space (strip c) (map strip_word ws)
-    ≡ map strip_word (with_space c ws)
-with_space-strip c [] = refl
-with_space-strip c (w ∷ ws) = elim w.letters as (λ ls. with_space (strip c)
-    (map strip_word (record { letters = ls; spaces = w.spaces } ∷ ws))
-    ≡ map strip_word (with_space c (record { letters = ls; spaces = w.spaces } ∷ ws))) [
-      | [] ↦ refl
-      | l ∷ ls ↦ refl
-    ]
-
-with_letter-strip : (c : Cell) (ws : List Word) → with_letter (strip c) (map strip_word ws)
-    ≡ map strip_word (with_letter c ws)
-with_letter-strip c [] = refl
-with_letter-strip c (w ∷ ws) = refl
-
-pub words-strip : (cs : List Cell) → words (map strip cs) ≡ map strip_word (words cs)
-words-strip [] = refl
-words-strip (c ∷ cs) =
-    elim (is_space c.code) as (λ b. (if b then with_space (strip c) (words (map strip cs))
-    else with_letter (strip c) (words (map strip cs)))
-    ≡ map strip_word (if b then with_space c (words cs) else with_letter c (words cs))) [
-      | true ↦ ap (with_space (strip c)) (words-strip cs) ∙ with_space-strip c (words cs)
-      | false ↦ ap (with_letter (strip c)) (words-strip cs) ∙ with_letter-strip c (words cs)
-    ]
-
 -- what is mapped in front is mapped
 onto-map : {A B : Type 0} (f : A → B) (x : A) (ps : List (List A)) → onto (f x) (map (map f) ps)
     ≡ map (map f) (onto x ps)
 onto-map f x [] = refl
 onto-map f x (p ∷ ps) = refl
+
+ends_word-strip : (separator : WordSeparator) (before : List ℕ) (cs : List Cell) →
+    ends_word separator before (map strip cs) ≡ ends_word separator before cs
+ends_word-strip separator before [] = refl
+ends_word-strip separator before (c ∷ cs) = refl
+
+pieces-strip : (separator : WordSeparator) (before : List ℕ) (cs : List Cell) →
+    pieces separator before (map strip cs) ≡ map (map strip) (pieces separator before cs)
+pieces-strip separator before [] = refl
+pieces-strip separator before (c ∷ cs) =
+    ap₂ (λ (b : Bool) ps. if b then (strip c ∷ []) ∷ ps else onto (strip c) ps)
+    (ends_word-strip separator (c.code ∷ before) cs) (pieces-strip separator (c.code ∷ before) cs)
+    ∙ elim (ends_word separator (c.code ∷ before) cs) as (λ b.
+    (if b then (strip c ∷ []) ∷ map (map strip) (pieces separator (c.code ∷ before) cs)
+    else onto (strip c) (map (map strip) (pieces separator (c.code ∷ before) cs)))
+    ≡ map (map strip) (if b then (c ∷ []) ∷ pieces separator (c.code ∷ before) cs
+    else onto c (pieces separator (c.code ∷ before) cs))) [
+      | true ↦ refl
+      | false ↦ onto-map strip c (pieces separator (c.code ∷ before) cs)
+    ]
+
+nil-strip : (cs : List Cell) → is_nil (map strip cs) ≡ is_nil cs
+nil-strip [] = refl
+nil-strip (c ∷ cs) = refl
+
+in_front-strip : (c : Cell) (w : Word) → in_front (strip c) (strip_word w) ≡ strip_word (in_front c w)
+in_front-strip c w =
+    ap (λ (b : Bool). if is_space c.code && b then record { letters = []; spaces = strip c ∷ map strip w.spaces }
+    else record { letters = strip c ∷ map strip w.letters; spaces = map strip w.spaces }) (nil-strip w.letters)
+    ∙ elim (is_space c.code && is_nil w.letters) as (λ b.
+    (if b then record { letters = []; spaces = strip c ∷ map strip w.spaces }
+    else record { letters = strip c ∷ map strip w.letters; spaces = map strip w.spaces })
+    ≡ strip_word (if b then record { letters = []; spaces = c ∷ w.spaces }
+    else record { letters = c ∷ w.letters; spaces = w.spaces })) [ true ↦ refl | false ↦ refl ]
+
+word_of-strip : (cs : List Cell) → word_of (map strip cs) ≡ strip_word (word_of cs)
+word_of-strip [] = refl
+word_of-strip (c ∷ cs) = ap (in_front (strip c)) (word_of-strip cs) ∙ in_front-strip c (word_of cs)
+
+words_of-strip : (ps : List (List Cell)) → map word_of (map (map strip) ps) ≡ map strip_word (map word_of ps)
+words_of-strip [] = refl
+words_of-strip (p ∷ ps) = ap₂ (λ w ws. w ∷ ws) (word_of-strip p) (words_of-strip ps)
+
+pub words-strip : (separator : WordSeparator) (cs : List Cell) → words separator (map strip cs)
+    ≡ map strip_word (words separator cs)
+words-strip separator cs = ap (map word_of) (pieces-strip separator [] cs) ∙ words_of-strip (pieces separator [] cs)
 
 begins-strip : (cs : List Cell) → begins_alphanumeric (map strip cs) ≡ begins_alphanumeric cs
 begins-strip [] = refl
@@ -234,8 +257,8 @@ parts-strip cuts w =
 
 cut_words-strip : (cuts : Cuts) (cs : List Cell) → cut_words cuts (map strip cs) ≡ map strip_word (cut_words cuts cs)
 cut_words-strip cuts cs =
-    ap (flat_map (parts cuts)) (words-strip cs)
-    ∙ flat_map_along strip_word strip_word (parts cuts) (parts cuts) (parts-strip cuts) (words cs)
+    ap (flat_map (parts cuts)) (words-strip cuts.separator cs)
+    ∙ flat_map_along strip_word strip_word (parts cuts) (parts cuts) (parts-strip cuts) (words cuts.separator cs)
 
 word_cells-strip : (w : Word) → word_cells (strip_word w) ≡ map strip (word_cells w)
 word_cells-strip w = sym (map-append strip w.letters w.spaces)
@@ -389,7 +412,7 @@ filled-erased : (p : Plan (List Token)) (ts : List Token) → filled_text (map_i
     ≡ erased (filled_text p ts)
 filled-erased p ts =
     ap₂ (λ m n. joined_rows (erased p.first) (erased p.further)
-    (text_rows (record { hyphens = p.hyphens; breaks = p.breaks; narrow = min (p.room - m) (p.room - n) })
+    (text_rows (record { separator = p.separator; hyphens = p.hyphens; breaks = p.breaks; narrow = min (p.room - m) (p.room - n) })
     (p.room - m) (p.room - n) (text_lines (erased ts)))) (columns_of-erased p.first) (columns_of-erased p.further)
     ∙ ap (λ ps. joined_rows (erased p.first) (erased p.further)
     (text_rows (cuts_of p) (first_room p) (further_room p) ps)) (pieces-erased ts)

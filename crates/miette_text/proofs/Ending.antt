@@ -2,50 +2,53 @@
 use Rattle.std.proofs.Common.{◌≡◌, ℕ, suc, Bool, true, false, not, ◌&&◌, List, [], ◌∷◌, ◌++◌, length, take, drop, refl}
 use Rattle.std.proofs.Common.{sym, ap, ap₂, ◌∙◌, append_assoc, if◌then◌else◌}
 use Rattle.std.specs.List.{concat}
-use Rattle.miette_text.specs.rules.Wrapping.{Word, words, with_space, with_letter, is_space}
+use Rattle.miette_text.specs.rules.Wrapping.{Word, is_space}
 use Rattle.miette_runs.specs.rules.Cells.{Cell, piece_text, tags_text}
-use Rattle.miette_text.specs.steps.Ends.{all_spaces, bare_len}
+use Rattle.miette_text.specs.steps.Ends.{all_spaces, bare_len, spaced_words, with_letter, with_space}
 use Rattle.miette_text.proofs.RowTexts.{shown}
 
 -- ---- the first word
 
+abbrev pub until_len : (ℕ → Bool) → List Cell → ℕ
+until_len stop [] = 0
+until_len stop (c ∷ cs) = if stop c.code then 0 else suc (until_len stop cs)
+
 abbrev pub letters_len : List Cell → ℕ
-letters_len [] = 0
-letters_len (c ∷ cs) = if is_space c.code then 0 else suc (letters_len cs)
+letters_len = until_len is_space
 
 abbrev pub spaces_len : List Cell → ℕ
 spaces_len [] = 0
 spaces_len (c ∷ cs) = if is_space c.code then suc (spaces_len cs) else 0
 
 abbrev cut : ℕ → ℕ → List Cell → List Word
-cut n m cs = record { letters = take n cs; spaces = take m (drop n cs) } ∷ words (drop m (drop n cs))
+cut n m cs = record { letters = take n cs; spaces = take m (drop n cs) } ∷ spaced_words (drop m (drop n cs))
 
-space_letter : (c d : Cell) (ws : List Word) → with_space c (with_letter d ws)
+pub space_letter : (c d : Cell) (ws : List Word) → with_space c (with_letter d ws)
     ≡ record { letters = []; spaces = c ∷ [] } ∷ with_letter d ws
 space_letter c d [] = refl
 space_letter c d (w ∷ ws) = refl
 
-space_word : (c : Cell) (cs : List Cell) → with_space c (words cs)
-    ≡ record { letters = []; spaces = c ∷ take (spaces_len cs) cs } ∷ words (drop (spaces_len cs) cs)
+space_word : (c : Cell) (cs : List Cell) → with_space c (spaced_words cs)
+    ≡ record { letters = []; spaces = c ∷ take (spaces_len cs) cs } ∷ spaced_words (drop (spaces_len cs) cs)
 space_word c [] = refl
 space_word c (d ∷ ds) =
     elim (is_space d.code) as (λ b. is_space d.code ≡ b → with_space c
-    (if b then with_space d (words ds) else with_letter d (words ds))
+    (if b then with_space d (spaced_words ds) else with_letter d (spaced_words ds))
     ≡ record { letters = []; spaces = c ∷ take (if b then suc (spaces_len ds) else 0) (d ∷ ds) }
-    ∷ words (drop (if b then suc (spaces_len ds) else 0) (d ∷ ds))) [
+    ∷ spaced_words (drop (if b then suc (spaces_len ds) else 0) (d ∷ ds))) [
       | true ↦ λ e. ap (with_space c) (space_word d ds)
-      | false ↦ λ e. space_letter c d (words ds) ∙ ap (λ (b : Bool). record { letters = []; spaces = c ∷ [] }
-          ∷ (if b then with_space d (words ds) else with_letter d (words ds))) (sym e)
+      | false ↦ λ e. space_letter c d (spaced_words ds) ∙ ap (λ (b : Bool). record { letters = []; spaces = c ∷ [] }
+          ∷ (if b then with_space d (spaced_words ds) else with_letter d (spaced_words ds))) (sym e)
     ] refl
 
-first_space : (c : Cell) (cs : List Cell) → is_space c.code ≡ true → with_space c (words cs)
+first_space : (c : Cell) (cs : List Cell) → is_space c.code ≡ true → with_space c (spaced_words cs)
     ≡ cut 0 (spaces_len (c ∷ cs)) (c ∷ cs)
 first_space c cs e = space_word c cs ∙ ap (λ (b : Bool). cut 0 (if b then suc (spaces_len cs) else 0) (c ∷ cs)) (sym e)
 
 abbrev first : List Cell → List Word
 first cs = cut (letters_len cs) (spaces_len (drop (letters_len cs) cs)) cs
 
-pub words-first : (c : Cell) (cs : List Cell) → words (c ∷ cs) ≡ first (c ∷ cs)
+pub words-first : (c : Cell) (cs : List Cell) → spaced_words (c ∷ cs) ≡ first (c ∷ cs)
 words-first c [] =
     elim (is_space c.code) as (λ b. is_space c.code ≡ b → (if b then with_space c [] else with_letter c [])
     ≡ cut (if b then 0 else 1) (spaces_len (drop (if b then 0 else 1) (c ∷ []))) (c ∷ [])) [
@@ -54,7 +57,7 @@ words-first c [] =
     ] refl
 words-first c (d ∷ ds) =
     elim (is_space c.code) as (λ b. is_space c.code ≡ b →
-    (if b then with_space c (words (d ∷ ds)) else with_letter c (words (d ∷ ds)))
+    (if b then with_space c (spaced_words (d ∷ ds)) else with_letter c (spaced_words (d ∷ ds)))
     ≡ cut (if b then 0 else suc (letters_len (d ∷ ds))) (spaces_len
     (drop (if b then 0 else suc (letters_len (d ∷ ds))) (c ∷ d ∷ ds))) (c ∷ d ∷ ds)) [
       | true ↦ λ e. first_space c (d ∷ ds) e
@@ -63,7 +66,7 @@ words-first c (d ∷ ds) =
 
 -- ---- a row without its last spaces
 
-and-right : (a b : Bool) → (a && b) ≡ true → b ≡ true
+pub and-right : (a b : Bool) → (a && b) ≡ true → b ≡ true
 and-right true b e = e
 and-right false true e = refl
 and-right false false e = e

@@ -1,18 +1,18 @@
 -- The steps of filling: a row of a line, and a line of a text, with what stands after it.
-use Rattle.std.proofs.Common.{◌≡◌, ℕ, ◌+◌, ◌-◌, ◌<◌, ◌≤◌, List, [], ◌∷◌, ◌++◌, length, take, drop, get_or}
-use Rattle.std.proofs.Common.{sym, ap, ap₂, ◌∙◌, subst, append_assoc, arith, drop-drop, length-drop}
-use Rattle.std.proofs.lemmas.List.{drop-take, get_or-drop, take_all, take_rest}
+use Rattle.std.proofs.Common.{◌≡◌, ℕ, ◌+◌, ◌-◌, ◌<◌, ◌≤◌, List, [], ◌∷◌, ◌++◌, length, take, drop}
+use Rattle.std.proofs.Common.{sym, ap, ap₂, ◌∙◌, append_assoc, arith, drop-drop, length-drop}
+use Rattle.std.proofs.lemmas.List.{drop-take, take_all, take_rest}
 use Rattle.miette_runs.specs.rules.Sequences.{Token, spell}
 use Rattle.miette_runs.specs.views.Interleaving.{beyond, cells_at, interleaving, left_at, tags_spelled, upto}
 use Rattle.miette_runs.specs.declared.runs.sign.Tag.{Tag}
 use Rattle.miette_text.proofs.BareRows.{row_text}
-use Rattle.miette_text.proofs.FirstRow.{behind-last}
 use Rattle.miette_text.proofs.InterleavedRows.{last-printed, row-printed, rows_text}
 use Rattle.miette_text.proofs.Joining.{piece-printed, spell-trimmed}
 use Rattle.miette_text.proofs.LineWise.{last-line, line-at, line_text, text_of}
 use Rattle.miette_text.proofs.RowTexts.{shown}
-use Rattle.miette_text.specs.rules.Wrapping.{Cuts, joined_rows, text_line_rows}
-use Rattle.miette_text.specs.steps.Ends.{IsFirstRow, code_behind, line_len}
+use Rattle.miette_text.specs.rules.Wrapping.{Cuts, Word, joined_rows, text_line_rows}
+use Rattle.miette_runs.specs.rules.Cells.{Cell}
+use Rattle.miette_text.specs.steps.Ends.{IsFirstRow, line_len}
 
 -- the tags from the k-th on, and the codes of the n from a place on
 abbrev pub tags_from : ℕ → List Tag → List Tag
@@ -36,42 +36,37 @@ row-here s n k cs all =
     spell-trimmed (cells_at s (codes_of_row s n cs) (tags_from k all))
     ∙ ap₂ (λ us vs. shown (cells_at s us vs)) (drop-take s n cs) (take_rest all k)
 
-first-here : (cuts : Cuts) (before room n s : ℕ) (cs : List ℕ) → IsFirstRow cuts before room
-    (take (length cs - s) (drop s cs)) n → IsFirstRow cuts before room (drop s cs) n
-first-here cuts before room n s cs f = subst (λ xs. IsFirstRow cuts before room xs n) (take_rest cs s) f
+first-here : (left behind : List Cell → List Word) (room n s : ℕ) (cs : List ℕ) → IsFirstRow left behind room
+    (take (length cs - s) (drop s cs)) n → IsFirstRow left behind room (drop s cs) n
+first-here left behind room n s cs f = λ cells further e. f cells further (e ∙ sym (take_rest cs s))
 
-pub last-row : (cuts : Cuts) (further : List ℕ) (before room room' s n k : ℕ) (cs : List ℕ) (all : List Tag)
-    (o o1 : List ℕ) → IsFirstRow cuts before room (take (length cs - s) (drop s cs)) n → length cs ≤ s + n →
-    o1 ≡ o ++ row_text s (codes_of_row s n cs) (tags_from k all) →
-    o1 ≡ o ++ rows_text cuts further before room room' s (drop s cs) (drop k all)
-last-row cuts further before room room' s n k cs all o o1 f l h =
-    h ∙ ap (λ us. o ++ us) (row-here s n k cs all ∙ sym (last-printed cuts further before room room' n s (drop s cs)
-    (drop k all) (first-here cuts before room n s cs f) (omega (arith, length-drop {A = ℕ} s cs))))
+pub last-row : (left behind : List Cell → List Word) (further : List ℕ) (room room' s n k : ℕ) (cs : List ℕ)
+    (all : List Tag) (o o1 : List ℕ) → IsFirstRow left behind room (take (length cs - s) (drop s cs)) n → length cs
+    ≤ s + n → o1 ≡ o ++ row_text s (codes_of_row s n cs) (tags_from k all) →
+    o1 ≡ o ++ rows_text left further room room' s (drop s cs) (drop k all)
+last-row left behind further room room' s n k cs all o o1 f l h =
+    h ∙ ap (λ us. o ++ us) (row-here s n k cs all ∙ sym (last-printed left behind further room room' n s (drop s cs)
+    (drop k all) (first-here left behind room n s cs f) (omega (arith, length-drop {A = ℕ} s cs))))
 
-pub next-row : (cuts : Cuts) (further : List ℕ) (before room room' s n k m : ℕ) (cs : List ℕ) (all : List Tag)
-    (o o1 o2 : List ℕ) → IsFirstRow cuts before room (take (length cs - s) (drop s cs)) n → 0 < n → s + n < length cs →
-    o1 ≡ o ++ row_text s (codes_of_row s n cs) (tags_from k all) → drop (k + m) all
+pub next-row : (left behind : List Cell → List Word) (further : List ℕ) (room room' s n k m : ℕ) (cs : List ℕ)
+    (all : List Tag) (o o1 o2 : List ℕ) → IsFirstRow left behind room (take (length cs - s) (drop s cs)) n → s + n
+    < length cs → o1 ≡ o ++ row_text s (codes_of_row s n cs) (tags_from k all) → drop (k + m) all
     ≡ left_at s (take n (drop s cs)) (drop k all) → o2 ≡ o1 ++ 10 ∷ further →
-    o2 ++ rows_text cuts further (get_or cs ((s + n) - 1) 0) room' room' (s + n) (drop (s + n) cs) (drop (k + m) all)
-    ≡ o ++ rows_text cuts further before room room' s (drop s cs) (drop k all)
-next-row cuts further before room room' s n k m cs all o o1 o2 f some l h left b =
+    o2 ++ rows_text behind further room' room' (s + n) (drop (s + n) cs) (drop (k + m) all)
+    ≡ o ++ rows_text left further room room' s (drop s cs) (drop k all)
+next-row left behind further room room' s n k m cs all o o1 o2 f l h said b =
     let xs = drop s cs in
     let ms = drop k all in
-    let last = get_or cs ((s + n) - 1) 0 in
     let row = shown (cells_at s (take n xs) ms) in
-    let next = rows_text cuts further last room' room' (s + n) (drop (s + n) cs) (drop (k + m) all) in
+    let next = rows_text behind further room' room' (s + n) (drop (s + n) cs) (drop (k + m) all) in
     let less : n < length xs = omega (arith, length-drop {A = ℕ} s cs) in
-    let is_last : last ≡ code_behind before n xs = ap (λ i. get_or cs i 0) (omega arith)
-    ∙ sym (get_or-drop s cs (n - 1) 0) ∙ behind-last before n 0 xs some (omega arith) in
     ap (λ us. us ++ next) (b ∙ ap (λ us. us ++ 10 ∷ further) (h ∙ ap (λ us. o ++ us) (row-here s n k cs all)))
     ∙ append_assoc (o ++ row) (10 ∷ further) next
     ∙ append_assoc o row ((10 ∷ further) ++ next)
     ∙ ap (λ us. o ++ us)
-    (sym (row-printed cuts further before room room' n s xs ms (first-here cuts before room n s cs f) less
-    ∙ ap (λ a. row ++ ((10 ∷ further) ++ rows_text cuts further a room' room' (s + n) (drop n xs)
-    (left_at s (take n xs) ms))) (sym is_last)
-    ∙ ap₂ (λ us vs. row ++ ((10 ∷ further) ++ rows_text cuts further last room' room' (s + n) us vs))
-    (drop-drop n s cs) (sym left)))
+    (sym (row-printed left behind further room room' n s xs ms (first-here left behind room n s cs f) less
+    ∙ ap₂ (λ us vs. row ++ ((10 ∷ further) ++ rows_text behind further room' room' (s + n) us vs))
+    (drop-drop n s cs) (sym said)))
 
 -- ---- a line
 

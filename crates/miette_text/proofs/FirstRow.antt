@@ -9,10 +9,11 @@ use Rattle.std.proofs.lemmas.List.Sums.{sum_by-cons}
 use Rattle.unicode_width.specs.Width.{char_width}
 use Rattle.miette_text.specs.rules.Wrapping.{Cuts, Word, columns, rows, is_space}
 use Rattle.miette_runs.specs.rules.Cells.{Cell, width}
-use Rattle.miette_text.specs.steps.Ends.{codes_of, row_cells, part_len, gap_len, code_behind, words_behind, rows_left}
+use Rattle.miette_text.specs.steps.Ends.{codes_of, row_cells, gap_len, code_behind, rows_left, IsPart}
+use Rattle.miette_text.specs.steps.Ends.{part_len, words_behind}
 use Rattle.miette_runs.specs.steps.Cells.{code_columns}
 use Rattle.miette_text.proofs.Packing.{pack, pack-rows}
-use Rattle.miette_text.proofs.Parting.{words-next, part-some, drop-codes}
+use Rattle.miette_text.proofs.Parting.{drop-codes, part-some, words-next}
 
 -- ---- columns
 
@@ -21,11 +22,11 @@ columns-codes [] = refl
 columns-codes (c ∷ cs) = sum_by-cons (λ (c : Cell). width c.code) c cs ∙ ap (λ n. width c.code + n) (columns-codes cs)
     ∙ sym (sum_by-cons width c.code (codes_of cs))
 
-space-width : (c : ℕ) → c ≡ 32 → width c ≡ 1
+pub space-width : (c : ℕ) → c ≡ 32 → width c ≡ 1
 unfolding char_width
 space-width c h = grind (arith, nat_tests)
 
-gap-columns : (cs : List ℕ) → code_columns (take (gap_len cs) cs) ≡ gap_len cs
+pub gap-columns : (cs : List ℕ) → code_columns (take (gap_len cs) cs) ≡ gap_len cs
 gap-columns [] = refl
 gap-columns (c ∷ cs) = elim (is_space c) as (λ v. is_space c ≡ v
     → code_columns (take (if v then suc (gap_len cs) else 0) (c ∷ cs)) ≡ (if v then suc (gap_len cs) else 0)) [
@@ -34,13 +35,13 @@ gap-columns (c ∷ cs) = elim (is_space c) as (λ v. is_space c ≡ v
       | false ↦ λ e. refl
     ] refl
 
-take-codes : (n : ℕ) (cs : List Cell) → codes_of (take n cs) ≡ take n (codes_of cs)
+pub take-codes : (n : ℕ) (cs : List Cell) → codes_of (take n cs) ≡ take n (codes_of cs)
 take-codes n cs = sym (take-map (λ (c : Cell). c.code) n cs)
 
--- ---- the next word
+-- ---- the next part
 
-abbrev word_of : ℕ → ℕ → List Cell → Word
-word_of n m cs = record { letters = take n cs; spaces = take m (drop n cs) }
+abbrev part_of : ℕ → ℕ → List Cell → Word
+part_of n m cs = record { letters = take n cs; spaces = take m (drop n cs) }
 
 left-codes : (cells : List Cell) (codes : List ℕ) (end : ℕ) → codes_of cells ≡ codes → codes_of (drop end cells)
     ≡ drop end codes
@@ -55,154 +56,114 @@ left-some cells codes end e l = omega (
   ap length e,
 )
 
-next-word : (cuts : Cuts) (before end n m : ℕ) (cells : List Cell) (codes : List ℕ) → codes_of cells ≡ codes → end
-    < length codes → n ≡ part_len cuts before 0 (drop end codes) → m ≡ gap_len (drop n (drop end codes)) →
-    words_behind cuts before (drop end cells) ≡ word_of n m (drop end cells)
-    ∷ words_behind cuts (code_behind before (n + m) (drop end codes)) (drop (end + (n + m)) cells)
-next-word cuts before end n m cells codes e l p q =
-    let x : codes_of (drop end cells) ≡ drop end codes = left-codes cells codes end e in
-    words-next cuts before n m (drop end cells) (left-some cells codes end e l)
-    (p ∙ ap (part_len cuts before 0) (sym x)) (q ∙ ap (λ xs. gap_len (drop n xs)) (sym x))
-    ∙ ap₂ (λ xs ys. word_of n m (drop end cells) ∷ words_behind cuts (code_behind before (n + m) xs) ys) x
-    (drop-drop (n + m) end cells)
+next-part : (left behind : List Cell → List Word) (end n m : ℕ) (cells : List Cell) (codes : List ℕ) →
+    codes_of cells ≡ codes → IsPart left behind (drop end codes) n m →
+    left (drop end cells) ≡ part_of n m (drop end cells) ∷ behind (drop (end + (n + m)) cells)
+next-part left behind end n m cells codes e part =
+    part (drop end cells) (left-codes cells codes end e)
+    ∙ ap (λ us. part_of n m (drop end cells) ∷ behind us) (drop-drop (n + m) end cells)
 
 letters-columns : (end n : ℕ) (cells : List Cell) (codes : List ℕ) → codes_of cells ≡ codes
     → columns (take n (drop end cells)) ≡ code_columns (take n (drop end codes))
 letters-columns end n cells codes e = columns-codes (take n (drop end cells))
     ∙ ap code_columns (take-codes n (drop end cells) ∙ ap (take n) (left-codes cells codes end e))
 
-spaces-columns : (end n m : ℕ) (cells : List Cell) (codes : List ℕ) → codes_of cells ≡ codes → m
-    ≡ gap_len (drop n (drop end codes)) → columns (take m (drop n (drop end cells))) ≡ m
+spaces-columns : (end n m : ℕ) (cells : List Cell) (codes : List ℕ) → codes_of cells ≡ codes →
+    code_columns (take m (drop n (drop end codes))) ≡ m → columns (take m (drop n (drop end cells))) ≡ m
 spaces-columns end n m cells codes e q =
     columns-codes (take m (drop n (drop end cells)))
     ∙ ap code_columns (take-codes m (drop n (drop end cells))
     ∙ ap (take m) (sym (drop-codes n (drop end cells)) ∙ ap (drop n) (left-codes cells codes end e)))
-    ∙ ap (λ k. code_columns (take k (drop n (drop end codes)))) q
-    ∙ gap-columns (drop n (drop end codes))
-    ∙ sym q
+    ∙ q
 
-pub step-some : (cuts : Cuts) (before end n m : ℕ) (codes : List ℕ) → end < length codes → n
-    ≡ part_len cuts before 0 (drop end codes) → m ≡ gap_len (drop n (drop end codes)) → 0 < n + m
-step-some cuts before end n m codes l p q =
-    let s : 0 < part_len cuts before 0 (drop end codes) + gap_len
-    (drop (part_len cuts before 0 (drop end codes)) (drop end codes)) =
-    part-some cuts before (drop end codes) (omega (arith, length-drop {A = ℕ} end codes)) in
-    let k : m ≡ gap_len (drop (part_len cuts before 0 (drop end codes)) (drop end codes)) = q
-    ∙ ap (λ n. gap_len (drop n (drop end codes))) p in
+-- what is said of the codes from a place on
+pub part-here : (left behind : List Cell → List Word) (s n m : ℕ) (cs : List ℕ) →
+    IsPart left behind (take (length cs - s) (drop s cs)) n m → IsPart left behind (drop s cs) n m
+part-here left behind s n m cs part = λ cells e. part cells (e ∙ sym (take_rest cs s))
+
+-- The part at the front, where words end at spaces.
+pub spaced-part : (cuts : Cuts) (before n m last : ℕ) (codes : List ℕ) → 0 < length codes → n
+    ≡ part_len is_space cuts before 0 codes → m ≡ gap_len (drop n codes) → last ≡ code_behind before (n + m) codes →
+    IsPart (words_behind cuts before) (words_behind cuts last) codes n m
+spaced-part cuts before n m last codes l p q f = λ cells e.
+    words-next cuts before n m cells (omega (arith, length-map cells (λ (c : Cell). c.code), ap length e))
+    (p ∙ ap (part_len is_space cuts before 0) (sym e)) (q ∙ ap (λ xs. gap_len (drop n xs)) (sym e))
+    ∙ ap (λ b. part_of n m cells ∷ words_behind cuts b (drop (n + m) cells))
+    (ap (code_behind before (n + m)) e ∙ sym f)
+
+pub spaced-some : (cuts : Cuts) (before n m : ℕ) (codes : List ℕ) → 0 < length codes → n
+    ≡ part_len is_space cuts before 0 codes → m ≡ gap_len (drop n codes) → 0 < n + m
+spaced-some cuts before n m codes l p q =
+    let some = part-some cuts before codes l in
+    let k : m ≡ gap_len (drop (part_len is_space cuts before 0 codes) codes) = q
+    ∙ ap (λ n. gap_len (drop n codes)) p in
     omega arith
-
--- ---- what stands at a place
-
-part-here : (cuts : Cuts) (before s n : ℕ) (cs : List ℕ) → n ≡ part_len cuts before 0
-    (take (length cs - s) (drop s cs)) → n ≡ part_len cuts before 0 (drop s cs)
-part-here cuts before s n cs h = h ∙ ap (part_len cuts before 0) (take_rest cs s)
-
-gap-here : (s n m : ℕ) (cs : List ℕ) → m ≡ gap_len (take (length cs - (s + n)) (drop (s + n) cs))
-    → m ≡ gap_len (drop n (drop s cs))
-gap-here s n m cs h = h ∙ ap gap_len (take_rest cs (s + n) ∙ sym (drop-drop n s cs))
-
-columns-here : (s n used columns wide : ℕ) (cs : List ℕ) → columns ≡ code_columns
-    (take n (take (length cs - s) (drop s cs))) → wide ≡ used + columns → wide
-    ≡ used + code_columns (take n (drop s cs))
-columns-here s n used columns wide cs h w =
-    w ∙ ap (λ k. used + k) (h ∙ ap (λ xs. code_columns (take n xs)) (take_rest cs s))
-
-pub word-here : (cuts : Cuts) (before s n m used columns wide : ℕ) (cs : List ℕ) → n ≡ part_len cuts before 0
-    (take (length cs - s) (drop s cs)) → m ≡ gap_len (take (length cs - (s + n)) (drop (s + n) cs)) → columns
-    ≡ code_columns (take n (take (length cs - s) (drop s cs))) → wide ≡ used + columns →
-    (n ≡ part_len cuts before 0 (drop s cs)) × (m ≡ gap_len (drop n (drop s cs)))
-    × (wide ≡ used + code_columns (take n (drop s cs)))
-word-here cuts before s n m used columns wide cs p q h w = (
-  part-here cuts before s n cs p,
-  gap-here s n m cs q,
-  columns-here s n used columns wide cs h w,
-)
-
-pub step-here : (cuts : Cuts) (before s n m : ℕ) (cs : List ℕ) → s < length cs → n ≡ part_len cuts before 0
-    (take (length cs - s) (drop s cs)) → m ≡ gap_len (take (length cs - (s + n)) (drop (s + n) cs)) → 0 < n + m
-step-here cuts before s n m cs l p q =
-    step-some cuts before s n m cs l (part-here cuts before s n cs p) (gap-here s n m cs q)
 
 -- ---- the steps
 
-abbrev packed : Cuts → ℕ → ℕ → ℕ → ℕ → ℕ → List Cell → List (List Cell)
-packed cuts room further before end used cells = pack (nat_lt 0 end) (take end cells) used room further
-    (words_behind cuts before (drop end cells))
+abbrev packed : (List Cell → List Word) → ℕ → ℕ → ℕ → ℕ → List Cell → List (List Cell)
+packed left room further end used cells = pack (nat_lt 0 end) (take end cells) used room further
+    (left (drop end cells))
 
-pub row-starts : (cuts : Cuts) (room further first end used before : ℕ) (cells : List Cell) → end ≡ 0 → used ≡ 0
-    → before ≡ first →
-    pack false [] 0 room further (words_behind cuts first cells) ≡ packed cuts room further before end used cells
-row-starts cuts room further first zero used before cells e u f =
-    ap₂ (λ u f. pack false [] u room further (words_behind cuts f cells)) (sym u) (sym f)
-row-starts cuts room further first (suc end) used before cells e u f = absurd (omega arith)
-
-pub row-fits : (cuts : Cuts) (room further before end n m used wide after sums : ℕ) (cells : List Cell) (codes : List ℕ)
-    →
-    codes_of cells ≡ codes → end < length codes → n ≡ part_len cuts before 0 (drop end codes) → m
-    ≡ gap_len (drop n (drop end codes)) →
-    wide ≡ used + code_columns (take n (drop end codes)) → (nat_lt 0 end && nat_lt room wide) ≡ false →
-    after ≡ code_behind before (n + m) (drop end codes) → sums ≡ wide + m →
-    packed cuts room further before end used cells ≡ packed cuts room further after ((end + n) + m) sums cells
-row-fits cuts room further before end n m used wide after sums cells codes e l p q w t f g =
-    let left = drop end cells in
-    let ws = words_behind cuts (code_behind before (n + m) (drop end codes)) (drop (end + (n + m)) cells) in
-    let lc : columns (take n left) ≡ code_columns (take n (drop end codes)) = letters-columns end n cells codes e in
-    let sc : columns (take m (drop n left)) ≡ m = spaces-columns end n m cells codes e q in
-    let wc : wide ≡ used + columns (take n left) = w ∙ ap (λ k. used + k) (sym lc) in
-    let some : 0 < n + m = step-some cuts before end n m codes l p q in
+pub row-fits : (left behind : List Cell → List Word) (room further end n m used wide sums : ℕ) (cells : List Cell)
+    (codes : List ℕ) → codes_of cells ≡ codes → IsPart left behind (drop end codes) n m →
+    code_columns (take m (drop n (drop end codes))) ≡ m → wide ≡ used + code_columns (take n (drop end codes)) →
+    (nat_lt 0 end && nat_lt room wide) ≡ false → sums ≡ wide + m → 0 < n + m →
+    packed left room further end used cells ≡ packed behind room further ((end + n) + m) sums cells
+row-fits left behind room further end n m used wide sums cells codes e part q w t g some =
+    let rest = drop end cells in
+    let ws = behind (drop (end + (n + m)) cells) in
+    let lc : columns (take n rest) ≡ code_columns (take n (drop end codes)) = letters-columns end n cells codes e in
+    let sc : columns (take m (drop n rest)) ≡ m = spaces-columns end n m cells codes e q in
+    let wc : wide ≡ used + columns (take n rest) = w ∙ ap (λ k. used + k) (sym lc) in
     let yes : nat_lt 0 ((end + n) + m) ≡ true = (let z : 0 < (end + n) + m = omega arith in grind (arith, nat_tests)) in
-    let row : take end cells ++ take n left ++ take m (drop n left) ≡ take ((end + n) + m) cells =
+    let row : take end cells ++ take n rest ++ take m (drop n rest) ≡ take ((end + n) + m) cells =
     ap₂ (λ us vs. us ++ take m vs) (sym (take-add end n cells)) (drop-drop n end cells)
     ∙ sym (take-add (end + n) m cells) in
-    let total : used + (columns (take n left) + columns (take m (drop n left))) ≡ wide + m = omega arith in
-    ap (pack (nat_lt 0 end) (take end cells) used room further) (next-word cuts before end n m cells codes e l p q)
-    ∙ ap (λ (v : Bool). if v then take end cells ∷ pack true (take n left ++ take m (drop n left))
-    (columns (take n left) + columns (take m (drop n left))) further further ws
-    else pack true (take end cells ++ take n left ++ take m (drop n left))
-    (used + (columns (take n left) + columns (take m (drop n left)))) room further ws)
+    let total : used + (columns (take n rest) + columns (take m (drop n rest))) ≡ wide + m = omega arith in
+    ap (pack (nat_lt 0 end) (take end cells) used room further) (next-part left behind end n m cells codes e part)
+    ∙ ap (λ (v : Bool). if v then take end cells ∷ pack true (take n rest ++ take m (drop n rest))
+    (columns (take n rest) + columns (take m (drop n rest))) further further ws
+    else pack true (take end cells ++ take n rest ++ take m (drop n rest))
+    (used + (columns (take n rest) + columns (take m (drop n rest)))) room further ws)
     (ap (λ k. nat_lt 0 end && nat_lt room k) (sym wc) ∙ t)
     ∙ ap₂ (λ us k. pack true us k room further ws) row total
-    ∙ ap₂ (λ v k. pack v (take ((end + n) + m) cells) (wide + m) room further
-    (words_behind cuts (code_behind before (n + m) (drop end codes)) (drop k cells))) (sym yes) (omega arith)
-    ∙ ap₂ (λ a k. pack (nat_lt 0 ((end + n) + m)) (take ((end + n) + m) cells) k room further
-    (words_behind cuts a (drop ((end + n) + m) cells))) (sym f) (sym g)
+    ∙ ap₂ (λ v k. pack v (take ((end + n) + m) cells) (wide + m) room further (behind (drop k cells))) (sym yes)
+    (omega arith)
+    ∙ ap (λ k. packed behind room further ((end + n) + m) k cells) (sym g)
 
-rows-begin : (cuts : Cuts) (before further : ℕ) (cells : List Cell) (w : Word) (ws : List Word) → 0 < length cells
-    → words_behind cuts before cells ≡ w ∷ ws →
+rows-begin : (left : List Cell → List Word) (further : ℕ) (cells : List Cell) (w : Word) (ws : List Word) → 0
+    < length cells → left cells ≡ w ∷ ws →
     pack true (w.letters ++ w.spaces) (columns w.letters + columns w.spaces) further further ws
-    ≡ rows_left cuts before further cells
-rows-begin cuts before further [] w ws l e = absurd (omega arith)
-rows-begin cuts before further (c ∷ cs) w ws l e =
+    ≡ rows_left left further cells
+rows-begin left further [] w ws l e = absurd (omega arith)
+rows-begin left further (c ∷ cs) w ws l e =
     ap (λ k. pack true (w.letters ++ w.spaces) k further further ws)
     (sym (zero-add (columns w.letters + columns w.spaces)))
     ∙ ap (pack false [] 0 further further) (sym e)
-    ∙ pack-rows further further (words_behind cuts before (c ∷ cs))
+    ∙ pack-rows further further (left (c ∷ cs))
 
-pub row-ends : (cuts : Cuts) (room further first before end n m used wide : ℕ) (cells : List Cell) (codes : List ℕ) →
-    codes_of cells ≡ codes → end < length codes → n ≡ part_len cuts before 0 (drop end codes) → m
-    ≡ gap_len (drop n (drop end codes)) →
-    wide ≡ used + code_columns (take n (drop end codes)) → (nat_lt 0 end && nat_lt room wide) ≡ true → before
-    ≡ code_behind first end codes →
-    pack false [] 0 room further (words_behind cuts first cells) ≡ packed cuts room further before end used cells →
-    map row_cells (rows room further (words_behind cuts first cells)) ≡ take end cells
-    ∷ rows_left cuts (code_behind first end codes) further (drop end cells)
-row-ends cuts room further first before end n m used wide cells codes e l p q w t f i =
-    let left = drop end cells in
-    let ws = words_behind cuts (code_behind before (n + m) (drop end codes)) (drop (end + (n + m)) cells) in
-    let lc : columns (take n left) ≡ code_columns (take n (drop end codes)) = letters-columns end n cells codes e in
-    let wc : wide ≡ used + columns (take n left) = w ∙ ap (λ k. used + k) (sym lc) in
-    let nw = next-word cuts before end n m cells codes e l p q in
-    sym (pack-rows room further (words_behind cuts first cells))
+pub row-ends : (first left behind : List Cell → List Word) (room further end n m used wide : ℕ) (cells : List Cell)
+    (codes : List ℕ) → codes_of cells ≡ codes → end < length codes → IsPart left behind (drop end codes) n m →
+    wide ≡ used + code_columns (take n (drop end codes)) → (nat_lt 0 end && nat_lt room wide) ≡ true →
+    pack false [] 0 room further (first cells) ≡ packed left room further end used cells →
+    map row_cells (rows room further (first cells)) ≡ take end cells ∷ rows_left left further (drop end cells)
+row-ends first left behind room further end n m used wide cells codes e l part w t i =
+    let rest = drop end cells in
+    let ws = behind (drop (end + (n + m)) cells) in
+    let lc : columns (take n rest) ≡ code_columns (take n (drop end codes)) = letters-columns end n cells codes e in
+    let wc : wide ≡ used + columns (take n rest) = w ∙ ap (λ k. used + k) (sym lc) in
+    let next = next-part left behind end n m cells codes e part in
+    sym (pack-rows room further (first cells))
     ∙ i
-    ∙ ap (pack (nat_lt 0 end) (take end cells) used room further) nw
-    ∙ ap (λ (v : Bool). if v then take end cells ∷ pack true (take n left ++ take m (drop n left))
-    (columns (take n left) + columns (take m (drop n left))) further further ws
-    else pack true (take end cells ++ take n left ++ take m (drop n left))
-    (used + (columns (take n left) + columns (take m (drop n left)))) room further ws)
+    ∙ ap (pack (nat_lt 0 end) (take end cells) used room further) next
+    ∙ ap (λ (v : Bool). if v then take end cells ∷ pack true (take n rest ++ take m (drop n rest))
+    (columns (take n rest) + columns (take m (drop n rest))) further further ws
+    else pack true (take end cells ++ take n rest ++ take m (drop n rest))
+    (used + (columns (take n rest) + columns (take m (drop n rest)))) room further ws)
     (ap (λ k. nat_lt 0 end && nat_lt room k) (sym wc) ∙ t)
-    ∙ ap (λ us. take end cells ∷ us) (rows-begin cuts before further left (word_of n m left) ws
-    (left-some cells codes end e l) nw)
-    ∙ ap (λ a. take end cells ∷ rows_left cuts a further left) f
+    ∙ ap (λ us. take end cells ∷ us) (rows-begin left further rest (part_of n m rest) ws
+    (left-some cells codes end e l) next)
 
 none-left : (cells : List Cell) (end : ℕ) → length cells ≤ end → drop end cells ≡ []
 none-left [] zero h = refl
@@ -210,18 +171,17 @@ none-left [] (suc n) h = refl
 none-left (c ∷ cs) zero h = absurd (omega arith)
 none-left (c ∷ cs) (suc n) h = none-left cs n (omega arith)
 
-pub row-whole : (cuts : Cuts) (room further first before end used : ℕ) (cells : List Cell) (codes : List ℕ) →
-    codes_of cells ≡ codes → length codes ≤ end →
-    pack false [] 0 room further (words_behind cuts first cells) ≡ packed cuts room further before end used cells →
-    map row_cells (rows room further (words_behind cuts first cells)) ≡ take end cells
-    ∷ rows_left cuts (code_behind first end codes) further (drop end cells)
-row-whole cuts room further first before end used cells codes e l i =
+pub row-whole : (first left : List Cell → List Word) (room further end used : ℕ) (cells : List Cell) (codes : List ℕ) →
+    left [] ≡ [] → codes_of cells ≡ codes → length codes ≤ end →
+    pack false [] 0 room further (first cells) ≡ packed left room further end used cells →
+    map row_cells (rows room further (first cells)) ≡ take end cells ∷ rows_left left further (drop end cells)
+row-whole first left room further end used cells codes h e l i =
     let z : drop end cells ≡ [] = none-left cells end (omega
     (arith, length-map cells (λ (c : Cell). c.code), ap length e)) in
-    sym (pack-rows room further (words_behind cuts first cells))
+    sym (pack-rows room further (first cells))
     ∙ i
-    ∙ ap (λ us. pack (nat_lt 0 end) (take end cells) used room further (words_behind cuts before us)) z
-    ∙ ap (λ us. take end cells ∷ rows_left cuts (code_behind first end codes) further us) (sym z)
+    ∙ ap (pack (nat_lt 0 end) (take end cells) used room further) (ap left z ∙ h)
+    ∙ ap (λ us. take end cells ∷ rows_left left further us) (sym z)
 
 -- ---- the code behind
 

@@ -53,7 +53,7 @@ spaces-codes : (cs : List Cell) → all_spaces cs ≡ all_spaces (plain_cells (c
 spaces-codes [] = refl
 spaces-codes (c ∷ cs) = ap (λ v. is_space c.code && v) (spaces-codes cs)
 
-bare-codes : (cs : List Cell) → bare_len cs ≡ bare_len (plain_cells (codes_of cs))
+pub bare-codes : (cs : List Cell) → bare_len cs ≡ bare_len (plain_cells (codes_of cs))
 bare-codes [] = refl
 bare-codes (c ∷ cs) = ap₂ (λ (v : Bool) (n : ℕ). if is_space c.code && v then 0 else suc n) (spaces-codes cs)
     (bare-codes cs)

@@ -17,6 +17,9 @@ pub mod FilledColours
 pub mod Ending
 pub mod Parting
 pub mod FirstRow
+pub mod SpaceWords
+pub mod BreakWords
+pub mod BreakParts
 pub mod LineWise
 pub mod InterleavedCells
 pub mod InterleavedRows

@@ -8,6 +8,7 @@ use Rattle.miette_runs.specs.rules.Sequences.{Token, Character, Sequence, is_lin
 use Rattle.miette_text.specs.rules.Wrapping.{Cuts, TextLine, Plan, Word, cut_words, filled_text, joined_rows, line_feed}
 use Rattle.miette_text.specs.rules.Wrapping.{text_rows, on_first, with_tag, with_code, no_characters, text_lines, rows}
 use Rattle.miette_text.specs.rules.Wrapping.{rows_behind, columns, word_cells}
+use Rattle.miette_text.specs.declared.wrap.WordSeparator.{WordSeparator}
 use Rattle.miette_runs.specs.rules.Cells.{Cell, columns_of}
 use Rattle.miette_text.specs.steps.Ends.{line_len, row_cells}
 use Rattle.miette_runs.specs.views.Interleaving.{beyond, cells_at, left_at, tag_text, tag_token, tags_spelled, upto}
@@ -106,23 +107,25 @@ rows-of-text cuts room room' ts = omega (
 pub filled-text : (p : Plan (List Token)) (text : List Token) (narrow room room' : ℕ) (f f' t : List Token) → f
     ≡ p.first → f' ≡ p.further → t ≡ text → room ≡ p.room - columns_of f → room' ≡ p.room - columns_of f' → narrow
     ≡ min room room' →
-    spell f ++ spell (joined_rows [] f' (text_rows (record { hyphens = p.hyphens; breaks = p.breaks; narrow = narrow })
+    spell f ++ spell (joined_rows [] f' (text_rows (record { separator = p.separator; hyphens = p.hyphens; breaks = p.breaks; narrow = narrow })
     room room' (text_lines t))) ≡ spell (filled_text p text)
 filled-text p text narrow room room' f f' t i j k q r e =
     sym (spell-append f (joined_rows [] f' (text_rows (record
-    { hyphens = p.hyphens; breaks = p.breaks; narrow = narrow }) room room' (text_lines t))))
-    ∙ ap spell (sym (joined-first f f' (text_rows (record { hyphens = p.hyphens; breaks = p.breaks; narrow = narrow })
+    { separator = p.separator; hyphens = p.hyphens; breaks = p.breaks; narrow = narrow }) room room' (text_lines t))))
+    ∙ ap spell (sym (joined-first f f' (text_rows (record { separator = p.separator; hyphens = p.hyphens; breaks = p.breaks; narrow = narrow })
     room room' (text_lines t)) (rows-of-text (record {
+      separator = p.separator;
       hyphens = p.hyphens;
       breaks = p.breaks;
       narrow =
           narrow;
     }) room room' t)))
-    ∙ ap (λ n. spell (joined_rows f f' (text_rows (record { hyphens = p.hyphens; breaks = p.breaks; narrow = n }) room
+    ∙ ap (λ n. spell (joined_rows f f' (text_rows (record { separator = p.separator; hyphens = p.hyphens; breaks = p.breaks; narrow = n }) room
     room' (text_lines t)))) e
     ∙ ap₂ (λ m n. spell (joined_rows f f' (text_rows (record
-    { hyphens = p.hyphens; breaks = p.breaks; narrow = min m n }) m n (text_lines t)))) q r
+    { separator = p.separator; hyphens = p.hyphens; breaks = p.breaks; narrow = min m n }) m n (text_lines t)))) q r
     ∙ ap₂ (λ us vs. spell (joined_rows us vs (text_rows (record {
+      separator = p.separator;
       hyphens = p.hyphens;
       breaks = p.breaks;
       narrow =
@@ -130,6 +133,21 @@ filled-text p text narrow room room' f f' t i j k q r e =
     }) (p.room - columns_of us) (p.room - columns_of vs)
     (text_lines t)))) i j
     ∙ ap (λ us. spell (filled_text p us)) k
+
+-- what is printed behind it
+pub under-filled : (p : Plan (List Token)) (separator : WordSeparator) (text : List Token) (narrow room room' : ℕ)
+    (f f' t : List Token) (old o o1 : List ℕ) → separator ≡ p.separator → f ≡ p.first → f' ≡ p.further → t ≡ text →
+    room ≡ p.room - columns_of f → room' ≡ p.room - columns_of f' → narrow ≡ min room room' → o ≡ old ++ spell f →
+    o1 ≡ o ++ spell (joined_rows [] f' (text_rows (record
+    { separator = separator; hyphens = p.hyphens; breaks = p.breaks; narrow = narrow }) room room' (text_lines t))) →
+    o1 ≡ old ++ spell (filled_text p text)
+under-filled p separator text narrow room room' f f' t old o o1 h i j k q r e a b =
+    let rows : WordSeparator → List ℕ = λ s. spell (joined_rows [] f' (text_rows (record
+    { separator = s; hyphens = p.hyphens; breaks = p.breaks; narrow = narrow }) room room' (text_lines t))) in
+    b
+    ∙ ap₂ (λ us s. us ++ rows s) a h
+    ∙ append_assoc old (spell f) (rows p.separator)
+    ∙ ap (λ us. old ++ us) (filled-text p text narrow room room' f f' t i j k q r e)
 
 -- ---- what stands behind the rows of a piece
 

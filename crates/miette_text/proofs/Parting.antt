@@ -4,12 +4,12 @@ use Rattle.std.proofs.Common.{flat_map, length, take, drop, refl, sym, ap, ap₂
 use Rattle.std.proofs.Common.{zero-add, eqb-true}
 use Rattle.std.proofs.lemmas.Bool.Decides.{nat_tests}
 use Rattle.std.proofs.lemmas.List.{drop-map}
-use Rattle.miette_text.specs.rules.Wrapping.{Word, words, is_space, is_alphanumeric, begins_alphanumeric, hyphen_parts}
-use Rattle.miette_text.specs.rules.Wrapping.{broken_parts, with_spaces, Cuts, narrow_parts, parts, cut_words}
+use Rattle.miette_text.specs.rules.Wrapping.{Word, is_space, is_alphanumeric, begins_alphanumeric, hyphen_parts}
+use Rattle.miette_text.specs.rules.Wrapping.{broken_parts, with_spaces, Cuts, narrow_parts, parts}
 use Rattle.miette_runs.specs.rules.Cells.{Cell, width}
 use Rattle.miette_text.specs.steps.Ends.{codes_of, begins_word, part_len, gap_len, code_behind, hyphenated_behind}
-use Rattle.miette_text.specs.steps.Ends.{words_behind}
-use Rattle.miette_text.proofs.Ending.{letters_len, spaces_len, words-first}
+use Rattle.miette_text.specs.steps.Ends.{spaced_words, words_behind}
+use Rattle.miette_text.proofs.Ending.{letters_len, spaces_len, until_len, words-first}
 use Rattle.miette_basics.specs.rules.Lists.{onto}
 
 -- ---- cuts at hyphens, and where a part is too wide, in one recursion
@@ -53,7 +53,7 @@ narrowed_at-is true room cs = narrowed_at-true room 0 cs
 narrowed_at-is false room cs = narrowed_at-false room 0 cs
 
 -- the parts of what is left of a word
-abbrev letter_parts : Cuts → ℕ → ℕ → List Cell → List (List Cell)
+abbrev pub letter_parts : Cuts → ℕ → ℕ → List Cell → List (List Cell)
 letter_parts cuts before used [] = [] ∷ []
 letter_parts cuts before used (c ∷ cs) =
     if wide cuts.breaks cuts.narrow used c then [] ∷ (if is_cut cuts.hyphens before c cs then (c ∷ [])
@@ -92,7 +92,7 @@ hyphened-some h before (c ∷ cs) = elim (is_cut h before c cs) as
       | false ↦ onto-some c (hyphened h c.code cs)
     ]
 
-parts-some : (cuts : Cuts) (before used : ℕ) (cs : List Cell) → 0 < length (letter_parts cuts before used cs)
+pub parts-some : (cuts : Cuts) (before used : ℕ) (cs : List Cell) → 0 < length (letter_parts cuts before used cs)
 parts-some cuts before used [] = omega arith
 parts-some cuts before used (c ∷ cs) = elim (wide cuts.breaks cuts.narrow used c) as
     (λ v. 0 < length (if v then [] ∷ (if is_cut cuts.hyphens before c cs then (c ∷ []) ∷ letter_parts cuts c.code 0 cs
@@ -153,25 +153,31 @@ parts-are cuts before used (c ∷ cs) =
           (parts-are cuts c.code (width c.code) cs) (parts-are cuts c.code (used + width c.code) cs)
     ]
 
-word-parts : (cuts : Cuts) (before : ℕ) (cs : List Cell)
+pub word-parts : (cuts : Cuts) (before : ℕ) (cs : List Cell)
     → flat_map (narrow_parts cuts) (hyphenated_behind cuts before cs) ≡ letter_parts cuts before 0 cs
 word-parts cuts before cs = ap (flat_map (narrow_parts cuts)) (hyphened-is cuts.hyphens before cs)
     ∙ all_narrowed-none cuts (hyphened cuts.hyphens before cs) ∙ parts-are cuts before 0 cs
 
 -- ---- the first part
 
-abbrev letters : List Cell → List Cell
-letters cs = take (letters_len cs) cs
+-- the letters up to a code that ends each word
+abbrev pub letters : (ℕ → Bool) → List Cell → List Cell
+letters stop cs = take (until_len stop cs) cs
 
-abbrev more_parts : Cuts → ℕ → List Cell → List (List Cell)
+-- no letter or digit does
+abbrev pub EndsWords : (ℕ → Bool) → Type 0
+EndsWords stop = (c : ℕ) → stop c ≡ true → is_alphanumeric c ≡ false
+
+abbrev pub more_parts : Cuts → ℕ → List Cell → List (List Cell)
 more_parts cuts before [] = []
 more_parts cuts before (c ∷ cs) = letter_parts cuts before 0 (c ∷ cs)
 
-begins-letters : (cs : List Cell) → begins_alphanumeric (letters cs) ≡ begins_word (codes_of cs)
-begins-letters [] = refl
-begins-letters (c ∷ cs) = elim (is_space c.code) as (λ v. is_space c.code ≡ v
-    → begins_alphanumeric (take (if v then 0 else suc (letters_len cs)) (c ∷ cs)) ≡ is_alphanumeric c.code) [
-      | true ↦ λ e. grind (arith, nat_tests)
+begins-letters : (stop : ℕ → Bool) → EndsWords stop → (cs : List Cell) → begins_alphanumeric (letters stop cs)
+    ≡ begins_word (codes_of cs)
+begins-letters stop h [] = refl
+begins-letters stop h (c ∷ cs) = elim (stop c.code) as (λ v. stop c.code ≡ v
+    → begins_alphanumeric (take (if v then 0 else suc (until_len stop cs)) (c ∷ cs)) ≡ is_alphanumeric c.code) [
+      | true ↦ λ e. sym (h c.code e)
       | false ↦ λ e. refl
     ] refl
 
@@ -190,11 +196,12 @@ not_wide : (b : Bool) (room : ℕ) (c : Cell) → wide b room 0 c ≡ false
 not_wide true room c = refl
 not_wide false room c = refl
 
-letters-none : (c : Cell) (cs : List Cell) → is_space c.code ≡ true → letters (c ∷ cs) ≡ []
-letters-none c cs e = ap (λ (v : Bool). take (if v then 0 else suc (letters_len cs)) (c ∷ cs)) e
+letters-none : (stop : ℕ → Bool) (c : Cell) (cs : List Cell) → stop c.code ≡ true → letters stop (c ∷ cs) ≡ []
+letters-none stop c cs e = ap (λ (v : Bool). take (if v then 0 else suc (until_len stop cs)) (c ∷ cs)) e
 
-letters-more : (c : Cell) (cs : List Cell) → is_space c.code ≡ false → letters (c ∷ cs) ≡ c ∷ letters cs
-letters-more c cs e = ap (λ (v : Bool). take (if v then 0 else suc (letters_len cs)) (c ∷ cs)) e
+letters-more : (stop : ℕ → Bool) (c : Cell) (cs : List Cell) → stop c.code ≡ false → letters stop (c ∷ cs)
+    ≡ c ∷ letters stop cs
+letters-more stop c cs e = ap (λ (v : Bool). take (if v then 0 else suc (until_len stop cs)) (c ∷ cs)) e
 
 -- a part that gets too wide ends before the code, and the next begins with it
 parts-again : (cuts : Cuts) (before : ℕ) (c : Cell) (cs : List Cell) →
@@ -209,81 +216,84 @@ parts-again cuts before c cs =
     else (if is_cut cuts.hyphens before c cs then (c ∷ []) ∷ letter_parts cuts c.code 0 cs
     else onto c (letter_parts cuts c.code (0 + width c.code) cs))) (sym (not_wide cuts.breaks cuts.narrow c))
 
-pub first-part : (cuts : Cuts) (before used : ℕ) (cs : List Cell) →
-    letter_parts cuts before used (letters cs)
-    ≡ take (part_len cuts before used (codes_of cs)) cs
-    ∷ more_parts cuts (code_behind before (part_len cuts before used (codes_of cs)) (codes_of cs))
-    (letters (drop (part_len cuts before used (codes_of cs)) cs))
-first-part cuts before used [] = refl
-first-part cuts before used (c ∷ cs) =
-    let next = part_len cuts c.code (used + width c.code) (codes_of cs) in
+pub first-part : (stop : ℕ → Bool) → EndsWords stop → (cuts : Cuts) (before used : ℕ) (cs : List Cell) →
+    letter_parts cuts before used (letters stop cs)
+    ≡ take (part_len stop cuts before used (codes_of cs)) cs
+    ∷ more_parts cuts (code_behind before (part_len stop cuts before used (codes_of cs)) (codes_of cs))
+    (letters stop (drop (part_len stop cuts before used (codes_of cs)) cs))
+first-part stop h cuts before used [] = refl
+first-part stop h cuts before used (c ∷ cs) =
+    let next = part_len stop cuts c.code (used + width c.code) (codes_of cs) in
     let test = cuts.hyphens && ((c.code == 45) && is_alphanumeric before && begins_word (codes_of cs)) in
-    let same : is_cut cuts.hyphens before c (letters cs) ≡ test =
-    ap (λ (v : Bool). cuts.hyphens && ((c.code == 45) && is_alphanumeric before && v)) (begins-letters cs) in
-    elim (is_space c.code) as (λ v. is_space c.code ≡ v → letter_parts cuts before used
-    (take (if v then 0 else suc (letters_len cs)) (c ∷ cs))
+    let same : is_cut cuts.hyphens before c (letters stop cs) ≡ test =
+    ap (λ (v : Bool). cuts.hyphens && ((c.code == 45) && is_alphanumeric before && v)) (begins-letters stop h cs) in
+    elim (stop c.code) as (λ v. stop c.code ≡ v → letter_parts cuts before used
+    (take (if v then 0 else suc (until_len stop cs)) (c ∷ cs))
     ≡ take (if v then 0 else if wide cuts.breaks cuts.narrow used c then 0 else if test then 1 else suc next) (c ∷ cs)
     ∷ more_parts cuts (code_behind before (if v then 0 else if wide cuts.breaks cuts.narrow used c then 0
     else if test then 1 else suc next) (c.code ∷ codes_of cs))
-    (letters (drop (if v then 0 else if wide cuts.breaks cuts.narrow used c then 0 else if test then 1 else suc next)
+    (letters stop (drop (if v then 0 else if wide cuts.breaks cuts.narrow used c then 0 else if test then 1 else suc next)
     (c ∷ cs)))) [
-      | true ↦ λ e. ap (λ (us : List Cell). [] ∷ more_parts cuts before us) (sym (letters-none c cs e))
+      | true ↦ λ e. ap (λ (us : List Cell). [] ∷ more_parts cuts before us) (sym (letters-none stop c cs e))
       | false ↦ λ e.
           elim (wide cuts.breaks cuts.narrow used c) as (λ v.
-          (if v then [] ∷ (if is_cut cuts.hyphens before c (letters cs) then (c ∷ [])
-          ∷ letter_parts cuts c.code 0 (letters cs) else onto c
-          (letter_parts cuts c.code (width c.code) (letters cs)))
-          else (if is_cut cuts.hyphens before c (letters cs) then (c ∷ []) ∷ letter_parts cuts c.code 0 (letters cs)
-          else onto c (letter_parts cuts c.code (used + width c.code) (letters cs))))
+          (if v then [] ∷ (if is_cut cuts.hyphens before c (letters stop cs) then (c ∷ [])
+          ∷ letter_parts cuts c.code 0 (letters stop cs) else onto c
+          (letter_parts cuts c.code (width c.code) (letters stop cs)))
+          else (if is_cut cuts.hyphens before c (letters stop cs) then (c ∷ []) ∷ letter_parts cuts c.code 0 (letters stop cs)
+          else onto c (letter_parts cuts c.code (used + width c.code) (letters stop cs))))
           ≡ take (if v then 0 else if test then 1 else suc next) (c ∷ cs)
           ∷ more_parts cuts (code_behind before (if v then 0 else if test then 1 else suc next) (c.code ∷ codes_of cs))
-          (letters (drop (if v then 0 else if test then 1 else suc next) (c ∷ cs)))) [
-            | true ↦ ap (λ (us : List (List Cell)). [] ∷ us) (parts-again cuts before c (letters cs))
-                ∙ ap (λ (us : List Cell). [] ∷ more_parts cuts before us) (sym (letters-more c cs e))
+          (letters stop (drop (if v then 0 else if test then 1 else suc next) (c ∷ cs)))) [
+            | true ↦ ap (λ (us : List (List Cell)). [] ∷ us) (parts-again cuts before c (letters stop cs))
+                ∙ ap (λ (us : List Cell). [] ∷ more_parts cuts before us) (sym (letters-more stop c cs e))
             | false ↦
-                ap (λ (v : Bool). if v then (c ∷ []) ∷ letter_parts cuts c.code 0 (letters cs)
-                else onto c (letter_parts cuts c.code (used + width c.code) (letters cs))) same
-                ∙ elim test as (λ v. test ≡ v → (if v then (c ∷ []) ∷ letter_parts cuts c.code 0 (letters cs)
-                else onto c (letter_parts cuts c.code (used + width c.code) (letters cs)))
+                ap (λ (v : Bool). if v then (c ∷ []) ∷ letter_parts cuts c.code 0 (letters stop cs)
+                else onto c (letter_parts cuts c.code (used + width c.code) (letters stop cs))) same
+                ∙ elim test as (λ v. test ≡ v → (if v then (c ∷ []) ∷ letter_parts cuts c.code 0 (letters stop cs)
+                else onto c (letter_parts cuts c.code (used + width c.code) (letters stop cs)))
                 ≡ take (if v then 1 else suc next) (c ∷ cs)
                 ∷ more_parts cuts (code_behind before (if v then 1 else suc next) (c.code ∷ codes_of cs))
-                (letters (drop (if v then 1 else suc next) (c ∷ cs)))) [
+                (letters stop (drop (if v then 1 else suc next) (c ∷ cs)))) [
                   | true ↦ λ t. ap (λ (us : List (List Cell)). (c ∷ []) ∷ us)
-                      (begun cuts c.code (letters cs) (begins-letters cs
+                      (begun cuts c.code (letters stop cs) (begins-letters stop h cs
                       ∙ and-last cuts.hyphens (c.code == 45) (is_alphanumeric before) (begins_word (codes_of cs)) t))
-                  | false ↦ λ t. ap (onto c) (first-part cuts c.code (used + width c.code) cs)
+                  | false ↦ λ t. ap (onto c) (first-part stop h cuts c.code (used + width c.code) cs)
                 ] refl
           ]
     ] refl
 
 -- it ends within the letters
-pub part-within : (cuts : Cuts) (before used : ℕ) (cs : List Cell) → letters_len cs
-    ≡ part_len cuts before used (codes_of cs) + letters_len (drop (part_len cuts before used (codes_of cs)) cs)
-part-within cuts before used [] = refl
-part-within cuts before used (c ∷ cs) =
-    let next = part_len cuts c.code (used + width c.code) (codes_of cs) in
+pub part-within : (stop : ℕ → Bool) (cuts : Cuts) (before used : ℕ) (cs : List Cell) → until_len stop cs
+    ≡ part_len stop cuts before used (codes_of cs) + until_len stop (drop (part_len stop cuts before used (codes_of cs)) cs)
+part-within stop cuts before used [] = refl
+part-within stop cuts before used (c ∷ cs) =
+    let next = part_len stop cuts c.code (used + width c.code) (codes_of cs) in
     let test = cuts.hyphens && ((c.code == 45) && is_alphanumeric before && begins_word (codes_of cs)) in
-    elim (is_space c.code) as (λ v. is_space c.code ≡ v → letters_len (c ∷ cs)
+    elim (stop c.code) as (λ v. stop c.code ≡ v → until_len stop (c ∷ cs)
     ≡ (if v then 0 else if wide cuts.breaks cuts.narrow used c then 0 else if test then 1 else suc next)
-    + letters_len (drop (if v then 0 else if wide cuts.breaks cuts.narrow used c then 0 else if test then 1
+    + until_len stop (drop (if v then 0 else if wide cuts.breaks cuts.narrow used c then 0 else if test then 1
     else suc next) (c ∷ cs))) [
       | true ↦ λ e. omega arith
       | false ↦ λ e.
-          let l : letters_len (c ∷ cs) ≡ suc (letters_len cs) =
-          ap (λ (v : Bool). if v then 0 else suc (letters_len cs)) e in
-          elim (wide cuts.breaks cuts.narrow used c) as (λ v. letters_len (c ∷ cs)
+          let l : until_len stop (c ∷ cs) ≡ suc (until_len stop cs) =
+          ap (λ (v : Bool). if v then 0 else suc (until_len stop cs)) e in
+          elim (wide cuts.breaks cuts.narrow used c) as (λ v. until_len stop (c ∷ cs)
           ≡ (if v then 0 else if test then 1 else suc next)
-          + letters_len (drop (if v then 0 else if test then 1 else suc next) (c ∷ cs))) [
+          + until_len stop (drop (if v then 0 else if test then 1 else suc next) (c ∷ cs))) [
             | true ↦ omega arith
-            | false ↦ elim test as (λ v. letters_len (c ∷ cs) ≡ (if v then 1 else suc next)
-                + letters_len (drop (if v then 1 else suc next) (c ∷ cs))) [
+            | false ↦ elim test as (λ v. until_len stop (c ∷ cs) ≡ (if v then 1 else suc next)
+                + until_len stop (drop (if v then 1 else suc next) (c ∷ cs))) [
                   | true ↦ omega arith
-                  | false ↦ omega (arith, part-within cuts c.code (used + width c.code) cs)
+                  | false ↦ omega (arith, part-within stop cuts c.code (used + width c.code) cs)
                 ]
           ]
     ] refl
 
 -- ---- the first word
+
+no_letter : EndsWords is_space
+no_letter c e = grind (arith, nat_tests)
 
 pub gap-is : (cs : List Cell) → gap_len (codes_of cs) ≡ spaces_len cs
 gap-is [] = refl
@@ -297,7 +307,7 @@ none-behind true (c ∷ cs) = refl
 none-behind false cs = refl
 
 pub behind-space : (cuts : Cuts) (cs : List Cell) → words_behind cuts 32 cs ≡ words_behind cuts 0 cs
-behind-space cuts cs = elim (words cs) as (λ ws. (elim ws as (λ _. List Word) [
+behind-space cuts cs = elim (spaced_words cs) as (λ ws. (elim ws as (λ _. List Word) [
   | [] ↦ []
   | w ∷ ws ↦ with_spaces w.spaces (flat_map (narrow_parts cuts) (hyphenated_behind cuts 32 w.letters))
       ++ flat_map (parts cuts) ws
@@ -311,8 +321,8 @@ behind-space cuts cs = elim (words cs) as (λ ws. (elim ws as (λ _. List Word) 
       (none-behind cuts.hyphens w.letters)
 ]
 
-pub words-alone : (cuts : Cuts) (cs : List Cell) → words_behind cuts 0 cs ≡ cut_words cuts cs
-words-alone cuts cs = elim (words cs) as (λ ws. (elim ws as (λ _. List Word) [
+pub words-alone : (cuts : Cuts) (cs : List Cell) → words_behind cuts 0 cs ≡ flat_map (parts cuts) (spaced_words cs)
+words-alone cuts cs = elim (spaced_words cs) as (λ ws. (elim ws as (λ _. List Word) [
   | [] ↦ []
   | w ∷ ws ↦ with_spaces w.spaces (flat_map (narrow_parts cuts) (hyphenated_behind cuts 0 w.letters))
       ++ flat_map (parts cuts) ws
@@ -321,30 +331,30 @@ words-alone cuts cs = elim (words cs) as (λ ws. (elim ws as (λ _. List Word) [
 -- the parts of a word's letters, and the words behind it
 abbrev from_parts : Cuts → List (List Cell) → List Cell → List Word
 from_parts cuts ps behind = with_spaces (take (spaces_len behind) behind) ps
-    ++ flat_map (parts cuts) (words (drop (spaces_len behind) behind))
+    ++ flat_map (parts cuts) (spaced_words (drop (spaces_len behind) behind))
 
 words-split : (cuts : Cuts) (before : ℕ) (c : Cell) (cs : List Cell) → words_behind cuts before (c ∷ cs)
-    ≡ from_parts cuts (letter_parts cuts before 0 (letters (c ∷ cs))) (drop (letters_len (c ∷ cs)) (c ∷ cs))
+    ≡ from_parts cuts (letter_parts cuts before 0 (letters is_space (c ∷ cs))) (drop (letters_len (c ∷ cs)) (c ∷ cs))
 words-split cuts before c cs =
     ap (λ (ws : List Word). elim ws as (λ _. List Word) [
       | [] ↦ []
       | w ∷ ws ↦ with_spaces w.spaces (flat_map (narrow_parts cuts) (hyphenated_behind cuts before w.letters))
           ++ flat_map (parts cuts) ws
     ]) (words-first c cs)
-    ∙ ap (λ ps. from_parts cuts ps (drop (letters_len (c ∷ cs)) (c ∷ cs))) (word-parts cuts before (letters (c ∷ cs)))
+    ∙ ap (λ ps. from_parts cuts ps (drop (letters_len (c ∷ cs)) (c ∷ cs))) (word-parts cuts before (letters is_space (c ∷ cs)))
 
-with_spaces-more : (spaces p : List Cell) (ps : List (List Cell)) → 0 < length ps → with_spaces spaces (p ∷ ps)
+pub with_spaces-more : (spaces p : List Cell) (ps : List (List Cell)) → 0 < length ps → with_spaces spaces (p ∷ ps)
     ≡ record { letters = p; spaces = [] } ∷ with_spaces spaces ps
 with_spaces-more spaces p [] h = absurd (omega arith)
 with_spaces-more spaces p (q ∷ qs) h = refl
 
 next-part : (cuts : Cuts) (before after : ℕ) (p cs : List Cell) → (0 < spaces_len cs → after ≡ 32)
     → (spaces_len cs ≡ 0 → after ≡ before) →
-    from_parts cuts (p ∷ more_parts cuts before (letters cs)) (drop (letters_len cs) cs)
+    from_parts cuts (p ∷ more_parts cuts before (letters is_space cs)) (drop (letters_len cs) cs)
     ≡ record { letters = p; spaces = take (spaces_len cs) cs } ∷ words_behind cuts after (drop (spaces_len cs) cs)
 next-part cuts before after p [] f g = refl
 next-part cuts before after p (c ∷ cs) f g = elim (is_space c.code) as (λ v. is_space c.code ≡ v →
-    from_parts cuts (p ∷ more_parts cuts before (letters (c ∷ cs))) (drop (letters_len (c ∷ cs)) (c ∷ cs))
+    from_parts cuts (p ∷ more_parts cuts before (letters is_space (c ∷ cs))) (drop (letters_len (c ∷ cs)) (c ∷ cs))
     ≡ record { letters = p; spaces = take (spaces_len (c ∷ cs)) (c ∷ cs) }
     ∷ words_behind cuts after (drop (spaces_len (c ∷ cs)) (c ∷ cs))) [
       | true ↦ λ e.
@@ -359,11 +369,11 @@ next-part cuts before after p (c ∷ cs) f g = elim (is_space c.code) as (λ v. 
       | false ↦ λ e.
           let behind = drop (letters_len (c ∷ cs)) (c ∷ cs) in
           let m : spaces_len (c ∷ cs) ≡ 0 = ap (λ (v : Bool). if v then suc (spaces_len cs) else 0) e in
-          let l : letters (c ∷ cs) ≡ c ∷ letters cs = letters-more c cs e in
+          let l : letters is_space (c ∷ cs) ≡ c ∷ letters is_space cs = letters-more is_space c cs e in
           ap (λ us. from_parts cuts (p ∷ more_parts cuts before us) behind) l
-          ∙ ap (λ us. us ++ flat_map (parts cuts) (words (drop (spaces_len behind) behind)))
-          (with_spaces-more (take (spaces_len behind) behind) p (letter_parts cuts before 0 (c ∷ letters cs))
-          (parts-some cuts before 0 (c ∷ letters cs)))
+          ∙ ap (λ us. us ++ flat_map (parts cuts) (spaced_words (drop (spaces_len behind) behind)))
+          (with_spaces-more (take (spaces_len behind) behind) p (letter_parts cuts before 0 (c ∷ letters is_space cs))
+          (parts-some cuts before 0 (c ∷ letters is_space cs)))
           ∙ ap (λ us. record { letters = p; spaces = [] } ∷ from_parts cuts (letter_parts cuts before 0 us) behind)
           (sym l)
           ∙ ap (λ ws. record { letters = p; spaces = [] } ∷ ws)
@@ -405,16 +415,16 @@ drop-codes n cs = drop-map (λ (c : Cell). c.code) n cs
 
 -- The first word of what stands behind a code, where something does.
 pub words-next : (cuts : Cuts) (before n m : ℕ) (cs : List Cell) → 0 < length cs → n
-    ≡ part_len cuts before 0 (codes_of cs) → m ≡ gap_len (drop n (codes_of cs)) →
+    ≡ part_len is_space cuts before 0 (codes_of cs) → m ≡ gap_len (drop n (codes_of cs)) →
     words_behind cuts before cs ≡ record { letters = take n cs; spaces = take m (drop n cs) }
     ∷ words_behind cuts (code_behind before (n + m) (codes_of cs)) (drop (n + m) cs)
 words-next cuts before n m [] l p q = absurd (omega arith)
 words-next cuts before n m (c ∷ cs) l p q =
     let all = c ∷ cs in
-    let k = part_len cuts before 0 (codes_of all) in
+    let k = part_len is_space cuts before 0 (codes_of all) in
     let last = code_behind before n (codes_of all) in
     let s : m ≡ spaces_len (drop n all) = q ∙ ap gap_len (drop-codes n all) ∙ gap-is (drop n all) in
-    let a : letters_len all ≡ n + letters_len (drop n all) = ap (λ n. letters_len all) p ∙ part-within cuts before 0 all
+    let a : letters_len all ≡ n + letters_len (drop n all) = ap (λ n. letters_len all) p ∙ part-within is_space cuts before 0 all
     ∙ ap (λ k. k + letters_len (drop k all)) (sym p) in
     let after = code_behind before (n + m) (codes_of all) in
     let e : after ≡ code_behind last m (drop n (codes_of all)) = behind-add before n m (codes_of all) in
@@ -424,9 +434,9 @@ words-next cuts before n m (c ∷ cs) l p q =
     ∙ ap (λ k. code_behind last k (drop n (codes_of all))) (s ∙ h) in
     words-split cuts before c cs
     ∙ ap (λ ps. from_parts cuts ps (drop (letters_len all) all))
-    (first-part cuts before 0 all ∙ ap (λ k. take k all ∷ more_parts cuts (code_behind before k (codes_of all))
-    (letters (drop k all))) (sym p))
-    ∙ ap (from_parts cuts (take n all ∷ more_parts cuts last (letters (drop n all))))
+    (first-part is_space no_letter cuts before 0 all ∙ ap (λ k. take k all ∷ more_parts cuts (code_behind before k (codes_of all))
+    (letters is_space (drop k all))) (sym p))
+    ∙ ap (from_parts cuts (take n all ∷ more_parts cuts last (letters is_space (drop n all))))
     (ap (λ k. drop k all) a ∙ sym (drop-drop (letters_len (drop n all)) n all))
     ∙ next-part cuts last after (take n all) (drop n all) f g
     ∙ ap (λ k. record { letters = take n all; spaces = take k (drop n all) }
@@ -436,19 +446,19 @@ words-next cuts before n m (c ∷ cs) l p q =
 
 -- ---- something is taken
 
-never_wide : (b v : Bool) → (b && (nat_lt 0 0 && v)) ≡ false
+pub never_wide : (b v : Bool) → (b && (nat_lt 0 0 && v)) ≡ false
 never_wide true v = refl
 never_wide false v = refl
 
-one_or : (t : Bool) (n : ℕ) → 0 < (if t then 1 else suc n)
+pub one_or : (t : Bool) (n : ℕ) → 0 < (if t then 1 else suc n)
 one_or true n = omega arith
 one_or false n = omega arith
 
-pub part-some : (cuts : Cuts) (before : ℕ) (cs : List ℕ) → 0 < length cs → 0 < part_len cuts before 0 cs
-    + gap_len (drop (part_len cuts before 0 cs) cs)
+pub part-some : (cuts : Cuts) (before : ℕ) (cs : List ℕ) → 0 < length cs → 0 < part_len is_space cuts before 0 cs
+    + gap_len (drop (part_len is_space cuts before 0 cs) cs)
 part-some cuts before [] l = absurd (omega arith)
 part-some cuts before (c ∷ cs) l =
-    let next = part_len cuts c (0 + width c) cs in
+    let next = part_len is_space cuts c (0 + width c) cs in
     let test = cuts.hyphens && ((c == 45) && is_alphanumeric before && begins_word cs) in
     let never : (cuts.breaks && (nat_lt 0 0 && nat_lt cuts.narrow (0 + width c))) ≡ false =
     never_wide cuts.breaks (nat_lt cuts.narrow (0 + width c)) in

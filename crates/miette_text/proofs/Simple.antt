@@ -19,6 +19,7 @@ plan_under p first further = record {
   further = further;
   breaks = p.breaks;
   wraps = p.wraps;
+  separator = p.separator;
   hyphens = p.hyphens;
 }
 

@@ -10,8 +10,10 @@ use Rattle.miette_text.specs.laws.Tame.{State, Free, Escaped, Opened, Waiting, B
 use Rattle.miette_runs.specs.rules.Colours.{is_colour, is_link}
 use Rattle.miette_basics.specs.rules.Lists.{is_nil, onto}
 use Rattle.miette_text.specs.rules.Wrapping.{TextLine, Word, Cuts, Plan, on_first, with_tag, with_code, no_characters}
-use Rattle.miette_text.specs.rules.Wrapping.{text_lines, cell_tokens, columns, is_space, with_letter, with_space, words}
+use Rattle.miette_text.specs.rules.Wrapping.{text_lines, cell_tokens, columns, is_space, words, pieces, word_of}
 use Rattle.miette_text.specs.rules.Wrapping.{is_alphanumeric, begins_alphanumeric, hyphen_parts, broken_parts}
+use Rattle.miette_text.specs.rules.Wrapping.{ends_word, in_front}
+use Rattle.miette_text.specs.declared.wrap.WordSeparator.{WordSeparator}
 use Rattle.miette_text.specs.rules.Wrapping.{with_spaces, first_room, further_room, cuts_of, hyphenated_parts}
 use Rattle.miette_text.specs.rules.Wrapping.{narrow_parts, parts, cut_words, word_cells, rows_behind, rows, only_spaces}
 use Rattle.miette_text.specs.rules.Wrapping.{trimmed_row, row_tokens, with_rest, text_line_rows, text_rows, line_feed}
@@ -351,26 +353,38 @@ onto_some : {A : Type 0} (x : A) (ps : List (List A)) → is_nil (onto x ps) ≡
 onto_some x [] = refl
 onto_some x (p ∷ ps) = refl
 
-with_space-flat : (c : Cell) (ws : List Word) → flat_map word_cells (with_space c ws) ≡ c ∷ flat_map word_cells ws
-with_space-flat c [] = refl
-with_space-flat c (w ∷ ws) = elim w.letters as (λ ls. flat_map word_cells
-    (with_space c (record { letters = ls; spaces = w.spaces } ∷ ws)) ≡ c
-    ∷ flat_map word_cells (record { letters = ls; spaces = w.spaces } ∷ ws)) [
-      | [] ↦ refl
-      | l ∷ ls ↦ refl
+pieces-flat : (separator : WordSeparator) (before : List ℕ) (cs : List Cell) → flat (pieces separator before cs) ≡ cs
+pieces-flat separator before [] = refl
+pieces-flat separator before (c ∷ cs) = elim (ends_word separator (c.code ∷ before) cs) as (λ b. flat
+    (if b then (c ∷ []) ∷ pieces separator (c.code ∷ before) cs else onto c (pieces separator (c.code ∷ before) cs))
+    ≡ c ∷ cs) [
+      | true ↦ ap (λ xs. c ∷ xs) (pieces-flat separator (c.code ∷ before) cs)
+      | false ↦ flat-onto c (pieces separator (c.code ∷ before) cs)
+          ∙ ap (λ xs. c ∷ xs) (pieces-flat separator (c.code ∷ before) cs)
     ]
 
-with_letter-flat : (c : Cell) (ws : List Word) → flat_map word_cells (with_letter c ws) ≡ c ∷ flat_map word_cells ws
-with_letter-flat c [] = refl
-with_letter-flat c (w ∷ ws) = refl
-
-pub words-flat : (cs : List Cell) → flat_map word_cells (words cs) ≡ cs
-words-flat [] = refl
-words-flat (c ∷ cs) = elim (is_space c.code) as (λ b. flat_map word_cells
-    (if b then with_space c (words cs) else with_letter c (words cs)) ≡ c ∷ cs) [
-      | true ↦ with_space-flat c (words cs) ∙ ap (λ xs. c ∷ xs) (words-flat cs)
-      | false ↦ with_letter-flat c (words cs) ∙ ap (λ xs. c ∷ xs) (words-flat cs)
+in_front-cells : (c : Cell) (w : Word) → word_cells (in_front c w) ≡ c ∷ word_cells w
+in_front-cells c w = elim w.letters as (λ ls. word_cells (if is_space c.code && is_nil ls
+    then record { letters = []; spaces = c ∷ w.spaces } else record { letters = c ∷ ls; spaces = w.spaces })
+    ≡ c ∷ (ls ++ w.spaces)) [
+      | [] ↦ elim (is_space c.code) as (λ b. word_cells (if b && true
+          then record { letters = []; spaces = c ∷ w.spaces } else record { letters = c ∷ []; spaces = w.spaces })
+          ≡ c ∷ w.spaces) [ true ↦ refl | false ↦ refl ]
+      | l ∷ ls ↦ elim (is_space c.code) as (λ b. word_cells (if b && false
+          then record { letters = []; spaces = c ∷ w.spaces } else record { letters = c ∷ l ∷ ls; spaces = w.spaces })
+          ≡ c ∷ ((l ∷ ls) ++ w.spaces)) [ true ↦ refl | false ↦ refl ]
     ]
+
+word-cells : (cs : List Cell) → word_cells (word_of cs) ≡ cs
+word-cells [] = refl
+word-cells (c ∷ cs) = in_front-cells c (word_of cs) ∙ ap (λ xs. c ∷ xs) (word-cells cs)
+
+words_of-flat : (ps : List (List Cell)) → flat_map word_cells (map word_of ps) ≡ flat ps
+words_of-flat [] = refl
+words_of-flat (p ∷ ps) = ap₂ (λ us vs. us ++ vs) (word-cells p) (words_of-flat ps)
+
+pub words-flat : (separator : WordSeparator) (cs : List Cell) → flat_map word_cells (words separator cs) ≡ cs
+words-flat separator cs = words_of-flat (pieces separator [] cs) ∙ pieces-flat separator [] cs
 
 pub hyphen_parts-flat : (before : ℕ) (cs : List Cell) → flat (hyphen_parts before cs) ≡ cs
 hyphen_parts-flat before [] = refl
@@ -429,7 +443,7 @@ all_parts-flat cuts (w ∷ ws) = flat_map-append word_cells (parts cuts w) (flat
     ∙ ap₂ (λ us vs. us ++ vs) (parts-flat cuts w) (all_parts-flat cuts ws)
 
 pub cut_words-flat : (cuts : Cuts) (cs : List Cell) → flat_map word_cells (cut_words cuts cs) ≡ cs
-cut_words-flat cuts cs = all_parts-flat cuts (words cs) ∙ words-flat cs
+cut_words-flat cuts cs = all_parts-flat cuts (words cuts.separator cs) ∙ words-flat cuts.separator cs
 
 rows_some : (room further : ℕ) (ws : List Word) → is_nil (rows room further ws) ≡ false
 rows_some room further [] = refl

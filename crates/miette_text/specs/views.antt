@@ -1,2 +1,4 @@
 -- What the code's values stand for.
 pub mod Plans
+pub mod Cutting
+pub mod Breaks

@@ -10,8 +10,9 @@
 //! |---|---|
 //! | a text is read as runs, its escape sequences as signs | `read_text`, `reread` (`reading.rt` of `miette_runs`) |
 //! | lines are parted at line feeds | `line_len` (`lines.rt`) |
-//! | the part at the front: a word, or what is cut from one | `first_part` (`ends.rt`) |
-//! | the spaces behind it | `gap_len` (`ends.rt`) |
+//! | the part at the front, with the spaces behind it: of words that end at spaces | `Spaced` (`ends.rt`) |
+//! | of words that lie between the places at which a line may be broken | `Broken` (`breaks.rt`) |
+//! | the part's letters: a word's, or what is cut from them | `first_part` (`ends.rt`) |
 //! | how many characters a row takes: parts, each with the spaces behind it | `row_len` (`ends.rt`) |
 //! | rows are printed with the signs that stand in them | `push_filled` (`lines.rt`) |
 //! | lines that aren't wrapped are printed whole | `push_whole` (`whole.rt`) |
@@ -25,13 +26,15 @@ ghost use Rattle.miette_text.specs.rules.ColouredTexts.{AppendsErasing, AreColou
 ghost use Rattle.miette_text.specs.rules.Wrapping.{filled_text, wrapped_text, wrapped_tokens};
 ghost use Rattle.miette_text.specs.views.Plans.{cuts_hyphens, options_plan, printed_plan, runs_plan};
 
+mod breaks;
 mod ends;
 pub mod fitting;
 pub mod laws;
 mod lines;
 mod whole;
 
-use crate::wrap::ends::Cuts;
+use crate::wrap::breaks::Broken;
+use crate::wrap::ends::{Cuts, Spaced};
 use crate::wrap::lines::{Under, push_filled};
 use crate::wrap::whole::push_whole;
 use miette_runs::runs::Runs;
@@ -48,6 +51,8 @@ use std::alloc::{AllocError, Global};
 pub enum WordSeparator {
     /// Behind each run of spaces (U+0020).
     AsciiSpace,
+    /// Where a line may be broken by the rules of Unicode, but not behind `-` and the soft hyphen.
+    UnicodeBreakProperties,
 }
 
 /// Where words may be cut.
@@ -83,6 +88,8 @@ pub struct WrapOptions<'a> {
 pub struct Plan<'a> {
     /// Whether rows are filled; without, each line stays whole under its indent.
     pub wraps: bool,
+    /// How words are told apart.
+    pub separator: WordSeparator,
     /// Whether words are cut behind hyphens.
     pub hyphens: bool,
     /// Whether words that are too wide are cut.
@@ -117,8 +124,16 @@ fn push_filled_under<S: Sink>(out: &mut S, plan: Plan<'_>, text: &Runs) -> Resul
         further_room,
     };
     push_all(out, first)?;
-    push_filled(out, cuts, under, text.parts())?;
-    Ok(())
+    match plan.separator {
+        WordSeparator::AsciiSpace => {
+            push_filled::<S, Spaced>(out, cuts, under, text.parts())?;
+            Ok(())
+        }
+        WordSeparator::UnicodeBreakProperties => {
+            push_filled::<S, Broken>(out, cuts, under, text.parts())?;
+            Ok(())
+        }
+    }
 }
 
 // Runs, wrapped, each sign as it is.
@@ -200,6 +215,7 @@ fn wrapped_text(alloc: Global, options: &WrapOptions<'_>, text: &str) -> Result<
     let hyphens = cuts_hyphens(options.splitter);
     let plan = Plan {
         wraps: options.wrap_lines,
+        separator: options.separator,
         hyphens,
         breaks: options.break_words,
         width: options.width,

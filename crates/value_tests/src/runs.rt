@@ -7,7 +7,7 @@ use miette_text::runs::Runs;
 use miette_text::runs::output::Output;
 use miette_text::runs::reading::{print, read_text};
 use miette_text::wrap::cutting::{without_leading, without_trailing};
-use miette_text::wrap::{Plan, wrap};
+use miette_text::wrap::{Plan, WordSeparator, wrap};
 use std::alloc::{AllocError, Global};
 
 fn wrap_text(alloc: Global, text: &str, width: usize) -> Result<String, AllocError> {
@@ -26,6 +26,7 @@ fn wrap_plainly(
     let none = Runs::new(alloc);
     let plan = Plan {
         wraps: true,
+        separator: WordSeparator::AsciiSpace,
         hyphens: true,
         breaks: true,
         width,

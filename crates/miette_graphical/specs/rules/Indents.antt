@@ -25,6 +25,7 @@ wrapped_behind s first further text =
       further = further;
       breaks = s.wrapping.break_words;
       wraps = s.wrapping.wrap_lines;
+      separator = s.wrapping.word_separator;
       hyphens = cuts_hyphens s.wrapping.word_splitter;
     }) text
 

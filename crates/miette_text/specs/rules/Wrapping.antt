@@ -1,10 +1,14 @@
 -- How a text is wrapped: what stands in each row.
-use Rattle.std.specs.Prelude.{ℕ, ◌+◌, ◌-◌, min, Bool, true, false, ◌&&◌, ◌||◌, ◌==◌, nat_lt, nat_le, if◌then◌else◌}
-use Rattle.std.specs.Prelude.{List, [], ◌∷◌, ◌++◌, map, flat_map, sum_by}
+use Rattle.std.specs.Prelude.{ℕ, ◌+◌, ◌-◌, min, Bool, true, false, not, ◌&&◌, ◌||◌, ◌==◌, nat_lt, nat_le}
+use Rattle.std.specs.Prelude.{if◌then◌else◌, List, [], ◌∷◌, ◌++◌, map, flat_map, sum_by}
 use Rattle.std.specs.Char.{is_whitespace}
+use Rattle.std.specs.Option.{is_some}
+use Rattle.miette_line_breaks.specs.rules.Rules.{break_before}
 use Rattle.miette_runs.specs.rules.Sequences.{Token, Character, Sequence, tokens, spell, is_line_feed}
 use Rattle.miette_runs.specs.rules.Cells.{Cell, width, columns_of}
-use Rattle.miette_basics.specs.rules.Lists.{onto}
+use Rattle.miette_basics.specs.rules.Lists.{is_nil, onto}
+use Rattle.miette_text.specs.declared.wrap.WordSeparator.{WordSeparator}
+use Rattle.miette_text.specs.declared.wrap.WordSeparator.TheVariants.{AsciiSpace, UnicodeBreakProperties}
 
 -- ---- characters with their sequences, and lines
 
@@ -54,22 +58,42 @@ pub record Word : Type 0 where
   pub letters : List Cell
   pub spaces : List Cell
 
--- A letter in front makes the first word longer; a space in front makes its spaces longer where it has no letter yet.
-abbrev pub with_letter : Cell → List Word → List Word
-with_letter c [] = record { letters = c ∷ []; spaces = [] } ∷ []
-with_letter c (w ∷ ws) = record { letters = c ∷ w.letters; spaces = w.spaces } ∷ ws
+-- `-` and the soft hyphen
+abbrev pub is_hyphen : ℕ → Bool
+is_hyphen c = (c == 45) || (c == 173)
 
-abbrev pub with_space : Cell → List Word → List Word
-with_space c [] = record { letters = []; spaces = c ∷ [] } ∷ []
-with_space c (w ∷ ws) = elim w.letters [
-  | [] ↦ record { letters = []; spaces = c ∷ w.spaces } ∷ ws
-  | letter ∷ letters ↦ record { letters = []; spaces = c ∷ [] } ∷ w ∷ ws
-]
+-- Whether a word begins with a code that stands behind these, nearest first. By spaces: where a space is before it, and
+-- it is none. By Unicode: where a line may or must be broken, but not behind a hyphen.
+abbrev pub starts_word : WordSeparator → List ℕ → ℕ → Bool
+starts_word separator [] c = false
+starts_word AsciiSpace (b ∷ bs) c = is_space b && not (is_space c)
+starts_word UnicodeBreakProperties (b ∷ bs) c = not (is_hyphen b) && is_some (break_before (b ∷ bs) c)
 
--- The line is cut behind each run of spaces.
-abbrev pub words : List Cell → List Word
-words [] = []
-words (c ∷ cs) = if is_space c.code then with_space c (words cs) else with_letter c (words cs)
+abbrev pub ends_word : WordSeparator → List ℕ → List Cell → Bool
+ends_word separator before [] = false
+ends_word separator before (c ∷ cs) = starts_word separator before c.code
+
+-- What stands behind these codes is cut before each character that begins a word.
+abbrev pub pieces : WordSeparator → List ℕ → List Cell → List (List Cell)
+pieces separator before [] = []
+pieces separator before (c ∷ cs) =
+    if ends_word separator (c.code ∷ before) cs then (c ∷ []) ∷ pieces separator (c.code ∷ before) cs
+    else onto c (pieces separator (c.code ∷ before) cs)
+
+-- one more in front, which is one of its spaces where it has no letter
+abbrev pub in_front : Cell → Word → Word
+in_front c w =
+    if is_space c.code && is_nil w.letters then record { letters = []; spaces = c ∷ w.spaces }
+    else record { letters = c ∷ w.letters; spaces = w.spaces }
+
+-- The last spaces stand behind the word.
+abbrev pub word_of : List Cell → Word
+word_of [] = record { letters = []; spaces = [] }
+word_of (c ∷ cs) = in_front c (word_of cs)
+
+-- the words of a line
+abbrev pub words : WordSeparator → List Cell → List Word
+words separator cells = map word_of (pieces separator [] cells)
 
 abbrev pub is_alphanumeric : ℕ → Bool
 is_alphanumeric c = (nat_le 48 c && nat_le c 57) || (nat_le 65 c && nat_le c 90) || (nat_le 97 c && nat_le c 122)
@@ -101,8 +125,9 @@ with_spaces spaces (p ∷ ps) = elim ps [
   | q ∷ qs ↦ record { letters = p; spaces = [] } ∷ with_spaces spaces ps
 ]
 
--- How words are cut: behind hyphens, and where they are wider than so many columns.
+-- How words are told apart, and how they are cut: behind hyphens, and where they are wider than so many columns.
 pub record Cuts : Type 0 where
+  pub separator : WordSeparator
   pub hyphens : Bool
   pub breaks : Bool
   pub narrow : ℕ
@@ -117,7 +142,7 @@ abbrev pub parts : Cuts → Word → List Word
 parts c w = with_spaces w.spaces (flat_map (narrow_parts c) (hyphenated_parts c w.letters))
 
 abbrev pub cut_words : Cuts → List Cell → List Word
-cut_words c cells = flat_map (parts c) (words cells)
+cut_words c cells = flat_map (parts c) (words c.separator cells)
 
 -- ---- rows
 
@@ -209,6 +234,7 @@ pub record Plan (Indent : Type 0) : Type 0 where
   pub further : Indent
   pub breaks : Bool
   pub wraps : Bool
+  pub separator : WordSeparator
   pub hyphens : Bool
 
 abbrev pub map_indents : {A B : Type 0} → (A → B) → Plan A → Plan B
@@ -218,6 +244,7 @@ map_indents f p = record {
   further = f p.further;
   breaks = p.breaks;
   wraps = p.wraps;
+  separator = p.separator;
   hyphens = p.hyphens;
 }
 
@@ -230,7 +257,12 @@ further_room p = p.room - columns_of p.further
 
 -- No part of a word is wider than the narrower row.
 abbrev pub cuts_of : Plan (List Token) → Cuts
-cuts_of p = record { hyphens = p.hyphens; breaks = p.breaks; narrow = min (first_room p) (further_room p) }
+cuts_of p = record {
+  separator = p.separator;
+  hyphens = p.hyphens;
+  breaks = p.breaks;
+  narrow = min (first_room p) (further_room p);
+}
 
 abbrev pub filled_text : Plan (List Token) → List Token → List Token
 filled_text p ts = joined_rows p.first p.further (text_rows (cuts_of p) (first_room p) (further_room p) (text_lines ts))

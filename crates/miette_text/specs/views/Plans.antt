@@ -18,6 +18,7 @@ options_plan o = record {
   further = chars o.further_indent.now;
   breaks = o.break_words;
   wraps = o.wrap_lines;
+  separator = o.separator;
   hyphens = cuts_hyphens o.splitter;
 }
 
@@ -29,6 +30,7 @@ runs_plan p = record {
   further = p.further.now;
   breaks = p.breaks;
   wraps = p.wraps;
+  separator = p.separator;
   hyphens = p.hyphens;
 }
 

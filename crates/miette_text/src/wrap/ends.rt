@@ -1,14 +1,19 @@
 //! Where parts of words end, and rows.
 
-ghost use Rattle.std.specs.Prelude.{◌≡◌, ◌≤◌, ◌<◌, ◌==◌, ◌&&◌, IfOk, length, take};
-ghost use Rattle.miette_text.specs.steps.Ends.{IsFirstRow, begins_word, gap_len, part_len};
-ghost use Rattle.miette_runs.specs.steps.Cells.{code_columns};
-ghost use Rattle.miette_text.specs.rules.Wrapping.{is_alphanumeric};
+ghost use Rattle.std.specs.Prelude.{◌≡◌, ◌≤◌, ◌<◌, ◌+◌, ◌==◌, ◌&&◌, ℕ, Bool, List, [], IfOk, drop, length, refl, take};
+ghost use Rattle.miette_text.specs.declared.wrap.WordSeparator.{WordSeparator};
+ghost use Rattle.miette_text.specs.declared.wrap.WordSeparator.TheVariants.{AsciiSpace};
+ghost use Rattle.miette_text.specs.steps.Ends.{IsFirstRow, IsPart, bare_len, begins_word, gap_len, part_len};
+ghost use Rattle.miette_text.specs.steps.Ends.{words_behind};
+ghost use Rattle.miette_text.specs.views.Cutting.{word_cuts};
+ghost use Rattle.miette_runs.specs.rules.Cells.{Cell};
+ghost use Rattle.miette_runs.specs.steps.Cells.{code_columns, plain_cells};
+ghost use Rattle.miette_text.specs.rules.Wrapping as rules;
+ghost use Rattle.miette_text.specs.rules.Wrapping.{Word, cut_words, is_alphanumeric, is_space};
 
 use miette_basics::sums::sum;
 use miette_runs::runs::columns::char_columns;
 use std::alloc::AllocError;
-use std::marker::Model;
 
 /// How words are cut: behind hyphens, and where they are wider than the narrower of the rows.
 #[derive(Clone, Copy)]
@@ -18,21 +23,61 @@ pub(crate) struct Cuts {
     pub(crate) narrow: usize,
 }
 
-impl Model for Cuts {
-    ghost use Rattle.miette_text.specs.rules.Wrapping as rules;
-
-    ghost Value = { rules.Cuts };
-
-    ghost view = { λ it. record { hyphens = it.hyphens; breaks = it.breaks; narrow = it.narrow } };
-
-    ghost inverse = { λ cuts. record { hyphens = cuts.hyphens; breaks = cuts.breaks; narrow = cuts.narrow } };
+/// The first letters of a word: how many there are, and how many columns they take.
+#[derive(Clone, Copy)]
+pub(crate) struct Letters {
+    pub(crate) len: usize,
+    pub(crate) columns: usize,
 }
 
-/// The first part of a word: how many letters it has, and how many columns they take.
+/// A part of a word: its letters, and how many spaces stand behind them.
 #[derive(Clone, Copy)]
-struct Part {
-    len: usize,
-    columns: usize,
+pub(crate) struct Part {
+    pub(crate) letters: Letters,
+    pub(crate) spaces: usize,
+}
+
+/// Which codes end each word.
+pub(crate) trait Stop {
+    ghost stop: { ℕ → Bool };
+
+    fn is_stop(code: char) -> bool
+        ensures { result ≡ stop code };
+}
+
+/// The words of a line, part by part from the front.
+pub(crate) trait Words: Copy {
+    /// How they are told apart.
+    ghost separator: { WordSeparator };
+
+    /// The parts of what is left of a line, where it has these cells.
+    ghost left: { Self → rules.Cuts → List Cell → List Word };
+
+    /// Whether what is left of a line has these codes.
+    ghost fits: { Self → List ℕ → Type 0 };
+
+    /// All words of a line.
+    fn start() -> Self
+        ensures left { (cuts : rules.Cuts) (cells : List Cell) → cuts.separator ≡ separator →
+            left result cuts cells ≡ cut_words cuts cells }
+        ensures fits { (codes : List ℕ) → fits result codes };
+
+    /// The part at the front, and the words behind it.
+    fn part(self, cuts: Cuts, codes: &[char]) -> Result<(Part, Self), AllocError>
+        requires fits { fits self codes.now }
+        requires some { 0 < length codes.now }
+        ensures is { IfOk result (λ (p, behind). IsPart (left self (word_cuts separator cuts))
+            (left behind (word_cuts separator cuts)) codes.now p.letters.len p.spaces) }
+        ensures columns { IfOk result (λ (p, behind). p.letters.columns
+            ≡ code_columns (take p.letters.len codes.now)) }
+        ensures gap { IfOk result (λ (p, behind). code_columns (take p.spaces (drop p.letters.len codes.now))
+            ≡ p.spaces) }
+        ensures some { IfOk result (λ (p, behind). 0 < p.letters.len + p.spaces) }
+        ensures within { IfOk result (λ (p, behind). p.letters.len + p.spaces ≤ length codes.now) }
+        ensures fits { IfOk result (λ (p, behind). fits behind (drop (p.letters.len + p.spaces) codes.now)) };
+
+    /// Where nothing is left, it has no part.
+    ghost nothing: { (it : Self) (cuts : rules.Cuts) → left it cuts [] ≡ [] };
 }
 
 fn is_alphanumeric(c: char) -> bool
@@ -53,9 +98,14 @@ fn is_cut(hyphens: bool, before: char, code: char, codes: &[char]) -> bool
     }
 }
 
-// The part at the front.
-fn first_part(cuts: Cuts, first: char, codes: &[char]) -> Result<Part, AllocError>
-    ensures len { IfOk result (λ p. p.len ≡ part_len cuts first 0 codes.now) }
+/// The letters of the part at the front, behind a code.
+pub(crate) fn first_part<T: Stop>(
+    cuts: Cuts,
+    first: char,
+    codes: &[char],
+) -> Result<Letters, AllocError>
+    ensures len { IfOk result (λ p. (separator : WordSeparator) →
+        p.len ≡ part_len T.stop (word_cuts separator cuts) first 0 codes.now) }
     ensures columns { IfOk result (λ p. p.columns ≡ code_columns (take p.len codes.now)) }
     ensures within { IfOk result (λ p. p.len ≤ length codes.now) }
 {
@@ -68,29 +118,29 @@ fn first_part(cuts: Cuts, first: char, codes: &[char]) -> Result<Part, AllocErro
     let mut before = first;
     for (i, code) in codes.iter().enumerate() {
         let code = *code;
-        if code == ' ' {
-            return Ok(Part {
+        if T::is_stop(code) {
+            return Ok(Letters {
                 len: i,
                 columns: used,
             });
         }
         let both = sum(used, char_columns(code))?;
         if breaks && 0 < used && narrow < both {
-            return Ok(Part {
+            return Ok(Letters {
                 len: i,
                 columns: used,
             });
         }
         used = both;
         if is_cut(hyphens, before, code, &codes[i + 1..]) {
-            return Ok(Part {
+            return Ok(Letters {
                 len: i + 1,
                 columns: used,
             });
         }
         before = code;
     }
-    Ok(Part {
+    Ok(Letters {
         len: codes.len(),
         columns: used,
     })
@@ -109,30 +159,82 @@ fn gap_len(codes: &[char]) -> usize
     codes.len()
 }
 
-/// How many codes the first row has, of those that are left of a line behind one.
-pub(crate) fn row_len(
+/// How many codes there are without the last spaces.
+pub(crate) fn bare_len(row: &[char]) -> usize
+    ensures value { result ≡ bare_len (plain_cells row.now) }
+    ensures within { result ≤ length row.now }
+{
+    let mut n = row.len();
+    'rest: while 0 < n {
+        if row[n - 1] != ' ' {
+            return n;
+        }
+        n -= 1;
+    }
+    0
+}
+
+/// Words that end at spaces: the code before.
+#[derive(Clone, Copy)]
+pub(crate) struct Spaced {
+    pub(crate) before: char,
+}
+
+impl Stop for Spaced {
+    ghost stop = { is_space };
+
+    fn is_stop(code: char) -> bool {
+        code == ' '
+    }
+}
+
+impl Words for Spaced {
+    ghost separator = { AsciiSpace };
+
+    ghost left = { λ it cuts cells. words_behind cuts it.before cells };
+
+    ghost fits = { λ _ _. Unit {0} };
+
+    ghost nothing = { λ _ _. refl };
+
+    fn start() -> Spaced {
+        Spaced { before: '\0' }
+    }
+
+    fn part(self, cuts: Cuts, codes: &[char]) -> Result<(Part, Spaced), AllocError> {
+        let letters = first_part::<Spaced>(cuts, self.before, codes)?;
+        let spaces = gap_len(&codes[letters.len..]);
+        let before = codes[letters.len + spaces - 1];
+        Ok((Part { letters, spaces }, Spaced { before }))
+    }
+}
+
+/// How many codes the first row has, of those that are left of a line, and what is left behind it.
+pub(crate) fn row_len<W: Words>(
     cuts: Cuts,
     room: usize,
-    first: char,
+    first: W,
     codes: &[char],
-) -> Result<usize, AllocError>
-    ensures value { IfOk result (λ n. IsFirstRow cuts first room codes.now n) }
-    ensures some { IfOk result (λ n. 0 < length codes.now → 0 < n) }
-    ensures within { IfOk result (λ n. n ≤ length codes.now) }
+) -> Result<(usize, W), AllocError>
+    requires { W.fits first codes.now }
+    ensures value { IfOk result (λ (n, behind). IsFirstRow (W.left first (word_cuts W.separator cuts))
+        (W.left behind (word_cuts W.separator cuts)) room codes.now n) }
+    ensures some { IfOk result (λ (n, behind). 0 < length codes.now → 0 < n) }
+    ensures within { IfOk result (λ (n, behind). n ≤ length codes.now) }
+    ensures fits { IfOk result (λ (n, behind). W.fits behind (drop n codes.now)) }
 {
     let mut end: usize = 0;
     let mut used = 0;
-    let mut before = first;
+    let mut words = first;
     'rest: while end < codes.len() {
-        let part = first_part(cuts, before, &codes[end..])?;
-        let spaces = gap_len(&codes[end + part.len..]);
-        let wide = sum(used, part.columns)?;
+        let (part, behind) = words.part(cuts, &codes[end..])?;
+        let wide = sum(used, part.letters.columns)?;
         if 0 < end && room < wide {
-            return Ok(end);
+            return Ok((end, words));
         }
-        used = sum(wide, spaces)?;
-        end = end + part.len + spaces;
-        before = codes[end - 1];
+        used = sum(wide, part.spaces)?;
+        end = end + part.letters.len + part.spaces;
+        words = behind;
     }
-    Ok(end)
+    Ok((end, words))
 }

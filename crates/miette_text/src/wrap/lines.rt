@@ -1,14 +1,15 @@
 //! Lines, wrapped and printed row by row.
 
 ghost use Rattle.std.specs.Prelude.{◌≡◌, ◌≤◌, ◌++◌, ◌∷◌, [], IfOk, OnOk, drop, flat_map, length};
-ghost use Rattle.miette_text.specs.steps.Ends.{bare_len, line_len};
+ghost use Rattle.miette_text.specs.steps.Ends.{line_len};
+ghost use Rattle.miette_text.specs.views.Cutting.{word_cuts};
 ghost use Rattle.miette_runs.specs.steps.Cells.{plain_cells};
 ghost use Rattle.miette_runs.specs.rules.Sequences.{spell};
 ghost use Rattle.miette_runs.specs.views.Interleaving.{cells_at, left_at, interleaving};
 ghost use Rattle.miette_text.specs.rules.Wrapping.{cell_tokens, joined_rows, text_line_rows, text_lines, text_rows};
 ghost use Rattle.miette_text.specs.rules.Wrapping.{trimmed_row};
 
-use crate::wrap::ends::{Cuts, row_len};
+use crate::wrap::ends::{Cuts, Words, bare_len, row_len};
 use miette_runs::runs::RunsSlice;
 use miette_runs::runs::cells::{push_all, push_cells, push_signs, push_tags};
 use miette_runs::runs::sink::Sink;
@@ -23,21 +24,6 @@ pub(crate) struct Under<'a> {
 }
 
 // ---- rows
-
-/// How many codes there are without the last spaces.
-pub(crate) fn bare_len(row: &[char]) -> usize
-    ensures value { result ≡ bare_len (plain_cells row.now) }
-    ensures within { result ≤ length row.now }
-{
-    let mut n = row.len();
-    'rest: while 0 < n {
-        if row[n - 1] != ' ' {
-            return n;
-        }
-        n -= 1;
-    }
-    0
-}
 
 // A line feed and the indent below it.
 fn push_break<S: Sink>(out: &mut S, further: RunsSlice<'_>) -> Result<(), AllocError>
@@ -69,7 +55,7 @@ fn push_row<S: Sink>(out: &mut S, start: usize, row: RunsSlice<'_>) -> Result<us
 }
 
 // The rows of a line, from a place in the text up to the end of what is given. How many tags are used.
-fn push_rows<S: Sink>(
+fn push_rows<S: Sink, W: Words>(
     out: &mut S,
     cuts: Cuts,
     under: Under<'_>,
@@ -79,7 +65,7 @@ fn push_rows<S: Sink>(
     requires { first ≤ length line.codes.now }
     ensures text { OnOk result (S.written out.new ≡ S.written out.old ++ spell (joined_rows []
         (interleaving 0 under.entry.further.codes.now under.entry.further.tags.now)
-        (text_line_rows cuts under.entry.room under.entry.further_room
+        (text_line_rows (word_cuts W.separator cuts) under.entry.room under.entry.further_room
         (record { cells = cells_at first (drop first line.entry.codes.now) line.entry.tags.now; rest = [] })))) }
     ensures left { IfOk result (λ n. drop n line.entry.tags.now
         ≡ left_at first (drop first line.entry.codes.now) line.entry.tags.now) }
@@ -87,10 +73,10 @@ fn push_rows<S: Sink>(
 {
     let mut start = first;
     let mut used: usize = 0;
-    let mut before = '\0';
+    let mut words = W::start();
     let mut room = under.room;
     'rest: loop {
-        let n = row_len(cuts, room, before, &line.codes[start..])?;
+        let (n, behind) = row_len(cuts, room, words, &line.codes[start..])?;
         let end = start + n;
         let row = RunsSlice {
             codes: &line.codes[..end],
@@ -102,7 +88,7 @@ fn push_rows<S: Sink>(
             return Ok(used);
         }
         push_break(out, under.further)?;
-        before = line.codes[end - 1];
+        words = behind;
         start = end;
         room = under.further_room;
     }
@@ -123,8 +109,8 @@ pub(crate) fn line_len(codes: &[char]) -> usize
     codes.len()
 }
 
-/// A text, wrapped, its first row under an indent of its own.
-pub(crate) fn push_filled<S: Sink>(
+/// A text, wrapped by words that are told apart so, its first row under an indent of its own.
+pub(crate) fn push_filled<S: Sink, W: Words>(
     out: &mut S,
     cuts: Cuts,
     under: Under<'_>,
@@ -132,7 +118,7 @@ pub(crate) fn push_filled<S: Sink>(
 ) -> Result<(), AllocError>
     ensures { OnOk result (S.written out.new ≡ S.written out.old ++ spell (joined_rows []
         (interleaving 0 under.entry.further.codes.now under.entry.further.tags.now)
-        (text_rows cuts under.entry.room under.entry.further_room
+        (text_rows (word_cuts W.separator cuts) under.entry.room under.entry.further_room
         (text_lines (interleaving 0 text.entry.codes.now text.entry.tags.now))))) }
 {
     let mut start: usize = 0;
@@ -146,7 +132,7 @@ pub(crate) fn push_filled<S: Sink>(
             codes: &text.codes[..end],
             tags: &text.tags[used..],
         };
-        let inside = push_rows(out, cuts, place, start, line)?;
+        let inside = push_rows::<S, W>(out, cuts, place, start, line)?;
         used += inside;
         if end == text.codes.len() {
             push_tags(out, &text.tags[used..])?;

@@ -7,7 +7,8 @@ ghost use Rattle.miette_text.specs.steps.WholeText.{indent_text};
 ghost use Rattle.miette_runs.specs.views.Interleaving.{interleaving};
 ghost use Rattle.miette_text.specs.rules.Wrapping.{all_white, text_lines, trimmed_row, whole_lines};
 
-use crate::wrap::lines::{bare_len, line_len};
+use crate::wrap::ends::bare_len;
+use crate::wrap::lines::line_len;
 use miette_runs::runs::RunsSlice;
 use miette_runs::runs::cells::{push_all, push_cells, push_signs, push_tags};
 use miette_runs::runs::sink::Sink;

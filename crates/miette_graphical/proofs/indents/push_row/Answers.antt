@@ -17,6 +17,7 @@ returns-clause-fits g c = λ h further.
       further = further;
       breaks = s.wrapping.break_words;
       wraps = s.wrapping.wrap_lines;
+      separator = s.wrapping.word_separator;
       hyphens = cuts_hyphens s.wrapping.word_splitter;
     }) refl (sym c.saturating_sub-width.ensures) refl)
     ∙ append_assoc c.args.painter.now.out (wrapped_behind s (spell c.args.first.now) further (chars c.args.text.now))

@@ -15,6 +15,7 @@ returns c =
       further = p.further;
       breaks = p.breaks;
       wraps = p.wraps;
+      separator = p.separator;
       hyphens = v;
     } in
     printed-bytes c.in_ok-out.out c.push_wrapped.new.out (wrapped_text p text) c.in_ok-out.ensures.bytes

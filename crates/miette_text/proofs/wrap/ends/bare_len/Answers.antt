@@ -1,6 +1,6 @@
 use Rattle.std.proofs.Common.{◌∙◌, arith, sym}
 use Rattle.miette_text.proofs.InterleavedCells.{plain_found, plain_shorter}
-use Rattle.miette_text.proofs.wrap.lines.bare_len.Goals as goal
+use Rattle.miette_text.proofs.wrap.ends.bare_len.Goals as goal
 
 pub returns-then-row-n-ne32-clause-value : goal.returns-then-row-n-ne32-clause-value
 returns-then-row-n-ne32-clause-value c = plain_found c.args.row.now c.rest.n _ c.rest-test.true c.rest.invariant.within

@@ -1,7 +1,7 @@
 use Rattle.std.proofs.Common.{◌≡◌, ◌≤◌, length, take}
 use Rattle.miette_text.specs.steps.Ends.{bare_len}
 use Rattle.miette_runs.specs.steps.Cells.{plain_cells}
-use Rattle.miette_text.proofs.wrap.lines.bare_len.Given as goal
+use Rattle.miette_text.proofs.wrap.ends.bare_len.Given as goal
 
 abbrev pub invariant-rest : goal.invariant-rest
 invariant-rest l = record {

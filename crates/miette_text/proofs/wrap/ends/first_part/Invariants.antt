@@ -1,12 +1,20 @@
 use Rattle.std.proofs.Common.{◌≡◌, ◌+◌, drop, take}
+use Rattle.miette_text.specs.declared.wrap.WordSeparator.{WordSeparator}
 use Rattle.miette_text.specs.rules.Wrapping.{Cuts}
 use Rattle.miette_text.specs.steps.Ends.{part_len}
 use Rattle.miette_runs.specs.steps.Cells.{code_columns}
 use Rattle.miette_text.proofs.wrap.ends.first_part.Given as goal
 
 abbrev pub invariant-loop-i : goal.invariant-loop-i
-invariant-loop-i l =
-    let cuts : Cuts = record { hyphens = l.hyphens; breaks = l.breaks; narrow = l.narrow } in record {
-      len : part_len cuts l.fn.first 0 l.codes ≡ l.i + part_len cuts l.before l.used (drop l.i l.codes);
-      columns : l.used ≡ code_columns (take l.i l.codes);
-    }
+invariant-loop-i g l = record {
+  len : (separator : WordSeparator) →
+      let cuts : Cuts = record {
+        separator = separator;
+        hyphens = l.hyphens;
+        breaks = l.breaks;
+        narrow = l.narrow;
+      } in
+      part_len g.T.Stop.stop cuts l.fn.first 0 l.codes
+      ≡ l.i + part_len g.T.Stop.stop cuts l.before l.used (drop l.i l.codes);
+  columns : l.used ≡ code_columns (take l.i l.codes);
+}

@@ -5,6 +5,7 @@ use Rattle.miette_text.proofs.Filling.{last-filled, next-filled}
 use Rattle.miette_text.proofs.Joining.{text-printed}
 use Rattle.miette_text.specs.rules.Wrapping.{text_lines}
 use Rattle.miette_text.specs.steps.Ends.{line_len}
+use Rattle.miette_text.specs.views.Cutting.{word_cuts}
 use Rattle.miette_text.proofs.wrap.lines.push_filled.Goals as goal
 
 pub returns-then-end-text : goal.returns-then-end-text
@@ -12,14 +13,14 @@ returns-then-end-text g c =
     let under = c.args.under in
     let indent = interleaving 0 under.further.codes.now under.further.tags.now in
     let cs = c.args.text.codes.now in
-    last-filled c.args.cuts indent c.rest.room under.further_room c.rest.start c.line_len-n.result c.rest.used
+    last-filled (word_cuts g.W.Words.separator c.args.cuts) indent c.rest.room under.further_room c.rest.start c.line_len-n.result c.rest.used
     c.in_ok-inside.inside cs c.args.text.tags.now (g.S.Canvas.written c.rest.out)
     (g.S.Canvas.written c.push_rows.new.out) (g.S.Canvas.written c.push_tags.new.out)
     (c.line_len-n.ensures.value ∙ ap line_len (take_rest cs c.rest.start)) (omega (arith, c.if-end-text.true))
     c.in_ok-inside.ensures.text c.in_ok-inside.ensures.left c.in_ok-push_tags.ensures
     ∙ c.rest.invariant.printed
     ∙ ap (λ us. g.S.Canvas.written c.args.out.now ++ us)
-    (sym (text-printed c.args.cuts under.room under.further_room indent
+    (sym (text-printed (word_cuts g.W.Words.separator c.args.cuts) under.room under.further_room indent
     (text_lines (interleaving 0 cs c.args.text.tags.now))))
 
 pub rest-preserved : goal.rest-preserved
@@ -40,7 +41,7 @@ rest-preserved g c =
     let m = c.in_ok-inside.inside in
     record {
       printed =
-          next-filled c.args.cuts (interleaving 0 c.args.under.further.codes.now c.args.under.further.tags.now)
+          next-filled (word_cuts g.W.Words.separator c.args.cuts) (interleaving 0 c.args.under.further.codes.now c.args.under.further.tags.now)
           c.rest.room c.args.under.further_room s n k m c.in_ok-behind.behind cs all (g.S.Canvas.written c.rest.out)
           (g.S.Canvas.written c.push_rows.new.out) (g.S.Canvas.written c.push_signs.new.out)
           (g.S.Canvas.written c.push_break.new.out) (c.line_len-n.ensures.value ∙ ap line_len (take_rest cs s)) less

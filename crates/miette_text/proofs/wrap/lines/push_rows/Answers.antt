@@ -1,15 +1,12 @@
 use Rattle.std.proofs.Common.{◌≡◌, ◌∙◌, ◌+◌, ◌-◌, ◌<◌, ◌≤◌, ◌++◌, [], ap, ap₂, arith, drop, drop-drop, length}
-use Rattle.std.proofs.Common.{length-drop, map, sym, take}
+use Rattle.std.proofs.Common.{length-drop, subst, sym, take}
 use Rattle.std.proofs.lemmas.List.{take_rest}
 use Rattle.miette_runs.specs.rules.Sequences.{spell}
 use Rattle.miette_runs.specs.views.Interleaving.{cells_at, left_at, interleaving}
 use Rattle.miette_text.proofs.Filling.{last-row, left-after, next-row}
 use Rattle.miette_text.proofs.InterleavedCells.{left-parts}
 use Rattle.miette_text.proofs.Joining.{piece-printed}
-use Rattle.miette_text.proofs.Parting.{words-alone}
-use Rattle.miette_text.proofs.RowTexts.{joined_lines, lines_of}
-use Rattle.miette_text.specs.rules.Wrapping.{rows}
-use Rattle.miette_text.specs.steps.Ends.{row_cells}
+use Rattle.miette_text.specs.views.Cutting.{word_cuts}
 use Rattle.miette_text.proofs.wrap.lines.push_rows.Goals as goal
 
 pub returns-then-end-line-clause-text : goal.returns-then-end-line-clause-text
@@ -17,14 +14,13 @@ returns-then-end-line-clause-text g c =
     let under = c.args.under in
     let indent = interleaving 0 under.further.codes.now under.further.tags.now in
     let line = cells_at c.args.first (drop c.args.first c.args.line.codes.now) c.args.line.tags.now in
-    last-row c.args.cuts (spell indent) c.rest.before c.rest.room under.further_room c.rest.start c.in_ok-n.n
+    let cuts = word_cuts g.W.Words.separator c.args.cuts in
+    last-row (g.W.Words.left c.rest.words cuts) (g.W.Words.left c.in_ok-n.behind cuts) (spell indent) c.rest.room under.further_room c.rest.start c.in_ok-n.n
     c.rest.used
     c.args.line.codes.now c.args.line.tags.now (g.S.Canvas.written c.rest.out) (g.S.Canvas.written c.push_row.new.out)
     c.in_ok-n.ensures.value (omega (arith, c.if-end-line.true)) c.in_ok-more.ensures.text
     ∙ c.rest.invariant.printed
-    ∙ ap (λ ws. g.S.Canvas.written c.args.out.now ++ joined_lines [] (spell indent)
-    (lines_of [] (map row_cells (rows under.room under.further_room ws)))) (words-alone c.args.cuts line)
-    ∙ ap (λ us. g.S.Canvas.written c.args.out.now ++ us) (sym (piece-printed c.args.cuts under.room under.further_room
+    ∙ ap (λ us. g.S.Canvas.written c.args.out.now ++ us) (sym (piece-printed cuts under.room under.further_room
     indent (record { cells = line; rest = [] })))
 
 pub rest-preserved : goal.rest-preserved
@@ -40,6 +36,7 @@ rest-preserved g c =
     let inside : n ≤ length xs = c.in_ok-n.ensures.within in
     let within : s ≤ length cs = c.rest.invariant.within in
     let marked : k ≤ length all = c.rest.invariant.marked in
+    let cuts = word_cuts g.W.Words.separator c.args.cuts in
     let not_all = c.if-end-line.false in
     let less : s + n < length cs = omega arith in
     let some : 0 < n = c.in_ok-n.ensures.some (omega arith) in
@@ -48,15 +45,18 @@ rest-preserved g c =
     let used : m ≤ length (take (length all - k) (drop k all)) = c.in_ok-more.ensures.within in
     record {
       printed =
-          next-row c.args.cuts (spell (interleaving 0 c.args.under.further.codes.now c.args.under.further.tags.now))
-          c.rest.before c.rest.room c.args.under.further_room s n k m cs all (g.S.Canvas.written c.rest.out)
-          (g.S.Canvas.written c.push_row.new.out) (g.S.Canvas.written c.push_break.new.out) c.in_ok-n.ensures.value some
+          next-row (g.W.Words.left c.rest.words cuts) (g.W.Words.left c.in_ok-n.behind cuts)
+          (spell (interleaving 0 c.args.under.further.codes.now c.args.under.further.tags.now))
+          c.rest.room c.args.under.further_room s n k m cs all (g.S.Canvas.written c.rest.out)
+          (g.S.Canvas.written c.push_row.new.out) (g.S.Canvas.written c.push_break.new.out) c.in_ok-n.ensures.value
           less c.in_ok-more.ensures.text left c.in_ok-push_break.ensures
           ∙ c.rest.invariant.printed;
       left =
           ap₂ (left_at (s + n)) (sym (drop-drop n s cs)) left
           ∙ sym (left-parts n s (drop s cs) (drop k all))
           ∙ c.rest.invariant.left;
+      fits = subst (λ xs. g.W.Words.fits c.in_ok-n.behind xs) (ap (drop n) (take_rest cs s) ∙ drop-drop n s cs)
+          c.in_ok-n.ensures.fits;
       within = omega arith;
       marked = omega (arith, ap length (take_rest all k), length-drop k all);
     }

@@ -1,0 +1,137 @@
+//! Words between the places at which a line may be broken.
+
+ghost use Rattle.std.specs.Prelude.{◌≡◌, ◌≤◌, ◌<◌, ◌+◌, IfOk, List, drop, flat_map, length, refl, take, true, false};
+ghost use Rattle.miette_text.specs.declared.wrap.WordSeparator.TheVariants.{UnicodeBreakProperties};
+ghost use Rattle.miette_text.specs.rules.Wrapping as rules;
+ghost use Rattle.miette_text.specs.rules.Wrapping.{is_hyphen, parts};
+ghost use Rattle.miette_text.specs.steps.Ends.{IsPart, codes_of};
+ghost use Rattle.miette_text.specs.views.Breaks.{fits_in, is_done, left_in, never, piece_len, state_at, words_in};
+ghost use Rattle.miette_text.specs.views.Cutting.{word_cuts};
+ghost use Rattle.miette_runs.specs.rules.Cells.{Cell};
+ghost use Rattle.miette_runs.specs.steps.Cells.{code_columns};
+
+use crate::wrap::ends::{Cuts, Part, Stop, Words, bare_len, first_part};
+use miette_line_breaks::breaks::State;
+use std::alloc::AllocError;
+
+/// The rest of a word: its letters, the code before them, and the spaces behind them; and what stands before the next.
+#[derive(Clone, Copy)]
+pub(crate) struct Broken {
+    pub(crate) before: char,
+    pub(crate) letters: usize,
+    pub(crate) spaces: usize,
+    pub(crate) state: State,
+}
+
+fn is_hyphen(code: char) -> bool
+    ensures { result ≡ is_hyphen code }
+{
+    code == '-' || code == '\u{AD}'
+}
+
+// How many codes the first word and its spaces have, and what stands before the next.
+fn word_len(start: State, codes: &[char]) -> (usize, State)
+    ensures len { result.0 ≡ piece_len start true codes.now }
+    ensures state { result.1 ≡ state_at start result.0 codes.now }
+    ensures within { result.0 ≤ length codes.now }
+{
+    let mut state = start;
+    let mut is_joined = true;
+    for (i, code) in codes.iter().enumerate() {
+        let (found, behind) = state.step(*code);
+        if !is_joined && found.is_some() {
+            return (i, state);
+        }
+        is_joined = is_hyphen(*code);
+        state = behind;
+    }
+    (codes.len(), state)
+}
+
+// The first of the words.
+fn first_word(start: State, codes: &[char]) -> Broken
+    requires { 0 < length codes.now }
+    ensures left { (cuts : rules.Cuts) (cells : List Cell) → codes_of cells ≡ codes.now →
+        left_in result cuts cells ≡ flat_map (parts cuts) (words_in start cells) }
+    ensures fits { fits_in result codes.now }
+    ensures some { is_done result ≡ false }
+{
+    let (len, state) = word_len(start, codes);
+    let letters = bare_len(&codes[..len]);
+    Broken {
+        before: '\0',
+        letters,
+        spaces: len - letters,
+        state,
+    }
+}
+
+// The part at the front of the rest of a word.
+fn word_part(word: Broken, cuts: Cuts, codes: &[char]) -> Result<(Part, Broken), AllocError>
+    requires fits { fits_in word codes.now }
+    requires some { is_done word ≡ false }
+    ensures is { IfOk result (λ (p, behind). IsPart (left_in word (word_cuts UnicodeBreakProperties cuts))
+        (left_in behind (word_cuts UnicodeBreakProperties cuts)) codes.now p.letters.len p.spaces) }
+    ensures columns { IfOk result (λ (p, behind). p.letters.columns ≡ code_columns (take p.letters.len codes.now)) }
+    ensures gap { IfOk result (λ (p, behind). code_columns (take p.spaces (drop p.letters.len codes.now))
+        ≡ p.spaces) }
+    ensures some { IfOk result (λ (p, behind). 0 < p.letters.len + p.spaces) }
+    ensures within { IfOk result (λ (p, behind). p.letters.len + p.spaces ≤ length codes.now) }
+    ensures fits { IfOk result (λ (p, behind). fits_in behind (drop (p.letters.len + p.spaces) codes.now)) }
+{
+    let letters = first_part::<Broken>(cuts, word.before, &codes[..word.letters])?;
+    if letters.len == word.letters {
+        let part = Part {
+            letters,
+            spaces: word.spaces,
+        };
+        let behind = Broken {
+            letters: 0,
+            spaces: 0,
+            ..word
+        };
+        return Ok((part, behind));
+    }
+    let part = Part { letters, spaces: 0 };
+    let behind = Broken {
+        before: codes[letters.len - 1],
+        letters: word.letters - letters.len,
+        ..word
+    };
+    Ok((part, behind))
+}
+
+impl Stop for Broken {
+    ghost stop = { never };
+
+    fn is_stop(_code: char) -> bool {
+        false
+    }
+}
+
+impl Words for Broken {
+    ghost separator = { UnicodeBreakProperties };
+
+    ghost left = { left_in };
+
+    ghost fits = { fits_in };
+
+    ghost nothing = { λ _ _. refl };
+
+    fn start() -> Broken {
+        Broken {
+            before: '\0',
+            letters: 0,
+            spaces: 0,
+            state: State::start(),
+        }
+    }
+
+    fn part(self, cuts: Cuts, codes: &[char]) -> Result<(Part, Broken), AllocError> {
+        if self.letters == 0 && self.spaces == 0 {
+            let word = first_word(self.state, codes);
+            return word_part(word, cuts, codes);
+        }
+        word_part(self, cuts, codes)
+    }
+}
