@@ -33,11 +33,14 @@ some_put p (c ∷ cs) h = sym (text_put p c cs)
 pub put_nil : (p : Printout) → p ⊕ [] ≡ p
 put_nil p = refl
 
--- a page whose output holds some characters more
-pub page_put : (p : Printout) (out more : List ℕ) (codes : List ℕ) → 0 < length codes → out ≡ started_text p → more
-    ≡ out ++ codes → record { text = more; style = p.style; begun = true } ≡ p ⊕ text_tokens codes
-page_put p out more codes some s e = ap (λ t. record { text = t; style = p.style; begun = true })
-    (e ∙ ap (λ t. t ++ codes) s) ∙ some_put p codes some
+-- a page whose output holds some characters more, once its run has a start
+pub page_put : (p started : Printout) (more codes : List ℕ) → 0 < length codes
+    → started ≡ record p { text = started_text p; begun = true } → more ≡ started.text ++ codes
+    → record started { text = more } ≡ p ⊕ text_tokens codes
+page_put p started more codes some s e =
+    ap (λ t. record { text = t; style = started.style; begun = started.begun }) e
+    ∙ ap (λ (q : Printout). record { text = q.text ++ codes; style = q.style; begun = q.begun }) s
+    ∙ some_put p codes some
 
 pub nonzero : (n : ℕ) → (n == 0) ≡ false → 0 < n
 nonzero zero h = absurd (cc)

@@ -1,6 +1,6 @@
 //! Rows in the making, printed as they come.
 
-ghost use Rattle.std.specs.Prelude.{◌≡◌, ◌-◌, ◌∷◌, ◌++◌, [], chars, decimal, length, replicate, IfOk, OnOk};
+ghost use Rattle.std.specs.Prelude.{◌≡◌, ◌-◌, ◌∷◌, ◌++◌, [], chars, decimal, length, replicate, true, IfOk, OnOk};
 ghost use Rattle.miette_page.specs.views.Printouts.{◌⊕◌, ended_text, printout_of, started_text};
 ghost use Rattle.miette_page.specs.views.Tokens.{begins, row_end, styled_tokens, text_tokens};
 
@@ -125,14 +125,22 @@ impl<O: Canvas> Page<O> {
         Ok(())
     }
 
+    // What stands before the run's first character, unless it has one.
+    #[inline(always)]
+    fn start_text(&mut self) -> Result<(), AllocError>
+        ensures { OnOk result (self.new ≡ record self.old { text = started_text self.old; begun = true }) }
+    {
+        start_run(&mut self.out, self.style, self.begun)?;
+        self.begun = true;
+        Ok(())
+    }
+
     /// Puts a character behind the run's text. `AllocError` where memory is refused.
     pub fn push(&mut self, character: char) -> Result<(), AllocError>
         ensures { OnOk result (self.new ≡ self.old ⊕ text_tokens (character ∷ [])) }
     {
-        start_run(&mut self.out, self.style, self.begun)?;
-        self.begun = true;
-        self.out.push(character)?;
-        Ok(())
+        self.start_text()?;
+        self.out.push(character)
     }
 
     /// Puts a text behind the run's text. `AllocError` where memory is refused.
@@ -142,10 +150,8 @@ impl<O: Canvas> Page<O> {
         if text.is_empty() {
             return Ok(());
         }
-        start_run(&mut self.out, self.style, self.begun)?;
-        self.begun = true;
-        self.out.push_str(text)?;
-        Ok(())
+        self.start_text()?;
+        self.out.push_str(text)
     }
 
     /// Puts copies of a character behind the run's text. `AllocError` where memory is refused.
@@ -155,10 +161,8 @@ impl<O: Canvas> Page<O> {
         if many == 0 {
             return Ok(());
         }
-        start_run(&mut self.out, self.style, self.begun)?;
-        self.begun = true;
-        push_each(&mut self.out, character, many)?;
-        Ok(())
+        self.start_text()?;
+        push_each(&mut self.out, character, many)
     }
 
     /// A run of spaces: `····`. `AllocError` where memory is refused.
@@ -193,10 +197,8 @@ impl<O: Canvas> Page<O> {
         if characters.is_empty() {
             return Ok(());
         }
-        start_run(&mut self.out, self.style, self.begun)?;
-        self.begun = true;
-        self.out.push_chars(characters)?;
-        Ok(())
+        self.start_text()?;
+        self.out.push_chars(characters)
     }
 
     /// Puts a number behind the run's text, its digits behind the spaces that fill so many columns: `  12`.

@@ -1,15 +1,20 @@
-use Rattle.std.proofs.Common.{rules, ◌∙◌, ◌<◌, ap, sym, subst, replicate}
+use Rattle.std.proofs.Common.{rules, ◌∙◌, ◌<◌, sym, subst, replicate}
 use Rattle.std.proofs.lemmas.List.{length-replicate}
-use Rattle.miette_page.specs.views.Printouts.{◌⊕◌}
-use Rattle.miette_page.specs.views.Tokens.{text_tokens}
+use Rattle.std.proofs.lemmas.Result.{on_ok_weaker}
+use Rattle.miette_page.specs.views.Printouts.{Printout}
 use Rattle.miette_page.proofs.Paging.{page_put}
 use Rattle.miette_page.proofs.page.Page.push_copies.Goals as goal
 
 pub returns : goal.returns
 returns g c =
+    let started : Printout = record {
+      text = g.O.Canvas.written c.self.inside.out;
+      style = c.self.inside.style;
+      begun = c.self.inside.begun;
+    } in
     let some : 0 < c.args.many = search rules in
-    page_put _ (g.O.Canvas.written c.start_run.new.out) (g.O.Canvas.written c.push_each.new.out)
-    (replicate c.args.many c.args.character)
+    on_ok_weaker c.push_each.result
+    (page_put c.args.self.now started (g.O.Canvas.written c.push_each.new.out) (replicate c.args.many c.args.character)
     (subst (λ n. 0 < n) (sym (length-replicate c.args.many c.args.character)) some)
-    c.in_ok-start_run.ensures c.in_ok-push_each.ensures
-    ∙ ap (λ p. p ⊕ text_tokens (replicate c.args.many c.args.character)) c.self.view_is
+    (c.self.view_is ∙ c.in_ok-start_text.ensures))
+    c.push_each.ensures

@@ -1,6 +1,6 @@
-use Rattle.std.proofs.Common.{◌∙◌, ap, sym, chars, length, eqb-true}
-use Rattle.miette_page.specs.views.Printouts.{◌⊕◌}
-use Rattle.miette_page.specs.views.Tokens.{text_tokens}
+use Rattle.std.proofs.Common.{◌∙◌, sym, chars, length, eqb-true}
+use Rattle.std.proofs.lemmas.Result.{on_ok_weaker}
+use Rattle.miette_page.specs.views.Printouts.{Printout}
 use Rattle.miette_page.proofs.Paging.{none_bytes, nonzero, page_put, some-chars}
 use Rattle.miette_page.proofs.page.Page.push_str.Goals as goal
 
@@ -10,8 +10,14 @@ returns-then-is_empty g c = none_bytes c.args.self.now c.args.text.now
 
 pub returns : goal.returns
 returns g c =
-    page_put _ (g.O.Canvas.written c.start_run.new.out) (g.O.Canvas.written c.push_str.new.self) (chars c.args.text.now)
+    let started : Printout = record {
+      text = g.O.Canvas.written c.self.inside.out;
+      style = c.self.inside.style;
+      begun = c.self.inside.begun;
+    } in
+    on_ok_weaker c.push_str.result
+    (page_put c.args.self.now started (g.O.Canvas.written c.push_str.new.self) (chars c.args.text.now)
     (some-chars c.args.text.now c.utf8.text (nonzero (length c.args.text.now)
     (sym c.is_empty.ensures ∙ c.if-is_empty.false)))
-    c.in_ok-start_run.ensures c.in_ok-push_str.ensures
-    ∙ ap (λ p. p ⊕ text_tokens (chars c.args.text.now)) c.self.view_is
+    (c.self.view_is ∙ c.in_ok-start_text.ensures))
+    c.push_str.ensures
