@@ -2,7 +2,7 @@
 use Rattle.miette_page.specs.views.Printouts.{Printout, ◌⊕◌}
 use Rattle.std.proofs.Common.{ℕ, zero, suc, ◌+◌, ◌-◌, ◌<◌, ◌≤◌, ◌≡◌, ◌/◌, min, Bool, true, false, cond, ltb, leb, eqb}
 use Rattle.std.proofs.Common.{List, [], ◌∷◌, ◌++◌, map, length, take, drop, get_or, replicate, refl, sym, ap, ap₂, ◌∙◌}
-use Rattle.std.proofs.Common.{append-nil, Some, None, option_map, arith}
+use Rattle.std.proofs.Common.{append-nil, arith}
 use Rattle.std.specs.List.{list_all, list_any}
 use Rattle.std.specs.Str.{IsAscii}
 use Rattle.std.proofs.lemmas.Bool.{and_parts, lt-ltb, le-ltb, le-leb, lt-leb}
@@ -14,23 +14,24 @@ use Rattle.miette_style.specs.rules.Styles.{plain}
 use Rattle.miette_page.specs.rules.Rows.{Glyph, Run}
 use Rattle.miette_page.specs.views.Tokens.{begins, row_tokens, styled_tokens, text_tokens}
 use Rattle.miette_page.proofs.Paging.{put_append, put_nil}
+use Rattle.miette_cells.specs.declared.cells.PlainCells.{PlainCells}
+use Rattle.miette_cells.specs.views.Walking.{ComeFirst}
 use Rattle.miette_cells.specs.rules.Cells.{Cell, cells_from, characters}
 use Rattle.miette_cells.specs.rules.Widths.{width_of}
 use Rattle.miette_cells.specs.views.Printable.{is_printable, plain_cells}
 use Rattle.miette_basics.proofs.Cases.{by_cases}
 use Rattle.miette_cells.proofs.Plaining.{plain_byte, printable_taken}
 use Rattle.miette_snippet_rules.specs.rules.PrintedCells.{line_runs, printed_glyphs, printed_cells, text_bytes}
-use Rattle.miette_snippet_rules.specs.rules.CutLines.{agree, cut_line, dots, ends, is_near, is_near_after, is_within}
+use Rattle.miette_snippet_rules.specs.rules.CutLines.{agree, dots, is_near, is_near_after, is_within}
 use Rattle.miette_snippet_rules.specs.rules.CutLines.{stretches}
 use Rattle.miette_snippet_rules.proofs.RowTokens.{then, told-append}
 use Rattle.miette_cuts.specs.declared.stretch.Stretch.{Stretch as MadeStretch}
 use Rattle.miette_cuts.specs.views.Cuts.{measure, is_kept, cut_cells}
 use Rattle.miette_cuts.specs.steps.Cut.{lone, onto_made, even, cell_at, plain_run, plain_told}
-use Rattle.miette_cuts.proofs.CutStretches.{cut_is, cut_none, first_stretch, near_found, near_later, near_nowhere}
+use Rattle.miette_cuts.proofs.CutStretches.{first_stretch, near_found, near_later, near_nowhere}
 use Rattle.miette_cuts.proofs.CutStretches.{onto-same}
-use Rattle.miette_cuts.proofs.PlainText.{plain_columns, printable_cells}
+use Rattle.miette_cuts.proofs.PlainText.{printable_cells}
 use Rattle.miette_snippet_rules.specs.rules.Highlighting.{highlight_of}
-use Rattle.miette_snippet_rules.specs.rules.Marks.{Mark}
 use Rattle.miette_style.specs.declared.style.Style.{Style}
 use Rattle.miette_cuts.proofs.TextWithoutTabs.{printed_code}
 
@@ -53,11 +54,11 @@ agree_own true = refl
 agree_own false = refl
 
 -- the first of them
-even_cell : (limit : ℕ) (es : List ℕ) (v before : Bool) (b o c : ℕ) (bs : List ℕ) → is_printable b ≡ true
-    → is_near limit es (cell_at c) ≡ v →
-    map measure (stretches (is_near limit es) before (plain_cells o c (b ∷ bs)))
-    ≡ onto_made (even v 1) (map measure (stretches (is_near limit es) v (plain_cells (o + 1) (c + 1) bs)))
-even_cell limit es v before b o c bs h near =
+even_cell : (limit : ℕ) (es : List ℕ) (v before : Bool) (b o c : ℕ) (bs : List ℕ) (cs : List Cell) → is_printable b
+    ≡ true → is_near limit es (cell_at c) ≡ v →
+    map measure (stretches (is_near limit es) before (plain_cells o c (b ∷ bs) ++ cs))
+    ≡ onto_made (even v 1) (map measure (stretches (is_near limit es) v (plain_cells (o + 1) (c + 1) bs ++ cs)))
+even_cell limit es v before b o c bs cs h near =
     let cell : Cell = cell_of_byte b o c in
     let wide : eqb c (c + 1) ≡ false = apart c in
     let here : is_near_after (is_near limit es) before cell ≡ v = ap (λ x. cond x before (is_near limit es cell)) wide
@@ -66,8 +67,8 @@ even_cell limit es v before b o c bs h near =
     let first : even v 1 ≡ lone (is_near_after (is_near limit es) before cell) cell =
     sym (ap (λ x. lone x cell) here ∙ ap (λ n. made v 1 n (text_bytes b)) one ∙ ap (λ n. made v 1 1 n) (one_byte b h))
     in
-    sym (first_stretch (is_near limit es) before cell (cell ∷ plain_cells (o + 1) (c + 1) bs)
-    (plain_cells (o + 1) (c + 1) bs) (even v 1) refl first)
+    sym (first_stretch (is_near limit es) before cell (cell ∷ plain_cells (o + 1) (c + 1) bs ++ cs)
+    (plain_cells (o + 1) (c + 1) bs ++ cs) (even v 1) refl first)
   where
     apart : (n : ℕ) → eqb n (n + 1) ≡ false
     apart n = grind (arith, nat_tests)
@@ -76,25 +77,25 @@ even_cell limit es v before b o c bs h near =
     made near cells columns bytes = record { near = near; cells = cells; columns = columns; bytes = bytes }
 
 -- as many of them as are as near as the first
-pub even_cells : (limit : ℕ) (es : List ℕ) (v before : Bool) (n o c : ℕ) (bs : List ℕ) → list_all is_printable bs ≡ true
-    → 0 < n → n ≤ length bs →
+pub even_cells : (limit : ℕ) (es : List ℕ) (v before : Bool) (n o c : ℕ) (bs : List ℕ) (cs : List Cell)
+    → list_all is_printable bs ≡ true → 0 < n → n ≤ length bs →
     ((x : ℕ) → c ≤ x → x < c + n → is_near limit es (cell_at x) ≡ v) →
-    map measure (stretches (is_near limit es) before (plain_cells o c bs))
-    ≡ onto_made (even v n) (map measure (stretches (is_near limit es) v (plain_cells (o + n) (c + n) (drop n bs))))
-even_cells limit es v before zero o c bs h some le near = absurd (omega (arith, some))
-even_cells limit es v before (suc n) o c [] h some le near = absurd (omega (arith, le))
-even_cells limit es v before (suc zero) o c (b ∷ bs) h some le near =
+    map measure (stretches (is_near limit es) before (plain_cells o c bs ++ cs))
+    ≡ onto_made (even v n) (map measure (stretches (is_near limit es) v (plain_cells (o + n) (c + n) (drop n bs) ++ cs)))
+even_cells limit es v before zero o c bs cs h some le near = absurd (omega (arith, some))
+even_cells limit es v before (suc n) o c [] cs h some le near = absurd (omega (arith, le))
+even_cells limit es v before (suc zero) o c (b ∷ bs) cs h some le near =
     let parts = and_parts (is_printable b) (list_all is_printable bs) h in
-    even_cell limit es v before b o c bs parts.0 (near c (omega arith) (omega arith))
-even_cells limit es v before (suc (suc n)) o c (b ∷ bs) h some le near =
+    even_cell limit es v before b o c bs cs parts.0 (near c (omega arith) (omega arith))
+even_cells limit es v before (suc (suc n)) o c (b ∷ bs) cs h some le near =
     let parts = and_parts (is_printable b) (list_all is_printable bs) h in
     let rest : ℕ → ℕ → List MadeStretch = λ p q. map measure
-    (stretches (is_near limit es) v (plain_cells p q (drop (suc n) bs))) in
+    (stretches (is_near limit es) v (plain_cells p q (drop (suc n) bs) ++ cs)) in
     let at : o + 1 + suc n ≡ o + suc (suc n) = omega arith in
     let column : c + 1 + suc n ≡ c + suc (suc n) = omega arith in
     let many : 1 + suc n ≡ suc (suc n) = omega arith in
-    even_cell limit es v before b o c bs parts.0 (near c (omega arith) (omega arith))
-    ∙ ap (onto_made (even v 1)) (even_cells limit es v v (suc n) (o + 1) (c + 1) bs parts.1 (omega arith)
+    even_cell limit es v before b o c bs cs parts.0 (near c (omega arith) (omega arith))
+    ∙ ap (onto_made (even v 1)) (even_cells limit es v v (suc n) (o + 1) (c + 1) bs cs parts.1 (omega arith)
     (omega (arith, le)) (λ x lo lt. near x (omega (arith, lo)) (omega (arith, lt))))
     ∙ onto-same (even v 1) (even v (suc n)) (rest (o + 1 + suc n) (c + 1 + suc n)) (agree_own v)
     ∙ ap (λ k. onto_made (even v k) (rest (o + 1 + suc n) (c + 1 + suc n))) many
@@ -204,61 +205,71 @@ pub record IsEven (limit : ℕ) (es : List ℕ) (column most : ℕ) (s : MadeStr
   pub within : column + s.cells ≤ most
   pub alike : (x : ℕ) → column ≤ x → x < column + s.cells → is_near limit es (cell_at x) ≡ s.near
 
-abbrev behind : ℕ → List ℕ → Bool → ℕ → ℕ → List ℕ → List MadeStretch
-behind limit es near start column bs = map measure (stretches (is_near limit es) near
-    (plain_cells (start + column) column (drop column bs)))
+-- the stretches of those of these cells that stand from a column on, and of the cells behind them
+abbrev pub behind : ℕ → List ℕ → Bool → PlainCells → List ℕ → List Cell → ℕ → List MadeStretch
+behind limit es near first bs cs column = map measure (stretches (is_near limit es) near
+    (plain_cells (first.start + (column - first.from)) column (drop (column - first.from) bs) ++ cs))
 
-found_even : (limit : ℕ) (es : List ℕ) (before : Bool) (start column : ℕ) (bs : List ℕ) (s : MadeStretch)
-    → list_all is_printable bs ≡ true → IsEven limit es column (length bs) s →
-    behind limit es before start column bs ≡ onto_made s (behind limit es s.near start (column + s.cells) bs)
-found_even limit es before start column bs s h is =
-    let many : length (drop column bs) ≡ length bs - column = length-drop column bs in
-    let left : drop s.cells (drop column bs) ≡ drop (column + s.cells) bs = drop-drop s.cells column bs in
-    let at : start + column + s.cells ≡ start + (column + s.cells) = omega arith in
-    even_cells limit es s.near before s.cells (start + column) column (drop column bs) (dropped column bs h) is.some
-    (omega (arith, is.within, many)) is.alike
+found_even : (limit : ℕ) (es : List ℕ) (before : Bool) (first : PlainCells) (bs : List ℕ) (cs : List Cell) (column : ℕ)
+    (s : MadeStretch) → list_all is_printable bs ≡ true → first.from ≤ column → IsEven limit es column (first.from
+    + length bs) s → behind limit es before first bs cs column
+    ≡ onto_made s (behind limit es s.near first bs cs (column + s.cells))
+found_even limit es before first bs cs column s h from is =
+    let i : ℕ = column - first.from in
+    let many : length (drop i bs) ≡ length bs - i = length-drop i bs in
+    let next : i + s.cells ≡ column + s.cells - first.from = omega (arith, from) in
+    let left : drop s.cells (drop i bs) ≡ drop (column + s.cells - first.from) bs = drop-drop s.cells i bs
+    ∙ ap (λ k. drop k bs) next in
+    let at : first.start + i + s.cells ≡ first.start + (column + s.cells - first.from) = omega (arith, from) in
+    even_cells limit es s.near before s.cells (first.start + i) column (drop i bs) cs (dropped i bs h) is.some
+    (omega (arith, is.within, many, from)) is.alike
     ∙ ap₂ (λ p xs. onto_made (even s.near s.cells) (map measure
-    (stretches (is_near limit es) s.near (plain_cells p (column + s.cells) xs)))) at left
-    ∙ ap (λ (m : MadeStretch). onto_made m (behind limit es s.near start (column + s.cells) bs)) (sym is.even)
+    (stretches (is_near limit es) s.near (plain_cells p (column + s.cells) xs ++ cs)))) at left
+    ∙ ap (λ (m : MadeStretch). onto_made m (behind limit es s.near first bs cs (column + s.cells))) (sym is.even)
 
-pub even_first : (limit : ℕ) (es : List ℕ) (start : ℕ) (bs : List ℕ) (made : List MadeStretch) (s : MadeStretch)
-    → list_all is_printable bs ≡ true → IsEven limit es 0 (length bs) s → made ≡ [] →
-    made ++ onto_made s (map measure (stretches (is_near limit es) s.near
-    (plain_cells (start + s.cells) s.cells (drop s.cells bs))))
-    ≡ map measure (stretches (is_near limit es) false (plain_cells start 0 bs))
-even_first limit es start bs made s h is none =
-    let zero_start : start + 0 ≡ start = omega arith in
-    let own : 0 + s.cells ≡ s.cells = omega arith in
-    ap (λ xs. xs ++ onto_made s (behind limit es s.near start s.cells bs)) none
-    ∙ ap (λ n. onto_made s (behind limit es s.near start n bs)) (sym own)
-    ∙ sym (found_even limit es false start 0 bs s h is)
-    ∙ ap (λ p. map measure (stretches (is_near limit es) false (plain_cells p 0 bs))) zero_start
+pub even_first : (limit : ℕ) (es : List ℕ) (near : Bool) (first : PlainCells) (bs : List ℕ) (cs : List Cell)
+    → behind limit es near first bs cs first.from
+    ≡ map measure (stretches (is_near limit es) near (plain_cells first.start first.from bs ++ cs))
+even_first limit es near first bs cs =
+    let none : first.from - first.from ≡ 0 = omega arith in
+    let at : first.start + 0 ≡ first.start = omega arith in
+    ap (λ i. map measure (stretches (is_near limit es) near
+    (plain_cells (first.start + i) first.from (drop i bs) ++ cs))) none
+    ∙ ap (λ o. map measure (stretches (is_near limit es) near (plain_cells o first.from bs ++ cs))) at
 
-pub even_more : (limit : ℕ) (es : List ℕ) (start column : ℕ) (bs : List ℕ) (made new whole : List MadeStretch)
-    (reached next later : MadeStretch) → list_all is_printable bs ≡ true → IsEven limit es column (length bs) next
-    → later.near ≡ next.near →
+pub even_more : (limit : ℕ) (es : List ℕ) (first : PlainCells) (bs : List ℕ) (cs : List Cell) (column : ℕ)
+    (made new whole : List MadeStretch) (reached next later : MadeStretch) → list_all is_printable bs ≡ true
+    → first.from ≤ column → IsEven limit es column (first.from + length bs) next → later.near ≡ next.near →
     ((rest : List MadeStretch) → new ++ onto_made later rest ≡ made ++ onto_made reached (onto_made next rest)) →
-    made ++ onto_made reached (map measure (stretches (is_near limit es) reached.near
-    (plain_cells (start + column) column (drop column bs)))) ≡ whole →
-    new ++ onto_made later (map measure (stretches (is_near limit es) later.near
-    (plain_cells (start + (column + next.cells)) (column + next.cells) (drop (column + next.cells) bs)))) ≡ whole
-even_more limit es start column bs made new whole reached next later h is same put inv =
-    ap (λ n. new ++ onto_made later (behind limit es n start (column + next.cells) bs)) same
-    ∙ put (behind limit es next.near start (column + next.cells) bs)
-    ∙ ap (λ r. made ++ onto_made reached r) (sym (found_even limit es reached.near start column bs next h is)) ∙ inv
+    made ++ onto_made reached (behind limit es reached.near first bs cs column) ≡ whole →
+    new ++ onto_made later (behind limit es later.near first bs cs (column + next.cells)) ≡ whole
+even_more limit es first bs cs column made new whole reached next later h from is same put inv =
+    ap (λ n. new ++ onto_made later (behind limit es n first bs cs (column + next.cells))) same
+    ∙ put (behind limit es next.near first bs cs (column + next.cells))
+    ∙ ap (λ r. made ++ onto_made reached r) (sym (found_even limit es reached.near first bs cs column next h from is))
+    ∙ inv
 
-pub even_end : (limit : ℕ) (es : List ℕ) (start column : ℕ) (bs : List ℕ) (made new whole : List MadeStretch)
-    (reached : MadeStretch) → length bs ≤ column → new ≡ made ++ reached ∷ [] →
-    made ++ onto_made reached (map measure (stretches (is_near limit es) reached.near
-    (plain_cells (start + column) column (drop column bs)))) ≡ whole → new ≡ whole
-even_end limit es start column bs made new whole reached le n inv =
-    n ∙ ap (λ xs. made ++ onto_made reached (map measure (stretches (is_near limit es) reached.near
-    (plain_cells (start + column) column xs)))) (sym (drop_all column bs le)) ∙ inv
+pub even_end : (limit : ℕ) (es : List ℕ) (first : PlainCells) (bs : List ℕ) (cs : List Cell) (column : ℕ)
+    (made whole : List MadeStretch) (reached : MadeStretch) → first.from + length bs ≤ column →
+    made ++ onto_made reached (behind limit es reached.near first bs cs column) ≡ whole →
+    made ++ onto_made reached (map measure (stretches (is_near limit es) reached.near cs)) ≡ whole
+even_end limit es first bs cs column made whole reached le inv =
+    ap (λ xs. made ++ onto_made reached (map measure (stretches (is_near limit es) reached.near
+    (plain_cells (first.start + (column - first.from)) column xs ++ cs))))
+    (sym (drop_all (column - first.from) bs (omega (arith, le)))) ∙ inv
 
-pub even_none : (limit : ℕ) (es : List ℕ) (start : ℕ) (bs : List ℕ) (made : List MadeStretch) → length bs ≡ 0 → made
-    ≡ [] → made ≡ map measure (stretches (is_near limit es) false (plain_cells start 0 bs))
-even_none limit es start bs made z none = none ∙ ap (λ xs. map measure
-    (stretches (is_near limit es) false (plain_cells start 0 xs))) (sym (nil_from_length bs z))
+-- a line's stretches behind those of these cells
+pub plain_put : (limit : ℕ) (es : List ℕ) (first : PlainCells) (walk left : List Cell)
+    (made new whole : List MadeStretch) (reached later : MadeStretch) → (f : ComeFirst first walk left) →
+    ((bytes : List ℕ) (rest : List Cell) → list_all is_printable bytes ≡ true → length bytes ≡ first.many →
+    new ++ onto_made later (map measure (stretches (is_near limit es) later.near rest)) ≡ made ++ onto_made reached
+    (map measure (stretches (is_near limit es) reached.near (plain_cells first.start first.from bytes ++ rest)))) →
+    made ++ onto_made reached (map measure (stretches (is_near limit es) reached.near walk)) ≡ whole →
+    new ++ onto_made later (map measure (stretches (is_near limit es) later.near left)) ≡ whole
+plain_put limit es first walk left made new whole reached later f put inv =
+    put f.bytes left f.printable f.many
+    ∙ ap (λ cells. made ++ onto_made reached (map measure (stretches (is_near limit es) reached.near cells)))
+    (sym f.cells_are) ∙ inv
 
 -- ---- printing
 
@@ -309,17 +320,6 @@ plain_end cut i rest p whole le inv = sym (put_nil p) ∙ ap (λ xs. p ⊕ plain
     (sym (at_drop_all (λ (xs : List MadeStretch). xs) cut i le)) ∙ inv
 
 -- ---- in a line
-
-pub plain_cut_is : (limit start : ℕ) (ms : List Mark) (bs : List ℕ) (made : List MadeStretch) → limit < length bs → made
-    ≡ map measure (stretches (is_near limit (ends ms)) false (plain_cells start 0 bs)) →
-    Some made ≡ option_map (map measure) (cut_line (Some limit) ms (plain_cells start 0 bs))
-plain_cut_is limit start ms bs made lt h = cut_is limit (length bs) ms (plain_cells start 0 bs) made
-    (omega (arith, plain_columns start 0 bs)) lt h
-
-pub plain_cut_none : (limit start : ℕ) (ms : List Mark) (bs : List ℕ) → length bs ≤ limit → None
-    ≡ option_map (map measure) (cut_line (Some limit) ms (plain_cells start 0 bs))
-plain_cut_none limit start ms bs le = cut_none limit (length bs) ms (plain_cells start 0 bs)
-    (omega (arith, plain_columns start 0 bs)) le
 
 pub plain_cut_put : (tab start : ℕ) (pieces : List (ℕ × Style)) (cut : List MadeStretch) (bs : List ℕ) (p q : Printout)
     → length pieces ≡ 0 → list_all is_printable bs ≡ true → q ≡ p ⊕ plain_told cut bs →

@@ -10,6 +10,9 @@ use Rattle.miette_page.specs.rules.Rows.{Run}
 use Rattle.miette_page.specs.views.Tokens.{begins, row_tokens, text_tokens}
 use Rattle.miette_page.proofs.Paging.{put_append, put_nil}
 use Rattle.miette_labels.specs.rules.Answers.{Highlight}
+use Rattle.miette_cells.specs.declared.cells.PlainCells.{PlainCells}
+use Rattle.miette_cells.specs.views.Printable.{plain_cells}
+use Rattle.miette_cells.specs.views.Walking.{ComeFirst}
 use Rattle.miette_cells.specs.rules.Cells.{Cell}
 use Rattle.miette_basics.proofs.Cases.{by_cases}
 use Rattle.miette_snippet_rules.specs.rules.Highlighting.{highlight_of}
@@ -50,6 +53,26 @@ take_zero many walk h = let z : many ≡ 0 = omega (arith, h) in ap (λ n. take 
 
 pub drop_zero : (many : ℕ) (walk : List Cell) → many ≤ 0 → walk ≡ drop many walk
 drop_zero many walk h = let z : 0 ≡ many = omega (arith, h) in ap (λ n. drop n walk) z
+
+-- cells of printable ASCII that come first
+drop_more : (xs ys : List Cell) (many : ℕ) → length xs ≤ many → drop (many - length xs) ys ≡ drop many (xs ++ ys)
+drop_more [] ys many le = let all : many - 0 ≡ many = omega arith in ap (λ k. drop k ys) all
+drop_more (x ∷ xs) ys zero le = absurd (omega (arith, le))
+drop_more (x ∷ xs) ys (suc n) le =
+    let less : suc n - length (x ∷ xs) ≡ n - length xs = omega arith in
+    ap (λ k. drop k ys) less ∙ drop_more xs ys n (omega (arith, le))
+
+plain_length : (o c : ℕ) (bs : List ℕ) → length (plain_cells o c bs) ≡ length bs
+plain_length o c [] = refl
+plain_length o c (b ∷ bs) = omega (arith, plain_length (o + 1) (c + 1) bs)
+
+pub drop_plain_cells : (first : PlainCells) (walk left : List Cell) (many : ℕ) → ComeFirst first walk left → first.many
+    ≤ many → drop (many - first.many) left ≡ drop many walk
+drop_plain_cells first walk left many f le =
+    let cells : List Cell = plain_cells first.start first.from f.bytes in
+    let own : length cells ≡ first.many = plain_length first.start first.from f.bytes ∙ f.many in
+    ap (λ k. drop (many - k) left) (sym own) ∙ drop_more cells left many (omega (arith, own, le))
+    ∙ ap (drop many) (sym f.cells_are)
 
 -- no cell is left, or no byte
 pub within_stop : (left : ℕ) (cells : List Cell) (p whole : Printout) → cells ≡ [] → p

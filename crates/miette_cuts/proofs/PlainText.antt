@@ -1,47 +1,34 @@
 -- Texts of printable ASCII characters.
 use Rattle.std.proofs.Common.{ℕ, ◌+◌, ◌-◌, ◌<◌, ◌≤◌, ◌≡◌, true, false, leb, ltb, List, [], ◌∷◌, ◌++◌, length, refl, sym}
-use Rattle.std.proofs.Common.{ap, ◌∙◌, append-nil, arith}
-use Rattle.std.specs.List.{list_all}
-use Rattle.std.proofs.lemmas.Bool.{and_parts, leb-true, ltb-true, le-ltb, lt-leb, ltb-false, leb-false}
-use Rattle.bstr.specs.Utf8.{or_replacement}
+use Rattle.std.proofs.Common.{ap, ap₂, ◌∙◌, append-nil, arith, take, drop}
+use Rattle.std.specs.List.{list_all, prefix_len}
+use Rattle.std.proofs.lemmas.Bool.{leb-true, ltb-true, le-ltb, lt-leb, ltb-false, leb-false}
+use Rattle.std.proofs.lemmas.List.{take_all, drop_all, length-take-le}
 use Rattle.miette_snippet_rules.specs.rules.PrintedCells.{first_column, last_column, cells_width}
-use Rattle.miette_cells.specs.rules.Cells.{Cell, cells_from, characters, width_at, hides_next}
+use Rattle.miette_cells.specs.rules.Cells.{Cell, cells_from, characters}
 use Rattle.miette_cells.specs.rules.Widths.{width_of}
 use Rattle.miette_snippet_rules.specs.rules.SnippetLayout.{text_of_cells}
 use Rattle.miette_snippet_rules.specs.rules.Marks.{Text}
 use Rattle.miette_cells.specs.views.Printable.{is_printable, plain_cells}
 use Rattle.miette_basics.proofs.Cases.{by_cases}
-use Rattle.miette_cells.proofs.Stepping.{cells_step, cells_end}
-use Rattle.miette_cells.proofs.Plaining.{ascii_decoded, one_column, plain_byte}
-
-plain_width : (tab column b : ℕ) → is_printable b ≡ true → 1 ≡ width_at width_of tab false column b
-plain_width tab column b h =
-    let p = plain_byte b h in
-    rw (p.escape, p.tab) (sym (one_column b h))
-
-plain_hides : (b : ℕ) → is_printable b ≡ true → false ≡ hides_next false b
-plain_hides b h = let p = plain_byte b h in rw (p.escape) refl
+use Rattle.miette_cells.proofs.Stepping.{cells_end}
+use Rattle.miette_cells.proofs.Plaining.{printable_then}
+use Rattle.miette_cells.proofs.Prefixes.{prefix_taken}
 
 -- their cells
 pub printable_cells : (tab offset column : ℕ) (bs : List ℕ) → list_all is_printable bs ≡ true
     → cells_from width_of tab false offset column (characters bs) ≡ plain_cells offset column bs
-printable_cells tab offset column [] h = cells_end width_of tab false offset column [] refl
-printable_cells tab offset column (b ∷ bs) h =
-    let parts = and_parts (is_printable b) (list_all is_printable bs) h in
-    let p = plain_byte b parts.0 in
-    let is = ascii_decoded b bs (omega (arith, p.high)) in
-    cells_step width_of tab false false offset column (b ∷ bs) bs b 1 1 (column + 1) (omega arith) refl
-    (sym (ap (λ d. or_replacement d.char) is)) (sym (ap (λ d. d.size) is)) (plain_width tab column b parts.0) refl
-    (plain_hides b parts.0)
-    ∙ ap (λ cells. record { code = b; start = offset; after = offset + 1; from = column; until = column + 1 } ∷ cells)
-    (printable_cells tab (offset + 1) (column + 1) bs parts.1)
+printable_cells tab offset column bs h =
+    let all : take (length bs) bs ≡ bs = take_all (length bs) bs (omega arith) in
+    let none : drop (length bs) bs ≡ [] = drop_all (length bs) bs (omega arith) in
+    printable_then tab offset column (length bs) bs (omega arith) (ap (list_all is_printable) all ∙ h)
+    ∙ ap₂ (λ xs ys. plain_cells offset column xs
+    ++ cells_from width_of tab false (offset + length bs) (column + length bs) (characters ys)) all none
+    ∙ ap (λ cs. plain_cells offset column bs ++ cs)
+    (cells_end width_of tab false (offset + length bs) (column + length bs) [] refl)
+    ∙ append-nil (plain_cells offset column bs)
 
 -- columns in them
-pub plain_columns : (offset column : ℕ) (bs : List ℕ) → cells_width column (plain_cells offset column bs) ≡ column
-    + length bs
-plain_columns offset column [] = omega arith
-plain_columns offset column (b ∷ bs) = plain_columns (offset + 1) (column + 1) bs ∙ omega arith
-
 pub plain_first : (offset column : ℕ) (bs : List ℕ) (cs : List Cell) (e w o : ℕ) → o - offset < length bs → column
     + (o - offset) ≡ first_column (plain_cells offset column bs ++ cs) e w o
 plain_first offset column [] cs e w o h = absurd (omega arith)
@@ -73,12 +60,36 @@ plain_last_end offset column [] cs e w o h = refl
 plain_last_end offset column (b ∷ bs) cs e w o h = rw (lt-leb o offset (omega arith))
     (plain_last_end (offset + 1) (column + 1) bs cs e w o (omega arith))
 
--- where they stand
-pub plain_text : (tab offset e : ℕ) (bs : List ℕ) → list_all is_printable bs ≡ true →
-    record { cells = plain_cells offset 0 bs ++ []; text_end = e; width = length bs }
+-- so many of them come first
+pub first_printable : (n : ℕ) (bs : List ℕ) → n ≡ prefix_len is_printable bs → list_all is_printable (take n bs) ≡ true
+first_printable n bs is =
+    ap (λ k. list_all is_printable (take k bs)) is
+    ∙ ap (λ ys. list_all is_printable (take (prefix_len is_printable ys) bs)) (sym (take_all (length bs) bs (omega arith)))
+    ∙ prefix_taken is_printable (length bs) bs
+
+-- the columns of cells with those in front of them
+pub width_then : (o c : ℕ) (bs : List ℕ) (cs : List Cell) → cells_width (c + length bs) cs
+    ≡ cells_width c (plain_cells o c bs ++ cs)
+width_then o c [] cs = let none : c + 0 ≡ c = omega arith in ap (λ n. cells_width n cs) none
+width_then o c (b ∷ bs) cs =
+    let many : c + length (b ∷ bs) ≡ c + 1 + length bs = omega arith in
+    ap (λ n. cells_width n cs) many ∙ width_then (o + 1) (c + 1) bs cs
+
+-- where they stand, and what is behind them
+pub plain_text : (tab offset e n w : ℕ) (bs plain : List ℕ) (rest : List Cell) → n ≤ length bs → n
+    ≡ prefix_len is_printable bs → plain ≡ take n bs →
+    rest ≡ cells_from width_of tab false (offset + n) n (characters (drop n bs)) → w ≡ cells_width n rest →
+    record { cells = plain_cells offset 0 plain ++ rest; text_end = e; width = w }
     ≡ text_of_cells (cells_from width_of tab false offset 0 (characters bs)) e
-plain_text tab offset e bs h =
-    let many : length bs ≡ cells_width 0 (plain_cells offset 0 bs) = omega (arith, plain_columns offset 0 bs) in
-    let made : List Cell → ℕ → Text = λ cs n. record { cells = cs; text_end = e; width = n } in
-    ap (λ cs. made cs (length bs)) (append-nil (plain_cells offset 0 bs)) ∙ ap (made (plain_cells offset 0 bs)) many
-    ∙ ap (λ cs. text_of_cells cs e) (sym (printable_cells tab offset 0 bs h))
+plain_text tab offset e n w bs plain rest le is p r width =
+    let made : List Cell → ℕ → Text = λ cs k. record { cells = cs; text_end = e; width = k } in
+    let many : n ≡ 0 + length (take n bs) = omega (arith, length-take-le n bs le) in
+    let front : n ≡ 0 + n = omega arith in
+    let whole : plain_cells offset 0 plain ++ rest ≡ cells_from width_of tab false offset 0 (characters bs) =
+    ap₂ (λ xs cs. plain_cells offset 0 xs ++ cs) p (r
+    ∙ ap (λ k. cells_from width_of tab false (offset + n) k (characters (drop n bs))) front)
+    ∙ sym (printable_then tab offset 0 n bs le (first_printable n bs is)) in
+    let columns : w ≡ cells_width 0 (plain_cells offset 0 plain ++ rest) =
+    width ∙ ap (λ k. cells_width k rest) many ∙ width_then offset 0 (take n bs) rest
+    ∙ ap (λ xs. cells_width 0 (plain_cells offset 0 xs ++ rest)) (sym p) in
+    ap (made (plain_cells offset 0 plain ++ rest)) columns ∙ ap (λ cs. text_of_cells cs e) whole

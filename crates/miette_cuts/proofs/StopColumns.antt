@@ -1,13 +1,21 @@
 -- Columns of offsets, found from stops.
-use Rattle.std.proofs.Common.{ℕ, zero, suc, ◌+◌, ◌<◌, ◌≤◌, ◌≡◌, Bool, false, ltb, leb, List, [], ◌∷◌, map, length, drop}
+use Rattle.std.proofs.Common.{ℕ, zero, suc, ◌+◌, ◌-◌, ◌<◌, ◌≤◌, ◌≡◌, Bool, false, ltb, leb, List, [], ◌∷◌, ◌++◌, map, length}
+use Rattle.std.proofs.Common.{drop}
 use Rattle.std.proofs.Common.{refl, sym, ap, subst, ◌∙◌, arith}
-use Rattle.std.proofs.lemmas.Bool.{le-ltb, lt-leb}
-use Rattle.std.proofs.lemmas.List.{length-drop}
+use Rattle.std.proofs.lemmas.Bool.{le-ltb, lt-ltb, lt-leb, ltb-true, ltb-false}
+use Rattle.std.proofs.lemmas.List.{length-drop, nil_from_length}
 use Rattle.bstr.specs.Utf8.{decoded, pieces, or_replacement, Decoded}
 use Rattle.bstr.proofs.lemmas.PieceLemmas.{pieces-step, pieces-nil, piece-bounds}
 use Rattle.miette_snippet_rules.specs.rules.PrintedCells.{first_column, last_column, cells_width}
 use Rattle.miette_cells.specs.rules.Cells.{Cell, cells_from, characters, hides_next, width_at}
-use Rattle.miette_cuts.specs.steps.Stops.{ComeFrom}
+use Rattle.miette_cells.specs.declared.cells.PlainCells.{PlainCells}
+use Rattle.miette_cells.specs.views.Printable.{plain_cells}
+use Rattle.miette_cells.specs.views.Walking.{ComeFirst}
+use Rattle.miette_basics.proofs.Cases.{by_cases}
+use Rattle.miette_cuts.specs.declared.marks.Stop.{Stop}
+use Rattle.miette_cuts.specs.declared.passing.Passage.{Passage}
+use Rattle.miette_cuts.specs.steps.Stops.{ComeFrom, SameFrom, HasPassed, IsStop, first_from, last_from}
+use Rattle.miette_cuts.proofs.PlainText.{plain_first, plain_first_end, plain_last, plain_last_end, width_then}
 
 first_later : (cell : Cell) (left : List Cell) (e w o : ℕ) → cell.after ≤ o → first_column left e w o
     ≡ first_column (cell ∷ left) e w o
@@ -69,3 +77,127 @@ pub cells_come : (w : ℕ → ℕ) (tab : ℕ) (hidden : Bool) (o column : ℕ) 
     → ComeFrom 0 (cells_from w tab hidden o column (characters bytes))
 cells_come w tab hidden o column bytes = sized_cells w tab hidden 0 o column (pieces bytes) (omega arith)
     (sized (length bytes) bytes (omega arith))
+
+-- ---- what is passed
+
+-- a cell
+pub passed_cell : (cells : List Cell) (cell : Cell) (p q : Passage) → p.walk ≡ cell ∷ q.walk → q.reached ≡ cell.after
+    → HasPassed cells p → HasPassed cells q
+passed_cell cells cell p q step r h =
+    let left = cells_left p.reached cell p.walk q.walk step h.come in
+    record {
+      same = λ e w o le. (
+        first_passed cell p.walk q.walk e w o step (omega (arith, r, le))
+            ∙ (h.same e w o (omega (arith, r, left.0, left.1, le))).0,
+        last_passed cell p.walk q.walk e w o step (omega (arith, r, left.1, le))
+            ∙ (h.same e w o (omega (arith, r, left.0, left.1, le))).1,
+      );
+      come = subst (λ n. ComeFrom n q.walk) (sym r) left.2;
+    }
+
+come_behind : (at o c : ℕ) (bs : List ℕ) (cs : List Cell) → 0 < length bs → ComeFrom at (plain_cells o c bs ++ cs)
+    → (at ≤ o) × ComeFrom (o + length bs) cs
+come_behind at o c [] cs some h = absurd (omega (arith, some))
+come_behind at o c (b ∷ []) cs some h = (h.0, h.2)
+come_behind at o c (b ∷ d ∷ bs) cs some h =
+    let rest = come_behind (o + 1) (o + 1) (c + 1) (d ∷ bs) cs (omega arith) h.2 in
+    let many : o + 1 + length (d ∷ bs) ≡ o + length (b ∷ d ∷ bs) = omega arith in
+    (h.0, subst (λ n. ComeFrom n cs) many rest.1)
+
+-- cells of printable ASCII
+pub passed_plain : (cells : List Cell) (first : PlainCells) (p q : Passage) → ComeFirst first p.walk q.walk → 0
+    < first.many → q.reached ≡ first.start + first.many → HasPassed cells p → HasPassed cells q
+passed_plain cells first p q f some r h =
+    let come = come_behind p.reached first.start first.from f.bytes q.walk (omega (arith, some, f.many))
+    (subst (λ (cs : List Cell). ComeFrom p.reached cs) f.cells_are h.come) in
+    let behind : first.start + length f.bytes ≡ q.reached = omega (arith, r, f.many) in
+    record {
+      same = λ e w o le.
+          let past : length f.bytes ≤ o - first.start = omega (arith, r, le, f.many) in
+          let here = h.same e w o (omega (arith, r, le, come.0)) in (
+            plain_first_end first.start first.from f.bytes q.walk e w o past
+                ∙ ap (λ cs. first_column cs e w o) (sym f.cells_are) ∙ here.0,
+            plain_last_end first.start first.from f.bytes q.walk e w o past
+                ∙ ap (λ cs. last_column cs e w o) (sym f.cells_are) ∙ here.1,
+          );
+      come = subst (λ n. ComeFrom n q.walk) behind come.1;
+    }
+
+none_first : (first : PlainCells) (walk left : List Cell) → ComeFirst first walk left → first.many ≤ 0 → walk ≡ left
+none_first first walk left f none =
+    f.cells_are ∙ ap (λ bs. plain_cells first.start first.from bs ++ left)
+    (nil_from_length f.bytes (omega (arith, f.many, none)))
+
+-- no cell
+pub passed_none : (cells : List Cell) (first : PlainCells) (p q : Passage) → ComeFirst first p.walk q.walk → first.many
+    ≤ 0 → q.reached ≡ p.reached → HasPassed cells p → HasPassed cells q
+passed_none cells first p q f none r h =
+    let same : p.walk ≡ q.walk = none_first first p.walk q.walk f none in
+    record {
+      same = subst (λ n. SameFrom n q.walk cells) (sym r)
+          (subst (λ (cs : List Cell). SameFrom p.reached cs cells) same h.same);
+      come = subst (λ n. ComeFrom n q.walk) (sym r) (subst (λ (cs : List Cell). ComeFrom p.reached cs) same h.come);
+    }
+
+-- the columns of a line with what is passed of it
+width_anyway : (k o c : ℕ) (bs : List ℕ) (cs : List Cell) → 0 < length bs → cells_width k (plain_cells o c bs ++ cs)
+    ≡ cells_width (c + length bs) cs
+width_anyway k o c [] cs some = absurd (omega (arith, some))
+width_anyway k o c (b ∷ bs) cs some = sym (width_then o c (b ∷ bs) cs)
+
+pub width_plain : (first : PlainCells) (walk left : List Cell) (old new : ℕ) → ComeFirst first walk left → 0
+    < first.many → new ≡ first.from + first.many → cells_width new left ≡ cells_width old walk
+width_plain first walk left old new f some n =
+    let many : new ≡ first.from + length f.bytes = omega (arith, n, f.many) in
+    ap (λ k. cells_width k left) many
+    ∙ sym (width_anyway old first.start first.from f.bytes left (omega (arith, some, f.many)))
+    ∙ ap (cells_width old) (sym f.cells_are)
+
+pub width_none : (first : PlainCells) (walk left : List Cell) (width : ℕ) → ComeFirst first walk left → first.many ≤ 0
+    → cells_width width left ≡ cells_width width walk
+width_none first walk left width f none = ap (cells_width width) (sym (none_first first walk left f none))
+
+more_left : (o c : ℕ) (bs : List ℕ) (cs : List Cell) → length cs ≤ length (plain_cells o c bs ++ cs)
+more_left o c [] cs = omega arith
+more_left o c (b ∷ bs) cs = omega (arith, more_left (o + 1) (c + 1) bs cs)
+
+pub plain_left : (first : PlainCells) (walk left : List Cell) → ComeFirst first walk left → length left ≤ length walk
+plain_left first walk left f = subst (λ (cs : List Cell). length left ≤ length cs) (sym f.cells_are)
+    (more_left first.start first.from f.bytes left)
+
+-- ---- stops
+
+pub stop_is : (cells : List Cell) (p : Passage) (stop : Stop) → stop.offset ≡ p.reached
+    → ComeFirst stop.plain p.walk stop.walk → HasPassed cells p → IsStop cells stop
+stop_is cells p stop at f h e w o le =
+    let here = h.same e w o (omega (arith, at, le)) in
+    by_cases {C = (first_from stop e w o ≡ first_column cells e w o) × (last_from stop e w o ≡ last_column cells e w o)}
+    (ltb (o - stop.plain.start) stop.plain.many)
+    (λ y.
+    let lt : o - stop.plain.start < length f.bytes =
+    omega (arith, ltb-true (o - stop.plain.start) stop.plain.many y, f.many) in
+    rw y (
+      plain_first stop.plain.start stop.plain.from f.bytes stop.walk e w o lt
+          ∙ ap (λ cs. first_column cs e w o) (sym f.cells_are) ∙ here.0,
+      plain_last stop.plain.start stop.plain.from f.bytes stop.walk e w o lt
+          ∙ ap (λ cs. last_column cs e w o) (sym f.cells_are) ∙ here.1,
+    ))
+    (λ n.
+    let past : length f.bytes ≤ o - stop.plain.start =
+    omega (arith, ltb-false (o - stop.plain.start) stop.plain.many n, f.many) in
+    rw n (
+      plain_first_end stop.plain.start stop.plain.from f.bytes stop.walk e w o past
+          ∙ ap (λ cs. first_column cs e w o) (sym f.cells_are) ∙ here.0,
+      plain_last_end stop.plain.start stop.plain.from f.bytes stop.walk e w o past
+          ∙ ap (λ cs. last_column cs e w o) (sym f.cells_are) ∙ here.1,
+    ))
+
+-- an offset in a stop's printable ASCII, and one behind it
+pub in_plain : (stop : Stop) (e w o : ℕ) → o - stop.plain.start < stop.plain.many →
+    (stop.plain.from + (o - stop.plain.start) ≡ first_from stop e w o)
+    × (stop.plain.from + (o - stop.plain.start) ≡ last_from stop e w o)
+in_plain stop e w o lt = rw (lt-ltb (o - stop.plain.start) stop.plain.many lt) (refl, refl)
+
+pub behind_plain : (stop : Stop) (e w o : ℕ) → stop.plain.many ≤ o - stop.plain.start →
+    (first_column stop.walk e w o ≡ first_from stop e w o) × (last_column stop.walk e w o ≡ last_from stop e w o)
+behind_plain stop e w o le = rw (le-ltb (o - stop.plain.start) stop.plain.many le) (refl, refl)

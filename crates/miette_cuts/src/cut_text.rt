@@ -64,11 +64,17 @@ fn push_all<O: Canvas>(page: &mut Page<O>, walk: &mut Walk, many: usize) -> Resu
 fn skip(walk: &mut Walk, many: usize) -> Result<(), AllocError>
     ensures { OnOk result (walk.new ≡ drop many walk.old) }
 {
-    for _ in 0..many {
-        let Some(cell) = walk.next()? else {
-            return Ok(());
-        };
-        let _passed = cell;
+    let mut left = many;
+    while left > 0 {
+        let plain = walk.pass_plain(left)?;
+        left -= plain.many;
+        if plain.many == 0 {
+            let Some(cell) = walk.next()? else {
+                return Ok(());
+            };
+            let _passed = cell;
+            left -= 1;
+        }
     }
     Ok(())
 }

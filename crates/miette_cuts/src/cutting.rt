@@ -20,11 +20,11 @@ ghost use Rattle.miette_cuts.specs.views.LineTexts.{text_cells};
 
 use crate::line_text::LineText;
 use crate::marks::Mark;
-use crate::plain_cut::plain_stretches;
+use crate::passing::{Passage, pass_cells, pass_plain};
+use crate::plain_cut::put_plain;
 use crate::stretch::{Cut, Stretch, is_shown, put_stretch};
 use miette_basics::sums::sum;
 use miette_cells::cells::{Cell, Walk};
-use miette_cells::plain::all_printable;
 use std::alloc::{AllocError, Global};
 
 // Whether some column of a cell is at most so many columns away from this one.
@@ -81,9 +81,13 @@ fn stretches_behind(
     let mut walk = walk;
     let mut made = Vec::new(alloc);
     let mut reached = first;
+    let plain = walk.pass_plain(usize::MAX)?;
+    put_plain(&mut made, &mut reached, limit, ends, &plain)?;
     while let Some(cell) = walk.next()? {
         let next = lone_stretch(limit, ends, reached.near, &cell);
         put_stretch(&mut made, &mut reached, next)?;
+        let plain = walk.pass_plain(usize::MAX)?;
+        put_plain(&mut made, &mut reached, limit, ends, &plain)?;
     }
     made.push(reached)?;
     Ok(made)
@@ -186,32 +190,17 @@ fn ends_of(alloc: Global, marks: &[Mark<'_>]) -> Result<Vec<usize>, AllocError>
 fn columns_of_line(walk: Walk<'_>) -> Result<usize, AllocError>
     ensures { IfOk result (λ width. width ≡ cells_width 0 walk.entry) }
 {
-    let mut walk = walk;
-    let mut width = 0;
-    while let Some(cell) = walk.next()? {
-        width = cell.until;
+    let mut passage = Passage {
+        walk,
+        reached: 0,
+        width: 0,
+    };
+    let mut plain = pass_plain(&mut passage)?;
+    while pass_cells(&mut passage)? {
+        plain = pass_plain(&mut passage)?;
     }
-    Ok(width)
-}
-
-// The stretches of a text of printable ASCII around these marks of it, where it has more columns than the limit.
-fn plain_cut_at(
-    alloc: Global,
-    text: &[u8],
-    marks: &[Mark<'_>],
-    limit: usize,
-) -> Result<Cut, AllocError>
-    requires { list_all is_printable text.now ≡ true }
-    ensures { IfOk result (λ cut. (start : ℕ) → option_map (λ made. made.items) cut
-        ≡ option_map (map measure) (cut_line (Some limit) (map mark_of marks.now)
-        (plain_cells start 0 text.now))) }
-{
-    if text.len() <= limit {
-        return Ok(None);
-    }
-    let ends = ends_of(alloc, marks)?;
-    let made = plain_stretches(alloc, text, limit, &ends)?;
-    Ok(Some(made))
+    let _last = plain;
+    Ok(passage.width)
 }
 
 // The stretches of a line's text around these marks of it, where it has more columns than the limit.
@@ -225,10 +214,6 @@ fn cut_at(
     ensures { IfOk result (λ cut. option_map (λ made. made.items) cut
         ≡ option_map (map measure) (cut_line (Some limit) (map mark_of marks.now) (text_cells text.now))) }
 {
-    if all_printable(text.bytes) {
-        let plain = plain_cut_at(alloc, text.bytes, marks, limit)?;
-        return Ok(plain);
-    }
     let walk = Walk::new(text.bytes, text.start, text.tab);
     let width = columns_of_line(walk.copy())?;
     if width <= limit {

@@ -6,6 +6,7 @@ mod cut_text;
 pub mod cutting;
 pub mod line_text;
 pub mod marks;
+mod passing;
 mod plain_cut;
 pub mod printing;
 pub mod stretch;

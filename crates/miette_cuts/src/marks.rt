@@ -11,28 +11,27 @@ ghost use Rattle.miette_snippet_rules.specs.rules.SnippetLayout.{text_of_cells};
 ghost use Rattle.miette_labels.specs.views.GivenLabels.{drawn_of};
 ghost use Rattle.miette_cells.specs.rules.Widths.{width_of};
 ghost use Rattle.miette_cuts.specs.views.Marks.{mark_of, IsAnchored};
-ghost use Rattle.miette_cuts.specs.steps.Stops.{ComeFrom, IsStop};
+ghost use Rattle.miette_cuts.specs.steps.Stops.{ComeFrom, IsStop, first_from, last_from};
 
+use crate::passing::{Passage, pass_cells, pass_plain};
 use miette_basics::sums::sum;
-use miette_cells::cells::Walk;
-use miette_cells::plain::all_printable;
+use miette_cells::cells::{PlainCells, Walk};
+use miette_cells::plain::plain_len;
 use miette_labels::sweep::PlacedLabel;
 use miette_source_lines::lines::LineOfText;
 use std::alloc::{AllocError, Global};
 use std::marker::Model;
 
-// How many characters stand between two stops of a line's text.
-const BETWEEN_STOPS: usize = 64;
-
-// A walk over the cells of a line's text from an offset on.
+// The cells of a line's text from an offset on: those of printable ASCII that come first, and a walk over the others.
 #[derive(Drop)]
 struct Stop<'a> {
     offset: usize,
+    plain: PlainCells,
     walk: Walk<'a>,
 }
 
-/// Where the characters of a line's text stand, by offset. A text of printable ASCII characters needs no walk: its
-/// bytes are its columns.
+/// Where the characters of a line's text stand, by offset. Printable ASCII characters need no walk: their bytes are
+/// their columns. So they do at the text's beginning (`plain`), and behind each stop of the rest (`whole`).
 #[derive(Drop)]
 pub(crate) struct Columns<'a> {
     plain: &'a [u8],
@@ -91,48 +90,62 @@ fn column_from(walk: Walk<'_>, offset: usize) -> Result<Option<usize>, AllocErro
     Ok(None)
 }
 
-// The cells from the last of these stops that doesn't stand behind an offset, or all where none does.
-fn walk_to<'a>(whole: &Walk<'a>, stops: &[Stop<'a>], offset: usize) -> Walk<'a>
+// The last of these stops that doesn't stand behind an offset, or one in front of all cells where none does.
+fn stop_to<'a>(whole: &Walk<'a>, stops: &[Stop<'a>], offset: usize) -> Stop<'a>
     requires { All (IsStop whole.now) stops.now }
-    ensures first { (text_end width : ℕ) → first_of_cells result text_end width offset
+    ensures first { (text_end width : ℕ) → first_from result text_end width offset
         ≡ first_of_cells whole.now text_end width offset }
-    ensures last { (text_end width : ℕ) → last_of_cells result text_end width offset
+    ensures last { (text_end width : ℕ) → last_from result text_end width offset
         ≡ last_of_cells whole.now text_end width offset }
 {
     let passed = stops.partition_point(|stop| stop.offset <= offset);
     if passed > 0 && passed <= stops.len() {
         let stop = &stops[passed - 1];
         if stop.offset <= offset {
-            return stop.walk.copy();
+            return Stop {
+                offset: stop.offset,
+                plain: stop.plain,
+                walk: stop.walk.copy(),
+            };
         }
     }
-    whole.copy()
+    Stop {
+        offset,
+        plain: PlainCells {
+            start: offset,
+            from: 0,
+            many: 0,
+        },
+        walk: whole.copy(),
+    }
 }
 
-// The stops of a line's text, whose cells are given, and its columns.
-fn stops_of<'a>(alloc: Global, walk: Walk<'a>) -> Result<(Vec<Stop<'a>>, usize), AllocError>
+// The stops of a line's text behind a column, whose cells are given, and the text's columns.
+fn stops_of<'a>(
+    alloc: Global,
+    walk: Walk<'a>,
+    column: usize,
+) -> Result<(Vec<Stop<'a>>, usize), AllocError>
     requires { ComeFrom 0 walk }
     ensures stops { IfOk result (λ made. All (IsStop walk.entry) made.0.items) }
-    ensures width { IfOk result (λ made. made.1 ≡ cells_width 0 walk.entry) }
+    ensures width { IfOk result (λ made. made.1 ≡ cells_width column walk.entry) }
 {
-    let mut walk = walk;
     let mut stops = Vec::new(alloc);
-    let mut width = 0;
-    let mut reached = 0;
-    let mut left = BETWEEN_STOPS;
-    while let Some(cell) = walk.next()? {
-        width = cell.until;
-        reached = cell.after;
-        left -= 1;
-        if left == 0 {
-            stops.push(Stop {
-                offset: reached,
-                walk: walk.copy(),
-            })?;
-            left = BETWEEN_STOPS;
-        }
+    let mut passage = Passage {
+        walk,
+        reached: 0,
+        width: column,
+    };
+    while pass_cells(&mut passage)? {
+        let offset = passage.reached;
+        let plain = pass_plain(&mut passage)?;
+        stops.push(Stop {
+            offset,
+            plain,
+            walk: passage.walk.copy(),
+        })?;
     }
-    Ok((stops, width))
+    Ok((stops, passage.width))
 }
 
 impl<'a> Columns<'a> {
@@ -148,20 +161,11 @@ impl<'a> Columns<'a> {
         ensures { IfOk result (λ columns. columns
             ≡ text_of_cells (cells_from width_of tab false line.now.start 0 (characters text.now)) line.now.text_end) }
     {
-        if all_printable(text) {
-            return Ok(Columns {
-                plain: text,
-                start: line.start,
-                whole: Walk::new(&[], line.start, tab),
-                stops: Vec::new(alloc),
-                text_end: line.text_end,
-                width: text.len(),
-            });
-        }
-        let whole = Walk::new(text, line.start, tab);
-        let (stops, width) = stops_of(alloc, whole.copy())?;
+        let (plain, rest) = text.split_at(plain_len(text));
+        let whole = Walk::from_column(rest, line.start + plain.len(), plain.len(), tab);
+        let (stops, width) = stops_of(alloc, whole.copy(), plain.len())?;
         Ok(Columns {
-            plain: &[],
+            plain,
             start: line.start,
             whole,
             stops,
@@ -190,7 +194,12 @@ impl<'a> Columns<'a> {
         if at < self.plain.len() {
             return Ok(at);
         }
-        match column_behind(walk_to(&self.whole, &self.stops, offset), offset)? {
+        let stop = stop_to(&self.whole, &self.stops, offset);
+        let away = offset.saturating_sub(stop.plain.start);
+        if away < stop.plain.many {
+            return sum(stop.plain.from, away);
+        }
+        match column_behind(stop.walk, offset)? {
             Some(column) => Ok(column),
             None => self.column_at_end(offset),
         }
@@ -205,7 +214,12 @@ impl<'a> Columns<'a> {
         if at < self.plain.len() {
             return Ok(at);
         }
-        match column_from(walk_to(&self.whole, &self.stops, offset), offset)? {
+        let stop = stop_to(&self.whole, &self.stops, offset);
+        let away = offset.saturating_sub(stop.plain.start);
+        if away < stop.plain.many {
+            return sum(stop.plain.from, away);
+        }
+        match column_from(stop.walk, offset)? {
             Some(column) => Ok(column),
             None => self.column_at_end(offset),
         }

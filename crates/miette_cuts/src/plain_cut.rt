@@ -1,19 +1,22 @@
-//! Lines of printable ASCII that are cut: their stretches by the ends of marks, and what is printed of them, with no
-//! walk over their characters.
+//! Printable ASCII in lines that are cut: its stretches by the ends of marks, and what is printed of lines that are all
+//! printable ASCII, with no walk over the characters.
 
-ghost use Rattle.std.specs.Prelude.{◌≡◌, ◌<◌, ◌≤◌, ◌+◌, ℕ, List, true, false, map, take, nat_lt, IfOk, OnOk};
+ghost use Rattle.std.specs.Prelude.{◌≡◌, ◌<◌, ◌≤◌, ◌+◌, ◌++◌, ℕ, List, true, map, take, length, nat_lt, OnOk};
 ghost use Rattle.std.specs.List.{list_all};
 ghost use Rattle.miette_page.specs.views.Printouts.{◌⊕◌};
+ghost use Rattle.miette_cells.specs.rules.Cells.{Cell};
 ghost use Rattle.miette_cells.specs.views.Printable.{is_printable, plain_cells};
 ghost use Rattle.miette_snippet_rules.specs.rules.CutLines.{is_near, stretches};
 ghost use Rattle.miette_cuts.specs.views.Cuts.{measure};
-ghost use Rattle.miette_cuts.specs.steps.Cut.{cell_at, even, plain_run, plain_told};
+ghost use Rattle.miette_cuts.specs.steps.Cut.{cell_at, even, onto_made, plain_run, plain_told};
 
 use crate::stretch::{Stretch, is_shown, put_stretch};
 use crate::tabs::push_ascii;
+use miette_basics::sums::sum;
+use miette_cells::cells::PlainCells;
 use miette_page::canvas::Canvas;
 use miette_page::page::{PLAIN, Page};
-use std::alloc::{AllocError, Global};
+use std::alloc::AllocError;
 
 // Whether a column is near where there is no end, as those before the limit are, and the column, at most `len`, up to
 // which those behind it are near where it is.
@@ -73,30 +76,29 @@ fn even_stretch(limit: usize, ends: &[usize], column: usize, len: usize) -> Stre
     }
 }
 
-/// The stretches of a text of printable ASCII in a line with these ends.
-pub(crate) fn plain_stretches(
-    alloc: Global,
-    text: &[u8],
+/// Puts the stretches of cells of printable ASCII, in a line with these ends, behind the last one that was reached.
+/// `AllocError` where memory is refused, or a column or a count is past the largest `usize`.
+pub(crate) fn put_plain(
+    made: &mut Vec<Stretch>,
+    reached: &mut Stretch,
     limit: usize,
     ends: &[usize],
-) -> Result<Vec<Stretch>, AllocError>
-    requires { list_all is_printable text.now ≡ true }
-    ensures { IfOk result (λ made. (start : ℕ) → made.items
-        ≡ map measure (stretches (is_near limit ends.now) false (plain_cells start 0 text.now))) }
+    plain: &PlainCells,
+) -> Result<(), AllocError>
+    ensures { OnOk result ((bytes : List ℕ) → (rest : List Cell) → list_all is_printable bytes ≡ true →
+        length bytes ≡ plain.now.many → made.new.items
+        ++ onto_made reached.new (map measure (stretches (is_near limit ends.now) reached.new.near rest))
+        ≡ made.old.items ++ onto_made reached.old (map measure (stretches (is_near limit ends.now) reached.old.near
+        (plain_cells plain.now.start plain.now.from bytes ++ rest)))) }
 {
-    let mut made = Vec::new(alloc);
-    if text.is_empty() {
-        return Ok(made);
-    }
-    let mut reached = even_stretch(limit, ends, 0, text.len());
-    let mut column = reached.cells;
-    while column < text.len() {
-        let next = even_stretch(limit, ends, column, text.len());
+    let end = sum(plain.from, plain.many)?;
+    let mut column = plain.from;
+    while column < end {
+        let next = even_stretch(limit, ends, column, end);
         column += next.cells;
-        put_stretch(&mut made, &mut reached, next)?;
+        put_stretch(made, reached, next)?;
     }
-    made.push(reached)?;
-    Ok(made)
+    Ok(())
 }
 
 // A stretch of printable ASCII that stands first in these bytes, or its dots.

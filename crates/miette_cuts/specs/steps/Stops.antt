@@ -1,16 +1,39 @@
 -- The stops of a line's text, from which the columns of its characters are found.
-use Rattle.std.specs.Prelude.{ℕ, ◌≡◌, ◌<◌, ◌≤◌, List, [], ◌∷◌}
+use Rattle.std.specs.Prelude.{ℕ, ◌≡◌, ◌<◌, ◌≤◌, ◌+◌, ◌-◌, List, [], ◌∷◌, if◌then◌else◌, nat_lt}
 use Rattle.miette_cells.specs.rules.Cells.{Cell}
 use Rattle.miette_snippet_rules.specs.rules.PrintedCells.{first_column, last_column}
 use Rattle.miette_cuts.specs.declared.marks.Stop.{Stop}
+use Rattle.miette_cuts.specs.declared.passing.Passage.{Passage}
 
 -- each cell has a byte, and begins where the one before it ends or later
 abbrev pub ComeFrom : ℕ → List Cell → Type 0
 ComeFrom at [] = Unit {0}
 ComeFrom at (cell ∷ cells) = (at ≤ cell.start) × (cell.start < cell.after) × ComeFrom cell.after cells
 
--- from the stop's offset on, the columns of offsets in all cells are those in the stop's
+-- from an offset on the columns of offsets in some cells are those in others
+abbrev pub SameFrom : ℕ → List Cell → List Cell → Type 0
+SameFrom at left cells = (text_end width offset : ℕ) → at ≤ offset →
+    (first_column left text_end width offset ≡ first_column cells text_end width offset)
+    × (last_column left text_end width offset ≡ last_column cells text_end width offset)
+
+-- behind what is passed of some cells the columns of offsets are those in the cells that are left
+pub record HasPassed (cells : List Cell) (passage : Passage) : Type 0 where
+  pub same : SameFrom passage.reached passage.walk cells
+  pub come : ComeFrom passage.reached passage.walk
+
+-- the column of an offset by a stop: among its cells of printable ASCII, or behind them
+abbrev pub first_from : Stop → ℕ → ℕ → ℕ → ℕ
+first_from stop text_end width offset =
+    if nat_lt (offset - stop.plain.start) stop.plain.many then stop.plain.from + (offset - stop.plain.start)
+    else first_column stop.walk text_end width offset
+
+abbrev pub last_from : Stop → ℕ → ℕ → ℕ → ℕ
+last_from stop text_end width offset =
+    if nat_lt (offset - stop.plain.start) stop.plain.many then stop.plain.from + (offset - stop.plain.start)
+    else last_column stop.walk text_end width offset
+
+-- from the stop's offset on, the columns of offsets in all cells are those by the stop
 abbrev pub IsStop : List Cell → Stop → Type 0
 IsStop cells stop = (text_end width offset : ℕ) → stop.offset ≤ offset →
-    (first_column stop.walk text_end width offset ≡ first_column cells text_end width offset)
-    × (last_column stop.walk text_end width offset ≡ last_column cells text_end width offset)
+    (first_from stop text_end width offset ≡ first_column cells text_end width offset)
+    × (last_from stop text_end width offset ≡ last_column cells text_end width offset)

@@ -1,13 +1,12 @@
-use Rattle.std.proofs.Common.{◌∙◌, List, ℕ, Some, false, ap, map, option_map, sym}
+use Rattle.std.proofs.Common.{◌∙◌, List, ℕ, false, ap, map}
 use Rattle.miette_cells.specs.rules.Cells.{Cell}
-use Rattle.miette_snippet_rules.specs.rules.CutLines.{cut_line, ends, is_near, stretches}
+use Rattle.miette_snippet_rules.specs.rules.CutLines.{ends, is_near, stretches}
 use Rattle.miette_snippet_rules.specs.rules.Marks.{Mark}
 use Rattle.miette_snippet_rules.specs.rules.PrintedCells.{cells_width}
 use Rattle.miette_cuts.specs.views.Cuts.{measure}
 use Rattle.miette_cuts.specs.views.Marks.{mark_of}
 use Rattle.miette_cuts.specs.views.LineTexts.{text_cells}
 use Rattle.miette_cuts.proofs.CutStretches.{cut_is, cut_none}
-use Rattle.miette_cuts.proofs.PlainText.{printable_cells}
 use Rattle.miette_cuts.proofs.cutting.cut_at.Goals as goal
 
 pub returns-then-width-limit : goal.returns-then-width-limit
@@ -25,13 +24,3 @@ returns c =
     (c.in_ok-made.ensures ∙ ap (λ es. map measure (stretches (is_near limit es) false c.new-walk.result))
     (c.deref.ensures.value ∙ c.in_ok-ends.ensures)
     ∙ ap (λ cs. map measure (stretches (is_near limit (ends own)) false cs)) c.new-walk.ensures)
-
-pub plain_cut_at-requires : goal.plain_cut_at-requires
-plain_cut_at-requires c = sym c.all_printable.ensures ∙ c.if-all_printable.true
-
-pub returns-then-all_printable : goal.returns-then-all_printable
-returns-then-all_printable c =
-    c.in_ok-plain.ensures c.args.text.now.start
-    ∙ ap (λ cells. option_map (map measure) (cut_line (Some c.args.limit) (map mark_of c.args.marks.now)
-    cells)) (sym (printable_cells c.args.text.now.tab c.args.text.now.start 0 c.args.text.now.bytes.now
-    (sym c.all_printable.ensures ∙ c.if-all_printable.true)))

@@ -1,28 +1,26 @@
-use Rattle.std.proofs.Common.{List, length, ◌≡◌, ◌++◌, [], ◌∙◌, false, refl, sym, ap, subst}
-use Rattle.miette_cells.specs.rules.Cells.{Cell}
-use Rattle.miette_snippet_rules.specs.rules.Marks.{Text}
-use Rattle.miette_cells.specs.views.Printable.{plain_cells}
+use Rattle.std.proofs.Common.{◌+◌, ◌∙◌, ℕ, List, false, ap, drop, length, subst, sym, take, arith}
+use Rattle.miette_cells.specs.rules.Cells.{Cell, cells_from, characters}
 use Rattle.miette_cells.specs.rules.Widths.{width_of}
+use Rattle.miette_snippet_rules.specs.rules.PrintedCells.{cells_width}
 use Rattle.miette_cuts.specs.steps.Stops.{ComeFrom}
-use Rattle.miette_cells.proofs.Stepping.{cells_end}
 use Rattle.miette_cuts.proofs.StopColumns.{cells_come}
 use Rattle.miette_cuts.proofs.PlainText.{plain_text}
 use Rattle.miette_cuts.proofs.marks.Columns.new.Goals as goal
 
-pub returns-then-all_printable : goal.returns-then-all_printable
-returns-then-all_printable c =
-    let made : List Cell → Text = λ cells. record {
-      cells = plain_cells c.args.line.now.start 0 c.args.text.now
-          ++ cells;
-      text_end = c.args.line.now.text_end;
-      width = length c.args.text.now;
-    } in
-    let none : c.new.result ≡ [] = c.new.ensures ∙ cells_end width_of c.args.tab false c.args.line.now.start 0 [] refl
-    in
-    ap made none ∙ plain_text c.args.tab c.args.line.now.start c.args.line.now.text_end c.args.text.now
-    (sym c.all_printable.ensures ∙ c.if-all_printable.true)
-
 pub stops_of-requires : goal.stops_of-requires
 stops_of-requires c =
-    subst (λ (cs : List Cell). ComeFrom 0 cs) (sym (c.copy.ensures ∙ c.new-whole.ensures))
-    (cells_come width_of c.args.tab false c.args.line.now.start 0 c.args.text.now)
+    subst (λ (cs : List Cell). ComeFrom 0 cs) (sym (c.copy.ensures ∙ c.from_column-whole.ensures))
+    (cells_come width_of c.args.tab false _ _ _)
+
+pub returns : goal.returns
+returns c =
+    let n : ℕ = length c.split_at.result.0.now in
+    let text : List ℕ = c.args.text.now in
+    plain_text c.args.tab c.args.line.now.start c.args.line.now.text_end n c.in_ok-stops.width text
+    c.split_at.result.0.now c.from_column-whole.result
+    (omega (arith, c.split_at.ensures.front_len, c.plain_len.ensures.within))
+    (c.split_at.ensures.front_len ∙ c.plain_len.ensures.len)
+    (c.split_at.ensures.front ∙ ap (λ k. take k text) (sym c.split_at.ensures.front_len))
+    (c.from_column-whole.ensures ∙ ap (λ bs. cells_from width_of c.args.tab false (c.args.line.now.start + n) n
+    (characters bs)) (c.split_at.ensures.back ∙ ap (λ k. drop k text) (sym c.split_at.ensures.front_len)))
+    (c.in_ok-stops.ensures.width ∙ ap (cells_width n) c.copy.ensures)
