@@ -1,17 +1,22 @@
 //! The handler of brief reports.
 
-ghost use Rattle.std.specs.Prelude.{◌≡◌, ◌++◌, true, false, OnOk, OnErr, string_bytes};
+ghost use Rattle.std.specs.Prelude.{◌≡◌, ◌++◌, true, false, map, OnOk, OnErr, string_bytes};
+ghost use Rattle.std.specs.Option.{option_map};
+ghost use Rattle.miette_tree.specs.rules.Tree.{trees};
+ghost use Rattle.miette_tree.specs.views.Owned.{shown_source};
 ghost use Rattle.miette_tree.specs.views.Report.{tree_of};
 ghost use Rattle.miette_tree.specs.views.Handler.{AppendsOne};
-ghost use Rattle.miette_tree.specs.rules.Reads.{AlwaysReads, report_accepted};
+ghost use Rattle.miette_tree.specs.rules.Reads.{AlwaysReads, accepts, holds_of, holds_of_all, report_accepted};
 ghost use Rattle.miette_brief.specs.rules.Report.{default_settings, brief, unlisted};
 ghost use Rattle.miette_brief.specs.rules.PossibleAnswers.{IsBrief};
+ghost use Rattle.miette_brief.specs.steps.AppendedParts.{AppendsRelated, AppendsReport};
 
-use crate::report::brief_of;
+use crate::report::push_own;
 use miette_protocol::error::RenderError;
 use miette_protocol::protocol::Diagnostic;
 use miette_protocol::source::SourceCode;
-use miette_tree::report::Report;
+use miette_tree::parts::own_or;
+use miette_tree::report::{Report, SourceRef};
 use miette_tree::text_handler::{TextHandler, append_text};
 use std::alloc::Global;
 use std::marker::Model;
@@ -117,6 +122,45 @@ impl BriefReportHandler {
     {
         append_text(self, report, out)
     }
+
+    // Appends the rows of a report, below one with this source.
+    #[cycle(report)]
+    fn push_report<'a, D: Diagnostic, S: SourceCode>(
+        &self,
+        report: &'a Report<D, S>,
+        inherited: Option<SourceRef<'a, S>>,
+        out: &mut String,
+    ) -> Result<(), RenderError>
+        ensures text { OnOk result (AppendsReport self.now.chain (option_map (shown_source S.source) inherited.entry)
+            (tree_of D.meaning S.source report.now) (string_bytes out.old) (string_bytes out.new)) }
+        ensures refused { (result ≡ Err RenderError.Refused) →
+            holds_of accepts (option_map (shown_source S.source) inherited.entry)
+            (tree_of D.meaning S.source report.now) ≡ false }
+    {
+        let source = own_or(report, inherited);
+        push_own(self.tells_causes(), report, source, out)?;
+        self.push_related(report.related(), source, out)
+    }
+
+    // Appends those of related reports, below a report with this source.
+    #[cycle(report)]
+    fn push_related<'a, D: Diagnostic, S: SourceCode>(
+        &self,
+        reports: &'a [Report<D, S>],
+        source: Option<SourceRef<'a, S>>,
+        out: &mut String,
+    ) -> Result<(), RenderError>
+        ensures text { OnOk result (AppendsRelated self.now.chain (option_map (shown_source S.source) source.entry)
+            (trees (map (tree_of D.meaning S.source) reports.now)) (string_bytes out.old) (string_bytes out.new)) }
+        ensures refused { (result ≡ Err RenderError.Refused) →
+            holds_of_all accepts (option_map (shown_source S.source) source.entry)
+            (trees (map (tree_of D.meaning S.source) reports.now)) ≡ false }
+    {
+        for report in reports {
+            self.push_report(report, source, out)?;
+        }
+        Ok(())
+    }
 }
 
 impl TextHandler for BriefReportHandler {
@@ -129,6 +173,8 @@ impl TextHandler for BriefReportHandler {
         alloc: Global,
         report: &Report<D, S>,
     ) -> Result<String, RenderError> {
-        brief_of(alloc, self.tells_causes(), report)
+        let mut text = String::new(alloc);
+        self.push_report(report, None, &mut text)?;
+        Ok(text)
     }
 }

@@ -6,19 +6,18 @@ ghost use Rattle.std.specs.List.{All};
 ghost use Rattle.std.specs.Option.{option_map};
 ghost use Rattle.miette_tree.specs.views.Report.{tree_of};
 ghost use Rattle.miette_tree.specs.views.Owned.{shown_source};
-ghost use Rattle.miette_tree.specs.rules.Tree.{head, cause_of, trees};
+ghost use Rattle.miette_tree.specs.rules.Tree.{head, cause_of};
 ghost use Rattle.miette_tree.specs.rules.DiagnosticParts.{given_labels};
-ghost use Rattle.miette_tree.specs.rules.Reads.{holds_of, holds_of_all, accepts, report_accepted};
-ghost use Rattle.miette_labels.specs.rules.Groups.{in_order};
-ghost use Rattle.miette_labels.specs.views.GivenLabels.{label_at};
-ghost use Rattle.miette_brief.specs.rules.Rows.{rows_text};
+ghost use Rattle.miette_tree.specs.rules.Reads.{accepts};
 ghost use Rattle.miette_brief.specs.rules.Places.{label_place as place_of_label};
+ghost use Rattle.miette_brief.specs.rules.PossibleAnswers.{HasAccepted};
 ghost use Rattle.miette_brief.specs.rules.Report.{finding_row, note_rows_of, note_rows, cause_row, help_rows};
-ghost use Rattle.miette_brief.specs.rules.PossibleAnswers.{HasAccepted, IsBrief};
+ghost use Rattle.miette_brief.specs.rules.Rows.{rows_text};
+ghost use Rattle.miette_brief.specs.steps.AppendedParts.{AppendsCauses, AppendsLabelled, AppendsOwn};
 ghost use Rattle.miette_brief.specs.steps.Conversions.{place_of};
 ghost use Rattle.miette_brief.specs.steps.Reads.{IsUnread, IsReadAt};
-ghost use Rattle.miette_brief.specs.steps.AppendedParts.{AppendsCauses, AppendsLabelled, AppendsOwn, AppendsReport};
-ghost use Rattle.miette_brief.specs.steps.AppendedParts.{AppendsRelated};
+ghost use Rattle.miette_labels.specs.rules.Groups.{in_order};
+ghost use Rattle.miette_labels.specs.views.GivenLabels.{label_at};
 
 use crate::places::{cause_place, diagnostic_place, label_of, label_place};
 use crate::rows::{Kind, Place, push_row};
@@ -154,7 +153,7 @@ fn push_labelled<'a, D: Diagnostic, S: SourceCode>(
 }
 
 /// The rows of a report over a source, or over none, without those of related reports.
-fn push_own<'a, D: Diagnostic, S: SourceCode>(
+pub(crate) fn push_own<'a, D: Diagnostic, S: SourceCode>(
     chain: bool,
     report: &'a Report<D, S>,
     source: Option<SourceRef<'a, S>>,
@@ -175,61 +174,4 @@ fn push_own<'a, D: Diagnostic, S: SourceCode>(
     }
     push_help(out, at, report.help())?;
     Ok(())
-}
-
-/// Appends a report, below one with this source.
-#[cycle(report)]
-fn push_report<'a, D: Diagnostic, S: SourceCode>(
-    alloc: Global,
-    chain: bool,
-    report: &'a Report<D, S>,
-    inherited: Option<SourceRef<'a, S>>,
-    out: &mut String,
-) -> Result<(), RenderError>
-    ensures text { OnOk result (AppendsReport chain (option_map (shown_source S.source) inherited.entry)
-        (tree_of D.meaning S.source report.now) (string_bytes out.old) (string_bytes out.new)) }
-    ensures refused { (result ≡ Err RenderError.Refused) →
-        holds_of accepts (option_map (shown_source S.source) inherited.entry) (tree_of D.meaning S.source report.now)
-        ≡ false }
-{
-    let source = own_or(report, inherited);
-    push_own(chain, report, source, out)?;
-    push_related(alloc, chain, report.related(), source, out)
-}
-
-/// Appends related reports, below a report with this source.
-#[cycle(report)]
-fn push_related<'a, D: Diagnostic, S: SourceCode>(
-    alloc: Global,
-    chain: bool,
-    reports: &'a [Report<D, S>],
-    source: Option<SourceRef<'a, S>>,
-    out: &mut String,
-) -> Result<(), RenderError>
-    ensures text { OnOk result (AppendsRelated chain (option_map (shown_source S.source) source.entry)
-        (trees (map (tree_of D.meaning S.source) reports.now)) (string_bytes out.old) (string_bytes out.new)) }
-    ensures refused { (result ≡ Err RenderError.Refused) →
-        holds_of_all accepts (option_map (shown_source S.source) source.entry)
-        (trees (map (tree_of D.meaning S.source) reports.now)) ≡ false }
-{
-    for report in reports {
-        push_report(alloc, chain, report, source, out)?;
-    }
-    Ok(())
-}
-
-/// The brief text of a report, with its causes where the chain is told.
-pub(crate) fn brief_of<D: Diagnostic, S: SourceCode>(
-    alloc: Global,
-    chain: bool,
-    report: &Report<D, S>,
-) -> Result<String, RenderError>
-    ensures text { IfOk result (λ text. IsBrief (record { chain = chain }) (tree_of D.meaning S.source report.now)
-        (string_bytes text)) }
-    ensures refused { (result ≡ Err RenderError.Refused) →
-        report_accepted (tree_of D.meaning S.source report.now) ≡ false }
-{
-    let mut text = String::new(alloc);
-    push_report(alloc, chain, report, None, &mut text)?;
-    Ok(text)
 }

@@ -5,11 +5,11 @@ use Rattle.miette_tree.specs.views.Owned.{shown_source}
 use Rattle.miette_tree.specs.views.Report.{tree_of}
 use Rattle.miette_tree.proofs.TreeSizes.{tree_size, trees_size}
 use Rattle.miette_brief.proofs.Telling.{RelatedSoFar}
-use Rattle.miette_brief.proofs.report.+report.Given as goal
+use Rattle.miette_brief.proofs.handler.BriefReportHandler.+report.Given as goal
 
 abbrev pub invariant-push_related-loop-report : goal.invariant-push_related-loop-report
 invariant-push_related-loop-report g l =
-    RelatedSoFar (tree_of g.D.Diagnostic.meaning g.S.SourceCode.source) l.chain
+    RelatedSoFar (tree_of g.D.Diagnostic.meaning g.S.SourceCode.source) l.fn.self.chain
     (option_map (shown_source g.S.SourceCode.source) l.source) l.reports l.report-index (string_bytes l.fn.out)
     (string_bytes l.out)
 
