@@ -49,9 +49,8 @@ impl Clone for NarratableReportHandler {
 
     fn clone(&self) -> Result<Self, AllocError> {
         Ok(NarratableReportHandler {
-            cause_chain: self.cause_chain,
-            context_lines: self.context_lines,
             footer: self.footer.clone()?,
+            ..*self
         })
     }
 }
