@@ -267,23 +267,18 @@ impl<H: Highlighter> GraphicalReportHandler<H> {
     }
 
     /// Styles the lines of sources by this highlighter.
-    pub fn with_syntax_highlighting(self, highlighter: H) -> Self
+    pub fn with_syntax_highlighting(mut self, highlighter: H) -> Self
         ensures { result ≡ record self { highlighter = Some highlighter } }
     {
-        GraphicalReportHandler {
-            highlighter: Some(highlighter),
-            ..self
-        }
+        self.highlighter = Some(highlighter);
+        self
     }
 
     /// Leaves the lines of sources plain.
-    pub fn without_syntax_highlighting(self) -> Self
+    pub fn without_syntax_highlighting(mut self) -> Self
         ensures { result ≡ record self { highlighter = None } }
     {
-        let highlighter = None;
-        GraphicalReportHandler {
-            highlighter,
-            ..self
-        }
+        self.highlighter = None;
+        self
     }
 }
