@@ -29,3 +29,4 @@ pub mod Arrows
 pub mod ArrowRows
 pub mod Levels
 pub mod Barred
+pub mod LabelLines

@@ -4,6 +4,7 @@ pub mod Colourless
 pub mod Paths
 pub mod Alike
 pub mod CharacterSets
+pub mod LabelLines
 pub mod Headline
 pub mod Holding
 pub mod FittingRows

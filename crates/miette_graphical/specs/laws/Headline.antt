@@ -34,6 +34,7 @@ use Rattle.miette_tree.specs.rules.DiagnosticParts.{given_labels}
 use Rattle.miette_graphical.specs.rules.PrintedDiagnostics.{PrintedDiagnostic}
 use Rattle.miette_graphical.specs.rules.Settings.{Settings}
 use Rattle.miette_graphical.specs.laws.CharacterSets.{AreNarrow}
+use Rattle.miette_graphical.specs.laws.LabelLines.{HasItsLines}
 use Rattle.miette_graphical.specs.rules.Snippets.{snippet_settings, shown_rows, drawn_rows}
 
 -- ---- the lines of the snippets
@@ -53,7 +54,8 @@ group_settings s labels = settings_around (snippet_settings s) (in_order labels)
 -- The snippets show the lines in the context of some label, once and in order, each with its number: the rows are
 -- those of the maximal ranges of these lines, each line with its own cells, in whatever pieces, each range in a frame;
 -- and a group shows the lines of one range. Where labels are folded, just the lines of a range that lie in the context
--- of no label as it is folded are left out, and the row of a break stands in place of each stretch of them.
+-- of no label as it is folded are left out, and the row of a break stands in place of each stretch of them. Each line
+-- that a label lies on is one of the lines in its context.
 pub record ShowsRanges (s : Settings) (source : Source) (labels : List Label) : Type 0 where
   pub rows : (pieces : List (List (List Highlight))) →
       drawn_rows s (Some source) labels (pieces_listed pieces)
@@ -63,6 +65,7 @@ pub record ShowsRanges (s : Settings) (source : Source) (labels : List Label) : 
   pub whole : concat (ranges (shown_lines s source labels)) ≡ shown_lines s source labels
   pub consecutive : AllByRecursion IsRange (ranges (shown_lines s source labels))
   pub parted : AreParted (ranges (shown_lines s source labels))
+  pub own : AllByRecursion (HasItsLines source.bytes (shown_lines s source labels)) labels
 
 -- a diagnostic whose source always reads and accepts its labels, where there is at least one line of context for each
 -- label

@@ -26,6 +26,7 @@ use Rattle.miette_graphical.specs.rules.Snippets.{drawn_rows, snippet_settings, 
 use Rattle.miette_labels.specs.rules.Answers.{Answers}
 use Rattle.miette_snippet_rules.specs.rules.SnippetLayout.{snippet_rows}
 use Rattle.miette_graphical.proofs.DrawnRows.{none_listed}
+use Rattle.miette_graphical.proofs.LabelLines.{labels_have_lines}
 use Rattle.miette_graphical.proofs.Themes.{is_narrow}
 use Rattle.miette_graphical.proofs.laws.snippets_law.Goals as goal
 
@@ -83,6 +84,7 @@ returns-clause-lines c = λ s t. each (LinesAreShown s) (λ p.
       whole = maximal.0;
       consecutive = maximal.1;
       parted = maximal.2;
+      own = labels_have_lines s.layout.context_lines source.bytes labels;
     }) p.source) (diagnostics_of s t)
 
 pub returns-clause-marks : goal.returns-clause-marks
