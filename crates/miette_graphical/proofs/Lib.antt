@@ -30,3 +30,4 @@ pub mod ArrowRows
 pub mod Levels
 pub mod Barred
 pub mod LabelLines
+pub mod NumberRows

@@ -101,7 +101,7 @@ encoded (c ∷ cs) = reads c (encode_utf8_all cs) ∙ ap (λ xs. c ∷ xs) (enco
 
 -- ---- what plain rows print
 
-abbrev codes_of : List Glyph → List ℕ
+abbrev pub codes_of : List Glyph → List ℕ
 codes_of pieces = map (λ p. p.code) pieces
 
 pub run_codes : (run : Run) → run_text run ≡ codes_of run.glyphs
@@ -117,7 +117,7 @@ bare_row [] = refl
 bare_row (run ∷ row) = ap₂ (λ x y. x ++ y) (plain_print (run_text run) ∙ run_codes run) (bare_row row)
     ∙ sym (map-append (λ p. p.code) run.glyphs (glyphs_of row))
 
-plain_row : (row : Row) → IsPlainRow row → print (runs_of_row row) ≡ codes_of (glyphs_of row)
+pub plain_row : (row : Row) → IsPlainRow row → print (runs_of_row row) ≡ codes_of (glyphs_of row)
 plain_row [] h = refl
 plain_row (run ∷ row) h =
     ap₂ (λ x y. x ++ y) (ap (λ style. printed_run style (run_text run)) h.0 ∙ plain_print (run_text run)

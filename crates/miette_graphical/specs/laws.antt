@@ -10,3 +10,4 @@ pub mod Holding
 pub mod FittingRows
 pub mod Arrows
 pub mod Levels
+pub mod NumberRows

@@ -18,6 +18,10 @@ ghost use Rattle.miette_graphical.specs.laws.Arrows.{DrawnRowsStand, FirstStands
 ghost use Rattle.miette_graphical.specs.laws.FittingRows.{fed_rows};
 ghost use Rattle.miette_graphical.specs.laws.Levels.{HasPlainBars, HaveRoom, HoldsLevels, LevelRowsStand};
 ghost use Rattle.miette_graphical.specs.laws.Levels.{StandBehindBars};
+ghost use Rattle.miette_graphical.specs.laws.NumberRows.{IsPlainLine, PrintsItself, PrintsNumber};
+ghost use Rattle.miette_snippet_rules.specs.rules.Settings.{SnippetSettings};
+ghost use Rattle.miette_snippet_rules.specs.rules.SnippetLayout.{SnippetContext};
+ghost use Rattle.miette_source_lines.specs.rules.Lines.{Line};
 ghost use Rattle.miette_runs.specs.rules.Runs.{Fragment, print};
 ghost use Rattle.miette_protocol.specs.declared.protocol.Severity.{Severity};
 ghost use Rattle.miette_graphical.specs.laws.CharacterSets.{AreNarrow, AreShipped};
@@ -220,6 +224,15 @@ pub fn levels_law()
     ensures bars { (s : Settings) (arrows : List Arrow) (rows : List (List ℕ)) → HasPlainBars s →
         StandBehindBars s arrows rows }
     ensures shipped { (s : Settings) → AreShipped s.theme.characters → HasPlainBars s }
+{}
+
+/// The row of a source line that isn't cut, on which no label of several lines lies, in a theme whose numbers are plain
+/// and without a highlighter's pieces: a space, the number to the right in its columns, a space, the bar, a space, and
+/// the text, tabs as spaces, behind a gutter of spaces where the snippet has one (`rows`, by characters and by bytes).
+/// The bytes of printable ASCII text are the line's own (`text`).
+pub fn number_rows_law()
+    ensures rows { (c : SnippetContext) (line : Line) (number : ℕ) → IsPlainLine c line → PrintsNumber c line number }
+    ensures text { (s : SnippetSettings) (bytes : List ℕ) (line : Line) → PrintsItself s bytes line }
 {}
 
 /// Of the characters of the shipped themes: those that frames, gutters and marks are drawn with are one column wide
