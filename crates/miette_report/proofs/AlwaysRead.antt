@@ -79,7 +79,7 @@ printed-reads s (tree m own c r) q =
 
 -- ---- a narrated report: each label that is told is accepted, where the report is
 
-accept_all : (bytes : List ℕ) (labels : List Label) → AreAccepted bytes labels
+pub accept_all : (bytes : List ℕ) (labels : List Label) → AreAccepted bytes labels
     → list_all (λ label. is_accepted bytes label.span) labels ≡ true
 accept_all bytes [] h = refl
 accept_all bytes (l ∷ ls) h = and_from _ _ (accepted_is bytes l.span h.0) (accept_all bytes ls h.1)

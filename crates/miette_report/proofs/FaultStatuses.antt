@@ -1,5 +1,5 @@
 -- Which fault has which status.
-use Rattle.std.proofs.Common.{◌≡◌, ℕ, ◌<◌, ◌↔◌, ◌⊎◌, inl, inr, Result, Ok, Err, OnErr, ap, sym, ◌∙◌, arith}
+use Rattle.std.proofs.Common.{◌≡◌, ℕ, ◌<◌, ◌↔◌, ◌⊎◌, inl, inr, Result, Ok, Err, OnErr, ap, refl, sym, ◌∙◌, arith}
 use Rattle.miette_report.specs.rules.Faults.{usual_status}
 use Rattle.miette_report.specs.declared.fault.Fault.{Fault}
 use Rattle.miette_report.specs.declared.fault.Fault.TheVariants.{Usage, Memory, Read, Write, Description, Refused}
@@ -22,27 +22,34 @@ plain-status (Err g) f n h e s =
       | inr (inr (inr p)) ↦ (let k : usual_status g ≡ 1 = ap status_in p in omega (arith, s, same, k))
     ]
 
-other-status : {T : Type 0} (P : Type 0) (r : Result T Fault) (n : ℕ) → ((r ≡ Err Usage) ↔ P) → (n ≡ 2 → ⊥)
-    → (r ≡ Err Usage → ⊥) → (n ≡ 2) ↔ P
-other-status P r n h apart other = (λ two. absurd (apart two), λ p. absurd (other (h.1 p)))
+usage-of-two : (f : Fault) (n : ℕ) → n ≡ usual_status f → n ≡ 2 → f ≡ Usage
+usage-of-two Usage n s two = refl
+usage-of-two Memory n s two = let k : n ≡ 1 = s in absurd (omega (arith, k, two))
+usage-of-two Read n s two = let k : n ≡ 1 = s in absurd (omega (arith, k, two))
+usage-of-two Write n s two = let k : n ≡ 1 = s in absurd (omega (arith, k, two))
+usage-of-two Description n s two = let k : n ≡ 3 = s in absurd (omega (arith, k, two))
+usage-of-two Refused n s two = let k : n ≡ 4 = s in absurd (omega (arith, k, two))
 
-unlike : (n k : ℕ) → n ≡ k → k < 2 ⊎ 2 < k → n ≡ 2 → ⊥
-unlike n k e (inl lt) two = omega (arith, e, lt, two)
-unlike n k e (inr lt) two = omega (arith, e, lt, two)
+pub only-usage : {T : Type 0} (P : Type 0) (r : Result T Fault) (f : Fault) (n : ℕ) → (r ≡ Err Usage → P) → r ≡ Err f
+    → n ≡ usual_status f → n ≡ 2 → P
+only-usage P r f n h e s two = h (e ∙ ap Err (usage-of-two f n s two))
+
+-- the status is that of any fault that it is
+status-as : {T : Type 0} (r : Result T Fault) (f g : Fault) (n : ℕ) → r ≡ Err f → n ≡ usual_status f → r ≡ Err g → n
+    ≡ usual_status g
+status-as r f g n e s is = let k : usual_status f ≡ usual_status g = ap status_in (sym e ∙ is) in s ∙ k
+
+pub words-status : {T : Type 0} (P : Type 0) (r : Result T Fault) (f : Fault) (n : ℕ)
+    → (P → (r ≡ Err Usage) ⊎ (r ≡ Err Memory)) → r ≡ Err f → n ≡ usual_status f → P → (n ≡ 2) ⊎ (n ≡ 1)
+words-status P r f n h e s p =
+    elim (h p) [
+      | inl u ↦ inl (status-as r f Usage n e s u)
+      | inr m ↦ inr (status-as r f Memory n e s m)
+    ]
 
 pub usage-status : {T : Type 0} (P : Type 0) (r : Result T Fault) (f : Fault) (n : ℕ) → ((r ≡ Err Usage) ↔ P) → r
     ≡ Err f → n ≡ usual_status f → (n ≡ 2) ↔ P
-usage-status P r Usage n h e s = (λ two. h.0 e, λ p. s)
-usage-status P r Memory n h e s = other-status P r n h (unlike n 1 s (inl (omega arith)))
-    (λ u. let k : Err Memory ≡ Err Usage = sym e ∙ u in cc)
-usage-status P r Read n h e s = other-status P r n h (unlike n 1 s (inl (omega arith)))
-    (λ u. let k : Err Read ≡ Err Usage = sym e ∙ u in cc)
-usage-status P r Write n h e s = other-status P r n h (unlike n 1 s (inl (omega arith)))
-    (λ u. let k : Err Write ≡ Err Usage = sym e ∙ u in cc)
-usage-status P r Description n h e s = other-status P r n h (unlike n 3 s (inr (omega arith)))
-    (λ u. let k : Err Description ≡ Err Usage = sym e ∙ u in cc)
-usage-status P r Refused n h e s = other-status P r n h (unlike n 4 s (inr (omega arith)))
-    (λ u. let k : Err Refused ≡ Err Usage = sym e ∙ u in cc)
+usage-status P r f n h e s = (only-usage P r f n h.0 e s, λ p. status-as r f Usage n e s (h.1 p))
 
 -- no fault of a picture is one of the words
 pub never-usage : {T : Type 0} (r : Result T Fault) → OnErr r ((r ≡ Err Memory) ⊎ (r ≡ Err Read) ⊎ (r ≡ Err Write)) → r

@@ -1,9 +1,11 @@
 pub mod DeviceLemmas
 pub mod FaultStatuses
+pub mod JobEnds
 pub mod PictureSteps
 pub mod AlwaysRead
 pub mod JobHandlerSteps
 pub mod FindingSteps
+pub mod AcceptedFindings
 pub mod LintSteps
 pub mod OptionWordSteps
 pub mod WriteResults

@@ -1,15 +1,18 @@
 -- Steps of telling what is found.
 use Rattle.std.proofs.Common.{◌≡◌, ℕ, ◌<◌, ◌↔◌, Bool, true, false, eqb, eqb-true, List, [], ◌∷◌, length, Option, Some}
-use Rattle.std.proofs.Common.{None, Result, Ok, Err, IfOk, IfSome, arith, sym, ◌∙◌, subst, ap, ap₂, ◌++◌, codes}
+use Rattle.std.proofs.Common.{None, Result, Ok, Err, IfOk, IfSome, IsTrue, arith, sym, ◌∙◌, subst, ap, ap₂, ◌++◌, codes}
 use Rattle.std.proofs.lemmas.Bool.Decides.{nat_tests}
 use Rattle.std.proofs.lemmas.List.{nil_from_length}
 use Rattle.miette_protocol.specs.views.Meaning.{Label, Meaning}
 use Rattle.miette_report.specs.views.DrawReports.{over_input}
 use Rattle.miette_report.specs.rules.Findings.{findings_of}
-use Rattle.miette_report.specs.views.LintReports.{warning, IsClean, IsShown, CallIsClean, IsLinted, Lints, LintsText}
+use Rattle.miette_report.specs.views.LintReports.{warning, CallIsClean, CallLints, CallLintsText, IsClean, IsLinted}
+use Rattle.miette_report.specs.views.LintReports.{IsShown, Lints, LintsText}
 use Rattle.miette_report.specs.rules.Words.{brief_word, AreLintWords, IsNoLintCall, IsReadAs}
+use Rattle.miette_report.specs.views.Endings.{IsFound}
+use Rattle.miette_report.specs.declared.fault.Fault.{Fault}
+use Rattle.miette_report.specs.declared.fault.Fault.TheVariants.{Usage, Read, Write}
 use Rattle.miette_report.specs.declared.lint.LintWords.{LintWords}
-use Rattle.miette_report.specs.steps.LintCalls.{CallLints}
 
 -- three words, the first of which asks for rows
 pub three_words : (words : List (List ℕ)) (first name width : List ℕ) (r : Option LintWords) → words ≡ first ∷ name
@@ -89,3 +92,28 @@ call_clean words brief name width (Err e) all P are h = tt
 pub usage_called : (Q : Type 0) (words : List (List ℕ)) (brief : Bool) (name : List ℕ) (width : ℕ)
     → AreLintWords words brief name width → (Q → ⊥) → Q ↔ IsNoLintCall words
 usage_called Q words brief name width are called = (λ q. absurd (called q), λ none. absurd (none brief name width are))
+
+pub call_begun : (words : List (List ℕ)) (brief : Bool) (name : List ℕ) (width : ℕ) (all : Option (List ℕ))
+    (P : List ℕ → Type 0) → AreLintWords words brief name width
+    → IfSome all (λ bs. LintsText brief name width bs P) → IfSome all (λ bs. CallLintsText words bs P)
+call_begun words brief name width None P are h = tt
+call_begun words brief name width (Some bs) P are h = (brief, name, width, are, h)
+
+-- ---- how the program ends
+
+pub clean_from : (words : List (List ℕ)) (all : Option (List ℕ)) (clean : Bool) (P : List ℕ → Type 0)
+    → IfSome all (λ bs. CallLints words bs clean P) → IfSome all (λ bs. CallIsClean words bs clean)
+clean_from words None clean P h = tt
+clean_from words (Some bs) clean P h = (h.0, h.1, h.2, h.3, h.4.1)
+
+same_fault : {T : Type 0} (r : Result T Fault) (f g : Fault) → r ≡ Err f → r ≡ Err g → f ≡ g
+same_fault r f g is e = let k : Err f ≡ Err g = sym is ∙ e in cc
+
+pub found_fault : {T : Type 0} (wrong : Type 0) (read write : Bool) (r : Result T Fault) (f : Fault) → r ≡ Err f
+    → ((r ≡ Err Usage) ↔ wrong) → (IsTrue read ↔ (r ≡ Err Read)) → (IsTrue write ↔ (r ≡ Err Write))
+    → IsFound wrong read write f
+found_fault wrong read write r f is usage reads writes = record {
+  usage = (λ e. usage.0 (is ∙ ap Err e), λ w. same_fault r f Usage is (usage.1 w));
+  read = (λ t. same_fault r f Read is (reads.0 t), λ e. reads.1 (is ∙ ap Err e));
+  write = (λ t. same_fault r f Write is (writes.0 t), λ e. writes.1 (is ∙ ap Err e));
+}

@@ -1,5 +1,5 @@
 -- What the result of writing all says.
-use Rattle.std.proofs.Common.{◌≡◌, ◌⊎◌, ◌↔◌, Result, Ok, Err, Bool, IsTrue, OnErr, refl, sym, subst, ◌∙◌}
+use Rattle.std.proofs.Common.{◌≡◌, ◌↔◌, Result, Ok, Err, Bool, IsTrue, OnErr, refl, sym, subst, ◌∙◌}
 use Rattle.std.specs.Prelude.{IsErr}
 use Rattle.miette_report.specs.declared.fault.Fault.{Fault}
 use Rattle.miette_report.specs.declared.fault.Fault.TheVariants.{Read, Write}

@@ -3,5 +3,6 @@ pub mod Words
 pub mod LanguageRules
 pub mod OptionWords
 pub mod Job
+pub mod JobCalls
 pub mod Faults
 pub mod Findings

@@ -1,5 +1,4 @@
 -- The code's own steps, which no rule names.
 pub mod JobHandler
 pub mod AskedWords
-pub mod DrawCalls
-pub mod LintCalls
+pub mod PictureReads

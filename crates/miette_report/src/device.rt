@@ -58,7 +58,7 @@ impl<D: Read> Device<D> {
     /// device has then failed exactly where it had before, or where the inner call answers an error.
     ///
     /// # Errors
-    /// That of the inner call.
+    /// Where the inner call answers one, which is handed on.
     pub fn read(&mut self, buf: &mut [u8]) -> io::Result<usize>
         ensures bound { ReadsAtMost result buf.new }
         ensures bytes { ReadConsumes (D.remaining self.old.inner) (D.remaining self.new.inner) result buf.new }
@@ -79,7 +79,7 @@ impl<D: Write> Device<D> {
     /// had before, where the inner call answers an error, or where it takes 0 bytes of a nonempty buffer.
     ///
     /// # Errors
-    /// That of the inner call.
+    /// Where the inner call answers one, which is handed on.
     pub fn write(&mut self, buf: &[u8]) -> io::Result<usize>
         ensures bound { WritesAtMost result buf.now }
         ensures bytes { WriteAppends (D.contents self.old.inner) (D.contents self.new.inner) result buf.now }

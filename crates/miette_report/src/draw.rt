@@ -5,10 +5,10 @@ ghost use Rattle.std.specs.Prelude.{string_bytes};
 ghost use Rattle.std.specs.Io.KnownBytes.{Appends};
 ghost use Rattle.miette.specs.Diagnostic.{meaning_of};
 ghost use Rattle.miette_report.specs.views.Device.{TakesBeginning};
-ghost use Rattle.miette_report.specs.views.DrawReports.{IsPicture, Pictures, drawn_label, drawn_meaning, drawn_tree};
+ghost use Rattle.miette_report.specs.views.DrawReports.{CallPictures, IsPicture, Pictures};
+ghost use Rattle.miette_report.specs.views.DrawReports.{draw_request, drawn_label, drawn_meaning, drawn_tree};
 ghost use Rattle.miette_report.specs.rules.Faults.{status_of};
 ghost use Rattle.miette_report.specs.rules.Words.{AreDrawWords, IsNoDrawCall};
-ghost use Rattle.miette_report.specs.steps.DrawCalls.{CallPictures};
 
 use crate::device::Device;
 /// An earlier name of `Fault`.
@@ -42,8 +42,7 @@ impl<'a> DrawWords<'a> {
     /// Reads the words after the program's name. Nothing, where there are not five, or where the second or the third is
     /// no number.
     pub fn read(words: &'a [String]) -> Option<Self>
-        ensures some { IfSome result (λ it. AreDrawWords (map string_bytes words.now) it.name.now it.offset it.length
-            it.label.now it.message.now) }
+        ensures some { IfSome result (λ it. AreDrawWords (map string_bytes words.now) (draw_request it)) }
         ensures none { IsNone result → IsNoDrawCall (map string_bytes words.now) }
     {
         let [name, offset, length, label, message] = words else {
@@ -72,8 +71,7 @@ fn label(alloc: Global, offset: usize, length: usize, text: &str) -> Result<Labe
 
 // The message with the label.
 fn diagnostic(alloc: Global, words: &DrawWords<'_>) -> Result<MietteDiagnostic, AllocError>
-    ensures { IfOk result (λ it. meaning_of it
-        ≡ drawn_meaning words.now.offset words.now.length words.now.label.now words.now.message.now) }
+    ensures { IfOk result (λ it. meaning_of it ≡ drawn_meaning (draw_request words.now)) }
 {
     let label = label(alloc, words.offset, words.length, words.label)?;
     let diagnostic = MietteDiagnostic::new(alloc, words.message)?.with_label(alloc, label)?;
@@ -82,9 +80,8 @@ fn diagnostic(alloc: Global, words: &DrawWords<'_>) -> Result<MietteDiagnostic, 
 
 // The text for the words and the input. It is refused only where no memory is found.
 fn picture(alloc: Global, words: &DrawWords<'_>, input: Vec<u8>) -> Result<String, RenderError>
-    ensures ok { IfOk result (λ text. IsPicture None
-        (drawn_tree words.now.name.now words.now.offset words.now.length words.now.label.now words.now.message.now
-        input.items) (string_bytes text)) }
+    ensures ok { IfOk result (λ text. IsPicture None (drawn_tree (draw_request words.now) input.items)
+        (string_bytes text)) }
     ensures accepted { ¬ (result ≡ Err RenderError.Refused) }
 {
     let diagnostic = match diagnostic(alloc, words) {
@@ -110,7 +107,7 @@ pub fn write_picture<R: Read, W: Write>(
     requires writer_sound { writer.old.failed ≡ false }
     // All that the reader had left is the source, and the writer took its picture and nothing else.
     ensures ok { OnOk result (IfSome (R.remaining reader.old.inner) (λ bytes.
-        Pictures words.now.name.now words.now.offset words.now.length words.now.label.now words.now.message.now bytes
+        Pictures (draw_request words.now) bytes
         (Appends (W.contents writer.old.inner) (W.contents writer.new.inner)))) }
     ensures read_failed { IsTrue reader.new.failed ↔ (result ≡ Err Fault.Read) }
     ensures write_failed { IsTrue writer.new.failed ↔ (result ≡ Err Fault.Write) }
@@ -118,7 +115,7 @@ pub fn write_picture<R: Read, W: Write>(
         ⊎ (result ≡ Err Fault.Write)) }
     // After a write fault a beginning of the picture was taken.
     ensures beginning { (result ≡ Err Fault.Write) → IfSome (R.remaining reader.old.inner) (λ bytes.
-        Pictures words.now.name.now words.now.offset words.now.length words.now.label.now words.now.message.now bytes
+        Pictures (draw_request words.now) bytes
         (TakesBeginning (W.contents writer.old.inner) (W.contents writer.new.inner))) }
     // After any other error nothing was written.
     ensures untouched { OnErr result ((result ≡ Err Fault.Write) ⊎ (writer.new ≡ writer.old)) }
@@ -145,7 +142,7 @@ where
 {
     let mut reader = Device::new(reader);
     let mut writer = Device::new(writer);
-    match run(alloc, words, &mut reader, &mut writer) {
+    match run_asked(alloc, words, &mut reader, &mut writer) {
         Ok(()) => 0,
         Err(fault) => Program::Draw.end(fault, faults),
     }
@@ -159,8 +156,11 @@ pub fn refuse_words<F: Write + Drop>(fault: Fault, faults: F) -> u8
     Program::Draw.end(fault, faults)
 }
 
-// Checks the words before anything is read, and then writes the picture.
-fn run<R: Read, W: Write>(
+/// Checks the words before anything is read, and then writes the picture.
+///
+/// # Errors
+/// `Usage` exactly where the words are wrong. Else those of `write_picture`.
+pub fn run_asked<R: Read, W: Write>(
     alloc: Global,
     words: &[String],
     reader: &mut Device<R>,
@@ -178,6 +178,12 @@ fn run<R: Read, W: Write>(
     ensures write_failed { IsTrue writer.new.failed ↔ (result ≡ Err Fault.Write) }
     ensures others { OnErr result ((result ≡ Err Fault.Usage) ⊎ (result ≡ Err Fault.Memory) ⊎ (result ≡ Err Fault.Read)
         ⊎ (result ≡ Err Fault.Write)) }
+    // After a write fault a beginning of the picture was taken.
+    ensures beginning { (result ≡ Err Fault.Write) → IfSome (R.remaining reader.old.inner) (λ bytes.
+        CallPictures (map string_bytes words.now) bytes
+        (TakesBeginning (W.contents writer.old.inner) (W.contents writer.new.inner))) }
+    // After any other error nothing was written.
+    ensures untouched { OnErr result ((result ≡ Err Fault.Write) ⊎ (writer.new ≡ writer.old)) }
 {
     let Some(words) = DrawWords::read(words) else {
         return Err(Fault::Usage);

@@ -1,8 +1,11 @@
 //! Why a program fails, the row that says so, and the status that it ends with.
 
 ghost use Rattle.std.specs.Prelude.{◌≡◌, OnOk};
+ghost use Rattle.std.specs.Option.{option_map};
 ghost use Rattle.std.specs.Io.KnownBytes.{Appends};
-ghost use Rattle.miette_report.specs.rules.Faults.{fault_row, name_of, status_of, usage_of};
+ghost use Rattle.miette_report.specs.rules.Faults.{end_status, fault_row, name_of, reason_of, status_of};
+ghost use Rattle.miette_report.specs.rules.Faults.{usage_of};
+ghost use Rattle.miette_report.specs.views.Endings.{IsFailure};
 
 use std::alloc::AllocError;
 use std::io;
@@ -49,6 +52,41 @@ pub enum Program {
     Lint,
 }
 
+/// How a program ended.
+#[derive(Debug, Drop)]
+pub struct Ending {
+    /// Its status.
+    pub status: u8,
+    /// Whether the row that says why it failed was taken: `Ok` too where there is none.
+    pub told: io::Result<()>,
+}
+
+impl Ending {
+    /// The work was done.
+    pub(crate) fn done(status: u8) -> Ending
+        ensures { result.status ≡ status }
+    {
+        Ending {
+            status,
+            told: Ok(()),
+        }
+    }
+}
+
+/// What a fault is called; nothing where it is one of the words.
+fn reason(fault: Fault) -> Option<&'static str>
+    ensures { option_map (λ it. it.now) result ≡ reason_of fault }
+{
+    match fault {
+        Fault::Usage => None,
+        Fault::Memory => Some("out of memory"),
+        Fault::Read => Some("read fault"),
+        Fault::Write => Some("write fault"),
+        Fault::Description => Some("bad description"),
+        Fault::Refused => Some("report refused"),
+    }
+}
+
 impl Program {
     /// Its name, and the words that it takes.
     fn name_and_usage(self) -> (&'static str, &'static str)
@@ -80,22 +118,36 @@ impl Program {
         ensures row { OnOk result (Appends (F.contents faults.old) (F.contents faults.new) (fault_row self fault)) }
     {
         let (name, usage) = self.name_and_usage();
-        let why = match fault {
-            Fault::Usage => return writeln!(faults, "usage: {name} {usage}"),
-            Fault::Memory => "out of memory",
-            Fault::Read => "read fault",
-            Fault::Write => "write fault",
-            Fault::Description => "bad description",
-            Fault::Refused => "report refused",
-        };
-        writeln!(faults, "{name}: {why}")
+        match reason(fault) {
+            None => writeln!(faults, "usage: {name} {usage}"),
+            Some(reason) => writeln!(faults, "{name}: {reason}"),
+        }
+    }
+
+    /// Prints why it fails. The status that it ends with, and whether `faults` took that row and nothing else.
+    pub fn fail<F: Write>(self, fault: Fault, faults: &mut F) -> Ending
+        ensures { IsFailure self result (F.contents faults.old) (F.contents faults.new) fault }
+    {
+        Ending {
+            status: self.status(fault),
+            told: self.tell(fault, faults),
+        }
     }
 
     /// Prints why it fails, and gives the status. Faults of `faults` are ignored.
     pub(crate) fn end<F: Write + Drop>(self, fault: Fault, mut faults: F) -> u8
         ensures { result ≡ status_of self fault }
     {
-        let _ = self.tell(fault, &mut faults);
-        self.status(fault)
+        self.fail(fault, &mut faults).status
+    }
+
+    /// The status 0 where the work is done. Else it ends with the fault.
+    pub(crate) fn finish<F: Write + Drop>(self, work: Result<(), Fault>, faults: F) -> u8
+        ensures { result ≡ end_status (status_of self) work }
+    {
+        match work {
+            Ok(()) => 0,
+            Err(fault) => self.end(fault, faults),
+        }
     }
 }

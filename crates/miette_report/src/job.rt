@@ -1,9 +1,10 @@
 //! The program `job`, over any reader and writers.
 
-ghost use Rattle.std.specs.Prelude.{◌≡◌, ◌<◌, IfSome, IsUtf8, OnOk, Some, None, map, string_bytes};
-ghost use Rattle.miette_report.specs.rules.OptionWords.{chosen_by};
-ghost use Rattle.miette_description.specs.rules.Description.{tree_for};
-ghost use Rattle.miette_report.specs.rules.Job.{IsDescription, IsRefused};
+ghost use Rattle.std.specs.Prelude.{◌≡◌, ◌↔◌, ◌⊎◌, false, IfSome, IsTrue, OnErr, OnOk, None, map, string_bytes};
+ghost use Rattle.std.specs.Io.KnownBytes.{Appends};
+ghost use Rattle.miette_report.specs.views.Device.{TakesBeginning};
+ghost use Rattle.miette_report.specs.rules.OptionWords.{asked_by};
+ghost use Rattle.miette_report.specs.rules.JobCalls.{CallWrites, IsJobEnd, IsJobStatus};
 ghost use Rattle.miette_report.specs.rules.Faults.{status_of};
 
 pub use crate::arguments::Arguments;
@@ -12,8 +13,10 @@ pub use crate::arguments::Arguments as Settings;
 use crate::device::Device;
 use crate::fault::Program;
 pub use crate::fault::{Fault, Fault as JobError, Fault as WordsFault};
+use crate::language::LanguageHighlighter;
 pub use crate::option_words::Choice;
 pub use crate::pipeline::run;
+use miette::highlight::Highlighter;
 use std::alloc::Global;
 use std::io::{Read, Write};
 
@@ -26,17 +29,14 @@ where
     R: Read + Drop,
     W: Write + Drop,
     F: Write + Drop,
-    ensures status { result < 5 }
-    ensures done { result ≡ 0 → IfSome (R.remaining reader) IsDescription }
-    ensures description { result ≡ 3 → IfSome (R.remaining reader) (λ bytes. IsUtf8 bytes → tree_for bytes ≡ None) }
     // Only a narrated or brief report is refused, and only for a label that isn't accepted.
-    ensures refused { result ≡ 4 → IfSome (R.remaining reader) IsRefused }
-    ensures narrated { result ≡ 4 → chosen_by (map string_bytes words.now) ≡ Some Choice.Build }
+    ensures status { IsJobStatus (asked_by (map string_bytes words.now) ≡ None) (map string_bytes words.now)
+        (R.remaining reader) result }
 {
-    match run_asked(alloc, words, reader, writer) {
-        Ok(()) => 0,
-        Err(fault) => Program::Job.end(fault, faults),
-    }
+    let mut reader = Device::new(reader);
+    let mut writer = Device::new(writer);
+    let work = run_asked(alloc, words, &mut reader, &mut writer);
+    Program::Job.finish(work, faults)
 }
 
 /// Ends the program where its words could not be had: prints why, and gives the status.
@@ -47,21 +47,34 @@ pub fn refuse_words<F: Write + Drop>(fault: Fault, faults: F) -> u8
 }
 
 /// Checks the words before anything is read, and then runs the job that they ask for.
-fn run_asked<R: Read + Drop, W: Write + Drop>(
+///
+/// # Errors
+/// `Usage` where the words are no settings. Else those of `run`.
+pub fn run_asked<R: Read, W: Write>(
     alloc: Global,
     words: &[String],
-    reader: R,
-    writer: W,
+    reader: &mut Device<R>,
+    writer: &mut Device<W>,
 ) -> Result<(), Fault>
-    ensures described { OnOk result (IfSome (R.remaining reader) IsDescription) }
-    ensures description { (result ≡ Err Fault.Description) →
-        IfSome (R.remaining reader) (λ bytes. IsUtf8 bytes → tree_for bytes ≡ None) }
-    ensures refused { (result ≡ Err Fault.Refused) → IfSome (R.remaining reader) IsRefused }
-    ensures narrated { (result ≡ Err Fault.Refused) →
-        chosen_by (map string_bytes words.now) ≡ Some Choice.Build }
+    requires reader_sound { reader.old.failed ≡ false }
+    requires writer_sound { writer.old.failed ≡ false }
+    // All that the reader had left is a description, and the writer took its text by the words and nothing else.
+    ensures ok { OnOk result (IfSome (R.remaining reader.old.inner) (λ bytes.
+        CallWrites ⟦<LanguageHighlighter as Highlighter>⟧.is_blank (map string_bytes words.now) bytes
+        (Appends (W.contents writer.old.inner) (W.contents writer.new.inner)))) }
+    ensures end { IsJobEnd (asked_by (map string_bytes words.now) ≡ None) (map string_bytes words.now)
+        (R.remaining reader.old.inner) result }
+    // Where the words are wrong, nothing is read.
+    ensures unread { asked_by (map string_bytes words.now) ≡ None → reader.new ≡ reader.old }
+    ensures read_failed { IsTrue reader.new.failed ↔ (result ≡ Err Fault.Read) }
+    ensures write_failed { IsTrue writer.new.failed ↔ (result ≡ Err Fault.Write) }
+    // After a write fault a beginning of the text was taken.
+    ensures beginning { (result ≡ Err Fault.Write) → IfSome (R.remaining reader.old.inner) (λ bytes.
+        CallWrites ⟦<LanguageHighlighter as Highlighter>⟧.is_blank (map string_bytes words.now) bytes
+        (TakesBeginning (W.contents writer.old.inner) (W.contents writer.new.inner))) }
+    // After any other error nothing was written.
+    ensures untouched { OnErr result ((result ≡ Err Fault.Write) ⊎ (writer.new ≡ writer.old)) }
 {
     let settings = Arguments::read(alloc, words)?;
-    let mut reader = Device::new(reader);
-    let mut writer = Device::new(writer);
-    run(alloc, &mut reader, &mut writer, settings)
+    run(alloc, reader, writer, settings)
 }

@@ -4,15 +4,18 @@ ghost use Rattle.std.specs.Prelude.{◌≡◌, ◌↔◌, ◌⊎◌, ◌<◌, fa
 ghost use Rattle.std.specs.Prelude.{Some, None, string_bytes};
 ghost use Rattle.std.specs.Io.KnownBytes.{Appends};
 ghost use Rattle.miette.specs.Diagnostic.{meaning_of};
+ghost use Rattle.miette_tree.specs.rules.DiagnosticParts.{given_labels};
+ghost use Rattle.miette_labels.specs.rules.Groups.{AreAccepted};
 ghost use Rattle.miette_report.specs.views.Device.{TakesBeginning};
 ghost use Rattle.miette_report.specs.views.DrawReports.{over_input};
-ghost use Rattle.miette_report.specs.views.LintReports.{count_text, warning, CallIsClean, IsClean, IsLinted};
-ghost use Rattle.miette_report.specs.views.LintReports.{IsShown, Lints, LintsText};
+ghost use Rattle.miette_report.specs.views.Endings.{IsFailure, IsFound};
+ghost use Rattle.miette_report.specs.views.LintReports.{count_text, warning, CallIsClean, CallLints, CallLintsText};
+ghost use Rattle.miette_report.specs.views.LintReports.{IsClean, IsLinted, IsShown, Lints, LintsText};
+ghost use Rattle.miette_report.specs.rules.Findings.{findings_of};
 ghost use Rattle.miette_report.specs.rules.Words.{AreLintWords, IsNoLintCall, IsReadAs};
-ghost use Rattle.miette_report.specs.steps.LintCalls.{CallLints};
 
 use crate::device::Device;
-use crate::fault::{Fault, Program};
+use crate::fault::{Ending, Fault, Program};
 pub use crate::lint_lines::findings;
 use crate::picture::{picture_over, rows_over};
 use crate::whole::{read_whole, write_whole};
@@ -102,8 +105,10 @@ fn diagnostic_text(
     diagnostic: MietteDiagnostic,
     input: Vec<u8>,
 ) -> Result<String, RenderError>
-    ensures { IfOk result (λ text. IsShown words.now.brief words.now.width
+    ensures shown { IfOk result (λ text. IsShown words.now.brief words.now.width
         (over_input words.now.name.now (meaning_of diagnostic) input.items) (string_bytes text)) }
+    ensures accepted { AreAccepted input.items (given_labels (meaning_of diagnostic).labels)
+        → ¬ (result ≡ Err RenderError.Refused) }
 {
     if words.brief {
         rows_over(alloc, words.name, diagnostic, input)
@@ -113,14 +118,15 @@ fn diagnostic_text(
 }
 
 // The text for what is found in the input: nothing where that is nothing.
-fn text_of(
+fn text_for(
     alloc: Global,
     words: &LintWords<'_>,
     found: Vec<LabeledSpan>,
     input: Vec<u8>,
-) -> Result<String, AllocError>
-    ensures { IfOk result (λ text. IsLinted words.now.brief words.now.name.now words.now.width input.items
+) -> Result<String, Fault>
+    ensures linted { IfOk result (λ text. IsLinted words.now.brief words.now.name.now words.now.width input.items
         found.items (string_bytes text)) }
+    ensures others { AreAccepted input.items found.items → OnErr result (result ≡ Err Fault.Memory) }
 {
     if is_clean(&found) {
         return Ok(String::new(alloc));
@@ -128,8 +134,22 @@ fn text_of(
     let diagnostic = diagnostic(alloc, found)?;
     match diagnostic_text(alloc, words, diagnostic, input) {
         Ok(text) => Ok(text),
-        Err(_) => Err(AllocError),
+        Err(RenderError::Memory) => Err(Fault::Memory),
+        Err(RenderError::Refused) => Err(Fault::Refused),
     }
+}
+
+// Whether nothing is found in the input, and the text for what is. No label of it is refused.
+fn text_of(alloc: Global, words: &LintWords<'_>, input: Vec<u8>) -> Result<(bool, String), Fault>
+    ensures clean { IfOk result (λ it. IsClean (findings_of input.items words.now.width) it.0) }
+    ensures linted { IfOk result (λ it. IsLinted words.now.brief words.now.name.now words.now.width input.items
+        (findings_of input.items words.now.width) (string_bytes it.1)) }
+    ensures others { OnErr result (result ≡ Err Fault.Memory) }
+{
+    let found = findings(alloc, input.as_slice(), words.width)?;
+    let clean = is_clean(&found);
+    let text = text_for(alloc, words, found, input)?;
+    Ok((clean, text))
 }
 
 /// Reads all, and writes the text for what is found in it, and nothing else. Whether nothing is found.
@@ -162,15 +182,16 @@ pub fn write_findings<R: Read, W: Write>(
     ensures untouched { OnErr result ((result ≡ Err Fault.Write) ⊎ (writer.new ≡ writer.old)) }
 {
     let input = read_whole(alloc, reader)?;
-    let found = findings(alloc, input.as_slice(), words.width)?;
-    let clean = is_clean(&found);
-    let text = text_of(alloc, words, found, input)?;
+    let (clean, text) = text_of(alloc, words, input)?;
     write_whole(writer, text.as_bytes())?;
     Ok(clean)
 }
 
-// Checks the words before anything is read, and then writes what is found. Whether nothing is.
-fn run<R: Read, W: Write>(
+/// Checks the words before anything is read, and then writes what is found. Whether nothing is.
+///
+/// # Errors
+/// `Usage` exactly where the words are wrong. Else those of `write_findings`.
+pub fn run_asked<R: Read, W: Write>(
     alloc: Global,
     words: &[String],
     reader: &mut Device<R>,
@@ -189,11 +210,51 @@ fn run<R: Read, W: Write>(
         (λ bytes. CallIsClean (map string_bytes words.now) bytes clean)) }
     ensures read_failed { IsTrue reader.new.failed ↔ (result ≡ Err Fault.Read) }
     ensures write_failed { IsTrue writer.new.failed ↔ (result ≡ Err Fault.Write) }
+    ensures others { OnErr result ((result ≡ Err Fault.Usage) ⊎ (result ≡ Err Fault.Memory) ⊎ (result ≡ Err Fault.Read)
+        ⊎ (result ≡ Err Fault.Write)) }
+    // After a write fault a beginning of the text was taken.
+    ensures beginning { (result ≡ Err Fault.Write) → IfSome (R.remaining reader.old.inner) (λ bytes.
+        CallLintsText (map string_bytes words.now) bytes
+        (TakesBeginning (W.contents writer.old.inner) (W.contents writer.new.inner))) }
+    // After any other error nothing was written.
+    ensures untouched { OnErr result ((result ≡ Err Fault.Write) ⊎ (writer.new ≡ writer.old)) }
 {
     let Some(words) = LintWords::read(words) else {
         return Err(Fault::Usage);
     };
     write_findings(alloc, &words, reader, writer)
+}
+
+/// `lint_with` over devices of one's own. Beside the status, whether `faults` took the row that says why it is 2.
+pub fn lint_on<R: Read, W: Write, F: Write>(
+    alloc: Global,
+    words: &[String],
+    reader: &mut Device<R>,
+    writer: &mut Device<W>,
+    faults: &mut F,
+) -> Ending
+    requires reader_sound { reader.old.failed ≡ false }
+    requires writer_sound { writer.old.failed ≡ false }
+    ensures status { result.status < 3 }
+    // The writer took the text for what is found, and nothing else.
+    ensures clean { result.status ≡ 0 → IfSome (R.remaining reader.old.inner) (λ bytes.
+        CallLints (map string_bytes words.now) bytes true
+        (Appends (W.contents writer.old.inner) (W.contents writer.new.inner))) }
+    ensures found { result.status ≡ 1 → IfSome (R.remaining reader.old.inner) (λ bytes.
+        CallLints (map string_bytes words.now) bytes false
+        (Appends (W.contents writer.old.inner) (W.contents writer.new.inner))) }
+    ensures quiet { result.status < 2 → faults.new ≡ faults.old }
+    // The status 2 comes only for a fault, and `faults` is handed its row.
+    ensures failed { result.status ≡ 2 → (fault : Fault)
+        × IsFailure Program.Lint result (F.contents faults.old) (F.contents faults.new) fault
+        × IsFound (IsNoLintCall (map string_bytes words.now)) reader.new.failed writer.new.failed fault }
+    ensures usage { IsNoLintCall (map string_bytes words.now) → result.status ≡ 2 }
+{
+    match run_asked(alloc, words, reader, writer) {
+        Ok(true) => Ending::done(0),
+        Ok(false) => Ending::done(1),
+        Err(fault) => Program::Lint.fail(fault, faults),
+    }
 }
 
 /// The program `lint`: in go the words after its name, out comes the status. The words are checked first, then all
@@ -215,11 +276,8 @@ where
 {
     let mut reader = Device::new(reader);
     let mut writer = Device::new(writer);
-    match run(alloc, words, &mut reader, &mut writer) {
-        Ok(true) => 0,
-        Ok(false) => 1,
-        Err(fault) => Program::Lint.end(fault, faults),
-    }
+    let mut faults = faults;
+    lint_on(alloc, words, &mut reader, &mut writer, &mut faults).status
 }
 
 /// Ends the program `lint` where its words could not be had: prints the fault's text and a line feed, and gives the

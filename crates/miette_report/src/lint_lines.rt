@@ -7,6 +7,7 @@ ghost use Rattle.std.specs.List.{last_or};
 ghost use Rattle.std.specs.Option.{option_map};
 ghost use Rattle.miette_source_lines.specs.views.Walking.{line_of_text};
 ghost use Rattle.miette_cells.specs.views.Walking.{cell_of};
+ghost use Rattle.miette_labels.specs.rules.Groups.{AreAccepted};
 ghost use Rattle.miette_report.specs.rules.Findings.{cells_of, ending_blanks, finding, findings_of, is_blank};
 ghost use Rattle.miette_report.specs.rules.Findings.{line_findings, misplaced_tab, overlong, tab_after_space};
 ghost use Rattle.miette_report.specs.rules.Findings.{tab_behind, too_wide, trailing_space, missing_terminator};
@@ -244,7 +245,9 @@ fn push_line(
 /// # Errors
 /// Where no memory is found.
 pub fn findings(alloc: Global, source: &[u8], width: usize) -> Result<Vec<LabeledSpan>, AllocError>
-    ensures { IfOk result (λ found. found.items ≡ findings_of source.now width) }
+    ensures found { IfOk result (λ found. found.items ≡ findings_of source.now width) }
+    // Each lies in the source: no handler refuses it there.
+    ensures accepted { IfOk result (λ found. AreAccepted source.now found.items) }
 {
     let mut found = Vec::new(alloc);
     for line in Lines::new(source, 0) {

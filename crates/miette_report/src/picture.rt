@@ -3,12 +3,14 @@
 ghost use Rattle.std.specs.Prelude.{◌≡◌, string_bytes, IfOk};
 ghost use Rattle.miette.specs.Diagnostic.{meaning_of};
 ghost use Rattle.miette.specs.Report.{tree_of};
+ghost use Rattle.miette_tree.specs.rules.DiagnosticParts.{given_labels};
+ghost use Rattle.miette_labels.specs.rules.Groups.{AreAccepted};
 ghost use Rattle.miette_brief.specs.rules.Report.{brief, unlisted};
 ghost use Rattle.miette_brief.specs.rules.Report.{default_settings as brief_settings};
 ghost use Rattle.miette_graphical.specs.views.Handling.{without_highlighter};
 ghost use Rattle.miette_style.specs.rules.Themes.{theme_of};
 ghost use Rattle.miette_report.specs.views.DrawReports.{over_input, settings_in, IsPicture};
-ghost use Rattle.miette_report.specs.steps.DrawCalls.{IsReadWhole};
+ghost use Rattle.miette_report.specs.steps.PictureReads.{IsReadWhole};
 
 use miette::diagnostic::MietteDiagnostic;
 use miette::error::RenderError;
@@ -99,8 +101,10 @@ pub(crate) fn rows_over(
     diagnostic: MietteDiagnostic,
     input: Vec<u8>,
 ) -> Result<String, RenderError>
-    ensures { IfOk result (λ text. string_bytes text
+    ensures ok { IfOk result (λ text. string_bytes text
         ≡ brief brief_settings (over_input name.now (meaning_of diagnostic) input.items) unlisted) }
+    ensures accepted { AreAccepted input.items (given_labels (meaning_of diagnostic).labels)
+        → ¬ (result ≡ Err RenderError.Refused) }
 {
     let report: Report = match report(alloc, name, diagnostic, input) {
         Ok(report) => report,

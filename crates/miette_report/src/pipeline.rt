@@ -1,14 +1,14 @@
 //! A job: read all, build, render, write all.
 
 ghost use Rattle.std.specs.Prelude.{◌≡◌, ◌<◌, ◌↔◌, length, ◌⊎◌, false, string_bytes, IsTrue, IsUtf8, IfOk, OnOk, OnErr};
-ghost use Rattle.std.specs.Prelude.{IfSome, Some, None};
+ghost use Rattle.std.specs.Prelude.{IfSome, Some};
 ghost use Rattle.std.specs.Io.KnownBytes.{Appends};
 ghost use Rattle.miette_report.specs.views.Device.{TakesBeginning};
 ghost use Rattle.miette_tree.specs.views.Report.{tree_of};
 ghost use Rattle.miette_tree.specs.rules.Reads.{AlwaysReads};
 ghost use Rattle.miette_description.specs.rules.Description.{tree_for};
 ghost use Rattle.miette_report.specs.steps.JobHandler.{IsAsked};
-ghost use Rattle.miette_report.specs.rules.Job.{IsDescription, IsTelling, IsRefused, Writes};
+ghost use Rattle.miette_report.specs.rules.Job.{IsDescription, IsNoDescription, IsTelling, IsRefused, Writes};
 
 use crate::arguments::Arguments;
 use crate::device::Device;
@@ -31,7 +31,7 @@ fn report_of(alloc: Global, bytes: &[u8]) -> Result<Report, Fault>
         ⟦<Box<dyn SourceCode> as SourceCode>⟧.source r))) }
     ensures sources { IfOk result (λ r. AlwaysReads
         (tree_of ⟦<Box<dyn Diagnostic> as Diagnostic>⟧.meaning ⟦<Box<dyn SourceCode> as SourceCode>⟧.source r)) }
-    ensures description { (result ≡ Err Fault.Description) → IsUtf8 bytes.now → tree_for bytes.now ≡ None }
+    ensures description { (result ≡ Err Fault.Description) → IsNoDescription bytes.now }
     ensures others { OnErr result ((result ≡ Err Fault.Description) ⊎ (result ≡ Err Fault.Memory)) }
 {
     match miette_description::report::report_of(alloc, bytes) {
@@ -53,7 +53,7 @@ fn report_and_handler(
     ensures sources { IfOk result (λ it. AlwaysReads
         (tree_of ⟦<Box<dyn Diagnostic> as Diagnostic>⟧.meaning ⟦<Box<dyn SourceCode> as SourceCode>⟧.source it.0)) }
     ensures asked { IfOk result (λ it. IsAsked settings.choice settings.options settings.terminal it.1) }
-    ensures description { (result ≡ Err Fault.Description) → IsUtf8 bytes.now → tree_for bytes.now ≡ None }
+    ensures description { (result ≡ Err Fault.Description) → IsNoDescription bytes.now }
     ensures others { OnErr result ((result ≡ Err Fault.Description) ⊎ (result ≡ Err Fault.Memory)) }
 {
     let report = report_of(alloc, bytes)?;
@@ -64,7 +64,7 @@ fn report_and_handler(
 fn text_of(alloc: Global, bytes: &[u8], settings: Arguments) -> Result<String, Fault>
     ensures ok { IfOk result (λ text. Writes ⟦<LanguageHighlighter as Highlighter>⟧.is_blank settings.choice
         settings.options settings.terminal bytes.now (λ given. string_bytes text ≡ given)) }
-    ensures description { (result ≡ Err Fault.Description) → IsUtf8 bytes.now → tree_for bytes.now ≡ None }
+    ensures description { (result ≡ Err Fault.Description) → IsNoDescription bytes.now }
     ensures refused { (result ≡ Err Fault.Refused) →
         IsTelling settings.choice settings.options settings.terminal × IsRefused bytes.now }
     ensures others { OnErr result ((result ≡ Err Fault.Description) ⊎ (result ≡ Err Fault.Refused)
@@ -84,10 +84,11 @@ pub(crate) fn rendered_length(
     ensures ok { IfOk result (λ n. 0 < times →
         Writes ⟦<LanguageHighlighter as Highlighter>⟧.is_blank settings.choice settings.options settings.terminal
         bytes.now (λ text. n ≡ length text)) }
+    ensures none { IfOk result (λ n. times ≡ 0 → n ≡ 0) }
     ensures described { OnOk result (IsDescription bytes.now) }
     ensures others { OnErr result ((result ≡ Err Fault.Description) ⊎ (result ≡ Err Fault.Refused)
         ⊎ (result ≡ Err Fault.Memory)) }
-    ensures description { (result ≡ Err Fault.Description) → IsUtf8 bytes.now → tree_for bytes.now ≡ None }
+    ensures description { (result ≡ Err Fault.Description) → IsNoDescription bytes.now }
     ensures refused { (result ≡ Err Fault.Refused) →
         IsTelling settings.choice settings.options settings.terminal × IsRefused bytes.now }
 {
@@ -118,8 +119,8 @@ pub fn run<R: Read, W: Write>(
     ensures ok { OnOk result (IfSome (R.remaining reader.old.inner) (λ bytes.
         Writes ⟦<LanguageHighlighter as Highlighter>⟧.is_blank settings.choice settings.options settings.terminal bytes
         (Appends (W.contents writer.old.inner) (W.contents writer.new.inner)))) }
-    ensures description { (result ≡ Err Fault.Description) → IfSome (R.remaining reader.old.inner) (λ bytes.
-        IsUtf8 bytes → tree_for bytes ≡ None) }
+    ensures description { (result ≡ Err Fault.Description) →
+        IfSome (R.remaining reader.old.inner) IsNoDescription }
     ensures read_failed { IsTrue reader.new.failed ↔ (result ≡ Err Fault.Read) }
     ensures write_failed { IsTrue writer.new.failed ↔ (result ≡ Err Fault.Write) }
     // Only a narrated or brief report is refused, and only where a label that it tells isn't accepted.

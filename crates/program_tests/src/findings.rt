@@ -1,6 +1,7 @@
 //! What `lint` finds in a source: each label by its text, its offset and its length.
 
 use crate::comparing::same;
+use crate::json_reports::reads_back;
 use miette_protocol::protocol::LabeledSpan;
 use miette_report::lint::findings;
 use std::alloc::Global;
@@ -22,7 +23,7 @@ fn have_parts(rt: &impl Abort, found: &[LabeledSpan], wanted: &[LabelParts<'_>])
     }
 }
 
-/// These are the labels that are found in a source.
+/// These are the labels that are found in a source, and those that `serde_json` reads in the JSON report of them.
 fn expect(
     rt: &impl Abort,
     alloc: Global,
@@ -31,7 +32,7 @@ fn expect(
 ) -> Result<(), Fail> {
     let found = findings(alloc, source, width)?;
     have_parts(rt, found.as_slice(), wanted);
-    Ok(())
+    reads_back(rt, alloc, source, found, wanted)
 }
 
 const TRAILING: &str = "trailing blanks";

@@ -1,5 +1,5 @@
 //! Tests of what no run of a program shows: devices in memory, what `lint` finds byte by byte, words that could not be
-//! had. All else that programs write stands in `cases/`.
+//! had, JSON reports as another reader reads them. All else that programs write stands in `cases/`.
 #![tactic(auto)]
 
 #[cfg(test)]
@@ -8,5 +8,7 @@ mod comparing;
 mod devices;
 #[cfg(test)]
 mod findings;
+#[cfg(test)]
+mod json_reports;
 #[cfg(test)]
 mod words;

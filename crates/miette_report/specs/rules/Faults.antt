@@ -1,5 +1,5 @@
 -- Why programs fail, what they say of it, and the statuses that they end with.
-use Rattle.std.specs.Prelude.{ℕ, List, ◌++◌, codes}
+use Rattle.std.specs.Prelude.{ℕ, List, ◌++◌, Option, Some, None, Result, Ok, Err, codes}
 use Rattle.miette_report.specs.declared.fault.Fault.{Fault}
 use Rattle.miette_report.specs.declared.fault.Fault.TheVariants.{Usage, Memory, Read, Write, Description, Refused}
 use Rattle.miette_report.specs.declared.fault.Program.{Program}
@@ -21,6 +21,11 @@ status_of Job fault = usual_status fault
 status_of Bench fault = usual_status fault
 status_of Lint fault = 2
 
+-- the status by how the work ended, with these of faults
+abbrev pub end_status : {T : Type 0} → (Fault → ℕ) → Result T Fault → ℕ
+end_status status (Ok x) = 0
+end_status status (Err fault) = status fault
+
 abbrev pub name_of : Program → List ℕ
 name_of Draw = codes "draw"
 name_of Job = codes "job"
@@ -34,15 +39,20 @@ usage_of Job = codes "[OPTIONS]"
 usage_of Bench = codes "N [OPTIONS]"
 usage_of Lint = codes "[--brief] NAME WIDTH"
 
--- after its name what ended the program, and a line feed
-abbrev pub named_row : Program → List ℕ → List ℕ
-named_row program text = name_of program ++ (codes ": " ++ (text ++ codes "\n"))
+-- what a fault is called, where it is none of the words
+abbrev pub reason_of : Fault → Option (List ℕ)
+reason_of Usage = None
+reason_of Memory = Some (codes "out of memory")
+reason_of Read = Some (codes "read fault")
+reason_of Write = Some (codes "write fault")
+reason_of Description = Some (codes "bad description")
+reason_of Refused = Some (codes "report refused")
+
+-- after the program's name this reason, and a line feed; without a reason the words that it takes
+abbrev pub reason_row : Program → Option (List ℕ) → List ℕ
+reason_row program None = codes "usage: " ++ (name_of program ++ (codes " " ++ (usage_of program ++ codes "\n")))
+reason_row program (Some reason) = name_of program ++ (codes ": " ++ (reason ++ codes "\n"))
 
 -- what a program that fails says of it
 abbrev pub fault_row : Program → Fault → List ℕ
-fault_row program Usage = codes "usage: " ++ (name_of program ++ (codes " " ++ (usage_of program ++ codes "\n")))
-fault_row program Memory = named_row program (codes "out of memory")
-fault_row program Read = named_row program (codes "read fault")
-fault_row program Write = named_row program (codes "write fault")
-fault_row program Description = named_row program (codes "bad description")
-fault_row program Refused = named_row program (codes "report refused")
+fault_row program fault = reason_row program (reason_of fault)

@@ -1,5 +1,5 @@
 -- The text of a job: by the bytes that were read, and by what was asked for.
-use Rattle.std.specs.Prelude.{◌≡◌, ℕ, Bool, List, Some, true, false, IsUtf8, encode_utf8_all}
+use Rattle.std.specs.Prelude.{◌≡◌, ℕ, Bool, List, Some, None, true, false, IsUtf8, encode_utf8_all}
 use Rattle.miette.specs.rules.Choice.{IsChosen, is_graphical}
 use Rattle.miette.specs.rules.Options.{Options}
 use Rattle.miette.specs.declared.options.handler.MietteHandler.{MietteHandler}
@@ -47,6 +47,10 @@ Writes is_blank choice options terminal bytes holds =
 -- the bytes are a description
 abbrev pub IsDescription : List ℕ → Type 0
 IsDescription bytes = IsUtf8 bytes × ((t : Tree) × (tree_for bytes ≡ Some t))
+
+-- the bytes are none
+abbrev pub IsNoDescription : List ℕ → Type 0
+IsNoDescription bytes = IsUtf8 bytes → tree_for bytes ≡ None
 
 -- the bytes are a description, and a label that is told of its report isn't accepted
 abbrev pub IsRefused : List ℕ → Type 0

@@ -9,19 +9,25 @@ abbrev pub IsReadAs : List ℕ → Option ℕ → Type 0
 IsReadAs word (Some n) = IsNumeral 10 word × (digits_value 10 word < 2 ^ 64) × (n ≡ digits_value 10 word)
 IsReadAs word None = IsNumeral 10 word → 2 ^ 64 ≤ digits_value 10 word
 
+-- what `draw` is asked for: the source's name, where the label begins, its length and its text, the report's message
+pub record DrawRequest : Type 0 where
+  pub name : List ℕ
+  pub offset : ℕ
+  pub length : ℕ
+  pub label : List ℕ
+  pub message : List ℕ
+
 -- five words, the second and the third of which are numbers
-pub record AreDrawWords (words : List (List ℕ)) (name : List ℕ) (offset length : ℕ) (label message : List ℕ) : Type 0
-  where
-    pub offset_word : List ℕ
-    pub length_word : List ℕ
-    pub five : words ≡ name ∷ offset_word ∷ length_word ∷ label ∷ message ∷ []
-    pub offset_is : IsReadAs offset_word (Some offset)
-    pub length_is : IsReadAs length_word (Some length)
+pub record AreDrawWords (words : List (List ℕ)) (request : DrawRequest) : Type 0 where
+  pub offset_word : List ℕ
+  pub length_word : List ℕ
+  pub five : words ≡ request.name ∷ offset_word ∷ length_word ∷ request.label ∷ request.message ∷ []
+  pub offset_is : IsReadAs offset_word (Some request.offset)
+  pub length_is : IsReadAs length_word (Some request.length)
 
 -- no reading of the words is one of `draw`'s
 abbrev pub IsNoDrawCall : List (List ℕ) → Type 0
-IsNoDrawCall words = (name : List ℕ) (offset length : ℕ) (label message : List ℕ) →
-    ¬ (AreDrawWords words name offset length label message)
+IsNoDrawCall words = (request : DrawRequest) → ¬ (AreDrawWords words request)
 
 -- the word that asks for rows in place of a picture
 abbrev pub brief_word : Bool → List (List ℕ)

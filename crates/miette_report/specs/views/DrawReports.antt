@@ -9,6 +9,18 @@ use Rattle.miette_graphical.specs.rules.Answers.{unlisted}
 use Rattle.miette_graphical.specs.rules.Settings.{Settings, default_settings}
 use Rattle.miette_graphical.specs.rules.Snippets.{drawn_rows}
 use Rattle.miette_graphical.specs.rules.Text.{report_text}
+use Rattle.miette_report.specs.rules.Words.{AreDrawWords, DrawRequest}
+use Rattle.miette_report.specs.declared.draw.DrawWords.{DrawWords}
+
+-- what the words ask for, as they were read
+abbrev pub draw_request : DrawWords → DrawRequest
+draw_request words = record {
+  name = words.name.now;
+  offset = words.offset;
+  length = words.length;
+  label = words.label.now;
+  message = words.message.now;
+}
 
 -- a label without text where the word is empty
 abbrev pub label_text : List ℕ → Option (List ℕ)
@@ -24,16 +36,16 @@ drawn_label offset length text = record {
 }
 
 -- the message with one label
-abbrev pub drawn_meaning : ℕ → ℕ → List ℕ → List ℕ → Meaning
-drawn_meaning offset length label message = record (message_alone message)
-    { labels = Some (drawn_label offset length label ∷ []) }
+abbrev pub drawn_meaning : DrawRequest → Meaning
+drawn_meaning request = record (message_alone request.message)
+    { labels = Some (drawn_label request.offset request.length request.label ∷ []) }
 
 -- a diagnostic alone, over the input under a name
 abbrev pub over_input : List ℕ → Meaning → List ℕ → Tree
 over_input name meaning input = with_source (named_source (plain_source input) name None) (alone meaning)
 
-abbrev pub drawn_tree : List ℕ → ℕ → ℕ → List ℕ → List ℕ → List ℕ → Tree
-drawn_tree name offset length label message input = over_input name (drawn_meaning offset length label message) input
+abbrev pub drawn_tree : DrawRequest → List ℕ → Tree
+drawn_tree request input = over_input request.name (drawn_meaning request) input
 
 -- in this theme and 80 columns wide, with lines cut at a limit, if there is one
 abbrev pub settings_in : Theme → Option ℕ → Settings
@@ -49,7 +61,11 @@ draw_settings = settings_in (record { characters = unicode_characters; styles = 
 abbrev pub IsPicture : Option ℕ → Tree → List ℕ → Type 0
 IsPicture limit t text = text ≡ encode_utf8_all (report_text drawn_rows (draw_settings limit) t unlisted)
 
--- A fact of the picture for these words and this input.
-abbrev pub Pictures : List ℕ → ℕ → ℕ → List ℕ → List ℕ → List ℕ → (List ℕ → Type 0) → Type 0
-Pictures name offset length label message input holds =
-    (text : List ℕ) × IsPicture None (drawn_tree name offset length label message input) text × holds text
+-- A fact of the picture that is asked for on this input.
+abbrev pub Pictures : DrawRequest → List ℕ → (List ℕ → Type 0) → Type 0
+Pictures request input holds = (text : List ℕ) × IsPicture None (drawn_tree request input) text × holds text
+
+-- A fact of the picture for the words as the program is called with them.
+abbrev pub CallPictures : List (List ℕ) → List ℕ → (List ℕ → Type 0) → Type 0
+CallPictures words input holds =
+    (request : DrawRequest) × AreDrawWords words request × Pictures request input holds

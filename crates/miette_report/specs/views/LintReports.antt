@@ -46,3 +46,13 @@ LintsText brief name width input holds =
 abbrev pub CallIsClean : List (List ℕ) → List ℕ → Bool → Type 0
 CallIsClean words input clean = (brief : Bool) × (name : List ℕ) × (width : ℕ)
     × AreLintWords words brief name width × IsClean (findings_of input width) clean
+
+-- A fact of the text for the words as the program is called with them, with whether nothing is found in the input.
+abbrev pub CallLints : List (List ℕ) → List ℕ → Bool → (List ℕ → Type 0) → Type 0
+CallLints words input clean holds = (brief : Bool) × (name : List ℕ) × (width : ℕ)
+    × AreLintWords words brief name width × Lints brief name width input clean holds
+
+-- A fact of the text alone.
+abbrev pub CallLintsText : List (List ℕ) → List ℕ → (List ℕ → Type 0) → Type 0
+CallLintsText words input holds = (brief : Bool) × (name : List ℕ) × (width : ℕ)
+    × AreLintWords words brief name width × LintsText brief name width input holds

@@ -9,7 +9,7 @@ use Rattle.miette_report.proofs.draw.write_picture.Goals as goal
 
 pub returns-clause-ok : goal.returns-clause-ok
 returns-clause-ok g c =
-    on_ok_weaker c.write_whole.result (λ took. told _ _ _ _ _ _ _ _ _
+    on_ok_weaker c.write_whole.result (λ took. told _ _ _ _ _
     (Appends (g.W.Write.contents c.args.writer.now.inner) (g.W.Write.contents c.write_whole.new.writer.inner))
     c.in_ok-input.ensures.bytes c.in-Ok.ensures.ok c.as_bytes.ensures.value took) c.write_whole.ensures.ok
 
@@ -26,7 +26,7 @@ returns-clause-others g c = on_err_weaker c.write_whole.result (λ is. inr (inr 
 
 pub returns-clause-beginning : goal.returns-clause-beginning
 returns-clause-beginning g c = λ fault.
-    told _ _ _ _ _ _ _ _ _ (TakesBeginning (g.W.Write.contents c.args.writer.now.inner)
+    told _ _ _ _ _ (TakesBeginning (g.W.Write.contents c.args.writer.now.inner)
     (g.W.Write.contents c.write_whole.new.writer.inner))
     c.in_ok-input.ensures.bytes c.in-Ok.ensures.ok c.as_bytes.ensures.value
     (of-error c.write_whole.result Write _ c.write_whole.ensures.err fault)

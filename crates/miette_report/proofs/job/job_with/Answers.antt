@@ -1,20 +1,14 @@
-use Rattle.miette_report.proofs.FaultStatuses.{description-status, refused-status, usual-below, usual-positive}
+use Rattle.std.proofs.Common.{◌≡◌, map, None, refl, string_bytes, subst}
+use Rattle.miette_report.specs.rules.Faults.{status_of}
+use Rattle.miette_report.specs.rules.JobCalls.{IsJobEnd}
+use Rattle.miette_report.specs.rules.OptionWords.{asked_by}
+use Rattle.miette_report.specs.declared.fault.Program.TheVariants.{Job}
+use Rattle.miette_report.proofs.JobEnds.{job-status}
 use Rattle.miette_report.proofs.job.job_with.Goals as goal
 
-pub returns-in-Err-clause-status : goal.returns-in-Err-clause-status
-returns-in-Err-clause-status g c = usual-below c.in-Err.fault _ c.end.ensures
-
-pub returns-in-Err-clause-done : goal.returns-in-Err-clause-done
-returns-in-Err-clause-done g c = λ done. absurd (usual-positive c.in-Err.fault _ c.end.ensures done)
-
-pub returns-in-Err-clause-description : goal.returns-in-Err-clause-description
-returns-in-Err-clause-description g c = λ three. c.run_asked.ensures.description
-    (description-status _ c.in-Err.fault _ c.in-Err.is c.end.ensures three)
-
-pub returns-in-Err-clause-refused : goal.returns-in-Err-clause-refused
-returns-in-Err-clause-refused g c = λ four. c.run_asked.ensures.refused
-    (refused-status _ c.in-Err.fault _ c.in-Err.is c.end.ensures four)
-
-pub returns-in-Err-clause-narrated : goal.returns-in-Err-clause-narrated
-returns-in-Err-clause-narrated g c = λ four. c.run_asked.ensures.narrated
-    (refused-status _ c.in-Err.fault _ c.in-Err.is c.end.ensures four)
+pub returns : goal.returns
+returns g c =
+    let words = map string_bytes c.args.words.now in
+    let end = subst (λ d. IsJobEnd (asked_by words ≡ None) words (g.R.Read.remaining d) c.run_asked-work.result)
+    c.new-reader.ensures.inner c.run_asked-work.ensures.end in
+    record { status = job-status (status_of Job) (λ f. refl) _ _ _ c.run_asked-work.result _ end c.finish.ensures }

@@ -2,6 +2,7 @@ use Rattle.std.proofs.Common.{Option, length, arith, subst, rules}
 use Rattle.miette_source_lines.specs.declared.lines.LineOfText.{LineOfText}
 use Rattle.miette_source_lines.specs.views.Walking.{GivesLine}
 use Rattle.miette_report.specs.rules.Findings.{line_findings}
+use Rattle.miette_report.proofs.AcceptedFindings.{findings_accepted}
 use Rattle.miette_report.proofs.FindingSteps.{left_first, left_more, left_none}
 use Rattle.miette_report.proofs.lint_lines.findings.Goals as goal
 
@@ -29,5 +30,7 @@ returns c =
     let l = c.loop-line in
     let given = subst (λ (r : Option LineOfText). GivesLine l.line-iterator r c.next.new.self) c.in-None.is
     c.next.ensures.steps in
+    let all =
     left_none (line_findings c.args.source.now c.args.width) (length c.args.source.now) l.line-iterator l.found.items _
-    l.invariant given.0
+    l.invariant given.0 in
+    record { found = all; accepted = findings_accepted c.args.source.now c.args.width l.found.items all }

@@ -11,3 +11,6 @@ pub returns-clause-ok : goal.returns-clause-ok
 returns-clause-ok c = λ times.
     length-written _ _ _ _ _ _ _ _ _ c.in_ok-report.ensures.asked c.in_ok-report.ensures.ok c.in_ok-last.ensures.ok
     (search rules)
+
+pub returns-clause-none : goal.returns-clause-none
+returns-clause-none c = λ zero. absurd (c.if-times-eq0.false zero)

@@ -2,7 +2,7 @@ use Rattle.std.proofs.Common.{◌∙◌, ap, map, option_map, string_bytes}
 use Rattle.std.specs.Option.{option_and_then}
 use Rattle.miette_report.specs.rules.OptionWords.{with_words}
 use Rattle.miette_report.specs.steps.AskedWords.{asked_of}
-use Rattle.miette_report.proofs.OptionWordSteps.{all_done, some_left}
+use Rattle.miette_report.proofs.OptionWordSteps.{all_done}
 use Rattle.miette_report.proofs.arguments.Arguments.read.Goals as goal
 
 pub loop-rest-preserved : goal.loop-rest-preserved

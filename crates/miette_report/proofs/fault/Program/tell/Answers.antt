@@ -1,31 +1,23 @@
-use Rattle.std.proofs.Common.{ap, codes, sym, Bor, List, ℕ}
+use Rattle.std.proofs.Common.{ap, sym, ◌∙◌, Bor, List, ℕ}
+use Rattle.std.specs.Option.{option_map}
 use Rattle.std.specs.Io.KnownBytes.{Appends}
-use Rattle.miette_report.specs.rules.Faults.{fault_row}
-use Rattle.miette_report.proofs.FaultRows.{row_named}
-use Rattle.miette_report.proofs.fault.Program.tell.Goals.{in-Memory, in-Read, in-Write, in-Description, in-Refused}
+use Rattle.miette_report.proofs.FaultRows.{row_named, row_used}
 use Rattle.miette_report.proofs.fault.Program.tell.Goals as goal
 
-pub returns : goal.returns
-returns g c =
-    let row = row_named c.writeln-2.result (Appends (g.F.Write.contents c.args.faults.now)
-    (g.F.Write.contents c.writeln-2.new.self)) c.args.self c.args.fault c.name_and_usage.result.0.now
-    c.match-fault.why.now in
+pub returns-in-None : goal.returns-in-None
+returns-in-None g c =
     record {
-      row = elim c.match-fault.branch [
-        | in-Memory w ↦ row (codes "out of memory") c.name_and_usage.ensures.name
-            (ap (λ (it : Bor (List ℕ)). it.now) w.why-is) (sym (ap (fault_row c.args.self) w.in-Memory.is))
-            c.writeln-2.ensures.bytes
-        | in-Read w ↦ row (codes "read fault") c.name_and_usage.ensures.name
-            (ap (λ (it : Bor (List ℕ)). it.now) w.why-is) (sym (ap (fault_row c.args.self) w.in-Read.is))
-            c.writeln-2.ensures.bytes
-        | in-Write w ↦ row (codes "write fault") c.name_and_usage.ensures.name
-            (ap (λ (it : Bor (List ℕ)). it.now) w.why-is) (sym (ap (fault_row c.args.self) w.in-Write.is))
-            c.writeln-2.ensures.bytes
-        | in-Description w ↦ row (codes "bad description") c.name_and_usage.ensures.name
-            (ap (λ (it : Bor (List ℕ)). it.now) w.why-is) (sym (ap (fault_row c.args.self) w.in-Description.is))
-            c.writeln-2.ensures.bytes
-        | in-Refused w ↦ row (codes "report refused") c.name_and_usage.ensures.name
-            (ap (λ (it : Bor (List ℕ)). it.now) w.why-is) (sym (ap (fault_row c.args.self) w.in-Refused.is))
-            c.writeln-2.ensures.bytes
-      ];
+      row = row_used c.writeln.result (Appends (g.F.Write.contents c.args.faults.now)
+          (g.F.Write.contents c.writeln.new.self)) c.args.self c.args.fault _ _ c.name_and_usage.ensures.name
+          c.name_and_usage.ensures.usage
+          (ap (option_map (λ (it : Bor (List ℕ)). it.now)) (sym c.in-None.is) ∙ c.reason.ensures) c.writeln.ensures.bytes;
+    }
+
+pub returns-in-Some : goal.returns-in-Some
+returns-in-Some g c =
+    record {
+      row = row_named c.writeln-in-Some.result (Appends (g.F.Write.contents c.args.faults.now)
+          (g.F.Write.contents c.writeln-in-Some.new.self)) c.args.self c.args.fault _ _ c.name_and_usage.ensures.name
+          (ap (option_map (λ (it : Bor (List ℕ)). it.now)) (sym c.in-Some.is) ∙ c.reason.ensures)
+          c.writeln-in-Some.ensures.bytes;
     }

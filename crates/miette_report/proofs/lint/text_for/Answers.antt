@@ -1,0 +1,20 @@
+use Rattle.std.proofs.Common.{Bool, rules, subst}
+use Rattle.miette_report.specs.views.LintReports.{IsClean}
+use Rattle.miette_report.proofs.AcceptedFindings.{warned_accepted}
+use Rattle.miette_report.proofs.LintSteps.{nothing_linted, some_linted}
+use Rattle.miette_report.proofs.lint.text_for.Goals as goal
+
+pub returns-then-is_clean-clause-linted : goal.returns-then-is_clean-clause-linted
+returns-then-is_clean-clause-linted c =
+    nothing_linted _ _ _ _ _ c.args.found.items (subst (λ (b : Bool). IsClean c.args.found.items b) c.if-is_clean.true
+    c.is_clean.ensures) c.new.ensures.bytes
+
+pub returns-in-Ok-clause-linted : goal.returns-in-Ok-clause-linted
+returns-in-Ok-clause-linted c =
+    some_linted _ _ _ _ _ c.args.found.items _ (subst (λ (b : Bool). IsClean c.args.found.items b) c.if-is_clean.false
+    c.is_clean.ensures) c.in_ok-diagnostic.ensures c.in-Ok.ensures.shown
+
+pub returns-in-Err-Refused-clause-others : goal.returns-in-Err-Refused-clause-others
+returns-in-Err-Refused-clause-others c = λ accepted.
+    absurd (c.diagnostic_text.ensures.accepted (warned_accepted _ c.args.found.items c.args.input.items
+    c.in_ok-diagnostic.ensures accepted) (search rules))
