@@ -1,6 +1,7 @@
 //! Diagnostics.
 
-use crate::rows::{Done, Stop, write_answer, write_clones_if_made, write_given};
+use crate::fixtures::labels_of;
+use crate::rows::{Done, Stop, write_answer, write_clones_if_made, write_made};
 use miette::diagnostic::MietteDiagnostic;
 use miette::protocol::{LabeledSpan, Severity};
 use miette_tree::diagnostic;
@@ -53,9 +54,7 @@ pub fn write_full_diagnostic<W: Write>(
     alloc: Global,
     out: &mut W,
 ) -> Result<MietteDiagnostic, Stop> {
-    let full = full_diagnostic(alloc)?;
-    write_given(out, &full)?;
-    Ok(full)
+    write_made(out, full_diagnostic(alloc))
 }
 
 /// What the call of this name makes of a diagnostic; an error where what it needs can't be made.
@@ -65,11 +64,27 @@ fn change(
     full: MietteDiagnostic,
 ) -> Result<Result<MietteDiagnostic, AllocError>, Stop> {
     match name {
-        "MietteDiagnostic::copied" => Ok(MietteDiagnostic::copied(alloc, &full)),
-        "MietteDiagnostic::with_code" => Ok(full.with_code(alloc, "c::d")),
-        "MietteDiagnostic::with_help" => Ok(full.with_help(alloc, "try again")),
-        "MietteDiagnostic::with_url" => Ok(full.with_url(alloc, "http://y")),
+        "MietteDiagnostic::copied" => Ok(copy(alloc, full)),
+        "MietteDiagnostic::with_code"
+        | "MietteDiagnostic::with_help"
+        | "MietteDiagnostic::with_url" => Ok(with_text(alloc, name, full)),
         _ => with_labels(alloc, name, full),
+    }
+}
+
+fn copy(alloc: Global, full: MietteDiagnostic) -> Result<MietteDiagnostic, AllocError> {
+    MietteDiagnostic::copied(alloc, &full)
+}
+
+fn with_text(
+    alloc: Global,
+    name: &str,
+    full: MietteDiagnostic,
+) -> Result<MietteDiagnostic, AllocError> {
+    match name {
+        "MietteDiagnostic::with_code" => full.with_code(alloc, "c::d"),
+        "MietteDiagnostic::with_help" => full.with_help(alloc, "try again"),
+        _ => full.with_url(alloc, "http://y"),
     }
 }
 
@@ -79,11 +94,35 @@ fn with_labels(
     full: MietteDiagnostic,
 ) -> Result<Result<MietteDiagnostic, AllocError>, Stop> {
     match name {
-        "MietteDiagnostic::with_label" => Ok(full.with_label(alloc, and_this(alloc)?)),
-        "MietteDiagnostic::and_label" => Ok(full.and_label(alloc, and_this(alloc)?)),
-        "MietteDiagnostic::and_labels" => Ok(full.and_labels(alloc, two(alloc)?)),
-        _ => { Ok(with_two_lines(alloc, full)) }
+        "MietteDiagnostic::with_label" | "MietteDiagnostic::and_label" => {
+            with_label(alloc, name, full, and_this(alloc))
+        }
+        "MietteDiagnostic::and_labels" => and_labels(alloc, full, two(alloc)),
+        _ => Ok(with_two_lines(alloc, full)),
     }
+}
+
+fn with_label(
+    alloc: Global,
+    name: &str,
+    full: MietteDiagnostic,
+    label: Result<LabeledSpan, AllocError>,
+) -> Result<Result<MietteDiagnostic, AllocError>, Stop> {
+    let label = label?;
+    if name == "MietteDiagnostic::with_label" {
+        Ok(full.with_label(alloc, label))
+    } else {
+        Ok(full.and_label(alloc, label))
+    }
+}
+
+fn and_labels(
+    alloc: Global,
+    full: MietteDiagnostic,
+    labels: Result<Vec<LabeledSpan>, AllocError>,
+) -> Result<Result<MietteDiagnostic, AllocError>, Stop> {
+    let labels = labels?;
+    Ok(full.and_labels(alloc, labels))
 }
 
 fn with_two_lines(alloc: Global, full: MietteDiagnostic) -> Result<MietteDiagnostic, AllocError> {
@@ -106,7 +145,5 @@ pub fn full_diagnostic(alloc: Global) -> Result<MietteDiagnostic, AllocError> {
 }
 
 fn two(alloc: Global) -> Result<Vec<LabeledSpan>, AllocError> {
-    let first = LabeledSpan::at(alloc, (0, 6), "first")?;
-    let second = LabeledSpan::at(alloc, (18, 4), "second")?;
-    Ok(vec![in alloc; first, second]?)
+    labels_of(alloc, &[(0, 6, 0, "first"), (18, 4, 0, "second")])
 }

@@ -179,37 +179,28 @@ fn labels_and_source(name: &str) -> Option<Labelled> {
 fn with_others<'a>(alloc: Global, name: &str, reads: &'a Reads) -> Result<Made<'a>, AllocError> {
     match name {
         "related reports" => report_with_related(alloc),
-        "related reports in one another" => {
-            let outer = report_of(alloc, &CROSSING)?;
-            report_with_related_below(alloc, outer)
-        }
+        "related reports in one another" => report_with_related_below(alloc),
         "texts" => report_over_texts(alloc, report_of(alloc, &PLAIN)?, &TEXTS),
-        _ => with_cause(alloc, report_of(alloc, &PLAIN)?, name, reads),
+        _ => report_over(alloc, report_of(alloc, &PLAIN), cause(alloc, name, reads)),
     }
 }
 
-fn report_with_related_below<'a>(alloc: Global, outer: Made<'a>) -> Result<Made<'a>, AllocError> {
-    report_beside_one(alloc, outer, report_with_related(alloc)?)
+fn report_with_related_below<'a>(alloc: Global) -> Result<Made<'a>, AllocError> {
+    report_beside_one(
+        alloc,
+        report_of(alloc, &CROSSING),
+        report_with_related(alloc),
+    )
 }
 
 fn report_with_related<'a>(alloc: Global) -> Result<Made<'a>, AllocError> {
     report_beside(alloc, report_of(alloc, &PLAIN)?, &BESIDE)
 }
 
-fn with_cause<'a>(
-    alloc: Global,
-    outer: Made<'a>,
-    name: &str,
-    reads: &'a Reads,
-) -> Result<Made<'a>, AllocError> {
-    let cause = cause(alloc, name, reads)?;
-    report_over(alloc, outer, cause)
-}
-
 fn cause<'a>(alloc: Global, name: &str, reads: &'a Reads) -> Result<Made<'a>, AllocError> {
     match name {
         "a linked cause" => report_of(alloc, &LINKED),
-        "causes with sources" => cause_over_cause(alloc, report_of(alloc, &ONE_LABEL)?),
+        "causes with sources" => cause_over_cause(alloc),
         _ => {
             let bytes = README;
             stopping_report(alloc, &ONE_LABEL, Stopping { bytes, reads })
@@ -217,8 +208,12 @@ fn cause<'a>(alloc: Global, name: &str, reads: &'a Reads) -> Result<Made<'a>, Al
     }
 }
 
-fn cause_over_cause<'a>(alloc: Global, outer: Made<'a>) -> Result<Made<'a>, AllocError> {
-    report_over(alloc, outer, report_of(alloc, &CROSSING)?)
+fn cause_over_cause<'a>(alloc: Global) -> Result<Made<'a>, AllocError> {
+    report_over(
+        alloc,
+        report_of(alloc, &ONE_LABEL),
+        report_of(alloc, &CROSSING),
+    )
 }
 
 /// The rows that are asked for: those of a report, of a handler, or all.
@@ -257,15 +252,26 @@ fn row<W: Write>(alloc: Global, out: &mut W, name: &str, handler: &str) -> Done 
         fails_at: 1,
         stays: false,
     };
-    let report = report(alloc, name, &reads)?;
-    render(alloc, out, &report, handler, 1)
+    render_made(alloc, out, report(alloc, name, &reads), handler, 1)
 }
 
-/// The text `> ` and what the handler of this name puts behind it.
+/// The text `> ` and what the handler of this name puts behind it, of a report that was made.
 ///
 /// # Errors
-/// `Write` where standard output took no more, `Memory` where the handler wasn't made.
-pub fn render<W: Write>(
+/// `Write` where standard output took no more, `Memory` where the report or the handler wasn't made.
+pub fn render_made<W: Write>(
+    alloc: Global,
+    out: &mut W,
+    report: Result<Made<'_>, AllocError>,
+    handler: &str,
+    lines: usize,
+) -> Done {
+    let report = report?;
+    render(alloc, out, &report, handler, lines)
+}
+
+/// The same of a report that is there.
+fn render<W: Write>(
     alloc: Global,
     out: &mut W,
     report: &Made<'_>,
@@ -286,15 +292,23 @@ pub fn render<W: Write>(
 
 /// The same for handlers that draw, and for those that options choose.
 fn render_drawn<W: Write>(alloc: Global, out: &mut W, handler: &str, it: &Asked<'_, '_>) -> Done {
-    match handler {
-        "wanting" => draw(alloc, out, Red(2), false, it),
-        "nested wanting" => draw(alloc, out, Red(2), true, it),
-        "chosen wanting" => render_by_choice(alloc, out, Red(2), false, it),
-        "highlighted" => draw(alloc, out, Red(usize::MAX), false, it),
-        "nested" => draw(alloc, out, Red(usize::MAX), true, it),
-        "chosen" => render_by_choice(alloc, out, Red(usize::MAX), false, it),
-        "chosen narrated" => render_by_choice(alloc, out, Red(usize::MAX), true, it),
-        _ => draw_plainly(alloc, out, it),
+    if handler == "graphical" {
+        draw_plainly(alloc, out, it)
+    } else if handler.starts_with("chosen") {
+        let told = handler.ends_with("narrated");
+        render_by_choice(alloc, out, red_of(handler), told, it)
+    } else {
+        let nested = handler.starts_with("nested");
+        draw(alloc, out, red_of(handler), nested, it)
+    }
+}
+
+/// All lines in red, or one, behind which memory is refused.
+fn red_of(handler: &str) -> Red {
+    if handler.ends_with("wanting") {
+        Red(2)
+    } else {
+        Red(usize::MAX)
     }
 }
 
@@ -306,20 +320,33 @@ struct Asked<'a, 'b> {
 }
 
 fn draw_plainly<W: Write>(alloc: Global, out: &mut W, it: &Asked<'_, '_>) -> Done {
+    render_by(alloc, out, plain_drawing(alloc, it.lines), it.report)
+}
+
+fn plain_drawing(alloc: Global, lines: usize) -> Result<GraphicalReportHandler<Red>, AllocError> {
     let theme = GraphicalTheme::unicode(alloc)?;
-    let mut drawing: GraphicalReportHandler<Red> = GraphicalReportHandler::themed(theme);
-    drawing = drawing.with_width(40).with_context_lines(it.lines);
-    render_behind(alloc, out, &mut drawing, it.report)
+    let drawing: GraphicalReportHandler<Red> = GraphicalReportHandler::themed(theme);
+    Ok(drawing.with_width(40).with_context_lines(lines))
 }
 
 fn draw<W: Write>(alloc: Global, out: &mut W, red: Red, nested: bool, it: &Asked<'_, '_>) -> Done {
-    let theme = GraphicalTheme::unicode(alloc)?;
-    let mut drawing = GraphicalReportHandler::themed(theme)
-        .with_width(30)
-        .with_context_lines(it.lines)
-        .with_show_related_as_nested(nested)
-        .with_syntax_highlighting(red);
-    render_behind(alloc, out, &mut drawing, it.report)
+    render_by(alloc, out, drawing(alloc, red, nested, it.lines), it.report)
+}
+
+fn drawing(
+    alloc: Global,
+    red: Red,
+    nested: bool,
+    lines: usize,
+) -> Result<GraphicalReportHandler<Red>, AllocError> {
+    let drawing = GraphicalReportHandler::themed(GraphicalTheme::unicode(alloc)?);
+    Ok(
+        drawing
+            .with_width(30)
+            .with_context_lines(lines)
+            .with_show_related_as_nested(nested)
+            .with_syntax_highlighting(red),
+    )
 }
 
 /// By the handler that options choose for a terminal.
@@ -330,14 +357,28 @@ fn render_by_choice<W: Write>(
     told: bool,
     it: &Asked<'_, '_>,
 ) -> Done {
+    let terminal = terminal(alloc)?;
+    let handler = options(red, told, it.lines).build(alloc, &terminal);
+    render_by(alloc, out, handler, it.report)
+}
+
+fn options(red: Red, told: bool, lines: usize) -> MietteHandlerOpts<Red> {
     let options: MietteHandlerOpts<Red> = MietteHandlerOpts::default();
-    let mut handler = options
+    options
         .width(30)
         .force_narrated(told)
-        .context_lines(it.lines)
+        .context_lines(lines)
         .with_syntax_highlighting(red)
-        .build(alloc, &terminal(alloc)?)?;
-    render_behind(alloc, out, &mut handler, it.report)
+}
+
+/// The same by a handler, where it was made.
+fn render_by<H: ReportHandler + Drop, W: Write>(
+    alloc: Global,
+    out: &mut W,
+    handler: Result<H, AllocError>,
+    report: &Made<'_>,
+) -> Done {
+    render_behind(alloc, out, &mut handler?, report)
 }
 
 fn render_behind<H: ReportHandler, W: Write>(
@@ -347,7 +388,16 @@ fn render_behind<H: ReportHandler, W: Write>(
     report: &Made<'_>,
 ) -> Done {
     let mut text = String::from_str(alloc, "> ")?;
-    write_given(out, &text)?;
-    let answer = handler.debug(report, &mut text);
-    write_text(out, answer, &text)
+    render_onto(out, handler, report, &mut text)
+}
+
+fn render_onto<H: ReportHandler, W: Write>(
+    out: &mut W,
+    handler: &mut H,
+    report: &Made<'_>,
+    text: &mut String,
+) -> Done {
+    write_given(out, text)?;
+    let answer = handler.debug(report, text);
+    write_text(out, answer, text)
 }

@@ -52,9 +52,23 @@ pub const M: Written<'static> = Written {
 pub fn report_of<'a>(alloc: Global, written: &Written<'_>) -> Result<Made<'a>, AllocError> {
     let report = Report::built(diagnostic_of(alloc, written)?);
     match written.source {
-        Some(bytes) => Ok(report.with_owned_source(source_of(alloc, written.name, bytes)?)),
+        Some(bytes) => over_source(report, source_of(alloc, written.name, bytes)),
         None => Ok(report),
     }
+}
+
+fn over_source<'a>(
+    report: Made<'a>,
+    source: Result<OwnedSource, AllocError>,
+) -> Result<Made<'a>, AllocError> {
+    let source = source?;
+    Ok(report.with_owned_source(source))
+}
+
+/// Appends what was made to a list.
+fn push_made<T: Drop>(list: &mut Vec<T>, made: Result<T, AllocError>) -> Result<(), AllocError> {
+    list.push(made?)?;
+    Ok(())
 }
 
 /// The same over a source that stops, in place of the one that is written.
@@ -75,10 +89,11 @@ pub fn stopping_report<'a>(
 /// Where memory is refused.
 pub fn report_over<'a>(
     alloc: Global,
-    report: Made<'a>,
-    cause: Made<'a>,
+    report: Result<Made<'a>, AllocError>,
+    cause: Result<Made<'a>, AllocError>,
 ) -> Result<Made<'a>, AllocError> {
-    match report.with_diagnostic_cause(alloc, cause) {
+    let cause = cause?;
+    match report?.with_diagnostic_cause(alloc, cause) {
         Ok(made) => Ok(made),
         Err(_) => Err(AllocError),
     }
@@ -97,10 +112,14 @@ pub fn report_over_texts<'a>(
     Ok(report.with_cause_texts(list))
 }
 
-fn texts_of(alloc: Global, texts: &[&str]) -> Result<Vec<String>, AllocError> {
+/// Texts as a list that owns them.
+///
+/// # Errors
+/// Where memory is refused.
+pub fn texts_of(alloc: Global, texts: &[&str]) -> Result<Vec<String>, AllocError> {
     let mut list = Vec::new(alloc);
     for text in texts {
-        list.push(String::from_str(alloc, text)?)?;
+        push_made(&mut list, String::from_str(alloc, text))?;
     }
     Ok(list)
 }
@@ -121,7 +140,7 @@ pub fn report_beside<'a>(
 fn reports_of<'a>(alloc: Global, others: &[Written<'_>]) -> Result<Vec<Made<'a>>, AllocError> {
     let mut list = Vec::new(alloc);
     for written in others {
-        list.push(report_of(alloc, written)?)?;
+        push_made(&mut list, report_of(alloc, written))?;
     }
     Ok(list)
 }
@@ -132,14 +151,18 @@ fn reports_of<'a>(alloc: Global, others: &[Written<'_>]) -> Result<Vec<Made<'a>>
 /// Where memory is refused.
 pub fn report_beside_one<'a>(
     alloc: Global,
-    report: Made<'a>,
-    other: Made<'a>,
+    report: Result<Made<'a>, AllocError>,
+    other: Result<Made<'a>, AllocError>,
 ) -> Result<Made<'a>, AllocError> {
     let list = list_of(alloc, other)?;
-    Ok(report.with_related(list))
+    Ok(report?.with_related(list))
 }
 
-fn list_of<'a>(alloc: Global, report: Made<'a>) -> Result<Vec<Made<'a>>, AllocError> {
+fn list_of<'a>(
+    alloc: Global,
+    report: Result<Made<'a>, AllocError>,
+) -> Result<Vec<Made<'a>>, AllocError> {
+    let report = report?;
     Ok(vec![in alloc; report]?)
 }
 
@@ -161,7 +184,11 @@ fn text_of(alloc: Global, text: &str) -> Result<Option<String>, AllocError> {
     Ok(Some(String::from_str(alloc, text)?))
 }
 
-fn labels_of(alloc: Global, labels: &[Label<'_>]) -> Result<Vec<LabeledSpan>, AllocError> {
+/// Labels as they are written down.
+///
+/// # Errors
+/// Where memory is refused.
+pub fn labels_of(alloc: Global, labels: &[Label<'_>]) -> Result<Vec<LabeledSpan>, AllocError> {
     let mut list = Vec::new(alloc);
     for label in labels {
         let (offset, length, lines, text) = *label;

@@ -110,19 +110,27 @@ fn render_by_method(name: &str, report: &Report, text: &mut String) -> Result<()
 fn render_by_trait(name: &str, report: &Report, text: &mut String) -> Result<(), RenderError> {
     match name {
         "ReportHandler::debug for NarratableReportHandler" => {
-            NarratableReportHandler::new().debug(report, text)
+            debug_by(NarratableReportHandler::new(), report, text)
         }
         "ReportHandler::debug for BriefReportHandler" => {
-            BriefReportHandler::new().debug(report, text)
+            debug_by(BriefReportHandler::new(), report, text)
         }
         "ReportHandler::debug for JSONReportHandler" => {
-            JSONReportHandler::new().debug(report, text)
+            debug_by(JSONReportHandler::new(), report, text)
         }
         "ReportHandler::debug for DebugReportHandler" => {
-            DebugReportHandler::new().debug(report, text)
+            debug_by(DebugReportHandler::new(), report, text)
         }
         _ => DebugReportHandler::new().display(report, true, text),
     }
+}
+
+fn debug_by<H: ReportHandler + Drop>(
+    mut handler: H,
+    report: &Report,
+    text: &mut String,
+) -> Result<(), RenderError> {
+    handler.debug(report, text)
 }
 
 fn draw(
@@ -132,12 +140,20 @@ fn draw(
     text: &mut String,
 ) -> Result<Result<(), RenderError>, Stop> {
     let theme = GraphicalTheme::unicode(alloc)?;
-    let mut drawing = GraphicalReportHandler::new_themed(theme).with_width(40);
+    let drawing = GraphicalReportHandler::new_themed(theme).with_width(40);
     if name == "GraphicalReportHandler::render_report" {
-        Ok(drawing.render_report(report, text))
+        Ok(draw_by(drawing, report, text))
     } else {
-        Ok(drawing.debug(report, text))
+        Ok(debug_by(drawing, report, text))
     }
+}
+
+fn draw_by(
+    mut drawing: GraphicalReportHandler,
+    report: &Report,
+    text: &mut String,
+) -> Result<(), RenderError> {
+    drawing.render_report(report, text)
 }
 
 fn draw_by_choice(
@@ -147,8 +163,8 @@ fn draw_by_choice(
 ) -> Result<Result<(), RenderError>, Stop> {
     let theme = GraphicalTheme::unicode(alloc)?;
     let drawing = GraphicalReportHandler::new_themed(theme).with_width(40);
-    let mut chosen: MietteHandler = MietteHandler::Graphical(drawing);
-    Ok(chosen.debug(report, text))
+    let chosen: MietteHandler = MietteHandler::Graphical(drawing);
+    Ok(debug_by(chosen, report, text))
 }
 
 /// A handler that a terminal chooses, and what it makes of a report.

@@ -49,8 +49,17 @@ fn write_printing<R: Env + AllocGlobal + Streams, W: Write>(
     out: &mut W,
 ) -> Done {
     let report = Report::msg(rt.alloc(), "oops!")?;
+    write_printed(rt, name, out, &report)
+}
+
+fn write_printed<R: Env + AllocGlobal + Streams, W: Write>(
+    rt: &R,
+    name: &str,
+    out: &mut W,
+    report: &Report,
+) -> Done {
     writeln!(out, "\tprints:")?;
-    print(rt, name, &report);
+    print(rt, name, report);
     write!(out, "{name}\tprinted")?;
     Ok(())
 }
@@ -67,6 +76,10 @@ fn print<R: Env + AllocGlobal + Streams>(rt: &R, name: &str, report: &Report) {
 
 fn in_colours() -> MietteHandlerOpts<BlankHighlighter> {
     MietteHandlerOpts::default().color(true)
+}
+
+fn narrated() -> MietteHandlerOpts<BlankHighlighter> {
+    MietteHandlerOpts::default().force_narrated(true)
 }
 
 /// Takes as many bytes as there is room for from the start.
@@ -110,10 +123,22 @@ fn write_narration<R: Env + AllocGlobal + Streams, W: Write>(
 
 fn write_outputs<R: Env + AllocGlobal + Streams, W: Write>(rt: &R, out: &mut W) -> Done {
     let report = full_report(rt.alloc())?;
-    let mut outputs = Outputs::new(Room::new(rt.alloc())?, Room::new(rt.alloc())?);
-    let options: MietteHandlerOpts<BlankHighlighter> = MietteHandlerOpts::default();
-    let options = options.force_narrated(true);
-    let _ = print_on(rt, Stream::Stdout, options, &report, &mut outputs);
+    write_outputs_of(rt, out, &report)
+}
+
+fn two_rooms(alloc: Global) -> Result<Outputs<Room, Room>, AllocError> {
+    let writer = Room::new(alloc)?;
+    let faults = Room::new(alloc)?;
+    Ok(Outputs::new(writer, faults))
+}
+
+fn write_outputs_of<R: Env + AllocGlobal + Streams, W: Write>(
+    rt: &R,
+    out: &mut W,
+    report: &Report,
+) -> Done {
+    let mut outputs = two_rooms(rt.alloc())?;
+    let _ = print_on(rt, Stream::Stdout, narrated(), report, &mut outputs);
     let answer = match outputs.faults.text() {
         "" => Ok(()),
         "a report could not be printed: out of memory\n" => Err(PrintError::Memory),
@@ -129,22 +154,19 @@ fn narrate<R: Env + AllocGlobal + Streams>(
     room: &mut Room,
 ) -> Result<(), PrintError> {
     if name == "print_to" {
-        let options: MietteHandlerOpts<BlankHighlighter> = MietteHandlerOpts::default();
-        print_to(
-            rt,
-            Stream::Stdout,
-            options.force_narrated(true),
-            report,
-            room,
-        )
+        print_to(rt, Stream::Stdout, narrated(), report, room)
     } else {
-        write_report(
-            rt.alloc(),
-            &mut NarratableReportHandler::new(),
-            report,
-            room,
-        )
+        narrate_by(rt.alloc(), NarratableReportHandler::new(), report, room)
     }
+}
+
+fn narrate_by(
+    alloc: Global,
+    mut handler: NarratableReportHandler,
+    report: &Report,
+    room: &mut Room,
+) -> Result<(), PrintError> {
+    write_report(alloc, &mut handler, report, room)
 }
 
 fn write_room<W: Write>(out: &mut W, answer: Result<(), PrintError>, room: &Room) -> Done {

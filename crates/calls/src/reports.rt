@@ -1,6 +1,7 @@
 //! Reports: what makes them, and what is put in front of them and below them.
 
 use crate::diagnostics::{full_diagnostic, write_full_diagnostic};
+use crate::fixtures::texts_of;
 use crate::rows::{
     Done, Stop, write_given, write_outcome, write_refusal, write_report, write_report_or_refusal,
 };
@@ -45,10 +46,18 @@ pub fn make<W: Write>(alloc: Global, name: &str, out: &mut W) -> Done {
             Report::from_err(alloc, MietteError::OutOfBounds),
         ),
         "Report::with_diagnostic_cause" => write_report_over(alloc, out),
-        "Report::wrap_err" | "Report::context" => {
-            let report = write_full_report(alloc, out)?;
-            write_outcome(out, put_before(alloc, name, report))
-        }
+        "Report::wrap_err" | "Report::context" => write_put_before(alloc, name, out),
+        _ => by_macros(alloc, name, out),
+    }
+}
+
+fn write_put_before<W: Write>(alloc: Global, name: &str, out: &mut W) -> Done {
+    let report = write_full_report(alloc, out)?;
+    write_outcome(out, put_before(alloc, name, report))
+}
+
+fn by_macros<W: Write>(alloc: Global, name: &str, out: &mut W) -> Done {
+    match name {
         "miette!" => write_report_or_refusal(out, &by_macro(alloc)),
         "bail!" => write_failure(out, is_refused(alloc, 7)),
         "ensure!" => write_failure(out, is_held(alloc, 7)),
@@ -113,6 +122,12 @@ fn put_in_front(alloc: Global, name: &str, error: Result<u32>) -> Result<u32> {
     match name {
         "WrapErr::wrap_err for Result" => error.wrap_err(alloc, "in front"),
         "WrapErr::context for Result" => error.context(alloc, "in front"),
+        _ => put_lazily_in_front(alloc, name, error),
+    }
+}
+
+fn put_lazily_in_front(alloc: Global, name: &str, error: Result<u32>) -> Result<u32> {
+    match name {
         "WrapErr::wrap_err_with for Result" => {
             error.wrap_err_with(alloc, || format!(in alloc; "{} in front", 7))
         }
@@ -150,14 +165,8 @@ fn write_full_report<W: Write>(alloc: Global, out: &mut W) -> Result<Report, Sto
 
 /// `oops!` with all parts, over two texts.
 pub fn full_report(alloc: Global) -> Result<Report, AllocError> {
-    let texts = two_texts(alloc)?;
+    let texts = texts_of(alloc, &["b", "c"])?;
     Ok(Report::new(full_diagnostic(alloc)?).with_cause_texts(texts))
-}
-
-fn two_texts(alloc: Global) -> Result<Vec<String>, AllocError> {
-    let first = String::from_str(alloc, "b")?;
-    let second = String::from_str(alloc, "c")?;
-    Ok(vec![in alloc; first, second]?)
 }
 
 fn is_refused(alloc: Global, number: u32) -> Result<u32> {

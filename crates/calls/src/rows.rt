@@ -62,6 +62,19 @@ pub fn write_given<T: Debug, W: Write>(out: &mut W, value: &T) -> Done {
     Ok(())
 }
 
+/// A value that a call is given, where it was made; the row shows it.
+///
+/// # Errors
+/// `Memory` where it wasn't made, `Write` where standard output took no more.
+pub fn write_made<T: Debug + Drop, W: Write>(
+    out: &mut W,
+    made: Result<T, AllocError>,
+) -> Result<T, Stop> {
+    let value = made?;
+    write_given(out, &value)?;
+    Ok(value)
+}
+
 /// The value that a call gave, or that memory was refused.
 ///
 /// # Errors
@@ -149,11 +162,15 @@ pub fn write_clones_if_made<T: Clone + Debug + Drop, W: Write>(
 /// `Write` where standard output took no more.
 pub fn write_parts<W: Write>(out: &mut W, report: &Report) -> Done {
     write!(out, "{report:?}")?;
+    write_text_parts(out, report)?;
+    write_part(out, "labels", &report.labels())
+}
+
+fn write_text_parts<W: Write>(out: &mut W, report: &Report) -> Done {
     write_part(out, "code", &report.code())?;
     write_part(out, "severity", &report.severity())?;
     write_part(out, "help", &report.help())?;
-    write_part(out, "url", &report.url())?;
-    write_part(out, "labels", &report.labels())
+    write_part(out, "url", &report.url())
 }
 
 /// A part of a report, behind its name.

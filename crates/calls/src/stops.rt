@@ -1,6 +1,6 @@
 //! Reports over sources that stop after each number of reads: `calls stops`.
 
-use crate::examples::render;
+use crate::examples::render_made;
 use crate::fixtures::{
     M, Made, Written, report_beside_one, report_of, report_over, stopping_report,
 };
@@ -105,14 +105,13 @@ fn row<W: Write>(
     (name, handler, lines): (&str, &str, usize),
     reads: &Reads,
 ) -> Done {
-    let report = report(alloc, name, reads)?;
-    render(alloc, out, &report, handler, lines)
+    render_made(alloc, out, report(alloc, name, reads), handler, lines)
 }
 
 fn report<'a>(alloc: Global, name: &str, reads: &'a Reads) -> Result<Made<'a>, AllocError> {
     let source = Stopping { bytes: NINE, reads };
     if name == "a related report" || name == "a cause" {
-        return with_another(alloc, name, stopping_report(alloc, &ONE, source)?);
+        return with_another(alloc, name, stopping_report(alloc, &ONE, source));
     }
     stopping_report(alloc, lone_report(name), source)
 }
@@ -128,10 +127,14 @@ fn lone_report(name: &str) -> &'static Written<'static> {
     }
 }
 
-fn with_another<'a>(alloc: Global, name: &str, other: Made<'a>) -> Result<Made<'a>, AllocError> {
+fn with_another<'a>(
+    alloc: Global,
+    name: &str,
+    other: Result<Made<'a>, AllocError>,
+) -> Result<Made<'a>, AllocError> {
     if name == "a related report" {
-        report_beside_one(alloc, report_of(alloc, &PLAIN)?, other)
+        report_beside_one(alloc, report_of(alloc, &PLAIN), other)
     } else {
-        report_over(alloc, report_of(alloc, &APART)?, other)
+        report_over(alloc, report_of(alloc, &APART), other)
     }
 }
