@@ -1,5 +1,5 @@
 -- What the clauses of a picture say of a report with a cause.
-use Rattle.std.proofs.Common.{◌≡◌, ℕ, Bool, List, [], ◌++◌, true, refl, sym, ◌∙◌, ap, subst}
+use Rattle.std.proofs.Common.{◌≤◌, ◌-◌, ◌∷◌, map, ◌≡◌, ℕ, Bool, List, [], ◌++◌, true, refl, sym, ◌∙◌, ap, subst}
 use Rattle.std.proofs.Common.{arith, encode_utf8_all, Some}
 use Rattle.std.specs.List.{AllByRecursion, Contains}
 use Rattle.bstr.specs.Utf8.{pieces_from}
@@ -12,16 +12,23 @@ use Rattle.miette_tree.specs.rules.Tree.{Tree}
 use Rattle.miette_tree.specs.views.Handler.{AppendsOne}
 use Rattle.miette_graphical.specs.laws.Headline.{CutsAreExact, EndsAreDrawn, LabelsAreFolded, LinesThatFitStay}
 use Rattle.miette_graphical.specs.laws.Headline.{cells_under}
-use Rattle.miette_graphical.specs.laws.Holding.{IsHoldingText, StandsIn}
-use Rattle.miette_graphical.specs.rules.Answers.{Answers, nothing_listed, own_answer, pieces_listed}
+use Rattle.miette_graphical.specs.laws.FittingRows.{FitsRow, fed_rows, indented_rows}
+use Rattle.miette_graphical.specs.laws.Holding.{Arrow, HoldsSnippets, IsHoldingText, StandsIn}
+use Rattle.miette_graphical.specs.laws.Levels.{AreAmong, HaveRoom, HoldsLevels, IsShownRow, StandBehindBars}
+use Rattle.miette_graphical.specs.laws.Levels.{settings_under}
+use Rattle.miette_graphical.specs.laws.Paths.{to_cause}
+use Rattle.miette_graphical.specs.rules.Answers.{Answer, Answers, cause_answers, nothing_listed, own_answer, pieces_listed}
 use Rattle.miette_graphical.specs.rules.DiagnosticText.{line_feed}
+use Rattle.miette_graphical.specs.rules.Indents.{spaces}
 use Rattle.miette_graphical.specs.rules.PossibleAnswers.{AreAnswers}
 use Rattle.miette_graphical.specs.rules.PrintedDiagnostics.{PrintedDiagnostic, diagnostics_of}
 use Rattle.miette_graphical.specs.rules.Settings.{Settings}
 use Rattle.miette_graphical.specs.rules.Snippets.{drawn_rows}
+use Rattle.miette_graphical.specs.rules.Text.{report_text}
+use Rattle.miette_text.specs.laws.Tame.{IsTame}
 use Rattle.miette_graphical.specs.views.Handling.{Handling, draws_plain, without_highlighter}
-use Rattle.callers.specs.Sums.{CauseStays, EndStandsBehind, IsCut, IsLeftOut, RowsStand, narrow, sum_file, sum_labels}
-use Rattle.callers.specs.Sums.{sum_tree}
+use Rattle.callers.specs.Sums.{CauseStands, CauseStays, EndStandsBehind, IsCut, IsLeftOut, RowsStand, narrow, sum_file, sum_labels}
+use Rattle.callers.specs.Sums.{cause_arrow, depth_file, depth_labels, sum_tree}
 
 -- ---- of the handler and the tree that are known
 
@@ -62,19 +69,65 @@ left_out all =
 
 -- ---- the rows in the text
 
+-- what was appended to nothing, by a handler and of a tree that are known
+held : {H : Type 0} (is_blank : H → Bool) (h : Handling H) (t : Tree) (text : List ℕ) → h ≡ without_highlighter narrow
+    → t ≡ sum_tree → IsHoldingText drawn_rows h.settings (draws_plain is_blank h) t text
+    → IsHoldingText drawn_rows narrow true sum_tree text
+held is_blank h t text p q is =
+    subst (λ u. IsHoldingText drawn_rows narrow true u text) q
+    (subst (λ g. IsHoldingText drawn_rows g.settings (draws_plain is_blank g) t text) p is)
+
 -- where every source always reads and lines are plain, answers say nothing
 own_nothing : (a : Answers) → AreAnswers narrow true sum_tree a → own_answer a ≡ nothing_listed
 own_nothing a are = are.0.read refl ∙ ap pieces_listed (are.0.plain refl)
+
+cause_nothing : (a : Answers) → AreAnswers narrow true sum_tree a → own_answer (cause_answers a) ≡ nothing_listed
+cause_nothing a are = let own = are.1 refl in own.0.read refl ∙ ap pieces_listed (own.0.plain refl)
 
 pub rows_stand : {H : Type 0} (is_blank : H → Bool) (h : Handling H) (t : Tree) (old new : List ℕ)
     → h ≡ without_highlighter narrow → t ≡ sum_tree → old ≡ []
     → AppendsOne (IsHoldingText drawn_rows h.settings (draws_plain is_blank h) t) old new → RowsStand new
 rows_stand is_blank h t old new p q none appended row there =
-    let held : IsHoldingText drawn_rows narrow true sum_tree appended.text =
-    subst (λ u. IsHoldingText drawn_rows narrow true u appended.text) q
-    (subst (λ g. IsHoldingText drawn_rows g.settings (draws_plain is_blank g) t appended.text) p appended.is_given) in
+    let own = held is_blank h t appended.text p q appended.is_given in
     let whole : new ≡ appended.text = appended.appended ∙ ap (λ o. o ++ appended.text) none in
     subst (StandsIn (encode_utf8_all (print row ++ line_feed))) (sym whole)
-    (held.rows_stand [] _ refl refl row
+    (own.rows_stand [] _ refl refl row
     (subst (λ a. Contains (drawn_rows narrow (Some sum_file) sum_labels a) row)
-    (sym (own_nothing held.answers held.are)) there))
+    (sym (own_nothing own.answers own.are)) there))
+
+-- ---- under the arrow
+
+abbrev arrows : List Arrow
+arrows = cause_arrow ∷ []
+
+-- six columns are taken of 200
+left_under : (settings_under narrow arrows).width ≡ 194
+unfolding char_width
+left_under = refl
+
+tame_rows : (rows : List (List ℕ)) → AllByRecursion IsShownRow rows → AllByRecursion IsTame rows
+tame_rows [] h = tt
+tame_rows (row ∷ rows) h = (h.0.0, tame_rows rows h.1)
+
+pub cause_stands : {H : Type 0} (is_blank : H → Bool) (h : Handling H) (t : Tree) (old new : List ℕ)
+    → h ≡ without_highlighter narrow → t ≡ sum_tree → old ≡ []
+    → AppendsOne (IsHoldingText drawn_rows h.settings (draws_plain is_blank h) t) old new
+    → ((a : Answers) (text : List ℕ) → HoldsSnippets drawn_rows narrow sum_tree a text
+    → HoldsLevels drawn_rows narrow sum_tree a (encode_utf8_all text))
+    → ((rows : List (List ℕ)) → HaveRoom narrow arrows rows)
+    → ((rows : List (List ℕ)) → StandBehindBars narrow [] rows) → CauseStands new
+cause_stands is_blank h t old new p q none appended levels room behind rows among shown fit =
+    let own = held is_blank h t appended.text p q appended.is_given in
+    let whole : new ≡ encode_utf8_all (report_text drawn_rows narrow sum_tree own.answers) =
+    appended.appended ∙ ap (λ o. o ++ appended.text) none ∙ own.text in
+    let drawn : Answer → List ℕ = λ a. fed_rows (map print (drawn_rows (settings_under narrow arrows) (Some depth_file) depth_labels a)) in
+    let there : AreAmong (drawn (own_answer (cause_answers own.answers))) arrows rows =
+    subst (λ a. AreAmong (drawn a) arrows rows) (sym (cause_nothing own.answers own.are)) among in
+    let fits : AllByRecursion (FitsRow ((settings_under narrow arrows).width - 2)) rows =
+    subst (λ w. AllByRecursion (FitsRow (w - 2)) rows) (sym left_under) fit in
+    let wide : 2 ≤ (settings_under narrow arrows).width = omega (arith, left_under) in
+    let stands = levels own.answers (report_text drawn_rows narrow sum_tree own.answers) own.holds (to_cause ∷ []) _ refl
+    rows there (room rows wide (tame_rows rows shown) fits) in
+    subst (StandsIn (encode_utf8_all (indented_rows (spaces 6) rows))) (sym whole)
+    (subst (λ part. StandsIn (encode_utf8_all part)
+    (encode_utf8_all (report_text drawn_rows narrow sum_tree own.answers))) (behind rows shown cause_arrow) stands)

@@ -1,6 +1,6 @@
 -- What is known of the picture of a report with a folded label, a line that is cut, a label at the end of its source,
 -- and a cause.
-use Rattle.std.specs.Prelude.{◌≡◌, ◌≢◌, ◌++◌, ℕ, true, false, List, [], ◌∷◌, Some, None, codes}
+use Rattle.std.specs.Prelude.{◌≡◌, ◌≢◌, ◌++◌, ℕ, map, true, false, List, [], ◌∷◌, Some, None, codes}
 use Rattle.std.specs.Prelude.{encode_utf8_all}
 use Rattle.std.specs.List.{AllByRecursion, Contains}
 use Rattle.miette_protocol.specs.views.Diagnostic.{message_alone}
@@ -15,7 +15,10 @@ use Rattle.miette_graphical.specs.rules.Snippets.{drawn_rows}
 use Rattle.miette_graphical.specs.rules.PrintedDiagnostics.{PrintedDiagnostic, over}
 use Rattle.miette_graphical.specs.laws.Headline.{EndsBehind, SnippetStays, cut_under, drawn_labels}
 use Rattle.miette_graphical.specs.laws.Headline.{groups_of, is_kept_at, line_of}
-use Rattle.miette_graphical.specs.laws.Holding.{StandsIn}
+use Rattle.miette_graphical.specs.laws.Holding.{Arrow, StandsIn}
+use Rattle.miette_graphical.specs.laws.FittingRows.{FitsRow, fed_rows, indented_rows}
+use Rattle.miette_graphical.specs.laws.Levels.{AreAmong, IsShownRow, settings_under}
+use Rattle.miette_graphical.specs.rules.Indents.{spaces}
 use Rattle.miette_snippet_laws.specs.laws.Folding.{IsInside}
 use Rattle.callers.specs.Known.{plain}
 
@@ -66,6 +69,21 @@ abbrev pub RowsStand : List ℕ → Type 0
 RowsStand text = (row : List Fragment) →
     Contains (drawn_rows narrow (Some sum_file) sum_labels nothing_listed) row
     → StandsIn (encode_utf8_all (print row ++ line_feed)) text
+
+-- the arrow that the cause stands under
+abbrev pub cause_arrow : Arrow
+cause_arrow = record { outer = None; is_last = true; is_related = false }
+
+-- the rows of the cause's snippet
+abbrev pub cause_text : List ℕ
+cause_text = fed_rows (map print (drawn_rows (settings_under narrow (cause_arrow ∷ [])) (Some depth_file) depth_labels
+    nothing_listed))
+
+-- Those that have at most 192 columns stand in a text one after the other, each behind six spaces.
+abbrev pub CauseStands : List ℕ → Type 0
+CauseStands text = (rows : List (List ℕ)) → AreAmong cause_text (cause_arrow ∷ []) rows
+    → AllByRecursion IsShownRow rows → AllByRecursion (FitsRow 192) rows
+    → StandsIn (encode_utf8_all (indented_rows (spaces 6) rows)) text
 
 -- the long line is cut, the first one of the call isn't
 pub record IsCut : Type 0 where

@@ -11,7 +11,7 @@ ghost use Rattle.miette_graphical.specs.rules.PrintedDiagnostics.{diagnostics_of
 ghost use Rattle.miette_graphical.specs.rules.Text.{report_text};
 ghost use Rattle.miette_graphical.specs.views.Handling.{draws_plain, without_highlighter};
 ghost use Rattle.miette_tree.specs.views.Report.{tree_of};
-ghost use Rattle.callers.specs.Sums.{CauseStays, EndStandsBehind, IsCut, IsLeftOut, RowsStand, depth_tree, narrow};
+ghost use Rattle.callers.specs.Sums.{CauseStands, CauseStays, EndStandsBehind, IsCut, IsLeftOut, RowsStand, depth_tree, narrow};
 ghost use Rattle.callers.specs.Sums.{printed_cause, printed_sum, sum_tree};
 
 use miette::diagnostic::MietteDiagnostic;
@@ -21,7 +21,7 @@ use miette::protocol::{Diagnostic, LabeledSpan};
 use miette::report::{OwnedSource, Report};
 use miette::source::SourceCode;
 use miette::theme::GraphicalTheme;
-use miette_graphical::laws::{paths_law, printed_law};
+use miette_graphical::laws::{levels_law, paths_law, printed_law};
 use miette_highlight::highlight::{BlankHighlighter, Highlighter};
 use std::alloc::{AllocError, Global};
 
@@ -79,6 +79,8 @@ pub fn draw_sum(alloc: Global, report: &Report) -> Result<String, RenderError>
         ⟦<Box<dyn SourceCode> as SourceCode>⟧.source report.now ≡ sum_tree }
     // each row of its snippet stands in the text, on a line of its own: by `holds`
     ensures rows { IfOk result (λ text. RowsStand (string_bytes text)) }
+    // so do those of its cause, under the arrow: by `holds` and `levels_law`
+    ensures under { IfOk result (λ text. CauseStands (string_bytes text)) }
     // its long line is cut, and no other: by `cuts`
     ensures cut { IfOk result (λ text. IsCut) }
     // its cause is drawn as without a limit: by `fits`
@@ -88,6 +90,7 @@ pub fn draw_sum(alloc: Global, report: &Report) -> Result<String, RenderError>
     // the third line is left out, inside the call: by `folds`
     ensures folded { IfOk result (λ text. IsLeftOut) }
 {
+    levels_law();
     let mut handler: GraphicalReportHandler<BlankHighlighter> = narrow_handler(alloc)?;
     let mut text = String::new(alloc);
     handler.render_report(report, &mut text)?;

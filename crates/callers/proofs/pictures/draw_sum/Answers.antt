@@ -1,11 +1,23 @@
-use Rattle.callers.proofs.SumSteps.{cause_stays, end_stands, is_cut, known, left_out, rows_stand}
+use Rattle.callers.proofs.SumSteps.{cause_stands, cause_stays, end_stands, is_cut, known, left_out, rows_stand}
 use Rattle.miette_graphical.specs.laws.Headline.{CutsAreExact, EndsAreDrawn, LabelsAreFolded, LinesThatFitStay}
+use Rattle.std.proofs.Common.{refl, inl, ◌∷◌, []}
+use Rattle.callers.specs.Sums.{cause_arrow, narrow, sum_tree}
+use Rattle.miette_graphical.specs.rules.Snippets.{drawn_rows}
 use Rattle.callers.proofs.pictures.draw_sum.Goals as goal
 
 pub returns-clause-rows : goal.returns-clause-rows
 returns-clause-rows g c =
     rows_stand _ _ _ _ _ c.in_ok-handler.ensures c.requires c.new-text.ensures.bytes
     c.in_ok-render_report.ensures.holds
+
+pub returns-clause-under : goal.returns-clause-under
+returns-clause-under g c =
+    let bars = c.levels_law.ensures.shipped narrow (inl refl) in
+    cause_stands _ _ _ _ _ c.in_ok-handler.ensures c.requires c.new-text.ensures.bytes
+    c.in_ok-render_report.ensures.holds
+    (λ a text. c.levels_law.ensures.bytes drawn_rows narrow sum_tree a text refl)
+    (λ rows. c.levels_law.ensures.room narrow (cause_arrow ∷ []) rows bars)
+    (λ rows. c.levels_law.ensures.bars narrow [] rows bars)
 
 pub returns-clause-cut : goal.returns-clause-cut
 returns-clause-cut g c =
