@@ -6,6 +6,8 @@ mod by_hand;
 #[cfg(test)]
 mod comparing;
 #[cfg(test)]
+mod debug_forms;
+#[cfg(test)]
 mod diagnostics;
 #[cfg(test)]
 mod errors;
