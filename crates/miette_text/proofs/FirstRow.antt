@@ -81,6 +81,12 @@ pub part-here : (left behind : List Cell → List Word) (s n m : ℕ) (cs : List
     IsPart left behind (take (length cs - s) (drop s cs)) n m → IsPart left behind (drop s cs) n m
 part-here left behind s n m cs part = λ cells e. part cells (e ∙ sym (take_rest cs s))
 
+pub columns-here : (s n used columns wide : ℕ) (cs : List ℕ) → columns ≡ code_columns
+    (take n (take (length cs - s) (drop s cs))) → wide ≡ used + columns → wide
+    ≡ used + code_columns (take n (drop s cs))
+columns-here s n used columns wide cs h w =
+    w ∙ ap (λ k. used + k) (h ∙ ap (λ xs. code_columns (take n xs)) (take_rest cs s))
+
 -- The part at the front, where words end at spaces.
 pub spaced-part : (cuts : Cuts) (before n m last : ℕ) (codes : List ℕ) → 0 < length codes → n
     ≡ part_len is_space cuts before 0 codes → m ≡ gap_len (drop n codes) → last ≡ code_behind before (n + m) codes →

@@ -28,3 +28,4 @@ pub mod Filling
 pub mod InterleavedLines
 pub mod SingleRows
 pub mod Fitting
+pub mod WordLaws

@@ -4,7 +4,7 @@ use Rattle.std.proofs.lemmas.Bool.Decides.{nat_tests}
 use Rattle.std.proofs.lemmas.List.{take_rest}
 use Rattle.miette_runs.specs.steps.Cells.{code_columns}
 use Rattle.miette_text.specs.views.Cutting.{word_cuts}
-use Rattle.miette_text.proofs.FirstRow.{part-here, row-ends, row-fits, row-whole}
+use Rattle.miette_text.proofs.FirstRow.{columns-here, part-here, row-ends, row-fits, row-whole}
 use Rattle.miette_text.proofs.wrap.ends.row_len.Goals as goal
 use Rattle.miette_text.proofs.wrap.ends.row_len.Goals.{else-end-gt0-via-then-end-gt0+else-room-wide}
 use Rattle.miette_text.proofs.wrap.ends.row_len.Goals.{else-end-gt0-via-else-end-gt0}
@@ -17,9 +17,8 @@ returns-then-room-wide-clause-value g c = λ cells further e.
     let n = c.in_ok-part.part.letters.len in
     let left = g.W.Words.left c.rest.words cuts in
     let behind = g.W.Words.left c.in_ok-part.behind cuts in
-    let w : c.in_ok-wide.wide ≡ c.rest.used + code_columns (take n (drop s cs)) = c.in_ok-wide.ensures
-    ∙ ap (λ k. c.rest.used + k)
-    (c.in_ok-part.ensures.columns ∙ ap (λ xs. code_columns (take n xs)) (take_rest cs s)) in
+    let w = columns-here s n c.rest.used c.in_ok-part.part.letters.columns c.in_ok-wide.wide cs
+    c.in_ok-part.ensures.columns c.in_ok-wide.ensures in
     let t : (nat_lt 0 s && nat_lt c.args.room c.in_ok-wide.wide) ≡ true =
     (let a = c.if-end-gt0.true in let b = c.if-room-wide.true in grind (arith, nat_tests)) in
     row-ends (g.W.Words.left c.args.first cuts) left behind c.args.room further s n c.in_ok-part.part.spaces
@@ -36,9 +35,8 @@ rest-preserved g c =
     let m = c.in_ok-part.part.spaces in
     let left = g.W.Words.left c.rest.words cuts in
     let behind = g.W.Words.left c.in_ok-part.behind cuts in
-    let w : c.in_ok-wide.wide ≡ c.rest.used + code_columns (take n (drop s cs)) = c.in_ok-wide.ensures
-    ∙ ap (λ k. c.rest.used + k)
-    (c.in_ok-part.ensures.columns ∙ ap (λ xs. code_columns (take n xs)) (take_rest cs s)) in
+    let w = columns-here s n c.rest.used c.in_ok-part.part.letters.columns c.in_ok-wide.wide cs
+    c.in_ok-part.ensures.columns c.in_ok-wide.ensures in
     let gap : code_columns (take m (drop n (drop s cs))) ≡ m =
     ap (λ xs. code_columns (take m (drop n xs))) (sym (take_rest cs s)) ∙ c.in_ok-part.ensures.gap in
     let t : (nat_lt 0 s && nat_lt c.args.room c.in_ok-wide.wide) ≡ false =
