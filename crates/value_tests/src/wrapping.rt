@@ -126,6 +126,66 @@ fn narrow_rows(rt: HostRuntime) {
     fills(&rt, rt.alloc(), PLAIN, &[("\u{301}漢", 1, "\u{301}漢")]);
 }
 
+/// A help text in Japanese.
+const HELP: &str = "設定ファイル「settings.toml」の中に、ポート番号が見つかりません。\
+    「port = 8080」のように書いてください。";
+
+#[test]
+fn japanese(rt: HostRuntime) {
+    let spaced = WrapOptions {
+        first_indent: "  help: ",
+        further_indent: "        ",
+        ..PLAIN
+    };
+    let wanted = concat!(
+        "  help: 設定ファイル「settings.toml」\n",
+        "        の中に、ポート番号が見つかりま\n",
+        "        せん。「port =\n",
+        "        8080」のように書いてください。",
+    );
+    fills(&rt, rt.alloc(), spaced, &[(HELP, 38, wanted)]);
+    let broken = WrapOptions {
+        separator: WordSeparator::UnicodeBreakProperties,
+        ..spaced
+    };
+    let wanted = concat!(
+        "  help: 設定ファイル「settings.toml」\n",
+        "        の中に、ポート番号が見つかりま\n",
+        "        せん。「port = 8080」のように\n",
+        "        書いてください。",
+    );
+    fills(&rt, rt.alloc(), broken, &[(HELP, 38, wanted)]);
+}
+
+#[test]
+fn words_by_unicode(rt: HostRuntime) {
+    let options = WrapOptions {
+        break_words: false,
+        separator: WordSeparator::UnicodeBreakProperties,
+        ..PLAIN
+    };
+    let rows = [
+        // neither before a closing mark nor behind an opening one, also where spaces stand there
+        ("漢字。", 2, "漢\n字。"),
+        ("「漢字」", 2, "「漢\n字」"),
+        ("a ( b ) c", 1, "a\n( b )\nc"),
+        // neither before a mark nor inside a flag
+        ("漢か\u{3099}字", 2, "漢\nか\u{3099}\n字"),
+        ("🇩🇪🇫🇷", 1, "🇩🇪\n🇫🇷"),
+        // a number stays with its sign, and behind a hyphen there is no place
+        ("漢-5字", 1, "漢-5\n字"),
+        ("漢-字", 1, "漢-字"),
+        ("a- b", 1, "a-\nb"),
+        // a line separator is a place like others, and ends no row
+        ("a\u{2028}b", 80, "a\u{2028}b"),
+        ("a\u{2028}b", 1, "a\u{2028}\nb"),
+        // a sequence makes no place, and goes with the next word
+        ("ab\u{1B}[31mcd\u{1B}[0m", 2, "ab\u{1B}[31mcd\u{1B}[0m"),
+        ("漢\u{1B}[31m字\u{1B}[0m", 2, "漢\n\u{1B}[31m字\u{1B}[0m"),
+    ];
+    fills(&rt, rt.alloc(), options, &rows);
+}
+
 #[test]
 fn nothing_to_indent(rt: HostRuntime) {
     // without wrapping: no text, sequences alone, white space under an indent with sequences among its spaces
