@@ -8,7 +8,8 @@ ghost use Rattle.miette_report.specs.steps.AskedWords.{AreGiven, asked_of, with_
 use crate::fault::Fault;
 use crate::language::LanguageHighlighter;
 use crate::option_words::{
-    Asked, Choice, ReportAsked, color_named, first_asked, language_named, rgb_named, theme_named,
+    Asked, Choice, ReportAsked, color_named, first_asked, language_named, rgb_named,
+    separator_named, theme_named,
 };
 use crate::words::number;
 use miette::options::MietteHandlerOpts;
@@ -202,6 +203,10 @@ impl Arguments {
             "--rgb" => {
                 let colors = rgb_named(name).ok_or(Fault::Usage)?;
                 self.options = self.options.rgb_colors(colors);
+            }
+            "--separator" => {
+                let separator = separator_named(name).ok_or(Fault::Usage)?;
+                self.options = self.options.word_separator(separator);
             }
             "--highlight" => {
                 let language = language_named(name).ok_or(Fault::Usage)?;

@@ -11,6 +11,7 @@ use crate::fault::Fault;
 use crate::language::Language;
 use miette::options::RgbColors;
 use miette::theme::GraphicalTheme;
+use miette::wrap::WordSeparator;
 use std::alloc::Global;
 
 /// Which handler gives the text.
@@ -110,6 +111,17 @@ pub(crate) fn rgb_named(name: &str) -> Option<RgbColors>
         "always" => Some(RgbColors::Always),
         "preferred" => Some(RgbColors::Preferred),
         "never" => Some(RgbColors::Never),
+        _ => None,
+    }
+}
+
+/// How the words of texts are told apart, by its name.
+pub(crate) fn separator_named(name: &str) -> Option<WordSeparator>
+    ensures { result ≡ table.separator_named name.now }
+{
+    match name {
+        "ascii" => Some(WordSeparator::AsciiSpace),
+        "unicode" => Some(WordSeparator::UnicodeBreakProperties),
         _ => None,
     }
 }

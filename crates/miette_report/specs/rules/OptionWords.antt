@@ -6,6 +6,8 @@ use Rattle.std.specs.Str.{all_ascii_digits}
 use Rattle.std.specs.Str.Parse.{digits_value}
 use Rattle.miette_style.specs.rules.Themes.{Theme, ansi_styles, ascii_characters, no_styles, unicode_characters}
 use Rattle.miette_style.specs.declared.theme.Terminal.{Terminal}
+use Rattle.miette_text.specs.declared.wrap.WordSeparator.{WordSeparator}
+use Rattle.miette_text.specs.declared.wrap.WordSeparator.TheVariants.{AsciiSpace, UnicodeBreakProperties}
 use Rattle.miette_text.specs.declared.wrap.WordSplitter.{WordSplitter}
 use Rattle.miette_text.specs.declared.wrap.WordSplitter.TheVariants.{HyphenSplitter, NoHyphenation}
 use Rattle.miette.specs.rules.Options.{Options, no_options}
@@ -176,6 +178,12 @@ color_named name =
     else (if bytes_eq name (codes "ansi") then Some (Some false)
     else (if bytes_eq name (codes "rgb") then Some (Some true) else None))
 
+-- how the words of texts are told apart
+abbrev pub separator_named : List ℕ → Option WordSeparator
+separator_named name =
+    if bytes_eq name (codes "ascii") then Some AsciiSpace
+    else (if bytes_eq name (codes "unicode") then Some UnicodeBreakProperties else None)
+
 abbrev pub language_named : List ℕ → Option Language
 language_named name =
     if bytes_eq name (codes "toml") then Some language.Toml
@@ -190,10 +198,13 @@ with_name word name r =
     then option_and_then (λ theme. asks r (record o { theme = Some theme })) (theme_named name)
     else (if bytes_eq word (codes "--rgb")
     then option_and_then (λ colors. asks r (record o { rgb = colors })) (rgb_named name)
+    else (if bytes_eq word (codes "--separator")
+    then option_and_then (λ separator. asks r (record o
+    { wrapping = record o.wrapping { word_separator = separator } })) (separator_named name)
     else (if bytes_eq word (codes "--highlight") then option_and_then (highlights r) (language_named name)
     else (if bytes_eq word (codes "--term-color")
     then option_and_then (λ color. knows r (record r.facts { color = color })) (color_named name)
-    else None)))
+    else None))))
 
 -- the number that a word writes: one digit or more and nothing else, below 2 ^ 64
 abbrev pub read_number : List ℕ → Option ℕ
