@@ -19,7 +19,7 @@ use Rattle.miette_graphical.specs.laws.Holding.{Arrow, StandsIn}
 use Rattle.miette_graphical.specs.laws.FittingRows.{FitsRow, fed_rows, indented_rows}
 use Rattle.miette_graphical.specs.laws.Levels.{AreAmong, IsShownRow, settings_under}
 use Rattle.miette_graphical.specs.rules.Indents.{spaces}
-use Rattle.miette_snippet_laws.specs.laws.Folding.{IsInside}
+use Rattle.miette_range_laws.specs.laws.Folding.{IsInside}
 use Rattle.callers.specs.Known.{plain}
 
 -- ---- the report: a call over five lines, and below it a long line at whose end a term is missing

@@ -16,10 +16,10 @@ use Rattle.miette_snippet_rules.specs.rules.CutLines.{is_near_after, is_within, 
 use Rattle.miette_snippet_rules.specs.rules.CutLines.{shown_marks, stretches}
 use Rattle.miette_snippet_rules.proofs.CutColumns.{AreColumns, columns_in-append, shown_anchored}
 use Rattle.miette_cuts.specs.declared.stretch.Stretch.{Stretch as MadeStretch}
-use Rattle.miette_cuts.specs.declared.marks.Mark.{Mark as MadeMark}
+use Rattle.miette_snippet_rules.specs.declared.marks.Mark.{Mark as MadeMark}
 use Rattle.miette_cuts.specs.views.Cuts.{measure, is_kept}
 use Rattle.miette_cuts.specs.steps.Cut.{lone, grown_stretch, onto_made, kept_columns, made_column, made_mark}
-use Rattle.miette_cuts.specs.views.Marks.{mark_of, IsAnchored}
+use Rattle.miette_snippet_rules.specs.views.MadeMarks.{mark_of, IsAnchored}
 
 -- ---- stretches and their counts
 

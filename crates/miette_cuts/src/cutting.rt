@@ -15,16 +15,16 @@ ghost use Rattle.miette_snippet_rules.specs.rules.CutLines.{Stretch as RuledStre
 ghost use Rattle.miette_cuts.specs.views.Cuts.{measure, is_kept};
 ghost use Rattle.miette_cuts.specs.steps.Cut.{lone, kept_columns, made_column, made_mark};
 ghost use Rattle.miette_cuts.specs.steps.Cut.{onto_made};
-ghost use Rattle.miette_cuts.specs.views.Marks.{mark_of};
+ghost use Rattle.miette_snippet_rules.specs.views.MadeMarks.{mark_of};
 ghost use Rattle.miette_cuts.specs.views.LineTexts.{text_cells};
 
 use crate::line_text::LineText;
-use crate::marks::Mark;
 use crate::passing::{Passage, pass_cells, pass_plain};
 use crate::plain_cut::put_plain;
 use crate::stretch::{Cut, Stretch, is_shown, put_stretch};
 use miette_basics::sums::sum;
 use miette_cells::cells::{Cell, Walk};
+use miette_snippet_rules::marks::Mark;
 use std::alloc::{AllocError, Global};
 
 // Whether some column of a cell is at most so many columns away from this one.

@@ -10,7 +10,7 @@ ghost use Rattle.miette_snippet_rules.specs.rules.Marks.{label_from, mark_from, 
 ghost use Rattle.miette_snippet_rules.specs.rules.SnippetLayout.{text_of_cells};
 ghost use Rattle.miette_labels.specs.views.GivenLabels.{drawn_of};
 ghost use Rattle.miette_cells.specs.rules.Widths.{width_of};
-ghost use Rattle.miette_cuts.specs.views.Marks.{mark_of, IsAnchored};
+ghost use Rattle.miette_snippet_rules.specs.views.MadeMarks.{mark_of, IsAnchored};
 ghost use Rattle.miette_cuts.specs.steps.Stops.{ComeFrom, IsStop, first_from, last_from};
 
 use crate::passing::{Passage, pass_cells, pass_plain};
@@ -18,6 +18,7 @@ use miette_basics::sums::sum;
 use miette_cells::cells::{PlainCells, Walk};
 use miette_cells::plain::plain_len;
 use miette_labels::sweep::PlacedLabel;
+use miette_snippet_rules::marks::Mark;
 use miette_source_lines::lines::LineOfText;
 use std::alloc::{AllocError, Global};
 use std::marker::Model;
@@ -235,19 +236,6 @@ impl<'a> Columns<'a> {
         }
         self.first_column(label.start)
     }
-}
-
-/// A mark: its columns from the one up to the other, and its label.
-#[derive(Clone, Copy, Debug, PartialEq, Eq, Drop)]
-pub struct Mark<'a> {
-    /// Its first column, counted from 0 where the line's text begins.
-    pub from: usize,
-    /// The column behind its last one.
-    pub until: usize,
-    /// The one of its columns from which the label's text hangs.
-    pub anchor: usize,
-    /// The label that it marks.
-    pub label: PlacedLabel<'a>,
 }
 
 // The mark of a label, where the mark before it ends at a column.

@@ -1,10 +1,4 @@
-pub mod ClosingRows
-pub mod FrameRows
-pub mod GutterRows
 pub mod ReadRows
 pub mod LineRows
-pub mod TextLines
 pub mod LeftOutRows
-pub mod MarkRows
 pub mod HighlightedPieces
-pub mod TextRows

@@ -4,14 +4,14 @@ use Rattle.std.proofs.Common.{ℕ, ◌-◌, ◌<◌, ◌≡◌, List, [], ◌∷
 use Rattle.std.proofs.Common.{◌∙◌, append-nil, arith}
 use Rattle.miette_page.specs.rules.Rows.{Row, styled_run}
 use Rattle.miette_style.specs.rules.Styles.{plain}
-use Rattle.miette_cuts.specs.declared.marks.Mark.{Mark as MadeMark}
+use Rattle.miette_snippet_rules.specs.declared.marks.Mark.{Mark as MadeMark}
 use Rattle.miette_snippet_rules.specs.rules.Marks.{Mark}
 use Rattle.miette_snippet_rules.specs.rules.Drawing.{blank, mark_runs, rows_below, marked_rows}
 use Rattle.miette_snippet_rules.specs.rules.Frames.{number_start, break_start}
 use Rattle.miette_snippet_rules.specs.rules.SnippetLayout.{before_each}
 use Rattle.miette_page.specs.views.Tokens.{begins, row_end, row_tokens, rows_tokens, styled_tokens, text_tokens}
 use Rattle.miette_snippet_rules.proofs.RowTokens.{then, told_as, run_one, blank_told, styled_row}
-use Rattle.miette_drawing.proofs.TextRows.{row_done, rows_then, parts_then}
+use Rattle.miette_frames.proofs.TextRows.{row_done, rows_then, parts_then}
 use Rattle.miette_snippet_rules.specs.rules.Settings.{SnippetSettings}
 
 pub number_put : (s : SnippetSettings) (w number : ℕ) (p b l d v n : Printout) → b ≡ p

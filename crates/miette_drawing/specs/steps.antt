@@ -1,5 +1,3 @@
 -- The code's own steps, which no rule names.
-pub mod FrameParts
-pub mod GutterEnds
-pub mod LineContexts
+pub mod ShownLines
 pub mod Widths

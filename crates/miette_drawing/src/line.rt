@@ -14,25 +14,30 @@ ghost use Rattle.miette_snippet_rules.specs.rules.Highlighting.{highlight_of};
 ghost use Rattle.std.specs.Option.{option_map};
 ghost use Rattle.miette_cuts.specs.views.Cuts.{made_runs};
 ghost use Rattle.miette_cuts.specs.views.LineTexts.{text_cells};
-ghost use Rattle.miette_cuts.specs.views.Marks.{mark_of, IsAnchored};
-ghost use Rattle.miette_drawing.specs.steps.LineContexts.{settings, multi_labels, before_marks, number_row};
-ghost use Rattle.miette_drawing.specs.steps.LineContexts.{shown_cells, labels_alone};
+ghost use Rattle.miette_snippet_rules.specs.views.MadeMarks.{mark_of, IsAnchored};
+ghost use Rattle.miette_frames.specs.views.LineContexts.{settings, multi_labels, before_marks};
+ghost use Rattle.miette_drawing.specs.steps.ShownLines.{number_row};
+ghost use Rattle.miette_drawing.specs.steps.ShownLines.{shown_cells, labels_alone};
 ghost use Rattle.miette_source_lines.specs.views.Walking.{line_of_text};
 
-use crate::closings::push_closings;
-use crate::frame::Outcome;
-use crate::gutters::{GutterEnd, push_break_gutter, push_gutter};
-use crate::line_context::{LineContext, ShownLine};
-use crate::strokes::push_marks;
-use crate::texts::{push_before_marks, push_texts};
+use crate::shown_line::ShownLine;
 use miette_cuts::cutting::{cut_around, marks_shown};
 use miette_cuts::line_text::LineText;
-use miette_cuts::marks::{Mark, marks_on};
+use miette_cuts::marks::marks_on;
 use miette_cuts::printing::push_shown_text;
 use miette_cuts::stretch::Cut;
+use miette_frames::closings::push_closings;
+use miette_frames::gutters::{GutterEnd, push_break_gutter, push_gutter};
+use miette_frames::line_context::LineContext;
+use miette_frames::strokes::push_marks;
+use miette_frames::texts::{push_before_marks, push_texts};
 use miette_page::canvas::Canvas;
 use miette_page::page::{PLAIN, Page};
+use miette_snippet_rules::marks::Mark;
 use std::alloc::{AllocError, Global};
+
+/// What putting rows onto a page gives: nothing, or that memory was refused.
+pub(crate) type Outcome = Result<(), AllocError>;
 
 // The number of a line: ` 12 │ `.
 fn push_number_start<O: Canvas>(page: &mut Page<O>, context: &LineContext, number: usize) -> Outcome

@@ -13,15 +13,14 @@
 //!
 //! 1. `push_snippet` brings the sweep over the labels to the snippet's first line, and restarts the highlighter.
 //! 2. `push_framed` counts lines and the widest gutter (`miette_folds::extent`), and puts the frame around
-//!    (`frame.rt`).
+//!    (`miette_frames::frame`).
 //! 3. `push_lines` goes on line by line: which labels lie on it (the sweep), a highlighter's pieces, whether it is left
 //!    out inside a folded label (`miette_folds::folds`). Those left out behind such a line are passed over at once,
 //!    where no highlighter is to be asked for them (`miette_folds::gaps`).
-//! 4. `push_line_or_break` (`line.rt`) puts the rows of a line: its number row over the gutter
-//!    (`gutters.rt`), the marks (`strokes.rt`), the texts with their leaders (`texts.rt`), and the
-//!    texts of labels that end there (`closings.rt`). Where a line's marks stand, and what is shown
-//!    of its text, says `miette_cuts`: a line that is too wide is cut into stretches, by whose
-//!    columns its marks then stand.
+//! 4. `push_line_or_break` (`line.rt`) puts the rows of a line: its number row over the gutter, the marks, the texts
+//!    with their leaders, and the texts of labels that end there (`gutters`, `strokes`, `texts` and `closings` of
+//!    `miette_frames`). Where a line's marks stand, and what is shown of its text, says `miette_cuts`: a line that is
+//!    too wide is cut into stretches, by whose columns its marks then stand.
 
 ghost use Rattle.std.specs.Prelude.{◌≡◌, ◌∷◌, ◌+◌, ◌<◌, ◌^◌, List, map, length, decimal, false, IfOk, OnOk};
 ghost use Rattle.miette_highlight.specs.rules.HighlighterCalls.{restarted};
@@ -36,15 +35,16 @@ ghost use Rattle.miette_source_lines.specs.rules.Lines.{lines_from};
 ghost use Rattle.miette_labels.specs.views.GivenLabels.{drawn_of};
 ghost use Rattle.miette_snippet_rules.specs.rules.Highlighting.{AreCallsOn, leaves_plain};
 
-use crate::frame::{Frame, Heading, Outcome, push_bottom_row, push_top_row};
 use crate::highlighting::{may_pass, pieces_of, restart};
-use crate::line::push_line_or_break;
-use crate::line_context::{LineContext, ShownLine};
+use crate::line::{Outcome, push_line_or_break};
+use crate::shown_line::ShownLine;
 use itoa::Buffer;
 use miette_basics::sums::sum;
 use miette_folds::extent::extent_of;
 use miette_folds::folds::{Fold, Spread, folds_in, leaves_out};
 use miette_folds::gaps::next_start;
+use miette_frames::frame::{Frame, Heading, push_bottom_row, push_top_row};
+use miette_frames::line_context::LineContext;
 use miette_highlight::highlight::Highlighter;
 use miette_labels::line_sweep::{enter_line, line_at, pass_over};
 use miette_labels::sweep::{PlacedLabel, Sweep};

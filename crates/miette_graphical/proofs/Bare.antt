@@ -3,7 +3,7 @@
 use Rattle.std.proofs.Common.{◌≡◌, ℕ, zero, suc, Bool, true, List, [], ◌∷◌, refl, sym, ap, ◌∙◌}
 use Rattle.miette_tree.specs.rules.Tree.{Tree, tree}
 use Rattle.miette_style.specs.rules.Themes.{Styles}
-use Rattle.miette_snippet_laws.specs.laws.Fading.{unhighlighted_answer}
+use Rattle.miette_row_laws.specs.laws.Fading.{unhighlighted_answer}
 use Rattle.miette_graphical.specs.rules.Settings.{Settings}
 use Rattle.miette_graphical.specs.rules.Answers.{Answers, unlisted, listed, RelatedAnswers, no_more, and_more}
 use Rattle.miette_graphical.specs.rules.Answers.{own_answer, cause_answers, related_answers}

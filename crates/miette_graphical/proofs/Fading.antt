@@ -10,7 +10,7 @@ use Rattle.miette_text.specs.rules.Wrapping.{Plan, wrapped_text}
 use Rattle.miette_runs.specs.rules.Cells.{columns_of}
 use Rattle.miette_graphical.proofs.TextLaws.{TextLaws, plain-tame, plain-erase}
 use Rattle.miette_graphical.specs.rules.Settings.{Settings}
-use Rattle.miette_snippet_laws.specs.laws.Clean.{IsClean}
+use Rattle.miette_row_laws.specs.laws.Clean.{IsClean}
 use Rattle.miette_graphical.specs.laws.Clean.{HaveNoEscapes}
 use Rattle.miette_graphical.specs.laws.Colourless.{restyled}
 use Rattle.miette_style.specs.rules.Themes.{Styles}

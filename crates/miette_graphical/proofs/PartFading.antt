@@ -26,10 +26,10 @@ use Rattle.miette_tree.specs.rules.DiagnosticParts.{given_labels, severity_title
 use Rattle.miette_graphical.specs.rules.Text.{cause_texts, inner_text, body_over, drawn_text}
 use Rattle.miette_tree.specs.rules.Tree.{effective}
 use Rattle.std.specs.List.{AllByRecursion}
-use Rattle.miette_snippet_laws.specs.laws.Clean.{IsClean, IsCleanText, IsCleanLabel, IsCleanSource}
-use Rattle.miette_snippet_laws.specs.laws.Fading.{AreAllPlain, unhighlighted_answer}
-use Rattle.miette_snippet_laws.proofs.PlainStyles.{faded_are_plain, faded_styles}
-use Rattle.miette_snippet_laws.proofs.CleanTexts.{clean_cons, clean_append}
+use Rattle.miette_row_laws.specs.laws.Clean.{IsClean, IsCleanText, IsCleanLabel, IsCleanSource}
+use Rattle.miette_row_laws.specs.laws.Fading.{AreAllPlain, unhighlighted_answer}
+use Rattle.miette_row_laws.proofs.PlainStyles.{faded_are_plain, faded_styles}
+use Rattle.miette_row_laws.proofs.CleanTexts.{clean_cons, clean_append}
 use Rattle.miette_graphical.specs.laws.Clean.{AreCleanCharacters, AreCleanSettings, AreCleanLabels, IsCleanMeaning}
 use Rattle.miette_graphical.specs.laws.Colourless.{AreSnippets, restyled}
 use Rattle.miette_graphical.proofs.Fading.{Fades, Pales, fades-to, fades-append, fades-clean, fades-print}

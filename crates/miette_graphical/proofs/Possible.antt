@@ -7,9 +7,9 @@ use Rattle.miette_tree.specs.rules.Tree.{effective, Tree, tree, Cause, diagnosti
 use Rattle.miette_labels.specs.rules.Answers as snippet_answers
 use Rattle.miette_labels.specs.rules.Around.{group_context}
 use Rattle.miette_labels.specs.rules.Groups.{groups_of, in_order}
-use Rattle.miette_snippet_laws.specs.laws.Fading as fading
-use Rattle.miette_snippet_laws.specs.laws.Fading.{unhighlighted_answer}
-use Rattle.miette_snippet_laws.proofs.PlainStyles.{none_are_plain}
+use Rattle.miette_row_laws.specs.laws.Fading as fading
+use Rattle.miette_row_laws.specs.laws.Fading.{unhighlighted_answer}
+use Rattle.miette_row_laws.proofs.PlainStyles.{none_are_plain}
 use Rattle.miette_style.specs.rules.Themes.{Styles, no_styles}
 use Rattle.miette_snippet_rules.specs.rules.Settings as snippets
 use Rattle.miette_snippet_rules.specs.rules.SnippetLayout.{snippet_rows}

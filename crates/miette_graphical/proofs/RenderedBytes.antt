@@ -9,7 +9,7 @@ use Rattle.miette_graphical.specs.rules.Snippets.{drawn_rows}
 use Rattle.miette_graphical.specs.rules.Text.{report_text}
 use Rattle.miette_graphical.specs.laws.Clean.{AreCleanSettings, IsCleanTree}
 use Rattle.miette_graphical.specs.laws.Colourless.{IsColouredText, IsRestyledText, colourless, restyled}
-use Rattle.miette_snippet_laws.specs.laws.Fading.{ArePlain}
+use Rattle.miette_row_laws.specs.laws.Fading.{ArePlain}
 use Rattle.miette_style.specs.rules.Themes.{Styles}
 use Rattle.miette_graphical.specs.laws.Holding.{IsHoldingText}
 use Rattle.miette_runs.specs.rules.Sequences.{erase}

@@ -17,9 +17,9 @@ use Rattle.miette_graphical.specs.rules.Text.{ends_there, are_last, only_if, inn
 use Rattle.miette_graphical.specs.rules.Text.{drawn_text}
 use Rattle.miette_graphical.specs.rules.Text.{related_text, report_text}
 use Rattle.miette_tree.specs.rules.Tree.{effective}
-use Rattle.miette_snippet_laws.specs.laws.Clean.{IsCleanSource}
-use Rattle.miette_snippet_laws.specs.laws.Fading.{AreAllPlain, ArePlain, unhighlighted_answer}
-use Rattle.miette_snippet_laws.proofs.PlainStyles.{are_faded}
+use Rattle.miette_row_laws.specs.laws.Clean.{IsCleanSource}
+use Rattle.miette_row_laws.specs.laws.Fading.{AreAllPlain, ArePlain, unhighlighted_answer}
+use Rattle.miette_row_laws.proofs.PlainStyles.{are_faded}
 use Rattle.miette_style.specs.declared.style.Style.{Style}
 use Rattle.miette_style.specs.rules.Themes.{Styles}
 use Rattle.miette_graphical.specs.laws.Clean.{AreCleanSettings, IsCleanMeaning, IsCleanTree, IsCleanCause}

@@ -14,9 +14,9 @@ use Rattle.miette_runs.specs.rules.Runs.{HaveNoEscape, print, printed_run, plain
 use Rattle.miette_style.specs.rules.Styles.{plain}
 use Rattle.miette_style.specs.rules.Escapes.{no_escape}
 use Rattle.miette_labels.specs.rules.Answers as snippet_answers
-use Rattle.miette_snippet_laws.specs.laws.Clean.{IsCleanLabel, IsCleanRow, IsCleanSource, AreCleanDrawings}
-use Rattle.miette_snippet_laws.specs.laws.Fading as fading
-use Rattle.miette_snippet_laws.specs.laws.Fading.{ArePlain, IsPlainRow, unhighlighted_answer}
+use Rattle.miette_row_laws.specs.laws.Clean.{IsCleanLabel, IsCleanRow, IsCleanSource, AreCleanDrawings}
+use Rattle.miette_row_laws.specs.laws.Fading as fading
+use Rattle.miette_row_laws.specs.laws.Fading.{ArePlain, IsPlainRow, unhighlighted_answer}
 use Rattle.miette_style.specs.rules.Themes.{Styles}
 use Rattle.miette_snippet_rules.specs.rules.Settings as snippets
 use Rattle.miette_snippet_rules.specs.rules.SnippetLayout.{snippet_rows}

@@ -10,7 +10,7 @@ use Rattle.miette_style.specs.rules.Escapes.{is_escape, no_escape}
 use Rattle.miette_style.specs.rules.Themes.{Characters, Theme, ansi_styles, ascii_characters, emoji_characters}
 use Rattle.miette_style.specs.rules.Themes.{no_styles, refuses_colours, terminal_theme, unicode_characters}
 use Rattle.miette_cells.specs.rules.Widths.{width_of}
-use Rattle.miette_snippet_laws.specs.laws.Clean.{IsClean}
+use Rattle.miette_row_laws.specs.laws.Clean.{IsClean}
 use Rattle.miette_snippet_rules.specs.rules.Drawing.{IsNarrow}
 use Rattle.miette_graphical.specs.laws.Clean.{AreCleanCharacters, AreCleanSettings}
 use Rattle.miette_graphical.specs.laws.CharacterSets.{AreNarrow, AreShipped}

@@ -10,9 +10,9 @@ ghost use Rattle.miette_labels.specs.views.GivenLabels.{label_at};
 ghost use Rattle.miette_labels.specs.rules.Groups.{in_order};
 ghost use Rattle.miette_snippet_rules.specs.rules.Highlighting.{leaves_plain};
 
-use miette_drawing::frame::{Frame, push_refused_row};
 use miette_drawing::snippet::{Drawing, Passage, Snippet, push_snippet};
 use miette_folds::spreads::spreads;
+use miette_frames::frame::{Frame, push_refused_row};
 use miette_highlight::highlight::Highlighter;
 use miette_labels::drawn_labels::{placed_labels, told_end};
 use miette_labels::grouping::groups;

@@ -1,4 +1,5 @@
 //! The rules of snippets: which rows the lines and labels of a source are drawn in; and what they are drawn with.
 #![tactic(auto)]
 
+pub mod marks;
 pub mod options;

@@ -7,7 +7,7 @@ use Rattle.miette_cells.specs.rules.Cells.{Cell}
 use Rattle.miette_snippet_rules.specs.rules.PrintedCells.{text_bytes}
 use Rattle.miette_snippet_rules.specs.rules.CutLines.{agree}
 use Rattle.miette_cuts.specs.declared.stretch.Stretch.{Stretch as MadeStretch}
-use Rattle.miette_cuts.specs.declared.marks.Mark.{Mark as MadeMark}
+use Rattle.miette_snippet_rules.specs.declared.marks.Mark.{Mark as MadeMark}
 use Rattle.miette_cuts.specs.views.Cuts.{is_kept}
 
 abbrev pub lone : Bool → Cell → MadeStretch

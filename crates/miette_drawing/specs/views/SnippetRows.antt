@@ -12,6 +12,7 @@ use Rattle.miette_labels.specs.rules.Contexts.{lines_of_contents}
 use Rattle.miette_drawing.specs.declared.snippet.Drawing.{Drawing}
 use Rattle.miette_drawing.specs.declared.snippet.Snippet.{Snippet}
 use Rattle.miette_folds.specs.views.Spreads.{spread_of}
+use Rattle.miette_frames.specs.views.Places.{place_at}
 use Rattle.miette_snippet_rules.specs.views.SettingsView.{settings_of}
 use Rattle.miette_labels.specs.views.GivenLabels.{drawn_of}
 use Rattle.miette_snippet_rules.specs.rules.Folds.{Spread}
@@ -46,10 +47,6 @@ lent_snippet s spreads drawn lent place pieces =
     (snippet_context s (number_width lent) (gutter_columns drawn (lines_of_contents lent)) drawn
     (cells_in s lent.span.offset lent.bytes)) (lent.line + 1) pieces (lines_of_contents lent)
     ++ bottom_row s (number_width lent) ∷ []
-
--- a line and a column as a place
-abbrev pub place_at : ℕ × ℕ → Place
-place_at p = record { line = p.0; column = p.1 }
 
 -- A page has got rows with some pieces, which a highlighter answered for these texts by calls that happen.
 pub record PutsRows (blank : Bool) (happen : List Call → Type 0) (texts : List (List ℕ))

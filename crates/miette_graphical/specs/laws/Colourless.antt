@@ -13,9 +13,9 @@ use Rattle.miette_graphical.specs.rules.DiagnosticText.{SnippetRows, rows_text}
 use Rattle.miette_graphical.specs.rules.Text.{report_text}
 use Rattle.miette_tree.specs.rules.Tree.{Tree}
 use Rattle.std.specs.List.{AllByRecursion}
-use Rattle.miette_snippet_laws.specs.laws.Fading.{unhighlighted_answer}
-pub use Rattle.miette_snippet_laws.specs.laws.Fading.{ArePlain}
-use Rattle.miette_snippet_laws.specs.laws.Clean.{IsCleanLabel, IsCleanSource}
+use Rattle.miette_row_laws.specs.laws.Fading.{unhighlighted_answer}
+pub use Rattle.miette_row_laws.specs.laws.Fading.{ArePlain}
+use Rattle.miette_row_laws.specs.laws.Clean.{IsCleanLabel, IsCleanSource}
 use Rattle.miette_graphical.specs.laws.Clean.{AreCleanSettings, HaveNoEscapes}
 
 -- the same settings in other styles

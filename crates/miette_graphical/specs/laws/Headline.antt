@@ -19,14 +19,14 @@ use Rattle.miette_page.specs.rules.Rows.{Row, columns_of, glyphs_of}
 use Rattle.miette_cells.specs.rules.Cells.{Cell}
 use Rattle.miette_cells.specs.rules.Widths.{width_of}
 use Rattle.miette_snippet_rules.specs.rules.CutLines.{Stretch, ends, is_near}
-use Rattle.miette_snippet_laws.specs.laws.Cuts.{AreAsWide, AreMoved, AreStretches, Fits, by_nearness, by_stretch}
-use Rattle.miette_snippet_laws.specs.laws.Cuts.{most_columns, pieces_shown}
+use Rattle.miette_row_laws.specs.laws.Cuts.{AreAsWide, AreMoved, AreStretches, Fits, by_nearness, by_stretch}
+use Rattle.miette_row_laws.specs.laws.Cuts.{most_columns, pieces_shown}
 use Rattle.miette_snippet_rules.specs.rules.Marks.{Mark, marks_at, AreApart}
 use Rattle.miette_snippet_rules.specs.rules.PrintedCells.{cells_width}
 use Rattle.miette_snippet_rules.specs.rules.Numbers.{ranges, IsRange, AreParted}
-use Rattle.miette_snippet_laws.specs.laws.Ends.{AreBehindShown, EndsStandBehind, draws_ends, with_ends}
-use Rattle.miette_snippet_laws.specs.laws.Folding.{EndsPass, FitsIn, IsInside}
-use Rattle.miette_snippet_laws.specs.laws.Pictures.{BodyShows, marks_of_line, text_of_line}
+use Rattle.miette_row_laws.specs.laws.Ends.{AreBehindShown, EndsStandBehind, draws_ends, with_ends}
+use Rattle.miette_range_laws.specs.laws.Folding.{EndsPass, FitsIn, IsInside}
+use Rattle.miette_row_laws.specs.laws.Pictures.{BodyShows, marks_of_line, text_of_line}
 use Rattle.miette_snippet_rules.specs.rules.ShownLines.{framed_ranges, line_at}
 use Rattle.miette_snippet_rules.specs.rules.Snippets.{shown_numbers, snippets, is_kept}
 use Rattle.miette_graphical.specs.rules.Answers.{pieces_listed}

@@ -4,7 +4,7 @@ use Rattle.miette_snippet_rules.specs.rules.CutLines.{ends, is_near, stretches}
 use Rattle.miette_snippet_rules.specs.rules.Marks.{Mark}
 use Rattle.miette_snippet_rules.specs.rules.PrintedCells.{cells_width}
 use Rattle.miette_cuts.specs.views.Cuts.{measure}
-use Rattle.miette_cuts.specs.views.Marks.{mark_of}
+use Rattle.miette_snippet_rules.specs.views.MadeMarks.{mark_of}
 use Rattle.miette_cuts.specs.views.LineTexts.{text_cells}
 use Rattle.miette_cuts.proofs.CutStretches.{cut_is, cut_none}
 use Rattle.miette_cuts.proofs.cutting.cut_at.Goals as goal

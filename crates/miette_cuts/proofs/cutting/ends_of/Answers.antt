@@ -1,5 +1,5 @@
 use Rattle.miette_cuts.proofs.CutStretches.{ends_end, ends_more}
-use Rattle.miette_cuts.proofs.OffsetColumns.{no_mark}
+use Rattle.miette_snippet_rules.specs.views.MadeMarks.{no_mark}
 use Rattle.miette_cuts.proofs.cutting.ends_of.Goals as goal
 
 pub loop-mark-preserved : goal.loop-mark-preserved

@@ -1,5 +1,5 @@
 use Rattle.std.proofs.Common.{sym, subst}
-use Rattle.miette_cuts.specs.views.Marks.{IsAnchored}
+use Rattle.miette_snippet_rules.specs.views.MadeMarks.{IsAnchored}
 use Rattle.std.specs.List.{All}
 use Rattle.std.proofs.lemmas.List.Elements.{All-push}
 use Rattle.miette_cuts.proofs.OffsetColumns.{mark_more, mark_end}

@@ -1,7 +1,7 @@
 use Rattle.std.proofs.Common.{◌≡◌, ◌++◌, map, drop}
 use Rattle.std.specs.List.{All}
 use Rattle.miette_snippet_rules.specs.rules.Marks.{marks, marks_from}
-use Rattle.miette_cuts.specs.views.Marks.{mark_of, IsAnchored}
+use Rattle.miette_snippet_rules.specs.views.MadeMarks.{mark_of, IsAnchored}
 use Rattle.miette_labels.specs.views.GivenLabels.{drawn_of}
 use Rattle.miette_cuts.proofs.marks.marks_in.Given as goal
 

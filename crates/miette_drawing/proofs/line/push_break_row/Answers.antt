@@ -1,5 +1,5 @@
 use Rattle.miette_snippet_rules.specs.rules.Gutters.{break_gutter}
-use Rattle.miette_drawing.specs.steps.LineContexts.{settings, multi_labels}
+use Rattle.miette_frames.specs.views.LineContexts.{settings, multi_labels}
 use Rattle.miette_drawing.proofs.LineRows.{break_put}
 use Rattle.miette_drawing.proofs.line.push_break_row.Goals as goal
 

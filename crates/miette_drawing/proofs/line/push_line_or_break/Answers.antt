@@ -15,9 +15,10 @@ use Rattle.miette_snippet_rules.specs.rules.Highlighting.{highlight_of}
 use Rattle.miette_snippet_rules.specs.rules.SnippetLayout.{before_each, line_or_break_of, text_of_cells}
 use Rattle.miette_snippet_rules.proofs.CutColumns.{columns_from}
 use Rattle.miette_cuts.specs.views.Cuts.{made_runs, measure}
-use Rattle.miette_cuts.specs.views.Marks.{mark_of}
-use Rattle.miette_drawing.specs.steps.LineContexts.{settings, multi_labels, before_marks, number_row, shown_cells}
-use Rattle.miette_drawing.specs.steps.LineContexts.{labels_alone}
+use Rattle.miette_snippet_rules.specs.views.MadeMarks.{mark_of}
+use Rattle.miette_frames.specs.views.LineContexts.{settings, multi_labels, before_marks}
+use Rattle.miette_drawing.specs.steps.ShownLines.{number_row, shown_cells}
+use Rattle.miette_drawing.specs.steps.ShownLines.{labels_alone}
 use Rattle.miette_source_lines.specs.views.Walking.{line_of_text}
 use Rattle.miette_cuts.proofs.CutStretches.{shown_made_anchored}
 use Rattle.miette_cuts.proofs.CutText.{shown_made}

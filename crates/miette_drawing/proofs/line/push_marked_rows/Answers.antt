@@ -3,11 +3,11 @@ use Rattle.std.proofs.Common.{◌∙◌, ◌<◌, ap, map, [], length, rules}
 use Rattle.miette_snippet_rules.specs.rules.Drawing.{mark_runs, rows_below}
 use Rattle.miette_page.specs.views.Tokens.{rows_tokens}
 use Rattle.miette_snippet_rules.specs.rules.SnippetLayout.{before_each}
-use Rattle.miette_cuts.specs.views.Marks.{mark_of}
-use Rattle.miette_drawing.specs.steps.LineContexts.{before_marks}
+use Rattle.miette_snippet_rules.specs.views.MadeMarks.{mark_of}
+use Rattle.miette_frames.specs.views.LineContexts.{before_marks}
 use Rattle.miette_drawing.proofs.LineRows.{marked_put, marked_some}
 use Rattle.miette_drawing.proofs.line.push_marked_rows.Goals as goal
-use Rattle.miette_drawing.specs.steps.LineContexts.{settings}
+use Rattle.miette_frames.specs.views.LineContexts.{settings}
 
 pub returns : goal.returns
 returns g c =

@@ -1,4 +1,4 @@
-use Rattle.miette_drawing.specs.steps.LineContexts.{settings}
+use Rattle.miette_frames.specs.views.LineContexts.{settings}
 use Rattle.miette_drawing.proofs.LineRows.{number_put}
 use Rattle.miette_drawing.proofs.line.push_number_start.Goals as goal
 

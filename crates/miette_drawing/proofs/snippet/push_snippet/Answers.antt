@@ -1,7 +1,7 @@
 use Rattle.std.proofs.Common.{ℕ, ◌≡◌, ◌+◌, List, ◌∷◌, ap, ◌∙◌, sym, subst, length, map}
 use Rattle.std.specs.Option.{option_map}
 use Rattle.miette_folds.specs.views.Spreads.{spread_of}
-use Rattle.miette_drawing.specs.views.SnippetRows.{place_at}
+use Rattle.miette_frames.specs.views.Places.{place_at}
 use Rattle.miette_snippet_rules.specs.views.SettingsView.{settings_of}
 use Rattle.miette_labels.specs.views.GivenLabels.{drawn_of}
 use Rattle.miette_drawing.specs.views.SnippetRows.{PutsRows, lent_snippet}

@@ -2,7 +2,7 @@ use Rattle.std.proofs.Common.{sym, ap₂, ◌∙◌}
 use Rattle.miette_graphical.specs.rules.Text.{report_text}
 use Rattle.miette_graphical.proofs.TextLaws.{TextLaws}
 use Rattle.miette_graphical.proofs.ReportFading.{fades-plain}
-use Rattle.miette_snippet_laws.proofs.PlainStyles.{none_are_plain}
+use Rattle.miette_row_laws.proofs.PlainStyles.{none_are_plain}
 use Rattle.miette_style.specs.rules.Themes.{no_styles}
 use Rattle.miette_graphical.proofs.laws.colours_law.Goals as goal
 

@@ -5,7 +5,7 @@ use Rattle.miette_graphical.specs.rules.PrintedDiagnostics.{all_read}
 use Rattle.miette_graphical.specs.rules.Snippets.{drawn_rows}
 use Rattle.miette_graphical.specs.rules.Text.{report_text}
 use Rattle.miette_graphical.proofs.Bare.{bare-report, restyled-printed}
-use Rattle.miette_snippet_laws.proofs.PlainStyles.{none_are_plain}
+use Rattle.miette_row_laws.proofs.PlainStyles.{none_are_plain}
 use Rattle.miette_style.specs.rules.Themes.{no_styles}
 use Rattle.miette_graphical.proofs.Possible.{answers_possible}
 use Rattle.miette_graphical.proofs.laws.erasing_law.Goals as goal

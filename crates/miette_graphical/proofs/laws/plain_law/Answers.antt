@@ -1,6 +1,6 @@
 use Rattle.std.proofs.Common.{ap, ◌∙◌, encode_utf8_all, sym}
 use Rattle.miette_runs.specs.rules.Sequences.{erase}
-use Rattle.miette_snippet_laws.proofs.PlainStyles.{none_are_plain}
+use Rattle.miette_row_laws.proofs.PlainStyles.{none_are_plain}
 use Rattle.miette_graphical.specs.rules.Snippets.{drawn_rows}
 use Rattle.miette_graphical.specs.rules.Text.{report_text}
 use Rattle.miette_graphical.proofs.Bare.{plain-report}

@@ -12,7 +12,7 @@ use Rattle.miette_page.specs.rules.Rows.{glyphs_of}
 use Rattle.miette_snippet_rules.specs.rules.CutLines.{Stretch, cut_line, ends, is_near, shown_runs, stretches}
 use Rattle.miette_snippet_rules.specs.rules.Marks.{Mark}
 use Rattle.miette_snippet_rules.specs.rules.PrintedCells.{cells_width}
-use Rattle.miette_snippet_laws.specs.laws.Cuts.{AreStretches, Fits, by_stretch}
+use Rattle.miette_row_laws.specs.laws.Cuts.{AreStretches, Fits, by_stretch}
 use Rattle.miette_graphical.specs.rules.Answers.{pieces_listed}
 use Rattle.miette_graphical.specs.rules.Settings.{Settings}
 use Rattle.miette_graphical.specs.laws.Headline.{EndsAreDrawn, LabelsAreFolded, LinesAreShown, MarksAreApart, TextsHang}

@@ -1,7 +1,7 @@
 use Rattle.std.proofs.Common.{◌≡◌, rules, refl, ap, sym, ◌∙◌, ◌∷◌, map, List, Option, subst, All}
 use Rattle.std.specs.Option.{option_map}
 use Rattle.miette_protocol.specs.rules.Reading.{Span}
-use Rattle.miette_drawing.specs.views.SnippetRows.{place_at}
+use Rattle.miette_frames.specs.views.Places.{place_at}
 use Rattle.miette_labels.specs.rules.Around.{group_context}
 use Rattle.miette_labels.specs.rules.Groups.{in_order}
 use Rattle.miette_snippet_rules.specs.rules.Folds.{spreads_of}

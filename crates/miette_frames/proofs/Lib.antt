@@ -1,0 +1,6 @@
+pub mod ClosingRows
+pub mod FrameRows
+pub mod GutterRows
+pub mod TextLines
+pub mod MarkRows
+pub mod TextRows

@@ -1,0 +1,21 @@
+use Rattle.miette_page.specs.views.Printouts.{◌⊕◌}
+use Rattle.std.proofs.Common.{[], ◌∷◌, ◌++◌, ◌≡◌, ◌∙◌, cond, true, ap, sym, replicate, rules}
+use Rattle.std.specs.Prelude.{codes, ◌&&◌}
+use Rattle.miette_page.specs.rules.Rows.{styled_run}
+use Rattle.miette_style.specs.rules.Styles.{plain}
+use Rattle.miette_snippet_rules.specs.rules.Frames.{place_text}
+use Rattle.miette_frames.specs.views.Places.{place_at}
+use Rattle.miette_cells.specs.rules.Widths.{width_of}
+use Rattle.miette_page.specs.views.Tokens.{row_tokens}
+use Rattle.miette_frames.proofs.FrameRows.{bare_put}
+use Rattle.miette_frames.proofs.frame.push_bare_place.Goals as goal
+
+pub returns-then-frame : goal.returns-then-frame
+returns-then-frame g c =
+    let shown : (c.args.several && c.args.frame.now.settings.layout.now.primary_start) ≡ true = search rules in
+    bare_put width_of (place_text (place_at c.args.place)) c.args.page.now c.push_line.new.self c.push_place.new.page
+    c.push.new.self
+    c.in_ok-push_line.ensures c.in_ok-push_place.ensures c.in_ok-push.ensures
+    ∙ ap (λ b. c.args.page.now ⊕ row_tokens (cond b (styled_run width_of plain
+    (codes "[" ++ place_text (place_at c.args.place) ++ codes "]") ∷ [])
+    (styled_run width_of plain (replicate 3 c.args.frame.now.settings.theme.now.characters.hbar) ∷ []))) (sym shown)

@@ -1,0 +1,26 @@
+use Rattle.std.proofs.Common.{refl, ap, map, drop, ◌+◌, ◌∙◌}
+use Rattle.miette_page.specs.views.Printouts.{◌⊕◌}
+use Rattle.miette_page.specs.views.Tokens.{row_tokens}
+use Rattle.miette_snippet_rules.specs.rules.Drawing.{lead_runs}
+use Rattle.miette_snippet_rules.specs.views.MadeMarks.{mark_of}
+use Rattle.miette_snippet_rules.specs.views.MadeMarks.{no_mark}
+use Rattle.miette_frames.proofs.TextRows.{lead_more, lead_end}
+use Rattle.miette_frames.proofs.texts.push_leads.Goals as goal
+use Rattle.miette_frames.specs.views.LineContexts.{settings}
+
+pub loop-mark-preserved : goal.loop-mark-preserved
+loop-mark-preserved g c =
+    ap (λ n. c.push_line.new.self ⊕ row_tokens (lead_runs (settings c.args.context.now)
+    n (map mark_of (drop (c.loop-mark.mark-index + 1) c.args.earlier.now))
+    c.args.column)) c.behind_anchor-reached.ensures
+    ∙ lead_more (settings c.args.context.now)
+    c.args.earlier.now c.loop-mark.mark-index c.loop-mark.reached c.saturating_sub.result _ c.args.column no_mark
+    c.loop-mark.page c.push_blank.new.self c.push_line.new.self _ c.loop-mark-test.true refl c.saturating_sub.ensures
+    c.in_ok-push_blank.ensures c.in_ok-push_line.ensures c.loop-mark.invariant
+
+pub returns : goal.returns
+returns g c =
+    lead_end (settings c.args.context.now)
+    c.args.earlier.now c.loop-mark.mark-index c.loop-mark.reached c.saturating_sub-2.result c.args.column
+    c.loop-mark.page c.push_blank-2.new.self _ c.loop-mark-test.false c.saturating_sub-2.ensures
+    c.in_ok-push_blank-2.ensures c.loop-mark.invariant

@@ -1,0 +1,173 @@
+//! The gutter of a row, over the labels of several lines that lie on its line.
+
+ghost use Rattle.std.specs.Prelude.{◌≡◌, ◌++◌, ◌-◌, ◌∷◌, [], replicate, map, OnOk, if◌then◌else◌};
+ghost use Rattle.miette_page.specs.views.Printouts.{◌⊕◌};
+ghost use Rattle.miette_page.specs.views.Tokens.{row_tokens, styled_tokens};
+ghost use Rattle.miette_labels.specs.rules.Labels.{starts_on, ends_on};
+ghost use Rattle.miette_snippet_rules.specs.rules.Gutters.{bar, break_gutter, ending_corner};
+ghost use Rattle.miette_labels.specs.views.GivenLabels.{drawn_of};
+ghost use Rattle.miette_frames.specs.views.LineContexts.{settings, multi_labels};
+ghost use Rattle.miette_frames.specs.views.GutterEnds.{stops, gutter_end, gutter_with};
+ghost use Rattle.miette_source_lines.specs.views.Walking.{line_of_text};
+
+use crate::frame::Outcome;
+use crate::line_context::LineContext;
+use miette_labels::sweep::PlacedLabel;
+use miette_page::canvas::Canvas;
+use miette_page::page::{PLAIN, Page};
+use miette_source_lines::lines::LineOfText;
+use miette_style::style::Style;
+
+/// What a gutter has from the label on at which its bars stop.
+#[derive(Clone, Copy)]
+pub enum GutterEnd {
+    /// Beside the number: an arrow from the first label that starts or ends on the line, `╭─▶ `.
+    Arrow,
+    /// Below it: a corner and bars from the first label that ends on the line, `╰───`.
+    Corner,
+    /// Spaces from there on.
+    Open,
+}
+
+// Whether a label starts on a line.
+pub(crate) fn starts(line: &LineOfText, label: &PlacedLabel<'_>) -> bool
+    ensures { result ≡ starts_on (line_of_text line.now) (drawn_of label.now) }
+{
+    line.start <= label.start && label.start < line.end
+}
+
+// Whether a label ends on a line.
+pub(crate) fn ends(line: &LineOfText, label: &PlacedLabel<'_>) -> bool
+    ensures { result ≡ ends_on (line_of_text line.now) (drawn_of label.now) }
+{
+    if label.start == label.after {
+        line.start <= label.start && label.start < line.end
+    } else {
+        line.start < label.after && label.after <= line.end
+    }
+}
+
+// Whether a gutter's bars stop at a label.
+fn stops(line: &LineOfText, label: &PlacedLabel<'_>, end: GutterEnd) -> bool
+    ensures { result ≡ stops end (line_of_text line.now) (drawn_of label.now) }
+{
+    match end {
+        GutterEnd::Arrow => starts(line, label) || ends(line, label),
+        GutterEnd::Corner | GutterEnd::Open => ends(line, label),
+    }
+}
+
+// The corner of the arrow of a label that starts or ends on the line.
+fn arrow_corner(context: &LineContext, label: &PlacedLabel<'_>) -> char
+    ensures { result ≡ (if starts_on (line_of_text context.now.line) (drawn_of label.now)
+        then (settings context.now).theme.characters.ltop
+        else ending_corner (settings context.now).theme.characters (drawn_of label.now).parts) }
+{
+    if starts(&context.line, label) {
+        return context.frame.settings.theme.characters.ltop;
+    }
+    match label.text {
+        Some(_) => context.frame.settings.theme.characters.lcross,
+        None => context.frame.settings.theme.characters.lbot,
+    }
+}
+
+// An arrow from a corner, and a space: `╭──▶ `.
+fn push_arrow<O: Canvas>(
+    page: &mut Page<O>,
+    context: &LineContext,
+    style: Style,
+    corner: char,
+    left: usize,
+) -> Outcome
+    ensures { OnOk result (page.new ≡ page.old
+        ⊕ (styled_tokens style (corner ∷ replicate (left - 3) (settings context.now).theme.characters.hbar
+        ++ (settings context.now).theme.characters.rarrow ∷ []) ++ styled_tokens PLAIN (32 ∷ []))) }
+{
+    let characters = &context.frame.settings.theme.characters;
+    page.push_line(style, corner, characters.hbar, left.saturating_sub(3))?;
+    page.push(characters.rarrow)?;
+    page.push_blank(1)?;
+    Ok(())
+}
+
+// What stands from the label on at which the bars stop, in the columns that are left.
+fn push_gutter_end<O: Canvas>(
+    page: &mut Page<O>,
+    context: &LineContext,
+    label: &PlacedLabel<'_>,
+    left: usize,
+    end: GutterEnd,
+) -> Outcome
+    ensures { OnOk result (page.new ≡ page.old ⊕ row_tokens (gutter_end end (settings context.now)
+        (line_of_text context.now.line) left (drawn_of label.now))) }
+{
+    match end {
+        GutterEnd::Arrow => {
+            let corner = arrow_corner(context, label);
+            push_arrow(page, context, label.style, corner, left)?;
+            Ok(())
+        }
+        GutterEnd::Corner => {
+            let characters = &context.frame.settings.theme.characters;
+            let bars = left.saturating_sub(1);
+            page.push_line(label.style, characters.lbot, characters.hbar, bars)?;
+            Ok(())
+        }
+        GutterEnd::Open => {
+            page.push_blank(left)?;
+            Ok(())
+        }
+    }
+}
+
+/// The gutter of a row, in so many columns: a bar for each label before the first one at which the bars stop, then
+/// its end: `│╭─▶ `, `│╰───` or `│    `. `AllocError` where memory is refused.
+pub fn push_gutter<O: Canvas>(
+    page: &mut Page<O>,
+    context: &LineContext,
+    columns: usize,
+    end: GutterEnd,
+) -> Outcome
+    ensures { OnOk result (page.new ≡ page.old ⊕ row_tokens (gutter_with end (settings context.now)
+        (line_of_text context.now.line) columns (multi_labels context.now))) }
+{
+    let bar = context.frame.settings.theme.characters.vbar;
+    let mut left = columns;
+    for label in context.multi {
+        if stops(&context.line, label, end) {
+            push_gutter_end(page, context, label, left, end)?;
+            return Ok(());
+        }
+        page.push_line(label.style, bar, bar, 0)?;
+        left = left.saturating_sub(1);
+    }
+    page.push_blank(left)?;
+    Ok(())
+}
+
+// A bar for each label.
+fn push_bars<O: Canvas>(page: &mut Page<O>, context: &LineContext) -> Outcome
+    ensures { OnOk result (page.new ≡ page.old
+        ⊕ row_tokens (map (bar (settings context.now)) (multi_labels context.now))) }
+{
+    let vbar = context.frame.settings.theme.characters.vbar;
+    for label in context.multi {
+        page.push_line(label.style, vbar, vbar, 0)?;
+    }
+    Ok(())
+}
+
+/// The gutter of a break's row, behind the row's bar: a space, and a bar for each label that runs through: ` ││`;
+/// nothing where none does. `AllocError` where memory is refused.
+pub fn push_break_gutter<O: Canvas>(page: &mut Page<O>, context: &LineContext) -> Outcome
+    ensures { OnOk result (page.new ≡ page.old ⊕ row_tokens
+        (break_gutter (settings context.now) (multi_labels context.now))) }
+{
+    if context.multi.is_empty() {
+        return Ok(());
+    }
+    page.push_blank(1)?;
+    push_bars(page, context)?;
+    Ok(())
+}

@@ -1,0 +1,13 @@
+pub mod Blocks
+pub mod FoldedRuns
+pub mod Inside
+pub mod Maximal
+pub mod MaximalRanges
+pub mod OneGroup
+pub mod OwnGroups
+pub mod ReadLines
+pub mod Reread
+pub mod ShownRuns
+pub mod SnippetBodies
+pub mod Stretches
+pub mod WithoutFolds

@@ -1,0 +1,3 @@
+-- What holds of the rules.
+pub mod Belonging
+pub mod Folding

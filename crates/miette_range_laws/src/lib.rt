@@ -1,0 +1,4 @@
+//! What holds of the lines that snippets show.
+#![tactic(auto)]
+
+pub mod laws;

@@ -1,0 +1,144 @@
+-- Lines that are cut, in the rows of snippets: which are, how wide they are, and that lines which fit stay as they are.
+use Rattle.std.proofs.Common.{◌≡◌, ◌≢◌, ℕ, suc, ◌+◌, ◌<◌, ◌≤◌, Bool, false, cond, ltb, List, [], ◌∷◌, ◌++◌, length}
+use Rattle.std.proofs.Common.{refl, sym}
+use Rattle.std.proofs.Common.{ap, ap₂, ◌∙◌, subst, Option, Some, None, drop}
+use Rattle.std.proofs.lemmas.Bool.{le-ltb, lt-ltb}
+use Rattle.std.specs.List.{AllByRecursion}
+use Rattle.miette_source_lines.specs.rules.Lines.{Line}
+use Rattle.miette_protocol.specs.rules.Reading.{Contents}
+use Rattle.miette_labels.specs.rules.Answers.{Highlight, first_of}
+use Rattle.miette_cells.specs.rules.Cells.{Cell}
+use Rattle.miette_labels.specs.rules.Contexts.{lines_of_contents}
+use Rattle.miette_labels.specs.rules.Labels.{DrawnLabel, one_line, multi_line}
+use Rattle.miette_page.specs.rules.Rows.{columns_of, glyphs_of}
+use Rattle.miette_basics.proofs.Cases.{by_cases}
+use Rattle.miette_snippet_rules.specs.rules.CutLines.{Stretch, cut_line, ends, is_near, shown_marks, shown_runs}
+use Rattle.miette_snippet_rules.specs.rules.CutLines.{stretches}
+use Rattle.miette_snippet_rules.specs.rules.Drawing.{marked_rows}
+use Rattle.miette_snippet_rules.specs.rules.Folds.{Spread}
+use Rattle.miette_snippet_rules.specs.rules.Frames.{number_start, other_start, number_width}
+use Rattle.miette_snippet_rules.specs.rules.Gutters.{closing_rows, gutter_columns, number_gutter, other_gutter}
+use Rattle.miette_snippet_rules.specs.rules.Marks.{Mark, Text, mark_until, marks_from}
+use Rattle.miette_snippet_rules.specs.rules.PrintedCells.{cells_width}
+use Rattle.miette_snippet_rules.specs.rules.SnippetLayout.{before_each, body_rows, break_row, cells_of, left_out}
+use Rattle.miette_snippet_rules.specs.rules.SnippetLayout.{line_cut, line_marks, line_or_break, line_rows}
+use Rattle.miette_snippet_rules.specs.rules.SnippetLayout.{rows_of_lines}
+use Rattle.miette_snippet_rules.specs.rules.SnippetLayout.{text_of_cells}
+use Rattle.miette_labels.specs.rules.Labels.{closing_labels}
+use Rattle.miette_row_laws.specs.laws.Cuts.{AreAsWide, Fits, most_columns}
+use Rattle.miette_row_laws.specs.laws.Pictures.{text_of_line}
+use Rattle.miette_row_laws.proofs.CutWidth.{row_bound}
+use Rattle.miette_row_laws.proofs.Whole.{line_columns}
+use Rattle.miette_snippet_rules.specs.rules.SnippetLayout.{snippet_context}
+use Rattle.miette_snippet_rules.specs.rules.Settings.{SnippetSettings}
+
+-- a mark for each label
+marks-length : (text : Text) (reached : ℕ) (labels : List DrawnLabel) → length (marks_from text reached labels)
+    ≡ length labels
+marks-length text reached [] = refl
+marks-length text reached (label ∷ labels) = ap suc (marks-length text (mark_until text reached label) labels)
+
+pub rows_narrow : (s : SnippetSettings) (labels : List DrawnLabel) (source : List ℕ) (line : Line)
+    (pieces : List Highlight) (limit widest : ℕ) → s.layout.line_columns ≡ Some limit
+    → AreAsWide widest (cells_of s source line) →
+    columns_of (glyphs_of (text_of_line s labels line (cells_of s source line) pieces))
+    ≤ most_columns limit (length (one_line line labels)) widest
+rows_narrow s labels source line pieces limit widest is wide =
+    let cells : List Cell = cells_of s source line in
+    let own : List Mark = line_marks line cells (one_line line labels) in
+    subst (λ (many : ℕ). columns_of (glyphs_of (text_of_line s labels line cells pieces))
+    ≤ most_columns limit many widest) (marks-length (text_of_cells cells line.text_end) 0 (one_line line labels))
+    (subst (λ (o : Option ℕ). columns_of (glyphs_of (shown_runs (cut_line o own cells) pieces cells))
+    ≤ most_columns limit (length own) widest) (sym is)
+    (row_bound limit widest pieces own cells (line_columns s source line) wide))
+
+-- ---- which lines are cut
+
+cut_some : (limit : ℕ) (ms : List Mark) (cells : List Cell) → limit < cells_width 0 cells
+    → cut_line (Some limit) ms cells ≡ Some (stretches (is_near limit (ends ms)) false cells)
+cut_some limit ms cells lt = rw (lt-ltb limit (cells_width 0 cells) lt) refl
+
+some_not : (o : Option (List Stretch)) (ss : List Stretch) → o ≡ Some ss → o ≢ None
+some_not o ss some none = absurd (cc)
+
+pub wide_cut : (s : SnippetSettings) (labels : List DrawnLabel) (source : List ℕ) (line : Line) (limit : ℕ)
+    → s.layout.line_columns ≡ Some limit → limit < cells_width 0 (cells_of s source line) →
+    line_cut s line (cells_of s source line) (one_line line labels) ≢ None
+wide_cut s labels source line limit is lt =
+    let cells : List Cell = cells_of s source line in
+    let own : List Mark = line_marks line cells (one_line line labels) in
+    subst (λ (o : Option ℕ). cut_line o own cells ≢ None) (sym is)
+    (some_not (cut_line (Some limit) own cells) (stretches (is_near limit (ends own)) false cells)
+    (cut_some limit own cells lt))
+
+-- a line that is cut is cut at some limit
+pub cut_limit : (o : Option ℕ) (ms : List Mark) (cells : List Cell) (cut : List Stretch)
+    → cut_line o ms cells ≡ Some cut →
+    (limit : ℕ) × (cut ≡ stretches (is_near limit (ends ms)) false cells)
+cut_limit None ms cells cut is = absurd (cc)
+cut_limit (Some n) ms cells cut is =
+    let own : List Stretch = stretches (is_near n (ends ms)) false cells in
+    by_cases {C = (limit : ℕ) × (cut ≡ stretches (is_near limit (ends ms)) false cells)}
+    (ltb n (cells_width 0 cells))
+    (λ y. let there : Some own ≡ Some cut = sym (ap (λ b. cond b (Some own) None) y) ∙ is in
+    let same : cut ≡ own = cc in (n, same))
+    (λ f. let none : None ≡ Some cut = sym (ap (λ b. cond b (Some own) None) f) ∙ is in absurd (cc))
+
+-- ---- lines that fit
+
+cut_none : (limit : Option ℕ) (ms : List Mark) (cells : List Cell) → Fits limit cells → cut_line limit ms cells ≡ None
+cut_none None ms cells h = refl
+cut_none (Some limit) ms cells h = rw (le-ltb limit (cells_width 0 cells) h) refl
+
+pub fits_whole : (s : SnippetSettings) (labels : List DrawnLabel) (source : List ℕ) (line : Line)
+    → Fits s.layout.line_columns (cells_of s source line) →
+    line_cut s line (cells_of s source line) (one_line line labels) ≡ None
+fits_whole s labels source line fits =
+    let cells : List Cell = cells_of s source line in
+    cut_none s.layout.line_columns (line_marks line cells (one_line line labels)) cells fits
+
+line_stays : (s : SnippetSettings) (w columns : ℕ) (labels : List DrawnLabel) (line : Line) (number : ℕ)
+    (cells : List Cell) (pieces : List Highlight) → Fits s.layout.line_columns cells →
+    line_rows (snippet_context s w columns labels (λ _. cells)) line number pieces
+    ≡ line_rows (snippet_context (record s { layout = record s.layout { line_columns = None } }) w columns labels
+    (λ _. cells)) line number pieces
+line_stays s w columns labels line number cells pieces fits =
+    let one : List DrawnLabel = one_line line labels in
+    let multi : List DrawnLabel = multi_line line labels in
+    ap (λ o. (number_start s w number ++ number_gutter s line columns multi
+    ++ shown_runs o pieces cells)
+    ∷ before_each (other_start s w ++ other_gutter s line columns multi)
+    (marked_rows s (shown_marks o (line_marks line cells one)))
+    ++ before_each (other_start s w) (closing_rows s line columns multi (closing_labels line multi)))
+    (cut_none s.layout.line_columns (line_marks line cells one) cells fits)
+
+line_or_break_stays : (gap out : Bool) (s : SnippetSettings) (w columns : ℕ) (labels : List DrawnLabel) (line : Line)
+    (number : ℕ) (cells : List Cell) (pieces : List Highlight) → Fits s.layout.line_columns cells →
+    line_or_break gap out (snippet_context s w columns labels (λ _. cells)) line number pieces
+    ≡ line_or_break gap out (snippet_context (record s { layout = record s.layout { line_columns = None } }) w columns
+    labels (λ _. cells)) line number pieces
+line_or_break_stays gap out s w columns labels line number cells pieces fits =
+    ap (λ rows. cond out (cond gap [] (break_row s w (multi_line line labels) ∷ [])) rows)
+    (line_stays s w columns labels line number cells pieces fits)
+
+lines_stay : (out : ℕ → Line → Bool) (gap : Bool) (s : SnippetSettings) (w columns : ℕ) (labels : List DrawnLabel)
+    (source : List ℕ) (number : ℕ) (pieces : List (List Highlight)) (lines : List Line) →
+    AllByRecursion (λ line. Fits s.layout.line_columns (cells_of s source line)) lines →
+    rows_of_lines out gap (snippet_context s w columns labels (cells_of s source)) number pieces lines
+    ≡ rows_of_lines out gap (snippet_context (record s { layout = record s.layout { line_columns = None } }) w columns
+    labels (cells_of (record s { layout = record s.layout { line_columns = None } }) source)) number pieces lines
+lines_stay out gap s w columns labels source number pieces [] h = refl
+lines_stay out gap s w columns labels source number pieces (line ∷ lines) h =
+    ap₂ (λ a b. a ++ b) (line_or_break_stays gap (out number line) s w columns labels line number
+    (cells_of s source line) (first_of pieces) h.0) (lines_stay out (out number line) s w columns labels source
+    (number + 1) (drop 1 pieces) lines h.1)
+
+pub bodies_stay : (s : SnippetSettings) (spreads : List Spread) (labels : List DrawnLabel) (source : List ℕ)
+    (read : Contents) (pieces : List (List Highlight)) → AllByRecursion
+    (λ line. Fits s.layout.line_columns (cells_of s source line)) (lines_of_contents read) →
+    body_rows s spreads labels source read pieces ≡ body_rows
+    (record s { layout = record s.layout { line_columns = None } }) spreads labels source
+    read pieces
+bodies_stay s spreads labels source read pieces h =
+    lines_stay (left_out s read.line (lines_of_contents read) spreads) false s (number_width read)
+    (gutter_columns labels (lines_of_contents read)) labels source (read.line + 1) pieces (lines_of_contents read) h

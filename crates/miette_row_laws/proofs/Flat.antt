@@ -1,0 +1,202 @@
+-- Rows of runs are rows by columns.
+use Rattle.std.proofs.Common.{ℕ, zero, suc, ◌+◌, ◌-◌, ◌<◌, ◌≤◌, ◌≡◌, true, false, ltb, leb, eqb, List, [], ◌∷◌, ◌++◌}
+use Rattle.std.proofs.Common.{map, replicate, refl, sym, ap, ap₂, subst, ◌∙◌, ◌&&◌, append_assoc, append-nil, arith}
+use Rattle.std.proofs.lemmas.Bool.{lt-ltb, le-ltb, le-leb, lt-leb, and_right, ne_eqb, eq-eqb}
+use Rattle.std.proofs.lemmas.List.{map-append}
+use Rattle.std.specs.List.{range_with_len}
+use Rattle.miette_page.specs.rules.Rows.{Glyph, Row, glyphs_of, glyph_of, styled_run}
+use Rattle.miette_snippet_rules.specs.rules.Marks.{Mark, AreApart}
+use Rattle.miette_snippet_rules.specs.rules.Drawing.{mark_code, mark_runs, lead_runs, text_row, corner}
+use Rattle.miette_snippet_rules.specs.rules.Drawing.{corner_of_several, beside, rows_of_parts, rows_below}
+use Rattle.miette_snippet_rules.specs.rules.SnippetLayout.{before_each}
+use Rattle.miette_row_laws.specs.laws.Pictures.{mark_at, marks_end}
+use Rattle.miette_basics.proofs.Ranges.{range_with_len-append}
+use Rattle.miette_row_laws.proofs.UnstyledRows.{lead_at, lead, corner_pieces, beside_pieces, plain_parts}
+use Rattle.miette_row_laws.proofs.UnstyledRows.{plain_below}
+use Rattle.miette_snippet_rules.specs.rules.Settings.{SnippetSettings}
+
+pub glyphs_of-append : (a b : Row) → glyphs_of (a ++ b) ≡ glyphs_of a ++ glyphs_of b
+glyphs_of-append [] b = refl
+glyphs_of-append (run ∷ a) b = ap (λ r. run.glyphs ++ r) (glyphs_of-append a b)
+    ∙ sym (append_assoc run.glyphs (glyphs_of a) (glyphs_of b))
+
+-- rows behind one row
+pub before_pieces : (front : Row) (rows : List Row) → map glyphs_of (before_each front rows)
+    ≡ map (λ r. glyphs_of front ++ r) (map glyphs_of rows)
+before_pieces front [] = refl
+before_pieces front (row ∷ rows) = ap₂ (λ a b. a ∷ b) (glyphs_of-append front row) (before_pieces front rows)
+
+map-same : (f g : ℕ → Glyph) (from many : ℕ) → ((k : ℕ) → from ≤ k → k < from + many → f k ≡ g k)
+    → map f (range_with_len from many) ≡ map g (range_with_len from many)
+map-same f g from zero h = refl
+map-same f g from (suc many) h = rw (h from (omega arith) (omega arith))
+    (ap (λ r. g from ∷ r) (map-same f g (from + 1) many (λ k a b. h k (omega arith) (omega arith))))
+
+map-one : (f : ℕ → Glyph) (p : Glyph) (from many : ℕ) → ((k : ℕ) → from ≤ k → k < from + many → f k ≡ p)
+    → map f (range_with_len from many) ≡ replicate many p
+map-one f p from zero h = refl
+map-one f p from (suc many) h = rw (h from (omega arith) (omega arith))
+    (ap (λ r. p ∷ r) (map-one f p (from + 1) many (λ k a b. h k (omega arith) (omega arith))))
+
+-- a range in three parts
+three : (f : ℕ → Glyph) (from a b c : ℕ) → map f (range_with_len from (a + (b + c))) ≡ map f (range_with_len from a)
+    ++ (map f (range_with_len (from + a) b) ++ map f (range_with_len (from + a + b) c))
+three f from a b c =
+    ap (map f) (range_with_len-append from a (b + c)) ∙ map-append f (range_with_len from a)
+    (range_with_len (from + a) (b + c))
+    ∙ ap (λ r. map f (range_with_len from a) ++ map f r) (range_with_len-append (from + a) b c)
+    ∙ ap (λ r. map f (range_with_len from a) ++ r) (map-append f (range_with_len (from + a) b)
+    (range_with_len (from + a + b) c))
+
+mark-before : (s : SnippetSettings) (reached column : ℕ) (ms : List Mark) → AreApart reached ms → column
+    < reached → mark_at s ms column ≡ glyph_of s.width 32
+mark-before s reached column [] h lt = refl
+mark-before s reached column (m ∷ ms) h lt =
+    let no : leb m.from column ≡ false = lt-leb m.from column (omega (arith, h.0)) in
+    rw no (mark-before s m.until column ms h.2 (omega (arith, h.0, h.1.0, h.1.1)))
+
+pub marks_end-ge : (reached : ℕ) (ms : List Mark) → AreApart reached ms → reached ≤ marks_end reached ms
+marks_end-ge reached [] h = omega arith
+marks_end-ge reached (m ∷ ms) h = omega (arith, h.0, h.1.0, h.1.1, marks_end-ge m.until ms h.2)
+
+pub flat_marks : (s : SnippetSettings) (reached : ℕ) (ms : List Mark) → AreApart reached ms →
+    glyphs_of (mark_runs s reached ms) ≡ map (mark_at s ms)
+    (range_with_len reached (marks_end reached ms - reached))
+flat_marks s reached [] h = let z : reached - reached ≡ 0 = omega arith in rw z refl
+flat_marks s reached (m ∷ ms) h =
+    let f : ℕ → Glyph = mark_at s (m ∷ ms) in
+    let own : ℕ → Glyph = λ column. glyph_of s.width (mark_code s.theme.characters m column) in
+    let end : ℕ = marks_end m.until ms in
+    let ge : m.until ≤ end = marks_end-ge m.until ms h.2 in
+    let a : ℕ = m.from - reached in
+    let b : ℕ = m.until - m.from in
+    let c : ℕ = end - m.until in
+    let from_is : reached + a ≡ m.from = omega (arith, h.0) in
+    let until_is : m.from + b ≡ m.until = omega (arith, h.1.0, h.1.1) in
+    let whole : end - reached ≡ a + (b + c) = omega (arith, h.0, h.1.0, h.1.1) in
+    let gap : map f (range_with_len reached a) ≡ replicate a (glyph_of s.width 32) =
+    map-one f (glyph_of s.width 32) reached a (λ k l u.
+    let no : leb m.from k ≡ false = lt-leb m.from k (omega (arith, h.0)) in
+    rw no (mark-before s m.until k ms h.2 (omega (arith, h.0, h.1.0, h.1.1)))) in
+    let mine : map f (range_with_len m.from b) ≡ map own (range_with_len m.from b) = map-same f own m.from b (λ k l u.
+    let is : leb m.from k ≡ true = le-leb m.from k l in let is' : ltb k m.until ≡ true =
+    lt-ltb k m.until (omega (arith, h.1.0, h.1.1)) in rw (is, is') refl) in
+    let rest : map f (range_with_len m.until c) ≡ map (mark_at s ms) (range_with_len m.until c) =
+    map-same f (mark_at s ms) m.until c (λ k l u.
+    let no : (leb m.from k && ltb k m.until) ≡ false = and_right (leb m.from k) (ltb k m.until) (le-ltb k m.until l) in
+    rw no refl) in
+    sym (ap (λ n. map f (range_with_len reached n)) whole ∙ three f reached a b c
+    ∙ ap (λ r. map f (range_with_len reached a) ++ (map f (range_with_len r b) ++ map f (range_with_len (r + b) c)))
+    from_is
+    ∙ ap (λ r. map f (range_with_len reached a) ++ (map f (range_with_len m.from b) ++ map f (range_with_len r c)))
+    until_is
+    ∙ ap (λ r. r ++ (map f (range_with_len m.from b) ++ map f (range_with_len m.until c))) gap
+    ∙ ap (λ r. replicate a (glyph_of s.width 32) ++ (r ++ map f (range_with_len m.until c))) mine
+    ∙ ap (λ r. replicate a (glyph_of s.width 32) ++ (map own (range_with_len m.from b) ++ r))
+    (rest ∙ sym (flat_marks s m.until ms h.2)))
+
+-- anchors one behind the other, before a column
+abbrev pub AreAnchored : ℕ → List Mark → ℕ → Type 0
+AreAnchored reached [] column = reached ≤ column
+AreAnchored reached (m ∷ ms) column = (reached ≤ m.anchor) × AreAnchored (m.anchor + 1) ms column
+
+anchored-ge : (reached column : ℕ) (ms : List Mark) → AreAnchored reached ms column → reached ≤ column
+anchored-ge reached column [] h = h
+anchored-ge reached column (m ∷ ms) h = omega (arith, h.0, anchored-ge (m.anchor + 1) column ms h.1)
+
+lead-before : (s : SnippetSettings) (reached column k : ℕ) (ms : List Mark) → AreAnchored reached ms column
+    → k < reached → lead_at s ms k ≡ glyph_of s.width 32
+lead-before s reached column k [] h lt = refl
+lead-before s reached column k (m ∷ ms) h lt =
+    let no : eqb k m.anchor ≡ false = ne_eqb k m.anchor (λ e. omega (arith, h.0, e)) in
+    rw no (lead-before s (m.anchor + 1) column k ms h.1 (omega (arith, h.0)))
+
+pub flat_lead : (s : SnippetSettings) (reached column : ℕ) (ms : List Mark) → AreAnchored reached ms column →
+    glyphs_of (lead_runs s reached ms column) ≡ map (lead_at s ms)
+    (range_with_len reached (column - reached))
+flat_lead s reached column [] h =
+    append-nil (replicate (column - reached) (glyph_of s.width 32))
+    ∙ sym (map-one (lead_at s []) (glyph_of s.width 32) reached (column - reached) (λ k l u. refl))
+flat_lead s reached column (m ∷ ms) h =
+    let f : ℕ → Glyph = lead_at s (m ∷ ms) in
+    let at : ℕ = m.anchor in
+    let ge : at + 1 ≤ column = anchored-ge (at + 1) column ms h.1 in
+    let a : ℕ = at - reached in
+    let c : ℕ = column - (at + 1) in
+    let at_is : reached + a ≡ at = omega (arith, h.0) in
+    let whole : column - reached ≡ a + (1 + c) = omega (arith, h.0) in
+    let gap : map f (range_with_len reached a) ≡ replicate a (glyph_of s.width 32) =
+    map-one f (glyph_of s.width 32) reached a (λ k l u.
+    let no : eqb k at ≡ false = ne_eqb k at (λ e. omega (arith, h.0, e)) in
+    rw no (lead-before s (at + 1) column k ms h.1 (omega (arith, h.0)))) in
+    let mine : f at ≡ glyph_of s.width s.theme.characters.vbar = let yes' : eqb at at ≡ true = eq-eqb at at refl in
+    rw yes' refl in
+    let rest : map f (range_with_len (at + 1) c) ≡ map (lead_at s ms) (range_with_len (at + 1) c) =
+    map-same f (lead_at s ms) (at + 1) c (λ k l u.
+    let no : eqb k at ≡ false = ne_eqb k at (λ e. omega (arith, e)) in rw no refl) in
+    sym (ap (λ n. map f (range_with_len reached n)) whole ∙ three f reached a 1 c
+    ∙ ap (λ r. map f (range_with_len reached a) ++ (map f (range_with_len r 1) ++ map f (range_with_len (r + 1) c)))
+    at_is
+    ∙ ap (λ r. r ++ (map f (range_with_len at 1) ++ map f (range_with_len (at + 1) c))) gap
+    ∙ ap (λ p. replicate a (glyph_of s.width 32) ++ ((p ∷ []) ++ map f (range_with_len (at + 1) c))) mine
+    ∙ ap (λ r. replicate a (glyph_of s.width 32) ++ (glyph_of s.width s.theme.characters.vbar ∷ r))
+    (rest ∙ sym (flat_lead s (at + 1) column ms h.1)))
+
+-- marks that are apart have anchors one behind the other
+apart-weaker : (a b : ℕ) (ms : List Mark) → b ≤ a → AreApart a ms → AreApart b ms
+apart-weaker a b [] le h = tt
+apart-weaker a b (m ∷ ms) le h = (omega (arith, h.0), h.1, h.2)
+
+pub anchored : (reached : ℕ) (earlier : List Mark) (m : Mark) (later : List Mark)
+    → AreApart reached (earlier ++ m ∷ later) → AreAnchored reached earlier m.anchor
+anchored reached [] m later h = omega (arith, h.0, h.1.0)
+anchored reached (e ∷ earlier) m later h = (
+  omega (arith, h.0, h.1.0),
+  anchored (e.anchor + 1) earlier m later (apart-weaker e.until (e.anchor + 1) (earlier ++ m ∷ later)
+      (omega (arith, h.1.1)) h.2),
+)
+
+flat_text : (s : SnippetSettings) (earlier : List Mark) (mark : Mark) (front part : List ℕ)
+    → AreAnchored 0 earlier mark.anchor →
+    glyphs_of (text_row s earlier mark front part) ≡ lead s earlier mark
+    ++ map (glyph_of s.width) (front ++ part)
+flat_text s earlier mark front part h =
+    let z : mark.anchor - 0 ≡ mark.anchor = omega arith in
+    glyphs_of-append (lead_runs s 0 earlier mark.anchor) (styled_run s.width mark.label.style (front ++ part) ∷ [])
+    ∙ ap (λ r. glyphs_of (lead_runs s 0 earlier mark.anchor) ++ r)
+    (append-nil (map (glyph_of s.width) (front ++ part)))
+    ∙ ap (λ r. r ++ map (glyph_of s.width) (front ++ part))
+    (flat_lead s 0 mark.anchor earlier h ∙ ap (λ n. map (lead_at s earlier) (range_with_len 0 n)) z)
+
+flat_rest : (s : SnippetSettings) (earlier : List Mark) (mark : Mark) (parts : List (List ℕ))
+    → AreAnchored 0 earlier mark.anchor →
+    map glyphs_of (map (text_row s earlier mark (beside s.theme.characters)) parts)
+    ≡ map (λ p. lead s earlier mark ++ (beside_pieces s ++ map (glyph_of s.width) p)) parts
+flat_rest s earlier mark [] h = refl
+flat_rest s earlier mark (part ∷ parts) h = ap (λ r. r
+    ∷ map glyphs_of (map (text_row s earlier mark (beside s.theme.characters)) parts))
+    (flat_text s earlier mark (beside s.theme.characters) part h) ∙ ap (λ r.
+    (lead s earlier mark ++ (beside_pieces s ++ map (glyph_of s.width) part)) ∷ r)
+    (flat_rest s earlier mark parts h)
+
+flat_parts : (s : SnippetSettings) (earlier : List Mark) (mark : Mark) (parts : List (List ℕ))
+    → AreAnchored 0 earlier mark.anchor →
+    map glyphs_of (rows_of_parts s earlier mark parts) ≡ plain_parts s earlier mark parts
+flat_parts s earlier mark [] h = refl
+flat_parts s earlier mark (part ∷ []) h = ap (λ r. r ∷ []) (flat_text s earlier mark (corner s.theme.characters) part h)
+flat_parts s earlier mark (part ∷ next ∷ parts) h =
+    ap (λ r. r ∷ map glyphs_of (map (text_row s earlier mark (beside s.theme.characters)) (next ∷ parts)))
+    (flat_text s earlier mark (corner_of_several s.theme.characters) part h)
+    ∙ ap (λ r. (lead s earlier mark ++ (corner_pieces s s.theme.characters.rcross ++ map (glyph_of s.width) part)) ∷ r)
+    (flat_rest s earlier mark (next ∷ parts) h)
+
+pub flat_below : (s : SnippetSettings) (earlier ms : List Mark) → AreApart 0 (earlier ++ ms)
+    → map glyphs_of (rows_below s earlier ms) ≡ plain_below s earlier ms
+flat_below s earlier [] h = refl
+flat_below s earlier (m ∷ ms) h =
+    map-append glyphs_of (rows_below s (earlier ++ m ∷ []) ms) (rows_of_parts s earlier m m.label.parts)
+    ∙ ap (λ r. r ++ map glyphs_of (rows_of_parts s earlier m m.label.parts))
+    (flat_below s (earlier ++ m ∷ []) ms (subst (λ (xs : List Mark). AreApart 0 xs)
+    (sym (append_assoc earlier (m ∷ []) ms)) h))
+    ∙ ap (λ r. plain_below s (earlier ++ m ∷ []) ms ++ r)
+    (flat_parts s earlier m m.label.parts (anchored 0 earlier m ms h))

@@ -1,0 +1,22 @@
+pub mod Apart
+pub mod Beneath
+pub mod Bleaching
+pub mod CleanTexts
+mod Columns
+pub mod CutEnds
+pub mod CutFading
+pub mod CutLaws
+pub mod CutMarks
+pub mod CutShows
+pub mod CutWidth
+pub mod EndLabels
+pub mod Flat
+pub mod HungTexts
+pub mod NearColumns
+pub mod Numerals
+pub mod PlainStyles
+pub mod PaleSnippets
+pub mod PlainSnippets
+pub mod Paling
+pub mod UnstyledRows
+pub mod Whole

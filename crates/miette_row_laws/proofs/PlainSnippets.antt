@@ -1,0 +1,73 @@
+-- All rows of snippets in their styles, and the same rows in plain ones.
+use Rattle.std.proofs.Common.{◌≡◌, Bool, true, false, ◌||◌, if◌then◌else◌, List, map, Option, Some, None, IfSome}
+use Rattle.std.proofs.Common.{option_map, refl, sym, ap, subst}
+use Rattle.std.specs.List.{AllByRecursion}
+use Rattle.miette_protocol.specs.views.Meaning.{Label}
+use Rattle.miette_protocol.specs.rules.Reading.{Source}
+use Rattle.miette_labels.specs.rules.Answers.{Answers}
+use Rattle.miette_labels.specs.rules.Groups.{Refusal, refusal, in_order, groups_of, some_fails, groups_fail}
+use Rattle.miette_page.specs.rules.Rows.{Row, glyphs_of}
+use Rattle.miette_style.specs.declared.style.Style.{Style}
+use Rattle.miette_style.specs.rules.Themes.{Styles}
+use Rattle.miette_snippet_rules.specs.rules.Folds.{spreads_of}
+use Rattle.miette_snippet_rules.specs.rules.Frames.{refused_row}
+use Rattle.miette_snippet_rules.specs.rules.Settings.{SnippetSettings}
+use Rattle.miette_snippet_rules.specs.rules.SnippetLayout.{settings_around, rows_unless, snippet_rows}
+use Rattle.miette_row_laws.specs.laws.Clean.{AreCleanDrawings, IsCleanLabel, IsCleanRow, IsCleanSource}
+use Rattle.miette_row_laws.specs.laws.Fading.{AreAllPlain, ArePlain, IsPlainRow, restyled, unhighlighted_answer}
+use Rattle.miette_row_laws.proofs.Bleaching.{ordered_clean}
+use Rattle.miette_row_laws.proofs.Paling.{PaleRows, rows_nil, rows_cons}
+use Rattle.miette_row_laws.proofs.PaleSnippets.{IsCleanRefusal, faded, pale_all, pale_refused, refusal_clean}
+use Rattle.miette_row_laws.proofs.PlainStyles.{are_faded}
+
+-- rows for rows, and none for none
+pub record PaleGiven (P : Type 0) (x y : Option (List Row)) : Type 0 where
+  pub same : option_map (map glyphs_of) x ≡ option_map (map glyphs_of) y
+  pub plain : IfSome x (AllByRecursion IsPlainRow)
+  pub clean : P → IfSome y (AllByRecursion IsCleanRow)
+
+given : {P : Type 0} {xs ys : List Row} → PaleRows P xs ys → PaleGiven P (Some xs) (Some ys)
+given h = record { same = ap Some h.same; plain = h.plain; clean = h.clean }
+
+given_unless : {P : Type 0} (b : Bool) {xs ys : List Row} → PaleRows P xs ys
+    → PaleGiven P (if b then None else Some xs) (if b then None else Some ys)
+given_unless true h = record { same = refl; plain = tt; clean = λ p. tt }
+given_unless false h = given h
+
+-- the rows of groups, with the lines of context with which they are read
+module _ (P : Type 0) (s : SnippetSettings) (hs : List Style) (bare : AreAllPlain hs)
+    (clean : P → AreCleanDrawings s.theme.characters) where
+  pale_unless : (source : Source) (labels : List Label) (answers : Answers) (refused : Option Refusal) →
+      (P → IsCleanSource source) → (P → AllByRecursion IsCleanLabel labels) → (P → IfSome refused IsCleanRefusal) →
+      PaleGiven P (rows_unless (faded hs s) source labels (unhighlighted_answer answers)
+      (option_map (refused_row (faded hs s)) refused))
+      (rows_unless s source labels answers (option_map (refused_row s) refused))
+  pale_unless source labels answers (Some refused) h k j =
+      given (rows_cons P (pale_refused P s hs bare clean refused j) (rows_nil P))
+  pale_unless source labels answers None h k j =
+      let groups = groups_of s.layout.context_lines source answers.join_fails labels in
+      given_unless (groups_fail s.layout.context_lines source answers.join_fails labels
+      || some_fails answers.place_fails groups)
+      (pale_all P (settings_around s labels) hs bare clean
+      (spreads_of s.layout.label_lines s.layout.context_lines source labels) source labels answers.pieces groups h k)
+
+  pale_snippets : (source : Source) (labels : List Label) (answers : Answers) → (P → IsCleanSource source)
+      → (P → AllByRecursion IsCleanLabel labels) →
+      PaleGiven P (snippet_rows (faded hs s) source labels (unhighlighted_answer answers))
+      (snippet_rows s source labels answers)
+  pale_snippets source labels answers h k =
+      pale_unless source (in_order labels) answers (refusal source.bytes answers.label_fails (in_order labels)) h
+      (λ p. ordered_clean labels (k p))
+      (λ p. refusal_clean P s hs bare clean source.bytes answers.label_fails (in_order labels)
+      (ordered_clean labels (k p)))
+
+-- the same in any plain styles
+pub plain_snippets : (P : Type 0) (s : SnippetSettings) (styles : Styles) → ArePlain styles
+    → (P → AreCleanDrawings s.theme.characters) → (source : Source) (labels : List Label) (answers : Answers)
+    → (P → IsCleanSource source) → (P → AllByRecursion IsCleanLabel labels)
+    → PaleGiven P (snippet_rows (restyled s styles) source labels (unhighlighted_answer answers))
+    (snippet_rows s source labels answers)
+plain_snippets P s styles bare clean source labels answers h k =
+    subst (λ u. PaleGiven P (snippet_rows (restyled s u) source labels (unhighlighted_answer answers))
+    (snippet_rows s source labels answers)) (sym (are_faded styles bare))
+    (pale_snippets P s styles.highlights bare.highlights clean source labels answers h k)

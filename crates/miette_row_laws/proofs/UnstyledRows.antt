@@ -1,0 +1,40 @@
+-- The rows under a line by columns, without styles.
+use Rattle.std.proofs.Common.{ℕ, List, [], ◌∷◌, ◌++◌, map, cond, eqb}
+use Rattle.std.specs.List.{range_with_len}
+use Rattle.miette_page.specs.rules.Rows.{Glyph, glyph_of}
+use Rattle.miette_snippet_rules.specs.rules.Marks.{Mark}
+use Rattle.miette_row_laws.specs.laws.Pictures.{mark_at, marks_end}
+use Rattle.miette_snippet_rules.specs.rules.Settings.{SnippetSettings}
+
+abbrev pub mark_row : SnippetSettings → List Mark → List Glyph
+mark_row s marks = map (mark_at s marks) (range_with_len 0 (marks_end 0 marks))
+
+abbrev pub lead_at : SnippetSettings → List Mark → ℕ → Glyph
+lead_at s [] column = glyph_of s.width 32
+lead_at s (mark ∷ marks) column = cond (eqb column mark.anchor) (glyph_of s.width s.theme.characters.vbar)
+    (lead_at s marks column)
+
+abbrev pub lead : SnippetSettings → List Mark → Mark → List Glyph
+lead s earlier mark = map (lead_at s earlier) (range_with_len 0 mark.anchor)
+
+abbrev pub corner_pieces : SnippetSettings → ℕ → List Glyph
+corner_pieces s third = glyph_of s.width s.theme.characters.lbot ∷ glyph_of s.width s.theme.characters.hbar
+    ∷ glyph_of s.width third ∷ glyph_of s.width 32
+    ∷ []
+
+abbrev pub beside_pieces : SnippetSettings → List Glyph
+beside_pieces s = glyph_of s.width 32 ∷ glyph_of s.width 32 ∷ glyph_of s.width s.theme.characters.vbar
+    ∷ glyph_of s.width 32 ∷ []
+
+abbrev pub plain_parts : SnippetSettings → List Mark → Mark → List (List ℕ) → List (List Glyph)
+plain_parts s earlier mark [] = []
+plain_parts s earlier mark (part ∷ []) = (lead s earlier mark
+    ++ (corner_pieces s s.theme.characters.hbar ++ map (glyph_of s.width) part)) ∷ []
+plain_parts s earlier mark (part ∷ next ∷ parts) =
+    (lead s earlier mark ++ (corner_pieces s s.theme.characters.rcross ++ map (glyph_of s.width) part))
+    ∷ map (λ p. lead s earlier mark ++ (beside_pieces s ++ map (glyph_of s.width) p)) (next ∷ parts)
+
+abbrev pub plain_below : SnippetSettings → List Mark → List Mark → List (List Glyph)
+plain_below s earlier [] = []
+plain_below s earlier (mark ∷ marks) = plain_below s (earlier ++ mark ∷ []) marks
+    ++ plain_parts s earlier mark mark.label.parts

@@ -1,0 +1,6 @@
+-- What holds of the rules.
+pub mod Clean
+pub mod Cuts
+pub mod Ends
+pub mod Fading
+pub mod Pictures

@@ -1,0 +1,152 @@
+//! What holds of the rows of snippets, as laws of their definitions: marks, texts, cuts, colours.
+
+ghost use Rattle.std.specs.Prelude.{◌≡◌, ◌≢◌, ◌≤◌, ℕ, List, ◌∷◌, [], Some, None, Bool, true, false, map};
+ghost use Rattle.std.specs.Prelude.{length};
+ghost use Rattle.std.specs.Prelude.{IfSome, ◌<◌};
+ghost use Rattle.std.specs.Option.{option_map};
+ghost use Rattle.std.specs.List.{AllByRecursion};
+ghost use Rattle.miette_protocol.specs.views.Meaning.{Label};
+ghost use Rattle.miette_protocol.specs.rules.Reading.{Source, Contents};
+ghost use Rattle.miette_row_laws.specs.laws.Clean.{AreCleanDrawings, IsCleanLabel, IsCleanRow, IsCleanSource};
+ghost use Rattle.miette_row_laws.specs.laws.Ends.{AreBehindShown, AreBehindText, EndsStandBehind, draws_ends};
+ghost use Rattle.miette_row_laws.specs.laws.Ends.{with_ends};
+ghost use Rattle.miette_row_laws.specs.laws.Cuts.{AreAsWide, AreStretches, Fits, IsWithin, by_nearness, by_stretch};
+ghost use Rattle.miette_row_laws.specs.laws.Cuts.{AreMoved, IsSameAt, is_shown_at, most_columns, pieces_shown};
+ghost use Rattle.miette_row_laws.specs.laws.Fading.{ArePlain, IsPlainRow, restyled, unhighlighted_answer};
+ghost use Rattle.miette_style.specs.rules.Themes.{Styles};
+ghost use Rattle.miette_page.specs.rules.Rows.{columns_of, glyphs_of};
+ghost use Rattle.miette_labels.specs.rules.Answers.{Answers, Highlight};
+ghost use Rattle.miette_labels.specs.rules.Labels.{DrawnLabel, some_shows_end, one_line};
+ghost use Rattle.miette_snippet_rules.specs.rules.Marks.{Text, marks, marks_at, AreApart};
+ghost use Rattle.miette_source_lines.specs.rules.Lines.{Line};
+ghost use Rattle.miette_cells.specs.rules.Cells.{Cell};
+ghost use Rattle.miette_labels.specs.rules.Contexts.{lines_of_contents};
+ghost use Rattle.miette_snippet_rules.specs.rules.CutLines.{Stretch, cut_runs, is_within, row_column};
+ghost use Rattle.miette_snippet_rules.specs.rules.CutLines.{stretches};
+ghost use Rattle.miette_snippet_rules.specs.rules.PrintedCells.{cells_width};
+ghost use Rattle.miette_snippet_rules.specs.rules.Drawing.{IsNarrow};
+ghost use Rattle.miette_snippet_rules.specs.rules.Folds.{Spread};
+ghost use Rattle.miette_snippet_rules.specs.rules.Settings.{SnippetSettings};
+ghost use Rattle.miette_snippet_rules.specs.rules.SnippetLayout.{snippet_rows, body_rows, cells_of, line_cut};
+ghost use Rattle.miette_snippet_rules.specs.rules.SnippetLayout.{line_marks};
+ghost use Rattle.miette_row_laws.specs.laws.Pictures.{BodyShows, marks_of_line, text_of_line};
+
+/// The marks of a line's labels are not empty, and each begins where the one before it ends, or later. So an anchor
+/// lies in its own mark and in no other. The same holds of the marks in a line's row, where it may be cut.
+pub fn marks_are_apart()
+    ensures apart { (text : Text) (labels : List DrawnLabel) → AreApart 0 (marks text labels) }
+    ensures anchors { (text : Text) (labels : List DrawnLabel) →
+        AllByRecursion (λ mark. marks_at mark.anchor (marks text labels) ≡ mark ∷ []) (marks text labels) }
+    ensures row { (s : SnippetSettings) (labels : List DrawnLabel) (source : List ℕ) (line : Line) →
+        AreApart 0 (marks_of_line s labels line (cells_of s source line)) }
+    ensures row_anchors { (s : SnippetSettings) (labels : List DrawnLabel) (source : List ℕ) (line : Line) →
+        AllByRecursion (λ mark. marks_at mark.anchor (marks_of_line s labels line (cells_of s source line)) ≡ mark ∷ [])
+        (marks_of_line s labels line (cells_of s source line)) }
+{}
+
+/// The stretches of a line that is cut have its cells, each once and in order, in a stretch that is near where the cell
+/// is; no stretch is empty, and of two that follow one another one is near. A cell that has columns is within so many
+/// columns of an end where one of its own columns is. Of each stretch that is near or at most three columns wide all
+/// cells are printed, and three dots in place of each other one.
+pub fn cut_lines_are_parted()
+    ensures cells { (near : Cell → Bool) (cells : List Cell) →
+        by_stretch (stretches near false cells) ≡ by_nearness near false cells }
+    ensures parted { (near : Cell → Bool) (cells : List Cell) → AreStretches (stretches near false cells) }
+    ensures within { (reach : ℕ) (cell : Cell) (column : ℕ) → cell.from < cell.until →
+        (is_within reach cell column ≡ true → IsWithin reach cell column)
+        × (IsWithin reach cell column → is_within reach cell column ≡ true) }
+    ensures printed { (pieces : List Highlight) (cut : List Stretch) →
+        glyphs_of (cut_runs pieces 0 cut) ≡ pieces_shown cut }
+{}
+
+/// Where there is a limit, each line with more columns is cut (`wide`); none is that has no more, or where there is no
+/// limit (`fits`).
+pub fn wide_lines_are_cut()
+    ensures wide { (s : SnippetSettings) (labels : List DrawnLabel) (source : List ℕ) (line : Line) (limit : ℕ) →
+        s.layout.line_columns ≡ Some limit → limit < cells_width 0 (cells_of s source line) →
+        line_cut s line (cells_of s source line) (one_line line labels) ≢ None }
+    ensures fits { (s : SnippetSettings) (labels : List DrawnLabel) (source : List ℕ) (line : Line) →
+        Fits s.layout.line_columns (cells_of s source line) →
+        line_cut s line (cells_of s source line) (one_line line labels) ≡ None }
+{}
+
+/// In the row of a line that is cut, at the column to which one that is shown is moved, stands what stands at that one
+/// in the whole line; behind the text it is as far behind (`columns`). So under the line's marks stand their own
+/// characters: at the first column of each, its anchor, its last column, and each column of it that is shown (`marks`).
+pub fn marks_stand_on_their_characters()
+    ensures columns { (near : Cell → Bool) (cells : List Cell) (column : ℕ) →
+        is_shown_at (stretches near false cells) column ≡ true →
+        IsSameAt cells (stretches near false cells) column (row_column (stretches near false cells) column) }
+    ensures marks { (s : SnippetSettings) (labels : List DrawnLabel) (source : List ℕ) (line : Line)
+        (cut : List Stretch) → line_cut s line (cells_of s source line) (one_line line labels) ≡ Some cut →
+        AreMoved (cells_of s source line) cut (line_marks line (cells_of s source line) (one_line line labels))
+        (marks_of_line s labels line (cells_of s source line)) }
+{}
+
+/// Where there is a limit, the columns of a line's text in its row are bounded by it, the number of labels that lie on
+/// the line alone, and the widest cell of the line. The bound is reached: without labels by a line that has a widest
+/// cell in its last column within the limit, and more than three columns behind that; with labels by a line on which
+/// they are far from its ends and one another, and of so many columns that their anchors are far from their ends, where
+/// the limit is at least four, or the widest cell has one column: each end then has a widest cell on the first column
+/// of its reach, and one on the last, and dots stand between.
+pub fn cut_rows_are_narrow()
+    ensures { (s : SnippetSettings) (labels : List DrawnLabel) (source : List ℕ) (line : Line)
+        (pieces : List Highlight) (limit widest : ℕ) → s.layout.line_columns ≡ Some limit →
+        AreAsWide widest (cells_of s source line) →
+        columns_of (glyphs_of (text_of_line s labels line (cells_of s source line) pieces))
+        ≤ most_columns limit (length (one_line line labels)) widest }
+{}
+
+/// Where no line of a snippet has more columns than the limit, its rows are those without a limit.
+pub fn lines_that_fit_stay()
+    ensures { (s : SnippetSettings) (spreads : List Spread) (labels : List DrawnLabel) (source : List ℕ)
+        (read : Contents) (pieces : List (List Highlight)) →
+        AllByRecursion (λ line. Fits s.layout.line_columns (cells_of s source line)) (lines_of_contents read) →
+        body_rows s spreads labels source read pieces
+        ≡ body_rows (record s { layout = record s.layout { line_columns = None } }) spreads labels source read pieces }
+{}
+
+/// Where the labels at the end of a source are drawn, and one of them has a line of context, just these labels stand
+/// behind the text of the last line, each as an empty label that lies on that line alone; its mark begins in the column
+/// after the text, in its row in the one after what is shown of it, or where the mark before it ends, if that is later.
+/// Where none of them has one, or no label is at the end, or the source is empty, the rows are those of before.
+pub fn ends_are_drawn()
+    ensures lines { (s : SnippetSettings) (bytes : List ℕ) (labels : List Label) →
+        draws_ends s (length bytes) labels ≡ true → EndsStandBehind s bytes labels }
+    ensures marks { (text : Text) (labels : List DrawnLabel) → AreBehindText text labels }
+    ensures row { (s : SnippetSettings) (labels : List DrawnLabel) (source : List ℕ) (line : Line)
+        (pieces : List Highlight) → AreBehindShown s labels line (cells_of s source line) pieces }
+    ensures others { (ends : Bool) (s : SnippetSettings) (source : Source) (labels : List Label) (answers : Answers) →
+        some_shows_end s.layout.context_lines (length source.bytes) labels ≡ false →
+        snippet_rows (with_ends ends s) source labels answers
+        ≡ snippet_rows (with_ends false s) source labels answers }
+{}
+
+/// In the rows of each line of a snippet the text begins at one column, the mark row has the marks in their columns
+/// counted from there, and each text hangs from its own mark's anchor.
+pub fn texts_hang()
+    ensures { (s : SnippetSettings) (labels : List DrawnLabel) (source : List ℕ) (read : Contents)
+        (pieces : List (List Highlight)) →
+        IsNarrow s.width s.theme.characters → BodyShows s labels source read pieces }
+{}
+
+/// In plain styles, with any number of highlights, and without a highlighter's pieces the snippets have the same rows
+/// of the same characters in the same columns, and all of them are plain.
+pub fn rows_fade()
+    ensures same { (s : SnippetSettings) (styles : Styles) (source : Source) (labels : List Label)
+        (answers : Answers) → ArePlain styles →
+        option_map (map glyphs_of) (snippet_rows (restyled s styles) source labels (unhighlighted_answer answers))
+        ≡ option_map (map glyphs_of) (snippet_rows s source labels answers) }
+    ensures plain { (s : SnippetSettings) (styles : Styles) (source : Source) (labels : List Label)
+        (answers : Answers) → ArePlain styles →
+        IfSome (snippet_rows (restyled s styles) source labels (unhighlighted_answer answers))
+        (AllByRecursion IsPlainRow) }
+{}
+
+/// Where the characters that are drawn, the source's name and bytes, and the labels' texts hold no escape, the rows
+/// of the snippets hold none, whatever the reads and a highlighter answer.
+pub fn rows_hold_no_escape()
+    ensures { (s : SnippetSettings) (source : Source) (labels : List Label) (answers : Answers) →
+        AreCleanDrawings s.theme.characters → IsCleanSource source → AllByRecursion IsCleanLabel labels →
+        IfSome (snippet_rows s source labels answers) (AllByRecursion IsCleanRow) }
+{}

@@ -1,0 +1,4 @@
+//! What holds of the rows of snippets.
+#![tactic(auto)]
+
+pub mod laws;

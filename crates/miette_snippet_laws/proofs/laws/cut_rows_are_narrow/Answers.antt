@@ -1,5 +1,0 @@
-use Rattle.miette_snippet_laws.proofs.CutLaws.{rows_narrow}
-use Rattle.miette_snippet_laws.proofs.laws.cut_rows_are_narrow.Goals as goal
-
-pub returns : goal.returns
-returns c = rows_narrow

@@ -1,4 +1,0 @@
-//! What holds of the rules of snippets.
-#![tactic(auto)]
-
-pub mod laws;
