@@ -1,4 +1,3 @@
-pub mod ReadRows
 pub mod LineRows
 pub mod LeftOutRows
 pub mod HighlightedPieces

@@ -4,3 +4,4 @@ pub mod GutterRows
 pub mod TextLines
 pub mod MarkRows
 pub mod TextRows
+pub mod ReadRows

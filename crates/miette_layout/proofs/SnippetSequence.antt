@@ -36,7 +36,7 @@ use Rattle.miette_snippet_rules.specs.rules.Highlighting.{group_calls}
 use Rattle.miette_labels.specs.rules.Labels.{DrawnLabel, drawn_from, some_shows_end}
 use Rattle.miette_snippet_rules.specs.rules.SnippetLayout.{snippet, all_snippets, drawn_labels, line_or_break, left_out}
 use Rattle.miette_snippet_rules.specs.rules.SnippetLayout.{settings_around, rows_unless, place_of, body_rows}
-use Rattle.miette_drawing.specs.views.SnippetRows.{cells_in, lent_snippet, PutsRows}
+use Rattle.miette_frames.specs.views.LentRows.{cells_in, lent_snippet, PutsRows}
 use Rattle.miette_labels.specs.views.Placing.{told_end, placed_of, placed_from}
 use Rattle.miette_labels.specs.views.Primary.{chosen_label, PointsTo, is_unread}
 use Rattle.miette_labels.specs.views.Reads.{IsRead, IsLent, AreGroups, AreGrouped, IsUnread, AreRead, name_of}
@@ -48,7 +48,7 @@ use Rattle.miette_snippet_rules.proofs.LabelEnds.{placed_drawn}
 use Rattle.miette_snippet_rules.proofs.SourceEnd.{told_is, drawn_around}
 use Rattle.miette_drawing.proofs.HighlightedPieces.{snippets_plain, calls_plain}
 use Rattle.miette_labels.specs.views.Sweeping.{AreSorted}
-use Rattle.miette_drawing.proofs.ReadRows.{placed_sorted, lent_body, lent_texts, lent_texts_are}
+use Rattle.miette_frames.proofs.ReadRows.{placed_sorted, lent_body, lent_texts, lent_texts_are}
 use Rattle.miette_snippet_rules.proofs.RowTokens.{told_rows-append}
 use Rattle.miette_snippet_rules.proofs.NoPieces.{none_have}
 use Rattle.miette_labels.proofs.OwnContexts.{own_ordered}

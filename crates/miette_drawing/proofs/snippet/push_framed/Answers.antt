@@ -7,7 +7,7 @@ use Rattle.miette_labels.specs.views.Sweeping.{IsAt}
 use Rattle.miette_snippet_rules.specs.views.SettingsView.{settings_of}
 use Rattle.miette_snippet_rules.specs.rules.Highlighting.{leaves_plain, follows}
 use Rattle.miette_highlight.specs.rules.HighlighterCalls.{Call, Leads}
-use Rattle.miette_drawing.proofs.ReadRows.{told_lent}
+use Rattle.miette_frames.proofs.ReadRows.{told_lent}
 use Rattle.miette_drawing.proofs.snippet.push_framed.Goals as goal
 
 pub extent_of-requires-clause-at : goal.extent_of-requires-clause-at

@@ -9,7 +9,7 @@ use Rattle.miette_snippet_rules.specs.rules.SnippetLayout.{left_out}
 use Rattle.miette_source_lines.specs.rules.Lines.{Line, lines_from}
 use Rattle.miette_folds.specs.declared.folds.LineStart.{LineStart}
 use Rattle.miette_folds.specs.views.Spreads.{spread_of}
-use Rattle.miette_drawing.specs.views.SnippetRows.{text_in}
+use Rattle.miette_frames.specs.views.LentRows.{text_in}
 use Rattle.miette_folds.specs.views.Gaps.{next_line}
 use Rattle.miette_source_lines.specs.views.Walking.{line_of_text}
 use Rattle.miette_labels.specs.views.Sweeping.{IsAt}
@@ -20,7 +20,7 @@ use Rattle.miette_folds.proofs.Starts.{Begins, begins_first, begins_next, begins
 use Rattle.miette_folds.proofs.GapLines.{IsBetween, next_begins, next_further, next_outs}
 use Rattle.miette_drawing.proofs.LeftOutRows.{lines_run}
 use Rattle.miette_folds.proofs.LineExtent.{not_jumped}
-use Rattle.miette_drawing.proofs.ReadRows.{AreLined, lines_first, lines_more, lines_all, text_fits}
+use Rattle.miette_frames.proofs.ReadRows.{AreLined, lines_first, lines_more, lines_all, text_fits}
 use Rattle.miette_drawing.proofs.snippet.push_lines.Goals as goal
 
 pub loop-at-init : goal.loop-at-init

@@ -6,7 +6,7 @@ use Rattle.miette_snippet_rules.specs.rules.SnippetLayout.{left_out}
 use Rattle.miette_folds.specs.views.Spreads.{spread_of}
 use Rattle.miette_snippet_rules.specs.rules.Highlighting.{leaves_plain, follows}
 use Rattle.miette_labels.specs.views.Sweeping.{IsAt}
-use Rattle.miette_drawing.proofs.ReadRows.{AreLined}
+use Rattle.miette_frames.proofs.ReadRows.{AreLined}
 use Rattle.miette_folds.proofs.Starts.{Begins}
 use Rattle.miette_drawing.proofs.snippet.push_lines.Given as goal
 

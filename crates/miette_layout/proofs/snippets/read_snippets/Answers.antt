@@ -13,11 +13,11 @@ use Rattle.miette_snippet_rules.specs.rules.SnippetLayout.{settings_around}
 use Rattle.miette_snippet_rules.specs.views.SettingsView.{settings_of}
 use Rattle.miette_labels.specs.views.GivenLabels.{drawn_of}
 use Rattle.miette_snippet_rules.specs.rules.Highlighting.{leaves_plain, follows}
-use Rattle.miette_drawing.specs.views.SnippetRows.{PutsRows, lent_snippet}
+use Rattle.miette_frames.specs.views.LentRows.{PutsRows, lent_snippet}
 use Rattle.miette_labels.specs.views.Placing.{placed_of, placed_from}
 use Rattle.miette_labels.specs.views.Primary.{PointsTo}
 use Rattle.miette_labels.proofs.GroupsOfReads.{are_grouped}
-use Rattle.miette_drawing.proofs.ReadRows.{lent_texts}
+use Rattle.miette_frames.proofs.ReadRows.{lent_texts}
 use Rattle.miette_highlight.specs.rules.HighlighterCalls.{Call, Leads, restarted}
 use Rattle.miette_labels.proofs.GroupsOfReads.{reads_rise}
 use Rattle.miette_folds.proofs.LineNumbers.{are_numbered}

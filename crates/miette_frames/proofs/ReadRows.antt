@@ -34,8 +34,8 @@ use Rattle.miette_snippet_rules.specs.rules.SnippetLayout.{cells_of, line_or_bre
 use Rattle.miette_snippet_rules.specs.rules.SnippetLayout.{left_out, body_rows}
 use Rattle.miette_snippet_rules.specs.rules.Highlighting.{EachHasPieces, ArePieces, decoded_text, texts_of, line_calls}
 use Rattle.miette_snippet_rules.specs.rules.Highlighting.{piece_of}
-use Rattle.miette_drawing.specs.views.SnippetRows.{cells_in, text_in, texts_in, lent_snippet, PutsRows}
-use Rattle.miette_drawing.specs.steps.Widths.{width_of_count, gutter_of}
+use Rattle.miette_frames.specs.views.LentRows.{cells_in, text_in, texts_in, lent_snippet, PutsRows}
+use Rattle.miette_frames.specs.views.Widths.{width_of_count, gutter_of}
 use Rattle.miette_labels.specs.views.Placing.{Placed, placed_of, placed_one, placed_from}
 use Rattle.miette_labels.specs.views.Placing.{end_drawn, is_told}
 use Rattle.miette_labels.specs.views.Reads.{IsRead}

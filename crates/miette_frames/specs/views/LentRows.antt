@@ -1,0 +1,50 @@
+-- The rows of a snippet from what its read lent, where nothing is known of the source beyond.
+use Rattle.std.specs.Prelude.{ℕ, ◌+◌, ◌-◌, ◌≡◌, Bool, List, [], ◌∷◌, ◌++◌, map}
+use Rattle.std.specs.Prelude.{slice_range, Option, false}
+use Rattle.miette_source_lines.specs.rules.Lines.{Line}
+use Rattle.miette_protocol.specs.rules.Reading.{Contents}
+use Rattle.miette_highlight.specs.rules.HighlighterCalls.{Call}
+use Rattle.miette_page.specs.rules.Rows.{Row}
+use Rattle.miette_labels.specs.rules.Answers.{Highlight}
+use Rattle.miette_cells.specs.rules.Cells.{Cell, characters, cells_from}
+use Rattle.miette_labels.specs.rules.Contexts.{lines_of_contents}
+use Rattle.miette_snippet_rules.specs.rules.Folds.{Spread}
+use Rattle.miette_snippet_rules.specs.rules.Frames.{Place, top_row, bottom_row, number_width}
+use Rattle.miette_snippet_rules.specs.rules.Gutters.{gutter_columns}
+use Rattle.miette_snippet_rules.specs.rules.Highlighting.{decoded_text, EachHasPieces, line_calls}
+use Rattle.miette_labels.specs.rules.Labels.{DrawnLabel}
+use Rattle.miette_snippet_rules.specs.rules.SnippetLayout.{left_out, rows_of_lines, snippet_context}
+use Rattle.miette_page.specs.views.Printouts.{Printout, ◌⊕◌}
+use Rattle.miette_page.specs.views.Tokens.{rows_tokens}
+use Rattle.miette_snippet_rules.specs.rules.Settings.{SnippetSettings}
+
+-- the bytes of a line's text, in bytes that begin at an offset
+abbrev pub text_in : ℕ → List ℕ → Line → List ℕ
+text_in start bytes line = slice_range bytes (line.start - start) (line.text_end - start)
+
+-- its cells
+abbrev pub cells_in : SnippetSettings → ℕ → List ℕ → Line → List Cell
+cells_in s start bytes line = cells_from s.width s.layout.tab_width false line.start 0
+    (characters (text_in start bytes line))
+
+-- the lines' texts as a highlighter is given them
+abbrev pub texts_in : ℕ → List ℕ → List Line → List (List ℕ)
+texts_in start bytes lines = map (λ line. decoded_text (text_in start bytes line)) lines
+
+-- the rows of a snippet, with its frame
+abbrev pub lent_snippet : SnippetSettings → List Spread → List DrawnLabel → Contents → Option Place → List (List
+    Highlight) → List Row
+lent_snippet s spreads drawn lent place pieces =
+    top_row s lent place
+    ∷ rows_of_lines (left_out s lent.line (lines_of_contents lent) spreads) false
+    (snippet_context s (number_width lent) (gutter_columns drawn (lines_of_contents lent)) drawn
+    (cells_in s lent.span.offset lent.bytes)) (lent.line + 1) pieces (lines_of_contents lent)
+    ++ bottom_row s (number_width lent) ∷ []
+
+-- A page has got rows with some pieces, which a highlighter answered for these texts by calls that happen.
+pub record PutsRows (blank : Bool) (happen : List Call → Type 0) (texts : List (List ℕ))
+    (rows : List (List Highlight) → List Row) (before after : Printout) : Type 0 where
+  pub pieces : List (List Highlight)
+  pub are : EachHasPieces blank texts pieces
+  pub calls : happen (line_calls texts pieces)
+  pub is : after ≡ before ⊕ rows_tokens (rows pieces)
