@@ -10,7 +10,7 @@ use Rattle.miette_graphical.specs.laws.Holding.{Arrow, EndsRow, HoldsUnder, Stan
 use Rattle.miette_graphical.specs.rules.DiagnosticText.{line_feed, under_arrow}
 use Rattle.miette_graphical.specs.rules.Settings.{Settings}
 use Rattle.miette_graphical.proofs.Arrows.{inner-stand}
-use Rattle.miette_graphical.proofs.Feeds.{seen-behind, tokens-fed}
+use Rattle.miette_text.proofs.Feeds.{seen-behind, tokens-fed}
 use Rattle.miette_graphical.proofs.Rows.{IsEnded, ended-rows, within-stands}
 
 -- ---- rows one after the other

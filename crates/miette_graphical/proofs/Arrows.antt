@@ -8,8 +8,8 @@ use Rattle.miette_runs.specs.rules.Sequences.{tokens}
 use Rattle.miette_graphical.specs.laws.FittingRows.{bare_row, fed_rows}
 use Rattle.miette_text.specs.rules.Wrapping.{Plan}
 use Rattle.miette_text.specs.views.Plans.{cuts_hyphens}
-use Rattle.miette_graphical.proofs.Feeds.{leading-kept, seen-behind, trailing-kept}
-use Rattle.miette_graphical.proofs.FittingRows.{first-wrapped, rows-wrapped}
+use Rattle.miette_text.proofs.Feeds.{leading-kept, seen-behind, trailing-kept}
+use Rattle.miette_text.proofs.FittingRows.{first-wrapped, rows-wrapped}
 use Rattle.miette_graphical.specs.rules.DiagnosticText.{line_feed, rows_text}
 use Rattle.miette_graphical.specs.rules.Indents.{arrow_indent, stem_indent}
 use Rattle.miette_graphical.specs.rules.Settings.{Settings}

@@ -25,7 +25,7 @@ use Rattle.miette_graphical.specs.laws.Levels.{AreAmong, FitLevels, HoldsLevels,
 use Rattle.miette_graphical.specs.laws.Levels.{ends_related, settings_under}
 use Rattle.miette_graphical.proofs.ArrowRows.{IsSeen, fed-append, fed-ends, grouped, seen-above, seen-before, seen-below}
 use Rattle.miette_graphical.proofs.Arrows.{arrow_plan, left-by, printed-rows}
-use Rattle.miette_graphical.proofs.FittingRows.{IsBehind, rows-wrapped}
+use Rattle.miette_text.proofs.FittingRows.{IsBehind, rows-wrapped}
 use Rattle.miette_graphical.proofs.Rows.{bytes-stand, within-stands}
 
 -- ---- indents are to be seen, whatever stands behind them

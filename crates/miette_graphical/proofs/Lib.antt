@@ -23,8 +23,6 @@ pub mod RenderedBytes
 pub mod Stateless
 pub mod Rows
 pub mod Holding
-pub mod Feeds
-pub mod FittingRows
 pub mod Arrows
 pub mod ArrowRows
 pub mod Levels

@@ -29,3 +29,5 @@ pub mod InterleavedLines
 pub mod SingleRows
 pub mod Fitting
 pub mod WordLaws
+pub mod Feeds
+pub mod FittingRows

@@ -1,3 +1,4 @@
 -- What holds of the rules.
 pub mod FilledRows
+pub mod FittingRows
 pub mod Tame

@@ -13,7 +13,7 @@ use Rattle.miette_runs.specs.rules.Sequences.{Token, Character, Sequence, is_lin
 use Rattle.miette_runs.specs.rules.Sequences.{tokens_behind}
 use Rattle.miette_runs.proofs.Appending.{spell-append}
 use Rattle.miette_runs.proofs.Tokens.{spell-tokens}
-use Rattle.miette_graphical.specs.laws.FittingRows.{FitsRow, bare_row, fed_rows, indented_rows, is_row}
+use Rattle.miette_text.specs.laws.FittingRows.{FitsRow, bare_row, fed_rows, indented_rows, is_row}
 use Rattle.miette_text.specs.rules.Wrapping.{Cuts, Plan, TextLine, Word, cell_tokens, columns, cut_words, cuts_of}
 use Rattle.miette_text.specs.rules.Wrapping.{filled_text, first_room, further_room, is_space, joined_rows, line_feed}
 use Rattle.miette_text.specs.rules.Wrapping.{map_indents, no_characters, on_first, only_spaces, row_tokens, rows}
@@ -21,7 +21,7 @@ use Rattle.miette_text.specs.rules.Wrapping.{rows_behind, word_cells}
 use Rattle.miette_text.specs.rules.Wrapping.{text_line_rows, text_line_tokens, text_lines, text_rows, trimmed_row}
 use Rattle.miette_text.specs.rules.Wrapping.{whole_lines, with_code, with_rest, with_tag, wrapped_text}
 use Rattle.miette_text.specs.steps.Ends.{row_cells}
-use Rattle.miette_graphical.proofs.Feeds.{first_token, lines, lines-fed}
+use Rattle.miette_text.proofs.Feeds.{first_token, lines, lines-fed}
 use Rattle.miette_text.proofs.LineWise.{pieces-some, rows-some}
 use Rattle.miette_text.proofs.TameResults.{cut_words-flat}
 
