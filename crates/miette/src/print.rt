@@ -1,6 +1,6 @@
 //! Reports on standard output and standard error, and the status that a program ends with.
 
-ghost use Rattle.std.specs.Prelude.{◌≡◌, ◌⊎◌, IfOk, OnOk, OnErr};
+ghost use Rattle.std.specs.Prelude.{◌≡◌, ◌⊎◌, [], IfOk, OnOk, OnErr};
 ghost use Rattle.std.specs.Io.KnownBytes.{Appends};
 ghost use Rattle.std.specs.Process.{exit_status};
 ghost use Rattle.miette_tree.specs.views.Report.{tree_of};
@@ -229,6 +229,8 @@ pub fn write_report<T: ReportHandler, D: Diagnostic, S: SourceCode, W: Write>(
     writer: &mut W,
 ) -> Result<(), PrintError>
     ensures ok { OnOk result (WritesOne (T.gives handler.old (tree_of D.meaning S.source report.now))
+        (W.contents writer.old) (W.contents writer.new)) }
+    ensures asks { OnOk result (WritesOne (T.asks handler.old handler.new (tree_of D.meaning S.source report.now) [])
         (W.contents writer.old) (W.contents writer.new)) }
     ensures refused { (result ≡ Err PrintError.Refused) →
         T.refuses handler.old (tree_of D.meaning S.source report.now) }

@@ -1,11 +1,12 @@
--- What each handler may give, refuse and keep: what the one that was chosen does.
+-- What each handler may give, refuse, keep and ask of a highlighter: what the one that was chosen does.
 use Rattle.std.specs.Prelude.{◌≡◌, ℕ, Bool, List, false}
 use Rattle.miette_tree.specs.rules.Tree.{Tree}
 use Rattle.miette_tree.specs.rules.Reads.{report_accepted}
 use Rattle.miette_brief.specs.rules.PossibleAnswers as brief
 use Rattle.miette_narrated.specs.rules.PossibleAnswers.{IsNarrated}
-use Rattle.miette_graphical.specs.rules.PossibleAnswers.{IsTextOf}
-use Rattle.miette_graphical.specs.views.Handling.{draws_plain}
+use Rattle.miette_graphical.specs.rules.PossibleAnswers.{IsAskedText, IsTextOf}
+use Rattle.miette_graphical.specs.views.Handling.{AreCallsOf, draws_plain}
+use Rattle.miette_highlight.specs.rules.HighlighterCalls.{Call}
 use Rattle.miette_graphical.specs.rules.PrintedDiagnostics.{all_read, diagnostics_of}
 use Rattle.miette_graphical.specs.rules.Snippets.{drawn_rows}
 use Rattle.miette.specs.declared.options.handler.MietteHandler.{MietteHandler}
@@ -33,3 +34,18 @@ Keeps is_blank (Narrated old) (Graphical new) = ⊥
 Keeps is_blank (Narrated old) (Brief new) = ⊥
 Keeps is_blank (Brief old) (Graphical new) = ⊥
 Keeps is_blank (Brief old) (Narrated new) = ⊥
+
+-- One of the texts, of a graphical handler by answers that its highlighter gave by these calls: those that bring it from
+-- its state before to its state after.
+abbrev pub Asks : {H : Type 0} → (H → Bool) → (H → List Call → Type 0) → MietteHandler H → MietteHandler H → Tree
+    → List ℕ → Type 0
+Asks is_blank may_follow (Graphical old) (Graphical new) t text =
+    IsAskedText drawn_rows old.settings (draws_plain is_blank old) (AreCallsOf may_follow old new) t text
+Asks is_blank may_follow (Narrated old) (Narrated new) t text = IsNarrated old t text
+Asks is_blank may_follow (Brief old) (Brief new) t text = brief.IsBrief old t text
+Asks is_blank may_follow (Graphical old) (Narrated new) t text = ⊥
+Asks is_blank may_follow (Graphical old) (Brief new) t text = ⊥
+Asks is_blank may_follow (Narrated old) (Graphical new) t text = ⊥
+Asks is_blank may_follow (Narrated old) (Brief new) t text = ⊥
+Asks is_blank may_follow (Brief old) (Graphical new) t text = ⊥
+Asks is_blank may_follow (Brief old) (Narrated new) t text = ⊥

@@ -41,13 +41,16 @@ impl MietteHandler {
 }
 
 impl<H: Highlighter> ReportHandler for MietteHandler<H> {
-    ghost use Rattle.miette.specs.views.Handler.{Gives, Keeps, Refuses};
+    ghost use Rattle.miette.specs.views.Handler.{Asks, Gives, Keeps, Refuses};
+    ghost use Rattle.miette_tree.specs.views.Handler.{AppendsOne};
 
     ghost gives = { Gives H.is_blank };
 
     ghost refuses = { Refuses };
 
     ghost keeps = { Keeps H.is_blank };
+
+    ghost asks = { λ old new t before after. AppendsOne (Asks H.is_blank H.may_follow old new t) before after };
 
     fn debug<D: Diagnostic, S: SourceCode>(
         &mut self,
