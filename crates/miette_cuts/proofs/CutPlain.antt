@@ -81,7 +81,8 @@ pub even_cells : (limit : ℕ) (es : List ℕ) (v before : Bool) (n o c : ℕ) (
     → list_all is_printable bs ≡ true → 0 < n → n ≤ length bs →
     ((x : ℕ) → c ≤ x → x < c + n → is_near limit es (cell_at x) ≡ v) →
     map measure (stretches (is_near limit es) before (plain_cells o c bs ++ cs))
-    ≡ onto_made (even v n) (map measure (stretches (is_near limit es) v (plain_cells (o + n) (c + n) (drop n bs) ++ cs)))
+    ≡ onto_made (even v n) (map measure (stretches (is_near limit es) v
+    (plain_cells (o + n) (c + n) (drop n bs) ++ cs)))
 even_cells limit es v before zero o c bs cs h some le near = absurd (omega (arith, some))
 even_cells limit es v before (suc n) o c [] cs h some le near = absurd (omega (arith, le))
 even_cells limit es v before (suc zero) o c (b ∷ bs) cs h some le near =

@@ -64,7 +64,8 @@ plain_last_end offset column (b ∷ bs) cs e w o h = rw (lt-leb o offset (omega 
 pub first_printable : (n : ℕ) (bs : List ℕ) → n ≡ prefix_len is_printable bs → list_all is_printable (take n bs) ≡ true
 first_printable n bs is =
     ap (λ k. list_all is_printable (take k bs)) is
-    ∙ ap (λ ys. list_all is_printable (take (prefix_len is_printable ys) bs)) (sym (take_all (length bs) bs (omega arith)))
+    ∙ ap (λ ys. list_all is_printable (take (prefix_len is_printable ys) bs))
+    (sym (take_all (length bs) bs (omega arith)))
     ∙ prefix_taken is_printable (length bs) bs
 
 -- the columns of cells with those in front of them

@@ -195,11 +195,10 @@ fn columns_of_line(walk: Walk<'_>) -> Result<usize, AllocError>
         reached: 0,
         width: 0,
     };
-    let mut plain = pass_plain(&mut passage)?;
+    let _first = pass_plain(&mut passage)?;
     while pass_cells(&mut passage)? {
-        plain = pass_plain(&mut passage)?;
+        let _next = pass_plain(&mut passage)?;
     }
-    let _last = plain;
     Ok(passage.width)
 }
 

@@ -11,7 +11,8 @@ loop-len-preserved c =
     let left : length (drop len c.args.bytes.now) ≡ length c.args.bytes.now - len = length-drop len c.args.bytes.now in
     let block : 16 ≡ len + 16 - len = omega arith in
     let more = prefix_passed is_printable 16 (drop len c.args.bytes.now) (omega (arith, left, c.loop-len-test.true))
-    (ap (λ n. list_all is_printable (take n (drop len c.args.bytes.now))) block ∙ sym c.is_plain_block.ensures ∙ c.if-is_plain_block.true) in
+    (ap (λ n. list_all is_printable (take n (drop len c.args.bytes.now))) block
+    ∙ sym c.is_plain_block.ensures ∙ c.if-is_plain_block.true) in
     let later = drop-drop 16 len c.args.bytes.now in
     record {
       within = omega (arith, c.loop-len-test.true, c.loop-len.invariant.within);

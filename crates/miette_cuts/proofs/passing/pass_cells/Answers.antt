@@ -9,8 +9,8 @@ use Rattle.miette_cuts.proofs.passing.pass_cells.Goals as goal
 pub returns-in_default-clause-passed : goal.returns-in_default-clause-passed
 returns-in_default-clause-passed c = λ cells h.
     let same : c.loop.walk ≡ c.next.new.self = search rules in
-    subst (λ (left : List Cell). HasPassed cells (record { walk = left; reached = c.loop.reached; width = c.loop.width }))
-    same (c.loop.invariant.passed cells h)
+    let at : List Cell → Passage = λ left. record { walk = left; reached = c.loop.reached; width = c.loop.width } in
+    subst (λ left. HasPassed cells (at left)) same (c.loop.invariant.passed cells h)
 
 pub loop-preserved : goal.loop-preserved
 loop-preserved c =
@@ -22,7 +22,8 @@ loop-preserved c =
       width = c.in-Some.cell.until;
     } in
     record {
-      passed = λ cells h. passed_cell cells (cell_of c.in-Some.cell) old new step refl (c.loop.invariant.passed cells h);
+      passed = λ cells h.
+          passed_cell cells (cell_of c.in-Some.cell) old new step refl (c.loop.invariant.passed cells h);
       width = width_passed (cell_of c.in-Some.cell) c.loop.walk c.next.new.self c.loop.width step
           ∙ c.loop.invariant.width;
       fewer = omega (arith, ap length step, c.loop.invariant.fewer);

@@ -22,7 +22,8 @@ returns-clause-passed c =
       c.plain_len-many.ensures.within,
       length-take c.min.result rest,
     ) in
-    let plain : list_all is_printable (take many rest) ≡ true = ap (λ n. list_all is_printable (take n rest)) c.plain_len-many.ensures.len
+    let plain : list_all is_printable (take many rest) ≡ true =
+    ap (λ n. list_all is_printable (take n rest)) c.plain_len-many.ensures.len
     ∙ prefix_taken is_printable c.min.result rest in
     let behind : Bool → ℕ → List ℕ → List Cell = λ hidden at bytes. plain_cells offset column (take many rest)
     ++ cells_from width_of tab hidden (offset + many) at (characters bytes) in

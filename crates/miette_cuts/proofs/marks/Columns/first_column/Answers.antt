@@ -1,6 +1,7 @@
 use Rattle.std.proofs.Common.{◌≡◌, ◌<◌, ◌≤◌, ◌+◌, ◌-◌, ◌∙◌, [], MatchOption, ap, subst, arith}
 use Rattle.std.specs.Result.{IfOk}
 use Rattle.miette_snippet_rules.specs.rules.PrintedCells.{first_column}
+use Rattle.miette_cuts.specs.declared.marks.Stop.{Stop}
 use Rattle.miette_cuts.proofs.PlainText.{plain_first, plain_first_end}
 use Rattle.miette_cuts.proofs.StopColumns.{behind_plain, in_plain}
 use Rattle.miette_cuts.proofs.marks.Columns.first_column.Goals as goal
@@ -16,16 +17,17 @@ returns-then-at-self c =
 
 pub returns-in-Some : goal.returns-in-Some
 returns-in-Some c =
-    let past : c.stop_to-stop.result.plain.many ≤ c.args.offset - c.stop_to-stop.result.plain.start =
+    let stop : Stop = c.stop_to-stop.result in
+    let past : stop.plain.many ≤ c.args.offset - stop.plain.start =
     omega (arith, c.saturating_sub-away.ensures, c.if-away-stop.false) in
-    let met : c.in-Some.column ≡ first_column c.stop_to-stop.result.walk c.self.inside.text_end c.self.inside.width c.args.offset
+    let met : c.in-Some.column ≡ first_column stop.walk c.self.inside.text_end c.self.inside.width c.args.offset
     =
     subst (λ r. MatchOption r (first_column [] c.self.inside.text_end c.self.inside.width c.args.offset
-    ≡ first_column c.stop_to-stop.result.walk c.self.inside.text_end c.self.inside.width c.args.offset)
-    (λ column. column ≡ first_column c.stop_to-stop.result.walk c.self.inside.text_end c.self.inside.width c.args.offset))
+    ≡ first_column stop.walk c.self.inside.text_end c.self.inside.width c.args.offset)
+    (λ column. column ≡ first_column stop.walk c.self.inside.text_end c.self.inside.width c.args.offset))
     c.in-Some.is (c.in_ok-column.ensures c.self.inside.text_end c.self.inside.width) in
     met
-    ∙ (behind_plain c.stop_to-stop.result c.self.inside.text_end c.self.inside.width c.args.offset past).0
+    ∙ (behind_plain stop c.self.inside.text_end c.self.inside.width c.args.offset past).0
     ∙ c.stop_to-stop.ensures.first c.self.inside.text_end c.self.inside.width
     ∙ plain_first_end c.self.inside.start 0 c.self.inside.plain.now c.self.inside.whole c.self.inside.text_end
     c.self.inside.width c.args.offset (omega arith)
@@ -33,17 +35,18 @@ returns-in-Some c =
 
 pub returns-in-None : goal.returns-in-None
 returns-in-None c =
-    let past : c.stop_to-stop.result.plain.many ≤ c.args.offset - c.stop_to-stop.result.plain.start =
+    let stop : Stop = c.stop_to-stop.result in
+    let past : stop.plain.many ≤ c.args.offset - stop.plain.start =
     omega (arith, c.saturating_sub-away.ensures, c.if-away-stop.false) in
     let end : first_column [] c.args.self.now.text_end c.args.self.now.width c.args.offset
-    ≡ first_column c.stop_to-stop.result.walk c.args.self.now.text_end c.args.self.now.width c.args.offset =
+    ≡ first_column stop.walk c.args.self.now.text_end c.args.self.now.width c.args.offset =
     subst (λ r. MatchOption r (first_column [] c.args.self.now.text_end c.args.self.now.width c.args.offset
-    ≡ first_column c.stop_to-stop.result.walk c.args.self.now.text_end c.args.self.now.width c.args.offset)
-    (λ column. column ≡ first_column c.stop_to-stop.result.walk c.args.self.now.text_end c.args.self.now.width c.args.offset))
+    ≡ first_column stop.walk c.args.self.now.text_end c.args.self.now.width c.args.offset)
+    (λ column. column ≡ first_column stop.walk c.args.self.now.text_end c.args.self.now.width c.args.offset))
     c.in-None.is (c.in_ok-column.ensures c.args.self.now.text_end c.args.self.now.width) in
     subst (λ n. IfOk c.column_at_end.result (λ column. column ≡ n))
     (end
-    ∙ (behind_plain c.stop_to-stop.result c.args.self.now.text_end c.args.self.now.width c.args.offset past).0
+    ∙ (behind_plain stop c.args.self.now.text_end c.args.self.now.width c.args.offset past).0
     ∙ c.stop_to-stop.ensures.first c.args.self.now.text_end c.args.self.now.width
     ∙ plain_first_end c.self.inside.start 0 c.self.inside.plain.now c.self.inside.whole c.args.self.now.text_end
     c.args.self.now.width c.args.offset (omega arith)
@@ -52,7 +55,7 @@ returns-in-None c =
 
 pub returns-then-away-stop : goal.returns-then-away-stop
 returns-then-away-stop c =
-    let stop = c.stop_to-stop.result in
+    let stop : Stop = c.stop_to-stop.result in
     let lt : c.args.offset - stop.plain.start < stop.plain.many =
     omega (arith, c.saturating_sub-away.ensures, c.if-away-stop.true) in
     subst (λ n. IfOk c.sum.result (λ column. column ≡ n))

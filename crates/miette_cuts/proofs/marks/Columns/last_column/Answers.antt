@@ -1,6 +1,7 @@
 use Rattle.std.proofs.Common.{◌≡◌, ◌<◌, ◌≤◌, ◌+◌, ◌-◌, ◌∙◌, [], MatchOption, ap, subst, arith}
 use Rattle.std.specs.Result.{IfOk}
 use Rattle.miette_snippet_rules.specs.rules.PrintedCells.{last_column}
+use Rattle.miette_cuts.specs.declared.marks.Stop.{Stop}
 use Rattle.miette_cuts.proofs.PlainText.{plain_last, plain_last_end}
 use Rattle.miette_cuts.proofs.StopColumns.{behind_plain, in_plain}
 use Rattle.miette_cuts.proofs.marks.Columns.last_column.Goals as goal
@@ -16,15 +17,16 @@ returns-then-at-self c =
 
 pub returns-in-Some : goal.returns-in-Some
 returns-in-Some c =
-    let past : c.stop_to-stop.result.plain.many ≤ c.args.offset - c.stop_to-stop.result.plain.start =
+    let stop : Stop = c.stop_to-stop.result in
+    let past : stop.plain.many ≤ c.args.offset - stop.plain.start =
     omega (arith, c.saturating_sub-away.ensures, c.if-away-stop.false) in
-    let met : c.in-Some.column ≡ last_column c.stop_to-stop.result.walk c.self.inside.text_end c.self.inside.width c.args.offset =
+    let met : c.in-Some.column ≡ last_column stop.walk c.self.inside.text_end c.self.inside.width c.args.offset =
     subst (λ r. MatchOption r (last_column [] c.self.inside.text_end c.self.inside.width c.args.offset
-    ≡ last_column c.stop_to-stop.result.walk c.self.inside.text_end c.self.inside.width c.args.offset)
-    (λ column. column ≡ last_column c.stop_to-stop.result.walk c.self.inside.text_end c.self.inside.width c.args.offset))
+    ≡ last_column stop.walk c.self.inside.text_end c.self.inside.width c.args.offset)
+    (λ column. column ≡ last_column stop.walk c.self.inside.text_end c.self.inside.width c.args.offset))
     c.in-Some.is (c.in_ok-column.ensures c.self.inside.text_end c.self.inside.width) in
     met
-    ∙ (behind_plain c.stop_to-stop.result c.self.inside.text_end c.self.inside.width c.args.offset past).1
+    ∙ (behind_plain stop c.self.inside.text_end c.self.inside.width c.args.offset past).1
     ∙ c.stop_to-stop.ensures.last c.self.inside.text_end c.self.inside.width
     ∙ plain_last_end c.self.inside.start 0 c.self.inside.plain.now c.self.inside.whole c.self.inside.text_end
     c.self.inside.width c.args.offset (omega arith)
@@ -32,17 +34,18 @@ returns-in-Some c =
 
 pub returns-in-None : goal.returns-in-None
 returns-in-None c =
-    let past : c.stop_to-stop.result.plain.many ≤ c.args.offset - c.stop_to-stop.result.plain.start =
+    let stop : Stop = c.stop_to-stop.result in
+    let past : stop.plain.many ≤ c.args.offset - stop.plain.start =
     omega (arith, c.saturating_sub-away.ensures, c.if-away-stop.false) in
     let end : last_column [] c.args.self.now.text_end c.args.self.now.width c.args.offset
-    ≡ last_column c.stop_to-stop.result.walk c.args.self.now.text_end c.args.self.now.width c.args.offset =
+    ≡ last_column stop.walk c.args.self.now.text_end c.args.self.now.width c.args.offset =
     subst (λ r. MatchOption r (last_column [] c.args.self.now.text_end c.args.self.now.width c.args.offset
-    ≡ last_column c.stop_to-stop.result.walk c.args.self.now.text_end c.args.self.now.width c.args.offset)
-    (λ column. column ≡ last_column c.stop_to-stop.result.walk c.args.self.now.text_end c.args.self.now.width c.args.offset))
+    ≡ last_column stop.walk c.args.self.now.text_end c.args.self.now.width c.args.offset)
+    (λ column. column ≡ last_column stop.walk c.args.self.now.text_end c.args.self.now.width c.args.offset))
     c.in-None.is (c.in_ok-column.ensures c.args.self.now.text_end c.args.self.now.width) in
     subst (λ n. IfOk c.column_at_end.result (λ column. column ≡ n))
     (end
-    ∙ (behind_plain c.stop_to-stop.result c.args.self.now.text_end c.args.self.now.width c.args.offset past).1
+    ∙ (behind_plain stop c.args.self.now.text_end c.args.self.now.width c.args.offset past).1
     ∙ c.stop_to-stop.ensures.last c.args.self.now.text_end c.args.self.now.width
     ∙ plain_last_end c.self.inside.start 0 c.self.inside.plain.now c.self.inside.whole c.args.self.now.text_end
     c.args.self.now.width c.args.offset (omega arith)
@@ -51,7 +54,7 @@ returns-in-None c =
 
 pub returns-then-away-stop : goal.returns-then-away-stop
 returns-then-away-stop c =
-    let stop = c.stop_to-stop.result in
+    let stop : Stop = c.stop_to-stop.result in
     let lt : c.args.offset - stop.plain.start < stop.plain.many =
     omega (arith, c.saturating_sub-away.ensures, c.if-away-stop.true) in
     subst (λ n. IfOk c.sum.result (λ column. column ≡ n))
