@@ -4,7 +4,7 @@ use Rattle.std.proofs.Common.{zero, suc, ◌+◌, ◌++◌, [], take, drop, ◌�
 use Rattle.std.specs.Prelude.{slice_index}
 use Rattle.std.specs.List.{list_all}
 use Rattle.std.specs.Int.{is_in_range}
-use Rattle.std.proofs.lemmas.Bool.{and_parts, leb-true, ltb-true, ne_eqb}
+use Rattle.std.proofs.lemmas.Bool.{and_parts, leb-true, ltb-true, le-leb, le-ltb, lt-leb, lt-ltb, ne_eqb}
 use Rattle.std.proofs.lemmas.Bool.Decides.{nat_tests}
 use Rattle.unicode_width.specs.Width.{char_width}
 use Rattle.bstr.specs.Utf8.{decoded, good, or_replacement}
@@ -91,3 +91,16 @@ printable_then tab offset column (suc n) (b ∷ bs) le h =
     ∙ ap (λ cells. first ∷ cells) (printable_then tab (offset + 1) (column + 1) n bs (omega (arith, le)) parts.1)
     ∙ ap₂ (λ x y. first ∷ plain_cells (offset + 1) (column + 1) (take n bs)
     ++ cells_from width_of tab false x y (characters (drop n bs))) at here
+
+-- the columns of an ASCII character, below the printable ones, among them, and behind them
+pub control_width : (b : ℕ) → b < 32 → 0 ≡ width_of b
+unfolding char_width
+control_width b h = rw (lt-ltb b 127 (omega (arith, h)), lt-leb 32 b h) refl
+
+pub plain_one : (b : ℕ) → 32 ≤ b → b < 127 → 1 ≡ width_of b
+unfolding char_width
+plain_one b lo hi = rw (lt-ltb b 127 hi, le-leb 32 b lo) refl
+
+pub delete_width : (b : ℕ) → 127 ≤ b → b < 128 → 0 ≡ width_of b
+unfolding char_width
+delete_width b lo hi = rw (le-ltb b 127 lo, lt-leb 160 b (omega (arith, hi))) refl

@@ -97,6 +97,7 @@ fn width_there(tab: usize, hidden: bool, column: usize, character: char, columns
 }
 
 /// The first character of some bytes, U+FFFD where they begin with none, and how many bytes it takes.
+#[inline(always)]
 pub fn first_character(bytes: &[u8]) -> (char, usize)
     requires { 0 < length bytes.now }
     ensures code { result.0 ≡ or_replacement (decoded bytes.now).char }
@@ -107,21 +108,23 @@ pub fn first_character(bytes: &[u8]) -> (char, usize)
     bstr::decode_lossy(bytes)
 }
 
-// The first character of some bytes, how many bytes it takes, and its columns by itself.
-#[inline(never)]
-fn measured_character(bytes: &[u8]) -> (char, usize, usize)
-    requires { 0 < length bytes.now }
-    ensures code { result.0 ≡ or_replacement (decoded bytes.now).char }
-    ensures size { result.1 ≡ (decoded bytes.now).size }
-    ensures some { 0 < result.1 }
-    ensures within { result.1 ≤ length bytes.now }
-    ensures columns { result.2 ≡ width_of result.0 }
+// The columns of an ASCII character by itself.
+#[inline(always)]
+fn ascii_columns(byte: u8) -> usize
+    requires { byte < 128 }
+    ensures { result ≡ width_of byte }
 {
-    let (code, size) = first_character(bytes);
-    (code, size, columns_of(code))
+    if byte < 0x20 {
+        return 0;
+    }
+    if byte < 0x7f {
+        return 1;
+    }
+    0
 }
 
-// The same; most characters are ASCII, and are measured in the caller's loop.
+// The first character of some bytes, how many bytes it takes, and its columns by itself. Most are ASCII, and are read
+// in the caller's loop.
 #[inline(always)]
 fn measured(bytes: &[u8]) -> (char, usize, usize)
     requires { 0 < length bytes.now }
@@ -133,10 +136,10 @@ fn measured(bytes: &[u8]) -> (char, usize, usize)
 {
     let first = bytes[0];
     if first < 0x80 {
-        let code = char::from(first);
-        return (code, 1, columns_of(code));
+        return (char::from(first), 1, ascii_columns(first));
     }
-    measured_character(bytes)
+    let (code, size) = first_character(bytes);
+    (code, size, columns_of(code))
 }
 
 impl<'a> Walk<'a> {
