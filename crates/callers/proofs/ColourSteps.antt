@@ -95,7 +95,8 @@ may-end : {H : Type 0} (h : Option H) → follows Plainly h []
 may-end None = tt
 may-end (Some h) = tt
 
-pub asked_plainly : {H : Type 0} (h : H) (old : Handling H) (after : Option H) (blank : Bool) (t : Tree) (before new : List ℕ)
+pub asked_plainly : {H : Type 0} (h : H) (old : Handling H) (after : Option H) (blank : Bool) (t : Tree)
+    (before new : List ℕ)
     → old.settings ≡ plain → old.highlighter ≡ Some h → t ≡ warning_tree → before ≡ []
     → AppendsOne (IsAskedText drawn_rows old.settings blank (AreCallsOn Plainly old.highlighter after) t) before new
     → IsAskedPlainly new

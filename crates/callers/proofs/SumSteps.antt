@@ -17,7 +17,8 @@ use Rattle.miette_graphical.specs.laws.Holding.{Arrow, HoldsSnippets, IsHoldingT
 use Rattle.miette_graphical.specs.laws.Levels.{AreAmong, HaveRoom, HoldsLevels, IsShownRow, StandBehindBars}
 use Rattle.miette_graphical.specs.laws.Levels.{settings_under}
 use Rattle.miette_graphical.specs.laws.Paths.{to_cause}
-use Rattle.miette_graphical.specs.rules.Answers.{Answer, Answers, cause_answers, nothing_listed, own_answer, pieces_listed}
+use Rattle.miette_graphical.specs.rules.Answers.{Answer, Answers, cause_answers, nothing_listed, own_answer}
+use Rattle.miette_graphical.specs.rules.Answers.{pieces_listed}
 use Rattle.miette_graphical.specs.rules.DiagnosticText.{line_feed}
 use Rattle.miette_graphical.specs.rules.Indents.{spaces}
 use Rattle.miette_graphical.specs.rules.PossibleAnswers.{AreAnswers}
@@ -27,7 +28,8 @@ use Rattle.miette_graphical.specs.rules.Snippets.{drawn_rows}
 use Rattle.miette_graphical.specs.rules.Text.{report_text}
 use Rattle.miette_text.specs.laws.Tame.{IsTame}
 use Rattle.miette_graphical.specs.views.Handling.{Handling, draws_plain, without_highlighter}
-use Rattle.callers.specs.Sums.{CauseStands, CauseStays, EndStandsBehind, IsCut, IsLeftOut, RowsStand, narrow, sum_file, sum_labels}
+use Rattle.callers.specs.Sums.{CauseStands, CauseStays, EndStandsBehind, IsCut, IsLeftOut, RowsStand, narrow, sum_file}
+use Rattle.callers.specs.Sums.{sum_labels}
 use Rattle.callers.specs.Sums.{cause_arrow, depth_file, depth_labels, sum_tree}
 
 -- ---- of the handler and the tree that are known
@@ -46,7 +48,8 @@ unfolding ends_line pieces_from char_width
 is_cut all =
     let long : cells_width 0 (cells_under narrow sum_file 5) ≡ 31 = refl in
     let short : cells_width 0 (cells_under narrow sum_file 0) ≡ 5 = refl in
-    record { long = (all.0 5 12 refl).wide (omega (arith, long)); short = (all.0 0 12 refl).fits (omega (arith, short)) }
+    record { long = (all.0 5 12 refl).wide (omega (arith, long)); short = (all.0 0 12 refl).fits
+    (omega (arith, short)) }
 
 pub cause_stays : AllByRecursion (LinesThatFitStay narrow) (diagnostics_of narrow sum_tree) → CauseStays
 cause_stays all = all.1.0
@@ -120,13 +123,15 @@ cause_stands is_blank h t old new p q none appended levels room behind rows amon
     let own = held is_blank h t appended.text p q appended.is_given in
     let whole : new ≡ encode_utf8_all (report_text drawn_rows narrow sum_tree own.answers) =
     appended.appended ∙ ap (λ o. o ++ appended.text) none ∙ own.text in
-    let drawn : Answer → List ℕ = λ a. fed_rows (map print (drawn_rows (settings_under narrow arrows) (Some depth_file) depth_labels a)) in
+    let drawn : Answer → List ℕ = λ a. fed_rows (map print (drawn_rows (settings_under narrow arrows) (Some depth_file)
+    depth_labels a)) in
     let there : AreAmong (drawn (own_answer (cause_answers own.answers))) arrows rows =
     subst (λ a. AreAmong (drawn a) arrows rows) (sym (cause_nothing own.answers own.are)) among in
     let fits : AllByRecursion (FitsRow ((settings_under narrow arrows).width - 2)) rows =
     subst (λ w. AllByRecursion (FitsRow (w - 2)) rows) (sym left_under) fit in
     let wide : 2 ≤ (settings_under narrow arrows).width = omega (arith, left_under) in
-    let stands = levels own.answers (report_text drawn_rows narrow sum_tree own.answers) own.holds (to_cause ∷ []) _ refl
+    let stands = levels own.answers (report_text drawn_rows narrow sum_tree own.answers) own.holds (to_cause ∷ [])
+    _ refl
     rows there (room rows wide (tame_rows rows shown) fits) in
     subst (StandsIn (encode_utf8_all (indented_rows (spaces 6) rows))) (sym whole)
     (subst (λ part. StandsIn (encode_utf8_all part)

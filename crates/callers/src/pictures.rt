@@ -11,7 +11,8 @@ ghost use Rattle.miette_graphical.specs.rules.PrintedDiagnostics.{diagnostics_of
 ghost use Rattle.miette_graphical.specs.rules.Text.{report_text};
 ghost use Rattle.miette_graphical.specs.views.Handling.{draws_plain, without_highlighter};
 ghost use Rattle.miette_tree.specs.views.Report.{tree_of};
-ghost use Rattle.callers.specs.Sums.{CauseStands, CauseStays, EndStandsBehind, IsCut, IsLeftOut, RowsStand, depth_tree, narrow};
+ghost use Rattle.callers.specs.Sums.{CauseStands, CauseStays, EndStandsBehind, IsCut, IsLeftOut, RowsStand};
+ghost use Rattle.callers.specs.Sums.{depth_tree, narrow};
 ghost use Rattle.callers.specs.Sums.{printed_cause, printed_sum, sum_tree};
 
 use miette::diagnostic::MietteDiagnostic;

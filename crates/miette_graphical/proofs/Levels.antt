@@ -1,5 +1,6 @@
 -- Rows that have room stand under all arrows on their path: by the step of one arrow, from the innermost one outwards.
-use Rattle.std.proofs.Common.{◌≡◌, ℕ, ◌<◌, inl, inr, Bool, true, false, ◌&&◌, List, [], ◌∷◌, ◌++◌, length, refl, sym, ap}
+use Rattle.std.proofs.Common.{◌≡◌, ℕ, ◌<◌, inl, inr, Bool, true, false, ◌&&◌, List, [], ◌∷◌, ◌++◌, length, refl, sym}
+use Rattle.std.proofs.Common.{ap}
 use Rattle.std.proofs.Common.{◌∙◌, subst, arith, Option, append_assoc, append-nil, encode_utf8_all}
 use Rattle.miette_runs.specs.rules.Runs.{print}
 use Rattle.miette_runs.specs.rules.Cutting.{only_feeds}
@@ -23,7 +24,8 @@ use Rattle.miette_graphical.specs.laws.Holding.{Arrow, HoldsSnippets, HoldsUnder
 use Rattle.miette_graphical.specs.laws.Holding.{rows_at, text_at}
 use Rattle.miette_graphical.specs.laws.Levels.{AreAmong, FitLevels, HoldsLevels, LevelRowsStand, barred, barred_rows}
 use Rattle.miette_graphical.specs.laws.Levels.{ends_related, settings_under}
-use Rattle.miette_graphical.proofs.ArrowRows.{IsSeen, fed-append, fed-ends, grouped, seen-above, seen-before, seen-below}
+use Rattle.miette_graphical.proofs.ArrowRows.{IsSeen, fed-append, fed-ends, grouped, seen-above, seen-before}
+use Rattle.miette_graphical.proofs.ArrowRows.{seen-below}
 use Rattle.miette_graphical.proofs.Arrows.{arrow_plan, left-by, printed-rows}
 use Rattle.miette_text.proofs.FittingRows.{IsBehind, rows-wrapped}
 use Rattle.miette_graphical.proofs.Rows.{bytes-stand, within-stands}
@@ -166,7 +168,8 @@ drawn-parted drawn text arrows rows own among =
     elim (fed-ends among.above) [
       | inl none ↦ (let not : true ≡ false = sym (ap (λ t. only_feeds (tokens t)) none) ∙ among.seen_above in
           absurd (cc))
-      | inr e ↦ (let parts : fed_rows (among.above ++ rows ++ among.below) ≡ e.0 ++ line_feed ++ fed_rows rows ++ lower =
+      | inr e ↦ (let parts : fed_rows (among.above ++ rows ++ among.below)
+      ≡ e.0 ++ line_feed ++ fed_rows rows ++ lower =
           fed-append (among.above ++ rows) among.below ∙ ap (λ t. t ++ lower) (fed-append among.above rows
           ∙ ap (λ t. t ++ fed_rows rows) e.1) in
           record {
@@ -230,5 +233,6 @@ levels-hold rows s t a text w held path p found shown among fit =
     let answer = answer_at a path in
     bytes-stand (fed_rows (barred_rows s arrows shown)) text
     (levels-stand arrows s (text_at rows p answer) text w (held path p found) shown
-    (subst (λ drawn. AreAmong drawn arrows shown) (printed-rows (rows_at rows p answer (settings_under s arrows))) among)
+    (subst (λ drawn. AreAmong drawn arrows shown) (printed-rows (rows_at rows p answer (settings_under s arrows)))
+    among)
     fit)

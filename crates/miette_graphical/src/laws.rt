@@ -211,9 +211,9 @@ pub fn arrows_law()
 /// Where rows are wrapped, the same under any number of arrows, each inside the one before: what is drawn in rows that
 /// have room on each level stands in a text that holds it, one row after the other, behind the bars of all arrows
 /// (`drawn`). So stand the rows of the snippets at each path, on lines of their own, in the bytes of a text that holds
-/// them, as each that may be printed does (`bytes`). Rows of at most the columns that are left under the innermost arrow
-/// have room on each level (`room`), and those in which something is to be seen stand behind all bars at once (`bars`),
-/// in themes whose bar is a visible character, as that of each shipped one is (`shipped`).
+/// them, as each that may be printed does (`bytes`). Rows of at most the columns that are left under the innermost
+/// arrow have room on each level (`room`), and those in which something is to be seen stand behind all bars at once
+/// (`bars`), in themes whose bar is a visible character, as that of each shipped one is (`shipped`).
 pub fn levels_law()
     ensures drawn { (s : Settings) (arrows : List Arrow) (drawn : Settings → List ℕ) (text : List ℕ) →
         s.wrapping.wrap_lines ≡ true → HoldsUnder arrows s drawn text → LevelRowsStand s arrows drawn text }

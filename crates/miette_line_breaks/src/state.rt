@@ -1,7 +1,8 @@
 //! What the rules need of all characters before a place.
 
 ghost use Rattle.std.specs.Prelude.{◌≡◌, ℕ, List, [], ◌∷◌};
-ghost use Rattle.miette_line_breaks.specs.rules.Rules.{break_before, joins, joins_letter, joins_number, joins_parenthesis};
+ghost use Rattle.miette_line_breaks.specs.rules.Rules.{break_before, joins, joins_letter, joins_number};
+ghost use Rattle.miette_line_breaks.specs.rules.Rules.{joins_parenthesis};
 ghost use Rattle.miette_line_breaks.specs.rules.Rules.{joins_syllable, takes_marks};
 ghost use Rattle.miette_line_breaks.specs.steps.States.{attaches, base_behind, base_of, break_in, is_start};
 ghost use Rattle.miette_line_breaks.specs.steps.States.{joined_behind};

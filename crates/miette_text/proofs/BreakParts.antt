@@ -12,8 +12,10 @@ use Rattle.miette_runs.specs.steps.Cells.{code_columns, plain_cell, plain_cells}
 use Rattle.miette_text.specs.declared.wrap.breaks.Broken.{Broken}
 use Rattle.miette_text.specs.rules.Wrapping.{Cuts, Word, is_hyphen, parts}
 use Rattle.miette_text.specs.steps.Ends.{IsPart, bare_len, code_behind, codes_of, part_len}
-use Rattle.miette_text.specs.views.Breaks.{is_done, left_in, never, parts_behind, piece_len, rest_in, state_at, words_in}
-use Rattle.miette_text.proofs.BreakWords.{bare-columns, behind-taken, first-words, part-some, parted, word-last, word-more}
+use Rattle.miette_text.specs.views.Breaks.{is_done, left_in, never, parts_behind, piece_len, rest_in, state_at}
+use Rattle.miette_text.specs.views.Breaks.{words_in}
+use Rattle.miette_text.proofs.BreakWords.{bare-columns, behind-taken, first-words, part-some, parted, word-last}
+use Rattle.miette_text.proofs.BreakWords.{word-more}
 use Rattle.miette_text.proofs.FirstRow.{take-codes}
 use Rattle.miette_text.proofs.InterleavedCells.{bare-codes}
 use Rattle.miette_text.proofs.Parting.{drop-codes}

@@ -232,7 +232,8 @@ first-part stop h cuts before used (c ∷ cs) =
     ≡ take (if v then 0 else if wide cuts.breaks cuts.narrow used c then 0 else if test then 1 else suc next) (c ∷ cs)
     ∷ more_parts cuts (code_behind before (if v then 0 else if wide cuts.breaks cuts.narrow used c then 0
     else if test then 1 else suc next) (c.code ∷ codes_of cs))
-    (letters stop (drop (if v then 0 else if wide cuts.breaks cuts.narrow used c then 0 else if test then 1 else suc next)
+    (letters stop (drop (if v then 0 else if wide cuts.breaks cuts.narrow used c then 0 else if test then 1 else suc
+    next)
     (c ∷ cs)))) [
       | true ↦ λ e. ap (λ (us : List Cell). [] ∷ more_parts cuts before us) (sym (letters-none stop c cs e))
       | false ↦ λ e.
@@ -240,7 +241,8 @@ first-part stop h cuts before used (c ∷ cs) =
           (if v then [] ∷ (if is_cut cuts.hyphens before c (letters stop cs) then (c ∷ [])
           ∷ letter_parts cuts c.code 0 (letters stop cs) else onto c
           (letter_parts cuts c.code (width c.code) (letters stop cs)))
-          else (if is_cut cuts.hyphens before c (letters stop cs) then (c ∷ []) ∷ letter_parts cuts c.code 0 (letters stop cs)
+          else (if is_cut cuts.hyphens before c (letters stop cs) then (c ∷ []) ∷ letter_parts cuts c.code 0 (letters
+          stop cs)
           else onto c (letter_parts cuts c.code (used + width c.code) (letters stop cs))))
           ≡ take (if v then 0 else if test then 1 else suc next) (c ∷ cs)
           ∷ more_parts cuts (code_behind before (if v then 0 else if test then 1 else suc next) (c.code ∷ codes_of cs))
@@ -265,7 +267,8 @@ first-part stop h cuts before used (c ∷ cs) =
 
 -- it ends within the letters
 pub part-within : (stop : ℕ → Bool) (cuts : Cuts) (before used : ℕ) (cs : List Cell) → until_len stop cs
-    ≡ part_len stop cuts before used (codes_of cs) + until_len stop (drop (part_len stop cuts before used (codes_of cs)) cs)
+    ≡ part_len stop cuts before used (codes_of cs) + until_len stop (drop (part_len stop cuts before used (codes_of cs))
+    cs)
 part-within stop cuts before used [] = refl
 part-within stop cuts before used (c ∷ cs) =
     let next = part_len stop cuts c.code (used + width c.code) (codes_of cs) in
@@ -341,7 +344,8 @@ words-split cuts before c cs =
       | w ∷ ws ↦ with_spaces w.spaces (flat_map (narrow_parts cuts) (hyphenated_behind cuts before w.letters))
           ++ flat_map (parts cuts) ws
     ]) (words-first c cs)
-    ∙ ap (λ ps. from_parts cuts ps (drop (letters_len (c ∷ cs)) (c ∷ cs))) (word-parts cuts before (letters is_space (c ∷ cs)))
+    ∙ ap (λ ps. from_parts cuts ps (drop (letters_len (c ∷ cs)) (c ∷ cs))) (word-parts cuts before (letters is_space (c
+    ∷ cs)))
 
 pub with_spaces-more : (spaces p : List Cell) (ps : List (List Cell)) → 0 < length ps → with_spaces spaces (p ∷ ps)
     ≡ record { letters = p; spaces = [] } ∷ with_spaces spaces ps
@@ -424,7 +428,8 @@ words-next cuts before n m (c ∷ cs) l p q =
     let k = part_len is_space cuts before 0 (codes_of all) in
     let last = code_behind before n (codes_of all) in
     let s : m ≡ spaces_len (drop n all) = q ∙ ap gap_len (drop-codes n all) ∙ gap-is (drop n all) in
-    let a : letters_len all ≡ n + letters_len (drop n all) = ap (λ n. letters_len all) p ∙ part-within is_space cuts before 0 all
+    let a : letters_len all ≡ n + letters_len (drop n all) = ap (λ n. letters_len all) p ∙ part-within is_space cuts
+    before 0 all
     ∙ ap (λ k. k + letters_len (drop k all)) (sym p) in
     let after = code_behind before (n + m) (codes_of all) in
     let e : after ≡ code_behind last m (drop n (codes_of all)) = behind-add before n m (codes_of all) in
@@ -434,7 +439,8 @@ words-next cuts before n m (c ∷ cs) l p q =
     ∙ ap (λ k. code_behind last k (drop n (codes_of all))) (s ∙ h) in
     words-split cuts before c cs
     ∙ ap (λ ps. from_parts cuts ps (drop (letters_len all) all))
-    (first-part is_space no_letter cuts before 0 all ∙ ap (λ k. take k all ∷ more_parts cuts (code_behind before k (codes_of all))
+    (first-part is_space no_letter cuts before 0 all ∙ ap (λ k. take k all ∷ more_parts cuts (code_behind before k
+    (codes_of all))
     (letters is_space (drop k all))) (sym p))
     ∙ ap (from_parts cuts (take n all ∷ more_parts cuts last (letters is_space (drop n all))))
     (ap (λ k. drop k all) a ∙ sym (drop-drop (letters_len (drop n all)) n all))

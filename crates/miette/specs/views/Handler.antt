@@ -35,7 +35,7 @@ Keeps is_blank (Narrated old) (Brief new) = ⊥
 Keeps is_blank (Brief old) (Graphical new) = ⊥
 Keeps is_blank (Brief old) (Narrated new) = ⊥
 
--- One of the texts, of a graphical handler by answers that its highlighter gave by these calls: those that bring it from
+-- One of the texts, of a graphical handler by answers that its highlighter gave by these calls, which bring it from
 -- its state before to its state after.
 abbrev pub Asks : {H : Type 0} → (H → Bool) → (H → List Call → Type 0) → MietteHandler H → MietteHandler H → Tree
     → List ℕ → Type 0

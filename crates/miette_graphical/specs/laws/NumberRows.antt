@@ -33,7 +33,7 @@ pub record IsPlainLine (c : SnippetContext) (line : Line) : Type 0 where
   pub alone : multi_line line c.labels ≡ []
   pub whole : line_cut c.settings line (c.cells line) (one_line line c.labels) ≡ None
 
--- Without a highlighter's pieces the first of its rows is its number and its text, behind the spaces of a gutter, if the
+-- Without a highlighter's pieces the first of its rows is its number and its text, after a gutter's spaces, if the
 -- snippet has one.
 pub record PrintsNumber (c : SnippetContext) (line : Line) (number : ℕ) : Type 0 where
   pub row : Row

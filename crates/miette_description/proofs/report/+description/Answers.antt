@@ -1,4 +1,5 @@
-use Rattle.std.proofs.Common.{rules, ◌≡◌, ◌<◌, ◌+◌, ◌*◌, ◌++◌, [], ◌∷◌, map, ap, sym, ◌∙◌, Some, option_map, arith, codes}
+use Rattle.std.proofs.Common.{rules, ◌≡◌, ◌<◌, ◌+◌, ◌*◌, ◌++◌, [], ◌∷◌, map, ap, sym, ◌∙◌, Some, option_map, arith}
+use Rattle.std.proofs.Common.{codes}
 use Rattle.std.proofs.lemmas.Result.{IfOk-weaker}
 use Rattle.miette_description.proofs.Lists.{none_read, one_fails, one_read_as, all_read}
 use Rattle.serde_json.specs.Data.{depth, items_depth}

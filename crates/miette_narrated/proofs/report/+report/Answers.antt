@@ -66,4 +66,5 @@ push_report-returns-clause-refused g t c = λ h.
     let source = option_map (shown_source g.S.SourceCode.source) c.own_or-source.result in
     let related = trees (map value c.related.result.now) in
     let below : holds_of_all accepts source related ≡ false = c.push_related.ensures.refused h in
-    refused_below (value c.args.report.now) inherited source related c.own_or-source.ensures c.related.ensures.value below
+    refused_below (value c.args.report.now) inherited source related c.own_or-source.ensures c.related.ensures.value
+    below

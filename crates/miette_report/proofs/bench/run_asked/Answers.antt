@@ -13,11 +13,13 @@ returns-in_err-times-clause-end g c =
 
 pub returns-in_err-times-clause-read_failed : goal.returns-in_err-times-clause-read_failed
 returns-in_err-times-clause-read_failed g c =
-    early-failed _ _ _ _ Read refl (search rules) c.in_err-times.ensures.others (λ e. cc) (λ e. cc) c.requires.reader_sound
+    early-failed _ _ _ _ Read refl (search rules) c.in_err-times.ensures.others (λ e. cc) (λ e. cc)
+    c.requires.reader_sound
 
 pub returns-in_err-times-clause-write_failed : goal.returns-in_err-times-clause-write_failed
 returns-in_err-times-clause-write_failed g c =
-    early-failed _ _ _ _ Write refl (search rules) c.in_err-times.ensures.others (λ e. cc) (λ e. cc) c.requires.writer_sound
+    early-failed _ _ _ _ Write refl (search rules) c.in_err-times.ensures.others (λ e. cc) (λ e. cc)
+    c.requires.writer_sound
 
 pub returns-in_err-times-clause-beginning : goal.returns-in_err-times-clause-beginning
 returns-in_err-times-clause-beginning g c =

@@ -13,11 +13,13 @@ returns-in_err-settings-clause-end g c =
 
 pub returns-in_err-settings-clause-read_failed : goal.returns-in_err-settings-clause-read_failed
 returns-in_err-settings-clause-read_failed g c =
-    early-failed _ _ _ _ Read refl (search rules) c.in_err-settings.ensures.others (λ e. cc) (λ e. cc) c.requires.reader_sound
+    early-failed _ _ _ _ Read refl (search rules) c.in_err-settings.ensures.others (λ e. cc) (λ e. cc)
+    c.requires.reader_sound
 
 pub returns-in_err-settings-clause-write_failed : goal.returns-in_err-settings-clause-write_failed
 returns-in_err-settings-clause-write_failed g c =
-    early-failed _ _ _ _ Write refl (search rules) c.in_err-settings.ensures.others (λ e. cc) (λ e. cc) c.requires.writer_sound
+    early-failed _ _ _ _ Write refl (search rules) c.in_err-settings.ensures.others (λ e. cc) (λ e. cc)
+    c.requires.writer_sound
 
 pub returns-in_err-settings-clause-beginning : goal.returns-in_err-settings-clause-beginning
 returns-in_err-settings-clause-beginning g c =
@@ -33,7 +35,8 @@ returns-clause-ok g c =
 pub returns-clause-end : goal.returns-clause-end
 returns-clause-end g c =
     let it = c.in_ok-settings.settings in
-    settings-end _ (map string_bytes c.args.words.now) it.choice it.options it.terminal _ c.run.result c.in_ok-settings.ensures.table
+    settings-end _ (map string_bytes c.args.words.now) it.choice it.options it.terminal _ c.run.result
+    c.in_ok-settings.ensures.table
     (not-wrong (map string_bytes c.args.words.now) it.choice it.options it.terminal c.in_ok-settings.ensures.table)
     (writes-described _ it.choice it.options it.terminal _
     (Appends (g.W.Write.contents c.args.writer.now.inner) (g.W.Write.contents c.run.new.writer.inner))
@@ -42,7 +45,8 @@ returns-clause-end g c =
 pub returns-clause-unread : goal.returns-clause-unread
 returns-clause-unread g c =
     let it = c.in_ok-settings.settings in
-    λ none. absurd (not-wrong (map string_bytes c.args.words.now) it.choice it.options it.terminal c.in_ok-settings.ensures.table none)
+    λ none. absurd (not-wrong (map string_bytes c.args.words.now) it.choice it.options it.terminal
+    c.in_ok-settings.ensures.table none)
 
 pub returns-clause-beginning : goal.returns-clause-beginning
 returns-clause-beginning g c =

@@ -24,10 +24,12 @@ returns-in_ok-push_filled-in-UnicodeBreakProperties g c =
     let p = runs_plan c.args.plan in
     let first = interleaving 0 c.parts-first.result.codes.now c.parts-first.result.tags.now in
     let further = interleaving 0 c.parts-further.result.codes.now c.parts-further.result.tags.now in
-    let text = interleaving 0 c.parts-in-UnicodeBreakProperties.result.codes.now c.parts-in-UnicodeBreakProperties.result.tags.now in
+    let text = interleaving 0 c.parts-in-UnicodeBreakProperties.result.codes.now
+    c.parts-in-UnicodeBreakProperties.result.tags.now in
     under-filled p UnicodeBreakProperties c.args.text.now c.min-narrow.result c.saturating_sub-room.result
     c.saturating_sub-further_room.result first further text (g.S.Canvas.written c.args.out.now)
-    (g.S.Canvas.written c.push_all.new.out) (g.S.Canvas.written c.push_filled-in-UnicodeBreakProperties.new.out) (sym c.in-UnicodeBreakProperties.is)
+    (g.S.Canvas.written c.push_all.new.out) (g.S.Canvas.written c.push_filled-in-UnicodeBreakProperties.new.out) (sym
+    c.in-UnicodeBreakProperties.is)
     c.parts-first.ensures c.parts-further.ensures c.parts-in-UnicodeBreakProperties.ensures
     (c.saturating_sub-room.ensures ∙ ap (λ n. p.room - n) c.in_ok-first_columns.ensures)
     (c.saturating_sub-further_room.ensures ∙ ap (λ n. p.room - n) c.in_ok-further_columns.ensures)

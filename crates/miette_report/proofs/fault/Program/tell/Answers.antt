@@ -10,7 +10,8 @@ returns-in-None g c =
       row = row_used c.writeln.result (Appends (g.F.Write.contents c.args.faults.now)
           (g.F.Write.contents c.writeln.new.self)) c.args.self c.args.fault _ _ c.name_and_usage.ensures.name
           c.name_and_usage.ensures.usage
-          (ap (option_map (λ (it : Bor (List ℕ)). it.now)) (sym c.in-None.is) ∙ c.reason.ensures) c.writeln.ensures.bytes;
+          (ap (option_map (λ (it : Bor (List ℕ)). it.now)) (sym c.in-None.is) ∙ c.reason.ensures)
+          c.writeln.ensures.bytes;
     }
 
 pub returns-in-Some : goal.returns-in-Some

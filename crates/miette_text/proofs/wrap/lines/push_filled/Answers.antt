@@ -13,7 +13,8 @@ returns-then-end-text g c =
     let under = c.args.under in
     let indent = interleaving 0 under.further.codes.now under.further.tags.now in
     let cs = c.args.text.codes.now in
-    last-filled (word_cuts g.W.Words.separator c.args.cuts) indent c.rest.room under.further_room c.rest.start c.line_len-n.result c.rest.used
+    last-filled (word_cuts g.W.Words.separator c.args.cuts) indent c.rest.room under.further_room c.rest.start
+    c.line_len-n.result c.rest.used
     c.in_ok-inside.inside cs c.args.text.tags.now (g.S.Canvas.written c.rest.out)
     (g.S.Canvas.written c.push_rows.new.out) (g.S.Canvas.written c.push_tags.new.out)
     (c.line_len-n.ensures.value ∙ ap line_len (take_rest cs c.rest.start)) (omega (arith, c.if-end-text.true))
@@ -41,7 +42,8 @@ rest-preserved g c =
     let m = c.in_ok-inside.inside in
     record {
       printed =
-          next-filled (word_cuts g.W.Words.separator c.args.cuts) (interleaving 0 c.args.under.further.codes.now c.args.under.further.tags.now)
+          next-filled (word_cuts g.W.Words.separator c.args.cuts) (interleaving 0 c.args.under.further.codes.now
+          c.args.under.further.tags.now)
           c.rest.room c.args.under.further_room s n k m c.in_ok-behind.behind cs all (g.S.Canvas.written c.rest.out)
           (g.S.Canvas.written c.push_rows.new.out) (g.S.Canvas.written c.push_signs.new.out)
           (g.S.Canvas.written c.push_break.new.out) (c.line_len-n.ensures.value ∙ ap line_len (take_rest cs s)) less

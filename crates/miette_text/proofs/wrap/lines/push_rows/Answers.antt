@@ -15,7 +15,8 @@ returns-then-end-line-clause-text g c =
     let indent = interleaving 0 under.further.codes.now under.further.tags.now in
     let line = cells_at c.args.first (drop c.args.first c.args.line.codes.now) c.args.line.tags.now in
     let cuts = word_cuts g.W.Words.separator c.args.cuts in
-    last-row (g.W.Words.left c.rest.words cuts) (g.W.Words.left c.in_ok-n.behind cuts) (spell indent) c.rest.room under.further_room c.rest.start c.in_ok-n.n
+    last-row (g.W.Words.left c.rest.words cuts) (g.W.Words.left c.in_ok-n.behind cuts) (spell indent) c.rest.room
+    under.further_room c.rest.start c.in_ok-n.n
     c.rest.used
     c.args.line.codes.now c.args.line.tags.now (g.S.Canvas.written c.rest.out) (g.S.Canvas.written c.push_row.new.out)
     c.in_ok-n.ensures.value (omega (arith, c.if-end-line.true)) c.in_ok-more.ensures.text
