@@ -48,8 +48,11 @@ unfolding ends_line pieces_from char_width
 is_cut all =
     let long : cells_width 0 (cells_under narrow sum_file 5) ≡ 31 = refl in
     let short : cells_width 0 (cells_under narrow sum_file 0) ≡ 5 = refl in
-    record { long = (all.0 5 12 refl).wide (omega (arith, long)); short = (all.0 0 12 refl).fits
-    (omega (arith, short)) }
+    record {
+      long = (all.0 5 12 refl).wide (omega (arith, long));
+      short = (all.0 0 12 refl).fits
+          (omega (arith, short));
+    }
 
 pub cause_stays : AllByRecursion (LinesThatFitStay narrow) (diagnostics_of narrow sum_tree) → CauseStays
 cause_stays all = all.1.0

@@ -169,7 +169,7 @@ drawn-parted drawn text arrows rows own among =
       | inl none ↦ (let not : true ≡ false = sym (ap (λ t. only_feeds (tokens t)) none) ∙ among.seen_above in
           absurd (cc))
       | inr e ↦ (let parts : fed_rows (among.above ++ rows ++ among.below)
-      ≡ e.0 ++ line_feed ++ fed_rows rows ++ lower =
+          ≡ e.0 ++ line_feed ++ fed_rows rows ++ lower =
           fed-append (among.above ++ rows) among.below ∙ ap (λ t. t ++ lower) (fed-append among.above rows
           ∙ ap (λ t. t ++ fed_rows rows) e.1) in
           record {

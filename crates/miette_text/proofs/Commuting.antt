@@ -412,8 +412,13 @@ filled-erased : (p : Plan (List Token)) (ts : List Token) → filled_text (map_i
     ≡ erased (filled_text p ts)
 filled-erased p ts =
     ap₂ (λ m n. joined_rows (erased p.first) (erased p.further)
-    (text_rows (record { separator = p.separator; hyphens = p.hyphens; breaks = p.breaks; narrow = min (p.room - m)
-    (p.room - n) })
+    (text_rows (record {
+      separator = p.separator;
+      hyphens = p.hyphens;
+      breaks = p.breaks;
+      narrow = min (p.room - m)
+          (p.room - n);
+    })
     (p.room - m) (p.room - n) (text_lines (erased ts)))) (columns_of-erased p.first) (columns_of-erased p.further)
     ∙ ap (λ ps. joined_rows (erased p.first) (erased p.further)
     (text_rows (cuts_of p) (first_room p) (further_room p) ps)) (pieces-erased ts)

@@ -107,14 +107,24 @@ rows-of-text cuts room room' ts = omega (
 pub filled-text : (p : Plan (List Token)) (text : List Token) (narrow room room' : ℕ) (f f' t : List Token) → f
     ≡ p.first → f' ≡ p.further → t ≡ text → room ≡ p.room - columns_of f → room' ≡ p.room - columns_of f' → narrow
     ≡ min room room' →
-    spell f ++ spell (joined_rows [] f' (text_rows (record { separator = p.separator; hyphens = p.hyphens; breaks =
-    p.breaks; narrow = narrow })
+    spell f ++ spell (joined_rows [] f' (text_rows (record {
+      separator = p.separator;
+      hyphens = p.hyphens;
+      breaks =
+          p.breaks;
+      narrow = narrow;
+    })
     room room' (text_lines t))) ≡ spell (filled_text p text)
 filled-text p text narrow room room' f f' t i j k q r e =
     sym (spell-append f (joined_rows [] f' (text_rows (record
     { separator = p.separator; hyphens = p.hyphens; breaks = p.breaks; narrow = narrow }) room room' (text_lines t))))
-    ∙ ap spell (sym (joined-first f f' (text_rows (record { separator = p.separator; hyphens = p.hyphens; breaks =
-    p.breaks; narrow = narrow })
+    ∙ ap spell (sym (joined-first f f' (text_rows (record {
+      separator = p.separator;
+      hyphens = p.hyphens;
+      breaks =
+          p.breaks;
+      narrow = narrow;
+    })
     room room' (text_lines t)) (rows-of-text (record {
       separator = p.separator;
       hyphens = p.hyphens;
@@ -122,8 +132,13 @@ filled-text p text narrow room room' f f' t i j k q r e =
       narrow =
           narrow;
     }) room room' t)))
-    ∙ ap (λ n. spell (joined_rows f f' (text_rows (record { separator = p.separator; hyphens = p.hyphens; breaks =
-    p.breaks; narrow = n }) room
+    ∙ ap (λ n. spell (joined_rows f f' (text_rows (record {
+      separator = p.separator;
+      hyphens = p.hyphens;
+      breaks =
+          p.breaks;
+      narrow = n;
+    }) room
     room' (text_lines t)))) e
     ∙ ap₂ (λ m n. spell (joined_rows f f' (text_rows (record
     { separator = p.separator; hyphens = p.hyphens; breaks = p.breaks; narrow = min m n }) m n (text_lines t)))) q r

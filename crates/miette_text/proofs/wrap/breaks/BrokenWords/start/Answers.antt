@@ -5,8 +5,12 @@ use Rattle.miette_text.proofs.BreakWords.{words-in}
 use Rattle.miette_text.proofs.wrap.breaks.BrokenWords.start.Goals as goal
 
 pub returns-clause-left : goal.returns-clause-left
-returns-clause-left c = λ cuts cells h. elim cells as (λ cs. left_in (record { before = 0; letters = 0; spaces = 0;
-    state = c.start.result }) cuts cs ≡ cut_words cuts cs) [
+returns-clause-left c = λ cuts cells h. elim cells as (λ cs. left_in (record {
+  before = 0;
+  letters = 0;
+  spaces = 0;
+  state = c.start.result;
+}) cuts cs ≡ cut_words cuts cs) [
   | [] ↦ refl
   | x ∷ xs ↦
       ap (λ s. flat_map (parts cuts) (words_in s (x ∷ xs))) c.start.ensures
