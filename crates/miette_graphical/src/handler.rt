@@ -206,7 +206,7 @@ impl<H: Highlighter> GraphicalReportHandler<H> {
         self
     }
 
-    /// How words are told apart. There is one way.
+    /// How words are told apart: by spaces, as it is by default, or by Unicode's line breaks.
     pub fn with_word_separator(mut self, word_separator: WordSeparator) -> Self
         ensures { result ≡ wrapped_by self (record self.settings.wrapping { word_separator = word_separator }) }
     {

@@ -178,7 +178,7 @@ impl<H: Highlighter> MietteHandlerOpts<H> {
         self
     }
 
-    /// How words are told apart. There is one way.
+    /// How words are told apart: by spaces, as it is by default, or by Unicode's line breaks.
     pub fn word_separator(mut self, word_separator: WordSeparator) -> Self
         ensures { result ≡ record self { wrapping = record self.wrapping { word_separator = word_separator } } }
     {
