@@ -13,7 +13,7 @@ pub record IsFailure (program : Program) (ending : Ending) (old new : Option (Li
   pub status : ending.status ≡ status_of program fault
   pub row : OnOk ending.told (Appends old new (fault_row program fault))
 
--- The fault is the one that there was: wrong words, a reader or a writer that failed, or else memory that was refused.
+-- The fault is of the words exactly where these are wrong, and of the reader or the writer exactly where it failed.
 pub record IsFound (wrong : Type 0) (read_failed write_failed : Bool) (fault : Fault) : Type 0 where
   pub usage : (fault ≡ Usage) ↔ wrong
   pub read : IsTrue read_failed ↔ (fault ≡ Read)
