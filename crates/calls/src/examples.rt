@@ -136,10 +136,7 @@ static MANY: Labelled = (
 
 static REFUSED: Labelled = (&[(9, 1, 0, "far off"), (0, 1, 0, "here")], b"a");
 
-/// The report of this name. Of the source that stops the first read fails.
-///
-/// # Errors
-/// Where memory is refused.
+/// The report of this name, or an error where memory is refused. Of the source that stops the first read fails.
 fn report<'a>(alloc: Global, name: &str, reads: &'a Reads) -> Result<Made<'a>, AllocError> {
     match lone_report(name) {
         Some(written) => report_of(alloc, &written),
@@ -256,8 +253,6 @@ fn row<W: Write>(alloc: Global, out: &mut W, name: &str, handler: &str) -> Done 
 }
 
 /// The text `> ` and what the handler of this name puts behind it, of a report that was made.
-///
-/// # Errors
 /// `Write` where standard output took no more, `Memory` where the report or the handler wasn't made.
 pub fn render_made<W: Write>(
     alloc: Global,
