@@ -3,6 +3,7 @@ use Rattle.std.specs.Prelude.{◌≡◌, ℕ, false, List, [], ◌∷◌, Some, 
 use Rattle.miette_protocol.specs.views.Diagnostic.{message_alone}
 use Rattle.miette_protocol.specs.views.Meaning.{Label}
 use Rattle.miette_protocol.specs.rules.Reading.{Source, named_source, plain_source}
+use Rattle.miette_tree.specs.rules.Diagnosis.{plain_diagnosis}
 use Rattle.miette_tree.specs.rules.Tree.{Tree, alone, with_source}
 use Rattle.miette_style.specs.rules.Themes.{ansi_styles, no_styles, unicode_characters}
 use Rattle.miette_snippet_rules.specs.rules.Marks.{Mark}
@@ -33,7 +34,7 @@ name_label = record {
 
 abbrev pub warning_tree : Tree
 warning_tree = with_source settings_file
-    (alone (record (message_alone (codes "no such host")) { labels = Some (name_label ∷ []) }))
+    (alone (plain_diagnosis (record (message_alone (codes "no such host")) { labels = Some (name_label ∷ []) })))
 
 -- ---- how it is drawn
 

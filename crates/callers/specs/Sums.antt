@@ -7,6 +7,7 @@ use Rattle.miette_protocol.specs.views.Diagnostic.{message_alone}
 use Rattle.miette_protocol.specs.views.Meaning.{Label}
 use Rattle.miette_protocol.specs.rules.Reading.{Source, named_source, plain_source}
 use Rattle.miette_runs.specs.rules.Runs.{Fragment, print}
+use Rattle.miette_tree.specs.rules.Diagnosis.{plain_diagnosis}
 use Rattle.miette_tree.specs.rules.Tree.{Tree, alone, diagnostic, head, with_cause, with_source}
 use Rattle.miette_graphical.specs.rules.Answers.{nothing_listed}
 use Rattle.miette_graphical.specs.rules.DiagnosticText.{line_feed}
@@ -48,11 +49,12 @@ abbrev pub depth_labels : List Label
 depth_labels = label_at 8 1 (codes "set here") ∷ []
 
 abbrev pub depth_tree : Tree
-depth_tree = with_source depth_file (alone (record (message_alone (codes "too deep")) { labels = Some depth_labels }))
+depth_tree = with_source depth_file
+    (alone (plain_diagnosis (record (message_alone (codes "too deep")) { labels = Some depth_labels })))
 
 abbrev pub sum_tree : Tree
 sum_tree = with_cause (diagnostic depth_tree) (with_source sum_file
-    (alone (record (message_alone (codes "no term")) { labels = Some sum_labels })))
+    (alone (plain_diagnosis (record (message_alone (codes "no term")) { labels = Some sum_labels }))))
 
 -- ---- how it is drawn: lines of more than 12 columns are cut, labels of more than two lines folded
 

@@ -1,6 +1,7 @@
 //! Reports over boxes, as users write them: what a message in front keeps.
 
 ghost use Rattle.std.specs.Prelude.{◌≡◌, ◌⊎◌, IfOk, IfErr, codes};
+ghost use Rattle.miette_tree.specs.rules.Diagnosis.{plain_diagnosis};
 ghost use Rattle.miette_tree.specs.rules.Tree.{head, alone, wrapped_tree};
 ghost use Rattle.miette_tree.specs.views.Report.{tree_of, out_of_memory_alone};
 
@@ -30,7 +31,7 @@ pub fn step(alloc: Global, outcome: Result<u32>) -> Result<u32>
         let tree = tree_of ⟦<Box<dyn Diagnostic> as Diagnostic>⟧.meaning
         ⟦<Box<dyn SourceCode> as SourceCode>⟧.source in
         (tree r ≡ wrapped_tree (codes "the step failed") (tree report))
-        ⊎ (tree r ≡ alone out_of_memory_alone))) }
+        ⊎ (tree r ≡ alone (plain_diagnosis out_of_memory_alone)))) }
 {
     outcome.wrap_err(alloc, "the step failed")
 }

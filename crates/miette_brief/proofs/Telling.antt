@@ -4,7 +4,8 @@ use Rattle.std.proofs.Common.{◌&&◌, ◌||◌}
 use Rattle.std.proofs.Common.{Option, Some, None, refl, sym, ap, ap₂, subst, ◌∙◌, append_assoc, append-nil}
 use Rattle.std.proofs.lemmas.List.{drop_all}
 use Rattle.miette_protocol.specs.rules.Reading.{Source, is_accepted}
-use Rattle.miette_protocol.specs.views.Meaning.{Label, Meaning}
+use Rattle.miette_protocol.specs.views.Meaning.{Label}
+use Rattle.miette_tree.specs.rules.Diagnosis.{Diagnosis}
 use Rattle.miette_tree.specs.rules.Tree.{Tree, tree, Cause, diagnostic, texts, Trees, no_trees, more_trees, trees}
 use Rattle.miette_tree.specs.rules.Tree.{effective, head, source_of, cause_of, related_of}
 use Rattle.miette_tree.specs.rules.DiagnosticParts.{given_labels}
@@ -12,7 +13,7 @@ use Rattle.miette_tree.specs.rules.Reads.{AlwaysReads, CauseAlwaysReads, AllAlwa
 use Rattle.miette_tree.specs.rules.Reads.{MayMeet}
 use Rattle.miette_tree.specs.rules.Answers.{own_fault}
 use Rattle.miette_tree.proofs.Nesting.{Reads, effective_reads, next_of}
-use Rattle.miette_tree.proofs.Readings.{fault_free}
+use Rattle.miette_tree.proofs.Readings.{fault_free, own_fails}
 use Rattle.miette_labels.specs.rules.Groups.{in_order}
 use Rattle.miette_labels.proofs.OwnContexts.{order_all, order_nil}
 use Rattle.miette_brief.specs.rules.Rows.{Place, ReportRow, rows_text}
@@ -63,7 +64,7 @@ rows_of_three labelled causes help =
     rows_joined labelled (causes ++ help) ∙ ap (λ l. rows_text labelled ++ l) (rows_joined causes help)
 
 -- a diagnostic and its labels in this order
-pub labelled : (source : Option Source) (m : Meaning) (labels order : List Label) (at : Place) (old mid new : List ℕ)
+pub labelled : (source : Option Source) (m : Diagnosis) (labels order : List Label) (at : Place) (old mid new : List ℕ)
     → labels ≡ given_labels m.labels → order ≡ in_order labels → IsDiagnosticPlace source order at
     → mid ≡ old ++ rows_text (finding_row at m ∷ []) → new ≡ mid ++ rows_text (note_rows source order)
     → HasAccepted source order → AppendsLabelled source m at old new
@@ -79,7 +80,7 @@ labelled source m labels order at old mid new el eo placed e f accepted =
           ∙ ap (λ x. old ++ x) (sym (rows_joined (finding_row at m ∷ []) (note_rows source ls)));
     }
 
-pub own_told : (chain : Bool) (source : Option Source) (m : Meaning) (c : Cause) (at : Place)
+pub own_told : (chain : Bool) (source : Option Source) (m : Diagnosis) (c : Cause) (at : Place)
     (given : Option (List ℕ)) (old mid caused new : List ℕ)
     → given ≡ m.help → AppendsLabelled source m at old mid → AppendsCauses chain at source c mid caused
     → new ≡ caused ++ rows_text (help_rows at given) → AppendsOwn chain source m c old new
@@ -169,8 +170,8 @@ accepts_order (Some s) labels = ap₂ (λ all nil. all && (nil || s.always_reads
 pub refused_here : (t : Tree) (inherited source : Option Source) → source ≡ effective (source_of t) inherited →
     accepts source (in_order (given_labels (head t).labels)) ≡ false → holds_of accepts inherited t ≡ false
 refused_here (tree m s c r) inherited source es e =
-    ap (λ b. b && holds_of_all accepts (effective s inherited) r)
-    (sym (ap (λ o. accepts o (given_labels m.labels)) es) ∙ (sym (accepts_order source (given_labels m.labels)) ∙ e))
+    own_fails accepts (tree m s c r) inherited (ap (λ b. b && holds_of_all accepts (effective s inherited) r)
+    (sym (ap (λ o. accepts o (given_labels m.labels)) es) ∙ (sym (accepts_order source (given_labels m.labels)) ∙ e)))
 
 -- labels in an order that is refused
 pub order_refused : {X : Type 0} (label : List Label → X → Label) (source : Option Source) (labels given : List Label)

@@ -1,6 +1,7 @@
 -- The fields of a report, put one behind the other.
 use Rattle.std.proofs.Common.{◌≡◌, ℕ, List, [], ◌∷◌, ◌++◌, Option, refl, ap, subst, ◌∙◌, append_assoc, codes}
-use Rattle.miette_protocol.specs.views.Meaning.{Label, Meaning}
+use Rattle.miette_protocol.specs.views.Meaning.{Label}
+use Rattle.miette_tree.specs.rules.Diagnosis.{Diagnosis}
 use Rattle.miette_protocol.specs.declared.protocol.Severity.{Severity}
 use Rattle.miette_tree.specs.rules.Tree.{Tree, head, cause_of, causes_of}
 use Rattle.miette_tree.specs.rules.DiagnosticParts.{given_labels}
@@ -14,7 +15,7 @@ four : (old a b c new code severity url help : List ℕ) → a ≡ old ++ code �
 four old a b c new code severity url help p q r s = s ∙ ap (λ l. l ++ help)
     (r ∙ ap (λ l. l ++ url) (q ∙ ap (λ l. l ++ severity) p)) ∙ simp append_assoc
 
-pub members_put : (m : Meaning) (code : Option (List ℕ)) (severity : Option Severity) (variant : Option (List ℕ))
+pub members_put : (m : Diagnosis) (code : Option (List ℕ)) (severity : Option Severity) (variant : Option (List ℕ))
     (url help : Option (List ℕ)) (old a b c new : List ℕ) → code ≡ m.code → severity ≡ m.severity
     → variant ≡ severity_variant severity → url ≡ m.url → help ≡ m.help
     → AppendsOne (IsField (codes "code") code) old a → AppendsOne (IsField (codes "severity") variant) a b

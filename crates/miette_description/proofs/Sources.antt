@@ -10,8 +10,10 @@ use Rattle.serde_json.specs.Find.{as_null, as_str}
 use Rattle.serde_json.specs.Written.{has_float}
 use Rattle.miette_protocol.specs.rules.Reading.{Source}
 use Rattle.miette_protocol.specs.views.Meaning.{Meaning}
+use Rattle.miette_tree.specs.rules.Diagnosis.{plain_diagnosis}
 use Rattle.miette_tree.specs.rules.Tree.{Tree, tree, Trees, no_trees, wrapped_tree}
 use Rattle.miette_tree.specs.rules.Reads.{AlwaysReads, CauseAlwaysReads, AllAlwaysRead}
+use Rattle.miette_tree.proofs.Readings.{none_further}
 use Rattle.miette_description.specs.rules.Members.{and_then, at_key, optional_value, list_of, source_named, source_of}
 use Rattle.miette_description.specs.rules.Members.{meaning_in}
 use Rattle.miette_description.specs.rules.Description.{one_cause, wrapped_in, tree_of_parts, report_from, nullable}
@@ -78,7 +80,7 @@ one_cause_reads (Some t) None r = r
 one_cause_reads (Some t) (Some ts) r = tt
 
 wrapped_reads : (message : List ℕ) (t : Tree) → AlwaysReads t → AlwaysReads (wrapped_tree message t)
-wrapped_reads message (tree m s c r) reads = (reads.0, tt, reads.2)
+wrapped_reads message (tree m s c r) reads = (reads.0, tt, reads.2, reads.3)
 
 wrapped_in_reads : (ms : List (List ℕ)) (t : Tree) → AlwaysReads t → AlwaysReads (wrapped_in ms t)
 wrapped_in_reads [] t r = r
@@ -94,10 +96,10 @@ assembled_reads : (m : Meaning) (s : Option Source) (one : Option Tree) (several
     → IfSome (tree_of_parts m s one several related contexts) AlwaysReads
 assembled_reads m s one several related contexts a b c =
     mapped CauseAlwaysReads AlwaysReads (one_cause one several)
-    (λ cause. wrapped_in (unwrap_or contexts []) (tree m s cause (unwrap_or related no_trees)))
+    (λ cause. wrapped_in (unwrap_or contexts []) (tree (plain_diagnosis m) s cause (unwrap_or related no_trees)))
     (one_cause_reads one several b)
-    (λ cause p. wrapped_in_reads (unwrap_or contexts []) (tree m s cause (unwrap_or related no_trees))
-    (a, p, related_reads related c))
+    (λ cause p. wrapped_in_reads (unwrap_or contexts []) (tree (plain_diagnosis m) s cause (unwrap_or related no_trees))
+    (a, p, related_reads related c, none_further))
 
 parts_read : (cause : Option (Option Tree)) (related : Option (Option Trees)) (d : Data) → Maybe AlwaysReads cause
     → Maybe AllAlwaysRead related → IfSome (report_from cause related d) AlwaysReads

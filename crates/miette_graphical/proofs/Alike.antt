@@ -3,7 +3,7 @@ use Rattle.std.proofs.Common.{◌≡◌, ℕ, zero, suc, inl, inr, Bool, true, f
 use Rattle.std.proofs.Common.{refl, ap, ap₂, ◌∙◌, subst, if◌then◌else◌}
 use Rattle.std.specs.List.{AllByRecursion, Contains}
 use Rattle.miette_runs.specs.rules.Cutting.{without_trailing}
-use Rattle.miette_protocol.specs.views.Meaning.{Meaning}
+use Rattle.miette_tree.specs.rules.Diagnosis.{Diagnosis}
 use Rattle.miette_protocol.specs.rules.Reading.{Source}
 use Rattle.miette_protocol.specs.declared.protocol.Severity.{Severity}
 use Rattle.miette_tree.specs.rules.DiagnosticParts.{given_labels}
@@ -34,7 +34,7 @@ module _ (rows others : SnippetRows) where
   AreSame p a b = (u : Settings) → rows u p.source (given_labels p.meaning.labels) a
       ≡ others u p.source (given_labels p.meaning.labels) b
 
-  same_drawn : (u : Settings) (source : Option Source) (m : Meaning) (a b : Answer) → AreSame (over source m) a b →
+  same_drawn : (u : Settings) (source : Option Source) (m : Diagnosis) (a b : Answer) → AreSame (over source m) a b →
       rows_text (rows u source (given_labels m.labels) a) ≡ rows_text (others u source (given_labels m.labels) b)
   same_drawn u source m a b h = ap rows_text (h u)
 
@@ -91,7 +91,7 @@ module _ (rows others : SnippetRows) where
         false w (λ k path. h zero (to_related k ∷ path)))))
         (related_alike s outer inherited ts (later_answers a) (later_answers b) false w (λ k path. h (suc k) path))
 
-  root_alike : (chain : Bool) (s : Settings) (m : Meaning) (own : Option Source) (c : Cause) (a b : Answers) →
+  root_alike : (chain : Bool) (s : Settings) (m : Diagnosis) (own : Option Source) (c : Cause) (a b : Answers) →
       ((path : List Step) (p : PrintedDiagnostic) → (if chain then at_cause s.related_as_nested own c path else None)
       ≡ Some p
       → AreSame p (answer_at a path) (answer_at b path)) →

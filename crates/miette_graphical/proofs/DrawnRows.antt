@@ -3,7 +3,8 @@ use Rattle.std.proofs.Common.{◌≡◌, ◌≢◌, ℕ, Bool, true, false, ◌|
 use Rattle.std.proofs.Common.{ap, ap₂, ◌∙◌, subst, Option, Some, None, is_some, option_map, codes, length, ◌<◌, arith}
 use Rattle.std.proofs.Common.{◌++◌, drop}
 use Rattle.std.proofs.lemmas.Bool.{cases_Bool}
-use Rattle.miette_protocol.specs.views.Meaning.{Label, Meaning}
+use Rattle.miette_protocol.specs.views.Meaning.{Label}
+use Rattle.miette_tree.specs.rules.Diagnosis.{Diagnosis}
 use Rattle.miette_protocol.specs.rules.Reading.{Source, is_accepted}
 use Rattle.miette_labels.specs.rules.Answers.{Highlight, NoneFails, AlwaysReads}
 use Rattle.miette_highlight.specs.rules.HighlighterCalls.{Call, Leads}
@@ -217,7 +218,7 @@ refused_page s source labels blank before g =
 
 -- ---- a diagnostic's snippets
 
-pub drawn_nowhere : (s : Settings) (blank : Bool) (now : List Call → Type 0) (m : Meaning) (text : List ℕ) → text ≡ []
+pub drawn_nowhere : (s : Settings) (blank : Bool) (now : List Call → Type 0) (m : Diagnosis) (text : List ℕ) → text ≡ []
     → IsDrawn None m (printing s blank now now) text
 drawn_nowhere s blank now m text e = (
   nothing_listed,
@@ -227,7 +228,7 @@ drawn_nowhere s blank now m text e = (
   e,
 )
 
-pub drawn_unlabelled : (s : Settings) (blank : Bool) (now : List Call → Type 0) (source : Source) (m : Meaning)
+pub drawn_unlabelled : (s : Settings) (blank : Bool) (now : List Call → Type 0) (source : Source) (m : Diagnosis)
     (text : List ℕ) → given_labels m.labels ≡ [] → text ≡ [] →
     IsDrawn (Some source) m (printing s blank now now) text
 drawn_unlabelled s blank now source m text e t = (

@@ -5,7 +5,7 @@ use Rattle.std.proofs.lemmas.Option.{same_Some}
 use Rattle.miette_runs.specs.rules.Runs.{print}
 use Rattle.miette_protocol.specs.declared.protocol.Severity.{Severity}
 use Rattle.miette_protocol.specs.rules.Reading.{Source}
-use Rattle.miette_protocol.specs.views.Meaning.{Meaning}
+use Rattle.miette_tree.specs.rules.Diagnosis.{Diagnosis}
 use Rattle.miette_tree.specs.rules.DiagnosticParts.{given_labels}
 use Rattle.miette_tree.specs.rules.Tree.{effective, Tree, tree, Cause, diagnostic, texts, Trees, no_trees, more_trees}
 use Rattle.miette_tree.specs.rules.Tree.{source_of}
@@ -53,7 +53,7 @@ behind (arrow ∷ arrows) s drawn y text k = (
 
 -- ---- in a body, below whatever text
 
-drawn_below : (x : List ℕ) (s : Settings) (m : Meaning) (drawn causes related : List ℕ) → EndsRow causes
+drawn_below : (x : List ℕ) (s : Settings) (m : Diagnosis) (drawn causes related : List ℕ) → EndsRow causes
     → StandsIn drawn (x ++ body_over s m drawn causes related)
 drawn_below x s m drawn causes related h =
     let above = (x ++ message_text s m) ++ causes in
@@ -64,7 +64,7 @@ drawn_below x s m drawn causes related h =
     (ahead-stands above drawn drawn
     (inr (ended-rows (x ++ message_text s m) causes (above-ended x s m) h)) (whole-stands drawn))))
 
-causes_below : (arrows : List Arrow) (s : Settings) (at : Drawn) (x : List ℕ) (m : Meaning)
+causes_below : (arrows : List Arrow) (s : Settings) (at : Drawn) (x : List ℕ) (m : Diagnosis)
     (drawn causes related : List ℕ) → HoldsUnder arrows s at causes
     → HoldsUnder arrows s at (x ++ body_over s m drawn causes related)
 causes_below arrows s at x m drawn causes related k =
@@ -75,7 +75,7 @@ causes_below arrows s at x m drawn causes related k =
     (behind arrows s at help (above ++ causes ++ drawn)
     (behind arrows s at drawn (above ++ causes) (ahead arrows s at above causes (inr (above-ended x s m)) k))))
 
-related_below : (arrows : List Arrow) (s : Settings) (at : Drawn) (x : List ℕ) (m : Meaning)
+related_below : (arrows : List Arrow) (s : Settings) (at : Drawn) (x : List ℕ) (m : Diagnosis)
     (drawn causes related : List ℕ) → EndsRow drawn → EndsRow causes → HoldsUnder arrows s at related
     → HoldsUnder arrows s at (x ++ body_over s m drawn causes related)
 related_below arrows s at x m drawn causes related d h k =
@@ -100,7 +100,7 @@ module _ (rows : SnippetRows) where
   -- ---- the texts that a report is made of
 
   -- an inner report, with the line feeds at its ends
-  abbrev uncut : Settings → Meaning → Option Source → Answer → List ℕ → List ℕ
+  abbrev uncut : Settings → Diagnosis → Option Source → Answer → List ℕ → List ℕ
   uncut s m source a related = print (header s m) ++ body_over s m (drawn_text rows s m source a) [] related
 
   abbrev cause_arrow : Option Severity → Cause → Arrow
@@ -110,13 +110,13 @@ module _ (rows : SnippetRows) where
   related_arrow outer ts = record { outer = outer; is_last = are_last ts; is_related = true }
 
   -- under its arrow
-  abbrev under : Settings → Arrow → Meaning → Option Source → Answer → List ℕ → List ℕ
+  abbrev under : Settings → Arrow → Diagnosis → Option Source → Answer → List ℕ → List ℕ
   under s arrow m source a related =
       under_arrow s arrow.outer arrow.is_last (cut_text arrow (uncut (narrow_settings s arrow.outer arrow.is_last) m
       source a related))
 
   -- the related reports of what is under an arrow
-  abbrev related_under : Settings → Arrow → Meaning → Option Source → Trees → Answers → List ℕ
+  abbrev related_under : Settings → Arrow → Diagnosis → Option Source → Trees → Answers → List ℕ
   related_under s arrow m source r a =
       related_text rows (narrow_settings s arrow.outer arrow.is_last) m.severity source r (related_answers a)
 
@@ -138,13 +138,13 @@ module _ (rows : SnippetRows) where
 
   -- ---- they are whole rows
 
-  under-ended : (s : Settings) (arrow : Arrow) (m : Meaning) (source : Option Source) (a : Answer) (related : List ℕ)
+  under-ended : (s : Settings) (arrow : Arrow) (m : Diagnosis) (source : Option Source) (a : Answer) (related : List ℕ)
       → IsEnded (under s arrow m source a related)
   under-ended s arrow m source a related =
       arrow-ended s arrow.outer arrow.is_last
       (cut_text arrow (uncut (narrow_settings s arrow.outer arrow.is_last) m source a related))
 
-  text-rows : (s : Settings) (m : Meaning) (source : Option Source) (a : Answer)
+  text-rows : (s : Settings) (m : Diagnosis) (source : Option Source) (a : Answer)
       → EndsRow (drawn_text rows s m source a)
   text-rows s m source a = drawn-rows (rows s source (given_labels m.labels) a)
 
@@ -184,7 +184,7 @@ module _ (rows : SnippetRows) where
 
   -- ---- under an arrow
 
-  own_under : (s : Settings) (arrow : Arrow) (m : Meaning) (source : Option Source) (a : Answer) (related : List ℕ)
+  own_under : (s : Settings) (arrow : Arrow) (m : Diagnosis) (source : Option Source) (a : Answer) (related : List ℕ)
       → HoldsUnder (arrow ∷ []) s (text_at rows (over source m) a) (under s arrow m source a related)
   own_under s arrow m source a related =
       let n = narrow_settings s arrow.outer arrow.is_last in (
@@ -193,7 +193,7 @@ module _ (rows : SnippetRows) where
         drawn_below (print (header n m)) n m (drawn_text rows n m source a) [] related (inl refl),
       )
 
-  more_under : (s : Settings) (arrow : Arrow) (arrows : List Arrow) (at : Drawn) (m : Meaning) (source : Option Source)
+  more_under : (s : Settings) (arrow : Arrow) (arrows : List Arrow) (at : Drawn) (m : Diagnosis) (source : Option Source)
       (a : Answer) (related : List ℕ) →
       HoldsUnder arrows (narrow_settings s arrow.outer arrow.is_last) at related
       → HoldsUnder (arrow ∷ arrows) s at (under s arrow m source a related)
@@ -327,7 +327,7 @@ module _ (rows : SnippetRows) where
 
   -- ---- the whole report
 
-  root_causes_hold : (chain : Bool) (s : Settings) (m : Meaning) (own : Option Source) (c : Cause) (a : Answers)
+  root_causes_hold : (chain : Bool) (s : Settings) (m : Diagnosis) (own : Option Source) (c : Cause) (a : Answers)
       (path : List Step) (p : PrintedDiagnostic) →
       (if chain then at_cause s.related_as_nested own c path else None) ≡ Some p →
       HoldsUnder (cause_arrows s.related_as_nested m.severity c path) s (text_at rows p (answer_at a path))
@@ -335,7 +335,7 @@ module _ (rows : SnippetRows) where
   root_causes_hold true s m own c a path p h = causes_hold s m.severity own c a s.related_as_nested refl path p h
   root_causes_hold false s m own c a path p h = absurd (cc)
 
-  root-rows : (chain : Bool) (s : Settings) (m : Meaning) (own : Option Source) (c : Cause) (a : Answers)
+  root-rows : (chain : Bool) (s : Settings) (m : Diagnosis) (own : Option Source) (c : Cause) (a : Answers)
       → EndsRow (only_if chain (causes_text rows s m.severity own c a))
   root-rows true s m own c a = causes-rows s m.severity own c a
   root-rows false s m own c a = inl refl

@@ -4,7 +4,8 @@ use Rattle.std.proofs.Common.{Option, Some, None, IfSome}
 use Rattle.miette_basics.specs.rules.Lists.{is_nil}
 use Rattle.miette_runs.specs.rules.Runs.{Fragment, Styled, print}
 use Rattle.miette_style.specs.rules.Styles.{plain}
-use Rattle.miette_protocol.specs.views.Meaning.{Meaning, Label}
+use Rattle.miette_protocol.specs.views.Meaning.{Label}
+use Rattle.miette_tree.specs.rules.Diagnosis.{Diagnosis}
 use Rattle.miette_protocol.specs.rules.Reading.{Source}
 use Rattle.miette_protocol.specs.declared.protocol.Severity.{Severity}
 use Rattle.miette_protocol.specs.declared.protocol.Severity.TheVariants.{Advice, Warning, Error}
@@ -133,7 +134,7 @@ module _ (laws : TextLaws) (hs : List Style) (bare : AreAllPlain hs) where
   pale-header_by Hidden s v url (Some code) h k j = record { clean = (j, (refl, tt)); same = refl }
   pale-header_by Hidden s v url None h k j = record { clean = tt; same = refl }
 
-  pale-header : (s : Settings) (m : Meaning) → AreCleanSettings s → IsCleanMeaning m
+  pale-header : (s : Settings) (m : Diagnosis) → AreCleanSettings s → IsCleanMeaning m
       → Pales (header s m) (header (faded hs s) m)
   pale-header s m h k =
       let p = pale-header_by s.urls s m.severity m.url m.code h k.url k.code in
@@ -149,7 +150,7 @@ module _ (laws : TextLaws) (hs : List Style) (bare : AreAllPlain hs) where
 
   -- ---- message, help, footer
 
-  pub fades-header : (s : Settings) (m : Meaning) → AreCleanSettings s → IsCleanMeaning m
+  pub fades-header : (s : Settings) (m : Diagnosis) → AreCleanSettings s → IsCleanMeaning m
       → Fades (print (header s m)) (print (header (faded hs s) m))
   fades-header s m h k = fades-print laws (header s m) (header (faded hs s) m) (pale-header s m h k)
 
@@ -159,7 +160,7 @@ module _ (laws : TextLaws) (hs : List Style) (bare : AreAllPlain hs) where
   title-clean (Some Warning) = refl
   title-clean (Some Advice) = refl
 
-  pub fades-title : (s : Settings) (m : Meaning) → AreCleanSettings s → IsCleanMeaning m
+  pub fades-title : (s : Settings) (m : Diagnosis) → AreCleanSettings s → IsCleanMeaning m
       → Fades (title_text s m) (title_text (faded hs s) m)
   fades-title s m h k =
       fades-append laws (line_feed ++ severity_title m.severity) (line_feed ++ severity_title m.severity)
@@ -171,7 +172,7 @@ module _ (laws : TextLaws) (hs : List Style) (bare : AreAllPlain hs) where
   fades-line : (x y : List ℕ) → Fades x y → Fades (x ++ line_feed) (y ++ line_feed)
   fades-line x y h = fades-append laws x y line_feed line_feed h (fades-feed laws)
 
-  fades-message : (s : Settings) (m : Meaning) → AreCleanSettings s → IsCleanMeaning m
+  fades-message : (s : Settings) (m : Diagnosis) → AreCleanSettings s → IsCleanMeaning m
       → Fades (message_text s m) (message_text (faded hs s) m)
   fades-message s m h k =
       fades-line (wrapped_under s (icon_indent s m.severity) (bar_indent s m.severity) (chars m.message))
@@ -245,7 +246,7 @@ module _ (laws : TextLaws) (hs : List Style) (bare : AreAllPlain hs) where
   effective-clean (Some s) inherited h k = h
 
   pub fades-body : (rows : SnippetRows) → AreSnippets rows
-      → (s : Settings) (m : Meaning) (source : Option Source) (a : Answer) (causes causes2 related related2 : List ℕ) →
+      → (s : Settings) (m : Diagnosis) (source : Option Source) (a : Answer) (causes causes2 related related2 : List ℕ) →
       AreCleanSettings s → IsCleanMeaning m → IfSome source IsCleanSource → Fades causes causes2
       → Fades related related2 →
       Fades (body_over s m (drawn_text rows s m source a) causes related)
@@ -270,7 +271,7 @@ module _ (laws : TextLaws) (hs : List Style) (bare : AreAllPlain hs) where
       three q
 
   pub fades-inner : (rows : SnippetRows) → AreSnippets rows
-      → (s : Settings) (m : Meaning) (source : Option Source) (a : Answer) (related related2 : List ℕ) →
+      → (s : Settings) (m : Diagnosis) (source : Option Source) (a : Answer) (related related2 : List ℕ) →
       AreCleanSettings s → IsCleanMeaning m → IfSome source IsCleanSource → Fades related related2 →
       Fades (inner_text rows s m source a related) (inner_text rows (faded hs s) m source (unhighlighted_answer a)
       related2)

@@ -1,6 +1,7 @@
 -- Answers without a highlighter's pieces are possible in plain styles: the snippets have rows there too.
 use Rattle.std.proofs.Common.{◌≡◌, Bool, true, List, Option, Some, None, is_some, map, option_map, refl, ap, ◌∙◌, subst}
-use Rattle.miette_protocol.specs.views.Meaning.{Label, Meaning}
+use Rattle.miette_protocol.specs.views.Meaning.{Label}
+use Rattle.miette_tree.specs.rules.Diagnosis.{Diagnosis}
 use Rattle.miette_protocol.specs.rules.Reading.{Source}
 use Rattle.miette_tree.specs.rules.DiagnosticParts.{given_labels}
 use Rattle.miette_tree.specs.rules.Tree.{effective, Tree, tree, Cause, diagnostic, texts, Trees, no_trees, more_trees}
@@ -60,7 +61,7 @@ module _ (kept : AreRowsKept) where
     rows = rows_kept l source labels a h.rows;
   }
 
-  own_possible : (l : snippets.SnippetSettings) (blank : Bool) (source : Option Source) (m : Meaning) (a : Answers)
+  own_possible : (l : snippets.SnippetSettings) (blank : Bool) (source : Option Source) (m : Diagnosis) (a : Answers)
       → IsAnswer l blank source m (own_answer a) →
       IsAnswer (fading.colourless l) true source m (own_answer (unhighlighted_answers a))
   own_possible l blank source m a h =

@@ -3,7 +3,7 @@ use Rattle.std.proofs.Common.{◌≡◌, ℕ, Bool, List, [], ◌++◌, refl, sy
 use Rattle.std.proofs.Common.{if◌then◌else◌}
 use Rattle.miette_runs.specs.rules.Runs.{print}
 use Rattle.miette_runs.specs.rules.Cutting.{without_trailing}
-use Rattle.miette_protocol.specs.views.Meaning.{Meaning}
+use Rattle.miette_tree.specs.rules.Diagnosis.{Diagnosis}
 use Rattle.miette_protocol.specs.rules.Reading.{Source}
 use Rattle.miette_tree.specs.rules.Tree.{Tree, tree, Cause, diagnostic, texts, Trees, no_trees, more_trees}
 use Rattle.miette_protocol.specs.declared.protocol.Severity.{Severity}
@@ -38,7 +38,7 @@ module _ (laws : TextLaws) (hs : List Style) (bare : AreAllPlain hs) where
 
   module _ (rows : SnippetRows) (law : AreSnippets rows) where
     -- an inner report, whose related reports are already known
-    inner : (s : Settings) (v : Option Severity) (b : Bool) (m : Meaning) (source : Option Source) (a : Answers)
+    inner : (s : Settings) (v : Option Severity) (b : Bool) (m : Diagnosis) (source : Option Source) (a : Answers)
         (related : Settings → RelatedAnswers → List ℕ) →
         AreCleanSettings s → IsCleanMeaning m → IfSome source IsCleanSource →
         Fades (related (narrow_settings s v b) (related_answers a))
@@ -59,7 +59,7 @@ module _ (laws : TextLaws) (hs : List Style) (bare : AreAllPlain hs) where
 
   -- ---- what is printed without colours, over the answers without pieces
 
-  report-end : (rows : SnippetRows) (s : Settings) (m : Meaning) (own : Option Source) (c : Cause) (r : Trees)
+  report-end : (rows : SnippetRows) (s : Settings) (m : Diagnosis) (own : Option Source) (c : Cause) (r : Trees)
       (a : Answers) →
       print (header (faded hs s) m)
       ++ body_over (faded hs s) m (drawn_text rows (faded hs s) m own (unhighlighted_answer (own_answer a)))
@@ -78,7 +78,7 @@ module _ (laws : TextLaws) (hs : List Style) (bare : AreAllPlain hs) where
       ap₂ (λ o below. f o below (unhighlighted_related_answers (related_answers a))) (own-bare a) (cause-bare a)
       ∙ ap (f (own_answer (unhighlighted_answers a)) (cause_answers (unhighlighted_answers a))) (related-bare a)
 
-  module _ (rows : SnippetRows) (s : Settings) (m : Meaning) (outer : Option Severity) (own inherited : Option Source)
+  module _ (rows : SnippetRows) (s : Settings) (m : Diagnosis) (outer : Option Severity) (own inherited : Option Source)
       (c : Cause) (r ts : Trees) where
     -- related reports, by the answers of the first one's snippets, of its causes, of its related reports, of all of it,
     -- and of the later ones

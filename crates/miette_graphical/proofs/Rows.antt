@@ -5,7 +5,7 @@ use Rattle.std.specs.List.{Contains}
 use Rattle.std.proofs.lemmas.Str.{encode_ascii, encodes-append}
 use Rattle.miette_runs.specs.rules.Runs.{Fragment, print}
 use Rattle.miette_protocol.specs.declared.protocol.Severity.{Severity}
-use Rattle.miette_protocol.specs.views.Meaning.{Meaning}
+use Rattle.miette_tree.specs.rules.Diagnosis.{Diagnosis}
 use Rattle.miette_graphical.specs.rules.DiagnosticText.{help_text, line_feed, message_text, rows_text, under_arrow}
 use Rattle.miette_graphical.specs.rules.Indents.{arrow_indent, bar_indent, further_help_indent, help_indent}
 use Rattle.miette_graphical.specs.rules.Indents.{icon_indent, stem_indent, wrapped_under}
@@ -45,7 +45,7 @@ arrow-ended s outer is_last text = (
   refl,
 )
 
-pub message-ended : (s : Settings) (m : Meaning) → IsEnded (message_text s m)
+pub message-ended : (s : Settings) (m : Diagnosis) → IsEnded (message_text s m)
 message-ended s m = (wrapped_under s (icon_indent s m.severity) (bar_indent s m.severity) (chars m.message), refl)
 
 pub help-rows : (s : Settings) (help : Option (List ℕ)) → EndsRow (help_text s help)
@@ -70,22 +70,22 @@ grouped x a b c d e =
     ∙ ap (λ t. t ++ d) (sym (append_assoc x (a ++ b) c)
     ∙ ap (λ t. t ++ c) (sym (append_assoc x a b))))
 
-pub body-grouped : (x : List ℕ) (s : Settings) (m : Meaning) (drawn causes related : List ℕ)
+pub body-grouped : (x : List ℕ) (s : Settings) (m : Diagnosis) (drawn causes related : List ℕ)
     → x ++ body_over s m drawn causes related ≡ (x ++ message_text s m) ++ causes ++ drawn ++ help_text s m.help
     ++ related
 body-grouped x s m drawn causes related = grouped x (message_text s m) causes drawn (help_text s m.help) related
 
-pub above-ended : (x : List ℕ) (s : Settings) (m : Meaning) → IsEnded (x ++ message_text s m)
+pub above-ended : (x : List ℕ) (s : Settings) (m : Diagnosis) → IsEnded (x ++ message_text s m)
 above-ended x s m = ended-behind x (message_text s m) (message-ended s m)
 
-pub drawn-ended : (x : List ℕ) (s : Settings) (m : Meaning) (drawn causes : List ℕ) → EndsRow drawn → EndsRow causes
+pub drawn-ended : (x : List ℕ) (s : Settings) (m : Diagnosis) (drawn causes : List ℕ) → EndsRow drawn → EndsRow causes
     → IsEnded ((x ++ message_text s m) ++ causes ++ drawn ++ help_text s m.help)
 drawn-ended x s m drawn causes d h =
     let above = x ++ message_text s m in
     ended-rows (above ++ causes ++ drawn) (help_text s m.help)
     (ended-rows (above ++ causes) drawn (ended-rows above causes (above-ended x s m) h) d) (help-rows s m.help)
 
-pub body-ended : (x : List ℕ) (s : Settings) (m : Meaning) (drawn causes related : List ℕ) → EndsRow drawn
+pub body-ended : (x : List ℕ) (s : Settings) (m : Diagnosis) (drawn causes related : List ℕ) → EndsRow drawn
     → EndsRow causes → EndsRow related → IsEnded (x ++ body_over s m drawn causes related)
 body-ended x s m drawn causes related d h r =
     subst IsEnded (sym (body-grouped x s m drawn causes related))

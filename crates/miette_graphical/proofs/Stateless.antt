@@ -6,7 +6,8 @@ use Rattle.std.proofs.Common.{Ok, Err, OnOk, encode_utf8_all, drop}
 use Rattle.std.proofs.lemmas.Bool.{and_parts}
 use Rattle.miette_source_lines.specs.rules.Lines.{Line}
 use Rattle.miette_runs.specs.rules.Cutting.{without_trailing}
-use Rattle.miette_protocol.specs.views.Meaning.{Meaning, Label}
+use Rattle.miette_protocol.specs.views.Meaning.{Label}
+use Rattle.miette_tree.specs.rules.Diagnosis.{Diagnosis}
 use Rattle.miette_protocol.specs.rules.Reading.{Source, Span, Contents}
 use Rattle.miette_protocol.specs.declared.protocol.Severity.{Severity}
 use Rattle.miette_highlight.specs.rules.HighlighterCalls.{Call, Leads, AnsweredBy, asked, restarted}
@@ -110,7 +111,7 @@ unless_by f l source labels pieces None h =
     ∙ sym (groups_given l source labels (pieces_listed others) (none_listed others))
 
 -- a diagnostic's rows, where no read of it failed
-rows_by : (f : List ℕ → List Piece) (s : Settings) (source : Option Source) (m : Meaning) (a : Answer) → a
+rows_by : (f : List ℕ → List Piece) (s : Settings) (source : Option Source) (m : Diagnosis) (a : Answer) → a
     ≡ pieces_listed a.pieces → AnsweredBy f (own_calls s.layout.context_lines source m a) →
     rows_text (drawn_rows s source (given_labels m.labels) a)
     ≡ rows_text (drawn_rows s source (given_labels m.labels) (own_by f s.layout.context_lines source m))
@@ -203,7 +204,7 @@ mutual
       (related_text_by f l blank s m.severity source r (related_answers a) false w h.2 o.1 j.1)))
       (related_text_by f l blank s outer inherited ts (later_answers more) false w h.3 p.1 k.1)
 
-root_text_by : (f : List ℕ → List Piece) (l : snippets.SnippetSettings) (blank : Bool) (s : Settings) (m : Meaning)
+root_text_by : (f : List ℕ → List Piece) (l : snippets.SnippetSettings) (blank : Bool) (s : Settings) (m : Diagnosis)
     (own : Option Source) (c : Cause) (a : Answers) (chain : Bool) →
     (chain ≡ true → AreCauseAnswers l blank own c a) → all_read
     (if chain then printed_causes s.related_as_nested own c else [])

@@ -5,7 +5,7 @@ use Rattle.std.proofs.Common.{MatchBool, if◌then◌else◌}
 use Rattle.std.proofs.lemmas.List.{take_rest}
 use Rattle.miette_runs.specs.rules.Cutting.{without_leading, without_trailing}
 use Rattle.miette_runs.specs.rules.Runs.{print}
-use Rattle.miette_protocol.specs.views.Meaning.{Meaning}
+use Rattle.miette_tree.specs.rules.Diagnosis.{Diagnosis}
 use Rattle.miette_protocol.specs.rules.Reading.{Source}
 use Rattle.miette_tree.specs.rules.Tree.{Tree, tree, Cause, diagnostic, texts, Trees, no_trees, more_trees, head}
 use Rattle.miette_tree.specs.rules.Tree.{source_of, cause_of, related_of, trees}
@@ -147,7 +147,7 @@ sibling_step s blank begun mid now source (tree m own c r) causes text q p = (
 
 -- one of several related reports, with its answers in one
 one_by : (by : Printing) (outer : Option Severity)
-    (source : Option Source) (last : Bool) (m : Meaning) (own : Option Source) (c : Cause) (r : Trees) (text : List ℕ)
+    (source : Option Source) (last : Bool) (m : Diagnosis) (own : Option Source) (c : Cause) (r : Trees) (text : List ℕ)
     (nested : Bool) →
     MatchBool nested (IsNested outer last source (tree m own c r) by text)
     (IsSibling source (tree m own c r) by text) →
@@ -198,7 +198,7 @@ related_step s blank begun mid now outer inherited (tree m own c r) ts one more 
       ap₂ (λ x y. x ++ y) k.5 q.3,
     )
 
-root_by : (by : Printing) (m : Meaning)
+root_by : (by : Printing) (m : Diagnosis)
     (own : Option Source) (c : Cause) (causes : List ℕ) (chain : Bool) →
     MatchBool chain (AreCauses m.severity own c by causes) (by.happen [] × (causes ≡ [])) →
     (a : Answers) × (chain ≡ true → AreCauseAnswers (snippet_settings by.settings) by.blank own c a)
@@ -294,7 +294,7 @@ regrouped : (a b c d : List ℕ) → a ++ (b ++ c ++ d) ≡ a ++ b ++ c ++ d
 regrouped a b c d = sym (append_assoc a (b ++ c) d) ∙ ap (λ x. x ++ d) (sym (append_assoc a b c))
 
 -- message, causes, and what stands below them
-body_behind : (s : Settings) (m : Meaning) (old told caused new drawn causes related below : List ℕ) → told ≡ old
+body_behind : (s : Settings) (m : Diagnosis) (old told caused new drawn causes related below : List ℕ) → told ≡ old
     ++ message_text s m → caused ≡ told ++ causes → new ≡ caused ++ below →
     below ≡ drawn ++ help_text s m.help ++ related → new ≡ old ++ body_over s m drawn causes related
 body_behind s m old told caused new drawn causes related below p q r e =

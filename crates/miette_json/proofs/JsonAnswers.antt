@@ -16,7 +16,7 @@ use Rattle.miette_json.specs.rules.JsonReport.{related_answers, first_answers, l
 use Rattle.miette_json.specs.rules.JsonReport.{report_json, report_object, reports_json, file_name}
 use Rattle.miette_tree.specs.rules.DiagnosticParts.{given_labels, severity_text}
 use Rattle.miette_tree.specs.rules.Answers.{own_fault}
-use Rattle.miette_tree.proofs.Readings.{fault_free}
+use Rattle.miette_tree.proofs.Readings.{fault_free, own_holds}
 use Rattle.miette_tree.specs.rules.Reads.{MayMeet, always_reads, holds_of, holds_of_all}
 use Rattle.miette_json.specs.rules.JsonText.{IsJsonOf}
 use Rattle.miette_json.proofs.JsonJoined.{last_piece, report_parts}
@@ -113,7 +113,7 @@ mutual
   same_value inherited a (tree m s c r) p reads =
       let own : Option Source = effective s inherited in
       let labels : List Label = given_labels m.labels in
-      let read = and_parts (always_reads own labels) (holds_of_all always_reads own r) reads in
+      let read = own_holds always_reads m s inherited c r reads in
       let name : option_map (file_name (own_fault a) labels) own ≡ option_map (file_name false labels) own =
       same_name own labels (own_fault a) p.0 read.0 in
       let others : reports_json own (related_answers a) r ≡ reports_json own no_more r =

@@ -4,6 +4,7 @@ use Rattle.std.proofs.Common.{sym, ap, ap₂, subst, ◌∙◌, append_assoc, ap
 use Rattle.std.proofs.lemmas.Bool.{and_parts}
 use Rattle.miette_protocol.specs.rules.Reading.{Source}
 use Rattle.miette_protocol.specs.views.Meaning.{Label}
+use Rattle.miette_tree.proofs.Readings.{own_holds}
 use Rattle.miette_tree.specs.rules.Tree.{Tree, tree, Trees, no_trees, more_trees, trees, effective, head, source_of}
 use Rattle.miette_tree.specs.rules.Tree.{cause_of, causes_of, related_of}
 use Rattle.miette_labels.specs.rules.Around.{group_context}
@@ -160,7 +161,7 @@ mutual
       ≡ related_report context inherited unlisted t
   same_report context inherited a (tree m s c r) h e =
       let own = effective s inherited in
-      let p = and_parts (always_reads own (given_labels m.labels)) (holds_of_all always_reads own r) e in
+      let p = own_holds always_reads m s inherited c r e in
       ap₂ (λ x y. titled_rows m ++ (cause_rows (causes_of c) ++ ((x ++ advice_rows m) ++ (blank_before r ++ y))))
       (same_snippets context own (own_answer a) (given_labels m.labels) h.0 p.0)
       (same_reports context own (related_answers a) r h.1 p.1)
@@ -177,8 +178,7 @@ mutual
 same_whole : (s : NarrationSettings) (t : Tree) (a : Answers) → AreAnswers None a t → report_reads t ≡ true
     → narration s t a ≡ narration s t unlisted
 same_whole s (tree m own c r) a h e =
-    let p = and_parts (always_reads (effective own None) (given_labels m.labels))
-    (holds_of_all always_reads (effective own None) r) e in
+    let p = own_holds always_reads m own None c r e in
     let f = λ (x y : List ℕ). head_rows m ++ (causes_if s.chain (causes_of c)
     ++ ((x ++ advice_rows m) ++ ((blank_before r ++ y) ++ row_if [] s.footer))) in
     let e0 = own_none own in

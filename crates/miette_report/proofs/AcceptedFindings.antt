@@ -190,8 +190,8 @@ warned_accepted m found input is h = subst (λ (v : Meaning). AreAccepted input 
 over_accepted : (name : List ℕ) (m : Meaning) (input : List ℕ) → AreAccepted input (given_labels m.labels)
     → report_accepted (over_input name m input) ≡ true
 over_accepted name m input h =
-    and_from _ _ (and_from _ _ (accept_all input (given_labels m.labels) h)
-    (or_right (is_nil (given_labels m.labels)) true refl)) refl
+    and_from _ _ (and_from _ _ (and_from _ _ (accept_all input (given_labels m.labels) h)
+    (or_right (is_nil (given_labels m.labels)) true refl)) refl) refl
 
 pub never_refused : (t : Tree) (name : List ℕ) (m : Meaning) (input : List ℕ) → t ≡ over_input name m input
     → report_accepted t ≡ false → AreAccepted input (given_labels m.labels) → ⊥

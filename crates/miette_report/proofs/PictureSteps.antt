@@ -4,6 +4,7 @@ use Rattle.std.proofs.Common.{IfSome, refl, sym, ◌∙◌, ap, ap₂, subst, en
 use Rattle.miette_protocol.specs.views.Meaning.{Meaning}
 use Rattle.miette_tree.specs.rules.Tree.{Tree}
 use Rattle.miette_tree.specs.rules.Reads.{AlwaysReads}
+use Rattle.miette_tree.proofs.Readings.{none_further}
 use Rattle.miette_style.specs.rules.Themes.{no_styles, theme_of, unicode_characters}
 use Rattle.miette_style.specs.declared.theme.GraphicalTheme.{GraphicalTheme}
 use Rattle.miette_graphical.specs.rules.Answers.{unlisted}
@@ -48,7 +49,7 @@ unrefused limit theme h t same refused reads = let k : true ≡ false = sym (rea
 pub reads-over : (limit : Option ℕ) (t : Tree) (name : List ℕ) (m : Meaning) (input : List ℕ) → t
     ≡ over_input name m input → IsReadWhole limit t
 reads-over limit t name m input same = ap (λ u. all_read (diagnostics_of (draw_settings limit) u)) same
-    ∙ printed-reads (draw_settings limit) (over_input name m input) (refl, tt, tt)
+    ∙ printed-reads (draw_settings limit) (over_input name m input) (refl, tt, tt, none_further)
 
 pub over-same : {E Z : Type 0} (limit : Option ℕ) (r : Result (String Z) E) (name : List ℕ) (m n : Meaning)
     (input : List ℕ) → m ≡ n → IfOk r (λ text. IsPicture limit (over_input name m input) (string_bytes text))
@@ -86,6 +87,6 @@ pub listed : (t : Tree) (name : List ℕ) (m : Meaning) (input : List ℕ) (s : 
     → (AlwaysReads t → new ≡ old ++ rows.brief s t rows.unlisted) → new
     ≡ rows.brief rows.default_settings (over_input name m input) rows.unlisted
 listed t name m input s old new same is none only =
-    let over : AlwaysReads (over_input name m input) = (refl, tt, tt) in
+    let over : AlwaysReads (over_input name m input) = (refl, tt, tt, none_further) in
     only (subst AlwaysReads (sym same) over) ∙ ap (λ o. o ++ rows.brief s t rows.unlisted) none
     ∙ ap₂ (λ u v. rows.brief u v rows.unlisted) is same

@@ -1,16 +1,19 @@
 -- What holds where every source of a report always reads, and where a part of a report is refused.
 use Rattle.std.proofs.Common.{◌≡◌, ℕ, zero, suc, ◌<◌, Bool, true, false, ◌&&◌, List, [], ◌∷◌, length, get_or, map}
-use Rattle.std.proofs.Common.{Option, Some, None, refl, sym, ap, ap₂, ◌∙◌, arith}
-use Rattle.std.proofs.lemmas.Bool.{and_from, or_right}
+use Rattle.std.proofs.Common.{Option, Some, None, refl, sym, ap, ap₂, ◌∙◌, arith, All}
+use Rattle.std.proofs.lemmas.Bool.{and_from, and_parts, or_right}
+use Rattle.std.proofs.lemmas.List.Elements.{All-head, All-nil, All-tail}
 use Rattle.std.proofs.Math.Bool.{and-false}
 use Rattle.miette_basics.specs.rules.Lists.{is_nil}
 use Rattle.miette_protocol.specs.views.Meaning.{Label}
 use Rattle.miette_protocol.specs.rules.Reading.{Source}
-use Rattle.miette_tree.specs.rules.Tree.{Tree, tree, Trees, no_trees, more_trees, trees, effective, source_of}
+use Rattle.miette_tree.specs.rules.Diagnosis.{Diagnosis, Section}
+use Rattle.miette_tree.specs.rules.Tree.{Tree, tree, Cause, Trees, no_trees, more_trees, trees, effective, head}
+use Rattle.miette_tree.specs.rules.Tree.{source_of}
 use Rattle.miette_tree.specs.rules.Tree.{related_of}
 use Rattle.miette_tree.specs.rules.DiagnosticParts.{given_labels}
 use Rattle.miette_tree.specs.rules.Reads.{AlwaysReads, AllAlwaysRead, MayMeet, holds_of, holds_of_all, always_reads}
-use Rattle.miette_tree.specs.rules.Reads.{accepts, report_reads}
+use Rattle.miette_tree.specs.rules.Reads.{accepts, holds_further, report_reads}
 use Rattle.miette_tree.proofs.Nesting.{Reads, effective_reads}
 
 -- ---- where every source always reads
@@ -28,14 +31,30 @@ pub source_reads : (source : Option Source) (labels : List Label) → Reads sour
 source_reads None labels p = refl
 source_reads (Some s) labels p = or_right (is_nil labels) s.always_reads p
 
+-- no further sources
+pub none_further : All (λ (section : Section). section.source.always_reads ≡ true) []
+none_further = All-nil (λ (section : Section). section.source.always_reads ≡ true)
+
+pub further_read : (sections : List Section) → All (λ section. section.source.always_reads ≡ true) sections
+    → holds_further always_reads sections ≡ true
+further_read [] q = refl
+further_read (section ∷ sections) q =
+    let reads : Section → Type 0 = λ s. s.source.always_reads ≡ true in
+    and_from (always_reads (Some section.source) section.labels) (holds_further always_reads sections)
+    (source_reads (Some section.source) section.labels (All-head reads section sections q))
+    (further_read sections (All-tail reads section sections q))
+
 mutual
   tree_reads : (inherited : Option Source) (t : Tree) → Reads inherited → AlwaysReads t
       → holds_of always_reads inherited t ≡ true
   tree_reads inherited (tree m own c r) p q =
       let source = effective own inherited in
       let here : Reads source = effective_reads own inherited q.0 p in
-      and_from (always_reads source (given_labels m.labels)) (holds_of_all always_reads source r)
-      (source_reads source (given_labels m.labels) here) (trees_read source r here q.2)
+      and_from (always_reads source (given_labels m.labels) && holds_of_all always_reads source r)
+      (holds_further always_reads m.snippets)
+      (and_from (always_reads source (given_labels m.labels)) (holds_of_all always_reads source r)
+      (source_reads source (given_labels m.labels) here) (trees_read source r here q.2))
+      (further_read m.snippets q.3)
 
   trees_read : (inherited : Option Source) (ts : Trees) → Reads inherited → AllAlwaysRead ts
       → holds_of_all always_reads inherited ts ≡ true
@@ -48,14 +67,30 @@ mutual
 pub told_reads : (t : Tree) → AlwaysReads t → report_reads t ≡ true
 told_reads t q = tree_reads None t tt q
 
+-- what a test finds of a report beside its further sources
+pub own_holds : (test : Option Source → List Label → Bool) (m : Diagnosis) (s inherited : Option Source) (c : Cause)
+    (r : Trees) → holds_of test inherited (tree m s c r) ≡ true
+    → (test (effective s inherited) (given_labels m.labels) ≡ true) × (holds_of_all test (effective s inherited) r ≡ true)
+own_holds test m s inherited c r e =
+    let here = test (effective s inherited) (given_labels m.labels) in
+    let below = holds_of_all test (effective s inherited) r in
+    and_parts here below (and_parts (here && below) (holds_further test m.snippets) e).0
+
 -- ---- where a part is refused
+
+-- a report of which a part beside its further sources fails a test
+pub own_fails : (test : Option Source → List Label → Bool) (t : Tree) (inherited : Option Source)
+    → (test (effective (source_of t) inherited) (given_labels (head t).labels)
+    && holds_of_all test (effective (source_of t) inherited) (related_of t)) ≡ false → holds_of test inherited t ≡ false
+own_fails test (tree m s c r) inherited e = ap (λ b. b && holds_further test m.snippets) e
 
 pub refused_below : (t : Tree) (inherited source : Option Source) (related : Trees) → source
     ≡ effective (source_of t) inherited → related ≡ related_of t →
     holds_of_all accepts source related ≡ false → holds_of accepts inherited t ≡ false
 refused_below (tree m s c r) inherited source related es er e =
-    ap (λ b. accepts (effective s inherited) (given_labels m.labels) && b) (sym (ap₂ (holds_of_all accepts) es er) ∙ e)
-    ∙ and-false (accepts (effective s inherited) (given_labels m.labels))
+    own_fails accepts (tree m s c r) inherited
+    (ap (λ b. accepts (effective s inherited) (given_labels m.labels) && b) (sym (ap₂ (holds_of_all accepts) es er) ∙ e)
+    ∙ and-false (accepts (effective s inherited) (given_labels m.labels)))
 
 pub one_refused : {R : Type 0} (value : R → Tree) (inherited : Option Source) (rs : List R) (i : ℕ) (d : R) → i
     < length rs → d ≡ get_or rs i d → holds_of accepts inherited (value d) ≡ false →

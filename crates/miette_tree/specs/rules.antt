@@ -1,4 +1,5 @@
 -- What users rely on, in the words of docs/RULES.md.
+pub mod Diagnosis
 pub mod Tree
 pub mod Answers
 pub mod CauseTexts

@@ -1,5 +1,6 @@
 -- What the code's values stand for.
 pub mod Owned
+pub mod Attached
 pub mod Kind
 pub mod Report
 pub mod RemainingChain

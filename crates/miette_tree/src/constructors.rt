@@ -25,6 +25,7 @@ where
     Report<D, S>: UsualBoxes,
 {
     ghost use Rattle.miette_protocol.specs.views.Diagnostic.{meaning_of, message_alone};
+    ghost use Rattle.miette_tree.specs.rules.Diagnosis.{plain_diagnosis};
     ghost use Rattle.miette_tree.specs.rules.Tree.{alone};
     ghost use Rattle.miette_tree.specs.views.Report.{tree_of};
     ghost use Rattle.miette_tree.specs.views.Kind.{kind_of, message, built, boxed};
@@ -32,7 +33,7 @@ where
 
     /// The report of a plain diagnostic. Takes no memory.
     pub fn new(diagnostic: MietteDiagnostic) -> Report<D, S>
-        ensures tree { tree_of D.meaning S.source result ≡ alone (meaning_of diagnostic) }
+        ensures tree { tree_of D.meaning S.source result ≡ alone (plain_diagnosis (meaning_of diagnostic)) }
         ensures kind { kind_of result ≡ built diagnostic }
     {
         Report::built(diagnostic)
@@ -40,7 +41,7 @@ where
 
     /// The report of a boxed diagnostic. Takes no memory.
     pub fn new_boxed(diagnostic: D) -> Report<D, S>
-        ensures tree { tree_of D.meaning S.source result ≡ alone (D.meaning diagnostic) }
+        ensures tree { tree_of D.meaning S.source result ≡ alone (plain_diagnosis (D.meaning diagnostic)) }
         ensures kind { kind_of result ≡ boxed diagnostic }
     {
         Report::from_innermost(Innermost::Boxed(diagnostic))
@@ -49,7 +50,8 @@ where
     /// The report of what a diagnostic says now: its texts and labels are copied. `AllocError` where
     /// memory for the copies is refused.
     pub fn copied<E: Diagnostic>(alloc: Global, error: &E) -> Result<Report<D, S>, AllocError>
-        ensures tree { IfOk result (λ r. tree_of D.meaning S.source r ≡ alone (E.meaning error.now)) }
+        ensures tree { IfOk result (λ r. tree_of D.meaning S.source r
+            ≡ alone (plain_diagnosis (E.meaning error.now))) }
         ensures kind { IfOk result (λ r. (copy : MietteDiagnostic) × (meaning_of copy ≡ E.meaning error.now)
             × (kind_of r ≡ built copy)) }
     {
@@ -59,7 +61,8 @@ where
 
     /// The report of a message alone. `AllocError` where memory for the copy is refused.
     pub fn msg(alloc: Global, text: &str) -> Result<Report<D, S>, AllocError>
-        ensures tree { IfOk result (λ r. tree_of D.meaning S.source r ≡ alone (message_alone text.now)) }
+        ensures tree { IfOk result (λ r. tree_of D.meaning S.source r
+            ≡ alone (plain_diagnosis (message_alone text.now))) }
         ensures kind { IfOk result (λ r. kind_of r ≡ message) }
     {
         Ok(Report::of_text(String::from_str(alloc, text)?))
@@ -104,11 +107,12 @@ impl<D: Diagnostic, S: SourceCode> fmt::Debug for Report<D, S> {
 /// The report of a plain diagnostic, as `Report::new`. Takes no memory.
 impl<D: Diagnostic, S: SourceCode> From<MietteDiagnostic> for Report<D, S> {
     ghost use Rattle.miette_protocol.specs.views.Diagnostic.{meaning_of};
+    ghost use Rattle.miette_tree.specs.rules.Diagnosis.{plain_diagnosis};
     ghost use Rattle.miette_tree.specs.rules.Tree.{alone};
     ghost use Rattle.miette_tree.specs.views.Report.{tree_of};
     ghost use Rattle.miette_tree.specs.views.Kind.{kind_of, built};
 
-    ghost from_gives = { λ d r. (tree_of D.meaning S.source r ≡ alone (meaning_of d)) × (kind_of r ≡ built d) };
+    ghost from_gives = { λ d r. (tree_of D.meaning S.source r ≡ alone (plain_diagnosis (meaning_of d))) × (kind_of r ≡ built d) };
 
     fn from(diagnostic: MietteDiagnostic) -> Report<D, S> {
         Report::from_innermost(Innermost::Built(diagnostic))

@@ -1,6 +1,8 @@
 //! Reports: errors with their messages, places, sources and causes, kept in a tree.
 #![tactic(auto)]
 
+mod attached;
+mod attaching;
 mod cause_texts;
 mod chain;
 mod constructors;

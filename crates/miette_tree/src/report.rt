@@ -1,5 +1,6 @@
 //! Reports: an error with its message, places, source and causes, and reports that are related to it.
 
+pub use crate::attached::Snippets;
 pub use crate::chain::Chain;
 pub use crate::constructors::UsualBoxes;
 pub use crate::innermost::ReportKind;

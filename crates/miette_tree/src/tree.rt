@@ -2,6 +2,7 @@
 ghost use Rattle.std.specs.Prelude.{◌≡◌, IfOk, IfErr, OnOk, OnErr, map, string_bytes};
 ghost use Rattle.std.specs.Option.{option_copied, option_map};
 
+use crate::attached::Attached;
 use crate::cause_texts::{CauseTexts, push_copies, push_copy};
 use crate::innermost::{Innermost, ReportKind};
 use crate::owned::{OwnSource, OwnedSource, SourceRef};
@@ -12,13 +13,14 @@ use std::alloc::{AllocError, Global};
 use std::fmt::Display;
 
 /// A report: what one error answers (message, code, severity, help, url, labels), the source that its
-/// labels speak of, its cause, and the reports that are related to it.
+/// labels speak of, labels over further sources, fixes, its cause, and the reports that are related to it.
 ///
 /// Users write `Report`; the parameters are the boxes in which diagnostics and sources are given.
 pub struct Report<D = Box<dyn Diagnostic>, S = Box<dyn SourceCode>> {
     front: Option<Box<String>>,
     innermost: Innermost<D>,
     source: Option<OwnSource<S>>,
+    pub(crate) attached: Option<Box<Attached<S>>>,
     cause: KeptCause<Report<D, S>>,
     related: Option<Vec<Report<D, S>>>,
 }
@@ -40,6 +42,7 @@ impl<D: Drop, S: Drop> Drop for Report<D, S> {
                 front: _,
                 innermost: _,
                 source: _,
+                attached: _,
                 cause,
                 related,
             } = self;
@@ -73,6 +76,7 @@ pub enum Cause<'a, D = Box<dyn Diagnostic>, S = Box<dyn SourceCode>> {
 /// Constructors and setters, for boxes of any kind.
 impl<D: Diagnostic, S: SourceCode> Report<D, S> {
     ghost use Rattle.miette_protocol.specs.views.Diagnostic.{meaning_of, message_alone};
+    ghost use Rattle.miette_tree.specs.rules.Diagnosis.{plain_diagnosis};
     ghost use Rattle.miette_tree.specs.rules.Tree.{alone, texts, diagnostic, trees, wrapped_tree, with_source};
     ghost use Rattle.miette_tree.specs.rules.Tree.{with_cause};
     ghost use Rattle.miette_tree.specs.rules.Tree.{with_related, chain_of};
@@ -82,13 +86,15 @@ impl<D: Diagnostic, S: SourceCode> Report<D, S> {
     ghost use Rattle.miette_tree.specs.rules.WrapErr.{Prints};
 
     pub(crate) fn from_innermost(innermost: Innermost<D>) -> Report<D, S>
-        ensures tree { tree_of D.meaning S.source result ≡ alone (innermost_meaning D.meaning innermost) }
+        ensures tree { tree_of D.meaning S.source result
+            ≡ alone (plain_diagnosis (innermost_meaning D.meaning innermost)) }
         ensures held { held_of result ≡ held_alone (innermost_kind innermost) }
     {
         Report {
             front: None,
             innermost,
             source: None,
+            attached: None,
             cause: KeptCause::None,
             related: None,
         }
@@ -96,7 +102,7 @@ impl<D: Diagnostic, S: SourceCode> Report<D, S> {
 
     /// The report of a plain diagnostic, as `Report::new`, for boxes of any kind. Takes no memory.
     pub fn built(diagnostic: MietteDiagnostic) -> Report<D, S>
-        ensures tree { tree_of D.meaning S.source result ≡ alone (meaning_of diagnostic) }
+        ensures tree { tree_of D.meaning S.source result ≡ alone (plain_diagnosis (meaning_of diagnostic)) }
         ensures kind { kind_of result ≡ built diagnostic }
     {
         Report::from_innermost(Innermost::Built(diagnostic))
@@ -104,7 +110,7 @@ impl<D: Diagnostic, S: SourceCode> Report<D, S> {
 
     /// The report of a message alone.
     pub(crate) fn of_text(text: String) -> Report<D, S>
-        ensures tree { tree_of D.meaning S.source result ≡ alone (message_alone (string_bytes text)) }
+        ensures tree { tree_of D.meaning S.source result ≡ alone (plain_diagnosis (message_alone (string_bytes text))) }
         ensures kind { kind_of result ≡ message }
     {
         Report::from_innermost(Innermost::Message(text))
@@ -147,6 +153,7 @@ impl<D: Diagnostic, S: SourceCode> Report<D, S> {
             front,
             innermost,
             source,
+            attached,
             cause,
             related,
         } = self;
@@ -154,6 +161,7 @@ impl<D: Diagnostic, S: SourceCode> Report<D, S> {
             front,
             innermost,
             source: Some(source.unwrap_or(place)),
+            attached,
             cause,
             related,
         }

@@ -1,6 +1,7 @@
 -- The brief text of a report, by settings, tree and answers.
 use Rattle.std.specs.Prelude.{ℕ, Bool, true, false, List, [], ◌∷◌, ◌++◌, map, Option, Some, None}
-use Rattle.miette_protocol.specs.views.Meaning.{Label, Meaning}
+use Rattle.miette_protocol.specs.views.Meaning.{Label}
+use Rattle.miette_tree.specs.rules.Diagnosis.{Diagnosis}
 use Rattle.miette_protocol.specs.rules.Reading.{Source}
 use Rattle.miette_tree.specs.rules.Tree.{Tree, tree, Cause, diagnostic, texts, Trees, no_trees, more_trees, effective}
 use Rattle.miette_tree.specs.rules.Answers.{AnswerTree, AnswerTrees, own_fault}
@@ -31,7 +32,7 @@ RelatedAnswers = AnswerTrees Bool
 
 -- ---- the rows of one diagnostic
 
-abbrev pub finding_row : Place → Meaning → ReportRow
+abbrev pub finding_row : Place → Diagnosis → ReportRow
 finding_row at m = record { place = at; kind = finding m.severity m.code; text = m.message }
 
 -- a row of a kind for a text, where there is one
@@ -72,13 +73,13 @@ cause_rows_if true at source a c = cause_rows at source a c
 cause_rows_if false at source a c = []
 
 -- a diagnostic at a place over a source: itself, its labels by offset, its causes, its help
-abbrev pub rows_at : Bool → Place → Option Source → Answers → Meaning → Cause → List ReportRow
+abbrev pub rows_at : Bool → Place → Option Source → Answers → Diagnosis → Cause → List ReportRow
 rows_at chain at source a m c =
     finding_row at m
     ∷ (note_rows source (in_order (given_labels m.labels))
     ++ (cause_rows_if chain at source (cause_answers a) c ++ help_rows at m.help))
 
-abbrev pub own_rows : Bool → Option Source → Answers → Meaning → Cause → List ReportRow
+abbrev pub own_rows : Bool → Option Source → Answers → Diagnosis → Cause → List ReportRow
 own_rows chain source a m c =
     rows_at chain (diagnostic_place source (own_fault a) (in_order (given_labels m.labels))) source a m c
 

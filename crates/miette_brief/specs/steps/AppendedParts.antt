@@ -1,6 +1,6 @@
 -- What is appended for the parts of a report, under some answers.
 use Rattle.std.specs.Prelude.{◌≡◌, ℕ, Bool, List, ◌∷◌, ◌++◌, Option}
-use Rattle.miette_protocol.specs.views.Meaning.{Meaning}
+use Rattle.miette_tree.specs.rules.Diagnosis.{Diagnosis}
 use Rattle.miette_protocol.specs.rules.Reading.{Source}
 use Rattle.miette_tree.specs.rules.Tree.{Tree, Cause, Trees}
 use Rattle.miette_tree.specs.rules.DiagnosticParts.{given_labels}
@@ -21,13 +21,13 @@ pub record AppendsCauses (chain : Bool) (at : Place) (inherited : Option Source)
     pub appended : new ≡ old ++ rows_text (cause_rows_if chain at inherited answers c)
 
 -- new is old and then the row of a diagnostic that lies at this place, and those of its labels, which were accepted
-pub record AppendsLabelled (source : Option Source) (m : Meaning) (at : Place) (old new : List ℕ) : Type 0 where
+pub record AppendsLabelled (source : Option Source) (m : Diagnosis) (at : Place) (old new : List ℕ) : Type 0 where
   pub placed : IsDiagnosticPlace source (in_order (given_labels m.labels)) at
   pub accepted : HasAccepted source (in_order (given_labels m.labels))
   pub appended : new ≡ old ++ rows_text (finding_row at m ∷ note_rows source (in_order (given_labels m.labels)))
 
 -- new is old and then the rows of a diagnostic with its cause, for some answers
-pub record AppendsOwn (chain : Bool) (source : Option Source) (m : Meaning) (c : Cause) (old new : List ℕ) : Type 0
+pub record AppendsOwn (chain : Bool) (source : Option Source) (m : Diagnosis) (c : Cause) (old new : List ℕ) : Type 0
   where
     pub answers : Answers
     pub accepted : HasAccepted source (in_order (given_labels m.labels))

@@ -2,7 +2,8 @@
 use Rattle.std.specs.Prelude.{◌≡◌, ℕ, List, [], ◌∷◌, ◌++◌, Option, Some, None, IfSome, codes}
 use Rattle.std.specs.Fmt.{debug_list, debug_str}
 use Rattle.miette_protocol.specs.rules.DebugForms.{label_form}
-use Rattle.miette_protocol.specs.views.Meaning.{Label, Meaning}
+use Rattle.miette_protocol.specs.views.Meaning.{Label}
+use Rattle.miette_tree.specs.rules.Diagnosis.{Diagnosis}
 use Rattle.miette_protocol.specs.declared.protocol.Severity.{Severity}
 use Rattle.miette_protocol.specs.declared.protocol.Severity.TheVariants.{Advice, Warning, Error}
 use Rattle.miette_tree.specs.rules.Tree.{Tree, head, cause_of, causes_of}
@@ -45,7 +46,7 @@ nearest [] = None
 nearest (cause ∷ further) = Some cause
 
 -- the fields of code, severity, url and help, of those that are there
-pub record AreFields (m : Meaning) (fields : List ℕ) : Type 0 where
+pub record AreFields (m : Diagnosis) (fields : List ℕ) : Type 0 where
   pub code : List ℕ
   pub severity : List ℕ
   pub url : List ℕ

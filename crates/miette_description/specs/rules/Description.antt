@@ -11,6 +11,7 @@ use Rattle.serde_json.specs.Read.{read}
 use Rattle.serde_json.specs.Written.{has_float}
 use Rattle.miette_protocol.specs.rules.Reading.{Source}
 use Rattle.miette_protocol.specs.views.Meaning.{Meaning}
+use Rattle.miette_tree.specs.rules.Diagnosis.{plain_diagnosis}
 use Rattle.miette_tree.specs.rules.Tree.{Tree, tree, Cause, diagnostic, texts, Trees, no_trees, more_trees}
 use Rattle.miette_tree.specs.rules.Tree.{wrapped_tree}
 use Rattle.miette_description.specs.rules.Members.{and_then, at_key, optional_value, list_of, source_of, meaning_in}
@@ -29,7 +30,7 @@ wrapped_in (m ∷ ms) t = wrapped_in ms (wrapped_tree m t)
 abbrev pub tree_of_parts : Meaning → Option Source → Option Tree → Option (List (List ℕ)) → Option Trees →
     Option (List (List ℕ)) → Option Tree
 tree_of_parts m s one several related contexts =
-    option_map (λ c. wrapped_in (unwrap_or contexts []) (tree m s c (unwrap_or related no_trees)))
+    option_map (λ c. wrapped_in (unwrap_or contexts []) (tree (plain_diagnosis m) s c (unwrap_or related no_trees)))
     (one_cause one several)
 
 -- the report of a description whose `cause` and `related` are read

@@ -1,6 +1,7 @@
 -- The answers of a highlighter without a state, which answers each line by itself, where no read fails.
 use Rattle.std.specs.Prelude.{ℕ, List, [], Option, Some, None}
-use Rattle.miette_protocol.specs.views.Meaning.{Meaning, Label}
+use Rattle.miette_protocol.specs.views.Meaning.{Label}
+use Rattle.miette_tree.specs.rules.Diagnosis.{Diagnosis}
 use Rattle.miette_protocol.specs.rules.Reading.{Source}
 use Rattle.miette_highlight.specs.rules.Pieces.{Piece}
 use Rattle.miette_labels.specs.rules.Around.{group_context}
@@ -17,7 +18,7 @@ labels_by answer context source labels =
     pieces_listed (pieces_by answer (group_context context labels) source (groups_of context source [] labels))
 
 -- for a diagnostic's own snippets
-abbrev pub own_by : (List ℕ → List Piece) → ℕ → Option Source → Meaning → Answer
+abbrev pub own_by : (List ℕ → List Piece) → ℕ → Option Source → Diagnosis → Answer
 own_by answer context None m = nothing_listed
 own_by answer context (Some source) m = labels_by answer context source (in_order (given_labels m.labels))
 

@@ -2,7 +2,7 @@
 -- restarted and asked as its snippets want (`snippet_calls`), with so many lines of context. A report's causes come
 -- before its own snippets, its related reports behind them.
 use Rattle.std.specs.Prelude.{ℕ, Bool, if◌then◌else◌, List, [], ◌++◌, Option, Some, None}
-use Rattle.miette_protocol.specs.views.Meaning.{Meaning}
+use Rattle.miette_tree.specs.rules.Diagnosis.{Diagnosis}
 use Rattle.miette_protocol.specs.rules.Reading.{Source}
 use Rattle.miette_highlight.specs.rules.HighlighterCalls.{Call}
 use Rattle.miette_snippet_rules.specs.rules.Highlighting.{snippet_calls}
@@ -13,7 +13,7 @@ use Rattle.miette_graphical.specs.rules.Answers.{Answer, Answers, RelatedAnswers
 use Rattle.miette_graphical.specs.rules.Answers.{related_answers, first_answers, later_answers}
 
 -- for a diagnostic's own snippets
-abbrev pub own_calls : ℕ → Option Source → Meaning → Answer → List Call
+abbrev pub own_calls : ℕ → Option Source → Diagnosis → Answer → List Call
 own_calls context None m a = []
 own_calls context (Some source) m a = snippet_calls context source (given_labels m.labels) a
 

@@ -2,7 +2,8 @@
 use Rattle.std.specs.Prelude.{ℕ, Bool, List, [], ◌∷◌, ◌++◌, codes, chars, Option, Some, None}
 use Rattle.miette_runs.specs.rules.Runs.{Fragment, Styled, LinkTo, LinkEnd, print}
 use Rattle.miette_style.specs.declared.style.Style.{Style}
-use Rattle.miette_protocol.specs.views.Meaning.{Meaning, Label}
+use Rattle.miette_protocol.specs.views.Meaning.{Label}
+use Rattle.miette_tree.specs.rules.Diagnosis.{Diagnosis}
 use Rattle.miette_protocol.specs.rules.Reading.{Source}
 use Rattle.miette_protocol.specs.declared.protocol.Severity.{Severity}
 use Rattle.miette_graphical.specs.rules.Settings.{Settings, severity_style}
@@ -49,12 +50,12 @@ header_by Hidden s style url code = code_header style code []
 
 -- A link to the url with the code and the link's text; or the code alone, with the url behind it in text mode; or
 -- nothing.
-abbrev pub header : Settings → Meaning → List Fragment
+abbrev pub header : Settings → Diagnosis → List Fragment
 header s m = header_by s.urls s (severity_style s m.severity) m.url m.code
 
 -- ---- message, help, footer
 
-abbrev pub message_text : Settings → Meaning → List ℕ
+abbrev pub message_text : Settings → Diagnosis → List ℕ
 message_text s m = wrapped_under s (icon_indent s m.severity) (bar_indent s m.severity) (chars m.message) ++ line_feed
 
 abbrev pub help_text : Settings → Option (List ℕ) → List ℕ
@@ -81,7 +82,7 @@ abbrev pub header_or_end : List Fragment → List Fragment
 header_or_end [] = bare_text line_feed ∷ []
 header_or_end (s ∷ ss) = s ∷ ss
 
-abbrev pub title_text : Settings → Meaning → List ℕ
+abbrev pub title_text : Settings → Diagnosis → List ℕ
 title_text s m = line_feed ++ severity_title m.severity ++ print (header_or_end (header s m))
 
 -- ---- snippets

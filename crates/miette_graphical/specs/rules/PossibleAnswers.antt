@@ -2,7 +2,8 @@
 -- of them.
 use Rattle.std.specs.Prelude.{◌≡◌, ℕ, Bool, true, List, [], Option, Some, None, is_some}
 use Rattle.std.specs.Prelude.{encode_utf8_all}
-use Rattle.miette_protocol.specs.views.Meaning.{Meaning, Label}
+use Rattle.miette_protocol.specs.views.Meaning.{Label}
+use Rattle.miette_tree.specs.rules.Diagnosis.{Diagnosis}
 use Rattle.miette_protocol.specs.rules.Reading.{Source}
 use Rattle.miette_tree.specs.rules.Tree.{Tree, tree, Cause, diagnostic, texts, Trees, no_trees, more_trees}
 use Rattle.miette_graphical.specs.rules.Settings.{Settings}
@@ -47,7 +48,7 @@ pub record IsAnswerOf (l : snippets.SnippetSettings) (blank : Bool) (source : Op
   pub pieces : HasPieces l blank source labels a
   pub rows : HasRows l source labels a
 
-abbrev pub IsAnswer : snippets.SnippetSettings → Bool → Option Source → Meaning → Answer → Type 0
+abbrev pub IsAnswer : snippets.SnippetSettings → Bool → Option Source → Diagnosis → Answer → Type 0
 IsAnswer l blank source m a =
     IsAnswerOf l blank source (given_labels m.labels) (always_reads source (given_labels m.labels)) a
 

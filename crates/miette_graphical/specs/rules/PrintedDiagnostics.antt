@@ -1,6 +1,6 @@
 -- The diagnostics that a report prints, each with its effective source.
 use Rattle.std.specs.Prelude.{Bool, true, ◌&&◌, if◌then◌else◌, List, [], ◌∷◌, ◌++◌, Option}
-use Rattle.miette_protocol.specs.views.Meaning.{Meaning}
+use Rattle.miette_tree.specs.rules.Diagnosis.{Diagnosis}
 use Rattle.miette_protocol.specs.rules.Reading.{Source}
 use Rattle.miette_tree.specs.rules.Tree.{effective, Tree, tree, Cause, diagnostic, texts, Trees, no_trees, more_trees}
 use Rattle.miette_graphical.specs.rules.Settings.{Settings}
@@ -10,9 +10,9 @@ use Rattle.miette_tree.specs.rules.Reads.{always_reads}
 -- a printed diagnostic
 pub record PrintedDiagnostic : Type 0 where
   pub source : Option Source
-  pub meaning : Meaning
+  pub meaning : Diagnosis
 
-abbrev pub over : Option Source → Meaning → PrintedDiagnostic
+abbrev pub over : Option Source → Diagnosis → PrintedDiagnostic
 over source m = record { source = source; meaning = m }
 
 abbrev mutual

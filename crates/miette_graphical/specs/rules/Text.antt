@@ -3,7 +3,7 @@ use Rattle.std.specs.Prelude.{ℕ, Bool, true, false, List, [], ◌∷◌, ◌++
 use Rattle.miette_runs.specs.rules.Runs.{print}
 use Rattle.miette_basics.specs.rules.Lists.{is_nil}
 use Rattle.miette_runs.specs.rules.Cutting.{without_leading, without_trailing}
-use Rattle.miette_protocol.specs.views.Meaning.{Meaning}
+use Rattle.miette_tree.specs.rules.Diagnosis.{Diagnosis}
 use Rattle.miette_protocol.specs.rules.Reading.{Source}
 use Rattle.miette_tree.specs.rules.Tree.{effective, Tree, tree, Cause, diagnostic, texts, Trees, no_trees, more_trees}
 use Rattle.miette_protocol.specs.declared.protocol.Severity.{Severity}
@@ -29,18 +29,18 @@ only_if true text = text
 only_if false text = []
 
 -- Below the header: message, causes, the rows of the snippets, help, related.
-abbrev pub body_over : Settings → Meaning → List ℕ → List ℕ → List ℕ → List ℕ
+abbrev pub body_over : Settings → Diagnosis → List ℕ → List ℕ → List ℕ → List ℕ
 body_over s m drawn causes related = message_text s m ++ causes ++ drawn ++ help_text s m.help ++ related
 
 -- the rows of a diagnostic's snippets
-abbrev pub drawn_text : SnippetRows → Settings → Meaning → Option Source → Answer → List ℕ
+abbrev pub drawn_text : SnippetRows → Settings → Diagnosis → Option Source → Answer → List ℕ
 drawn_text rows s m source answer = rows_text (rows s source (given_labels m.labels) answer)
 
 -- A report that stands in another one, without its causes and without line feeds at its beginning.
-abbrev pub inner_over : Settings → Meaning → List ℕ → List ℕ → List ℕ
+abbrev pub inner_over : Settings → Diagnosis → List ℕ → List ℕ → List ℕ
 inner_over s m drawn related = without_leading (print (header s m) ++ body_over s m drawn [] related)
 
-abbrev pub inner_text : SnippetRows → Settings → Meaning → Option Source → Answer → List ℕ → List ℕ
+abbrev pub inner_text : SnippetRows → Settings → Diagnosis → Option Source → Answer → List ℕ → List ℕ
 inner_text rows s m source answer related = inner_over s m (drawn_text rows s m source answer) related
 
 abbrev pub cause_texts : Settings → Option Severity → List (List ℕ) → List ℕ

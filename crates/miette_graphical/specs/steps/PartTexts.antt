@@ -1,7 +1,8 @@
 -- Texts of a report's parts, each by what it is printed.
 use Rattle.std.specs.Prelude.{◌≡◌, ℕ, Bool, List, [], ◌++◌, Option, Some, MatchBool}
 use Rattle.miette_runs.specs.rules.Cutting.{without_trailing}
-use Rattle.miette_protocol.specs.views.Meaning.{Meaning, Label}
+use Rattle.miette_protocol.specs.views.Meaning.{Label}
+use Rattle.miette_tree.specs.rules.Diagnosis.{Diagnosis}
 use Rattle.miette_protocol.specs.rules.Reading.{Source}
 use Rattle.miette_tree.specs.rules.Tree.{Tree, tree, Cause, Trees, head, source_of, cause_of, related_of, effective}
 use Rattle.miette_protocol.specs.declared.protocol.Severity.{Severity}
@@ -18,7 +19,7 @@ use Rattle.miette_graphical.specs.rules.PossibleAnswers.{IsAskedReport}
 use Rattle.miette_graphical.specs.views.Painting.{Printing}
 
 -- the text of the rows of a diagnostic's snippets
-abbrev pub IsDrawn : Option Source → Meaning → Printing → List ℕ → Type 0
+abbrev pub IsDrawn : Option Source → Diagnosis → Printing → List ℕ → Type 0
 IsDrawn source m by text =
     (a : Answer) × IsAnswer (snippet_settings by.settings) by.blank source m a
     × by.happen (own_calls by.settings.layout.context_lines source m a)

@@ -1,7 +1,8 @@
 -- The JSON value of a report, by its tree and by what the reads for its file names answered.
 use Rattle.std.specs.Prelude.{◌≡◌, ℕ, Bool, if◌then◌else◌, List, [], ◌∷◌}
 use Rattle.std.specs.Prelude.{Option, Some, None, option_map, unwrap_or, codes, ⊤}
-use Rattle.miette_protocol.specs.views.Meaning.{Label, Meaning}
+use Rattle.miette_protocol.specs.views.Meaning.{Label}
+use Rattle.miette_tree.specs.rules.Diagnosis.{Diagnosis}
 use Rattle.miette_protocol.specs.rules.Reading.{Source, Span, is_accepted}
 use Rattle.miette_tree.specs.rules.Tree.{Tree, tree, causes_of, Trees, no_trees, more_trees, effective}
 use Rattle.miette_tree.specs.rules.Answers.{AnswerTree, AnswerTrees, own_fault}
@@ -64,7 +65,7 @@ file_name fault (l ∷ ls) s = if is_accepted s.bytes l.span then (if fault then
 -- ---- the value
 
 -- the object of a report, with these texts of causes, this file name and these objects of related reports
-abbrev pub report_object : Meaning → List (List ℕ) → Option (List ℕ) → Items → Json
+abbrev pub report_object : Diagnosis → List (List ℕ) → Option (List ℕ) → Items → Json
 report_object m causes name related =
     object
     (member (codes "message") (string m.message)

@@ -1,6 +1,7 @@
 -- What is appended for each part of a report.
 use Rattle.std.specs.Prelude.{◌≡◌, ℕ, Bool, true, false, List, [], ◌∷◌, ◌++◌, Option, Some, None, option_map, codes}
-use Rattle.miette_protocol.specs.views.Meaning.{Label, Meaning}
+use Rattle.miette_protocol.specs.views.Meaning.{Label}
+use Rattle.miette_tree.specs.rules.Diagnosis.{Diagnosis}
 use Rattle.miette_protocol.specs.rules.Reading.{Source}
 use Rattle.miette_tree.specs.rules.Tree.{Tree, Trees}
 use Rattle.miette_json.specs.rules.Json.{Items, quoted_text, json_text, items_text, more_items_text}
@@ -54,13 +55,13 @@ rest_text true is = items_text is
 rest_text false is = more_items_text is
 
 -- message, code and severity
-abbrev pub head_text : Meaning → List ℕ
+abbrev pub head_text : Diagnosis → List ℕ
 head_text m = 123 ∷ (quoted_text (codes "message")
     ++ (58 ∷ 32 ∷ (quoted_text m.message ++ (maybe_text (codes "code") m.code
     ++ (key_text (codes "severity") ++ quoted_text (severity_text m.severity))))))
 
 -- causes, url and help
-abbrev pub reasons_text : List (List ℕ) → Meaning → List ℕ
+abbrev pub reasons_text : List (List ℕ) → Diagnosis → List ℕ
 reasons_text causes m = key_text (codes "causes")
     ++ (91 ∷ (items_text (strings causes) ++ (maybe_text (codes "url") m.url ++ maybe_text (codes "help") m.help)))
 

@@ -1,6 +1,7 @@
 -- The narrated text of a report, by settings, tree and answers.
 use Rattle.std.specs.Prelude.{ℕ, Bool, true, false, List, [], ◌∷◌, ◌++◌, Option, Some, None, codes}
-use Rattle.miette_protocol.specs.views.Meaning.{Label, Meaning}
+use Rattle.miette_protocol.specs.views.Meaning.{Label}
+use Rattle.miette_tree.specs.rules.Diagnosis.{Diagnosis}
 use Rattle.miette_protocol.specs.rules.Reading.{Source}
 use Rattle.miette_protocol.specs.declared.protocol.Severity.{Severity}
 use Rattle.miette_tree.specs.rules.Tree.{Tree, tree, causes_of, Trees, no_trees, more_trees, effective}
@@ -39,11 +40,11 @@ abbrev pub severity_row : Option Severity → List ℕ
 severity_row severity = row (codes "    Diagnostic severity: " ++ severity_text severity)
 
 -- the outermost report's head: its message and its severity
-abbrev pub head_rows : Meaning → List ℕ
+abbrev pub head_rows : Diagnosis → List ℕ
 head_rows m = row m.message ++ severity_row m.severity
 
 -- a related report's head: its message behind its title, its severity, and a blank row
-abbrev pub titled_rows : Meaning → List ℕ
+abbrev pub titled_rows : Diagnosis → List ℕ
 titled_rows m = row (severity_title m.severity ++ m.message) ++ (severity_row m.severity ++ row [])
 
 abbrev pub cause_rows : List (List ℕ) → List ℕ
@@ -64,7 +65,7 @@ url_rows None = []
 url_rows (Some url) = row (codes "For more details, see:") ++ row url
 
 -- help, code and url
-abbrev pub advice_rows : Meaning → List ℕ
+abbrev pub advice_rows : Diagnosis → List ℕ
 advice_rows m = row_if (codes "diagnostic help: ") m.help
     ++ (row_if (codes "diagnostic code: ") m.code ++ url_rows m.url)
 
@@ -74,7 +75,7 @@ snippet_rows context None fails labels = []
 snippet_rows context (Some source) fails labels = snippets context source fails labels
 
 -- snippets, help, code and url
-abbrev pub rows_below : ℕ → Option Source → List Bool → Meaning → List ℕ
+abbrev pub rows_below : ℕ → Option Source → List Bool → Diagnosis → List ℕ
 rows_below context source fails m = snippet_rows context source fails (given_labels m.labels) ++ advice_rows m
 
 -- a blank row where there are related reports

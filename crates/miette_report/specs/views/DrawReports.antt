@@ -4,6 +4,7 @@ use Rattle.miette.specs.Diagnostic.{message_alone}
 use Rattle.miette.specs.Meaning.{Label, Meaning}
 use Rattle.miette.specs.Reading.{named_source, plain_source}
 use Rattle.miette.specs.Tree.{Tree, alone, with_source}
+use Rattle.miette_tree.specs.rules.Diagnosis.{plain_diagnosis}
 use Rattle.miette_style.specs.rules.Themes.{Theme, no_styles, unicode_characters}
 use Rattle.miette_graphical.specs.rules.Answers.{unlisted}
 use Rattle.miette_graphical.specs.rules.Settings.{Settings, default_settings}
@@ -42,7 +43,8 @@ drawn_meaning request = record (message_alone request.message)
 
 -- a diagnostic alone, over the input under a name
 abbrev pub over_input : List ℕ → Meaning → List ℕ → Tree
-over_input name meaning input = with_source (named_source (plain_source input) name None) (alone meaning)
+over_input name meaning input = with_source (named_source (plain_source input) name None)
+    (alone (plain_diagnosis meaning))
 
 abbrev pub drawn_tree : DrawRequest → List ℕ → Tree
 drawn_tree request input = over_input request.name (drawn_meaning request) input

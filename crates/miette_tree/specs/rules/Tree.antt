@@ -1,12 +1,13 @@
 -- The value of a tree of reports: what its parts answer, and nothing of how they are kept.
-use Rattle.std.specs.Prelude.{ℕ, List, [], ◌∷◌, Option, Some, None, unwrap_or}
-use Rattle.miette_protocol.specs.views.Meaning.{Meaning}
+use Rattle.std.specs.Prelude.{ℕ, List, [], ◌∷◌, ◌++◌, Option, Some, None, unwrap_or}
+use Rattle.miette_fixes.specs.rules.Edits.{Proposal}
 use Rattle.miette_protocol.specs.rules.Reading.{Source}
+use Rattle.miette_tree.specs.rules.Diagnosis.{Diagnosis, Section}
 
 mutual
-  -- what a report answers, its source, its cause, and the reports that are related to it
+  -- what a report says itself, its source, its cause, and the reports that are related to it
   pub data Tree : Type 0 where
-    tree : Meaning → Option Source → Cause → Trees → Tree
+    tree : Diagnosis → Option Source → Cause → Trees → Tree
 
   -- one report, or a list of texts; an empty list is no cause
   pub data Cause : Type 0 where
@@ -23,7 +24,7 @@ trees (t ∷ ts) = more_trees t (trees ts)
 
 -- ---- its parts
 
-abbrev pub head : Tree → Meaning
+abbrev pub head : Tree → Diagnosis
 head (tree m s c r) = m
 
 abbrev pub source_of : Tree → Option Source
@@ -51,8 +52,8 @@ effective None inherited = inherited
 
 -- ---- what the calls make
 
--- a report that answers this, and has nothing else
-abbrev pub alone : Meaning → Tree
+-- a report that says this itself, and has nothing else
+abbrev pub alone : Diagnosis → Tree
 alone m = tree m None (texts []) no_trees
 
 -- a message in front: the old chain becomes the causes, and all else stays
@@ -70,3 +71,15 @@ with_cause new t = tree (head t) (source_of t) new (related_of t)
 -- other related reports
 abbrev pub with_related : Trees → Tree → Tree
 with_related new t = tree (head t) (source_of t) (cause_of t) new
+
+-- labels over a further source, after those that were there
+abbrev pub with_snippets : Section → Tree → Tree
+with_snippets new t = tree (record (head t) { snippets = (head t).snippets ++ new ∷ [] }) (source_of t) (cause_of t)
+    (related_of t)
+
+-- a fix after those that were there, or fixes in their place
+abbrev pub with_fix : Proposal → Tree → Tree
+with_fix new t = tree (record (head t) { fixes = (head t).fixes ++ new ∷ [] }) (source_of t) (cause_of t) (related_of t)
+
+abbrev pub with_fixes : List Proposal → Tree → Tree
+with_fixes new t = tree (record (head t) { fixes = new }) (source_of t) (cause_of t) (related_of t)

@@ -1,10 +1,14 @@
 -- The value that a report stands for.
 use Rattle.std.specs.Prelude.{ℕ, ◌<◌, List, [], Option, Some, None, length, option_map, string_bytes, map, codes}
+use Rattle.std.specs.Prelude.{unwrap_or}
 use Rattle.miette_protocol.specs.views.Meaning.{Meaning}
 use Rattle.miette_protocol.specs.rules.Reading.{Source}
 use Rattle.miette_protocol.specs.rules.Texts.{render_text}
 use Rattle.miette_protocol.specs.views.Diagnostic.{meaning_of, message_alone}
+use Rattle.miette_fixes.specs.rules.Edits.{Proposal}
 use Rattle.miette_tree.specs.rules.CauseTexts.{texts_in}
+use Rattle.miette_tree.specs.rules.Diagnosis.{Diagnosis, Section}
+use Rattle.miette_tree.specs.views.Attached.{section_of, snippets_in, fixes_in}
 use Rattle.miette_tree.specs.views.Owned.{kept_source}
 use Rattle.miette_tree.specs.rules.Tree.{Tree, tree, Cause, diagnostic, texts, Trees, no_trees, trees}
 use Rattle.miette_tree.specs.declared.innermost.Innermost.{Innermost}
@@ -28,10 +32,18 @@ innermost_meaning means (Boxed d) = means d
 innermost_meaning means (Unwritten error) = message_alone (render_text error)
 innermost_meaning means OutOfMemory = out_of_memory_alone
 
--- with the message that was put in front, where there is one
-abbrev pub fronted_meaning : Option (List ℕ) → Meaning → Meaning
-fronted_meaning None m = m
-fronted_meaning (Some message) m = record m { message = message }
+-- with the message that was put in front, where there is one, and with what the report keeps beside its diagnostic
+abbrev pub diagnosis_of : Option (List ℕ) → Meaning → List Section → List Proposal → Diagnosis
+diagnosis_of front m snippets fixes = record {
+  message = unwrap_or front m.message;
+  code = m.code;
+  severity = m.severity;
+  help = m.help;
+  url = m.url;
+  labels = m.labels;
+  snippets = snippets;
+  fixes = fixes;
+}
 
 -- a cause, with a report in it already seen as its tree
 abbrev pub kept_cause : KeptCause Tree → Cause
@@ -47,7 +59,8 @@ trees_from (Some ts) = trees ts
 abbrev pub tree_step : {D S : Type 0} → (D → Meaning) → (S → Source) → Report-F D S Tree → Tree
 tree_step means is r =
     tree
-    (fronted_meaning (option_map (λ b. string_bytes b.value) r.front) (innermost_meaning means r.innermost))
+    (diagnosis_of (option_map (λ b. string_bytes b.value) r.front) (innermost_meaning means r.innermost)
+    (map (section_of is) (snippets_in r.attached)) (fixes_in r.attached))
     (option_map (kept_source is) r.source)
     (kept_cause r.cause)
     (trees_from (option_map (λ v. v.items) r.related))
