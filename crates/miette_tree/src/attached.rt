@@ -2,7 +2,7 @@
 ghost use Rattle.std.specs.Prelude.{◌≡◌, IfOk};
 ghost use Rattle.miette_tree.specs.views.Attached.{snippets_in, fixes_in};
 
-use crate::owned::{OwnSource, SourceRef};
+use crate::owned::{OwnSource, OwnedSource, SourceRef};
 use miette_fixes::fix::Fix;
 use miette_protocol::protocol::LabeledSpan;
 use miette_protocol::source::SourceCode;
@@ -11,13 +11,33 @@ use std::alloc::{AllocError, Global};
 /// Labels of a report over a further source.
 #[derive(Drop)]
 pub struct Snippets<S = Box<dyn SourceCode>> {
-    pub(crate) place: OwnSource<S>,
-    pub(crate) labels: Vec<LabeledSpan>,
+    place: OwnSource<S>,
+    labels: Vec<LabeledSpan>,
 }
 
 impl<S: SourceCode> Snippets<S> {
     ghost use Rattle.miette_tree.specs.views.Attached.{section_of};
-    ghost use Rattle.miette_tree.specs.views.Owned.{shown_source};
+    ghost use Rattle.miette_tree.specs.views.Owned.{owned_source, shown_source};
+
+    /// Labels over a source in a box. Takes no memory.
+    pub fn over(source: S, labels: Vec<LabeledSpan>) -> Snippets<S>
+        ensures { section_of S.source result ≡ record { source = S.source source; labels = labels.items } }
+    {
+        Snippets {
+            place: OwnSource::Boxed(source),
+            labels,
+        }
+    }
+
+    /// Labels over an owned source. Takes no memory.
+    pub fn over_owned(source: OwnedSource, labels: Vec<LabeledSpan>) -> Snippets<S>
+        ensures { section_of S.source result ≡ record { source = owned_source source; labels = labels.items } }
+    {
+        Snippets {
+            place: OwnSource::Owned(source),
+            labels,
+        }
+    }
 
     /// The source.
     pub fn source(&self) -> SourceRef<'_, S>

@@ -2,7 +2,7 @@
 ghost use Rattle.std.specs.Prelude.{◌≡◌, IfOk, map};
 
 use crate::attached::{Snippets, kept_or_new};
-use crate::owned::{OwnSource, OwnedSource};
+use crate::owned::OwnedSource;
 use crate::tree::Report;
 use miette_fixes::fix::Fix;
 use miette_protocol::protocol::{Diagnostic, LabeledSpan};
@@ -12,7 +12,8 @@ use std::alloc::{AllocError, Global};
 /// Labels over further sources, and fixes. A builder that answers `AllocError` has dropped the report and what it was
 /// given.
 impl<D: Diagnostic, S: SourceCode> Report<D, S> {
-    ghost use Rattle.miette_tree.specs.rules.Tree.{head, with_snippets, with_fix, with_fixes};
+    ghost use Rattle.miette_tree.specs.rules.Tree.{head, with_snippets, with_all_snippets};
+    ghost use Rattle.miette_tree.specs.rules.Tree.{with_fix, with_fixes};
     ghost use Rattle.miette_tree.specs.views.Attached.{section_of};
     ghost use Rattle.miette_tree.specs.views.Kind.{held_of};
     ghost use Rattle.miette_tree.specs.views.Owned.{owned_source};
@@ -34,8 +35,7 @@ impl<D: Diagnostic, S: SourceCode> Report<D, S> {
             (tree_of D.meaning S.source self)) }
         ensures held { IfOk result (λ r. held_of r ≡ held_of self) }
     {
-        let place = OwnSource::Boxed(source);
-        self.with_section(alloc, Snippets { place, labels })
+        self.with_section(alloc, Snippets::over(source, labels))
     }
 
     /// As `with_snippets`, over a source that the report owns.
@@ -53,8 +53,27 @@ impl<D: Diagnostic, S: SourceCode> Report<D, S> {
             (tree_of D.meaning S.source self)) }
         ensures held { IfOk result (λ r. held_of r ≡ held_of self) }
     {
-        let place = OwnSource::Owned(source);
-        self.with_section(alloc, Snippets { place, labels })
+        self.with_section(alloc, Snippets::over_owned(source, labels))
+    }
+
+    /// With these labels over further sources in place of those over further sources that it had.
+    ///
+    /// # Errors
+    /// `AllocError` where memory for the place of the list is refused; all is dropped.
+    pub fn with_all_snippets(
+        self,
+        alloc: Global,
+        list: Vec<Snippets<S>>,
+    ) -> Result<Report<D, S>, AllocError>
+        ensures tree { IfOk result (λ r. tree_of D.meaning S.source r
+            ≡ with_all_snippets (map (section_of S.source) list.items) (tree_of D.meaning S.source self)) }
+        ensures held { IfOk result (λ r. held_of r ≡ held_of self) }
+    {
+        let mut report = self;
+        let mut attached = kept_or_new(alloc, report.attached.take())?;
+        attached.snippets = list;
+        report.attached = Some(attached);
+        Ok(report)
     }
 
     fn with_section(self, alloc: Global, section: Snippets<S>) -> Result<Report<D, S>, AllocError>

@@ -49,14 +49,57 @@ macro_rules! diagnostic_with {
     };
 }
 
-/// A report of such a diagnostic; where memory is refused, the report of an `AllocError`.
+/// A report of such a diagnostic; where memory is refused, the report of an `AllocError`. Further keys are `snippets`
+/// (a `Vec<Snippets>`) and `fixes` (a `Vec<Fix>`).
 #[macro_export]
 macro_rules! miette {
-    ($($arg:tt)+) => {
-        match $crate::diagnostic!($($arg)+) {
+    (in $alloc:expr; $($arg:tt)+) => {
+        $crate::report_of!($alloc; [] [] $($arg)+)
+    };
+}
+
+/// A report, whose own keys and those of its diagnostic are told apart. Written by `miette!` alone.
+#[macro_export]
+macro_rules! report_of {
+    ($alloc:expr; [$($own:tt)*] [$($said:tt)*] snippets = $value:expr, $($arg:tt)+) => {
+        $crate::report_of!($alloc; [$($own)* snippets = $value,] [$($said)*] $($arg)+)
+    };
+    ($alloc:expr; [$($own:tt)*] [$($said:tt)*] fixes = $value:expr, $($arg:tt)+) => {
+        $crate::report_of!($alloc; [$($own)* fixes = $value,] [$($said)*] $($arg)+)
+    };
+    ($alloc:expr; [$($own:tt)*] [$($said:tt)*] $key:ident = $value:expr, $($arg:tt)+) => {
+        $crate::report_of!($alloc; [$($own)*] [$($said)* $key = $value,] $($arg)+)
+    };
+    ($alloc:expr; [] [$($said:tt)*] $format:literal $($arg:tt)*) => {
+        match $crate::diagnostic!(in $alloc; $($said)* $format $($arg)*) {
             Ok(diagnostic) => $crate::report::Report::new(diagnostic),
             Err(refused) => $crate::report::Report::from(refused),
         }
+    };
+    ($alloc:expr; [$($key:ident = $value:expr,)+] [$($said:tt)*] $format:literal $($arg:tt)*) => {{
+        let made = match $crate::diagnostic!(in $alloc; $($said)* $format $($arg)*) {
+            Ok(diagnostic) => Ok($crate::report::Report::new(diagnostic)),
+            Err(refused) => Err(refused),
+        };
+        $(let made = match made {
+            Ok(report) => $crate::report_with!($alloc, report, $key, $value),
+            Err(refused) => Err(refused),
+        };)+
+        match made {
+            Ok(report) => report,
+            Err(refused) => $crate::report::Report::from(refused),
+        }
+    }};
+}
+
+/// A report with one more key. Written by `miette!` alone.
+#[macro_export]
+macro_rules! report_with {
+    ($alloc:expr, $report:ident, snippets, $value:expr) => {
+        $report.with_all_snippets($alloc, $value)
+    };
+    ($alloc:expr, $report:ident, fixes, $value:expr) => {
+        $report.with_fixes($alloc, $value)
     };
 }
 

@@ -77,6 +77,10 @@ abbrev pub with_snippets : Section → Tree → Tree
 with_snippets new t = tree (record (head t) { snippets = (head t).snippets ++ new ∷ [] }) (source_of t) (cause_of t)
     (related_of t)
 
+-- labels over further sources, in place of those that were there
+abbrev pub with_all_snippets : List Section → Tree → Tree
+with_all_snippets new t = tree (record (head t) { snippets = new }) (source_of t) (cause_of t) (related_of t)
+
 -- a fix after those that were there, or fixes in their place
 abbrev pub with_fix : Proposal → Tree → Tree
 with_fix new t = tree (record (head t) { fixes = (head t).fixes ++ new ∷ [] }) (source_of t) (cause_of t) (related_of t)
