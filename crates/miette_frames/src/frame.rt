@@ -1,7 +1,7 @@
 //! The rows over and under a snippet's lines, and the row in place of snippets where a label is refused.
 
 ghost use Rattle.std.specs.Prelude.{◌≡◌, ◌++◌, ◌∷◌, [], IsTrue, nat_lt, chars, codes, decimal, option_copied};
-ghost use Rattle.std.specs.Prelude.{if◌then◌else◌, false, OnOk};
+ghost use Rattle.std.specs.Prelude.{◌&&◌, ◌||◌, if◌then◌else◌, false, OnOk};
 ghost use Rattle.std.specs.List.{list_all};
 ghost use Rattle.std.specs.Option.{option_map};
 ghost use Rattle.miette_page.specs.views.Printouts.{◌⊕◌};
@@ -16,7 +16,7 @@ use miette_basics::sums::sum;
 use miette_page::canvas::Canvas;
 use miette_page::page::{PLAIN, Page};
 use miette_protocol::protocol::LabeledSpan;
-use miette_snippet_rules::options::SnippetSettings;
+use miette_snippet_rules::options::{LayoutOptions, SnippetSettings};
 use miette_style::style::Style;
 use std::alloc::AllocError;
 
@@ -132,6 +132,14 @@ fn push_named_place<O: Canvas>(
     Ok(())
 }
 
+// Whether a frame in a source without a name shows its place: where that is asked for, over several lines or over one
+// line too.
+fn shows_bare_place(layout: &LayoutOptions, several: bool) -> bool
+    ensures { result ≡ ((several || layout.now.one_line_start) && layout.now.primary_start) }
+{
+    (several || layout.one_line_start) && layout.primary_start
+}
+
 // A place in a source without a name: `[2:3]`, or `───` in a snippet of one line or where the place isn't asked for.
 fn push_bare_place<O: Canvas>(
     page: &mut Page<O>,
@@ -142,7 +150,7 @@ fn push_bare_place<O: Canvas>(
     ensures { OnOk result (page.new ≡ page.old
         ⊕ row_tokens (location (settings_of frame.now.settings) None several (place_at place))) }
 {
-    if several && frame.settings.layout.primary_start {
+    if shows_bare_place(frame.settings.layout, several) {
         page.push_line(PLAIN, '[', ' ', 0)?;
         push_place(page, place)?;
         page.push(']')?;

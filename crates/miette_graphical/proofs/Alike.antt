@@ -31,11 +31,11 @@ holds_there P (q ∷ ps) p all h = elim (first_or_later q ps p h)
 module _ (rows others : SnippetRows) where
   -- the rows of a printed diagnostic, under an answer and under another one
   abbrev AreSame : PrintedDiagnostic → Answer → Answer → Type 0
-  AreSame p a b = (u : Settings) → rows u p.source (given_labels p.meaning.labels) a
-      ≡ others u p.source (given_labels p.meaning.labels) b
+  AreSame p a b = (u : Settings) → rows u p.source p.meaning a
+      ≡ others u p.source p.meaning b
 
   same_drawn : (u : Settings) (source : Option Source) (m : Diagnosis) (a b : Answer) → AreSame (over source m) a b →
-      rows_text (rows u source (given_labels m.labels) a) ≡ rows_text (others u source (given_labels m.labels) b)
+      rows_text (rows u source m a) ≡ rows_text (others u source m b)
   same_drawn u source m a b h = ap rows_text (h u)
 
   mutual
@@ -84,7 +84,7 @@ module _ (rows others : SnippetRows) where
         (same_drawn s source m (own_answer (first_answers a)) (own_answer (first_answers b))
         (h zero [] (over source m) refl))
         ∙ ap₂ (λ x z. title_text s m ++ body_over s m (rows_text
-        (others s source (given_labels m.labels) (own_answer (first_answers b)))) x z)
+        (others s source m (own_answer (first_answers b)))) x z)
         (causes_alike s m.severity source c (cause_answers (first_answers a)) (cause_answers (first_answers b)) false w
         (λ path. h zero (to_cause ∷ path)))
         (related_alike s m.severity source r (related_answers (first_answers a)) (related_answers (first_answers b))
@@ -106,7 +106,7 @@ module _ (rows others : SnippetRows) where
       ap (λ x. report_over s m x (only_if s.cause_chain (causes_text rows s m.severity own c (cause_answers a)))
       (related_text rows s m.severity own r (related_answers a)))
       (same_drawn s own m (own_answer a) (own_answer b) (h [] (over own m) refl))
-      ∙ ap₂ (report_over s m (rows_text (others s own (given_labels m.labels) (own_answer b))))
+      ∙ ap₂ (report_over s m (rows_text (others s own m (own_answer b))))
       (root_alike s.cause_chain s m own c (cause_answers a) (cause_answers b) (λ path. h (to_cause ∷ path)))
       (related_alike s m.severity own r (related_answers a) (related_answers b) s.related_as_nested refl
       (λ k path. h (to_related k ∷ path)))

@@ -1,10 +1,9 @@
 -- The rows of snippets under answers: where nothing fails, they are those in which nothing is listed.
 use Rattle.std.proofs.Common.{◌≡◌, ◌≢◌, ℕ, Bool, true, false, ◌||◌, if◌then◌else◌, inl, inr, List, [], ◌∷◌, refl, sym}
-use Rattle.std.proofs.Common.{ap, ap₂, ◌∙◌, subst, Option, Some, None, is_some, option_map, codes, length, ◌<◌, arith}
+use Rattle.std.proofs.Common.{ap, ap₂, ◌∙◌, subst, Option, Some, None, is_some, option_map, codes, length, ◌<◌, ◌≤◌, arith}
 use Rattle.std.proofs.Common.{◌++◌, drop}
 use Rattle.std.proofs.lemmas.Bool.{cases_Bool}
 use Rattle.miette_protocol.specs.views.Meaning.{Label}
-use Rattle.miette_tree.specs.rules.Diagnosis.{Diagnosis}
 use Rattle.miette_protocol.specs.rules.Reading.{Source, is_accepted}
 use Rattle.miette_labels.specs.rules.Answers.{Highlight, NoneFails, AlwaysReads}
 use Rattle.miette_highlight.specs.rules.HighlighterCalls.{Call, Leads}
@@ -22,15 +21,15 @@ use Rattle.miette_page.specs.rules.Rows.{Row}
 use Rattle.miette_page.specs.views.Tokens.{rows_tokens}
 use Rattle.miette_page.specs.views.Printouts.{Printout, printout_of, ended_text, ◌⊕◌}
 use Rattle.miette_tree.specs.views.Handler.{AppendsOne}
-use Rattle.miette_graphical.specs.rules.Answers.{Answer, nothing_listed, pieces_listed}
-use Rattle.miette_graphical.specs.rules.PossibleAnswers.{HasRows, HasPieces, IsAnswerOf}
+use Rattle.miette_graphical.specs.rules.Answers.{SourceAnswer, pieces_listed, source_unlisted}
+use Rattle.miette_graphical.specs.rules.PossibleAnswers.{AreAnswersOver, HasRows, HasPieces, IsAnswerOf}
 use Rattle.miette_tree.specs.rules.Reads.{always_reads}
 use Rattle.miette_graphical.specs.rules.DiagnosticText.{rows_text}
-use Rattle.miette_tree.specs.rules.DiagnosticParts.{given_labels}
+use Rattle.miette_graphical.specs.rules.Sources.{LabelledSource, labelled, snippets_after}
 use Rattle.miette_graphical.specs.rules.Settings.{Settings}
-use Rattle.miette_graphical.specs.rules.Snippets.{snippet_settings, shown_rows, drawn_rows}
+use Rattle.miette_graphical.specs.rules.Snippets.{snippet_settings, shown_rows, source_rows}
 use Rattle.miette_graphical.proofs.PrintedRows.{rows_printed}
-use Rattle.miette_graphical.specs.steps.PartTexts.{AreDrawn, IsDrawn}
+use Rattle.miette_graphical.specs.steps.PartTexts.{AreDrawn, IsSourceDrawn}
 use Rattle.miette_labels.proofs.NoFailures.{next_none, later_none, some_none}
 use Rattle.miette_graphical.specs.views.Painting.{printing}
 use Rattle.miette_labels.proofs.NoFailures.{none_unread, grouped_none}
@@ -46,7 +45,7 @@ refusal_none bytes fails (label ∷ labels) h =
     (refusal_none bytes (drop 1 fails) labels (later_none fails h))
 
 -- the rows of groups where nothing fails
-pub groups_given : (s : snippets.SnippetSettings) (source : Source) (labels : List Label) (a : Answer) → AlwaysReads a →
+pub groups_given : (s : snippets.SnippetSettings) (source : Source) (labels : List Label) (a : SourceAnswer) → AlwaysReads a →
     rows_of_groups s source labels a (groups_of s.layout.context_lines source a.join_fails labels)
     ≡ Some (all_snippets (settings_around s labels) (spreads_of s.layout.label_lines s.layout.context_lines source
     labels) source labels
@@ -63,14 +62,14 @@ groups_given s source labels a h =
 pub none_listed : (pieces : List (List (List Highlight))) → AlwaysReads (pieces_listed pieces)
 none_listed pieces = record { labels = tt; joins = tt; places = tt }
 
-unless_same : (s : snippets.SnippetSettings) (source : Source) (labels : List Label) (a : Answer) (refused : Option Row)
+unless_same : (s : snippets.SnippetSettings) (source : Source) (labels : List Label) (a : SourceAnswer) (refused : Option Row)
     → AlwaysReads a →
     rows_unless s source labels a refused ≡ rows_unless s source labels (pieces_listed a.pieces) refused
 unless_same s source labels a (Some row) h = refl
 unless_same s source labels a None h = groups_given s source labels a h
     ∙ sym (groups_given s source labels (pieces_listed a.pieces) (none_listed a.pieces))
 
-pub rows_same : (s : snippets.SnippetSettings) (source : Source) (labels : List Label) (a : Answer) → AlwaysReads a →
+pub rows_same : (s : snippets.SnippetSettings) (source : Source) (labels : List Label) (a : SourceAnswer) → AlwaysReads a →
     snippet_rows s source labels a ≡ snippet_rows s source labels (pieces_listed a.pieces)
 rows_same s source labels a h =
     ap (λ r. rows_unless s source (in_order labels) a (option_map (refused_row s) r))
@@ -99,7 +98,7 @@ never_none s source labels pieces (Some row) e = absurd (cc)
 never_none s source labels pieces None e = let k = sym
     (groups_given s source labels (pieces_listed pieces) (none_listed pieces)) ∙ e in absurd (cc)
 
-no_rows_fail : (s : snippets.SnippetSettings) (source : Source) (labels : List Label) (a : Answer) → AlwaysReads a
+no_rows_fail : (s : snippets.SnippetSettings) (source : Source) (labels : List Label) (a : SourceAnswer) → AlwaysReads a
     → snippet_rows s source labels a ≡ None → ⊥
 no_rows_fail s source labels a h n =
     never_none s source (in_order labels) a.pieces (option_map (refused_row s)
@@ -108,14 +107,14 @@ no_rows_fail s source labels a h n =
 -- ---- no pieces
 
 no_pieces : (s : snippets.SnippetSettings) (blank : Bool) (source : Option Source) (labels : List Label)
-    → HasPieces s blank source labels nothing_listed
+    → HasPieces s blank source labels source_unlisted
 no_pieces s blank None labels = tt
 no_pieces s blank (Some source) labels = none_have (group_context s.layout.context_lines (in_order labels)) blank source
     (groups_of s.layout.context_lines source [] (in_order labels))
 
 -- where nothing is listed, nothing failed
 pub unlisted_is : (s : snippets.SnippetSettings) (blank : Bool) (source : Option Source) (labels : List Label)
-    (reads : Bool) → IsAnswerOf s blank source labels reads nothing_listed
+    (reads : Bool) → IsAnswerOf s blank source labels reads source_unlisted
 unlisted_is s blank source labels reads = record {
   read = λ h. refl;
   plain = λ b. refl;
@@ -123,6 +122,15 @@ unlisted_is s blank source labels reads = record {
       no_pieces s blank source labels;
   rows = always_rows s source labels [];
 }
+
+-- the same over several sources
+pub nothing_over : (l : snippets.SnippetSettings) (blank : Bool) (sources : List LabelledSource)
+    → AreAnswersOver l blank sources []
+nothing_over l blank [] = tt
+nothing_over l blank (it ∷ more) = (
+  unlisted_is l blank it.source it.labels (always_reads it.source it.labels),
+  nothing_over (snippets_after (length it.labels) l) blank more,
+)
 
 page_given : (text : List ℕ) (rows : Option (List Row)) (page : Printout) → Some page
     ≡ option_map (λ rows. printout_of text ⊕ rows_tokens rows) rows → ended_text page ≡ text
@@ -142,7 +150,7 @@ rows_none before None e = refl
 rows_none before (Some rows) e = absurd (cc)
 
 -- the calls for the snippets of some labels where no read failed
-calls_same : (context : ℕ) (source : Source) (labels : List Label) (a : Answer) → AlwaysReads a
+calls_same : (context : ℕ) (source : Source) (labels : List Label) (a : SourceAnswer) → AlwaysReads a
     → snippet_calls context source labels a ≡ snippet_calls context source labels (pieces_listed a.pieces)
 calls_same context source labels a h =
     ap₂ (λ r groups. if is_some r then [] else group_calls (group_context context (in_order labels)) source groups
@@ -150,13 +158,13 @@ calls_same context source labels a h =
     (refusal_none source.bytes a.label_fails (in_order labels) h.labels)
     (grouped_none context source a.join_fails (in_order labels) h.joins)
 
-drawn_text : {happen : List Call → Type 0} (s : Settings) (source : Source) (labels : List Label) (blank : Bool)
+drawn_text : {happen : List Call → Type 0} (u s : Settings) (source : Source) (labels : List Label) (blank : Bool)
     (before : List ℕ) (page : Printout) →
     (g : MayGive (record { settings = snippet_settings s; blank = blank; happen = happen }) source labels
     (printout_of before) (Some page))
-    → AreDrawn source labels (record { settings = s; blank = blank; happen = happen })
-    (rows_text (drawn_rows s (Some source) labels g.answers))
-drawn_text {happen} s source labels blank before page g =
+    → AreDrawn s source labels (record { settings = u; blank = blank; happen = happen })
+    (rows_text (source_rows s (Some source) labels g.answers))
+drawn_text {happen} u s source labels blank before page g =
     let l = snippet_settings s in
     let a = g.answers in
     elim (cases_Bool source.always_reads) [
@@ -188,19 +196,19 @@ drawn_text {happen} s source labels blank before page g =
       )
     ]
 
-pub drawn_page : {happen : List Call → Type 0} (s : Settings) (source : Source) (labels : List Label) (blank : Bool)
+pub drawn_page : {happen : List Call → Type 0} (u s : Settings) (source : Source) (labels : List Label) (blank : Bool)
     (before : List ℕ) (page : Printout) →
     MayGive (record { settings = snippet_settings s; blank = blank; happen = happen }) source labels
     (printout_of before) (Some page)
-    → AppendsOne (AreDrawn source labels (record { settings = s; blank = blank; happen = happen })) before
+    → AppendsOne (AreDrawn s source labels (record { settings = u; blank = blank; happen = happen })) before
     (ended_text page)
-drawn_page {happen} s source labels blank before page g =
+drawn_page {happen} u s source labels blank before page g =
     let l = snippet_settings s in
     let a = g.answers in
-    let text : List ℕ = rows_text (drawn_rows s (Some source) labels a) in
+    let text : List ℕ = rows_text (source_rows s (Some source) labels a) in
     record {
       text = text;
-      is_given = drawn_text s source labels blank before page g;
+      is_given = drawn_text u s source labels blank before page g;
       appended =
           page_given before (snippet_rows l source labels a) page g.is;
     }
@@ -216,29 +224,34 @@ refused_page s source labels blank before g =
       | inr fails ↦ fails
     ]
 
--- ---- a diagnostic's snippets
+-- ---- the snippets over one source
 
-pub drawn_nowhere : (s : Settings) (blank : Bool) (now : List Call → Type 0) (m : Diagnosis) (text : List ℕ) → text ≡ []
-    → IsDrawn None m (printing s blank now now) text
-drawn_nowhere s blank now m text e = (
-  nothing_listed,
-  unlisted_is (snippet_settings s) blank None
-      (given_labels m.labels) (always_reads None (given_labels m.labels)),
+pub drawn_nowhere : (u s : Settings) (blank : Bool) (now : List Call → Type 0) (labels : List Label)
+    → IsSourceDrawn s (labelled None labels) (printing u blank now now) []
+drawn_nowhere u s blank now labels = (
+  source_unlisted,
+  unlisted_is (snippet_settings s) blank None labels (always_reads None labels),
   (λ later h. h),
-  e,
+  refl,
 )
 
-pub drawn_unlabelled : (s : Settings) (blank : Bool) (now : List Call → Type 0) (source : Source) (m : Diagnosis)
-    (text : List ℕ) → given_labels m.labels ≡ [] → text ≡ [] →
-    IsDrawn (Some source) m (printing s blank now now) text
-drawn_unlabelled s blank now source m text e t = (
-  nothing_listed,
-  unlisted_is (snippet_settings s) blank (Some source) (given_labels m.labels)
-      (always_reads (Some source) (given_labels m.labels)),
-  subst (λ (ls : List Label). Leads now (snippet_calls s.layout.context_lines source ls nothing_listed) now) (sym e)
+pub drawn_unlabelled : (u s : Settings) (blank : Bool) (now : List Call → Type 0) (source : Source)
+    (labels : List Label) → labels ≡ [] → IsSourceDrawn s (labelled (Some source) labels) (printing u blank now now) []
+drawn_unlabelled u s blank now source labels e =
+    subst (λ ls. IsSourceDrawn s (labelled (Some source) ls) (printing u blank now now) []) (sym e) (
+      source_unlisted,
+      unlisted_is (snippet_settings s) blank (Some source) [] true,
       (λ later h. h),
-  t ∙ ap (λ ls. rows_text (drawn_rows s (Some source) ls nothing_listed)) (sym e),
-)
+      refl,
+    )
+
+-- labels that are there, over a source that is
+pub drawn_labelled : (u s : Settings) (blank : Bool) (begun now : List Call → Type 0) (source : Source)
+    (labels : List Label) (text : List ℕ) → 1 ≤ length labels
+    → AreDrawn s source labels (printing u blank begun now) text
+    → IsSourceDrawn s (labelled (Some source) labels) (printing u blank begun now) text
+drawn_labelled u s blank begun now source [] text h p = absurd (omega arith)
+drawn_labelled u s blank begun now source (l ∷ ls) text h p = p
 
 pub empty_list : {A : Type 0} (xs : List A) → length xs < 1 → xs ≡ []
 empty_list [] h = refl

@@ -146,7 +146,7 @@ module _ (rows : SnippetRows) where
 
   text-rows : (s : Settings) (m : Diagnosis) (source : Option Source) (a : Answer)
       → EndsRow (drawn_text rows s m source a)
-  text-rows s m source a = drawn-rows (rows s source (given_labels m.labels) a)
+  text-rows s m source a = drawn-rows (rows s source m a)
 
   mutual
     causes-rows : (s : Settings) (outer : Option Severity) (inherited : Option Source) (c : Cause) (a : Answers)

@@ -9,6 +9,7 @@ pub mod Outermost
 pub mod Painted
 pub mod Steps
 pub mod Remaining
+pub mod SourceRows
 pub mod TextLaws
 pub mod Only
 pub mod PrintedRows

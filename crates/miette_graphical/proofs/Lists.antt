@@ -3,14 +3,13 @@ use Rattle.std.proofs.Common.{◌≡◌, true, false, ◌&&◌, List, [], ◌∷
 use Rattle.std.proofs.lemmas.Bool.{and_parts}
 use Rattle.std.proofs.Math.Bool.{and-false, and_assoc}
 use Rattle.miette_graphical.specs.rules.PrintedDiagnostics.{PrintedDiagnostic, all_read}
-use Rattle.miette_tree.specs.rules.DiagnosticParts.{given_labels}
-use Rattle.miette_tree.specs.rules.Reads.{always_reads}
+use Rattle.miette_graphical.specs.rules.Sources.{sources_of, sources_read}
 
 read_append : (ps qs : List PrintedDiagnostic) → all_read (ps ++ qs) ≡ (all_read ps && all_read qs)
 read_append [] qs = refl
 read_append (p ∷ ps) qs =
-    ap (λ b. always_reads p.source (given_labels p.meaning.labels) && b) (read_append ps qs)
-    ∙ sym (and_assoc (always_reads p.source (given_labels p.meaning.labels)) (all_read ps) (all_read qs))
+    ap (λ b. sources_read (sources_of p.source p.meaning) && b) (read_append ps qs)
+    ∙ sym (and_assoc (sources_read (sources_of p.source p.meaning)) (all_read ps) (all_read qs))
 
 pub both_read : (ps qs : List PrintedDiagnostic) → all_read (ps ++ qs) ≡ true → (all_read ps ≡ true)
     × (all_read qs ≡ true)

@@ -4,7 +4,7 @@ use Rattle.std.proofs.Common.{Option, Some, None, IfSome}
 use Rattle.miette_basics.specs.rules.Lists.{is_nil}
 use Rattle.miette_runs.specs.rules.Runs.{Fragment, Styled, print}
 use Rattle.miette_style.specs.rules.Styles.{plain}
-use Rattle.miette_protocol.specs.views.Meaning.{Label}
+use Rattle.std.proofs.Common.{map}
 use Rattle.miette_tree.specs.rules.Diagnosis.{Diagnosis}
 use Rattle.miette_protocol.specs.rules.Reading.{Source}
 use Rattle.miette_protocol.specs.declared.protocol.Severity.{Severity}
@@ -235,11 +235,6 @@ module _ (laws : TextLaws) (hs : List Style) (bare : AreAllPlain hs) where
 
   -- ---- snippets, and a diagnostic's text
 
-  labels-clean : (labels : Option (List Label)) → AreCleanLabels labels
-      → AllByRecursion IsCleanLabel (given_labels labels)
-  labels-clean None h = tt
-  labels-clean (Some ls) h = h
-
   pub effective-clean : (own inherited : Option Source) → IfSome own IsCleanSource → IfSome inherited IsCleanSource
       → IfSome (effective own inherited) IsCleanSource
   effective-clean None inherited h k = k
@@ -250,15 +245,14 @@ module _ (laws : TextLaws) (hs : List Style) (bare : AreAllPlain hs) where
       AreCleanSettings s → IsCleanMeaning m → IfSome source IsCleanSource → Fades causes causes2
       → Fades related related2 →
       Fades (body_over s m (drawn_text rows s m source a) causes related)
-      (body_over (faded hs s) m (drawn_text rows (faded hs s) m source (unhighlighted_answer a)) causes2
+      (body_over (faded hs s) m (drawn_text rows (faded hs s) m source (map unhighlighted_answer a)) causes2
       related2)
   fades-body rows law s m source a causes causes2 related related2 h k j p q =
-      let ls = given_labels m.labels in
-      let rs = rows s source ls a in
-      let rs2 = rows (faded hs s) source ls (unhighlighted_answer a) in
+      let rs = rows s source m a in
+      let rs2 = rows (faded hs s) source m (map unhighlighted_answer a) in
       let snippets : Fades (rows_text rs) (rows_text rs2) =
-      fades-to (fades-rows laws rs (law.clean s source ls a h j (labels-clean m.labels k.labels)))
-      (sym (law.fade s (faded_styles hs) source ls a (faded_are_plain hs bare))) in
+      fades-to (fades-rows laws rs (law.clean s source m a h j k))
+      (sym (law.fade s (faded_styles hs) source m a (faded_are_plain hs bare))) in
       let one = fades-append laws (message_text s m) (message_text (faded hs s) m) causes causes2
       (fades-message s m h k) p in
       let two = fades-append laws (message_text s m ++ causes) (message_text (faded hs s) m ++ causes2) (rows_text rs)
@@ -273,14 +267,14 @@ module _ (laws : TextLaws) (hs : List Style) (bare : AreAllPlain hs) where
   pub fades-inner : (rows : SnippetRows) → AreSnippets rows
       → (s : Settings) (m : Diagnosis) (source : Option Source) (a : Answer) (related related2 : List ℕ) →
       AreCleanSettings s → IsCleanMeaning m → IfSome source IsCleanSource → Fades related related2 →
-      Fades (inner_text rows s m source a related) (inner_text rows (faded hs s) m source (unhighlighted_answer a)
+      Fades (inner_text rows s m source a related) (inner_text rows (faded hs s) m source (map unhighlighted_answer a)
       related2)
   fades-inner rows law s m source a related related2 h k j q =
       fades-leading laws (print (header s m) ++ body_over s m (drawn_text rows s m source a) [] related)
       (print (header (faded hs s) m) ++ body_over (faded hs s) m
-      (drawn_text rows (faded hs s) m source (unhighlighted_answer a)) [] related2)
+      (drawn_text rows (faded hs s) m source (map unhighlighted_answer a)) [] related2)
       (fades-append laws (print (header s m)) (print (header (faded hs s) m))
       (body_over s m (drawn_text rows s m source a) [] related)
-      (body_over (faded hs s) m (drawn_text rows (faded hs s) m source (unhighlighted_answer a)) [] related2)
+      (body_over (faded hs s) m (drawn_text rows (faded hs s) m source (map unhighlighted_answer a)) [] related2)
       (fades-header s m h k) (fades-body rows law s m source a [] [] related related2 h k j (fades-clean laws [] refl)
       q))

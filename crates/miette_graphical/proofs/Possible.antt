@@ -1,9 +1,12 @@
 -- Answers without a highlighter's pieces are possible in plain styles: the snippets have rows there too.
-use Rattle.std.proofs.Common.{◌≡◌, Bool, true, List, Option, Some, None, is_some, map, option_map, refl, ap, ◌∙◌, subst}
+use Rattle.std.proofs.Common.{◌≡◌, ℕ, Bool, true, List, Option, Some, None, [], ◌∷◌, ◌++◌, drop, length, sym, take}
+use Rattle.std.proofs.Common.{is_some, map, option_map, refl, ap, ◌∙◌, subst}
 use Rattle.miette_protocol.specs.views.Meaning.{Label}
 use Rattle.miette_tree.specs.rules.Diagnosis.{Diagnosis}
 use Rattle.miette_protocol.specs.rules.Reading.{Source}
-use Rattle.miette_tree.specs.rules.DiagnosticParts.{given_labels}
+use Rattle.miette_graphical.specs.rules.Sources.{LabelledSource, snippets_after, snippets_with, sources_of}
+use Rattle.miette_graphical.specs.rules.Sources.{styles_after}
+use Rattle.std.proofs.Math.Nat.{mod-one}
 use Rattle.miette_tree.specs.rules.Tree.{effective, Tree, tree, Cause, diagnostic, texts, Trees, no_trees, more_trees}
 use Rattle.miette_labels.specs.rules.Answers as snippet_answers
 use Rattle.miette_labels.specs.rules.Around.{group_context}
@@ -18,13 +21,14 @@ use Rattle.miette_snippet_rules.proofs.NoPieces.{none_have}
 use Rattle.miette_page.specs.rules.Rows.{Row, glyphs_of}
 use Rattle.miette_graphical.specs.rules.Settings.{Settings}
 use Rattle.miette_graphical.specs.rules.Snippets.{snippet_settings}
-use Rattle.miette_graphical.specs.rules.Answers.{Answer, Answers, RelatedAnswers, first_answers, later_answers}
+use Rattle.miette_graphical.specs.rules.Answers.{Answer, Answers, RelatedAnswers, SourceAnswer, first_answers, later_answers}
+use Rattle.miette_graphical.specs.rules.Answers.{first_source}
 use Rattle.miette_graphical.specs.rules.Answers.{own_answer, cause_answers, related_answers}
 use Rattle.miette_graphical.specs.rules.PossibleAnswers.{AreAnswers, AreCauseAnswers, AreRelatedAnswers, HasPieces}
-use Rattle.miette_graphical.specs.rules.PossibleAnswers.{HasRows, IsAnswer, IsAnswerOf}
+use Rattle.miette_graphical.specs.rules.PossibleAnswers.{AreAnswersOver, HasRows, IsAnswer, IsAnswerOf}
 use Rattle.miette_tree.specs.rules.Reads.{always_reads}
 use Rattle.miette_graphical.specs.laws.Colourless.{colourless, unhighlighted_answers, unhighlighted_related_answers}
-use Rattle.miette_graphical.proofs.Bare.{own-bare, cause-bare, related-bare, first-bare, later-bare}
+use Rattle.miette_graphical.proofs.Bare.{first-bare-source, later-bare-sources, own-bare, cause-bare, related-bare, first-bare, later-bare}
 
 -- in plain styles the rows have the same characters, which the layer of snippets promises
 abbrev pub AreRowsKept : Type 0
@@ -39,20 +43,25 @@ some_kept None None e h = h
 some_kept None (Some rows) e h = absurd (cc)
 some_kept (Some plain) rows e h = refl
 
+-- the one highlight that no style has comes again and again
+no_styles_after : (n : ℕ) → styles_after n no_styles ≡ no_styles
+no_styles_after n =
+    ap (λ k. record no_styles { highlights = drop k no_styles.highlights ++ take k no_styles.highlights }) (mod-one n)
+
 module _ (kept : AreRowsKept) where
-  rows_kept : (l : snippets.SnippetSettings) (source : Option Source) (labels : List Label) (a : Answer)
+  rows_kept : (l : snippets.SnippetSettings) (source : Option Source) (labels : List Label) (a : SourceAnswer)
       → HasRows l source labels a → HasRows (fading.colourless l) source labels (unhighlighted_answer a)
   rows_kept l None labels a h = tt
   rows_kept l (Some source) labels a h = some_kept _ _ (kept l no_styles source labels a none_are_plain) h
 
-  no_pieces : (l : snippets.SnippetSettings) (source : Option Source) (labels : List Label) (a : Answer)
+  no_pieces : (l : snippets.SnippetSettings) (source : Option Source) (labels : List Label) (a : SourceAnswer)
       → HasPieces (fading.colourless l) true source labels (unhighlighted_answer a)
   no_pieces l None labels a = tt
   no_pieces l (Some source) labels a = none_have (group_context l.layout.context_lines (in_order labels)) true source
       (groups_of l.layout.context_lines source a.join_fails (in_order labels))
 
   answer_possible : (l : snippets.SnippetSettings) (blank : Bool) (source : Option Source) (labels : List Label)
-      (reads : Bool) (a : Answer) → IsAnswerOf l blank source labels reads a →
+      (reads : Bool) (a : SourceAnswer) → IsAnswerOf l blank source labels reads a →
       IsAnswerOf (fading.colourless l) true source labels reads (unhighlighted_answer a)
   answer_possible l blank source labels reads a h = record {
     read = λ e. ap unhighlighted_answer (h.read e);
@@ -61,13 +70,27 @@ module _ (kept : AreRowsKept) where
     rows = rows_kept l source labels a h.rows;
   }
 
+  -- over each source; the highlights that follow are as plain as those before
+  over_possible : (l : snippets.SnippetSettings) (blank : Bool) (sources : List LabelledSource) (a : Answer)
+      → AreAnswersOver l blank sources a
+      → AreAnswersOver (fading.colourless l) true sources (map unhighlighted_answer a)
+  over_possible l blank [] a h = tt
+  over_possible l blank (it ∷ more) a h = (
+    subst (IsAnswerOf (fading.colourless l) true it.source it.labels (always_reads it.source it.labels))
+        (first-bare-source a)
+        (answer_possible l blank it.source it.labels (always_reads it.source it.labels) (first_source a) h.0),
+    subst (λ styles. AreAnswersOver (fading.restyled l styles) true more (drop 1 (map unhighlighted_answer a)))
+        (sym (no_styles_after (length it.labels)))
+        (subst (λ later. AreAnswersOver (fading.colourless l) true more later) (later-bare-sources a)
+        (over_possible (snippets_after (length it.labels) l) blank more (drop 1 a) h.1)),
+  )
+
   own_possible : (l : snippets.SnippetSettings) (blank : Bool) (source : Option Source) (m : Diagnosis) (a : Answers)
       → IsAnswer l blank source m (own_answer a) →
       IsAnswer (fading.colourless l) true source m (own_answer (unhighlighted_answers a))
   own_possible l blank source m a h =
       subst (IsAnswer (fading.colourless l) true source m) (own-bare a)
-      (answer_possible l blank source (given_labels m.labels) (always_reads source (given_labels m.labels))
-      (own_answer a) h)
+      (over_possible (snippets_with m.snippets l) blank (sources_of source m) (own_answer a) h)
 
   mutual
     causes_possible : (l : snippets.SnippetSettings) (blank : Bool) (inherited : Option Source) (c : Cause)

@@ -1,22 +1,22 @@
 -- What holds of the answers of a report holds of each where a diagnostic is printed; and where all answers are the same
 -- there, the texts are.
 use Rattle.std.proofs.Common.{◌≡◌, zero, suc, ℕ, inl, inr, Bool, true, false, List, [], ◌∷◌, Option, Some, None, refl}
-use Rattle.std.proofs.Common.{ap, subst, if◌then◌else◌}
+use Rattle.std.proofs.Common.{ap, ap₂, drop, length, subst, ◌++◌, if◌then◌else◌}
 use Rattle.std.specs.List.{Contains}
 use Rattle.std.proofs.lemmas.Bool.{and_parts}
 use Rattle.std.proofs.lemmas.Option.{same_Some}
 use Rattle.miette_protocol.specs.rules.Reading.{Source}
-use Rattle.miette_tree.specs.rules.DiagnosticParts.{given_labels}
-use Rattle.miette_tree.specs.rules.Reads.{always_reads}
+use Rattle.miette_graphical.specs.rules.Sources.{LabelledSource, after_labels, drawn_with, sources_of}
+use Rattle.miette_graphical.specs.rules.Sources.{sources_read}
 use Rattle.miette_tree.specs.rules.Tree.{effective, Tree, tree, Cause, diagnostic, texts, Trees, no_trees, more_trees}
 use Rattle.miette_snippet_rules.specs.rules.Settings as snippets
 use Rattle.miette_graphical.specs.rules.Answers.{Answer, Answers, RelatedAnswers, cause_answers, related_answers}
-use Rattle.miette_graphical.specs.rules.Answers.{first_answers, later_answers}
+use Rattle.miette_graphical.specs.rules.Answers.{first_answers, first_source, later_answers, own_answer}
 use Rattle.miette_graphical.specs.rules.DiagnosticText.{SnippetRows}
 use Rattle.miette_graphical.specs.rules.PossibleAnswers.{AreAnswers, AreCauseAnswers, AreRelatedAnswers, IsAnswer}
 use Rattle.miette_graphical.specs.rules.PrintedDiagnostics.{PrintedDiagnostic, all_read, diagnostics_of, over}
 use Rattle.miette_graphical.specs.rules.Settings.{Settings}
-use Rattle.miette_graphical.specs.rules.Snippets.{snippet_settings}
+use Rattle.miette_graphical.specs.rules.Snippets.{drawn_rows, rows_over, snippet_settings, source_rows}
 use Rattle.miette_graphical.specs.rules.Text.{report_text}
 use Rattle.miette_graphical.specs.laws.Alike.{AreAnsweredAlike, answer_at, numbered_answers}
 use Rattle.miette_graphical.specs.laws.Paths.{Step, to_cause, to_related, at_cause, at_related, printed_at}
@@ -27,7 +27,32 @@ pub answered_alike : (rows : SnippetRows) (s : Settings) (t : Tree) (a b : Answe
     → report_text rows s t a ≡ report_text rows s t b
 answered_alike rows s t a b alike =
     report_alike rows rows s t a b
-    (λ path p found u. ap (rows u p.source (given_labels p.meaning.labels)) (alike path p found))
+    (λ path p found u. ap (rows u p.source p.meaning) (alike path p found))
+
+-- ---- answers that agree on each source
+
+abbrev pub AgreeOver : List LabelledSource → Answer → Answer → Type 0
+AgreeOver [] a b = Unit {0}
+AgreeOver (it ∷ more) a b = (first_source a ≡ first_source b) × AgreeOver more (drop 1 a) (drop 1 b)
+
+over_alike : (s : Settings) (sources : List LabelledSource) (a b : Answer) → AgreeOver sources a b
+    → rows_over s sources a ≡ rows_over s sources b
+over_alike s [] a b h = refl
+over_alike s (it ∷ more) a b h =
+    ap₂ (λ x y. source_rows s it.source it.labels x ++ y) h.0
+    (over_alike (after_labels (length it.labels) s) more (drop 1 a) (drop 1 b) h.1)
+
+-- wherever a diagnostic is printed
+abbrev pub AgreeAlong : Settings → Tree → Answers → Answers → Type 0
+AgreeAlong s t a b = (path : List Step) (p : PrintedDiagnostic) → printed_at s t path ≡ Some p →
+    AgreeOver (sources_of p.source p.meaning) (answer_at a path) (answer_at b path)
+
+pub agreed_alike : (s : Settings) (t : Tree) (a b : Answers) → AgreeAlong s t a b
+    → report_text drawn_rows s t a ≡ report_text drawn_rows s t b
+agreed_alike s t a b alike =
+    report_alike drawn_rows drawn_rows s t a b
+    (λ path p found u. over_alike (drawn_with p.meaning.snippets u) (sources_of p.source p.meaning) (answer_at a path)
+    (answer_at b path) (alike path p found))
 
 -- ---- each is an answer of its reads and of the highlighter
 
@@ -45,7 +70,7 @@ module _ (l : snippets.SnippetSettings) (blank : Bool) where
         at_cause nested inherited c path ≡ Some p → IsAnswerThere l blank p (answer_at a path)
     cause_there nested inherited (texts ts) a path p h e = absurd (cc)
     cause_there nested inherited (diagnostic (tree m own c r)) a [] p h e =
-        here (over (effective own inherited) m) p _ h.0 e
+        here (over (effective own inherited) m) p (own_answer a) h.0 e
     cause_there nested inherited (diagnostic (tree m own c r)) a (to_cause ∷ path) p h e =
         cause_there nested inherited c (cause_answers a) path p h.2 e
     cause_there nested inherited (diagnostic (tree m own c r)) a (to_related k ∷ path) p h e =
@@ -57,7 +82,7 @@ module _ (l : snippets.SnippetSettings) (blank : Bool) where
         IsAnswerThere l blank p (answer_at (numbered_answers more k) path)
     related_there nested inherited no_trees more k path p h e = absurd (cc)
     related_there nested inherited (more_trees (tree m own c r) ts) more zero [] p h e =
-        here (over (effective own inherited) m) p _ h.0 e
+        here (over (effective own inherited) m) p (own_answer (first_answers more)) h.0 e
     related_there true inherited (more_trees (tree m own c r) ts) more zero (to_cause ∷ path) p h e = absurd (cc)
     related_there false inherited (more_trees (tree m own c r) ts) more zero (to_cause ∷ path) p h e =
         cause_there false (effective own inherited) c (cause_answers (first_answers more)) path p h.1 e
@@ -75,7 +100,7 @@ module _ (l : snippets.SnippetSettings) (blank : Bool) where
 pub answer_there : (s : Settings) (blank : Bool) (t : Tree) (a : Answers) (path : List Step) (p : PrintedDiagnostic)
     → AreAnswers s blank t a → printed_at s t path ≡ Some p
     → IsAnswerThere (snippet_settings s) blank p (answer_at a path)
-answer_there s blank (tree m own c r) a [] p h e = here (snippet_settings s) blank (over own m) p _ h.0 e
+answer_there s blank (tree m own c r) a [] p h e = here (snippet_settings s) blank (over own m) p (own_answer a) h.0 e
 answer_there s blank (tree m own c r) a (to_cause ∷ path) p h e =
     root_there (snippet_settings s) blank s.cause_chain s.related_as_nested own c (cause_answers a) path p h.1 e
 answer_there s blank (tree m own c r) a (to_related k ∷ path) p h e =
@@ -84,16 +109,16 @@ answer_there s blank (tree m own c r) a (to_related k ∷ path) p h e =
 -- ---- each is read from a source that always reads, where all are
 
 one_reads : (ps : List PrintedDiagnostic) (p : PrintedDiagnostic) → all_read ps ≡ true → Contains ps p
-    → always_reads p.source (given_labels p.meaning.labels) ≡ true
+    → sources_read (sources_of p.source p.meaning) ≡ true
 one_reads [] p all h = absurd (none p h)
 one_reads (q ∷ ps) p all h =
-    let both = and_parts (always_reads q.source (given_labels q.meaning.labels)) (all_read ps) all in
+    let both = and_parts (sources_read (sources_of q.source q.meaning)) (all_read ps) all in
     elim (first_or_later q ps p h) [
-      | inl same ↦ subst (λ x. always_reads x.source (given_labels x.meaning.labels) ≡ true) same both.0
+      | inl same ↦ subst (λ x. sources_read (sources_of x.source x.meaning) ≡ true) same both.0
       | inr later ↦ one_reads ps p both.1 later
     ]
 
 pub reads_there : (s : Settings) (t : Tree) (path : List Step) (p : PrintedDiagnostic)
     → all_read (diagnostics_of s t) ≡ true → printed_at s t path ≡ Some p
-    → always_reads p.source (given_labels p.meaning.labels) ≡ true
+    → sources_read (sources_of p.source p.meaning) ≡ true
 reads_there s t path p all found = one_reads (diagnostics_of s t) p all (printed_there s t path p found)

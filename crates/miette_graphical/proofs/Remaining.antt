@@ -11,7 +11,7 @@ use Rattle.miette_tree.specs.views.Handler.{AppendsOne}
 use Rattle.miette_graphical.specs.rules.Answers.{Answers, RelatedAnswers}
 use Rattle.miette_graphical.specs.rules.PossibleAnswers.{AreCauseAnswers, AreRelatedAnswers}
 use Rattle.miette_graphical.specs.rules.Calls.{cause_calls, related_calls}
-use Rattle.miette_graphical.specs.rules.PrintedDiagnostics.{PrintedDiagnostic, all_read, printed_causes}
+use Rattle.miette_graphical.specs.rules.PrintedDiagnostics.{all_read, printed_causes}
 use Rattle.miette_graphical.specs.rules.PrintedDiagnostics.{printed_related}
 use Rattle.miette_graphical.specs.rules.Settings.{Settings}
 use Rattle.miette_graphical.specs.rules.Snippets.{drawn_rows, snippet_settings}
@@ -23,14 +23,13 @@ use Rattle.miette_graphical.proofs.Painted.{keeps_on, paints_after}
 use Rattle.miette_graphical.proofs.Sizes.{cause_size, tree_size, trees_size, cause_falls}
 use Rattle.miette_graphical.proofs.Steps.{cause_step, later_cause_fails, related_step, later_related_fails}
 
--- what is printed one after another: its answers, the calls and the text under them, the diagnostics that it prints,
--- and
--- its size
+-- what is printed one after another: its answers, the calls and the text under them, whether all sources that it prints
+-- always read, and its size
 pub record Chain (X A : Type 0) : Type 1 where
   pub are : X → A → Type 0
   pub calls : X → A → List Call
   pub shows : X → A → List ℕ
-  pub prints : X → List PrintedDiagnostic
+  pub reads : X → Bool
   pub size : X → ℕ
 
 abbrev pub causes_under : Option Severity → Option Source → Settings → Bool → Chain Cause Answers
@@ -38,7 +37,7 @@ causes_under outer inherited s blank = record {
   are = AreCauseAnswers (snippet_settings s) blank inherited;
   calls = cause_calls s.layout.context_lines s.related_as_nested inherited;
   shows = causes_text drawn_rows s outer inherited;
-  prints = printed_causes s.related_as_nested inherited;
+  reads = λ c. all_read (printed_causes s.related_as_nested inherited c);
   size = cause_size;
 }
 
@@ -47,12 +46,12 @@ related_under outer inherited s blank = record {
   are = AreRelatedAnswers (snippet_settings s) blank inherited;
   calls = related_calls s.layout.context_lines s.related_as_nested inherited;
   shows = related_text drawn_rows s outer inherited;
-  prints = printed_related s.related_as_nested inherited;
+  reads = λ ts. all_read (printed_related s.related_as_nested inherited ts);
   size = trees_size;
 }
 
 -- a text under some answers, by calls that bring a highlighter from one state to another
-abbrev IsShown : {X A : Type 0} → Chain X A → X → (List Call → Type 0) → (List Call → Type 0) → List ℕ → Type 0
+abbrev pub IsShown : {X A : Type 0} → Chain X A → X → (List Call → Type 0) → (List Call → Type 0) → List ℕ → Type 0
 IsShown {X} {A} k x begun end text = (a : A) × k.are x a × Leads begun (k.calls x a) end × (text ≡ k.shows x a)
 
 -- Whatever answers there are for what remains, there are answers for all: the texts stand behind what is there, and the
@@ -63,7 +62,7 @@ pub record Remains {X A : Type 0} (k : Chain X A) (begun state : List Call → T
   pub whole : (a : A) → k.are left a → (b : A) × k.are all b
       × ((later : List Call) → state (k.calls left a ++ later) → begun (k.calls all b ++ later))
       × (now ++ k.shows left a ≡ old ++ k.shows all b)
-  pub fails : all_read (k.prints left) ≡ false → all_read (k.prints all) ≡ false
+  pub fails : k.reads left ≡ false → k.reads all ≡ false
   pub fits : k.size left ≤ k.size all
 
 -- as a painter goes from one state to another
@@ -80,14 +79,14 @@ all_remain k begun all old =
     record { whole = λ a h. (a, h, (λ later k. k), refl); fails = λ h. h; fits = omega arith }
 
 -- one more is printed
-one_printed : {H X A : Type 0} (is_blank : H → Bool) (may_follow : H → List Call → Type 0)
+pub one_printed : {H X A : Type 0} (is_blank : H → Bool) (may_follow : H → List Call → Type 0)
     (chain : Settings → Bool → Chain X A) (old now new : Painter H) (all left rest : X) (one : List ℕ) →
     Left is_blank may_follow chain old now all left → Keeps is_blank now new → new.out ≡ now.out ++ one →
     (let k = chain (settings_of old) (leaves_plain is_blank old.highlighter) in (a : A) → k.are rest a
     → IsShown k left (follows may_follow now.highlighter)
     (λ later. follows may_follow new.highlighter (k.calls rest a ++ later)) (one ++ k.shows rest a)) →
     (let k = chain (settings_of old) (leaves_plain is_blank old.highlighter) in
-    all_read (k.prints rest) ≡ false → all_read (k.prints left) ≡ false) →
+    k.reads rest ≡ false → k.reads left ≡ false) →
     (let k = chain (settings_of old) (leaves_plain is_blank old.highlighter) in k.size rest ≤ k.size left) →
     Left is_blank may_follow chain old new all rest
 one_printed is_blank may_follow chain old now new all left rest one r keeps e step fails fits =

@@ -1,5 +1,5 @@
 -- A whole report without its colours, by induction over the tree.
-use Rattle.std.proofs.Common.{◌≡◌, ℕ, Bool, List, [], ◌++◌, refl, sym, ap, ap₂, ◌∙◌, subst, Option, IfSome}
+use Rattle.std.proofs.Common.{◌≡◌, ℕ, Bool, List, [], ◌++◌, map, refl, sym, ap, ap₂, ◌∙◌, subst, Option, IfSome}
 use Rattle.std.proofs.Common.{if◌then◌else◌}
 use Rattle.miette_runs.specs.rules.Runs.{print}
 use Rattle.miette_runs.specs.rules.Cutting.{without_trailing}
@@ -52,7 +52,7 @@ module _ (laws : TextLaws) (hs : List Style) (bare : AreAllPlain hs) where
         (fades-inner laws hs bare rows law (narrow_settings s v b) m source (own_answer a)
         (related (narrow_settings s v b) (related_answers a))
         (related (faded hs (narrow_settings s v b)) (unhighlighted_related_answers (related_answers a))) h k j q)
-        (ap (λ n. inner_text rows n m source (unhighlighted_answer (own_answer a))
+        (ap (λ n. inner_text rows n m source (map unhighlighted_answer (own_answer a))
         (related n (unhighlighted_related_answers (related_answers a)))) (narrowed-faded laws hs bare s v b h)
         ∙ ap₂ (λ o r. inner_text rows (narrow_settings (faded hs s) v b) m source o
         (related (narrow_settings (faded hs s) v b) r)) (own-bare a) (related-bare a))
@@ -62,7 +62,7 @@ module _ (laws : TextLaws) (hs : List Style) (bare : AreAllPlain hs) where
   report-end : (rows : SnippetRows) (s : Settings) (m : Diagnosis) (own : Option Source) (c : Cause) (r : Trees)
       (a : Answers) →
       print (header (faded hs s) m)
-      ++ body_over (faded hs s) m (drawn_text rows (faded hs s) m own (unhighlighted_answer (own_answer a)))
+      ++ body_over (faded hs s) m (drawn_text rows (faded hs s) m own (map unhighlighted_answer (own_answer a)))
       (only_if s.cause_chain (causes_text rows (faded hs s) m.severity own c
       (unhighlighted_answers (cause_answers a))))
       (related_text rows (faded hs s) m.severity own r (unhighlighted_related_answers (related_answers a)))
@@ -95,7 +95,7 @@ module _ (laws : TextLaws) (hs : List Style) (bare : AreAllPlain hs) where
         ++ related_text rows s outer inherited ts later
 
     related-end : (more : RelatedAnswers) →
-        related_by (unhighlighted_answer (own_answer (first_answers more)))
+        related_by (map unhighlighted_answer (own_answer (first_answers more)))
         (unhighlighted_answers (cause_answers (first_answers more)))
         (unhighlighted_related_answers (related_answers (first_answers more)))
         (unhighlighted_answers (first_answers more)) (unhighlighted_related_answers (later_answers more))

@@ -1,7 +1,7 @@
 -- The rows of snippets fade, and hold no escape: from what the layer of snippets promises of them.
 use Rattle.std.proofs.Common.{◌≡◌, ℕ, zero, suc, ◌+◌, ◌-◌, ◌*◌, ◌/◌, ◌%◌, ◌<◌, ◌≤◌, List, [], ◌∷◌, ◌++◌, map, refl, sym}
 use Rattle.std.proofs.Common.{ap, ap₂, ◌∙◌, arith, encode_utf8_all, Option, Some, None, IfSome, option_map, unwrap_or}
-use Rattle.std.proofs.Common.{le-ltb, lt-ltb, ⊎_elim}
+use Rattle.std.proofs.Common.{le-ltb, lt-ltb, ⊎_elim, append_assoc, drop, length, take}
 use Rattle.std.specs.Char.{encode_utf8}
 use Rattle.std.specs.Str.{chars, chars_after, continuation_len, lead_bits}
 use Rattle.std.specs.List.{AllByRecursion}
@@ -16,17 +16,27 @@ use Rattle.miette_style.specs.rules.Escapes.{no_escape}
 use Rattle.miette_labels.specs.rules.Answers as snippet_answers
 use Rattle.miette_row_laws.specs.laws.Clean.{IsCleanLabel, IsCleanRow, IsCleanSource, AreCleanDrawings}
 use Rattle.miette_row_laws.specs.laws.Fading as fading
-use Rattle.miette_row_laws.specs.laws.Fading.{ArePlain, IsPlainRow, unhighlighted_answer}
+use Rattle.miette_row_laws.specs.laws.Fading.{AreAllPlain, ArePlain, IsPlainRow, unhighlighted_answer}
+use Rattle.miette_row_laws.proofs.Paling.{all_append}
+use Rattle.miette_style.specs.declared.style.Style.{Style}
+use Rattle.miette_tree.specs.rules.Diagnosis.{Diagnosis, Section}
+use Rattle.miette_tree.specs.rules.DiagnosticParts.{given_labels}
 use Rattle.miette_style.specs.rules.Themes.{Styles}
 use Rattle.miette_snippet_rules.specs.rules.Settings as snippets
 use Rattle.miette_snippet_rules.specs.rules.SnippetLayout.{snippet_rows}
 use Rattle.miette_page.specs.rules.Rows.{Glyph, Row, Run, glyphs_of}
-use Rattle.miette_graphical.specs.rules.Answers.{Answer}
-use Rattle.miette_graphical.specs.laws.Clean.{AreCleanSettings, HaveNoEscapes}
+use Rattle.miette_graphical.specs.rules.Answers.{Answer, SourceAnswer, first_source}
+use Rattle.miette_graphical.specs.laws.Clean.{AreCleanLabels, AreCleanSettings, HaveNoEscapes, IsCleanMeaning}
+use Rattle.miette_graphical.specs.laws.Clean.{IsCleanSection}
 use Rattle.miette_graphical.specs.laws.Colourless.{AreSnippets, restyled}
 use Rattle.miette_graphical.specs.rules.DiagnosticText.{line_feed, rows_text}
 use Rattle.miette_graphical.specs.rules.Settings.{Settings}
-use Rattle.miette_graphical.specs.rules.Snippets.{drawn_rows, snippet_settings, run_text, runs_of_row, shown_rows}
+use Rattle.miette_graphical.specs.rules.Snippets.{drawn_rows, rows_over, snippet_settings, run_text, runs_of_row}
+use Rattle.miette_graphical.specs.rules.Snippets.{shown_rows, source_rows}
+use Rattle.miette_graphical.specs.rules.Sources.{LabelledSource, after_labels, drawn_with, further_sources}
+use Rattle.miette_graphical.specs.rules.Sources.{sources_of, styles_after, turned}
+use Rattle.miette_graphical.proofs.Bare.{first-bare-source, later-bare-sources}
+use Rattle.miette_runs.specs.rules.Runs.{Fragment}
 
 -- the clauses of the laws of that layer
 pub record LayoutLaws : Type 0 where
@@ -165,24 +175,126 @@ clean_shown : (rows : Option (List Row)) → IfSome rows (AllByRecursion IsClean
 clean_shown None h = tt
 clean_shown (Some rows) h = clean_rows rows h
 
--- ---- the rows of a diagnostic's snippets
+-- ---- plain styles, whatever highlight comes next
 
-drawn_fade : LayoutLaws → (s : Settings) (styles : Styles) (source : Option Source) (labels : List Label) (a : Answer)
-    → ArePlain styles → rows_text (drawn_rows (restyled s styles) source labels (unhighlighted_answer a))
-    ≡ rows_text (map (map plain_run) (drawn_rows s source labels a))
-drawn_fade laws s styles None labels a bare = refl
-drawn_fade laws s styles (Some source) labels a bare =
+dropped-plain : (k : ℕ) (styles : List Style) → AreAllPlain styles → AreAllPlain (drop k styles)
+dropped-plain zero styles h = h
+dropped-plain (suc k) [] h = tt
+dropped-plain (suc k) (style ∷ styles) h = dropped-plain k styles h.1
+
+taken-plain : (k : ℕ) (styles : List Style) → AreAllPlain styles → AreAllPlain (take k styles)
+taken-plain zero styles h = tt
+taken-plain (suc k) [] h = tt
+taken-plain (suc k) (style ∷ styles) h = (h.0, taken-plain k styles h.1)
+
+turned-plain : (n : ℕ) (styles : List Style) → AreAllPlain styles → AreAllPlain (turned n styles)
+turned-plain n [] h = tt
+turned-plain n (style ∷ styles) h =
+    let k = n % length (style ∷ styles) in
+    all_append (λ it. it ≡ plain) (drop k (style ∷ styles)) (take k (style ∷ styles))
+    (dropped-plain k (style ∷ styles) h) (taken-plain k (style ∷ styles) h)
+
+plain_after : (n : ℕ) (styles : Styles) → ArePlain styles → ArePlain (styles_after n styles)
+plain_after n styles h = record {
+  error = h.error;
+  warning = h.warning;
+  advice = h.advice;
+  help = h.help;
+  link = h.link;
+  linum = h.linum;
+  highlights = turned-plain n styles.highlights h.highlights;
+}
+
+-- ---- sources without an escape
+
+abbrev IsCleanOver : LabelledSource → Type 0
+IsCleanOver it = IfSome it.source IsCleanSource × AllByRecursion IsCleanLabel it.labels
+
+further-clean : (sections : List Section) → AllByRecursion IsCleanSection sections
+    → AllByRecursion IsCleanOver (further_sources sections)
+further-clean [] h = tt
+further-clean (section ∷ more) h = (h.0, further-clean more h.1)
+
+pub labels-clean : (labels : Option (List Label)) → AreCleanLabels labels
+    → AllByRecursion IsCleanLabel (given_labels labels)
+labels-clean None h = tt
+labels-clean (Some ls) h = h
+
+clean_over : LayoutLaws → (s : Settings) (source : Option Source) (labels : List Label) (a : SourceAnswer) →
+    AreCleanSettings s → IfSome source IsCleanSource → AllByRecursion IsCleanLabel labels
+    → HaveNoEscapes (source_rows s source labels a)
+clean_over laws s None labels a h k j = tt
+clean_over laws s (Some source) labels a h k j = clean_shown (snippet_rows (snippet_settings s) source labels a)
+    (laws.clean (snippet_settings s) source labels a h.0.drawings k j)
+
+-- ---- rows one after the other
+
+pub rows-appended : (xs ys : List (List Fragment)) → rows_text (xs ++ ys) ≡ rows_text xs ++ rows_text ys
+rows-appended [] ys = refl
+rows-appended (x ∷ xs) ys =
+    ap (λ t. print x ++ line_feed ++ t) (rows-appended xs ys)
+    ∙ sym (append_assoc (print x ++ line_feed) (rows_text xs) (rows_text ys))
+
+escapes-appended : (xs ys : List (List Fragment)) → HaveNoEscapes xs → HaveNoEscapes ys → HaveNoEscapes (xs ++ ys)
+escapes-appended [] ys h k = k
+escapes-appended (x ∷ xs) ys h k = (h.0, escapes-appended xs ys h.1 k)
+
+-- ---- the rows over one source, and over several
+
+source_fade : LayoutLaws → (s : Settings) (styles : Styles) (source : Option Source) (labels : List Label)
+    (a : SourceAnswer) → ArePlain styles
+    → rows_text (source_rows (restyled s styles) source labels (unhighlighted_answer a))
+    ≡ rows_text (map (map plain_run) (source_rows s source labels a))
+source_fade laws s styles None labels a bare = refl
+source_fade laws s styles (Some source) labels a bare =
     let l = snippet_settings s in
     plain_shown (snippet_rows (fading.restyled l styles) source labels (fading.unhighlighted_answer a))
     (laws.plain l styles source labels a bare)
     ∙ ap shown_text (laws.same l styles source labels a bare) ∙ sym (bare_shown (snippet_rows l source labels a))
 
-drawn_clean : LayoutLaws → (s : Settings) (source : Option Source) (labels : List Label) (a : Answer) →
-    AreCleanSettings s → IfSome source IsCleanSource → AllByRecursion IsCleanLabel labels
-    → HaveNoEscapes (drawn_rows s source labels a)
-drawn_clean laws s None labels a h k j = tt
-drawn_clean laws s (Some source) labels a h k j = clean_shown (snippet_rows (snippet_settings s) source labels a)
-    (laws.clean (snippet_settings s) source labels a h.0.drawings k j)
+source_clean : LayoutLaws → (s : Settings) (it : LabelledSource) (a : SourceAnswer) → AreCleanSettings s
+    → IsCleanOver it → HaveNoEscapes (source_rows s it.source it.labels a)
+source_clean laws s it a h k = clean_over laws s it.source it.labels a h k.0 k.1
+
+over_fade : LayoutLaws → (s : Settings) (styles : Styles) (sources : List LabelledSource) (a : Answer)
+    → ArePlain styles → rows_text (rows_over (restyled s styles) sources (map unhighlighted_answer a))
+    ≡ rows_text (map (map plain_run) (rows_over s sources a))
+over_fade laws s styles [] a bare = refl
+over_fade laws s styles (it ∷ more) a bare =
+    let n = length it.labels in
+    let own = source_rows s it.source it.labels (first_source a) in
+    let rest = rows_over (after_labels n s) more (drop 1 a) in
+    rows-appended (source_rows (restyled s styles) it.source it.labels (first_source (map unhighlighted_answer a)))
+    (rows_over (restyled (after_labels n s) (styles_after n styles)) more (drop 1 (map unhighlighted_answer a)))
+    ∙ ap₂ (λ x y. x ++ y)
+    (ap (λ b. rows_text (source_rows (restyled s styles) it.source it.labels b)) (sym (first-bare-source a))
+    ∙ source_fade laws s styles it.source it.labels (first_source a) bare)
+    (ap (λ b. rows_text (rows_over (restyled (after_labels n s) (styles_after n styles)) more b))
+    (sym (later-bare-sources a))
+    ∙ over_fade laws (after_labels n s) (styles_after n styles) more (drop 1 a) (plain_after n styles bare))
+    ∙ sym (rows-appended (map (map plain_run) own) (map (map plain_run) rest))
+    ∙ ap rows_text (sym (map-append (map plain_run) own rest))
+
+over_clean : LayoutLaws → (s : Settings) (sources : List LabelledSource) (a : Answer) → AreCleanSettings s
+    → AllByRecursion IsCleanOver sources → HaveNoEscapes (rows_over s sources a)
+over_clean laws s [] a h k = tt
+over_clean laws s (it ∷ more) a h k =
+    escapes-appended (source_rows s it.source it.labels (first_source a))
+    (rows_over (after_labels (length it.labels) s) more (drop 1 a))
+    (source_clean laws s it (first_source a) h k.0)
+    (over_clean laws (after_labels (length it.labels) s) more (drop 1 a) h k.1)
+
+-- ---- a diagnostic's
+
+drawn_fade : LayoutLaws → (s : Settings) (styles : Styles) (source : Option Source) (m : Diagnosis) (a : Answer)
+    → ArePlain styles → rows_text (drawn_rows (restyled s styles) source m (map unhighlighted_answer a))
+    ≡ rows_text (map (map plain_run) (drawn_rows s source m a))
+drawn_fade laws s styles source m a bare = over_fade laws (drawn_with m.snippets s) styles (sources_of source m) a bare
+
+drawn_clean : LayoutLaws → (s : Settings) (source : Option Source) (m : Diagnosis) (a : Answer) →
+    AreCleanSettings s → IfSome source IsCleanSource → IsCleanMeaning m → HaveNoEscapes (drawn_rows s source m a)
+drawn_clean laws s source m a h k j = over_clean laws (drawn_with m.snippets s) (sources_of source m) a h
+    ((k, labels-clean m.labels j.labels), further-clean m.snippets j.snippets)
 
 pub drawn_snippets : LayoutLaws → AreSnippets drawn_rows
 drawn_snippets laws = record { fade = drawn_fade laws; clean = drawn_clean laws }

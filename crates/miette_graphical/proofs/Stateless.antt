@@ -27,20 +27,26 @@ use Rattle.miette_snippet_rules.specs.rules.Highlighting.{texts_of}
 use Rattle.miette_snippet_rules.specs.rules.SnippetLayout.{all_snippets, cells_of, drawn_labels, left_out}
 use Rattle.miette_snippet_rules.specs.rules.SnippetLayout.{line_or_break, place_of, rows_of_lines, rows_unless}
 use Rattle.miette_snippet_rules.specs.rules.SnippetLayout.{settings_around}
-use Rattle.miette_tree.specs.rules.DiagnosticParts.{given_labels}
 use Rattle.miette_tree.specs.rules.Tree.{Tree, tree, Cause, diagnostic, texts, Trees, no_trees, more_trees, effective}
 use Rattle.miette_tree.specs.rules.Reads.{always_reads}
 use Rattle.miette_tree.specs.views.Handler.{AppendsOne}
 use Rattle.miette_graphical.specs.rules.PossibleAnswers.{IsAskedText, AreAnswers, AreCauseAnswers, AreRelatedAnswers}
-use Rattle.miette_graphical.specs.rules.Answers.{Answer, Answers, RelatedAnswers, pieces_listed, own_answer}
+use Rattle.miette_graphical.specs.rules.PossibleAnswers.{AreAnswersOver, IsAnswer}
+use Rattle.miette_graphical.specs.rules.Answers.{Answer, Answers, RelatedAnswers, SourceAnswer, first_source}
+use Rattle.miette_graphical.specs.rules.Answers.{pieces_listed, own_answer}
 use Rattle.miette_graphical.specs.rules.Answers.{cause_answers, related_answers, first_answers, later_answers}
-use Rattle.miette_graphical.specs.rules.ByLine.{answers_by, causes_by, labels_by, own_by, related_by}
-use Rattle.miette_graphical.specs.rules.Calls.{cause_calls, own_calls, related_calls, report_calls}
+use Rattle.miette_graphical.specs.rules.ByLine.{answers_by, causes_by, labels_by, own_by, related_by, source_by}
+use Rattle.miette_graphical.specs.rules.ByLine.{sources_by}
+use Rattle.miette_graphical.specs.rules.Calls.{calls_over, cause_calls, own_calls, related_calls, report_calls}
+use Rattle.miette_graphical.specs.rules.Calls.{source_calls}
 use Rattle.miette_graphical.specs.rules.Indents.{narrow_settings}
 use Rattle.miette_graphical.specs.rules.DiagnosticText.{rows_text, title_text, under_arrow}
 use Rattle.miette_graphical.specs.rules.PrintedDiagnostics.{all_read, diagnostics_of, printed_causes, printed_related}
 use Rattle.miette_graphical.specs.rules.Settings.{Settings}
-use Rattle.miette_graphical.specs.rules.Snippets.{drawn_rows, snippet_settings, shown_rows}
+use Rattle.miette_graphical.specs.rules.Snippets.{drawn_rows, rows_over, snippet_settings, shown_rows}
+use Rattle.miette_graphical.specs.rules.Snippets.{source_rows}
+use Rattle.miette_graphical.specs.rules.Sources.{LabelledSource, after_labels, drawn_with, snippets_after}
+use Rattle.miette_graphical.specs.rules.Sources.{snippets_with, sources_of, sources_read}
 use Rattle.miette_graphical.specs.rules.Text.{are_last, body_over, causes_text, ends_there, inner_over, only_if}
 use Rattle.miette_graphical.specs.rules.Text.{related_text, report_text}
 use Rattle.miette_graphical.proofs.DrawnRows.{groups_given, none_listed}
@@ -110,18 +116,41 @@ unless_by f l source labels pieces None h =
     pieces groups h)
     ∙ sym (groups_given l source labels (pieces_listed others) (none_listed others))
 
--- a diagnostic's rows, where no read of it failed
-rows_by : (f : List ℕ → List Piece) (s : Settings) (source : Option Source) (m : Diagnosis) (a : Answer) → a
-    ≡ pieces_listed a.pieces → AnsweredBy f (own_calls s.layout.context_lines source m a) →
-    rows_text (drawn_rows s source (given_labels m.labels) a)
-    ≡ rows_text (drawn_rows s source (given_labels m.labels) (own_by f s.layout.context_lines source m))
-rows_by f s None m a e h = refl
-rows_by f s (Some source) m a e h =
+-- the rows over one source, where no read of it failed
+source_rows_by : (f : List ℕ → List Piece) (s : Settings) (source : Option Source) (labels : List Label)
+    (a : SourceAnswer) → a ≡ pieces_listed a.pieces
+    → AnsweredBy f (source_calls s.layout.context_lines source labels a)
+    → source_rows s source labels a ≡ source_rows s source labels (source_by f s.layout.context_lines source labels)
+source_rows_by f s None labels a e h = refl
+source_rows_by f s (Some source) labels a e h =
     let l = snippet_settings s in
-    let labels = in_order (given_labels m.labels) in
-    ap (λ x. rows_text (drawn_rows s (Some source) (given_labels m.labels) x)) e
-    ∙ ap (λ r. rows_text (shown_rows r)) (unless_by f l source labels a.pieces (refusal source.bytes [] labels)
-    (subst (λ x. AnsweredBy f (own_calls s.layout.context_lines (Some source) m x)) e h))
+    ap (λ x. source_rows s (Some source) labels x) e
+    ∙ ap shown_rows (unless_by f l source (in_order labels) a.pieces (refusal source.bytes [] (in_order labels))
+    (subst (λ x. AnsweredBy f (source_calls s.layout.context_lines (Some source) labels x)) e h))
+
+-- over several, in whatever settings answers are possible for them
+over_by : (f : List ℕ → List Piece) (l : snippets.SnippetSettings) (blank : Bool) (s : Settings)
+    (sources : List LabelledSource) (a : Answer) → AreAnswersOver l blank sources a → sources_read sources ≡ true
+    → AnsweredBy f (calls_over s.layout.context_lines sources a)
+    → rows_over s sources a ≡ rows_over s sources (sources_by f s.layout.context_lines sources)
+over_by f l blank s [] a h e b = refl
+over_by f l blank s (it ∷ more) a h e b =
+    let p = and_parts (always_reads it.source it.labels) (sources_read more) e in
+    let k = parts_by f (source_calls s.layout.context_lines it.source it.labels (first_source a))
+    (calls_over s.layout.context_lines more (drop 1 a)) b in
+    ap₂ (λ x y. x ++ y)
+    (source_rows_by f s it.source it.labels (first_source a) (h.0.read p.0) k.0)
+    (over_by f (snippets_after (length it.labels) l) blank (after_labels (length it.labels) s) more (drop 1 a) h.1 p.1
+    k.1)
+
+-- a diagnostic's rows
+rows_by : (f : List ℕ → List Piece) (l : snippets.SnippetSettings) (blank : Bool) (s : Settings)
+    (source : Option Source) (m : Diagnosis) (a : Answer) → IsAnswer l blank source m a
+    → sources_read (sources_of source m) ≡ true → AnsweredBy f (own_calls s.layout.context_lines source m a) →
+    rows_text (drawn_rows s source m a)
+    ≡ rows_text (drawn_rows s source m (own_by f s.layout.context_lines source m))
+rows_by f l blank s source m a h e b =
+    ap rows_text (over_by f (snippets_with m.snippets l) blank (drawn_with m.snippets s) (sources_of source m) a h e b)
 
 -- ---- texts
 
@@ -140,7 +169,7 @@ mutual
       let source = effective own inherited in
       let n = narrow_settings s outer (ends_there c) in
       let p = both_read (printed_inner nested source (tree m own c r)) (printed_causes nested inherited c) e in
-      let q = and_parts (always_reads source (given_labels m.labels)) (all_read (printed_related nested source r)) p.0
+      let q = and_parts (sources_read (sources_of source m)) (all_read (printed_related nested source r)) p.0
       in
       let more = related_calls s.layout.context_lines nested source r (related_answers a) in
       let k = parts_by f (own_calls s.layout.context_lines source m (own_answer a) ++ more)
@@ -148,7 +177,7 @@ mutual
       let j = parts_by f (own_calls s.layout.context_lines source m (own_answer a)) more k.0 in
       ap₂ (λ x y. x ++ y)
       (ap (under_arrow s outer (ends_there c))
-      (ap₂ (inner_over n m) (rows_by f n source m (own_answer a) (h.0.read q.0) j.0)
+      (ap₂ (inner_over n m) (rows_by f l blank n source m (own_answer a) h.0 q.0 j.0)
       (related_text_by f l blank n m.severity source r (related_answers a) nested w h.1 q.1 j.1)))
       (cause_text_by f l blank s outer inherited c (cause_answers a) nested w h.2 p.1 k.1)
 
@@ -165,7 +194,7 @@ mutual
       let n = narrow_settings s outer (are_last ts) in
       let a = first_answers more in
       let p = both_read (printed_inner true source (tree m own c r)) (printed_related true inherited ts) e in
-      let q = and_parts (always_reads source (given_labels m.labels)) (all_read (printed_related true source r)) p.0 in
+      let q = and_parts (sources_read (sources_of source m)) (all_read (printed_related true source r)) p.0 in
       let own_ones = own_calls s.layout.context_lines source m (own_answer a) in
       let below = related_calls s.layout.context_lines true source r (related_answers a) in
       let k = parts_by f (own_ones ++ below) (related_calls s.layout.context_lines true inherited ts
@@ -174,7 +203,7 @@ mutual
       ap₂ (λ x y. x ++ y)
       (if_same s.related_as_nested _ _ _ _
       (λ y. ap (λ x. under_arrow s outer (are_last ts) (without_trailing x))
-      (ap₂ (inner_over n m) (rows_by f n source m (own_answer a) (h.0.read q.0) j.0)
+      (ap₂ (inner_over n m) (rows_by f l blank n source m (own_answer a) h.0 q.0 j.0)
       (related_text_by f l blank n m.severity source r (related_answers a) true w h.2 q.1 j.1)))
       (λ y. absurd (cc)))
       (related_text_by f l blank s outer inherited ts (later_answers more) true w h.3 p.1 k.1)
@@ -182,7 +211,7 @@ mutual
       let source = effective own inherited in
       let a = first_answers more in
       let p = both_read (printed_sibling false source (tree m own c r)) (printed_related false inherited ts) e in
-      let q = and_parts (always_reads source (given_labels m.labels))
+      let q = and_parts (sources_read (sources_of source m))
       (all_read (printed_causes false source c ++ printed_related false source r)) p.0 in
       let o = both_read (printed_causes false source c) (printed_related false source r) q.1 in
       let caused = cause_calls s.layout.context_lines false source c (cause_answers a) in
@@ -197,9 +226,9 @@ mutual
       (λ y. absurd (cc))
       (λ y. ap (λ x. title_text s m ++ body_over s m x (causes_text drawn_rows s m.severity source c (cause_answers a))
       (related_text drawn_rows s m.severity source r (related_answers a)))
-      (rows_by f s source m (own_answer a) (h.0.read q.0) j.0)
+      (rows_by f l blank s source m (own_answer a) h.0 q.0 j.0)
       ∙ ap₂ (λ x y. title_text s m ++ body_over s m (rows_text
-      (drawn_rows s source (given_labels m.labels) (own_by f s.layout.context_lines source m))) x y)
+      (drawn_rows s source m (own_by f s.layout.context_lines source m))) x y)
       (cause_text_by f l blank s m.severity source c (cause_answers a) false w h.1 o.0 i.0)
       (related_text_by f l blank s m.severity source r (related_answers a) false w h.2 o.1 j.1)))
       (related_text_by f l blank s outer inherited ts (later_answers more) false w h.3 p.1 k.1)
@@ -221,7 +250,7 @@ report_text_by : (f : List ℕ → List Piece) (s : Settings) (blank : Bool) (t 
 report_text_by f s blank (tree m own c r) a h e b =
     let l = snippet_settings s in
     let causes = if s.cause_chain then printed_causes s.related_as_nested own c else [] in
-    let p = and_parts (always_reads own (given_labels m.labels))
+    let p = and_parts (sources_read (sources_of own m))
     (all_read (causes ++ printed_related s.related_as_nested own r)) e
     in
     let q = both_read causes (printed_related s.related_as_nested own r) p.1 in
@@ -233,8 +262,8 @@ report_text_by f s blank (tree m own c r) a h e b =
     let j = parts_by f own_ones below k.1 in
     ap (λ x. report_over s m x (only_if s.cause_chain (causes_text drawn_rows s m.severity own c (cause_answers a)))
     (related_text drawn_rows s m.severity own r (related_answers a)))
-    (rows_by f s own m (own_answer a) (h.0.read p.0) j.0)
-    ∙ ap₂ (report_over s m (rows_text (drawn_rows s own (given_labels m.labels)
+    (rows_by f l blank s own m (own_answer a) h.0 p.0 j.0)
+    ∙ ap₂ (report_over s m (rows_text (drawn_rows s own m
     (own_by f s.layout.context_lines own m))))
     (root_text_by f l blank s m own c (cause_answers a) s.cause_chain h.1 q.0 k.0)
     (related_text_by f l blank s m.severity own r (related_answers a) s.related_as_nested refl h.2 q.1 j.1)

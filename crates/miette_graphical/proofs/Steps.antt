@@ -16,7 +16,7 @@ use Rattle.miette_graphical.specs.rules.Answers.{cause_answers, related_answers}
 use Rattle.miette_graphical.specs.rules.Indents.{narrow_settings}
 use Rattle.miette_graphical.specs.rules.DiagnosticText.{rows_text, under_arrow, header, message_text}
 use Rattle.miette_graphical.specs.rules.DiagnosticText.{help_text, footer_text, title_text}
-use Rattle.miette_tree.specs.rules.DiagnosticParts.{given_labels}
+use Rattle.miette_graphical.specs.rules.Sources.{snippets_with, sources_of, sources_read}
 use Rattle.miette_graphical.specs.rules.Text.{cause_texts, ends_there, are_last, body_over, inner_over, drawn_text}
 use Rattle.miette_graphical.specs.rules.Text.{inner_text, causes_text, related_text, only_if}
 use Rattle.miette_tree.specs.rules.Tree.{effective}
@@ -24,11 +24,10 @@ use Rattle.miette_snippet_rules.specs.rules.Settings as snippets
 use Rattle.miette_graphical.specs.rules.PrintedDiagnostics.{all_read, over, diagnostics_of, printed_causes}
 use Rattle.miette_graphical.specs.rules.PrintedDiagnostics.{printed_related}
 use Rattle.miette_graphical.specs.rules.Snippets.{drawn_rows, snippet_settings}
-use Rattle.miette_graphical.proofs.DrawnRows.{unlisted_is}
+use Rattle.miette_graphical.proofs.DrawnRows.{nothing_over}
 use Rattle.miette_graphical.proofs.Lists.{first_fails, later_fails}
 use Rattle.miette_graphical.proofs.Outermost.{report_over}
 use Rattle.miette_tree.specs.views.Handler.{AppendsOne}
-use Rattle.miette_tree.specs.rules.Reads.{always_reads}
 use Rattle.miette_graphical.specs.rules.PossibleAnswers.{IsAnswer, AreCauseAnswers, AreRelatedAnswers}
 use Rattle.miette_graphical.specs.views.Painting.{Keeps, Paints, Printing, PrintsOnly, printing, settings_of}
 use Rattle.miette_graphical.specs.declared.painter.Painter.{Painter}
@@ -56,8 +55,7 @@ mutual
       → AreCauseAnswers l blank inherited c unlisted
   causes-unlisted l blank inherited (texts ts) = tt
   causes-unlisted l blank inherited (diagnostic (tree m own c r)) = (
-    unlisted_is l blank (effective own inherited) (given_labels m.labels)
-        (always_reads (effective own inherited) (given_labels m.labels)),
+    nothing_over (snippets_with m.snippets l) blank (sources_of (effective own inherited) m),
     related-unlisted l blank (effective own inherited) r,
     causes-unlisted l blank inherited c,
   )
@@ -66,8 +64,7 @@ mutual
       → AreRelatedAnswers l blank inherited ts no_more
   related-unlisted l blank inherited no_trees = tt
   related-unlisted l blank inherited (more_trees (tree m own c r) ts) = (
-    unlisted_is l blank (effective own inherited) (given_labels m.labels)
-        (always_reads (effective own inherited) (given_labels m.labels)),
+    nothing_over (snippets_with m.snippets l) blank (sources_of (effective own inherited) m),
     causes-unlisted l blank (effective own inherited) c,
     related-unlisted l blank (effective own inherited) r,
     related-unlisted l blank inherited ts,
@@ -112,7 +109,7 @@ none_related s blank now outer inherited value (r ∷ rs) text h e = absurd (ome
 -- the texts of what stands below a tree's causes
 abbrev pub below_drawn : (by : Printing)
     (source : Option Source) (t : Tree) (text : List ℕ) → IsBelow source t by text → List ℕ
-below_drawn by source t text p = rows_text (drawn_rows by.settings source (given_labels (head t).labels) p.0)
+below_drawn by source t text p = rows_text (drawn_rows by.settings source (head t) p.0)
 
 abbrev pub below_related : (by : Printing)
     (source : Option Source) (t : Tree) (text : List ℕ) → IsBelow source t by text → List ℕ
@@ -141,7 +138,7 @@ sibling_step s blank begun mid now source (tree m own c r) causes text q p = (
   leads_on begun mid now (cause_calls s.layout.context_lines s.related_as_nested source c q.0)
       (own_calls s.layout.context_lines source m p.0 ++ related_calls s.layout.context_lines s.related_as_nested source
       r p.1) q.2 p.4,
-  ap (λ x. title_text s m ++ body_over s m (rows_text (drawn_rows s source (given_labels m.labels) p.0)) x
+  ap (λ x. title_text s m ++ body_over s m (rows_text (drawn_rows s source m p.0)) x
       (related_text drawn_rows s m.severity source r p.1)) q.3,
 )
 
@@ -228,7 +225,7 @@ root_step s blank begun mid now (tree m own c r) causes text q p =
           else [])
           (own_calls s.layout.context_lines own m p.0 ++ related_calls s.layout.context_lines s.related_as_nested own r
           p.1) b.2 p.4,
-      ap (λ x. report_over s m (rows_text (drawn_rows s own (given_labels m.labels) p.0)) x
+      ap (λ x. report_over s m (rows_text (drawn_rows s own m p.0)) x
           (related_text drawn_rows s m.severity own r p.1)) b.3,
     )
 
@@ -405,13 +402,13 @@ and_later true b c f h = f h
 and_later false b c f h = refl
 
 pub inner_rows_fail : (nested : Bool) (source : Option Source) (t : Tree)
-    → always_reads source (given_labels (head t).labels) ≡ false → all_read (printed_inner nested source t) ≡ false
+    → sources_read (sources_of source (head t)) ≡ false → all_read (printed_inner nested source t) ≡ false
 inner_rows_fail nested source (tree m own c r) h = ap (λ b. b && all_read (printed_related nested source r)) h
 
 pub sibling_below_fails : (nested : Bool) (source : Option Source) (t : Tree) → all_read (printed_inner nested source t)
     ≡ false → all_read (printed_sibling nested source t) ≡ false
 sibling_below_fails nested source (tree m own c r) h =
-    and_later (always_reads source (given_labels m.labels)) (all_read (printed_related nested source r))
+    and_later (sources_read (sources_of source m)) (all_read (printed_related nested source r))
     (all_read (printed_causes nested source c ++ printed_related nested source r))
     (later_fails (printed_causes nested source c) (printed_related nested source r)) h
 
@@ -419,7 +416,7 @@ pub root_below_fails : (s : Settings) (t : Tree) → all_read (printed_inner s.r
     → all_read (diagnostics_of s t) ≡ false
 root_below_fails s (tree m own c r) h =
     let causes = printed_root_causes s.cause_chain s.related_as_nested (tree m own c r) in
-    and_later (always_reads own (given_labels m.labels)) (all_read (printed_related s.related_as_nested own r))
+    and_later (sources_read (sources_of own m)) (all_read (printed_related s.related_as_nested own r))
     (all_read (causes ++ printed_related s.related_as_nested own r))
     (later_fails causes (printed_related s.related_as_nested own r)) h
 

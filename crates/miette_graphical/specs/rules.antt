@@ -1,5 +1,6 @@
 -- What users rely on, in the words of docs/RULES.md.
 pub mod Settings
+pub mod Sources
 pub mod Answers
 pub mod Indents
 pub mod DiagnosticText

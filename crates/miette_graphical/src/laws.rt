@@ -25,7 +25,8 @@ ghost use Rattle.miette_source_lines.specs.rules.Lines.{Line};
 ghost use Rattle.miette_runs.specs.rules.Runs.{Fragment, print};
 ghost use Rattle.miette_protocol.specs.declared.protocol.Severity.{Severity};
 ghost use Rattle.miette_graphical.specs.laws.CharacterSets.{AreNarrow, AreShipped};
-ghost use Rattle.miette_graphical.specs.rules.PrintedDiagnostics.{PrintedDiagnostic, all_read, diagnostics_of};
+ghost use Rattle.miette_graphical.specs.rules.PrintedDiagnostics.{HoldsOfPrinted, PrintedDiagnostic, all_read};
+ghost use Rattle.miette_graphical.specs.rules.PrintedDiagnostics.{diagnostics_of};
 ghost use Rattle.miette_graphical.specs.rules.Settings.{Settings, default_settings};
 ghost use Rattle.miette_graphical.specs.rules.Snippets.{drawn_rows};
 ghost use Rattle.miette_graphical.specs.rules.Text.{report_text};
@@ -136,13 +137,13 @@ pub fn only_law()
 /// of its last line, where they are drawn, and no label begins, ends or is missed where lines are left out inside
 /// folded labels.
 pub fn snippets_law()
-    ensures lines { (s : Settings) (t : Tree) → AllByRecursion (LinesAreShown s) (diagnostics_of s t) }
-    ensures marks { (s : Settings) (t : Tree) → AllByRecursion (MarksAreApart s) (diagnostics_of s t) }
-    ensures cuts { (s : Settings) (t : Tree) → AllByRecursion (CutsAreExact s) (diagnostics_of s t) }
-    ensures fits { (s : Settings) (t : Tree) → AllByRecursion (LinesThatFitStay s) (diagnostics_of s t) }
-    ensures texts { (s : Settings) (t : Tree) → AllByRecursion (TextsHang s) (diagnostics_of s t) }
-    ensures ends { (s : Settings) (t : Tree) → AllByRecursion (EndsAreDrawn s) (diagnostics_of s t) }
-    ensures folds { (s : Settings) (t : Tree) → AllByRecursion (LabelsAreFolded s) (diagnostics_of s t) }
+    ensures lines { (s : Settings) (t : Tree) → AllByRecursion (HoldsOfPrinted LinesAreShown s) (diagnostics_of s t) }
+    ensures marks { (s : Settings) (t : Tree) → AllByRecursion (HoldsOfPrinted MarksAreApart s) (diagnostics_of s t) }
+    ensures cuts { (s : Settings) (t : Tree) → AllByRecursion (HoldsOfPrinted CutsAreExact s) (diagnostics_of s t) }
+    ensures fits { (s : Settings) (t : Tree) → AllByRecursion (HoldsOfPrinted LinesThatFitStay s) (diagnostics_of s t) }
+    ensures texts { (s : Settings) (t : Tree) → AllByRecursion (HoldsOfPrinted TextsHang s) (diagnostics_of s t) }
+    ensures ends { (s : Settings) (t : Tree) → AllByRecursion (HoldsOfPrinted EndsAreDrawn s) (diagnostics_of s t) }
+    ensures folds { (s : Settings) (t : Tree) → AllByRecursion (HoldsOfPrinted LabelsAreFolded s) (diagnostics_of s t) }
 {
     snippets_draw_ranges();
     groups_are_ranges();

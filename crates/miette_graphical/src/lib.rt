@@ -10,4 +10,5 @@ mod painter;
 mod printing;
 mod report;
 pub mod settings;
+mod sources;
 mod whole;

@@ -1,7 +1,7 @@
 //! The causes of a report, what stands below them, and its related reports.
 
 ghost use Rattle.std.specs.Prelude.{◌≡◌, [], IfOk, OnOk, false, map};
-ghost use Rattle.miette_graphical.specs.steps.PartTexts.{AreCauses, AreDrawn, AreRelated, IsBelow, IsDrawn, IsInner};
+ghost use Rattle.miette_graphical.specs.steps.PartTexts.{AreCauses, AreRelated, IsBelow, IsInner};
 ghost use Rattle.miette_graphical.specs.steps.PartTexts.{IsNested, IsOneCause, IsOneRelated, IsSibling, narrowed};
 ghost use Rattle.miette_graphical.specs.views.Painting.{Keeps, Paints, printing_of, settings_of, source_shown};
 ghost use Rattle.miette_graphical.specs.rules.PrintedDiagnostics.{all_read, printed_causes};
@@ -11,88 +11,24 @@ ghost use Rattle.miette_tree.specs.views.Owned.{shown_source};
 ghost use Rattle.miette_graphical.specs.rules.Text as texts;
 ghost use Rattle.miette_tree.specs.views.Report.{tree_of};
 ghost use Rattle.miette_tree.specs.rules.Tree.{cause_of, effective, head, source_of, trees};
-ghost use Rattle.miette_tree.specs.rules.DiagnosticParts.{given_labels};
-ghost use Rattle.miette_tree.specs.rules.Reads.{always_reads};
 ghost use Rattle.miette_runs.specs.rules.Cutting.{without_leading};
 ghost use Rattle.miette_runs.specs.rules.Sequences.{spell};
 
 use crate::diagnostic::{is_nil, push_cause_texts, push_sibling_start, push_start};
 use crate::indents::{Branch, push_help, push_under_arrow, width_under};
 use crate::painter::Painter;
+use crate::sources::push_rows;
 use miette_highlight::highlight::Highlighter;
-use miette_layout::options::SnippetSettings;
-use miette_layout::snippets::snippets;
-use miette_page::page::Page;
 use miette_protocol::error::RenderError;
-use miette_protocol::protocol::{Diagnostic, LabeledSpan, Severity};
+use miette_protocol::protocol::{Diagnostic, Severity};
 use miette_protocol::source::SourceCode;
 use miette_text::runs::Runs;
 use miette_text::runs::output::Output;
 use miette_text::wrap::cutting::{without_leading, without_trailing};
-use miette_tree::parts::{cause_texts, labels_of, own_or};
+use miette_tree::parts::{cause_texts, own_or};
 use miette_tree::report::{Cause, Report, SourceRef};
 use std::alloc::{AllocError, Global};
 use std::mem;
-
-/// Appends the text of the rows of a diagnostic's snippets, over its effective source.
-fn push_rows<D: Diagnostic, S: SourceCode, H: Highlighter>(
-    painter: &mut Painter<'_, H>,
-    source: Option<SourceRef<'_, S>>,
-    report: &Report<D, S>,
-) -> Result<(), RenderError>
-    ensures ok { OnOk result (Paints H.is_blank H.may_follow (IsDrawn (source_shown S.source source.entry)
-        (head (tree_of D.meaning S.source report.now))) painter.old painter.new) }
-    ensures refused { (result ≡ Err RenderError.Refused) → always_reads (source_shown S.source source.entry)
-        (given_labels (head (tree_of D.meaning S.source report.now)).labels) ≡ false }
-    ensures keeps { Keeps H.is_blank painter.old painter.new }
-{
-    match source {
-        None => Ok(()),
-        Some(source) => push_shown(painter, source, report),
-    }
-}
-
-/// Appends the text of the rows of a diagnostic's snippets, over a source that is there.
-fn push_shown<D: Diagnostic, S: SourceCode, H: Highlighter>(
-    painter: &mut Painter<'_, H>,
-    source: SourceRef<'_, S>,
-    report: &Report<D, S>,
-) -> Result<(), RenderError>
-    ensures ok { OnOk result (Paints H.is_blank H.may_follow (IsDrawn (Some (shown_source S.source source.entry))
-        (head (tree_of D.meaning S.source report.now))) painter.old painter.new) }
-    ensures refused { (result ≡ Err RenderError.Refused) → always_reads (Some (shown_source S.source source.entry))
-        (given_labels (head (tree_of D.meaning S.source report.now)).labels) ≡ false }
-    ensures keeps { Keeps H.is_blank painter.old painter.new }
-{
-    let labels = labels_of(report);
-    match labels {
-        [] => Ok(()),
-        [_, ..] => push_drawn(painter, source, labels),
-    }
-}
-
-/// Appends the text of the rows of some labels' snippets, over a source.
-fn push_drawn<S: SourceCode, H: Highlighter>(
-    painter: &mut Painter<'_, H>,
-    source: SourceRef<'_, S>,
-    labels: &[LabeledSpan],
-) -> Result<(), RenderError>
-    ensures ok { OnOk result (Paints H.is_blank H.may_follow (AreDrawn (shown_source S.source source.entry) labels.now)
-        painter.old painter.new) }
-    ensures refused { (result ≡ Err RenderError.Refused) → (shown_source S.source source.entry).always_reads ≡ false }
-    ensures keeps { Keeps H.is_blank painter.old painter.new }
-{
-    let settings = painter.settings;
-    let drawn_with = SnippetSettings {
-        alloc: painter.alloc,
-        theme: &settings.theme,
-        layout: &settings.layout,
-    };
-    let page = Page::over(mem::replace(&mut painter.out, Output::for_text(painter.alloc)));
-    let page = snippets(&mut painter.highlighter, &drawn_with, &source, labels, page)?;
-    painter.out = page.into_output()?;
-    Ok(())
-}
 
 fn ends_there<D: Diagnostic, S: SourceCode>(report: &Report<D, S>) -> bool
     ensures { result ≡ texts.ends_there (cause_of (tree_of D.meaning S.source report.now)) }

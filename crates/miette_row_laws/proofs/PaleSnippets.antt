@@ -105,7 +105,7 @@ module _ (P : Type 0) (s : SnippetSettings) (hs : List Style) (bare : AreAllPlai
       (place_clean place)) (h p)))
       (pale_unstyled (codes "]") (λ p. refl)))
   pale_location None several place h =
-      pale_if P (several && s.layout.primary_start)
+      pale_if P ((several || s.layout.one_line_start) && s.layout.primary_start)
       (pale_unstyled (codes "[" ++ place_text place ++ codes "]")
       (λ p. clean_append (codes "[" ++ place_text place) (codes "]")
       (clean_append (codes "[") (place_text place) refl (place_clean place)) refl))

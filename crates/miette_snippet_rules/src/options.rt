@@ -12,6 +12,8 @@ pub struct LayoutOptions {
     pub context_lines: usize,
     /// Whether a frame shows where its primary label begins.
     pub primary_start: bool,
+    /// Whether a frame over one line of a source without a name shows it too.
+    pub one_line_start: bool,
     /// Whether a label at the end of a source is drawn, behind the text of its last line.
     pub end_labels: bool,
     /// A label over more lines than these is folded: only the lines around its first and its last one are shown.
@@ -31,6 +33,7 @@ impl Default for LayoutOptions {
             tab_width: 4,
             context_lines: 1,
             primary_start: true,
+            one_line_start: false,
             end_labels: false,
             label_lines: None,
             line_columns: None,

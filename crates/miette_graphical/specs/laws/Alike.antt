@@ -1,6 +1,5 @@
 -- Rows that are the same for a printed diagnostic, and answers that are the same where a diagnostic is printed.
 use Rattle.std.specs.Prelude.{◌≡◌, ℕ, zero, suc, List, [], ◌∷◌, Some}
-use Rattle.miette_tree.specs.rules.DiagnosticParts.{given_labels}
 use Rattle.miette_tree.specs.rules.Tree.{Tree}
 use Rattle.miette_graphical.specs.rules.Settings.{Settings}
 use Rattle.miette_graphical.specs.rules.Answers.{Answer, Answers, RelatedAnswers, own_answer, cause_answers}
@@ -12,7 +11,7 @@ use Rattle.miette_graphical.specs.laws.Paths.{Step, to_cause, to_related, printe
 -- over the diagnostic's source and by its labels, in every settings and under every answer
 abbrev pub AreDrawnAlike : SnippetRows → SnippetRows → PrintedDiagnostic → Type 0
 AreDrawnAlike rows others p = (s : Settings) (a : Answer) →
-    rows s p.source (given_labels p.meaning.labels) a ≡ others s p.source (given_labels p.meaning.labels) a
+    rows s p.source p.meaning a ≡ others s p.source p.meaning a
 
 -- the answers of the related report with this number
 abbrev pub numbered_answers : RelatedAnswers → ℕ → Answers

@@ -4,7 +4,7 @@ use Rattle.std.specs.List.{AllByRecursion}
 use Rattle.miette_runs.specs.rules.Runs.{Fragment, HaveNoEscape}
 use Rattle.miette_style.specs.rules.Themes.{Characters}
 use Rattle.miette_protocol.specs.views.Meaning.{Label}
-use Rattle.miette_tree.specs.rules.Diagnosis.{Diagnosis}
+use Rattle.miette_tree.specs.rules.Diagnosis.{Diagnosis, Section}
 use Rattle.miette_row_laws.specs.laws.Clean.{IsClean, IsCleanText, IsCleanLabel, IsCleanSource, AreCleanDrawings}
 use Rattle.miette_tree.specs.rules.Tree.{Tree, tree, Cause, diagnostic, texts, Trees, no_trees, more_trees}
 use Rattle.miette_graphical.specs.rules.Settings.{Settings}
@@ -27,12 +27,17 @@ AreCleanSettings s = AreCleanCharacters s.theme.characters × IsClean s.link_tex
 abbrev pub AreCleanLabels : Option (List Label) → Type 0
 AreCleanLabels labels = IfSome labels (AllByRecursion IsCleanLabel)
 
+-- of a further source with its labels
+abbrev pub IsCleanSection : Section → Type 0
+IsCleanSection section = IsCleanSource section.source × AllByRecursion IsCleanLabel section.labels
+
 pub record IsCleanMeaning (m : Diagnosis) : Type 0 where
   pub message : IsCleanText m.message
   pub code : IfSome m.code IsCleanText
   pub help : IfSome m.help IsCleanText
   pub url : IfSome m.url IsCleanText
   pub labels : AreCleanLabels m.labels
+  pub snippets : AllByRecursion IsCleanSection m.snippets
 
 -- every text of a tree, and every source with its name
 abbrev mutual

@@ -3,7 +3,7 @@
 use Rattle.std.specs.Prelude.{◌≡◌, ℕ, Bool, true, List, map, Option, IfSome, encode_utf8_all}
 use Rattle.miette_runs.specs.rules.Runs.{plain_run}
 use Rattle.miette_runs.specs.rules.Sequences.{erase}
-use Rattle.miette_protocol.specs.views.Meaning.{Label}
+use Rattle.miette_tree.specs.rules.Diagnosis.{Diagnosis}
 use Rattle.miette_protocol.specs.rules.Reading.{Source}
 use Rattle.miette_graphical.specs.rules.Settings.{Settings}
 use Rattle.miette_style.specs.rules.Themes.{Styles, no_styles}
@@ -12,11 +12,10 @@ use Rattle.miette_graphical.specs.rules.PossibleAnswers.{AreAnswers, IsTextOf}
 use Rattle.miette_graphical.specs.rules.DiagnosticText.{SnippetRows, rows_text}
 use Rattle.miette_graphical.specs.rules.Text.{report_text}
 use Rattle.miette_tree.specs.rules.Tree.{Tree}
-use Rattle.std.specs.List.{AllByRecursion}
 use Rattle.miette_row_laws.specs.laws.Fading.{unhighlighted_answer}
 pub use Rattle.miette_row_laws.specs.laws.Fading.{ArePlain}
-use Rattle.miette_row_laws.specs.laws.Clean.{IsCleanLabel, IsCleanSource}
-use Rattle.miette_graphical.specs.laws.Clean.{AreCleanSettings, HaveNoEscapes}
+use Rattle.miette_row_laws.specs.laws.Clean.{IsCleanSource}
+use Rattle.miette_graphical.specs.laws.Clean.{AreCleanSettings, HaveNoEscapes, IsCleanMeaning}
 
 -- the same settings in other styles
 abbrev pub restyled : Settings → Styles → Settings
@@ -28,7 +27,7 @@ colourless s = restyled s no_styles
 abbrev mutual
   pub unhighlighted_answers : Answers → Answers
   unhighlighted_answers unlisted = unlisted
-  unhighlighted_answers (listed own cause related) = listed (unhighlighted_answer own) (unhighlighted_answers cause)
+  unhighlighted_answers (listed own cause related) = listed (map unhighlighted_answer own) (unhighlighted_answers cause)
       (unhighlighted_related_answers related)
 
   pub unhighlighted_related_answers : RelatedAnswers → RelatedAnswers
@@ -44,12 +43,12 @@ IsRestyledText rows s t bytes =
 -- What a diagnostic's snippet rows have to be: in plain styles and without pieces they print the same rows with each
 -- style made plain; and they hold no escape where nothing that they are made of does.
 pub record AreSnippets (rows : SnippetRows) : Type 0 where
-  pub fade : (s : Settings) (styles : Styles) (source : Option Source) (labels : List Label) (a : Answer) →
-      ArePlain styles → rows_text (rows (restyled s styles) source labels (unhighlighted_answer a))
-      ≡ rows_text (map (map plain_run) (rows s source labels a))
-  pub clean : (s : Settings) (source : Option Source) (labels : List Label) (a : Answer) →
-      AreCleanSettings s → IfSome source IsCleanSource → AllByRecursion IsCleanLabel labels →
-      HaveNoEscapes (rows s source labels a)
+  pub fade : (s : Settings) (styles : Styles) (source : Option Source) (m : Diagnosis) (a : Answer) →
+      ArePlain styles → rows_text (rows (restyled s styles) source m (map unhighlighted_answer a))
+      ≡ rows_text (map (map plain_run) (rows s source m a))
+  pub clean : (s : Settings) (source : Option Source) (m : Diagnosis) (a : Answer) →
+      AreCleanSettings s → IfSome source IsCleanSource → IsCleanMeaning m →
+      HaveNoEscapes (rows s source m a)
 
 -- ---- what is printed
 

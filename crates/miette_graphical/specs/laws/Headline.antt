@@ -1,4 +1,5 @@
--- What holds of the snippets of each printed diagnostic, over its effective source and by its labels.
+-- What holds of the snippets of each printed diagnostic, over its effective source by its labels, and over each further
+-- source by the labels there.
 use Rattle.std.specs.Prelude.{◌≡◌, ◌≢◌, ◌<◌, ◌+◌, ℕ, Bool, true, false, List, [], ◌∷◌, length, Option, Some, None}
 use Rattle.std.specs.Prelude.{IfSome, ◌≤◌}
 use Rattle.std.specs.List.{AllByRecursion, concat}
@@ -30,12 +31,11 @@ use Rattle.miette_row_laws.specs.laws.Pictures.{BodyShows, marks_of_line, text_o
 use Rattle.miette_snippet_rules.specs.rules.ShownLines.{framed_ranges, line_at}
 use Rattle.miette_snippet_rules.specs.rules.Snippets.{shown_numbers, snippets, is_kept}
 use Rattle.miette_graphical.specs.rules.Answers.{pieces_listed}
-use Rattle.miette_tree.specs.rules.DiagnosticParts.{given_labels}
-use Rattle.miette_graphical.specs.rules.PrintedDiagnostics.{PrintedDiagnostic}
+use Rattle.miette_graphical.specs.rules.Sources.{LabelledSource}
 use Rattle.miette_graphical.specs.rules.Settings.{Settings}
 use Rattle.miette_graphical.specs.laws.CharacterSets.{AreNarrow}
 use Rattle.miette_graphical.specs.laws.LabelLines.{HasItsLines}
-use Rattle.miette_graphical.specs.rules.Snippets.{snippet_settings, shown_rows, drawn_rows}
+use Rattle.miette_graphical.specs.rules.Snippets.{snippet_settings, shown_rows, source_rows}
 
 -- ---- the lines of the snippets
 
@@ -58,7 +58,7 @@ group_settings s labels = settings_around (snippet_settings s) (in_order labels)
 -- that a label lies on is one of the lines in its context.
 pub record ShowsRanges (s : Settings) (source : Source) (labels : List Label) : Type 0 where
   pub rows : (pieces : List (List (List Highlight))) →
-      drawn_rows s (Some source) labels (pieces_listed pieces)
+      source_rows s (Some source) labels (pieces_listed pieces)
       ≡ shown_rows (Some (framed_ranges (snippet_settings s) source labels (pieces_listed pieces)))
   pub groups : lines_of_groups (group_settings s labels).layout.context_lines source (groups_of s source labels)
       ≡ snippets s.layout.context_lines source.bytes labels
@@ -69,12 +69,12 @@ pub record ShowsRanges (s : Settings) (source : Source) (labels : List Label) : 
 
 -- a diagnostic whose source always reads and accepts its labels, where there is at least one line of context for each
 -- label
-abbrev pub LinesAreShown : Settings → PrintedDiagnostic → Type 0
+abbrev pub LinesAreShown : Settings → LabelledSource → Type 0
 LinesAreShown s p =
     IfSome p.source (λ source.
-    source.always_reads ≡ true → AreAccepted source.bytes (given_labels p.meaning.labels) →
-    HaveContext s.layout.context_lines (given_labels p.meaning.labels)
-    → ShowsRanges s source (given_labels p.meaning.labels))
+    source.always_reads ≡ true → AreAccepted source.bytes p.labels →
+    HaveContext s.layout.context_lines p.labels
+    → ShowsRanges s source p.labels)
 
 -- ---- the marks under a line
 
@@ -106,9 +106,9 @@ pub record AreOwnMarks (marks : List Mark) : Type 0 where
   pub anchors : AllByRecursion (λ mark. marks_at mark.anchor marks ≡ mark ∷ []) marks
 
 -- under each line of a diagnostic's source
-abbrev pub MarksAreApart : Settings → PrintedDiagnostic → Type 0
+abbrev pub MarksAreApart : Settings → LabelledSource → Type 0
 MarksAreApart s p = IfSome p.source (λ source. (k : ℕ) →
-    AreOwnMarks (marks_under s source (given_labels p.meaning.labels) k))
+    AreOwnMarks (marks_under s source p.labels k))
 
 -- ---- folded labels
 
@@ -132,17 +132,17 @@ pub record FoldsTo (limit : ℕ) (s : Settings) (source : Source) (labels : List
       is_kept_at limit s source labels (k + 1) ≡ false →
       labels_through s source labels k ≡ labels_through s source labels (k + 1)
   pub short : AllByRecursion (FitsIn limit source.bytes) labels → (pieces : List (List (List Highlight))) →
-      drawn_rows s (Some source) labels (pieces_listed pieces)
-      ≡ drawn_rows (record s { layout = record s.layout { label_lines = None } }) (Some source) labels
+      source_rows s (Some source) labels (pieces_listed pieces)
+      ≡ source_rows (record s { layout = record s.layout { label_lines = None } }) (Some source) labels
       (pieces_listed pieces)
 
 -- where labels are folded, under the conditions of the lines
-abbrev pub LabelsAreFolded : Settings → PrintedDiagnostic → Type 0
+abbrev pub LabelsAreFolded : Settings → LabelledSource → Type 0
 LabelsAreFolded s p =
     IfSome p.source (λ source. IfSome s.layout.label_lines (λ limit.
-    source.always_reads ≡ true → AreAccepted source.bytes (given_labels p.meaning.labels) →
-    HaveContext s.layout.context_lines (given_labels p.meaning.labels)
-    → FoldsTo limit s source (given_labels p.meaning.labels)))
+    source.always_reads ≡ true → AreAccepted source.bytes p.labels →
+    HaveContext s.layout.context_lines p.labels
+    → FoldsTo limit s source p.labels))
 
 -- ---- lines that are cut
 
@@ -184,9 +184,9 @@ pub record IsCutAt (s : Settings) (source : Source) (labels : List Label) (k lim
       ≤ most_columns limit (length (labels_under s source labels k)) widest
 
 -- each line of a diagnostic's source, where there is a limit
-abbrev pub CutsAreExact : Settings → PrintedDiagnostic → Type 0
+abbrev pub CutsAreExact : Settings → LabelledSource → Type 0
 CutsAreExact s p = IfSome p.source (λ source. (k limit : ℕ) → s.layout.line_columns ≡ Some limit →
-    IsCutAt s source (given_labels p.meaning.labels) k limit)
+    IsCutAt s source p.labels k limit)
 
 -- In the rows of a snippet, however its labels are folded and in whatever pieces its lines are, nothing changes where
 -- none of its lines has more columns than the limit.
@@ -204,10 +204,10 @@ SnippetStays s source labels group =
     source.bytes (contents (group_settings s labels).layout.context_lines source group) pieces
 
 -- in each snippet of a diagnostic
-abbrev pub LinesThatFitStay : Settings → PrintedDiagnostic → Type 0
+abbrev pub LinesThatFitStay : Settings → LabelledSource → Type 0
 LinesThatFitStay s p =
-    IfSome p.source (λ source. AllByRecursion (SnippetStays s source (given_labels p.meaning.labels))
-    (groups_of s source (given_labels p.meaning.labels)))
+    IfSome p.source (λ source. AllByRecursion (SnippetStays s source p.labels)
+    (groups_of s source p.labels))
 
 -- ---- the texts of labels
 
@@ -220,11 +220,11 @@ SnippetHangs s source labels group =
     (contents (group_settings s labels).layout.context_lines source group) pieces
 
 -- in each snippet of a diagnostic, where the theme's drawing characters are one column wide
-abbrev pub TextsHang : Settings → PrintedDiagnostic → Type 0
+abbrev pub TextsHang : Settings → LabelledSource → Type 0
 TextsHang s p =
     IfSome p.source (λ source.
-    AreNarrow width_of s.theme.characters → AllByRecursion (SnippetHangs s source (given_labels p.meaning.labels))
-    (groups_of s source (given_labels p.meaning.labels)))
+    AreNarrow width_of s.theme.characters → AllByRecursion (SnippetHangs s source p.labels)
+    (groups_of s source p.labels))
 
 -- ---- labels at the end of the source
 
@@ -242,12 +242,12 @@ without_ends s = record s { layout = (with_ends false (snippet_settings s)).layo
 
 -- where labels at the end are drawn, and one of them has a line of context; and where none has one, the rows are those
 -- without the setting
-abbrev pub EndsAreDrawn : Settings → PrintedDiagnostic → Type 0
+abbrev pub EndsAreDrawn : Settings → LabelledSource → Type 0
 EndsAreDrawn s p =
     IfSome p.source (λ source.
-    (draws_ends (group_settings s (given_labels p.meaning.labels)) (length source.bytes)
-    (in_order (given_labels p.meaning.labels)) ≡ true → EndsBehind s source (given_labels p.meaning.labels))
-    × (some_shows_end s.layout.context_lines (length source.bytes) (given_labels p.meaning.labels) ≡ false →
+    (draws_ends (group_settings s p.labels) (length source.bytes)
+    (in_order p.labels) ≡ true → EndsBehind s source p.labels)
+    × (some_shows_end s.layout.context_lines (length source.bytes) p.labels ≡ false →
     (pieces : List (List (List Highlight))) →
-    drawn_rows s (Some source) (given_labels p.meaning.labels) (pieces_listed pieces)
-    ≡ drawn_rows (without_ends s) (Some source) (given_labels p.meaning.labels) (pieces_listed pieces)))
+    source_rows s (Some source) p.labels (pieces_listed pieces)
+    ≡ source_rows (without_ends s) (Some source) p.labels (pieces_listed pieces)))

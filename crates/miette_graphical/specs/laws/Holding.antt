@@ -6,7 +6,6 @@ use Rattle.std.specs.List.{Contains}
 use Rattle.miette_runs.specs.rules.Cutting.{without_leading, without_trailing}
 use Rattle.miette_runs.specs.rules.Runs.{Fragment, print}
 use Rattle.miette_protocol.specs.declared.protocol.Severity.{Severity}
-use Rattle.miette_tree.specs.rules.DiagnosticParts.{given_labels}
 use Rattle.miette_tree.specs.rules.Tree.{Tree, tree, Cause, diagnostic, texts, Trees, no_trees, more_trees}
 use Rattle.miette_graphical.specs.rules.Answers.{Answer, Answers}
 use Rattle.miette_graphical.specs.rules.DiagnosticText.{SnippetRows, line_feed, rows_text, under_arrow}
@@ -88,7 +87,7 @@ HoldsUnder (arrow ∷ arrows) s drawn text =
 
 -- the rows of a printed diagnostic, under an answer and in whatever settings
 abbrev pub rows_at : SnippetRows → PrintedDiagnostic → Answer → Settings → List (List Fragment)
-rows_at rows p answer s = rows s p.source (given_labels p.meaning.labels) answer
+rows_at rows p answer s = rows s p.source p.meaning answer
 
 abbrev pub text_at : SnippetRows → PrintedDiagnostic → Answer → Settings → List ℕ
 text_at rows p answer s = rows_text (rows_at rows p answer s)

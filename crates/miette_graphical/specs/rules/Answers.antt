@@ -1,21 +1,33 @@
 -- What isn't determined by a tree and the settings: what reads answered, and the highlighter's pieces.
-use Rattle.std.specs.Prelude.{List, []}
+use Rattle.std.specs.Prelude.{List, [], ◌∷◌}
 use Rattle.miette_labels.specs.rules.Answers as snippet_answers
 use Rattle.miette_tree.specs.rules.Answers.{AnswerTree, AnswerTrees, own_or}
 pub use Rattle.miette_tree.specs.rules.Answers.{unlisted, listed, no_more, and_more, cause_answers, related_answers}
 pub use Rattle.miette_tree.specs.rules.Answers.{first_answers, later_answers}
 
--- Of one diagnostic: whether each read failed, and the highlighter's pieces for each line of each snippet. A read
--- that isn't listed succeeds, and a line that isn't listed is plain.
-abbrev pub Answer : Type 0
-Answer = snippet_answers.Answers
+-- Of the labels over one source: whether each read failed, and the highlighter's pieces for each line of each snippet.
+-- A read that isn't listed succeeds, and a line that isn't listed is plain.
+abbrev pub SourceAnswer : Type 0
+SourceAnswer = snippet_answers.Answers
 
 -- no read failed
-abbrev pub pieces_listed : List (List (List snippet_answers.Highlight)) → Answer
+abbrev pub pieces_listed : List (List (List snippet_answers.Highlight)) → SourceAnswer
 pieces_listed pieces = record { label_fails = []; join_fails = []; place_fails = []; pieces = pieces }
 
+abbrev pub source_unlisted : SourceAnswer
+source_unlisted = pieces_listed []
+
+-- Of one diagnostic: of the labels over its own source, and of those over each further one. Nothing is listed of a
+-- source that isn't listed.
+abbrev pub Answer : Type 0
+Answer = List SourceAnswer
+
 abbrev pub nothing_listed : Answer
-nothing_listed = pieces_listed []
+nothing_listed = []
+
+abbrev pub first_source : Answer → SourceAnswer
+first_source [] = source_unlisted
+first_source (a ∷ more) = a
 
 -- Of a tree: of its diagnostic, of its cause, and of each related one. Nothing is listed where all sources always
 -- read and the highlighter is blank.

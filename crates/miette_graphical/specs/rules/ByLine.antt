@@ -1,5 +1,5 @@
 -- The answers of a highlighter without a state, which answers each line by itself, where no read fails.
-use Rattle.std.specs.Prelude.{ℕ, List, [], Option, Some, None}
+use Rattle.std.specs.Prelude.{ℕ, List, [], ◌∷◌, Option, Some, None}
 use Rattle.miette_protocol.specs.views.Meaning.{Label}
 use Rattle.miette_tree.specs.rules.Diagnosis.{Diagnosis}
 use Rattle.miette_protocol.specs.rules.Reading.{Source}
@@ -7,20 +7,27 @@ use Rattle.miette_highlight.specs.rules.Pieces.{Piece}
 use Rattle.miette_labels.specs.rules.Around.{group_context}
 use Rattle.miette_labels.specs.rules.Groups.{groups_of, in_order}
 use Rattle.miette_snippet_rules.specs.rules.Highlighting.{pieces_by}
-use Rattle.miette_tree.specs.rules.DiagnosticParts.{given_labels}
+use Rattle.miette_graphical.specs.rules.Sources.{LabelledSource, sources_of}
 use Rattle.miette_tree.specs.rules.Tree.{effective, Tree, tree, Cause, diagnostic, texts, Trees, no_trees, more_trees}
-use Rattle.miette_graphical.specs.rules.Answers.{Answer, Answers, RelatedAnswers, nothing_listed, pieces_listed}
+use Rattle.miette_graphical.specs.rules.Answers.{Answer, Answers, RelatedAnswers, SourceAnswer, pieces_listed, source_unlisted}
 use Rattle.miette_graphical.specs.rules.Answers.{unlisted, listed, no_more, and_more}
 
 -- for the snippets of some labels, sorted by offset, over a source, with so many lines of context
-abbrev pub labels_by : (List ℕ → List Piece) → ℕ → Source → List Label → Answer
+abbrev pub labels_by : (List ℕ → List Piece) → ℕ → Source → List Label → SourceAnswer
 labels_by answer context source labels =
     pieces_listed (pieces_by answer (group_context context labels) source (groups_of context source [] labels))
 
--- for a diagnostic's own snippets
+abbrev pub source_by : (List ℕ → List Piece) → ℕ → Option Source → List Label → SourceAnswer
+source_by answer context None labels = source_unlisted
+source_by answer context (Some source) labels = labels_by answer context source (in_order labels)
+
+-- for the snippets of a diagnostic, by its sources
+abbrev pub sources_by : (List ℕ → List Piece) → ℕ → List LabelledSource → Answer
+sources_by answer context [] = []
+sources_by answer context (it ∷ more) = source_by answer context it.source it.labels ∷ sources_by answer context more
+
 abbrev pub own_by : (List ℕ → List Piece) → ℕ → Option Source → Diagnosis → Answer
-own_by answer context None m = nothing_listed
-own_by answer context (Some source) m = labels_by answer context source (in_order (given_labels m.labels))
+own_by answer context source m = sources_by answer context (sources_of source m)
 
 abbrev mutual
   -- for the causes of a report

@@ -2,7 +2,6 @@
 use Rattle.std.specs.Prelude.{ℕ, Bool, List, [], ◌∷◌, ◌++◌, codes, chars, Option, Some, None}
 use Rattle.miette_runs.specs.rules.Runs.{Fragment, Styled, LinkTo, LinkEnd, print}
 use Rattle.miette_style.specs.declared.style.Style.{Style}
-use Rattle.miette_protocol.specs.views.Meaning.{Label}
 use Rattle.miette_tree.specs.rules.Diagnosis.{Diagnosis}
 use Rattle.miette_protocol.specs.rules.Reading.{Source}
 use Rattle.miette_protocol.specs.declared.protocol.Severity.{Severity}
@@ -87,10 +86,10 @@ title_text s m = line_feed ++ severity_title m.severity ++ print (header_or_end 
 
 -- ---- snippets
 
--- The rows of a diagnostic's snippets, in runs, by settings, source, labels and what reads and the highlighter
--- answered.
+-- The rows of a diagnostic's snippets, in runs, by settings, effective source, what the diagnostic says, and what reads
+-- and the highlighter answered.
 abbrev pub SnippetRows : Type 0
-SnippetRows = Settings → Option Source → List Label → Answer → List (List Fragment)
+SnippetRows = Settings → Option Source → Diagnosis → Answer → List (List Fragment)
 
 abbrev pub rows_text : List (List Fragment) → List ℕ
 rows_text [] = []

@@ -1,16 +1,16 @@
 -- Which answers the reads of a tree's sources and the highlighter can have given, and the texts that stand for some
 -- of them.
-use Rattle.std.specs.Prelude.{◌≡◌, ℕ, Bool, true, List, [], Option, Some, None, is_some}
+use Rattle.std.specs.Prelude.{◌≡◌, ℕ, Bool, true, List, [], ◌∷◌, drop, length, Option, Some, None, is_some}
 use Rattle.std.specs.Prelude.{encode_utf8_all}
 use Rattle.miette_protocol.specs.views.Meaning.{Label}
 use Rattle.miette_tree.specs.rules.Diagnosis.{Diagnosis}
 use Rattle.miette_protocol.specs.rules.Reading.{Source}
 use Rattle.miette_tree.specs.rules.Tree.{Tree, tree, Cause, diagnostic, texts, Trees, no_trees, more_trees}
 use Rattle.miette_graphical.specs.rules.Settings.{Settings}
-use Rattle.miette_graphical.specs.rules.Answers.{Answer, Answers, RelatedAnswers, pieces_listed, own_answer}
+use Rattle.miette_graphical.specs.rules.Answers.{Answer, Answers, RelatedAnswers, SourceAnswer, first_source, pieces_listed, own_answer}
 use Rattle.miette_graphical.specs.rules.Answers.{cause_answers, related_answers, first_answers, later_answers}
 use Rattle.miette_graphical.specs.rules.DiagnosticText.{SnippetRows}
-use Rattle.miette_tree.specs.rules.DiagnosticParts.{given_labels}
+use Rattle.miette_graphical.specs.rules.Sources.{LabelledSource, snippets_after, snippets_with, sources_of}
 use Rattle.miette_snippet_rules.specs.rules.Settings as snippets
 use Rattle.miette_labels.specs.rules.Around.{group_context}
 use Rattle.miette_labels.specs.rules.Groups.{in_order, groups_of}
@@ -29,12 +29,12 @@ use Rattle.miette_tree.specs.rules.Tree.{effective}
 -- read, since else nothing is printed.
 
 -- there are rows, under these settings of snippets
-abbrev pub HasRows : snippets.SnippetSettings → Option Source → List Label → Answer → Type 0
+abbrev pub HasRows : snippets.SnippetSettings → Option Source → List Label → SourceAnswer → Type 0
 HasRows l None labels a = Unit {0}
 HasRows l (Some source) labels a = is_some (snippet_rows l source labels a) ≡ true
 
 -- the pieces are of the lines of the snippets
-abbrev pub HasPieces : snippets.SnippetSettings → Bool → Option Source → List Label → Answer → Type 0
+abbrev pub HasPieces : snippets.SnippetSettings → Bool → Option Source → List Label → SourceAnswer → Type 0
 HasPieces l blank None labels a = Unit {0}
 HasPieces l blank (Some source) labels a = SnippetsHavePieces (group_context l.layout.context_lines (in_order labels))
     blank source
@@ -42,15 +42,21 @@ HasPieces l blank (Some source) labels a = SnippetsHavePieces (group_context l.l
 
 -- of labels over a source; are lines left plain, and does every read succeed?
 pub record IsAnswerOf (l : snippets.SnippetSettings) (blank : Bool) (source : Option Source) (labels : List Label)
-    (reads : Bool) (a : Answer) : Type 0 where
+    (reads : Bool) (a : SourceAnswer) : Type 0 where
   pub read : reads ≡ true → a ≡ pieces_listed a.pieces
   pub plain : blank ≡ true → a.pieces ≡ []
   pub pieces : HasPieces l blank source labels a
   pub rows : HasRows l source labels a
 
+-- of labels over several sources, one after the other
+abbrev pub AreAnswersOver : snippets.SnippetSettings → Bool → List LabelledSource → Answer → Type 0
+AreAnswersOver l blank [] a = Unit {0}
+AreAnswersOver l blank (it ∷ more) a =
+    IsAnswerOf l blank it.source it.labels (always_reads it.source it.labels) (first_source a)
+    × AreAnswersOver (snippets_after (length it.labels) l) blank more (drop 1 a)
+
 abbrev pub IsAnswer : snippets.SnippetSettings → Bool → Option Source → Diagnosis → Answer → Type 0
-IsAnswer l blank source m a =
-    IsAnswerOf l blank source (given_labels m.labels) (always_reads source (given_labels m.labels)) a
+IsAnswer l blank source m a = AreAnswersOver (snippets_with m.snippets l) blank (sources_of source m) a
 
 abbrev mutual
   pub AreCauseAnswers : snippets.SnippetSettings → Bool → Option Source → Cause → Answers → Type 0

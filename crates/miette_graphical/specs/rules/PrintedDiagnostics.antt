@@ -4,8 +4,8 @@ use Rattle.miette_tree.specs.rules.Diagnosis.{Diagnosis}
 use Rattle.miette_protocol.specs.rules.Reading.{Source}
 use Rattle.miette_tree.specs.rules.Tree.{effective, Tree, tree, Cause, diagnostic, texts, Trees, no_trees, more_trees}
 use Rattle.miette_graphical.specs.rules.Settings.{Settings}
-use Rattle.miette_tree.specs.rules.DiagnosticParts.{given_labels}
-use Rattle.miette_tree.specs.rules.Reads.{always_reads}
+use Rattle.miette_graphical.specs.rules.Sources.{HoldsOfSources, LabelledSource, drawn_with, sources_of}
+use Rattle.miette_graphical.specs.rules.Sources.{sources_read}
 
 -- a printed diagnostic
 pub record PrintedDiagnostic : Type 0 where
@@ -38,7 +38,12 @@ diagnostics_of s (tree m own c r) =
     over own m ∷ ((if s.cause_chain then printed_causes s.related_as_nested own c else [])
     ++ printed_related s.related_as_nested own r)
 
+-- something holds of each source of a printed diagnostic, by the labels over it and in the settings in which they are
+-- drawn
+abbrev pub HoldsOfPrinted : (Settings → LabelledSource → Type 0) → Settings → PrintedDiagnostic → Type 0
+HoldsOfPrinted holds s p = HoldsOfSources holds (drawn_with p.meaning.snippets s) (sources_of p.source p.meaning)
+
 -- whether every source that labels of these diagnostics are read from always reads
 abbrev pub all_read : List PrintedDiagnostic → Bool
 all_read [] = true
-all_read (p ∷ ps) = always_reads p.source (given_labels p.meaning.labels) && all_read ps
+all_read (p ∷ ps) = sources_read (sources_of p.source p.meaning) && all_read ps

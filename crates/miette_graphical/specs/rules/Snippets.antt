@@ -1,11 +1,15 @@
 -- The rows of a diagnostic's snippets, as runs.
-use Rattle.std.specs.Prelude.{ℕ, List, [], map, chars, encode_utf8_all, Option, Some, None, unwrap_or}
+use Rattle.std.specs.Prelude.{ℕ, List, [], ◌∷◌, ◌++◌, drop, length, map, chars, encode_utf8_all, Option, Some, None, unwrap_or}
 use Rattle.miette_runs.specs.rules.Runs.{Fragment, Styled}
 use Rattle.miette_page.specs.rules.Rows.{Row, Run}
 use Rattle.miette_snippet_rules.specs.rules.Settings as snippets
 use Rattle.miette_cells.specs.rules.Widths.{width_of}
 use Rattle.miette_snippet_rules.specs.rules.SnippetLayout.{snippet_rows}
 use Rattle.miette_graphical.specs.rules.Settings.{Settings}
+use Rattle.miette_protocol.specs.views.Meaning.{Label}
+use Rattle.miette_protocol.specs.rules.Reading.{Source}
+use Rattle.miette_graphical.specs.rules.Answers.{Answer, SourceAnswer, first_source}
+use Rattle.miette_graphical.specs.rules.Sources.{LabelledSource, after_labels, drawn_with, sources_of}
 use Rattle.miette_graphical.specs.rules.DiagnosticText.{SnippetRows}
 
 -- the settings of the snippets
@@ -26,6 +30,15 @@ abbrev pub shown_rows : Option (List Row) → List (List Fragment)
 shown_rows rows = map runs_of_row (unwrap_or rows [])
 
 -- no rows without a source; else the frames, lines and marks of its snippets, or the row of a refused label
+abbrev pub source_rows : Settings → Option Source → List Label → SourceAnswer → List (List Fragment)
+source_rows s None labels a = []
+source_rows s (Some source) labels a = shown_rows (snippet_rows (snippet_settings s) source labels a)
+
+-- those over each of several sources, one after the other; highlights go on from one to the next
+abbrev pub rows_over : Settings → List LabelledSource → Answer → List (List Fragment)
+rows_over s [] a = []
+rows_over s (it ∷ more) a =
+    source_rows s it.source it.labels (first_source a) ++ rows_over (after_labels (length it.labels) s) more (drop 1 a)
+
 abbrev pub drawn_rows : SnippetRows
-drawn_rows s None labels a = []
-drawn_rows s (Some source) labels a = shown_rows (snippet_rows (snippet_settings s) source labels a)
+drawn_rows s source m a = rows_over (drawn_with m.snippets s) (sources_of source m) a

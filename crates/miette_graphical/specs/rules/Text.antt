@@ -14,7 +14,6 @@ use Rattle.miette_graphical.specs.rules.Indents.{narrow_settings}
 use Rattle.miette_graphical.specs.rules.DiagnosticText.{SnippetRows, header, message_text, help_text, footer_text}
 use Rattle.miette_graphical.specs.rules.DiagnosticText.{under_arrow}
 use Rattle.miette_graphical.specs.rules.DiagnosticText.{title_text, rows_text}
-use Rattle.miette_tree.specs.rules.DiagnosticParts.{given_labels}
 
 abbrev pub ends_there : Cause → Bool
 ends_there (diagnostic t) = false
@@ -34,7 +33,7 @@ body_over s m drawn causes related = message_text s m ++ causes ++ drawn ++ help
 
 -- the rows of a diagnostic's snippets
 abbrev pub drawn_text : SnippetRows → Settings → Diagnosis → Option Source → Answer → List ℕ
-drawn_text rows s m source answer = rows_text (rows s source (given_labels m.labels) answer)
+drawn_text rows s m source answer = rows_text (rows s source m answer)
 
 -- A report that stands in another one, without its causes and without line feeds at its beginning.
 abbrev pub inner_over : Settings → Diagnosis → List ℕ → List ℕ → List ℕ

@@ -6,15 +6,17 @@ use Rattle.miette_tree.specs.rules.Diagnosis.{Diagnosis}
 use Rattle.miette_protocol.specs.rules.Reading.{Source}
 use Rattle.miette_tree.specs.rules.Tree.{Tree, tree, Cause, Trees, head, source_of, cause_of, related_of, effective}
 use Rattle.miette_protocol.specs.declared.protocol.Severity.{Severity}
-use Rattle.miette_graphical.specs.rules.Answers.{Answer, Answers, RelatedAnswers}
+use Rattle.miette_graphical.specs.rules.Answers.{Answer, Answers, RelatedAnswers, SourceAnswer}
 use Rattle.miette_graphical.specs.rules.Indents.{narrow_settings}
 use Rattle.miette_graphical.specs.rules.DiagnosticText.{rows_text, title_text, help_text, under_arrow}
-use Rattle.miette_tree.specs.rules.DiagnosticParts.{given_labels}
+use Rattle.miette_tree.specs.rules.Reads.{always_reads}
+use Rattle.miette_graphical.specs.rules.Settings.{Settings}
+use Rattle.miette_graphical.specs.rules.Sources.{LabelledSource}
 use Rattle.miette_snippet_rules.specs.rules.Highlighting.{snippet_calls}
-use Rattle.miette_graphical.specs.rules.Snippets.{drawn_rows, snippet_settings}
-use Rattle.miette_graphical.specs.rules.Calls.{own_calls, cause_calls, related_calls}
+use Rattle.miette_graphical.specs.rules.Snippets.{drawn_rows, rows_over, snippet_settings, source_rows}
+use Rattle.miette_graphical.specs.rules.Calls.{own_calls, calls_over, source_calls, cause_calls, related_calls}
 use Rattle.miette_graphical.specs.rules.Text.{ends_there, inner_text, causes_text, related_text, body_over, drawn_text}
-use Rattle.miette_graphical.specs.rules.PossibleAnswers.{IsAnswerOf, IsAnswer, AreCauseAnswers, AreRelatedAnswers}
+use Rattle.miette_graphical.specs.rules.PossibleAnswers.{IsAnswerOf, IsAnswer, AreAnswersOver, AreCauseAnswers, AreRelatedAnswers}
 use Rattle.miette_graphical.specs.rules.PossibleAnswers.{IsAskedReport}
 use Rattle.miette_graphical.specs.views.Painting.{Printing}
 
@@ -23,14 +25,28 @@ abbrev pub IsDrawn : Option Source → Diagnosis → Printing → List ℕ → T
 IsDrawn source m by text =
     (a : Answer) × IsAnswer (snippet_settings by.settings) by.blank source m a
     × by.happen (own_calls by.settings.layout.context_lines source m a)
-    × (text ≡ rows_text (drawn_rows by.settings source (given_labels m.labels) a))
+    × (text ≡ rows_text (drawn_rows by.settings source m a))
 
--- the text of the rows of some labels' snippets over a source
-abbrev pub AreDrawn : Source → List Label → Printing → List ℕ → Type 0
-AreDrawn source labels by text =
-    (a : Answer) × IsAnswerOf (snippet_settings by.settings) by.blank (Some source) labels source.always_reads a
-    × by.happen (snippet_calls by.settings.layout.context_lines source labels a)
-    × (text ≡ rows_text (drawn_rows by.settings (Some source) labels a))
+-- the text of the rows of some labels' snippets over a source, drawn in these settings
+abbrev pub AreDrawn : Settings → Source → List Label → Printing → List ℕ → Type 0
+AreDrawn s source labels by text =
+    (a : SourceAnswer) × IsAnswerOf (snippet_settings s) by.blank (Some source) labels source.always_reads a
+    × by.happen (snippet_calls s.layout.context_lines source labels a)
+    × (text ≡ rows_text (source_rows s (Some source) labels a))
+
+-- that of the rows over one of a diagnostic's sources, and of those over several, drawn in these settings
+abbrev pub IsSourceDrawn : Settings → LabelledSource → Printing → List ℕ → Type 0
+IsSourceDrawn s it by text =
+    (a : SourceAnswer) × IsAnswerOf (snippet_settings s) by.blank it.source it.labels
+    (always_reads it.source it.labels) a
+    × by.happen (source_calls s.layout.context_lines it.source it.labels a)
+    × (text ≡ rows_text (source_rows s it.source it.labels a))
+
+abbrev pub AreSourcesDrawn : Settings → List LabelledSource → Printing → List ℕ → Type 0
+AreSourcesDrawn s sources by text =
+    (a : Answer) × AreAnswersOver (snippet_settings s) by.blank sources a
+    × by.happen (calls_over s.layout.context_lines sources a)
+    × (text ≡ rows_text (rows_over s sources a))
 
 -- the causes of a report
 abbrev pub AreCauses : Option Severity → Option Source → Cause → Printing → List ℕ → Type 0
@@ -54,7 +70,7 @@ IsBelow source t by text =
     × AreRelatedAnswers (snippet_settings by.settings) by.blank source (related_of t) more
     × by.happen (own_calls by.settings.layout.context_lines source (head t) a
     ++ related_calls by.settings.layout.context_lines by.settings.related_as_nested source (related_of t) more)
-    × (text ≡ rows_text (drawn_rows by.settings source (given_labels (head t).labels) a)
+    × (text ≡ rows_text (drawn_rows by.settings source (head t) a)
     ++ help_text by.settings (head t).help
     ++ related_text drawn_rows by.settings (head t).severity source (related_of t) more)
 

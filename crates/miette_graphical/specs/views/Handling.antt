@@ -6,8 +6,9 @@ use Rattle.miette_snippet_rules.specs.declared.options.LayoutOptions.{LayoutOpti
 use Rattle.miette_graphical.specs.declared.settings.Wrapping.{Wrapping}
 use Rattle.std.specs.List.{AllByRecursion}
 use Rattle.miette_tree.specs.rules.Tree.{Tree}
-use Rattle.miette_graphical.specs.rules.PrintedDiagnostics.{PrintedDiagnostic, diagnostics_of}
+use Rattle.miette_graphical.specs.rules.PrintedDiagnostics.{HoldsOfPrinted, diagnostics_of}
 use Rattle.miette_graphical.specs.rules.Settings.{Settings}
+use Rattle.miette_graphical.specs.rules.Sources.{LabelledSource}
 
 -- how it prints, and what styles the lines of sources, if anything does
 pub record Handling (H : Type 0) : Type 0 where
@@ -40,6 +41,6 @@ follows_of may_follow it = follows may_follow it.highlighter
 abbrev pub AreCallsOf : {H : Type 0} → (H → List Call → Type 0) → Handling H → Handling H → List Call → Type 0
 AreCallsOf may_follow old new = AreCallsOn may_follow old.highlighter new.highlighter
 
--- something holds of each diagnostic that it prints for a report
-abbrev pub EachPrinted : {H : Type 0} → (Settings → PrintedDiagnostic → Type 0) → Handling H → Tree → Type 0
-EachPrinted holds it t = AllByRecursion (holds it.settings) (diagnostics_of it.settings t)
+-- something holds of each source of each diagnostic that it prints for a report
+abbrev pub EachPrinted : {H : Type 0} → (Settings → LabelledSource → Type 0) → Handling H → Tree → Type 0
+EachPrinted holds it t = AllByRecursion (HoldsOfPrinted holds it.settings) (diagnostics_of it.settings t)

@@ -9,6 +9,8 @@ use Rattle.miette_tree.specs.declared.owned.SourceRef.{SourceRef}
 use Rattle.miette_graphical.specs.rules.Settings.{Settings}
 use Rattle.miette_graphical.specs.views.SettingsView.{handler_settings}
 use Rattle.miette_graphical.specs.declared.painter.Painter.{Painter}
+use Rattle.miette_graphical.specs.declared.sources.Look.{Look}
+use Rattle.miette_style.specs.rules.Themes.{theme_of}
 
 -- the handler's settings, with the painter's width
 abbrev pub settings_of : {H : Type 0} → Painter H → Settings
@@ -17,6 +19,10 @@ settings_of painter = record (handler_settings painter.settings.now) { width = p
 -- the source that a report is printed over, where there is one
 abbrev pub source_shown : {S : Type 0} → (S → Source) → Option (SourceRef S) → Option Source
 source_shown is = option_map (shown_source is)
+
+-- the same with a theme and a layout of their own
+abbrev pub settings_with : Settings → Look → Settings
+settings_with s look = record s { theme = theme_of look.theme.now; layout = look.layout.now }
 
 -- By what a part of a report is printed: by these settings, with plain lines of sources or not, while these calls on
 -- the highlighter happen.

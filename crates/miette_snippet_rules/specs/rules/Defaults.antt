@@ -7,6 +7,7 @@ default_layout = record {
   tab_width = 4;
   context_lines = 1;
   primary_start = true;
+  one_line_start = false;
   end_labels = false;
   label_lines = None;
   line_columns = None;

@@ -1,6 +1,6 @@
 -- The row of a refused label, and what frames a snippet's lines.
 use Rattle.std.specs.Prelude.{ℕ, ◌+◌, ◌-◌, List, [], ◌∷◌, ◌++◌, length, decimal, codes, chars, replicate, Option, Some}
-use Rattle.std.specs.Prelude.{None, Bool, ◌&&◌, if◌then◌else◌, nat_lt}
+use Rattle.std.specs.Prelude.{None, Bool, ◌&&◌, ◌||◌, if◌then◌else◌, nat_lt}
 use Rattle.miette_page.specs.rules.Rows.{Row, styled_run, plain_run}
 use Rattle.miette_source_lines.specs.rules.Lines.{Line}
 use Rattle.miette_protocol.specs.views.Meaning.{Label}
@@ -59,14 +59,15 @@ pub record Place : Type 0 where
 abbrev pub place_text : Place → List ℕ
 place_text place = decimal (place.line + 1) ++ codes ":" ++ decimal (place.column + 1)
 
--- where a snippet points to: with a name, whose bytes are given, else where it has several lines
+-- where a snippet points to: with a name, whose bytes are given, else where it has several lines or that is asked for
+-- of one line too
 abbrev pub location : SnippetSettings → Option (List ℕ) → Bool → Place → Row
 location s (Some name) several place =
     plain_run s.width (codes "[") ∷ styled_run s.width s.theme.styles.link
     (if s.layout.primary_start then chars name ++ codes ":" ++ place_text place else chars name)
     ∷ plain_run s.width (codes "]") ∷ []
 location s None several place =
-    if several && s.layout.primary_start then plain_run s.width (codes "[" ++ place_text place ++ codes "]") ∷ []
+    if (several || s.layout.one_line_start) && s.layout.primary_start then plain_run s.width (codes "[" ++ place_text place ++ codes "]") ∷ []
     else plain_run s.width (replicate 3 s.theme.characters.hbar) ∷ []
 
 abbrev pub location_of : SnippetSettings → Option (List ℕ) → Bool → Option Place → Row

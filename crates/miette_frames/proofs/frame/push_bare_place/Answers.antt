@@ -1,6 +1,6 @@
 use Rattle.miette_page.specs.views.Printouts.{◌⊕◌}
 use Rattle.std.proofs.Common.{[], ◌∷◌, ◌++◌, ◌≡◌, ◌∙◌, cond, true, ap, sym, replicate, rules}
-use Rattle.std.specs.Prelude.{codes, ◌&&◌}
+use Rattle.std.specs.Prelude.{codes, ◌&&◌, ◌||◌}
 use Rattle.miette_page.specs.rules.Rows.{styled_run}
 use Rattle.miette_style.specs.rules.Styles.{plain}
 use Rattle.miette_snippet_rules.specs.rules.Frames.{place_text}
@@ -10,9 +10,10 @@ use Rattle.miette_page.specs.views.Tokens.{row_tokens}
 use Rattle.miette_frames.proofs.FrameRows.{bare_put}
 use Rattle.miette_frames.proofs.frame.push_bare_place.Goals as goal
 
-pub returns-then-frame : goal.returns-then-frame
-returns-then-frame g c =
-    let shown : (c.args.several && c.args.frame.now.settings.layout.now.primary_start) ≡ true = search rules in
+pub returns-then-shows_bare_place : goal.returns-then-shows_bare_place
+returns-then-shows_bare_place g c =
+    let layout = c.args.frame.now.settings.layout.now in
+    let shown : ((c.args.several || layout.one_line_start) && layout.primary_start) ≡ true = search rules in
     bare_put width_of (place_text (place_at c.args.place)) c.args.page.now c.push_line.new.self c.push_place.new.page
     c.push.new.self
     c.in_ok-push_line.ensures c.in_ok-push_place.ensures c.in_ok-push.ensures

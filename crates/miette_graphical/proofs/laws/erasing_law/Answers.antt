@@ -43,7 +43,7 @@ returns-clause-plain c = λ s styles blank t bytes settings tree bare printed re
     ∙ ap (λ text. encode_utf8_all (erase text)) printed.1.2
     ∙ ap encode_utf8_all (c.colours_law.ensures.plain drawn_rows s styles t printed.1.0 c.drawn_rows_law.ensures
     settings tree bare)
-    ∙ ap encode_utf8_all (bare-report drawn_rows s styles blank t printed.1.0 printed.1.1 reads)
+    ∙ ap encode_utf8_all (bare-report s styles blank t printed.1.0 printed.1.1 reads)
 
 pub returns-clause-only : goal.returns-clause-only
 returns-clause-only c = λ s blank t bytes settings tree printed reads.

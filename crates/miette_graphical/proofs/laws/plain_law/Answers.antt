@@ -15,7 +15,7 @@ returns-clause-printed c = λ s t bytes settings tree bare printed.
     ap erase printed.2 ∙ c.encoding_law.ensures printed.0
     ∙ ap (λ text. encode_utf8_all (erase text)) printed.1.2
     ∙ ap encode_utf8_all (c.colours_law.ensures.plain drawn_rows s s.theme.styles t printed.1.0
-    c.drawn_rows_law.ensures settings tree bare ∙ sym (plain-report drawn_rows s t printed.1.0 printed.1.1))
+    c.drawn_rows_law.ensures settings tree bare ∙ sym (plain-report s t printed.1.0 printed.1.1))
     ∙ sym (printed.2 ∙ ap encode_utf8_all printed.1.2)
 
 pub returns-clause-shipped : goal.returns-clause-shipped

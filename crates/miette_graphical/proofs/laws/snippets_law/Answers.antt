@@ -1,4 +1,4 @@
-use Rattle.std.proofs.Common.{ℕ, ◌≡◌, ◌≤◌, List, [], ◌∷◌, Option, Some, None, IfSome, refl, ap, ◌∙◌, false, cond, ltb}
+use Rattle.std.proofs.Common.{ℕ, ◌≡◌, ◌≤◌, List, [], ◌∷◌, Option, Some, None, IfSome, refl, ap, ◌∙◌, false, cond, ltb, length}
 use Rattle.std.proofs.Common.{sym}
 use Rattle.std.proofs.Common.{subst}
 use Rattle.std.specs.List.{AllByRecursion}
@@ -20,9 +20,9 @@ use Rattle.miette_graphical.specs.laws.Headline.{SnippetHangs, drawn_labels, gro
 use Rattle.miette_graphical.specs.laws.Headline.{shown_lines, CutsAreExact, LinesThatFitStay, SnippetStays, cells_under}
 use Rattle.miette_graphical.specs.laws.Headline.{whole_marks}
 use Rattle.miette_graphical.specs.laws.Headline.{line_of}
-use Rattle.miette_tree.specs.rules.DiagnosticParts.{given_labels}
-use Rattle.miette_graphical.specs.rules.PrintedDiagnostics.{diagnostics_of}
-use Rattle.miette_graphical.specs.rules.Snippets.{drawn_rows, snippet_settings, shown_rows}
+use Rattle.miette_graphical.specs.rules.Sources.{HoldsOfSources, LabelledSource, after_labels, drawn_with, sources_of}
+use Rattle.miette_graphical.specs.rules.PrintedDiagnostics.{HoldsOfPrinted, PrintedDiagnostic, diagnostics_of}
+use Rattle.miette_graphical.specs.rules.Snippets.{snippet_settings, shown_rows, source_rows}
 use Rattle.miette_labels.specs.rules.Answers.{Answers}
 use Rattle.miette_snippet_rules.specs.rules.SnippetLayout.{snippet_rows}
 use Rattle.miette_graphical.proofs.DrawnRows.{none_listed}
@@ -33,6 +33,18 @@ use Rattle.miette_graphical.proofs.laws.snippets_law.Goals as goal
 each : {A : Type 0} (P : A → Type 0) → ((x : A) → P x) → (xs : List A) → AllByRecursion P xs
 each P f [] = tt
 each P f (x ∷ xs) = (f x, each P f xs)
+
+over_sources : (P : Settings → LabelledSource → Type 0) → ((s : Settings) (it : LabelledSource) → P s it)
+    → (s : Settings) (sources : List LabelledSource) → HoldsOfSources P s sources
+over_sources P f s [] = tt
+over_sources P f s (it ∷ more) = (f s it, over_sources P f (after_labels (length it.labels) s) more)
+
+-- what holds of all labels over a source, in whatever settings, holds of each source of each printed diagnostic
+everywhere : (P : Settings → LabelledSource → Type 0) → ((s : Settings) (it : LabelledSource) → P s it)
+    → (s : Settings) (ps : List PrintedDiagnostic) → AllByRecursion (HoldsOfPrinted P s) ps
+everywhere P f s ps =
+    each (HoldsOfPrinted P s) (λ p. over_sources P f (drawn_with p.meaning.snippets s) (sources_of p.source p.meaning))
+    ps
 
 -- a line that is cut is cut at the limit
 cut_whole : (o : Option ℕ) (limit : ℕ) (ms : List Mark) (cells : List Cell) (cut : List Stretch) → o ≡ Some limit
@@ -65,7 +77,7 @@ short_rows : (limit : ℕ) (s : Settings) (source : Source) (labels : List Label
     }) source labels answers
     ≡ snippet_rows (record (snippet_settings s) { layout = record (snippet_settings s).layout { label_lines = None } })
     source labels answers →
-    drawn_rows s (Some source) labels answers ≡ drawn_rows
+    source_rows s (Some source) labels answers ≡ source_rows
     (record s { layout = record s.layout { label_lines = None } }) (Some source) labels
     answers
 short_rows limit s source labels answers e h =
@@ -74,8 +86,8 @@ short_rows limit s source labels answers e h =
     ∙ ap shown_rows h
 
 pub returns-clause-lines : goal.returns-clause-lines
-returns-clause-lines c = λ s t. each (LinesAreShown s) (λ p.
-    let labels = given_labels p.meaning.labels in
+returns-clause-lines c = λ s t. everywhere LinesAreShown (λ s p.
+    let labels = p.labels in
     if_some _ (λ source reads accepted context.
     let maximal = c.ranges_are_maximal.ensures (shown_lines s source labels) in record {
       rows = λ pieces. ap (λ rows. shown_rows rows) (c.snippets_draw_ranges.ensures (snippet_settings s) source labels
@@ -85,24 +97,24 @@ returns-clause-lines c = λ s t. each (LinesAreShown s) (λ p.
       consecutive = maximal.1;
       parted = maximal.2;
       own = labels_have_lines s.layout.context_lines source.bytes labels;
-    }) p.source) (diagnostics_of s t)
+    }) p.source) s (diagnostics_of s t)
 
 pub returns-clause-marks : goal.returns-clause-marks
-returns-clause-marks c = λ s t. each (MarksAreApart s) (λ p.
+returns-clause-marks c = λ s t. everywhere MarksAreApart (λ s p.
     if_some _ (λ source k. record {
-      apart = c.marks_are_apart.ensures.row (snippet_settings s) (drawn_labels s source (given_labels p.meaning.labels))
+      apart = c.marks_are_apart.ensures.row (snippet_settings s) (drawn_labels s source p.labels)
           source.bytes (line_of source k);
       anchors = c.marks_are_apart.ensures.row_anchors (snippet_settings s)
-          (drawn_labels s source (given_labels p.meaning.labels)) source.bytes (line_of source k);
-    }) p.source) (diagnostics_of s t)
+          (drawn_labels s source p.labels) source.bytes (line_of source k);
+    }) p.source) s (diagnostics_of s t)
 
 -- a line fits within the limit that there is
 fits_in : (o : Option ℕ) (limit : ℕ) (cells : List Cell) → o ≡ Some limit → cells_width 0 cells ≤ limit → Fits o cells
 fits_in o limit cells some le = subst (λ (it : Option ℕ). Fits it cells) (sym some) le
 
 pub returns-clause-cuts : goal.returns-clause-cuts
-returns-clause-cuts c = λ s t. each (CutsAreExact s) (λ p.
-    let labels = given_labels p.meaning.labels in
+returns-clause-cuts c = λ s t. everywhere CutsAreExact (λ s p.
+    let labels = p.labels in
     if_some _ (λ source k limit some.
     let lay = snippet_settings s in
     let drawn = drawn_labels s source labels in
@@ -124,29 +136,29 @@ returns-clause-cuts c = λ s t. each (CutsAreExact s) (λ p.
           };
       narrow = λ pieces widest wide. c.cut_rows_are_narrow.ensures lay drawn source.bytes line pieces limit widest some
           wide;
-    }) p.source) (diagnostics_of s t)
+    }) p.source) s (diagnostics_of s t)
 
 pub returns-clause-fits : goal.returns-clause-fits
-returns-clause-fits c = λ s t. each (LinesThatFitStay s) (λ p.
-    let labels = given_labels p.meaning.labels in
+returns-clause-fits c = λ s t. everywhere LinesThatFitStay (λ s p.
+    let labels = p.labels in
     if_some _ (λ source. each (SnippetStays s source labels)
     (λ group spreads pieces fit. c.lines_that_fit_stay.ensures (group_settings s labels) spreads
     (drawn_labels s source labels) source.bytes (contents (group_settings s labels).layout.context_lines source group)
     pieces
     fit)
-    (groups_of s source labels)) p.source) (diagnostics_of s t)
+    (groups_of s source labels)) p.source) s (diagnostics_of s t)
 
 pub returns-clause-texts : goal.returns-clause-texts
-returns-clause-texts c = λ s t. each (TextsHang s) (λ p.
-    let labels = given_labels p.meaning.labels in
+returns-clause-texts c = λ s t. everywhere TextsHang (λ s p.
+    let labels = p.labels in
     if_some _ (λ source narrow. each (SnippetHangs s source labels)
     (λ group pieces. c.texts_hang.ensures (group_settings s labels) (drawn_labels s source labels) source.bytes
     (contents (group_settings s labels).layout.context_lines source group) pieces (is_narrow s.theme.characters narrow))
-    (groups_of s source labels)) p.source) (diagnostics_of s t)
+    (groups_of s source labels)) p.source) s (diagnostics_of s t)
 
 pub returns-clause-ends : goal.returns-clause-ends
-returns-clause-ends c = λ s t. each (EndsAreDrawn s) (λ p.
-    let labels = given_labels p.meaning.labels in
+returns-clause-ends c = λ s t. everywhere EndsAreDrawn (λ s p.
+    let labels = p.labels in
     if_some _ (λ source. (
       λ drawn. record {
         lines = c.ends_are_drawn.ensures.lines (group_settings s labels) source.bytes (in_order labels) drawn;
@@ -155,11 +167,11 @@ returns-clause-ends c = λ s t. each (EndsAreDrawn s) (λ p.
       },
       λ none pieces. ap (λ rows. shown_rows rows) (c.ends_are_drawn.ensures.others s.layout.end_labels
           (snippet_settings s) source labels (pieces_listed pieces) none),
-    )) p.source) (diagnostics_of s t)
+    )) p.source) s (diagnostics_of s t)
 
 pub returns-clause-folds : goal.returns-clause-folds
-returns-clause-folds c = λ s t. each (LabelsAreFolded s) (λ p.
-    let labels = given_labels p.meaning.labels in
+returns-clause-folds c = λ s t. everywhere LabelsAreFolded (λ s p.
+    let labels = p.labels in
     if_some _ (λ source. if_is _ s.layout.label_lines (λ limit is reads accepted context. record {
       ends = c.ranges_end_kept.ensures (Some limit) s.layout.context_lines source.bytes labels context;
       inside = λ k. c.left_out_lines_are_inside.ensures.inside _ _ limit s.layout.context_lines source.bytes labels k
@@ -169,4 +181,4 @@ returns-clause-folds c = λ s t. each (LabelsAreFolded s) (λ p.
       short = λ fit pieces. short_rows limit s source labels (pieces_listed pieces) is
           (c.short_labels_stay.ensures (snippet_settings s) limit source labels (pieces_listed pieces) context accepted
           (none_listed pieces) fit);
-    })) p.source) (diagnostics_of s t)
+    })) p.source) s (diagnostics_of s t)
