@@ -172,6 +172,16 @@ def parts(code="None", severity="None", help="None", url="None", labels="None"):
     return f"code {code}, severity {severity}, help {help}, url {url}, labels {labels}"
 
 
+def over(offset):
+    """Labels over a further source: one, of one byte, without a text."""
+    return ", over another " + listed([label("", offset, 1)])
+
+
+def attached(sections=(), fixes=(), message="oops!", code="None"):
+    """A report's message and code, its labels over further sources, and its fixes."""
+    return f"{message}, code {code}{''.join(sections)}, fixes {listed(fixes)}"
+
+
 THERE = parts('Some("a::b")', "Some(Warning)", 'Some("try")', 'Some("http://x")', f"Some([{HERE}])")
 NOTHING = parts()
 OOPS = f"oops!: b: c, {THERE}"
@@ -312,6 +322,14 @@ ROWS = {
     "miette!": ["7 is too much, " + parts('Some("a::b")', help='Some("try")')],
     "bail!": [SEVEN],
     "ensure!": [SEVEN],
+    "Report::with_snippets": [attached([over(0)])],
+    "Report::with_owned_snippets": [attached([over(0), over(1)])],
+    "Report::with_all_snippets": [attached([over(2)])],
+    "Report::with_fix": [attached(fixes=[fix(), fix(edit(4, 0, ":"))])],
+    "Report::with_fixes": [attached(fixes=[fix(edit(4, 0, ":"))])],
+    "miette! for a report with fixes": [
+        attached([over(1)], [fix(edit(4, 0, ":"))], "7 is too much", some(quoted("a::b")))
+    ],
     "fill": appended(FILLED),
     "wrap": [collected(""), collected(FILLED)],
     "push_fitting": [collected(""), collected("* word-and-\u6f22")],

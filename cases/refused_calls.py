@@ -69,7 +69,7 @@ def keeps(name):
 
 def answer(name):
     """What a refusal of a call gives that keeps nothing: where that is a report, its text and parts."""
-    if name.startswith(("WrapErr::", "IntoDiagnostic::")) or name in ("miette!", "bail!", "ensure!"):
+    if name.startswith(("WrapErr::", "IntoDiagnostic::")) or name.split(" for ")[0] in ("miette!", "bail!", "ensure!"):
         return f"refused: memory allocation failed, {NOTHING}"
     return "refused"
 

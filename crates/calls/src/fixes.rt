@@ -36,7 +36,11 @@ fn colon(alloc: Global) -> Result<Edit, AllocError> {
     Ok(Edit::insert(4, String::from_str(alloc, ":")?))
 }
 
-fn with_colon(alloc: Global) -> Result<Fix, AllocError> {
+/// The message `m`, with a colon inserted.
+///
+/// # Errors
+/// Where memory is refused.
+pub fn with_colon(alloc: Global) -> Result<Fix, AllocError> {
     Fix::new(alloc, "m")?.with_edit(colon(alloc)?)
 }
 

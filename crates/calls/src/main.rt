@@ -6,6 +6,7 @@
 //! says `refused`, and behind that what was handed back, or what the text holds that the call appends to.
 #![tactic(auto)]
 
+mod attached;
 mod diagnostics;
 mod examples;
 mod fixes;
@@ -86,6 +87,7 @@ enum Subject {
     Themes,
     Highlighters,
     Reports,
+    Attached,
     Texts,
     Runs,
     Handlers,
@@ -93,13 +95,14 @@ enum Subject {
     Printing,
 }
 
-static SUBJECTS: [Subject; 11] = [
+static SUBJECTS: [Subject; 12] = [
     Subject::Labels,
     Subject::Diagnostics,
     Subject::Sources,
     Subject::Themes,
     Subject::Highlighters,
     Subject::Reports,
+    Subject::Attached,
     Subject::Texts,
     Subject::Runs,
     Subject::Handlers,
@@ -115,6 +118,7 @@ fn names(subject: Subject) -> &'static [&'static str] {
         Subject::Themes => &themes::NAMES,
         Subject::Highlighters => &highlighters::NAMES,
         Subject::Reports => &reports::NAMES,
+        Subject::Attached => &attached::NAMES,
         Subject::Texts => &texts::NAMES,
         Subject::Runs => &runs::NAMES,
         Subject::Handlers => &handlers::NAMES,
@@ -167,6 +171,7 @@ fn make<R: Env + AllocGlobal + Streams, W: Write>(
         Subject::Themes => themes::make(alloc, name, out),
         Subject::Highlighters => highlighters::make(alloc, name, out),
         Subject::Reports => reports::make(alloc, name, out),
+        Subject::Attached => attached::make(alloc, name, out),
         Subject::Texts => texts::make(alloc, name, out),
         Subject::Runs => runs::make(alloc, name, out),
         Subject::Handlers => handlers::make(alloc, name, out),

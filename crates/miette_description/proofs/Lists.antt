@@ -68,3 +68,45 @@ pub all_read : {A : Type 0} (reads : Data → Option A) (vs : List (Value Global
     → length vs ≤ i → ReadSoFar reads vs old i → all_of reads (list_data vs) ≡ Some old
 all_read reads vs old i h inv =
     inv ∙ ap (λ l. option_map (λ r. old ++ r) (all_of reads (list_data l))) (drop_all i vs h) ∙ ap Some (append-nil old)
+
+-- ---- what is made of a list that is read item by item
+
+-- what is made of all of it is what is made of what is left
+abbrev pub MadeSoFar : {A B : Type 0} → (Data → Option A) → List (Value Global) → (List A → B) → (List A → B) → ℕ
+    → Type 0
+MadeSoFar reads vs whole rest i = option_map whole (all_of reads (list_data vs))
+    ≡ option_map rest (all_of reads (list_data (drop i vs)))
+
+made_on : {A B : Type 0} (rest next : List A → B) (x : A) (o : Option (List A)) → ((xs : List A) → rest (x ∷ xs)
+    ≡ next xs) → option_map rest (and_then o (λ xs. Some (x ∷ xs))) ≡ option_map next o
+made_on rest next x None h = refl
+made_on rest next x (Some xs) h = ap Some (h xs)
+
+pub one_made : {A B : Type 0} (reads : Data → Option A) (vs : List (Value Global)) (whole rest next : List A → B) (i : ℕ)
+    (v : Value Global) (x : A)
+    → i < length vs → v ≡ get_or vs i v → reads (value_data v) ≡ Some x → ((xs : List A) → rest (x ∷ xs) ≡ next xs)
+    → MadeSoFar reads vs whole rest i → MadeSoFar reads vs whole next (i + 1)
+one_made reads vs whole rest next i v x h is e on inv =
+    inv ∙ ap (λ l. option_map rest (all_of reads l)) (item_here vs i v h is)
+    ∙ ap (λ o. option_map rest (and_then o (λ y. and_then (all_of reads (list_data (drop (i + 1) vs)))
+    (λ ys. Some (y ∷ ys))))) e
+    ∙ made_on rest next x (all_of reads (list_data (drop (i + 1) vs))) on
+
+none_made : {A B : Type 0} (whole : List A → B) (o : Option (List A)) → option_map whole o ≡ None → o ≡ None
+none_made whole None e = refl
+none_made whole (Some xs) e = cc
+
+pub one_unmade : {A B : Type 0} (reads : Data → Option A) (vs : List (Value Global)) (whole rest : List A → B) (i : ℕ)
+    (v : Value Global) → i < length vs → v ≡ get_or vs i v → reads (value_data v) ≡ None
+    → MadeSoFar reads vs whole rest i → all_of reads (list_data vs) ≡ None
+one_unmade reads vs whole rest i v h is e inv =
+    none_made whole (all_of reads (list_data vs)) (inv
+    ∙ ap (λ l. option_map rest (all_of reads l)) (item_here vs i v h is)
+    ∙ ap (λ o. option_map rest (and_then o (λ y. and_then (all_of reads (list_data (drop (i + 1) vs)))
+    (λ ys. Some (y ∷ ys))))) e)
+
+-- behind the last item
+pub all_made : {A B : Type 0} (reads : Data → Option A) (vs : List (Value Global)) (whole rest : List A → B) (i : ℕ)
+    → length vs ≤ i → MadeSoFar reads vs whole rest i
+    → option_map whole (all_of reads (list_data vs)) ≡ Some (rest [])
+all_made reads vs whole rest i h inv = inv ∙ ap (λ l. option_map rest (all_of reads (list_data l))) (drop_all i vs h)

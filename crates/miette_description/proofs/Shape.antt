@@ -12,7 +12,7 @@ use Rattle.miette_description.specs.steps.ParsedValues.{value_data, list_data}
 use Rattle.json.specs.declared.value.Value.{Value}
 use Rattle.miette_tree.specs.rules.Tree.{Tree, Trees, trees}
 use Rattle.miette_description.specs.rules.Members.{and_then, present, at_key, optional_value, all_of, list_of}
-use Rattle.miette_description.specs.rules.Members.{source_of, meaning_in}
+use Rattle.miette_description.specs.rules.Members.{source_of, diagnosis_in}
 use Rattle.miette_description.specs.rules.Description.{nullable, report_from, report_in, cause_in, related_in}
 use Rattle.miette_description.specs.rules.Description.{reports_in, each_in}
 
@@ -123,13 +123,13 @@ given_never (Some x) f never = never x
 pub without_cause : (c : Option (Option Tree)) (r : Option (Option Trees)) (d : Data) → c ≡ None → report_from c r d
     ≡ None
 without_cause c r d none =
-    given_never (meaning_in d) _ (λ m. given_never (optional_value source_of (at_key (codes "source") d)) _
+    given_never (diagnosis_in d) _ (λ m. given_never (optional_value source_of (at_key (codes "source") d)) _
     (λ s. given_none _ none))
 
 pub without_related : (c : Option (Option Tree)) (r : Option (Option Trees)) (d : Data) → r ≡ None → report_from c r d
     ≡ None
 without_related c r d none =
-    given_never (meaning_in d) _ (λ m. given_never (optional_value source_of (at_key (codes "source") d)) _
+    given_never (diagnosis_in d) _ (λ m. given_never (optional_value source_of (at_key (codes "source") d)) _
     (λ s. given_never c _ (λ one.
     given_never (optional_value (list_of as_str) (at_key (codes "causes") d)) _ (λ several. given_none _ none))))
 

@@ -1,21 +1,21 @@
 -- The sources of a described report always read.
 use Rattle.std.proofs.Common.{◌≡◌, ℕ, List, [], ◌∷◌, Option, Some, None, option_map, Ordering, Less, Equal, Greater}
 use Rattle.std.proofs.Common.{Bool, true, false, refl, subst, IfSome, codes, nat_cmp}
+use Rattle.std.proofs.Common.{All}
+use Rattle.std.proofs.lemmas.List.Elements.{All-nil, All-cons}
 use Rattle.std.specs.Prelude.{is_some, unwrap_or, if◌then◌else◌}
 use Rattle.std.specs.Ordering.{match_ordering}
 use Rattle.std.specs.Cmp.Lexicographic.{slice_cmp}
 use Rattle.serde_json.specs.Data.{Data, array, object, Items, no_items, item, Members}
 use Rattle.serde_json.specs.Data.{no_members, member}
-use Rattle.serde_json.specs.Find.{as_null, as_str}
+use Rattle.serde_json.specs.Find.{as_array, as_null, as_str}
 use Rattle.serde_json.specs.Written.{has_float}
 use Rattle.miette_protocol.specs.rules.Reading.{Source}
-use Rattle.miette_protocol.specs.views.Meaning.{Meaning}
-use Rattle.miette_tree.specs.rules.Diagnosis.{plain_diagnosis}
+use Rattle.miette_tree.specs.rules.Diagnosis.{Diagnosis, Section}
 use Rattle.miette_tree.specs.rules.Tree.{Tree, tree, Trees, no_trees, wrapped_tree}
 use Rattle.miette_tree.specs.rules.Reads.{AlwaysReads, CauseAlwaysReads, AllAlwaysRead}
-use Rattle.miette_tree.proofs.Readings.{none_further}
 use Rattle.miette_description.specs.rules.Members.{and_then, at_key, optional_value, list_of, source_named, source_of}
-use Rattle.miette_description.specs.rules.Members.{meaning_in}
+use Rattle.miette_description.specs.rules.Members.{all_of, diagnosis_in, fix_of, label_of, meaning_in, snippets_of}
 use Rattle.miette_description.specs.rules.Description.{one_cause, wrapped_in, tree_of_parts, report_from, nullable}
 use Rattle.miette_description.specs.rules.Description.{report_in, cause_in, related_in, reports_in, each_in}
 use Rattle.miette_description.specs.rules.Description.{described_tree}
@@ -90,28 +90,58 @@ related_reads : (related : Option Trees) → IfSome related AllAlwaysRead → Al
 related_reads None r = tt
 related_reads (Some ts) r = r
 
-assembled_reads : (m : Meaning) (s : Option Source) (one : Option Tree) (several : Option (List (List ℕ)))
+-- labels over a further source that always reads
+abbrev Further : Section → Type 0
+Further section = section.source.always_reads ≡ true
+
+snippets_read : (d : Data) → IfSome (snippets_of d) Further
+snippets_read d =
+    given_with Reads Further (and_then (at_key (codes "source") d) source_of) _
+    (any_given Reads (at_key (codes "source") d) source_of source_reads)
+    (λ source r. any_given Further (optional_value (list_of label_of) (at_key (codes "labels") d)) _ (λ labels. r))
+
+each_snippets_read : (ds : Items) → IfSome (all_of snippets_of ds) (All Further)
+each_snippets_read no_items = All-nil Further
+each_snippets_read (item d ds) =
+    given_with Further (All Further) (snippets_of d) _ (snippets_read d) (λ s r.
+    given_with (All Further) (All Further) (all_of snippets_of ds) _ (each_snippets_read ds)
+    (λ ss rs. All-cons Further s ss r rs))
+
+or_none : (o : Option (List Section)) → IfSome o (All Further) → All Further (unwrap_or o [])
+or_none None r = All-nil Further
+or_none (Some sections) r = r
+
+diagnosis_reads : (d : Data) → IfSome (diagnosis_in d) (λ m. All Further m.snippets)
+diagnosis_reads d =
+    let P : Diagnosis → Type 0 = λ m. All Further m.snippets in
+    any_given P (meaning_in d) _ (λ m.
+    given_with (λ o. IfSome o (All Further)) P (optional_value (list_of snippets_of) (at_key (codes "snippets") d)) _
+    (typed_with (All Further) (list_of snippets_of) (at_key (codes "snippets") d)
+    (λ e. any_given (All Further) (as_array e) (all_of snippets_of) each_snippets_read)) (λ snippets r.
+    any_given P (optional_value (list_of fix_of) (at_key (codes "fixes") d)) _ (λ fixes. or_none snippets r)))
+
+assembled_reads : (m : Diagnosis) (s : Option Source) (one : Option Tree) (several : Option (List (List ℕ)))
     (related : Option Trees) (contexts : Option (List (List ℕ)))
-    → IfSome s Reads → IfSome one AlwaysReads → IfSome related AllAlwaysRead
+    → All Further m.snippets → IfSome s Reads → IfSome one AlwaysReads → IfSome related AllAlwaysRead
     → IfSome (tree_of_parts m s one several related contexts) AlwaysReads
-assembled_reads m s one several related contexts a b c =
+assembled_reads m s one several related contexts q a b c =
     mapped CauseAlwaysReads AlwaysReads (one_cause one several)
-    (λ cause. wrapped_in (unwrap_or contexts []) (tree (plain_diagnosis m) s cause (unwrap_or related no_trees)))
+    (λ cause. wrapped_in (unwrap_or contexts []) (tree m s cause (unwrap_or related no_trees)))
     (one_cause_reads one several b)
-    (λ cause p. wrapped_in_reads (unwrap_or contexts []) (tree (plain_diagnosis m) s cause (unwrap_or related no_trees))
-    (a, p, related_reads related c, none_further))
+    (λ cause p. wrapped_in_reads (unwrap_or contexts []) (tree m s cause (unwrap_or related no_trees))
+    (a, p, related_reads related c, q))
 
 parts_read : (cause : Option (Option Tree)) (related : Option (Option Trees)) (d : Data) → Maybe AlwaysReads cause
     → Maybe AllAlwaysRead related → IfSome (report_from cause related d) AlwaysReads
 parts_read cause related d c r =
-    any_given AlwaysReads (meaning_in d) _ (λ m.
+    given_with (λ m. All Further m.snippets) AlwaysReads (diagnosis_in d) _ (diagnosis_reads d) (λ m q.
     given_with (λ s. IfSome s Reads) AlwaysReads (optional_value source_of (at_key (codes "source") d)) _
     (typed_with Reads source_of (at_key (codes "source") d) source_reads) (λ s a.
     given_with (λ one. IfSome one AlwaysReads) AlwaysReads cause _ c (λ one b.
     any_given AlwaysReads (optional_value (list_of as_str) (at_key (codes "causes") d)) _ (λ several.
     given_with (λ list. IfSome list AllAlwaysRead) AlwaysReads related _ r (λ list e.
     any_given AlwaysReads (optional_value (list_of as_str) (at_key (codes "contexts") d)) _
-    (λ contexts. assembled_reads m s one several list contexts a b e))))))
+    (λ contexts. assembled_reads m s one several list contexts q a b e))))))
 
 -- ---- the whole
 

@@ -2,6 +2,7 @@
 #![tactic(auto)]
 
 pub mod error;
+mod further;
 mod json_values;
 pub mod laws;
 mod members;

@@ -20,7 +20,7 @@ use miette_tree::report::OwnedSource;
 use std::alloc::{AllocError, Global};
 
 // What is found, or that the description is bad.
-fn described<T>(found: Option<T>) -> Built<T>
+pub(crate) fn described<T>(found: Option<T>) -> Built<T>
     ensures ok { IfOk result (λ it. found ≡ Some it) }
     ensures description { (result ≡ Err BuildError.Description) → found ≡ None }
 {
@@ -75,7 +75,11 @@ fn labels_from(alloc: Global, value: &Value<'_>) -> Built<Vec<LabeledSpan>>
     Ok(labels)
 }
 
-fn labels_at(alloc: Global, value: &Value<'_>, key: &str) -> Built<Option<Vec<LabeledSpan>>>
+pub(crate) fn labels_at(
+    alloc: Global,
+    value: &Value<'_>,
+    key: &str,
+) -> Built<Option<Vec<LabeledSpan>>>
     ensures ok { IfOk result (λ o. optional_value (list_of label_of) (at_key key.now (value_data value.now))
         ≡ Some (option_map (λ v. v.items) o)) }
     ensures description { (result ≡ Err BuildError.Description) →
@@ -158,7 +162,7 @@ fn severity_at(value: &Value<'_>, key: &str) -> Option<Option<Severity>>
     }
 }
 
-fn source_from(alloc: Global, value: &Value<'_>) -> Built<OwnedSource>
+pub(crate) fn source_from(alloc: Global, value: &Value<'_>) -> Built<OwnedSource>
     ensures ok { IfOk result (λ s. source_of (value_data value.now) ≡ Some (owned_source s)) }
     ensures description { (result ≡ Err BuildError.Description) → source_of (value_data value.now) ≡ None }
 {

@@ -11,20 +11,19 @@ ghost use Rattle.miette_tree.specs.rules.Tree.{Tree, Trees, cause_of, texts, tre
 ghost use Rattle.miette_tree.specs.views.Report.{tree_of};
 ghost use Rattle.miette_tree.specs.rules.Reads.{AlwaysReads};
 ghost use Rattle.miette_description.specs.rules.Members.{optional_value, at_key, all_of, list_of, source_of};
-ghost use Rattle.miette_description.specs.rules.Members.{meaning_in};
-ghost use Rattle.miette_protocol.specs.views.Diagnostic.{meaning_of};
+ghost use Rattle.miette_description.specs.rules.Members.{diagnosis_in};
 ghost use Rattle.miette_tree.specs.views.Owned.{owned_source};
 ghost use Rattle.miette_description.specs.rules.Description.{one_cause, wrapped_in, tree_of_parts, report_in};
 ghost use Rattle.miette_description.specs.rules.Description.{described_tree, report_from, reports_in, tree_for};
-ghost use Rattle.miette_description.specs.steps.OptionalParts.{maybe_sourced, maybe_related};
+ghost use Rattle.miette_description.specs.steps.OptionalParts.{said_of, maybe_sourced, maybe_related};
 
 use crate::error::{BuildError, Built};
+use crate::further::{Said, report_saying, said_from};
 use crate::json_values::{list_in, member_at};
 use crate::numbers::{is_whole, value_has_float};
-use crate::parts::{diagnostic_from, push_texts, source_at, texts_at};
+use crate::parts::{push_texts, source_at, texts_at};
 use crate::reading::read_value;
 use json::{Reader, Scratch, Value};
-use miette_protocol::diagnostic::MietteDiagnostic;
 use miette_protocol::protocol::Diagnostic;
 use miette_protocol::source::SourceCode;
 use miette_tree::parts::cause_texts;
@@ -216,16 +215,16 @@ fn box_of<D: Diagnostic, S: SourceCode>(
 }
 
 /// What a description says beside its cause and its related reports.
-struct OwnParts {
-    diagnostic: MietteDiagnostic,
+struct OwnParts<S> {
+    said: Said<S>,
     source: Option<OwnedSource>,
     several: Option<Vec<String>>,
     contexts: Option<Vec<String>>,
 }
 
 /// The parts of a description beside its cause and its related reports.
-fn own_parts(alloc: Global, value: &Value<'_>) -> Built<OwnParts>
-    ensures diagnostic { IfOk result (λ p. meaning_in (value_data value.now) ≡ Some (meaning_of p.diagnostic)) }
+fn own_parts<S: SourceCode>(alloc: Global, value: &Value<'_>) -> Built<OwnParts<S>>
+    ensures said { IfOk result (λ p. diagnosis_in (value_data value.now) ≡ Some (said_of S.source p.said)) }
     ensures source { IfOk result (λ p. optional_value source_of (at_key (codes "source") (value_data value.now))
         ≡ Some (option_map owned_source p.source)) }
     ensures several { IfOk result (λ p. optional_value (list_of as_str) (at_key (codes "causes") (value_data value.now))
@@ -236,12 +235,12 @@ fn own_parts(alloc: Global, value: &Value<'_>) -> Built<OwnParts>
     ensures description { (result ≡ Err BuildError.Description) → (one : Option Tree) (related : Option Trees) →
         report_from (Some one) (Some related) (value_data value.now) ≡ None }
 {
-    let diagnostic = diagnostic_from(alloc, value)?;
+    let said = said_from(alloc, value)?;
     let source = source_at(alloc, value, "source")?;
     let several = texts_at(alloc, value, "causes")?;
     let contexts = texts_at(alloc, value, "contexts")?;
     Ok(OwnParts {
-        diagnostic,
+        said,
         source,
         several,
         contexts,
@@ -251,30 +250,31 @@ fn own_parts(alloc: Global, value: &Value<'_>) -> Built<OwnParts>
 /// The report of all parts: a description's own, its cause and its related reports.
 fn report_of_parts<D: Diagnostic, S: SourceCode>(
     alloc: Global,
-    parts: OwnParts,
+    parts: OwnParts<S>,
     one: Option<Box<Report<D, S>>>,
     list: Option<Vec<Report<D, S>>>,
 ) -> Built<Report<D, S>>
     ensures ok { IfOk result (λ r.
-        tree_of_parts (meaning_of parts.diagnostic) (option_map owned_source parts.source)
+        tree_of_parts (said_of S.source parts.said) (option_map owned_source parts.source)
         (option_map (λ b. tree_of D.meaning S.source b.value) one)
         (option_map (λ v. map string_bytes v.items) parts.several)
         (option_map (λ v. trees (map (tree_of D.meaning S.source) v.items)) list)
         (option_map (λ v. map string_bytes v.items) parts.contexts) ≡ Some (tree_of D.meaning S.source r)) }
     ensures description { (result ≡ Err BuildError.Description) →
-        tree_of_parts (meaning_of parts.diagnostic) (option_map owned_source parts.source)
+        tree_of_parts (said_of S.source parts.said) (option_map owned_source parts.source)
         (option_map (λ b. tree_of D.meaning S.source b.value) one)
         (option_map (λ v. map string_bytes v.items) parts.several)
         (option_map (λ v. trees (map (tree_of D.meaning S.source) v.items)) list)
         (option_map (λ v. map string_bytes v.items) parts.contexts) ≡ None }
 {
     let OwnParts {
-        diagnostic,
+        said,
         source,
         several,
         contexts,
     } = parts;
-    let report = report_with_source(Report::built(diagnostic), source);
+    let made = report_saying(alloc, said)?;
+    let report = report_with_source(made, source);
     let report = report_with_cause(alloc, report, Causes { one, several })?;
     report_under(alloc, report_with_related(report, list), contexts)
 }

@@ -10,11 +10,10 @@ use Rattle.serde_json.specs.Find.{as_null, as_str}
 use Rattle.serde_json.specs.Read.{read}
 use Rattle.serde_json.specs.Written.{has_float}
 use Rattle.miette_protocol.specs.rules.Reading.{Source}
-use Rattle.miette_protocol.specs.views.Meaning.{Meaning}
-use Rattle.miette_tree.specs.rules.Diagnosis.{plain_diagnosis}
+use Rattle.miette_tree.specs.rules.Diagnosis.{Diagnosis}
 use Rattle.miette_tree.specs.rules.Tree.{Tree, tree, Cause, diagnostic, texts, Trees, no_trees, more_trees}
 use Rattle.miette_tree.specs.rules.Tree.{wrapped_tree}
-use Rattle.miette_description.specs.rules.Members.{and_then, at_key, optional_value, list_of, source_of, meaning_in}
+use Rattle.miette_description.specs.rules.Members.{and_then, at_key, optional_value, list_of, source_of, diagnosis_in}
 
 -- a description or a list of texts, and not both
 abbrev pub one_cause : Option Tree → Option (List (List ℕ)) → Option Cause
@@ -27,16 +26,16 @@ wrapped_in [] t = t
 wrapped_in (m ∷ ms) t = wrapped_in ms (wrapped_tree m t)
 
 -- the report that has these parts
-abbrev pub tree_of_parts : Meaning → Option Source → Option Tree → Option (List (List ℕ)) → Option Trees →
+abbrev pub tree_of_parts : Diagnosis → Option Source → Option Tree → Option (List (List ℕ)) → Option Trees →
     Option (List (List ℕ)) → Option Tree
 tree_of_parts m s one several related contexts =
-    option_map (λ c. wrapped_in (unwrap_or contexts []) (tree (plain_diagnosis m) s c (unwrap_or related no_trees)))
+    option_map (λ c. wrapped_in (unwrap_or contexts []) (tree m s c (unwrap_or related no_trees)))
     (one_cause one several)
 
 -- the report of a description whose `cause` and `related` are read
 abbrev pub report_from : Option (Option Tree) → Option (Option Trees) → Data → Option Tree
 report_from cause related d =
-    and_then (meaning_in d) (λ m.
+    and_then (diagnosis_in d) (λ m.
     and_then (optional_value source_of (at_key (codes "source") d)) (λ s.
     and_then cause (λ one.
     and_then (optional_value (list_of as_str) (at_key (codes "causes") d)) (λ several.

@@ -5,8 +5,13 @@ use Rattle.serde_json.specs.Data.{Data, Items, no_items, item}
 use Rattle.serde_json.specs.Find.{get, as_null, as_bool, as_number, as_str, as_array, as_u64}
 use Rattle.miette_protocol.specs.rules.Reading.{Source, plain_source, named_source}
 use Rattle.miette_protocol.specs.views.Meaning.{Label, context_count, Meaning}
+use Rattle.miette_fixes.specs.declared.applicability.Applicability.{Applicability}
+use Rattle.miette_fixes.specs.declared.applicability.Applicability.TheVariants.{MachineApplicable, MaybeIncorrect}
+use Rattle.miette_fixes.specs.declared.applicability.Applicability.TheVariants.{HasPlaceholders, Unspecified}
+use Rattle.miette_fixes.specs.rules.Edits.{Proposal, Replacement}
 use Rattle.miette_protocol.specs.declared.protocol.Severity.{Severity}
 use Rattle.miette_protocol.specs.declared.protocol.Severity.TheVariants.{Advice, Warning, Error}
+use Rattle.miette_tree.specs.rules.Diagnosis.{Diagnosis, Section, plain_diagnosis}
 
 -- nothing where the first is nothing, and else what is made of it
 abbrev pub and_then : {A B : Type 0} → Option A → (A → Option B) → Option B
@@ -76,6 +81,42 @@ source_of d =
     and_then (optional_value as_str (at_key (codes "language") d)) (λ language.
     Some (source_named bytes name language))))
 
+-- labels over a further source, which has to be there
+abbrev pub snippets_of : Data → Option Section
+snippets_of d =
+    and_then (and_then (at_key (codes "source") d) source_of) (λ source.
+    and_then (optional_value (list_of label_of) (at_key (codes "labels") d)) (λ labels.
+    Some (record { source = source; labels = unwrap_or labels [] })))
+
+abbrev pub edit_of : Data → Option Replacement
+edit_of d =
+    and_then (and_then (at_key (codes "offset") d) whole) (λ offset.
+    and_then (and_then (at_key (codes "length") d) whole) (λ length.
+    and_then (and_then (at_key (codes "text") d) as_str) (λ text.
+    Some (record { span = record { offset = offset; len = length }; text = text }))))
+
+abbrev pub named_applicability : List ℕ → Option Applicability
+named_applicability name =
+    if bytes_eq name (codes "machine-applicable") then Some MachineApplicable
+    else (if bytes_eq name (codes "maybe-incorrect") then Some MaybeIncorrect
+    else (if bytes_eq name (codes "has-placeholders") then Some HasPlaceholders
+    else (if bytes_eq name (codes "unspecified") then Some Unspecified else None)))
+
+abbrev pub applicability_of : Data → Option Applicability
+applicability_of d = and_then (as_str d) named_applicability
+
+-- a fix; without edits where none are listed
+abbrev pub fix_of : Data → Option Proposal
+fix_of d =
+    and_then (and_then (at_key (codes "message") d) as_str) (λ message.
+    and_then (optional_value applicability_of (at_key (codes "applicability") d)) (λ applicability.
+    and_then (optional_value (list_of edit_of) (at_key (codes "edits") d)) (λ edits.
+    Some (record {
+      message = message;
+      applicability = unwrap_or applicability Unspecified;
+      edits = unwrap_or edits [];
+    }))))
+
 -- what the diagnostic of a description says
 abbrev pub meaning_in : Data → Option Meaning
 meaning_in d =
@@ -86,3 +127,15 @@ meaning_in d =
     and_then (optional_value as_str (at_key (codes "url") d)) (λ url.
     and_then (optional_value (list_of label_of) (at_key (codes "labels") d)) (λ labels.
     Some (record { message = message; code = code; severity = severity; help = help; url = url; labels = labels })))))))
+
+-- a diagnostic with labels over further sources, and with fixes
+abbrev pub diagnosis_with : Meaning → List Section → List Proposal → Diagnosis
+diagnosis_with m snippets fixes = record (plain_diagnosis m) { snippets = snippets; fixes = fixes }
+
+-- what the report of a description says itself
+abbrev pub diagnosis_in : Data → Option Diagnosis
+diagnosis_in d =
+    and_then (meaning_in d) (λ m.
+    and_then (optional_value (list_of snippets_of) (at_key (codes "snippets") d)) (λ snippets.
+    and_then (optional_value (list_of fix_of) (at_key (codes "fixes") d)) (λ fixes.
+    Some (diagnosis_with m (unwrap_or snippets []) (unwrap_or fixes [])))))

@@ -14,14 +14,14 @@ returns-in_err-parts-clause-description g c e =
 pub returns-in_err-report-clause-description : goal.returns-in_err-report-clause-description
 returns-in_err-report-clause-description g c e =
     let made = c.in_ok-parts.ensures in
-    given_some _ _ made.diagnostic ∙ given_some _ _ made.source ∙ given_some _ _ made.several
+    given_some _ _ made.said ∙ given_some _ _ made.source ∙ given_some _ _ made.several
     ∙ given_some _ _ made.contexts
     ∙ c.in_err-report.ensures.description (search rules)
 
 pub returns-clause-ok : goal.returns-clause-ok
 returns-clause-ok g c =
     let made = c.in_ok-parts.ensures in
-    let chain = given_some _ _ made.diagnostic ∙ given_some _ _ made.source ∙ given_some _ _ made.several
+    let chain = given_some _ _ made.said ∙ given_some _ _ made.source ∙ given_some _ _ made.several
     ∙ given_some _ _ made.contexts ∙ c.in_ok-report.ensures.ok in
     IfOk-weaker c.box_of.result _ _ (λ b p. chain ∙ ap (λ r. Some
     (tree_of g.D.Diagnostic.meaning g.S.SourceCode.source r)) (sym p)) c.box_of.ensures.ok
