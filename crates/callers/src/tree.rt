@@ -2,13 +2,15 @@
 
 ghost use Rattle.std.specs.Prelude.{◌≡◌, ◌⊎◌, IfOk, IfErr, codes};
 ghost use Rattle.miette_tree.specs.rules.Diagnosis.{plain_diagnosis};
-ghost use Rattle.miette_tree.specs.rules.Tree.{head, alone, wrapped_tree};
+ghost use Rattle.miette_tree.specs.rules.Tree.{head, alone, with_fix, with_snippets, wrapped_tree};
+ghost use Rattle.miette_tree.specs.views.Owned.{owned_source};
 ghost use Rattle.miette_tree.specs.views.Report.{tree_of, out_of_memory_alone};
 
-use miette_protocol::protocol::Diagnostic;
+use miette_fixes::fix::Fix;
+use miette_protocol::protocol::{Diagnostic, LabeledSpan};
 use miette_protocol::source::SourceCode;
-use miette_tree::report::{Report, Result, WrapErr};
-use std::alloc::Global;
+use miette_tree::report::{OwnedSource, Report, Result, WrapErr};
+use std::alloc::{AllocError, Global};
 
 /// A report with a text in front has the labels that it had, and the text as its message.
 pub fn under(alloc: Global, report: Report, text: &str) -> Result<Report, Report>
@@ -34,4 +36,23 @@ pub fn step(alloc: Global, outcome: Result<u32>) -> Result<u32>
         ⊎ (tree r ≡ alone (plain_diagnosis out_of_memory_alone)))) }
 {
     outcome.wrap_err(alloc, "the step failed")
+}
+
+/// A report with labels over another source too, and with a fix of its own source.
+pub fn over_both(
+    alloc: Global,
+    report: Report,
+    other: OwnedSource,
+    labels: Vec<LabeledSpan>,
+    fix: Fix,
+) -> Result<Report, AllocError>
+    ensures { IfOk result (λ r.
+        let tree = tree_of ⟦<Box<dyn Diagnostic> as Diagnostic>⟧.meaning
+        ⟦<Box<dyn SourceCode> as SourceCode>⟧.source in
+        let section = record { source = owned_source other; labels = labels.items } in
+        tree r ≡ with_fix fix (with_snippets section (tree report))) }
+{
+    report
+        .with_owned_snippets(alloc, other, labels)?
+        .with_fix(alloc, fix)
 }

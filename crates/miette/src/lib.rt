@@ -8,6 +8,7 @@ pub mod prelude;
 pub mod print;
 pub mod terminal;
 
+pub use miette_fixes::fix;
 pub use miette_handlers::handlers;
 pub use miette_handlers::handlers::ReportHandler as EyreContext;
 pub use miette_highlight::highlight;

@@ -3,10 +3,11 @@
 pub use crate::options::{MietteHandlerOpts, Terminal};
 pub use crate::print::{eprint_report, eprint_report_with, print_report, print_report_with};
 pub use crate::terminal::Stream;
+pub use miette_fixes::fix::{Applicability, Edit, Fix};
 pub use miette_handlers::handlers::{GraphicalReportHandler, JSONReportHandler, ReportHandler};
 pub use miette_protocol::diagnostic::MietteDiagnostic;
 pub use miette_protocol::protocol::{Diagnostic, LabeledSpan, Severity, SourceSpan};
 pub use miette_protocol::source::{NamedSource, SourceCode};
 pub use miette_style::theme::GraphicalTheme;
-pub use miette_tree::report::{IntoDiagnostic, OwnedSource, Report, Result, WrapErr};
+pub use miette_tree::report::{IntoDiagnostic, OwnedSource, Report, Result, Snippets, WrapErr};
 pub use miette_tree::{bail, diagnostic, ensure, miette};
