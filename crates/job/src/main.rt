@@ -1,13 +1,18 @@
-//! Reads the description of a report from standard input, and prints the report.
+//! Reads the description of a report from standard input, and prints the report, or its source
+//! after fixes.
 #![tactic(auto)]
 
+use miette_report::fix::{fix_with, fixing};
 use miette_report::job::{job_with, refuse_words};
 use miette_report::words::program_words;
 use std::process::ExitCode;
 
 fn main(rt: HostRuntime) -> ExitCode {
     ExitCode::from(match program_words(&rt) {
-        Ok(words) => job_with(rt.alloc(), &words, rt.stdin(), rt.stdout(), rt.stderr()),
+        Ok(words) => match fixing(&words) {
+            Some(all) => fix_with(rt.alloc(), all, rt.stdin(), rt.stdout(), rt.stderr()),
+            None => job_with(rt.alloc(), &words, rt.stdin(), rt.stdout(), rt.stderr()),
+        },
         Err(fault) => refuse_words(fault, rt.stderr()),
     })
 }

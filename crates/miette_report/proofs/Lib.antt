@@ -1,5 +1,6 @@
 pub mod DeviceLemmas
 pub mod FaultStatuses
+pub mod FixSteps
 pub mod JobEnds
 pub mod PictureSteps
 pub mod AlwaysRead

@@ -6,3 +6,4 @@ pub mod Job
 pub mod JobCalls
 pub mod Faults
 pub mod Findings
+pub mod Fixing

@@ -2,3 +2,4 @@
 pub mod JobHandler
 pub mod AskedWords
 pub mod PictureReads
+pub mod FixLists

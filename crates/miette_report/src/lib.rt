@@ -6,6 +6,8 @@ pub mod bench;
 pub mod device;
 pub mod draw;
 pub mod fault;
+pub mod fix;
+mod fixing;
 pub mod job;
 mod job_handler;
 pub mod language;

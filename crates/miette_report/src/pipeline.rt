@@ -25,7 +25,7 @@ use std::alloc::Global;
 use std::io::{Read, Write};
 
 /// The report that the bytes describe.
-fn report_of(alloc: Global, bytes: &[u8]) -> Result<Report, Fault>
+pub(crate) fn report_of(alloc: Global, bytes: &[u8]) -> Result<Report, Fault>
     ensures ok { IfOk result (λ r. IsUtf8 bytes.now
         × (tree_for bytes.now ≡ Some (tree_of ⟦<Box<dyn Diagnostic> as Diagnostic>⟧.meaning
         ⟦<Box<dyn SourceCode> as SourceCode>⟧.source r))) }

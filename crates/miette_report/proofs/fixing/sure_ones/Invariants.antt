@@ -1,0 +1,11 @@
+use Rattle.std.proofs.Common.{◌≡◌, ◌++◌, drop}
+use Rattle.std.specs.List.{filter}
+use Rattle.miette_report.specs.rules.Fixing.{is_sure}
+use Rattle.miette_report.specs.steps.FixLists.{fixes_in}
+use Rattle.miette_report.proofs.fixing.sure_ones.Given as goal
+
+-- those that were found, and what is left to find, are all
+abbrev pub invariant-loop-fix : goal.invariant-loop-fix
+invariant-loop-fix l =
+    fixes_in l.found.items ++ filter (λ fix. is_sure fix.applicability) (fixes_in (drop l.fix-index l.fixes))
+    ≡ filter (λ fix. is_sure fix.applicability) (fixes_in l.fixes)

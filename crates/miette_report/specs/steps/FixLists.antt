@@ -1,0 +1,8 @@
+-- Fixes as the code lists them.
+use Rattle.std.specs.Prelude.{List, map}
+use Rattle.miette_fixes.specs.rules.Edits.{Proposal}
+use denote.Ref.{Bor}
+
+-- the fixes behind references
+abbrev pub fixes_in : List (Bor Proposal) → List Proposal
+fixes_in list = map (λ fix. fix.now) list
