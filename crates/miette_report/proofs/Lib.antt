@@ -11,3 +11,4 @@ pub mod LintSteps
 pub mod OptionWordSteps
 pub mod WriteResults
 pub mod FaultRows
+pub mod WholeTexts

@@ -1,5 +1,8 @@
-//! Laws of comparing and cloning small values. The functions do nothing; what they ensure is proved.
-ghost use Rattle.std.specs.Prelude.{◌≡◌, ◌↔◌, IsTrue};
+//! Laws of comparing and cloning small values, and of what `job --fix` sees. The functions do nothing; what they ensure
+//! is proved.
+ghost use Rattle.std.specs.Prelude.{◌≡◌, ◌<◌, ◌^◌, ◌↔◌, IsTrue, length};
+ghost use Rattle.miette_protocol.specs.rules.Reading.{Source};
+ghost use Rattle.miette_report.specs.rules.Fixing.{whole_text};
 
 use crate::fault::{Fault, Program};
 use crate::job::Choice;
@@ -23,4 +26,9 @@ pub fn clones_take_no_memory()
     ensures programs { (it : Program) → ⟦<Program as Clone>⟧.is_infallible it }
     ensures languages { (it : Language) → ⟦<Language as Clone>⟧.is_infallible it }
     ensures choices { (it : Choice) → ⟦<Choice as Clone>⟧.is_infallible it }
+{}
+
+/// What `job --fix` sees of a source is all of it, unless it has more bytes than a `usize` counts.
+pub fn fixes_see_the_whole_source()
+    ensures { (source : Source) → length source.bytes < 2 ^ 64 → whole_text source ≡ source.bytes }
 {}
