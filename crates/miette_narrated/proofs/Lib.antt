@@ -5,4 +5,5 @@ pub mod Ends
 pub mod LabelRows
 pub mod Lining
 pub mod Reading
+pub mod Further
 pub mod Telling

@@ -16,10 +16,15 @@ use Rattle.miette_narrated.specs.rules.Report.{NarrationSettings, Answers, unlis
 use Rattle.miette_narrated.specs.rules.Report.{and_more, own_answer, related_answers, first_answers, later_answers}
 use Rattle.miette_narrated.specs.rules.Report.{head_rows, titled_rows, cause_rows, causes_if, advice_rows, row_if}
 use Rattle.miette_narrated.specs.rules.Report.{snippet_rows, blank_before, related_report, related_reports, narration}
+use Rattle.miette_narrated.specs.rules.Report.{ReadAnswers, none_failed, first_fails, later_fails, further_rows}
+use Rattle.miette_narrated.specs.rules.Report.{all_snippets}
 use Rattle.miette_tree.specs.rules.DiagnosticParts.{given_labels}
-use Rattle.miette_tree.specs.rules.Reads.{holds_of, holds_of_all, always_reads, report_reads}
-use Rattle.miette_narrated.specs.rules.PossibleAnswers.{IsAnswered, AreAnswers, AllAnswers, IsNarrated}
-use Rattle.miette_narrated.specs.steps.AppendedParts.{AppendsSnippets, AppendsReport, AppendsRelated}
+use Rattle.miette_tree.specs.rules.Diagnosis.{Diagnosis, Section}
+use Rattle.miette_tree.specs.rules.Reads.{holds_of, holds_of_all, holds_further, always_reads, report_reads}
+use Rattle.miette_narrated.specs.rules.PossibleAnswers.{IsAnswered, AreFurther, ArePossible, AreAnswers, AllAnswers}
+use Rattle.miette_narrated.specs.rules.PossibleAnswers.{IsNarrated}
+use Rattle.miette_narrated.specs.steps.AppendedParts.{AppendsAll, AppendsReport, AppendsRelated}
+use Rattle.miette_narrated.proofs.Further.{further_holds}
 use Rattle.std.proofs.lemmas.List.{drop_all}
 
 -- ---- related reports, one after the other
@@ -79,25 +84,23 @@ parts_joined : (old a b p q new ti ca sn ad re : List ℕ) → a ≡ old ++ ti �
 parts_joined old a b p q new ti ca sn ad re e f g h i = i
     ∙ ap (λ y. y ++ re) (h ∙ ap (λ y. y ++ ad) (g ∙ ap (λ y. y ++ sn) (f ∙ ap (λ y. y ++ ca) e))) ∙ simp append_assoc
 
-pub report_told : (context : ℕ) (inherited : Option Source) (t : Tree) (source : Option Source) (labels : List Label)
+pub report_told : (context : ℕ) (inherited : Option Source) (t : Tree) (source : Option Source)
     (related : Trees) (old a b p q new : List ℕ)
-    → source ≡ effective (source_of t) inherited → labels ≡ given_labels (head t).labels → related ≡ related_of t
+    → source ≡ effective (source_of t) inherited → related ≡ related_of t
     → a ≡ old ++ titled_rows (head t) → b ≡ a ++ cause_rows (causes_of (cause_of t))
-    → AppendsSnippets context source labels b p
+    → AppendsAll context source (head t) b p
     → q ≡ p ++ advice_rows (head t) → AppendsRelated context source related q new
     → AppendsReport context inherited t old new
-report_told context inherited (tree m s c rs) source labels related old a b p q new es el er e f snippets g others =
+report_told context inherited (tree m s c rs) source related old a b p q new es er e f snippets g others =
     let own = effective s inherited in
-    let here : AppendsSnippets context own (given_labels m.labels) b p =
-    subst (λ l. AppendsSnippets context own l b p) el (subst (λ o. AppendsSnippets context o labels b p) es snippets)
-    in
+    let here : AppendsAll context own m b p = subst (λ o. AppendsAll context o m b p) es snippets in
     let there : AppendsRelated context own rs q new = subst (λ ts. AppendsRelated context own ts q new) er
     (subst (λ o. AppendsRelated context o related q new) es others) in
     record {
-      answers = listed here.fails unlisted there.answers;
+      answers = listed here.answers unlisted there.answers;
       possible = (here.possible, there.possible);
       appended = parts_joined old a b p q new (titled_rows m) (cause_rows (causes_of c))
-          (snippet_rows context own here.fails (given_labels m.labels)) (advice_rows m)
+          (all_snippets context own here.answers m) (advice_rows m)
           (blank_before rs ++ related_reports context own there.answers rs) e f here.appended g there.appended;
     }
 
@@ -111,34 +114,30 @@ whole_joined start a b p q r new hd ca sn ad re ft s e f g h i j =
     j ∙ ap (λ y. y ++ ft) (i ∙ ap (λ y. y ++ re) (h ∙ ap (λ y. y ++ ad)
     (g ∙ ap (λ y. y ++ sn) (f ∙ ap (λ y. y ++ ca) (e ∙ ap (λ y. y ++ hd) s))))) ∙ simp append_assoc
 
-pub whole_told : (s : NarrationSettings) (t : Tree) (source : Option Source) (labels : List Label) (related : Trees)
-    (start a b p q r new : List ℕ)
-    → source ≡ effective (source_of t) None → labels ≡ given_labels (head t).labels → related ≡ related_of t → start
-    ≡ []
+pub whole_told : (s : NarrationSettings) (t : Tree) (source : Option Source) (related : Trees)
+    (start a b p q r new : List ℕ) → source ≡ effective (source_of t) None → related ≡ related_of t → start ≡ []
     → a ≡ start ++ head_rows (head t) → b ≡ a ++ causes_if s.chain (causes_of (cause_of t))
-    → AppendsSnippets s.context source labels b p
+    → AppendsAll s.context source (head t) b p
     → q ≡ p ++ advice_rows (head t) → AppendsRelated s.context source related q r → new ≡ r ++ row_if [] s.footer
     → IsNarrated s t new
-whole_told s (tree m own c rs) source labels related start a b p q r new es el er empty e f snippets g others i =
+whole_told s (tree m own c rs) source related start a b p q r new es er empty e f snippets g others i =
     let eff = effective own None in
-    let here : AppendsSnippets s.context eff (given_labels m.labels) b p =
-    subst (λ l. AppendsSnippets s.context eff l b p) el (subst (λ o. AppendsSnippets s.context o labels b p) es
-    snippets) in
+    let here : AppendsAll s.context eff m b p = subst (λ o. AppendsAll s.context o m b p) es snippets in
     let there : AppendsRelated s.context eff rs q r = subst (λ ts. AppendsRelated s.context eff ts q r) er
     (subst (λ o. AppendsRelated s.context o related q r) es others) in
     let text : List ℕ = head_rows m ++ (causes_if s.chain (causes_of c)
-    ++ ((snippet_rows s.context eff here.fails (given_labels m.labels) ++ advice_rows m)
+    ++ ((all_snippets s.context eff here.answers m ++ advice_rows m)
     ++ ((blank_before rs ++ related_reports s.context eff there.answers rs) ++ row_if [] s.footer))) in
     let made : new ≡ text =
     whole_joined start a b p q r new (head_rows m) (causes_if s.chain (causes_of c))
-    (snippet_rows s.context eff here.fails (given_labels m.labels)) (advice_rows m)
+    (all_snippets s.context eff here.answers m) (advice_rows m)
     (blank_before rs ++ related_reports s.context eff there.answers rs) (row_if [] s.footer)
     empty e f here.appended g there.appended i in
     record {
-      answers = listed here.fails unlisted there.answers;
+      answers = listed here.answers unlisted there.answers;
       possible = (here.possible, there.possible);
       is = made ∙ ap (λ o. head_rows m ++ (causes_if s.chain (causes_of c)
-          ++ ((snippet_rows s.context o here.fails (given_labels m.labels) ++ advice_rows m)
+          ++ ((all_snippets s.context o here.answers m ++ advice_rows m)
           ++ ((blank_before rs ++ related_reports s.context o there.answers rs) ++ row_if [] s.footer))))
           (own_none own);
     }
@@ -155,6 +154,21 @@ same_snippets context (Some source) fails (l ∷ ls) h e =
     (map (label_range (length source.bytes)) (in_order (l ∷ ls))))
     (grouped_none context source fails (in_order (l ∷ ls)) (h.always e))
 
+same_further : (context : ℕ) (fails : List (List Bool)) (sections : List Section) → AreFurther fails sections
+    → holds_further always_reads sections ≡ true → further_rows context fails sections ≡ further_rows context [] sections
+same_further context fails [] h e = refl
+same_further context fails (s ∷ ss) h e =
+    let p = and_parts (always_reads (Some s.source) s.labels) (holds_further always_reads ss) e in
+    ap₂ (λ x y. x ++ y) (same_snippets context (Some s.source) (first_fails fails) s.labels h.0 p.0)
+    (same_further context (later_fails fails) ss h.1 p.1)
+
+same_all : (context : ℕ) (source : Option Source) (a : ReadAnswers) (m : Diagnosis) → ArePossible source a m
+    → always_reads source (given_labels m.labels) ≡ true → holds_further always_reads m.snippets ≡ true
+    → all_snippets context source a m ≡ all_snippets context source none_failed m
+same_all context source a m h own further =
+    ap₂ (λ x y. x ++ y) (same_snippets context source a.own (given_labels m.labels) h.0 own)
+    (same_further context a.further m.snippets h.1 further)
+
 mutual
   same_report : (context : ℕ) (inherited : Option Source) (a : Answers) (t : Tree) → AreAnswers inherited a t
       → holds_of always_reads inherited t ≡ true → related_report context inherited a t
@@ -163,7 +177,7 @@ mutual
       let own = effective s inherited in
       let p = own_holds always_reads m s inherited c r e in
       ap₂ (λ x y. titled_rows m ++ (cause_rows (causes_of c) ++ ((x ++ advice_rows m) ++ (blank_before r ++ y))))
-      (same_snippets context own (own_answer a) (given_labels m.labels) h.0 p.0)
+      (same_all context own (own_answer a) m h.0 p.0 (further_holds always_reads m s inherited c r e))
       (same_reports context own (related_answers a) r h.1 p.1)
 
   same_reports : (context : ℕ) (inherited : Option Source) (more : RelatedAnswers) (ts : Trees)
@@ -183,9 +197,9 @@ same_whole s (tree m own c r) a h e =
     ++ ((x ++ advice_rows m) ++ ((blank_before r ++ y) ++ row_if [] s.footer))) in
     let e0 = own_none own in
     ap₂ f
-    (ap (λ o. snippet_rows s.context o (own_answer a) (given_labels m.labels)) (sym e0)
-    ∙ same_snippets s.context (effective own None) (own_answer a) (given_labels m.labels) h.0 p.0
-    ∙ ap (λ o. snippet_rows s.context o [] (given_labels m.labels)) e0)
+    (ap (λ o. all_snippets s.context o (own_answer a) m) (sym e0)
+    ∙ same_all s.context (effective own None) (own_answer a) m h.0 p.0 (further_holds always_reads m own None c r e)
+    ∙ ap (λ o. all_snippets s.context o none_failed m) e0)
     (ap (λ o. related_reports s.context o (related_answers a) r) (sym e0)
     ∙ same_reports s.context (effective own None) (related_answers a) r h.1 p.1
     ∙ ap (λ o. related_reports s.context o no_more r) e0)

@@ -9,6 +9,7 @@ pub mod laws;
 mod lines;
 mod narrated_line;
 mod report;
+mod sections;
 mod settings;
 mod snippets;
 mod sweeping;

@@ -7,18 +7,18 @@ ghost use Rattle.miette_tree.specs.views.Report.{tree_of};
 ghost use Rattle.miette_tree.specs.views.Owned.{shown_source};
 ghost use Rattle.miette_narrated.specs.rules.Report.{severity_row, head_rows, titled_rows, cause_rows};
 ghost use Rattle.miette_narrated.specs.rules.Report.{causes_if, advice_rows, url_rows, blank_before};
-ghost use Rattle.miette_narrated.specs.steps.AppendedParts.{AppendsSnippets, AppendsReport, AppendsRelated};
+ghost use Rattle.miette_narrated.specs.steps.AppendedParts.{AppendsReport, AppendsRelated};
 ghost use Rattle.miette_narrated.specs.rules.PossibleAnswers.{IsNarrated};
 ghost use Rattle.miette_tree.specs.rules.Reads.{accepts, holds_of, holds_of_all, report_accepted};
 ghost use Rattle.miette_narrated.specs.steps.NarrationSettings.{settings_of};
 
+use crate::sections::push_all_snippets;
 use crate::settings::NarrationSettings;
-use crate::snippets::push_snippets;
 use crate::words::{Appended, push_row, push_row_if};
 use miette_protocol::error::RenderError;
-use miette_protocol::protocol::{Diagnostic, LabeledSpan, Severity};
+use miette_protocol::protocol::{Diagnostic, Severity};
 use miette_protocol::source::SourceCode;
-use miette_tree::parts::{cause_texts, labels_of, own_or, severity_name, severity_title};
+use miette_tree::parts::{cause_texts, own_or, severity_name, severity_title};
 use miette_tree::report::{Cause, Report, SourceRef};
 use std::alloc::Global;
 
@@ -102,25 +102,6 @@ fn push_advice<D: Diagnostic, S: SourceCode>(report: &Report<D, S>, out: &mut St
     push_url(out, report.url())
 }
 
-/// The snippets of labels over a source, none without one.
-fn push_snippets_of<S: SourceCode>(
-    alloc: Global,
-    context: usize,
-    labels: &[LabeledSpan],
-    source: Option<SourceRef<'_, S>>,
-    out: &mut String,
-) -> Result<(), RenderError>
-    ensures text { OnOk result (AppendsSnippets context (option_map (shown_source S.source) source.entry) labels.now
-        (string_bytes out.old) (string_bytes out.new)) }
-    ensures refused { (result ≡ Err RenderError.Refused) →
-        accepts (option_map (shown_source S.source) source.entry) labels.now ≡ false }
-{
-    match source {
-        Some(source) => push_snippets(alloc, out, context, &source, labels),
-        None => Ok(()),
-    }
-}
-
 /// A blank row where there are related reports.
 fn push_blank_before<D: Diagnostic, S: SourceCode>(
     reports: &[Report<D, S>],
@@ -153,7 +134,7 @@ fn push_report<'a, D: Diagnostic, S: SourceCode>(
     let source = own_or(report, inherited);
     push_titled(report, out)?;
     push_causes(report, out)?;
-    push_snippets_of(alloc, context, labels_of(report), source, out)?;
+    push_all_snippets(alloc, context, report, source, out)?;
     push_advice(report, out)?;
     push_related(alloc, context, report.related(), source, out)
 }
@@ -195,13 +176,7 @@ pub(crate) fn narration_of<D: Diagnostic, S: SourceCode>(
     let source = own_or(report, None);
     push_head(report, &mut text)?;
     push_causes_if(settings.cause_chain, report, &mut text)?;
-    push_snippets_of(
-        alloc,
-        settings.context_lines,
-        labels_of(report),
-        source,
-        &mut text,
-    )?;
+    push_all_snippets(alloc, settings.context_lines, report, source, &mut text)?;
     push_advice(report, &mut text)?;
     push_related(
         alloc,

@@ -1,7 +1,7 @@
 -- The narrated text of a report, by settings, tree and answers.
 use Rattle.std.specs.Prelude.{ℕ, Bool, true, false, List, [], ◌∷◌, ◌++◌, Option, Some, None, codes}
 use Rattle.miette_protocol.specs.views.Meaning.{Label}
-use Rattle.miette_tree.specs.rules.Diagnosis.{Diagnosis}
+use Rattle.miette_tree.specs.rules.Diagnosis.{Diagnosis, Section}
 use Rattle.miette_protocol.specs.rules.Reading.{Source}
 use Rattle.miette_protocol.specs.declared.protocol.Severity.{Severity}
 use Rattle.miette_tree.specs.rules.Tree.{Tree, tree, causes_of, Trees, no_trees, more_trees, effective}
@@ -23,16 +23,33 @@ default_settings = record { chain = true; context = 1; footer = None }
 
 -- ---- answers
 
--- Of a report, which reads of groups fail, and the same of its related reports; those of causes are not told. A read
--- that isn't listed succeeds.
+-- which reads of a report's groups fail: over its first source, and over each further one
+pub record ReadAnswers : Type 0 where
+  pub own : List Bool
+  pub further : List (List Bool)
+
+abbrev pub none_failed : ReadAnswers
+none_failed = record { own = []; further = [] }
+
+-- The answers to the reads of a report, and the same of its related reports; those of causes are not told. A read that
+-- isn't listed succeeds.
 abbrev pub Answers : Type 0
-Answers = AnswerTree (List Bool)
+Answers = AnswerTree ReadAnswers
 
 abbrev pub RelatedAnswers : Type 0
-RelatedAnswers = AnswerTrees (List Bool)
+RelatedAnswers = AnswerTrees ReadAnswers
 
-abbrev pub own_answer : Answers → List Bool
-own_answer a = own_or [] a
+abbrev pub own_answer : Answers → ReadAnswers
+own_answer a = own_or none_failed a
+
+-- of the first of several sources, and of those after it
+abbrev pub first_fails : List (List Bool) → List Bool
+first_fails [] = []
+first_fails (fails ∷ more) = fails
+
+abbrev pub later_fails : List (List Bool) → List (List Bool)
+later_fails [] = []
+later_fails (fails ∷ more) = more
 
 -- ---- parts
 
@@ -74,9 +91,21 @@ abbrev pub snippet_rows : ℕ → Option Source → List Bool → List Label →
 snippet_rows context None fails labels = []
 snippet_rows context (Some source) fails labels = snippets context source fails labels
 
+-- the snippets over further sources, in their order, each as if its labels were the only ones
+abbrev pub further_rows : ℕ → List (List Bool) → List Section → List ℕ
+further_rows context fails [] = []
+further_rows context fails (section ∷ sections) =
+    snippets context section.source (first_fails fails) section.labels
+    ++ further_rows context (later_fails fails) sections
+
+-- the snippets over the first source, then those over each further one
+abbrev pub all_snippets : ℕ → Option Source → ReadAnswers → Diagnosis → List ℕ
+all_snippets context source a m =
+    snippet_rows context source a.own (given_labels m.labels) ++ further_rows context a.further m.snippets
+
 -- snippets, help, code and url
-abbrev pub rows_below : ℕ → Option Source → List Bool → Diagnosis → List ℕ
-rows_below context source fails m = snippet_rows context source fails (given_labels m.labels) ++ advice_rows m
+abbrev pub rows_below : ℕ → Option Source → ReadAnswers → Diagnosis → List ℕ
+rows_below context source a m = all_snippets context source a m ++ advice_rows m
 
 -- a blank row where there are related reports
 abbrev pub blank_before : Trees → List ℕ

@@ -2,10 +2,11 @@
 use Rattle.std.specs.Prelude.{◌≡◌, ℕ, Bool, List, ◌++◌, Option}
 use Rattle.miette_protocol.specs.views.Meaning.{Label}
 use Rattle.miette_protocol.specs.rules.Reading.{Source}
+use Rattle.miette_tree.specs.rules.Diagnosis.{Diagnosis, Section}
 use Rattle.miette_tree.specs.rules.Tree.{Tree, Trees}
 use Rattle.miette_narrated.specs.rules.Report.{Answers, RelatedAnswers, snippet_rows, related_report, related_reports}
-use Rattle.miette_narrated.specs.rules.Report.{blank_before}
-use Rattle.miette_narrated.specs.rules.PossibleAnswers.{IsAnswered, AreAnswers, AllAnswers}
+use Rattle.miette_narrated.specs.rules.Report.{blank_before, ReadAnswers, further_rows, all_snippets}
+use Rattle.miette_narrated.specs.rules.PossibleAnswers.{IsAnswered, AreFurther, ArePossible, AreAnswers, AllAnswers}
 
 -- new is old and then the snippets of these labels, for some answers
 pub record AppendsSnippets (context : ℕ) (source : Option Source) (labels : List Label) (old new : List ℕ) : Type 0
@@ -13,6 +14,18 @@ pub record AppendsSnippets (context : ℕ) (source : Option Source) (labels : Li
     pub fails : List Bool
     pub possible : IsAnswered source labels fails
     pub appended : new ≡ old ++ snippet_rows context source fails labels
+
+-- new is old and then the snippets over further sources, for some answers
+pub record AppendsFurther (context : ℕ) (sections : List Section) (old new : List ℕ) : Type 0 where
+  pub fails : List (List Bool)
+  pub possible : AreFurther fails sections
+  pub appended : new ≡ old ++ further_rows context fails sections
+
+-- new is old and then all snippets of a diagnostic, for some answers
+pub record AppendsAll (context : ℕ) (source : Option Source) (m : Diagnosis) (old new : List ℕ) : Type 0 where
+  pub answers : ReadAnswers
+  pub possible : ArePossible source answers m
+  pub appended : new ≡ old ++ all_snippets context source answers m
 
 -- new is old and then a related report, for some answers
 pub record AppendsReport (context : ℕ) (inherited : Option Source) (t : Tree) (old new : List ℕ) : Type 0 where

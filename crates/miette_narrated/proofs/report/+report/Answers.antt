@@ -7,6 +7,7 @@ use Rattle.miette_tree.specs.views.Report.{tree_of}
 use Rattle.miette_tree.proofs.Nesting.{next_of}
 use Rattle.miette_tree.specs.rules.Reads.{accepts, holds_of, holds_of_all}
 use Rattle.miette_narrated.proofs.Telling.{none_so_far, one_more, all_told, at_the_end, report_told, RelatedSoFar}
+use Rattle.miette_narrated.proofs.Further.{own_refused}
 use Rattle.miette_tree.proofs.TreeSizes.{tree_size, trees_size, one_falls}
 use Rattle.miette_tree.proofs.Readings.{refused_below, one_refused}
 use Rattle.miette_narrated.proofs.report.+report.Goals as goal
@@ -54,10 +55,17 @@ pub push_report-returns-clause-text : goal.push_report-returns-clause-text
 push_report-returns-clause-text g t c =
     let value = tree_of g.D.Diagnostic.meaning g.S.SourceCode.source c.args.report.now in
     let inherited = option_map (shown_source g.S.SourceCode.source) c.args.inherited in
-    on_ok_weaker c.push_related.result (λ h. report_told c.args.context inherited value _ _ _ _ _ _ _ _ _
-    c.own_or-source.ensures c.labels_of.ensures c.related.ensures.value
-    c.in_ok-push_titled.ensures c.in_ok-push_causes.ensures c.in_ok-push_snippets_of.ensures.text
+    on_ok_weaker c.push_related.result (λ h. report_told c.args.context inherited value _ _ _ _ _ _ _ _
+    c.own_or-source.ensures c.related.ensures.value
+    c.in_ok-push_titled.ensures c.in_ok-push_causes.ensures c.in_ok-push_all_snippets.ensures.text
     c.in_ok-push_advice.ensures h) c.push_related.ensures.text
+
+pub push_report-returns-in_err-push_all_snippets-clause-refused :
+    goal.push_report-returns-in_err-push_all_snippets-clause-refused
+push_report-returns-in_err-push_all_snippets-clause-refused g t c = λ h.
+    own_refused (tree_of g.D.Diagnostic.meaning g.S.SourceCode.source c.args.report.now)
+    (option_map (shown_source g.S.SourceCode.source) c.args.inherited) _ c.own_or-source.ensures
+    (c.in_err-push_all_snippets.ensures.refused (search rules))
 
 pub push_report-returns-clause-refused : goal.push_report-returns-clause-refused
 push_report-returns-clause-refused g t c = λ h.

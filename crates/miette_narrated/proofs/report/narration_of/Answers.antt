@@ -7,15 +7,21 @@ use Rattle.miette_tree.specs.views.Report.{tree_of}
 use Rattle.miette_tree.specs.rules.Reads.{accepts, holds_of_all}
 use Rattle.miette_tree.proofs.Readings.{refused_below}
 use Rattle.miette_narrated.specs.steps.NarrationSettings.{settings_of}
+use Rattle.miette_narrated.proofs.Further.{own_refused}
 use Rattle.miette_narrated.proofs.Telling.{whole_told}
 use Rattle.miette_narrated.proofs.report.narration_of.Goals as goal
 
 pub returns-clause-text : goal.returns-clause-text
 returns-clause-text g c =
     whole_told (settings_of c.args.settings) (tree_of g.D.Diagnostic.meaning g.S.SourceCode.source c.args.report.now) _
-    _ _ _ _ _ _ _ _ _ c.own_or-source.ensures c.labels_of.ensures c.related.ensures.value c.new-text.ensures.bytes
-    c.in_ok-push_head.ensures c.in_ok-push_causes_if.ensures c.in_ok-push_snippets_of.ensures.text
+    _ _ _ _ _ _ _ _ c.own_or-source.ensures c.related.ensures.value c.new-text.ensures.bytes
+    c.in_ok-push_head.ensures c.in_ok-push_causes_if.ensures c.in_ok-push_all_snippets.ensures.text
     c.in_ok-push_advice.ensures c.in_ok-push_related.ensures.text c.in_ok-push_row_if.ensures
+
+pub returns-in_err-push_all_snippets-clause-refused : goal.returns-in_err-push_all_snippets-clause-refused
+returns-in_err-push_all_snippets-clause-refused g c = λ h.
+    own_refused (tree_of g.D.Diagnostic.meaning g.S.SourceCode.source c.args.report.now) None _ c.own_or-source.ensures
+    (c.in_err-push_all_snippets.ensures.refused (search rules))
 
 pub returns-in_err-push_related-clause-refused : goal.returns-in_err-push_related-clause-refused
 returns-in_err-push_related-clause-refused g c = λ h.

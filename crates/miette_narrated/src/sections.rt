@@ -1,0 +1,75 @@
+//! The snippets of a report, over its first source and over further ones.
+
+ghost use Rattle.std.specs.Prelude.{◌≡◌, ◌&&◌, false, OnOk, string_bytes, map};
+ghost use Rattle.std.specs.Option.{option_map};
+ghost use Rattle.miette_tree.specs.rules.DiagnosticParts.{given_labels};
+ghost use Rattle.miette_tree.specs.rules.Reads.{accepts, holds_further};
+ghost use Rattle.miette_tree.specs.rules.Tree.{head};
+ghost use Rattle.miette_tree.specs.views.Attached.{section_of};
+ghost use Rattle.miette_tree.specs.views.Owned.{shown_source};
+ghost use Rattle.miette_tree.specs.views.Report.{tree_of};
+ghost use Rattle.miette_narrated.specs.steps.AppendedParts.{AppendsSnippets, AppendsFurther, AppendsAll};
+
+use crate::snippets::push_snippets;
+use miette_protocol::error::RenderError;
+use miette_protocol::protocol::{Diagnostic, LabeledSpan};
+use miette_protocol::source::SourceCode;
+use miette_tree::parts::labels_of;
+use miette_tree::report::{Report, Snippets, SourceRef};
+use std::alloc::Global;
+
+/// The snippets of labels over a source, none without one.
+fn push_snippets_of<S: SourceCode>(
+    alloc: Global,
+    context: usize,
+    labels: &[LabeledSpan],
+    source: Option<SourceRef<'_, S>>,
+    out: &mut String,
+) -> Result<(), RenderError>
+    ensures text { OnOk result (AppendsSnippets context (option_map (shown_source S.source) source.entry) labels.now
+        (string_bytes out.old) (string_bytes out.new)) }
+    ensures refused { (result ≡ Err RenderError.Refused) →
+        accepts (option_map (shown_source S.source) source.entry) labels.now ≡ false }
+{
+    match source {
+        Some(source) => push_snippets(alloc, out, context, &source, labels),
+        None => Ok(()),
+    }
+}
+
+/// The snippets over further sources, in their order.
+fn push_further<S: SourceCode>(
+    alloc: Global,
+    context: usize,
+    sections: &[Snippets<S>],
+    out: &mut String,
+) -> Result<(), RenderError>
+    ensures text { OnOk result (AppendsFurther context (map (section_of S.source) sections.now)
+        (string_bytes out.old) (string_bytes out.new)) }
+    ensures refused { (result ≡ Err RenderError.Refused) →
+        holds_further accepts (map (section_of S.source) sections.now) ≡ false }
+{
+    for section in sections {
+        push_snippets(alloc, out, context, &section.source(), section.labels())?;
+    }
+    Ok(())
+}
+
+/// The snippets of a report over this source, then those over each further one.
+pub(crate) fn push_all_snippets<D: Diagnostic, S: SourceCode>(
+    alloc: Global,
+    context: usize,
+    report: &Report<D, S>,
+    source: Option<SourceRef<'_, S>>,
+    out: &mut String,
+) -> Result<(), RenderError>
+    ensures text { OnOk result (AppendsAll context (option_map (shown_source S.source) source.entry)
+        (head (tree_of D.meaning S.source report.now)) (string_bytes out.old) (string_bytes out.new)) }
+    ensures refused { (result ≡ Err RenderError.Refused) →
+        (accepts (option_map (shown_source S.source) source.entry)
+        (given_labels (head (tree_of D.meaning S.source report.now)).labels)
+        && holds_further accepts (head (tree_of D.meaning S.source report.now)).snippets) ≡ false }
+{
+    push_snippets_of(alloc, context, labels_of(report), source, out)?;
+    push_further(alloc, context, report.further_snippets(), out)
+}
