@@ -1,7 +1,8 @@
 -- Of a report whose sources always read, each read of a handler is determined.
 use Rattle.std.proofs.Common.{◌≡◌, ℕ, Bool, true, false, List, [], ◌∷◌, ◌++◌, Option, Some, None, refl, sym, ◌∙◌}
 use Rattle.std.proofs.lemmas.Bool.{and_from, and_parts, or_right}
-use Rattle.std.specs.List.{list_all}
+use Rattle.std.specs.List.{All, list_all}
+use Rattle.std.proofs.lemmas.List.Elements.{All-head, All-tail}
 use Rattle.std.specs.Prelude.{if◌then◌else◌}
 use Rattle.miette_protocol.specs.views.Meaning.{Label}
 use Rattle.miette_protocol.specs.rules.Reading.{Source, is_accepted}
@@ -12,7 +13,8 @@ use Rattle.miette_tree.specs.rules.DiagnosticParts.{given_labels}
 use Rattle.miette_graphical.specs.rules.PrintedDiagnostics.{PrintedDiagnostic, over, diagnostics_of, printed_causes}
 use Rattle.miette_graphical.specs.rules.PrintedDiagnostics.{printed_related, all_read}
 use Rattle.miette_tree.specs.rules.Reads.{AlwaysReads, CauseAlwaysReads, AllAlwaysRead, always_reads, holds_of}
-use Rattle.miette_tree.specs.rules.Reads.{holds_of_all, accepts, report_accepted}
+use Rattle.miette_tree.specs.rules.Diagnosis.{Section}
+use Rattle.miette_tree.specs.rules.Reads.{holds_of_all, accepts, report_accepted, holds_further}
 use Rattle.miette_tree.proofs.Nesting.{Reads, effective_reads}
 use Rattle.miette_tree.proofs.Readings.{source_reads}
 use Rattle.miette_graphical.specs.rules.Settings.{Settings}
@@ -20,6 +22,7 @@ use Rattle.miette_brief.specs.rules.PossibleAnswers as briefly
 use Rattle.miette_brief.specs.rules.Report as brief
 use Rattle.miette_narrated.specs.rules.PossibleAnswers as told
 use Rattle.miette_narrated.specs.rules.Report.{Answers, RelatedAnswers, related_answers, first_answers, later_answers}
+use Rattle.miette_narrated.specs.rules.Report.{first_fails, later_fails, own_answer}
 use Rattle.miette_labels.proofs.RefusedLabel.{accepted_is}
 use Rattle.miette_labels.proofs.OwnContexts.{order_all}
 
@@ -91,13 +94,25 @@ one_accepted (Some s) labels fails p a =
     and_from _ _ (sym (order_all (λ label. is_accepted s.bytes label.span) labels)
     ∙ accept_all s.bytes (in_order labels) a.accepted) (or_right (is_nil labels) s.always_reads p)
 
+further_accepted : (fails : List (List Bool)) (sections : List Section)
+    → All (λ section. section.source.always_reads ≡ true) sections → told.AreFurther fails sections
+    → holds_further accepts sections ≡ true
+further_accepted fails [] q k = refl
+further_accepted fails (section ∷ sections) q k =
+    let reads : Section → Type 0 = λ s. s.source.always_reads ≡ true in
+    and_from _ _ (one_accepted (Some section.source) section.labels (first_fails fails)
+    (All-head reads section sections q) k.0)
+    (further_accepted (later_fails fails) sections (All-tail reads section sections q) k.1)
+
 mutual
   tree_accepted : (inherited : Option Source) (a : Answers) (t : Tree) → Reads inherited → AlwaysReads t
       → told.AreAnswers inherited a t → holds_of accepts inherited t ≡ true
   tree_accepted inherited a (tree m own c r) p q k =
       let source = effective own inherited in
       let here : Reads source = effective_reads own inherited q.0 p in
-      and_from _ _ (one_accepted source _ _ here k.0) (trees_accepted source (related_answers a) r here q.2 k.1)
+      and_from _ _
+      (and_from _ _ (one_accepted source _ _ here k.0.0) (trees_accepted source (related_answers a) r here q.2 k.1))
+      (further_accepted (own_answer a).further m.snippets q.3 k.0.1)
 
   trees_accepted : (inherited : Option Source) (more : RelatedAnswers) (ts : Trees) → Reads inherited → AllAlwaysRead ts
       → told.AllAnswers inherited more ts → holds_of_all accepts inherited ts ≡ true
