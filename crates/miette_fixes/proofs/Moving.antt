@@ -10,7 +10,7 @@ use Rattle.miette_basics.proofs.Cases.{by_cases}
 use Rattle.miette_fixes.specs.laws.Places.{deleted, inserted, is_covered, deleted_before, inserted_before, moved}
 use Rattle.miette_fixes.specs.rules.Edits.{Replacement, end_of, is_behind}
 use Rattle.miette_fixes.specs.rules.Applying.{put_edit, by_offset, applied, refusal, text_from}
-use Rattle.miette_fixes.specs.steps.Sweeping.{FitFrom}
+use Rattle.miette_fixes.specs.views.Ordered.{FitFrom}
 use Rattle.miette_fixes.proofs.Overlaps.{any_by_offset, fit_unrefused}
 
 -- ---- sums don't depend on the order

@@ -8,7 +8,8 @@ use Rattle.std.proofs.lemmas.Bool.{le-ltb, ltb-false, or_parts}
 use Rattle.miette_basics.proofs.Cases.{by_cases}
 use Rattle.miette_fixes.specs.rules.Edits.{Replacement, end_of, ends_behind, is_behind, overlap, some_overlap}
 use Rattle.miette_fixes.specs.rules.Applying.{put_edit, by_offset, refusal}
-use Rattle.miette_fixes.specs.steps.Sweeping.{FitFrom, crosses_from}
+use Rattle.miette_fixes.specs.steps.Sweeping.{crosses_from}
+use Rattle.miette_fixes.specs.views.Ordered.{FitFrom}
 use Rattle.miette_fixes.proofs.Sorting.{Climbs, less, less_order, not_behind, by_offset_climbs}
 
 or_swap : (p q r s : Bool) → ((p || q) || (r || s)) ≡ ((p || r) || (q || s))

@@ -14,7 +14,8 @@ use Rattle.miette_protocol.specs.rules.Reading.{Span}
 use Rattle.miette_basics.proofs.Cases.{by_cases}
 use Rattle.miette_fixes.specs.rules.Edits.{Replacement, is_behind}
 use Rattle.miette_fixes.specs.rules.Applying.{put_edit, by_offset}
-use Rattle.miette_fixes.specs.steps.Sweeping.{ascends_after, ascends, edits_of}
+use Rattle.miette_fixes.specs.steps.Sweeping.{ascends_after, ascends}
+use Rattle.miette_fixes.specs.views.Ordered.{edits_of}
 
 -- ---- of any order, and of what has an edit
 

@@ -1,11 +1,12 @@
-//! A source with edits applied.
+//! A source with edits applied, and the edits in their order.
 
 ghost use Rattle.std.specs.Prelude.{◌≡◌, ◌≢◌, false, length, IfOk, IfErr, None, Some};
 ghost use Rattle.std.specs.List.{list_any};
 ghost use Rattle.miette_fixes.specs.declared.error.FixError.TheVariants.{Memory};
 ghost use Rattle.miette_fixes.specs.rules.Applying.{applied, by_offset, refusal, text_from};
 ghost use Rattle.miette_fixes.specs.rules.Edits.{ends_behind};
-ghost use Rattle.miette_fixes.specs.steps.Sweeping.{FitFrom, crosses_from, edits_of};
+ghost use Rattle.miette_fixes.specs.steps.Sweeping.{crosses_from};
+ghost use Rattle.miette_fixes.specs.views.Ordered.{FitFrom, edits_of};
 
 use crate::edit::Edit;
 use crate::error::FixError;
@@ -58,13 +59,22 @@ fn length_after(length: usize, edits: &[&Edit]) -> usize {
     after
 }
 
-/// The source with edits that fit, in their order.
-pub(crate) fn spliced(alloc: Global, source: &[u8], edits: &[&Edit]) -> Result<Vec<u8>, AllocError>
-    requires { FitFrom (length source.now) 0 (edits_of edits.now) }
-    ensures { IfOk result (λ text. text.items ≡ text_from source.now 0 (edits_of edits.now)) }
+/// The source from an offset on with edits that fit, in their order.
+///
+/// # Errors
+/// `AllocError` where memory is refused.
+pub fn spliced(
+    alloc: Global,
+    source: &[u8],
+    from: usize,
+    edits: &[&Edit],
+) -> Result<Vec<u8>, AllocError>
+    requires { FitFrom (length source.now) from (edits_of edits.now) }
+    ensures { IfOk result (λ text. text.items ≡ text_from source.now from (edits_of edits.now)) }
 {
-    let mut text = Vec::with_capacity(alloc, length_after(source.len(), edits))?;
-    let mut at = 0;
+    let room = length_after(source.len().saturating_sub(from), edits);
+    let mut text = Vec::with_capacity(alloc, room)?;
+    let mut at = from;
     for edit in edits {
         let kept = &source[at..edit.offset()];
         text.extend_from_slice(kept)?;
@@ -80,7 +90,7 @@ pub(crate) fn spliced(alloc: Global, source: &[u8], edits: &[&Edit]) -> Result<V
 /// # Errors
 /// `OutOfBounds` where an edit ends behind the source's end, else `Overlap` where two edits overlap; `Memory` where
 /// memory is refused.
-pub(crate) fn checked<'a>(
+pub fn checked<'a>(
     alloc: Global,
     length: usize,
     edits: &'a [Edit],
@@ -113,5 +123,5 @@ pub(crate) fn applied_text(
     ensures refused { IfErr result (λ e. e ≢ Memory → refusal (length source.now) edits.now ≡ Some e) }
 {
     let list = checked(alloc, source.len(), edits)?;
-    Ok(spliced(alloc, source, &list)?)
+    Ok(spliced(alloc, source, 0, &list)?)
 }

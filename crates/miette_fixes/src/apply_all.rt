@@ -5,7 +5,7 @@ ghost use Rattle.std.specs.List.{list_any};
 ghost use Rattle.miette_fixes.specs.rules.ApplyingAll.{all_applied, conflict, counts, is_among, lists_of};
 ghost use Rattle.miette_fixes.specs.rules.ApplyingAll.{some_conflict, taken};
 ghost use Rattle.miette_fixes.specs.rules.Edits.{ends_behind, overlap};
-ghost use Rattle.miette_fixes.specs.steps.Sweeping.{edits_of};
+ghost use Rattle.miette_fixes.specs.views.Ordered.{edits_of};
 
 use crate::apply::{checked, spliced};
 use crate::edit::Edit;
@@ -144,6 +144,6 @@ pub fn apply_all(alloc: Global, source: &[u8], fixes: &[&Fix]) -> Result<Applied
         }
     }
     sort(&mut edits)?;
-    let text = spliced(alloc, source, &edits)?;
+    let text = spliced(alloc, source, 0, &edits)?;
     Ok(Applied { text, taken })
 }

@@ -2,7 +2,7 @@
 #![tactic(auto)]
 
 mod applicability;
-mod apply;
+pub mod apply;
 mod apply_all;
 mod edit;
 mod error;

@@ -3,7 +3,8 @@
 ghost use Rattle.std.specs.Prelude.{◌≡◌, IfOk, OnOk};
 ghost use Rattle.miette_fixes.specs.rules.Applying.{by_offset};
 ghost use Rattle.miette_fixes.specs.rules.Edits.{is_behind};
-ghost use Rattle.miette_fixes.specs.steps.Sweeping.{ascends, edits_of};
+ghost use Rattle.miette_fixes.specs.steps.Sweeping.{ascends};
+ghost use Rattle.miette_fixes.specs.views.Ordered.{edits_of};
 
 use crate::edit::Edit;
 use std::alloc::{AllocError, Global};

@@ -1,5 +1,5 @@
 use Rattle.std.proofs.Common.{◌∙◌, ap, sym}
-use Rattle.miette_fixes.specs.steps.Sweeping.{edits_of}
+use Rattle.miette_fixes.specs.views.Ordered.{edits_of}
 use Rattle.miette_fixes.proofs.Overlaps.{refused_overlap, sorted_crosses, sorted_inside, unrefused}
 use Rattle.miette_fixes.proofs.apply.checked.Goals as goal
 

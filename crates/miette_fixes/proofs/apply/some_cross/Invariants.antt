@@ -2,7 +2,8 @@ use Rattle.std.proofs.Common.{◌≡◌, drop}
 use Rattle.std.specs.Prelude.{false}
 use Rattle.std.specs.List.{list_any}
 use Rattle.miette_fixes.specs.rules.Edits.{ends_behind}
-use Rattle.miette_fixes.specs.steps.Sweeping.{crosses_from, edits_of}
+use Rattle.miette_fixes.specs.steps.Sweeping.{crosses_from}
+use Rattle.miette_fixes.specs.views.Ordered.{edits_of}
 use Rattle.miette_fixes.proofs.apply.some_cross.Given as goal
 
 abbrev pub invariant-loop-edit : goal.invariant-loop-edit

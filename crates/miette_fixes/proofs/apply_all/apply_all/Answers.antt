@@ -3,7 +3,7 @@ use Rattle.std.specs.List.{list_any}
 use Rattle.std.proofs.lemmas.List.{map-append}
 use Rattle.miette_fixes.specs.rules.ApplyingAll.{counts, is_among, lists_of}
 use Rattle.miette_fixes.specs.rules.Edits.{Proposal, ends_behind}
-use Rattle.miette_fixes.specs.steps.Sweeping.{edits_of}
+use Rattle.miette_fixes.specs.views.Ordered.{edits_of}
 use Rattle.miette_fixes.proofs.Overlaps.{sorted_fit}
 use Rattle.miette_fixes.proofs.Reaching.{reach_joined}
 use Rattle.miette_fixes.proofs.Taking.{chosen_else, chosen_then, counts_inside, lists_more}

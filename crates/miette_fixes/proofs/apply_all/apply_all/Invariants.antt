@@ -3,7 +3,7 @@ use Rattle.std.specs.Prelude.{false}
 use Rattle.std.specs.List.{list_any}
 use Rattle.miette_fixes.specs.rules.Edits.{ends_behind}
 use Rattle.miette_fixes.specs.rules.ApplyingAll.{lists_of}
-use Rattle.miette_fixes.specs.steps.Sweeping.{edits_of}
+use Rattle.miette_fixes.specs.views.Ordered.{edits_of}
 use Rattle.miette_fixes.proofs.Taking.{AreChosen}
 use Rattle.miette_fixes.proofs.apply_all.apply_all.Given as goal
 

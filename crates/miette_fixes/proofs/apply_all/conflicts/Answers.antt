@@ -1,5 +1,5 @@
 use Rattle.std.proofs.Common.{◌<◌, arith, sym}
-use Rattle.miette_fixes.specs.steps.Sweeping.{edits_of}
+use Rattle.miette_fixes.specs.views.Ordered.{edits_of}
 use Rattle.miette_fixes.proofs.Reaching.{behind_all}
 use Rattle.miette_fixes.proofs.apply_all.conflicts.Goals as goal
 

@@ -1,6 +1,6 @@
 use Rattle.std.proofs.Common.{◌≡◌, drop}
 use Rattle.miette_fixes.specs.rules.ApplyingAll.{some_conflict}
-use Rattle.miette_fixes.specs.steps.Sweeping.{edits_of}
+use Rattle.miette_fixes.specs.views.Ordered.{edits_of}
 use Rattle.miette_fixes.proofs.apply_all.some_conflict.Given as goal
 
 abbrev pub invariant-loop-edit : goal.invariant-loop-edit

@@ -1,5 +1,6 @@
 use Rattle.std.proofs.Common.{◌≡◌, drop}
-use Rattle.miette_fixes.specs.steps.Sweeping.{ascends, ascends_after, edits_of}
+use Rattle.miette_fixes.specs.steps.Sweeping.{ascends, ascends_after}
+use Rattle.miette_fixes.specs.views.Ordered.{edits_of}
 use Rattle.miette_fixes.proofs.order.ascend.Given as goal
 
 abbrev pub invariant-loop-edit : goal.invariant-loop-edit

@@ -1,5 +1,5 @@
 use Rattle.std.proofs.Common.{◌≡◌, take}
-use Rattle.miette_fixes.specs.steps.Sweeping.{edits_of}
+use Rattle.miette_fixes.specs.views.Ordered.{edits_of}
 use Rattle.miette_fixes.proofs.order.listed.Given as goal
 
 abbrev pub invariant-loop-edit : goal.invariant-loop-edit

@@ -1,6 +1,7 @@
 use Rattle.std.proofs.Common.{◌≡◌, ◌∙◌, ap, rules, sym, true}
 use Rattle.std.proofs.lemmas.List.Sorted.{answers_always}
-use Rattle.miette_fixes.specs.steps.Sweeping.{ascends, edits_of}
+use Rattle.miette_fixes.specs.steps.Sweeping.{ascends}
+use Rattle.miette_fixes.specs.views.Ordered.{edits_of}
 use Rattle.miette_fixes.proofs.Sorting.{in_order_stays, sort_by_offset}
 use Rattle.miette_fixes.proofs.order.sort.Goals as goal
 use denote.Ref.{Bor}
