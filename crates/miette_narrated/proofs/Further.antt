@@ -84,8 +84,9 @@ all_told context source m labels sections old now new el es first more =
     let there : AppendsFurther context m.snippets now new =
     subst (λ ss. AppendsFurther context ss now new) es more in
     record {
-      answers = record { own = here.fails; further = there.fails };
-      possible = (here.possible, there.possible);
+      answers = record { own = here.fails; further = there.fails; fixes = false };
+      own = here.possible;
+      further = there.possible;
       appended = there.appended ∙ ap (λ x. x ++ further_rows context there.fails m.snippets) here.appended
           ∙ append_assoc old (snippet_rows context source here.fails (given_labels m.labels))
           (further_rows context there.fails m.snippets);

@@ -6,4 +6,7 @@ pub mod LabelRows
 pub mod Lining
 pub mod Reading
 pub mod Further
+pub mod Below
+pub mod EditPlaces
+pub mod Fixing
 pub mod Telling

@@ -14,16 +14,18 @@ use Rattle.miette_narrated.specs.rules.Labels.{label_range}
 use Rattle.miette_narrated.specs.rules.Snippets.{snippets_of}
 use Rattle.miette_narrated.specs.rules.Report.{NarrationSettings, Answers, unlisted, listed, RelatedAnswers, no_more}
 use Rattle.miette_narrated.specs.rules.Report.{and_more, own_answer, related_answers, first_answers, later_answers}
-use Rattle.miette_narrated.specs.rules.Report.{head_rows, titled_rows, cause_rows, causes_if, advice_rows, row_if}
+use Rattle.miette_narrated.specs.rules.Report.{head_rows, titled_rows, cause_rows, causes_if, row_if}
 use Rattle.miette_narrated.specs.rules.Report.{snippet_rows, blank_before, related_report, related_reports, narration}
 use Rattle.miette_narrated.specs.rules.Report.{ReadAnswers, none_failed, first_fails, later_fails, further_rows}
-use Rattle.miette_narrated.specs.rules.Report.{all_snippets}
+use Rattle.miette_narrated.specs.rules.Report.{all_snippets, rows_below}
 use Rattle.miette_tree.specs.rules.DiagnosticParts.{given_labels}
 use Rattle.miette_tree.specs.rules.Diagnosis.{Diagnosis, Section}
 use Rattle.miette_tree.specs.rules.Reads.{holds_of, holds_of_all, holds_further, always_reads, report_reads}
 use Rattle.miette_narrated.specs.rules.PossibleAnswers.{IsAnswered, AreFurther, ArePossible, AreAnswers, AllAnswers}
-use Rattle.miette_narrated.specs.rules.PossibleAnswers.{IsNarrated}
-use Rattle.miette_narrated.specs.steps.AppendedParts.{AppendsAll, AppendsReport, AppendsRelated}
+use Rattle.miette_narrated.specs.rules.PossibleAnswers.{IsNarrated, reads_for, fixes_below, all_fixes_below}
+use Rattle.miette_narrated.specs.rules.PossibleAnswers.{fixes_read}
+use Rattle.miette_narrated.specs.steps.AppendedParts.{AppendsBelow, AppendsReport, AppendsRelated}
+use Rattle.miette_narrated.proofs.Below.{same_advice}
 use Rattle.miette_narrated.proofs.Further.{further_holds}
 use Rattle.std.proofs.lemmas.List.{drop_all}
 
@@ -79,67 +81,62 @@ blank_some value (r ∷ rs) h = refl
 
 -- ---- a report's parts
 
-parts_joined : (old a b p q new ti ca sn ad re : List ℕ) → a ≡ old ++ ti → b ≡ a ++ ca → p ≡ b ++ sn → q ≡ p ++ ad → new
-    ≡ q ++ re → new ≡ old ++ (ti ++ (ca ++ ((sn ++ ad) ++ re)))
-parts_joined old a b p q new ti ca sn ad re e f g h i = i
-    ∙ ap (λ y. y ++ re) (h ∙ ap (λ y. y ++ ad) (g ∙ ap (λ y. y ++ sn) (f ∙ ap (λ y. y ++ ca) e))) ∙ simp append_assoc
+parts_joined : (old a b q new ti ca be re : List ℕ) → a ≡ old ++ ti → b ≡ a ++ ca → q ≡ b ++ be → new ≡ q ++ re → new
+    ≡ old ++ (ti ++ (ca ++ (be ++ re)))
+parts_joined old a b q new ti ca be re e f g h = h
+    ∙ ap (λ y. y ++ re) (g ∙ ap (λ y. y ++ be) (f ∙ ap (λ y. y ++ ca) e)) ∙ simp append_assoc
 
 pub report_told : (context : ℕ) (inherited : Option Source) (t : Tree) (source : Option Source)
-    (related : Trees) (old a b p q new : List ℕ)
+    (related : Trees) (old a b q new : List ℕ)
     → source ≡ effective (source_of t) inherited → related ≡ related_of t
     → a ≡ old ++ titled_rows (head t) → b ≡ a ++ cause_rows (causes_of (cause_of t))
-    → AppendsAll context source (head t) b p
-    → q ≡ p ++ advice_rows (head t) → AppendsRelated context source related q new
+    → AppendsBelow context source (head t) b q → AppendsRelated context source related q new
     → AppendsReport context inherited t old new
-report_told context inherited (tree m s c rs) source related old a b p q new es er e f snippets g others =
+report_told context inherited (tree m s c rs) source related old a b q new es er e f below others =
     let own = effective s inherited in
-    let here : AppendsAll context own m b p = subst (λ o. AppendsAll context o m b p) es snippets in
+    let here : AppendsBelow context own m b q = subst (λ o. AppendsBelow context o m b q) es below in
     let there : AppendsRelated context own rs q new = subst (λ ts. AppendsRelated context own ts q new) er
     (subst (λ o. AppendsRelated context o related q new) es others) in
     record {
       answers = listed here.answers unlisted there.answers;
       possible = (here.possible, there.possible);
-      appended = parts_joined old a b p q new (titled_rows m) (cause_rows (causes_of c))
-          (all_snippets context own here.answers m) (advice_rows m)
-          (blank_before rs ++ related_reports context own there.answers rs) e f here.appended g there.appended;
+      appended = parts_joined old a b q new (titled_rows m) (cause_rows (causes_of c))
+          (rows_below context own here.answers m)
+          (blank_before rs ++ related_reports context own there.answers rs) e f here.appended there.appended;
     }
 
 own_none : (s : Option Source) → effective s None ≡ s
 own_none None = refl
 own_none (Some own) = refl
 
-whole_joined : (start a b p q r new hd ca sn ad re ft : List ℕ) → start ≡ [] → a ≡ start ++ hd → b ≡ a ++ ca → p ≡ b
-    ++ sn → q ≡ p ++ ad → r ≡ q ++ re → new ≡ r ++ ft → new ≡ hd ++ (ca ++ ((sn ++ ad) ++ (re ++ ft)))
-whole_joined start a b p q r new hd ca sn ad re ft s e f g h i j =
-    j ∙ ap (λ y. y ++ ft) (i ∙ ap (λ y. y ++ re) (h ∙ ap (λ y. y ++ ad)
-    (g ∙ ap (λ y. y ++ sn) (f ∙ ap (λ y. y ++ ca) (e ∙ ap (λ y. y ++ hd) s))))) ∙ simp append_assoc
+whole_joined : (start a b q r new hd ca be re ft : List ℕ) → start ≡ [] → a ≡ start ++ hd → b ≡ a ++ ca → q ≡ b
+    ++ be → r ≡ q ++ re → new ≡ r ++ ft → new ≡ hd ++ (ca ++ (be ++ (re ++ ft)))
+whole_joined start a b q r new hd ca be re ft s e f g h i =
+    i ∙ ap (λ y. y ++ ft) (h ∙ ap (λ y. y ++ re) (g ∙ ap (λ y. y ++ be) (f ∙ ap (λ y. y ++ ca)
+    (e ∙ ap (λ y. y ++ hd) s)))) ∙ simp append_assoc
 
 pub whole_told : (s : NarrationSettings) (t : Tree) (source : Option Source) (related : Trees)
-    (start a b p q r new : List ℕ) → source ≡ effective (source_of t) None → related ≡ related_of t → start ≡ []
+    (start a b q r new : List ℕ) → source ≡ effective (source_of t) None → related ≡ related_of t → start ≡ []
     → a ≡ start ++ head_rows (head t) → b ≡ a ++ causes_if s.chain (causes_of (cause_of t))
-    → AppendsAll s.context source (head t) b p
-    → q ≡ p ++ advice_rows (head t) → AppendsRelated s.context source related q r → new ≡ r ++ row_if [] s.footer
-    → IsNarrated s t new
-whole_told s (tree m own c rs) source related start a b p q r new es er empty e f snippets g others i =
+    → AppendsBelow s.context source (head t) b q → AppendsRelated s.context source related q r
+    → new ≡ r ++ row_if [] s.footer → IsNarrated s t new
+whole_told s (tree m own c rs) source related start a b q r new es er empty e f below others i =
     let eff = effective own None in
-    let here : AppendsAll s.context eff m b p = subst (λ o. AppendsAll s.context o m b p) es snippets in
+    let here : AppendsBelow s.context eff m b q = subst (λ o. AppendsBelow s.context o m b q) es below in
     let there : AppendsRelated s.context eff rs q r = subst (λ ts. AppendsRelated s.context eff ts q r) er
     (subst (λ o. AppendsRelated s.context o related q r) es others) in
-    let text : List ℕ = head_rows m ++ (causes_if s.chain (causes_of c)
-    ++ ((all_snippets s.context eff here.answers m ++ advice_rows m)
-    ++ ((blank_before rs ++ related_reports s.context eff there.answers rs) ++ row_if [] s.footer))) in
-    let made : new ≡ text =
-    whole_joined start a b p q r new (head_rows m) (causes_if s.chain (causes_of c))
-    (all_snippets s.context eff here.answers m) (advice_rows m)
+    let text : Option Source → List ℕ = λ o. head_rows m ++ (causes_if s.chain (causes_of c)
+    ++ (rows_below s.context o here.answers m
+    ++ ((blank_before rs ++ related_reports s.context o there.answers rs) ++ row_if [] s.footer))) in
+    let made : new ≡ text eff =
+    whole_joined start a b q r new (head_rows m) (causes_if s.chain (causes_of c))
+    (rows_below s.context eff here.answers m)
     (blank_before rs ++ related_reports s.context eff there.answers rs) (row_if [] s.footer)
-    empty e f here.appended g there.appended i in
+    empty e f here.appended there.appended i in
     record {
       answers = listed here.answers unlisted there.answers;
       possible = (here.possible, there.possible);
-      is = made ∙ ap (λ o. head_rows m ++ (causes_if s.chain (causes_of c)
-          ++ ((all_snippets s.context o here.answers m ++ advice_rows m)
-          ++ ((blank_before rs ++ related_reports s.context o there.answers rs) ++ row_if [] s.footer))))
-          (own_none own);
+      is = made ∙ ap text (own_none own);
     }
 
 -- ---- where every source always reads
@@ -169,41 +166,52 @@ same_all context source a m h own further =
     ap₂ (λ x y. x ++ y) (same_snippets context source a.own (given_labels m.labels) h.0 own)
     (same_further context a.further m.snippets h.1 further)
 
+same_below : (context : ℕ) (source : Option Source) (a : ReadAnswers) (m : Diagnosis) → ArePossible source a m
+    → always_reads source (given_labels m.labels) ≡ true → holds_further always_reads m.snippets ≡ true
+    → reads_for source m.fixes ≡ true → rows_below context source a m ≡ rows_below context source none_failed m
+same_below context source a m h own further fixes =
+    ap₂ (λ x y. x ++ y) (same_all context source a m h own further) (same_advice source a.fixes m h.2 fixes)
+
 mutual
   same_report : (context : ℕ) (inherited : Option Source) (a : Answers) (t : Tree) → AreAnswers inherited a t
-      → holds_of always_reads inherited t ≡ true → related_report context inherited a t
+      → holds_of always_reads inherited t ≡ true → fixes_below inherited t ≡ true → related_report context inherited a t
       ≡ related_report context inherited unlisted t
-  same_report context inherited a (tree m s c r) h e =
+  same_report context inherited a (tree m s c r) h e f =
       let own = effective s inherited in
       let p = own_holds always_reads m s inherited c r e in
-      ap₂ (λ x y. titled_rows m ++ (cause_rows (causes_of c) ++ ((x ++ advice_rows m) ++ (blank_before r ++ y))))
-      (same_all context own (own_answer a) m h.0 p.0 (further_holds always_reads m s inherited c r e))
-      (same_reports context own (related_answers a) r h.1 p.1)
+      let q = and_parts (reads_for own m.fixes) (all_fixes_below own r) f in
+      ap₂ (λ x y. titled_rows m ++ (cause_rows (causes_of c) ++ (x ++ (blank_before r ++ y))))
+      (same_below context own (own_answer a) m h.0 p.0 (further_holds always_reads m s inherited c r e) q.0)
+      (same_reports context own (related_answers a) r h.1 p.1 q.1)
 
   same_reports : (context : ℕ) (inherited : Option Source) (more : RelatedAnswers) (ts : Trees)
       → AllAnswers inherited more ts → holds_of_all always_reads inherited ts ≡ true
+      → all_fixes_below inherited ts ≡ true
       → related_reports context inherited more ts ≡ related_reports context inherited no_more ts
-  same_reports context inherited more no_trees h e = refl
-  same_reports context inherited more (more_trees t ts) h e =
+  same_reports context inherited more no_trees h e f = refl
+  same_reports context inherited more (more_trees t ts) h e f =
       let p = and_parts (holds_of always_reads inherited t) (holds_of_all always_reads inherited ts) e in
-      ap₂ (λ x y. x ++ y) (same_report context inherited (first_answers more) t h.0 p.0)
-      (same_reports context inherited (later_answers more) ts h.1 p.1)
+      let q = and_parts (fixes_below inherited t) (all_fixes_below inherited ts) f in
+      ap₂ (λ x y. x ++ y) (same_report context inherited (first_answers more) t h.0 p.0 q.0)
+      (same_reports context inherited (later_answers more) ts h.1 p.1 q.1)
 
 same_whole : (s : NarrationSettings) (t : Tree) (a : Answers) → AreAnswers None a t → report_reads t ≡ true
-    → narration s t a ≡ narration s t unlisted
-same_whole s (tree m own c r) a h e =
+    → fixes_read t ≡ true → narration s t a ≡ narration s t unlisted
+same_whole s (tree m own c r) a h e f =
     let p = own_holds always_reads m own None c r e in
-    let f = λ (x y : List ℕ). head_rows m ++ (causes_if s.chain (causes_of c)
-    ++ ((x ++ advice_rows m) ++ ((blank_before r ++ y) ++ row_if [] s.footer))) in
+    let q = and_parts (reads_for (effective own None) m.fixes) (all_fixes_below (effective own None) r) f in
+    let g = λ (x y : List ℕ). head_rows m ++ (causes_if s.chain (causes_of c)
+    ++ (x ++ ((blank_before r ++ y) ++ row_if [] s.footer))) in
     let e0 = own_none own in
-    ap₂ f
-    (ap (λ o. all_snippets s.context o (own_answer a) m) (sym e0)
-    ∙ same_all s.context (effective own None) (own_answer a) m h.0 p.0 (further_holds always_reads m own None c r e)
-    ∙ ap (λ o. all_snippets s.context o none_failed m) e0)
+    ap₂ g
+    (ap (λ o. rows_below s.context o (own_answer a) m) (sym e0)
+    ∙ same_below s.context (effective own None) (own_answer a) m h.0 p.0 (further_holds always_reads m own None c r e)
+    q.0
+    ∙ ap (λ o. rows_below s.context o none_failed m) e0)
     (ap (λ o. related_reports s.context o (related_answers a) r) (sym e0)
-    ∙ same_reports s.context (effective own None) (related_answers a) r h.1 p.1
+    ∙ same_reports s.context (effective own None) (related_answers a) r h.1 p.1 q.1
     ∙ ap (λ o. related_reports s.context o no_more r) e0)
 
 pub appended_only : (s : NarrationSettings) (t : Tree) (text old new : List ℕ) → IsNarrated s t text → new ≡ old ++ text
-    → report_reads t ≡ true → new ≡ old ++ narration s t unlisted
-appended_only s t text old new h e r = e ∙ ap (λ x. old ++ x) (h.is ∙ same_whole s t h.answers h.possible r)
+    → report_reads t ≡ true → fixes_read t ≡ true → new ≡ old ++ narration s t unlisted
+appended_only s t text old new h e r f = e ∙ ap (λ x. old ++ x) (h.is ∙ same_whole s t h.answers h.possible r f)

@@ -2,5 +2,6 @@
 pub mod Labels
 pub mod Lines
 pub mod Snippets
+pub mod Fixes
 pub mod Report
 pub mod PossibleAnswers

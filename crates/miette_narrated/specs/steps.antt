@@ -3,4 +3,6 @@ pub mod Sweeping
 pub mod Ends
 pub mod Conversions
 pub mod NarrationSettings
+pub mod EditPlaces
+pub mod FixSources
 pub mod AppendedParts

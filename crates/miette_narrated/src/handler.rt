@@ -5,7 +5,7 @@ ghost use Rattle.miette_tree.specs.views.Report.{tree_of};
 ghost use Rattle.miette_tree.specs.rules.Reads.{report_reads, report_accepted};
 ghost use Rattle.miette_tree.specs.views.Handler.{AppendsOne};
 ghost use Rattle.miette_narrated.specs.rules.Report.{default_settings, narration, unlisted};
-ghost use Rattle.miette_narrated.specs.rules.PossibleAnswers.{IsNarrated};
+ghost use Rattle.miette_narrated.specs.rules.PossibleAnswers.{IsNarrated, fixes_read};
 ghost use Rattle.miette_narrated.specs.steps.NarrationSettings.{settings_of};
 
 use crate::report::narration_of;
@@ -149,10 +149,11 @@ impl NarratableReportHandler {
         ensures text { OnOk result (AppendsOne (IsNarrated self.now
             (tree_of ⟦<Box<dyn Diagnostic> as Diagnostic>⟧.meaning ⟦<Box<dyn SourceCode> as SourceCode>⟧.source
             report.now)) (string_bytes out.old) (string_bytes out.new)) }
-        // where every source that labels are read from always reads, there is one such text
+        // where every source that labels or fixes are read from always reads, there is one such text
         ensures only { OnOk result (report_reads
             (tree_of ⟦<Box<dyn Diagnostic> as Diagnostic>⟧.meaning ⟦<Box<dyn SourceCode> as SourceCode>⟧.source
-            report.now) ≡ true →
+            report.now) ≡ true → fixes_read (tree_of ⟦<Box<dyn Diagnostic> as Diagnostic>⟧.meaning
+            ⟦<Box<dyn SourceCode> as SourceCode>⟧.source report.now) ≡ true →
             string_bytes out.new ≡ string_bytes out.old
             ++ narration self.now (tree_of ⟦<Box<dyn Diagnostic> as Diagnostic>⟧.meaning
             ⟦<Box<dyn SourceCode> as SourceCode>⟧.source report.now) unlisted) }
@@ -173,6 +174,7 @@ impl NarratableReportHandler {
         ensures text { OnOk result (AppendsOne (IsNarrated self.now (tree_of D.meaning S.source report.now))
             (string_bytes out.old) (string_bytes out.new)) }
         ensures only { OnOk result (report_reads (tree_of D.meaning S.source report.now) ≡ true →
+            fixes_read (tree_of D.meaning S.source report.now) ≡ true →
             string_bytes out.new ≡ string_bytes out.old
             ++ narration self.now (tree_of D.meaning S.source report.now) unlisted) }
         ensures refused { (result ≡ Err RenderError.Refused) →

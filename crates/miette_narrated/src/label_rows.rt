@@ -59,7 +59,7 @@ fn push_end(out: &mut String, text: Option<&str>) -> Result<(), AllocError>
 }
 
 /// `, columns 2 to 3`
-fn push_columns(out: &mut String, first: usize, last: usize) -> Result<(), AllocError>
+pub(crate) fn push_columns(out: &mut String, first: usize, last: usize) -> Result<(), AllocError>
     ensures { OnOk result (string_bytes out.new ≡ string_bytes out.old ++ columns_text first last) }
 {
     if first == last {

@@ -6,13 +6,14 @@ ghost use Rattle.miette_tree.specs.rules.Tree.{Tree};
 ghost use Rattle.miette_tree.specs.rules.Reads.{report_reads};
 ghost use Rattle.miette_tree.specs.views.Handler.{AppendsOne};
 ghost use Rattle.miette_narrated.specs.rules.Report.{NarrationSettings, narration, unlisted};
-ghost use Rattle.miette_narrated.specs.rules.PossibleAnswers.{IsNarrated};
+ghost use Rattle.miette_narrated.specs.rules.PossibleAnswers.{IsNarrated, fixes_read};
 
-/// Where every source that labels are read from always reads, a report has one narrated text: `ReportHandler::debug`,
-/// and what stands on it, then appends this one.
+/// Where every source that labels or fixes are read from always reads, a report has one narrated text:
+/// `ReportHandler::debug`, and what stands on it, then appends this one.
 pub fn a_read_report_has_one_text()
     ensures text { (s : NarrationSettings) (t : Tree) (text : List ℕ) → IsNarrated s t text → report_reads t ≡ true →
+        fixes_read t ≡ true →
         text ≡ narration s t unlisted }
     ensures appended { (s : NarrationSettings) (t : Tree) (old new : List ℕ) → AppendsOne (IsNarrated s t) old new →
-        report_reads t ≡ true → new ≡ old ++ narration s t unlisted }
+        report_reads t ≡ true → fixes_read t ≡ true → new ≡ old ++ narration s t unlisted }
 {}

@@ -2,6 +2,8 @@
 #![tactic(auto)]
 
 mod decoding;
+mod edit_places;
+mod fixes;
 pub mod handler;
 mod label_order;
 mod label_rows;

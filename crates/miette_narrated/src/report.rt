@@ -1,17 +1,20 @@
 //! The narrated text of a report, part by part.
 
-ghost use Rattle.std.specs.Prelude.{◌≡◌, ◌++◌, false, OnOk, IfOk, string_bytes, map, option_copied};
+ghost use Rattle.std.specs.Prelude.{◌≡◌, ◌++◌, ◌&&◌, false, OnOk, IfOk, string_bytes, map, option_copied};
 ghost use Rattle.std.specs.Option.{option_map};
 ghost use Rattle.miette_tree.specs.rules.Tree.{head, cause_of, causes_of, trees};
 ghost use Rattle.miette_tree.specs.views.Report.{tree_of};
 ghost use Rattle.miette_tree.specs.views.Owned.{shown_source};
 ghost use Rattle.miette_narrated.specs.rules.Report.{severity_row, head_rows, titled_rows, cause_rows};
-ghost use Rattle.miette_narrated.specs.rules.Report.{causes_if, advice_rows, url_rows, blank_before};
-ghost use Rattle.miette_narrated.specs.steps.AppendedParts.{AppendsReport, AppendsRelated};
+ghost use Rattle.miette_narrated.specs.rules.Report.{causes_if, url_rows, blank_before};
+ghost use Rattle.miette_narrated.specs.steps.AppendedParts.{AppendsAdvice, AppendsBelow, AppendsReport};
+ghost use Rattle.miette_narrated.specs.steps.AppendedParts.{AppendsRelated};
 ghost use Rattle.miette_narrated.specs.rules.PossibleAnswers.{IsNarrated};
-ghost use Rattle.miette_tree.specs.rules.Reads.{accepts, holds_of, holds_of_all, report_accepted};
+ghost use Rattle.miette_tree.specs.rules.DiagnosticParts.{given_labels};
+ghost use Rattle.miette_tree.specs.rules.Reads.{accepts, holds_of, holds_of_all, holds_further, report_accepted};
 ghost use Rattle.miette_narrated.specs.steps.NarrationSettings.{settings_of};
 
+use crate::fixes::push_fixes;
 use crate::sections::push_all_snippets;
 use crate::settings::NarrationSettings;
 use crate::words::{Appended, push_row, push_row_if};
@@ -92,14 +95,40 @@ fn push_url(out: &mut String, url: Option<&str>) -> Appended
     }
 }
 
-/// Help, code and url.
-fn push_advice<D: Diagnostic, S: SourceCode>(report: &Report<D, S>, out: &mut String) -> Appended
-    ensures { OnOk result (string_bytes out.new
-        ≡ string_bytes out.old ++ advice_rows (head (tree_of D.meaning S.source report.now))) }
+/// Help, fixes, code and url, over this source.
+fn push_advice<D: Diagnostic, S: SourceCode>(
+    alloc: Global,
+    report: &Report<D, S>,
+    source: Option<SourceRef<'_, S>>,
+    out: &mut String,
+) -> Appended
+    ensures { OnOk result (AppendsAdvice (option_map (shown_source S.source) source.entry)
+        (head (tree_of D.meaning S.source report.now)) (string_bytes out.old) (string_bytes out.new)) }
 {
     push_row_if(out, "diagnostic help: ", report.help())?;
+    push_fixes(alloc, report.fixes(), source, out)?;
     push_row_if(out, "diagnostic code: ", report.code())?;
     push_url(out, report.url())
+}
+
+/// The rows of a report over this source below its causes: snippets, help, fixes, code and url.
+fn push_below<D: Diagnostic, S: SourceCode>(
+    alloc: Global,
+    context: usize,
+    report: &Report<D, S>,
+    source: Option<SourceRef<'_, S>>,
+    out: &mut String,
+) -> Result<(), RenderError>
+    ensures text { OnOk result (AppendsBelow context (option_map (shown_source S.source) source.entry)
+        (head (tree_of D.meaning S.source report.now)) (string_bytes out.old) (string_bytes out.new)) }
+    ensures refused { (result ≡ Err RenderError.Refused) →
+        (accepts (option_map (shown_source S.source) source.entry)
+        (given_labels (head (tree_of D.meaning S.source report.now)).labels)
+        && holds_further accepts (head (tree_of D.meaning S.source report.now)).snippets) ≡ false }
+{
+    push_all_snippets(alloc, context, report, source, out)?;
+    push_advice(alloc, report, source, out)?;
+    Ok(())
 }
 
 /// A blank row where there are related reports.
@@ -134,8 +163,7 @@ fn push_report<'a, D: Diagnostic, S: SourceCode>(
     let source = own_or(report, inherited);
     push_titled(report, out)?;
     push_causes(report, out)?;
-    push_all_snippets(alloc, context, report, source, out)?;
-    push_advice(report, out)?;
+    push_below(alloc, context, report, source, out)?;
     push_related(alloc, context, report.related(), source, out)
 }
 
@@ -176,8 +204,7 @@ pub(crate) fn narration_of<D: Diagnostic, S: SourceCode>(
     let source = own_or(report, None);
     push_head(report, &mut text)?;
     push_causes_if(settings.cause_chain, report, &mut text)?;
-    push_all_snippets(alloc, settings.context_lines, report, source, &mut text)?;
-    push_advice(report, &mut text)?;
+    push_below(alloc, settings.context_lines, report, source, &mut text)?;
     push_related(
         alloc,
         settings.context_lines,

@@ -1,5 +1,7 @@
 -- Which answers the sources of a report can have given where it was told, and its text.
-use Rattle.std.specs.Prelude.{◌≡◌, ℕ, Bool, true, List, [], ◌∷◌, Option, Some, None}
+use Rattle.std.specs.Prelude.{◌≡◌, ℕ, Bool, true, ◌&&◌, ◌||◌, List, [], ◌∷◌, Option, Some, None}
+use Rattle.miette_basics.specs.rules.Lists.{is_nil}
+use Rattle.miette_fixes.specs.rules.Edits.{Proposal}
 use Rattle.miette_protocol.specs.views.Meaning.{Label}
 use Rattle.miette_protocol.specs.rules.Reading.{Source}
 use Rattle.miette_tree.specs.rules.Diagnosis.{Diagnosis, Section}
@@ -10,6 +12,7 @@ use Rattle.miette_narrated.specs.rules.Report.{NarrationSettings, Answers, Relat
 use Rattle.miette_narrated.specs.rules.Report.{first_answers, later_answers, ReadAnswers, first_fails, later_fails}
 use Rattle.miette_narrated.specs.rules.Report.{narration}
 use Rattle.miette_tree.specs.rules.DiagnosticParts.{given_labels}
+use Rattle.miette_tree.specs.rules.Reads.{MayMeet}
 
 -- ---- answers of sources
 
@@ -31,6 +34,7 @@ AreFurther fails (section ∷ sections) =
 -- of all sources of a diagnostic
 abbrev pub ArePossible : Option Source → ReadAnswers → Diagnosis → Type 0
 ArePossible source a m = IsAnswered source (given_labels m.labels) a.own × AreFurther a.further m.snippets
+    × MayMeet source a.fixes
 
 abbrev mutual
   pub AreAnswers : Option Source → Answers → Tree → Type 0
@@ -41,6 +45,26 @@ abbrev mutual
   AllAnswers inherited more no_trees = Unit {0}
   AllAnswers inherited more (more_trees t ts) =
       AreAnswers inherited (first_answers more) t × AllAnswers inherited (later_answers more) ts
+
+-- ---- where fixes are read
+
+-- a diagnostic without fixes reads nothing for them
+abbrev pub reads_for : Option Source → List Proposal → Bool
+reads_for None fixes = true
+reads_for (Some source) fixes = is_nil fixes || source.always_reads
+
+-- every source that fixes of the report are read from always reads
+abbrev mutual
+  pub fixes_below : Option Source → Tree → Bool
+  fixes_below inherited (tree m own c r) = reads_for (effective own inherited) m.fixes
+      && all_fixes_below (effective own inherited) r
+
+  pub all_fixes_below : Option Source → Trees → Bool
+  all_fixes_below inherited no_trees = true
+  all_fixes_below inherited (more_trees t ts) = fixes_below inherited t && all_fixes_below inherited ts
+
+abbrev pub fixes_read : Tree → Bool
+fixes_read t = fixes_below None t
 
 -- ---- the text of a report
 

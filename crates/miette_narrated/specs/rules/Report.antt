@@ -9,6 +9,7 @@ use Rattle.miette_tree.specs.rules.Answers.{AnswerTree, AnswerTrees, own_or}
 pub use Rattle.miette_tree.specs.rules.Answers.{unlisted, listed, no_more, and_more, related_answers}
 pub use Rattle.miette_tree.specs.rules.Answers.{first_answers, later_answers}
 use Rattle.miette_narrated.specs.rules.Labels.{row}
+use Rattle.miette_narrated.specs.rules.Fixes.{fixed_source, fixes_rows}
 use Rattle.miette_narrated.specs.rules.Snippets.{snippets}
 use Rattle.miette_tree.specs.rules.DiagnosticParts.{given_labels, severity_text, severity_title}
 
@@ -23,13 +24,15 @@ default_settings = record { chain = true; context = 1; footer = None }
 
 -- ---- answers
 
--- which reads of a report's groups fail: over its first source, and over each further one
+-- which reads of a report's groups fail, over its first source and over each further one, and whether the read for its
+-- fixes does
 pub record ReadAnswers : Type 0 where
   pub own : List Bool
   pub further : List (List Bool)
+  pub fixes : Bool
 
 abbrev pub none_failed : ReadAnswers
-none_failed = record { own = []; further = [] }
+none_failed = record { own = []; further = []; fixes = false }
 
 -- The answers to the reads of a report, and the same of its related reports; those of causes are not told. A read that
 -- isn't listed succeeds.
@@ -81,10 +84,11 @@ abbrev pub url_rows : Option (List ℕ) → List ℕ
 url_rows None = []
 url_rows (Some url) = row (codes "For more details, see:") ++ row url
 
--- help, code and url
-abbrev pub advice_rows : Diagnosis → List ℕ
-advice_rows m = row_if (codes "diagnostic help: ") m.help
-    ++ (row_if (codes "diagnostic code: ") m.code ++ url_rows m.url)
+-- help, fixes, code and url
+abbrev pub advice_rows : Option Source → Bool → Diagnosis → List ℕ
+advice_rows source fails m = row_if (codes "diagnostic help: ") m.help
+    ++ (fixes_rows (fixed_source source fails) m.fixes
+    ++ (row_if (codes "diagnostic code: ") m.code ++ url_rows m.url))
 
 -- the snippets over a source, none without one
 abbrev pub snippet_rows : ℕ → Option Source → List Bool → List Label → List ℕ
@@ -103,9 +107,9 @@ abbrev pub all_snippets : ℕ → Option Source → ReadAnswers → Diagnosis �
 all_snippets context source a m =
     snippet_rows context source a.own (given_labels m.labels) ++ further_rows context a.further m.snippets
 
--- snippets, help, code and url
+-- snippets, help, fixes, code and url
 abbrev pub rows_below : ℕ → Option Source → ReadAnswers → Diagnosis → List ℕ
-rows_below context source a m = all_snippets context source a m ++ advice_rows m
+rows_below context source a m = all_snippets context source a m ++ advice_rows source a.fixes m
 
 -- a blank row where there are related reports
 abbrev pub blank_before : Trees → List ℕ
@@ -114,8 +118,8 @@ blank_before (more_trees t ts) = row []
 
 -- ---- the whole
 
--- related reports: title, message, severity, causes, snippets, help, code, url, and theirs, each over its effective
--- source
+-- related reports: title, message, severity, causes, snippets, help, fixes, code, url, and theirs, each over its
+-- effective source
 abbrev mutual
   pub related_report : ℕ → Option Source → Answers → Tree → List ℕ
   related_report context inherited a (tree m own c r) =
@@ -129,8 +133,8 @@ abbrev mutual
       related_report context inherited (first_answers more) t
       ++ related_reports context inherited (later_answers more) ts
 
--- the outermost report: message, severity, causes where they are told, snippets, help, code, url, related reports,
--- and the last row
+-- the outermost report: message, severity, causes where they are told, snippets, help, fixes, code, url, related
+-- reports, and the last row
 abbrev pub narration : NarrationSettings → Tree → Answers → List ℕ
 narration s (tree m own c r) a =
     head_rows m ++ (causes_if s.chain (causes_of c)

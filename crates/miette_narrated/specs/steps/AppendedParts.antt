@@ -2,10 +2,15 @@
 use Rattle.std.specs.Prelude.{◌≡◌, ℕ, Bool, List, ◌++◌, Option}
 use Rattle.miette_protocol.specs.views.Meaning.{Label}
 use Rattle.miette_protocol.specs.rules.Reading.{Source}
+use Rattle.miette_fixes.specs.rules.Edits.{Proposal}
 use Rattle.miette_tree.specs.rules.Diagnosis.{Diagnosis, Section}
+use Rattle.miette_tree.specs.rules.DiagnosticParts.{given_labels}
+use Rattle.miette_tree.specs.rules.Reads.{MayMeet}
 use Rattle.miette_tree.specs.rules.Tree.{Tree, Trees}
 use Rattle.miette_narrated.specs.rules.Report.{Answers, RelatedAnswers, snippet_rows, related_report, related_reports}
-use Rattle.miette_narrated.specs.rules.Report.{blank_before, ReadAnswers, further_rows, all_snippets}
+use Rattle.miette_narrated.specs.rules.Report.{blank_before, ReadAnswers, further_rows, all_snippets, advice_rows}
+use Rattle.miette_narrated.specs.rules.Report.{rows_below}
+use Rattle.miette_narrated.specs.rules.Fixes.{fixed_source, fixes_rows}
 use Rattle.miette_narrated.specs.rules.PossibleAnswers.{IsAnswered, AreFurther, ArePossible, AreAnswers, AllAnswers}
 
 -- new is old and then the snippets of these labels, for some answers
@@ -24,8 +29,27 @@ pub record AppendsFurther (context : ℕ) (sections : List Section) (old new : L
 -- new is old and then all snippets of a diagnostic, for some answers
 pub record AppendsAll (context : ℕ) (source : Option Source) (m : Diagnosis) (old new : List ℕ) : Type 0 where
   pub answers : ReadAnswers
-  pub possible : ArePossible source answers m
+  pub own : IsAnswered source (given_labels m.labels) answers.own
+  pub further : AreFurther answers.further m.snippets
   pub appended : new ≡ old ++ all_snippets context source answers m
+
+-- new is old and then fixes, where their read fails or not
+pub record AppendsFixes (source : Option Source) (fixes : List Proposal) (old new : List ℕ) : Type 0 where
+  pub fails : Bool
+  pub possible : MayMeet source fails
+  pub appended : new ≡ old ++ fixes_rows (fixed_source source fails) fixes
+
+-- new is old and then help, fixes, code and url
+pub record AppendsAdvice (source : Option Source) (m : Diagnosis) (old new : List ℕ) : Type 0 where
+  pub fails : Bool
+  pub possible : MayMeet source fails
+  pub appended : new ≡ old ++ advice_rows source fails m
+
+-- new is old and then all rows of a diagnostic below its causes, for some answers
+pub record AppendsBelow (context : ℕ) (source : Option Source) (m : Diagnosis) (old new : List ℕ) : Type 0 where
+  pub answers : ReadAnswers
+  pub possible : ArePossible source answers m
+  pub appended : new ≡ old ++ rows_below context source answers m
 
 -- new is old and then a related report, for some answers
 pub record AppendsReport (context : ℕ) (inherited : Option Source) (t : Tree) (old new : List ℕ) : Type 0 where

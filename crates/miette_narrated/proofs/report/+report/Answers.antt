@@ -55,17 +55,16 @@ pub push_report-returns-clause-text : goal.push_report-returns-clause-text
 push_report-returns-clause-text g t c =
     let value = tree_of g.D.Diagnostic.meaning g.S.SourceCode.source c.args.report.now in
     let inherited = option_map (shown_source g.S.SourceCode.source) c.args.inherited in
-    on_ok_weaker c.push_related.result (λ h. report_told c.args.context inherited value _ _ _ _ _ _ _ _
+    on_ok_weaker c.push_related.result (λ h. report_told c.args.context inherited value _ _ _ _ _ _ _
     c.own_or-source.ensures c.related.ensures.value
-    c.in_ok-push_titled.ensures c.in_ok-push_causes.ensures c.in_ok-push_all_snippets.ensures.text
-    c.in_ok-push_advice.ensures h) c.push_related.ensures.text
+    c.in_ok-push_titled.ensures c.in_ok-push_causes.ensures c.in_ok-push_below.ensures.text h) c.push_related.ensures.text
 
-pub push_report-returns-in_err-push_all_snippets-clause-refused :
-    goal.push_report-returns-in_err-push_all_snippets-clause-refused
-push_report-returns-in_err-push_all_snippets-clause-refused g t c = λ h.
+pub push_report-returns-in_err-push_below-clause-refused :
+    goal.push_report-returns-in_err-push_below-clause-refused
+push_report-returns-in_err-push_below-clause-refused g t c = λ h.
     own_refused (tree_of g.D.Diagnostic.meaning g.S.SourceCode.source c.args.report.now)
     (option_map (shown_source g.S.SourceCode.source) c.args.inherited) _ c.own_or-source.ensures
-    (c.in_err-push_all_snippets.ensures.refused (search rules))
+    (c.in_err-push_below.ensures.refused (search rules))
 
 pub push_report-returns-clause-refused : goal.push_report-returns-clause-refused
 push_report-returns-clause-refused g t c = λ h.

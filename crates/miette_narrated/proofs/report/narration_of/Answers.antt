@@ -14,14 +14,14 @@ use Rattle.miette_narrated.proofs.report.narration_of.Goals as goal
 pub returns-clause-text : goal.returns-clause-text
 returns-clause-text g c =
     whole_told (settings_of c.args.settings) (tree_of g.D.Diagnostic.meaning g.S.SourceCode.source c.args.report.now) _
-    _ _ _ _ _ _ _ _ c.own_or-source.ensures c.related.ensures.value c.new-text.ensures.bytes
-    c.in_ok-push_head.ensures c.in_ok-push_causes_if.ensures c.in_ok-push_all_snippets.ensures.text
-    c.in_ok-push_advice.ensures c.in_ok-push_related.ensures.text c.in_ok-push_row_if.ensures
+    _ _ _ _ _ _ _ c.own_or-source.ensures c.related.ensures.value c.new-text.ensures.bytes
+    c.in_ok-push_head.ensures c.in_ok-push_causes_if.ensures c.in_ok-push_below.ensures.text
+    c.in_ok-push_related.ensures.text c.in_ok-push_row_if.ensures
 
-pub returns-in_err-push_all_snippets-clause-refused : goal.returns-in_err-push_all_snippets-clause-refused
-returns-in_err-push_all_snippets-clause-refused g c = λ h.
+pub returns-in_err-push_below-clause-refused : goal.returns-in_err-push_below-clause-refused
+returns-in_err-push_below-clause-refused g c = λ h.
     own_refused (tree_of g.D.Diagnostic.meaning g.S.SourceCode.source c.args.report.now) None _ c.own_or-source.ensures
-    (c.in_err-push_all_snippets.ensures.refused (search rules))
+    (c.in_err-push_below.ensures.refused (search rules))
 
 pub returns-in_err-push_related-clause-refused : goal.returns-in_err-push_related-clause-refused
 returns-in_err-push_related-clause-refused g c = λ h.
