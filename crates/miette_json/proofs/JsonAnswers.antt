@@ -1,27 +1,31 @@
 -- Answers of reads, put together from those of the parts.
 use Rattle.std.proofs.Common.{◌≡◌, ℕ, ◌≤◌, List, [], ◌∷◌, ◌++◌, length, map, drop, Bool, true, false, Option, Some}
-use Rattle.std.proofs.Common.{None, refl, sym, ap, subst, ◌∙◌, append_assoc, codes}
+use Rattle.std.proofs.Common.{None, refl, sym, ap, subst, ◌∙◌, append_assoc, codes, ◌&&◌, ◌||◌}
 use Rattle.std.specs.Prelude.{IsUtf8, if◌then◌else◌, option_map}
 use Rattle.std.proofs.lemmas.List.{drop_all}
 use Rattle.std.proofs.lemmas.Bool.{and_parts}
+use Rattle.miette_basics.specs.rules.Lists.{is_nil}
+use Rattle.miette_tree.specs.rules.Diagnosis.{Diagnosis, Section}
 use Rattle.miette_protocol.specs.rules.Reading.{Source}
 use Rattle.miette_protocol.specs.views.Meaning.{Label}
 use Rattle.miette_tree.specs.rules.Tree.{Tree, tree, Trees, no_trees, more_trees, trees, effective, head, source_of}
-use Rattle.miette_tree.specs.rules.Tree.{cause_of, causes_of, related_of}
+use Rattle.miette_tree.specs.rules.Tree.{Cause, cause_of, causes_of, related_of}
 use Rattle.miette_json.specs.rules.Json.{Json, string, array, object, Items, item, no_members, member, items_text}
 use Rattle.miette_json.specs.rules.Json.{json_text}
 use Rattle.miette_json.specs.rules.Denotes.{Denotes, HasTokensOf}
 use Rattle.miette_json.specs.rules.JsonReport.{NameAnswers, unlisted, listed, RelatedNameAnswers, no_more, and_more}
 use Rattle.miette_json.specs.rules.JsonReport.{related_answers, first_answers, later_answers, AreAnswers, AllAnswers}
-use Rattle.miette_json.specs.rules.JsonReport.{report_json, report_object, reports_json, file_name}
+use Rattle.miette_json.specs.rules.JsonReport.{report_json, report_object, reports_json, file_name, NameFaults}
+use Rattle.miette_json.specs.rules.JsonReport.{own_faults, first_fault, later_faults, AreFurther, section_json}
+use Rattle.miette_json.specs.rules.JsonReport.{sections_json, labels_json}
 use Rattle.miette_tree.specs.rules.DiagnosticParts.{given_labels, severity_text}
-use Rattle.miette_tree.specs.rules.Answers.{own_fault}
 use Rattle.miette_tree.proofs.Readings.{fault_free, own_holds}
-use Rattle.miette_tree.specs.rules.Reads.{MayMeet, always_reads, holds_of, holds_of_all}
+use Rattle.miette_tree.specs.rules.Reads.{MayMeet, always_reads, holds_of, holds_of_all, holds_further}
 use Rattle.miette_json.specs.rules.JsonText.{IsJsonOf}
 use Rattle.miette_json.proofs.JsonJoined.{last_piece, report_parts}
 use Rattle.miette_json.specs.steps.JsonParts.{rest_text, AppendsReport, AppendsRelated, AppendsPlaces, head_text}
-use Rattle.miette_json.specs.steps.JsonParts.{reasons_text, places_text, key_text, list_key_text}
+use Rattle.miette_json.specs.steps.JsonParts.{reasons_text, places_text, attached_text, key_text, list_key_text}
+use Rattle.miette_json.specs.steps.JsonParts.{AppendsAttached}
 
 -- Some related reports are written, and these are left: whatever answers these have, the whole has some.
 pub record RelatedSoFar (inherited : Option Source) (all left : Trees) (first : Bool) (old now : List ℕ) : Type 0 where
@@ -69,32 +73,34 @@ at_the_end value inherited rs all i first old now h r =
     subst (λ l. RelatedSoFar inherited all (trees (map value l)) first old now) (drop_all i rs h) r
 
 -- what the parts of a report's object add
-joined : (old b p q r new h re pl key x : List ℕ) → b ≡ (old ++ h) ++ re → p ≡ b ++ pl → q ≡ p ++ (key ++ 91 ∷ []) → r
-    ≡ q ++ x → new ≡ r ++ 125 ∷ []
-    → new ≡ old ++ (h ++ (re ++ (pl ++ (key ++ (91 ∷ (x ++ 125 ∷ []))))))
-joined old b p q r new h re pl key x f g j l m =
-    m ∙ ap (λ y. y ++ 125 ∷ []) (l ∙ ap (λ y. y ++ x) (j ∙ ap (λ y. y ++ (key ++ 91 ∷ [])) (g ∙ ap (λ y. y ++ pl) f)))
-    ∙ simp append_assoc
+joined : (old b p a q r new h re pl at key x : List ℕ) → b ≡ (old ++ h) ++ re → p ≡ b ++ pl → a ≡ p ++ at
+    → q ≡ a ++ (key ++ 91 ∷ []) → r ≡ q ++ x → new ≡ r ++ 125 ∷ []
+    → new ≡ old ++ (h ++ (re ++ (pl ++ (at ++ (key ++ (91 ∷ (x ++ 125 ∷ [])))))))
+joined old b p a q r new h re pl at key x f g k j l m =
+    m ∙ ap (λ y. y ++ 125 ∷ []) (l ∙ ap (λ y. y ++ x) (j ∙ ap (λ y. y ++ (key ++ 91 ∷ []))
+    (k ∙ ap (λ y. y ++ at) (g ∙ ap (λ y. y ++ pl) f)))) ∙ simp append_assoc
 
 pub report_written : (inherited : Option Source) (t : Tree) (source : Option Source) (labels : List Label)
-    (related : Trees) (old b p q r new : List ℕ)
+    (related : Trees) (old b p a q r new : List ℕ)
     → source ≡ effective (source_of t) inherited → labels ≡ given_labels (head t).labels → related ≡ related_of t
     → b ≡ (old ++ head_text (head t)) ++ reasons_text (causes_of (cause_of t)) (head t)
-    → AppendsPlaces source labels b p
-    → q ≡ p ++ list_key_text (codes "related") → AppendsRelated source related q r → new ≡ r ++ 125 ∷ []
+    → AppendsPlaces source labels b p → AppendsAttached (head t) p a
+    → q ≡ a ++ list_key_text (codes "related") → AppendsRelated source related q r → new ≡ r ++ 125 ∷ []
     → AppendsReport inherited t old new
-report_written inherited (tree m s c rs) source labels related old b p q r new es el er f places g others i =
+report_written inherited (tree m s c rs) source labels related old b p a q r new es el er f places more g others i =
     let own = effective s inherited in
     let here : AppendsPlaces own (given_labels m.labels) b p =
     subst (λ l. AppendsPlaces own l b p) el (subst (λ o. AppendsPlaces o labels b p) es places) in
     let there : AppendsRelated own rs q r = subst (λ ts. AppendsRelated own ts q r) er
     (subst (λ o. AppendsRelated o related q r) es others) in
-    let answers : NameAnswers = listed here.fault unlisted there.answers in record {
+    let faults : NameFaults = record { own = here.fault; further = more.faults } in
+    let answers : NameAnswers = listed faults unlisted there.answers in record {
       answers = answers;
-      possible = (here.possible, there.possible);
-      appended = joined old b p q r new (head_text m) (reasons_text (causes_of c) m)
-          (places_text here.fault own (given_labels m.labels)) (key_text (codes "related"))
-          (items_text (reports_json own there.answers rs)) f here.appended g there.appended i
+      possible = ((here.possible, more.possible), there.possible);
+      appended = joined old b p a q r new (head_text m) (reasons_text (causes_of c) m)
+          (places_text here.fault own (given_labels m.labels)) (attached_text more.faults m) (key_text (codes "related"))
+          (items_text (reports_json own there.answers rs)) f here.appended more.appended g
+          there.appended i
           ∙ ap (λ l. old ++ l) (sym (report_parts inherited answers (tree m s c rs)));
     }
 
@@ -107,6 +113,28 @@ same_name None labels b f r = refl
 same_name (Some s) [] b f r = refl
 same_name (Some s) (l ∷ ls) b f r = ap (λ fault. Some (file_name fault (l ∷ ls) s)) (fault_free (Some s) b f r)
 
+same_file : (s : Source) (labels : List Label) (b : Bool) → MayMeet (Some s) b
+    → (is_nil labels || s.always_reads) ≡ true → file_name b labels s ≡ file_name false labels s
+same_file s [] b f r = refl
+same_file s (l ∷ ls) b f r = ap (λ fault. file_name fault (l ∷ ls) s) (fault_free (Some s) b f r)
+
+same_sections : (faults : List Bool) (sections : List Section) → AreFurther faults sections
+    → holds_further always_reads sections ≡ true → sections_json faults sections ≡ sections_json [] sections
+same_sections faults [] p reads = refl
+same_sections faults (s ∷ ss) p reads =
+    let read = and_parts (is_nil s.labels || s.source.always_reads) (holds_further always_reads ss) reads in
+    ap (λ name. item (object (member (codes "filename") (string name)
+    (member (codes "labels") (array (labels_json s.labels)) no_members))) (sections_json (later_faults faults) ss))
+    (same_file s.source s.labels (first_fault faults) p.0 read.0)
+    ∙ ap (item (section_json false s.source s.labels)) (same_sections (later_faults faults) ss p.1 read.1)
+
+-- what a test finds of a report's further sources
+further_holds : (test : Option Source → List Label → Bool) (m : Diagnosis) (s inherited : Option Source) (c : Cause)
+    (r : Trees) → holds_of test inherited (tree m s c r) ≡ true → holds_further test m.snippets ≡ true
+further_holds test m s inherited c r e =
+    (and_parts (test (effective s inherited) (given_labels m.labels)
+    && holds_of_all test (effective s inherited) r) (holds_further test m.snippets) e).1
+
 mutual
   same_value : (inherited : Option Source) (a : NameAnswers) (t : Tree) → AreAnswers inherited a t
       → holds_of always_reads inherited t ≡ true → report_json inherited a t ≡ report_json inherited unlisted t
@@ -114,12 +142,18 @@ mutual
       let own : Option Source = effective s inherited in
       let labels : List Label = given_labels m.labels in
       let read = own_holds always_reads m s inherited c r reads in
-      let name : option_map (file_name (own_fault a) labels) own ≡ option_map (file_name false labels) own =
-      same_name own labels (own_fault a) p.0 read.0 in
+      let faults = own_faults a in
+      let name : option_map (file_name faults.own labels) own ≡ option_map (file_name false labels) own =
+      same_name own labels faults.own p.0.0 read.0 in
+      let further : sections_json faults.further m.snippets ≡ sections_json [] m.snippets =
+      same_sections faults.further m.snippets p.0.1 (further_holds always_reads m s inherited c r reads) in
       let others : reports_json own (related_answers a) r ≡ reports_json own no_more r =
       same_values own (related_answers a) r p.1 read.1 in
-      ap (λ n. report_object m (causes_of c) n (reports_json own (related_answers a) r)) name
-      ∙ ap (report_object m (causes_of c) (option_map (file_name false labels) own)) others
+      let first = option_map (file_name false labels) own in
+      ap (λ n. report_object m (causes_of c) n (sections_json faults.further m.snippets)
+      (reports_json own (related_answers a) r)) name
+      ∙ ap (λ is. report_object m (causes_of c) first is (reports_json own (related_answers a) r)) further
+      ∙ ap (report_object m (causes_of c) first (sections_json [] m.snippets)) others
 
   same_values : (inherited : Option Source) (a : RelatedNameAnswers) (ts : Trees) → AllAnswers inherited a ts
       → holds_of_all always_reads inherited ts ≡ true → reports_json inherited a ts ≡ reports_json inherited no_more ts

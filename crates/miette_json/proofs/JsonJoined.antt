@@ -2,16 +2,16 @@
 use Rattle.std.proofs.Common.{◌≡◌, ℕ, List, [], ◌∷◌, ◌++◌, Option, Some, None, refl, sym, ap, ◌∙◌, append_assoc}
 use Rattle.std.proofs.Common.{append-nil, Bool, true, false, codes, option_map}
 use Rattle.std.specs.Prelude.{if◌then◌else◌}
-use Rattle.miette_json.specs.rules.Json.{Json, string, array, object, Items, item, Members, no_members, member}
+use Rattle.miette_json.specs.rules.Json.{Json, string, array, object, Items, no_items, item, Members, no_members}
+use Rattle.miette_json.specs.rules.Json.{member}
 use Rattle.miette_json.specs.rules.Json.{quoted_text, json_text, items_text, more_members_text}
 use Rattle.miette_protocol.specs.rules.Reading.{Source}
 use Rattle.miette_tree.specs.rules.Tree.{Tree, tree, head, source_of, cause_of, causes_of, related_of, effective}
-use Rattle.miette_json.specs.rules.JsonReport.{NameAnswers, related_answers, maybe, strings, labels_json, file_name}
-use Rattle.miette_json.specs.rules.JsonReport.{report_json, reports_json}
+use Rattle.miette_json.specs.rules.JsonReport.{NameAnswers, own_faults, related_answers, maybe, maybe_list, strings, labels_json, file_name}
+use Rattle.miette_json.specs.rules.JsonReport.{report_json, reports_json, sections_json, fixes_json}
 use Rattle.miette_tree.specs.rules.DiagnosticParts.{severity_text, given_labels}
-use Rattle.miette_tree.specs.rules.Answers.{own_fault}
 use Rattle.miette_json.specs.steps.JsonParts.{name_text, member_before, key_text, maybe_text, rest_text, start_text}
-use Rattle.miette_json.specs.steps.JsonParts.{head_text, reasons_text, places_text}
+use Rattle.miette_json.specs.steps.JsonParts.{head_text, reasons_text, places_text, attached_text, maybe_list_text}
 
 -- what is left to write grows shorter
 pub step : (out new piece rest goal : List ℕ) → out ++ (piece ++ rest) ≡ goal → new ≡ out ++ piece → new ++ rest ≡ goal
@@ -72,19 +72,27 @@ maybe_member key (Some s) more = ap (λ l. 44 ∷ l) (sym
     (append_assoc (quoted_text key ++ (58 ∷ 32 ∷ [])) (quoted_text s) (more_members_text more)
     ∙ append_assoc (quoted_text key) (58 ∷ 32 ∷ []) (quoted_text s ++ more_members_text more)))
 
-module _ (message_key code_key severity_key causes_key url_key help_key name_key labels_key related_key : List ℕ)
-    (message severity : List ℕ) (code url help name : Option (List ℕ)) (causes labels related : Items) where
+pub listed_member : (key : List ℕ) (is : Items) (more : Members) → more_members_text (maybe_list key is more)
+    ≡ maybe_list_text key is ++ more_members_text more
+listed_member key no_items more = refl
+listed_member key (item v others) more = simp append_assoc
+
+module _ (message_key code_key severity_key causes_key url_key help_key name_key labels_key : List ℕ)
+    (snippets_key fixes_key related_key message severity : List ℕ) (code url help name : Option (List ℕ))
+    (causes labels snippets fixes related : Items) where
   pub parts :
       json_text (object (member message_key (string message)
       (maybe code_key code (member severity_key (string severity) (member causes_key (array causes)
       (maybe url_key url (maybe help_key help (maybe name_key name
-      (member labels_key (array labels) (member related_key (array related) no_members))))))))))
+      (member labels_key (array labels) (maybe_list snippets_key snippets (maybe_list fixes_key fixes
+      (member related_key (array related) no_members))))))))))))
       ≡ (123 ∷ (quoted_text message_key ++ (58 ∷ 32 ∷ (quoted_text message
       ++ (maybe_text code_key code ++ (key_text severity_key ++ quoted_text severity))))))
       ++ ((key_text causes_key ++ (91 ∷ (items_text causes ++ (maybe_text url_key url ++ maybe_text help_key help))))
       ++ ((maybe_text name_key name ++ (key_text labels_key ++ (91 ∷ items_text labels)))
-      ++ (key_text related_key ++ (91 ∷ (items_text related ++ 125 ∷ [])))))
-  parts = simp (maybe_member, append_assoc)
+      ++ ((maybe_list_text snippets_key snippets ++ maybe_list_text fixes_key fixes)
+      ++ (key_text related_key ++ (91 ∷ (items_text related ++ 125 ∷ []))))))
+  parts = simp (maybe_member, listed_member, append_assoc)
 
 pub label_parts : (first second : List ℕ) (o : Option (List ℕ)) (v : Json)
     → json_text (object (maybe first o (member second v no_members))) ≡ start_text first second o
@@ -96,15 +104,16 @@ label_parts first second (Some s) v = simp append_assoc
 pub report_parts : (inherited : Option Source) (a : NameAnswers) (t : Tree) →
     json_text (report_json inherited a t)
     ≡ head_text (head t) ++ (reasons_text (causes_of (cause_of t)) (head t)
-    ++ (places_text (own_fault a) (effective (source_of t) inherited) (given_labels (head t).labels)
-    ++ (key_text (codes "related") ++ (91 ∷ (items_text (reports_json (effective (source_of t) inherited)
-    (related_answers a) (related_of t)) ++ 125 ∷ [])))))
+    ++ (places_text (own_faults a).own (effective (source_of t) inherited) (given_labels (head t).labels)
+    ++ (attached_text (own_faults a).further (head t) ++ (key_text (codes "related") ++ (91 ∷ (items_text (reports_json (effective (source_of t) inherited)
+    (related_answers a) (related_of t)) ++ 125 ∷ []))))))
 report_parts inherited a (tree m s c r) =
     parts (codes "message") (codes "code") (codes "severity") (codes "causes") (codes "url") (codes "help")
-    (codes "filename") (codes "labels") (codes "related")
+    (codes "filename") (codes "labels") (codes "snippets") (codes "fixes") (codes "related")
     m.message (severity_text m.severity) m.code m.url m.help
-    (option_map (file_name (own_fault a) (given_labels m.labels)) (effective s inherited))
-    (strings (causes_of c)) (labels_json (given_labels m.labels))
+    (option_map (file_name (own_faults a).own (given_labels m.labels)) (effective s inherited))
+    (strings (causes_of c)) (labels_json (given_labels m.labels)) (sections_json (own_faults a).further m.snippets)
+    (fixes_json m.fixes)
     (reports_json (effective s inherited) (related_answers a) r)
 
 pub last_piece : (first : Bool) (old comma new : List ℕ) (j : Json) (more : Items) (goal : List ℕ)

@@ -3,3 +3,4 @@ pub mod JsonUnique
 pub mod JsonUtf8
 pub mod JsonJoined
 pub mod JsonAnswers
+pub mod JsonAttached

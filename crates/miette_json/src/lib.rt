@@ -1,7 +1,10 @@
 //! The JSON report: its text, and the value that it denotes.
 #![tactic(auto)]
 
+mod attached;
 pub mod handler;
 pub mod laws;
+mod members;
+mod places;
 mod report;
 mod text;

@@ -1,11 +1,13 @@
 -- The JSON value of a report, by its tree and by what the reads for its file names answered.
-use Rattle.std.specs.Prelude.{◌≡◌, ℕ, Bool, if◌then◌else◌, List, [], ◌∷◌}
+use Rattle.std.specs.Prelude.{◌≡◌, ℕ, Bool, false, if◌then◌else◌, List, [], ◌∷◌}
 use Rattle.std.specs.Prelude.{Option, Some, None, option_map, unwrap_or, codes, ⊤}
+use Rattle.miette_fixes.specs.rules.Edits.{Replacement, Proposal}
+use Rattle.miette_fixes.specs.rules.Texts.{applicability_name}
 use Rattle.miette_protocol.specs.views.Meaning.{Label}
-use Rattle.miette_tree.specs.rules.Diagnosis.{Diagnosis}
+use Rattle.miette_tree.specs.rules.Diagnosis.{Diagnosis, Section}
 use Rattle.miette_protocol.specs.rules.Reading.{Source, Span, is_accepted}
 use Rattle.miette_tree.specs.rules.Tree.{Tree, tree, causes_of, Trees, no_trees, more_trees, effective}
-use Rattle.miette_tree.specs.rules.Answers.{AnswerTree, AnswerTrees, own_fault}
+use Rattle.miette_tree.specs.rules.Answers.{AnswerTree, AnswerTrees, own_or}
 pub use Rattle.miette_tree.specs.rules.Answers.{unlisted, listed, no_more, and_more, related_answers}
 pub use Rattle.miette_tree.specs.rules.Answers.{first_answers, later_answers}
 use Rattle.miette_json.specs.rules.Json.{Json, number, string, array, object, Items, no_items, item, Members}
@@ -15,18 +17,48 @@ use Rattle.miette_tree.specs.rules.Reads.{MayMeet}
 
 -- ---- answers
 
--- Of a report, and of the reports that are related to it: did the read for the file name meet a fault? What isn't
--- listed met none. Causes have no file name, so what is listed of them says nothing.
+-- Did the read for the file name meet a fault? over the first source of a report, and over each further one
+pub record NameFaults : Type 0 where
+  pub own : Bool
+  pub further : List Bool
+
+abbrev pub none_met : NameFaults
+none_met = record { own = false; further = [] }
+
+-- Of a report, and of the reports that are related to it. What isn't listed met no fault. Causes have no file name, so
+-- what is listed of them says nothing.
 abbrev pub NameAnswers : Type 0
-NameAnswers = AnswerTree Bool
+NameAnswers = AnswerTree NameFaults
 
 abbrev pub RelatedNameAnswers : Type 0
-RelatedNameAnswers = AnswerTrees Bool
+RelatedNameAnswers = AnswerTrees NameFaults
+
+abbrev pub own_faults : NameAnswers → NameFaults
+own_faults a = own_or none_met a
+
+-- of the first of several sources, and of those after it
+abbrev pub first_fault : List Bool → Bool
+first_fault [] = false
+first_fault (fault ∷ more) = fault
+
+abbrev pub later_faults : List Bool → List Bool
+later_faults [] = []
+later_faults (fault ∷ more) = more
+
+-- the answers that further sources can have given
+abbrev pub AreFurther : List Bool → List Section → Type 0
+AreFurther faults [] = ⊤
+AreFurther faults (section ∷ sections) =
+    MayMeet (Some section.source) (first_fault faults) × AreFurther (later_faults faults) sections
+
+-- the answers that all sources of a diagnostic can have given
+abbrev pub ArePossible : Option Source → NameFaults → Diagnosis → Type 0
+ArePossible source faults m = MayMeet source faults.own × AreFurther faults.further m.snippets
 
 -- the answers that sources can have given
 abbrev mutual
   pub AreAnswers : Option Source → NameAnswers → Tree → Type 0
-  AreAnswers inherited a (tree m s c r) = MayMeet (effective s inherited) (own_fault a)
+  AreAnswers inherited a (tree m s c r) = ArePossible (effective s inherited) (own_faults a) m
       × AllAnswers (effective s inherited) (related_answers a) r
 
   pub AllAnswers : Option Source → RelatedNameAnswers → Trees → Type 0
@@ -40,6 +72,11 @@ abbrev mutual
 abbrev pub maybe : List ℕ → Option (List ℕ) → Members → Members
 maybe key None more = more
 maybe key (Some s) more = member key (string s) more
+
+-- a member with a list, where there is an item
+abbrev pub maybe_list : List ℕ → Items → Members → Members
+maybe_list key no_items more = more
+maybe_list key (item v others) more = member key (array (item v others)) more
 
 abbrev pub strings : List (List ℕ) → Items
 strings [] = no_items
@@ -62,11 +99,40 @@ abbrev pub file_name : Bool → List Label → Source → List ℕ
 file_name fault [] s = []
 file_name fault (l ∷ ls) s = if is_accepted s.bytes l.span then (if fault then [] else unwrap_or s.name []) else []
 
+-- labels over a further source
+abbrev pub section_json : Bool → Source → List Label → Json
+section_json fault s labels = object (member (codes "filename") (string (file_name fault labels s))
+    (member (codes "labels") (array (labels_json labels)) no_members))
+
+abbrev pub sections_json : List Bool → List Section → Items
+sections_json faults [] = no_items
+sections_json faults (section ∷ sections) =
+    item (section_json (first_fault faults) section.source section.labels) (sections_json (later_faults faults) sections)
+
+-- edits as they are given, whether they can be applied or not
+abbrev pub edit_json : Replacement → Json
+edit_json edit = object (member (codes "span") (span_json edit.span)
+    (member (codes "text") (string edit.text) no_members))
+
+abbrev pub edits_json : List Replacement → Items
+edits_json [] = no_items
+edits_json (edit ∷ edits) = item (edit_json edit) (edits_json edits)
+
+abbrev pub fix_json : Proposal → Json
+fix_json fix = object (member (codes "message") (string fix.message)
+    (member (codes "applicability") (string (applicability_name fix.applicability))
+    (member (codes "edits") (array (edits_json fix.edits)) no_members)))
+
+abbrev pub fixes_json : List Proposal → Items
+fixes_json [] = no_items
+fixes_json (fix ∷ fixes) = item (fix_json fix) (fixes_json fixes)
+
 -- ---- the value
 
--- the object of a report, with these texts of causes, this file name and these objects of related reports
-abbrev pub report_object : Diagnosis → List (List ℕ) → Option (List ℕ) → Items → Json
-report_object m causes name related =
+-- The object of a report, with these texts of causes, this file name, these objects of further sources and these of
+-- related reports.
+abbrev pub report_object : Diagnosis → List (List ℕ) → Option (List ℕ) → Items → Items → Json
+report_object m causes name snippets related =
     object
     (member (codes "message") (string m.message)
     (maybe (codes "code") m.code
@@ -76,13 +142,16 @@ report_object m causes name related =
     (maybe (codes "help") m.help
     (maybe (codes "filename") name
     (member (codes "labels") (array (labels_json (given_labels m.labels)))
-    (member (codes "related") (array related) no_members)))))))))
+    (maybe_list (codes "snippets") snippets
+    (maybe_list (codes "fixes") (fixes_json m.fixes)
+    (member (codes "related") (array related) no_members)))))))))))
 
 abbrev mutual
   pub report_json : Option Source → NameAnswers → Tree → Json
   report_json inherited a (tree m s c r) =
       report_object m (causes_of c)
-      (option_map (file_name (own_fault a) (given_labels m.labels)) (effective s inherited))
+      (option_map (file_name (own_faults a).own (given_labels m.labels)) (effective s inherited))
+      (sections_json (own_faults a).further m.snippets)
       (reports_json (effective s inherited) (related_answers a) r)
 
   pub reports_json : Option Source → RelatedNameAnswers → Trees → Items

@@ -1,12 +1,13 @@
 -- What is appended for each part of a report.
 use Rattle.std.specs.Prelude.{◌≡◌, ℕ, Bool, true, false, List, [], ◌∷◌, ◌++◌, Option, Some, None, option_map, codes}
 use Rattle.miette_protocol.specs.views.Meaning.{Label}
-use Rattle.miette_tree.specs.rules.Diagnosis.{Diagnosis}
+use Rattle.miette_tree.specs.rules.Diagnosis.{Diagnosis, Section}
 use Rattle.miette_protocol.specs.rules.Reading.{Source}
 use Rattle.miette_tree.specs.rules.Tree.{Tree, Trees}
-use Rattle.miette_json.specs.rules.Json.{Items, quoted_text, json_text, items_text, more_items_text}
-use Rattle.miette_json.specs.rules.JsonReport.{NameAnswers, RelatedNameAnswers, AreAnswers, AllAnswers}
+use Rattle.miette_json.specs.rules.Json.{Items, no_items, item, quoted_text, json_text, items_text, more_items_text}
+use Rattle.miette_json.specs.rules.JsonReport.{NameAnswers, RelatedNameAnswers, AreAnswers, AllAnswers, AreFurther}
 use Rattle.miette_json.specs.rules.JsonReport.{strings, labels_json, file_name, report_json, reports_json}
+use Rattle.miette_json.specs.rules.JsonReport.{section_json, sections_json, fixes_json}
 use Rattle.miette_tree.specs.rules.DiagnosticParts.{severity_text}
 use Rattle.miette_tree.specs.rules.Reads.{MayMeet}
 
@@ -49,6 +50,11 @@ abbrev pub maybe_text : List ℕ → Option (List ℕ) → List ℕ
 maybe_text key None = []
 maybe_text key (Some s) = key_text key ++ quoted_text s
 
+-- a member with a list after another, where there is an item
+abbrev pub maybe_list_text : List ℕ → Items → List ℕ
+maybe_list_text key no_items = []
+maybe_list_text key (item v more) = list_key_text key ++ items_text (item v more)
+
 -- the rest of a list and its end, from its first item on or from a later one on
 abbrev pub rest_text : Bool → Items → List ℕ
 rest_text true is = items_text is
@@ -75,6 +81,35 @@ pub record AppendsPlaces (source : Option Source) (labels : List Label) (old new
   pub fault : Bool
   pub possible : MayMeet source fault
   pub appended : new ≡ old ++ places_text fault source labels
+
+-- new is old and then a further source, for some answer of it
+pub record AppendsSection (source : Source) (labels : List Label) (old new : List ℕ) : Type 0 where
+  pub fault : Bool
+  pub possible : MayMeet (Some source) fault
+  pub appended : new ≡ old ++ json_text (section_json fault source labels)
+
+-- new is old and then further sources and the end of their list, for some answers
+pub record AppendsSections (sections : List Section) (old new : List ℕ) : Type 0 where
+  pub faults : List Bool
+  pub possible : AreFurther faults sections
+  pub appended : new ≡ old ++ items_text (sections_json faults sections)
+
+-- new is old and then the member of further sources, where there are some, for some answers
+pub record AppendsSnippets (sections : List Section) (old new : List ℕ) : Type 0 where
+  pub faults : List Bool
+  pub possible : AreFurther faults sections
+  pub appended : new ≡ old ++ maybe_list_text (codes "snippets") (sections_json faults sections)
+
+-- further sources and fixes, where there are some
+abbrev pub attached_text : List Bool → Diagnosis → List ℕ
+attached_text faults m = maybe_list_text (codes "snippets") (sections_json faults m.snippets)
+    ++ maybe_list_text (codes "fixes") (fixes_json m.fixes)
+
+-- new is old and then further sources and fixes, for some answers
+pub record AppendsAttached (m : Diagnosis) (old new : List ℕ) : Type 0 where
+  pub faults : List Bool
+  pub possible : AreFurther faults m.snippets
+  pub appended : new ≡ old ++ attached_text faults m
 
 -- the beginning of an object with a text, where there is one, up to the value after the second key
 abbrev pub start_text : List ℕ → List ℕ → Option (List ℕ) → List ℕ

@@ -42,7 +42,7 @@ pub push_report-returns : goal.push_report-returns
 push_report-returns g t c =
     let value = tree_of g.D.Diagnostic.meaning g.S.SourceCode.source c.args.report.now in
     let inherited = option_map (shown_source g.S.SourceCode.source) c.args.inherited in
-    on_ok_weaker c.push_str.result (report_written inherited value _ _ _ _ _ _ _ _ _ c.own_or-source.ensures
+    on_ok_weaker c.push_str.result (report_written inherited value _ _ _ _ _ _ _ _ _ _ c.own_or-source.ensures
     c.labels_of.ensures c.related.ensures.value c.in_ok-push_start.ensures c.in_ok-push_places.ensures
-    c.in_ok-push_list_key.ensures c.in_ok-push_related.ensures)
+    c.in_ok-push_attached.ensures c.in_ok-push_list_key.ensures c.in_ok-push_related.ensures)
     (where_written c.push_str.result _ _ _ c.push_str.ensures.bytes)

@@ -2,7 +2,7 @@ use Rattle.std.proofs.Common.{◌≡◌, ◌++◌, string_bytes, drop}
 use Rattle.miette_json.specs.rules.Json.{items_text}
 use Rattle.miette_json.specs.rules.JsonReport.{labels_json}
 use Rattle.miette_json.specs.steps.JsonParts.{rest_text}
-use Rattle.miette_json.proofs.report.push_labels.Given as goal
+use Rattle.miette_json.proofs.places.push_labels.Given as goal
 
 abbrev pub invariant-loop-label : goal.invariant-loop-label
 invariant-loop-label l =

@@ -6,7 +6,7 @@ use Rattle.miette_json.specs.rules.Json.{items_text}
 use Rattle.miette_json.specs.rules.JsonReport.{file_name, labels_json}
 use Rattle.miette_json.specs.steps.JsonParts.{key_text, maybe_text}
 use Rattle.miette_json.proofs.JsonJoined.{append_parts}
-use Rattle.miette_json.proofs.report.push_places.Goals as goal
+use Rattle.miette_json.proofs.places.push_places.Goals as goal
 
 pub returns : goal.returns
 returns g c =

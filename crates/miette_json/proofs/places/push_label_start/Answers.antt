@@ -2,7 +2,7 @@ use Rattle.std.proofs.Common.{ap, ◌∙◌, ◌++◌, string_bytes, codes}
 use Rattle.std.proofs.lemmas.Result.{on_ok_weaker}
 use Rattle.miette_json.specs.steps.JsonParts.{member_before}
 use Rattle.miette_json.proofs.JsonJoined.{start_parts}
-use Rattle.miette_json.proofs.report.push_label_start.Goals as goal
+use Rattle.miette_json.proofs.places.push_label_start.Goals as goal
 
 pub returns : goal.returns
 returns c =

@@ -5,11 +5,11 @@ use Rattle.miette_json.specs.rules.Json.{numeral, quoted_text}
 use Rattle.miette_tree.proofs.Written.{where_written}
 use Rattle.miette_json.proofs.JsonJoined.{span_parts}
 use Rattle.miette_json.proofs.JsonSpelled.{numeral_decimal}
-use Rattle.miette_json.proofs.report.push_span.Goals as goal
+use Rattle.miette_json.proofs.places.push_span.Goals as goal
 
 pub returns : goal.returns
 returns c =
-    let span = c.args.label.now.span in
+    let span = c.args.span.now in
     let offset : decimal c.offset.result ≡ numeral span.offset = sym (numeral_decimal c.offset.result (omega arith))
     ∙ ap numeral c.offset.ensures in
     let len : decimal c.len.result ≡ numeral span.len = sym (numeral_decimal c.len.result (omega arith))
