@@ -3,3 +3,6 @@ pub mod Options
 pub mod Choice
 pub mod Detection
 pub mod Printing
+pub mod Counting
+pub mod Forms
+pub mod Run

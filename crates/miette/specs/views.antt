@@ -1,2 +1,4 @@
 -- What the code's values stand for.
 pub mod Handler
+pub mod FormHandler
+pub mod Beginning

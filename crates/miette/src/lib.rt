@@ -2,10 +2,12 @@
 //! their text. This crate names what its users need from the layers below.
 #![tactic(auto)]
 
+pub mod host;
 pub mod laws;
 pub mod options;
 pub mod prelude;
 pub mod print;
+pub mod reporter;
 pub mod terminal;
 
 pub use miette_fixes::fix;

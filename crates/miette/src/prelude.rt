@@ -1,10 +1,14 @@
 //! The names that most programs use: `use miette::prelude::*;`.
 
+pub use crate::host::Host;
 pub use crate::options::{MietteHandlerOpts, Terminal};
 pub use crate::print::{eprint_report, eprint_report_with, print_report, print_report_with};
-pub use crate::terminal::Stream;
+pub use crate::reporter::{Form, Reporter};
+pub use crate::terminal::{Stream, Streams};
 pub use miette_fixes::fix::{Applicability, Edit, Fix};
-pub use miette_handlers::handlers::{GraphicalReportHandler, JSONReportHandler, ReportHandler};
+pub use miette_handlers::handlers::{
+    BriefReportHandler, GraphicalReportHandler, JSONReportHandler, ReportHandler,
+};
 pub use miette_protocol::diagnostic::MietteDiagnostic;
 pub use miette_protocol::protocol::{Diagnostic, LabeledSpan, Severity, SourceSpan};
 pub use miette_protocol::source::{NamedSource, SourceCode};

@@ -253,7 +253,7 @@ fn plain() -> MietteHandlerOpts<BlankHighlighter>
 }
 
 // The row that says why a report was not printed.
-fn tell<F: Write>(why: PrintError, faults: &mut F) -> io::Result<()>
+pub(crate) fn tell<F: Write>(why: PrintError, faults: &mut F) -> io::Result<()>
     ensures { OnOk result (Appends (F.contents faults.old) (F.contents faults.new) (unprinted_row why)) }
 {
     writeln!(faults, "a report could not be printed: {why}")

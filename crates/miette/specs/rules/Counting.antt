@@ -1,0 +1,32 @@
+-- How many reports there are of each severity, and how that is told.
+use Rattle.std.specs.Prelude.{ℕ, ◌+◌, ◌-◌, ◌^◌, min, List, [], ◌++◌, Option, None, Some, if◌then◌else◌, nat_eq, codes, decimal}
+use Rattle.miette_protocol.specs.declared.protocol.Severity.{Severity}
+use Rattle.miette_protocol.specs.declared.protocol.Severity.TheVariants.{Advice, Warning, Error}
+use Rattle.miette.specs.declared.reporter.counts.Counts.{Counts}
+
+abbrev pub no_counts : Counts
+no_counts = record { errors = 0; warnings = 0; advices = 0 }
+
+-- one more, up to the largest `usize`
+abbrev pub one_more : ℕ → ℕ
+one_more n = min (n + 1) (2 ^ 64 - 1)
+
+-- a report without a severity is an error
+abbrev pub with_one : Counts → Option Severity → Counts
+with_one c None = record c { errors = one_more c.errors }
+with_one c (Some Error) = record c { errors = one_more c.errors }
+with_one c (Some Warning) = record c { warnings = one_more c.warnings }
+with_one c (Some Advice) = record c { advices = one_more c.advices }
+
+-- what a word ends in, of so many
+abbrev pub plural : ℕ → List ℕ
+plural n = if nat_eq n 1 then [] else codes "s"
+
+-- so many of a thing
+abbrev pub many : ℕ → List ℕ → List ℕ
+many n thing = decimal n ++ (thing ++ plural n)
+
+-- `2 errors, 1 warning`; advice is told where there is some
+abbrev pub counts_text : Counts → List ℕ
+counts_text c = many c.errors (codes " error") ++ (codes ", " ++ (many c.warnings (codes " warning")
+    ++ (if nat_eq c.advices 0 then [] else codes ", " ++ many c.advices (codes " advice"))))

@@ -1,0 +1,34 @@
+-- A run: reports that a program writes one after another in one form.
+use Rattle.std.specs.Prelude.{ℕ, ◌&&◌, Bool, false, Option, None, if◌then◌else◌, is_none, nat_eq}
+use Rattle.miette.specs.rules.Counting.{no_counts}
+use Rattle.miette.specs.declared.reporter.counts.Counts.{Counts}
+use Rattle.miette.specs.declared.reporter.form.Form.{Form}
+use Rattle.miette.specs.declared.print.Outputs.{Outputs}
+use Rattle.miette.specs.declared.print.PrintError.{PrintError}
+
+-- The handler that makes the texts, where they go, what was counted, whether a report was written, whether the end
+-- tells the counts, and the last failure.
+pub record Run (T W F : Type 0) : Type 0 where
+  pub handler : T
+  pub outputs : Outputs W F
+  pub form : Form
+  pub counts : Counts
+  pub is_begun : Bool
+  pub is_summed : Bool
+  pub failure : Option PrintError
+
+-- nothing was reported yet
+abbrev pub new_run : {T W F : Type 0} → T → Outputs W F → Form → Run T W F
+new_run handler outputs form = record {
+  handler = handler;
+  outputs = outputs;
+  form = form;
+  counts = no_counts;
+  is_begun = false;
+  is_summed = false;
+  failure = None;
+}
+
+-- the status of a run: 0 where no error was reported, and nothing failed
+abbrev pub run_status : Counts → Option PrintError → ℕ
+run_status c failure = if nat_eq c.errors 0 && is_none failure then 0 else 1

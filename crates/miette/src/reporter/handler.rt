@@ -1,0 +1,74 @@
+//! The handler that a form, options and a terminal choose.
+
+ghost use Rattle.std.specs.Prelude.{IfOk};
+ghost use Rattle.miette.specs.views.FormHandler.{IsChosenInForm};
+
+use crate::options::{MietteHandler, MietteHandlerOpts};
+use crate::reporter::form::Form;
+use miette_handlers::handlers::{JSONReportHandler, ReportHandler};
+use miette_highlight::highlight::{BlankHighlighter, Highlighter};
+use miette_protocol::error::RenderError;
+use miette_protocol::protocol::Diagnostic;
+use miette_protocol::source::SourceCode;
+use miette_style::theme::Terminal;
+use miette_tree::report::Report;
+use std::alloc::{AllocError, Global};
+
+/// The handler of a form; the parameter is the type of the highlighter that is used.
+#[derive(Drop)]
+pub enum FormHandler<H = BlankHighlighter> {
+    /// The one that options and terminal choose.
+    Chosen(MietteHandler<H>),
+    /// Reports are JSON.
+    Json(JSONReportHandler),
+}
+
+impl<H: Highlighter> FormHandler<H> {
+    /// The handler of this form. Brief and narrated forms count before what the options say of it, JSON before all
+    /// options.
+    ///
+    /// # Errors
+    /// Where no memory is found for the theme.
+    pub fn build(
+        alloc: Global,
+        form: Form,
+        options: MietteHandlerOpts<H>,
+        terminal: &Terminal,
+    ) -> Result<Self, AllocError>
+        ensures { IfOk result (IsChosenInForm form options terminal.now) }
+    {
+        match form {
+            Form::Pictures => Ok(FormHandler::Chosen(options.build(alloc, terminal)?)),
+            Form::Narrated => {
+                let options = options.force_brief(false).force_narrated(true);
+                Ok(FormHandler::Chosen(options.build(alloc, terminal)?))
+            }
+            Form::Brief => {
+                let options = options.force_brief(true);
+                Ok(FormHandler::Chosen(options.build(alloc, terminal)?))
+            }
+            Form::JsonArray | Form::JsonRows => Ok(FormHandler::Json(JSONReportHandler::new())),
+        }
+    }
+}
+
+impl<H: Highlighter> ReportHandler for FormHandler<H> {
+    ghost use Rattle.miette.specs.views.FormHandler.{GivesInForm, KeepsInForm, RefusesInForm};
+
+    ghost gives = { GivesInForm H.is_blank };
+
+    ghost refuses = { RefusesInForm };
+
+    ghost keeps = { KeepsInForm H.is_blank };
+
+    fn debug<D: Diagnostic, S: SourceCode>(
+        &mut self,
+        report: &Report<D, S>,
+        out: &mut String,
+    ) -> Result<(), RenderError> {
+        match self {
+            FormHandler::Chosen(handler) => handler.debug(report, out),
+            FormHandler::Json(handler) => handler.debug(report, out),
+        }
+    }
+}
