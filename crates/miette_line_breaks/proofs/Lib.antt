@@ -1,1 +1,3 @@
+pub mod AsciiClasses
+pub mod Plain
 pub mod States

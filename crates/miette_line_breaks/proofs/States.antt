@@ -1,11 +1,10 @@
 -- The state stands for the characters before, and gives what the rules say of them.
-use Rattle.std.proofs.Common.{◌≡◌, refl, ◌||◌, sym, ap, ◌∙◌, ℕ, ◌+◌, Bool, true, false, not, ◌&&◌, if◌then◌else◌, arith}
-use Rattle.std.proofs.Common.{List, [], ◌∷◌, length, encode_utf8, Option}
+use Rattle.std.proofs.Common.{◌≡◌, refl, ◌||◌, sym, ap, ◌∙◌, ℕ, ◌+◌, Bool, true, false, not, ◌&&◌, if◌then◌else◌}
+use Rattle.std.proofs.Common.{List, [], ◌∷◌, length, encode_utf8}
 use Rattle.miette_basics.specs.rules.Lists.{is_nil}
 use Rattle.ucd_breaks.specs.declared.LineBreak.{LineBreak}
 use Rattle.ucd_breaks.specs.declared.LineBreak.TheVariants.{Space}
 use Rattle.miette_line_breaks.specs.declared.characters.Character.{Character}
-use Rattle.miette_line_breaks.specs.declared.opportunity.BreakOpportunity.{BreakOpportunity}
 use Rattle.miette_line_breaks.specs.rules.Characters.{character_of, lone_mark}
 use Rattle.miette_line_breaks.specs.rules.Classes.{is_bracket_end, is_carriage_return, is_dash, is_hard, is_hebrew}
 use Rattle.miette_line_breaks.specs.rules.Classes.{is_joiner, is_mark, is_opening, is_quotation, is_space}
@@ -13,7 +12,7 @@ use Rattle.miette_line_breaks.specs.rules.Classes.{is_zero_width_space, is_word_
 use Rattle.miette_line_breaks.specs.rules.Classes.{is_contingent}
 use Rattle.miette_line_breaks.specs.rules.Classes.{is_regional}
 use Rattle.miette_line_breaks.specs.rules.Rules.{bases, between, break_before, breaks_from, ends_joined, keeps}
-use Rattle.miette_line_breaks.specs.rules.Rules.{ends_in_half_flag, joins, keeps_beside, listed, nearest_is}
+use Rattle.miette_line_breaks.specs.rules.Rules.{ends_in_half_flag, joins, keeps_beside, nearest_is}
 use Rattle.miette_line_breaks.specs.rules.Rules.{past_spaces, takes_marks}
 use Rattle.miette_line_breaks.specs.steps.States.{base_behind, break_in, breaks_behind, is_start, joined_behind}
 use Rattle.miette_line_breaks.specs.steps.States.{base_of, keeps_direct, keeps_in, nearest_of, state_behind, state_of}

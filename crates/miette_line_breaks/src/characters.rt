@@ -7,6 +7,7 @@ ghost use Rattle.ucd_emoji.specs.Binary.{is_extended_pictographic};
 ghost use Rattle.miette_line_breaks.specs.rules.Characters.{character_of, lone_mark, resolved};
 ghost use Rattle.miette_line_breaks.specs.rules.Characters.{is_combining, is_unassigned, is_wide};
 
+use crate::ascii::CLASSES;
 use ucd_breaks::LineBreak;
 use ucd_category::GeneralCategory;
 use ucd_east_asian::EastAsianWidth;
@@ -31,11 +32,19 @@ impl Character {
     pub(crate) fn of(c: char) -> Character
         ensures { result ≡ character_of c }
     {
+        let code = c as usize;
+        if code < 128 {
+            return Character {
+                class: CLASSES[code],
+                is_wide: false,
+                is_future_emoji: false,
+            };
+        }
         Character {
             class: resolved(c, LineBreak::for_char(c)),
             is_wide: is_wide(EastAsianWidth::for_char(c)),
-            is_future_emoji: is_extended_pictographic(c)
-                && is_unassigned(GeneralCategory::for_char(c)),
+            is_future_emoji: is_unassigned(GeneralCategory::for_char(c))
+                && is_extended_pictographic(c),
         }
     }
 }

@@ -1,13 +1,15 @@
 //! What the rules need of all characters before a place.
 
-ghost use Rattle.std.specs.Prelude.{◌≡◌, ℕ, List, [], ◌∷◌};
+ghost use Rattle.std.specs.Prelude.{◌≡◌, ℕ, true, List, [], ◌∷◌, Some, None, if◌then◌else◌};
+ghost use Rattle.std.specs.Char.{is_ascii_alphabetic};
+ghost use Rattle.miette_line_breaks.specs.declared.opportunity.BreakOpportunity.TheVariants.{Allowed};
 ghost use Rattle.miette_line_breaks.specs.rules.Rules.{break_before, joins, joins_letter, joins_number};
 ghost use Rattle.miette_line_breaks.specs.rules.Rules.{joins_parenthesis};
 ghost use Rattle.miette_line_breaks.specs.rules.Rules.{joins_syllable, takes_marks};
 ghost use Rattle.miette_line_breaks.specs.steps.States.{attaches, base_behind, base_of, break_in, is_start};
-ghost use Rattle.miette_line_breaks.specs.steps.States.{joined_behind};
+ghost use Rattle.miette_line_breaks.specs.steps.States.{is_plain, joined_behind, spaced};
 ghost use Rattle.miette_line_breaks.specs.steps.States.{keeps_direct, keeps_in, state_behind};
-ghost use Rattle.miette_line_breaks.specs.views.Places.{behind, found_before, state_of};
+ghost use Rattle.miette_line_breaks.specs.views.Places.{behind, found_before, is_in_word, state_of};
 
 use crate::characters::Character;
 use crate::classes::*;
@@ -50,16 +52,85 @@ impl State {
     }
 
     /// The opportunity before a character that stands at this place, and what stands before the place behind it.
+    #[inline(always)]
     pub fn step(&self, c: char) -> (Option<BreakOpportunity>, State)
         ensures found { result.0 ≡ found_before self.now c }
         ensures behind { result.1 ≡ behind self.now c }
         ensures rules { (before : List ℕ) → self.now ≡ state_of before →
             (result.0 ≡ break_before before c) × (result.1 ≡ state_of (c ∷ before)) }
     {
+        let (found, behind) = self.stepped(c);
+        (found, behind)
+    }
+
+    // A step, with a short road for letters of ASCII and spaces.
+    #[inline(always)]
+    fn stepped(&self, c: char) -> (Option<BreakOpportunity>, State)
+        ensures found { result.0 ≡ found_before self.now c }
+        ensures behind { result.1 ≡ behind self.now c }
+    {
+        if self.is_plain() {
+            if c.is_ascii_alphabetic() {
+                return (self.before_letter(), self.spaced(false));
+            }
+            if c == ' ' {
+                return (None, self.spaced(true));
+            }
+        }
+        self.stepped_by_class(c)
+    }
+
+    fn stepped_by_class(&self, c: char) -> (Option<BreakOpportunity>, State)
+        ensures found { result.0 ≡ found_before self.now c }
+        ensures behind { result.1 ≡ behind self.now c }
+    {
         let next = Character::of(c);
         let found = self.before(next);
         let state = self.behind(next);
         (found, state)
+    }
+
+    /// Whether the last character but spaces is a letter that is neither wide nor Hebrew, with nothing before it that
+    /// counts.
+    #[inline(always)]
+    fn is_plain(&self) -> bool
+        ensures { result ≡ is_plain self.now }
+    {
+        matches!(self.base.class, LineBreak::Alphabetic)
+            && !(self.base.is_wide
+                || self.base.is_future_emoji
+                || self.is_joined
+                || self.follows_hebrew
+                || self.has_half_flag)
+    }
+
+    /// Whether such a letter is the last character: letters of ASCII go on with it.
+    #[inline(always)]
+    pub fn is_in_word(&self) -> bool
+        ensures value { result ≡ is_in_word self.now }
+        ensures letters { (c : ℕ) → is_in_word self.now ≡ true → is_ascii_alphabetic c ≡ true →
+            (found_before self.now c ≡ None) × (behind self.now c ≡ self.now) }
+    {
+        !self.is_spaced && self.is_plain()
+    }
+
+    // The opportunity before a letter of ASCII that stands behind such a letter.
+    #[inline(always)]
+    fn before_letter(&self) -> Option<BreakOpportunity>
+        ensures { result ≡ (if self.now.is_spaced then Some Allowed else None) }
+    {
+        if self.is_spaced {
+            Some(BreakOpportunity::Allowed)
+        } else {
+            None
+        }
+    }
+
+    #[inline(always)]
+    fn spaced(&self, is_spaced: bool) -> State
+        ensures { result ≡ spaced is_spaced self.now }
+    {
+        State { is_spaced, ..*self }
     }
 
     fn attaches(&self) -> bool

@@ -60,7 +60,7 @@ abbrev pub character_of : ℕ → Character
 character_of c = record {
   class = resolved c (line_break c);
   is_wide = is_wide (east_asian_width c);
-  is_future_emoji = is_extended_pictographic c && is_unassigned (general_category c);
+  is_future_emoji = is_unassigned (general_category c) && is_extended_pictographic c;
 }
 
 -- LB10: what a mark counts as that has no character before it to belong to

@@ -1,6 +1,6 @@
 -- Where a text may be broken into lines: the rules of UAX #14 for Unicode 15.0, in their order. The first that says
 -- something decides.
-use Rattle.std.specs.Prelude.{ℕ, ◌+◌, Bool, true, false, not, ◌&&◌, ◌||◌, if◌then◌else◌}
+use Rattle.std.specs.Prelude.{ℕ, ◌+◌, Bool, false, not, ◌&&◌, ◌||◌, if◌then◌else◌}
 use Rattle.std.specs.Prelude.{List, [], ◌∷◌, Option, Some, None, chars, length, encode_utf8}
 use Rattle.ucd_breaks.specs.declared.LineBreak.{LineBreak}
 use Rattle.miette_line_breaks.specs.declared.characters.Character.{Character}

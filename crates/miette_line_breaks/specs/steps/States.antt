@@ -1,7 +1,8 @@
 -- The state that the code goes on with, and what it does in it.
 use Rattle.std.specs.Prelude.{ℕ, ◌+◌, Bool, true, false, not, ◌&&◌, ◌||◌, if◌then◌else◌}
 use Rattle.std.specs.Prelude.{List, [], ◌∷◌, Option, Some, None, length, encode_utf8}
-use Rattle.ucd_breaks.specs.declared.LineBreak.TheVariants.{Space}
+use Rattle.ucd_breaks.specs.declared.LineBreak.{LineBreak}
+use Rattle.ucd_breaks.specs.declared.LineBreak.TheVariants.{Alphabetic, Space}
 use Rattle.miette_line_breaks.specs.declared.characters.Character.{Character}
 use Rattle.miette_line_breaks.specs.declared.state.State.{State}
 use Rattle.miette_line_breaks.specs.declared.opportunity.BreakOpportunity.{BreakOpportunity}
@@ -105,7 +106,33 @@ break_in s x =
     else if s.is_joined || (is_mark x.class && attaches s) then None
     else if keeps_in s (base_of x) then None else Some Allowed
 
--- the opportunities that are still to come
+-- ---- letters in a row
+
+abbrev pub is_alphabetic : LineBreak → Bool
+is_alphabetic Alphabetic = true
+is_alphabetic _ = false
+
+-- A letter that is neither wide nor Hebrew is the last but for spaces, and nothing before it counts.
+abbrev pub is_plain : State → Bool
+is_plain s =
+    is_alphabetic s.base.class
+    && not (s.base.is_wide || s.base.is_future_emoji || s.is_joined || s.follows_hebrew || s.has_half_flag)
+
+-- it is the last
+abbrev pub is_in_word : State → Bool
+is_in_word s = not s.is_spaced && is_plain s
+
+abbrev pub spaced : Bool → State → State
+spaced b s = record {
+  base = s.base;
+  is_spaced = b;
+  is_joined = s.is_joined;
+  follows_hebrew = s.follows_hebrew;
+  has_half_flag = s.has_half_flag;
+}
+
+-- ---- the opportunities that are still to come
+
 abbrev pub breaks_behind : State → ℕ → List ℕ → List (ℕ × BreakOpportunity)
 breaks_behind s at [] = if is_start s then [] else (at, Mandatory) ∷ []
 breaks_behind s at (c ∷ cs) =

@@ -1,5 +1,5 @@
 -- What stands before a place of a text, and what a character there does.
-use Rattle.std.specs.Prelude.{ℕ, List, Option}
+use Rattle.std.specs.Prelude.{ℕ, Bool, List, Option}
 use Rattle.miette_line_breaks.specs.declared.opportunity.BreakOpportunity.{BreakOpportunity}
 use Rattle.miette_line_breaks.specs.declared.state.State.{State}
 use Rattle.miette_line_breaks.specs.rules.Characters.{character_of}
@@ -16,3 +16,7 @@ found_before s c = steps.break_in s (character_of c)
 -- behind this character
 abbrev pub behind : State → ℕ → State
 behind s c = steps.state_behind s (character_of c)
+
+-- letters of ASCII go on with what stands there
+abbrev pub is_in_word : State → Bool
+is_in_word = steps.is_in_word

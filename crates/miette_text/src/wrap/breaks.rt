@@ -5,7 +5,8 @@ ghost use Rattle.miette_text.specs.declared.wrap.WordSeparator.TheVariants.{Unic
 ghost use Rattle.miette_text.specs.rules.Wrapping as rules;
 ghost use Rattle.miette_text.specs.rules.Wrapping.{is_hyphen, parts};
 ghost use Rattle.miette_text.specs.steps.Ends.{IsPart, codes_of};
-ghost use Rattle.miette_text.specs.views.Breaks.{fits_in, is_done, left_in, never, piece_len, state_at, words_in};
+ghost use Rattle.miette_text.specs.views.Breaks.{fits_in, is_done, left_in, letters_len, never, passed_len};
+ghost use Rattle.miette_text.specs.views.Breaks.{piece_len, state_at, words_in};
 ghost use Rattle.miette_text.specs.views.Cutting.{word_cuts};
 ghost use Rattle.miette_runs.specs.rules.Cells.{Cell};
 ghost use Rattle.miette_runs.specs.steps.Cells.{code_columns};
@@ -29,6 +30,34 @@ fn is_hyphen(code: char) -> bool
     code == '-' || code == '\u{AD}'
 }
 
+// How many letters of ASCII there are at the front.
+fn letters_len(codes: &[char]) -> usize
+    ensures value { result ≡ letters_len codes.now }
+    ensures within { result ≤ length codes.now }
+{
+    for (i, code) in codes.iter().enumerate() {
+        if !code.is_ascii_alphabetic() {
+            return i;
+        }
+    }
+    codes.len()
+}
+
+// How many codes are passed at once: letters of ASCII behind a letter, with no hyphen before them. The state stays.
+#[inline(always)]
+fn passed_len(state: State, is_joined: bool, codes: &[char]) -> usize
+    ensures value { result ≡ passed_len state is_joined codes.now }
+    ensures len { piece_len state is_joined codes.now
+        ≡ result + piece_len state is_joined (drop result codes.now) }
+    ensures state { state_at state result codes.now ≡ state }
+    ensures within { result ≤ length codes.now }
+{
+    if is_joined || !state.is_in_word() {
+        return 0;
+    }
+    letters_len(codes)
+}
+
 // How many codes the first word and its spaces have, and what stands before the next.
 fn word_len(start: State, codes: &[char]) -> (usize, State)
     ensures len { result.0 ≡ piece_len start true codes.now }
@@ -37,15 +66,19 @@ fn word_len(start: State, codes: &[char]) -> (usize, State)
 {
     let mut state = start;
     let mut is_joined = true;
-    for (i, code) in codes.iter().enumerate() {
-        let (found, behind) = state.step(*code);
+    let mut i: usize = 0;
+    'rest: while i < codes.len() {
+        let code = codes[i];
+        let (found, behind) = state.step(code);
         if !is_joined && found.is_some() {
             return (i, state);
         }
-        is_joined = is_hyphen(*code);
+        is_joined = is_hyphen(code);
         state = behind;
+        let next = i + 1;
+        i = next + passed_len(state, is_joined, &codes[next..]);
     }
-    (codes.len(), state)
+    (i, state)
 }
 
 // The first of the words.

@@ -1,4 +1,4 @@
-use Rattle.std.proofs.Common.{◌≡◌, sym, ap, ◌∙◌, [], chars}
+use Rattle.std.proofs.Common.{sym, ap, ◌∙◌, [], chars}
 use Rattle.miette_line_breaks.specs.steps.States.{breaks_behind}
 use Rattle.miette_line_breaks.proofs.States.{breaks-are}
 use Rattle.miette_line_breaks.proofs.remaining.LineBreaks.new.Goals as goal

@@ -1,4 +1,4 @@
-use Rattle.std.proofs.Common.{◌≡◌, length, chars}
+use Rattle.std.proofs.Common.{◌≡◌, length}
 use Rattle.miette_line_breaks.specs.views.Left.{breaks_left}
 use Rattle.miette_line_breaks.proofs.remaining.LineBreaksIterator.next.Given as goal
 
