@@ -56,7 +56,7 @@ settled-is c ConditionalJapaneseStarter h = absurd (cc)
 settled-is c ComplexContext h = absurd (cc)
 settled-is c k h = refl
 
-same_class : (a b : LineBreak) → (line_break_number a == line_break_number b) ≡ true → a ≡ b
+pub same_class : (a b : LineBreak) → (line_break_number a == line_break_number b) ≡ true → a ≡ b
 same_class a b e = sym (line_break_from_number-line_break_number a) ∙ ap line_break_from_number (eqb-true _ _ e)
     ∙ line_break_from_number-line_break_number b
 
@@ -104,6 +104,15 @@ ascii-is c below =
     }) (ascii-known c below)
     ∙ ap (λ (p : Bool). record { class = slice_index_or CLASSES c Ambiguous; is_wide = false; is_future_emoji = p })
     (and-false (is_unassigned (general_category c)))
+
+-- the class of each is what its property says
+pub ascii-property : (c : ℕ) → c < 128 → character_of c
+    ≡ record { class = line_break c; is_wide = false; is_future_emoji = false }
+ascii-property c below =
+    let h = and_parts (is_settled (line_break c))
+    (line_break_number (line_break c) == line_break_number (slice_index_or CLASSES c Ambiguous)) (ascii-tests c below) in
+    ascii-is c below ∙ ap (λ (k : LineBreak). record { class = k; is_wide = false; is_future_emoji = false })
+    (sym (same_class _ _ h.1))
 
 -- ---- letters and the space
 

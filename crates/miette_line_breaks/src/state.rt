@@ -93,7 +93,7 @@ impl State {
     /// Whether the last character but spaces is a letter that is neither wide nor Hebrew, with nothing before it that
     /// counts.
     #[inline(always)]
-    fn is_plain(&self) -> bool
+    pub fn is_plain(&self) -> bool
         ensures { result ≡ is_plain self.now }
     {
         matches!(self.base.class, LineBreak::Alphabetic)
@@ -126,8 +126,9 @@ impl State {
         }
     }
 
+    /// The same with spaces behind it, or without.
     #[inline(always)]
-    fn spaced(&self, is_spaced: bool) -> State
+    pub fn spaced(&self, is_spaced: bool) -> State
         ensures { result ≡ spaced is_spaced self.now }
     {
         State { is_spaced, ..*self }

@@ -26,7 +26,7 @@ use Rattle.miette_text.specs.steps.Fitting.{all_printable, fits_row}
 
 -- ---- printable ASCII
 
-printed-width : (c : ℕ) → 32 ≤ c → c ≤ 126 → width c ≡ 1
+pub printed-width : (c : ℕ) → 32 ≤ c → c ≤ 126 → width c ≡ 1
 unfolding char_width
 printed-width c h k = grind (arith, nat_tests)
 

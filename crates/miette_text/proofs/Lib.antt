@@ -20,6 +20,8 @@ pub mod FirstRow
 pub mod SpaceWords
 pub mod BreakWords
 pub mod BreakParts
+pub mod LetterRuns
+pub mod Passing
 pub mod LineWise
 pub mod InterleavedCells
 pub mod InterleavedRows
@@ -29,5 +31,6 @@ pub mod InterleavedLines
 pub mod SingleRows
 pub mod Fitting
 pub mod WordLaws
+pub mod SameWords
 pub mod Feeds
 pub mod FittingRows

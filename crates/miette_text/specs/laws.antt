@@ -1,4 +1,5 @@
 -- What holds of the rules.
 pub mod FilledRows
 pub mod FittingRows
+pub mod PlainWords
 pub mod Tame

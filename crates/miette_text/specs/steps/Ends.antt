@@ -1,6 +1,7 @@
 -- Where the first part of a word, the first row, and a row without its last spaces end.
 use Rattle.std.specs.Prelude.{◌≡◌, ℕ, zero, suc, ◌+◌, Bool, true, false, ◌&&◌, ◌==◌, nat_lt, List, [], ◌∷◌, ◌++◌}
 use Rattle.std.specs.Prelude.{if◌then◌else◌, map, flat_map, take, drop}
+use Rattle.std.specs.Char.{is_ascii_alphabetic}
 use Rattle.miette_runs.specs.rules.Sequences.{is_line_feed}
 use Rattle.miette_text.specs.rules.Wrapping.{Cuts, Word, is_space, is_alphanumeric, hyphen_parts, narrow_parts}
 use Rattle.miette_runs.specs.rules.Cells.{Cell, width}
@@ -37,6 +38,11 @@ part_len stop cuts before used (c ∷ cs) =
 abbrev pub gap_len : List ℕ → ℕ
 gap_len [] = 0
 gap_len (c ∷ cs) = if is_space c then suc (gap_len cs) else 0
+
+-- how many letters of ASCII there are at the front
+abbrev pub letters_len : List ℕ → ℕ
+letters_len [] = 0
+letters_len (c ∷ cs) = if is_ascii_alphabetic c then suc (letters_len cs) else 0
 
 -- the last of so many codes, where there is one
 abbrev pub code_behind : ℕ → ℕ → List ℕ → ℕ

@@ -1,7 +1,6 @@
 -- Words between the places at which a line may be broken: what is left of a line behind a part.
 use Rattle.std.specs.Prelude.{◌≡◌, ℕ, zero, suc, ◌+◌, ◌≤◌, Bool, false, not, ◌&&◌, ◌||◌, ◌==◌, if◌then◌else◌}
 use Rattle.std.specs.Prelude.{List, [], ◌∷◌, ◌++◌, map, flat_map, take, drop, length}
-use Rattle.std.specs.Char.{is_ascii_alphabetic}
 use Rattle.std.specs.Option.{is_some}
 use Rattle.miette_basics.specs.rules.Lists.{onto}
 use Rattle.miette_line_breaks.specs.declared.state.State.{State}
@@ -10,7 +9,7 @@ use Rattle.miette_runs.specs.rules.Cells.{Cell}
 use Rattle.miette_runs.specs.steps.Cells.{code_columns}
 use Rattle.miette_text.specs.declared.wrap.breaks.Broken.{Broken}
 use Rattle.miette_text.specs.rules.Wrapping.{Cuts, Word, is_hyphen, narrow_parts, parts, with_spaces, word_of}
-use Rattle.miette_text.specs.steps.Ends.{hyphenated_behind}
+use Rattle.miette_text.specs.steps.Ends.{hyphenated_behind, letters_len}
 
 -- no code ends each word
 abbrev pub never : ℕ → Bool
@@ -27,11 +26,6 @@ abbrev pub piece_len : State → Bool → List ℕ → ℕ
 piece_len s joined [] = 0
 piece_len s joined (c ∷ cs) =
     if not joined && is_some (found_before s c) then 0 else suc (piece_len (behind s c) (is_hyphen c) cs)
-
--- how many letters of ASCII there are at the front
-abbrev pub letters_len : List ℕ → ℕ
-letters_len [] = 0
-letters_len (c ∷ cs) = if is_ascii_alphabetic c then suc (letters_len cs) else 0
 
 -- how many codes are passed at once: letters behind a letter, with no hyphen before them
 abbrev pub passed_len : State → Bool → List ℕ → ℕ

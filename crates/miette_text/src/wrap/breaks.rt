@@ -5,13 +5,13 @@ ghost use Rattle.miette_text.specs.declared.wrap.WordSeparator.TheVariants.{Unic
 ghost use Rattle.miette_text.specs.rules.Wrapping as rules;
 ghost use Rattle.miette_text.specs.rules.Wrapping.{is_hyphen, parts};
 ghost use Rattle.miette_text.specs.steps.Ends.{IsPart, codes_of};
-ghost use Rattle.miette_text.specs.views.Breaks.{fits_in, is_done, left_in, letters_len, never, passed_len};
+ghost use Rattle.miette_text.specs.views.Breaks.{fits_in, is_done, left_in, never, passed_len};
 ghost use Rattle.miette_text.specs.views.Breaks.{piece_len, state_at, words_in};
 ghost use Rattle.miette_text.specs.views.Cutting.{word_cuts};
 ghost use Rattle.miette_runs.specs.rules.Cells.{Cell};
 ghost use Rattle.miette_runs.specs.steps.Cells.{code_columns};
 
-use crate::wrap::ends::{Cuts, Part, Stop, Words, bare_len, first_part};
+use crate::wrap::ends::{Cuts, Part, Stop, Words, bare_len, first_part, gap_len, letters_len};
 use miette_line_breaks::breaks::State;
 use std::alloc::AllocError;
 
@@ -30,19 +30,6 @@ fn is_hyphen(code: char) -> bool
     code == '-' || code == '\u{AD}'
 }
 
-// How many letters of ASCII there are at the front.
-fn letters_len(codes: &[char]) -> usize
-    ensures value { result ≡ letters_len codes.now }
-    ensures within { result ≤ length codes.now }
-{
-    for (i, code) in codes.iter().enumerate() {
-        if !code.is_ascii_alphabetic() {
-            return i;
-        }
-    }
-    codes.len()
-}
-
 // How many codes are passed at once: letters of ASCII behind a letter, with no hyphen before them. The state stays.
 #[inline(always)]
 fn passed_len(state: State, is_joined: bool, codes: &[char]) -> usize
@@ -58,15 +45,32 @@ fn passed_len(state: State, is_joined: bool, codes: &[char]) -> usize
     letters_len(codes)
 }
 
+// What a word begins with behind a letter: letters of ASCII, and the spaces behind them. How many codes, what stands
+// behind them, and whether no word can begin there.
+#[inline(always)]
+fn plain_len(start: State, codes: &[char]) -> (usize, State, bool)
+    ensures len { piece_len start true codes.now ≡ result.0 + piece_len result.1 result.2 (drop result.0 codes.now) }
+    ensures state { result.1 ≡ state_at start result.0 codes.now }
+    ensures within { result.0 ≤ length codes.now }
+{
+    if !start.is_plain() {
+        return (0, start, true);
+    }
+    let n = letters_len(codes);
+    if n == 0 {
+        return (0, start, true);
+    }
+    let spaces = gap_len(&codes[n..]);
+    (n + spaces, start.spaced(0 < spaces), false)
+}
+
 // How many codes the first word and its spaces have, and what stands before the next.
 fn word_len(start: State, codes: &[char]) -> (usize, State)
     ensures len { result.0 ≡ piece_len start true codes.now }
     ensures state { result.1 ≡ state_at start result.0 codes.now }
     ensures within { result.0 ≤ length codes.now }
 {
-    let mut state = start;
-    let mut is_joined = true;
-    let mut i: usize = 0;
+    let (mut i, mut state, mut is_joined) = plain_len(start, codes);
     'rest: while i < codes.len() {
         let code = codes[i];
         let (found, behind) = state.step(code);
@@ -136,6 +140,8 @@ fn word_part(word: Broken, cuts: Cuts, codes: &[char]) -> Result<(Part, Broken),
 
 impl Stop for Broken {
     ghost stop = { never };
+
+    ghost letters = { λ _ _. refl };
 
     fn is_stop(_code: char) -> bool {
         false

@@ -1,9 +1,13 @@
 //! Where parts of words end, and rows.
 
-ghost use Rattle.std.specs.Prelude.{◌≡◌, ◌≤◌, ◌<◌, ◌+◌, ◌==◌, ◌&&◌, ℕ, Bool, List, [], IfOk, drop, length, refl, take};
+ghost use Rattle.std.proofs.Common.{arith};
+ghost use Rattle.std.proofs.lemmas.Bool.Decides.{nat_tests};
+ghost use Rattle.std.specs.Char.{is_ascii_alphabetic};
+ghost use Rattle.std.specs.Prelude.{◌≡◌, ◌≤◌, ◌<◌, ◌+◌, ◌==◌, ◌&&◌, ℕ, Bool, true, false, List, [], IfOk, drop, length, refl, take};
 ghost use Rattle.miette_text.specs.declared.wrap.WordSeparator.{WordSeparator};
 ghost use Rattle.miette_text.specs.declared.wrap.WordSeparator.TheVariants.{AsciiSpace};
-ghost use Rattle.miette_text.specs.steps.Ends.{IsFirstRow, IsPart, bare_len, begins_word, gap_len, part_len};
+ghost use Rattle.miette_text.specs.steps.Ends.{IsFirstRow, IsPart, bare_len, begins_word, code_behind, gap_len};
+ghost use Rattle.miette_text.specs.steps.Ends.{letters_len, part_len};
 ghost use Rattle.miette_text.specs.steps.Ends.{words_behind};
 ghost use Rattle.miette_text.specs.views.Cutting.{word_cuts};
 ghost use Rattle.miette_runs.specs.rules.Cells.{Cell};
@@ -43,6 +47,9 @@ pub(crate) trait Stop {
 
     fn is_stop(code: char) -> bool
         ensures { result ≡ stop code };
+
+    /// No letter of ASCII ends one.
+    ghost letters: { (c : ℕ) → is_ascii_alphabetic c ≡ true → stop c ≡ false };
 }
 
 /// The words of a line, part by part from the front.
@@ -98,7 +105,32 @@ fn is_cut(hyphens: bool, before: char, code: char, codes: &[char]) -> bool
     }
 }
 
-/// The letters of the part at the front, behind a code.
+/// How many letters of ASCII there are at the front.
+pub(crate) fn letters_len(codes: &[char]) -> usize
+    ensures value { result ≡ letters_len codes.now }
+    ensures within { result ≤ length codes.now }
+{
+    for (i, code) in codes.iter().enumerate() {
+        if !code.is_ascii_alphabetic() {
+            return i;
+        }
+    }
+    codes.len()
+}
+
+// The last of so many codes, or the one before where there is none.
+#[inline(always)]
+fn code_behind(before: char, n: usize, codes: &[char]) -> char
+    requires { n ≤ length codes.now }
+    ensures { result ≡ code_behind before n codes.now }
+{
+    if n == 0 {
+        return before;
+    }
+    codes[n - 1]
+}
+
+/// The letters of the part at the front, behind a code. Letters of ASCII that have room are passed at once.
 pub(crate) fn first_part<T: Stop>(
     cuts: Cuts,
     first: char,
@@ -109,12 +141,34 @@ pub(crate) fn first_part<T: Stop>(
     ensures columns { IfOk result (λ p. p.columns ≡ code_columns (take p.len codes.now)) }
     ensures within { IfOk result (λ p. p.len ≤ length codes.now) }
 {
+    let n = letters_len(codes).min(cuts.narrow);
+    let before = code_behind(first, n, codes);
+    let rest = part_behind::<T>(cuts, before, n, &codes[n..])?;
+    Ok(Letters {
+        len: n + rest.len,
+        columns: rest.columns,
+    })
+}
+
+// The same of what is left of it, behind a code and with so many columns in use.
+#[inline(always)]
+fn part_behind<T: Stop>(
+    cuts: Cuts,
+    first: char,
+    columns: usize,
+    codes: &[char],
+) -> Result<Letters, AllocError>
+    ensures len { IfOk result (λ p. (separator : WordSeparator) →
+        p.len ≡ part_len T.stop (word_cuts separator cuts) first columns codes.now) }
+    ensures columns { IfOk result (λ p. p.columns ≡ columns + code_columns (take p.len codes.now)) }
+    ensures within { IfOk result (λ p. p.len ≤ length codes.now) }
+{
     let Cuts {
         hyphens,
         breaks,
         narrow,
     } = cuts;
-    let mut used = 0;
+    let mut used = columns;
     let mut before = first;
     for (i, code) in codes.iter().enumerate() {
         let code = *code;
@@ -146,8 +200,8 @@ pub(crate) fn first_part<T: Stop>(
     })
 }
 
-// How many spaces there are at the front.
-fn gap_len(codes: &[char]) -> usize
+/// How many spaces there are at the front.
+pub(crate) fn gap_len(codes: &[char]) -> usize
     ensures value { result ≡ gap_len codes.now }
     ensures within { result ≤ length codes.now }
 {
@@ -182,6 +236,8 @@ pub(crate) struct Spaced {
 
 impl Stop for Spaced {
     ghost stop = { is_space };
+
+    ghost letters = { λ c h. Prim.grind (arith, nat_tests) };
 
     fn is_stop(code: char) -> bool {
         code == ' '

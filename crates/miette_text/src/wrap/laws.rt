@@ -12,10 +12,12 @@ ghost use Rattle.miette_runs.specs.rules.Runs.{HaveNoEscape, Fragment, plain_run
 ghost use Rattle.miette_runs.specs.rules.Sequences.{Token, erase, tokens};
 ghost use Rattle.miette_text.specs.rules.ColouredTexts.{AreColoured, colourless};
 ghost use Rattle.miette_text.specs.laws.FilledRows.{IsFilled, IsTrimmed, all_words};
+ghost use Rattle.miette_text.specs.laws.PlainWords.{is_plain_text};
 ghost use Rattle.miette_text.specs.laws.Tame.{AllTame, IsTame};
-ghost use Rattle.miette_text.specs.declared.wrap.WordSeparator.TheVariants.{UnicodeBreakProperties};
-ghost use Rattle.miette_text.specs.rules.Wrapping.{Plan, Word, rows, starts_word, trimmed_row, wrapped_text};
-ghost use Rattle.miette_runs.specs.rules.Cells.{columns_of};
+ghost use Rattle.miette_text.specs.declared.wrap.WordSeparator.TheVariants.{AsciiSpace, UnicodeBreakProperties};
+ghost use Rattle.miette_text.specs.rules.Wrapping.{Plan, Word, rows, starts_word, trimmed_row, words, wrapped_text};
+ghost use Rattle.miette_text.specs.steps.Ends.{codes_of};
+ghost use Rattle.miette_runs.specs.rules.Cells.{Cell, columns_of};
 
 /// Wrapping tame parts gives a tame text, and colours can be deleted before or after.
 pub fn wrapping_law()
@@ -87,4 +89,11 @@ pub fn words_law()
     ensures flags { (before : List ℕ) (b c : ℕ) → is_regional (character_of b).class ≡ true →
         is_regional (character_of c).class ≡ true → ends_in_half_flag (bases (b ∷ before)) ≡ true →
         starts_word UnicodeBreakProperties (b ∷ before) c ≡ false }
+{}
+
+/// Both separators give the same words of a plain text: of spaces, letters and digits of ASCII, `# & * < = > @ ^ _ ~ -`,
+/// quotes and backquotes, and `. , : ;` that don't stand behind a space.
+pub fn separators_law()
+    ensures { (line : List Cell) → is_plain_text (codes_of line) ≡ true →
+        words UnicodeBreakProperties line ≡ words AsciiSpace line }
 {}

@@ -1,7 +1,7 @@
-use Rattle.std.proofs.Common.{◌≡◌, ◌∙◌, ◌+◌, ◌||◌, Bool, not, ap, ap₂, drop, false, if◌then◌else◌, sym, ℕ}
-use Rattle.miette_line_breaks.specs.views.Places.{is_in_word}
-use Rattle.miette_text.specs.views.Breaks.{letters_len, passed_len, piece_len, state_at}
-use Rattle.miette_text.proofs.BreakParts.{passed-piece, passed-state}
+use Rattle.std.proofs.Common.{◌≡◌, ◌∙◌, ◌+◌, ◌||◌, Bool, not, ap, ap₂, drop, if◌then◌else◌, sym}
+use Rattle.miette_text.specs.steps.Ends.{letters_len}
+use Rattle.miette_text.specs.views.Breaks.{passed_len, piece_len, state_at}
+use Rattle.miette_text.proofs.Passing.{passed-piece, passed-state}
 use Rattle.miette_text.proofs.wrap.breaks.passed_len.Goals as goal
 
 pub returns-clause-len : goal.returns-clause-len

@@ -1,10 +1,11 @@
-use Rattle.std.proofs.Common.{◌≡◌, ◌∙◌, ◌+◌, ◌∷◌, ◌≤◌, ◌&&◌, Bool, false, true, length, length-drop, not, ap, ap₂, arith}
+use Rattle.std.proofs.Common.{◌≡◌, ◌∙◌, ◌+◌, ◌∷◌, ◌&&◌, Bool, false, true, length, length-drop, not, ap, ap₂, arith}
 use Rattle.std.proofs.Common.{drop, subst, sym}
 use Rattle.std.proofs.lemmas.List.{drop_more, take_rest}
 use Rattle.std.specs.Option.{is_some}
 use Rattle.miette_line_breaks.specs.views.Places.{behind, found_before}
 use Rattle.miette_text.specs.views.Breaks.{piece_len, state_at}
-use Rattle.miette_text.proofs.BreakParts.{piece-goes, piece-passes, state-goes, state-passes}
+use Rattle.miette_text.proofs.BreakParts.{piece-goes, state-goes}
+use Rattle.miette_text.proofs.Passing.{piece-passes, state-passes}
 use Rattle.miette_text.proofs.wrap.breaks.word_len.Goals as goal
 use Rattle.miette_text.proofs.wrap.breaks.word_len.Goals.{else-not-is_joined-via-then-not-is_joined+else-is_some}
 use Rattle.miette_text.proofs.wrap.breaks.word_len.Goals.{else-not-is_joined-via-else-not-is_joined}

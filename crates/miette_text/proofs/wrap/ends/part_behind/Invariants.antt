@@ -3,7 +3,7 @@ use Rattle.miette_text.specs.declared.wrap.WordSeparator.{WordSeparator}
 use Rattle.miette_text.specs.rules.Wrapping.{Cuts}
 use Rattle.miette_text.specs.steps.Ends.{part_len}
 use Rattle.miette_runs.specs.steps.Cells.{code_columns}
-use Rattle.miette_text.proofs.wrap.ends.first_part.Given as goal
+use Rattle.miette_text.proofs.wrap.ends.part_behind.Given as goal
 
 abbrev pub invariant-loop-i : goal.invariant-loop-i
 invariant-loop-i g l = record {
@@ -14,7 +14,7 @@ invariant-loop-i g l = record {
         breaks = l.breaks;
         narrow = l.narrow;
       } in
-      part_len g.T.Stop.stop cuts l.fn.first 0 l.codes
+      part_len g.T.Stop.stop cuts l.fn.first l.fn.columns l.codes
       ≡ l.i + part_len g.T.Stop.stop cuts l.before l.used (drop l.i l.codes);
-  columns : l.used ≡ code_columns (take l.i l.codes);
+  columns : l.used ≡ l.fn.columns + code_columns (take l.i l.codes);
 }

@@ -1,0 +1,81 @@
+-- Letters of ASCII in a row: each has a column, and none ends a word or a part of one.
+use Rattle.std.proofs.Common.{◌≡◌, ℕ, zero, suc, ◌+◌, ◌≤◌, Bool, true, false, ◌&&◌, ◌==◌, nat_lt, if◌then◌else◌}
+use Rattle.std.proofs.Common.{List, [], ◌∷◌, take, drop, refl, ap, ap₂, ◌∙◌, arith}
+use Rattle.std.proofs.lemmas.Bool.Decides.{nat_tests}
+use Rattle.std.proofs.lemmas.List.Sums.{sum_by-cons}
+use Rattle.std.proofs.Math.Bool.{and-false}
+use Rattle.std.specs.Char.{is_ascii_alphabetic}
+use Rattle.miette_runs.specs.rules.Cells.{width}
+use Rattle.miette_runs.specs.steps.Cells.{code_columns}
+use Rattle.miette_text.specs.rules.Wrapping.{Cuts, is_alphanumeric, is_space}
+use Rattle.miette_text.specs.steps.Ends.{begins_word, code_behind, letters_len, part_len}
+use Rattle.miette_text.proofs.Fitting.{printed-width}
+
+pub letter-space : (c : ℕ) → is_ascii_alphabetic c ≡ true → is_space c ≡ false
+letter-space c h = grind (arith, nat_tests)
+
+letter-hyphen : (c : ℕ) → is_ascii_alphabetic c ≡ true → (c == 45) ≡ false
+letter-hyphen c h = grind (arith, nat_tests)
+
+letter-low : (c : ℕ) → is_ascii_alphabetic c ≡ true → 32 ≤ c
+letter-low c h = grind (arith, nat_tests)
+
+letter-high : (c : ℕ) → is_ascii_alphabetic c ≡ true → c ≤ 126
+letter-high c h = grind (arith, nat_tests)
+
+letter-width : (c : ℕ) → is_ascii_alphabetic c ≡ true → width c ≡ 1
+letter-width c h = printed-width c (letter-low c h) (letter-high c h)
+
+more_letters : (b : Bool) (n k : ℕ) → suc k ≤ (if b then suc n else 0) → (b ≡ true) × (k ≤ n)
+more_letters true n k h = (refl, omega (arith, h))
+more_letters false n k h = absurd (omega (arith, h))
+
+abbrev chosen : Bool → Bool → Bool → ℕ → ℕ
+chosen ends wide hyphen more = if ends then 0 else if wide then 0 else if hyphen then 1 else suc more
+
+has_room : (narrow used w : ℕ) → w ≡ 1 → used + 1 ≤ narrow → nat_lt narrow (used + w) ≡ false
+has_room narrow used w h r = grind (arith, nat_tests)
+
+-- letters that have room are in the part
+pub letters-part : (stop : ℕ → Bool) → ((c : ℕ) → is_ascii_alphabetic c ≡ true → stop c ≡ false) →
+    (cuts : Cuts) (before used k j : ℕ) (cs : List ℕ) → j ≡ used + k → k ≤ letters_len cs → j ≤ cuts.narrow →
+    part_len stop cuts before used cs ≡ k + part_len stop cuts (code_behind before k cs) j (drop k cs)
+letters-part stop law cuts before used zero j cs e h r =
+    let i : used ≡ j = omega (arith, e) in
+    let more = part_len stop cuts before j cs in
+    ap (λ u. part_len stop cuts before u cs) i ∙ (let z : more ≡ 0 + more = omega arith in z)
+letters-part stop law cuts before used (suc k) j [] e h r = absurd (omega (arith, h))
+letters-part stop law cuts before used (suc k) j (c ∷ cs) e h r =
+    let p = more_letters (is_ascii_alphabetic c) (letters_len cs) k h in
+    let w = letter-width c p.0 in
+    let more = part_len stop cuts c (used + width c) cs in
+    let wide = nat_lt 0 used && nat_lt cuts.narrow (used + width c) in
+    let test = (c == 45) && is_alphanumeric before && begins_word cs in
+    let room : nat_lt cuts.narrow (used + width c) ≡ false =
+    has_room cuts.narrow used (width c) w (omega (arith, e, r)) in
+    let none : (cuts.breaks && wide) ≡ false =
+    ap (λ b. cuts.breaks && (nat_lt 0 used && b)) room ∙ ap (λ b. cuts.breaks && b) (and-false (nat_lt 0 used))
+    ∙ and-false cuts.breaks in
+    let whole : (cuts.hyphens && test) ≡ false =
+    ap (λ b. cuts.hyphens && (b && is_alphanumeric before && begins_word cs)) (letter-hyphen c p.0)
+    ∙ and-false cuts.hyphens in
+    let next = part_len stop cuts (code_behind c k cs) j (drop k cs) in
+    let i : more ≡ k + next = letters-part stop law cuts c (used + width c) k j cs (omega (arith, e, w)) p.1 r in
+    ap (λ b. chosen b (cuts.breaks && wide) (cuts.hyphens && test) more) (law c p.0)
+    ∙ ap₂ (λ b d. chosen false b d more) none whole
+    ∙ (let s : suc more ≡ suc k + next = omega (arith, i) in s)
+
+-- they have a column each
+pub letters-columns : (k m j : ℕ) (cs : List ℕ) → j ≡ k + m → k ≤ letters_len cs →
+    k + code_columns (take m (drop k cs)) ≡ code_columns (take j cs)
+letters-columns zero m j cs e h =
+    let f : m ≡ j = omega (arith, e) in
+    let all = code_columns (take m cs) in
+    (let z : 0 + all ≡ all = omega arith in z) ∙ ap (λ i. code_columns (take i cs)) f
+letters-columns (suc k) m j [] e h = absurd (omega (arith, h))
+letters-columns (suc k) m zero (c ∷ cs) e h = absurd (omega (arith, e))
+letters-columns (suc k) m (suc j) (c ∷ cs) e h =
+    let p = more_letters (is_ascii_alphabetic c) (letters_len cs) k h in
+    let i = letters-columns k m j cs (omega (arith, e)) p.1 in
+    let s : code_columns (c ∷ take j cs) ≡ width c + code_columns (take j cs) = sum_by-cons width c (take j cs) in
+    omega (arith, i, s, letter-width c p.0)

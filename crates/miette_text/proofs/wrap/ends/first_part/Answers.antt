@@ -1,0 +1,30 @@
+use Rattle.std.proofs.Common.{◌≡◌, ◌∙◌, ◌+◌, ◌≤◌, ap, ap₂, arith, drop, refl, sym, take}
+use Rattle.std.proofs.lemmas.List.{take_rest}
+use Rattle.miette_runs.specs.steps.Cells.{code_columns}
+use Rattle.miette_text.specs.steps.Ends.{code_behind, letters_len, part_len}
+use Rattle.miette_text.specs.views.Cutting.{word_cuts}
+use Rattle.miette_text.proofs.LetterRuns.{letters-columns, letters-part}
+use Rattle.miette_text.proofs.wrap.ends.first_part.Goals as goal
+
+pub returns-clause-len : goal.returns-clause-len
+returns-clause-len g c = λ separator.
+    let cuts = word_cuts separator c.args.cuts in
+    let cs = c.args.codes.now in
+    let first = c.args.first in
+    let n = c.min-n.result in
+    let stop = g.T.Stop.stop in
+    let h : n ≤ letters_len cs = omega (arith, c.min-n.ensures, c.letters_len.ensures.value) in
+    let r : c.in_ok-rest.rest.len ≡ part_len stop cuts (code_behind first n cs) n (drop n cs) =
+    c.in_ok-rest.ensures.len separator
+    ∙ ap₂ (λ b xs. part_len stop cuts b n xs) c.code_behind-before.ensures (take_rest cs n) in
+    ap (λ k. n + k) r
+    ∙ sym (letters-part stop g.met.T.Stop.letters cuts first 0 n n cs (omega arith) h (omega (arith, c.min-n.ensures)))
+
+pub returns-clause-columns : goal.returns-clause-columns
+returns-clause-columns g c =
+    let cs = c.args.codes.now in
+    let n = c.min-n.result in
+    let m = c.in_ok-rest.rest.len in
+    let h : n ≤ letters_len cs = omega (arith, c.min-n.ensures, c.letters_len.ensures.value) in
+    c.in_ok-rest.ensures.columns ∙ ap (λ xs. n + code_columns (take m xs)) (take_rest cs n)
+    ∙ letters-columns n m (n + m) cs refl h

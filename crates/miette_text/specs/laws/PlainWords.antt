@@ -1,0 +1,24 @@
+-- Texts of which both separators give the same words.
+use Rattle.std.specs.Prelude.{ℕ, Bool, true, not, ◌&&◌, ◌||◌, ◌==◌, List, [], ◌∷◌}
+use Rattle.std.specs.List.{list_any}
+use Rattle.miette_text.specs.rules.Wrapping.{is_alphanumeric, is_space}
+
+-- `# & * < = > @ ^ _ ~ - " '` and the backquote
+abbrev pub signs : List ℕ
+signs = 35 ∷ 38 ∷ 42 ∷ 60 ∷ 61 ∷ 62 ∷ 64 ∷ 94 ∷ 95 ∷ 126 ∷ 45 ∷ 34 ∷ 39 ∷ 96 ∷ []
+
+-- a space, a letter or digit of ASCII, or one of the signs
+abbrev pub is_plain : ℕ → Bool
+is_plain c = is_space c || is_alphanumeric c || list_any (λ s. s == c) signs
+
+-- `. , : ;`
+abbrev pub is_point : ℕ → Bool
+is_point c = (c == 46) || (c == 44) || (c == 58) || (c == 59)
+
+-- plain characters, and points that don't stand behind a space
+abbrev pub plain_behind : ℕ → List ℕ → Bool
+plain_behind before [] = true
+plain_behind before (c ∷ cs) = (is_plain c || (is_point c && not (is_space before))) && plain_behind c cs
+
+abbrev pub is_plain_text : List ℕ → Bool
+is_plain_text = plain_behind 0
