@@ -7,7 +7,7 @@ ghost use Rattle.miette_line_breaks.specs.rules.Rules.{break_before, joins, join
 ghost use Rattle.miette_line_breaks.specs.rules.Rules.{joins_parenthesis};
 ghost use Rattle.miette_line_breaks.specs.rules.Rules.{joins_syllable, takes_marks};
 ghost use Rattle.miette_line_breaks.specs.steps.States.{attaches, base_behind, base_of, break_in, is_start};
-ghost use Rattle.miette_line_breaks.specs.steps.States.{is_plain, joined_behind, spaced};
+ghost use Rattle.miette_line_breaks.specs.steps.States.{is_ideographic, is_plain, joined_behind, spaced};
 ghost use Rattle.miette_line_breaks.specs.steps.States.{keeps_direct, keeps_in, state_behind};
 ghost use Rattle.miette_line_breaks.specs.views.Places.{behind, found_before, is_in_word, state_of};
 
@@ -85,6 +85,12 @@ impl State {
         ensures behind { result.1 ≡ behind self.now c }
     {
         let next = Character::of(c);
+        if !self.is_joined && is_ideographic(self.base.class) && is_ideographic(next.class) {
+            return (
+                Some(BreakOpportunity::Allowed),
+                self.with_base(next, false),
+            );
+        }
         let found = self.before(next);
         let state = self.behind(next);
         (found, state)
@@ -222,6 +228,13 @@ impl State {
                         || (is_hyphen(last.class) && self.follows_hebrew)
                         || (self.has_half_flag && is_regional(next.class)))))
     }
+}
+
+// Whether it is an ideograph: ID. A line may be broken between two of them.
+fn is_ideographic(class: LineBreak) -> bool
+    ensures { result ≡ is_ideographic class }
+{
+    matches!(class, LineBreak::Ideographic)
 }
 
 /// The character, or what a mark is that belongs to none.

@@ -2,7 +2,7 @@
 use Rattle.std.specs.Prelude.{ℕ, ◌+◌, Bool, true, false, not, ◌&&◌, ◌||◌, if◌then◌else◌}
 use Rattle.std.specs.Prelude.{List, [], ◌∷◌, Option, Some, None, length, encode_utf8}
 use Rattle.ucd_breaks.specs.declared.LineBreak.{LineBreak}
-use Rattle.ucd_breaks.specs.declared.LineBreak.TheVariants.{Alphabetic, Space}
+use Rattle.ucd_breaks.specs.declared.LineBreak.TheVariants.{Alphabetic, Ideographic, Space}
 use Rattle.miette_line_breaks.specs.declared.characters.Character.{Character}
 use Rattle.miette_line_breaks.specs.declared.state.State.{State}
 use Rattle.miette_line_breaks.specs.declared.opportunity.BreakOpportunity.{BreakOpportunity}
@@ -106,11 +106,15 @@ break_in s x =
     else if s.is_joined || (is_mark x.class && attaches s) then None
     else if keeps_in s (base_of x) then None else Some Allowed
 
--- ---- letters in a row
+-- ---- letters and ideographs in a row
 
 abbrev pub is_alphabetic : LineBreak → Bool
 is_alphabetic Alphabetic = true
 is_alphabetic _ = false
+
+abbrev pub is_ideographic : LineBreak → Bool
+is_ideographic Ideographic = true
+is_ideographic _ = false
 
 -- A letter that is neither wide nor Hebrew is the last but for spaces, and nothing before it counts.
 abbrev pub is_plain : State → Bool

@@ -104,6 +104,7 @@ fn first_word(start: State, codes: &[char]) -> Broken
 }
 
 // The part at the front of the rest of a word.
+#[inline(always)]
 fn word_part(word: Broken, cuts: Cuts, codes: &[char]) -> Result<(Part, Broken), AllocError>
     requires fits { fits_in word codes.now }
     requires some { is_done word ≡ false }

@@ -6,7 +6,7 @@ ghost use Rattle.std.specs.Char.{is_ascii_alphabetic};
 ghost use Rattle.std.specs.Prelude.{◌≡◌, ◌≤◌, ◌<◌, ◌+◌, ◌==◌, ◌&&◌, ℕ, Bool, true, false, List, [], IfOk, drop, length, refl, take};
 ghost use Rattle.miette_text.specs.declared.wrap.WordSeparator.{WordSeparator};
 ghost use Rattle.miette_text.specs.declared.wrap.WordSeparator.TheVariants.{AsciiSpace};
-ghost use Rattle.miette_text.specs.steps.Ends.{IsFirstRow, IsPart, bare_len, begins_word, code_behind, gap_len};
+ghost use Rattle.miette_text.specs.steps.Ends.{IsFirstRow, IsPart, bare_len, begins_word, gap_len};
 ghost use Rattle.miette_text.specs.steps.Ends.{letters_len, part_len};
 ghost use Rattle.miette_text.specs.steps.Ends.{words_behind};
 ghost use Rattle.miette_text.specs.views.Cutting.{word_cuts};
@@ -118,18 +118,6 @@ pub(crate) fn letters_len(codes: &[char]) -> usize
     codes.len()
 }
 
-// The last of so many codes, or the one before where there is none.
-#[inline(always)]
-fn code_behind(before: char, n: usize, codes: &[char]) -> char
-    requires { n ≤ length codes.now }
-    ensures { result ≡ code_behind before n codes.now }
-{
-    if n == 0 {
-        return before;
-    }
-    codes[n - 1]
-}
-
 /// The letters of the part at the front, behind a code. Letters of ASCII that have room are passed at once.
 pub(crate) fn first_part<T: Stop>(
     cuts: Cuts,
@@ -142,8 +130,10 @@ pub(crate) fn first_part<T: Stop>(
     ensures within { IfOk result (λ p. p.len ≤ length codes.now) }
 {
     let n = letters_len(codes).min(cuts.narrow);
-    let before = code_behind(first, n, codes);
-    let rest = part_behind::<T>(cuts, before, n, &codes[n..])?;
+    if n == 0 {
+        return part_behind::<T>(cuts, first, 0, codes);
+    }
+    let rest = part_behind::<T>(cuts, codes[n - 1], n, &codes[n..])?;
     Ok(Letters {
         len: n + rest.len,
         columns: rest.columns,

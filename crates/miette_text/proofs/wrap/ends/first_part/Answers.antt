@@ -1,8 +1,9 @@
-use Rattle.std.proofs.Common.{◌≡◌, ◌∙◌, ◌+◌, ◌≤◌, ap, ap₂, arith, drop, refl, sym, take}
+use Rattle.std.proofs.Common.{◌≡◌, ◌∙◌, ◌+◌, ◌<◌, ◌≤◌, ap, ap₂, arith, drop, refl, sym, take}
 use Rattle.std.proofs.lemmas.List.{take_rest}
 use Rattle.miette_runs.specs.steps.Cells.{code_columns}
 use Rattle.miette_text.specs.steps.Ends.{code_behind, letters_len, part_len}
 use Rattle.miette_text.specs.views.Cutting.{word_cuts}
+use Rattle.miette_text.proofs.FirstRow.{behind-last}
 use Rattle.miette_text.proofs.LetterRuns.{letters-columns, letters-part}
 use Rattle.miette_text.proofs.wrap.ends.first_part.Goals as goal
 
@@ -13,10 +14,13 @@ returns-clause-len g c = λ separator.
     let first = c.args.first in
     let n = c.min-n.result in
     let stop = g.T.Stop.stop in
+    let some : 0 < n = omega (arith, c.if-n-eq0.false) in
     let h : n ≤ letters_len cs = omega (arith, c.min-n.ensures, c.letters_len.ensures.value) in
     let r : c.in_ok-rest.rest.len ≡ part_len stop cuts (code_behind first n cs) n (drop n cs) =
     c.in_ok-rest.ensures.len separator
-    ∙ ap₂ (λ b xs. part_len stop cuts b n xs) c.code_behind-before.ensures (take_rest cs n) in
+    ∙ ap₂ (λ b xs. part_len stop cuts b n xs)
+    (c.index-codes-n.is ∙ behind-last first n _ cs some (omega (arith, c.letters_len.ensures.within, c.min-n.ensures)))
+    (take_rest cs n) in
     ap (λ k. n + k) r
     ∙ sym (letters-part stop g.met.T.Stop.letters cuts first 0 n n cs (omega arith) h (omega (arith, c.min-n.ensures)))
 
