@@ -3,7 +3,8 @@
 bench/README.md) and through ours, `job`, with words by Unicode, and why they differ where they do.
 
 A reason explains a report where both programs print the same once what the reason speaks of is taken out of the text
-(REASONS), spaces at the ends of rows apart; the fewest that do are counted. What is left is printed, and the exit status is 0 only where nothing is."""
+(REASONS), spaces at the ends of rows apart; the fewest that do are counted. What is left is printed, and the exit
+status is 0 only where nothing is."""
 import collections
 import itertools
 import json
@@ -26,16 +27,21 @@ SCRIPTS = {
                 ["", "", "", "，", "。", "、", "：", "！", "？", " "]),
     "Japanese": ("設定 ファイル が 見つかり ません ポート 番号 です 「名前」 （例） ください っと しゃ ー を 々 パス ﾊﾟｽ ￥100",
                  ["", "", "", "、", "。", "・", "！", " ", "…"]),
-    "Thai": ("ไม่พบ ไฟล์ การตั้งค่า ที่ กำหนด กรุณา ตรวจสอบ อีกครั้ง ๑๒๓ ฯ ๆ เครือข่าย ผิดพลาด", ["", "", " ", " ", "(", ")"]),
+    "Thai": ("ไม่พบ ไฟล์ การตั้งค่า ที่ กำหนด กรุณา ตรวจสอบ อีกครั้ง ๑๒๓ ฯ ๆ เครือข่าย ผิดพลาด",
+             ["", "", " ", " ", "(", ")"]),
     "Korean": ("설정 파일을 찾을 수 없습니다 포트 번호 를 확인하세요 각 한 가 오류 「인용」 (괄호) 10% 1,000원", [" ", " ", "", ". ", ", "]),
     "Hebrew": ("קובץ ההגדרות לא נמצא בדוק את שם הקובץ שוב צה״ל בית־ספר אב-גד ש״ח 50", [" ", " ", "-", ", ", ". ", "/"]),
-    "Arabic": ("لم يتم العثور على ملف الإعدادات تحقق من الاسم ثم أعد المحاولة ١٢٣ ٪٥ مَدْرَسَة", [" ", " ", "، ", "؟ ", ". ", "/"]),
-    "URLs": ("https://example.org/a/b-c?d=e&f=g#h http://x.y:8080/ ftp://host/~u/%20x mailto:a@b.c C:\\dir\\f.txt see at and",
+    "Arabic": ("لم يتم العثور على ملف الإعدادات تحقق من الاسم ثم أعد المحاولة ١٢٣ ٪٥ مَدْرَسَة",
+               [" ", " ", "، ", "؟ ", ". ", "/"]),
+    "URLs": ("https://example.org/a/b-c?d=e&f=g#h http://x.y:8080/ ftp://host/~u/%20x mailto:a@b.c "
+             "C:\\dir\\f.txt see at and",
              [" ", " ", ", ", " (", ") "]),
-    "prices": ("$1,000.50 €99 99% -5 +7 £3.99 ¥100 $(12) 1.5e-3 (20%) 7/8 N° 12:30 ±1 10°C 1-2 a-1 and for", [" ", " ", "/", ", ", "-"]),
+    "prices": ("$1,000.50 €99 99% -5 +7 £3.99 ¥100 $(12) 1.5e-3 (20%) 7/8 N° 12:30 ±1 10°C 1-2 a-1 and for",
+               [" ", " ", "/", ", ", "-"]),
     "Latin": (LATIN + " " + CODE, [" ", " ", " ", "  ", "-", " — ", "… ", "!", "? "]),
 }
-SCRIPTS["mixed"] = (" ".join(words for words, _ in SCRIPTS.values()) + " 👍🏽 🇩🇪🇫🇷 漢\u0301 e\u0301 a\u00a0b x\u00b7y \u00b7z 1\u00b72 \u0e34\u0e48 \u0e38 foo\u00adbar",
+MARKED = " 👍🏽 🇩🇪🇫🇷 漢\u0301 e\u0301 a\u00a0b x\u00b7y \u00b7z 1\u00b72 \u0e34\u0e48 \u0e38 foo\u00adbar"
+SCRIPTS["mixed"] = (" ".join(words for words, _ in SCRIPTS.values()) + MARKED,
                     ["", " ", " ", "-", "、", "「", "」", " (", ") ", "\u200b"])
 
 

@@ -69,7 +69,8 @@ ascii-tests c below = Stepped-below line_break line_break_stepped (λ x v. is_se
 ascii-class : (c : ℕ) → c < 128 → resolved c (line_break c) ≡ slice_index_or CLASSES c Ambiguous
 ascii-class c below =
     let h = and_parts (is_settled (line_break c))
-    (line_break_number (line_break c) == line_break_number (slice_index_or CLASSES c Ambiguous)) (ascii-tests c below) in
+    (line_break_number (line_break c) == line_break_number (slice_index_or CLASSES c Ambiguous))
+    (ascii-tests c below) in
     settled-is c (line_break c) h.0 ∙ same_class _ _ h.1
 
 not_true : (b : Bool) → not b ≡ true → b ≡ false
@@ -110,7 +111,8 @@ pub ascii-property : (c : ℕ) → c < 128 → character_of c
     ≡ record { class = line_break c; is_wide = false; is_future_emoji = false }
 ascii-property c below =
     let h = and_parts (is_settled (line_break c))
-    (line_break_number (line_break c) == line_break_number (slice_index_or CLASSES c Ambiguous)) (ascii-tests c below) in
+    (line_break_number (line_break c) == line_break_number (slice_index_or CLASSES c Ambiguous))
+    (ascii-tests c below) in
     ascii-is c below ∙ ap (λ (k : LineBreak). record { class = k; is_wide = false; is_future_emoji = false })
     (sym (same_class _ _ h.1))
 

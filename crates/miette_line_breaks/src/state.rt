@@ -86,10 +86,7 @@ impl State {
     {
         let next = Character::of(c);
         if !self.is_joined && is_ideographic(self.base.class) && is_ideographic(next.class) {
-            return (
-                Some(BreakOpportunity::Allowed),
-                self.with_base(next, false),
-            );
+            return (Some(BreakOpportunity::Allowed), self.with_base(next, false));
         }
         let found = self.before(next);
         let state = self.behind(next);

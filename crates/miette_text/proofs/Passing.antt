@@ -1,5 +1,6 @@
 -- Codes that are passed at once, where words lie between the places at which a line may be broken.
-use Rattle.std.proofs.Common.{◌≡◌, ℕ, zero, suc, ◌+◌, ◌<◌, Bool, true, false, not, ◌||◌, nat_lt, List, [], ◌∷◌, drop, drop-drop}
+use Rattle.std.proofs.Common.{◌≡◌, ℕ, zero, suc, ◌+◌, ◌<◌, Bool, true, false, not, ◌||◌, nat_lt, List, []}
+use Rattle.std.proofs.Common.{◌∷◌, drop, drop-drop}
 use Rattle.std.proofs.Common.{refl, sym, ap, ap₂, ◌∙◌, if◌then◌else◌, None, arith}
 use Rattle.std.proofs.lemmas.Bool.Decides.{nat_tests}
 use Rattle.std.specs.Char.{is_ascii_alphabetic}
@@ -181,7 +182,8 @@ word-piece s n (c ∷ cs) h e l = elim (is_ascii_alphabetic c) as (λ v. is_asci
       | true ↦ λ a k.
           let t = spaced false s in
           ap₂ (λ u j. suc (piece_len u j cs)) (plain-letter s c h a).1 (letter-hyphen c a)
-          ∙ (let all : suc (piece_len t false cs) ≡ suc (letters_len cs) + piece_len t false (drop (letters_len cs) cs) =
+          ∙ (let m = letters_len cs in
+          let all : suc (piece_len t false cs) ≡ suc m + piece_len t false (drop m cs) =
           omega (arith, letters-piece t cs (in-word t) h) in all)
           ∙ ap (λ j. j + piece_len t false (drop j (c ∷ cs))) (sym k)
       | false ↦ λ a k. absurd (omega (arith, k, l))

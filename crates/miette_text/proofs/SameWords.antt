@@ -93,15 +93,16 @@ record Told (c : ℕ) : Type 0 where
 told : (c : ℕ) → is_usual c ≡ true → Told c
 told c h =
     let below = usual-below c h in
-    let t : is_told c (line_break c) ≡ true = ap (λ b. not b || is_told c (line_break c)) (sym h) ∙ usual-tests c below in
+    let t : is_told c (line_break c) ≡ true =
+    ap (λ b. not b || is_told c (line_break c)) (sym h) ∙ usual-tests c below in
     let p = and_parts (line_break_number (line_break c) == line_break_number (class_of (kind_of c)))
     (beq (is_space c) (is_gap (kind_of c))
     && (beq (is_hyphen c) (is_dash (kind_of c)) && beq (is_point c) (is_stop (kind_of c)))) t in
     let q = and_parts (beq (is_space c) (is_gap (kind_of c))) (beq (is_hyphen c) (is_dash (kind_of c))
     && beq (is_point c) (is_stop (kind_of c))) p.1 in
     let r = and_parts (beq (is_hyphen c) (is_dash (kind_of c))) (beq (is_point c) (is_stop (kind_of c))) q.1 in record {
-      class = ascii-property c below ∙ ap (λ (k : LineBreak). record { class = k; is_wide = false; is_future_emoji = false })
-          (same_class _ _ p.0);
+      class = ascii-property c below
+          ∙ ap (λ (k : LineBreak). record { class = k; is_wide = false; is_future_emoji = false }) (same_class _ _ p.0);
       gap = same_from_beq _ _ q.0;
       dash = same_from_beq _ _ r.0;
       point = same_from_beq _ _ r.1;
@@ -235,7 +236,8 @@ pieces-same k sp last before (c ∷ cs) e h =
         ends_word UnicodeBreakProperties (x ∷ before) cs ≡ ends_word AsciiSpace (x ∷ before) cs
     ends-same k x before [] u h f = refl
     ends-same k x before (d ∷ ds) u h f =
-        let p = and_parts (is_plain d.code || (is_point d.code && not (is_space x))) (plain_behind d.code (codes_of ds)) h in
+        let p = and_parts (is_plain d.code || (is_point d.code && not (is_space x)))
+        (plain_behind d.code (codes_of ds)) h in
         starts-same k x d.code before u p.0 f
 
 pub words-same : (cs : List Cell) → is_plain_text (codes_of cs) ≡ true →

@@ -3,7 +3,8 @@
 ghost use Rattle.std.proofs.Common.{arith};
 ghost use Rattle.std.proofs.lemmas.Bool.Decides.{nat_tests};
 ghost use Rattle.std.specs.Char.{is_ascii_alphabetic};
-ghost use Rattle.std.specs.Prelude.{◌≡◌, ◌≤◌, ◌<◌, ◌+◌, ◌==◌, ◌&&◌, ℕ, Bool, true, false, List, [], IfOk, drop, length, refl, take};
+ghost use Rattle.std.specs.Prelude.{◌≡◌, ◌≤◌, ◌<◌, ◌+◌, ◌==◌, ◌&&◌, ℕ, Bool, true, false, List, []};
+ghost use Rattle.std.specs.Prelude.{IfOk, drop, length, refl, take};
 ghost use Rattle.miette_text.specs.declared.wrap.WordSeparator.{WordSeparator};
 ghost use Rattle.miette_text.specs.declared.wrap.WordSeparator.TheVariants.{AsciiSpace};
 ghost use Rattle.miette_text.specs.steps.Ends.{IsFirstRow, IsPart, bare_len, begins_word, gap_len};

@@ -91,8 +91,8 @@ pub fn words_law()
         starts_word UnicodeBreakProperties (b ∷ before) c ≡ false }
 {}
 
-/// Both separators give the same words of a plain text: of spaces, letters and digits of ASCII, `# & * < = > @ ^ _ ~ -`,
-/// quotes and backquotes, and `. , : ;` that don't stand behind a space.
+/// Both separators give the same words of a plain line: of spaces, letters and digits of ASCII, quotes, backquotes,
+/// `# & * < = > @ ^ _ ~ -`, and `. , : ;` that don't stand behind a space.
 pub fn separators_law()
     ensures { (line : List Cell) → is_plain_text (codes_of line) ≡ true →
         words UnicodeBreakProperties line ≡ words AsciiSpace line }

@@ -25,5 +25,6 @@ returns-clause-state c =
     let n = c.letters_len-n.result in
     let h : is_plain s ≡ true = sym c.is_plain.ensures ∙ c.if-not-is_plain.false in
     let l : 0 < n = omega (arith, c.if-n-eq0.false) in
-    let g : c.gap_len-spaces.result ≡ gap_len (drop n cs) = c.gap_len-spaces.ensures.value ∙ ap gap_len (take_rest cs n) in
-    c.spaced.ensures ∙ plain-state s n c.gap_len-spaces.result cs h c.letters_len-n.ensures.value l g
+    let m = c.gap_len-spaces.result in
+    let g : m ≡ gap_len (drop n cs) = c.gap_len-spaces.ensures.value ∙ ap gap_len (take_rest cs n) in
+    c.spaced.ensures ∙ plain-state s n m cs h c.letters_len-n.ensures.value l g
