@@ -14,6 +14,7 @@ pub mod line_breaks;
 pub mod load;
 pub mod narrated;
 pub mod pictures;
+pub mod positions;
 pub mod printing;
 pub mod protocol;
 pub mod text;

@@ -22,6 +22,8 @@ mod named;
 #[cfg(test)]
 mod patterns;
 #[cfg(test)]
+mod positions;
+#[cfg(test)]
 mod reads;
 #[cfg(test)]
 mod runs;

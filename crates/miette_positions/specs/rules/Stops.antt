@@ -1,0 +1,63 @@
+-- Where a source can be cut, and the positions of these places.
+use Rattle.std.specs.Prelude.{ℕ, ◌+◌, List, [], ◌∷◌, drop, Bool, false, ◌&&◌, ◌||◌, ◌==◌, nat_lt, nat_le, if◌then◌else◌}
+use Rattle.miette_cells.specs.rules.Cells.{Character, characters}
+use Rattle.miette_source_lines.specs.rules.Lines.{LF, CR}
+use Rattle.miette_positions.specs.declared.place.Position.{Position}
+use Rattle.miette_positions.specs.declared.place.PositionEncoding.{PositionEncoding}
+use Rattle.miette_positions.specs.declared.place.PositionEncoding.TheVariants.{Utf8, Utf16, Utf32}
+use Rattle.miette_positions.specs.declared.place.Stop.{Stop}
+
+-- how many code units a character has
+abbrev pub units : PositionEncoding → Character → ℕ
+units Utf8 c = c.bytes
+units Utf16 c = if nat_lt c.code 0x10000 then 1 else 2
+units Utf32 c = 1
+
+-- whether a character ends a line, by itself or behind a CR
+abbrev pub is_newline : Character → Bool
+is_newline c = (c.code == LF) || (c.code == CR)
+
+-- whether an LF comes first
+abbrev pub begins_with_lf : List Character → Bool
+begins_with_lf [] = false
+begins_with_lf (c ∷ cs) = c.code == LF
+
+-- a CR with an LF behind it: both are one terminator
+abbrev pub is_pair : Character → List Character → Bool
+is_pair c cs = (c.code == CR) && begins_with_lf cs
+
+-- the position behind a character: on the next line behind a terminator, else so many units on
+abbrev pub position_behind : PositionEncoding → Position → Character → Position
+position_behind e p c =
+    if is_newline c then record { line = p.line + 1; column = 0 }
+    else record { line = p.line; column = p.column + units e c }
+
+abbrev pub stop_behind : PositionEncoding → Stop → Character → Stop
+stop_behind e s c = record { offset = s.offset + c.bytes; position = position_behind e s.position c }
+
+-- with the same position, so many bytes on
+abbrev pub moved_by : ℕ → Stop → Stop
+moved_by n s = record { offset = s.offset + n; position = s.position }
+
+-- the stops behind one: behind each character, but none between CR and LF
+abbrev pub stops_behind : PositionEncoding → Stop → List Character → List Stop
+stops_behind e s [] = []
+stops_behind e s (c ∷ cs) =
+    if is_pair c cs then stops_behind e (moved_by c.bytes s) cs
+    else stop_behind e s c ∷ stops_behind e (stop_behind e s c) cs
+
+-- those of a source behind one of its stops
+abbrev pub stops_from : PositionEncoding → List ℕ → Stop → List Stop
+stops_from e source s = stops_behind e s (characters (drop s.offset source))
+
+-- the first stop: line 0, column 0
+abbrev pub start : Stop
+start = record { offset = 0; position = record { line = 0; column = 0 } }
+
+-- all stops of a source
+abbrev pub stops_of : PositionEncoding → List ℕ → List Stop
+stops_of e source = start ∷ stops_from e source start
+
+-- whether a position is another one or stands before it
+abbrev pub is_until : Position → Position → Bool
+is_until p q = nat_lt p.line q.line || ((p.line == q.line) && nat_le p.column q.column)

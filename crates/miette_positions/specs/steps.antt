@@ -1,0 +1,2 @@
+-- How the code goes over a source.
+pub mod Marks

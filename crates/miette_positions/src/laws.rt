@@ -1,0 +1,22 @@
+//! Laws of positions. Each function does nothing: its contract is the law, and a proof above calls it.
+
+ghost use Rattle.std.specs.Prelude.{◌≡◌, ℕ, ◌<◌, List, slice_get, Option, Some, None, false};
+ghost use Rattle.miette_positions.specs.rules.Regions.{offset_of, stop_after, stop_at, stop_before};
+ghost use Rattle.miette_positions.specs.rules.Stops.{is_until, stops_of};
+ghost use Rattle.miette_positions.specs.declared.place.Position.{Position};
+ghost use Rattle.miette_positions.specs.declared.place.PositionEncoding.{PositionEncoding};
+ghost use Rattle.miette_positions.specs.declared.place.Stop.{Stop};
+
+/// Of the stops of a source, in order: offsets and positions rise. Each is found by its offset, and by its position,
+/// which has that offset; a position that has an offset is that of a stop there.
+pub fn stop_laws()
+    ensures rise { (e : PositionEncoding) (source : List ℕ) (i j : ℕ) (s t : Stop) → i < j →
+        slice_get (stops_of e source) i ≡ Some s → slice_get (stops_of e source) j ≡ Some t →
+        (s.offset < t.offset) × (is_until t.position s.position ≡ false) }
+    ensures back { (e : PositionEncoding) (source : List ℕ) (k : ℕ) (s : Stop) →
+        slice_get (stops_of e source) k ≡ Some s → (stop_before e source s.offset ≡ s)
+        × (stop_after e source s.offset ≡ s) × (stop_at e source s.position ≡ s)
+        × (offset_of e source s.position ≡ Some s.offset) }
+    ensures only { (e : PositionEncoding) (source : List ℕ) (p : Position) (at : ℕ) → offset_of e source p ≡ Some at →
+        stop_before e source at ≡ record { offset = at; position = p } }
+{}
