@@ -1,0 +1,98 @@
+-- Which lines of a diff are shown, and in which frames.
+use Rattle.std.specs.Prelude.{ℕ, ◌+◌, ◌-◌, List, [], ◌∷◌, ◌++◌, length, map, take, drop, Option, Some, None}
+use Rattle.std.specs.Prelude.{Bool, true, false, ◌&&◌, nat_le, if◌then◌else◌}
+use Rattle.std.specs.List.{flat_map}
+use Rattle.miette_fix_rows.specs.rules.Hunks.{Change, Hunk, Diff, removed_lines, added_lines, bytes_of}
+
+-- A line that is shown, with its terminator: one that stays, a removed or an added one. With these stands the line that
+-- goes with it, if there is one: a block's first removed line goes with its first added one, and so on.
+pub data DiffLine : Type 0 where
+  kept : List ℕ → DiffLine
+  removed : List ℕ → Option (List ℕ) → DiffLine
+  added : List ℕ → Option (List ℕ) → DiffLine
+
+abbrev pub removed_with : List (List ℕ) → List (List ℕ) → List DiffLine
+removed_with [] others = []
+removed_with (line ∷ lines) [] = removed line None ∷ removed_with lines []
+removed_with (line ∷ lines) (other ∷ others) = removed line (Some other) ∷ removed_with lines others
+
+abbrev pub added_with : List (List ℕ) → List (List ℕ) → List DiffLine
+added_with [] others = []
+added_with (line ∷ lines) [] = added line None ∷ added_with lines []
+added_with (line ∷ lines) (other ∷ others) = added line (Some other) ∷ added_with lines others
+
+abbrev pub kept_lines : List (List ℕ) → List DiffLine
+kept_lines lines = map (λ line. kept line) lines
+
+-- of changes with no unchanged line between them the removed lines stand first
+abbrev pub changed_lines : List Change → List DiffLine
+changed_lines changes = flat_map (λ change. removed_with change.removed change.added) changes
+    ++ flat_map (λ change. added_with change.added change.removed) changes
+
+-- how many lines of the source and of the applied text stand before one, and how many bytes
+pub record Standing : Type 0 where
+  pub old_line : ℕ
+  pub new_line : ℕ
+  pub old_offset : ℕ
+  pub new_offset : ℕ
+
+abbrev pub past_kept : Standing → List (List ℕ) → Standing
+past_kept at lines = record {
+  old_line = at.old_line + length lines;
+  new_line = at.new_line + length lines;
+  old_offset = at.old_offset + bytes_of lines;
+  new_offset = at.new_offset + bytes_of lines;
+}
+
+abbrev pub past_changes : Standing → List Change → Standing
+past_changes at changes = record {
+  old_line = at.old_line + length (removed_lines changes);
+  new_line = at.new_line + length (added_lines changes);
+  old_offset = at.old_offset + bytes_of (removed_lines changes);
+  new_offset = at.new_offset + bytes_of (added_lines changes);
+}
+
+abbrev pub past_hunk : Standing → Hunk → Standing
+past_hunk at hunk = past_changes (past_kept at hunk.kept) hunk.changes
+
+-- lines in a frame: what stands before them, the offset that the frame points to, and themselves
+pub record DiffFrame : Type 0 where
+  pub at : Standing
+  pub place : ℕ
+  pub lines : List DiffLine
+
+-- whether all unchanged lines between two hunks are shown: they are no more than the context of both
+abbrev pub is_near : ℕ → Hunk → Bool
+is_near context hunk = nat_le (length hunk.kept) (context + context)
+
+-- what stands in a frame behind a hunk
+abbrev pub behind_hunk : ℕ → List (List ℕ) → List Hunk → List DiffLine
+behind_hunk context behind [] = kept_lines (take context behind)
+behind_hunk context behind (hunk ∷ hunks) =
+    if is_near context hunk
+    then (kept_lines hunk.kept ++ (changed_lines hunk.changes ++ behind_hunk context behind hunks))
+    else kept_lines (take context hunk.kept)
+
+-- how many of the lines before a hunk aren't shown with it
+abbrev pub left_before : ℕ → Hunk → ℕ
+left_before context hunk = length hunk.kept - context
+
+abbrev pub frame_at : ℕ → Standing → Hunk → List DiffLine → DiffFrame
+frame_at context at hunk later = record {
+  at = past_kept at (take (left_before context hunk) hunk.kept);
+  place = hunk.place;
+  lines = kept_lines (drop (left_before context hunk) hunk.kept) ++ (changed_lines hunk.changes ++ later);
+}
+
+-- The frames of hunks: as many unchanged lines as are wanted stand before and behind the changed ones, and a frame ends
+-- where an unchanged line is left out. It is told whether there is a frame that may go on.
+abbrev pub frames_from : ℕ → List (List ℕ) → Bool → Standing → List Hunk → List DiffFrame
+frames_from context behind goes_on at [] = []
+frames_from context behind goes_on at (hunk ∷ hunks) =
+    if goes_on && is_near context hunk then frames_from context behind true (past_hunk at hunk) hunks
+    else frame_at context at hunk (behind_hunk context behind hunks)
+    ∷ frames_from context behind true (past_hunk at hunk) hunks
+
+abbrev pub frames_of : ℕ → Diff → List DiffFrame
+frames_of context diff = frames_from context diff.behind false
+    (record { old_line = 0; new_line = 0; old_offset = 0; new_offset = 0 }) diff.hunks

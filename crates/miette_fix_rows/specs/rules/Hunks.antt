@@ -1,0 +1,132 @@
+-- What a fix changes: which lines are removed and added, and which stay.
+use Rattle.std.specs.Prelude.{ℕ, suc, ◌+◌, ◌-◌, List, [], ◌∷◌, ◌++◌, length, take, drop, reverse, slice_range, max}
+use Rattle.std.specs.Prelude.{Bool, true, false, ◌&&◌, if◌then◌else◌}
+use Rattle.std.specs.List.{flat_map, sum_by}
+use Rattle.std.specs.Str.{bytes_eq}
+use Rattle.miette_fixes.specs.rules.Edits.{Replacement}
+use Rattle.miette_fixes.specs.rules.Applying.{by_offset}
+use Rattle.miette_fix_rows.specs.rules.Blocks.{line_texts, block_from, block_to, blocks, old_lines, new_lines}
+
+-- how many lines two lists have in common at their fronts
+abbrev pub common : List (List ℕ) → List (List ℕ) → ℕ
+common [] others = 0
+common (line ∷ lines) [] = 0
+common (line ∷ lines) (other ∷ others) = if bytes_eq line other then suc (common lines others) else 0
+
+-- A block's lines, each with its terminator: those that stay at its front, the removed and the added ones, and those
+-- that stay at its end.
+pub record Parted : Type 0 where
+  pub front : List (List ℕ)
+  pub removed : List (List ℕ)
+  pub added : List (List ℕ)
+  pub ending : List (List ℕ)
+
+-- the old and the new lines, of which so many at the ends and so many at the fronts stay
+abbrev pub parted_at : List (List ℕ) → List (List ℕ) → ℕ → ℕ → Parted
+parted_at olds news behind before = record {
+  front = take before olds;
+  removed = drop before (take (length olds - behind) olds);
+  added = drop before (take (length news - behind) news);
+  ending = drop (length olds - behind) olds;
+}
+
+-- how many lines are common at the ends, and then at the fronts
+abbrev pub common_behind : List (List ℕ) → List (List ℕ) → ℕ
+common_behind olds news = common (reverse olds) (reverse news)
+
+abbrev pub common_before : List (List ℕ) → List (List ℕ) → ℕ → ℕ
+common_before olds news behind = common (take (length olds - behind) olds) (take (length news - behind) news)
+
+abbrev pub parted : List (List ℕ) → List (List ℕ) → Parted
+parted olds news =
+    parted_at olds news (common_behind olds news) (common_before olds news (common_behind olds news))
+
+-- what a block changes: its removed and its added lines
+pub record Change : Type 0 where
+  pub removed : List (List ℕ)
+  pub added : List (List ℕ)
+
+-- The changes of blocks with no unchanged line between them, behind unchanged lines; and the offset at which the first
+-- of them points: that of its first edit, or of its first removed line, or of the line that the added ones stand before,
+-- if that is later.
+pub record Hunk : Type 0 where
+  pub kept : List (List ℕ)
+  pub place : ℕ
+  pub changes : List Change
+
+-- all lines: hunks, and the unchanged lines behind the last of them
+pub record Diff : Type 0 where
+  pub hunks : List Hunk
+  pub behind : List (List ℕ)
+
+-- unchanged lines in front
+abbrev pub onto_kept : List (List ℕ) → List Hunk → List (List ℕ) → Diff
+onto_kept lines [] behind = record { hunks = []; behind = lines ++ behind }
+onto_kept lines (hunk ∷ hunks) behind =
+    record { hunks = record hunk { kept = lines ++ hunk.kept } ∷ hunks; behind = behind }
+
+abbrev pub with_kept : List (List ℕ) → Diff → Diff
+with_kept lines diff = onto_kept lines diff.hunks diff.behind
+
+abbrev pub is_nil : List (List ℕ) → Bool
+is_nil [] = true
+is_nil (line ∷ lines) = false
+
+-- a change in front: it joins the first hunk where no unchanged line stands before that
+abbrev pub onto_hunks : ℕ → Change → List Hunk → List Hunk
+onto_hunks place change [] = record { kept = []; place = place; changes = change ∷ [] } ∷ []
+onto_hunks place change (hunk ∷ hunks) =
+    if is_nil hunk.kept then record { kept = []; place = place; changes = change ∷ hunk.changes } ∷ hunks
+    else record { kept = []; place = place; changes = change ∷ [] } ∷ hunk ∷ hunks
+
+abbrev pub with_change : ℕ → List (List ℕ) → List (List ℕ) → Diff → Diff
+with_change place removed added diff =
+    if is_nil removed && is_nil added then diff
+    else record diff { hunks = onto_hunks place (record { removed = removed; added = added }) diff.hunks }
+
+-- a block's lines, the unchanged lines before it, and all behind it
+abbrev pub with_block : ℕ → List (List ℕ) → Parted → Diff → Diff
+with_block place before lines diff =
+    with_kept (before ++ lines.front) (with_change place lines.removed lines.added (with_kept lines.ending diff))
+
+-- how many bytes lines have
+abbrev pub bytes_of : List (List ℕ) → ℕ
+bytes_of lines = sum_by length lines
+
+abbrev pub first_offset : List Replacement → ℕ
+first_offset [] = 0
+first_offset (edit ∷ edits) = edit.span.offset
+
+-- where a block points to
+abbrev pub place_of : List ℕ → List Replacement → Parted → ℕ
+place_of source block lines = max (first_offset block) (block_from source block + bytes_of lines.front)
+
+abbrev pub parted_block : List ℕ → List Replacement → Parted
+parted_block source block = parted (old_lines source block) (new_lines source block)
+
+-- all lines from an offset on, where the next blocks are these
+abbrev pub diff_from : List ℕ → ℕ → List (List Replacement) → Diff
+diff_from source at [] = record { hunks = []; behind = line_texts (drop at source) }
+diff_from source at (block ∷ blocks) =
+    with_block (place_of source block (parted_block source block))
+    (line_texts (slice_range source at (block_from source block))) (parted_block source block)
+    (diff_from source (block_to source block) blocks)
+
+-- what edits change
+abbrev pub diff : List ℕ → List Replacement → Diff
+diff source edits = diff_from source 0 (blocks source (by_offset edits))
+
+-- ---- what a diff tells
+
+abbrev pub removed_lines : List Change → List (List ℕ)
+removed_lines changes = flat_map (λ change. change.removed) changes
+
+abbrev pub added_lines : List Change → List (List ℕ)
+added_lines changes = flat_map (λ change. change.added) changes
+
+-- the lines before the edits, and those after them
+abbrev pub lines_before : Diff → List (List ℕ)
+lines_before diff = flat_map (λ hunk. hunk.kept ++ removed_lines hunk.changes) diff.hunks ++ diff.behind
+
+abbrev pub lines_after : Diff → List (List ℕ)
+lines_after diff = flat_map (λ hunk. hunk.kept ++ added_lines hunk.changes) diff.hunks ++ diff.behind

@@ -1,0 +1,2 @@
+-- The code's own steps; no public call cites one.
+pub mod Worked

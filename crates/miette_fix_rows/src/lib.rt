@@ -1,0 +1,4 @@
+//! The rows of a fix's picture: what a fix changes of a source, as a diff in frames.
+#![tactic(auto)]
+
+mod worked;
