@@ -1,13 +1,25 @@
 -- The lines that edits touch, and the text after them.
-use Rattle.std.specs.Prelude.{ℕ, ◌-◌, List, [], ◌∷◌, length, map, take, slice_index, slice_range, Bool, ◌&&◌, ◌==◌}
+use Rattle.std.specs.Prelude.{ℕ, ◌+◌, ◌-◌, List, [], ◌∷◌, length, take, slice_index, slice_range, Bool, ◌&&◌, ◌==◌}
 use Rattle.std.specs.Prelude.{nat_lt, nat_le, if◌then◌else◌}
-use Rattle.miette_source_lines.specs.rules.Lines.{LF, CR, lines_of, line_of, line_start, line_end}
+use Rattle.miette_source_lines.specs.rules.Lines.{LF, CR, ends_line, line_of, line_start, line_end}
 use Rattle.miette_fixes.specs.rules.Edits.{Replacement, end_of}
 use Rattle.miette_fixes.specs.rules.Applying.{text_from}
 
+-- a byte that ends no line in front of lines is one of the first of them
+abbrev pub onto_line : ℕ → List (List ℕ) → List (List ℕ)
+onto_line byte [] = (byte ∷ []) ∷ []
+onto_line byte (line ∷ lines) = (byte ∷ line) ∷ lines
+
 -- the lines of bytes, each as its bytes, its terminator with them
 abbrev pub line_texts : List ℕ → List (List ℕ)
-line_texts bytes = map (λ line. slice_range bytes line.start line.end) (lines_of bytes)
+line_texts [] = []
+line_texts (byte ∷ bytes) =
+    if ends_line byte (slice_index bytes 0) then (byte ∷ []) ∷ line_texts bytes else onto_line byte (line_texts bytes)
+
+-- how many bytes lines have
+abbrev pub bytes_of : List (List ℕ) → ℕ
+bytes_of [] = 0
+bytes_of (line ∷ lines) = length line + bytes_of lines
 
 -- Where the lines begin that a block's edits touch, and where they end. The lines of an edit are those from that of its
 -- offset to that of its end; the line that isn't there, behind a last terminator and in an empty source, is one of

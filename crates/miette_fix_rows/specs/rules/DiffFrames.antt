@@ -2,7 +2,8 @@
 use Rattle.std.specs.Prelude.{ℕ, ◌+◌, ◌-◌, List, [], ◌∷◌, ◌++◌, length, map, take, drop, Option, Some, None}
 use Rattle.std.specs.Prelude.{Bool, true, false, ◌&&◌, nat_le, if◌then◌else◌}
 use Rattle.std.specs.List.{flat_map}
-use Rattle.miette_fix_rows.specs.rules.Hunks.{Change, Hunk, Diff, removed_lines, added_lines, bytes_of}
+use Rattle.miette_fix_rows.specs.rules.Hunks.{Change, Hunk, Diff, removed_lines, added_lines}
+use Rattle.miette_fix_rows.specs.rules.Blocks.{bytes_of}
 
 -- A line that is shown, with its terminator: one that stays, a removed or an added one. With these stands the line that
 -- goes with it, if there is one: a block's first removed line goes with its first added one, and so on.
@@ -77,10 +78,14 @@ behind_hunk context behind (hunk ∷ hunks) =
 abbrev pub left_before : ℕ → Hunk → ℕ
 left_before context hunk = length hunk.kept - context
 
+abbrev pub first_place : List Change → ℕ
+first_place [] = 0
+first_place (change ∷ changes) = change.place
+
 abbrev pub frame_at : ℕ → Standing → Hunk → List DiffLine → DiffFrame
 frame_at context at hunk later = record {
   at = past_kept at (take (left_before context hunk) hunk.kept);
-  place = hunk.place;
+  place = first_place hunk.changes;
   lines = kept_lines (drop (left_before context hunk) hunk.kept) ++ (changed_lines hunk.changes ++ later);
 }
 

@@ -1,11 +1,11 @@
 -- What a fix changes: which lines are removed and added, and which stay.
 use Rattle.std.specs.Prelude.{ℕ, suc, ◌+◌, ◌-◌, List, [], ◌∷◌, ◌++◌, length, take, drop, reverse, slice_range, max}
 use Rattle.std.specs.Prelude.{Bool, true, false, ◌&&◌, if◌then◌else◌}
-use Rattle.std.specs.List.{flat_map, sum_by}
+use Rattle.std.specs.List.{flat_map}
 use Rattle.std.specs.Str.{bytes_eq}
 use Rattle.miette_fixes.specs.rules.Edits.{Replacement}
 use Rattle.miette_fixes.specs.rules.Applying.{by_offset}
-use Rattle.miette_fix_rows.specs.rules.Blocks.{line_texts, block_from, block_to, blocks, old_lines, new_lines}
+use Rattle.miette_fix_rows.specs.rules.Blocks.{line_texts, bytes_of, block_from, blocks, old_lines, new_lines}
 
 -- how many lines two lists have in common at their fronts
 abbrev pub common : List (List ℕ) → List (List ℕ) → ℕ
@@ -41,17 +41,52 @@ abbrev pub parted : List (List ℕ) → List (List ℕ) → Parted
 parted olds news =
     parted_at olds news (common_behind olds news) (common_before olds news (common_behind olds news))
 
--- what a block changes: its removed and its added lines
+-- What a block changes: the offsets from which and up to which its removed lines stand in the source, where it points to,
+-- and its removed and added lines.
 pub record Change : Type 0 where
+  pub from : ℕ
+  pub to : ℕ
+  pub place : ℕ
   pub removed : List (List ℕ)
   pub added : List (List ℕ)
 
--- The changes of blocks with no unchanged line between them, behind unchanged lines; and the offset at which the first
--- of them points: that of its first edit, or of its first removed line, or of the line that the added ones stand before,
--- if that is later.
+abbrev pub first_offset : List Replacement → ℕ
+first_offset [] = 0
+first_offset (edit ∷ edits) = edit.span.offset
+
+-- It points to its first edit; or to its first removed line, where there is none to the line that the added ones stand
+-- before, if that is later.
+abbrev pub change_from : List ℕ → List Replacement → Parted → Change
+change_from source block lines = record {
+  from = block_from source block + bytes_of lines.front;
+  to = block_from source block + bytes_of lines.front + bytes_of lines.removed;
+  place = max (first_offset block) (block_from source block + bytes_of lines.front);
+  removed = lines.removed;
+  added = lines.added;
+}
+
+abbrev pub change_of : List ℕ → List Replacement → Change
+change_of source block = change_from source block (parted (old_lines source block) (new_lines source block))
+
+abbrev pub is_nil : List (List ℕ) → Bool
+is_nil [] = true
+is_nil (line ∷ lines) = false
+
+-- nothing changes where no line is removed or added
+abbrev pub onto_changes : Change → List Change → List Change
+onto_changes change changes = if is_nil change.removed && is_nil change.added then changes else change ∷ changes
+
+abbrev pub changes_of : List ℕ → List (List Replacement) → List Change
+changes_of source [] = []
+changes_of source (block ∷ blocks) = onto_changes (change_of source block) (changes_of source blocks)
+
+-- what edits change, block by block
+abbrev pub changes : List ℕ → List Replacement → List Change
+changes source edits = changes_of source (blocks source (by_offset edits))
+
+-- The changes of blocks with no unchanged line between them, behind unchanged lines.
 pub record Hunk : Type 0 where
   pub kept : List (List ℕ)
-  pub place : ℕ
   pub changes : List Change
 
 -- all lines: hunks, and the unchanged lines behind the last of them
@@ -68,53 +103,25 @@ onto_kept lines (hunk ∷ hunks) behind =
 abbrev pub with_kept : List (List ℕ) → Diff → Diff
 with_kept lines diff = onto_kept lines diff.hunks diff.behind
 
-abbrev pub is_nil : List (List ℕ) → Bool
-is_nil [] = true
-is_nil (line ∷ lines) = false
-
 -- a change in front: it joins the first hunk where no unchanged line stands before that
-abbrev pub onto_hunks : ℕ → Change → List Hunk → List Hunk
-onto_hunks place change [] = record { kept = []; place = place; changes = change ∷ [] } ∷ []
-onto_hunks place change (hunk ∷ hunks) =
-    if is_nil hunk.kept then record { kept = []; place = place; changes = change ∷ hunk.changes } ∷ hunks
-    else record { kept = []; place = place; changes = change ∷ [] } ∷ hunk ∷ hunks
+abbrev pub onto_hunks : Change → List Hunk → List Hunk
+onto_hunks change [] = record { kept = []; changes = change ∷ [] } ∷ []
+onto_hunks change (hunk ∷ hunks) =
+    if is_nil hunk.kept then record { kept = []; changes = change ∷ hunk.changes } ∷ hunks
+    else record { kept = []; changes = change ∷ [] } ∷ hunk ∷ hunks
 
-abbrev pub with_change : ℕ → List (List ℕ) → List (List ℕ) → Diff → Diff
-with_change place removed added diff =
-    if is_nil removed && is_nil added then diff
-    else record diff { hunks = onto_hunks place (record { removed = removed; added = added }) diff.hunks }
+abbrev pub with_change : Change → Diff → Diff
+with_change change diff = record { hunks = onto_hunks change diff.hunks; behind = diff.behind }
 
--- a block's lines, the unchanged lines before it, and all behind it
-abbrev pub with_block : ℕ → List (List ℕ) → Parted → Diff → Diff
-with_block place before lines diff =
-    with_kept (before ++ lines.front) (with_change place lines.removed lines.added (with_kept lines.ending diff))
-
--- how many bytes lines have
-abbrev pub bytes_of : List (List ℕ) → ℕ
-bytes_of lines = sum_by length lines
-
-abbrev pub first_offset : List Replacement → ℕ
-first_offset [] = 0
-first_offset (edit ∷ edits) = edit.span.offset
-
--- where a block points to
-abbrev pub place_of : List ℕ → List Replacement → Parted → ℕ
-place_of source block lines = max (first_offset block) (block_from source block + bytes_of lines.front)
-
-abbrev pub parted_block : List ℕ → List Replacement → Parted
-parted_block source block = parted (old_lines source block) (new_lines source block)
-
--- all lines from an offset on, where the next blocks are these
-abbrev pub diff_from : List ℕ → ℕ → List (List Replacement) → Diff
+-- all lines from an offset on, where the next changes are these
+abbrev pub diff_from : List ℕ → ℕ → List Change → Diff
 diff_from source at [] = record { hunks = []; behind = line_texts (drop at source) }
-diff_from source at (block ∷ blocks) =
-    with_block (place_of source block (parted_block source block))
-    (line_texts (slice_range source at (block_from source block))) (parted_block source block)
-    (diff_from source (block_to source block) blocks)
+diff_from source at (change ∷ changes) =
+    with_kept (line_texts (slice_range source at change.from))
+    (with_change change (diff_from source change.to changes))
 
--- what edits change
 abbrev pub diff : List ℕ → List Replacement → Diff
-diff source edits = diff_from source 0 (blocks source (by_offset edits))
+diff source edits = diff_from source 0 (changes source edits)
 
 -- ---- what a diff tells
 
