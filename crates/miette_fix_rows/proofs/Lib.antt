@@ -1,0 +1,5 @@
+pub mod Texts
+pub mod Commons
+pub mod Places
+pub mod Parting
+pub mod Sharing

@@ -56,17 +56,18 @@ first_offset (edit ∷ edits) = edit.span.offset
 
 -- It points to its first edit; or to its first removed line, where there is none to the line that the added ones stand
 -- before, if that is later.
-abbrev pub change_from : List ℕ → List Replacement → Parted → Change
-change_from source block lines = record {
-  from = block_from source block + bytes_of lines.front;
-  to = block_from source block + bytes_of lines.front + bytes_of lines.removed;
-  place = max (first_offset block) (block_from source block + bytes_of lines.front);
+abbrev pub change_at : ℕ → ℕ → Parted → Change
+change_at from first lines = record {
+  from = from + bytes_of lines.front;
+  to = from + bytes_of lines.front + bytes_of lines.removed;
+  place = max first (from + bytes_of lines.front);
   removed = lines.removed;
   added = lines.added;
 }
 
 abbrev pub change_of : List ℕ → List Replacement → Change
-change_of source block = change_from source block (parted (old_lines source block) (new_lines source block))
+change_of source block = change_at (block_from source block) (first_offset block)
+    (parted (old_lines source block) (new_lines source block))
 
 abbrev pub is_nil : List (List ℕ) → Bool
 is_nil [] = true

@@ -1,0 +1,12 @@
+use Rattle.std.proofs.lemmas.List.{take_rest}
+use Rattle.miette_fix_rows.proofs.Places.{line_end_behind, line_end_last}
+use Rattle.miette_fix_rows.proofs.blocks.end_of_line.Goals as goal
+
+pub returns-then-offset-source-clause-end : goal.returns-then-offset-source-clause-end
+returns-then-offset-source-clause-end c =
+    line_end_last c.args.source.now c.args.offset c.if-offset-source.true
+
+pub returns-clause-end : goal.returns-clause-end
+returns-clause-end c =
+    line_end_behind c.args.source.now _ c.args.offset c.first_line.result c.requires
+    (take_rest c.args.source.now c.args.offset) c.first_line.ensures

@@ -1,0 +1,9 @@
+use Rattle.std.proofs.Common.{◌≡◌, ◌+◌, drop}
+use Rattle.miette_fix_rows.specs.rules.Hunks.{common}
+use Rattle.miette_fix_rows.specs.views.LineLists.{texts_of}
+use Rattle.miette_fix_rows.proofs.line_lists.common.Given as goal
+
+abbrev pub invariant-loop-i : goal.invariant-loop-i
+invariant-loop-i l =
+    l.i + common (drop l.i (texts_of l.lines)) (drop l.i (texts_of l.others))
+    ≡ common (texts_of l.lines) (texts_of l.others)
