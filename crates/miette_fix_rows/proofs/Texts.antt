@@ -112,7 +112,7 @@ some-step false b [] l ls e = let f : b ∷ [] ≡ l = cc in omega (arith, ap le
 some-step false b (t ∷ ts) l ls e = let f : b ∷ t ≡ l = cc in omega (arith, ap length f)
 
 -- no line is empty
-first_some : (bs : List ℕ) (l : List ℕ) (ls : List (List ℕ)) → line_texts bs ≡ l ∷ ls → 0 < length l
+pub first_some : (bs : List ℕ) (l : List ℕ) (ls : List (List ℕ)) → line_texts bs ≡ l ∷ ls → 0 < length l
 first_some [] l ls e = absurd (cc)
 first_some (b ∷ bs) l ls e = some-step (ends_line b (slice_index bs 0)) b (line_texts bs) l ls e
 
@@ -180,7 +180,7 @@ texts_slice bs i j a b le e f =
 -- ---- first lines
 
 -- lines as places
-abbrev texts_at : ℕ → List ℕ → List Line → List (List ℕ)
+abbrev pub texts_at : ℕ → List ℕ → List Line → List (List ℕ)
 texts_at at bs [] = []
 texts_at at bs (l ∷ ls) = take (l.end - at) bs ∷ texts_at l.end (drop (l.end - at) bs) ls
 

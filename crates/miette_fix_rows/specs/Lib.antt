@@ -1,3 +1,4 @@
 pub mod rules
+pub mod laws
 pub mod views
 pub mod steps

@@ -3,5 +3,6 @@
 
 mod blocks;
 pub mod changes;
+pub mod laws;
 mod line_lists;
 mod worked;

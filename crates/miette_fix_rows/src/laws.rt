@@ -1,0 +1,19 @@
+//! Laws of what a fix changes. Each function does nothing: its contract is the law.
+
+ghost use Rattle.std.specs.Prelude.{◌≡◌, ℕ, List, map, slice_range};
+ghost use Rattle.std.specs.List.{AllByRecursion};
+ghost use Rattle.miette_source_lines.specs.rules.Lines.{lines_of};
+ghost use Rattle.miette_fixes.specs.rules.Edits.{Replacement};
+ghost use Rattle.miette_fix_rows.specs.laws.Whole.{IsTrimmed};
+ghost use Rattle.miette_fix_rows.specs.rules.Blocks.{line_texts};
+ghost use Rattle.miette_fix_rows.specs.rules.Hunks.{changes};
+
+/// The removed and the added lines of a change have no line in common at their ends. Texts of lines are those of the
+/// source's lines, with their terminators.
+#[tactic(auto, using(crate::proofs::Seams::texts_are_lines, crate::proofs::Trimmed::all_trimmed))]
+pub fn changes_are_trimmed()
+    ensures trimmed { (source : List ℕ) → (edits : List Replacement) →
+        AllByRecursion IsTrimmed (changes source edits) }
+    ensures lines { (source : List ℕ) →
+        line_texts source ≡ map (λ line. slice_range source line.start line.end) (lines_of source) }
+{}
