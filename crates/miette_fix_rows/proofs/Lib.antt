@@ -5,3 +5,5 @@ pub mod Parting
 pub mod Sharing
 pub mod Seams
 pub mod Trimmed
+pub mod Chains
+pub mod Sources

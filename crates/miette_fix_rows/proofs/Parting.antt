@@ -17,7 +17,7 @@ made from to place removed added =
     record { from = from; to = to; place = place; removed = removed; added = added }
 
 -- the lines that stay at the fronts are no more than those before the ends
-staying_old : (olds news : List (List ℕ)) → staying olds news ≤ old_until olds news
+pub staying_old : (olds news : List (List ℕ)) → staying olds news ≤ old_until olds news
 staying_old olds news =
     let n : ℕ = old_until olds news in
     let a : staying olds news ≤ length (take n olds) = common_within (take n olds) (take (new_until olds news) news) in

@@ -1,12 +1,13 @@
 //! Laws of what a fix changes. Each function does nothing: its contract is the law.
 
-ghost use Rattle.std.specs.Prelude.{◌≡◌, ℕ, List, map, slice_range};
+ghost use Rattle.std.specs.Prelude.{◌≡◌, ℕ, List, None, length, map, slice_range};
 ghost use Rattle.std.specs.List.{AllByRecursion};
 ghost use Rattle.miette_source_lines.specs.rules.Lines.{lines_of};
+ghost use Rattle.miette_fixes.specs.rules.Applying.{refusal};
 ghost use Rattle.miette_fixes.specs.rules.Edits.{Replacement};
 ghost use Rattle.miette_fix_rows.specs.laws.Whole.{IsTrimmed};
 ghost use Rattle.miette_fix_rows.specs.rules.Blocks.{line_texts};
-ghost use Rattle.miette_fix_rows.specs.rules.Hunks.{changes};
+ghost use Rattle.miette_fix_rows.specs.rules.Hunks.{changes, diff, lines_before};
 
 /// The removed and the added lines of a change have no line in common at their ends. Texts of lines are those of the
 /// source's lines, with their terminators.
@@ -16,4 +17,11 @@ pub fn changes_are_trimmed()
         AllByRecursion IsTrimmed (changes source edits) }
     ensures lines { (source : List ℕ) →
         line_texts source ≡ map (λ line. slice_range source line.start line.end) (lines_of source) }
+{}
+
+/// The removed and the unchanged lines of a diff, one after the other, are exactly the source's lines.
+#[tactic(auto, using(crate::proofs::Sources::source_lines))]
+pub fn a_diff_has_the_source()
+    ensures source { (source : List ℕ) → (edits : List Replacement) → refusal (length source) edits ≡ None →
+        lines_before (diff source edits) ≡ line_texts source }
 {}
