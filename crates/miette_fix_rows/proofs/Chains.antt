@@ -1,6 +1,6 @@
 -- Blocks stand one behind another.
-use Rattle.std.proofs.Common.{ℕ, zero, suc, ◌+◌, ◌-◌, ◌<◌, ◌≤◌, ◌≡◌, Bool, true, false, leb, inl, inr, List, [], ◌∷◌}
-use Rattle.std.proofs.Common.{◌++◌, length, refl, sym, ap, ◌∙◌, subst, arith}
+use Rattle.std.proofs.Common.{ℕ, ◌+◌, ◌-◌, ◌<◌, ◌≤◌, ◌≡◌, leb, inl, inr, List, [], ◌∷◌}
+use Rattle.std.proofs.Common.{length, refl, sym, ◌∙◌, subst, arith}
 use Rattle.std.proofs.lemmas.Bool.{cases_lt, leb-false}
 use Rattle.miette_basics.proofs.Cases.{by_cases}
 use Rattle.miette_source_lines.specs.rules.Lines.{line_of, line_start, line_end}
@@ -8,7 +8,6 @@ use Rattle.miette_source_lines.proofs.Places.{line_end_after, line_end_le, line_
 use Rattle.miette_fixes.specs.rules.Edits.{Replacement, end_of}
 use Rattle.miette_fixes.specs.views.Ordered.{FitFrom}
 use Rattle.miette_fix_rows.specs.rules.Blocks.{block_from, block_to, blocks, joins_terminator, onto_blocks, touched_from}
-use Rattle.miette_fix_rows.specs.rules.Blocks.{touched_to}
 use Rattle.miette_fix_rows.proofs.Places.{block_from_le}
 use Rattle.miette_fix_rows.proofs.Seams.{Ended, start_ended}
 
@@ -82,7 +81,7 @@ to_ended source block h =
     (line_start_next source (line_of source (last_end block)) ∙ sym (to_line source block h))
     (start_ended source (line_of source (last_end block) + 1))
 
-last_within : (source : List ℕ) (at : ℕ) (block : List Replacement) → 0 < length block
+pub last_within : (source : List ℕ) (at : ℕ) (block : List Replacement) → 0 < length block
     → FitFrom (length source) at block → (at ≤ last_end block) × (last_end block ≤ length source)
 last_within source at [] h f = absurd (omega (arith, h))
 last_within source at (e ∷ []) h f =
@@ -123,3 +122,34 @@ next_behind source at block next bs h =
     let m : line_end source (line_of source (last_end block)) ≤ line_start source f.0 =
     behind_line source (last_end block) f.0 (omega (arith, lt, f.1)) in
     omega (arith, m, f.1, to_line source block h.0)
+
+-- the edits of a block fit up to where it ends
+fit_upto : (n m at : ℕ) (block : List Replacement) → 0 < length block → FitFrom n at block → last_end block ≤ m
+    → FitFrom m at block
+fit_upto n m at [] some h le = absurd (omega (arith, some))
+fit_upto n m at (e ∷ []) some h le = (h.0, le, le)
+fit_upto n m at (e ∷ x ∷ xs) some h le =
+    let rest : FitFrom m (end_of e) (x ∷ xs) = fit_upto n m (end_of e) (x ∷ xs) (omega arith) h.2 le in
+    let first : end_of e ≤ x.span.offset = rest.0 in
+    let last : end_of x ≤ m = rest.1 in
+    (h.0, omega (arith, first, last), rest)
+
+pub first_at_or_behind : (source : List ℕ) (e : Replacement) (es : List Replacement)
+    → block_from source (e ∷ es) ≤ e.span.offset
+first_at_or_behind source e es =
+    let low : block_from source (e ∷ es) ≤ touched_from source (e ∷ es) = block_from_le source (e ∷ es) in
+    let start : touched_from source (e ∷ es) ≤ e.span.offset =
+    line_start_le source (line_of source e.span.offset) e.span.offset (omega arith) in
+    omega (arith, low, start)
+
+pub block_fits : (source : List ℕ) (at : ℕ) (block : List Replacement) → 0 < length block
+    → FitFrom (length source) at block → FitFrom (block_to source block) (block_from source block) block
+block_fits source at [] some h = absurd (omega (arith, some))
+block_fits source at (e ∷ es) some h =
+    let own : FitFrom (length source) (block_from source (e ∷ es)) (e ∷ es) =
+    (first_at_or_behind source e es, h.1, h.2) in
+    let last = last_within source (block_from source (e ∷ es)) (e ∷ es) some own in
+    let after : last_end (e ∷ es) ≤ line_end source (line_of source (last_end (e ∷ es))) =
+    line_end_after source (last_end (e ∷ es)) (line_of source (last_end (e ∷ es))) last.1 (omega arith) in
+    fit_upto (length source) (block_to source (e ∷ es)) (block_from source (e ∷ es)) (e ∷ es) some own
+    (omega (arith, after, to_line source (e ∷ es) some))

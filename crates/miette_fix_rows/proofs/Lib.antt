@@ -7,3 +7,7 @@ pub mod Seams
 pub mod Trimmed
 pub mod Chains
 pub mod Sources
+pub mod Told
+pub mod PartsOfParts
+pub mod Applied
+pub mod AppliedBlocks

@@ -24,7 +24,7 @@ staying_old olds news =
     let b : length (take n olds) ≡ min n (length olds) = length-take n olds in
     omega (arith, a, b)
 
-staying_new : (olds news : List (List ℕ)) → staying olds news ≤ new_until olds news
+pub staying_new : (olds news : List (List ℕ)) → staying olds news ≤ new_until olds news
 staying_new olds news =
     let n : ℕ = new_until olds news in
     let a : staying olds news ≤ length (take n news) = common_within_other (take (old_until olds news) olds)

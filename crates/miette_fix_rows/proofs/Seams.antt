@@ -3,7 +3,7 @@ use Rattle.std.proofs.Common.{ℕ, zero, suc, ◌+◌, ◌-◌, ◌<◌, ◌≤�
 use Rattle.std.proofs.Common.{length, map, take, drop, refl, sym, ap, ap₂, ◌∙◌, subst, arith}
 use Rattle.std.specs.Prelude.{slice_index, slice_range}
 use Rattle.std.proofs.lemmas.List.{append-nil, drop-drop, get_or-drop, length-drop, take-append-drop}
-use Rattle.miette_source_lines.specs.rules.Lines.{Line, IsCut, ends_line, lines_from, lines_of, line_start}
+use Rattle.miette_source_lines.specs.rules.Lines.{Line, IsCut, ends_line, lines_of, line_start}
 use Rattle.miette_source_lines.proofs.Cuts.{cut_from}
 use Rattle.miette_source_lines.proofs.Places.{line_start-is}
 use Rattle.miette_source_lines.proofs.Scans.{after}

@@ -1,11 +1,8 @@
 -- The removed and the unchanged lines are the source's.
-use Rattle.std.proofs.Common.{ℕ, zero, suc, ◌+◌, ◌-◌, ◌<◌, ◌≤◌, ◌≡◌, Bool, true, false, List, [], ◌∷◌, ◌++◌, ◌&&◌}
-use Rattle.std.proofs.Common.{length, take, drop, min, refl, sym, ap, ap₂, ◌∙◌, subst, inl, inr, arith, append_assoc}
-use Rattle.std.specs.Prelude.{None, slice_index, slice_range}
-use Rattle.std.proofs.lemmas.Bool.{cases_lt}
-use Rattle.miette_source_lines.specs.rules.Lines.{ends_line}
-use Rattle.std.specs.List.{flat_map}
-use Rattle.std.proofs.lemmas.List.{append-nil, drop-drop, drop-take, get_or-drop, get_or-take, take-append-drop}
+use Rattle.std.proofs.Common.{ℕ, ◌+◌, ◌-◌, ◌<◌, ◌≤◌, ◌≡◌, true, false, List, [], ◌∷◌, ◌++◌, ◌&&◌}
+use Rattle.std.proofs.Common.{length, take, drop, refl, sym, ap, ap₂, ◌∙◌, subst, arith}
+use Rattle.std.specs.Prelude.{None, slice_range}
+use Rattle.std.proofs.lemmas.List.{take-append-drop}
 use Rattle.std.proofs.lemmas.List.{take-take}
 use Rattle.miette_basics.proofs.Cases.{by_cases}
 use Rattle.miette_source_lines.proofs.Parts.{part_length}
@@ -13,104 +10,36 @@ use Rattle.miette_fixes.specs.rules.Edits.{Replacement}
 use Rattle.miette_fixes.specs.rules.Applying.{by_offset, refusal}
 use Rattle.miette_fixes.proofs.Overlaps.{fit_unrefused}
 use Rattle.miette_fix_rows.specs.rules.Blocks.{block_from, block_to, blocks, bytes_of, line_texts, new_lines, old_lines}
-use Rattle.miette_fix_rows.specs.rules.Hunks.{Change, Diff, Hunk, Parted, change_of, changes, changes_of, diff, diff_from}
-use Rattle.miette_fix_rows.specs.rules.Hunks.{is_nil, lines_before, onto_changes, onto_hunks, onto_kept, parted}
-use Rattle.miette_fix_rows.specs.rules.Hunks.{removed_lines, with_change, with_kept}
+use Rattle.miette_fix_rows.specs.rules.Hunks.{Change, change_of, changes_of, diff, diff_from}
+use Rattle.miette_fix_rows.specs.rules.Hunks.{is_nil, lines_before, onto_changes}
 use Rattle.miette_fix_rows.proofs.Chains.{Chain, block_order, block_within, chain, from_ended, last_end, next_behind}
 use Rattle.miette_fix_rows.proofs.Chains.{to_ended}
 use Rattle.miette_fix_rows.proofs.Parting.{staying_old}
 use Rattle.miette_fix_rows.specs.steps.Parting.{old_until, staying}
 use Rattle.miette_fix_rows.proofs.Seams.{Ended, some_ended, texts_seam}
+use Rattle.miette_fix_rows.proofs.PartsOfParts.{ended_part, slice_slice}
+use Rattle.miette_fix_rows.proofs.Told.{told_more}
 use Rattle.miette_fix_rows.proofs.Texts.{bytes_of-append, bytes_of-take, bytes_of_texts, texts_slice}
-
--- ---- of a diff in the making
-
-abbrev of_hunks : List Hunk → List (List ℕ)
-of_hunks hunks = flat_map (λ hunk. hunk.kept ++ removed_lines hunk.changes) hunks
-
-kept_before : (lines : List (List ℕ)) (hunks : List Hunk) (behind : List (List ℕ))
-    → lines_before (onto_kept lines hunks behind) ≡ lines ++ (of_hunks hunks ++ behind)
-kept_before lines [] behind = refl
-kept_before lines (hunk ∷ hunks) behind =
-    ap (λ ls. (ls ++ of_hunks hunks) ++ behind) (append_assoc lines hunk.kept (removed_lines hunk.changes))
-    ∙ ap (λ ls. ls ++ behind)
-    (append_assoc lines (hunk.kept ++ removed_lines hunk.changes) (of_hunks hunks))
-    ∙ append_assoc lines ((hunk.kept ++ removed_lines hunk.changes) ++ of_hunks hunks) behind
-
-nil_of : (ls : List (List ℕ)) → is_nil ls ≡ true → ls ≡ []
-nil_of [] h = refl
-nil_of (l ∷ ls) h = absurd (cc)
-
-change_before : (change : Change) (hunks : List Hunk)
-    → of_hunks (onto_hunks change hunks) ≡ change.removed ++ of_hunks hunks
-change_before change [] = append-nil (change.removed ++ [])
-change_before change (hunk ∷ hunks) =
-    by_cases {C = of_hunks (onto_hunks change (hunk ∷ hunks)) ≡ change.removed ++ of_hunks (hunk ∷ hunks)}
-    (is_nil hunk.kept)
-    (λ t. rw t (append_assoc change.removed (removed_lines hunk.changes) (of_hunks hunks)
-    ∙ ap (λ ls. change.removed ++ ((ls ++ removed_lines hunk.changes) ++ of_hunks hunks)) (sym (nil_of hunk.kept t))))
-    (λ f. rw f (ap (λ ls. ls ++ of_hunks (hunk ∷ hunks)) (append-nil change.removed)))
-
--- a change behind unchanged lines
-step_before : (lines : List (List ℕ)) (change : Change) (d : Diff)
-    → lines_before (with_kept lines (with_change change d)) ≡ lines ++ (change.removed ++ lines_before d)
-step_before lines change d =
-    kept_before lines (onto_hunks change d.hunks) d.behind
-    ∙ ap (λ ls. lines ++ (ls ++ d.behind)) (change_before change d.hunks)
-    ∙ ap (λ ls. lines ++ ls) (append_assoc change.removed (of_hunks d.hunks) d.behind)
-
--- ---- parts of parts
-
-pub slice_slice : (bs : List ℕ) (x y a e : ℕ) → a ≤ e → x + e ≤ y
-    → slice_range (slice_range bs x y) a e ≡ slice_range bs (x + a) (x + e)
-slice_slice bs x y a e le within =
-    let n : ℕ = y - x in
-    let s : n ≡ a + (n - a) = omega (arith, le, within) in
-    let cut : drop a (take n (drop x bs)) ≡ take (n - a) (drop a (drop x bs)) =
-    ap (λ m. drop a (take m (drop x bs))) s ∙ drop-take a (n - a) (drop x bs) in
-    let long : x + e - (x + a) ≡ e - a = omega arith in
-    ap (take (e - a)) cut ∙ take-take (e - a) (n - a) (drop a (drop x bs)) (omega (arith, within))
-    ∙ ap (take (e - a)) (drop-drop a x bs) ∙ ap (λ m. take m (drop (x + a) bs)) (sym long)
-
-slice_at : (bs : List ℕ) (x y i : ℕ) → x + i < y → slice_index (slice_range bs x y) i ≡ slice_index bs (x + i)
-slice_at bs x y i lt = get_or-take (y - x) (drop x bs) i 0 (omega (arith, lt)) ∙ get_or-drop x bs i 0
-
--- where a line ends in a part, one ends in the whole
-ended_part : (bs : List ℕ) (x y a : ℕ) → Ended (slice_range bs x y) a → x + a ≤ y → y ≤ length bs → Ended bs x
-    → Ended bs y → Ended bs (x + a)
-ended_part bs x y zero h le high ex ey = subst (λ n. Ended bs n) (omega arith) ex
-ended_part bs x y (suc a) h le high ex ey =
-    elim (cases_lt (x + suc a) y) [
-      | inl lt ↦ (λ k e within.
-          let n : length (slice_range bs x y) ≡ y - x = part_length bs x y high in
-          let at : x + a ≡ k = omega (arith, e) in
-          let here : slice_index (slice_range bs x y) a ≡ slice_index bs k =
-          slice_at bs x y a (omega (arith, lt)) ∙ ap (slice_index bs) at in
-          let next : slice_index (slice_range bs x y) (suc a) ≡ slice_index bs (x + suc a) =
-          slice_at bs x y (suc a) lt in
-          sym (ap₂ ends_line here next) ∙ h a refl (omega (arith, n, lt)))
-      | inr ge ↦ subst (λ n. Ended bs n) (let e : y ≡ x + suc a = omega (arith, le, ge) in e) ey
-    ]
 
 -- ---- the removed lines of a block
 
 -- where they stand
-record IsPart (source : List ℕ) (from to : ℕ) (change : Change) : Type 0 where
-  low : from ≤ change.from
-  order : change.from ≤ change.to
-  high : change.to ≤ to
-  start : Ended source change.from
-  ending : Ended source change.to
-  removed : change.removed ≡ line_texts (slice_range source change.from change.to)
+pub record IsPart (source : List ℕ) (from to : ℕ) (change : Change) : Type 0 where
+  pub low : from ≤ change.from
+  pub order : change.from ≤ change.to
+  pub high : change.to ≤ to
+  pub start : Ended source change.from
+  pub ending : Ended source change.to
+  pub removed : change.removed ≡ line_texts (slice_range source change.from change.to)
 
-until_bytes : (olds : List (List ℕ)) (b m : ℕ) → b ≤ m
+pub until_bytes : (olds : List (List ℕ)) (b m : ℕ) → b ≤ m
     → bytes_of (take b olds) + bytes_of (drop b (take m olds)) ≡ bytes_of (take m olds)
 until_bytes olds b m le =
     let e : bytes_of (take b (take m olds) ++ drop b (take m olds)) ≡ bytes_of (take m olds) =
     ap bytes_of (take-append-drop b (take m olds)) in
     omega (arith, e, bytes_of-append (take b (take m olds)) (drop b (take m olds)), ap bytes_of (take-take b m olds le))
 
-part_of : (source : List ℕ) (block : List Replacement) → 0 < length block
+pub part_of : (source : List ℕ) (block : List Replacement) → 0 < length block
     → block_from source block ≤ block_to source block
     → IsPart source (block_from source block) (block_to source block) (change_of source block)
 part_of source block some order =
@@ -147,21 +76,21 @@ part_of source block some order =
 
 -- ---- all blocks
 
-abbrev At : List ℕ → ℕ → List (List Replacement) → Type 0
+abbrev pub At : List ℕ → ℕ → List (List Replacement) → Type 0
 At source at [] = Unit {0}
 At source at (block ∷ blocks) = at ≤ block_from source block
 
-at_next : (source : List ℕ) (before at : ℕ) (block : List Replacement) (bs : List (List Replacement))
+pub at_next : (source : List ℕ) (before at : ℕ) (block : List Replacement) (bs : List (List Replacement))
     → Chain source before (block ∷ bs) → at ≤ block_to source block → At source at bs
 at_next source before at block [] h le = tt
 at_next source before at block (next ∷ bs) h le = omega (arith, le, next_behind source before block next bs h)
 
-without : (source : List ℕ) (at : ℕ) (change : Change) (list : List Change)
+pub without : (source : List ℕ) (at : ℕ) (change : Change) (list : List Change)
     → (is_nil change.removed && is_nil change.added) ≡ true
     → diff_from source at (onto_changes change list) ≡ diff_from source at list
 without source at change list t = rw t refl
 
-with_one : (source : List ℕ) (at : ℕ) (change : Change) (list : List Change)
+pub with_one : (source : List ℕ) (at : ℕ) (change : Change) (list : List Change)
     → (is_nil change.removed && is_nil change.added) ≡ false
     → diff_from source at (onto_changes change list) ≡ diff_from source at (change ∷ list)
 with_one source at change list f = rw f refl
@@ -179,14 +108,14 @@ source_from source before at (block ∷ bs) h low =
     ∙ source_from source (last_end block) at bs h.3
     (at_next source before at block bs h (omega (arith, low, order))))
     (λ f. ap lines_before (with_one source at c (changes_of source bs) f)
-    ∙ step_before (line_texts (slice_range source at c.from)) c (diff_from source c.to (changes_of source bs))
+    ∙ told_more (λ change. change.removed) (line_texts (slice_range source at c.from)) c (diff_from source c.to (changes_of source bs))
     ∙ ap₂ (λ ls ms. line_texts (slice_range source at c.from) ++ (ls ++ ms)) p.removed
     (source_from source (last_end block) c.to bs h.3 (at_next source before c.to block bs h p.high))
     ∙ ap (λ ls. line_texts (slice_range source at c.from) ++ ls)
     (sym (texts_seam c.from c.to source p.order p.ending))
     ∙ sym (texts_seam at c.from source (omega (arith, low, p.low)) p.start))
 
-first_at : (source : List ℕ) (bs : List (List Replacement)) → At source 0 bs
+pub first_at : (source : List ℕ) (bs : List (List Replacement)) → At source 0 bs
 first_at source [] = tt
 first_at source (block ∷ bs) = omega arith
 

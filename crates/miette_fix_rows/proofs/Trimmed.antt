@@ -1,6 +1,6 @@
 -- Changes have no line in common at their ends.
-use Rattle.std.proofs.Common.{ℕ, zero, suc, ◌+◌, ◌-◌, ◌<◌, ◌≤◌, ◌≡◌, Bool, true, false, cond, List, [], ◌∷◌, ◌++◌}
-use Rattle.std.proofs.Common.{length, min, take, drop, reverse, refl, sym, ap, ap₂, ◌∙◌, arith, ◌&&◌}
+use Rattle.std.proofs.Common.{ℕ, zero, suc, ◌-◌, ◌≤◌, ◌≡◌, Bool, true, false, cond, List, [], ◌∷◌, ◌++◌}
+use Rattle.std.proofs.Common.{length, take, drop, reverse, refl, sym, ap, ap₂, ◌∙◌, arith, ◌&&◌}
 use Rattle.std.specs.List.{AllByRecursion}
 use Rattle.std.specs.Str.{bytes_eq}
 use Rattle.std.proofs.lemmas.List.{drop_at, length-drop, length-reverse, reverse-append, take-append-drop, take_at}
@@ -11,7 +11,7 @@ use Rattle.miette_fix_rows.specs.laws.Whole.{IsTrimmed}
 use Rattle.miette_fix_rows.specs.rules.Blocks.{blocks, new_lines, old_lines}
 use Rattle.miette_fix_rows.specs.rules.Hunks.{Change, change_of, changes, changes_of, common, common_before, is_nil}
 use Rattle.miette_fix_rows.specs.rules.Hunks.{common_behind, onto_changes, parted}
-use Rattle.miette_fix_rows.proofs.Commons.{common_none, common_within, common_within_other}
+use Rattle.miette_fix_rows.proofs.Commons.{common_within, common_within_other}
 
 -- nothing is common behind what is common
 common_rest : (ls ms : List (List ℕ)) → common (drop (common ls ms) ls) (drop (common ls ms) ms) ≡ 0
@@ -38,7 +38,7 @@ common_take (suc i) (suc j) (l ∷ ls) (m ∷ ms) =
 
 -- from the ends
 
-behind_is : (k : ℕ) (ls : List (List ℕ)) → reverse ls ≡ reverse (drop k ls) ++ reverse (take k ls)
+pub behind_is : (k : ℕ) (ls : List (List ℕ)) → reverse ls ≡ reverse (drop k ls) ++ reverse (take k ls)
 behind_is k ls = ap reverse (sym (take-append-drop k ls)) ∙ reverse-append (take k ls) (drop k ls)
 
 reverse_front : (n : ℕ) (ls : List (List ℕ)) → n ≤ length ls

@@ -3,11 +3,11 @@
 ghost use Rattle.std.specs.Prelude.{◌≡◌, ℕ, List, None, length, map, slice_range};
 ghost use Rattle.std.specs.List.{AllByRecursion};
 ghost use Rattle.miette_source_lines.specs.rules.Lines.{lines_of};
-ghost use Rattle.miette_fixes.specs.rules.Applying.{refusal};
+ghost use Rattle.miette_fixes.specs.rules.Applying.{applied, refusal};
 ghost use Rattle.miette_fixes.specs.rules.Edits.{Replacement};
-ghost use Rattle.miette_fix_rows.specs.laws.Whole.{IsTrimmed};
+ghost use Rattle.miette_fix_rows.specs.laws.Whole.{IsTrimmed, all_bytes};
 ghost use Rattle.miette_fix_rows.specs.rules.Blocks.{line_texts};
-ghost use Rattle.miette_fix_rows.specs.rules.Hunks.{changes, diff, lines_before};
+ghost use Rattle.miette_fix_rows.specs.rules.Hunks.{changes, diff, lines_after, lines_before};
 
 /// The removed and the added lines of a change have no line in common at their ends. Texts of lines are those of the
 /// source's lines, with their terminators.
@@ -24,4 +24,13 @@ pub fn changes_are_trimmed()
 pub fn a_diff_has_the_source()
     ensures source { (source : List ℕ) → (edits : List Replacement) → refusal (length source) edits ≡ None →
         lines_before (diff source edits) ≡ line_texts source }
+{}
+
+/// The added and the unchanged lines of a diff, one after the other, have exactly the bytes of the applied text. Lines
+/// have the bytes of which they are the lines.
+#[tactic(auto, using(crate::proofs::Applied::bytes_of_lines, crate::proofs::AppliedBlocks::applied_bytes))]
+pub fn a_diff_has_the_applied_text()
+    ensures applied { (source : List ℕ) → (edits : List Replacement) → refusal (length source) edits ≡ None →
+        all_bytes (lines_after (diff source edits)) ≡ applied source edits }
+    ensures bytes { (bytes : List ℕ) → all_bytes (line_texts bytes) ≡ bytes }
 {}
