@@ -26,6 +26,11 @@ def over(text, *rows):
     return {"message": "m", "source": {"text": text}, "labels": labels(*rows)}
 
 
+def further(report):
+    """The source and the labels of a report, as those of a further source."""
+    return {key: report[key] for key in ("source", "labels")}
+
+
 UNNAMED = {
     "message": "oops!",
     "code": "oops::my::bad",
@@ -65,6 +70,7 @@ REPORTS = {
     "related reports": RELATED,
     "related reports in one another": {**CROSSING, "related": [RELATED]},
     "a refused label": over("a", (9, 1, "far off"), (0, 1, "here")),
+    "labels over two sources": {**OOPS, "snippets": [further(CROSSING)]},
     STOPS: {"message": "m", "cause": UNNAMED},
 }
 STOPPED = {
@@ -75,6 +81,7 @@ STOPPED = {
     "no labels": over(NINE),
     "a related report": {"message": "m", "related": [over(NINE, (8, 1, "here"))]},
     "a cause": {"message": "m", "labels": labels((0, 1, "a"), (16, 1, "b")), "cause": over(NINE, (8, 1, "here"))},
+    "a further source": {"message": "m", "snippets": [further(over(NINE, (8, 1, "here")))]},
 }
 DRAWN = ["--theme", "unicode", "--links", "yes"]
 NESTED = ["--nested", "yes"]

@@ -44,7 +44,7 @@ def shown_labels(name, handler):
     report = STOPPED[name]
     if "cause" in report:
         return report["cause"]["labels"] if handler in (*DRAWING, "brief") else []
-    return (report["related"][0] if "related" in report else report)["labels"]
+    return (*report.get("related", ()), *report.get("snippets", ()), report)[0]["labels"]
 
 
 def brief_outcome(name, labels, reads):

@@ -1,8 +1,8 @@
 //! Worked reports, by each handler: `calls report`, or `calls report NAME HANDLER` for one row.
 
 use crate::fixtures::{
-    Label, M, Made, Written, report_beside, report_beside_one, report_of, report_over,
-    report_over_texts, stopping_report,
+    Label, M, Made, Written, report_and_further, report_beside, report_beside_one, report_of,
+    report_over, report_over_texts, stopping_report,
 };
 use crate::rows::{Done, end_row, write_given, write_text};
 use crate::sources::README;
@@ -23,7 +23,7 @@ use std::io::Write;
 type Labelled = (&'static [Label<'static>], &'static [u8]);
 
 /// The reports.
-pub static NAMES: [&str; 14] = [
+pub static NAMES: [&str; 15] = [
     "one label",
     "labels on one line",
     "wide characters",
@@ -37,6 +37,7 @@ pub static NAMES: [&str; 14] = [
     "related reports",
     "related reports in one another",
     "a refused label",
+    "labels over two sources",
     "a cause over a source that stops",
 ];
 
@@ -178,6 +179,9 @@ fn with_others<'a>(alloc: Global, name: &str, reads: &'a Reads) -> Result<Made<'
         "related reports" => report_with_related(alloc),
         "related reports in one another" => report_with_related_below(alloc),
         "texts" => report_over_texts(alloc, report_of(alloc, &PLAIN)?, &TEXTS),
+        "labels over two sources" => {
+            report_and_further(alloc, report_of(alloc, &ONE_LABEL), &CROSSING)
+        }
         _ => report_over(alloc, report_of(alloc, &PLAIN), cause(alloc, name, reads)),
     }
 }
@@ -197,20 +201,16 @@ fn report_with_related<'a>(alloc: Global) -> Result<Made<'a>, AllocError> {
 fn cause<'a>(alloc: Global, name: &str, reads: &'a Reads) -> Result<Made<'a>, AllocError> {
     match name {
         "a linked cause" => report_of(alloc, &LINKED),
-        "causes with sources" => cause_over_cause(alloc),
+        "causes with sources" => report_over(
+            alloc,
+            report_of(alloc, &ONE_LABEL),
+            report_of(alloc, &CROSSING),
+        ),
         _ => {
             let bytes = README;
             stopping_report(alloc, &ONE_LABEL, Stopping { bytes, reads })
         }
     }
-}
-
-fn cause_over_cause<'a>(alloc: Global) -> Result<Made<'a>, AllocError> {
-    report_over(
-        alloc,
-        report_of(alloc, &ONE_LABEL),
-        report_of(alloc, &CROSSING),
-    )
 }
 
 /// The rows that are asked for: those of a report, of a handler, or all.

@@ -166,6 +166,37 @@ fn list_of<'a>(
     Ok(vec![in alloc; report]?)
 }
 
+/// A report with labels over a further source too; over none where none is written.
+///
+/// # Errors
+/// Where memory is refused.
+pub fn report_and_further<'a>(
+    alloc: Global,
+    report: Result<Made<'a>, AllocError>,
+    further: &Written<'_>,
+) -> Result<Made<'a>, AllocError> {
+    let Some(bytes) = further.source else {
+        return report;
+    };
+    let labels = labels_of(alloc, further.labels)?;
+    let source = source_of(alloc, further.name, bytes)?;
+    report?.with_owned_snippets(alloc, source, labels)
+}
+
+/// A report with labels over a further source that stops.
+///
+/// # Errors
+/// Where memory is refused.
+pub fn report_and_stopping<'a>(
+    alloc: Global,
+    report: Result<Made<'a>, AllocError>,
+    labels: &[Label<'_>],
+    source: Stopping<'a>,
+) -> Result<Made<'a>, AllocError> {
+    let labels = labels_of(alloc, labels)?;
+    report?.with_snippets(alloc, source, labels)
+}
+
 fn diagnostic_of(alloc: Global, written: &Written<'_>) -> Result<MietteDiagnostic, AllocError> {
     Ok(MietteDiagnostic {
         message: String::from_str(alloc, written.message)?,

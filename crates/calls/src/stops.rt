@@ -2,7 +2,8 @@
 
 use crate::examples::render_made;
 use crate::fixtures::{
-    M, Made, Written, report_beside_one, report_of, report_over, stopping_report,
+    M, Made, Written, report_and_stopping, report_beside_one, report_of, report_over,
+    stopping_report,
 };
 use crate::rows::{Done, Stop, end_row};
 use crate::stopping::{Reads, Stopping};
@@ -10,7 +11,7 @@ use std::alloc::{AllocError, Global};
 use std::cell::Cell;
 use std::io::Write;
 
-static NAMES: [&str; 7] = [
+static NAMES: [&str; 8] = [
     "one label",
     "two labels",
     "labels far apart",
@@ -18,6 +19,7 @@ static NAMES: [&str; 7] = [
     "no labels",
     "a related report",
     "a cause",
+    "a further source",
 ];
 
 static HANDLERS: [&str; 8] = [
@@ -110,6 +112,9 @@ fn row<W: Write>(
 
 fn report<'a>(alloc: Global, name: &str, reads: &'a Reads) -> Result<Made<'a>, AllocError> {
     let source = Stopping { bytes: NINE, reads };
+    if name == "a further source" {
+        return report_and_stopping(alloc, report_of(alloc, &PLAIN), ONE.labels, source);
+    }
     if name == "a related report" || name == "a cause" {
         return with_another(alloc, name, stopping_report(alloc, &ONE, source));
     }
