@@ -28,7 +28,11 @@ ghost use Rattle.miette_graphical.specs.laws.CharacterSets.{AreNarrow, AreShippe
 ghost use Rattle.miette_graphical.specs.rules.PrintedDiagnostics.{HoldsOfPrinted, PrintedDiagnostic, all_read};
 ghost use Rattle.miette_graphical.specs.rules.PrintedDiagnostics.{diagnostics_of};
 ghost use Rattle.miette_graphical.specs.rules.Settings.{Settings, default_settings};
-ghost use Rattle.miette_graphical.specs.rules.Snippets.{drawn_rows};
+ghost use Rattle.miette_graphical.specs.rules.Answers.{SourceAnswer};
+ghost use Rattle.miette_graphical.specs.rules.Snippets.{drawn_rows, own_rows, source_rows};
+ghost use Rattle.miette_graphical.specs.rules.Sources.{LabelledSource};
+ghost use Rattle.miette_tree.specs.rules.Diagnosis.{Diagnosis};
+ghost use Rattle.miette_tree.specs.rules.DiagnosticParts.{given_labels};
 ghost use Rattle.miette_graphical.specs.rules.Text.{report_text};
 ghost use Rattle.miette_tree.specs.rules.Tree.{Tree};
 ghost use Rattle.miette_style.specs.declared.theme.Terminal.{Terminal};
@@ -171,14 +175,22 @@ pub fn paths_law()
 {}
 
 /// Of no diagnostic but the printed ones does a report's text hold a snippet: rows that are the same for each of them
-/// give the same text, whatever they are for other sources and labels, and so do answers that are the same at each
-/// path at which a diagnostic is printed.
+/// give the same text, whatever they are for other sources and diagnostics (`rows`), and so do answers that are the
+/// same at each path at which a diagnostic is printed (`answers`). Where none of them has labels over a further source,
+/// the text is that of their own labels (`without_snippets`). The rows of some labels over one source are those of a
+/// diagnostic with these labels alone (`sources`).
 pub fn printed_law()
     ensures rows { (rows others : SnippetRows) (s : Settings) (t : Tree) (a : Answers) →
         AllByRecursion (AreDrawnAlike rows others) (diagnostics_of s t) →
         report_text rows s t a ≡ report_text others s t a }
     ensures answers { (rows : SnippetRows) (s : Settings) (t : Tree) (a b : Answers) → AreAnsweredAlike s t a b →
         report_text rows s t a ≡ report_text rows s t b }
+    ensures without_snippets { (s : Settings) (t : Tree) (a : Answers) →
+        AllByRecursion (λ p. p.meaning.snippets ≡ []) (diagnostics_of s t) →
+        report_text drawn_rows s t a ≡ report_text own_rows s t a }
+    ensures sources { (s : Settings) (it : LabelledSource) (m : Diagnosis) (a : SourceAnswer) →
+        given_labels m.labels ≡ it.labels → m.snippets ≡ [] →
+        source_rows s it.source it.labels a ≡ drawn_rows s it.source m (a ∷ []) }
 {}
 
 /// Of each printed diagnostic a report's text holds the snippets: at each path, under the arrows that are on it, as

@@ -5,6 +5,7 @@ use Rattle.miette_page.specs.rules.Rows.{Row, Run}
 use Rattle.miette_snippet_rules.specs.rules.Settings as snippets
 use Rattle.miette_cells.specs.rules.Widths.{width_of}
 use Rattle.miette_snippet_rules.specs.rules.SnippetLayout.{snippet_rows}
+use Rattle.miette_tree.specs.rules.DiagnosticParts.{given_labels}
 use Rattle.miette_graphical.specs.rules.Settings.{Settings}
 use Rattle.miette_protocol.specs.views.Meaning.{Label}
 use Rattle.miette_protocol.specs.rules.Reading.{Source}
@@ -42,3 +43,7 @@ rows_over s (it ∷ more) a =
 
 abbrev pub drawn_rows : SnippetRows
 drawn_rows s source m a = rows_over (drawn_with m.snippets s) (sources_of source m) a
+
+-- of its own labels alone, over its effective source
+abbrev pub own_rows : SnippetRows
+own_rows s source m a = source_rows s source (given_labels m.labels) (first_source a)
