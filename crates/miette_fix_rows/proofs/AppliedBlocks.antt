@@ -26,7 +26,7 @@ use Rattle.miette_fix_rows.proofs.Told.{nil_of, told_more}
 use Rattle.miette_fix_rows.proofs.Texts.{bytes_of-take, bytes_of_texts}
 
 -- the edits of blocks, one after the other
-abbrev flat : List (List Replacement) → List Replacement
+abbrev pub flat : List (List Replacement) → List Replacement
 flat bs = flat_map (λ block. block) bs
 
 flat_onto : (source : List ℕ) (e : Replacement) (bs : List (List Replacement))
@@ -49,7 +49,7 @@ far_block : (source : List ℕ) (at : ℕ) (block : List Replacement) → at ≤
 far_block source at [] h = tt
 far_block source at (e ∷ es) h = omega (arith, h, first_at_or_behind source e es)
 
-far_next : (source : List ℕ) (before at : ℕ) (block : List Replacement) (bs : List (List Replacement))
+pub far_next : (source : List ℕ) (before at : ℕ) (block : List Replacement) (bs : List (List Replacement))
     → Chain source before (block ∷ bs) → at ≤ block_to source block → Far at (flat bs)
 far_next source before at block [] h le = tt
 far_next source before at block (next ∷ bs) h le =

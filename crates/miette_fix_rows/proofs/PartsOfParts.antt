@@ -19,7 +19,7 @@ slice_slice bs x y a e le within =
     ap (take (e - a)) cut ∙ take-take (e - a) (n - a) (drop a (drop x bs)) (omega (arith, within))
     ∙ ap (take (e - a)) (drop-drop a x bs) ∙ ap (λ m. take m (drop (x + a) bs)) (sym long)
 
-slice_at : (bs : List ℕ) (x y i : ℕ) → x + i < y → slice_index (slice_range bs x y) i ≡ slice_index bs (x + i)
+pub slice_at : (bs : List ℕ) (x y i : ℕ) → x + i < y → slice_index (slice_range bs x y) i ≡ slice_index bs (x + i)
 slice_at bs x y i lt = get_or-take (y - x) (drop x bs) i 0 (omega (arith, lt)) ∙ get_or-drop x bs i 0
 
 -- where a line ends in a part, one ends in the whole

@@ -1,2 +1,3 @@
 -- What holds of the rules.
 pub mod Whole
+pub mod Worked

@@ -5,4 +5,4 @@ mod blocks;
 pub mod changes;
 pub mod laws;
 mod line_lists;
-mod worked;
+pub mod worked;

@@ -1,7 +1,7 @@
 //! Worked pictures, computed by the definitions.
 
 ghost use Rattle.std.specs.Prelude.{◌≡◌, [], ◌∷◌, ◌++◌, codes};
-ghost use Rattle.miette_fix_rows.specs.steps.Worked.{edit, han, picture};
+ghost use Rattle.miette_fix_rows.specs.laws.Worked.{edit, han, picture};
 
 /// The definitions give the pictures of these fixes.
 pub fn worked_pictures()
