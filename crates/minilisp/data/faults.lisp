@@ -1,0 +1,4 @@
+; two faults, and a warning
+(define (square x) (* x x))
+(print (square 3)))
+(print ())

@@ -1,0 +1,88 @@
+//! Checks files of a small Lisp: `minilisp [--FORM] FILE..`, where `-` is standard input. The status is 0 where no file
+//! has an error, 1 where one has, 2 where the words aren't these.
+#![tactic(auto)]
+
+mod files;
+mod syntax;
+mod words;
+
+use crate::files::read;
+use crate::syntax::{Slip, slips_of};
+use crate::words::{Words, words_of};
+use miette::prelude::*;
+use miette_tree::miette;
+use std::alloc::{AllocError, Global};
+use std::process::ExitCode;
+
+fn main(rt: HostRuntime) -> ExitCode {
+    let done = match words_of(&rt) {
+        Ok(words) => check_all(&rt, &words),
+        Err(report) => {
+            let _ = eprint_report(&rt, &report);
+            return ExitCode::from(2);
+        }
+    };
+    match done {
+        Ok(status) => status,
+        Err(report) => eprint_report(&rt, &report),
+    }
+}
+
+/// Reports what is found in each file, and then how much that is.
+fn check_all<R: Host>(rt: &R, words: &Words) -> Result<ExitCode> {
+    let alloc = rt.alloc();
+    let options = MietteHandlerOpts::new().end_labels(true);
+    let mut run = Reporter::new(rt, words.form, options)?.with_summary();
+    for name in words.names.iter() {
+        match read(rt, name.as_str()) {
+            Ok(file) => {
+                for slip in slips_of(alloc, file.text.as_str())?.iter() {
+                    let report = file.under(alloc, report_of(alloc, *slip, file.text.len())?)?;
+                    run.report(&report).into_diagnostic(alloc)?;
+                }
+            }
+            Err(report) => run.report(&report).into_diagnostic(alloc)?,
+        }
+    }
+    Ok(run.finish())
+}
+
+/// The report of a slip in a text of this length.
+fn report_of(alloc: Global, slip: Slip, end: usize) -> Result<Report> {
+    match slip {
+        Slip::Unclosed(at) => {
+            let labels = ends(alloc, at, end, "a `)` is missing here")?;
+            Ok(miette!(in alloc; code = "minilisp::unclosed", labels = labels, "unclosed `(`"))
+        }
+        Slip::UnclosedText(at) => {
+            let labels = ends(alloc, at, end, "a `\"` is missing here")?;
+            Ok(miette!(in alloc; code = "minilisp::unclosed", labels = labels, "unclosed text"))
+        }
+        Slip::Stray(at) => {
+            let labels = vec![in alloc; LabeledSpan::at(alloc, (at, 1), "nothing is open here")?]?;
+            Ok(miette!(in alloc; code = "minilisp::stray", labels = labels, "stray `)`"))
+        }
+        Slip::Empty(at) => {
+            let labels = vec![in alloc; LabeledSpan::at(alloc, (at, 2), "nothing stands here")?]?;
+            Ok(miette!(
+                in alloc;
+                severity = Severity::Warning,
+                labels = labels,
+                "this list has no parts"
+            ))
+        }
+    }
+}
+
+/// Labels where something begins, and at the end of the text, where its end is missing.
+fn ends(
+    alloc: Global,
+    at: usize,
+    end: usize,
+    missing: &str,
+) -> Result<Vec<LabeledSpan>, AllocError> {
+    Ok(vec![in alloc;
+        LabeledSpan::at(alloc, (at, 1), "this is never closed")?,
+        LabeledSpan::at_offset(alloc, end, missing)?,
+    ]?)
+}
