@@ -2,10 +2,12 @@
 use Rattle.std.proofs.Common.{ℕ, ◌≡◌, List, [], ◌∷◌, ◌++◌, true, Option, sym, ap, subst, ◌∙◌}
 use Rattle.miette_protocol.specs.rules.Reading.{Source}
 use Rattle.miette_protocol.specs.views.Meaning.{Label}
+use Rattle.miette_tree.specs.rules.Diagnosis.{Section}
 use Rattle.miette_tree.specs.rules.Tree.{Tree, tree, Cause, diagnostic, texts, effective, head, source_of, cause_of}
 use Rattle.miette_tree.specs.rules.DiagnosticParts.{given_labels}
 use Rattle.miette_labels.specs.rules.Groups.{in_order}
 use Rattle.miette_brief.specs.rules.Rows.{Place, rows_text}
+use Rattle.miette_brief.specs.rules.Places.{Spot, primary_spot}
 use Rattle.miette_brief.specs.rules.Report.{Answers, unlisted, listed, no_more, cause_row, cause_rows}
 use Rattle.miette_brief.specs.rules.PossibleAnswers.{AreCauseAnswers}
 use Rattle.miette_brief.specs.steps.Reads.{IsCausePlace}
@@ -19,15 +21,20 @@ CausesSoFar at source all left old now =
     ToldSoFar (λ a c. AreCauseAnswers source a c) (λ a c. rows_text (cause_rows at source a c)) all left old now
 
 pub one_more : (at : Place) (source : Option Source) (all left : Cause) (t : Tree) (own : Option Source)
-    (labels : List Label) (place : Place) (message old now new : List ℕ)
+    (labels : List Label) (further : List Section) (primary : Option Spot) (place : Place)
+    (message old now new : List ℕ)
     → CausesSoFar at source all left old now → diagnostic t ≡ left → own ≡ effective (source_of t) source → labels
-    ≡ given_labels (head t).labels → message ≡ (head t).message
-    → IsCausePlace at own (in_order labels) place → new ≡ now ++ rows_text (cause_row place message ∷ [])
+    ≡ given_labels (head t).labels → further ≡ (head t).snippets → message ≡ (head t).message
+    → primary ≡ primary_spot own (in_order labels) further → IsCausePlace at primary place → new ≡ now ++ rows_text (cause_row place message ∷ [])
     → CausesSoFar at source all (cause_of t) old new
-one_more at source all left (tree m s c r) own labels place message old now new so_far is es el et h e =
-    let placed : IsCausePlace at (effective s source) (in_order (given_labels m.labels)) place =
-    subst (λ (ls : List Label). IsCausePlace at (effective s source) (in_order ls) place) el
-    (subst (λ (o : Option Source). IsCausePlace at o (in_order labels) place) es h) in
+one_more at source all left (tree m s c r) own labels further primary place message old now new so_far is es el ef et
+    ep h e =
+    let chosen : primary ≡ primary_spot (effective s source) (in_order (given_labels m.labels)) m.snippets =
+    ep ∙ ap (λ o. primary_spot o (in_order labels) further) es
+    ∙ ap (λ ls. primary_spot (effective s source) (in_order ls) further) el
+    ∙ ap (primary_spot (effective s source) (in_order (given_labels m.labels))) ef in
+    let placed : IsCausePlace at (primary_spot (effective s source) (in_order (given_labels m.labels)) m.snippets)
+    place = subst (λ (o : Option Spot). IsCausePlace at o place) chosen h in
     let here : CausesSoFar at source all (diagnostic (tree m s c r)) old now =
     subst (λ (l : Cause). CausesSoFar at source all l old now) (sym is) so_far in
     let add = λ (more : Answers). listed placed.fault more no_more in

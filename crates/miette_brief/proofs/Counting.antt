@@ -20,6 +20,7 @@ use Rattle.miette_tree.specs.rules.Tree.{Tree, tree, Cause, diagnostic, texts, c
 use Rattle.miette_tree.specs.rules.Tree.{more_trees, effective}
 use Rattle.miette_tree.specs.rules.DiagnosticParts.{given_labels, severity_text}
 use Rattle.miette_tree.specs.rules.Answers.{own_fault}
+use Rattle.miette_tree.specs.rules.Diagnosis.{Diagnosis, Section}
 use Rattle.miette_labels.specs.rules.Groups.{in_order, put_label}
 use Rattle.miette_basics.proofs.Cases.{by_cases}
 use Rattle.miette_brief.specs.declared.rows.Position.{Position}
@@ -30,8 +31,8 @@ use Rattle.miette_brief.specs.rules.Places.{label_place, diagnostic_place}
 use Rattle.miette_brief.specs.rules.Report.{BriefSettings, Answers, RelatedAnswers, cause_answers, related_answers}
 use Rattle.miette_brief.specs.rules.Report.{first_answers, later_answers, note_rows_of, note_rows, cause_row}
 use Rattle.miette_brief.specs.rules.Report.{cause_rows, caused_rows, cause_rows_if, help_rows, own_rows, report_rows}
-use Rattle.miette_brief.specs.rules.Report.{related_rows, brief}
-use Rattle.miette_brief.specs.laws.Parts.{texts_in, told_causes, parts, all_parts, text_of_rows, IsRows}
+use Rattle.miette_brief.specs.rules.Report.{related_rows, brief, further_notes, labelled_rows}
+use Rattle.miette_brief.specs.laws.Parts.{texts_in, texts_further, told_causes, parts, all_parts, text_of_rows, IsRows}
 
 -- ---- no control character
 
@@ -223,6 +224,20 @@ order_counted [] = refl
 order_counted (label ∷ labels) = put_counted label (in_order labels)
     ∙ ap (λ n. option_len label.text + n) (order_counted labels)
 
+further_counted : (sections : List Section) → length (further_notes sections) ≡ texts_further sections
+further_counted [] = refl
+further_counted (section ∷ sections) =
+    length-append (note_rows (Some section.source) (in_order section.labels)) (further_notes sections)
+    ∙ ap₂ (λ m n. m + n) (notes_counted (Some section.source) (in_order section.labels)
+    ∙ order_counted section.labels) (further_counted sections)
+
+labels_counted : (source : Option Source) (m : Diagnosis) → length (labelled_rows source m)
+    ≡ texts_in (given_labels m.labels) + texts_further m.snippets
+labels_counted source m =
+    length-append (note_rows source (in_order (given_labels m.labels))) (further_notes m.snippets)
+    ∙ ap₂ (λ x y. x + y) (notes_counted source (in_order (given_labels m.labels)) ∙ order_counted
+    (given_labels m.labels)) (further_counted m.snippets)
+
 mutual
   causes_counted : (at : Place) (inherited : Option Source) (a : Answers) (c : Cause)
       → length (cause_rows at inherited a c) ≡ length (causes_of c)
@@ -243,14 +258,13 @@ mutual
       → length (report_rows chain inherited a t) ≡ parts chain t
   report_counted chain inherited a (tree m own c r) =
       let from = effective own inherited in
-      let at : Place = diagnostic_place from (own_fault a) (in_order (given_labels m.labels)) in
-      let notes = note_rows from (in_order (given_labels m.labels)) in
+      let at : Place = diagnostic_place from (own_fault a) (in_order (given_labels m.labels)) m.snippets in
+      let notes = labelled_rows from m in
       let causes = cause_rows_if chain at from (cause_answers a) c in
-      let n : length notes ≡ texts_in (given_labels m.labels) = notes_counted from (in_order (given_labels m.labels))
-      ∙ order_counted (given_labels m.labels) in
+      let n : length notes ≡ texts_in (given_labels m.labels) + texts_further m.snippets = labels_counted from m in
       let k : length causes ≡ told_causes chain (causes_of c) = told_counted chain at from (cause_answers a) c in
-      let tail : length (notes ++ (causes ++ help_rows at m.help)) ≡ texts_in (given_labels m.labels)
-      + (told_causes chain (causes_of c) + option_len m.help) =
+      let tail : length (notes ++ (causes ++ help_rows at m.help))
+      ≡ (texts_in (given_labels m.labels) + texts_further m.snippets) + (told_causes chain (causes_of c) + option_len m.help) =
       length-append notes (causes ++ help_rows at m.help) ∙ ap₂ (λ x y. x + y) n
       (length-append causes (help_rows at m.help) ∙ ap₂ (λ x y. x + y) k (help_counted at m.help)) in
       let more = related_counted chain from (related_answers a) r in

@@ -2,6 +2,7 @@ pub mod Spacing
 pub mod Putting
 pub mod Noting
 pub mod Choosing
+pub mod Further
 pub mod SoFar
 pub mod Causing
 pub mod Telling

@@ -5,26 +5,27 @@ use Rattle.std.proofs.Common.{Option, Some, None, refl, sym, ap, ap₂, subst, �
 use Rattle.std.proofs.lemmas.List.{drop_all}
 use Rattle.miette_protocol.specs.rules.Reading.{Source, is_accepted}
 use Rattle.miette_protocol.specs.views.Meaning.{Label}
-use Rattle.miette_tree.specs.rules.Diagnosis.{Diagnosis}
+use Rattle.miette_tree.specs.rules.Diagnosis.{Diagnosis, Section}
 use Rattle.miette_tree.specs.rules.Tree.{Tree, tree, Cause, diagnostic, texts, Trees, no_trees, more_trees, trees}
 use Rattle.miette_tree.specs.rules.Tree.{effective, head, source_of, cause_of, related_of}
 use Rattle.miette_tree.specs.rules.DiagnosticParts.{given_labels}
 use Rattle.miette_tree.specs.rules.Reads.{AlwaysReads, CauseAlwaysReads, AllAlwaysRead, holds_of, holds_of_all, accepts}
-use Rattle.miette_tree.specs.rules.Reads.{MayMeet}
+use Rattle.miette_tree.specs.rules.Reads.{MayMeet, holds_further}
 use Rattle.miette_tree.specs.rules.Answers.{own_fault}
 use Rattle.miette_tree.proofs.Nesting.{Reads, effective_reads, next_of}
-use Rattle.miette_tree.proofs.Readings.{fault_free, own_fails}
+use Rattle.miette_tree.proofs.Readings.{fault_free}
 use Rattle.miette_labels.specs.rules.Groups.{in_order}
-use Rattle.miette_labels.proofs.OwnContexts.{order_all, order_nil}
 use Rattle.miette_brief.specs.rules.Rows.{Place, ReportRow, rows_text}
-use Rattle.miette_brief.specs.rules.Places.{diagnostic_place, cause_place}
+use Rattle.miette_brief.specs.rules.Places.{diagnostic_place, cause_place, primary_spot, source_of_spot}
 use Rattle.miette_brief.specs.rules.Report.{BriefSettings, Answers, RelatedAnswers, unlisted, listed, no_more, and_more}
 use Rattle.miette_brief.specs.rules.Report.{cause_answers, related_answers, first_answers, later_answers, finding_row}
 use Rattle.miette_brief.specs.rules.Report.{note_rows, cause_row, cause_rows, caused_rows, cause_rows_if, help_rows}
-use Rattle.miette_brief.specs.rules.Report.{rows_at, own_rows, report_rows, related_rows, brief}
-use Rattle.miette_brief.specs.rules.PossibleAnswers.{HasAccepted, AreCauseAnswers, AreCausedAnswers, AreAnswers}
+use Rattle.miette_brief.specs.rules.Report.{rows_at, own_rows, report_rows, related_rows, brief, further_notes}
+use Rattle.miette_brief.specs.rules.Report.{labelled_rows}
+use Rattle.miette_brief.specs.rules.PossibleAnswers.{HasAccepted, FurtherAccepted, AreCauseAnswers, AreCausedAnswers, AreAnswers}
 use Rattle.miette_brief.specs.rules.PossibleAnswers.{AllAnswers, IsBrief}
 use Rattle.miette_brief.specs.steps.Reads.{IsDiagnosticPlace}
+use Rattle.miette_brief.proofs.Choosing.{nothing_met, primary_reads, accepts_order}
 use Rattle.miette_brief.proofs.Putting.{rows_joined}
 use Rattle.miette_brief.proofs.SoFar.{ToldSoFar, one_so_far}
 use Rattle.miette_brief.specs.steps.AppendedParts.{AppendsCauses, AppendsLabelled, AppendsOwn, AppendsReport}
@@ -32,17 +33,16 @@ use Rattle.miette_brief.specs.steps.AppendedParts.{AppendsRelated}
 
 -- ---- causes that aren't told
 
-nothing_met : (source : Option Source) → MayMeet source false
-nothing_met None = refl
-nothing_met (Some source) = λ f. cc
-
 mutual
   none_met : (source : Option Source) (c : Cause) → AreCauseAnswers source unlisted c
   none_met source (diagnostic t) = none_met_in source t
   none_met source (texts ts) = tt
 
   none_met_in : (source : Option Source) (t : Tree) → AreCausedAnswers source unlisted t
-  none_met_in source (tree m own c r) = (nothing_met (effective own source), none_met source c)
+  none_met_in source (tree m own c r) = (
+    nothing_met (source_of_spot (primary_spot (effective own source) (in_order (given_labels m.labels)) m.snippets)),
+    none_met source c,
+  )
 
 pub untold : (at : Place) (source : Option Source) (c : Cause) (old new : List ℕ) → new ≡ old
     → AppendsCauses false at source c old new
@@ -63,21 +63,38 @@ rows_of_three : (labelled causes help : List ReportRow) → rows_text (labelled 
 rows_of_three labelled causes help =
     rows_joined labelled (causes ++ help) ∙ ap (λ l. rows_text labelled ++ l) (rows_joined causes help)
 
--- a diagnostic and its labels in this order
-pub labelled : (source : Option Source) (m : Diagnosis) (labels order : List Label) (at : Place) (old mid new : List ℕ)
-    → labels ≡ given_labels m.labels → order ≡ in_order labels → IsDiagnosticPlace source order at
-    → mid ≡ old ++ rows_text (finding_row at m ∷ []) → new ≡ mid ++ rows_text (note_rows source order)
-    → HasAccepted source order → AppendsLabelled source m at old new
-labelled source m labels order at old mid new el eo placed e f accepted =
+-- a diagnostic, its labels in this order, and those over further sources
+labels_told : (source : Option Source) (m : Diagnosis) (at : Place) (old mid more new : List ℕ)
+    → mid ≡ old ++ rows_text (finding_row at m ∷ [])
+    → more ≡ mid ++ rows_text (note_rows source (in_order (given_labels m.labels)))
+    → new ≡ more ++ rows_text (further_notes m.snippets)
+    → new ≡ old ++ rows_text (finding_row at m ∷ labelled_rows source m)
+labels_told source m at old mid more new e f g =
+    let own = note_rows source (in_order (given_labels m.labels)) in
+    three old mid more new (rows_text (finding_row at m ∷ [])) (rows_text own) (rows_text (further_notes m.snippets))
+    e f g
+    ∙ ap (λ x. old ++ x) (ap (λ x. rows_text (finding_row at m ∷ []) ++ x) (sym (rows_joined own (further_notes
+    m.snippets))) ∙ sym (rows_joined (finding_row at m ∷ []) (labelled_rows source m)))
+
+pub labelled : (source : Option Source) (m : Diagnosis) (labels order : List Label) (further : List Section)
+    (at : Place) (old mid more new : List ℕ)
+    → labels ≡ given_labels m.labels → order ≡ in_order labels → further ≡ m.snippets
+    → IsDiagnosticPlace source order further at → mid ≡ old ++ rows_text (finding_row at m ∷ [])
+    → more ≡ mid ++ rows_text (note_rows source order) → HasAccepted source order
+    → new ≡ more ++ rows_text (further_notes further) → FurtherAccepted further → AppendsLabelled source m at old new
+labelled source m labels order further at old mid more new el eo ef placed e f accepted g behind =
     let ls : List Label = in_order (given_labels m.labels) in
     let same : order ≡ ls = eo ∙ ap in_order el in
     record {
-      placed = subst (λ (l : List Label). IsDiagnosticPlace source l at) same placed;
-      accepted = subst (λ (l : List Label). HasAccepted source l) same accepted;
-      appended = f ∙ ap (λ l. mid ++ rows_text (note_rows source l)) same
-          ∙ ap (λ x. x ++ rows_text (note_rows source ls)) e
-          ∙ append_assoc old (rows_text (finding_row at m ∷ [])) (rows_text (note_rows source ls))
-          ∙ ap (λ x. old ++ x) (sym (rows_joined (finding_row at m ∷ []) (note_rows source ls)));
+      placed = subst (λ (ss : List Section). IsDiagnosticPlace source ls ss at) ef
+          (subst (λ (l : List Label). IsDiagnosticPlace source l further at) same placed);
+      accepted = (
+        subst (λ (l : List Label). HasAccepted source l) same accepted,
+        subst (λ (ss : List Section). FurtherAccepted ss) ef behind,
+      );
+      appended = labels_told source m at old mid more new e
+          (f ∙ ap (λ l. mid ++ rows_text (note_rows source l)) same)
+          (g ∙ ap (λ ss. more ++ rows_text (further_notes ss)) ef);
     }
 
 pub own_told : (chain : Bool) (source : Option Source) (m : Diagnosis) (c : Cause) (at : Place)
@@ -85,7 +102,7 @@ pub own_told : (chain : Bool) (source : Option Source) (m : Diagnosis) (c : Caus
     → given ≡ m.help → AppendsLabelled source m at old mid → AppendsCauses chain at source c mid caused
     → new ≡ caused ++ rows_text (help_rows at given) → AppendsOwn chain source m c old new
 own_told chain source m c at given old mid caused new eh head causes e =
-    let rows : List ReportRow = finding_row at m ∷ note_rows source (in_order (given_labels m.labels)) in
+    let rows : List ReportRow = finding_row at m ∷ labelled_rows source m in
     let told : List ReportRow = cause_rows_if chain at source causes.answers c in
     let answers : Answers = listed head.placed.fault causes.answers no_more in
     record {
@@ -161,25 +178,29 @@ all_told value chain inherited rs i old now end so_far =
 
 -- ---- where something is refused
 
-accepts_order : (source : Option Source) (labels : List Label) → accepts source (in_order labels)
-    ≡ accepts source labels
-accepts_order None labels = refl
-accepts_order (Some s) labels = ap₂ (λ all nil. all && (nil || s.always_reads))
-    (order_all (λ label. is_accepted s.bytes label.span) labels) (order_nil labels)
+around : (a b c : Bool) → (a && c) ≡ false → ((a && b) && c) ≡ false
+around true true c e = e
+around true false c e = refl
+around false b c e = refl
 
 pub refused_here : (t : Tree) (inherited source : Option Source) → source ≡ effective (source_of t) inherited →
-    accepts source (in_order (given_labels (head t).labels)) ≡ false → holds_of accepts inherited t ≡ false
+    (accepts source (in_order (given_labels (head t).labels)) && holds_further accepts (head t).snippets) ≡ false
+    → holds_of accepts inherited t ≡ false
 refused_here (tree m s c r) inherited source es e =
-    own_fails accepts (tree m s c r) inherited (ap (λ b. b && holds_of_all accepts (effective s inherited) r)
-    (sym (ap (λ o. accepts o (given_labels m.labels)) es) ∙ (sym (accepts_order source (given_labels m.labels)) ∙ e)))
+    around (accepts (effective s inherited) (given_labels m.labels)) (holds_of_all accepts (effective s inherited) r)
+    (holds_further accepts m.snippets) (ap (λ b. b && holds_further accepts m.snippets)
+    (sym (ap (λ o. accepts o (given_labels m.labels)) es) ∙ sym (accepts_order source (given_labels m.labels))) ∙ e)
 
 -- labels in an order that is refused
 pub order_refused : {X : Type 0} (label : List Label → X → Label) (source : Option Source) (labels given : List Label)
     (order : List X) → labels ≡ given → map (label given) order ≡ in_order given
-    → accepts source (map (label labels) order) ≡ false → accepts source (in_order given) ≡ false
-order_refused label source labels given order e ordered refused =
-    subst (λ (ls : List Label). accepts source ls ≡ false) (ap (λ (ls : List Label). map (label ls) order) e ∙ ordered)
-    refused
+    → (further sections : List Section) → further ≡ sections
+    → (accepts source (map (label labels) order) && holds_further accepts further) ≡ false
+    → (accepts source (in_order given) && holds_further accepts sections) ≡ false
+order_refused label source labels given order e ordered further sections ef refused =
+    subst (λ (ss : List Section). (accepts source (in_order given) && holds_further accepts ss) ≡ false) ef
+    (subst (λ (ls : List Label). (accepts source ls && holds_further accepts further) ≡ false)
+    (ap (λ (ls : List Label). map (label ls) order) e ∙ ordered) refused)
 
 -- ---- where every source always reads
 
@@ -194,8 +215,12 @@ mutual
   same_caused at inherited a (tree m own c r) p i reads =
       let from = effective own inherited in
       let from_reads : Reads from = effective_reads own inherited reads.0 i in
-      ap₂ (λ b rows. cause_row (cause_place at from b (in_order (given_labels m.labels))) m.message ∷ rows)
-      (fault_free from (own_fault a) p.0 from_reads) (same_causes at inherited (cause_answers a) c p.1 i reads.1)
+      let primary = primary_spot from (in_order (given_labels m.labels)) m.snippets in
+      let spot_reads : Reads (source_of_spot primary) =
+      primary_reads from (in_order (given_labels m.labels)) m.snippets from_reads reads.3 in
+      ap₂ (λ b rows. cause_row (cause_place at b primary) m.message ∷ rows)
+      (fault_free (source_of_spot primary) (own_fault a) p.0 spot_reads)
+      (same_causes at inherited (cause_answers a) c p.1 i reads.1)
 
 same_if : (chain : Bool) (at : Place) (inherited : Option Source) (a : Answers) (c : Cause)
     → AreCauseAnswers inherited a c → Reads inherited → CauseAlwaysReads c → cause_rows_if chain at inherited a c
@@ -210,11 +235,11 @@ mutual
       let from = effective own inherited in
       let from_reads : Reads from = effective_reads own inherited reads.0 i in
       let ls : List Label = in_order (given_labels m.labels) in
-      let at : Place = diagnostic_place from false ls in
-      let placed : diagnostic_place from (own_fault a) ls ≡ at =
-      ap (λ b. diagnostic_place from b ls) (fault_free from (own_fault a) p.1 from_reads) in
+      let at : Place = diagnostic_place from false ls m.snippets in
+      let placed : diagnostic_place from (own_fault a) ls m.snippets ≡ at =
+      ap (λ b. diagnostic_place from b ls m.snippets) (fault_free from (own_fault a) p.1 from_reads) in
       ap (λ q. rows_at chain q from a m c ++ related_rows chain from (related_answers a) r) placed
-      ∙ ap₂ (λ causes others. (finding_row at m ∷ (note_rows from ls ++ (causes ++ help_rows at m.help))) ++ others)
+      ∙ ap₂ (λ causes others. (finding_row at m ∷ (labelled_rows from m ++ (causes ++ help_rows at m.help))) ++ others)
       (same_if chain at from (cause_answers a) c p.2 from_reads reads.1)
       (same_related chain from (related_answers a) r p.3 from_reads reads.2)
 

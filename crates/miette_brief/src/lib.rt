@@ -6,4 +6,5 @@ pub mod laws;
 mod places;
 mod report;
 mod rows;
+mod spots;
 mod words;

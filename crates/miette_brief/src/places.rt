@@ -1,26 +1,27 @@
 //! Where the parts of a report lie, by reads of its sources without context.
 
-ghost use Rattle.std.specs.Prelude.{◌≡◌, ◌<◌, ◌+◌, false, Some, None, IfOk, OnOk, map, length, option_map};
+ghost use Rattle.std.specs.Prelude.{◌≡◌, ◌<◌, ◌+◌, ◌&&◌, false, Some, None, IfOk, OnOk, map, length, option_map};
 ghost use Rattle.miette_tree.specs.views.Owned.{shown_source};
-ghost use Rattle.miette_labels.specs.rules.Groups.{in_order};
 ghost use Rattle.miette_brief.specs.rules.Rows.{nowhere};
 ghost use Rattle.miette_brief.specs.rules.Places.{label_place as place_of_label};
 ghost use Rattle.std.specs.List.{All};
-ghost use Rattle.miette_tree.specs.rules.Reads.{accepts};
-ghost use Rattle.miette_brief.specs.steps.Reads.{IsUnread, IsReadAt, IsBegin, IsNamePlace, IsDiagnosticPlace};
-ghost use Rattle.miette_brief.specs.steps.Reads.{IsCausePlace};
-ghost use Rattle.miette_brief.specs.rules.Places.{span_place as begin_of_span, primary_span as primary_of};
+ghost use Rattle.miette_tree.specs.rules.Reads.{accepts, holds_further};
+ghost use Rattle.miette_tree.specs.views.Attached.{section_of};
+ghost use Rattle.miette_brief.specs.steps.Reads.{IsUnread, IsReadAt, IsNamePlace, IsDiagnosticPlace};
+ghost use Rattle.miette_brief.specs.steps.Reads.{IsSourcePlace, IsCausePlace};
+ghost use Rattle.miette_brief.specs.rules.Places.{span_place as begin_of_span, primary_spot as primary_of};
+ghost use Rattle.miette_labels.specs.rules.Groups.{in_order};
 ghost use Rattle.miette_protocol.specs.rules.Reading.{IsAccepted};
 ghost use Rattle.miette_labels.specs.views.GivenLabels.{label_at};
 ghost use Rattle.miette_brief.specs.steps.Conversions.{place_of};
 
-use crate::rows::{Place, Position};
-use miette_basics::sums::sum;
-use miette_labels::order::{Turn, by_offset};
+use crate::rows::Place;
+use crate::spots::{Found, primary_found, primary_label, read_begin};
+use miette_labels::order::Turn;
 use miette_protocol::error::RenderError;
 use miette_protocol::protocol::{LabeledSpan, SourceOffset, SourceSpan};
-use miette_protocol::source::{MietteSpanContents, SourceCode};
-use miette_tree::report::SourceRef;
+use miette_protocol::source::SourceCode;
+use miette_tree::report::{Snippets, SourceRef};
 use std::alloc::{AllocError, Global};
 
 /// Neither name nor position.
@@ -30,34 +31,6 @@ fn no_place() -> Place<'static>
     Place {
         name: None,
         position: None,
-    }
-}
-
-/// Where contents begin.
-fn begin_of<'a>(contents: &MietteSpanContents<'a>) -> Result<Place<'a>, AllocError>
-    ensures { IfOk result (λ at. place_of at ≡ record {
-      name = contents.now.name;
-      position = Some (record { line = contents.now.line + 1; column = contents.now.column + 1 });
-    }) }
-{
-    let line = sum(contents.line(), 1)?;
-    let column = sum(contents.column(), 1)?;
-    Ok(Place {
-        name: contents.name(),
-        position: Some(Position { line, column }),
-    })
-}
-
-/// Where a span begins, none where its read is refused.
-fn read_begin<'a, S: SourceCode>(
-    source: SourceRef<'a, S>,
-    span: &SourceSpan,
-) -> Result<Option<Place<'a>>, AllocError>
-    ensures { IfOk result (λ at. IsBegin (shown_source S.source source.entry) span.now (option_map place_of at)) }
-{
-    match source.read_span(span, 0, 0) {
-        Ok(contents) => Ok(Some(begin_of(&contents)?)),
-        Err(_) => Ok(None),
     }
 }
 
@@ -108,71 +81,39 @@ fn name_place<'a, S: SourceCode>(source: SourceRef<'a, S>) -> Place<'a>
     }
 }
 
-/// The label that stands at a place of an order.
-pub(crate) fn label_of(labels: &[LabeledSpan], turn: Turn) -> &LabeledSpan
-    requires inside { turn.index < length labels.now }
-    ensures { result.now ≡ label_at labels.now turn.index }
+/// The name of a source alone, nowhere without one.
+fn source_place<'a, S: SourceCode>(source: Option<SourceRef<'a, S>>) -> Place<'a>
+    ensures { IsSourcePlace (option_map (shown_source S.source) source.entry) (place_of result) }
 {
-    &labels[turn.index]
-}
-
-/// Of labels in this order the span of the first one that is marked as primary, else of the first.
-fn primary_span(labels: &[LabeledSpan], order: &[Turn]) -> Option<SourceSpan>
-    requires inside { All (λ turn. turn.index < length labels.now) order.now }
-    ensures { result ≡ primary_of (map (λ turn. label_at labels.now turn.index) order.now) }
-{
-    if order.is_empty() {
-        return None;
+    match source {
+        Some(source) => name_place(source),
+        None => no_place(),
     }
-    let first = span_of(labels, order[0]);
-    for turn in order {
-        let label = label_of(labels, *turn);
-        if label.primary() {
-            return Some(*label.inner());
-        }
-    }
-    Some(first)
 }
 
-/// The span of the label that stands at a place of an order.
-fn span_of(labels: &[LabeledSpan], turn: Turn) -> SourceSpan
-    requires inside { turn.index < length labels.now }
-    ensures { result ≡ (label_at labels.now turn.index).span }
-{
-    *label_of(labels, turn).inner()
-}
-
-/// Where a diagnostic with labels in this order lies; `Refused` where its primary label can't be read.
+/// Where a diagnostic with labels in this order and with these further sources lies; `Refused` where its primary label
+/// can't be read.
 pub(crate) fn diagnostic_place<'a, S: SourceCode>(
+    alloc: Global,
     source: Option<SourceRef<'a, S>>,
     labels: &[LabeledSpan],
     order: &[Turn],
+    further: &'a [Snippets<S>],
 ) -> Result<Place<'a>, RenderError>
     requires inside { All (λ turn. turn.index < length labels.now) order.now }
     ensures place { IfOk result (λ at. IsDiagnosticPlace (option_map (shown_source S.source) source.entry)
-        (map (λ turn. label_at labels.now turn.index) order.now) (place_of at)) }
+        (map (λ turn. label_at labels.now turn.index) order.now) (map (section_of S.source) further.now)
+        (place_of at)) }
     ensures refused { (result ≡ Err RenderError.Refused) →
-        accepts (option_map (shown_source S.source) source.entry)
-        (map (λ turn. label_at labels.now turn.index) order.now) ≡ false }
+        (accepts (option_map (shown_source S.source) source.entry)
+        (map (λ turn. label_at labels.now turn.index) order.now)
+        && holds_further accepts (map (section_of S.source) further.now)) ≡ false }
 {
-    let Some(source) = source else {
-        return Ok(no_place());
-    };
-    match primary_span(labels, order) {
-        Some(span) => span_place(source, &span),
-        None => Ok(name_place(source)),
+    match primary_found(alloc, source, labels, order, further)? {
+        Found::At(at) => Ok(at),
+        Found::Unread => Err(RenderError::Refused),
+        Found::Nothing => Ok(source_place(source)),
     }
-}
-
-/// Of labels the span of the primary one, by their order.
-fn primary_of_labels(
-    alloc: Global,
-    labels: &[LabeledSpan],
-) -> Result<Option<SourceSpan>, AllocError>
-    ensures { IfOk result (λ span. span ≡ primary_of (in_order labels.now)) }
-{
-    let order = by_offset(alloc, labels)?;
-    Ok(primary_span(labels, &order))
 }
 
 /// Where a cause with these labels lies: at its primary one where that can be read, else at this place.
@@ -180,19 +121,16 @@ pub(crate) fn cause_place<'a, S: SourceCode>(
     alloc: Global,
     source: Option<SourceRef<'a, S>>,
     labels: &[LabeledSpan],
+    further: &'a [Snippets<S>],
     at: Place<'a>,
 ) -> Result<Place<'a>, AllocError>
-    ensures { IfOk result (λ own. IsCausePlace (place_of at.entry) (option_map (shown_source S.source) source.entry)
-        (in_order labels.now) (place_of own)) }
+    ensures { IfOk result (λ own. IsCausePlace (place_of at.entry)
+        (primary_of (option_map (shown_source S.source) source.entry) (in_order labels.now)
+        (map (section_of S.source) further.now)) (place_of own)) }
 {
-    let Some(source) = source else {
-        return Ok(at);
-    };
-    let Some(span) = primary_of_labels(alloc, labels)? else {
-        return Ok(at);
-    };
-    match read_begin(source, &span)? {
-        Some(own) => Ok(own),
-        None => Ok(at),
+    match primary_label(alloc, source, labels, further)? {
+        Found::At(own) => Ok(own),
+        Found::Unread => Ok(at),
+        Found::Nothing => Ok(at),
     }
 }

@@ -1,17 +1,19 @@
 //! The brief text of a report, part by part.
 
-ghost use Rattle.std.specs.Prelude.{◌≡◌, ◌++◌, ◌∷◌, ◌<◌, [], false, OnOk, IfOk, string_bytes, map, length};
-ghost use Rattle.std.specs.Prelude.{option_copied, true};
+ghost use Rattle.std.specs.Prelude.{◌≡◌, ◌++◌, ◌∷◌, ◌<◌, ◌&&◌, [], false, OnOk, IfOk, string_bytes, map, length};
+ghost use Rattle.std.specs.Prelude.{option_copied, true, Some};
 ghost use Rattle.std.specs.List.{All};
 ghost use Rattle.std.specs.Option.{option_map};
 ghost use Rattle.miette_tree.specs.views.Report.{tree_of};
+ghost use Rattle.miette_tree.specs.views.Attached.{section_of};
 ghost use Rattle.miette_tree.specs.views.Owned.{shown_source};
 ghost use Rattle.miette_tree.specs.rules.Tree.{head, cause_of};
 ghost use Rattle.miette_tree.specs.rules.DiagnosticParts.{given_labels};
-ghost use Rattle.miette_tree.specs.rules.Reads.{accepts};
+ghost use Rattle.miette_tree.specs.rules.Reads.{accepts, holds_further};
 ghost use Rattle.miette_brief.specs.rules.Places.{label_place as place_of_label};
-ghost use Rattle.miette_brief.specs.rules.PossibleAnswers.{HasAccepted};
-ghost use Rattle.miette_brief.specs.rules.Report.{finding_row, note_rows_of, note_rows, cause_row, help_rows};
+ghost use Rattle.miette_brief.specs.rules.PossibleAnswers.{HasAccepted, FurtherAccepted};
+ghost use Rattle.miette_brief.specs.rules.Report.{finding_row, note_rows_of, note_rows, further_notes, cause_row};
+ghost use Rattle.miette_brief.specs.rules.Report.{help_rows};
 ghost use Rattle.miette_brief.specs.rules.Rows.{rows_text};
 ghost use Rattle.miette_brief.specs.steps.AppendedParts.{AppendsCauses, AppendsLabelled, AppendsOwn};
 ghost use Rattle.miette_brief.specs.steps.Conversions.{place_of};
@@ -19,14 +21,15 @@ ghost use Rattle.miette_brief.specs.steps.Reads.{IsUnread, IsReadAt};
 ghost use Rattle.miette_labels.specs.rules.Groups.{in_order};
 ghost use Rattle.miette_labels.specs.views.GivenLabels.{label_at};
 
-use crate::places::{cause_place, diagnostic_place, label_of, label_place};
+use crate::places::{cause_place, diagnostic_place, label_place};
 use crate::rows::{Kind, Place, push_row};
+use crate::spots::label_of;
 use miette_labels::order::{Turn, by_offset};
 use miette_protocol::error::RenderError;
 use miette_protocol::protocol::{Diagnostic, LabeledSpan};
 use miette_protocol::source::SourceCode;
 use miette_tree::parts::{cause_texts, labels_of, own_or};
-use miette_tree::report::{Cause, Report, SourceRef};
+use miette_tree::report::{Cause, Report, Snippets, SourceRef};
 use std::alloc::{AllocError, Global};
 
 /// The row of a diagnostic.
@@ -86,6 +89,39 @@ fn push_notes<S: SourceCode>(
     Ok(())
 }
 
+/// The rows of labels over a source, by offset; `Refused` where one can't be read.
+fn push_sorted_notes<S: SourceCode>(
+    source: SourceRef<'_, S>,
+    labels: &[LabeledSpan],
+    out: &mut String,
+) -> Result<(), RenderError>
+    ensures text { OnOk result (string_bytes out.new ≡ string_bytes out.old
+        ++ rows_text (note_rows (Some (shown_source S.source source.entry)) (in_order labels.now))) }
+    ensures accepted { OnOk result (HasAccepted (Some (shown_source S.source source.entry)) (in_order labels.now)) }
+    ensures refused { (result ≡ Err RenderError.Refused) →
+        accepts (Some (shown_source S.source source.entry)) (in_order labels.now) ≡ false }
+{
+    let order = by_offset(*out.allocator(), labels)?;
+    push_notes(Some(source), labels, &order, out)
+}
+
+/// The rows of labels over further sources; `Refused` where one can't be read.
+fn push_further_notes<S: SourceCode>(
+    further: &[Snippets<S>],
+    out: &mut String,
+) -> Result<(), RenderError>
+    ensures text { OnOk result (string_bytes out.new ≡ string_bytes out.old
+        ++ rows_text (further_notes (map (section_of S.source) further.now))) }
+    ensures accepted { OnOk result (FurtherAccepted (map (section_of S.source) further.now)) }
+    ensures refused { (result ≡ Err RenderError.Refused) →
+        holds_further accepts (map (section_of S.source) further.now) ≡ false }
+{
+    for section in further {
+        push_sorted_notes(section.source(), section.labels(), out)?;
+    }
+    Ok(())
+}
+
 /// The rows of causes that are texts.
 fn push_cause_texts(at: Place<'_>, texts: &[String], out: &mut String) -> Result<(), AllocError>
     ensures { OnOk result (string_bytes out.new ≡ string_bytes out.old
@@ -111,7 +147,7 @@ fn push_causes<'a, D: Diagnostic, S: SourceCode>(
     let mut above = report;
     while let Cause::Diagnostic(next) = above.cause() {
         let own = own_or(next, source);
-        let place = cause_place(alloc, own, labels_of(next), at)?;
+        let place = cause_place(alloc, own, labels_of(next), next.further_snippets(), at)?;
         push_row(out, place, Kind::Cause, next.message())?;
         above = next;
     }
@@ -129,7 +165,8 @@ fn push_help(out: &mut String, at: Place<'_>, help: Option<&str>) -> Result<(), 
     push_row(out, at, Kind::Help, help)
 }
 
-/// The rows of a report over a source, or over none, and of its labels in this order; where the report lies.
+/// The rows of a report over a source, or over none, of its labels in this order, and of those over further sources;
+/// where the report lies.
 fn push_labelled<'a, D: Diagnostic, S: SourceCode>(
     report: &'a Report<D, S>,
     source: Option<SourceRef<'a, S>>,
@@ -142,13 +179,17 @@ fn push_labelled<'a, D: Diagnostic, S: SourceCode>(
         turn.index) order.now ≡ in_order (given_labels (head (tree_of D.meaning S.source report.now)).labels) }
     ensures text { IfOk result (λ at. AppendsLabelled (option_map (shown_source S.source) source.entry)
         (head (tree_of D.meaning S.source report.now)) (place_of at) (string_bytes out.old) (string_bytes out.new)) }
-    ensures refused { (result ≡ Err RenderError.Refused) → accepts (option_map (shown_source S.source) source.entry)
-        (in_order (given_labels (head (tree_of D.meaning S.source report.now)).labels)) ≡ false }
+    ensures refused { (result ≡ Err RenderError.Refused) →
+        (accepts (option_map (shown_source S.source) source.entry)
+        (in_order (given_labels (head (tree_of D.meaning S.source report.now)).labels))
+        && holds_further accepts (head (tree_of D.meaning S.source report.now)).snippets) ≡ false }
 {
     let labels = labels_of(report);
-    let at = diagnostic_place(source, labels, order)?;
+    let further = report.further_snippets();
+    let at = diagnostic_place(*out.allocator(), source, labels, order, further)?;
     push_head(report, at, out)?;
     push_notes(source, labels, order, out)?;
+    push_further_notes(further, out)?;
     Ok(at)
 }
 
@@ -163,8 +204,9 @@ pub(crate) fn push_own<'a, D: Diagnostic, S: SourceCode>(
         (option_map (shown_source S.source) source.entry) (head (tree_of D.meaning S.source report.now))
         (cause_of (tree_of D.meaning S.source report.now)) (string_bytes out.old) (string_bytes out.new)) }
     ensures refused { (result ≡ Err RenderError.Refused) →
-        accepts (option_map (shown_source S.source) source.entry)
-        (in_order (given_labels (head (tree_of D.meaning S.source report.now)).labels)) ≡ false }
+        (accepts (option_map (shown_source S.source) source.entry)
+        (in_order (given_labels (head (tree_of D.meaning S.source report.now)).labels))
+        && holds_further accepts (head (tree_of D.meaning S.source report.now)).snippets) ≡ false }
 {
     let alloc = *out.allocator();
     let order = by_offset(alloc, labels_of(report))?;

@@ -3,17 +3,49 @@ use Rattle.std.specs.Prelude.{◌+◌, List, [], ◌∷◌, Option, Some, None, 
 use Rattle.miette_protocol.specs.views.Meaning.{Label}
 use Rattle.miette_protocol.specs.rules.Reading.{Span, Source, is_accepted}
 use Rattle.miette_labels.specs.rules.Contexts.{contents}
+use Rattle.miette_labels.specs.rules.Groups.{in_order}
+use Rattle.miette_tree.specs.rules.Diagnosis.{Section}
 use Rattle.miette_brief.specs.rules.Rows.{Place, nowhere}
 
--- the span of the first label that is marked as primary, else the first argument
-abbrev pub marked_span : Span → List Label → Span
-marked_span first [] = first
-marked_span first (label ∷ labels) = if label.primary then label.span else marked_span first labels
+-- ---- primary labels
 
--- of labels by offset the span of the primary one: the first marked so, else the first
-abbrev pub primary_span : List Label → Option Span
-primary_span [] = None
-primary_span (label ∷ labels) = Some (marked_span label.span (label ∷ labels))
+-- a span over a source
+pub record Spot : Type 0 where
+  pub source : Source
+  pub span : Span
+
+-- of labels by offset the span of the first that is marked as primary
+abbrev pub marked_in : List Label → Option Span
+marked_in [] = None
+marked_in (label ∷ labels) = if label.primary then Some label.span else marked_in labels
+
+-- of labels by offset the span of the first
+abbrev pub first_in : List Label → Option Span
+first_in [] = None
+first_in (label ∷ labels) = Some label.span
+
+-- a span over a source, where there are both
+abbrev pub spot_over : Option Source → Option Span → Option Spot
+spot_over None span = None
+spot_over (Some source) None = None
+spot_over (Some source) (Some span) = Some (record { source = source; span = span })
+
+abbrev pub else_spot : Option Spot → Option Spot → Option Spot
+else_spot None other = other
+else_spot (Some spot) other = Some spot
+
+-- what a choice among labels by offset finds first over further sources, in their order
+abbrev pub found_further : (List Label → Option Span) → List Section → Option Spot
+found_further choice [] = None
+found_further choice (section ∷ sections) =
+    else_spot (spot_over (Some section.source) (choice (in_order section.labels))) (found_further choice sections)
+
+-- The primary label of labels by offset over a first source, and of those over further ones: the first that is marked
+-- so, in the order of the sources, else the first of the first source that has one.
+abbrev pub primary_spot : Option Source → List Label → List Section → Option Spot
+primary_spot source labels further =
+    else_spot (spot_over source (marked_in labels)) (else_spot (found_further marked_in further)
+    (else_spot (spot_over source (first_in labels)) (found_further first_in further)))
 
 -- where a span begins, by a read without context
 abbrev pub span_place : Source → Span → Place
@@ -33,26 +65,30 @@ name_place source fault = record { name = if fault then None else source.name; p
 
 -- ---- diagnostics
 
--- where a primary label's span begins, else the name alone
-abbrev pub chosen_place : Source → Bool → Option Span → Place
-chosen_place source fault None = name_place source fault
-chosen_place source fault (Some span) = span_place source span
+-- the name of a source alone, nowhere without one
+abbrev pub source_place : Option Source → Bool → Place
+source_place None fault = nowhere
+source_place (Some source) fault = name_place source fault
 
--- where a diagnostic with these labels by offset lies: at its primary one
-abbrev pub diagnostic_place : Option Source → Bool → List Label → Place
-diagnostic_place None fault labels = nowhere
-diagnostic_place (Some source) fault labels = chosen_place source fault (primary_span labels)
+-- where a primary label begins, else the name of the first source alone
+abbrev pub chosen_place : Option Source → Bool → Option Spot → Place
+chosen_place source fault None = source_place source fault
+chosen_place source fault (Some spot) = span_place spot.source spot.span
+
+-- where a diagnostic with these labels by offset and these further sources lies: at its primary label
+abbrev pub diagnostic_place : Option Source → Bool → List Label → List Section → Place
+diagnostic_place source fault labels further = chosen_place source fault (primary_spot source labels further)
 
 -- ---- causes
 
--- where a primary label's span begins that is accepted and whose read meets no fault, else where the diagnostic lies
--- that has the cause
-abbrev pub own_place : Place → Source → Bool → Option Span → Place
-own_place at source fault None = at
-own_place at source fault (Some span) =
-    if is_accepted source.bytes span && not fault then span_place source span else at
+-- where a primary label begins that is accepted and whose read meets no fault, else where the diagnostic lies that has
+-- the cause
+abbrev pub cause_place : Place → Bool → Option Spot → Place
+cause_place at fault None = at
+cause_place at fault (Some spot) =
+    if is_accepted spot.source.bytes spot.span && not fault then span_place spot.source spot.span else at
 
--- where a cause with these labels by offset lies: at its primary one
-abbrev pub cause_place : Place → Option Source → Bool → List Label → Place
-cause_place at None fault labels = at
-cause_place at (Some source) fault labels = own_place at source fault (primary_span labels)
+-- the source of a label
+abbrev pub source_of_spot : Option Spot → Option Source
+source_of_spot None = None
+source_of_spot (Some spot) = Some spot.source

@@ -1,8 +1,9 @@
 -- Which answers the sources of a report can have given where it was told, and its text.
-use Rattle.std.specs.Prelude.{◌≡◌, ℕ, List, Option, Some, None}
+use Rattle.std.specs.Prelude.{◌≡◌, ℕ, List, [], ◌∷◌, Option, Some, None}
 use Rattle.std.specs.Prelude.{⊤}
 use Rattle.miette_protocol.specs.views.Meaning.{Label}
 use Rattle.miette_protocol.specs.rules.Reading.{Source}
+use Rattle.miette_tree.specs.rules.Diagnosis.{Section}
 use Rattle.miette_tree.specs.rules.Tree.{Tree, tree, Cause, diagnostic, texts, Trees, no_trees, more_trees, effective}
 use Rattle.miette_tree.specs.rules.DiagnosticParts.{given_labels}
 use Rattle.miette_tree.specs.rules.Reads.{MayMeet}
@@ -11,6 +12,7 @@ use Rattle.miette_labels.specs.rules.Groups.{in_order, AreAccepted}
 use Rattle.miette_brief.specs.rules.Report.{BriefSettings, Answers, RelatedAnswers, cause_answers}
 use Rattle.miette_brief.specs.rules.Report.{related_answers, first_answers, later_answers}
 use Rattle.miette_brief.specs.rules.Report.{brief}
+use Rattle.miette_brief.specs.rules.Places.{primary_spot, source_of_spot}
 
 -- ---- answers of sources
 
@@ -19,19 +21,27 @@ abbrev pub HasAccepted : Option Source → List Label → Type 0
 HasAccepted None labels = ⊤
 HasAccepted (Some source) labels = AreAccepted source.bytes labels
 
+-- further sources accepted their labels
+abbrev pub FurtherAccepted : List Section → Type 0
+FurtherAccepted [] = ⊤
+FurtherAccepted (section ∷ sections) =
+    HasAccepted (Some section.source) (in_order section.labels) × FurtherAccepted sections
+
+-- of a cause, the source of its primary label may have met a fault
 abbrev mutual
   pub AreCauseAnswers : Option Source → Answers → Cause → Type 0
   AreCauseAnswers inherited a (diagnostic t) = AreCausedAnswers inherited a t
   AreCauseAnswers inherited a (texts ts) = ⊤
 
   pub AreCausedAnswers : Option Source → Answers → Tree → Type 0
-  AreCausedAnswers inherited a (tree m own c r) = MayMeet (effective own inherited) (own_fault a)
-      × AreCauseAnswers inherited (cause_answers a) c
+  AreCausedAnswers inherited a (tree m own c r) =
+      MayMeet (source_of_spot (primary_spot (effective own inherited) (in_order (given_labels m.labels)) m.snippets))
+      (own_fault a) × AreCauseAnswers inherited (cause_answers a) c
 
 abbrev mutual
   pub AreAnswers : Option Source → Answers → Tree → Type 0
   AreAnswers inherited a (tree m own c r) =
-      HasAccepted (effective own inherited) (in_order (given_labels m.labels))
+      (HasAccepted (effective own inherited) (in_order (given_labels m.labels)) × FurtherAccepted m.snippets)
       × MayMeet (effective own inherited) (own_fault a)
       × AreCauseAnswers (effective own inherited) (cause_answers a) c
       × AllAnswers (effective own inherited) (related_answers a) r

@@ -1,7 +1,7 @@
 -- The brief text of a report, by settings, tree and answers.
 use Rattle.std.specs.Prelude.{ℕ, Bool, true, false, List, [], ◌∷◌, ◌++◌, map, Option, Some, None}
 use Rattle.miette_protocol.specs.views.Meaning.{Label}
-use Rattle.miette_tree.specs.rules.Diagnosis.{Diagnosis}
+use Rattle.miette_tree.specs.rules.Diagnosis.{Diagnosis, Section}
 use Rattle.miette_protocol.specs.rules.Reading.{Source}
 use Rattle.miette_tree.specs.rules.Tree.{Tree, tree, Cause, diagnostic, texts, Trees, no_trees, more_trees, effective}
 use Rattle.miette_tree.specs.rules.Answers.{AnswerTree, AnswerTrees, own_fault}
@@ -10,7 +10,7 @@ pub use Rattle.miette_tree.specs.rules.Answers.{first_answers, later_answers}
 use Rattle.miette_tree.specs.rules.DiagnosticParts.{given_labels}
 use Rattle.miette_labels.specs.rules.Groups.{in_order}
 use Rattle.miette_brief.specs.rules.Rows.{Place, ReportRow, Kind, finding, note, cause, help, rows_text}
-use Rattle.miette_brief.specs.rules.Places.{label_place, diagnostic_place, cause_place}
+use Rattle.miette_brief.specs.rules.Places.{label_place, diagnostic_place, cause_place, primary_spot}
 
 -- what a handler is set to: whether causes are told
 pub record BriefSettings : Type 0 where
@@ -51,6 +51,16 @@ abbrev pub note_rows : Option Source → List Label → List ReportRow
 note_rows source [] = []
 note_rows source (label ∷ labels) = note_rows_of (label_place source label.span) label.text ++ note_rows source labels
 
+-- and so over further sources, in their order, of each the labels by offset
+abbrev pub further_notes : List Section → List ReportRow
+further_notes [] = []
+further_notes (section ∷ sections) =
+    note_rows (Some section.source) (in_order section.labels) ++ further_notes sections
+
+-- the labels of a diagnostic over a first source, and then those over further ones
+abbrev pub labelled_rows : Option Source → Diagnosis → List ReportRow
+labelled_rows source m = note_rows source (in_order (given_labels m.labels)) ++ further_notes m.snippets
+
 abbrev pub cause_row : Place → List ℕ → ReportRow
 cause_row at text = record { place = at; kind = cause; text = text }
 
@@ -63,8 +73,8 @@ abbrev mutual
 
   pub caused_rows : Place → Option Source → Answers → Tree → List ReportRow
   caused_rows at inherited a (tree m own c r) =
-      cause_row (cause_place at (effective own inherited) (own_fault a) (in_order (given_labels m.labels)))
-      m.message
+      cause_row (cause_place at (own_fault a)
+      (primary_spot (effective own inherited) (in_order (given_labels m.labels)) m.snippets)) m.message
       ∷ cause_rows at inherited (cause_answers a) c
 
 -- the causes where they are told
@@ -72,16 +82,15 @@ abbrev pub cause_rows_if : Bool → Place → Option Source → Answers → Caus
 cause_rows_if true at source a c = cause_rows at source a c
 cause_rows_if false at source a c = []
 
--- a diagnostic at a place over a source: itself, its labels by offset, its causes, its help
+-- a diagnostic at a place over a source: itself, its labels, its causes, its help
 abbrev pub rows_at : Bool → Place → Option Source → Answers → Diagnosis → Cause → List ReportRow
 rows_at chain at source a m c =
     finding_row at m
-    ∷ (note_rows source (in_order (given_labels m.labels))
-    ++ (cause_rows_if chain at source (cause_answers a) c ++ help_rows at m.help))
+    ∷ (labelled_rows source m ++ (cause_rows_if chain at source (cause_answers a) c ++ help_rows at m.help))
 
 abbrev pub own_rows : Bool → Option Source → Answers → Diagnosis → Cause → List ReportRow
 own_rows chain source a m c =
-    rows_at chain (diagnostic_place source (own_fault a) (in_order (given_labels m.labels))) source a m c
+    rows_at chain (diagnostic_place source (own_fault a) (in_order (given_labels m.labels)) m.snippets) source a m c
 
 -- ---- the whole
 

@@ -9,8 +9,9 @@ use Rattle.miette_tree.specs.rules.Reads.{MayMeet}
 use Rattle.miette_labels.specs.rules.Groups.{in_order}
 use Rattle.miette_brief.specs.rules.Rows.{Place, rows_text}
 use Rattle.miette_brief.specs.rules.Report.{Answers, RelatedAnswers, cause_answers, cause_rows_if, finding_row}
-use Rattle.miette_brief.specs.rules.Report.{note_rows, own_rows, report_rows, related_rows}
-use Rattle.miette_brief.specs.rules.PossibleAnswers.{HasAccepted, AreCauseAnswers, AreAnswers, AllAnswers}
+use Rattle.miette_brief.specs.rules.Report.{own_rows, report_rows, related_rows, labelled_rows}
+use Rattle.miette_brief.specs.rules.PossibleAnswers.{HasAccepted, FurtherAccepted, AreCauseAnswers, AreAnswers}
+use Rattle.miette_brief.specs.rules.PossibleAnswers.{AllAnswers}
 use Rattle.miette_brief.specs.steps.Reads.{IsDiagnosticPlace}
 
 -- new is old and then the rows of a cause where causes are told, for some answers
@@ -22,15 +23,15 @@ pub record AppendsCauses (chain : Bool) (at : Place) (inherited : Option Source)
 
 -- new is old and then the row of a diagnostic that lies at this place, and those of its labels, which were accepted
 pub record AppendsLabelled (source : Option Source) (m : Diagnosis) (at : Place) (old new : List ℕ) : Type 0 where
-  pub placed : IsDiagnosticPlace source (in_order (given_labels m.labels)) at
-  pub accepted : HasAccepted source (in_order (given_labels m.labels))
-  pub appended : new ≡ old ++ rows_text (finding_row at m ∷ note_rows source (in_order (given_labels m.labels)))
+  pub placed : IsDiagnosticPlace source (in_order (given_labels m.labels)) m.snippets at
+  pub accepted : HasAccepted source (in_order (given_labels m.labels)) × FurtherAccepted m.snippets
+  pub appended : new ≡ old ++ rows_text (finding_row at m ∷ labelled_rows source m)
 
 -- new is old and then the rows of a diagnostic with its cause, for some answers
 pub record AppendsOwn (chain : Bool) (source : Option Source) (m : Diagnosis) (c : Cause) (old new : List ℕ) : Type 0
   where
     pub answers : Answers
-    pub accepted : HasAccepted source (in_order (given_labels m.labels))
+    pub accepted : HasAccepted source (in_order (given_labels m.labels)) × FurtherAccepted m.snippets
     pub possible : MayMeet source (own_fault answers)
     pub causes : AreCauseAnswers source (cause_answers answers) c
     pub appended : new ≡ old ++ rows_text (own_rows chain source answers m c)

@@ -1,4 +1,4 @@
-use Rattle.std.proofs.Common.{ap, sym, ◌∙◌, string_bytes, map}
+use Rattle.std.proofs.Common.{refl, ap, sym, ◌∙◌, string_bytes, map}
 use Rattle.std.specs.Option.{option_map}
 use Rattle.std.proofs.lemmas.Result.{on_ok_weaker}
 use Rattle.miette_tree.specs.rules.Tree.{cause_of, texts}
@@ -19,10 +19,10 @@ loop-next-preserved g c =
     let source = option_map (shown_source g.S.SourceCode.source) in
     one_more (place_of c.args.at) (source c.args.source) (cause_of (value c.args.report.now))
     (cause_of (value c.loop-next.above.now)) (value c.in-Diagnostic.next.now)
-    (source c.own_or-own.result) c.labels_of.result.now (place_of c.in_ok-place.place) c.message.result.now
+    (source c.own_or-own.result) c.labels_of.result.now _ _ (place_of c.in_ok-place.place) c.message.result.now
     (string_bytes c.args.out.now) (string_bytes c.loop-next.out) (string_bytes c.push_row.new.out)
-    c.loop-next.invariant c.in-Diagnostic.ensures.value c.own_or-own.ensures c.labels_of.ensures c.message.ensures
-    c.in_ok-place.ensures c.in_ok-push_row.ensures
+    c.loop-next.invariant c.in-Diagnostic.ensures.value c.own_or-own.ensures c.labels_of.ensures
+    c.further_snippets.ensures c.message.ensures refl c.in_ok-place.ensures c.in_ok-push_row.ensures
 
 pub returns : goal.returns
 returns g c =

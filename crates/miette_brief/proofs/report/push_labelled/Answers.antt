@@ -8,6 +8,8 @@ use Rattle.miette_tree.specs.views.Report.{tree_of}
 use Rattle.miette_labels.specs.declared.order.Turn.{Turn}
 use Rattle.miette_labels.specs.rules.Groups.{in_order}
 use Rattle.miette_labels.specs.views.GivenLabels.{label_at}
+use Rattle.miette_tree.specs.views.Attached.{section_of}
+use Rattle.miette_brief.proofs.Further.{own_refused, further_refused}
 use Rattle.miette_brief.proofs.Telling.{labelled, order_refused}
 use Rattle.miette_brief.proofs.report.push_labelled.Goals as goal
 
@@ -34,17 +36,32 @@ returns-clause-text g c =
     let ordered : map (label labels) c.args.order.now ≡ in_order labels =
     subst (λ (ls : List Label). map (label ls) c.args.order.now ≡ in_order ls) (sym c.labels_of-labels.ensures)
     c.requires.ordered in
-    labelled source m labels (map (label labels) c.args.order.now) _ (string_bytes c.args.out.now)
-    (string_bytes c.push_head.new.out) (string_bytes c.push_notes.new.out) c.labels_of-labels.ensures ordered
+    labelled source m labels (map (label labels) c.args.order.now) _ _ (string_bytes c.args.out.now)
+    (string_bytes c.push_head.new.out) (string_bytes c.push_notes.new.out) (string_bytes c.push_further_notes.new.out)
+    c.labels_of-labels.ensures ordered c.further_snippets-further.ensures
     c.in_ok-at.ensures.place c.in_ok-push_head.ensures c.in_ok-push_notes.ensures.text
-    c.in_ok-push_notes.ensures.accepted
+    c.in_ok-push_notes.ensures.accepted c.in_ok-push_further_notes.ensures.text
+    c.in_ok-push_further_notes.ensures.accepted
 
 pub returns-in_err-at-clause-refused : goal.returns-in_err-at-clause-refused
 returns-in_err-at-clause-refused g c = λ h.
     order_refused label (option_map (shown_source g.S.SourceCode.source) c.args.source) c.labels_of-labels.result.now _
-    c.args.order.now c.labels_of-labels.ensures c.requires.ordered (c.in_err-at.ensures.refused (search rules))
+    c.args.order.now c.labels_of-labels.ensures c.requires.ordered _ _ c.further_snippets-further.ensures
+    (c.in_err-at.ensures.refused (search rules))
 
 pub returns-in_err-push_notes-clause-refused : goal.returns-in_err-push_notes-clause-refused
 returns-in_err-push_notes-clause-refused g c = λ h.
     order_refused label (option_map (shown_source g.S.SourceCode.source) c.args.source) c.labels_of-labels.result.now _
-    c.args.order.now c.labels_of-labels.ensures c.requires.ordered (c.in_err-push_notes.ensures.refused (search rules))
+    c.args.order.now c.labels_of-labels.ensures c.requires.ordered _ _ c.further_snippets-further.ensures
+    (own_refused (option_map (shown_source g.S.SourceCode.source) c.args.source)
+    (map (label c.labels_of-labels.result.now) c.args.order.now)
+    (map (section_of g.S.SourceCode.source) c.further_snippets-further.result.now)
+    (c.in_err-push_notes.ensures.refused (search rules)))
+
+pub returns-in_err-push_further_notes-clause-refused : goal.returns-in_err-push_further_notes-clause-refused
+returns-in_err-push_further_notes-clause-refused g c = λ h.
+    order_refused label (option_map (shown_source g.S.SourceCode.source) c.args.source) c.labels_of-labels.result.now _
+    c.args.order.now c.labels_of-labels.ensures c.requires.ordered _ _ c.further_snippets-further.ensures
+    (further_refused (option_map (shown_source g.S.SourceCode.source) c.args.source)
+    (map (label c.labels_of-labels.result.now) c.args.order.now)
+    (map (section_of g.S.SourceCode.source) c.further_snippets-further.result.now) (c.in_err-push_further_notes.ensures.refused (search rules)))

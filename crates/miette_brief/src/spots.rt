@@ -1,0 +1,236 @@
+//! The primary label of a diagnostic, among its labels over all of its sources.
+
+ghost use Rattle.std.specs.Prelude.{◌≡◌, ◌<◌, ◌+◌, Some, IfOk, map, length, option_map};
+ghost use Rattle.std.specs.List.{All};
+ghost use Rattle.miette_tree.specs.views.Attached.{section_of};
+ghost use Rattle.miette_tree.specs.views.Owned.{shown_source};
+ghost use Rattle.miette_labels.specs.rules.Groups.{in_order};
+ghost use Rattle.miette_labels.specs.views.GivenLabels.{label_at};
+ghost use Rattle.miette_brief.specs.rules.Places.{marked_in, first_in, spot_over, found_further};
+ghost use Rattle.miette_brief.specs.rules.Places.{primary_spot as primary_of};
+ghost use Rattle.miette_brief.specs.steps.Conversions.{place_of};
+ghost use Rattle.miette_brief.specs.steps.Reads.{IsBegin, IsFound};
+
+use crate::rows::{Place, Position};
+use miette_basics::sums::sum;
+use miette_labels::order::{Turn, by_offset};
+use miette_protocol::protocol::{LabeledSpan, SourceSpan};
+use miette_protocol::source::{MietteSpanContents, SourceCode};
+use miette_tree::report::{Snippets, SourceRef};
+use std::alloc::{AllocError, Global};
+
+/// What the read of a primary label gave: nothing without such a label, where it begins, or that it was refused.
+#[derive(Clone, Copy)]
+pub(crate) enum Found<'a> {
+    Nothing,
+    Unread,
+    At(Place<'a>),
+}
+
+impl<'a> Found<'a> {
+    ghost use Rattle.miette_brief.specs.steps.Conversions.{is_label as is_label_of};
+
+    /// Whether there is such a label.
+    fn is_label(&self) -> bool
+        ensures { result ≡ is_label_of self.now }
+    {
+        match self {
+            Found::Nothing => false,
+            Found::Unread => true,
+            Found::At(_) => true,
+        }
+    }
+}
+
+/// Where contents begin.
+fn begin_of<'a>(contents: &MietteSpanContents<'a>) -> Result<Place<'a>, AllocError>
+    ensures { IfOk result (λ at. place_of at ≡ record {
+      name = contents.now.name;
+      position = Some (record { line = contents.now.line + 1; column = contents.now.column + 1 });
+    }) }
+{
+    let line = sum(contents.line(), 1)?;
+    let column = sum(contents.column(), 1)?;
+    Ok(Place {
+        name: contents.name(),
+        position: Some(Position { line, column }),
+    })
+}
+
+/// Where a span begins, none where its read is refused.
+pub(crate) fn read_begin<'a, S: SourceCode>(
+    source: SourceRef<'a, S>,
+    span: &SourceSpan,
+) -> Result<Option<Place<'a>>, AllocError>
+    ensures { IfOk result (λ at. IsBegin (shown_source S.source source.entry) span.now (option_map place_of at)) }
+{
+    match source.read_span(span, 0, 0) {
+        Ok(contents) => Ok(Some(begin_of(&contents)?)),
+        Err(_) => Ok(None),
+    }
+}
+
+/// What the read of a span gives.
+fn read_spot<'a, S: SourceCode>(
+    source: SourceRef<'a, S>,
+    span: &SourceSpan,
+) -> Result<Found<'a>, AllocError>
+    ensures { IfOk result (λ found.
+        IsFound (Some (record { source = shown_source S.source source.entry; span = span.now })) found) }
+{
+    match read_begin(source, span)? {
+        Some(at) => Ok(Found::At(at)),
+        None => Ok(Found::Unread),
+    }
+}
+
+/// The label that stands at a place of an order.
+pub(crate) fn label_of(labels: &[LabeledSpan], turn: Turn) -> &LabeledSpan
+    requires inside { turn.index < length labels.now }
+    ensures { result.now ≡ label_at labels.now turn.index }
+{
+    &labels[turn.index]
+}
+
+/// Of labels in this order the span of the first one that is marked as primary.
+fn marked_span(labels: &[LabeledSpan], order: &[Turn]) -> Option<SourceSpan>
+    requires inside { All (λ turn. turn.index < length labels.now) order.now }
+    ensures { result ≡ marked_in (map (λ turn. label_at labels.now turn.index) order.now) }
+{
+    for turn in order {
+        let label = label_of(labels, *turn);
+        if label.primary() {
+            return Some(*label.inner());
+        }
+    }
+    None
+}
+
+/// Of labels in this order the span of the first one.
+fn first_span(labels: &[LabeledSpan], order: &[Turn]) -> Option<SourceSpan>
+    requires inside { All (λ turn. turn.index < length labels.now) order.now }
+    ensures { result ≡ first_in (map (λ turn. label_at labels.now turn.index) order.now) }
+{
+    if order.is_empty() {
+        return None;
+    }
+    Some(span_of(labels, order[0]))
+}
+
+/// The span of the label that stands at a place of an order.
+fn span_of(labels: &[LabeledSpan], turn: Turn) -> SourceSpan
+    requires inside { turn.index < length labels.now }
+    ensures { result ≡ (label_at labels.now turn.index).span }
+{
+    *label_of(labels, turn).inner()
+}
+
+/// What the read of a span over a source gives, where there are both.
+fn read_over<'a, S: SourceCode>(
+    source: Option<SourceRef<'a, S>>,
+    span: Option<SourceSpan>,
+) -> Result<Found<'a>, AllocError>
+    ensures { IfOk result (λ found.
+        IsFound (spot_over (option_map (shown_source S.source) source.entry) span) found) }
+{
+    let Some(source) = source else {
+        return Ok(Found::Nothing);
+    };
+    let Some(span) = span else {
+        return Ok(Found::Nothing);
+    };
+    let found = read_spot(source, &span)?;
+    Ok(found)
+}
+
+/// Of labels the span of the first by offset that is marked as primary.
+fn marked_label(alloc: Global, labels: &[LabeledSpan]) -> Result<Option<SourceSpan>, AllocError>
+    ensures { IfOk result (λ span. span ≡ marked_in (in_order labels.now)) }
+{
+    let order = by_offset(alloc, labels)?;
+    Ok(marked_span(labels, &order))
+}
+
+/// Of labels the span of the first by offset.
+fn first_label(alloc: Global, labels: &[LabeledSpan]) -> Result<Option<SourceSpan>, AllocError>
+    ensures { IfOk result (λ span. span ≡ first_in (in_order labels.now)) }
+{
+    let order = by_offset(alloc, labels)?;
+    Ok(first_span(labels, &order))
+}
+
+/// What the read of the first label over further sources that is marked as primary gives.
+fn marked_further<'a, S: SourceCode>(
+    alloc: Global,
+    further: &'a [Snippets<S>],
+) -> Result<Found<'a>, AllocError>
+    ensures { IfOk result (λ found. IsFound (found_further marked_in (map (section_of S.source) further.now)) found) }
+{
+    for section in further {
+        if let Some(span) = marked_label(alloc, section.labels())? {
+            let found = read_spot(section.source(), &span)?;
+            return Ok(found);
+        }
+    }
+    Ok(Found::Nothing)
+}
+
+/// What the read of the first label of the first further source that has one gives.
+fn first_further<'a, S: SourceCode>(
+    alloc: Global,
+    further: &'a [Snippets<S>],
+) -> Result<Found<'a>, AllocError>
+    ensures { IfOk result (λ found. IsFound (found_further first_in (map (section_of S.source) further.now)) found) }
+{
+    for section in further {
+        if let Some(span) = first_label(alloc, section.labels())? {
+            let found = read_spot(section.source(), &span)?;
+            return Ok(found);
+        }
+    }
+    Ok(Found::Nothing)
+}
+
+/// What the read of the primary label gives, of labels in this order over a first source and of those over further
+/// ones.
+pub(crate) fn primary_found<'a, S: SourceCode>(
+    alloc: Global,
+    source: Option<SourceRef<'a, S>>,
+    labels: &[LabeledSpan],
+    order: &[Turn],
+    further: &'a [Snippets<S>],
+) -> Result<Found<'a>, AllocError>
+    requires inside { All (λ turn. turn.index < length labels.now) order.now }
+    ensures { IfOk result (λ found. IsFound (primary_of (option_map (shown_source S.source) source.entry)
+        (map (λ turn. label_at labels.now turn.index) order.now) (map (section_of S.source) further.now)) found) }
+{
+    let marked = read_over(source, marked_span(labels, order))?;
+    if marked.is_label() {
+        return Ok(marked);
+    }
+    let behind = marked_further(alloc, further)?;
+    if behind.is_label() {
+        return Ok(behind);
+    }
+    let first = read_over(source, first_span(labels, order))?;
+    if first.is_label() {
+        return Ok(first);
+    }
+    let last = first_further(alloc, further)?;
+    Ok(last)
+}
+
+/// That of labels in any order.
+pub(crate) fn primary_label<'a, S: SourceCode>(
+    alloc: Global,
+    source: Option<SourceRef<'a, S>>,
+    labels: &[LabeledSpan],
+    further: &'a [Snippets<S>],
+) -> Result<Found<'a>, AllocError>
+    ensures { IfOk result (λ found. IsFound (primary_of (option_map (shown_source S.source) source.entry)
+        (in_order labels.now) (map (section_of S.source) further.now)) found) }
+{
+    let order = by_offset(alloc, labels)?;
+    let found = primary_found(alloc, source, labels, &order, further)?;
+    Ok(found)
+}
