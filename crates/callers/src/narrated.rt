@@ -2,6 +2,7 @@
 
 ghost use Rattle.std.specs.Prelude.{◌≡◌, IfOk, string_bytes, true};
 ghost use Rattle.miette_narrated.specs.rules.Report.{default_settings, narration, unlisted};
+ghost use Rattle.miette_narrated.specs.rules.PossibleAnswers.{fixes_read};
 ghost use Rattle.miette_tree.specs.rules.Reads.{report_reads};
 ghost use Rattle.miette_tree.specs.views.Report.{tree_of};
 
@@ -18,7 +19,8 @@ pub fn narrated<D: Diagnostic, S: SourceCode>(
     report: &Report<D, S>,
 ) -> Result<String, RenderError>
     ensures { IfOk result (λ text.
-        report_reads (tree_of D.meaning S.source report.now) ≡ true → string_bytes text
+        report_reads (tree_of D.meaning S.source report.now) ≡ true →
+        fixes_read (tree_of D.meaning S.source report.now) ≡ true → string_bytes text
         ≡ narration default_settings (tree_of D.meaning S.source report.now) unlisted) }
 {
     let mut text = String::new(alloc);

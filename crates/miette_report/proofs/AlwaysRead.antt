@@ -13,6 +13,7 @@ use Rattle.miette_tree.specs.rules.DiagnosticParts.{given_labels}
 use Rattle.miette_graphical.specs.rules.PrintedDiagnostics.{PrintedDiagnostic, over, diagnostics_of, printed_causes}
 use Rattle.miette_graphical.specs.rules.PrintedDiagnostics.{printed_related, all_read}
 use Rattle.miette_tree.specs.rules.Reads.{AlwaysReads, CauseAlwaysReads, AllAlwaysRead, always_reads, holds_of}
+use Rattle.miette_fixes.specs.rules.Edits.{Proposal}
 use Rattle.miette_tree.specs.rules.Diagnosis.{Section}
 use Rattle.miette_tree.specs.rules.Reads.{holds_of_all, accepts, report_accepted, holds_further}
 use Rattle.miette_tree.proofs.Nesting.{Reads, effective_reads}
@@ -120,6 +121,28 @@ mutual
   trees_accepted inherited more (more_trees t ts) p q k =
       and_from _ _ (tree_accepted inherited (first_answers more) t p q.0 k.0)
       (trees_accepted inherited (later_answers more) ts p q.1 k.1)
+
+one_fixed : (source : Option Source) (fixes : List Proposal) → Reads source → told.reads_for source fixes ≡ true
+one_fixed None fixes p = refl
+one_fixed (Some s) fixes p = or_right (is_nil fixes) s.always_reads p
+
+mutual
+  tree_fixed : (inherited : Option Source) (t : Tree) → Reads inherited → AlwaysReads t
+      → told.fixes_below inherited t ≡ true
+  tree_fixed inherited (tree m own c r) p q =
+      let source = effective own inherited in
+      let here : Reads source = effective_reads own inherited q.0 p in
+      and_from _ _ (one_fixed source m.fixes here) (trees_fixed source r here q.2)
+
+  trees_fixed : (inherited : Option Source) (ts : Trees) → Reads inherited → AllAlwaysRead ts
+      → told.all_fixes_below inherited ts ≡ true
+  trees_fixed inherited no_trees p q = refl
+  trees_fixed inherited (more_trees t ts) p q =
+      and_from _ _ (tree_fixed inherited t p q.0) (trees_fixed inherited ts p q.1)
+
+-- so is each source that fixes are read from
+pub told-fixed : (t : Tree) → AlwaysReads t → told.fixes_read t ≡ true
+told-fixed t q = tree_fixed None t tt q
 
 pub told-accepted : (t : Tree) (a : Answers) → AlwaysReads t → told.AreAnswers None a t → report_accepted t ≡ true
 told-accepted t a q k = tree_accepted None a t tt q k

@@ -13,7 +13,7 @@ use Rattle.miette_tree.specs.rules.Tree.{Tree}
 use Rattle.miette_brief.specs.rules.PossibleAnswers as briefly
 use Rattle.miette_brief.specs.rules.Report as brief
 use Rattle.miette_narrated.specs.rules.Report as narrated
-use Rattle.miette_narrated.specs.rules.PossibleAnswers.{IsNarrated}
+use Rattle.miette_narrated.specs.rules.PossibleAnswers.{IsNarrated, fixes_read}
 use Rattle.miette_graphical.specs.rules.Answers.{unlisted}
 use Rattle.miette_tree.specs.views.Handler.{AppendsOne}
 use Rattle.miette_tree.specs.rules.Reads.{AlwaysReads, report_accepted, report_reads}
@@ -32,7 +32,7 @@ use Rattle.miette_report.specs.rules.Job.{IsBuiltText, IsJobText, IsTelling, IsR
 use Rattle.miette_report.specs.declared.job_handler.JobHandler.{JobHandler}
 use Rattle.miette_report.specs.declared.job_handler.JobHandler.TheVariants as chosen
 use Rattle.miette_report.specs.declared.option_words.Choice.{Choice}
-use Rattle.miette_report.proofs.AlwaysRead.{printed-reads, told-accepted, brief-accepted}
+use Rattle.miette_report.proofs.AlwaysRead.{printed-reads, told-accepted, brief-accepted, told-fixed}
 
 -- ---- what a handler of the library appends
 
@@ -82,7 +82,7 @@ graphical-accepts h it t reads refused = let no : true ≡ false = sym (printed-
 pub narrated-given : {A E H : Type 0} (is_blank : H → Bool) (h : JobHandler H) (s : narrated.NarrationSettings)
     (t : Tree) (old new : List ℕ) (r : Result A E) → h ≡ chosen.Built (handler.Narrated s) → AlwaysReads t
     → OnOk r (AppendsOne (IsNarrated s t) old new) → OnOk r
-    (report_reads t ≡ true → new ≡ old ++ narrated.narration s t narrated.unlisted)
+    (report_reads t ≡ true → fixes_read t ≡ true → new ≡ old ++ narrated.narration s t narrated.unlisted)
     → OnOk r (AppendsOne (IsGiven is_blank h t) old new)
 narrated-given is_blank h s t old new (Err e) is reads text only = tt
 narrated-given is_blank h s t old new (Ok x) is reads text only =
@@ -90,7 +90,7 @@ narrated-given is_blank h s t old new (Ok x) is reads text only =
     record {
       text = narrated.narration s t narrated.unlisted;
       is_given = (told-accepted t text.is_given.answers reads text.is_given.possible, refl);
-      appended = only (told_reads t reads);
+      appended = only (told_reads t reads) (told-fixed t reads);
     } in
     subst (λ k. AppendsOne (IsGiven is_blank k t) old new) (sym is) one
 
