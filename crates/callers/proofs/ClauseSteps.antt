@@ -16,7 +16,7 @@ use Rattle.miette_graphical.specs.laws.Clean.{AreCleanSettings, IsCleanTree}
 use Rattle.miette_graphical.specs.laws.Colourless.{ArePlain, restyled}
 use Rattle.miette_graphical.specs.laws.Headline.{LinesAreShown, MarksAreApart, TextsHang}
 use Rattle.miette_graphical.specs.laws.CharacterSets.{AreNarrow}
-use Rattle.miette_graphical.specs.rules.PrintedDiagnostics.{all_read, diagnostics_of}
+use Rattle.miette_graphical.specs.rules.PrintedDiagnostics.{HoldsOfPrinted, all_read, diagnostics_of}
 use Rattle.miette_graphical.specs.rules.Settings.{Settings, default_settings}
 use Rattle.miette_graphical.specs.rules.Snippets.{drawn_rows}
 use Rattle.miette_graphical.specs.rules.Text.{report_text}
@@ -45,7 +45,7 @@ coloured-one theme made is m = m ∙ ap (λ t. without_highlighter (default_sett
 pub clean : IsCleanTree warning_tree
 unfolding chars
 clean = (
-  record { message = refl; code = tt; help = tt; url = tt; labels = (refl, tt) },
+  record { message = refl; code = tt; help = tt; url = tt; labels = (refl, tt); snippets = tt },
   record { name = refl; bytes = refl },
   tt,
   tt,
@@ -54,35 +54,35 @@ clean = (
 -- ---- what its snippet shows
 
 pub both_lines : {H : Type 0} (h : Handling H) (t : Tree) → h ≡ without_highlighter plain → t ≡ warning_tree
-    → AllByRecursion (LinesAreShown h.settings) (diagnostics_of h.settings t) → ShowsBothLines plain
+    → AllByRecursion (HoldsOfPrinted LinesAreShown h.settings) (diagnostics_of h.settings t) → ShowsBothLines plain
 unfolding ends_line line_of
 both_lines h t p q all =
-    let here : AllByRecursion (LinesAreShown plain) (diagnostics_of plain warning_tree) =
-    subst (λ u. AllByRecursion (LinesAreShown plain) (diagnostics_of plain u)) q
-    (subst (λ g. AllByRecursion (LinesAreShown g.settings) (diagnostics_of g.settings t)) p all) in
+    let here : AllByRecursion (HoldsOfPrinted LinesAreShown plain) (diagnostics_of plain warning_tree) =
+    subst (λ u. AllByRecursion (HoldsOfPrinted LinesAreShown plain) (diagnostics_of plain u)) q
+    (subst (λ g. AllByRecursion (HoldsOfPrinted LinesAreShown g.settings) (diagnostics_of g.settings t)) p all) in
     record {
       lines = refl;
-      shown = here.0 refl (record { begins = omega arith; ends = omega arith }, tt)
+      shown = here.0.0 refl (record { begins = omega arith; ends = omega arith }, tt)
           (omega arith, tt);
     }
 
 pub own_mark : {H : Type 0} (h : Handling H) (t : Tree) → h ≡ without_highlighter plain → t ≡ warning_tree
-    → AllByRecursion (MarksAreApart h.settings) (diagnostics_of h.settings t) → HasOwnMark plain
+    → AllByRecursion (HoldsOfPrinted MarksAreApart h.settings) (diagnostics_of h.settings t) → HasOwnMark plain
 unfolding ends_line pieces_from char_width
 own_mark h t p q all =
-    let here : AllByRecursion (MarksAreApart plain) (diagnostics_of plain warning_tree) =
-    subst (λ u. AllByRecursion (MarksAreApart plain) (diagnostics_of plain u)) q
-    (subst (λ g. AllByRecursion (MarksAreApart g.settings) (diagnostics_of g.settings t)) p all) in
-    record { columns = (refl, tt); own = here.0 1 }
+    let here : AllByRecursion (HoldsOfPrinted MarksAreApart plain) (diagnostics_of plain warning_tree) =
+    subst (λ u. AllByRecursion (HoldsOfPrinted MarksAreApart plain) (diagnostics_of plain u)) q
+    (subst (λ g. AllByRecursion (HoldsOfPrinted MarksAreApart g.settings) (diagnostics_of g.settings t)) p all) in
+    record { columns = (refl, tt); own = here.0.0 1 }
 
 pub text_hangs : {H : Type 0} (h : Handling H) (t : Tree) → h ≡ without_highlighter plain → t ≡ warning_tree
     → AreNarrow width_of unicode_characters
-    → AllByRecursion (TextsHang h.settings) (diagnostics_of h.settings t) → TextHangs plain
+    → AllByRecursion (HoldsOfPrinted TextsHang h.settings) (diagnostics_of h.settings t) → TextHangs plain
 text_hangs h t p q narrow all =
-    let here : AllByRecursion (TextsHang plain) (diagnostics_of plain warning_tree) =
-    subst (λ u. AllByRecursion (TextsHang plain) (diagnostics_of plain u)) q
-    (subst (λ g. AllByRecursion (TextsHang g.settings) (diagnostics_of g.settings t)) p all) in
-    here.0 narrow
+    let here : AllByRecursion (HoldsOfPrinted TextsHang plain) (diagnostics_of plain warning_tree) =
+    subst (λ u. AllByRecursion (HoldsOfPrinted TextsHang plain) (diagnostics_of plain u)) q
+    (subst (λ g. AllByRecursion (HoldsOfPrinted TextsHang g.settings) (diagnostics_of g.settings t)) p all) in
+    here.0.0 narrow
 
 -- ---- the plain picture is the text of the definition, and the coloured one is it too, without its colours
 

@@ -17,14 +17,15 @@ use Rattle.miette_graphical.specs.laws.Holding.{Arrow, HoldsSnippets, IsHoldingT
 use Rattle.miette_graphical.specs.laws.Levels.{AreAmong, HaveRoom, HoldsLevels, IsShownRow, StandBehindBars}
 use Rattle.miette_graphical.specs.laws.Levels.{settings_under}
 use Rattle.miette_graphical.specs.laws.Paths.{to_cause}
-use Rattle.miette_graphical.specs.rules.Answers.{Answer, Answers, cause_answers, nothing_listed, own_answer}
-use Rattle.miette_graphical.specs.rules.Answers.{pieces_listed}
+use Rattle.miette_graphical.specs.rules.Answers.{Answers, SourceAnswer, cause_answers, first_source, own_answer}
+use Rattle.miette_graphical.specs.rules.Answers.{pieces_listed, source_unlisted}
 use Rattle.miette_graphical.specs.rules.DiagnosticText.{line_feed}
 use Rattle.miette_graphical.specs.rules.Indents.{spaces}
 use Rattle.miette_graphical.specs.rules.PossibleAnswers.{AreAnswers}
-use Rattle.miette_graphical.specs.rules.PrintedDiagnostics.{PrintedDiagnostic, diagnostics_of}
+use Rattle.miette_graphical.specs.rules.PrintedDiagnostics.{HoldsOfPrinted, diagnostics_of}
 use Rattle.miette_graphical.specs.rules.Settings.{Settings}
-use Rattle.miette_graphical.specs.rules.Snippets.{drawn_rows}
+use Rattle.miette_graphical.specs.rules.Snippets.{drawn_rows, source_rows}
+use Rattle.miette_graphical.specs.rules.Sources.{LabelledSource}
 use Rattle.miette_graphical.specs.rules.Text.{report_text}
 use Rattle.miette_text.specs.laws.Tame.{IsTame}
 use Rattle.miette_graphical.specs.views.Handling.{Handling, draws_plain, without_highlighter}
@@ -34,43 +35,43 @@ use Rattle.callers.specs.Sums.{cause_arrow, depth_file, depth_labels, sum_tree}
 
 -- ---- of the handler and the tree that are known
 
-pub known : {H : Type 0} (P : Settings → PrintedDiagnostic → Type 0) (h : Handling H) (t : Tree)
-    → h ≡ without_highlighter narrow → t ≡ sum_tree → AllByRecursion (P h.settings) (diagnostics_of h.settings t)
-    → AllByRecursion (P narrow) (diagnostics_of narrow sum_tree)
+pub known : {H : Type 0} (P : Settings → LabelledSource → Type 0) (h : Handling H) (t : Tree)
+    → h ≡ without_highlighter narrow → t ≡ sum_tree → AllByRecursion (HoldsOfPrinted P h.settings) (diagnostics_of h.settings t)
+    → AllByRecursion (HoldsOfPrinted P narrow) (diagnostics_of narrow sum_tree)
 known P h t p q all =
-    subst (λ u. AllByRecursion (P narrow) (diagnostics_of narrow u)) q
-    (subst (λ g. AllByRecursion (P g.settings) (diagnostics_of g.settings t)) p all)
+    subst (λ u. AllByRecursion (HoldsOfPrinted P narrow) (diagnostics_of narrow u)) q
+    (subst (λ g. AllByRecursion (HoldsOfPrinted P g.settings) (diagnostics_of g.settings t)) p all)
 
 -- ---- lines that are cut, and lines that fit
 
-pub is_cut : AllByRecursion (CutsAreExact narrow) (diagnostics_of narrow sum_tree) → IsCut
+pub is_cut : AllByRecursion (HoldsOfPrinted CutsAreExact narrow) (diagnostics_of narrow sum_tree) → IsCut
 unfolding ends_line pieces_from char_width
 is_cut all =
     let long : cells_width 0 (cells_under narrow sum_file 5) ≡ 31 = refl in
     let short : cells_width 0 (cells_under narrow sum_file 0) ≡ 5 = refl in
     record {
-      long = (all.0 5 12 refl).wide (omega (arith, long));
-      short = (all.0 0 12 refl).fits
+      long = (all.0.0 5 12 refl).wide (omega (arith, long));
+      short = (all.0.0 0 12 refl).fits
           (omega (arith, short));
     }
 
-pub cause_stays : AllByRecursion (LinesThatFitStay narrow) (diagnostics_of narrow sum_tree) → CauseStays
-cause_stays all = all.1.0
+pub cause_stays : AllByRecursion (HoldsOfPrinted LinesThatFitStay narrow) (diagnostics_of narrow sum_tree) → CauseStays
+cause_stays all = all.1.0.0
 
 -- ---- labels at the end, and folded ones
 
-pub end_stands : AllByRecursion (EndsAreDrawn narrow) (diagnostics_of narrow sum_tree) → EndStandsBehind
+pub end_stands : AllByRecursion (HoldsOfPrinted EndsAreDrawn narrow) (diagnostics_of narrow sum_tree) → EndStandsBehind
 unfolding ends_line line_of
-end_stands all = all.0.0 refl
+end_stands all = all.0.0.0 refl
 
-pub left_out : AllByRecursion (LabelsAreFolded narrow) (diagnostics_of narrow sum_tree) → IsLeftOut
+pub left_out : AllByRecursion (HoldsOfPrinted LabelsAreFolded narrow) (diagnostics_of narrow sum_tree) → IsLeftOut
 unfolding ends_line line_of
 left_out all =
     let accepted : AreAccepted sum_file.bytes sum_labels = (
       record { begins = omega arith; ends = omega arith },
       (record { begins = omega arith; ends = omega arith }, (record { begins = omega arith; ends = omega arith }, tt)),
     ) in
-    let folded = all.0 refl accepted (omega arith, (omega arith, (omega arith, tt))) in
+    let folded = all.0.0 refl accepted (omega arith, (omega arith, (omega arith, tt))) in
     record { out = refl; inside = folded.inside 2 (omega arith) refl }
 
 -- ---- the rows in the text
@@ -84,11 +85,12 @@ held is_blank h t text p q is =
     (subst (λ g. IsHoldingText drawn_rows g.settings (draws_plain is_blank g) t text) p is)
 
 -- where every source always reads and lines are plain, answers say nothing
-own_nothing : (a : Answers) → AreAnswers narrow true sum_tree a → own_answer a ≡ nothing_listed
-own_nothing a are = are.0.read refl ∙ ap pieces_listed (are.0.plain refl)
+own_nothing : (a : Answers) → AreAnswers narrow true sum_tree a → first_source (own_answer a) ≡ source_unlisted
+own_nothing a are = are.0.0.read refl ∙ ap pieces_listed (are.0.0.plain refl)
 
-cause_nothing : (a : Answers) → AreAnswers narrow true sum_tree a → own_answer (cause_answers a) ≡ nothing_listed
-cause_nothing a are = let own = are.1 refl in own.0.read refl ∙ ap pieces_listed (own.0.plain refl)
+cause_nothing : (a : Answers) → AreAnswers narrow true sum_tree a → first_source (own_answer (cause_answers a))
+    ≡ source_unlisted
+cause_nothing a are = let own = are.1 refl in own.0.0.read refl ∙ ap pieces_listed (own.0.0.plain refl)
 
 pub rows_stand : {H : Type 0} (is_blank : H → Bool) (h : Handling H) (t : Tree) (old new : List ℕ)
     → h ≡ without_highlighter narrow → t ≡ sum_tree → old ≡ []
@@ -98,7 +100,7 @@ rows_stand is_blank h t old new p q none appended row there =
     let whole : new ≡ appended.text = appended.appended ∙ ap (λ o. o ++ appended.text) none in
     subst (StandsIn (encode_utf8_all (print row ++ line_feed))) (sym whole)
     (own.rows_stand [] _ refl refl row
-    (subst (λ a. Contains (drawn_rows narrow (Some sum_file) sum_labels a) row)
+    (subst (λ a. Contains (source_rows narrow (Some sum_file) sum_labels a ++ []) row)
     (sym (own_nothing own.answers own.are)) there))
 
 -- ---- under the arrow
@@ -126,9 +128,9 @@ cause_stands is_blank h t old new p q none appended levels room behind rows amon
     let own = held is_blank h t appended.text p q appended.is_given in
     let whole : new ≡ encode_utf8_all (report_text drawn_rows narrow sum_tree own.answers) =
     appended.appended ∙ ap (λ o. o ++ appended.text) none ∙ own.text in
-    let drawn : Answer → List ℕ = λ a. fed_rows (map print (drawn_rows (settings_under narrow arrows) (Some depth_file)
-    depth_labels a)) in
-    let there : AreAmong (drawn (own_answer (cause_answers own.answers))) arrows rows =
+    let drawn : SourceAnswer → List ℕ = λ a. fed_rows (map print
+    (source_rows (settings_under narrow arrows) (Some depth_file) depth_labels a ++ [])) in
+    let there : AreAmong (drawn (first_source (own_answer (cause_answers own.answers)))) arrows rows =
     subst (λ a. AreAmong (drawn a) arrows rows) (sym (cause_nothing own.answers own.are)) among in
     let fits : AllByRecursion (FitsRow ((settings_under narrow arrows).width - 2)) rows =
     subst (λ w. AllByRecursion (FitsRow (w - 2)) rows) (sym left_under) fit in

@@ -69,7 +69,7 @@ narrow = record plain {
 -- each row of its own snippets stands in a text, on a line of its own
 abbrev pub RowsStand : List ℕ → Type 0
 RowsStand text = (row : List Fragment) →
-    Contains (drawn_rows narrow (Some sum_file) sum_labels nothing_listed) row
+    Contains (drawn_rows narrow (Some sum_file) (head sum_tree) nothing_listed) row
     → StandsIn (encode_utf8_all (print row ++ line_feed)) text
 
 -- the arrow that the cause stands under
@@ -78,8 +78,8 @@ cause_arrow = record { outer = None; is_last = true; is_related = false }
 
 -- the rows of the cause's snippet
 abbrev pub cause_text : List ℕ
-cause_text = fed_rows (map print (drawn_rows (settings_under narrow (cause_arrow ∷ [])) (Some depth_file) depth_labels
-    nothing_listed))
+cause_text = fed_rows (map print (drawn_rows (settings_under narrow (cause_arrow ∷ [])) (Some depth_file)
+    (head depth_tree) nothing_listed))
 
 -- Those that have at most 192 columns stand in a text one after the other, each behind six spaces.
 abbrev pub CauseStands : List ℕ → Type 0
