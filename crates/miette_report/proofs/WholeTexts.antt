@@ -1,5 +1,5 @@
 -- What a read with as many lines as can be asked for lends of a source.
-use Rattle.std.proofs.Common.{◌≡◌, ℕ, suc, ◌+◌, ◌<◌, ◌≤◌, ◌^◌, List, [], ◌∷◌, length, Bool, true, false, ap, ◌∙◌, arith}
+use Rattle.std.proofs.Common.{◌≡◌, ℕ, suc, ◌+◌, ◌-◌, ◌<◌, ◌≤◌, ◌^◌, List, [], ◌∷◌, length, Bool, true, false, ap, ◌∙◌, arith}
 use Rattle.std.proofs.lemmas.List.{take_all}
 use Rattle.std.specs.Prelude.{slice_index, slice_range, if◌then◌else◌}
 use Rattle.miette_protocol.specs.rules.Reading.{Source, reading_end}
@@ -28,4 +28,4 @@ whole source h =
     let last = line_of bytes (reading_end bytes (record { offset = 0; len = 0 })) + 18446744073709551615 in
     let end : line_end bytes last ≡ length bytes =
     line_end_past bytes last (omega (arith, few_lines bytes (length bytes), fewer 0 bytes, h)) in
-    ap (slice_range bytes 0) end ∙ take_all (length bytes) bytes (omega arith)
+    ap (slice_range bytes 0) end ∙ take_all (length bytes - 0) bytes (omega arith)
