@@ -8,8 +8,7 @@ use Rattle.std.proofs.Math.Seq.{drop-cons}
 use Rattle.std.proofs.lemmas.Bool.{and_parts}
 use Rattle.std.proofs.lemmas.List.{drop_all}
 use Rattle.std.proofs.lemmas.List.Elements.{All-head, All-tail}
-use Rattle.miette_basics.specs.rules.Lists.{is_nil}
-use Rattle.miette_protocol.specs.rules.Reading.{Source, Span, IsAccepted, is_accepted}
+use Rattle.miette_protocol.specs.rules.Reading.{Source, Span, is_accepted}
 use Rattle.miette_protocol.specs.views.Meaning.{Label}
 use Rattle.miette_tree.specs.rules.Diagnosis.{Section}
 use Rattle.miette_tree.specs.rules.Reads.{MayMeet, accepts, holds_further}
@@ -18,7 +17,7 @@ use Rattle.miette_labels.specs.rules.Groups.{in_order}
 use Rattle.miette_labels.proofs.OwnContexts.{order_all, order_nil}
 use Rattle.miette_brief.specs.rules.Rows.{Place}
 use Rattle.miette_brief.specs.rules.Places.{Spot, marked_in, first_in, spot_over, else_spot, found_further, primary_spot}
-use Rattle.miette_brief.specs.rules.Places.{span_place, chosen_place, source_of_spot, cause_place}
+use Rattle.miette_brief.specs.rules.Places.{span_place, chosen_place, source_of_spot}
 use Rattle.miette_brief.specs.declared.spots.Found.{Found}
 use Rattle.miette_brief.specs.declared.spots.Found.TheVariants as found
 use Rattle.miette_brief.specs.steps.Conversions.{place_of, is_label}

@@ -1,16 +1,16 @@
 -- The rows and the answers of a tree, put together from those of its parts.
 use Rattle.std.proofs.Common.{◌≡◌, ℕ, ◌+◌, ◌<◌, ◌≤◌, List, [], ◌∷◌, ◌++◌, length, get_or, map, drop, Bool, true, false}
-use Rattle.std.proofs.Common.{◌&&◌, ◌||◌}
-use Rattle.std.proofs.Common.{Option, Some, None, refl, sym, ap, ap₂, subst, ◌∙◌, append_assoc, append-nil}
+use Rattle.std.proofs.Common.{◌&&◌}
+use Rattle.std.proofs.Common.{Option, None, refl, sym, ap, ap₂, subst, ◌∙◌, append_assoc, append-nil}
 use Rattle.std.proofs.lemmas.List.{drop_all}
-use Rattle.miette_protocol.specs.rules.Reading.{Source, is_accepted}
+use Rattle.miette_protocol.specs.rules.Reading.{Source}
 use Rattle.miette_protocol.specs.views.Meaning.{Label}
 use Rattle.miette_tree.specs.rules.Diagnosis.{Diagnosis, Section}
 use Rattle.miette_tree.specs.rules.Tree.{Tree, tree, Cause, diagnostic, texts, Trees, no_trees, more_trees, trees}
 use Rattle.miette_tree.specs.rules.Tree.{effective, head, source_of, cause_of, related_of}
 use Rattle.miette_tree.specs.rules.DiagnosticParts.{given_labels}
 use Rattle.miette_tree.specs.rules.Reads.{AlwaysReads, CauseAlwaysReads, AllAlwaysRead, holds_of, holds_of_all, accepts}
-use Rattle.miette_tree.specs.rules.Reads.{MayMeet, holds_further}
+use Rattle.miette_tree.specs.rules.Reads.{holds_further}
 use Rattle.miette_tree.specs.rules.Answers.{own_fault}
 use Rattle.miette_tree.proofs.Nesting.{Reads, effective_reads, next_of}
 use Rattle.miette_tree.proofs.Readings.{fault_free}

@@ -1,8 +1,7 @@
-use Rattle.std.proofs.Common.{map, sym, subst, arith, Option}
+use Rattle.std.proofs.Common.{sym, arith}
 use Rattle.miette_tree.specs.views.Attached.{section_of}
-use Rattle.miette_brief.specs.rules.Places.{Spot, marked_in, found_further}
-use Rattle.miette_brief.specs.steps.Reads.{IsFound}
-use Rattle.miette_brief.proofs.Choosing.{further_found, further_later, further_none}
+use Rattle.miette_brief.specs.rules.Places.{marked_in}
+use Rattle.miette_brief.proofs.Choosing.{further_none}
 use Rattle.miette_brief.proofs.spots.marked_further.Goals as goal
 
 pub returns : goal.returns
