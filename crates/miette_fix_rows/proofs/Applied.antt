@@ -73,7 +73,7 @@ ending_is n ls le =
     sym (ap reverse front ∙ reverse-reverse (drop k ls))
 
 -- the lines that stay are the same in both
-front_same : (olds news : List (List ℕ)) → take (staying olds news) olds ≡ take (staying olds news) news
+pub front_same : (olds news : List (List ℕ)) → take (staying olds news) olds ≡ take (staying olds news) news
 front_same olds news =
     let b : ℕ = staying olds news in
     let m : ℕ = old_until olds news in
@@ -81,7 +81,7 @@ front_same olds news =
     sym (take-take b m olds (staying_old olds news)) ∙ common_same (take m olds) (take n news)
     ∙ take-take b n news (staying_new olds news)
 
-ending_same : (olds news : List (List ℕ))
+pub ending_same : (olds news : List (List ℕ))
     → drop (old_until olds news) olds ≡ drop (new_until olds news) news
 ending_same olds news =
     let n : ℕ = common_behind olds news in

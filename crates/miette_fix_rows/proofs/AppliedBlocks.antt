@@ -1,28 +1,26 @@
--- The added and the unchanged lines have the bytes of the applied text, block by block.
+-- The applied text, block by block.
 use Rattle.std.proofs.Common.{ℕ, ◌+◌, ◌-◌, ◌<◌, ◌≤◌, ◌≡◌, true, leb, List, [], ◌∷◌, ◌++◌, ◌&&◌}
 use Rattle.std.proofs.Common.{length, take, drop, refl, sym, ap, ap₂, ◌∙◌, arith, append_assoc}
-use Rattle.std.specs.Prelude.{None, slice_range}
+use Rattle.std.specs.Prelude.{slice_range}
 use Rattle.std.specs.List.{flat_map}
 use Rattle.std.proofs.lemmas.Bool.{and_parts}
 use Rattle.std.proofs.lemmas.List.{drop-drop, take-take}
 use Rattle.miette_basics.proofs.Cases.{by_cases}
 use Rattle.miette_source_lines.proofs.Parts.{part_length}
 use Rattle.miette_fixes.specs.rules.Edits.{Replacement, end_of}
-use Rattle.miette_fixes.specs.rules.Applying.{applied, by_offset, refusal, text_from}
-use Rattle.miette_fixes.proofs.Overlaps.{fit_unrefused}
+use Rattle.miette_fixes.specs.rules.Applying.{text_from}
 use Rattle.miette_fix_rows.specs.laws.Whole.{all_bytes}
-use Rattle.miette_fix_rows.specs.rules.Blocks.{block_from, block_to, blocks, bytes_of, line_texts, new_lines, old_lines}
+use Rattle.miette_fix_rows.specs.rules.Blocks.{block_from, block_to, blocks, bytes_of, new_lines, old_lines}
 use Rattle.miette_fix_rows.specs.rules.Blocks.{onto_blocks, text_between}
-use Rattle.miette_fix_rows.specs.rules.Hunks.{Change, change_of, changes_of, diff, diff_from, is_nil, lines_after}
-use Rattle.miette_fix_rows.specs.rules.Hunks.{onto_changes}
+use Rattle.miette_fix_rows.specs.rules.Hunks.{Change, change_of, is_nil}
 use Rattle.miette_fix_rows.specs.steps.Parting.{old_until, staying}
-use Rattle.miette_fix_rows.proofs.Applied.{Far, bytes_append, bytes_of_lines, new_text, text_over, text_split}
-use Rattle.miette_fix_rows.proofs.Chains.{Chain, block_fits, block_order, block_within, chain, first_at_or_behind}
-use Rattle.miette_fix_rows.proofs.Chains.{last_end, next_behind}
+use Rattle.miette_fix_rows.proofs.Applied.{Far, new_text, text_over, text_split}
+use Rattle.miette_fix_rows.proofs.Chains.{Chain, block_fits, block_order, block_within, first_at_or_behind}
+use Rattle.miette_fix_rows.proofs.Chains.{next_behind}
 use Rattle.miette_fix_rows.proofs.Parting.{staying_old}
 use Rattle.miette_fix_rows.proofs.PartsOfParts.{drop_front, slice_join}
-use Rattle.miette_fix_rows.proofs.Sources.{At, IsPart, at_next, first_at, part_of, until_bytes, with_one, without}
-use Rattle.miette_fix_rows.proofs.Told.{nil_of, told_more}
+use Rattle.miette_fix_rows.proofs.Sources.{IsPart, part_of, until_bytes}
+use Rattle.miette_fix_rows.proofs.Told.{nil_of}
 use Rattle.miette_fix_rows.proofs.Texts.{bytes_of-take, bytes_of_texts}
 
 -- the edits of blocks, one after the other
@@ -36,16 +34,16 @@ flat_onto source e (block ∷ bs) =
     by_cases {C = flat (onto_blocks source e (block ∷ bs)) ≡ e ∷ flat (block ∷ bs)}
     (leb (block_from source block) (end_of e)) (λ t. rw t refl) (λ f. rw f refl)
 
-flat_blocks : (source : List ℕ) (es : List Replacement) → flat (blocks source es) ≡ es
+pub flat_blocks : (source : List ℕ) (es : List Replacement) → flat (blocks source es) ≡ es
 flat_blocks source [] = refl
 flat_blocks source (e ∷ es) =
     flat_onto source e (blocks source es) ∙ ap (λ xs. e ∷ xs) (flat_blocks source es)
 
-far_more : (at : ℕ) (block rest : List Replacement) → 0 < length block → Far at block → Far at (block ++ rest)
+pub far_more : (at : ℕ) (block rest : List Replacement) → 0 < length block → Far at block → Far at (block ++ rest)
 far_more at [] rest some h = absurd (omega (arith, some))
 far_more at (e ∷ es) rest some h = h
 
-far_block : (source : List ℕ) (at : ℕ) (block : List Replacement) → at ≤ block_from source block → Far at block
+pub far_block : (source : List ℕ) (at : ℕ) (block : List Replacement) → at ≤ block_from source block → Far at block
 far_block source at [] h = tt
 far_block source at (e ∷ es) h = omega (arith, h, first_at_or_behind source e es)
 
@@ -106,7 +104,7 @@ block_text source before at block bs h low =
     ∙ ap₂ (λ xs ys. xs ++ (all_bytes c.added ++ ys)) e6 e7
 
 -- a block that changes nothing
-still_text : (source : List ℕ) (before at : ℕ) (block : List Replacement) (bs : List (List Replacement))
+pub still_text : (source : List ℕ) (before at : ℕ) (block : List Replacement) (bs : List (List Replacement))
     → Chain source before (block ∷ bs) → at ≤ block_from source block
     → (is_nil (change_of source block).removed && is_nil (change_of source block).added) ≡ true
     → text_from source at (flat (block ∷ bs)) ≡ text_from source at (flat bs)
@@ -123,35 +121,3 @@ still_text source before at block bs h low t =
     (nil_of c.added parts.1)
     ∙ ap (λ n. slice_range source at c.from ++ text_from source n (flat bs)) to
     ∙ sym (text_split source at c.from (flat bs) (omega (arith, low, p.low)) far)
-
-applied_from : (source : List ℕ) (before at : ℕ) (bs : List (List Replacement)) → Chain source before bs
-    → At source at bs
-    → all_bytes (lines_after (diff_from source at (changes_of source bs))) ≡ text_from source at (flat bs)
-applied_from source before at [] h low = bytes_of_lines (drop at source)
-applied_from source before at (block ∷ bs) h low =
-    let c : Change = change_of source block in
-    let order : block_from source block ≤ block_to source block = block_order source before block h.0 h.1 in
-    let p : IsPart source (block_from source block) (block_to source block) c = part_of source block h.0 order in
-    let lines : List (List ℕ) = line_texts (slice_range source at c.from) in
-    let later : List (List ℕ) = lines_after (diff_from source c.to (changes_of source bs)) in
-    by_cases {C = all_bytes (lines_after (diff_from source at (onto_changes c (changes_of source bs))))
-    ≡ text_from source at (flat (block ∷ bs))} (is_nil c.removed && is_nil c.added)
-    (λ t. ap (λ d. all_bytes (lines_after d)) (without source at c (changes_of source bs) t)
-    ∙ applied_from source (last_end block) at bs h.3
-    (at_next source before at block bs h (omega (arith, low, order)))
-    ∙ sym (still_text source before at block bs h low t))
-    (λ f. ap (λ d. all_bytes (lines_after d)) (with_one source at c (changes_of source bs) f)
-    ∙ ap all_bytes (told_more (λ change. change.added) lines c (diff_from source c.to (changes_of source bs)))
-    ∙ bytes_append lines (c.added ++ later)
-    ∙ ap₂ ◌++◌ (bytes_of_lines (slice_range source at c.from)) (bytes_append c.added later
-    ∙ ap (λ xs. all_bytes c.added ++ xs) (applied_from source (last_end block) c.to bs h.3
-    (at_next source before c.to block bs h p.high)))
-    ∙ sym (block_text source before at block bs h low))
-
-pub applied_bytes : (source : List ℕ) (edits : List Replacement) → refusal (length source) edits ≡ None
-    → all_bytes (lines_after (diff source edits)) ≡ applied source edits
-applied_bytes source edits h =
-    applied_from source 0 0 (blocks source (by_offset edits))
-    (chain source 0 (by_offset edits) (fit_unrefused (length source) edits h))
-    (first_at source (blocks source (by_offset edits)))
-    ∙ ap (text_from source 0) (flat_blocks source (by_offset edits))

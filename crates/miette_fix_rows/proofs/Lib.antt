@@ -11,3 +11,5 @@ pub mod Told
 pub mod PartsOfParts
 pub mod Applied
 pub mod AppliedBlocks
+pub mod AppliedSeams
+pub mod AppliedLines

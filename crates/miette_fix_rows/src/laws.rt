@@ -26,11 +26,11 @@ pub fn a_diff_has_the_source()
         lines_before (diff source edits) ≡ line_texts source }
 {}
 
-/// The added and the unchanged lines of a diff, one after the other, have exactly the bytes of the applied text. Lines
+/// The added and the unchanged lines of a diff, one after the other, are exactly the lines of the applied text. Lines
 /// have the bytes of which they are the lines.
-#[tactic(auto, using(crate::proofs::Applied::bytes_of_lines, crate::proofs::AppliedBlocks::applied_bytes))]
+#[tactic(auto, using(crate::proofs::Applied::bytes_of_lines, crate::proofs::AppliedLines::applied_lines))]
 pub fn a_diff_has_the_applied_text()
     ensures applied { (source : List ℕ) → (edits : List Replacement) → refusal (length source) edits ≡ None →
-        all_bytes (lines_after (diff source edits)) ≡ applied source edits }
+        lines_after (diff source edits) ≡ line_texts (applied source edits) }
     ensures bytes { (bytes : List ℕ) → all_bytes (line_texts bytes) ≡ bytes }
 {}
