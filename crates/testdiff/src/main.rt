@@ -5,22 +5,18 @@ mod lines;
 
 use crate::lines::differences;
 use miette::prelude::{
-    IntoDiagnostic, JSONReportHandler, LabeledSpan, OwnedSource, Report, Result, WrapErr,
-    eprint_report, print_report,
+    Form, Host, IntoDiagnostic, LabeledSpan, MietteHandlerOpts, OwnedSource, Report, Reporter,
+    Result, WrapErr, eprint_report,
 };
-use miette::terminal::Streams;
 use miette_tree::miette;
 use std::alloc::Global;
-use std::env::Env;
-use std::fs::Files;
-use std::io::Print;
 use std::process::ExitCode;
 use std::{env, fs};
 
 /// What the program was called with.
 #[derive(Drop)]
 struct Words {
-    json: bool,
+    form: Form,
     expected: String,
     actual: String,
 }
@@ -32,7 +28,7 @@ fn main(rt: HostRuntime) -> ExitCode {
     }
 }
 
-fn run<R: Env + Files + Print + AllocGlobal + Streams>(rt: &R) -> Result<ExitCode> {
+fn run<R: Host>(rt: &R) -> Result<ExitCode> {
     let words = read_words(rt)?;
     let wanted = log(rt, words.expected.as_str())?;
     let found = log(rt, words.actual.as_str())?;
@@ -40,12 +36,7 @@ fn run<R: Env + Files + Print + AllocGlobal + Streams>(rt: &R) -> Result<ExitCod
 }
 
 /// Says where the log that was found isn't the expected one.
-fn compare<R: Env + Print + AllocGlobal + Streams>(
-    rt: &R,
-    words: &Words,
-    wanted: &str,
-    found: String,
-) -> Result<ExitCode> {
+fn compare<R: Host>(rt: &R, words: &Words, wanted: &str, found: String) -> Result<ExitCode> {
     let alloc = rt.alloc();
     let labels = differences(alloc, wanted, found.as_str())?;
     let actual = words.actual.as_str();
@@ -54,10 +45,9 @@ fn compare<R: Env + Print + AllocGlobal + Streams>(
         return Ok(ExitCode::SUCCESS);
     }
     let report = report_of(alloc, actual, found, labels)?;
-    if words.json {
-        return print_json(rt, &report);
-    }
-    Ok(print_report(rt, &report))
+    let mut run = Reporter::new(rt, words.form, MietteHandlerOpts::new())?;
+    run.report(&report).into_diagnostic(alloc)?;
+    Ok(run.finish())
 }
 
 /// A report with a label on each line that differs.
@@ -78,35 +68,25 @@ fn report_of(
     Ok(report.with_owned_source(source))
 }
 
-/// Prints the report as one line of JSON.
-fn print_json<R: Print + AllocGlobal>(rt: &R, report: &Report) -> Result<ExitCode> {
-    let alloc = rt.alloc();
-    let mut text = String::new(alloc);
-    JSONReportHandler::new().render_report(report, &mut text)?;
-    println!(rt; "{text}").into_diagnostic(alloc)?;
-    Ok(ExitCode::FAILURE)
-}
-
-fn read_words<R: Env + AllocGlobal>(rt: &R) -> Result<Words> {
+fn read_words<R: Host>(rt: &R) -> Result<Words> {
     let alloc = rt.alloc();
     let usage = "usage: testdiff [--json] EXPECTED ACTUAL";
     let mut words = env::args(rt).into_diagnostic(alloc)?.skip(1);
     let first = words.next().wrap_err(alloc, usage)?;
-    let json = first.as_str() == "--json";
-    let expected = if json {
-        words.next().wrap_err(alloc, usage)?
+    let (form, expected) = if first.as_str() == "--json" {
+        (Form::JsonRows, words.next().wrap_err(alloc, usage)?)
     } else {
-        first
+        (Form::Pictures, first)
     };
     let actual = words.next().wrap_err(alloc, usage)?;
     Ok(Words {
-        json,
+        form,
         expected,
         actual,
     })
 }
 
-fn log<R: Files + AllocGlobal>(rt: &R, name: &str) -> Result<String> {
+fn log<R: Host>(rt: &R, name: &str) -> Result<String> {
     let alloc = rt.alloc();
     fs::read_to_string(rt, name)
         .into_diagnostic(alloc)
