@@ -7,7 +7,7 @@ use crate::sums::{Fault, value_of};
 use miette::highlight::Highlighter;
 use miette::options::RgbColors;
 use miette::prelude::{
-    IntoDiagnostic, LabeledSpan, MietteHandlerOpts, OwnedSource, Report, Result, WrapErr,
+    Host, IntoDiagnostic, LabeledSpan, MietteHandlerOpts, OwnedSource, Report, Result, WrapErr,
     print_report_with,
 };
 use miette::source::MietteSpanContents;
@@ -15,8 +15,6 @@ use miette::style::{Color, Style};
 use miette_tree::diagnostic;
 use std::alloc::{AllocError, Global};
 use std::env;
-use std::env::Env;
-use std::io::Print;
 use std::process::ExitCode;
 
 fn main(rt: HostRuntime) -> ExitCode {
@@ -29,7 +27,7 @@ fn main(rt: HostRuntime) -> ExitCode {
     }
 }
 
-fn run<R: Env + Print + AllocGlobal>(rt: &R) -> Result<()> {
+fn run<R: Host>(rt: &R) -> Result<()> {
     let alloc = rt.alloc();
     let mut words = env::args(rt).into_diagnostic(alloc)?;
     let text = words.nth(1).wrap_err(alloc, "usage: calc EXPRESSION")?;

@@ -5,14 +5,11 @@ mod settings;
 
 use crate::settings::{is_known, line_of, port_of};
 use miette::prelude::{
-    IntoDiagnostic, LabeledSpan, MietteDiagnostic, OwnedSource, Report, Result, Severity, WrapErr,
-    print_report,
+    Host, IntoDiagnostic, LabeledSpan, MietteDiagnostic, OwnedSource, Report, Result, Severity,
+    WrapErr, print_report,
 };
 use miette_tree::miette;
 use std::alloc::{AllocError, Global};
-use std::env::Env;
-use std::fs::Files;
-use std::io::Print;
 use std::process::ExitCode;
 use std::{env, fs};
 use toml::Table;
@@ -25,7 +22,7 @@ fn main(rt: HostRuntime) -> ExitCode {
     }
 }
 
-fn run<R: Env + Files + Print + AllocGlobal>(rt: &R) -> Result<()> {
+fn run<R: Host>(rt: &R) -> Result<()> {
     let alloc = rt.alloc();
     let mut words = env::args(rt).into_diagnostic(alloc)?;
     let name = words.nth(1).wrap_err(alloc, "usage: confcheck FILE")?;
