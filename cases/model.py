@@ -12,13 +12,15 @@ WIDTHS = {"\u0301": 0, "漢": 2, "字": 2}
 
 
 class Settings(NamedTuple):
-    """The settings of a picture: a line of more columns is cut, a label of more lines is folded."""
+    """The settings of a picture: a line of more columns is cut, a label of more lines is folded. Where frames are placed,
+    one of a single line has its place too."""
 
     context: int = 1
     tab: int = 4
     line_columns: Optional[int] = None
     label_lines: Optional[int] = None
     end_labels: bool = False
+    placed: bool = False
 
 
 # ---- lines and the columns of their characters
@@ -256,12 +258,13 @@ def is_near(limit, ends, cell):
     return any(abs(column - end) <= limit // 4 for column in columns for end in ends)
 
 
-def cut(limit, line, marks):
-    """What is shown of a line's text, and its marks in the row."""
+def cut(limit, line, marks, ends=None):
+    """What is shown of a line's text around these columns, else around its marks, and its marks in the row."""
     printed = [" " * (it.next_column - it.column) if it.character == "\t" else it.character for it in line.cells]
     if limit is None or line.width <= limit:
         return "".join(printed), marks
-    ends = [end for mark in marks for end in (mark.start, mark.anchor, mark.after - 1)]
+    if ends is None:
+        ends = [end for mark in marks for end in (mark.start, mark.anchor, mark.after - 1)]
     near, before = [], False
     for cell in line.cells:
         before = before if cell.column == cell.next_column else is_near(limit, ends, cell)
@@ -363,7 +366,7 @@ def frame_rows(source, labels, group, primary, name, settings):
     lines = dict(enumerate(lines_of(source.data, source.tab, group.begin, group.end), group.line))
     digits = len(str(group.line + len(lines))) if lines else 1
     at = f"{source.line_of(primary.offset) + 1}:{source.column_of(primary.offset) + 1}"
-    place = f"[{name}:{at}]" if name is not None else f"[{at}]" if len(lines) > 1 else "───"
+    place = f"[{name}:{at}]" if name is not None else f"[{at}]" if len(lines) > 1 or settings.placed else "───"
     kept = set().union(*(shown_lines(source, it, settings.label_lines) for it in labels))
     shown = [it for it in lines if it in kept]
     most = max((sum(it.is_several(lines[number]) for it in labels) for number in shown), default=0)

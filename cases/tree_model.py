@@ -165,9 +165,13 @@ def message(report, page):
 
 
 def snippets(report, source, page):
-    if source is None or not report.get("labels"):
-        return ""
-    rows = snippet_rows(report["labels"], page.snippets, source.get("name"), source["text"].encode())
+    """The snippets of a report's own labels over its source, and then those over each further source."""
+    further = report.get("snippets", [])
+    drawn = page.snippets._replace(placed=any(it["labels"] for it in further))
+    rows = []
+    for it in [{"source": source, "labels": report.get("labels") or []}, *further]:
+        if it["source"] is not None and it["labels"]:
+            rows += snippet_rows(it["labels"], drawn, it["source"].get("name"), it["source"]["text"].encode())
     return "".join(row + "\n" for row in rows)
 
 

@@ -14,11 +14,12 @@ use Rattle.miette_graphical.specs.rules.PrintedDiagnostics.{PrintedDiagnostic, o
 use Rattle.miette_graphical.specs.rules.PrintedDiagnostics.{printed_related, all_read}
 use Rattle.miette_tree.specs.rules.Reads.{AlwaysReads, CauseAlwaysReads, AllAlwaysRead, always_reads, holds_of}
 use Rattle.miette_fixes.specs.rules.Edits.{Proposal}
-use Rattle.miette_tree.specs.rules.Diagnosis.{Section}
+use Rattle.miette_tree.specs.rules.Diagnosis.{Diagnosis, Section}
 use Rattle.miette_tree.specs.rules.Reads.{holds_of_all, accepts, report_accepted, holds_further}
 use Rattle.miette_tree.proofs.Nesting.{Reads, effective_reads}
 use Rattle.miette_tree.proofs.Readings.{source_reads}
 use Rattle.miette_graphical.specs.rules.Settings.{Settings}
+use Rattle.miette_graphical.specs.rules.Sources.{further_sources, sources_of, sources_read}
 use Rattle.miette_brief.specs.rules.PossibleAnswers as briefly
 use Rattle.miette_brief.specs.rules.Report as brief
 use Rattle.miette_narrated.specs.rules.PossibleAnswers as told
@@ -29,11 +30,23 @@ use Rattle.miette_labels.proofs.OwnContexts.{order_all}
 
 -- ---- a graphical report
 
+further_reads : (sections : List Section) → All (λ section. section.source.always_reads ≡ true) sections
+    → sources_read (further_sources sections) ≡ true
+further_reads [] q = refl
+further_reads (section ∷ sections) q =
+    let reads : Section → Type 0 = λ it. it.source.always_reads ≡ true in
+    and_from _ _ (source_reads (Some section.source) section.labels (All-head reads section sections q))
+    (further_reads sections (All-tail reads section sections q))
+
+sources_reads : (source : Option Source) (m : Diagnosis) → Reads source
+    → All (λ section. section.source.always_reads ≡ true) m.snippets → sources_read (sources_of source m) ≡ true
+sources_reads source m p q = and_from _ _ (source_reads source (given_labels m.labels) p) (further_reads m.snippets q)
+
 all_of_both : (ps qs : List PrintedDiagnostic) → all_read ps ≡ true → all_read qs ≡ true → all_read (ps ++ qs) ≡ true
 all_of_both [] qs p q = q
 all_of_both (x ∷ ps) qs p q =
-    let h = and_parts (always_reads x.source (given_labels x.meaning.labels)) (all_read ps) p in
-    and_from (always_reads x.source (given_labels x.meaning.labels)) (all_read (ps ++ qs)) h.0 (all_of_both ps qs h.1 q)
+    let h = and_parts (sources_read (sources_of x.source x.meaning)) (all_read ps) p in
+    and_from (sources_read (sources_of x.source x.meaning)) (all_read (ps ++ qs)) h.0 (all_of_both ps qs h.1 q)
 
 unless_nested : (nested : Bool) (ps : List PrintedDiagnostic) → all_read ps ≡ true
     → all_read (if nested then [] else ps) ≡ true
@@ -53,8 +66,8 @@ mutual
       let source = effective own inherited in
       let here : Reads source = effective_reads own inherited q.0 p in
       all_of_both (over source m ∷ printed_related nested source r) (printed_causes nested inherited c)
-      (and_from (always_reads source (given_labels m.labels)) (all_read (printed_related nested source r))
-      (source_reads source (given_labels m.labels) here) (related_read nested source r here q.2))
+      (and_from (sources_read (sources_of source m)) (all_read (printed_related nested source r))
+      (sources_reads source m here q.3) (related_read nested source r here q.2))
       (causes_read nested inherited c p q.1)
 
   related_read : (nested : Bool) (inherited : Option Source) (r : Trees) → Reads inherited → AllAlwaysRead r
@@ -65,8 +78,8 @@ mutual
       let here : Reads source = effective_reads own inherited q.0.0 p in
       let causes = if nested then [] else printed_causes nested source c in
       all_of_both (over source m ∷ (causes ++ printed_related nested source r)) (printed_related nested inherited ts)
-      (and_from (always_reads source (given_labels m.labels)) (all_read (causes ++ printed_related nested source r))
-      (source_reads source (given_labels m.labels) here)
+      (and_from (sources_read (sources_of source m)) (all_read (causes ++ printed_related nested source r))
+      (sources_reads source m here q.0.3)
       (all_of_both causes (printed_related nested source r)
       (unless_nested nested (printed_causes nested source c) (causes_read nested source c here q.0.1))
       (related_read nested source r here q.0.2)))
@@ -75,8 +88,8 @@ mutual
 pub printed-reads : (s : Settings) (t : Tree) → AlwaysReads t → all_read (diagnostics_of s t) ≡ true
 printed-reads s (tree m own c r) q =
     let causes = if s.cause_chain then printed_causes s.related_as_nested own c else [] in
-    and_from (always_reads own (given_labels m.labels)) (all_read (causes ++ printed_related s.related_as_nested own r))
-    (source_reads own (given_labels m.labels) q.0)
+    and_from (sources_read (sources_of own m)) (all_read (causes ++ printed_related s.related_as_nested own r))
+    (sources_reads own m q.0 q.3)
     (all_of_both causes (printed_related s.related_as_nested own r)
     (if_shown s.cause_chain (printed_causes s.related_as_nested own c)
     (causes_read s.related_as_nested own c q.0 q.1)) (related_read s.related_as_nested own r q.0 q.2))
@@ -156,13 +169,23 @@ one_kept (Some s) labels p a =
     and_from _ _ (sym (order_all (λ label. is_accepted s.bytes label.span) labels)
     ∙ accept_all s.bytes (in_order labels) a) (or_right (is_nil labels) s.always_reads p)
 
+sections_kept : (sections : List Section) → All (λ section. section.source.always_reads ≡ true) sections
+    → briefly.FurtherAccepted sections → holds_further accepts sections ≡ true
+sections_kept [] q k = refl
+sections_kept (section ∷ sections) q k =
+    let reads : Section → Type 0 = λ it. it.source.always_reads ≡ true in
+    and_from _ _ (one_kept (Some section.source) section.labels (All-head reads section sections q) k.0)
+    (sections_kept sections (All-tail reads section sections q) k.1)
+
 mutual
   tree_kept : (inherited : Option Source) (a : brief.Answers) (t : Tree) → Reads inherited → AlwaysReads t
       → briefly.AreAnswers inherited a t → holds_of accepts inherited t ≡ true
   tree_kept inherited a (tree m own c r) p q k =
       let source = effective own inherited in
       let here : Reads source = effective_reads own inherited q.0 p in
-      and_from _ _ (one_kept source _ here k.0) (trees_kept source (brief.related_answers a) r here q.2 k.3)
+      and_from _ _
+      (and_from _ _ (one_kept source _ here k.0.0) (trees_kept source (brief.related_answers a) r here q.2 k.3))
+      (sections_kept m.snippets q.3 k.0.1)
 
   trees_kept : (inherited : Option Source) (more : brief.RelatedAnswers) (ts : Trees) → Reads inherited
       → AllAlwaysRead ts → briefly.AllAnswers inherited more ts → holds_of_all accepts inherited ts ≡ true

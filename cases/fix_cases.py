@@ -1,0 +1,116 @@
+#!/usr/bin/env python3
+"""fix_cases.py: writes the cases of fixes to standard output: their pictures (job-fixes.jsonl), or with --applied what
+`job --fix` applies (job-applied.jsonl).
+
+Sources and edits are drawn by chance from a fixed seed: overlapping, touching and empty ones, every kind of terminator,
+lines that are cut, with the picture and the text that the rules ask for (fix_model.py). What a line holds: run.py."""
+import json
+import random
+import sys
+
+import cut_cases
+from fix_model import Edit, applied, fix_rows, refusal, taken
+from model import Settings, lines_of, snippet_rows
+from tree_model import Page, wrapped
+
+PICTURES = 400
+TEXTS = 2000
+PIECES = ["a", "be", "fn x(y)", "é", "漢", "\t", "  ", "=1;", " ", "e\u0301"]
+INSERTED = ["", "", "x", "\n", "x\n", "a\nb", "\r", "\r\n", " ", "    ", "\t", "漢", "é=", "\n\n", "long text here"]
+MESSAGES = ["m", "a colon is missing", "put a well-known word here, in place of the other one", "two\nrows"]
+SURE = ["machine-applicable", "maybe-incorrect", "has-placeholders", "unspecified"]
+
+
+def source_of(dice):
+    """Short lines, some of them the same, with every kind of terminator."""
+    ends = dice.choice([["\n"], ["\n"], ["\r\n"], ["\r"], ["\n", "\r\n", "\r"]])
+    rows = []
+    for _ in range(dice.choice([0, 1, 2, 3, 5, 8, 12])):
+        text = dice.choice(rows)[0] if rows and dice.random() < 0.3 else cut_text(dice)
+        rows.append((text, dice.choice(ends)))
+    text = "".join(text + end for text, end in rows) + dice.choice(["", "", cut_text(dice)])
+    source = {"text": text}
+    if dice.random() < 0.7:
+        source["name"] = dice.choice(["f.rs", "src/漢"])
+    return source
+
+
+def cut_text(dice):
+    return "".join(dice.choice(PIECES) for _ in range(dice.choice([0, 1, 1, 2, 3, 8, 20])))
+
+
+def boundaries(text):
+    """The bytes at which characters begin."""
+    places = [0]
+    for character in text:
+        places.append(places[-1] + len(character.encode()))
+    return places
+
+
+def edit_of(dice, text):
+    data, places = text.encode(), boundaries(text)
+    ends = [place for line in lines_of(data) for place in (line.start, line.text_end, line.end)] or [0]
+    begin = dice.choice([dice.choice(places), dice.choice(ends)])
+    end = dice.choice([begin, begin, dice.choice(places), dice.choice(ends), min(begin + 1, len(data))])
+    begin, end = min(begin, end), max(begin, end)
+    if end not in places:
+        end = begin
+    made = dice.choice(INSERTED)
+    if dice.random() < 0.1:
+        made = data[begin:end].decode()
+    if dice.random() < 0.02:
+        end = len(data) + 1
+    return {"offset": begin, "length": end - begin, "text": made}
+
+
+def fix_of(dice, text):
+    edits = [edit_of(dice, text) for _ in range(dice.choice([0, 1, 1, 1, 1, 2, 2, 3, 4]))]
+    return {"message": dice.choice(MESSAGES), "applicability": dice.choice(SURE), "edits": edits}
+
+
+def edits_of(fix):
+    return [Edit(it["offset"], it["length"], it["text"].encode()) for it in fix["edits"]]
+
+
+def picture(number):
+    dice = random.Random(number)
+    source = source_of(dice)
+    fixes = [fix_of(dice, source["text"]) for _ in range(dice.choice([1, 1, 1, 2]))]
+    report = {"message": "m", "source": source, "fixes": fixes}
+    page = Page(dice.choice([80, 80, 40]))
+    settings = Settings(dice.choice([0, 1, 1, 1, 2]), dice.choice([4, 4, 8]), dice.choice([None, None, 12, 24]))
+    words = ["--theme", "unicode_nocolor", "--width", str(page.width), "--context", str(settings.context)]
+    words += ["--tab", str(settings.tab)]
+    words += ["--line-columns", str(settings.line_columns)] if settings.line_columns is not None else []
+    data, rows = source["text"].encode(), ["  × m"]
+    if data and dice.random() < 0.3:
+        report["labels"] = [{"offset": 0, "length": 1}]
+        rows += snippet_rows(report["labels"], settings, source.get("name"), data)
+    for fix in fixes:
+        rows.append(wrapped(fix["message"], "  fix: ", " " * 7, page))
+        rows += fix_rows(edits_of(fix), settings, source.get("name"), data)
+    return ["job", *words], report, "".join(row + "\n" for row in rows), 0
+
+
+def text(number):
+    dice = random.Random(-number)
+    source = source_of(dice)
+    fixes = [fix_of(dice, source["text"]) for _ in range(dice.choice([0, 1, 1, 2, 3, 5]))]
+    report = {"message": "m", "source": source, "fixes": fixes}
+    every = dice.random() < 0.5
+    asked = [edits_of(it) for it in fixes if every or it["applicability"] == "machine-applicable"]
+    took, made = taken(source["text"].encode(), asked)
+    return ["job", "--fix=all" if every else "--fix"], report, made.decode(), 0 if all(took) else 5
+
+
+def case(number, made, what):
+    words, report, wanted, status = made(number)
+    shown = {"what": what, "argv": words, "report": report}
+    return {**shown, "stdout_text": wanted, "status": status, "stderr": ""}
+
+
+if __name__ == "__main__":
+    is_applied = sys.argv[1:] == ["--applied"]
+    made, what = (text, "applied fixes") if is_applied else (picture, "the picture of a fix")
+    for number in range(TEXTS if is_applied else PICTURES):
+        print(json.dumps(case(number, made, what), ensure_ascii=False))
