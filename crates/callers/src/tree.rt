@@ -49,8 +49,8 @@ pub fn over_both(
     ensures { IfOk result (λ r.
         let tree = tree_of ⟦<Box<dyn Diagnostic> as Diagnostic>⟧.meaning
         ⟦<Box<dyn SourceCode> as SourceCode>⟧.source in
-        let section = record { source = owned_source other; labels = labels.items } in
-        tree r ≡ with_fix fix (with_snippets section (tree report))) }
+        tree r ≡ with_fix fix (with_snippets
+        (record { source = owned_source other; labels = labels.items }) (tree report))) }
 {
     report
         .with_owned_snippets(alloc, other, labels)?
