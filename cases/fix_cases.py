@@ -1,19 +1,14 @@
 #!/usr/bin/env python3
-"""fix_cases.py: writes the cases of fixes to standard output: their pictures (job-fixes.jsonl), or with --applied what
-`job --fix` applies (job-applied.jsonl).
+"""fix_cases.py: writes the cases of what `job --fix` applies (job-applied.jsonl) to standard output.
 
 Sources and edits are drawn by chance from a fixed seed: overlapping, touching and empty ones, every kind of terminator,
-lines that are cut, with the picture and the text that the rules ask for (fix_model.py). What a line holds: run.py."""
+with the text that the rules ask for (fix_model.py). What a line holds: run.py."""
 import json
 import random
-import sys
 
-import cut_cases
-from fix_model import Edit, applied, fix_rows, refusal, taken
-from model import Settings, lines_of, snippet_rows
-from tree_model import Page, wrapped
+from fix_model import Edit, taken
+from model import lines_of
 
-PICTURES = 400
 TEXTS = 2000
 PIECES = ["a", "be", "fn x(y)", "é", "漢", "\t", "  ", "=1;", " ", "e\u0301"]
 INSERTED = ["", "", "x", "\n", "x\n", "a\nb", "\r", "\r\n", " ", "    ", "\t", "漢", "é=", "\n\n", "long text here"]
@@ -72,26 +67,6 @@ def edits_of(fix):
     return [Edit(it["offset"], it["length"], it["text"].encode()) for it in fix["edits"]]
 
 
-def picture(number):
-    dice = random.Random(number)
-    source = source_of(dice)
-    fixes = [fix_of(dice, source["text"]) for _ in range(dice.choice([1, 1, 1, 2]))]
-    report = {"message": "m", "source": source, "fixes": fixes}
-    page = Page(dice.choice([80, 80, 40]))
-    settings = Settings(dice.choice([0, 1, 1, 1, 2]), dice.choice([4, 4, 8]), dice.choice([None, None, 12, 24]))
-    words = ["--theme", "unicode_nocolor", "--width", str(page.width), "--context", str(settings.context)]
-    words += ["--tab", str(settings.tab)]
-    words += ["--line-columns", str(settings.line_columns)] if settings.line_columns is not None else []
-    data, rows = source["text"].encode(), ["  × m"]
-    if data and dice.random() < 0.3:
-        report["labels"] = [{"offset": 0, "length": 1}]
-        rows += snippet_rows(report["labels"], settings, source.get("name"), data)
-    for fix in fixes:
-        rows.append(wrapped(fix["message"], "  fix: ", " " * 7, page))
-        rows += fix_rows(edits_of(fix), settings, source.get("name"), data)
-    return ["job", *words], report, "".join(row + "\n" for row in rows), 0
-
-
 def text(number):
     dice = random.Random(-number)
     source = source_of(dice)
@@ -103,14 +78,12 @@ def text(number):
     return ["job", "--fix=all" if every else "--fix"], report, made.decode(), 0 if all(took) else 5
 
 
-def case(number, made, what):
-    words, report, wanted, status = made(number)
-    shown = {"what": what, "argv": words, "report": report}
+def case(number):
+    words, report, wanted, status = text(number)
+    shown = {"what": "applied fixes", "argv": words, "report": report}
     return {**shown, "stdout_text": wanted, "status": status, "stderr": ""}
 
 
 if __name__ == "__main__":
-    is_applied = sys.argv[1:] == ["--applied"]
-    made, what = (text, "applied fixes") if is_applied else (picture, "the picture of a fix")
-    for number in range(TEXTS if is_applied else PICTURES):
-        print(json.dumps(case(number, made, what), ensure_ascii=False))
+    for number in range(TEXTS):
+        print(json.dumps(case(number), ensure_ascii=False))

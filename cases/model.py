@@ -258,13 +258,12 @@ def is_near(limit, ends, cell):
     return any(abs(column - end) <= limit // 4 for column in columns for end in ends)
 
 
-def cut(limit, line, marks, ends=None):
-    """What is shown of a line's text around these columns, else around its marks, and its marks in the row."""
+def cut(limit, line, marks):
+    """What is shown of a line's text, and its marks in the row."""
     printed = [" " * (it.next_column - it.column) if it.character == "\t" else it.character for it in line.cells]
     if limit is None or line.width <= limit:
         return "".join(printed), marks
-    if ends is None:
-        ends = [end for mark in marks for end in (mark.start, mark.anchor, mark.after - 1)]
+    ends = [end for mark in marks for end in (mark.start, mark.anchor, mark.after - 1)]
     near, before = [], False
     for cell in line.cells:
         before = before if cell.column == cell.next_column else is_near(limit, ends, cell)

@@ -141,9 +141,11 @@ def body(report, source, chain, context):
         rows += fix_rows(fix, source)
     rows += [f"diagnostic code: {report['code']}"] if report.get("code") is not None else []
     rows += ["For more details, see:", report["url"]] if report.get("url") is not None else []
-    for it in report.get("related") or []:
+    related = report.get("related") or []
+    rows += [""] if related else []
+    for it in related:
         level = f"    Diagnostic severity: {severity(it)}"
-        rows += ["", TITLES[severity(it)] + it["message"], level, ""]
+        rows += [TITLES[severity(it)] + it["message"], level, ""]
         rows += body(it, it.get("source") or source, True, context)
     return rows
 

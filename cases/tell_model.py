@@ -1,11 +1,8 @@
-"""tell_model.py: a model of the rules of the JSON and the brief report (docs/RULES.md) for labels over several sources
-and for fixes, made without the programs. tell_cases.py makes reports by chance, and writes them as cases."""
+"""tell_model.py: a model of the rules of the JSON and the brief report (docs/RULES.md) for labels over several sources,
+and of fixes in JSON, made without the programs. tell_cases.py makes reports by chance, and writes them as cases."""
 import json
 
-from brief_cases import Refused, by_offset, is_accepted, one_row, place_at, position, spelled
-from fix_model import Edit, refusal
-from fix_model import by_offset as edits_by_offset
-from model import Source
+from brief_cases import Refused, by_offset, is_accepted, one_row, place_at, spelled
 from narrated_model import chain_of, sections
 
 # ---- JSON
@@ -80,38 +77,6 @@ def cause_rows(report, source, at):
     return rows + [f"{spelled(at)}note: caused by: {one_row(text)}" for text in report.get("causes") or []]
 
 
-def escaped(text):
-    made = ""
-    for byte in text.encode():
-        simple = {92: "\\\\", 34: '\\"', 10: "\\n", 9: "\\t"}.get(byte)
-        made += simple or (chr(byte) if 32 <= byte < 127 else f"\\{byte:03o}")
-    return made
-
-
-def byte_place(data, offset):
-    """Line and column of an offset, both from 1; terminators count as bytes too."""
-    source = Source(data, 4)
-    number = source.line_of(offset)
-    start = source.lines[number].start if number < len(source.lines) else len(data)
-    return f"{number + 1}:{offset - start + 1}"
-
-
-def fix_rows(fix, source, at):
-    title = f"fix: {one_row(fix['message'])}"
-    if source is None or not fix["edits"]:
-        return [spelled(at) + title]
-    data = source["text"].encode()
-    edits = edits_by_offset([Edit(it["offset"], it["length"], it["text"].encode()) for it in fix["edits"]])
-    why = refusal(data, edits)
-    if why:
-        return [spelled(at) + title, f"{spelled(at)}note: failed to apply fix: {why}"]
-    name, rows = source.get("name"), [spelled((source.get("name"), position(data, edits[0].offset))) + title]
-    for it in edits:
-        span = f"{byte_place(data, it.offset)}-{byte_place(data, it.end())}"
-        rows.append(f'fix-it:"{escaped(name or "")}":{{{span}}}:"{escaped(it.text.decode())}"')
-    return rows
-
-
 def brief_rows(report, inherited, chain):
     source = report.get("source") or inherited
     found = sorted_sections(report, source)
@@ -128,8 +93,6 @@ def brief_rows(report, inherited, chain):
         rows += [f"{spelled(place_at(it['source'], label))}note: {one_row(label['label'])}" for label in texts]
     rows += cause_rows(report, source, at) if chain else []
     rows += [f"{spelled(at)}help: {one_row(report['help'])}"] if report.get("help") is not None else []
-    for fix in report.get("fixes", []):
-        rows += fix_rows(fix, source, at)
     for it in report.get("related") or []:
         rows += brief_rows(it, source, chain)
     return rows
