@@ -1,3 +1,4 @@
 pub mod ClauseSteps
 pub mod SumSteps
 pub mod ColourSteps
+pub mod Wrapping

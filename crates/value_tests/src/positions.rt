@@ -94,7 +94,11 @@ fn ends_of_sources(rt: HostRuntime) {
     same(&rt, found(b"a\r", (0, 3), encoding), Some((0, 0, 1, 0)));
     same(&rt, found(b"\r\n", (1, 1), encoding), Some((0, 0, 1, 0)));
     same(&rt, found(b"\n\r", (1, 1), encoding), Some((1, 0, 2, 0)));
-    same(&rt, found("\u{feff}x".as_bytes(), (3, 1), encoding), Some((0, 1, 0, 2)));
+    same(
+        &rt,
+        found("\u{feff}x".as_bytes(), (3, 1), encoding),
+        Some((0, 1, 0, 2)),
+    );
 }
 
 fn spanned(numbers: Numbers) -> Option<(usize, usize)> {

@@ -1,4 +1,5 @@
 use Rattle.std.proofs.Common.{rules}
+use Rattle.miette_tree.specs.views.Report.{tree_of}
 use Rattle.miette_report.proofs.PictureSteps.{pictured, plain-settings, unrefused}
 use Rattle.miette_report.proofs.picture.draw.Goals as goal
 
@@ -10,6 +11,7 @@ returns-clause-ok g c =
 
 pub returns-in_err-render_report-clause-accepted : goal.returns-in_err-render_report-clause-accepted
 returns-in_err-render_report-clause-accepted g c = λ refused.
-    unrefused c.args.limit c.in-Ok.theme _ _ (plain-settings c.args.limit c.in-Ok.theme _ c.in-Ok.ensures
+    unrefused c.args.limit c.in-Ok.theme _
+    (tree_of _ _ c.args.report.now) (plain-settings c.args.limit c.in-Ok.theme _ c.in-Ok.ensures
     c.drawing-handler.ensures)
     (c.in_err-render_report.ensures.refused (search rules)) c.requires.reads
