@@ -36,7 +36,8 @@ use Rattle.callers.specs.Sums.{cause_arrow, depth_file, depth_labels, sum_tree}
 -- ---- of the handler and the tree that are known
 
 pub known : {H : Type 0} (P : Settings → LabelledSource → Type 0) (h : Handling H) (t : Tree)
-    → h ≡ without_highlighter narrow → t ≡ sum_tree → AllByRecursion (HoldsOfPrinted P h.settings) (diagnostics_of h.settings t)
+    → h ≡ without_highlighter narrow → t ≡ sum_tree → AllByRecursion (HoldsOfPrinted P h.settings)
+    (diagnostics_of h.settings t)
     → AllByRecursion (HoldsOfPrinted P narrow) (diagnostics_of narrow sum_tree)
 known P h t p q all =
     subst (λ u. AllByRecursion (HoldsOfPrinted P narrow) (diagnostics_of narrow u)) q

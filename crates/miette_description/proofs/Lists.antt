@@ -82,7 +82,8 @@ made_on : {A B : Type 0} (rest next : List A → B) (x : A) (o : Option (List A)
 made_on rest next x None h = refl
 made_on rest next x (Some xs) h = ap Some (h xs)
 
-pub one_made : {A B : Type 0} (reads : Data → Option A) (vs : List (Value Global)) (whole rest next : List A → B) (i : ℕ)
+pub one_made : {A B : Type 0} (reads : Data → Option A) (vs : List (Value Global)) (whole rest next : List A → B)
+    (i : ℕ)
     (v : Value Global) (x : A)
     → i < length vs → v ≡ get_or vs i v → reads (value_data v) ≡ Some x → ((xs : List A) → rest (x ∷ xs) ≡ next xs)
     → MadeSoFar reads vs whole rest i → MadeSoFar reads vs whole next (i + 1)

@@ -19,7 +19,8 @@ related_behind : (m : Diagnosis) (s : Option Source) (c : Cause) (r : Option Tre
 related_behind m s c None = refl
 related_behind m s c (Some r) = refl
 
-by_cause : (m : Diagnosis) (s : Option Source) (o : Option Cause) (r : Option Trees) (contexts : List (List ℕ)) (t : Tree)
+by_cause : (m : Diagnosis) (s : Option Source) (o : Option Cause) (r : Option Trees) (contexts : List (List ℕ))
+    (t : Tree)
     → option_map (λ c. with_cause c (tree m s (texts []) no_trees)) o ≡ Some t
     → option_map (λ c. wrapped_in contexts (tree m s c (unwrap_or r no_trees))) o
     ≡ Some (wrapped_in contexts (maybe_related r t))

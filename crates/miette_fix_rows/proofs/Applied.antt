@@ -86,7 +86,12 @@ pub ending_same : (olds news : List (List ℕ))
 ending_same olds news =
     let n : ℕ = common_behind olds news in
     let low : n ≤ length olds = omega (arith, common_within (reverse olds) (reverse news), length-reverse olds) in
-    let high : n ≤ length news = omega (arith, common_within_other (reverse olds) (reverse news), length-reverse news) in
+    let high : n ≤ length news = omega (
+      arith,
+      common_within_other (reverse olds)
+          (reverse news),
+      length-reverse news,
+    ) in
     ending_is n olds low ∙ ap reverse (common_same (reverse olds) (reverse news)) ∙ sym (ending_is n news high)
 
 drop_bytes : (k : ℕ) (ls : List (List ℕ)) → all_bytes (drop k ls) ≡ drop (bytes_of (take k ls)) (all_bytes ls)
@@ -98,7 +103,8 @@ drop_bytes (suc k) (l ∷ ls) =
     ∙ drop-drop (bytes_of (take k ls)) (length l) (l ++ all_bytes ls)
 
 -- a new text: what stays of the old one at the front, the added lines, and what stays at the end
-pub new_text : (old new : List ℕ) → new ≡ take (bytes_of (take (staying (line_texts old) (line_texts new)) (line_texts old))) old
+pub new_text : (old new : List ℕ) → new ≡ take
+    (bytes_of (take (staying (line_texts old) (line_texts new)) (line_texts old))) old
     ++ (all_bytes (parted (line_texts old) (line_texts new)).added
     ++ drop (bytes_of (take (old_until (line_texts old) (line_texts new)) (line_texts old))) old)
 new_text old new =

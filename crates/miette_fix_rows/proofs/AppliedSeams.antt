@@ -1,5 +1,6 @@
 -- Where blocks begin and end, lines of the applied text do.
-use Rattle.std.proofs.Common.{ℕ, zero, suc, ◌+◌, ◌-◌, ◌<◌, ◌≤◌, ◌≡◌, Bool, true, false, cond, ltb, List, [], ◌∷◌, ◌++◌, ◌&&◌}
+use Rattle.std.proofs.Common.{ℕ, zero, suc, ◌+◌, ◌-◌, ◌<◌, ◌≤◌, ◌≡◌, Bool, true, false, cond, ltb, List, [], ◌∷◌, ◌++◌}
+use Rattle.std.proofs.Common.{◌&&◌}
 use Rattle.std.proofs.Common.{length, take, drop, refl, sym, ap, ◌∙◌, subst, inl, inr, arith, append_assoc}
 use Rattle.std.specs.Prelude.{◌==◌, slice_index, slice_range}
 use Rattle.std.proofs.lemmas.Bool.{and_parts, cases_lt, lt-ltb, ltb-true}
@@ -270,5 +271,6 @@ seam_head source before q ((e ∷ es) ∷ bs) h low high end =
           ap (ends_line (slice_index source k))
           (head_text source e.text (text_from source (end_of e) (es ++ flat bs)) q o lt (omega (arith, inside)))
           ∙ end k n (omega (arith, lt, inside)))
-      | inr ge ↦ at_first source before q e es bs h (omega (arith, ge, low, from, start)) (omega (arith, ge, low, from, start))
+      | inr ge ↦ at_first source before q e es bs h (omega (arith, ge, low, from, start))
+          (omega (arith, ge, low, from, start))
     ]

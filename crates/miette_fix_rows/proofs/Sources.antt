@@ -108,7 +108,8 @@ source_from source before at (block ∷ bs) h low =
     ∙ source_from source (last_end block) at bs h.3
     (at_next source before at block bs h (omega (arith, low, order))))
     (λ f. ap lines_before (with_one source at c (changes_of source bs) f)
-    ∙ told_more (λ change. change.removed) (line_texts (slice_range source at c.from)) c (diff_from source c.to (changes_of source bs))
+    ∙ told_more (λ change. change.removed) (line_texts (slice_range source at c.from)) c
+    (diff_from source c.to (changes_of source bs))
     ∙ ap₂ (λ ls ms. line_texts (slice_range source at c.from) ++ (ls ++ ms)) p.removed
     (source_from source (last_end block) c.to bs h.3 (at_next source before c.to block bs h p.high))
     ∙ ap (λ ls. line_texts (slice_range source at c.from) ++ ls)

@@ -4,7 +4,8 @@ use Rattle.std.proofs.Common.{length, take, drop, refl, sym, ap, ◌∙◌, arit
 use Rattle.std.specs.Prelude.{nat_eq, slice_index, slice_range}
 use Rattle.miette_fix_rows.specs.rules.Hunks.{is_nil}
 use Rattle.std.proofs.lemmas.Bool.Decides.{nat_tests}
-use Rattle.std.proofs.lemmas.List.{append-nil, append_assoc, drop-take, length-drop, map_push, nil_from_length, take_rest, take-take, take_all}
+use Rattle.std.proofs.lemmas.List.{append-nil, append_assoc, drop-take, length-drop, map_push, nil_from_length}
+use Rattle.std.proofs.lemmas.List.{take_rest, take-take, take_all}
 use Rattle.miette_source_lines.specs.rules.Lines.{Line, IsCut, ends_line, with_byte, lines_from}
 use Rattle.miette_source_lines.specs.declared.lines.LineOfText.{LineOfText}
 use Rattle.miette_source_lines.specs.views.Walking.{IsFirst}
@@ -162,8 +163,10 @@ texts_take (b ∷ bs) (suc k) =
 pub texts_slice : (bs : List ℕ) (i j a b : ℕ) → i ≤ j → a ≡ bytes_of (take i (line_texts bs))
     → b ≡ bytes_of (take j (line_texts bs)) → line_texts (slice_range bs a b) ≡ drop i (take j (line_texts bs))
 texts_slice bs i j a b le e f =
-    let front : line_texts (take b bs) ≡ take j (line_texts bs) = ap (λ n. line_texts (take n bs)) f ∙ texts_take bs j in
-    let same : take i (line_texts (take b bs)) ≡ take i (line_texts bs) = ap (take i) front ∙ take-take i j (line_texts bs) le in
+    let front : line_texts (take b bs) ≡ take j (line_texts bs) = ap (λ n. line_texts (take n bs)) f
+    ∙ texts_take bs j in
+    let same : take i (line_texts (take b bs)) ≡ take i (line_texts bs) = ap (take i) front ∙ take-take i j
+    (line_texts bs) le in
     let at : a ≡ bytes_of (take i (line_texts (take b bs))) = e ∙ ap bytes_of (sym same) in
     let le2 : a ≤ b = omega (
       arith,
@@ -175,7 +178,8 @@ texts_slice bs i j a b le e f =
     let s : b ≡ a + (b - a) = omega (arith, le2) in
     let cut : drop a (take b bs) ≡ slice_range bs a b =
     ap (λ n. drop a (take n bs)) s ∙ drop-take a (b - a) bs in
-    ap line_texts (sym cut) ∙ ap (λ n. line_texts (drop n (take b bs))) at ∙ texts_drop (take b bs) i ∙ ap (drop i) front
+    ap line_texts (sym cut) ∙ ap (λ n. line_texts (drop n (take b bs))) at ∙ texts_drop (take b bs) i ∙ ap
+    (drop i) front
 
 -- ---- first lines
 

@@ -13,7 +13,8 @@ abbrev pub told : (Change → List (List ℕ)) → Diff → List (List ℕ)
 told f d = of_hunks f d.hunks ++ d.behind
 
 kept_told : (f : Change → List (List ℕ)) (lines : List (List ℕ)) (hunks : List Hunk) (behind : List (List ℕ))
-    → of_hunks f (onto_kept lines hunks behind).hunks ++ (onto_kept lines hunks behind).behind ≡ lines ++ (of_hunks f hunks ++ behind)
+    → of_hunks f (onto_kept lines hunks behind).hunks ++ (onto_kept lines hunks behind).behind ≡ lines ++
+    (of_hunks f hunks ++ behind)
 kept_told f lines [] behind = refl
 kept_told f lines (hunk ∷ hunks) behind =
     ap (λ ls. (ls ++ of_hunks f hunks) ++ behind) (append_assoc lines hunk.kept (flat_map f hunk.changes))

@@ -64,7 +64,12 @@ parted_ends olds news =
     let ls : List (List ℕ) = take (length olds - n) olds in
     let ms : List (List ℕ) = take (length news - n) news in
     let low : n ≤ length olds = omega (arith, common_within (reverse olds) (reverse news), length-reverse olds) in
-    let high : n ≤ length news = omega (arith, common_within_other (reverse olds) (reverse news), length-reverse news) in
+    let high : n ≤ length news = omega (
+      arith,
+      common_within_other (reverse olds)
+          (reverse news),
+      length-reverse news,
+    ) in
     let none : common (reverse ls) (reverse ms) ≡ 0 =
     ap₂ common (reverse_front n olds low) (reverse_front n news high) ∙ common_rest (reverse olds) (reverse news) in
     let cut : common (reverse (drop b ls)) (reverse (drop b ms))

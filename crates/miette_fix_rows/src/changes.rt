@@ -1,11 +1,13 @@
 //! What a fix changes, block by block: the removed lines and the added ones.
 
-ghost use Rattle.std.specs.Prelude.{◌≡◌, ◌≢◌, ◌≤◌, ◌<◌, ◌+◌, ◌^◌, ◌&&◌, length, reverse, slice_range, IfOk, IfErr, None, Some};
+ghost use Rattle.std.specs.Prelude.{◌≡◌, ◌≢◌, ◌≤◌, ◌<◌, ◌+◌, ◌^◌, ◌&&◌, length, reverse, slice_range, IfOk, IfErr};
+ghost use Rattle.std.specs.Prelude.{None, Some};
 ghost use Rattle.miette_fixes.specs.declared.error.FixError.TheVariants.{Memory};
 ghost use Rattle.miette_fixes.specs.rules.Applying.{refusal};
 ghost use Rattle.miette_fixes.specs.views.Ordered.{FitFrom, edits_of};
 ghost use Rattle.miette_fix_rows.specs.rules.Blocks.{blocks, bytes_of, line_texts};
-ghost use Rattle.miette_fix_rows.specs.rules.Hunks.{change_at, change_of, changes, changes_of, is_nil, onto_changes, parted};
+ghost use Rattle.miette_fix_rows.specs.rules.Hunks.{change_at, change_of, changes, changes_of, is_nil, onto_changes};
+ghost use Rattle.miette_fix_rows.specs.rules.Hunks.{parted};
 ghost use Rattle.miette_fix_rows.specs.steps.Parting.{AreSizes, IsSized};
 ghost use Rattle.miette_fix_rows.specs.steps.Sharing.{IsBlock};
 ghost use Rattle.miette_fix_rows.specs.views.LineLists.{texts_of};
@@ -211,8 +213,9 @@ fn ordered_changes<'a>(
     Ok(list)
 }
 
-/// What a fix changes of a source, block by block: edits that share a line are one block, and the lines that its old and
-/// its new text have in common at the end, and then at the front, aren't told. Takes as long as the blocks have lines.
+/// What a fix changes of a source, block by block: edits that share a line are one block, and the lines that its old
+/// and its new text have in common at the end, and then at the front, aren't told. Takes as long as the blocks have
+/// lines.
 ///
 /// # Errors
 /// `OutOfBounds` where an edit ends behind the source's end, else `Overlap` where two edits overlap; `Memory` where

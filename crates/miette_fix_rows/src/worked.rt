@@ -36,7 +36,8 @@ pub fn worked_pictures()
         ∷ codes " 3 + D"
         ∷ codes "   ╰────"
         ∷ [] }
-    ensures far_apart { picture (codes "1\n2\n3\n4\n5\n6\n7\n8\n9\n10\n") (edit 2 0 (codes "b\n") ∷ edit 18 2 (codes "x") ∷ [])
+    ensures far_apart { picture (codes "1\n2\n3\n4\n5\n6\n7\n8\n9\n10\n")
+        (edit 2 0 (codes "b\n") ∷ edit 18 2 (codes "x") ∷ [])
         ≡ codes "   ╭─[f:2:1]"
         ∷ codes " 1 │ 1"
         ∷ codes " 2 + b"

@@ -98,7 +98,8 @@ report_written inherited (tree m s c rs) source labels related old b p a q r new
       answers = answers;
       possible = ((here.possible, more.possible), there.possible);
       appended = joined old b p a q r new (head_text m) (reasons_text (causes_of c) m)
-          (places_text here.fault own (given_labels m.labels)) (attached_text more.faults m) (key_text (codes "related"))
+          (places_text here.fault own (given_labels m.labels)) (attached_text more.faults m)
+          (key_text (codes "related"))
           (items_text (reports_json own there.answers rs)) f here.appended more.appended g
           there.appended i
           ∙ ap (λ l. old ++ l) (sym (report_parts inherited answers (tree m s c rs)));

@@ -1,5 +1,6 @@
 -- Further sources and fixes, written one after the other.
-use Rattle.std.proofs.Common.{◌≡◌, ℕ, suc, ◌+◌, ◌<◌, ◌≤◌, List, [], ◌∷◌, ◌++◌, length, map, drop, get_or, Bool, true, false}
+use Rattle.std.proofs.Common.{◌≡◌, ℕ, suc, ◌+◌, ◌<◌, ◌≤◌, List, [], ◌∷◌, ◌++◌, length, map, drop, get_or, Bool, true}
+use Rattle.std.proofs.Common.{false}
 use Rattle.std.proofs.Common.{Some, None, refl, sym, ap, subst, ◌∙◌, append_assoc, append-nil, add-one, codes}
 use Rattle.std.specs.Prelude.{if◌then◌else◌, unwrap_or}
 use Rattle.std.proofs.Math.Seq.{drop-cons}
@@ -42,7 +43,8 @@ edit_parts out a b c new first span second text e f g h =
     (f ∙ ap (λ l. l ++ span) e)) ∙ simp append_assoc
 
 -- the name that was found
-pub name_found : (source : Source) (labels : List Label) (name : List ℕ) (n : NamesFile (Some source) labels (Some name))
+pub name_found : (source : Source) (labels : List Label) (name : List ℕ)
+    (n : NamesFile (Some source) labels (Some name))
     → name ≡ file_name n.fault labels source
 name_found source labels name n = ap (λ o. unwrap_or o []) n.is
 

@@ -7,7 +7,8 @@ use Rattle.miette_json.specs.rules.Json.{member}
 use Rattle.miette_json.specs.rules.Json.{quoted_text, json_text, items_text, more_members_text}
 use Rattle.miette_protocol.specs.rules.Reading.{Source}
 use Rattle.miette_tree.specs.rules.Tree.{Tree, tree, head, source_of, cause_of, causes_of, related_of, effective}
-use Rattle.miette_json.specs.rules.JsonReport.{NameAnswers, own_faults, related_answers, maybe, maybe_list, strings, labels_json, file_name}
+use Rattle.miette_json.specs.rules.JsonReport.{NameAnswers, own_faults, related_answers, maybe, maybe_list, strings}
+use Rattle.miette_json.specs.rules.JsonReport.{labels_json, file_name}
 use Rattle.miette_json.specs.rules.JsonReport.{report_json, reports_json, sections_json, fixes_json}
 use Rattle.miette_tree.specs.rules.DiagnosticParts.{severity_text, given_labels}
 use Rattle.miette_json.specs.steps.JsonParts.{name_text, member_before, key_text, maybe_text, rest_text, start_text}
@@ -105,7 +106,8 @@ pub report_parts : (inherited : Option Source) (a : NameAnswers) (t : Tree) →
     json_text (report_json inherited a t)
     ≡ head_text (head t) ++ (reasons_text (causes_of (cause_of t)) (head t)
     ++ (places_text (own_faults a).own (effective (source_of t) inherited) (given_labels (head t).labels)
-    ++ (attached_text (own_faults a).further (head t) ++ (key_text (codes "related") ++ (91 ∷ (items_text (reports_json (effective (source_of t) inherited)
+    ++ (attached_text (own_faults a).further (head t) ++
+    (key_text (codes "related") ++ (91 ∷ (items_text (reports_json (effective (source_of t) inherited)
     (related_answers a) (related_of t)) ++ 125 ∷ []))))))
 report_parts inherited a (tree m s c r) =
     parts (codes "message") (codes "code") (codes "severity") (codes "causes") (codes "url") (codes "help")

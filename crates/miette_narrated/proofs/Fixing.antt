@@ -1,6 +1,7 @@
 -- Fixes over a source that was read as a whole.
 use Rattle.std.proofs.Common.{◌≡◌, ℕ, ◌+◌, ◌-◌, ◌<◌, ◌≤◌, true, false, List, [], ◌∷◌, ◌++◌, length}
-use Rattle.std.proofs.Common.{Option, Some, None, refl, sym, ap, ap₂, ◌∙◌, arith, subst, append-nil, append_assoc, inl, inr}
+use Rattle.std.proofs.Common.{Option, Some, None, refl, sym, ap, ap₂, ◌∙◌, arith, subst, append-nil, append_assoc, inl}
+use Rattle.std.proofs.Common.{inr}
 use Rattle.std.proofs.Common.{◌≢◌, codes}
 use Rattle.std.specs.Prelude.{◌==◌, if◌then◌else◌, slice_range, IsUtf8}
 use Rattle.std.specs.Option.{option_map_or}
@@ -35,7 +36,8 @@ never_both : {X : Type 0} (o : Option X) (x : X) → o ≡ None → o ≡ Some x
 never_both o x e f = cc
 
 -- none of edits that can be applied ends behind the end
-pub applied_inside : (n : ℕ) (edits : List Replacement) → refusal n edits ≡ None → list_any (ends_behind n) edits ≡ false
+pub applied_inside : (n : ℕ) (edits : List Replacement) → refusal n edits ≡ None → list_any (ends_behind n) edits
+    ≡ false
 applied_inside n edits e =
     by_cases {C = list_any (ends_behind n) edits ≡ false} (list_any (ends_behind n) edits)
     (λ t. absurd (never_both (refusal n edits) OutOfRange e (rw t refl)))

@@ -152,7 +152,8 @@ same_snippets context (Some source) fails (l ∷ ls) h e =
     (grouped_none context source fails (in_order (l ∷ ls)) (h.always e))
 
 same_further : (context : ℕ) (fails : List (List Bool)) (sections : List Section) → AreFurther fails sections
-    → holds_further always_reads sections ≡ true → further_rows context fails sections ≡ further_rows context [] sections
+    → holds_further always_reads sections ≡ true → further_rows context fails sections
+    ≡ further_rows context [] sections
 same_further context fails [] h e = refl
 same_further context fails (s ∷ ss) h e =
     let p = and_parts (always_reads (Some s.source) s.labels) (holds_further always_reads ss) e in

@@ -1,5 +1,6 @@
 -- What a read with as many lines as can be asked for lends of a source.
-use Rattle.std.proofs.Common.{◌≡◌, ℕ, suc, ◌+◌, ◌-◌, ◌<◌, ◌≤◌, ◌^◌, List, [], ◌∷◌, length, Bool, true, false, ap, ◌∙◌, arith}
+use Rattle.std.proofs.Common.{◌≡◌, ℕ, suc, ◌+◌, ◌-◌, ◌<◌, ◌≤◌, ◌^◌, List, [], ◌∷◌, length, Bool, true, false, ap, ◌∙◌}
+use Rattle.std.proofs.Common.{arith}
 use Rattle.std.proofs.lemmas.List.{take_all}
 use Rattle.std.specs.Prelude.{slice_index, slice_range, if◌then◌else◌}
 use Rattle.miette_protocol.specs.rules.Reading.{Source, reading_end}
@@ -20,7 +21,8 @@ either false l b at n ls h = joined b at n ls h
 -- there are no more lines than bytes
 fewer : (at : ℕ) (bytes : List ℕ) → length (lines_from at bytes) ≤ length bytes
 fewer at [] = omega arith
-fewer at (b ∷ bs) = either (ends_line b (slice_index bs 0)) _ b at (length bs) (lines_from (at + 1) bs) (fewer (at + 1) bs)
+fewer at (b ∷ bs) = either (ends_line b (slice_index bs 0)) _ b at (length bs) (lines_from (at + 1) bs)
+    (fewer (at + 1) bs)
 
 pub whole : (source : Source) → length source.bytes < 2 ^ 64 → whole_text source ≡ source.bytes
 whole source h =

@@ -69,7 +69,8 @@ pub fn run_fixes<R: Read, W: Write>(
     ensures write_failed { IsTrue writer.new.failed ↔ (result ≡ Err Fault.Write) }
     // After a write fault a beginning of the text was taken.
     ensures beginning { (result ≡ Err Fault.Write) → IfSome (R.remaining reader.old.inner) (λ bytes.
-        Fixes all bytes (λ text left. TakesBeginning (W.contents writer.old.inner) (W.contents writer.new.inner) text)) }
+        Fixes all bytes (λ text left. TakesBeginning (W.contents writer.old.inner)
+        (W.contents writer.new.inner) text)) }
     ensures called { ¬ (result ≡ Err Fault.Usage) }
     ensures told { ¬ (result ≡ Err Fault.Refused) }
     // After any other error nothing was written.

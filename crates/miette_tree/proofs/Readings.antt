@@ -70,7 +70,8 @@ told_reads t q = tree_reads None t tt q
 -- what a test finds of a report beside its further sources
 pub own_holds : (test : Option Source → List Label → Bool) (m : Diagnosis) (s inherited : Option Source) (c : Cause)
     (r : Trees) → holds_of test inherited (tree m s c r) ≡ true
-    → (test (effective s inherited) (given_labels m.labels) ≡ true) × (holds_of_all test (effective s inherited) r ≡ true)
+    → (test (effective s inherited) (given_labels m.labels) ≡ true) ×
+    (holds_of_all test (effective s inherited) r ≡ true)
 own_holds test m s inherited c r e =
     let here = test (effective s inherited) (given_labels m.labels) in
     let below = holds_of_all test (effective s inherited) r in

@@ -112,7 +112,8 @@ impl<D: Diagnostic, S: SourceCode> From<MietteDiagnostic> for Report<D, S> {
     ghost use Rattle.miette_tree.specs.views.Report.{tree_of};
     ghost use Rattle.miette_tree.specs.views.Kind.{kind_of, built};
 
-    ghost from_gives = { λ d r. (tree_of D.meaning S.source r ≡ alone (plain_diagnosis (meaning_of d))) × (kind_of r ≡ built d) };
+    ghost from_gives = { λ d r. (tree_of D.meaning S.source r ≡ alone (plain_diagnosis (meaning_of d))) ×
+        (kind_of r ≡ built d) };
 
     fn from(diagnostic: MietteDiagnostic) -> Report<D, S> {
         Report::from_innermost(Innermost::Built(diagnostic))

@@ -1,5 +1,6 @@
 -- How many reports there are of each severity, and how that is told.
-use Rattle.std.specs.Prelude.{ℕ, ◌+◌, ◌-◌, ◌^◌, min, List, [], ◌++◌, Option, None, Some, if◌then◌else◌, nat_eq, codes, decimal}
+use Rattle.std.specs.Prelude.{ℕ, ◌+◌, ◌-◌, ◌^◌, min, List, [], ◌++◌, Option, None, Some, if◌then◌else◌, nat_eq, codes}
+use Rattle.std.specs.Prelude.{decimal}
 use Rattle.miette_protocol.specs.declared.protocol.Severity.{Severity}
 use Rattle.miette_protocol.specs.declared.protocol.Severity.TheVariants.{Advice, Warning, Error}
 use Rattle.miette.specs.declared.reporter.counts.Counts.{Counts}

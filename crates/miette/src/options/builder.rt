@@ -154,8 +154,8 @@ impl<H: Highlighter> MietteHandlerOpts<H> {
         self
     }
 
-    /// How many columns a wrapped row may have; else as many as the terminal has, or 80. 0 is taken as it is: each letter
-    /// of a wrapped text stands in a row of its own.
+    /// How many columns a wrapped row may have; else as many as the terminal has, or 80. 0 is taken as it is: each
+    /// letter of a wrapped text stands in a row of its own.
     pub fn width(mut self, width: usize) -> Self
         ensures { result ≡ record self { width = Some width } }
     {
@@ -268,8 +268,8 @@ impl<H: Highlighter> MietteHandlerOpts<H> {
         self
     }
 
-    /// Whether reports are narrated or pictures. This counts before all else that is said of it, but `force_brief`: false
-    /// asks for pictures, also where the terminal's user refuses graphics.
+    /// Whether reports are narrated or pictures. This counts before all else that is said of it, but `force_brief`:
+    /// false asks for pictures, also where the terminal's user refuses graphics.
     pub fn force_narrated(mut self, force: bool) -> Self
         ensures { result ≡ record self { narrated = Some force } }
     {

@@ -215,8 +215,8 @@ impl<T: ReportHandler, W: Write, F: Write> Reporter<T, W, F> {
     }
 
     /// Ends the run: the array's bracket and the summary are written, where there are some. The status is 0 where no
-    /// error was reported and all was written, else 1. Where a report or the end wasn't written, `faults` is told why, by
-    /// the row of `print_on`. A run is ended once.
+    /// error was reported and all was written, else 1. Where a report or the end wasn't written, `faults` is told why,
+    /// by the row of `print_on`. A run is ended once.
     pub fn finish(&mut self) -> ExitCode
         ensures ended { (self.new.failure ≡ None) → Appends (W.contents self.old.outputs.writer)
             (W.contents self.new.outputs.writer)

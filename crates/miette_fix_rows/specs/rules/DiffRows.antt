@@ -169,8 +169,8 @@ rows_unless s source edits (Some error) = refused_row s (error_name error) ∷ [
 rows_unless s source edits None =
     rows_of_frames s source (by_offset edits) (frames_of s.layout.context_lines (diff source.bytes edits))
 
--- The rows below a fix's message: none without edits; the row of a refusal, also where the read of the edits' lines fails
--- with `IoError`; the frames, none where nothing changes.
+-- The rows below a fix's message: none without edits; the row of a refusal, also where the read of the edits' lines
+-- fails with `IoError`; the frames, none where nothing changes.
 abbrev pub fix_rows : SnippetSettings → Source → Bool → List Replacement → List Row
 fix_rows s source read_fails [] = []
 fix_rows s source read_fails (edit ∷ edits) =

@@ -152,7 +152,8 @@ ends_at (mark ∷ marks) = mark.from ∷ (mark.until - 1) ∷ ends_at marks
 -- the column at which an edit stands in a line, at its start where it stands before the line
 abbrev pub column_in : SnippetSettings → ℕ → List ℕ → Span → ℕ
 column_in s start line span =
-    first_column (line_cells s start line) (start + length (text_of_line line)) (cells_width 0 (line_cells s start line))
+    first_column (line_cells s start line) (start + length (text_of_line line))
+    (cells_width 0 (line_cells s start line))
     (max start span.offset)
 
 -- The ends of a changed line: the first and the last column of what each edit deletes (inserts) there, and where an

@@ -41,8 +41,8 @@ abbrev pub parted : List (List ℕ) → List (List ℕ) → Parted
 parted olds news =
     parted_at olds news (common_behind olds news) (common_before olds news (common_behind olds news))
 
--- What a block changes: the offsets from which and up to which its removed lines stand in the source, where it points to,
--- and its removed and added lines.
+-- What a block changes: the offsets from which and up to which its removed lines stand in the source, where it points
+-- to, and its removed and added lines.
 pub record Change : Type 0 where
   pub from : ℕ
   pub to : ℕ

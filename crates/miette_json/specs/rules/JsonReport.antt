@@ -107,7 +107,8 @@ section_json fault s labels = object (member (codes "filename") (string (file_na
 abbrev pub sections_json : List Bool → List Section → Items
 sections_json faults [] = no_items
 sections_json faults (section ∷ sections) =
-    item (section_json (first_fault faults) section.source section.labels) (sections_json (later_faults faults) sections)
+    item (section_json (first_fault faults) section.source section.labels)
+    (sections_json (later_faults faults) sections)
 
 -- edits as they are given, whether they can be applied or not
 abbrev pub edit_json : Replacement → Json

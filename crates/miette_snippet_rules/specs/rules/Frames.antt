@@ -67,7 +67,8 @@ location s (Some name) several place =
     (if s.layout.primary_start then chars name ++ codes ":" ++ place_text place else chars name)
     ∷ plain_run s.width (codes "]") ∷ []
 location s None several place =
-    if (several || s.layout.one_line_start) && s.layout.primary_start then plain_run s.width (codes "[" ++ place_text place ++ codes "]") ∷ []
+    if (several || s.layout.one_line_start) && s.layout.primary_start then plain_run s.width
+    (codes "[" ++ place_text place ++ codes "]") ∷ []
     else plain_run s.width (replicate 3 s.theme.characters.hbar) ∷ []
 
 abbrev pub location_of : SnippetSettings → Option (List ℕ) → Bool → Option Place → Row

@@ -22,7 +22,8 @@ module _ {D S : Type 0} (means : D → Meaning) (is : S → Source) where
   -- the report of a report that was not written: that of refused memory, or what the error prints
   abbrev pub IsUnwritten : RenderError → Report D S → Type 0
   IsUnwritten unwritten.Memory r = IsRefused r
-  IsUnwritten unwritten.Refused r = (tree_of means is r ≡ alone (plain_diagnosis (message_alone (render_text unwritten.Refused))))
+  IsUnwritten unwritten.Refused r = (tree_of means is r ≡ alone
+      (plain_diagnosis (message_alone (render_text unwritten.Refused))))
       × (kind_of r ≡ message)
 
   -- a text in front of a report, or with no report behind it

@@ -57,7 +57,8 @@ push_report-returns-clause-text g t c =
     let inherited = option_map (shown_source g.S.SourceCode.source) c.args.inherited in
     on_ok_weaker c.push_related.result (λ h. report_told c.args.context inherited value _ _ _ _ _ _ _
     c.own_or-source.ensures c.related.ensures.value
-    c.in_ok-push_titled.ensures c.in_ok-push_causes.ensures c.in_ok-push_below.ensures.text h) c.push_related.ensures.text
+    c.in_ok-push_titled.ensures c.in_ok-push_causes.ensures c.in_ok-push_below.ensures.text h)
+    c.push_related.ensures.text
 
 pub push_report-returns-in_err-push_below-clause-refused :
     goal.push_report-returns-in_err-push_below-clause-refused
