@@ -39,13 +39,13 @@ pub clean_append : (x y : List ℕ) → IsClean x → IsClean y → IsClean (x +
 clean_append [] y h k = k
 clean_append (c ∷ x) y h k = clean_cons c (x ++ y) (clean_first c x h) (clean_append x y (clean_rest c x h) k)
 
-clean_take : (n : ℕ) (text : List ℕ) → IsClean text → IsClean (take n text)
+pub clean_take : (n : ℕ) (text : List ℕ) → IsClean text → IsClean (take n text)
 clean_take zero text h = refl
 clean_take (suc n) [] h = refl
 clean_take (suc n) (c ∷ text) h = clean_cons c (take n text) (clean_first c text h)
     (clean_take n text (clean_rest c text h))
 
-clean_drop : (n : ℕ) (text : List ℕ) → IsClean text → IsClean (drop n text)
+pub clean_drop : (n : ℕ) (text : List ℕ) → IsClean text → IsClean (drop n text)
 clean_drop zero text h = h
 clean_drop (suc n) [] h = refl
 clean_drop (suc n) (c ∷ text) h = clean_drop n text (clean_rest c text h)

@@ -67,7 +67,7 @@ onto_clean s (next ∷ later) h k =
     (λ y. rw y (codes_append s.cells next.cells h k.0, k.1))
     (λ n. rw n (h, k))
 
-stretches_clean : (near : Cell → Bool) (before : Bool) (cells : List Cell) → AreCleanCells cells
+pub stretches_clean : (near : Cell → Bool) (before : Bool) (cells : List Cell) → AreCleanCells cells
     → AllByRecursion IsCleanStretch (stretches near before cells)
 stretches_clean near before [] h = tt
 stretches_clean near before (c ∷ cs) h =

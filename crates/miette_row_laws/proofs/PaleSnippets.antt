@@ -62,13 +62,13 @@ faded hs s = restyled s (faded_styles hs)
 
 module _ (P : Type 0) (s : SnippetSettings) (hs : List Style) (bare : AreAllPlain hs)
     (clean : P → AreCleanDrawings s.theme.characters) where
-  pale_unstyled : (text : List ℕ) → (P → IsClean text) → PaleRow P (plain_run s.width text ∷ [])
+  pub pale_unstyled : (text : List ℕ) → (P → IsClean text) → PaleRow P (plain_run s.width text ∷ [])
       (plain_run s.width text ∷ [])
   pale_unstyled text h = pale_cons P (pale_styled P s.width plain text h) (pale_nil P)
 
   -- ---- what stands before gutters
 
-  pale_number_start : (w number : ℕ) → PaleRow P (number_start (faded hs s) w number) (number_start s w number)
+  pub pale_number_start : (w number : ℕ) → PaleRow P (number_start (faded hs s) w number) (number_start s w number)
   pale_number_start w number =
       pale_cons P (pale_blank P s 1)
       (pale_cons P (pale_styled P s.width s.theme.styles.linum
@@ -80,7 +80,7 @@ module _ (P : Type 0) (s : SnippetSettings) (hs : List Style) (bare : AreAllPlai
       (λ p. clean_cons 32 (s.theme.characters.vbar ∷ 32 ∷ []) refl
       (clean_cons s.theme.characters.vbar (32 ∷ []) (clean p).vbar refl))))
 
-  pale_other_start : (w : ℕ) → PaleRow P (other_start (faded hs s) w) (other_start s w)
+  pub pale_other_start : (w : ℕ) → PaleRow P (other_start (faded hs s) w) (other_start s w)
   pale_other_start w =
       pale_cons P (pale_blank P s (w + 2))
       (pale_unstyled (s.theme.characters.vbar_break ∷ 32 ∷ []) (λ p. clean_cons s.theme.characters.vbar_break (32 ∷ [])
@@ -117,7 +117,7 @@ module _ (P : Type 0) (s : SnippetSettings) (hs : List Style) (bare : AreAllPlai
   pale_location_of name several None h = pale_nil P
   pale_location_of name several (Some place) h = pale_location name several place h
 
-  pale_top : (w : ℕ) (name : Option (List ℕ)) (several : Bool) (place : Option Place) → (P → IfSome name IsCleanText)
+  pub pale_top : (w : ℕ) (name : Option (List ℕ)) (several : Bool) (place : Option Place) → (P → IfSome name IsCleanText)
       → PaleRow P (top_row_of (faded hs s) w name several place) (top_row_of s w name several place)
   pale_top w name several place h =
       pale_cons P (pale_blank P s (w + 2))
@@ -126,7 +126,7 @@ module _ (P : Type 0) (s : SnippetSettings) (hs : List Style) (bare : AreAllPlai
       (clean_cons s.theme.characters.hbar [] (clean p).hbar refl)))
       (pale_location_of name several place h))
 
-  pale_bottom : (w : ℕ) → PaleRow P (bottom_row (faded hs s) w) (bottom_row s w)
+  pub pale_bottom : (w : ℕ) → PaleRow P (bottom_row (faded hs s) w) (bottom_row s w)
   pale_bottom w =
       pale_cons P (pale_blank P s (w + 2))
       (pale_unstyled (s.theme.characters.lbot ∷ replicate 4 s.theme.characters.hbar)

@@ -1,0 +1,2 @@
+pub mod CleanLines
+pub mod PaleFixes

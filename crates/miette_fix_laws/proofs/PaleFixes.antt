@@ -1,0 +1,320 @@
+-- The rows of a fix in their styles, and the same rows in plain ones.
+use Rattle.std.proofs.Common.{◌≡◌, ℕ, ◌+◌, ◌-◌, Bool, true, false, if◌then◌else◌, List, [], ◌∷◌, ◌++◌, map, length}
+use Rattle.std.proofs.Common.{replicate, decimal, codes, Option, Some, None, IfSome, refl, sym, ap, ◌∙◌, subst}
+use Rattle.std.specs.Prelude.{nat_lt}
+use Rattle.std.specs.List.{AllByRecursion, filter, prefix_len}
+use Rattle.miette_basics.proofs.Cases.{by_cases}
+use Rattle.miette_cells.specs.rules.Cells.{Cell, characters}
+use Rattle.miette_fixes.specs.declared.error.FixError.{FixError}
+use Rattle.miette_fixes.specs.declared.error.FixError.TheVariants.{OutOfBounds, Overlap, Memory}
+use Rattle.miette_fixes.specs.rules.Applying.{by_offset, refusal}
+use Rattle.miette_fixes.specs.rules.Edits.{Replacement}
+use Rattle.miette_fix_rows.specs.rules.DiffFrames.{DiffFrame, DiffLine, Standing, added, frames_of, kept, removed}
+use Rattle.miette_fix_rows.specs.rules.DiffRows.{ChangedLine, DiffContext, added_line, before_some, changed_rows}
+use Rattle.miette_fix_rows.specs.rules.DiffRows.{context_of, error_name, fix_rows, frame_rows, frame_width, kept_row}
+use Rattle.miette_fix_rows.specs.rules.DiffRows.{marks_row, past, place_at, refused_row, removed_line, row_if_some}
+use Rattle.miette_fix_rows.specs.rules.DiffRows.{rows_of_frames, rows_of_line, rows_of_lines, rows_unless, sign_start}
+use Rattle.miette_fix_rows.specs.rules.DiffRows.{text_row}
+use Rattle.miette_fix_rows.specs.rules.DiffTexts.{Painted, cut_around, edit_marks, has_bytes, line_cells, line_ends}
+use Rattle.miette_fix_rows.specs.rules.DiffTexts.{line_text, look_alike, painted, part_in, parts_in, pieces, sign_runs}
+use Rattle.miette_fix_rows.specs.rules.DiffTexts.{text_of_line}
+use Rattle.miette_fix_rows.specs.rules.Hunks.{diff}
+use Rattle.miette_labels.specs.rules.Answers.{Highlight}
+use Rattle.miette_labels.specs.rules.Labels.{DrawnLabel}
+use Rattle.miette_page.specs.rules.Rows.{Row, glyphs_of, glyph_of, plain_run, styled_run}
+use Rattle.miette_protocol.specs.rules.Reading.{Source, Span}
+use Rattle.miette_snippet_rules.specs.rules.CutLines.{Stretch, bytes_in, cut_runs, dots, is_kept, is_near, pieces_within}
+use Rattle.miette_snippet_rules.specs.rules.CutLines.{shown_marks, shown_runs, stretches}
+use Rattle.miette_snippet_rules.specs.rules.Drawing.{blank}
+use Rattle.miette_snippet_rules.specs.rules.Frames.{bottom_row, number_start, other_start, top_row_of}
+use Rattle.miette_snippet_rules.specs.rules.Marks.{Mark, marks}
+use Rattle.miette_snippet_rules.specs.rules.PrintedCells.{cells_beyond, cells_width, line_runs}
+use Rattle.miette_snippet_rules.specs.rules.Settings.{SnippetSettings}
+use Rattle.miette_source_lines.specs.rules.Lines.{is_text}
+use Rattle.miette_style.specs.declared.style.Style.{Style}
+use Rattle.miette_style.specs.rules.Styles.{plain}
+use Rattle.miette_style.specs.rules.Themes.{Styles}
+use Rattle.miette_row_laws.specs.laws.Clean.{AreCleanDrawings, IsClean, IsCleanCode, IsCleanSource, IsCleanText}
+use Rattle.miette_row_laws.specs.laws.Fading.{AreAllPlain, ArePlain, IsPlainRow, restyled}
+use Rattle.miette_row_laws.proofs.Bleaching.{filter_bleached, marks_bleached}
+use Rattle.miette_row_laws.proofs.CleanTexts.{AreCleanCells, clean_append, clean_cells, clean_characters, clean_cons}
+use Rattle.miette_row_laws.proofs.CleanTexts.{clean_copies, clean_decimal, clean_replicate, clean_take}
+use Rattle.miette_row_laws.proofs.CutFading.{IsCleanStretch, pale_shown, shown_bleached, stretches_clean}
+use Rattle.miette_row_laws.proofs.PaleSnippets.{faded, pale_bottom, pale_number_start, pale_other_start, pale_top}
+use Rattle.miette_row_laws.proofs.PaleSnippets.{pale_unstyled}
+use Rattle.miette_row_laws.proofs.Paling.{PaleRow, PaleRows, PaleRun, all_append, bleached, bleached_mark, pale_append}
+use Rattle.miette_row_laws.proofs.Paling.{pale_blank, pale_cons, pale_nil, pale_styled, rows_append, rows_cons, rows_nil}
+use Rattle.miette_row_laws.proofs.PlainStyles.{are_faded}
+use Rattle.miette_fix_laws.proofs.CleanLines.{AreCleanEdits, AreCleanShown, IsCleanFrame, frames_clean}
+
+-- ---- pieces in plain
+
+abbrev ArePlainPieces : List Highlight → Type 0
+ArePlainPieces hs = AllByRecursion (λ (h : Highlight). h.style ≡ plain) hs
+
+either_plain : (b : Bool) → (if b then plain else plain) ≡ plain
+either_plain true = refl
+either_plain false = refl
+
+painted_plain : (ps : List Painted)
+    → ArePlainPieces (map (λ (p : Painted). record { bytes = p.bytes; style = if p.changed then plain else plain }) ps)
+painted_plain [] = tt
+painted_plain (p ∷ ps) = (either_plain p.changed, painted_plain ps)
+
+within_plain : (before bytes : ℕ) (hs : List Highlight) → ArePlainPieces hs
+    → ArePlainPieces (pieces_within before bytes hs)
+within_plain before bytes [] h = tt
+within_plain before bytes (p ∷ hs) h =
+    (h.0, within_plain (before - p.bytes) (bytes - (p.bytes - before)) hs h.1)
+
+line_plain : (hs : List Highlight) (cells : List Cell) → ArePlainPieces hs → IsPlainRow (line_runs hs cells)
+line_plain [] cells h = (refl, tt)
+line_plain (p ∷ hs) cells h = (h.0, line_plain hs (cells_beyond p.bytes cells) h.1)
+
+row_if : (b : Bool) (x y : Row) → IsPlainRow x → IsPlainRow y → IsPlainRow (if b then x else y)
+row_if true x y h k = h
+row_if false x y h k = k
+
+cut_plain : (hs : List Highlight) (before : ℕ) (cut : List Stretch) → ArePlainPieces hs
+    → IsPlainRow (cut_runs hs before cut)
+cut_plain hs before [] h = tt
+cut_plain hs before (s ∷ later) h =
+    let own : List Highlight = pieces_within before (bytes_in s.cells) hs in
+    let first : Row = if is_kept s then line_runs own s.cells else dots ∷ [] in
+    all_append (λ run. run.style ≡ plain) first (cut_runs hs (before + bytes_in s.cells) later)
+    (row_if (is_kept s) (line_runs own s.cells) (dots ∷ [])
+    (line_plain own s.cells (within_plain before (bytes_in s.cells) hs h)) (refl, tt))
+    (cut_plain hs (before + bytes_in s.cells) later h)
+
+shown_plain : (cut : Option (List Stretch)) (hs : List Highlight) (cells : List Cell) → ArePlainPieces hs
+    → IsPlainRow (shown_runs cut hs cells)
+shown_plain None hs cells h = line_plain hs cells h
+shown_plain (Some cut) hs cells h = cut_plain hs 0 cut h
+
+-- ---- clean lines
+
+text_clean : (line : List ℕ) → IsClean line → IsClean (text_of_line line)
+text_clean line h = clean_take (prefix_len is_text line) line h
+
+cells_clean : (s : SnippetSettings) (start : ℕ) (line : List ℕ) → IsClean line → AreCleanCells (line_cells s start line)
+cells_clean s start line h =
+    clean_cells s.width s.layout.tab_width false start 0 (characters (text_of_line line))
+    (clean_characters (text_of_line line) (text_clean line h))
+
+around_clean : (limit : Option ℕ) (ends : List ℕ) (cells : List Cell) → AreCleanCells cells
+    → IfSome (cut_around limit ends cells) (AllByRecursion IsCleanStretch)
+around_clean None ends cells h = tt
+around_clean (Some limit) ends cells h =
+    by_cases {C = IfSome (cut_around (Some limit) ends cells) (AllByRecursion IsCleanStretch)}
+    (nat_lt limit (cells_width 0 cells))
+    (λ y. rw y (stretches_clean (is_near limit ends) false cells h))
+    (λ n. rw n tt)
+
+-- ---- marks in plain
+
+parts_bleached : (start bytes : ℕ) (style : Style) (spans : List Span)
+    → map (part_in start bytes plain) spans ≡ map bleached (map (part_in start bytes style) spans)
+parts_bleached start bytes style [] = refl
+parts_bleached start bytes style (span ∷ spans) =
+    ap (λ ps. part_in start bytes plain span ∷ ps) (parts_bleached start bytes style spans)
+
+edits_bleached : (s : SnippetSettings) (start : ℕ) (line : List ℕ) (style : Style) (spans : List Span)
+    → edit_marks s start line plain spans ≡ map bleached_mark (edit_marks s start line style spans)
+edits_bleached s start line style spans =
+    ap (marks (line_text s start line)) (ap (filter has_bytes) (parts_bleached start (length line) style spans)
+    ∙ filter_bleached has_bytes (λ label. refl) (map (part_in start (length line) style) spans))
+    ∙ marks_bleached (line_text s start line) (parts_in start (length line) style spans)
+
+abbrev in_plain : ChangedLine → ChangedLine
+in_plain line = record line { style = plain }
+
+module _ (P : Type 0) where
+  -- rows for rows where something holds of both
+  rows_if : (b : Bool) {xs ys : List Row} → PaleRows P xs ys → PaleRows P (if b then xs else []) (if b then ys else [])
+  rows_if true h = h
+  rows_if false h = rows_nil P
+
+  pale_pieces : (cut : Option (List Stretch)) (plains hs : List Highlight) (cells : List Cell) → ArePlainPieces plains
+      → (P → AreCleanCells cells) → (P → IfSome cut (AllByRecursion IsCleanStretch)) →
+      PaleRow P (shown_runs cut plains cells) (shown_runs cut hs cells)
+  pale_pieces cut plains hs cells h k j =
+      let own = pale_shown P cut hs cells k j in
+      let other = pale_shown P cut plains cells k j in record {
+        plain = shown_plain cut plains cells h;
+        same = sym other.same ∙ own.same;
+        clean = own.clean;
+      }
+
+  pale_signs : (s : SnippetSettings) (sign reached : ℕ) (ms : List Mark) → IsCleanCode sign →
+      PaleRow P (sign_runs s sign reached (map bleached_mark ms)) (sign_runs s sign reached ms)
+  pale_signs s sign reached [] h = pale_nil P
+  pale_signs s sign reached (m ∷ ms) h =
+      pale_cons P (pale_blank P s (m.from - reached))
+      (pale_cons P (record {
+        plain = refl;
+        same = refl;
+        clean = λ p. clean_copies (m.until - m.from) (s.width sign) sign h;
+      }) (pale_signs s sign m.until ms h))
+
+  pale_before : (s : SnippetSettings) (sign : ℕ) (front other : Row) (ms : List Mark) → IsCleanCode sign
+      → PaleRow P front other →
+      PaleRows P (before_some front (row_if_some (sign_runs s sign 0 (map bleached_mark ms))))
+      (before_some other (row_if_some (sign_runs s sign 0 ms)))
+  pale_before s sign front other [] h k = rows_nil P
+  pale_before s sign front other (m ∷ ms) h k =
+      rows_cons P (pale_append P front other (sign_runs s sign 0 (map bleached_mark (m ∷ ms)))
+      (sign_runs s sign 0 (m ∷ ms)) k (pale_signs s sign 0 (m ∷ ms) h)) (rows_nil P)
+
+  module _ (s : SnippetSettings) (hs : List Style) (bare : AreAllPlain hs)
+      (clean : P → AreCleanDrawings s.theme.characters) where
+    -- ---- a line
+
+    pale_start : (w : ℕ) (line : ChangedLine) → IsCleanCode line.sign
+        → PaleRow P (sign_start (faded hs s) w (in_plain line)) (sign_start s w line)
+    pale_start w line h =
+        let number = replicate (w - length (decimal line.number)) 32 ++ decimal line.number in
+        pale_cons P (pale_blank P s 1)
+        (pale_cons P (pale_styled P s.width s.theme.styles.linum number
+        (λ p. clean_append (replicate (w - length (decimal line.number)) 32) (decimal line.number)
+        (clean_replicate (w - length (decimal line.number)) 32 refl) (clean_decimal line.number)))
+        (pale_cons P (pale_blank P s 1)
+        (pale_cons P (pale_styled P s.width line.style (line.sign ∷ []) (λ p. clean_cons line.sign [] h refl))
+        (pale_cons P (pale_blank P s 1) (pale_nil P)))))
+
+    abbrev cut_of : ChangedLine → Option (List Stretch)
+    cut_of line = cut_around s.layout.line_columns (line_ends s line.start line.text line.spans)
+        (line_cells s line.start line.text)
+
+    pale_text : (w : ℕ) (line : ChangedLine) → IsCleanCode line.sign → (P → IsClean line.text)
+        → PaleRow P (text_row (faded hs s) w (in_plain line)) (text_row s w line)
+    pale_text w line h k =
+        let cells = line_cells s line.start line.text in
+        pale_append P (sign_start (faded hs s) w (in_plain line)) (sign_start s w line)
+        (shown_runs (cut_of line) (pieces plain line.spans cells) cells)
+        (shown_runs (cut_of line) (pieces line.style line.spans cells) cells) (pale_start w line h)
+        (pale_pieces (cut_of line) (pieces plain line.spans cells) (pieces line.style line.spans cells) cells
+        (painted_plain (painted line.spans cells)) (λ p. cells_clean s line.start line.text (k p))
+        (λ p. around_clean s.layout.line_columns (line_ends s line.start line.text line.spans) cells
+        (cells_clean s line.start line.text (k p))))
+
+    pale_marks : (w : ℕ) (line : ChangedLine) → IsCleanCode line.sign
+        → PaleRows P (marks_row (faded hs s) w (in_plain line)) (marks_row s w line)
+    pale_marks w line h =
+        let cut = cut_of line in
+        let own = edit_marks s line.start line.text line.style line.spans in
+        let same : shown_marks cut (edit_marks s line.start line.text plain line.spans)
+        ≡ map bleached_mark (shown_marks cut own) =
+        ap (shown_marks cut) (edits_bleached s line.start line.text line.style line.spans) ∙ shown_bleached cut own in
+        subst (λ ms. PaleRows P (before_some (other_start (faded hs s) w) (row_if_some (sign_runs s line.sign 0 ms)))
+        (marks_row s w line)) (sym same)
+        (pale_before s line.sign (other_start (faded hs s) w) (other_start s w) (shown_marks cut own) h
+        (pale_other_start P s hs bare clean w))
+
+    pale_changed : (w : ℕ) (line : ChangedLine) (other : Option (List ℕ)) → IsCleanCode line.sign
+        → (P → IsClean line.text)
+        → PaleRows P (changed_rows (faded hs s) w (in_plain line) other) (changed_rows s w line other)
+    pale_changed w line other h k =
+        rows_cons P (pale_text w line h k) (rows_if (look_alike s line.text other) (pale_marks w line h))
+
+    pale_kept : (w : ℕ) (at : Standing) (text : List ℕ) → (P → IsClean text)
+        → PaleRow P (kept_row (faded hs s) w at text) (kept_row s w at text)
+    pale_kept w at text h =
+        let cells = line_cells s at.old_offset text in
+        let cut = cut_around s.layout.line_columns [] cells in
+        pale_append P (number_start (faded hs s) w (at.old_line + 1)) (number_start s w (at.old_line + 1))
+        (shown_runs cut [] cells) (shown_runs cut [] cells)
+        (pale_number_start P s hs bare clean w (at.old_line + 1))
+        (pale_shown P cut [] cells (λ p. cells_clean s at.old_offset text (h p))
+        (λ p. around_clean s.layout.line_columns [] cells (cells_clean s at.old_offset text (h p))))
+
+    -- ---- a frame
+
+    module _ (edits : List Replacement) (frame : DiffFrame) where
+      pale_line : (at : Standing) (line : DiffLine) → (P → AreCleanShown (line ∷ []))
+          → PaleRows P (rows_of_line (context_of (faded hs s) edits frame) at line)
+          (rows_of_line (context_of s edits frame) at line)
+      pale_line at (kept text) h = rows_cons P (pale_kept (frame_width frame) at text (λ p. (h p).0)) (rows_nil P)
+      pale_line at (removed text other) h =
+          pale_changed (frame_width frame) (removed_line (context_of s edits frame) at text) other refl (λ p. (h p).0)
+      pale_line at (added text other) h =
+          pale_changed (frame_width frame) (added_line (context_of s edits frame) at text) other refl (λ p. (h p).0)
+
+      pale_lines : (at : Standing) (lines : List DiffLine) → (P → AreCleanShown lines)
+          → PaleRows P (rows_of_lines (context_of (faded hs s) edits frame) at lines)
+          (rows_of_lines (context_of s edits frame) at lines)
+      pale_lines at [] h = rows_nil P
+      pale_lines at (line ∷ lines) h =
+          rows_append P (rows_of_line (context_of (faded hs s) edits frame) at line)
+          (rows_of_line (context_of s edits frame) at line)
+          (rows_of_lines (context_of (faded hs s) edits frame) (past at line) lines)
+          (rows_of_lines (context_of s edits frame) (past at line) lines) (pale_line at line (λ p. ((h p).0, tt)))
+          (pale_lines (past at line) lines (λ p. (h p).1))
+
+      pale_frame : (source : Source) → (P → IsCleanSource source) → (P → IsCleanFrame frame)
+          → PaleRows P (frame_rows (faded hs s) source edits frame) (frame_rows s source edits frame)
+      pale_frame source h k =
+          rows_cons P (pale_top P s hs bare clean (frame_width frame) source.name true
+          (Some (place_at source.bytes frame.place)) (λ p. (h p).name))
+          (rows_append P (rows_of_lines (context_of (faded hs s) edits frame) frame.at frame.lines)
+          (rows_of_lines (context_of s edits frame) frame.at frame.lines)
+          (bottom_row (faded hs s) (frame_width frame) ∷ []) (bottom_row s (frame_width frame) ∷ [])
+          (pale_lines frame.at frame.lines k)
+          (rows_cons P (pale_bottom P s hs bare clean (frame_width frame)) (rows_nil P)))
+
+    pale_frames : (source : Source) (edits : List Replacement) (frames : List DiffFrame) → (P → IsCleanSource source)
+        → (P → AllByRecursion IsCleanFrame frames)
+        → PaleRows P (rows_of_frames (faded hs s) source edits frames) (rows_of_frames s source edits frames)
+    pale_frames source edits [] h k = rows_nil P
+    pale_frames source edits (frame ∷ frames) h k =
+        rows_append P (frame_rows (faded hs s) source edits frame) (frame_rows s source edits frame)
+        (rows_of_frames (faded hs s) source edits frames) (rows_of_frames s source edits frames)
+        (pale_frame edits frame source h (λ p. (k p).0)) (pale_frames source edits frames h (λ p. (k p).1))
+
+    -- ---- a fix
+
+    pale_refused : (name : List ℕ) → IsClean name → PaleRow P (refused_row (faded hs s) name) (refused_row s name)
+    pale_refused name h =
+        pale_cons P (pale_styled P s.width plain (codes "  [") (λ p. refl))
+        (pale_cons P (pale_styled P s.width s.theme.styles.error (codes "Failed to apply fix") (λ p. refl))
+        (pale_cons P (pale_styled P s.width plain (codes ": ") (λ p. refl))
+        (pale_cons P (pale_styled P s.width s.theme.styles.warning name (λ p. h))
+        (pale_unstyled P s hs bare clean (codes "]") (λ p. refl)))))
+
+    name_clean : (error : FixError) → IsClean (error_name error)
+    name_clean OutOfBounds = refl
+    name_clean Overlap = refl
+    name_clean Memory = refl
+
+    pale_unless : (source : Source) (edits : List Replacement) (refused : Option FixError) → (P → IsCleanSource source)
+        → (P → AreCleanEdits edits)
+        → PaleRows P (rows_unless (faded hs s) source edits refused) (rows_unless s source edits refused)
+    pale_unless source edits (Some error) h k =
+        rows_cons P (pale_refused (error_name error) (name_clean error)) (rows_nil P)
+    pale_unless source edits None h k =
+        pale_frames source (by_offset edits) (frames_of s.layout.context_lines (diff source.bytes edits)) h
+        (λ p. frames_clean s.layout.context_lines source.bytes edits (h p).bytes (k p))
+
+    pale_read : (fails : Bool) (source : Source) (edits : List Replacement) → (P → IsCleanSource source)
+        → (P → AreCleanEdits edits) →
+        PaleRows P (if fails then refused_row (faded hs s) (codes "IoError") ∷ []
+        else rows_unless (faded hs s) source edits (refusal (length source.bytes) edits))
+        (if fails then refused_row s (codes "IoError") ∷ []
+        else rows_unless s source edits (refusal (length source.bytes) edits))
+    pale_read true source edits h k = rows_cons P (pale_refused (codes "IoError") refl) (rows_nil P)
+    pale_read false source edits h k = pale_unless source edits (refusal (length source.bytes) edits) h k
+
+    pale_fix : (source : Source) (fails : Bool) (edits : List Replacement) → (P → IsCleanSource source)
+        → (P → AreCleanEdits edits)
+        → PaleRows P (fix_rows (faded hs s) source fails edits) (fix_rows s source fails edits)
+    pale_fix source fails [] h k = rows_nil P
+    pale_fix source fails (edit ∷ edits) h k = pale_read fails source (edit ∷ edits) h k
+
+-- the same in any plain styles
+pub plain_fix : (P : Type 0) (s : SnippetSettings) (styles : Styles) → ArePlain styles
+    → (P → AreCleanDrawings s.theme.characters) → (source : Source) (fails : Bool) (edits : List Replacement)
+    → (P → IsCleanSource source) → (P → AreCleanEdits edits)
+    → PaleRows P (fix_rows (restyled s styles) source fails edits) (fix_rows s source fails edits)
+plain_fix P s styles bare clean source fails edits h k =
+    subst (λ u. PaleRows P (fix_rows (restyled s u) source fails edits) (fix_rows s source fails edits))
+    (sym (are_faded styles bare))
+    (pale_fix P s styles.highlights bare.highlights clean source fails edits h k)

@@ -1,0 +1,32 @@
+//! What holds of the rows of a fix, as laws of their definitions: of their colours.
+
+ghost use Rattle.std.specs.Prelude.{◌≡◌, Bool, List, map};
+ghost use Rattle.std.specs.List.{AllByRecursion};
+ghost use Rattle.miette_fix_rows.specs.rules.DiffRows.{fix_rows};
+ghost use Rattle.miette_fixes.specs.rules.Edits.{Replacement};
+ghost use Rattle.miette_page.specs.rules.Rows.{glyphs_of};
+ghost use Rattle.miette_protocol.specs.rules.Reading.{Source};
+ghost use Rattle.miette_row_laws.specs.laws.Clean.{AreCleanDrawings, IsClean, IsCleanRow, IsCleanSource};
+ghost use Rattle.miette_row_laws.specs.laws.Fading.{ArePlain, IsPlainRow, restyled};
+ghost use Rattle.miette_snippet_rules.specs.rules.Settings.{SnippetSettings};
+ghost use Rattle.miette_style.specs.rules.Themes.{Styles};
+
+/// In plain styles a fix has the same characters in the same rows (`same`), and each run is plain (`plain`).
+pub fn fix_rows_fade()
+    ensures same { (s : SnippetSettings) (styles : Styles) (source : Source) (fails : Bool)
+        (edits : List Replacement) → ArePlain styles →
+        map glyphs_of (fix_rows (restyled s styles) source fails edits)
+        ≡ map glyphs_of (fix_rows s source fails edits) }
+    ensures plain { (s : SnippetSettings) (styles : Styles) (source : Source) (fails : Bool)
+        (edits : List Replacement) → ArePlain styles →
+        AllByRecursion IsPlainRow (fix_rows (restyled s styles) source fails edits) }
+{}
+
+/// Where the characters that are drawn, the source with its name and the texts of the edits hold no escape, no row of
+/// the fix does.
+pub fn fix_rows_hold_no_escape()
+    ensures { (s : SnippetSettings) (source : Source) (fails : Bool) (edits : List Replacement) →
+        AreCleanDrawings s.theme.characters → IsCleanSource source →
+        AllByRecursion (λ edit. IsClean edit.text) edits →
+        AllByRecursion IsCleanRow (fix_rows s source fails edits) }
+{}

@@ -1,0 +1,4 @@
+//! What holds of the rows of a fix.
+#![tactic(auto)]
+
+pub mod laws;
