@@ -4,13 +4,14 @@
     bench/count.py [--peers FOLDER] [--seconds N] [--keep FILE] [NAME ..]
 
 Counted are the workloads of workloads.py whose names begin with a NAME, or all. The program is
-`crates/bench/out/bench`, and `crates/draw/out/draw` where a source is drawn, as the gate builds
-them. FOLDER has the programs of the peers (README.md); without it ours is counted alone.
+`crates/bench/out/bench`, `crates/draw/out/draw` where a source is drawn, and `crates/job/out/job`
+where fixes are applied, as the gate builds them. FOLDER has the programs of the peers (README.md);
+without it ours is counted alone.
 
 Instructions are counted by `valgrind --tool=cachegrind`: a run with one rendering less a run with
 none, or, where the input is short, a tenth of a run with eleven less one with one, so that starting
 the program and reading the input don't count. Of `draw` it is the whole process less that over an
-empty source.
+empty source, of `job --fix` less that of the same description without fixes.
 
 Memory is what is in the heap at the peak of one rendering above what was there before it, the text
 included, in thousands of bytes. Of ours a library that is loaded before the C library notes each
@@ -58,7 +59,7 @@ class Failed(Exception):
 def peer_words(who, workload):
     """The words that a peer takes for a workload, or nothing where it has no such output."""
     if who == ORIGINAL:
-        return [*workload.words, *workload.original]
+        return None if workload.is_new else [*workload.words, *workload.original]
     if {"--json", "--narrated", "--nested"} & set(workload.words):
         return None
     colour = ["--color", "yes"] if "unicode" in workload.words else []
@@ -75,7 +76,7 @@ def command(who, workload, times, asked, suffix=""):
     """How a program is called to render this many times; nothing where it can't."""
     name = workload.program
     if who == OURS:
-        repeated = [] if name == "draw" else [str(times)]
+        repeated = [str(times)] if name == "bench" else []
         return [built(name), *repeated, *workload.words, *workload.ours]
     words, programs = peer_words(who, workload), PEER_PROGRAMS[who]
     if not asked.peers or name not in programs or words is None:
@@ -110,10 +111,13 @@ def instructions(words, path, asked):
 
 def counted(who, workload, path, asked):
     """The instructions of one rendering."""
-    if workload.program == "draw":
-        words = command(who, workload, 1, asked)
-        whole, empty = (instructions(words, it, asked) for it in (path, os.devnull))
-        return {"instructions": whole - empty}
+    if workload.program != "bench":
+        words, other = command(who, workload, 1, asked), path + ".beside"
+        with open(other, "wb") as file:
+            file.write(workload.beside())
+        whole, beside = (instructions(words, it, asked) for it in (path, other))
+        os.remove(other)
+        return {"instructions": whole - beside}
     less, more = (1, 11) if os.path.getsize(path) < SHORT else (0, 1)
     calls = [command(who, workload, it, asked) for it in (less, more)]
     without, whole = (instructions(it, path, asked) for it in calls)

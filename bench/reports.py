@@ -1,5 +1,5 @@
 """The reports of the workloads, as descriptions that `bench` reads."""
-from texts import Numbers, escaped, lines, rows, sample, tabbed, words
+from texts import Numbers, escaped, lines, rows, sample, sentences, tabbed, words
 
 KB, MB = 1 << 10, 1 << 20
 ROW, LINE = 80, 40
@@ -153,6 +153,39 @@ def spread(count, size):
     return labelled("many findings", spans(places, 9), text, "many.txt")
 
 
+def two_files():
+    """A type error whose two ends stand in two files of 60 lines."""
+    text, wanted = sample(), "expected `String`, found `&str`"
+    used = [on(text, "Ok(Value::Text(text))", wanted, True)]
+    held = [on(text, "Text(String)", "the variant holds a `String`")]
+    report = labelled(f"mismatched types: {wanted} in this arm of the match", used, text, NAME)
+    declared = {"text": text, "name": "src/settings/value.rs"}
+    return {**report, "code": "E0308", "snippets": [{"source": declared, "labels": held}]}
+
+
+def over_sources(count, each, size):
+    """`each` labels spread over each of `count` sources of `size` bytes."""
+    held = size // ROW
+    sections = []
+    for i in range(count):
+        places = (j * held // each * ROW + 7 for j in range(each))
+        source = {"text": rows(20 + i, size), "name": f"src/part{i}.txt"}
+        sections.append({"labels": spans(places, 9), "source": source})
+    first, *further = sections
+    return {"message": "many findings in many files", **first, "snippets": further}
+
+
+def fixed(size, count, each):
+    """`count` edits spread over `size` bytes, `each` of them in a fix: a word for another one."""
+    held = size // ROW
+    places = [i * held // count * ROW + 7 for i in range(count)]
+    edits = [{"offset": at, "length": 9, "text": f"edit {i}"} for i, at in enumerate(places)]
+    lists = [edits[i : i + each] for i in range(0, count, each)]
+    sure = {"message": "other words", "applicability": "machine-applicable"}
+    report = labelled("many edits", [], rows(4, size), "many.txt")
+    return {**report, "fixes": [{**sure, "edits": it} for it in lists]}
+
+
 def near(count):
     """`count` labels on neighbouring lines in the middle of 1 MB."""
     places = ((5000 + i) * ROW + 7 for i in range(count))
@@ -179,6 +212,11 @@ def one_line(count):
 def long_message(kilobytes):
     """A message of this many thousand bytes of words."""
     return {"message": words(Numbers(8), kilobytes * 1000)}
+
+
+def chinese_message(kilobytes):
+    """A message of this many thousand bytes of Chinese."""
+    return {"message": sentences(9, kilobytes * 1000)}
 
 
 def changed_message(kilobytes, change):

@@ -58,6 +58,19 @@ def escaped(first, size):
     return "".join(found)
 
 
+def sentences(first, size):
+    """Chinese of about `size` bytes: clauses of 4 to 15 characters, some in brackets or behind a
+    word of Latin letters."""
+    numbers, found, length = Numbers(first), [], 0
+    while length < size:
+        clause = "".join(chr(0x4E00 + numbers.below(0x1000)) for _ in range(4 + numbers.below(12)))
+        clause = f"「{clause}」" if numbers.below(8) == 0 else clause
+        clause = f" {word(numbers)} {clause}" if numbers.below(6) == 0 else clause
+        found.append(clause + "，、。"[numbers.below(3)])
+        length += len(found[-1].encode())
+    return "".join(found)
+
+
 def coloured(text):
     """The text with a colour on every word."""
     parts = enumerate(text.split(" "))

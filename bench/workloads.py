@@ -1,6 +1,6 @@
 #!/usr/bin/env python3
-"""Makes the workloads: descriptions, the words of `bench` that they are rendered by, and the source
-of a workload that is drawn by `draw`.
+"""Makes the workloads: descriptions, the words of `bench` that they are rendered by, or of `job`
+that applies their fixes, and the source of a workload that is drawn by `draw`.
 
     bench/workloads.py FOLDER           writes all of them, and manifest.json
     bench/workloads.py FOLDER NAME ..   writes those whose names begin so
@@ -27,6 +27,7 @@ WIDTH = ("--width", "80")
 CUT = ("--line-columns", "80")
 FOLDED = ("--label-lines", "5")
 BRIEF = ("--brief",)
+UNICODE = ("--separator", "unicode")
 MB = 1 << 20
 
 
@@ -41,10 +42,14 @@ class Workload(NamedTuple):
     # What the original takes beside the words, and what ours takes, which no peer knows.
     original: tuple = ()
     ours: tuple = ()
+    # Whether the original has no such output.
+    is_new: bool = False
+    # What a program but `bench` runs on for the count that is taken off.
+    beside: Callable[[], bytes] = bytes
 
     def file(self):
         """The name of its file."""
-        return self.name + (".json" if self.program == "bench" else ".txt")
+        return self.name + (".txt" if self.program == "draw" else ".json")
 
 
 def described(report):
@@ -52,10 +57,10 @@ def described(report):
     return json.dumps(report, ensure_ascii=False).encode()
 
 
-def bench(name, family, options, make, *given, original=(), ours=()):
-    """A workload of `bench`."""
+def bench(name, family, options, make, *given, **others):
+    """A workload of `bench`. The others are fields of `Workload` by their names."""
     made = lambda: described(make(*given))
-    return Workload(name, family, options, made, original=original, ours=ours)
+    return Workload(name, family, options, made, **others)
 
 
 def everyday():
@@ -109,6 +114,48 @@ def long_texts():
         yield bench(f"g_word_{size}kb", "g_word", plain, *joined)
 
 
+def texts_by_unicode():
+    """Texts whose words end where Unicode's rules allow it, and Chinese by spaces."""
+    plain, ascii_only = (*PLAIN, *WIDTH), ("--separator", "ascii")
+    for size in (100, 200, 400):
+        made = {
+            "wrap": (of.long_message, size),
+            "textcolour": (of.changed_message, size, coloured),
+            "word": (of.changed_message, size, lambda it: it.replace(" ", "")),
+            "cjk": (of.chinese_message, size),
+        }
+        for kind, message in made.items():
+            name = f"u_{kind}_{size}kb"
+            yield bench(name, f"u_{kind}", plain, *message, ours=UNICODE)
+        chinese = (f"u_cjk_{size}kb_ascii", "u_cjk_ascii", plain, *made["cjk"])
+        yield bench(*chinese, original=ascii_only)
+
+
+def several_sources():
+    """Labels over several sources, which the original hasn't."""
+    yield bench("n_two_files", "n_two", PLAIN, of.two_files, is_new=True)
+    yield bench("n_two_files_ansi", "n_two_ansi", COLOUR, of.two_files, is_new=True)
+    for count in (1, 10, 20, 100):
+        made = (of.over_sources, count, 10, 8000)
+        yield bench(f"n_sources_{count}", "n", PLAIN, *made, is_new=True)
+        yield bench(f"n_sources_{count}_ansi", "n_ansi", COLOUR, *made, is_new=True)
+        yield bench(f"n_narrated_{count}", "n_narrated", NARRATED, *made, is_new=True)
+        yield bench(f"n_json_{count}", "n_json", JSON, *made, is_new=True)
+        yield bench(f"n_brief_{count}", "n_brief", PLAIN, *made, ours=BRIEF, is_new=True)
+    for count in (1, 10):
+        yield bench(f"n_big_{count}", "n_big", PLAIN, of.over_sources, count, 1, MB, is_new=True)
+
+
+def fixes():
+    """Edits to a big source, in one fix and in as many, that `job --fix` applies."""
+    for size, count in ((10, 100), (10, 1000), (20, 1000), (20, 2000)):
+        for kind, each in (("one", count), ("many", 1)):
+            name, given = f"x_{kind}_{size}mb_{count}", (size * MB, count, each)
+            made = lambda given=given: described(of.fixed(*given))
+            bare = lambda size=size: described(of.fixed(size * MB, 0, 1))
+            yield Workload(name, f"x_{kind}", ("--fix",), made, "job", beside=bare)
+
+
 def inner_reports():
     """Related reports and causes."""
     for count in (1000, 2000, 4000):
@@ -155,7 +202,8 @@ def hard_lines():
     yield bench("middle_marks_1mb", "middle_marks", PLAIN, of.line_of, kinds["marks"], False)
 
 
-FAMILIES = (everyday, big_sources, long_lines, long_texts, inner_reports, others, hard, hard_lines)
+FAMILIES = (everyday, big_sources, long_lines, long_texts, texts_by_unicode, several_sources)
+FAMILIES += (fixes, inner_reports, others, hard, hard_lines)
 ALL = [workload for family in FAMILIES for workload in family()]
 
 
@@ -175,7 +223,7 @@ def main():
         with open(os.path.join(folder, workload.file()), "wb") as file:
             file.write(workload.make())
         entry = {**workload._asdict(), "file": workload.file()}
-        del entry["make"]
+        del entry["make"], entry["beside"]
         entries.append(entry)
     with open(os.path.join(folder, "manifest.json"), "w", encoding="utf-8") as file:
         json.dump(entries, file, indent=1)
