@@ -1,7 +1,7 @@
 //! Rows for a build log.
 
 ghost use Rattle.std.specs.Prelude.{IfOk, string_bytes, true};
-ghost use Rattle.miette_brief.specs.laws.Parts.{IsRows, parts};
+ghost use Rattle.miette_brief.specs.laws.Parts.{HasEachPart};
 ghost use Rattle.miette_tree.specs.views.Report.{tree_of};
 
 use miette_brief::handler::BriefReportHandler;
@@ -18,7 +18,7 @@ pub fn log_rows<D: Diagnostic, S: SourceCode>(
     report: &Report<D, S>,
 ) -> Result<String, RenderError>
     ensures { IfOk result (λ rows.
-        IsRows (parts true (tree_of D.meaning S.source report.now)) (string_bytes rows)) }
+        HasEachPart true (tree_of D.meaning S.source report.now) (string_bytes rows)) }
 {
     each_part_has_one_row();
     let mut rows = String::new(alloc);

@@ -1,5 +1,5 @@
 -- Causes one after the other, with the answers of their reads.
-use Rattle.std.proofs.Common.{ℕ, ◌≡◌, List, [], ◌∷◌, ◌++◌, true, Option, sym, ap, subst, ◌∙◌}
+use Rattle.std.proofs.Common.{ℕ, ◌≡◌, List, [], ◌∷◌, ◌++◌, true, false, Option, sym, ap, subst, ◌∙◌}
 use Rattle.miette_protocol.specs.rules.Reading.{Source}
 use Rattle.miette_protocol.specs.views.Meaning.{Label}
 use Rattle.miette_tree.specs.rules.Diagnosis.{Section}
@@ -37,7 +37,7 @@ one_more at source all left (tree m s c r) own labels further primary place mess
     place = subst (λ (o : Option Spot). IsCausePlace at o place) chosen h in
     let here : CausesSoFar at source all (diagnostic (tree m s c r)) old now =
     subst (λ (l : Cause). CausesSoFar at source all l old now) (sym is) so_far in
-    let add = λ (more : Answers). listed placed.fault more no_more in
+    let add = λ (more : Answers). listed (record { place = placed.fault; fixes = false }) more no_more in
     one_so_far _ _ all (diagnostic (tree m s c r)) c add old now new
     (rows_text (cause_row place m.message ∷ [])) here (λ more p. (placed.possible, p))
     (λ more. ap (λ p. rows_text (cause_row p m.message ∷ cause_rows at source more c)) (sym placed.is)

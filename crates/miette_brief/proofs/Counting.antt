@@ -1,187 +1,35 @@
--- One row for each part, none empty, none with a control character.
-use Rattle.std.proofs.Common.{◌≡◌, ◌≢◌, ℕ, suc, zero, ◌+◌, ◌<◌, ◌≤◌, ◌/◌, ◌%◌, ◌==◌, List, [], ◌∷◌, ◌++◌, length, map}
-use Rattle.std.proofs.Common.{Bool, true, false, cond, ◌&&◌, nat_le, nat_lt, Option, Some, None, refl, ap, ap₂, ◌∙◌}
-use Rattle.std.proofs.Common.{codes, arith}
-use Rattle.std.specs.Prelude.{encode_utf8_all, decimal}
-use Rattle.std.specs.Fmt.{digits, digits_onto, digit_glyph}
+-- One row for each part.
+use Rattle.std.proofs.Common.{◌≡◌, ◌≢◌, ℕ, suc, ◌+◌, ◌==◌, List, [], ◌∷◌, ◌++◌, length, map, Bool, true, false, nat_le}
+use Rattle.std.proofs.Common.{Option, Some, None, refl, sym, subst, ap, ap₂, ◌∙◌, arith}
+use Rattle.std.specs.Prelude.{if◌then◌else◌}
 use Rattle.std.specs.Char.{is_control}
-use Rattle.std.specs.List.{list_all, AllByRecursion}
-use Rattle.std.specs.Str.{NoCharPasses, NonePass, chars}
-use Rattle.std.proofs.lemmas.Bool.{lt-ltb, and_parts, leb-true, ltb-true}
-use Rattle.std.proofs.lemmas.Bool.Decides.{nat_tests}
+use Rattle.std.specs.List.{AllByRecursion}
+use Rattle.std.specs.Str.{NoCharPasses}
 use Rattle.std.proofs.lemmas.List.{length-append, length-map}
-use Rattle.std.proofs.lemmas.Str.{encode_ascii, NoCharPasses-nil, NoCharPasses-append}
-use Rattle.std.specs.Option.{option_len}
+use Rattle.std.specs.Option.{option_len, option_map_or}
 use Rattle.miette_protocol.specs.rules.Reading.{Source}
 use Rattle.miette_protocol.specs.views.Meaning.{Label}
-use Rattle.miette_protocol.specs.declared.protocol.Severity.{Severity}
-use Rattle.miette_protocol.specs.declared.protocol.Severity.TheVariants.{Advice, Warning, Error}
+use Rattle.miette_fixes.specs.declared.error.FixError.{FixError}
+use Rattle.miette_fixes.specs.rules.Applying.{by_offset, put_edit, refusal}
+use Rattle.miette_fixes.specs.rules.Edits.{Proposal, Replacement, is_behind}
 use Rattle.miette_tree.specs.rules.Tree.{Tree, tree, Cause, diagnostic, texts, causes_of, chain_of, Trees, no_trees}
 use Rattle.miette_tree.specs.rules.Tree.{more_trees, effective}
-use Rattle.miette_tree.specs.rules.DiagnosticParts.{given_labels, severity_text}
-use Rattle.miette_tree.specs.rules.Answers.{own_fault}
+use Rattle.miette_tree.specs.rules.DiagnosticParts.{given_labels}
 use Rattle.miette_tree.specs.rules.Diagnosis.{Diagnosis, Section}
 use Rattle.miette_labels.specs.rules.Groups.{in_order, put_label}
 use Rattle.miette_basics.proofs.Cases.{by_cases}
-use Rattle.miette_brief.specs.declared.rows.Position.{Position}
-use Rattle.miette_brief.specs.rules.Rows.{Place, Kind, finding, note, cause, help, ReportRow, gap, shown_for}
-use Rattle.miette_brief.specs.rules.Rows.{spaced_text, one_row, position_text, behind_colon, place_text, code_text}
-use Rattle.miette_brief.specs.rules.Rows.{kind_text, row_text, rows_text}
+use Rattle.miette_brief.specs.rules.Fixes.{FixedSource, no_source, unread, read, fixed_source, edit_row, fix_row}
+use Rattle.miette_brief.specs.rules.Fixes.{failed_rows, reason_text, applied_rows, rows_over, fix_rows, fixes_rows}
+use Rattle.miette_brief.specs.rules.Rows.{Place, ReportRow, row_text, rows_text}
 use Rattle.miette_brief.specs.rules.Places.{label_place, diagnostic_place}
-use Rattle.miette_brief.specs.rules.Report.{BriefSettings, Answers, RelatedAnswers, cause_answers, related_answers}
-use Rattle.miette_brief.specs.rules.Report.{first_answers, later_answers, note_rows_of, note_rows, cause_row}
-use Rattle.miette_brief.specs.rules.Report.{cause_rows, caused_rows, cause_rows_if, help_rows, own_rows, report_rows}
-use Rattle.miette_brief.specs.rules.Report.{related_rows, brief, further_notes, labelled_rows}
-use Rattle.miette_brief.specs.laws.Parts.{texts_in, texts_further, told_causes, parts, all_parts, text_of_rows, IsRows}
-
--- ---- no control character
-
-none_in_gap : (b : Bool) (cs : List ℕ) → NonePass is_control cs → NonePass is_control (gap b ++ cs)
-none_in_gap true cs h = h
-none_in_gap false cs h = (refl, h)
-
-none_spaced : (b : Bool) (cs : List ℕ) → NonePass is_control (spaced_text b cs)
-none_spaced b [] = tt
-none_spaced b (c ∷ cs) =
-    by_cases {C = NonePass is_control (shown_for b c ++ spaced_text (is_control c) cs)} (is_control c)
-    (λ t. rw t (none_in_gap b (spaced_text true cs) (none_spaced true cs)))
-    (λ f. rw f (f, none_spaced false cs))
-
-pub row_clean : (text : List ℕ) → NoCharPasses is_control (one_row text)
-row_clean text = (spaced_text false (chars text), refl, none_spaced false (chars text))
-
--- printable ASCII
-abbrev pub is_plain : ℕ → Bool
-is_plain b = nat_le 32 b && nat_lt b 127
-
-plain_shown : (b : ℕ) → is_plain b ≡ true → is_control b ≡ false
-plain_shown b h =
-    let p = and_parts (nat_le 32 b) (nat_lt b 127) h in
-    let low : 32 ≤ b = leb-true 32 b p.0 in
-    let high : b < 127 = ltb-true b 127 p.1 in
-    grind (arith, nat_tests)
-
-plain_none : (bs : List ℕ) → list_all is_plain bs ≡ true → (encode_utf8_all bs ≡ bs) × NonePass is_control bs
-plain_none [] h = (refl, tt)
-plain_none (b ∷ bs) h =
-    let p = and_parts (is_plain b) (list_all is_plain bs) h in
-    let q = and_parts (nat_le 32 b) (nat_lt b 127) p.0 in
-    let high : b < 127 = ltb-true b 127 q.1 in
-    let more = plain_none bs p.1 in
-    (ap₂ (λ x y. x ++ y) (encode_ascii b (omega arith)) more.0, (plain_shown b p.0, more.1))
-
-pub plain_clean : (bs : List ℕ) → list_all is_plain bs ≡ true → NoCharPasses is_control bs
-plain_clean bs h = (let p = plain_none bs h in (bs, p.0, p.1))
-
--- ---- digits
-
-glyph_is : (d : ℕ) → d < 10 → digit_glyph false d ≡ 48 + d
-glyph_is d h = ap (λ b. cond b (48 + d) (87 + d)) (lt-ltb d 10 h)
-
-digit_plain : (d : ℕ) → d < 10 → is_plain (48 + d) ≡ true
-digit_plain d h = grind (arith, nat_tests)
-
-onto_all : (p : ℕ → Bool) → ((d : ℕ) → d < 10 → p (48 + d) ≡ true) → (k n : ℕ) (acc : List ℕ) → list_all p acc ≡ true
-    → list_all p (digits_onto k 10 false n acc) ≡ true
-onto_all p each zero n acc h = h
-onto_all p each (suc k) n acc h =
-    let low : n % 10 < 10 = omega arith in
-    let here : p (digit_glyph false (n % 10)) ≡ true = ap p (glyph_is (n % 10) low) ∙ each (n % 10) low in
-    let more : list_all p (digit_glyph false (n % 10) ∷ acc) ≡ true = ap₂ (λ x y. x && y) here h in
-    by_cases {C = list_all p (digits_onto (suc k) 10 false n acc) ≡ true} (n / 10 == 0)
-    (λ t. rw t more)
-    (λ f. rw f (onto_all p each k (n / 10) (digit_glyph false (n % 10) ∷ acc) more))
-
--- each digit of a number passes a test that each digit passes
-pub decimal_all : (p : ℕ → Bool) → ((d : ℕ) → d < 10 → p (48 + d) ≡ true) → (n : ℕ) → list_all p (decimal n) ≡ true
-unfolding digits
-decimal_all p each n = onto_all p each 64 n [] refl
-
-decimal_plain : (n : ℕ) → list_all is_plain (decimal n) ≡ true
-decimal_plain n = decimal_all is_plain digit_plain n
-
--- ---- the parts of a row
-
-both_clean : (xs ys : List ℕ) → NoCharPasses is_control xs → NoCharPasses is_control ys
-    → NoCharPasses is_control (xs ++ ys)
-both_clean xs ys = NoCharPasses-append is_control xs ys
-
-position_clean : (at : Position) → NoCharPasses is_control (position_text at)
-position_clean at =
-    both_clean (decimal at.line) (codes ":" ++ decimal at.column)
-    (plain_clean (decimal at.line) (decimal_plain at.line))
-    (both_clean (codes ":") (decimal at.column) (plain_clean (codes ":") refl)
-    (plain_clean (decimal at.column) (decimal_plain at.column)))
-
-behind_clean : (position : Option Position) → NoCharPasses is_control (behind_colon position)
-behind_clean None = NoCharPasses-nil is_control
-behind_clean (Some at) = both_clean (codes ":") (position_text at) (plain_clean (codes ":") refl) (position_clean at)
-
-place_clean : (name : Option (List ℕ)) (position : Option Position) → NoCharPasses is_control (place_text name position)
-place_clean None None = NoCharPasses-nil is_control
-place_clean None (Some at) = both_clean (position_text at) (codes ": ") (position_clean at)
-    (plain_clean (codes ": ") refl)
-place_clean (Some name) position =
-    both_clean (one_row name) (behind_colon position ++ codes ": ") (row_clean name)
-    (both_clean (behind_colon position) (codes ": ") (behind_clean position) (plain_clean (codes ": ") refl))
-
-code_clean : (code : Option (List ℕ)) → NoCharPasses is_control (code_text code)
-code_clean None = NoCharPasses-nil is_control
-code_clean (Some code) =
-    both_clean (codes "[") (one_row code ++ codes "]") (plain_clean (codes "[") refl)
-    (both_clean (one_row code) (codes "]") (row_clean code) (plain_clean (codes "]") refl))
-
-severity_plain : (severity : Option Severity) → list_all is_plain (severity_text severity) ≡ true
-severity_plain None = refl
-severity_plain (Some Error) = refl
-severity_plain (Some Warning) = refl
-severity_plain (Some Advice) = refl
-
-kind_clean : (kind : Kind) → NoCharPasses is_control (kind_text kind)
-kind_clean (finding severity code) =
-    both_clean (severity_text severity) (code_text code ++ codes ": ")
-    (plain_clean (severity_text severity) (severity_plain severity))
-    (both_clean (code_text code) (codes ": ") (code_clean code) (plain_clean (codes ": ") refl))
-kind_clean note = plain_clean (codes "note: ") refl
-kind_clean cause = plain_clean (codes "note: caused by: ") refl
-kind_clean help = plain_clean (codes "help: ") refl
-
-text_clean : (row : ReportRow) → NoCharPasses is_control (row_text row)
-text_clean row =
-    both_clean (place_text row.place.name row.place.position) (kind_text row.kind ++ one_row row.text)
-    (place_clean row.place.name row.place.position)
-    (both_clean (kind_text row.kind) (one_row row.text) (kind_clean row.kind) (row_clean row.text))
-
--- ---- no row is empty
-
-pub record IsCons (bs : List ℕ) : Type 0 where
-  pub first : ℕ
-  pub more : List ℕ
-  pub is : bs ≡ first ∷ more
-
-severity_cons : (severity : Option Severity) (bs : List ℕ) → IsCons (severity_text severity ++ bs)
-severity_cons None bs = record { first = _; more = _; is = refl }
-severity_cons (Some Error) bs = record { first = _; more = _; is = refl }
-severity_cons (Some Warning) bs = record { first = _; more = _; is = refl }
-severity_cons (Some Advice) bs = record { first = _; more = _; is = refl }
-
-kind_cons : (kind : Kind) (bs : List ℕ) → IsCons (kind_text kind ++ bs)
-kind_cons (finding severity code) bs =
-    let more = severity_cons severity (code_text code ++ codes ": ") in
-    record { first = more.first; more = more.more ++ bs; is = ap (λ l. l ++ bs) more.is }
-kind_cons note bs = record { first = _; more = _; is = refl }
-kind_cons cause bs = record { first = _; more = _; is = refl }
-kind_cons help bs = record { first = _; more = _; is = refl }
-
-never_nil : (xs ys : List ℕ) (y : ℕ) (more : List ℕ) → ys ≡ y ∷ more → xs ++ ys ≢ []
-never_nil [] ys y more e h = cc
-never_nil (x ∷ xs) ys y more e h = cc
-
-text_nonempty : (row : ReportRow) → row_text row ≢ []
-text_nonempty row =
-    let k = kind_cons row.kind (one_row row.text) in
-    never_nil (place_text row.place.name row.place.position) (kind_text row.kind ++ one_row row.text) k.first k.more
-    k.is
+use Rattle.miette_brief.specs.rules.Report.{BriefSettings, Answers, RelatedAnswers, own_answer, cause_answers}
+use Rattle.miette_brief.specs.rules.Report.{related_answers, first_answers, later_answers, note_rows_of, note_rows}
+use Rattle.miette_brief.specs.rules.Report.{cause_row, cause_rows, caused_rows, cause_rows_if, help_rows, own_rows}
+use Rattle.miette_brief.specs.rules.Report.{report_rows, related_rows, brief, further_notes, labelled_rows, advice_rows}
+use Rattle.miette_brief.specs.rules.PossibleAnswers.{IsBrief}
+use Rattle.miette_brief.specs.laws.Parts.{texts_in, texts_further, told_causes, edit_parts, fix_parts, fixes_parts}
+use Rattle.miette_brief.specs.laws.Parts.{advice_parts, parts, parts_below, all_parts, text_of_rows, IsRows, HasEachPart}
+use Rattle.miette_brief.proofs.Clean.{text_clean, text_nonempty}
 
 -- ---- rows of a text
 
@@ -253,26 +101,90 @@ told_counted : (chain : Bool) (at : Place) (inherited : Option Source) (a : Answ
 told_counted true at inherited a c = causes_counted at inherited a c
 told_counted false at inherited a c = refl
 
+-- ---- fixes
+
+put_longer : (edit : Replacement) (edits : List Replacement) → length (put_edit edit edits) ≡ suc (length edits)
+put_longer edit [] = refl
+put_longer edit (next ∷ edits) =
+    by_cases {C = length (put_edit edit (next ∷ edits)) ≡ suc (suc (length edits))} (is_behind edit next)
+    (λ t. rw t (ap suc (put_longer edit edits)))
+    (λ f. rw f refl)
+
+order_long : (edits : List Replacement) → length (by_offset edits) ≡ length edits
+order_long [] = refl
+order_long (edit ∷ edits) = put_longer edit (by_offset edits) ∙ ap suc (order_long edits)
+
+applied_counted : (at : Place) (name : Option (List ℕ)) (bytes message : List ℕ) (edits : List Replacement)
+    → length (applied_rows at name bytes message edits) ≡ suc (length edits)
+applied_counted at name bytes message [] = refl
+applied_counted at name bytes message (edit ∷ edits) = ap suc (length-map (edit ∷ edits) (edit_row name bytes))
+
+refused_counted : (at : Place) (message : List ℕ) (refused : Option FixError) (rows : List ReportRow) (n : ℕ)
+    → length rows ≡ suc n
+    → length (option_map_or (λ e. failed_rows at message (reason_text e)) refused rows)
+    ≡ suc (option_map_or (λ e. 1) refused n)
+refused_counted at message None rows n h = h
+refused_counted at message (Some e) rows n h = refl
+
+over_counted : (at : Place) (over : FixedSource) (proposal : Proposal) → length (rows_over at over proposal)
+    ≡ suc (edit_parts over proposal)
+over_counted at no_source proposal = refl
+over_counted at unread proposal = refl
+over_counted at (read name bytes) proposal =
+    let edits = by_offset proposal.edits in
+    refused_counted at proposal.message (refusal (length bytes) proposal.edits)
+    (applied_rows at name bytes proposal.message edits) (length proposal.edits)
+    (applied_counted at name bytes proposal.message edits ∙ ap suc (order_long proposal.edits))
+
+some_counted : (none : Bool) (first : ReportRow) (rows : List ReportRow) (n : ℕ) → length rows ≡ suc n
+    → length (if none then first ∷ [] else rows) ≡ 1 + (if none then 0 else n)
+some_counted true first rows n h = refl
+some_counted false first rows n h = h ∙ omega arith
+
+fix_counted : (at : Place) (over : FixedSource) (proposal : Proposal) → length (fix_rows at over proposal)
+    ≡ fix_parts over proposal
+fix_counted at over proposal =
+    some_counted (length proposal.edits == 0) (fix_row at proposal.message) (rows_over at over proposal)
+    (edit_parts over proposal) (over_counted at over proposal)
+
+fixes_counted : (at : Place) (over : FixedSource) (proposals : List Proposal) → length (fixes_rows at over proposals)
+    ≡ fixes_parts over proposals
+fixes_counted at over [] = refl
+fixes_counted at over (proposal ∷ proposals) =
+    length-append (fix_rows at over proposal) (fixes_rows at over proposals)
+    ∙ ap₂ (λ m n. m + n) (fix_counted at over proposal) (fixes_counted at over proposals)
+
+advice_counted : (at : Place) (source : Option Source) (fails : Bool) (m : Diagnosis)
+    → length (advice_rows at source fails m) ≡ advice_parts source fails m
+advice_counted at source fails m =
+    let over = fixed_source source fails in
+    length-append (help_rows at m.help) (fixes_rows at over m.fixes)
+    ∙ ap₂ (λ x y. x + y) (help_counted at m.help) (fixes_counted at over m.fixes)
+
+-- ---- reports
+
 mutual
   report_counted : (chain : Bool) (inherited : Option Source) (a : Answers) (t : Tree)
-      → length (report_rows chain inherited a t) ≡ parts chain t
+      → length (report_rows chain inherited a t) ≡ parts_below chain inherited a t
   report_counted chain inherited a (tree m own c r) =
       let from = effective own inherited in
-      let at : Place = diagnostic_place from (own_fault a) (in_order (given_labels m.labels)) m.snippets in
+      let fails = (own_answer a).fixes in
+      let at : Place = diagnostic_place from (own_answer a).place (in_order (given_labels m.labels)) m.snippets in
       let notes = labelled_rows from m in
       let causes = cause_rows_if chain at from (cause_answers a) c in
+      let advice = advice_rows at from fails m in
       let n : length notes ≡ texts_in (given_labels m.labels) + texts_further m.snippets = labels_counted from m in
       let k : length causes ≡ told_causes chain (causes_of c) = told_counted chain at from (cause_answers a) c in
-      let tail : length (notes ++ (causes ++ help_rows at m.help))
-      ≡ (texts_in (given_labels m.labels) + texts_further m.snippets) + (told_causes chain (causes_of c) + option_len m.help) =
-      length-append notes (causes ++ help_rows at m.help) ∙ ap₂ (λ x y. x + y) n
-      (length-append causes (help_rows at m.help) ∙ ap₂ (λ x y. x + y) k (help_counted at m.help)) in
+      let tail : length (notes ++ (causes ++ advice)) ≡ (texts_in (given_labels m.labels) + texts_further m.snippets)
+      + (told_causes chain (causes_of c) + advice_parts from fails m) =
+      length-append notes (causes ++ advice) ∙ ap₂ (λ x y. x + y) n
+      (length-append causes advice ∙ ap₂ (λ x y. x + y) k (advice_counted at from fails m)) in
       let more = related_counted chain from (related_answers a) r in
       let whole = length-append (own_rows chain from a m c) (related_rows chain from (related_answers a) r) in
       omega (arith, tail, more, whole)
 
   related_counted : (chain : Bool) (inherited : Option Source) (more : RelatedAnswers) (ts : Trees)
-      → length (related_rows chain inherited more ts) ≡ all_parts chain ts
+      → length (related_rows chain inherited more ts) ≡ all_parts chain inherited more ts
   related_counted chain inherited more no_trees = refl
   related_counted chain inherited more (more_trees t ts) =
       length-append (report_rows chain inherited (first_answers more) t)
@@ -280,7 +192,7 @@ mutual
       ∙ ap₂ (λ x y. x + y) (report_counted chain inherited (first_answers more) t)
       (related_counted chain inherited (later_answers more) ts)
 
-pub one_for_each : (s : BriefSettings) (t : Tree) (a : Answers) → IsRows (parts s.chain t) (brief s t a)
+pub one_for_each : (s : BriefSettings) (t : Tree) (a : Answers) → IsRows (parts s.chain t a) (brief s t a)
 one_for_each s t a =
     let rows = report_rows s.chain None a t in
     record {
@@ -290,3 +202,10 @@ one_for_each s t a =
           ∙ report_counted s.chain None a t;
       each = each_row rows;
     }
+
+pub given_each : (s : BriefSettings) (t : Tree) (text : List ℕ) → IsBrief s t text → HasEachPart s.chain t text
+given_each s t text h = record {
+  answers = h.answers;
+  possible = h.possible;
+  rows = subst (λ (bs : List ℕ). IsRows (parts s.chain t h.answers) bs) (sym h.is) (one_for_each s t h.answers);
+}

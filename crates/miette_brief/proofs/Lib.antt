@@ -6,5 +6,8 @@ pub mod Further
 pub mod SoFar
 pub mod Causing
 pub mod Telling
+pub mod Clean
 pub mod Counting
 pub mod ReadingBack
+pub mod EditsBack
+pub mod Fixing

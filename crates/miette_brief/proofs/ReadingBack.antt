@@ -7,13 +7,13 @@ use Rattle.std.specs.Str.Parse.{digits_value}
 use Rattle.std.proofs.lemmas.Bool.{and_parts, not-true}
 use Rattle.std.proofs.lemmas.Bool.Decides.{nat_tests}
 use Rattle.std.proofs.lemmas.Fmt.{decimal_is_IsNumeral, decimal_nonempty}
-use Rattle.miette_brief.specs.declared.rows.Position.{Position}
+use Rattle.miette_brief.specs.declared.fix_its.Position.{Position}
 use Rattle.miette_protocol.specs.declared.protocol.Severity.TheVariants.{Advice, Warning, Error}
-use Rattle.miette_brief.specs.rules.Rows.{ReportRow, Kind, finding, note, cause, help, one_row, place_text, kind_text}
-use Rattle.miette_brief.specs.rules.Rows.{row_text}
+use Rattle.miette_brief.specs.rules.Rows.{ToldRow, Kind, finding, note, cause, help, fix, failure, one_row, place_text}
+use Rattle.miette_brief.specs.rules.Rows.{kind_text, told_text}
 use Rattle.miette_brief.specs.laws.ReadBack.{has_no_colon, before_colon, after_colon, number_before, position_in}
 use Rattle.miette_brief.specs.laws.ReadBack.{ReadsBack, numbers_in, is_digit, position_first}
-use Rattle.miette_brief.proofs.Counting.{decimal_all}
+use Rattle.miette_brief.proofs.Clean.{decimal_all}
 
 before_past : (xs ys : List ℕ) → has_no_colon xs ≡ true → before_colon (xs ++ (58 ∷ ys)) ≡ xs
 before_past [] ys h = refl
@@ -92,9 +92,9 @@ text_back name rest (Some at) free fits =
     (Some at) free
     (shape (one_row name) line column rest) (position_past at (32 ∷ rest) fits.0 fits.1)
 
-pub place_back : (row : ReportRow) (name : List ℕ) → row.place.name ≡ Some name → has_no_colon (one_row name) ≡ true
+pub place_back : (row : ToldRow) (name : List ℕ) → row.place.name ≡ Some name → has_no_colon (one_row name) ≡ true
     → IfSome row.place.position (λ at. (at.line < 2 ^ 64) × (at.column < 2 ^ 64))
-    → ReadsBack (one_row name) row.place.position (row_text row)
+    → ReadsBack (one_row name) row.place.position (told_text row)
 place_back row name en free fits =
     let rest = kind_text row.kind ++ one_row row.text in
     subst (λ n. ReadsBack (one_row name) row.place.position (place_text n row.place.position ++ rest)) (sym en)
@@ -133,6 +133,8 @@ kind_first (finding (Some Advice) code) rest = refl
 kind_first note rest = refl
 kind_first cause rest = refl
 kind_first help rest = refl
+kind_first fix rest = refl
+kind_first failure rest = refl
 
 first_back : (position : Option Position) (kind : Kind) (text : List ℕ)
     → IfSome position (λ at. (at.line < 2 ^ 64) × (at.column < 2 ^ 64))
@@ -140,9 +142,9 @@ first_back : (position : Option Position) (kind : Kind) (text : List ℕ)
 first_back None kind text fits = kind_first kind text
 first_back (Some at) kind text fits = first_past at (kind_text kind ++ text) fits.0 fits.1
 
-pub nameless_back : (row : ReportRow) → row.place.name ≡ None
+pub nameless_back : (row : ToldRow) → row.place.name ≡ None
     → IfSome row.place.position (λ at. (at.line < 2 ^ 64) × (at.column < 2 ^ 64))
-    → position_first (row_text row) ≡ row.place.position
+    → position_first (told_text row) ≡ row.place.position
 nameless_back row en fits =
     ap (λ n. position_first (place_text n row.place.position ++ (kind_text row.kind ++ one_row row.text))) en
     ∙ first_back row.place.position row.kind (one_row row.text) fits

@@ -3,6 +3,7 @@ use Rattle.std.proofs.Common.{◌≡◌, ℕ, ◌+◌, ◌<◌, ◌≤◌, List,
 use Rattle.std.proofs.Common.{◌&&◌}
 use Rattle.std.proofs.Common.{Option, None, refl, sym, ap, ap₂, subst, ◌∙◌, append_assoc, append-nil}
 use Rattle.std.proofs.lemmas.List.{drop_all}
+use Rattle.miette_fixes.specs.rules.Edits.{Proposal}
 use Rattle.miette_protocol.specs.rules.Reading.{Source}
 use Rattle.miette_protocol.specs.views.Meaning.{Label}
 use Rattle.miette_tree.specs.rules.Diagnosis.{Diagnosis, Section}
@@ -11,7 +12,6 @@ use Rattle.miette_tree.specs.rules.Tree.{effective, head, source_of, cause_of, r
 use Rattle.miette_tree.specs.rules.DiagnosticParts.{given_labels}
 use Rattle.miette_tree.specs.rules.Reads.{AlwaysReads, CauseAlwaysReads, AllAlwaysRead, holds_of, holds_of_all, accepts}
 use Rattle.miette_tree.specs.rules.Reads.{holds_further}
-use Rattle.miette_tree.specs.rules.Answers.{own_fault}
 use Rattle.miette_tree.proofs.Nesting.{Reads, effective_reads, next_of}
 use Rattle.miette_tree.proofs.Readings.{fault_free}
 use Rattle.miette_labels.specs.rules.Groups.{in_order}
@@ -21,7 +21,8 @@ use Rattle.miette_brief.specs.rules.Report.{BriefSettings, Answers, RelatedAnswe
 use Rattle.miette_brief.specs.rules.Report.{cause_answers, related_answers, first_answers, later_answers, finding_row}
 use Rattle.miette_brief.specs.rules.Report.{note_rows, cause_row, cause_rows, caused_rows, cause_rows_if, help_rows}
 use Rattle.miette_brief.specs.rules.Report.{rows_at, own_rows, report_rows, related_rows, brief, further_notes}
-use Rattle.miette_brief.specs.rules.Report.{labelled_rows}
+use Rattle.miette_brief.specs.rules.Report.{labelled_rows, advice_rows, ReadAnswers, own_answer}
+use Rattle.miette_brief.specs.rules.Fixes.{fixed_source, fixes_rows}
 use Rattle.miette_brief.specs.rules.PossibleAnswers.{HasAccepted, FurtherAccepted, AreCauseAnswers, AreCausedAnswers, AreAnswers}
 use Rattle.miette_brief.specs.rules.PossibleAnswers.{AllAnswers, IsBrief}
 use Rattle.miette_brief.specs.steps.Reads.{IsDiagnosticPlace}
@@ -29,7 +30,7 @@ use Rattle.miette_brief.proofs.Choosing.{nothing_met, primary_reads, accepts_ord
 use Rattle.miette_brief.proofs.Putting.{rows_joined}
 use Rattle.miette_brief.proofs.SoFar.{ToldSoFar, one_so_far}
 use Rattle.miette_brief.specs.steps.AppendedParts.{AppendsCauses, AppendsLabelled, AppendsOwn, AppendsReport}
-use Rattle.miette_brief.specs.steps.AppendedParts.{AppendsRelated}
+use Rattle.miette_brief.specs.steps.AppendedParts.{AppendsRelated, AppendsFixes, AppendsAdvice}
 
 -- ---- causes that aren't told
 
@@ -97,22 +98,39 @@ labelled source m labels order further at old mid more new el eo ef placed e f a
           (g ∙ ap (λ ss. more ++ rows_text (further_notes ss)) ef);
     }
 
+-- help, and fixes behind it
+pub advised : (at : Place) (source : Option Source) (m : Diagnosis) (given : Option (List ℕ)) (fixes : List Proposal)
+    (old mid new : List ℕ) → given ≡ m.help → fixes ≡ m.fixes → mid ≡ old ++ rows_text (help_rows at given)
+    → AppendsFixes at source fixes mid new → AppendsAdvice at source m old new
+advised at source m given fixes old mid new eh ef e f =
+    let rows : List Proposal → List ReportRow = λ l. fixes_rows at (fixed_source source f.fails) l in
+    record {
+      fails = f.fails;
+      possible = f.possible;
+      appended = f.appended ∙ ap₂ (λ o l. o ++ rows_text (rows l))
+          (e ∙ ap (λ o. old ++ rows_text (help_rows at o)) eh) ef
+          ∙ append_assoc old (rows_text (help_rows at m.help)) (rows_text (rows m.fixes))
+          ∙ ap (λ l. old ++ l) (sym (rows_joined (help_rows at m.help) (rows m.fixes)));
+    }
+
 pub own_told : (chain : Bool) (source : Option Source) (m : Diagnosis) (c : Cause) (at : Place)
-    (given : Option (List ℕ)) (old mid caused new : List ℕ)
-    → given ≡ m.help → AppendsLabelled source m at old mid → AppendsCauses chain at source c mid caused
-    → new ≡ caused ++ rows_text (help_rows at given) → AppendsOwn chain source m c old new
-own_told chain source m c at given old mid caused new eh head causes e =
+    (old mid caused new : List ℕ) → AppendsLabelled source m at old mid → AppendsCauses chain at source c mid caused
+    → AppendsAdvice at source m caused new → AppendsOwn chain source m c old new
+own_told chain source m c at old mid caused new head causes advice =
     let rows : List ReportRow = finding_row at m ∷ labelled_rows source m in
     let told : List ReportRow = cause_rows_if chain at source causes.answers c in
-    let answers : Answers = listed head.placed.fault causes.answers no_more in
+    let last : List ReportRow = advice_rows at source advice.fails m in
+    let own : ReadAnswers = record { place = head.placed.fault; fixes = advice.fails } in
+    let answers : Answers = listed own causes.answers no_more in
     record {
       answers = answers;
       accepted = head.accepted;
       possible = head.placed.possible;
       causes = causes.possible;
-      appended = three old mid caused new (rows_text rows) (rows_text told) (rows_text (help_rows at m.help))
-          head.appended causes.appended (e ∙ ap (λ o. caused ++ rows_text (help_rows at o)) eh)
-          ∙ ap (λ l. old ++ l) (sym (rows_of_three rows told (help_rows at m.help)))
+      fixes = advice.possible;
+      appended = three old mid caused new (rows_text rows) (rows_text told) (rows_text last) head.appended
+          causes.appended advice.appended
+          ∙ ap (λ l. old ++ l) (sym (rows_of_three rows told last))
           ∙ ap (λ q. old ++ rows_text (rows_at chain q source answers m c)) head.placed.is;
     }
 
@@ -132,8 +150,8 @@ report_told chain inherited (tree m s c rs) source related old mid new es er own
     let rows : List ReportRow = own_rows chain from here.answers m c in
     let more : List ReportRow = related_rows chain from there.answers rs in
     record {
-      answers = listed (own_fault here.answers) (cause_answers here.answers) there.answers;
-      possible = (here.accepted, here.possible, here.causes, there.possible);
+      answers = listed (own_answer here.answers) (cause_answers here.answers) there.answers;
+      possible = (here.accepted, here.possible, here.causes, there.possible, here.fixes);
       appended = there.appended ∙ ap (λ l. l ++ rows_text more) here.appended
           ∙ append_assoc old (rows_text rows) (rows_text more) ∙ ap (λ l. old ++ l) (sym (rows_joined rows more));
     }
@@ -219,7 +237,7 @@ mutual
       let spot_reads : Reads (source_of_spot primary) =
       primary_reads from (in_order (given_labels m.labels)) m.snippets from_reads reads.3 in
       ap₂ (λ b rows. cause_row (cause_place at b primary) m.message ∷ rows)
-      (fault_free (source_of_spot primary) (own_fault a) p.0 spot_reads)
+      (fault_free (source_of_spot primary) (own_answer a).place p.0 spot_reads)
       (same_causes at inherited (cause_answers a) c p.1 i reads.1)
 
 same_if : (chain : Bool) (at : Place) (inherited : Option Source) (a : Answers) (c : Cause)
@@ -236,10 +254,14 @@ mutual
       let from_reads : Reads from = effective_reads own inherited reads.0 i in
       let ls : List Label = in_order (given_labels m.labels) in
       let at : Place = diagnostic_place from false ls m.snippets in
-      let placed : diagnostic_place from (own_fault a) ls m.snippets ≡ at =
-      ap (λ b. diagnostic_place from b ls m.snippets) (fault_free from (own_fault a) p.1 from_reads) in
-      ap (λ q. rows_at chain q from a m c ++ related_rows chain from (related_answers a) r) placed
-      ∙ ap₂ (λ causes others. (finding_row at m ∷ (labelled_rows from m ++ (causes ++ help_rows at m.help))) ++ others)
+      let placed : diagnostic_place from (own_answer a).place ls m.snippets ≡ at =
+      ap (λ b. diagnostic_place from b ls m.snippets) (fault_free from (own_answer a).place p.1 from_reads) in
+      let others = related_rows chain from (related_answers a) r in
+      let causes = cause_rows_if chain at from (cause_answers a) c in
+      ap (λ q. rows_at chain q from a m c ++ others) placed
+      ∙ ap (λ b. (finding_row at m ∷ (labelled_rows from m ++ (causes ++ advice_rows at from b m))) ++ others)
+      (fault_free from (own_answer a).fixes p.4 from_reads)
+      ∙ ap₂ (λ x y. (finding_row at m ∷ (labelled_rows from m ++ (x ++ advice_rows at from false m))) ++ y)
       (same_if chain at from (cause_answers a) c p.2 from_reads reads.1)
       (same_related chain from (related_answers a) r p.3 from_reads reads.2)
 

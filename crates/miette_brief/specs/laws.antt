@@ -1,3 +1,4 @@
 -- What holds of the rules.
 pub mod Parts
 pub mod ReadBack
+pub mod EditBack

@@ -2,37 +2,49 @@
 //! calling it.
 
 ghost use Rattle.std.specs.Prelude.{◌≡◌, ◌<◌, ◌^◌, ◌++◌, ℕ, List, Some, None, IfSome, true};
+ghost use Rattle.std.specs.List.{All};
 ghost use Rattle.miette_tree.specs.rules.Tree.{Tree};
 ghost use Rattle.miette_tree.specs.rules.Reads.{AlwaysReads};
 ghost use Rattle.miette_tree.specs.views.Handler.{AppendsOne};
-ghost use Rattle.miette_brief.specs.rules.Rows.{ReportRow, one_row, row_text};
+ghost use Rattle.miette_brief.specs.rules.Rows.{ToldRow, one_row, told_text};
+ghost use Rattle.miette_brief.specs.rules.FixIts.{FixIt, fix_it_text};
 ghost use Rattle.miette_brief.specs.rules.Report.{BriefSettings, Answers, brief, unlisted};
 ghost use Rattle.miette_brief.specs.rules.PossibleAnswers.{IsBrief};
-ghost use Rattle.miette_brief.specs.laws.Parts.{parts, IsRows};
+ghost use Rattle.miette_brief.specs.laws.Parts.{parts, IsRows, HasEachPart};
+ghost use Rattle.miette_brief.specs.laws.EditBack.{ReadsEdit};
 ghost use Rattle.miette_brief.specs.laws.ReadBack.{has_no_colon, ReadsBack, position_first};
 
 /// A report has exactly one row for each of its parts: its message, its labels with a text, its causes where they are
-/// told, its help, and the parts of each report related to it. None is empty, none holds a control character, and each
-/// ends in LF.
-#[tactic(auto, using(crate::proofs::Counting::one_for_each))]
+/// told, its help, its fixes, each with its edits or why these can't be applied, and the parts of each report related to
+/// it. None is empty, none holds a control character, and each ends in LF.
 pub fn each_part_has_one_row()
-    ensures { (s : BriefSettings) (t : Tree) (a : Answers) → IsRows (parts s.chain t) (brief s t a) }
+    ensures rows { (s : BriefSettings) (t : Tree) (a : Answers) → IsRows (parts s.chain t a) (brief s t a) }
+    ensures given { (s : BriefSettings) (t : Tree) (text : List ℕ) → IsBrief s t text → HasEachPart s.chain t text }
 {}
 
-/// In a row with a name that has no colon the place reads back: up to the first colon stands the name as it is spelled,
-/// and behind it the line and the column, each up to the next one, or a space where the row has no position.
+/// In a row with a name that has no colon the place reads back, but for an edit's: up to the first colon stands the name
+/// as it is spelled, and behind it the line and the column, each up to the next one, or a space where the row has no
+/// position.
 pub fn a_place_reads_back()
-    ensures { (row : ReportRow) (name : List ℕ) → row.place.name ≡ Some name → has_no_colon (one_row name) ≡ true →
+    ensures { (row : ToldRow) (name : List ℕ) → row.place.name ≡ Some name → has_no_colon (one_row name) ≡ true →
         IfSome row.place.position (λ at. (at.line < 2 ^ 64) × (at.column < 2 ^ 64)) →
-        ReadsBack (one_row name) row.place.position (row_text row) }
+        ReadsBack (one_row name) row.place.position (told_text row) }
 {}
 
 /// In a row without a name the position reads back: the line stands up to the first colon, and the column up to the
 /// next one. A row that has no position either begins with no digit.
 pub fn a_nameless_place_reads_back()
-    ensures { (row : ReportRow) → row.place.name ≡ None →
+    ensures { (row : ToldRow) → row.place.name ≡ None →
         IfSome row.place.position (λ at. (at.line < 2 ^ 64) × (at.column < 2 ^ 64)) →
-        position_first (row_text row) ≡ row.place.position }
+        position_first (told_text row) ≡ row.place.position }
+{}
+
+/// The row of an edit reads back: the name of its source, nothing where it has none, where it begins and where it ends,
+/// and its text.
+pub fn an_edit_reads_back()
+    ensures { (it : FixIt) → IfSome it.name (All (λ b. b < 256)) → All (λ b. b < 256) it.text →
+        (it.start.line < 2 ^ 64) × (it.start.column < 2 ^ 64) → (it.end.line < 2 ^ 64) × (it.end.column < 2 ^ 64) →
+        ReadsEdit it (fix_it_text it) }
 {}
 
 /// Where every source of a report always reads, it has one brief text: `ReportHandler::debug`, and what stands on it,

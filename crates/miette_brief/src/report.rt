@@ -15,12 +15,13 @@ ghost use Rattle.miette_brief.specs.rules.PossibleAnswers.{HasAccepted, FurtherA
 ghost use Rattle.miette_brief.specs.rules.Report.{finding_row, note_rows_of, note_rows, further_notes, cause_row};
 ghost use Rattle.miette_brief.specs.rules.Report.{help_rows};
 ghost use Rattle.miette_brief.specs.rules.Rows.{rows_text};
-ghost use Rattle.miette_brief.specs.steps.AppendedParts.{AppendsCauses, AppendsLabelled, AppendsOwn};
+ghost use Rattle.miette_brief.specs.steps.AppendedParts.{AppendsAdvice, AppendsCauses, AppendsLabelled, AppendsOwn};
 ghost use Rattle.miette_brief.specs.steps.Conversions.{place_of};
 ghost use Rattle.miette_brief.specs.steps.Reads.{IsUnread, IsReadAt};
 ghost use Rattle.miette_labels.specs.rules.Groups.{in_order};
 ghost use Rattle.miette_labels.specs.views.GivenLabels.{label_at};
 
+use crate::fixes::push_fixes;
 use crate::places::{cause_place, diagnostic_place, label_place};
 use crate::rows::{Kind, Place, push_row};
 use crate::spots::label_of;
@@ -165,6 +166,20 @@ fn push_help(out: &mut String, at: Place<'_>, help: Option<&str>) -> Result<(), 
     push_row(out, at, Kind::Help, help)
 }
 
+/// Help and fixes of a report that lies at a place over a source, or over none.
+fn push_advice<D: Diagnostic, S: SourceCode>(
+    report: &Report<D, S>,
+    at: Place<'_>,
+    source: Option<SourceRef<'_, S>>,
+    out: &mut String,
+) -> Result<(), AllocError>
+    ensures { OnOk result (AppendsAdvice (place_of at.entry) (option_map (shown_source S.source) source.entry)
+        (head (tree_of D.meaning S.source report.now)) (string_bytes out.old) (string_bytes out.new)) }
+{
+    push_help(out, at, report.help())?;
+    push_fixes(at, report.fixes(), source, out)
+}
+
 /// The rows of a report over a source, or over none, of its labels in this order, and of those over further sources;
 /// where the report lies.
 fn push_labelled<'a, D: Diagnostic, S: SourceCode>(
@@ -214,6 +229,6 @@ pub(crate) fn push_own<'a, D: Diagnostic, S: SourceCode>(
     if chain {
         push_causes(alloc, report, at, source, out)?;
     }
-    push_help(out, at, report.help())?;
+    push_advice(report, at, source, out)?;
     Ok(())
 }

@@ -1,21 +1,15 @@
 //! The rows of a brief report, and their parts.
 
 ghost use Rattle.std.specs.Prelude.{◌≡◌, ◌++◌, ◌∷◌, [], Some, None, OnOk, string_bytes, option_copied};
-ghost use Rattle.miette_brief.specs.rules.Rows.{position_text, behind_colon, place_text, code_text, kind_text};
-ghost use Rattle.miette_brief.specs.rules.Rows.{finding, rows_text};
+ghost use Rattle.miette_brief.specs.rules.Rows.{behind_colon, place_text, code_text, kind_text};
+ghost use Rattle.miette_brief.specs.rules.Rows.{finding, told, rows_text};
 ghost use Rattle.miette_brief.specs.steps.Conversions.{place_of, kind_of};
 
-use crate::words::{push_number, push_one_row};
+use crate::fix_its::{Position, push_position};
+use crate::words::push_one_row;
 use miette_protocol::protocol::Severity;
 use miette_tree::parts::severity_name;
 use std::alloc::AllocError;
-
-/// A line and a column, both counted from 1, the column in bytes.
-#[derive(Clone, Copy)]
-pub(crate) struct Position {
-    pub(crate) line: usize,
-    pub(crate) column: usize,
-}
 
 /// The name of a source, and a position in it.
 #[derive(Clone, Copy)]
@@ -24,22 +18,16 @@ pub(crate) struct Place<'a> {
     pub(crate) position: Option<Position>,
 }
 
-/// What a row tells: a diagnostic with its severity and its code, a label, a cause, or help.
+/// What a row tells: a diagnostic with its severity and its code, a label, a cause, help, a fix, or why it can't be
+/// applied.
 #[derive(Clone, Copy)]
 pub(crate) enum Kind<'a> {
     Finding(Option<Severity>, Option<&'a str>),
     Note,
     Cause,
     Help,
-}
-
-/// `2:3`
-fn push_position(out: &mut String, at: Position) -> Result<(), AllocError>
-    ensures { OnOk result (string_bytes out.new ≡ string_bytes out.old ++ position_text at) }
-{
-    push_number(out, at.line)?;
-    out.push_str(":")?;
-    push_number(out, at.column)
+    Fix,
+    Failure,
 }
 
 /// `:2:3`
@@ -119,6 +107,8 @@ fn push_kind(out: &mut String, kind: Kind<'_>) -> Result<(), AllocError>
         Kind::Note => out.push_str("note: "),
         Kind::Cause => out.push_str("note: caused by: "),
         Kind::Help => out.push_str("help: "),
+        Kind::Fix => out.push_str("fix: "),
+        Kind::Failure => out.push_str("note: failed to apply fix: "),
     }
 }
 
@@ -130,7 +120,11 @@ pub(crate) fn push_row(
     text: &str,
 ) -> Result<(), AllocError>
     ensures { OnOk result (string_bytes out.new ≡ string_bytes out.old
-        ++ rows_text (record { place = place_of place.entry; kind = kind_of kind.entry; text = text.now } ∷ [])) }
+        ++ rows_text (told (record {
+          place = place_of place.entry;
+          kind = kind_of kind.entry;
+          text = text.now;
+        }) ∷ [])) }
 {
     push_place(out, place)?;
     push_kind(out, kind)?;

@@ -11,7 +11,8 @@ ghost use Rattle.miette_brief.specs.rules.Places.{primary_spot as primary_of};
 ghost use Rattle.miette_brief.specs.steps.Conversions.{place_of};
 ghost use Rattle.miette_brief.specs.steps.Reads.{IsBegin, IsFound};
 
-use crate::rows::{Place, Position};
+use crate::fix_its::Position;
+use crate::rows::Place;
 use miette_basics::sums::sum;
 use miette_labels::order::{Turn, by_offset};
 use miette_protocol::protocol::{LabeledSpan, SourceSpan};

@@ -3,7 +3,7 @@ use Rattle.std.specs.Prelude.{◌≡◌, ℕ, ◌==◌, nat_le, Bool, not, ◌&&
 use Rattle.std.specs.Prelude.{if◌then◌else◌}
 use Rattle.std.specs.List.{list_all}
 use Rattle.std.specs.Str.Parse.{digits_value}
-use Rattle.miette_brief.specs.declared.rows.Position.{Position}
+use Rattle.miette_brief.specs.declared.fix_its.Position.{Position}
 
 abbrev pub has_no_colon : List ℕ → Bool
 has_no_colon bs = list_all (λ b. not (b == 58)) bs

@@ -7,9 +7,8 @@ use Rattle.miette_tree.specs.rules.Diagnosis.{Section}
 use Rattle.miette_tree.specs.rules.Tree.{Tree, tree, Cause, diagnostic, texts, Trees, no_trees, more_trees, effective}
 use Rattle.miette_tree.specs.rules.DiagnosticParts.{given_labels}
 use Rattle.miette_tree.specs.rules.Reads.{MayMeet}
-use Rattle.miette_tree.specs.rules.Answers.{own_fault}
 use Rattle.miette_labels.specs.rules.Groups.{in_order, AreAccepted}
-use Rattle.miette_brief.specs.rules.Report.{BriefSettings, Answers, RelatedAnswers, cause_answers}
+use Rattle.miette_brief.specs.rules.Report.{BriefSettings, Answers, RelatedAnswers, own_answer, cause_answers}
 use Rattle.miette_brief.specs.rules.Report.{related_answers, first_answers, later_answers}
 use Rattle.miette_brief.specs.rules.Report.{brief}
 use Rattle.miette_brief.specs.rules.Places.{primary_spot, source_of_spot}
@@ -36,15 +35,16 @@ abbrev mutual
   pub AreCausedAnswers : Option Source → Answers → Tree → Type 0
   AreCausedAnswers inherited a (tree m own c r) =
       MayMeet (source_of_spot (primary_spot (effective own inherited) (in_order (given_labels m.labels)) m.snippets))
-      (own_fault a) × AreCauseAnswers inherited (cause_answers a) c
+      (own_answer a).place × AreCauseAnswers inherited (cause_answers a) c
 
 abbrev mutual
   pub AreAnswers : Option Source → Answers → Tree → Type 0
   AreAnswers inherited a (tree m own c r) =
       (HasAccepted (effective own inherited) (in_order (given_labels m.labels)) × FurtherAccepted m.snippets)
-      × MayMeet (effective own inherited) (own_fault a)
+      × MayMeet (effective own inherited) (own_answer a).place
       × AreCauseAnswers (effective own inherited) (cause_answers a) c
       × AllAnswers (effective own inherited) (related_answers a) r
+      × MayMeet (effective own inherited) (own_answer a).fixes
 
   pub AllAnswers : Option Source → RelatedAnswers → Trees → Type 0
   AllAnswers inherited more no_trees = ⊤

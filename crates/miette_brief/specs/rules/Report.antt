@@ -4,12 +4,13 @@ use Rattle.miette_protocol.specs.views.Meaning.{Label}
 use Rattle.miette_tree.specs.rules.Diagnosis.{Diagnosis, Section}
 use Rattle.miette_protocol.specs.rules.Reading.{Source}
 use Rattle.miette_tree.specs.rules.Tree.{Tree, tree, Cause, diagnostic, texts, Trees, no_trees, more_trees, effective}
-use Rattle.miette_tree.specs.rules.Answers.{AnswerTree, AnswerTrees, own_fault}
+use Rattle.miette_tree.specs.rules.Answers.{AnswerTree, AnswerTrees, own_or}
 pub use Rattle.miette_tree.specs.rules.Answers.{unlisted, listed, no_more, and_more, cause_answers, related_answers}
 pub use Rattle.miette_tree.specs.rules.Answers.{first_answers, later_answers}
 use Rattle.miette_tree.specs.rules.DiagnosticParts.{given_labels}
 use Rattle.miette_labels.specs.rules.Groups.{in_order}
-use Rattle.miette_brief.specs.rules.Rows.{Place, ReportRow, Kind, finding, note, cause, help, rows_text}
+use Rattle.miette_brief.specs.rules.Fixes.{fixed_source, fixes_rows}
+use Rattle.miette_brief.specs.rules.Rows.{Place, ReportRow, told, Kind, finding, note, cause, help, rows_text}
 use Rattle.miette_brief.specs.rules.Places.{label_place, diagnostic_place, cause_place, primary_spot}
 
 -- what a handler is set to: whether causes are told
@@ -21,24 +22,34 @@ default_settings = record { chain = true }
 
 -- ---- answers
 
--- Of a report, of its causes and of related reports: did a read meet a fault that is told by leaving something out?
--- Of a diagnostic without labels it is the read for the name of its source, of a cause the read of its primary label.
--- A read that isn't listed met none.
+-- Did the reads for one diagnostic meet faults that refuse nothing? That for its place is the read for the name of its
+-- source where it has no labels, and of a cause the read of its primary label.
+pub record ReadAnswers : Type 0 where
+  pub place : Bool
+  pub fixes : Bool
+
+abbrev pub none_failed : ReadAnswers
+none_failed = record { place = false; fixes = false }
+
+-- of a report, of its causes and of related reports; a read that isn't listed met none
 abbrev pub Answers : Type 0
-Answers = AnswerTree Bool
+Answers = AnswerTree ReadAnswers
 
 abbrev pub RelatedAnswers : Type 0
-RelatedAnswers = AnswerTrees Bool
+RelatedAnswers = AnswerTrees ReadAnswers
+
+abbrev pub own_answer : Answers → ReadAnswers
+own_answer a = own_or none_failed a
 
 -- ---- the rows of one diagnostic
 
 abbrev pub finding_row : Place → Diagnosis → ReportRow
-finding_row at m = record { place = at; kind = finding m.severity m.code; text = m.message }
+finding_row at m = told (record { place = at; kind = finding m.severity m.code; text = m.message })
 
 -- a row of a kind for a text, where there is one
 abbrev pub rows_of_kind : Kind → Place → Option (List ℕ) → List ReportRow
 rows_of_kind kind at None = []
-rows_of_kind kind at (Some text) = record { place = at; kind = kind; text = text } ∷ []
+rows_of_kind kind at (Some text) = told (record { place = at; kind = kind; text = text }) ∷ []
 
 abbrev pub note_rows_of : Place → Option (List ℕ) → List ReportRow
 note_rows_of at text = rows_of_kind note at text
@@ -62,7 +73,7 @@ abbrev pub labelled_rows : Option Source → Diagnosis → List ReportRow
 labelled_rows source m = note_rows source (in_order (given_labels m.labels)) ++ further_notes m.snippets
 
 abbrev pub cause_row : Place → List ℕ → ReportRow
-cause_row at text = record { place = at; kind = cause; text = text }
+cause_row at text = told (record { place = at; kind = cause; text = text })
 
 -- a row for each cause, the nearest first, below a diagnostic that lies at a place; each is over its own source, else
 -- over that of the diagnostic
@@ -73,7 +84,7 @@ abbrev mutual
 
   pub caused_rows : Place → Option Source → Answers → Tree → List ReportRow
   caused_rows at inherited a (tree m own c r) =
-      cause_row (cause_place at (own_fault a)
+      cause_row (cause_place at (own_answer a).place
       (primary_spot (effective own inherited) (in_order (given_labels m.labels)) m.snippets)) m.message
       ∷ cause_rows at inherited (cause_answers a) c
 
@@ -82,15 +93,21 @@ abbrev pub cause_rows_if : Bool → Place → Option Source → Answers → Caus
 cause_rows_if true at source a c = cause_rows at source a c
 cause_rows_if false at source a c = []
 
--- a diagnostic at a place over a source: itself, its labels, its causes, its help
+-- help and fixes of a diagnostic at a place over a source of which the read for fixes fails or not
+abbrev pub advice_rows : Place → Option Source → Bool → Diagnosis → List ReportRow
+advice_rows at source fails m = help_rows at m.help ++ fixes_rows at (fixed_source source fails) m.fixes
+
+-- a diagnostic at a place over a source: itself, its labels, its causes, its help, its fixes
 abbrev pub rows_at : Bool → Place → Option Source → Answers → Diagnosis → Cause → List ReportRow
 rows_at chain at source a m c =
     finding_row at m
-    ∷ (labelled_rows source m ++ (cause_rows_if chain at source (cause_answers a) c ++ help_rows at m.help))
+    ∷ (labelled_rows source m
+    ++ (cause_rows_if chain at source (cause_answers a) c ++ advice_rows at source (own_answer a).fixes m))
 
 abbrev pub own_rows : Bool → Option Source → Answers → Diagnosis → Cause → List ReportRow
 own_rows chain source a m c =
-    rows_at chain (diagnostic_place source (own_fault a) (in_order (given_labels m.labels)) m.snippets) source a m c
+    rows_at chain (diagnostic_place source (own_answer a).place (in_order (given_labels m.labels)) m.snippets) source
+    a m c
 
 -- ---- the whole
 

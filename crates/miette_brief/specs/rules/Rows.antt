@@ -1,11 +1,12 @@
 -- The rows of a brief report as data, and how they are spelled.
-use Rattle.std.specs.Prelude.{ℕ, List, [], ◌∷◌, ◌++◌, Option, Some, None, Bool, true, false, if◌then◌else◌, decimal}
+use Rattle.std.specs.Prelude.{ℕ, List, [], ◌∷◌, ◌++◌, Option, Some, None, Bool, true, false, if◌then◌else◌}
 use Rattle.std.specs.Prelude.{codes, encode_utf8_all}
 use Rattle.std.specs.Char.{is_control}
 use Rattle.std.specs.Str.{chars}
 use Rattle.miette_protocol.specs.declared.protocol.Severity.{Severity}
 use Rattle.miette_tree.specs.rules.DiagnosticParts.{severity_text}
-use Rattle.miette_brief.specs.declared.rows.Position.{Position}
+use Rattle.miette_brief.specs.declared.fix_its.Position.{Position}
+use Rattle.miette_brief.specs.rules.FixIts.{FixIt, position_text, fix_it_text}
 
 -- ---- rows
 
@@ -18,17 +19,25 @@ pub record Place : Type 0 where
 abbrev pub nowhere : Place
 nowhere = record { name = None; position = None }
 
--- what a row tells: a diagnostic with its severity and its code, a label, a cause, or help
+-- what a row tells: a diagnostic with its severity and its code, a label, a cause, help, a fix, or why it can't be
+-- applied
 pub data Kind : Type 0 where
   finding : Option Severity → Option (List ℕ) → Kind
   note : Kind
   cause : Kind
   help : Kind
+  fix : Kind
+  failure : Kind
 
-pub record ReportRow : Type 0 where
+pub record ToldRow : Type 0 where
   pub place : Place
   pub kind : Kind
   pub text : List ℕ
+
+-- a row for a reader, or the row of an edit, which an editor applies
+pub data ReportRow : Type 0 where
+  told : ToldRow → ReportRow
+  applied : FixIt → ReportRow
 
 -- ---- spelling
 
@@ -49,10 +58,6 @@ spaced_text goes_on (c ∷ cs) = shown_for goes_on c ++ spaced_text (is_control 
 -- a text as it stands in a row
 abbrev pub one_row : List ℕ → List ℕ
 one_row text = encode_utf8_all (spaced_text false (chars text))
-
--- `2:3`
-abbrev pub position_text : Position → List ℕ
-position_text at = decimal at.line ++ (codes ":" ++ decimal at.column)
 
 -- `:2:3`
 abbrev pub behind_colon : Option Position → List ℕ
@@ -76,10 +81,16 @@ kind_text (finding severity code) = severity_text severity ++ (code_text code ++
 kind_text note = codes "note: "
 kind_text cause = codes "note: caused by: "
 kind_text help = codes "help: "
+kind_text fix = codes "fix: "
+kind_text failure = codes "note: failed to apply fix: "
 
 -- a row without its line feed
+abbrev pub told_text : ToldRow → List ℕ
+told_text row = place_text row.place.name row.place.position ++ (kind_text row.kind ++ one_row row.text)
+
 abbrev pub row_text : ReportRow → List ℕ
-row_text row = place_text row.place.name row.place.position ++ (kind_text row.kind ++ one_row row.text)
+row_text (told row) = told_text row
+row_text (applied row) = fix_it_text row
 
 -- rows, each with a line feed at its end
 abbrev pub rows_text : List ReportRow → List ℕ

@@ -1,15 +1,16 @@
 -- What is appended for the parts of a report, under some answers.
 use Rattle.std.specs.Prelude.{◌≡◌, ℕ, Bool, List, ◌∷◌, ◌++◌, Option}
+use Rattle.miette_fixes.specs.rules.Edits.{Proposal}
 use Rattle.miette_tree.specs.rules.Diagnosis.{Diagnosis}
 use Rattle.miette_protocol.specs.rules.Reading.{Source}
 use Rattle.miette_tree.specs.rules.Tree.{Tree, Cause, Trees}
 use Rattle.miette_tree.specs.rules.DiagnosticParts.{given_labels}
-use Rattle.miette_tree.specs.rules.Answers.{own_fault}
 use Rattle.miette_tree.specs.rules.Reads.{MayMeet}
 use Rattle.miette_labels.specs.rules.Groups.{in_order}
 use Rattle.miette_brief.specs.rules.Rows.{Place, rows_text}
 use Rattle.miette_brief.specs.rules.Report.{Answers, RelatedAnswers, cause_answers, cause_rows_if, finding_row}
-use Rattle.miette_brief.specs.rules.Report.{own_rows, report_rows, related_rows, labelled_rows}
+use Rattle.miette_brief.specs.rules.Report.{own_answer, own_rows, report_rows, related_rows, labelled_rows, advice_rows}
+use Rattle.miette_brief.specs.rules.Fixes.{fixed_source, fixes_rows}
 use Rattle.miette_brief.specs.rules.PossibleAnswers.{HasAccepted, FurtherAccepted, AreCauseAnswers, AreAnswers}
 use Rattle.miette_brief.specs.rules.PossibleAnswers.{AllAnswers}
 use Rattle.miette_brief.specs.steps.Reads.{IsDiagnosticPlace}
@@ -27,13 +28,27 @@ pub record AppendsLabelled (source : Option Source) (m : Diagnosis) (at : Place)
   pub accepted : HasAccepted source (in_order (given_labels m.labels)) × FurtherAccepted m.snippets
   pub appended : new ≡ old ++ rows_text (finding_row at m ∷ labelled_rows source m)
 
+-- new is old and then the rows of fixes of a diagnostic at a place, where their read fails or not
+pub record AppendsFixes (at : Place) (source : Option Source) (fixes : List Proposal) (old new : List ℕ) : Type 0
+  where
+    pub fails : Bool
+    pub possible : MayMeet source fails
+    pub appended : new ≡ old ++ rows_text (fixes_rows at (fixed_source source fails) fixes)
+
+-- new is old and then help and fixes of a diagnostic at a place
+pub record AppendsAdvice (at : Place) (source : Option Source) (m : Diagnosis) (old new : List ℕ) : Type 0 where
+  pub fails : Bool
+  pub possible : MayMeet source fails
+  pub appended : new ≡ old ++ rows_text (advice_rows at source fails m)
+
 -- new is old and then the rows of a diagnostic with its cause, for some answers
 pub record AppendsOwn (chain : Bool) (source : Option Source) (m : Diagnosis) (c : Cause) (old new : List ℕ) : Type 0
   where
     pub answers : Answers
     pub accepted : HasAccepted source (in_order (given_labels m.labels)) × FurtherAccepted m.snippets
-    pub possible : MayMeet source (own_fault answers)
+    pub possible : MayMeet source (own_answer answers).place
     pub causes : AreCauseAnswers source (cause_answers answers) c
+    pub fixes : MayMeet source (own_answer answers).fixes
     pub appended : new ≡ old ++ rows_text (own_rows chain source answers m c)
 
 -- new is old and then a report, for some answers

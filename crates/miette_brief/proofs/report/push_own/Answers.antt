@@ -49,5 +49,5 @@ returns-clause-text g c =
       | else-chain w ↦ subst (λ (b : Bool). AppendsCauses b at source (cause_of value) mid caused)
           (sym w.if-chain.false) (untold at source (cause_of value) mid caused (ap string_bytes w.out-is))
     ] in
-    own_told c.args.chain source (head value) (cause_of value) at _ (string_bytes c.args.out.now) mid caused
-    (string_bytes c.push_help.new.out) c.help.ensures c.in_ok-at.ensures.text causes c.in_ok-push_help.ensures
+    own_told c.args.chain source (head value) (cause_of value) at (string_bytes c.args.out.now) mid caused
+    (string_bytes c.push_advice.new.out) c.in_ok-at.ensures.text causes c.in_ok-push_advice.ensures
