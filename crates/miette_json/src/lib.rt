@@ -7,4 +7,4 @@ pub mod laws;
 mod members;
 mod places;
 mod report;
-mod text;
+pub mod text;

@@ -9,7 +9,7 @@ ghost use Rattle.json.specs.Print.{escape_byte};
 use std::alloc::AllocError;
 
 /// Appends a string in quotes, with its escapes.
-pub(crate) fn push_quoted(out: &mut String, text: &str) -> Result<(), AllocError>
+pub fn push_quoted(out: &mut String, text: &str) -> Result<(), AllocError>
     ensures { OnOk result (string_bytes out.new ≡ string_bytes out.old ++ quoted_text text.now) }
 {
     out.push_str("\"")?;

@@ -1,0 +1,3 @@
+pub mod Braces
+pub mod Spelling
+pub mod Written

@@ -1,0 +1,22 @@
+-- Messages: rows of text, with their braces doubled.
+use Rattle.std.specs.Prelude.{ℕ, List, [], ◌∷◌, ◌++◌, Bool, ◌||◌, ◌==◌, if◌then◌else◌}
+
+-- `{` and `}`, which alone begin and end what stands for an argument of a message
+abbrev pub is_brace : ℕ → Bool
+is_brace x = (x == 123) || (x == 125)
+
+abbrev pub double_byte : ℕ → List ℕ
+double_byte x = if is_brace x then x ∷ x ∷ [] else x ∷ []
+
+-- a text with its braces doubled
+abbrev pub doubled : List ℕ → List ℕ
+doubled [] = []
+doubled (x ∷ xs) = double_byte x ++ doubled xs
+
+-- a row below others: what names it, and its text
+abbrev pub row : List ℕ → List ℕ → List ℕ
+row title text = 10 ∷ (title ++ doubled text)
+
+abbrev pub rows : List ℕ → List (List ℕ) → List ℕ
+rows title [] = []
+rows title (text ∷ texts) = row title text ++ rows title texts

@@ -1,0 +1,113 @@
+//! The handler of SARIF logs.
+
+ghost use Rattle.std.specs.Prelude.{◌≡◌, ◌++◌, IfOk, OnOk, OnErr, string_bytes};
+ghost use Rattle.miette_tree.specs.views.Handler.{AppendsOne};
+ghost use Rattle.miette_sarif.specs.rules.Spelled.{IsSpelled};
+ghost use Rattle.miette_json.specs.rules.Json.{json_text};
+ghost use Rattle.miette_sarif.specs.views.Values.{json_of};
+
+use crate::gather::findings_of;
+use crate::log::{Tool, log_value};
+use crate::write::push_value;
+use miette_json::laws;
+use miette_protocol::error::RenderError;
+use miette_protocol::protocol::Diagnostic;
+use miette_protocol::source::SourceCode;
+use miette_tree::report::Report;
+use std::alloc::{AllocError, Global};
+use std::slice;
+
+/// Gives reports as a SARIF log (OASIS, version 2.1.0), for code reviews and build servers: one run of a tool, with a
+/// result for each report and for each one that is related to it.
+#[derive(Debug, Drop)]
+pub struct SarifReportHandler {
+    tool: String,
+    version: Option<String>,
+    information_uri: Option<String>,
+}
+
+impl SarifReportHandler {
+    /// A handler for the logs of a tool of this name.
+    ///
+    /// # Errors
+    /// `AllocError` where memory for the name is refused.
+    pub fn new(alloc: Global, tool: &str) -> Result<Self, AllocError> {
+        Ok(SarifReportHandler {
+            tool: String::from_str(alloc, tool)?,
+            version: None,
+            information_uri: None,
+        })
+    }
+
+    /// With the tool's version.
+    ///
+    /// # Errors
+    /// `AllocError` where memory for it is refused; the handler is dropped.
+    pub fn with_version(self, alloc: Global, version: &str) -> Result<Self, AllocError> {
+        Ok(SarifReportHandler {
+            version: Some(String::from_str(alloc, version)?),
+            ..self
+        })
+    }
+
+    /// With the address of a page on the tool.
+    ///
+    /// # Errors
+    /// `AllocError` where memory for it is refused; the handler is dropped.
+    pub fn with_information_uri(self, alloc: Global, uri: &str) -> Result<Self, AllocError> {
+        Ok(SarifReportHandler {
+            information_uri: Some(String::from_str(alloc, uri)?),
+            ..self
+        })
+    }
+
+    // What is said of the tool.
+    fn told(&self) -> Tool<'_> {
+        Tool {
+            name: self.tool.as_str(),
+            version: self.version.as_deref(),
+            information: self.information_uri.as_deref(),
+        }
+    }
+
+    /// Appends the log of a report. After an error, which is want of memory, `out` is as before.
+    pub fn render_report(&self, report: &Report, out: &mut String) -> Result<(), RenderError>
+        ensures text { OnOk result (AppendsOne IsSpelled (string_bytes out.old) (string_bytes out.new)) }
+        ensures memory { OnErr result (result ≡ Err RenderError.Memory) }
+        ensures err { OnErr result (string_bytes out.new ≡ string_bytes out.old) }
+    {
+        self.render_reports(slice::from_ref(report), out)
+    }
+
+    /// Appends the log of reports, in their order. After an error, which is want of memory, `out` is as before.
+    pub fn render_reports(&self, reports: &[Report], out: &mut String) -> Result<(), RenderError>
+        ensures text { OnOk result (AppendsOne IsSpelled (string_bytes out.old) (string_bytes out.new)) }
+        ensures memory { OnErr result (result ≡ Err RenderError.Memory) }
+        ensures err { OnErr result (string_bytes out.new ≡ string_bytes out.old) }
+    {
+        let text = match log_of(*out.allocator(), &self.told(), reports) {
+            Ok(text) => text,
+            Err(_) => return Err(RenderError::Memory),
+        };
+        match out.push_str(text.as_str()) {
+            Ok(()) => Ok(()),
+            Err(_) => Err(RenderError::Memory),
+        }
+    }
+}
+
+// The text of the log of reports.
+fn log_of<D: Diagnostic, S: SourceCode>(
+    alloc: Global,
+    tool: &Tool<'_>,
+    reports: &[Report<D, S>],
+) -> Result<String, AllocError>
+    ensures { IfOk result (λ text. IsSpelled (string_bytes text)) }
+{
+    laws::the_spelling_denotes_its_value();
+    laws::a_text_denotes_one_value();
+    let value = log_value(alloc, tool, &findings_of(alloc, reports)?)?;
+    let mut text = String::new(alloc);
+    push_value(&mut text, &value)?;
+    Ok(text)
+}

@@ -1,0 +1,79 @@
+//! Values written as text.
+
+ghost use Rattle.std.specs.Prelude.{◌≡◌, ◌∷◌, [], ◌++◌, if◌then◌else◌, OnOk, string_bytes};
+ghost use Rattle.miette_json.specs.rules.Json.{json_text, items_text, members_text, quoted_text};
+ghost use Rattle.miette_sarif.specs.views.Values.{json_of, items_view, members_view};
+
+use crate::value::Value;
+use miette_basics::numbers::push_number;
+use miette_json::text::push_quoted;
+use std::alloc::AllocError;
+
+/// Appends the spelling of a value.
+#[cycle(value)]
+pub(crate) fn push_value(out: &mut String, value: &Value) -> Result<(), AllocError>
+    ensures { OnOk result (string_bytes out.new ≡ string_bytes out.old ++ json_text (json_of value.now)) }
+{
+    match value {
+        Value::Number(number) => {
+            let number = *number;
+            push_number(out, number)
+        }
+        Value::Text(text) => push_quoted(out, text.as_str()),
+        Value::List(items) => {
+            out.push_str("[")?;
+            push_items(out, items.as_slice())
+        }
+        Value::Object(members) => {
+            out.push_str("{")?;
+            push_members(out, members.as_slice())
+        }
+    }
+}
+
+// Appends the items of a list, and its end.
+#[cycle(value)]
+fn push_items(out: &mut String, items: &[Value]) -> Result<(), AllocError>
+    ensures { OnOk result (string_bytes out.new ≡ string_bytes out.old ++ items_text (items_view items.now)) }
+{
+    let mut first = true;
+    for item in items {
+        push_comma(out, first)?;
+        push_value(out, item)?;
+        first = false;
+    }
+    out.push_str("]")
+}
+
+// Appends the members of an object, and its end.
+#[cycle(value)]
+fn push_members(out: &mut String, members: &[(&'static str, Value)]) -> Result<(), AllocError>
+    ensures { OnOk result (string_bytes out.new ≡ string_bytes out.old ++ members_text (members_view members.now)) }
+{
+    let mut first = true;
+    for (key, value) in members {
+        push_comma(out, first)?;
+        push_key(out, key)?;
+        push_value(out, value)?;
+        first = false;
+    }
+    out.push_str("}")
+}
+
+// A key, and what stands between a key and its value.
+fn push_key(out: &mut String, key: &str) -> Result<(), AllocError>
+    ensures { OnOk result (string_bytes out.new ≡ string_bytes out.old ++ (quoted_text key.now ++ (58 ∷ 32 ∷ []))) }
+{
+    push_quoted(out, key)?;
+    out.push_str(": ")
+}
+
+// A comma, but not before the first item of a list.
+fn push_comma(out: &mut String, first: bool) -> Result<(), AllocError>
+    ensures { OnOk result (string_bytes out.new ≡ string_bytes out.old ++ (if first then [] else 44 ∷ [])) }
+{
+    if first {
+        return Ok(());
+    }
+    out.push_str(",")
+}
