@@ -1,0 +1,4 @@
+pub mod LineCounts
+pub mod StartRows
+pub mod KeptRows
+pub mod FixRows

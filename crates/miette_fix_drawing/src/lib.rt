@@ -1,0 +1,9 @@
+//! The rows of a fix, printed: so far those of unchanged lines, and the row in place of a fix's frames.
+#![tactic(auto)]
+
+pub mod counting;
+mod digits;
+pub mod fix;
+pub mod kept_row;
+pub mod standing;
+pub mod texts;
