@@ -2,3 +2,5 @@ pub mod LineCounts
 pub mod StartRows
 pub mod KeptRows
 pub mod FixRows
+pub mod Apart
+pub mod Painting
