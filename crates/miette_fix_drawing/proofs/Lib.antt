@@ -1,0 +1,6 @@
+pub mod LineCounts
+pub mod StartRows
+pub mod KeptRows
+pub mod FixRows
+pub mod Apart
+pub mod Painting

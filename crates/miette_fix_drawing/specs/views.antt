@@ -1,0 +1,2 @@
+-- What a value of the code stands for.
+pub mod Standings

@@ -1,0 +1,61 @@
+//! What edits delete of the source, and insert in the applied text.
+
+ghost use Rattle.std.specs.Prelude.{◌≡◌, ◌+◌, ◌≤◌, nat_le};
+ghost use Rattle.std.specs.List.{list_any};
+ghost use Rattle.miette_cells.specs.rules.Cells.{Cell as TextCell};
+ghost use Rattle.miette_cells.specs.views.Walking.{cell_of};
+ghost use Rattle.miette_fix_rows.specs.rules.DiffTexts.{holds_byte};
+ghost use Rattle.miette_fix_drawing.specs.steps.Spans.{AreApart};
+
+use miette_cells::cells::Cell;
+use miette_protocol::protocol::SourceSpan;
+
+// Whether a span ends at an offset or before.
+fn ends_by(span: &SourceSpan, offset: usize) -> bool
+    ensures { result ≡ nat_le (span.now.offset + span.now.len) offset }
+{
+    span.offset() <= offset && span.len() <= offset - span.offset()
+}
+
+// Whether a span has a byte of a cell.
+fn holds_byte(cell: &Cell, span: &SourceSpan) -> bool
+    ensures { result ≡ holds_byte (cell_of cell.now) span.now }
+{
+    span.len() > 0
+        && (cell.start < span.offset() || cell.start - span.offset() < span.len())
+        && span.offset() < cell.after
+}
+
+/// Spans without those in front that end at an offset or before.
+pub fn spans_past(spans: &[SourceSpan], offset: usize) -> &[SourceSpan]
+    requires { AreApart spans.now }
+    ensures apart { AreApart result.now }
+    ensures same { (cell : TextCell) → offset ≤ cell.start →
+        list_any (holds_byte cell) result.now ≡ list_any (holds_byte cell) spans.now }
+{
+    let mut i = 0;
+    while i < spans.len() {
+        if !ends_by(&spans[i], offset) {
+            return &spans[i..];
+        }
+        i += 1;
+    }
+    &[]
+}
+
+/// Whether one of some spans has a byte of a cell.
+#[tactic(auto, using(crate::proofs::Apart::any_at, crate::proofs::Apart::held_at, crate::proofs::Apart::none_at))]
+pub fn some_holds_byte(spans: &[SourceSpan], cell: &Cell) -> bool
+    requires { AreApart spans.now }
+    ensures { result ≡ list_any (holds_byte (cell_of cell.now)) spans.now }
+{
+    for span in spans {
+        if cell.after <= span.offset() {
+            return false;
+        }
+        if holds_byte(cell, span) {
+            return true;
+        }
+    }
+    false
+}
