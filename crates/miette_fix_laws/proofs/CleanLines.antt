@@ -1,7 +1,7 @@
 -- Lines that hold no escape: those of clean bytes, what edits with clean texts make of them, and so all lines that are
 -- shown of a fix.
-use Rattle.std.proofs.Common.{◌≡◌, ℕ, zero, suc, ◌+◌, ◌-◌, Bool, true, false, ◌&&◌, if◌then◌else◌, List, [], ◌∷◌}
-use Rattle.std.proofs.Common.{◌++◌, map, take, drop, length, Option, Some, None, refl}
+use Rattle.std.proofs.Common.{ℕ, zero, suc, ◌-◌, Bool, true, false, ◌&&◌, List, [], ◌∷◌}
+use Rattle.std.proofs.Common.{◌++◌, take, drop, length, refl}
 use Rattle.std.specs.Prelude.{nat_le, slice_index, slice_range}
 use Rattle.std.specs.List.{AllByRecursion, flat_map}
 use Rattle.miette_basics.proofs.Cases.{by_cases}
@@ -15,7 +15,6 @@ use Rattle.miette_fix_rows.specs.rules.DiffFrames.{changed_lines, frame_at, fram
 use Rattle.miette_fix_rows.specs.rules.DiffFrames.{kept_lines, left_before, past_hunk, removed, removed_with}
 use Rattle.miette_fix_rows.specs.rules.Hunks.{Change, Diff, Hunk, change_of, changes, changes_of, common_before}
 use Rattle.miette_fix_rows.specs.rules.Hunks.{common_behind, diff, diff_from, is_nil, onto_changes, onto_hunks, onto_kept}
-use Rattle.miette_fix_rows.specs.rules.Hunks.{with_change, with_kept}
 use Rattle.miette_row_laws.specs.laws.Clean.{IsClean, IsCleanCode}
 use Rattle.miette_row_laws.proofs.CleanTexts.{clean_append, clean_cons, clean_drop, clean_first, clean_range, clean_rest}
 use Rattle.miette_row_laws.proofs.CleanTexts.{clean_take}

@@ -10,7 +10,7 @@ use Rattle.miette_fixes.specs.declared.error.FixError.TheVariants.{OutOfBounds, 
 use Rattle.miette_fixes.specs.rules.Applying.{by_offset, refusal}
 use Rattle.miette_fixes.specs.rules.Edits.{Replacement}
 use Rattle.miette_fix_rows.specs.rules.DiffFrames.{DiffFrame, DiffLine, Standing, added, frames_of, kept, removed}
-use Rattle.miette_fix_rows.specs.rules.DiffRows.{ChangedLine, DiffContext, added_line, before_some, changed_rows}
+use Rattle.miette_fix_rows.specs.rules.DiffRows.{ChangedLine, added_line, before_some, changed_rows}
 use Rattle.miette_fix_rows.specs.rules.DiffRows.{context_of, error_name, fix_rows, frame_rows, frame_width, kept_row}
 use Rattle.miette_fix_rows.specs.rules.DiffRows.{marks_row, past, place_at, refused_row, removed_line, row_if_some}
 use Rattle.miette_fix_rows.specs.rules.DiffRows.{rows_of_frames, rows_of_line, rows_of_lines, rows_unless, sign_start}
@@ -20,13 +20,11 @@ use Rattle.miette_fix_rows.specs.rules.DiffTexts.{line_text, look_alike, painted
 use Rattle.miette_fix_rows.specs.rules.DiffTexts.{text_of_line}
 use Rattle.miette_fix_rows.specs.rules.Hunks.{diff}
 use Rattle.miette_labels.specs.rules.Answers.{Highlight}
-use Rattle.miette_labels.specs.rules.Labels.{DrawnLabel}
-use Rattle.miette_page.specs.rules.Rows.{Row, glyphs_of, glyph_of, plain_run, styled_run}
+use Rattle.miette_page.specs.rules.Rows.{Row}
 use Rattle.miette_protocol.specs.rules.Reading.{Source, Span}
 use Rattle.miette_snippet_rules.specs.rules.CutLines.{Stretch, bytes_in, cut_runs, dots, is_kept, is_near, pieces_within}
-use Rattle.miette_snippet_rules.specs.rules.CutLines.{shown_marks, shown_runs, stretches}
-use Rattle.miette_snippet_rules.specs.rules.Drawing.{blank}
-use Rattle.miette_snippet_rules.specs.rules.Frames.{bottom_row, number_start, other_start, top_row_of}
+use Rattle.miette_snippet_rules.specs.rules.CutLines.{shown_marks, shown_runs}
+use Rattle.miette_snippet_rules.specs.rules.Frames.{bottom_row, number_start, other_start}
 use Rattle.miette_snippet_rules.specs.rules.Marks.{Mark, marks}
 use Rattle.miette_snippet_rules.specs.rules.PrintedCells.{cells_beyond, cells_width, line_runs}
 use Rattle.miette_snippet_rules.specs.rules.Settings.{SnippetSettings}
@@ -34,7 +32,7 @@ use Rattle.miette_source_lines.specs.rules.Lines.{is_text}
 use Rattle.miette_style.specs.declared.style.Style.{Style}
 use Rattle.miette_style.specs.rules.Styles.{plain}
 use Rattle.miette_style.specs.rules.Themes.{Styles}
-use Rattle.miette_row_laws.specs.laws.Clean.{AreCleanDrawings, IsClean, IsCleanCode, IsCleanSource, IsCleanText}
+use Rattle.miette_row_laws.specs.laws.Clean.{AreCleanDrawings, IsClean, IsCleanCode, IsCleanSource}
 use Rattle.miette_row_laws.specs.laws.Fading.{AreAllPlain, ArePlain, IsPlainRow, restyled}
 use Rattle.miette_row_laws.proofs.Bleaching.{filter_bleached, marks_bleached}
 use Rattle.miette_row_laws.proofs.CleanTexts.{AreCleanCells, clean_append, clean_cells, clean_characters, clean_cons}
@@ -42,7 +40,7 @@ use Rattle.miette_row_laws.proofs.CleanTexts.{clean_copies, clean_decimal, clean
 use Rattle.miette_row_laws.proofs.CutFading.{IsCleanStretch, pale_shown, shown_bleached, stretches_clean}
 use Rattle.miette_row_laws.proofs.PaleSnippets.{faded, pale_bottom, pale_number_start, pale_other_start, pale_top}
 use Rattle.miette_row_laws.proofs.PaleSnippets.{pale_unstyled}
-use Rattle.miette_row_laws.proofs.Paling.{PaleRow, PaleRows, PaleRun, all_append, bleached, bleached_mark, pale_append}
+use Rattle.miette_row_laws.proofs.Paling.{PaleRow, PaleRows, all_append, bleached, bleached_mark, pale_append}
 use Rattle.miette_row_laws.proofs.Paling.{pale_blank, pale_cons, pale_nil, pale_styled, rows_append, rows_cons, rows_nil}
 use Rattle.miette_row_laws.proofs.PlainStyles.{are_faded}
 use Rattle.miette_fix_laws.proofs.CleanLines.{AreCleanEdits, AreCleanShown, IsCleanFrame, frames_clean}
