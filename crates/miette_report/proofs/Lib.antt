@@ -5,7 +5,6 @@ pub mod JobEnds
 pub mod PictureSteps
 pub mod AlwaysRead
 pub mod JobHandlerSteps
-pub mod FindingSteps
 pub mod AcceptedFindings
 pub mod LintSteps
 pub mod OptionWordSteps

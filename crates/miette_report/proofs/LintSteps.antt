@@ -5,7 +5,7 @@ use Rattle.std.proofs.lemmas.Bool.Decides.{nat_tests}
 use Rattle.std.proofs.lemmas.List.{nil_from_length}
 use Rattle.miette_protocol.specs.views.Meaning.{Label, Meaning}
 use Rattle.miette_report.specs.views.DrawReports.{over_input}
-use Rattle.miette_report.specs.rules.Findings.{findings_of}
+use Rattle.miette_lint.specs.rules.Findings.{findings_of}
 use Rattle.miette_report.specs.views.LintReports.{warning, CallIsClean, CallLints, CallLintsText, IsClean, IsLinted}
 use Rattle.miette_report.specs.views.LintReports.{IsShown, Lints, LintsText}
 use Rattle.miette_report.specs.rules.Words.{brief_word, AreLintWords, IsNoLintCall, IsReadAs}

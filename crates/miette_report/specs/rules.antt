@@ -5,5 +5,4 @@ pub mod OptionWords
 pub mod Job
 pub mod JobCalls
 pub mod Faults
-pub mod Findings
 pub mod Fixing

@@ -13,7 +13,6 @@ mod job_handler;
 pub mod language;
 pub mod laws;
 pub mod lint;
-mod lint_lines;
 mod option_words;
 mod picture;
 mod pipeline;

@@ -11,12 +11,11 @@ ghost use Rattle.miette_report.specs.views.DrawReports.{over_input};
 ghost use Rattle.miette_report.specs.views.Endings.{IsFailure, IsFound};
 ghost use Rattle.miette_report.specs.views.LintReports.{count_text, warning, CallIsClean, CallLints, CallLintsText};
 ghost use Rattle.miette_report.specs.views.LintReports.{IsClean, IsLinted, IsShown, Lints, LintsText};
-ghost use Rattle.miette_report.specs.rules.Findings.{findings_of};
+ghost use Rattle.miette_lint.specs.rules.Findings.{findings_of};
 ghost use Rattle.miette_report.specs.rules.Words.{AreLintWords, IsNoLintCall, IsReadAs};
 
 use crate::device::Device;
 use crate::fault::{Ending, Fault, Program};
-pub use crate::lint_lines::findings;
 use crate::picture::{picture_over, rows_over};
 use crate::whole::{read_whole, write_whole};
 use crate::words::number;
@@ -24,6 +23,7 @@ use itoa::Buffer;
 use miette::diagnostic::MietteDiagnostic;
 use miette::error::RenderError;
 use miette::protocol::{LabeledSpan, Severity};
+pub use miette_lint::findings::findings;
 use std::alloc::{AllocError, Global};
 use std::io::{Read, Write};
 

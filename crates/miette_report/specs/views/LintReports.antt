@@ -6,7 +6,7 @@ use Rattle.miette_brief.specs.rules.Report as rows
 use Rattle.miette.specs.Meaning.{Label, Meaning}
 use Rattle.miette_protocol.specs.declared.protocol.Severity.TheVariants.{Warning}
 use Rattle.miette_report.specs.views.DrawReports.{over_input, IsPicture}
-use Rattle.miette_report.specs.rules.Findings.{findings_of}
+use Rattle.miette_lint.specs.rules.Findings.{findings_of}
 use Rattle.miette_report.specs.rules.Words.{AreLintWords}
 
 abbrev pub count_text : ℕ → List ℕ

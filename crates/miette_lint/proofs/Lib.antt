@@ -1,0 +1,9 @@
+pub mod AcceptedFindings
+pub mod Apart
+pub mod CleanTexts
+pub mod FindingSteps
+pub mod FirstEndings
+pub mod FixedLines
+pub mod Pieces
+pub mod ProposalSteps
+pub mod Proposed

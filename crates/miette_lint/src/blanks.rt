@@ -1,0 +1,66 @@
+//! Blanks that begin and end a text.
+
+ghost use Rattle.std.specs.Prelude.{◌≡◌, ◌+◌, ◌<◌, ◌≤◌, length, position, ◌==◌, take_while, IfSome};
+ghost use Rattle.miette_lint.specs.rules.Findings.{ending_blanks, is_blank, tab_after_space, tab_behind};
+
+// Whether a byte is a space or a tab.
+fn is_blank(byte: u8) -> bool
+    ensures { result ≡ is_blank byte }
+{
+    byte == b' ' || byte == b'\t'
+}
+
+/// How many blanks end a text.
+pub(crate) fn ending_blanks(text: &[u8]) -> usize
+    ensures count { result ≡ ending_blanks text.now }
+    ensures within { result ≤ length text.now }
+{
+    text.iter().rev().take_while(|b| is_blank(**b)).count()
+}
+
+/// How many blanks begin a text.
+pub(crate) fn beginning_count(text: &[u8]) -> usize
+    ensures count { result ≡ length (take_while is_blank text.now) }
+    ensures within { result ≤ length text.now }
+{
+    text.iter().take_while(|b| is_blank(**b)).count()
+}
+
+/// The blanks that begin a text.
+pub(crate) fn beginning_blanks(text: &[u8]) -> &[u8]
+    ensures blanks { result.now ≡ take_while is_blank text.now }
+    ensures within { length result.now ≤ length text.now }
+{
+    &text[..beginning_count(text)]
+}
+
+// Where a byte stands first.
+fn first_of(bytes: &[u8], byte: u8) -> Option<usize>
+    ensures at { result ≡ position (λ b. b == byte) bytes.now }
+    ensures within { IfSome result (λ at. at < length bytes.now) }
+{
+    bytes.iter().position(|b| *b == byte)
+}
+
+// The first tab from a space on.
+fn tab_behind(blanks: &[u8], space: usize) -> Option<usize>
+    requires within { space < length blanks.now }
+    ensures at { result ≡ tab_behind blanks.now space }
+    ensures within { IfSome result (λ at. at < length blanks.now) }
+{
+    match first_of(&blanks[space..], b'\t') {
+        Some(tab) => Some(space + tab),
+        None => None,
+    }
+}
+
+/// The first tab after a space.
+pub(crate) fn tab_after_space(blanks: &[u8]) -> Option<usize>
+    ensures at { result ≡ tab_after_space blanks.now }
+    ensures within { IfSome result (λ at. at < length blanks.now) }
+{
+    match first_of(blanks, b' ') {
+        Some(space) => tab_behind(blanks, space),
+        None => None,
+    }
+}

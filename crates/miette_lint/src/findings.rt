@@ -1,0 +1,194 @@
+//! What `lint` finds in the lines of a source.
+
+ghost use Rattle.std.specs.Prelude.{◌≡◌, ◌+◌, ◌++◌, ◌<◌, ◌≤◌, ◌^◌, ◌∷◌, [], nat_lt, length, find, IfOk, OnOk};
+ghost use Rattle.std.specs.Prelude.{None as Nothing, string_bytes};
+ghost use Rattle.std.specs.List.{last_or};
+ghost use Rattle.std.specs.Option.{option_map};
+ghost use Rattle.miette_source_lines.specs.views.Walking.{line_of_text};
+ghost use Rattle.miette_cells.specs.views.Walking.{cell_of};
+ghost use Rattle.miette_labels.specs.rules.Groups.{AreAccepted};
+ghost use Rattle.miette_lint.specs.rules.Findings.{cells_of, finding, findings_of, line_findings, misplaced_tab};
+ghost use Rattle.miette_lint.specs.rules.Findings.{missing_terminator, overlong, too_wide, trailing_space};
+
+use crate::blanks::{beginning_blanks, ending_blanks, tab_after_space};
+use itoa::Buffer;
+use miette_cells::cells::{Cell, Walk};
+use miette_protocol::protocol::LabeledSpan;
+use miette_source_lines::lines::{LineOfText, Lines};
+use std::alloc::{AllocError, Global};
+use std::ops::Range;
+
+// How many columns a tab goes on to a multiple of.
+const TAB: usize = 4;
+
+// The first cell of a text that goes past a width.
+fn first_past(text: &[u8], start: usize, width: usize) -> Result<Option<Cell>, AllocError>
+    requires { start + length text.now < 2 ^ 64 }
+    ensures { IfOk result (λ cell. option_map cell_of cell
+        ≡ find (λ c. nat_lt width c.until) (cells_of start text.now)) }
+{
+    let mut walk = Walk::new(text, start, TAB);
+    while let Some(cell) = walk.next()? {
+        if cell.until > width {
+            return Ok(Some(cell));
+        }
+    }
+    Ok(None)
+}
+
+// The last cell of a text.
+fn last_cell(text: &[u8], start: usize) -> Result<Option<Cell>, AllocError>
+    requires { start + length text.now < 2 ^ 64 }
+    ensures { IfOk result (λ cell. option_map cell_of cell ≡ last_or Nothing (cells_of start text.now)) }
+{
+    let mut walk = Walk::new(text, start, TAB);
+    let mut last = None;
+    while let Some(cell) = walk.next()? {
+        last = Some(cell);
+    }
+    Ok(last)
+}
+
+// One more label, of these bytes of the source.
+fn push_finding(
+    found: &mut Vec<LabeledSpan>,
+    text: String,
+    at: Range<usize>,
+) -> Result<(), AllocError>
+    ensures { OnOk result (found.new.items ≡ found.old.items ++ finding (string_bytes text) at.start at.end ∷ []) }
+{
+    found.push(LabeledSpan::new_with_span(Some(text), at))?;
+    Ok(())
+}
+
+// The same, with a copy of the text.
+fn push_words(
+    alloc: Global,
+    found: &mut Vec<LabeledSpan>,
+    text: &str,
+    at: Range<usize>,
+) -> Result<(), AllocError>
+    ensures { OnOk result (found.new.items ≡ found.old.items ++ finding text.now at.start at.end ∷ []) }
+{
+    let text = String::from_str(alloc, text)?;
+    push_finding(found, text, at)
+}
+
+// `trailing blanks`, where blanks end the text, which ends there
+fn push_trailing(
+    alloc: Global,
+    found: &mut Vec<LabeledSpan>,
+    text: &[u8],
+    end: usize,
+) -> Result<(), AllocError>
+    requires within { length text.now ≤ end }
+    ensures { OnOk result (found.new.items ≡ found.old.items ++ trailing_space end text.now) }
+{
+    let blanks = ending_blanks(text);
+    if blanks == 0 {
+        return Ok(());
+    }
+    push_words(alloc, found, "trailing blanks", end - blanks..end)
+}
+
+// `tab after space`, where the blanks that begin the text have one
+fn push_tab(
+    alloc: Global,
+    found: &mut Vec<LabeledSpan>,
+    text: &[u8],
+    start: usize,
+) -> Result<(), AllocError>
+    requires within { start + length text.now < 2 ^ 64 }
+    ensures { OnOk result (found.new.items ≡ found.old.items ++ misplaced_tab start text.now) }
+{
+    match tab_after_space(beginning_blanks(text)) {
+        Some(at) => push_words(alloc, found, "tab after space", start + at..start + at + 1),
+        None => Ok(()),
+    }
+}
+
+// The text of the label for lines that are wider than this.
+fn wide_text(alloc: Global, width: usize) -> Result<String, AllocError>
+    ensures { IfOk result (λ text. string_bytes text ≡ too_wide width) }
+{
+    let mut text = String::from_str(alloc, "wider than ")?;
+    text.push_str(Buffer::new().format(width))?;
+    text.push_str(" columns")?;
+    Ok(text)
+}
+
+// `wider than 80 columns`, from the first character that goes past the width to the end of the line's text
+fn push_overlong(
+    alloc: Global,
+    found: &mut Vec<LabeledSpan>,
+    text: &[u8],
+    line: LineOfText,
+    width: usize,
+) -> Result<(), AllocError>
+    requires within { line.start + length text.now < 2 ^ 64 }
+    ensures { OnOk result (found.new.items ≡ found.old.items
+        ++ overlong width line.text_end (cells_of line.start text.now)) }
+{
+    match first_past(text, line.start, width)? {
+        Some(cell) => {
+            let words = wide_text(alloc, width)?;
+            push_finding(found, words, cell.start..line.text_end)
+        }
+        None => Ok(()),
+    }
+}
+
+// `no final terminator`, on the last character of a line that has none
+fn push_unended(
+    alloc: Global,
+    found: &mut Vec<LabeledSpan>,
+    text: &[u8],
+    line: LineOfText,
+) -> Result<(), AllocError>
+    requires within { line.start + length text.now < 2 ^ 64 }
+    ensures { OnOk result (found.new.items ≡ found.old.items
+        ++ missing_terminator (line_of_text line) (cells_of line.start text.now)) }
+{
+    if line.text_end < line.end {
+        return Ok(());
+    }
+    match last_cell(text, line.start)? {
+        Some(cell) => push_words(alloc, found, "no final terminator", cell.start..cell.after),
+        None => Ok(()),
+    }
+}
+
+// All that is found in a line.
+fn push_line(
+    alloc: Global,
+    found: &mut Vec<LabeledSpan>,
+    source: &[u8],
+    line: LineOfText,
+    width: usize,
+) -> Result<(), AllocError>
+    requires text { line.start ≤ line.text_end }
+    requires within { line.text_end ≤ length source.now }
+    ensures { OnOk result (found.new.items ≡ found.old.items ++ line_findings source.now width (line_of_text line)) }
+{
+    let text = &source[line.start..line.text_end];
+    push_trailing(alloc, found, text, line.text_end)?;
+    push_tab(alloc, found, text, line.start)?;
+    push_overlong(alloc, found, text, line, width)?;
+    push_unended(alloc, found, text, line)
+}
+
+/// All that `lint` finds in a source, in order: a label for each finding.
+///
+/// # Errors
+/// Where no memory is found.
+pub fn findings(alloc: Global, source: &[u8], width: usize) -> Result<Vec<LabeledSpan>, AllocError>
+    ensures found { IfOk result (λ found. found.items ≡ findings_of source.now width) }
+    // Each lies in the source: no handler refuses it there.
+    ensures accepted { IfOk result (λ found. AreAccepted source.now found.items) }
+{
+    let mut found = Vec::new(alloc);
+    for line in Lines::new(source, 0) {
+        push_line(alloc, &mut found, source, line, width)?;
+    }
+    Ok(found)
+}

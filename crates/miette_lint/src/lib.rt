@@ -1,0 +1,10 @@
+//! What a linter of lines finds in a source, what it proposes, and the source after that.
+#![tactic(auto)]
+
+mod blanks;
+mod endings;
+pub mod findings;
+pub mod fixed;
+pub mod laws;
+pub mod proposals;
+mod spaces;

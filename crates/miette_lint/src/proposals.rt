@@ -1,0 +1,133 @@
+//! What `lint` proposes for what it finds.
+
+ghost use Rattle.std.specs.Prelude.{◌≡◌, ◌≤◌, ◌<◌, ◌+◌, ◌-◌, ◌++◌, ◌∷◌, ◌^◌, [], length, string_bytes, IfOk, OnOk};
+ghost use Rattle.miette_source_lines.specs.views.Walking.{line_of_text};
+ghost use Rattle.miette_lint.specs.rules.Fixes.{blanks_fix, ending_fix, line_fixes, proposal, proposals_of};
+ghost use Rattle.miette_lint.specs.rules.Fixes.{trailing_fix};
+
+use crate::blanks::{beginning_blanks, ending_blanks, tab_after_space};
+use crate::endings::ending_of;
+use crate::fixed::trimmed;
+use crate::spaces::spaces_for;
+use miette_fixes::fix::{Applicability, Edit, Fix};
+use miette_source_lines::lines::{LineOfText, Lines};
+use std::alloc::{AllocError, Global};
+use std::ops::Range;
+
+// One more fix, which has a text in place of bytes of the source.
+fn push_fix(
+    alloc: Global,
+    fixes: &mut Vec<Fix>,
+    message: &str,
+    at: Range<usize>,
+    text: String,
+) -> Result<(), AllocError>
+    requires { at.start ≤ at.end }
+    ensures { OnOk result (fixes.new.items ≡ fixes.old.items
+        ++ proposal message.now at.start (at.end - at.start) (string_bytes text) ∷ []) }
+{
+    let fix = Fix::new(alloc, message)?
+        .with_edit(Edit::replace((at.start, at.end - at.start), text))?
+        .with_applicability(Applicability::MachineApplicable);
+    fixes.push(fix)?;
+    Ok(())
+}
+
+// Even blanks, where those that begin the text have a tab after a space.
+fn push_blanks(
+    alloc: Global,
+    fixes: &mut Vec<Fix>,
+    blanks: &[u8],
+    start: usize,
+) -> Result<(), AllocError>
+    requires { start + length blanks.now < 2 ^ 64 }
+    ensures { OnOk result (fixes.new.items ≡ fixes.old.items ++ blanks_fix start blanks.now) }
+{
+    match tab_after_space(blanks) {
+        Some(_) => {
+            let spaces = spaces_for(alloc, blanks)?;
+            push_fix(
+                alloc,
+                fixes,
+                "indent by spaces",
+                start..start + blanks.len(),
+                spaces,
+            )
+        }
+        None => Ok(()),
+    }
+}
+
+// No blanks at the end of the text, which ends there.
+fn push_trailing(
+    alloc: Global,
+    fixes: &mut Vec<Fix>,
+    text: &[u8],
+    end: usize,
+) -> Result<(), AllocError>
+    requires within { length text.now ≤ end }
+    ensures { OnOk result (fixes.new.items ≡ fixes.old.items ++ trailing_fix end text.now) }
+{
+    let blanks = ending_blanks(text);
+    if blanks == 0 {
+        return Ok(());
+    }
+    push_fix(
+        alloc,
+        fixes,
+        "delete trailing blanks",
+        end - blanks..end,
+        String::new(alloc),
+    )
+}
+
+// A terminator, where the line has none.
+fn push_ending(
+    alloc: Global,
+    fixes: &mut Vec<Fix>,
+    line: LineOfText,
+    ending: &str,
+) -> Result<(), AllocError>
+    ensures { OnOk result (fixes.new.items ≡ fixes.old.items ++ ending_fix ending.now (line_of_text line)) }
+{
+    if line.text_end < line.end {
+        return Ok(());
+    }
+    let text = String::from_str(alloc, ending)?;
+    push_fix(alloc, fixes, "end the last line", line.end..line.end, text)
+}
+
+// All that is proposed for a line.
+fn push_line(
+    alloc: Global,
+    fixes: &mut Vec<Fix>,
+    source: &[u8],
+    line: LineOfText,
+    ending: &str,
+) -> Result<(), AllocError>
+    requires text { line.start ≤ line.text_end }
+    requires within { line.text_end ≤ length source.now }
+    ensures { OnOk result (fixes.new.items ≡ fixes.old.items
+        ++ line_fixes source.now ending.now (line_of_text line)) }
+{
+    let text = &source[line.start..line.text_end];
+    push_blanks(alloc, fixes, beginning_blanks(trimmed(text)), line.start)?;
+    push_trailing(alloc, fixes, text, line.text_end)?;
+    push_ending(alloc, fixes, line, ending)
+}
+
+/// All that `lint` proposes for a source, by offset: fixes of one edit, which may be applied without a look. None
+/// conflicts with another one, so that all are taken together.
+///
+/// # Errors
+/// Where no memory is found.
+pub fn proposals(alloc: Global, source: &[u8]) -> Result<Vec<Fix>, AllocError>
+    ensures { IfOk result (λ fixes. fixes.items ≡ proposals_of source.now) }
+{
+    let ending = ending_of(source);
+    let mut fixes = Vec::new(alloc);
+    for line in Lines::new(source, 0) {
+        push_line(alloc, &mut fixes, source, line, ending)?;
+    }
+    Ok(fixes)
+}

@@ -1,6 +1,0 @@
-use Rattle.miette_report.proofs.FindingSteps.{trailing_put}
-use Rattle.miette_report.proofs.lint_lines.push_trailing.Goals as goal
-
-pub returns : goal.returns
-returns c = trailing_put _ c.args.end c.ending_blanks-blanks.result c.args.text.now _ _
-    c.ending_blanks-blanks.ensures.count c.if-blanks-eq0.false c.push_words.ensures
