@@ -1,6 +1,6 @@
 -- Letters of ASCII in a row: each has a column, and none ends a word or a part of one.
-use Rattle.std.proofs.Common.{◌≡◌, ℕ, zero, suc, ◌+◌, ◌≤◌, Bool, true, false, ◌&&◌, ◌==◌, nat_lt, if◌then◌else◌}
-use Rattle.std.proofs.Common.{List, [], ◌∷◌, take, drop, refl, ap, ap₂, ◌∙◌, arith}
+use Rattle.std.proofs.Common.{◌≡◌, ℕ, zero, suc, ◌+◌, ◌≤◌, min, Bool, true, false, ◌&&◌, ◌==◌, nat_lt, if◌then◌else◌}
+use Rattle.std.proofs.Common.{List, [], ◌∷◌, length, take, drop, refl, ap, ap₂, ◌∙◌, arith}
 use Rattle.std.proofs.lemmas.Bool.Decides.{nat_tests}
 use Rattle.std.proofs.lemmas.List.Sums.{sum_by-cons}
 use Rattle.std.proofs.Math.Bool.{and-false}
@@ -79,3 +79,19 @@ letters-columns (suc k) m (suc j) (c ∷ cs) e h =
     let i = letters-columns k m j cs (omega (arith, e)) p.1 in
     let s : code_columns (c ∷ take j cs) ≡ width c + code_columns (take j cs) = sum_by-cons width c (take j cs) in
     omega (arith, i, s, letter-width c p.0)
+
+one_more : (b : Bool) (x y m : ℕ) → x ≡ min y m → (if b then suc x else 0) ≡ min (if b then suc y else 0) (suc m)
+one_more true x y m h = omega (arith, h)
+one_more false x y m h = omega arith
+
+-- of so many codes they are the least of both
+pub letters-least : (m j : ℕ) (cs : List ℕ) → j ≡ min (length cs) m →
+    letters_len (take j cs) ≡ min (letters_len cs) m
+letters-least m zero [] e = omega arith
+letters-least m (suc j) [] e = absurd (omega (arith, e))
+letters-least zero zero (c ∷ cs) e = omega arith
+letters-least zero (suc j) (c ∷ cs) e = absurd (omega (arith, e))
+letters-least (suc m) zero (c ∷ cs) e = absurd (omega (arith, e))
+letters-least (suc m) (suc j) (c ∷ cs) e =
+    one_more (is_ascii_alphabetic c) (letters_len (take j cs)) (letters_len cs) m
+    (letters-least m j cs (omega (arith, e)))

@@ -4,7 +4,7 @@ ghost use Rattle.std.proofs.Common.{arith};
 ghost use Rattle.std.proofs.lemmas.Bool.Decides.{nat_tests};
 ghost use Rattle.std.specs.Char.{is_ascii_alphabetic};
 ghost use Rattle.std.specs.Prelude.{◌≡◌, ◌≤◌, ◌<◌, ◌+◌, ◌==◌, ◌&&◌, ℕ, Bool, true, false, List, []};
-ghost use Rattle.std.specs.Prelude.{IfOk, drop, length, refl, take};
+ghost use Rattle.std.specs.Prelude.{IfOk, drop, length, min, refl, take};
 ghost use Rattle.miette_text.specs.declared.wrap.WordSeparator.{WordSeparator};
 ghost use Rattle.miette_text.specs.declared.wrap.WordSeparator.TheVariants.{AsciiSpace};
 ghost use Rattle.miette_text.specs.steps.Ends.{IsFirstRow, IsPart, bare_len, begins_word, gap_len};
@@ -119,6 +119,14 @@ pub(crate) fn letters_len(codes: &[char]) -> usize
     codes.len()
 }
 
+// The same, up to so many: the codes behind these aren't looked at.
+fn letters_within(codes: &[char], most: usize) -> usize
+    ensures value { result ≡ min (letters_len codes.now) most }
+    ensures within { result ≤ length codes.now }
+{
+    letters_len(&codes[..codes.len().min(most)])
+}
+
 /// The letters of the part at the front, behind a code. Letters of ASCII that have room are passed at once.
 pub(crate) fn first_part<T: Stop>(
     cuts: Cuts,
@@ -130,7 +138,7 @@ pub(crate) fn first_part<T: Stop>(
     ensures columns { IfOk result (λ p. p.columns ≡ code_columns (take p.len codes.now)) }
     ensures within { IfOk result (λ p. p.len ≤ length codes.now) }
 {
-    let n = letters_len(codes).min(cuts.narrow);
+    let n = letters_within(codes, cuts.narrow);
     if n == 0 {
         return part_behind::<T>(cuts, first, 0, codes);
     }

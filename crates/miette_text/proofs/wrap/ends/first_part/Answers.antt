@@ -12,23 +12,24 @@ returns-clause-len g c = λ separator.
     let cuts = word_cuts separator c.args.cuts in
     let cs = c.args.codes.now in
     let first = c.args.first in
-    let n = c.min-n.result in
+    let n = c.letters_within-n.result in
     let stop = g.T.Stop.stop in
+    let least = c.letters_within-n.ensures.value in
     let some : 0 < n = omega (arith, c.if-n-eq0.false) in
-    let h : n ≤ letters_len cs = omega (arith, c.min-n.ensures, c.letters_len.ensures.value) in
+    let h : n ≤ letters_len cs = omega (arith, least) in
     let r : c.in_ok-rest.rest.len ≡ part_len stop cuts (code_behind first n cs) n (drop n cs) =
     c.in_ok-rest.ensures.len separator
     ∙ ap₂ (λ b xs. part_len stop cuts b n xs)
-    (c.index-codes-n.is ∙ behind-last first n _ cs some (omega (arith, c.letters_len.ensures.within, c.min-n.ensures)))
+    (c.index-codes-n.is ∙ behind-last first n _ cs some c.letters_within-n.ensures.within)
     (take_rest cs n) in
     ap (λ k. n + k) r
-    ∙ sym (letters-part stop g.met.T.Stop.letters cuts first 0 n n cs (omega arith) h (omega (arith, c.min-n.ensures)))
+    ∙ sym (letters-part stop g.met.T.Stop.letters cuts first 0 n n cs (omega arith) h (omega (arith, least)))
 
 pub returns-clause-columns : goal.returns-clause-columns
 returns-clause-columns g c =
     let cs = c.args.codes.now in
-    let n = c.min-n.result in
+    let n = c.letters_within-n.result in
     let m = c.in_ok-rest.rest.len in
-    let h : n ≤ letters_len cs = omega (arith, c.min-n.ensures, c.letters_len.ensures.value) in
+    let h : n ≤ letters_len cs = omega (arith, c.letters_within-n.ensures.value) in
     c.in_ok-rest.ensures.columns ∙ ap (λ xs. n + code_columns (take m xs)) (take_rest cs n)
     ∙ letters-columns n m (n + m) cs refl h
