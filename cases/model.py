@@ -7,8 +7,8 @@ import re
 from typing import NamedTuple, Optional
 
 TERMINATOR = re.compile(rb"\r\n|\r|\n")
-# the columns of characters that have not one
-WIDTHS = {"\u0301": 0, "漢": 2, "字": 2}
+# the columns of characters that have not one, but for those below U+0020
+WIDTHS = {"\u0301": 0, "\u200b": 0, "漢": 2, "字": 2, "\u3000": 2}
 
 
 class Settings(NamedTuple):
@@ -58,7 +58,7 @@ class Line:
             character, size = first_of(data[offset:text_end])
             # a sequence that begins with an escape has no columns up to its `m`
             hidden = hidden or character == "\x1b"
-            columns = tab - self.width % tab if character == "\t" else WIDTHS.get(character, 1)
+            columns = tab - self.width % tab if character == "\t" else WIDTHS.get(character, int(character >= " "))
             after = self.width + (0 if hidden else columns)
             self.cells.append(Cell(character, offset, offset + size, self.width, after))
             hidden = hidden and character != "m"

@@ -3,10 +3,12 @@ without the programs.
 
 It draws the picture of a report with its causes and related reports in plain Unicode characters: what stands under an
 arrow is drawn by itself for the width that is left, and wrapped behind the arrow and its bar, level by level. The
-snippets are those of model.py. deep_cases.py makes reports by chance, and writes them as cases."""
+snippets are those of model.py, the rows of fixes those of diff_model.py. deep_cases.py and fix_pictures.py make reports
+by chance, and write them as cases; those in another theme than `unicode_nocolor` have no labels."""
 import re
 from typing import NamedTuple
 
+from diff_model import PLAIN, Theme, edits_of, fix_rows, painted
 from model import WIDTHS, Settings, snippet_rows
 
 SEQUENCE = re.compile(r"\x1b\[[^\n@-~]*[@-~]|\x1b\](?:(?!\x1b\\)[^\n\x07])*(?:\x07|\x1b\\)")
@@ -15,7 +17,7 @@ TITLES = {"error": "Error: ", "warning": "Warning: ", "advice": "Advice: "}
 
 
 class Page(NamedTuple):
-    """How rows are wrapped, whether related reports are nested, and how snippets are drawn."""
+    """How rows are wrapped, whether related reports are nested, how snippets are drawn, and by which theme."""
 
     width: int = 80
     wraps: bool = True
@@ -23,6 +25,7 @@ class Page(NamedTuple):
     hyphens: bool = True
     nested: bool = False
     snippets: Settings = Settings()
+    theme: Theme = PLAIN
 
     def narrow(self):
         """The page for what stands under an arrow."""
@@ -132,7 +135,8 @@ def whole_rows(text, first, further):
         characters, rest = characters_of(line)
         indent = further if at else first
         if all(it.code.isspace() for it in characters):
-            indent = indent.rstrip(" ")
+            of_indent, behind = characters_of(indent)
+            indent = without_last_spaces(of_indent) + behind
         rows.append(rest if at == len(lines) - 1 and not characters else indent + line)
     return rows
 
@@ -153,15 +157,20 @@ def severity(report):
     return report.get("severity", "error")
 
 
-def header(report):
+def style(report, page):
+    return getattr(page.theme, severity(report))
+
+
+def header(report, page):
     if report.get("code") is None:
         return ""
-    behind = f" ({report['url']})" if report.get("url") is not None else ""
-    return report["code"] + behind + "\n\n"
+    behind = f" ({painted(report['url'], page.theme.link)})" if report.get("url") is not None else ""
+    return painted(report["code"], style(report, page)) + behind + "\n\n"
 
 
 def message(report, page):
-    return wrapped(report["message"], f"  {ICONS[severity(report)]} ", "  │ ", page) + "\n"
+    icon, bar = (painted(page.theme.drawn(it), style(report, page)) for it in (ICONS[severity(report)], "│"))
+    return wrapped(report["message"], f"  {icon} ", f"  {bar} ", page) + "\n"
 
 
 def snippets(report, source, page):
@@ -175,31 +184,48 @@ def snippets(report, source, page):
     return "".join(row + "\n" for row in rows)
 
 
+def titled(title, text, page):
+    """A help text, or the message of a fix."""
+    return wrapped(text, painted(f"  {title}: ", page.theme.help), " " * (len(title) + 4), page) + "\n"
+
+
 def help_of(report, page):
-    return wrapped(report["help"], "  help: ", " " * 8, page) + "\n" if report.get("help") is not None else ""
+    return titled("help", report["help"], page) if report.get("help") is not None else ""
 
 
-def under_arrow(text, is_last, page):
-    first, further = ("  ╰─▶ ", " " * 6) if is_last else ("  ├─▶ ", "  │   ")
+def fixes(report, source, page):
+    """The fixes of a report over its source, its own or inherited."""
+    text = ""
+    for fix in report.get("fixes") or []:
+        rows, edits = [], edits_of(fix)
+        if source is not None and edits:
+            rows = fix_rows(edits, source["text"].encode(), source.get("name"), page.snippets, page.theme)
+        text += titled("fix", fix["message"], page) + "".join(row + "\n" for row in rows)
+    return text
+
+
+def under_arrow(text, is_last, code, page):
+    indents = ("  ╰─▶ ", " " * 6) if is_last else ("  ├─▶ ", "  │   ")
+    first, further = (painted(page.theme.drawn(it), code) for it in indents)
     return wrapped(text, first, further, page) + "\n"
 
 
 def inner(report, inherited, page):
     """A report that stands in another one, without its causes."""
     source = report.get("source", inherited)
-    text = header(report) + message(report, page) + snippets(report, source, page) + help_of(report, page)
-    return (text + related(report, source, page)).lstrip("\n")
+    text = header(report, page) + message(report, page) + snippets(report, source, page) + help_of(report, page)
+    return (text + fixes(report, source, page) + related(report, source, page)).lstrip("\n")
 
 
 def causes(report, source, page):
     """The causes of a report over its source, its own or inherited: reports, and then perhaps texts."""
-    found = []
+    found, code = [], style(report, page)
     while "cause" in report:
         report = report["cause"]
         found.append(report)
     found += report.get("causes", [])
     texts = [it if isinstance(it, str) else inner(it, source, page.narrow()) for it in found]
-    return "".join(under_arrow(it, at == len(texts) - 1, page) for at, it in enumerate(texts))
+    return "".join(under_arrow(it, at == len(texts) - 1, code, page) for at, it in enumerate(texts))
 
 
 def related(report, source, page):
@@ -207,18 +233,18 @@ def related(report, source, page):
     for at, it in enumerate(reports):
         if page.nested:
             shown = inner(it, source, page.narrow()).rstrip("\n")
-            text += under_arrow(shown, at == len(reports) - 1, page)
+            text += under_arrow(shown, at == len(reports) - 1, style(report, page), page)
         else:
-            text += "\n" + TITLES[severity(it)] + (header(it) or "\n") + body(it, it.get("source", source), page)
+            text += "\n" + TITLES[severity(it)] + (header(it, page) or "\n") + body(it, it.get("source", source), page)
     return text
 
 
 def body(report, source, page):
     """A report below its header, over its source, its own or inherited."""
     text = message(report, page) + causes(report, source, page) + snippets(report, source, page)
-    return text + help_of(report, page) + related(report, source, page)
+    return text + help_of(report, page) + fixes(report, source, page) + related(report, source, page)
 
 
 def whole_picture(report, page):
     """The picture of a report with its causes and related reports."""
-    return header(report) + body(report, report.get("source"), page)
+    return header(report, page) + body(report, report.get("source"), page)
