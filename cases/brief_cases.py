@@ -180,17 +180,22 @@ def words_of(dice):
     return [word for group in words for word in group], chain
 
 
+def answered(wanted, rows, *given):
+    """A case with the rows that a report has, or with its refusal."""
+    try:
+        text = "".join(row + "\n" for row in rows(*given))
+    except Refused:
+        return {**wanted, "stdout_text": "", "status": 4, "stderr": "job: report refused\n"}
+    return {**wanted, "stdout_text": text, "status": 0, "stderr": ""}
+
+
 def case(number):
     dice = random.Random(number)
     small = number % 4
     report = report_of(dice, 8 if small else dice.choice([30, 60, 250]), 1 if small == 1 else 2)
     words, chain = words_of(dice)
     wanted = {"what": "a brief report", "argv": ["job", *words], "report": report}
-    try:
-        text = "".join(row + "\n" for row in rows_of(report, None, chain))
-        return {**wanted, "stdout_text": text, "status": 0, "stderr": ""}
-    except Refused:
-        return {**wanted, "stdout_text": "", "status": 4, "stderr": "job: report refused\n"}
+    return answered(wanted, rows_of, report, None, chain)
 
 
 if __name__ == "__main__":

@@ -1,6 +1,6 @@
 #!/usr/bin/env python3
-"""tell_cases.py: writes the cases of JSON, brief and narrated reports with labels over further sources, and with fixes,
-which brief reports have no row for (job-told.jsonl) to standard output.
+"""tell_cases.py: writes the cases of JSON, brief and narrated reports with labels over further sources, and with fixes
+(job-told.jsonl) to standard output.
 
 Reports are drawn by chance from a fixed seed, with the text that the rules ask for (tell_model.py, narrated_model.py).
 What a line holds: run.py."""

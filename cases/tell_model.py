@@ -1,8 +1,11 @@
-"""tell_model.py: a model of the rules of the JSON and the brief report (docs/RULES.md) for labels over several sources,
-and of fixes in JSON, made without the programs. tell_cases.py makes reports by chance, and writes them as cases."""
+"""tell_model.py: a model of the rules of the JSON and the brief report (docs/RULES.md) for labels over several sources
+and for fixes, made without the programs. tell_cases.py and fix_brief.py make reports by chance, and write them as
+cases."""
 import json
 
-from brief_cases import Refused, by_offset, is_accepted, one_row, place_at, spelled
+import fix_model
+from brief_cases import TERMINATORS, Refused, by_offset, is_accepted, one_row, place_at, position, spelled
+from diff_model import edits_of
 from narrated_model import chain_of, sections
 
 # ---- JSON
@@ -77,6 +80,35 @@ def cause_rows(report, source, at):
     return rows + [f"{spelled(at)}note: caused by: {one_row(text)}" for text in report.get("causes") or []]
 
 
+ESCAPED = {ord("\\"): "\\\\", ord('"'): '\\"', ord("\n"): "\\n", ord("\t"): "\\t"}
+
+
+def quoted(data):
+    """Bytes as GCC and clang quote them."""
+    return '"' + "".join(ESCAPED.get(it, chr(it) if 32 <= it < 127 else f"\\{it:03o}") for it in data) + '"'
+
+
+def line_and_byte(data, offset):
+    """Line and byte of an offset, both from 1; the bytes of terminators count too."""
+    ends = [it.end() for it in TERMINATORS.finditer(data) if it.end() <= offset]
+    return f"{len(ends) + 1}:{offset - (ends[-1] if ends else 0) + 1}"
+
+
+def fix_rows(fix, source, at):
+    """The rows of a fix over a source, of a diagnostic at a place."""
+    edits, data = edits_of(fix), source and source["text"].encode()
+    why = fix_model.refusal(data, edits) if source and edits else None
+    if source is None or not edits or why:
+        note = [f"{spelled(at)}note: failed to apply fix: {why}"] if why else []
+        return [f"{spelled(at)}fix: {one_row(fix['message'])}", *note]
+    order, name = fix_model.by_offset(edits), source.get("name")
+    rows = [f"{spelled((name, position(data, order[0].offset)))}fix: {one_row(fix['message'])}"]
+    for it in order:
+        span = f"{{{line_and_byte(data, it.offset)}-{line_and_byte(data, it.end())}}}"
+        rows.append(f"fix-it:{quoted((name or '').encode())}:{span}:{quoted(it.text)}")
+    return rows
+
+
 def brief_rows(report, inherited, chain):
     source = report.get("source") or inherited
     found = sorted_sections(report, source)
@@ -93,6 +125,8 @@ def brief_rows(report, inherited, chain):
         rows += [f"{spelled(place_at(it['source'], label))}note: {one_row(label['label'])}" for label in texts]
     rows += cause_rows(report, source, at) if chain else []
     rows += [f"{spelled(at)}help: {one_row(report['help'])}"] if report.get("help") is not None else []
+    for it in report.get("fixes") or []:
+        rows += fix_rows(it, source, at)
     for it in report.get("related") or []:
         rows += brief_rows(it, source, chain)
     return rows
