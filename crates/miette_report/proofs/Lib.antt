@@ -6,6 +6,7 @@ pub mod PictureSteps
 pub mod AlwaysRead
 pub mod JobHandlerSteps
 pub mod AcceptedFindings
+pub mod LintFixSteps
 pub mod LintSteps
 pub mod OptionWordSteps
 pub mod WriteResults

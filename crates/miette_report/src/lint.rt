@@ -55,8 +55,8 @@ impl<'a> LintWords<'a> {
         }
     }
 
-    // With this name and the width that this word writes. Nothing, where it is no number.
-    fn with_name(brief: bool, name: &'a str, width: &str) -> Option<Self>
+    /// With this name and the width that this word writes. Nothing, where it is no number.
+    pub(crate) fn with_name(brief: bool, name: &'a str, width: &str) -> Option<Self>
         ensures some { IfSome result (λ it. (it.brief ≡ brief) × (it.name.now ≡ name.now)
             × IsReadAs width.now (Some it.width)) }
         ensures none { IsNone result → IsReadAs width.now None }
@@ -139,8 +139,12 @@ fn text_for(
     }
 }
 
-// Whether nothing is found in the input, and the text for what is. No label of it is refused.
-fn text_of(alloc: Global, words: &LintWords<'_>, input: Vec<u8>) -> Result<(bool, String), Fault>
+/// Whether nothing is found in the input, and the text for what is. No label of it is refused.
+pub(crate) fn text_of(
+    alloc: Global,
+    words: &LintWords<'_>,
+    input: Vec<u8>,
+) -> Result<(bool, String), Fault>
     ensures clean { IfOk result (λ it. IsClean (findings_of input.items words.now.width) it.0) }
     ensures linted { IfOk result (λ it. IsLinted words.now.brief words.now.name.now words.now.width input.items
         (findings_of input.items words.now.width) (string_bytes it.1)) }

@@ -43,3 +43,13 @@ pub record AreLintWords (words : List (List ℕ)) (brief : Bool) (name : List �
 -- no reading of the words is one of `lint`'s
 abbrev pub IsNoLintCall : List (List ℕ) → Type 0
 IsNoLintCall words = (brief : Bool) (name : List ℕ) (width : ℕ) → ¬ (AreLintWords words brief name width)
+
+-- three words: `--fix`, a name and a number
+pub record AreFixWords (words : List (List ℕ)) (name : List ℕ) (width : ℕ) : Type 0 where
+  pub width_word : List ℕ
+  pub are : words ≡ codes "--fix" ∷ name ∷ width_word ∷ []
+  pub width_is : IsReadAs width_word (Some width)
+
+-- no reading of the words is one of `lint --fix`
+abbrev pub IsNoFixCall : List (List ℕ) → Type 0
+IsNoFixCall words = (name : List ℕ) (width : ℕ) → ¬ (AreFixWords words name width)

@@ -7,6 +7,7 @@ use Rattle.miette.specs.Meaning.{Label, Meaning}
 use Rattle.miette_protocol.specs.declared.protocol.Severity.TheVariants.{Warning}
 use Rattle.miette_report.specs.views.DrawReports.{over_input, IsPicture}
 use Rattle.miette_lint.specs.rules.Findings.{findings_of}
+use Rattle.miette_lint.specs.rules.Fixes.{fixed_text}
 use Rattle.miette_report.specs.rules.Words.{AreLintWords}
 
 abbrev pub count_text : ℕ → List ℕ
@@ -56,3 +57,10 @@ CallLints words input clean holds = (brief : Bool) × (name : List ℕ) × (widt
 abbrev pub CallLintsText : List (List ℕ) → List ℕ → (List ℕ → Type 0) → Type 0
 CallLintsText words input holds = (brief : Bool) × (name : List ℕ) × (width : ℕ)
     × AreLintWords words brief name width × LintsText brief name width input holds
+
+-- A fact of the fixed text of an input and of the picture of what is left to be found in it, with whether nothing is.
+abbrev pub LintFixes : List ℕ → ℕ → List ℕ → Bool → (List ℕ → List ℕ → Type 0) → Type 0
+LintFixes name width input clean holds =
+    (left : List ℕ) × IsClean (findings_of (fixed_text input) width) clean
+    × IsLinted false name width (fixed_text input) (findings_of (fixed_text input) width) left
+    × holds (fixed_text input) left

@@ -1,0 +1,61 @@
+-- Steps of `lint --fix`.
+use Rattle.std.proofs.Common.{◌≡◌, ℕ, ◌↔◌, Bool, false, List, [], ◌∷◌, Option, Some, None, IfSome, refl, sym, ◌∙◌, subst, ap}
+use Rattle.std.specs.Prelude.{codes}
+use Rattle.miette_lint.specs.rules.Findings.{findings_of}
+use Rattle.miette_lint.specs.rules.Fixes.{fixed_text}
+use Rattle.miette_report.specs.rules.Words.{AreFixWords, IsReadAs}
+use Rattle.miette_report.specs.views.LintReports.{IsClean, IsLinted, LintFixes}
+use Rattle.miette_report.specs.declared.lint.LintWords.{LintWords}
+
+pub fix_words : (words : List (List ℕ)) (first name width : List ℕ) (r : Option LintWords) → words ≡ first ∷ name
+    ∷ width ∷ [] → first ≡ codes "--fix"
+    → IfSome r (λ it. (it.brief ≡ false) × (it.name.now ≡ name) × IsReadAs width (Some it.width))
+    → IfSome r (λ it. AreFixWords words it.name.now it.width)
+fix_words words first name width None are is h = tt
+fix_words words first name width (Some it) are is h = record {
+  width_word = width;
+  are = are ∙ ap (λ f. f ∷ name ∷ width ∷ []) is ∙ ap (λ n. codes "--fix" ∷ n ∷ width ∷ []) (sym h.1);
+  width_is = h.2;
+}
+
+-- what is written and told of what was read
+pub fixes_told : (name : List ℕ) (width : ℕ) (all : Option (List ℕ)) (input text bytes left : List ℕ) (clean : Bool)
+    (P : List ℕ → Type 0) → IfSome all (λ bs. input ≡ bs) → text ≡ fixed_text input
+    → IsClean (findings_of (fixed_text input) width) clean
+    → IsLinted false name width (fixed_text input) (findings_of (fixed_text input) width) left → bytes ≡ text → P bytes
+    → IfSome all (λ bs. LintFixes name width bs clean (λ t l. (left ≡ l) × P t))
+fixes_told name width None input text bytes left clean P read is none linted same p = tt
+fixes_told name width (Some bs) input text bytes left clean P read is none linted same p =
+    let here : LintFixes name width input clean (λ t l. (left ≡ l) × P t) =
+    (left, none, linted, (refl, subst P (same ∙ is) p)) in
+    subst (λ i. LintFixes name width i clean (λ t l. (left ≡ l) × P t)) read here
+
+pub fixes_begun : (all : Option (List ℕ)) (input text bytes : List ℕ) (P : List ℕ → Type 0)
+    → IfSome all (λ bs. input ≡ bs) → text ≡ fixed_text input → bytes ≡ text → P bytes
+    → IfSome all (λ bs. P (fixed_text bs))
+fixes_begun None input text bytes P read is same p = tt
+fixes_begun (Some bs) input text bytes P read is same p =
+    subst (λ i. P (fixed_text i)) read (subst P (same ∙ is) p)
+
+-- a fact that follows, and whether it is clean by another name
+pub fixes_weaker : (name : List ℕ) (width : ℕ) (all : Option (List ℕ)) (clean known : Bool)
+    (P Q : List ℕ → List ℕ → Type 0) → clean ≡ known → ((t l : List ℕ) → P t l → Q t l)
+    → IfSome all (λ bs. LintFixes name width bs clean P) → IfSome all (λ bs. LintFixes name width bs known Q)
+fixes_weaker name width None clean known P Q e weaker h = tt
+fixes_weaker name width (Some bs) clean known P Q e weaker h = (
+  h.0,
+  subst (λ (c : Bool). IsClean (findings_of (fixed_text bs) width) c) e h.1,
+  h.2,
+  weaker (fixed_text bs) h.0 h.3,
+)
+
+pub fixes_clean : (name : List ℕ) (width : ℕ) (all : Option (List ℕ)) (clean : Bool) (Q : List ℕ → List ℕ → Type 0)
+    → IfSome all (λ bs. (left : List ℕ) × IsClean (findings_of (fixed_text bs) width) clean
+    × IsLinted false name width (fixed_text bs) (findings_of (fixed_text bs) width) left × Q bs left)
+    → IfSome all (λ bs. IsClean (findings_of (fixed_text bs) width) clean)
+fixes_clean name width None clean Q h = tt
+fixes_clean name width (Some bs) clean Q h = h.1
+
+-- no fault is of the words
+pub never_called : (Q : Type 0) → (Q → ⊥) → Q ↔ ⊥
+never_called Q called = (called, λ bad. absurd bad)
