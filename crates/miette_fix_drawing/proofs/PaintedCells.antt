@@ -1,5 +1,5 @@
 -- A line's characters in pieces, cell by cell, as spans that end before them are left behind.
-use Rattle.std.proofs.Common.{ℕ, ◌+◌, ◌<◌, ◌≤◌, ◌≡◌, Bool, List, [], ◌∷◌, ◌++◌, map, refl, sym, ap, subst, ◌∙◌, arith}
+use Rattle.std.proofs.Common.{ℕ, ◌≤◌, ◌≡◌, List, [], ◌∷◌, ◌++◌, map, refl, sym, ap, subst, ◌∙◌, arith}
 use Rattle.std.specs.List.{list_any}
 use Rattle.std.proofs.lemmas.List.{map-append}
 use Rattle.miette_style.specs.declared.style.Style.{Style}
@@ -9,7 +9,7 @@ use Rattle.miette_cells.specs.rules.Cells.{Cell}
 use Rattle.miette_snippet_rules.specs.rules.Highlighting.{highlight_of}
 use Rattle.miette_snippet_rules.specs.rules.PrintedCells.{text_bytes}
 use Rattle.miette_cuts.specs.steps.Stops.{ComeFrom}
-use Rattle.miette_fix_rows.specs.rules.DiffTexts.{Painted, holds_byte, onto_painted, painted}
+use Rattle.miette_fix_rows.specs.rules.DiffTexts.{holds_byte, onto_painted, painted}
 use Rattle.miette_fix_drawing.specs.declared.paint.Painted.{Painted as MadePainted}
 use Rattle.miette_fix_drawing.specs.steps.Pieces.{onto, piece, told}
 

@@ -1,6 +1,6 @@
 //! Lines that look alike.
 
-ghost use Rattle.std.specs.Prelude.{◌≡◌, ◌++◌, ◌∷◌, [], ◌+◌, ◌<◌, ◌^◌, length, replicate, IfOk, OnOk};
+ghost use Rattle.std.specs.Prelude.{◌≡◌, ◌++◌, replicate, IfOk, OnOk};
 ghost use Rattle.std.specs.Option.{option_map};
 ghost use Rattle.std.specs.Str.{bytes_eq};
 ghost use Rattle.miette_cells.specs.views.Walking.{cell_of};
@@ -84,8 +84,8 @@ fn same_characters(look: &[char], other: &[char]) -> bool
     look == other
 }
 
-/// Whether a line and the one that goes with it differ and look alike. `AllocError` where memory is refused, or a column
-/// is past the largest `usize`.
+/// Whether a line and the one that goes with it differ and look alike. `AllocError` where memory is refused, or a
+/// column is past the largest `usize`.
 pub fn look_alike(
     settings: &SnippetSettings,
     line: &[u8],

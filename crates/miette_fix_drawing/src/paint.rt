@@ -38,7 +38,8 @@ fn piece_of(style: Style, painted: &Painted) -> (usize, Style)
 }
 
 /// Puts characters behind those that were reached, which go on into them where both are changed, or neither; else the
-/// piece of those that were reached is made. `AllocError` where memory is refused, or a count is past the largest `usize`.
+/// piece of those that were reached is made. `AllocError` where memory is refused, or a count is past the largest
+/// `usize`.
 pub fn put_painted(
     made: &mut Vec<(usize, Style)>,
     style: Style,

@@ -1,7 +1,8 @@
 use Rattle.std.proofs.Common.{◌∙◌, arith}
 use Rattle.miette_fix_drawing.proofs.Blanks.{blank_off, none_left, other_kept}
 use Rattle.miette_fix_drawing.proofs.look.without_blanks.Goals as goal
-use Rattle.miette_fix_drawing.proofs.look.without_blanks.Goals.{then-loop-len-test+else-seen-len-eq32, else-loop-len-test}
+use Rattle.miette_fix_drawing.proofs.look.without_blanks.Goals.{then-loop-len-test+else-seen-len-eq32}
+use Rattle.miette_fix_drawing.proofs.look.without_blanks.Goals.{else-loop-len-test}
 
 pub loop-len-preserved : goal.loop-len-preserved
 loop-len-preserved c = record {
