@@ -1,4 +1,6 @@
+pub mod Framing
 pub mod Looks
+pub mod Passing
 pub mod Pieces
 pub mod Spans
 pub mod Starts
