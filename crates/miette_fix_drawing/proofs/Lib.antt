@@ -4,3 +4,5 @@ pub mod KeptRows
 pub mod FixRows
 pub mod Apart
 pub mod Painting
+pub mod PaintedCells
+pub mod Blanks

@@ -1,3 +1,4 @@
+pub mod Looks
 pub mod Pieces
 pub mod Spans
 pub mod Starts

@@ -6,6 +6,7 @@ pub mod counting;
 mod digits;
 pub mod fix;
 pub mod kept_row;
+pub mod look;
 pub mod paint;
 pub mod spans;
 pub mod standing;

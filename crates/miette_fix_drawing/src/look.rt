@@ -1,0 +1,106 @@
+//! Lines that look alike.
+
+ghost use Rattle.std.specs.Prelude.{◌≡◌, ◌++◌, replicate, IfOk, OnOk};
+ghost use Rattle.std.specs.Option.{option_map};
+ghost use Rattle.std.specs.Str.{bytes_eq};
+ghost use Rattle.miette_cells.specs.views.Walking.{cell_of};
+ghost use Rattle.miette_snippet_rules.specs.views.SettingsView.{settings_of};
+ghost use Rattle.miette_fix_rows.specs.rules.DiffTexts.{look, look_alike, seen, without_blanks};
+ghost use Rattle.miette_fix_drawing.specs.steps.Looks.{seen_of_cell};
+
+use crate::texts::text_of;
+use miette_cells::cells::{Cell, Walk};
+use miette_snippet_rules::options::SnippetSettings;
+use std::alloc::{AllocError, Global};
+
+// Puts so many spaces behind what is seen.
+fn push_spaces(seen: &mut Vec<char>, many: usize) -> Result<(), AllocError>
+    ensures { OnOk result (seen.new.items ≡ seen.old.items ++ replicate many 32) }
+{
+    let mut left = many;
+    while left > 0 {
+        seen.push(' ')?;
+        left -= 1;
+    }
+    Ok(())
+}
+
+// Puts what is seen of a character behind what is seen of those before it.
+fn push_seen(seen: &mut Vec<char>, cell: &Cell) -> Result<(), AllocError>
+    ensures { OnOk result (seen.new.items ≡ seen.old.items ++ seen_of_cell (cell_of cell.now)) }
+{
+    if cell.code == '\t' || cell.code.is_whitespace() {
+        return push_spaces(seen, cell.until.saturating_sub(cell.from));
+    }
+    if cell.from != cell.until {
+        seen.push(cell.code)?;
+    }
+    Ok(())
+}
+
+// What is seen of characters.
+fn seen_of(alloc: Global, walk: Walk<'_>) -> Result<Vec<char>, AllocError>
+    ensures { IfOk result (λ made. made.items ≡ seen walk.entry) }
+{
+    let mut walk = walk;
+    let mut made = Vec::new(alloc);
+    while let Some(cell) = walk.next()? {
+        push_seen(&mut made, &cell)?;
+    }
+    Ok(made)
+}
+
+// What is seen, without spaces at the end.
+fn without_blanks(seen: &[char]) -> &[char]
+    ensures { result.now ≡ without_blanks seen.now }
+{
+    let mut len = seen.len();
+    while len > 0 && seen[len - 1] == ' ' {
+        len -= 1;
+    }
+    &seen[..len]
+}
+
+// What is seen of a line, spaces at the end among it.
+fn seen_of_line(settings: &SnippetSettings, line: &[u8]) -> Result<Vec<char>, AllocError>
+    ensures { IfOk result (λ made. without_blanks made.items ≡ look (settings_of settings.now) line.now) }
+{
+    let walk = Walk::new(text_of(line), 0, settings.layout.tab_width);
+    let made = seen_of(settings.alloc, walk)?;
+    Ok(made)
+}
+
+// Whether two lines have the same bytes.
+fn same_bytes(line: &[u8], other: &[u8]) -> bool
+    ensures { result ≡ bytes_eq line.now other.now }
+{
+    line == other
+}
+
+// Whether the same is seen.
+fn same_characters(look: &[char], other: &[char]) -> bool
+    ensures { result ≡ bytes_eq look.now other.now }
+{
+    look == other
+}
+
+/// Whether a line and the one that goes with it differ and look alike. `AllocError` where memory is refused, or a
+/// column is past the largest `usize`.
+pub fn look_alike(
+    settings: &SnippetSettings,
+    line: &[u8],
+    other: Option<&[u8]>,
+) -> Result<bool, AllocError>
+    ensures { IfOk result (λ alike. alike
+        ≡ look_alike (settings_of settings.now) line.now (option_map (λ bytes. bytes.now) other.entry)) }
+{
+    let Some(other) = other else {
+        return Ok(false);
+    };
+    if same_bytes(line, other) {
+        return Ok(false);
+    }
+    let seen = seen_of_line(settings, line)?;
+    let other_seen = seen_of_line(settings, other)?;
+    Ok(same_characters(without_blanks(&seen), without_blanks(&other_seen)))
+}
