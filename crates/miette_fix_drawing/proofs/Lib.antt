@@ -6,3 +6,6 @@ pub mod Apart
 pub mod Painting
 pub mod PaintedCells
 pub mod Blanks
+pub mod MarkRows
+pub mod LineEnds
+pub mod ChangedRows

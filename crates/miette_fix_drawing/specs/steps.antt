@@ -1,3 +1,4 @@
+pub mod Ends
 pub mod Looks
 pub mod Pieces
 pub mod Spans

@@ -1,2 +1,3 @@
 -- What a value of the code stands for.
+pub mod ChangedLines
 pub mod Standings
