@@ -1,11 +1,11 @@
 -- The rows of a changed line.
 use Rattle.miette_page.specs.views.Printouts.{Printout, ◌⊕◌}
-use Rattle.std.proofs.Common.{ℕ, ◌+◌, ◌-◌, ◌<◌, ◌≤◌, ◌≡◌, Bool, true, false, cond, List, [], ◌∷◌, ◌++◌, map, length, replicate}
+use Rattle.std.proofs.Common.{ℕ, ◌≤◌, ◌≡◌, Bool, true, false, cond, List, [], ◌∷◌, ◌++◌, map, length, replicate}
 use Rattle.std.proofs.Common.{Option, Some, None, option_map, refl, sym, ap, ◌∙◌, arith}
 use Rattle.std.specs.List.{filter, list_any}
 use Rattle.miette_style.specs.rules.Styles.{plain}
 use Rattle.miette_protocol.specs.rules.Reading.{Span}
-use Rattle.miette_page.specs.rules.Rows.{Row, Run, styled_run}
+use Rattle.miette_page.specs.rules.Rows.{Row, styled_run}
 use Rattle.miette_page.specs.views.Tokens.{begins, row_end, row_tokens, rows_tokens, styled_tokens, text_tokens}
 use Rattle.miette_labels.specs.rules.Answers.{Highlight}
 use Rattle.miette_cells.specs.rules.Cells.{Cell}

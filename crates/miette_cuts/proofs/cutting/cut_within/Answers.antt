@@ -1,5 +1,4 @@
-use Rattle.std.proofs.Common.{◌∙◌, List, ℕ, false, ap, map}
-use Rattle.miette_cells.specs.rules.Cells.{Cell}
+use Rattle.std.proofs.Common.{◌∙◌, ℕ, false, ap, map}
 use Rattle.miette_snippet_rules.specs.rules.CutLines.{is_near, stretches}
 use Rattle.miette_snippet_rules.specs.rules.PrintedCells.{cells_width}
 use Rattle.miette_cuts.specs.views.Cuts.{measure}

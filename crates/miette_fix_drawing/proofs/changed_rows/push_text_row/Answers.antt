@@ -1,9 +1,6 @@
 use Rattle.std.proofs.Common.{◌∙◌, ap, false, map, option_map}
 use Rattle.miette_cells.specs.rules.Cells.{cells_from, characters}
 use Rattle.miette_cells.specs.rules.Widths.{width_of}
-use Rattle.miette_cuts.specs.views.Cuts.{made_runs}
-use Rattle.miette_page.specs.views.Printouts.{◌⊕◌}
-use Rattle.miette_page.specs.views.Tokens.{row_tokens}
 use Rattle.miette_snippet_rules.specs.rules.Highlighting.{highlight_of}
 use Rattle.miette_snippet_rules.specs.views.SettingsView.{settings_of}
 use Rattle.miette_fix_drawing.specs.views.ChangedLines.{changed_line_of}

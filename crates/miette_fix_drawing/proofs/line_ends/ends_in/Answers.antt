@@ -1,4 +1,4 @@
-use Rattle.std.proofs.Common.{ℕ, ◌+◌, ◌++◌, ◌<◌, ◌≡◌, ◌∙◌, [], List, cond, ap, length, refl, subst, sym}
+use Rattle.std.proofs.Common.{ℕ, ◌+◌, ◌++◌, ◌<◌, ◌∙◌, [], List, cond, ap, length, refl, subst}
 use Rattle.std.specs.List.{filter}
 use Rattle.std.proofs.lemmas.List.{at_drop_all}
 use Rattle.miette_protocol.specs.rules.Reading.{Span}

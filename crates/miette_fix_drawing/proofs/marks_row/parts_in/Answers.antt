@@ -1,4 +1,4 @@
-use Rattle.std.proofs.Common.{ℕ, ◌+◌, ◌<◌, ◌∙◌, ap, length, refl, subst, sym}
+use Rattle.std.proofs.Common.{ℕ, ◌+◌, ◌<◌, ◌∙◌, ap, length, refl, subst}
 use Rattle.std.proofs.lemmas.List.{at_drop_all}
 use Rattle.miette_protocol.specs.rules.Reading.{Span}
 use Rattle.miette_fix_rows.specs.rules.DiffTexts.{part_in, parts_in}
