@@ -9,3 +9,6 @@ pub mod Blanks
 pub mod Framing
 pub mod ShownLines
 pub mod FrameRows
+pub mod MarkRows
+pub mod LineEnds
+pub mod ChangedRows

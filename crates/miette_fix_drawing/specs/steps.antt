@@ -1,4 +1,5 @@
 pub mod Framing
+pub mod Ends
 pub mod Looks
 pub mod Passing
 pub mod Pieces

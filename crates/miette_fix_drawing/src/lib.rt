@@ -1,18 +1,16 @@
-//! The rows of a fix, printed: so far those of unchanged lines, frames over the rows of a line, and the row in place of a
-//! fix's frames; and what is painted of a changed line.
+//! The rows of a fix, printed: so far those of single lines, and the row in place of a fix's frames.
 #![tactic(auto)]
 
+mod changed_line;
 mod changed_rows;
 pub mod counting;
 mod digits;
 pub mod fix;
-mod frames;
-mod hunks;
 pub mod kept_row;
+mod line_ends;
 pub mod look;
+mod marks_row;
 pub mod paint;
-mod places;
-mod segments;
 pub mod spans;
 pub mod standing;
 pub mod texts;
