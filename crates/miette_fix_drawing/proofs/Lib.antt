@@ -12,3 +12,7 @@ pub mod FrameRows
 pub mod MarkRows
 pub mod LineEnds
 pub mod ChangedRows
+pub mod HunkLists
+pub mod HunkPlaces
+pub mod Rising
+pub mod Drawn

@@ -12,7 +12,8 @@ ghost use Rattle.miette_fix_drawing.specs.views.ShownLines.{Fits, line_of_shown,
 ghost use Rattle.miette_fix_drawing.specs.views.ShownLines.{text_before};
 ghost use Rattle.miette_fix_drawing.specs.views.Standings.{standing_of};
 
-use crate::changed_rows::{ChangedLine, push_changed_rows};
+use crate::changed_line::ChangedLine;
+use crate::changed_rows::push_changed_rows;
 use crate::digits::Outcome;
 use crate::kept_row::push_kept_row;
 use crate::standing::Standing;

@@ -28,7 +28,7 @@ returns-clause-rest c =
     let rest = hunks_of (drop c.in_ok-taken.taken c.args.more.now) in
     let from = standing_of c.in_ok-from.from in
     let first : past_lines from (lines_of_segments c.in_ok-from.lines.items)
-        ≡ past_hunk (standing_of c.args.at.now) hunk =
+    ≡ past_hunk (standing_of c.args.at.now) hunk =
     ap (past_lines from) c.in_ok-from.ensures.lines
     ∙ ap (λ s. past_lines s (kept_lines (drop (left_before context hunk) hunk.kept) ++ changed_lines hunk.changes))
     c.in_ok-from.ensures.at
