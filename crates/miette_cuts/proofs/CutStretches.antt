@@ -17,6 +17,7 @@ use Rattle.miette_snippet_rules.specs.rules.CutLines.{shown_marks, stretches}
 use Rattle.miette_snippet_rules.proofs.CutColumns.{AreColumns, columns_in-append, shown_anchored}
 use Rattle.miette_cuts.specs.declared.stretch.Stretch.{Stretch as MadeStretch}
 use Rattle.miette_snippet_rules.specs.declared.marks.Mark.{Mark as MadeMark}
+use Rattle.miette_cuts.specs.views.CutEnds.{cut_with_ends}
 use Rattle.miette_cuts.specs.views.Cuts.{measure, is_kept}
 use Rattle.miette_cuts.specs.steps.Cut.{lone, grown_stretch, onto_made, kept_columns, made_column, made_mark}
 use Rattle.miette_snippet_rules.specs.views.MadeMarks.{mark_of, IsAnchored}
@@ -244,6 +245,20 @@ cut_is limit width ms cells made w lt h =
 pub cut_none : (limit width : ℕ) (ms : List Mark) (cells : List Cell) → width ≡ cells_width 0 cells → width ≤ limit
     → None ≡ option_map (map measure) (cut_line (Some limit) ms cells)
 cut_none limit width ms cells w le =
+    let fits : ltb limit (cells_width 0 cells) ≡ false = le-ltb limit (cells_width 0 cells) (omega (arith, w, le)) in
+    rw fits refl
+
+-- the same, around columns
+pub cut_at_is : (limit width : ℕ) (es : List ℕ) (cells : List Cell) (made : List MadeStretch) → width
+    ≡ cells_width 0 cells → limit < width → made ≡ map measure (stretches (is_near limit es) false cells) →
+    Some made ≡ option_map (map measure) (cut_with_ends (Some limit) es cells)
+cut_at_is limit width es cells made w lt h =
+    let wider : ltb limit (cells_width 0 cells) ≡ true = lt-ltb limit (cells_width 0 cells) (omega (arith, w, lt)) in
+    rw wider (ap Some h)
+
+pub cut_at_none : (limit width : ℕ) (es : List ℕ) (cells : List Cell) → width ≡ cells_width 0 cells → width ≤ limit
+    → None ≡ option_map (map measure) (cut_with_ends (Some limit) es cells)
+cut_at_none limit width es cells w le =
     let fits : ltb limit (cells_width 0 cells) ≡ false = le-ltb limit (cells_width 0 cells) (omega (arith, w, le)) in
     rw fits refl
 

@@ -23,6 +23,7 @@ use Rattle.miette_snippet_rules.specs.rules.CutLines.{is_near_after, onto_stretc
 use Rattle.miette_snippet_rules.specs.rules.CutLines.{stretches}
 use Rattle.miette_snippet_rules.proofs.RowTokens.{then, told-append}
 use Rattle.miette_cuts.specs.declared.stretch.Stretch.{Stretch as MadeStretch}
+use Rattle.miette_cuts.specs.views.CutEnds.{cut_with_ends}
 use Rattle.miette_cuts.specs.views.Cuts.{measure, is_kept, cut_cells, made_runs}
 use Rattle.miette_cuts.specs.steps.CellTokens.{cells_tokens}
 
@@ -208,6 +209,19 @@ shown_made (Some limit) ms cells pieces =
     let near : Cell → Bool = is_near limit (ends ms) in
     by_cases {C = made_runs (option_map (map measure) (cut_line (Some limit) ms cells)) pieces cells
     ≡ shown_runs (cut_line (Some limit) ms cells) pieces cells} (ltb limit (cells_width 0 cells))
+    (λ y. rw y (ap (λ xs. cut_cells pieces 0 (map measure (stretches near false cells)) xs)
+    (sym (cells_kept near false cells)) ∙ runs_measured pieces 0 (stretches near false cells)))
+    (λ n. rw n refl)
+
+-- the same, of a line that is cut around columns
+pub shown_at_ends : (limit : Option ℕ) (es : List ℕ) (cells : List Cell) (pieces : List Highlight) →
+    made_runs (option_map (map measure) (cut_with_ends limit es cells)) pieces cells
+    ≡ shown_runs (cut_with_ends limit es cells) pieces cells
+shown_at_ends None es cells pieces = refl
+shown_at_ends (Some limit) es cells pieces =
+    let near : Cell → Bool = is_near limit es in
+    by_cases {C = made_runs (option_map (map measure) (cut_with_ends (Some limit) es cells)) pieces cells
+    ≡ shown_runs (cut_with_ends (Some limit) es cells) pieces cells} (ltb limit (cells_width 0 cells))
     (λ y. rw y (ap (λ xs. cut_cells pieces 0 (map measure (stretches near false cells)) xs)
     (sym (cells_kept near false cells)) ∙ runs_measured pieces 0 (stretches near false cells)))
     (λ n. rw n refl)

@@ -78,6 +78,12 @@ pub cells_come : (w : ℕ → ℕ) (tab : ℕ) (hidden : Bool) (o column : ℕ) 
 cells_come w tab hidden o column bytes = sized_cells w tab hidden 0 o column (pieces bytes) (omega arith)
     (sized (length bytes) bytes (omega arith))
 
+-- the same, from the offset at which they begin
+pub cells_come_from : (w : ℕ → ℕ) (tab : ℕ) (hidden : Bool) (o column : ℕ) (bytes : List ℕ)
+    → ComeFrom o (cells_from w tab hidden o column (characters bytes))
+cells_come_from w tab hidden o column bytes = sized_cells w tab hidden o o column (pieces bytes) (omega arith)
+    (sized (length bytes) bytes (omega arith))
+
 -- ---- what is passed
 
 -- a cell

@@ -1,3 +1,4 @@
 -- What the code's values stand for.
 pub mod Cuts
 pub mod LineTexts
+pub mod CutEnds

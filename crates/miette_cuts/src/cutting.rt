@@ -12,6 +12,7 @@ ghost use Rattle.miette_snippet_rules.specs.rules.PrintedCells.{cells_width};
 ghost use Rattle.miette_snippet_rules.specs.rules.CutLines.{cut_line, ends, is_near, is_near_after, is_within};
 ghost use Rattle.miette_snippet_rules.specs.rules.CutLines.{shown_marks, stretches};
 ghost use Rattle.miette_snippet_rules.specs.rules.CutLines.{Stretch as RuledStretch};
+ghost use Rattle.miette_cuts.specs.views.CutEnds.{cut_with_ends};
 ghost use Rattle.miette_cuts.specs.views.Cuts.{measure, is_kept};
 ghost use Rattle.miette_cuts.specs.steps.Cut.{lone, kept_columns, made_column, made_mark};
 ghost use Rattle.miette_cuts.specs.steps.Cut.{onto_made};
@@ -239,6 +240,44 @@ pub fn cut_around(
         Some(limit) => cut_at(alloc, text, marks, limit),
         None => Ok(None),
     }
+}
+
+// The stretches of a line's text around these columns of it, where it has more columns than the limit.
+fn cut_within(
+    alloc: Global,
+    text: &LineText,
+    ends: &[usize],
+    limit: usize,
+) -> Result<Cut, AllocError>
+    requires { text.now.start + length text.now.bytes.now < 2 ^ 64 }
+    ensures { IfOk result (λ cut. option_map (λ made. made.items) cut
+        ≡ option_map (map measure) (cut_with_ends (Some limit) ends.now (text_cells text.now))) }
+{
+    let walk = Walk::new(text.bytes, text.start, text.tab);
+    let width = columns_of_line(walk.copy())?;
+    if limit < width {
+        let made = stretches_of(alloc, walk, limit, ends)?;
+        return Ok(Some(made));
+    }
+    Ok(None)
+}
+
+/// The stretches of a line's text around these columns of it, as `cut_around` cuts it around marks. `AllocError` as of
+/// `cut_around`.
+pub fn cut_at_ends(
+    alloc: Global,
+    text: &LineText,
+    ends: &[usize],
+    most: Option<usize>,
+) -> Result<Cut, AllocError>
+    requires { text.now.start + length text.now.bytes.now < 2 ^ 64 }
+    ensures { IfOk result (λ cut. option_map (λ made. made.items) cut
+        ≡ option_map (map measure) (cut_with_ends most ends.now (text_cells text.now))) }
+{
+    let Some(limit) = most else {
+        return Ok(None);
+    };
+    cut_within(alloc, text, ends, limit)
 }
 
 /// The marks of a line, by the columns of its row. `AllocError` where memory is refused, or a column is past the

@@ -34,7 +34,7 @@ struct Stop<'a> {
 /// Where the characters of a line's text stand, by offset. Printable ASCII characters need no walk: their bytes are
 /// their columns. So they do at the text's beginning (`plain`), and behind each stop of the rest (`whole`).
 #[derive(Drop)]
-pub(crate) struct Columns<'a> {
+pub struct Columns<'a> {
     plain: &'a [u8],
     start: usize,
     whole: Walk<'a>,
@@ -152,7 +152,7 @@ fn stops_of<'a>(
 impl<'a> Columns<'a> {
     /// The columns of a line's text, whose bytes are given, with tabs of so many columns. `AllocError` where memory
     /// is refused, or the text has more columns than a `usize` counts.
-    pub(crate) fn new(
+    pub fn new(
         alloc: Global,
         line: &LineOfText,
         text: &'a [u8],
@@ -187,7 +187,7 @@ impl<'a> Columns<'a> {
 
     /// The column of an offset, rounded down to a character's start. A column past the largest `usize` is refused as
     /// want of memory.
-    pub(crate) fn first_column(&self, offset: usize) -> Result<usize, AllocError>
+    pub fn first_column(&self, offset: usize) -> Result<usize, AllocError>
         ensures { IfOk result (λ column. column
             ≡ first_of_cells self.now.cells self.now.text_end self.now.width offset) }
     {
@@ -207,7 +207,7 @@ impl<'a> Columns<'a> {
     }
 
     /// The same, rounded up: `AllocError` too where that is past the largest `usize`.
-    pub(crate) fn last_column(&self, offset: usize) -> Result<usize, AllocError>
+    pub fn last_column(&self, offset: usize) -> Result<usize, AllocError>
         ensures { IfOk result (λ column. column
             ≡ last_of_cells self.now.cells self.now.text_end self.now.width offset) }
     {

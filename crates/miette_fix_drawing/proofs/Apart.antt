@@ -1,11 +1,14 @@
 -- Spans one behind the other, and which of them have a byte of a cell.
-use Rattle.std.proofs.Common.{ℕ, zero, suc, ◌+◌, ◌<◌, ◌≤◌, ◌≡◌, Bool, true, false, List, [], ◌∷◌, length, drop, get_or, refl, sym, ap, ◌∙◌, arith}
-use Rattle.std.specs.List.{list_any}
-use Rattle.std.specs.Prelude.{nat_le, nat_lt}
+use Rattle.std.proofs.Common.{ℕ, zero, suc, ◌+◌, ◌-◌, ◌<◌, ◌≤◌, ◌≡◌, min, Bool, true, false, eqb, List, [], ◌∷◌, length}
+use Rattle.std.proofs.Common.{drop, get_or, refl, sym, ap, ◌∙◌, arith}
+use Rattle.std.specs.List.{filter, list_any}
+use Rattle.std.specs.Prelude.{max, ◌&&◌, nat_le, nat_lt}
+use Rattle.std.proofs.lemmas.Bool.{le-ltb}
+use Rattle.miette_style.specs.declared.style.Style.{Style}
 use Rattle.std.proofs.lemmas.Bool.Decides.{nat_tests}
 use Rattle.miette_protocol.specs.rules.Reading.{Span}
 use Rattle.miette_cells.specs.rules.Cells.{Cell}
-use Rattle.miette_fix_rows.specs.rules.DiffTexts.{holds_byte}
+use Rattle.miette_fix_rows.specs.rules.DiffTexts.{has_bytes, holds_byte, is_on, part_in, parts_in}
 use Rattle.miette_fix_drawing.specs.steps.Spans.{AreApart, AreApartFrom}
 
 pub apart_from : (at : ℕ) (spans : List Span) → AreApartFrom at spans → AreApart spans
@@ -66,3 +69,93 @@ none_at p [] zero le = refl
 none_at p [] (suc i) le = refl
 none_at p (s ∷ ss) zero le = absurd (omega (arith, le))
 none_at p (s ∷ ss) (suc i) le = none_at p ss i (omega (arith, le))
+
+-- ---- spans in front that are left out, and those behind
+
+begins_behind : (at : ℕ) (spans : List Span) (i : ℕ) (d : Span) → AreApartFrom at spans → i < length spans
+    → at ≤ (get_or spans i d).offset
+begins_behind at [] i d h lt = absurd (omega (arith, lt))
+begins_behind at (s ∷ ss) zero d h lt = h.0
+begins_behind at (s ∷ ss) (suc i) d h lt =
+    let later : s.offset + s.len ≤ (get_or ss i d).offset =
+    begins_behind (s.offset + s.len) ss i d h.1 (omega (arith, lt)) in
+    omega (arith, h.0, later)
+
+-- what is the same without a span that ends before an offset is so without all in front of such a one
+pub left_next : {B : Type 0} (f : List Span → B) (offset : ℕ)
+    → ((s : Span) (ss : List Span) → s.offset + s.len < offset → f (s ∷ ss) ≡ f ss) → (spans : List Span) (i : ℕ)
+    (d : Span) → AreApart spans → i < length spans → (get_or spans i d).offset + (get_or spans i d).len < offset
+    → f (drop (suc i) spans) ≡ f spans
+left_next f offset step [] i d h lt e = absurd (omega (arith, lt))
+left_next f offset step (s ∷ ss) zero d h lt e = sym (step s ss e)
+left_next f offset step (s ∷ ss) (suc i) d h lt e =
+    let some : i < length ss = omega (arith, lt) in
+    let later : s.offset + s.len ≤ (get_or ss i d).offset = begins_behind (s.offset + s.len) ss i d h.1 some in
+    left_next f offset step ss i d (apart_from (s.offset + s.len) ss h.1) some e
+    ∙ sym (step s ss (omega (arith, later, e)))
+
+pub left_out : {B : Type 0} (f : List Span → B) (offset : ℕ)
+    → ((s : Span) (ss : List Span) → s.offset + s.len < offset → f (s ∷ ss) ≡ f ss) → (spans : List Span) (many : ℕ)
+    (d : Span) → AreApart spans → 0 < many → many ≤ length spans
+    → (get_or spans (many - 1) d).offset + (get_or spans (many - 1) d).len < offset → f (drop many spans) ≡ f spans
+left_out f offset step spans many d h some le e =
+    let next : many ≡ suc (many - 1) = omega (arith, some) in
+    ap (λ k. f (drop k spans)) next
+    ∙ left_next f offset step spans (many - 1) d h (omega (arith, some, le)) e
+
+-- and the same with those that begin behind an offset
+nothing_from : {B : Type 0} (f : List Span → List B) (end : ℕ) → f [] ≡ []
+    → ((s : Span) (ss : List Span) → end < s.offset → f (s ∷ ss) ≡ f ss) → (at : ℕ) (spans : List Span)
+    → AreApartFrom at spans → end < at → f spans ≡ []
+nothing_from f end none step at [] h lt = none
+nothing_from f end none step at (s ∷ ss) h lt =
+    step s ss (omega (arith, h.0, lt))
+    ∙ nothing_from f end none step (s.offset + s.len) ss h.1 (omega (arith, h.0, lt))
+
+pub nothing_behind : {B : Type 0} (f : List Span → List B) (end : ℕ) → f [] ≡ []
+    → ((s : Span) (ss : List Span) → end < s.offset → f (s ∷ ss) ≡ f ss) → (spans : List Span) (i : ℕ) (d : Span)
+    → AreApart spans → i < length spans → end < (get_or spans i d).offset → f (drop i spans) ≡ []
+nothing_behind f end none step [] i d h lt e = absurd (omega (arith, lt))
+nothing_behind f end none step (s ∷ ss) zero d h lt e =
+    nothing_from f end none step s.offset (s ∷ ss) (omega arith, h.1) e
+nothing_behind f end none step (s ∷ ss) (suc i) d h lt e =
+    nothing_behind f end none step ss i d (apart_from (s.offset + s.len) ss h.1) (omega (arith, lt)) e
+
+-- a span that ends before a line has nothing there
+pub held_later : (cell : Cell) (offset : ℕ) → offset ≤ cell.start → (s : Span) (ss : List Span)
+    → s.offset + s.len < offset → list_any (holds_byte cell) (s ∷ ss) ≡ list_any (holds_byte cell) ss
+held_later cell offset le s ss lt =
+    let none : holds_byte cell s ≡ false = grind (arith, nat_tests) in rw none refl
+
+pub parts_later : (offset bytes : ℕ) (style : Style) (s : Span) (ss : List Span) → s.offset + s.len < offset
+    → parts_in offset bytes style (s ∷ ss) ≡ parts_in offset bytes style ss
+parts_later offset bytes style s ss lt =
+    let none : has_bytes (part_in offset bytes style s) ≡ false =
+    le-ltb (max offset s.offset) (min (offset + bytes) (s.offset + s.len)) (omega (arith, lt)) in
+    rw none refl
+
+pub on_later : (offset : ℕ) (line : List ℕ) (s : Span) (ss : List Span) → s.offset + s.len < offset
+    → filter (is_on offset line) (s ∷ ss) ≡ filter (is_on offset line) ss
+on_later offset line s ss lt =
+    let before : nat_le offset (s.offset + s.len) ≡ false = grind (arith, nat_tests) in rw before refl
+
+-- nor has one that begins behind it
+pub parts_before : (start bytes : ℕ) (style : Style) (s : Span) (ss : List Span) → start + bytes < s.offset
+    → parts_in start bytes style (s ∷ ss) ≡ parts_in start bytes style ss
+parts_before start bytes style s ss lt =
+    let none : has_bytes (part_in start bytes style s) ≡ false =
+    le-ltb (max start s.offset) (min (start + bytes) (s.offset + s.len)) (omega (arith, lt)) in
+    rw none refl
+
+and_never : (b : Bool) → (b && false) ≡ false
+and_never true = refl
+and_never false = refl
+
+pub on_before : (start : ℕ) (line : List ℕ) (s : Span) (ss : List Span) → start + length line < s.offset
+    → filter (is_on start line) (s ∷ ss) ≡ filter (is_on start line) ss
+on_before start line s ss lt =
+    let inside : nat_lt s.offset (start + length line) ≡ false =
+    le-ltb s.offset (start + length line) (omega (arith, lt)) in
+    let behind : eqb s.offset (start + length line) ≡ false = grind (arith, nat_tests) in
+    let none : is_on start line s ≡ false = rw (inside, behind) (and_never (nat_le start (s.offset + s.len))) in
+    rw none refl

@@ -1,6 +1,6 @@
 -- The row of a fix whose source can't be read.
 use Rattle.miette_page.specs.views.Printouts.{Printout, ◌⊕◌}
-use Rattle.std.proofs.Common.{ℕ, ◌≡◌, true, false, eqb, eqb-true, List, [], ◌∷◌, length, sym, refl, ap, ◌∙◌, arith}
+use Rattle.std.proofs.Common.{◌≡◌, true, false, eqb, eqb-true, List, [], ◌∷◌, length, sym, refl, ap, ◌∙◌, arith}
 use Rattle.std.specs.Prelude.{codes}
 use Rattle.miette_protocol.specs.rules.Reading.{Source}
 use Rattle.miette_page.specs.views.Tokens.{rows_tokens}

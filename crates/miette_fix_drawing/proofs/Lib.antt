@@ -6,3 +6,13 @@ pub mod Apart
 pub mod Painting
 pub mod PaintedCells
 pub mod Blanks
+pub mod Framing
+pub mod ShownLines
+pub mod FrameRows
+pub mod MarkRows
+pub mod LineEnds
+pub mod ChangedRows
+pub mod HunkLists
+pub mod HunkPlaces
+pub mod Rising
+pub mod Drawn

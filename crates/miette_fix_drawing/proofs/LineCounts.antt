@@ -1,6 +1,6 @@
 -- Lines in front of others.
 use Rattle.std.proofs.Common.{ℕ, zero, suc, ◌+◌, ◌-◌, ◌<◌, ◌≤◌, ◌≡◌, List, [], ◌∷◌, length, take, drop, refl, sym, ap, ◌∙◌, arith}
-use Rattle.std.proofs.lemmas.List.{length-drop, nil_from_length, take_rest}
+use Rattle.std.proofs.lemmas.List.{length-drop, take_rest}
 use Rattle.miette_source_lines.specs.declared.lines.LineOfText.{LineOfText}
 use Rattle.miette_source_lines.specs.views.Walking.{IsFirst}
 use Rattle.miette_fix_rows.specs.rules.Blocks.{bytes_of, line_texts}

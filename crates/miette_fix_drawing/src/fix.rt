@@ -1,20 +1,39 @@
-//! The row in place of a fix's frames.
+//! The rows of a fix.
 
-ghost use Rattle.std.specs.Prelude.{◌≡◌, ◌∷◌, [], IsTrue, nat_lt, true, OnOk};
+ghost use Rattle.std.specs.Prelude.{◌≡◌, ◌≢◌, ◌∷◌, [], IsTrue, length, nat_lt, option_copied, None, true, false, OnOk};
 ghost use Rattle.std.specs.List.{list_all};
 ghost use Rattle.miette_protocol.specs.rules.Reading.{Source};
 ghost use Rattle.miette_page.specs.views.Printouts.{◌⊕◌};
 ghost use Rattle.miette_page.specs.views.Tokens.{rows_tokens, styled_tokens};
 ghost use Rattle.miette_snippet_rules.specs.views.SettingsView.{settings_of};
-ghost use Rattle.miette_fix_rows.specs.rules.DiffRows.{fix_rows, refused_row};
+ghost use Rattle.miette_fixes.specs.declared.error.FixError.TheVariants.{Memory};
+ghost use Rattle.miette_fixes.specs.rules.Applying.{by_offset, refusal};
+ghost use Rattle.miette_fixes.specs.views.Ordered.{edits_of};
+ghost use Rattle.miette_fix_rows.specs.rules.DiffFrames.{frames_of};
+ghost use Rattle.miette_fix_rows.specs.rules.DiffRows.{error_name, fix_rows, refused_row, rows_of_frames};
+ghost use Rattle.miette_fix_rows.specs.rules.Hunks.{diff};
 
 use crate::digits::Outcome;
-use miette_fixes::fix::Fix;
+use crate::edit_spans::{deleted_spans, inserted_spans};
+use crate::frames::{FixDrawing, push_frames};
+use crate::hunks::hunks_of;
+use miette_fix_rows::changes::changes;
+use miette_fixes::apply::checked;
+use miette_fixes::fix::{Edit, Fix, FixError};
 use miette_page::canvas::Canvas;
 use miette_page::page::{PLAIN, Page};
 use miette_snippet_rules::options::SnippetSettings;
 use miette_style::style::Style;
 use std::alloc::AllocError;
+
+/// A source as its fixes are drawn over it: all its bytes, and what it is called, if it has a name.
+#[derive(Clone, Copy)]
+pub struct WholeSource<'a> {
+    /// All its bytes.
+    pub bytes: &'a [u8],
+    /// What it is called, if it has a name.
+    pub name: Option<&'a str>,
+}
 
 // A run of ASCII characters.
 fn push_ascii<O: Canvas>(page: &mut Page<O>, style: Style, text: &str) -> Outcome
@@ -62,4 +81,74 @@ pub fn push_unread_fix<O: Canvas>(
     }
     push_refused_fix(page, settings, "IoError")?;
     Ok(())
+}
+
+// The row of a refusal.
+fn push_refusal<O: Canvas>(
+    page: &mut Page<O>,
+    settings: &SnippetSettings<'_>,
+    error: FixError,
+) -> Outcome
+    ensures { OnOk result ((error ≢ Memory) × (page.new ≡ page.old
+        ⊕ rows_tokens (refused_row (settings_of settings.now) (error_name error) ∷ []))) }
+{
+    match error {
+        FixError::OutOfBounds => push_refused_fix(page, settings, "OutOfBounds"),
+        FixError::Overlap => push_refused_fix(page, settings, "Overlap"),
+        FixError::Memory => Err(AllocError),
+    }
+}
+
+// The frames of a fix that nothing refuses, whose edits in their order are these.
+fn push_ordered_fix<O: Canvas>(
+    page: &mut Page<O>,
+    settings: &SnippetSettings<'_>,
+    source: &WholeSource<'_>,
+    fix: &Fix,
+    edits: &[&Edit],
+) -> Outcome
+    requires unrefused { refusal (length source.now.bytes.now) fix.now.edits ≡ None }
+    requires order { edits_of edits.now ≡ by_offset fix.now.edits }
+    ensures { OnOk result ((whole : Source) → whole.bytes ≡ source.now.bytes.now →
+        whole.name ≡ option_copied source.now.name →
+        page.new ≡ page.old ⊕ rows_tokens (rows_of_frames (settings_of settings.now) whole (by_offset fix.now.edits)
+        (frames_of (settings_of settings.now).layout.context_lines (diff whole.bytes fix.now.edits)))) }
+{
+    let alloc = settings.alloc;
+    let made = match changes(alloc, source.bytes, fix) {
+        Ok(made) => made,
+        Err(_) => return Err(AllocError),
+    };
+    let deleted = deleted_spans(alloc, edits)?;
+    let inserted = inserted_spans(alloc, edits)?;
+    let (hunks, behind) = hunks_of(alloc, source.bytes, &made)?;
+    let drawing = FixDrawing {
+        settings: *settings,
+        name: source.name,
+        source: source.bytes,
+        deleted: &deleted,
+        inserted: &inserted,
+    };
+    push_frames(page, &drawing, &hunks, behind)
+}
+
+/// The rows below a fix's message: none without edits or where nothing changes, the row of a refusal, or the frames.
+/// `AllocError` where memory is refused, or a number is past the largest `usize`.
+pub fn push_fix_rows<O: Canvas>(
+    page: &mut Page<O>,
+    settings: &SnippetSettings<'_>,
+    source: &WholeSource<'_>,
+    fix: &Fix,
+) -> Result<(), AllocError>
+    ensures { OnOk result ((whole : Source) → whole.bytes ≡ source.now.bytes.now →
+        whole.name ≡ option_copied source.now.name → page.new ≡ page.old
+        ⊕ rows_tokens (fix_rows (settings_of settings.now) whole false fix.now.edits)) }
+{
+    if fix.edits().is_empty() {
+        return Ok(());
+    }
+    match checked(settings.alloc, source.bytes.len(), fix.edits()) {
+        Ok(edits) => push_ordered_fix(page, settings, source, fix, &edits),
+        Err(error) => push_refusal(page, settings, error),
+    }
 }

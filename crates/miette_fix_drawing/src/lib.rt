@@ -1,13 +1,21 @@
-//! The rows of a fix, printed: so far those of unchanged lines, and the row in place of a fix's frames;
-//! and what is painted of a changed line.
+//! The rows of a fix, printed: what it changes of a source, as a diff in frames, or why it can't be applied.
 #![tactic(auto)]
 
+mod changed_line;
+mod changed_rows;
 pub mod counting;
 mod digits;
+mod edit_spans;
 pub mod fix;
+mod frames;
+mod hunks;
 pub mod kept_row;
+mod line_ends;
 pub mod look;
+mod marks_row;
 pub mod paint;
+mod places;
+mod segments;
 pub mod spans;
 pub mod standing;
 pub mod texts;

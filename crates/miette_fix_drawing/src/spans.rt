@@ -1,10 +1,11 @@
 //! What edits delete of the source, and insert in the applied text.
 
-ghost use Rattle.std.specs.Prelude.{◌≡◌, ◌+◌, ◌≤◌, nat_le};
-ghost use Rattle.std.specs.List.{list_any};
+ghost use Rattle.std.specs.Prelude.{◌≡◌, ◌+◌, ◌≤◌, ℕ, List, nat_le, nat_lt};
+ghost use Rattle.std.specs.List.{filter, list_any};
 ghost use Rattle.miette_cells.specs.rules.Cells.{Cell as TextCell};
 ghost use Rattle.miette_cells.specs.views.Walking.{cell_of};
-ghost use Rattle.miette_fix_rows.specs.rules.DiffTexts.{holds_byte};
+ghost use Rattle.miette_style.specs.declared.style.Style.{Style};
+ghost use Rattle.miette_fix_rows.specs.rules.DiffTexts.{holds_byte, is_on, parts_in};
 ghost use Rattle.miette_fix_drawing.specs.steps.Spans.{AreApart};
 
 use miette_cells::cells::Cell;
@@ -58,4 +59,28 @@ pub fn some_holds_byte(spans: &[SourceSpan], cell: &Cell) -> bool
         }
     }
     false
+}
+
+// Whether a span ends before an offset.
+fn ends_before(span: &SourceSpan, offset: usize) -> bool
+    ensures { result ≡ nat_lt (span.now.offset + span.now.len) offset }
+{
+    span.offset() < offset && span.len() < offset - span.offset()
+}
+
+/// Spans without those in front that end before an offset, where a line begins.
+pub fn spans_from(spans: &[SourceSpan], offset: usize) -> &[SourceSpan]
+    requires { AreApart spans.now }
+    ensures apart { AreApart result.now }
+    ensures held { (cell : TextCell) → offset ≤ cell.start →
+        list_any (holds_byte cell) result.now ≡ list_any (holds_byte cell) spans.now }
+    ensures parts { (bytes : ℕ) (style : Style) →
+        parts_in offset bytes style result.now ≡ parts_in offset bytes style spans.now }
+    ensures on { (line : List ℕ) → filter (is_on offset line) result.now ≡ filter (is_on offset line) spans.now }
+{
+    let many = spans.partition_point(|span| ends_before(span, offset));
+    if many > 0 && many <= spans.len() && ends_before(&spans[many - 1], offset) {
+        return &spans[many..];
+    }
+    spans
 }

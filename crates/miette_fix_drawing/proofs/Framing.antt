@@ -1,0 +1,309 @@
+-- Frames, lines and segments one after the other.
+use Rattle.std.proofs.Common.{ℕ, zero, suc, ◌+◌, ◌-◌, ◌<◌, ◌≤◌, ◌≡◌, get_or, subst, List, [], ◌∷◌, ◌++◌, length, map, take, drop, max, arith, length-append, Option, cond}
+use Rattle.std.proofs.Common.{refl, sym, ap, ap₂, ◌∙◌, append_assoc, append-nil, Bool, true, false, ◌&&◌}
+use Rattle.std.specs.List.{AllByRecursion, flat_map}
+use Rattle.std.proofs.Math.Seq.{drop-cons}
+use Rattle.std.proofs.lemmas.Grind.{flat_map-append}
+use Rattle.std.proofs.lemmas.List.{drop-drop, length-drop, map-append, nil_from_length, take-append-drop, take_rest}
+use Rattle.miette_fix_rows.proofs.Texts.{texts_drop, texts_take}
+use Rattle.miette_page.specs.rules.Rows.{Row}
+use Rattle.miette_page.specs.views.Printouts.{Printout, ◌⊕◌}
+use Rattle.miette_page.specs.views.Tokens.{rows_tokens}
+use Rattle.miette_frames.proofs.TextRows.{rows_then}
+use Rattle.miette_fix_rows.specs.rules.Blocks.{bytes_of, line_texts}
+use Rattle.miette_fix_rows.specs.rules.Hunks.{Change, Hunk, added_lines, removed_lines}
+use Rattle.miette_fix_rows.specs.rules.DiffFrames.{DiffLine, Standing, added_with, behind_hunk, changed_lines, frame_at, frames_from}
+use Rattle.miette_fix_rows.specs.rules.DiffFrames.{is_near, kept_lines, past_changes, past_hunk, past_kept, removed_with}
+use Rattle.miette_fix_rows.specs.rules.DiffRows.{DiffContext, largest, number_of, past, rows_of_line, rows_of_lines}
+use Rattle.miette_fix_drawing.specs.declared.hunks.Hunk.{Hunk as MadeHunk}
+use Rattle.miette_fix_drawing.specs.steps.Framing.{IsFar}
+use Rattle.miette_fix_drawing.specs.views.Hunks.{hunks_of}
+use Rattle.miette_fix_drawing.specs.declared.segments.Segment.{Segment}
+use Rattle.miette_fix_drawing.specs.steps.Passing.{largest_segments, past_lines, past_segments, rows_of_segments}
+use Rattle.miette_fix_drawing.specs.views.ShownLines.{lines_of_segment, lines_of_segments}
+
+-- ---- lines one after the other
+
+pub past_append : (at : Standing) (a b : List DiffLine) → past_lines at (a ++ b) ≡ past_lines (past_lines at a) b
+past_append at [] b = refl
+past_append at (l ∷ a) b = past_append (past at l) a b
+
+pub rows_append : (c : DiffContext) (at : Standing) (a b : List DiffLine)
+    → rows_of_lines c at (a ++ b) ≡ rows_of_lines c at a ++ rows_of_lines c (past_lines at a) b
+rows_append c at [] b = refl
+rows_append c at (l ∷ a) b =
+    ap (λ rows. rows_of_line c at l ++ rows) (rows_append c (past at l) a b)
+    ∙ sym (append_assoc (rows_of_line c at l) (rows_of_lines c (past at l) a) (rows_of_lines c (past_lines (past at l) a) b))
+
+max_turned : (a b c : ℕ) → max a (max b c) ≡ max (max a b) c
+max_turned a b c = omega arith
+
+pub largest_append : (at : Standing) (a b : List DiffLine)
+    → largest at (a ++ b) ≡ max (largest at a) (largest (past_lines at a) b)
+largest_append at [] b = omega arith
+largest_append at (l ∷ a) b =
+    ap (max (number_of at l)) (largest_append (past at l) a b)
+    ∙ max_turned (number_of at l) (largest (past at l) a) (largest (past_lines (past at l) a) b)
+
+-- the rows of lines behind others, once those of the others are put
+pub rows_on : (c : DiffContext) (at next : Standing) (a b : List DiffLine) (p q : Printout) → next ≡ past_lines at a
+    → q ≡ p ⊕ rows_tokens (rows_of_lines c at a)
+    → q ⊕ rows_tokens (rows_of_lines c next b) ≡ p ⊕ rows_tokens (rows_of_lines c at (a ++ b))
+rows_on c at next a b p q e h =
+    rows_then (rows_of_lines c at a) (rows_of_lines c next b) p q _ h refl
+    ∙ ap (λ s. p ⊕ rows_tokens (rows_of_lines c at a ++ rows_of_lines c s b)) e
+    ∙ ap (λ rows. p ⊕ rows_tokens rows) (sym (rows_append c at a b))
+
+-- rows behind others, once the others are put
+pub rows_done : (rows more all : List Row) (p q r : Printout) → q ≡ p ⊕ rows_tokens rows → all ≡ rows ++ more
+    → p ⊕ rows_tokens all ≡ r → q ⊕ rows_tokens more ≡ r
+rows_done rows more all p q r h e g =
+    rows_then rows more p q _ h refl ∙ ap (λ x. p ⊕ rows_tokens x) (sym e) ∙ g
+
+-- ---- past lines that stay, and past changes
+
+abbrev stand : ℕ → ℕ → ℕ → ℕ → Standing
+stand a b c d = record { old_line = a; new_line = b; old_offset = c; new_offset = d }
+
+same_stand : (s t : Standing) → s.old_line ≡ t.old_line → s.new_line ≡ t.new_line → s.old_offset ≡ t.old_offset
+    → s.new_offset ≡ t.new_offset → s ≡ t
+same_stand s t p q r w =
+    ap (λ x. stand x s.new_line s.old_offset s.new_offset) p ∙ ap (λ x. stand t.old_line x s.old_offset s.new_offset) q
+    ∙ ap (λ x. stand t.old_line t.new_line x s.new_offset) r
+    ∙ ap (λ x. stand t.old_line t.new_line t.old_offset x) w
+
+pub past_all_kept : (at : Standing) (ls : List (List ℕ)) → past_lines at (kept_lines ls) ≡ past_kept at ls
+past_all_kept at [] = same_stand _ _ (omega arith) (omega arith) (omega arith) (omega arith)
+past_all_kept at (l ∷ ls) =
+    past_all_kept (past at (DiffLine.kept l)) ls
+    ∙ same_stand _ _ (omega arith) (omega arith) (omega arith) (omega arith)
+
+-- past removed lines, and past added ones
+abbrev past_removed : Standing → List (List ℕ) → Standing
+past_removed at ls = record at { old_line = at.old_line + length ls; old_offset = at.old_offset + bytes_of ls }
+
+abbrev past_added : Standing → List (List ℕ) → Standing
+past_added at ls = record at { new_line = at.new_line + length ls; new_offset = at.new_offset + bytes_of ls }
+
+removed_with_past : (at : Standing) (ls os : List (List ℕ)) → past_lines at (removed_with ls os) ≡ past_removed at ls
+removed_with_past at [] os = same_stand _ _ (omega arith) refl (omega arith) refl
+removed_with_past at (l ∷ ls) [] =
+    removed_with_past (past at (DiffLine.removed l Option.None)) ls []
+    ∙ same_stand _ _ (omega arith) refl (omega arith) refl
+removed_with_past at (l ∷ ls) (o ∷ os) =
+    removed_with_past (past at (DiffLine.removed l (Option.Some o))) ls os
+    ∙ same_stand _ _ (omega arith) refl (omega arith) refl
+
+added_with_past : (at : Standing) (ls os : List (List ℕ)) → past_lines at (added_with ls os) ≡ past_added at ls
+added_with_past at [] os = same_stand _ _ refl (omega arith) refl (omega arith)
+added_with_past at (l ∷ ls) [] =
+    added_with_past (past at (DiffLine.added l Option.None)) ls []
+    ∙ same_stand _ _ refl (omega arith) refl (omega arith)
+added_with_past at (l ∷ ls) (o ∷ os) =
+    added_with_past (past at (DiffLine.added l (Option.Some o))) ls os
+    ∙ same_stand _ _ refl (omega arith) refl (omega arith)
+
+bytes_on : (a b : List (List ℕ)) → bytes_of (a ++ b) ≡ bytes_of a + bytes_of b
+bytes_on [] b = omega arith
+bytes_on (l ∷ a) b = omega (arith, bytes_on a b)
+
+all_removed : (at : Standing) (cs : List Change)
+    → past_lines at (flat_map (λ change. removed_with change.removed change.added) cs) ≡ past_removed at (removed_lines cs)
+all_removed at [] = same_stand _ _ (omega arith) refl (omega arith) refl
+all_removed at (c ∷ cs) =
+    let more : List DiffLine = flat_map (λ change. removed_with change.removed change.added) cs in
+    past_append at (removed_with c.removed c.added) more
+    ∙ ap (λ s. past_lines s more) (removed_with_past at c.removed c.added)
+    ∙ all_removed (past_removed at c.removed) cs
+    ∙ same_stand _ _ (omega (arith, length-append c.removed (removed_lines cs))) refl
+    (omega (arith, bytes_on c.removed (removed_lines cs))) refl
+
+all_added : (at : Standing) (cs : List Change)
+    → past_lines at (flat_map (λ change. added_with change.added change.removed) cs) ≡ past_added at (added_lines cs)
+all_added at [] = same_stand _ _ refl (omega arith) refl (omega arith)
+all_added at (c ∷ cs) =
+    let more : List DiffLine = flat_map (λ change. added_with change.added change.removed) cs in
+    past_append at (added_with c.added c.removed) more
+    ∙ ap (λ s. past_lines s more) (added_with_past at c.added c.removed)
+    ∙ all_added (past_added at c.added) cs
+    ∙ same_stand _ _ refl (omega (arith, length-append c.added (added_lines cs))) refl
+    (omega (arith, bytes_on c.added (added_lines cs)))
+
+pub past_all_changed : (at : Standing) (cs : List Change) → past_lines at (changed_lines cs) ≡ past_changes at cs
+past_all_changed at cs =
+    let gone : List DiffLine = flat_map (λ change. removed_with change.removed change.added) cs in
+    let come : List DiffLine = flat_map (λ change. added_with change.added change.removed) cs in
+    let parts : changed_lines cs ≡ gone ++ come = refl in
+    ap (past_lines at) parts ∙ past_append at gone come ∙ ap (λ s. past_lines s come) (all_removed at cs)
+    ∙ all_added (past_removed at (removed_lines cs)) cs
+
+pub past_whole_hunk : (at : Standing) (hunk : Hunk)
+    → past_lines at (kept_lines hunk.kept ++ changed_lines hunk.changes) ≡ past_hunk at hunk
+past_whole_hunk at hunk =
+    past_append at (kept_lines hunk.kept) (changed_lines hunk.changes)
+    ∙ ap (λ s. past_lines s (changed_lines hunk.changes)) (past_all_kept at hunk.kept)
+    ∙ past_all_changed (past_kept at hunk.kept) hunk.changes
+
+-- ---- segments one after the other
+
+pub past_of_segments : (at : Standing) (ss : List Segment) → past_segments at ss ≡ past_lines at (lines_of_segments ss)
+past_of_segments at [] = refl
+past_of_segments at (s ∷ ss) =
+    past_of_segments (past_lines at (lines_of_segment s)) ss
+    ∙ sym (past_append at (lines_of_segment s) (lines_of_segments ss))
+
+pub largest_of_segments : (at : Standing) (ss : List Segment)
+    → largest_segments at ss ≡ largest at (lines_of_segments ss)
+largest_of_segments at [] = refl
+largest_of_segments at (s ∷ ss) =
+    ap (max (largest at (lines_of_segment s))) (largest_of_segments (past_lines at (lines_of_segment s)) ss)
+    ∙ sym (largest_append at (lines_of_segment s) (lines_of_segments ss))
+
+pub rows_of_all_segments : (c : DiffContext) (at : Standing) (ss : List Segment)
+    → rows_of_segments c at ss ≡ rows_of_lines c at (lines_of_segments ss)
+rows_of_all_segments c at [] = refl
+rows_of_all_segments c at (s ∷ ss) =
+    ap (λ rows. rows_of_lines c at (lines_of_segment s) ++ rows)
+    (rows_of_all_segments c (past_lines at (lines_of_segment s)) ss)
+    ∙ sym (rows_append c at (lines_of_segment s) (lines_of_segments ss))
+
+-- ---- parts of lines
+
+pub front_texts : (bs : List ℕ) (n k : ℕ) → n ≡ bytes_of (take k (line_texts bs))
+    → line_texts (take n bs) ≡ take k (line_texts bs)
+front_texts bs n k e = ap (λ m. line_texts (take m bs)) e ∙ texts_take bs k
+
+pub rest_texts : (bs : List ℕ) (n k : ℕ) → n ≡ bytes_of (take k (line_texts bs))
+    → line_texts (take (length bs - n) (drop n bs)) ≡ drop k (line_texts bs)
+rest_texts bs n k e =
+    ap line_texts (take_rest bs n) ∙ ap (λ m. line_texts (drop m bs)) e ∙ texts_drop bs k
+
+-- ---- hunks
+
+near_frames : (context : ℕ) (behind : List (List ℕ)) (at : Standing) (hunk : Hunk) (more : List Hunk)
+    → is_near context hunk ≡ true
+    → frames_from context behind true at (hunk ∷ more) ≡ frames_from context behind true (past_hunk at hunk) more
+near_frames context behind at hunk more e =
+    ap (λ b. cond b (frames_from context behind true (past_hunk at hunk) more)
+    (frame_at context at hunk (behind_hunk context behind more) ∷ frames_from context behind true (past_hunk at hunk) more)) e
+
+near_behind : (context : ℕ) (behind : List (List ℕ)) (hunk : Hunk) (more : List Hunk) → is_near context hunk ≡ true
+    → behind_hunk context behind (hunk ∷ more)
+    ≡ kept_lines hunk.kept ++ (changed_lines hunk.changes ++ behind_hunk context behind more)
+near_behind context behind hunk more e =
+    ap (λ b. cond b (kept_lines hunk.kept ++ (changed_lines hunk.changes ++ behind_hunk context behind more))
+    (kept_lines (take context hunk.kept))) e
+
+pub far_frames : (context : ℕ) (behind : List (List ℕ)) (at : Standing) (hunks : List Hunk) → IsFar context hunks
+    → frames_from context behind true at hunks ≡ frames_from context behind false at hunks
+far_frames context behind at [] far = refl
+far_frames context behind at (hunk ∷ more) far =
+    ap (λ b. cond b (frames_from context behind true (past_hunk at hunk) more)
+    (frame_at context at hunk (behind_hunk context behind more) ∷ frames_from context behind true (past_hunk at hunk) more)) far
+
+-- lines with those of a hunk that is near, and what goes on behind it
+pub near_lines : (context : ℕ) (behind : List (List ℕ)) (hunk : Hunk) (more : List Hunk) (made next : List DiffLine)
+    → is_near context hunk ≡ true → next ≡ made ++ (kept_lines hunk.kept ++ changed_lines hunk.changes)
+    → next ++ behind_hunk context behind more ≡ made ++ behind_hunk context behind (hunk ∷ more)
+near_lines context behind hunk more made next e h =
+    let kept : List DiffLine = kept_lines hunk.kept in
+    let changed : List DiffLine = changed_lines hunk.changes in
+    let rest : List DiffLine = behind_hunk context behind more in
+    ap (λ ls. ls ++ rest) h ∙ append_assoc made (kept ++ changed) rest
+    ∙ ap (λ ls. made ++ ls) (append_assoc kept changed rest) ∙ ap (λ ls. made ++ ls) (sym (near_behind context behind hunk more e))
+
+pub near_standing : (context : ℕ) (behind : List (List ℕ)) (at : Standing) (hunk : Hunk) (more : List Hunk)
+    (made next : List DiffLine) → is_near context hunk ≡ true
+    → next ≡ made ++ (kept_lines hunk.kept ++ changed_lines hunk.changes)
+    → frames_from context behind true (past_lines at next) more
+    ≡ frames_from context behind true (past_lines at made) (hunk ∷ more)
+near_standing context behind at hunk more made next e h =
+    ap (λ s. frames_from context behind true s more)
+    (ap (past_lines at) h ∙ past_append at made (kept_lines hunk.kept ++ changed_lines hunk.changes)
+    ∙ past_whole_hunk (past_lines at made) hunk)
+    ∙ sym (near_frames context behind (past_lines at made) hunk more e)
+
+-- ---- the ends of loops
+
+drop_none : {A : Type 0} (xs : List A) (i : ℕ) → length xs ≤ i → drop i xs ≡ []
+drop_none xs i le = nil_from_length (drop i xs) (omega (arith, length-drop i xs, le))
+
+pub past_end : (at end : Standing) (ss : List Segment) (i : ℕ) → length ss ≤ i → past_segments at (drop i ss) ≡ end
+    → at ≡ end
+past_end at end ss i le h = ap (past_segments at) (sym (drop_none ss i le)) ∙ h
+
+pub most_end : (at : Standing) (ss : List Segment) (i most all : ℕ) → length ss ≤ i
+    → max most (largest_segments at (drop i ss)) ≡ all → most ≡ all
+most_end at ss i most all le h =
+    let e : largest_segments at (drop i ss) ≡ 0 = ap (largest_segments at) (drop_none ss i le) in omega (arith, h, e)
+
+pub rows_end : (c : DiffContext) (at : Standing) (ss : List Segment) (i : ℕ) (p r : Printout) → length ss ≤ i
+    → p ⊕ rows_tokens (rows_of_segments c at (drop i ss)) ≡ r → p ≡ r
+rows_end c at ss i p r le h =
+    ap (λ x. p ⊕ rows_tokens (rows_of_segments c at x)) (sym (drop_none ss i le)) ∙ h
+
+-- ---- a whole frame
+
+segments_pushed : (ss : List Segment) (s : Segment)
+    → lines_of_segments (ss ++ s ∷ []) ≡ lines_of_segments ss ++ lines_of_segment s
+segments_pushed ss s =
+    flat_map-append lines_of_segment ss (s ∷ []) ∙ ap (λ x. lines_of_segments ss ++ x) (append-nil (lines_of_segment s))
+
+pub largest_pushed : (at next : Standing) (ss : List Segment) (s : Segment) (m n : ℕ)
+    → m ≡ largest at (lines_of_segments ss) → next ≡ past_lines at (lines_of_segments ss)
+    → n ≡ max m (largest next (lines_of_segment s)) → n ≡ largest at (lines_of_segments (ss ++ s ∷ []))
+largest_pushed at next ss s m n hm hn h =
+    h ∙ ap (λ k. max k (largest next (lines_of_segment s))) hm
+    ∙ ap (λ x. max (largest at (lines_of_segments ss)) (largest x (lines_of_segment s))) hn
+    ∙ sym (largest_append at (lines_of_segments ss) (lines_of_segment s))
+    ∙ ap (largest at) (sym (segments_pushed ss s))
+
+pub past_first : (at : Standing) (hunk : Hunk) (n : ℕ)
+    → past_lines (past_kept at (take n hunk.kept)) (kept_lines (drop n hunk.kept) ++ changed_lines hunk.changes)
+    ≡ past_hunk at hunk
+past_first at hunk n =
+    let changed : List DiffLine = changed_lines hunk.changes in
+    let k : List (List ℕ) = hunk.kept in
+    ap (λ s. past_lines s (kept_lines (drop n k) ++ changed)) (sym (past_all_kept at (take n k)))
+    ∙ sym (past_append at (kept_lines (take n k)) (kept_lines (drop n k) ++ changed))
+    ∙ ap (past_lines at) (sym (append_assoc (kept_lines (take n k)) (kept_lines (drop n k)) changed))
+    ∙ ap (λ ls. past_lines at (ls ++ changed)) (sym (map-append DiffLine.kept (take n k) (drop n k)))
+    ∙ ap (λ ls. past_lines at (kept_lines ls ++ changed)) (take-append-drop n k)
+    ∙ past_whole_hunk at hunk
+
+-- ---- the items of a loop
+
+pub item_first : {A : Type 0} (xs : List A) (i : ℕ) (x : A) → i < length xs → x ≡ get_or xs i x
+    → drop i xs ≡ x ∷ drop (i + 1) xs
+item_first xs i x lt e =
+    let next : suc i ≡ i + 1 = omega arith in
+    drop-cons xs i x lt ∙ ap (λ y. y ∷ drop (suc i) xs) (sym e) ∙ ap (λ k. x ∷ drop k xs) next
+
+pub all_more : (P : Hunk → Type 0) (xs ys : List Hunk) (x : Hunk) → xs ≡ x ∷ ys → AllByRecursion P xs
+    → AllByRecursion P ys
+all_more P xs ys x e h = let k : AllByRecursion P (x ∷ ys) = subst (λ l. AllByRecursion P l) e h in k.1
+
+pub rows_next : (c : DiffContext) (at next : Standing) (ss more : List Segment) (s : Segment) (p q r : Printout)
+    → ss ≡ s ∷ more → next ≡ past_lines at (lines_of_segment s)
+    → q ≡ p ⊕ rows_tokens (rows_of_lines c at (lines_of_segment s))
+    → p ⊕ rows_tokens (rows_of_segments c at ss) ≡ r → q ⊕ rows_tokens (rows_of_segments c next more) ≡ r
+rows_next c at next ss more s p q r e n h g =
+    ap (λ x. q ⊕ rows_tokens (rows_of_segments c x more)) n
+    ∙ rows_done (rows_of_lines c at (lines_of_segment s))
+    (rows_of_segments c (past_lines at (lines_of_segment s)) more) (rows_of_segments c at ss) p q r h
+    (ap (rows_of_segments c at) e) g
+
+pub all_drop : (P : Hunk → Type 0) (n : ℕ) (xs : List Hunk) → AllByRecursion P xs → AllByRecursion P (drop n xs)
+all_drop P zero xs h = h
+all_drop P (suc n) [] h = h
+all_drop P (suc n) (x ∷ xs) h = all_drop P n xs h.1
+
+pub hunks_drop : (n : ℕ) (xs : List MadeHunk) → hunks_of (drop n xs) ≡ drop n (hunks_of xs)
+hunks_drop zero xs = refl
+hunks_drop (suc n) [] = refl
+hunks_drop (suc n) (x ∷ xs) = hunks_drop n xs
+
+-- what is left behind some of what is left
+pub left_behind : {A : Type 0} (xs : List A) (at n : ℕ)
+    → drop n (take (length xs - at) (drop at xs)) ≡ drop (at + n) xs
+left_behind xs at n = ap (drop n) (take_rest xs at) ∙ drop-drop n at xs

@@ -1,0 +1,23 @@
+use Rattle.std.proofs.Common.{◌∙◌, ap, map}
+use Rattle.miette_page.specs.views.Printouts.{◌⊕◌}
+use Rattle.miette_page.specs.views.Tokens.{rows_tokens}
+use Rattle.miette_snippet_rules.specs.rules.CutLines.{shown_marks}
+use Rattle.miette_snippet_rules.specs.rules.Frames.{other_start}
+use Rattle.miette_snippet_rules.specs.views.MadeMarks.{mark_of}
+use Rattle.miette_snippet_rules.specs.views.SettingsView.{settings_of}
+use Rattle.miette_fix_rows.specs.rules.DiffRows.{before_some, row_if_some}
+use Rattle.miette_fix_rows.specs.rules.DiffTexts.{cut_around, line_cells, line_ends, sign_runs}
+use Rattle.miette_fix_drawing.proofs.changed_rows.push_line_marks.Goals as goal
+
+pub returns : goal.returns
+returns g c =
+    let s = settings_of c.args.frame.now.settings in
+    let w = c.args.frame.now.number_width in
+    let line = c.args.line.now in
+    let cut = cut_around s.layout.line_columns (line_ends s line.start line.text.now line.spans.now)
+    (line_cells s line.start line.text.now) in
+    c.in_ok-push_marks_row.ensures
+    ∙ ap (λ ms. c.args.page.now ⊕ rows_tokens (before_some (other_start s w)
+    (row_if_some (sign_runs s line.sign 0 ms))))
+    (ap (map mark_of) c.deref.ensures.value ∙ c.in_ok-shown.ensures cut c.requires.cut
+    ∙ ap (shown_marks cut) c.in_ok-marks.ensures)

@@ -1,0 +1,29 @@
+use Rattle.std.proofs.Common.{◌≡◌, ◌+◌, ◌-◌, ap, refl, subst, sym, ◌∙◌, length, take, drop, false, arith}
+use Rattle.std.specs.List.{AllByRecursion}
+use Rattle.std.proofs.lemmas.List.{take_rest}
+use Rattle.miette_source_lines.proofs.Places.{line_of_none}
+use Rattle.miette_page.specs.views.Printouts.{◌⊕◌}
+use Rattle.miette_page.specs.views.Tokens.{rows_tokens}
+use Rattle.miette_fix_rows.specs.rules.Blocks.{line_texts}
+use Rattle.miette_fix_rows.specs.rules.DiffFrames.{frames_from}
+use Rattle.miette_fix_drawing.specs.steps.Framing.{PointsWithin, drawn_frames}
+use Rattle.miette_fix_drawing.specs.views.Hunks.{hunks_of}
+use Rattle.miette_fix_drawing.specs.views.Standings.{standing_of}
+use Rattle.miette_fix_drawing.proofs.Framing.{all_drop, hunks_drop, left_behind}
+use Rattle.miette_fix_drawing.proofs.frames.push_frames.Goals as goal
+
+pub loop-done-init : goal.loop-done-init
+loop-done-init g c = record {
+  rows = refl;
+  within = omega arith;
+  cursor = record { within = omega arith; line = sym (line_of_none c.args.drawing.now.source.now) };
+}
+
+pub push_next-requires-clause-places : goal.push_next-requires-clause-places
+push_next-requires-clause-places g c =
+    let hunks = c.args.hunks.now in
+    let done = c.loop-done.done in
+    let points = PointsWithin (length c.args.drawing.now.source.now) in
+    subst (λ l. AllByRecursion points (hunks_of l)) (sym (take_rest hunks done))
+    (subst (λ l. AllByRecursion points l) (sym (hunks_drop done hunks))
+    (all_drop points done (hunks_of hunks) c.requires.places))

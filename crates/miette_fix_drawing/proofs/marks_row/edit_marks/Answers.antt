@@ -1,0 +1,21 @@
+use Rattle.std.proofs.Common.{◌+◌, ◌∙◌, ap, length, List, map, ℕ, false}
+use Rattle.miette_cells.specs.rules.Cells.{cells_from, characters}
+use Rattle.miette_cells.specs.rules.Widths.{width_of}
+use Rattle.miette_labels.specs.views.GivenLabels.{drawn_of}
+use Rattle.miette_snippet_rules.specs.rules.Marks.{Text, marks}
+use Rattle.miette_snippet_rules.specs.rules.SnippetLayout.{text_of_cells}
+use Rattle.miette_fix_rows.specs.rules.DiffTexts.{parts_in}
+use Rattle.miette_fix_drawing.proofs.marks_row.edit_marks.Goals as goal
+
+pub returns : goal.returns
+returns c =
+    let start : ℕ = c.args.line.now.start in
+    let line : List ℕ = c.args.line.now.text.now in
+    let tab : ℕ = c.args.settings.now.layout.now.tab_width in
+    let text : List ℕ → Text =
+    λ bytes. text_of_cells (cells_from width_of tab false start 0 (characters bytes)) (start + length bytes) in
+    c.in_ok-marks.ensures.is
+    ∙ ap (λ ps. marks (text c.text_of-text.result.now) (map drawn_of ps)) c.deref.ensures.value
+    ∙ ap (marks (text c.text_of-text.result.now)) c.in_ok-parts.ensures
+    ∙ ap (λ bytes. marks (text bytes) (parts_in start (length line) c.args.line.now.style c.args.line.now.spans.now))
+    c.text_of-text.ensures.text

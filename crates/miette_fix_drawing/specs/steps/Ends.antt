@@ -1,0 +1,27 @@
+-- The ends of a changed line, span by span, and how it is cut around them.
+use Rattle.std.specs.Prelude.{ℕ, List, [], ◌∷◌, ◌++◌, map, max, Option, if◌then◌else◌}
+use Rattle.std.specs.Option.{option_map}
+use Rattle.miette_style.specs.rules.Styles.{plain}
+use Rattle.miette_protocol.specs.rules.Reading.{Span}
+use Rattle.miette_snippet_rules.specs.rules.Marks.{Text, marks}
+use Rattle.miette_snippet_rules.specs.rules.PrintedCells.{first_column}
+use Rattle.miette_snippet_rules.specs.rules.Settings.{SnippetSettings}
+use Rattle.miette_cuts.specs.declared.stretch.Stretch.{Stretch as MadeStretch}
+use Rattle.miette_cuts.specs.views.Cuts.{measure}
+use Rattle.miette_fix_rows.specs.rules.DiffRows.{ChangedLine}
+use Rattle.miette_fix_rows.specs.rules.DiffTexts.{cut_around, ends_at, has_bytes, line_cells, line_ends, part_in}
+
+-- the ends of what a span has in a line of so many bytes from an offset on, whose text is given
+abbrev pub span_ends : Text → ℕ → ℕ → Span → List ℕ
+span_ends text start bytes span =
+    if has_bytes (part_in start bytes plain span) then ends_at (marks text (part_in start bytes plain span ∷ []))
+    else first_column text.cells text.text_end text.width (max start span.offset) ∷ []
+
+abbrev pub all_ends : Text → ℕ → ℕ → List Span → List ℕ
+all_ends text start bytes [] = []
+all_ends text start bytes (span ∷ spans) = span_ends text start bytes span ++ all_ends text start bytes spans
+
+-- the stretches of a changed line, by their counts
+abbrev pub line_cut : SnippetSettings → ChangedLine → Option (List MadeStretch)
+line_cut s line = option_map (map measure)
+    (cut_around s.layout.line_columns (line_ends s line.start line.text line.spans) (line_cells s line.start line.text))

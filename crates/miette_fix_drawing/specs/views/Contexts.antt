@@ -1,0 +1,12 @@
+-- What the rows of a fix are drawn with, as a program has it.
+use Rattle.miette_snippet_rules.specs.views.SettingsView.{settings_of}
+use Rattle.miette_fix_rows.specs.rules.DiffRows.{DiffContext}
+use Rattle.miette_fix_drawing.specs.declared.segments.DiffDrawing.{DiffDrawing}
+
+abbrev pub context_with : DiffDrawing → DiffContext
+context_with drawing = record {
+  settings = settings_of drawing.frame.settings;
+  number_width = drawing.frame.number_width;
+  deleted = drawing.deleted.now;
+  inserted = drawing.inserted.now;
+}

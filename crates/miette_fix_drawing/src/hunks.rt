@@ -1,0 +1,74 @@
+//! The changes of blocks with no unchanged line between them, behind unchanged lines.
+
+ghost use Rattle.std.specs.Prelude.{◌≡◌, ◌≤◌, length, IfOk};
+ghost use Rattle.miette_fix_rows.specs.rules.Blocks.{line_texts};
+ghost use Rattle.miette_fix_rows.specs.rules.Hunks.{diff_from};
+ghost use Rattle.miette_fix_drawing.specs.steps.Rising.{AreRising, joined, joined_end};
+ghost use Rattle.miette_fix_drawing.specs.views.Hunks.{hunks_of};
+
+use miette_fix_rows::changes::Change;
+use std::alloc::{AllocError, Global};
+
+/// Changes with no unchanged line between them, behind unchanged lines.
+#[derive(Clone, Copy)]
+pub(crate) struct Hunk<'a> {
+    /// The unchanged lines.
+    pub(crate) kept: &'a [u8],
+    /// The changes.
+    pub(crate) changes: &'a [Change<'a>],
+}
+
+// Where the removed lines of a change end.
+fn end_of(source: &[u8], change: &Change) -> usize
+    requires { change.now.to ≤ length source.now }
+    ensures { result ≡ change.now.to }
+{
+    let size = change.removed().len();
+    let _all = source.len();
+    change.from() + size
+}
+
+// How many of the first of some changes have no unchanged line before them, from an offset on, and where these end.
+fn joined(source: &[u8], at: usize, changes: &[Change]) -> (usize, usize)
+    requires { AreRising (length source.now) at changes.now }
+    ensures many { result.0 ≡ joined at changes.now }
+    ensures end { result.1 ≡ joined_end at changes.now }
+    ensures within { result.0 ≤ length changes.now }
+{
+    let mut end = at;
+    let mut many = 0;
+    for change in changes {
+        if change.from() != end {
+            return (many, end);
+        }
+        end = end_of(source, change);
+        many += 1;
+    }
+    (many, end)
+}
+
+/// The hunks of changes, and the unchanged lines behind the last of them.
+pub(crate) fn hunks_of<'a>(
+    alloc: Global,
+    source: &'a [u8],
+    changes: &'a [Change<'a>],
+) -> Result<(Vec<Hunk<'a>>, &'a [u8]), AllocError>
+    requires { AreRising (length source.now) 0 changes.now }
+    ensures hunks { IfOk result (λ it. hunks_of it.0.items ≡ (diff_from source.now 0 changes.now).hunks) }
+    ensures behind { IfOk result (λ it. line_texts it.1.now ≡ (diff_from source.now 0 changes.now).behind) }
+{
+    let mut list = Vec::new(alloc);
+    let mut low = 0;
+    let mut at = 0;
+    while low < changes.len() {
+        let from = changes[low].from();
+        let (many, end) = joined(source, from, &changes[low..]);
+        list.push(Hunk {
+            kept: &source[at..from],
+            changes: &changes[low..low + many],
+        })?;
+        at = end;
+        low += many;
+    }
+    Ok((list, &source[at..]))
+}
