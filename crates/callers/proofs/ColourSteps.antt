@@ -130,4 +130,5 @@ stateless_text h old after t before new p o q none law =
     (read old.settings t plain p q refl)
     ∙ ap (λ x. x ++ encode_utf8_all (report_text whole_drawing old.settings t
     (answers_by plain_pieces old.settings.layout.context_lines t))) none
-    ∙ ap₂ (λ v w. encode_utf8_all (report_text whole_drawing v w (answers_by plain_pieces v.layout.context_lines w))) p q
+    ∙ ap₂ (λ v w. encode_utf8_all (report_text whole_drawing v w
+    (answers_by plain_pieces v.layout.context_lines w))) p q

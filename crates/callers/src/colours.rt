@@ -38,7 +38,8 @@ pub fn highlighted_both<H: Highlighter, K: Highlighter>(
     ensures bare { IfOk result (λ p. erase (string_bytes p.coloured)
         ≡ encode_utf8_all (report_text whole_drawing plain warning_tree unlisted)) }
     // and may be printed by a handler of plain styles: by `colours`
-    ensures printed { IfOk result (λ p. IsTextOf whole_drawing plain true warning_tree (erase (string_bytes p.coloured))) }
+    ensures printed { IfOk result (λ p. IsTextOf whole_drawing plain true warning_tree
+        (erase (string_bytes p.coloured))) }
 {
     themes_law();
     let mut coloured = String::new(alloc);

@@ -141,8 +141,8 @@ pub fn cause_is_printed()
     paths_law();
 }
 
-/// Of no source but these two does the text hold a snippet: drawings that are the same for both diagnostics give the same
-/// text, whatever they are for others.
+/// Of no source but these two does the text hold a snippet: drawings that are the same for both diagnostics give the
+/// same text, whatever they are for others.
 pub fn no_others_are_drawn()
     ensures { (drawing other : Drawing) (a : Answers) → AreDrawnAlike drawing other printed_sum →
         AreDrawnAlike drawing other printed_cause →

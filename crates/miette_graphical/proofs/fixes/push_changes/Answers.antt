@@ -12,5 +12,5 @@ returns-clause-text g c = λ whole bytes name.
     let over : c.over-page.result ≡ printout_of before = search rules in
     rows_behind before
     (fix_rows (snippet_settings (settings_of c.args.painter.now)) whole false c.args.fix.now.edits)
-    c.over-page.result c.push_fix_rows.new.page _ over (c.in_ok-push_fix_rows.ensures.rows whole bytes name)
+    c.over-page.result c.push_fix_rows.new.page _ over (c.in_ok-push_fix_rows.ensures whole bytes name)
     c.in_ok-painter.ensures

@@ -12,5 +12,5 @@ returns-clause-text g c = λ whole.
     let over : c.over-page.result ≡ printout_of before = search rules in
     rows_behind before
     (fix_rows (snippet_settings (settings_of c.args.painter.now)) whole true c.args.fix.now.edits)
-    c.over-page.result c.push_unread_fix.new.page _ over (c.in_ok-push_unread_fix.ensures.rows whole)
+    c.over-page.result c.push_unread_fix.new.page _ over (c.in_ok-push_unread_fix.ensures whole)
     c.in_ok-painter.ensures
