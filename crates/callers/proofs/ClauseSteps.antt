@@ -18,7 +18,7 @@ use Rattle.miette_graphical.specs.laws.Headline.{LinesAreShown, MarksAreApart, T
 use Rattle.miette_graphical.specs.laws.CharacterSets.{AreNarrow}
 use Rattle.miette_graphical.specs.rules.PrintedDiagnostics.{HoldsOfPrinted, all_read, diagnostics_of}
 use Rattle.miette_graphical.specs.rules.Settings.{Settings, default_settings}
-use Rattle.miette_graphical.specs.rules.Snippets.{drawn_rows}
+use Rattle.miette_graphical.specs.rules.Snippets.{whole_drawing}
 use Rattle.miette_graphical.specs.rules.Text.{report_text}
 use Rattle.miette_graphical.specs.views.Handling.{Handling, draws_plain, without_highlighter}
 use Rattle.miette_runs.specs.rules.Sequences.{erase}
@@ -45,7 +45,7 @@ coloured-one theme made is m = m ∙ ap (λ t. without_highlighter (default_sett
 pub clean : IsCleanTree warning_tree
 unfolding chars
 clean = (
-  record { message = refl; code = tt; help = tt; url = tt; labels = (refl, tt); snippets = tt },
+  record { message = refl; code = tt; help = tt; url = tt; labels = (refl, tt); snippets = tt; fixes = tt },
   record { name = refl; bytes = refl },
   tt,
   tt,
@@ -93,37 +93,37 @@ are_read h t s p r read = ap₂ (λ u w. all_read (diagnostics_of u.settings w))
 pub plain_text : {H : Type 0} (is_blank : H → Bool) (h : Handling H) (t : Tree) (old new : List ℕ)
     → h ≡ without_highlighter plain → t ≡ warning_tree → old ≡ []
     → (draws_plain is_blank h ≡ true → all_read (diagnostics_of h.settings t) ≡ true
-    → new ≡ old ++ encode_utf8_all (report_text drawn_rows h.settings t unlisted))
-    → new ≡ encode_utf8_all (report_text drawn_rows plain warning_tree unlisted)
+    → new ≡ old ++ encode_utf8_all (report_text whole_drawing h.settings t unlisted))
+    → new ≡ encode_utf8_all (report_text whole_drawing plain warning_tree unlisted)
 plain_text is_blank h t old new p r none only =
     only (ap (draws_plain is_blank) p) (are_read h t plain p r refl)
-    ∙ ap (λ o. o ++ encode_utf8_all (report_text drawn_rows h.settings t unlisted)) none
-    ∙ ap₂ (λ u w. encode_utf8_all (report_text drawn_rows u.settings w unlisted)) p r
+    ∙ ap (λ o. o ++ encode_utf8_all (report_text whole_drawing h.settings t unlisted)) none
+    ∙ ap₂ (λ u w. encode_utf8_all (report_text whole_drawing u.settings w unlisted)) p r
 
 pub bare_text : {H : Type 0} (h : Handling H) (t : Tree) (old new : List ℕ)
     → h ≡ without_highlighter in_colours → t ≡ warning_tree → old ≡ []
     → (all_read (diagnostics_of h.settings t) ≡ true → AreCleanSettings h.settings → IsCleanTree t
     → (styles : Styles) → ArePlain styles
-    → AppendsErasing old new (encode_utf8_all (report_text drawn_rows (restyled h.settings styles) t unlisted)))
+    → AppendsErasing old new (encode_utf8_all (report_text whole_drawing (restyled h.settings styles) t unlisted)))
     → AreCleanSettings in_colours → ArePlain no_styles
-    → erase new ≡ encode_utf8_all (report_text drawn_rows plain warning_tree unlisted)
+    → erase new ≡ encode_utf8_all (report_text whole_drawing plain warning_tree unlisted)
 bare_text h t old new p r none coloured tame bare =
     let settings : AreCleanSettings h.settings = subst (λ u. AreCleanSettings u.settings) (sym p) tame in
     let appended = coloured (are_read h t in_colours p r refl) settings (subst IsCleanTree (sym r) clean) no_styles
     bare in
     ap erase (appended.1 ∙ ap (λ o. o ++ appended.0) none) ∙ appended.2
-    ∙ ap₂ (λ u w. encode_utf8_all (report_text drawn_rows (restyled u.settings no_styles) w unlisted)) p r
+    ∙ ap₂ (λ u w. encode_utf8_all (report_text whole_drawing (restyled u.settings no_styles) w unlisted)) p r
 
 -- ---- what every handler appends, where it can be one text alone
 
 pub debugged : {H : Type 0} (is_blank : H → Bool) (h : Handling H) (t : Tree) (old new : List ℕ)
     → h ≡ without_highlighter plain → t ≡ warning_tree → old ≡ []
-    → Appends drawn_rows h.settings (draws_plain is_blank h) t old new
-    → ((s : Settings) (t : Tree) (bytes : List ℕ) → IsTextOf drawn_rows s true t bytes
-    → all_read (diagnostics_of s t) ≡ true → bytes ≡ encode_utf8_all (report_text drawn_rows s t unlisted))
-    → new ≡ encode_utf8_all (report_text drawn_rows plain warning_tree unlisted)
+    → Appends whole_drawing h.settings (draws_plain is_blank h) t old new
+    → ((s : Settings) (t : Tree) (bytes : List ℕ) → IsTextOf whole_drawing s true t bytes
+    → all_read (diagnostics_of s t) ≡ true → bytes ≡ encode_utf8_all (report_text whole_drawing s t unlisted))
+    → new ≡ encode_utf8_all (report_text whole_drawing plain warning_tree unlisted)
 debugged is_blank h t old new p r none given law =
-    let known : IsTextOf drawn_rows plain true warning_tree given.text =
-    subst (λ w. IsTextOf drawn_rows plain true w given.text) r
-    (subst (λ u. IsTextOf drawn_rows u.settings (draws_plain is_blank u) t given.text) p given.is_given) in
+    let known : IsTextOf whole_drawing plain true warning_tree given.text =
+    subst (λ w. IsTextOf whole_drawing plain true w given.text) r
+    (subst (λ u. IsTextOf whole_drawing u.settings (draws_plain is_blank u) t given.text) p given.is_given) in
     given.appended ∙ ap (λ o. o ++ given.text) none ∙ law plain warning_tree given.text known refl

@@ -19,7 +19,7 @@ use Rattle.miette_graphical.specs.rules.Calls.{report_calls}
 use Rattle.miette_graphical.specs.rules.PossibleAnswers.{Appends, IsAskedText, IsTextOf}
 use Rattle.miette_graphical.specs.rules.PrintedDiagnostics.{all_read, diagnostics_of}
 use Rattle.miette_graphical.specs.rules.Settings.{Settings, default_settings}
-use Rattle.miette_graphical.specs.rules.Snippets.{drawn_rows}
+use Rattle.miette_graphical.specs.rules.Snippets.{whole_drawing}
 use Rattle.miette_graphical.specs.rules.Text.{report_text}
 use Rattle.miette_graphical.specs.views.Handling.{Handling, follows_of, without_highlighter}
 use Rattle.callers.specs.Known.{IsAskedPlainly, in_colours, plain, warning_tree}
@@ -44,26 +44,26 @@ read s t u p q r = ap₂ (λ v w. all_read (diagnostics_of v w)) p q ∙ r
 pub bare_text : (s : Settings) (t : Tree) (old new : List ℕ) → s ≡ in_colours → t ≡ warning_tree → old ≡ []
     → AreCleanSettings in_colours
     → (all_read (diagnostics_of s t) ≡ true → AreCleanSettings s → IsCleanTree t
-    → AppendsErasing old new (encode_utf8_all (report_text drawn_rows (colourless s) t unlisted)))
-    → erase new ≡ encode_utf8_all (report_text drawn_rows plain warning_tree unlisted)
+    → AppendsErasing old new (encode_utf8_all (report_text whole_drawing (colourless s) t unlisted)))
+    → erase new ≡ encode_utf8_all (report_text whole_drawing plain warning_tree unlisted)
 bare_text s t old new p q none tame law =
     let own = law (read s t in_colours p q refl) (subst AreCleanSettings (sym p) tame)
     (subst IsCleanTree (sym q) clean) in
     ap erase (own.1 ∙ ap (λ o. o ++ own.0) none) ∙ own.2
-    ∙ ap₂ (λ v w. encode_utf8_all (report_text drawn_rows (colourless v) w unlisted)) p q
+    ∙ ap₂ (λ v w. encode_utf8_all (report_text whole_drawing (colourless v) w unlisted)) p q
 
 pub may_be_printed : (s : Settings) (blank : Bool) (t : Tree) (old new : List ℕ) → s ≡ in_colours → t ≡ warning_tree
     → old ≡ [] → AreCleanSettings in_colours
-    → (AreCleanSettings s → IsCleanTree t → AppendsOne (IsColouredText drawn_rows s blank t) old new)
-    → IsTextOf drawn_rows plain true warning_tree (erase new)
+    → (AreCleanSettings s → IsCleanTree t → AppendsOne (IsColouredText whole_drawing s blank t) old new)
+    → IsTextOf whole_drawing plain true warning_tree (erase new)
 may_be_printed s blank t old new p q none tame law =
     let appended = law (subst AreCleanSettings (sym p) tame) (subst IsCleanTree (sym q) clean) in
-    let own : IsColouredText drawn_rows in_colours blank warning_tree appended.text =
-    subst (λ w. IsColouredText drawn_rows in_colours blank w appended.text) q
-    (subst (λ v. IsColouredText drawn_rows v blank t appended.text) p appended.is_given) in
+    let own : IsColouredText whole_drawing in_colours blank warning_tree appended.text =
+    subst (λ w. IsColouredText whole_drawing in_colours blank w appended.text) q
+    (subst (λ v. IsColouredText whole_drawing v blank t appended.text) p appended.is_given) in
     let whole : new ≡ appended.text = appended.appended ∙ ap (λ o. o ++ appended.text) none in
-    subst (λ text. IsTextOf drawn_rows plain true warning_tree (erase text)) (sym whole) (
-      report_text drawn_rows plain warning_tree (unhighlighted_answers own.answers),
+    subst (λ text. IsTextOf whole_drawing plain true warning_tree (erase text)) (sym whole) (
+      report_text whole_drawing plain warning_tree (unhighlighted_answers own.answers),
       (unhighlighted_answers own.answers, own.possible, refl),
       own.erased,
     )
@@ -71,17 +71,17 @@ may_be_printed s blank t old new p q none tame law =
 pub alike_text : (s u : Settings) (blank : Bool) (t : Tree) (old new before after : List ℕ) → s ≡ in_colours
     → u ≡ plain → t ≡ warning_tree → old ≡ [] → before ≡ [] → AreCleanSettings in_colours
     → (all_read (diagnostics_of s t) ≡ true → AreCleanSettings s → IsCleanTree t → (others : List ℕ)
-    → IsRestyledText drawn_rows s t others → AppendsErasing old new (erase others))
-    → Appends drawn_rows u blank t before after → erase new ≡ erase after
+    → IsRestyledText whole_drawing s t others → AppendsErasing old new (erase others))
+    → Appends whole_drawing u blank t before after → erase new ≡ erase after
 alike_text s u blank t old new before after p r q none nothing tame law appended =
-    let other : IsTextOf drawn_rows plain blank warning_tree appended.text =
-    subst (λ w. IsTextOf drawn_rows plain blank w appended.text) q
-    (subst (λ v. IsTextOf drawn_rows v blank t appended.text) r appended.is_given) in
-    let restyled_one : IsRestyledText drawn_rows in_colours warning_tree appended.text = (no_styles, blank, other) in
+    let other : IsTextOf whole_drawing plain blank warning_tree appended.text =
+    subst (λ w. IsTextOf whole_drawing plain blank w appended.text) q
+    (subst (λ v. IsTextOf whole_drawing v blank t appended.text) r appended.is_given) in
+    let restyled_one : IsRestyledText whole_drawing in_colours warning_tree appended.text = (no_styles, blank, other) in
     let own = law (read s t in_colours p q refl) (subst AreCleanSettings (sym p) tame)
     (subst IsCleanTree (sym q) clean) appended.text
-    (subst (λ v. IsRestyledText drawn_rows v t appended.text) (sym p)
-    (subst (λ w. IsRestyledText drawn_rows in_colours w appended.text) (sym q) restyled_one)) in
+    (subst (λ v. IsRestyledText whole_drawing v t appended.text) (sym p)
+    (subst (λ w. IsRestyledText whole_drawing in_colours w appended.text) (sym q) restyled_one)) in
     ap erase (own.1 ∙ ap (λ o. o ++ own.0) none) ∙ own.2
     ∙ ap erase (sym (appended.appended ∙ ap (λ o. o ++ appended.text) nothing))
 
@@ -98,7 +98,7 @@ may-end (Some h) = tt
 pub asked_plainly : {H : Type 0} (h : H) (old : Handling H) (after : Option H) (blank : Bool) (t : Tree)
     (before new : List ℕ)
     → old.settings ≡ plain → old.highlighter ≡ Some h → t ≡ warning_tree → before ≡ []
-    → AppendsOne (IsAskedText drawn_rows old.settings blank (AreCallsOn Plainly old.highlighter after) t) before new
+    → AppendsOne (IsAskedText whole_drawing old.settings blank (AreCallsOn Plainly old.highlighter after) t) before new
     → IsAskedPlainly new
 asked_plainly h old after blank t before new p o q none appended =
     let given = appended.is_given in
@@ -114,7 +114,7 @@ asked_plainly h old after blank t before new p o q none appended =
       plainly = subst (λ v. AnsweredBy plain_pieces (report_calls v warning_tree answers)) p
           (subst (λ w. AnsweredBy plain_pieces (report_calls old.settings w answers)) q plainly);
       is = appended.appended ∙ ap (λ x. x ++ appended.text) none ∙ given.2 ∙ ap encode_utf8_all asked.3
-          ∙ ap₂ (λ v w. encode_utf8_all (report_text drawn_rows v w answers)) p q;
+          ∙ ap₂ (λ v w. encode_utf8_all (report_text whole_drawing v w answers)) p q;
     }
 
 pub stateless_text : {H : Type 0} (h : H) (old : Handling H) (after : Option H) (t : Tree) (before new : List ℕ)
@@ -122,12 +122,13 @@ pub stateless_text : {H : Type 0} (h : H) (old : Handling H) (after : Option H) 
     → ((answer : List ℕ → List Piece)
     → ((calls : List Call) → follows_of Plainly old calls → AnsweredBy answer calls)
     → follows Plainly after [] → all_read (diagnostics_of old.settings t) ≡ true
-    → new ≡ before ++ encode_utf8_all (report_text drawn_rows old.settings t
+    → new ≡ before ++ encode_utf8_all (report_text whole_drawing old.settings t
     (answers_by answer old.settings.layout.context_lines t)))
-    → new ≡ encode_utf8_all (report_text drawn_rows plain warning_tree (answers_by plain_pieces 1 warning_tree))
+    → new ≡ encode_utf8_all (report_text whole_drawing plain warning_tree (answers_by plain_pieces 1 warning_tree))
 stateless_text h old after t before new p o q none law =
     law plain_pieces (λ calls may. subst (λ x. follows Plainly x calls) o may) (may-end after)
     (read old.settings t plain p q refl)
-    ∙ ap (λ x. x ++ encode_utf8_all (report_text drawn_rows old.settings t
+    ∙ ap (λ x. x ++ encode_utf8_all (report_text whole_drawing old.settings t
     (answers_by plain_pieces old.settings.layout.context_lines t))) none
-    ∙ ap₂ (λ v w. encode_utf8_all (report_text drawn_rows v w (answers_by plain_pieces v.layout.context_lines w))) p q
+    ∙ ap₂ (λ v w. encode_utf8_all (report_text whole_drawing v w
+    (answers_by plain_pieces v.layout.context_lines w))) p q

@@ -24,7 +24,7 @@ use Rattle.miette_graphical.specs.rules.Indents.{spaces}
 use Rattle.miette_graphical.specs.rules.PossibleAnswers.{AreAnswers}
 use Rattle.miette_graphical.specs.rules.PrintedDiagnostics.{HoldsOfPrinted, diagnostics_of}
 use Rattle.miette_graphical.specs.rules.Settings.{Settings}
-use Rattle.miette_graphical.specs.rules.Snippets.{drawn_rows, source_rows}
+use Rattle.miette_graphical.specs.rules.Snippets.{whole_drawing, source_rows}
 use Rattle.miette_graphical.specs.rules.Sources.{LabelledSource}
 use Rattle.miette_graphical.specs.rules.Text.{report_text}
 use Rattle.miette_text.specs.laws.Tame.{IsTame}
@@ -79,23 +79,24 @@ left_out all =
 
 -- what was appended to nothing, by a handler and of a tree that are known
 held : {H : Type 0} (is_blank : H → Bool) (h : Handling H) (t : Tree) (text : List ℕ) → h ≡ without_highlighter narrow
-    → t ≡ sum_tree → IsHoldingText drawn_rows h.settings (draws_plain is_blank h) t text
-    → IsHoldingText drawn_rows narrow true sum_tree text
+    → t ≡ sum_tree → IsHoldingText whole_drawing h.settings (draws_plain is_blank h) t text
+    → IsHoldingText whole_drawing narrow true sum_tree text
 held is_blank h t text p q is =
-    subst (λ u. IsHoldingText drawn_rows narrow true u text) q
-    (subst (λ g. IsHoldingText drawn_rows g.settings (draws_plain is_blank g) t text) p is)
+    subst (λ u. IsHoldingText whole_drawing narrow true u text) q
+    (subst (λ g. IsHoldingText whole_drawing g.settings (draws_plain is_blank g) t text) p is)
 
 -- where every source always reads and lines are plain, answers say nothing
-own_nothing : (a : Answers) → AreAnswers narrow true sum_tree a → first_source (own_answer a) ≡ source_unlisted
-own_nothing a are = are.0.0.read refl ∙ ap pieces_listed (are.0.0.plain refl)
-
-cause_nothing : (a : Answers) → AreAnswers narrow true sum_tree a → first_source (own_answer (cause_answers a))
+own_nothing : (a : Answers) → AreAnswers narrow true sum_tree a → first_source (own_answer a).sources
     ≡ source_unlisted
-cause_nothing a are = let own = are.1 refl in own.0.0.read refl ∙ ap pieces_listed (own.0.0.plain refl)
+own_nothing a are = are.0.sources.0.read refl ∙ ap pieces_listed (are.0.sources.0.plain refl)
+
+cause_nothing : (a : Answers) → AreAnswers narrow true sum_tree a → first_source (own_answer (cause_answers a)).sources
+    ≡ source_unlisted
+cause_nothing a are = let own = (are.1 refl).0.sources.0 in own.read refl ∙ ap pieces_listed (own.plain refl)
 
 pub rows_stand : {H : Type 0} (is_blank : H → Bool) (h : Handling H) (t : Tree) (old new : List ℕ)
     → h ≡ without_highlighter narrow → t ≡ sum_tree → old ≡ []
-    → AppendsOne (IsHoldingText drawn_rows h.settings (draws_plain is_blank h) t) old new → RowsStand new
+    → AppendsOne (IsHoldingText whole_drawing h.settings (draws_plain is_blank h) t) old new → RowsStand new
 rows_stand is_blank h t old new p q none appended row there =
     let own = held is_blank h t appended.text p q appended.is_given in
     let whole : new ≡ appended.text = appended.appended ∙ ap (λ o. o ++ appended.text) none in
@@ -120,25 +121,25 @@ tame_rows (row ∷ rows) h = (h.0.0, tame_rows rows h.1)
 
 pub cause_stands : {H : Type 0} (is_blank : H → Bool) (h : Handling H) (t : Tree) (old new : List ℕ)
     → h ≡ without_highlighter narrow → t ≡ sum_tree → old ≡ []
-    → AppendsOne (IsHoldingText drawn_rows h.settings (draws_plain is_blank h) t) old new
-    → ((a : Answers) (text : List ℕ) → HoldsSnippets drawn_rows narrow sum_tree a text
-    → HoldsLevels drawn_rows narrow sum_tree a (encode_utf8_all text))
+    → AppendsOne (IsHoldingText whole_drawing h.settings (draws_plain is_blank h) t) old new
+    → ((a : Answers) (text : List ℕ) → HoldsSnippets whole_drawing narrow sum_tree a text
+    → HoldsLevels whole_drawing narrow sum_tree a (encode_utf8_all text))
     → ((rows : List (List ℕ)) → HaveRoom narrow arrows rows)
     → ((rows : List (List ℕ)) → StandBehindBars narrow [] rows) → CauseStands new
 cause_stands is_blank h t old new p q none appended levels room behind rows among shown fit =
     let own = held is_blank h t appended.text p q appended.is_given in
-    let whole : new ≡ encode_utf8_all (report_text drawn_rows narrow sum_tree own.answers) =
+    let whole : new ≡ encode_utf8_all (report_text whole_drawing narrow sum_tree own.answers) =
     appended.appended ∙ ap (λ o. o ++ appended.text) none ∙ own.text in
     let drawn : SourceAnswer → List ℕ = λ a. fed_rows (map print
     (source_rows (settings_under narrow arrows) (Some depth_file) depth_labels a ++ [])) in
-    let there : AreAmong (drawn (first_source (own_answer (cause_answers own.answers)))) arrows rows =
+    let there : AreAmong (drawn (first_source (own_answer (cause_answers own.answers)).sources)) arrows rows =
     subst (λ a. AreAmong (drawn a) arrows rows) (sym (cause_nothing own.answers own.are)) among in
     let fits : AllByRecursion (FitsRow ((settings_under narrow arrows).width - 2)) rows =
     subst (λ w. AllByRecursion (FitsRow (w - 2)) rows) (sym left_under) fit in
     let wide : 2 ≤ (settings_under narrow arrows).width = omega (arith, left_under) in
-    let stands = levels own.answers (report_text drawn_rows narrow sum_tree own.answers) own.holds (to_cause ∷ [])
+    let stands = levels own.answers (report_text whole_drawing narrow sum_tree own.answers) own.holds (to_cause ∷ [])
     _ refl
     rows there (room rows wide (tame_rows rows shown) fits) in
     subst (StandsIn (encode_utf8_all (indented_rows (spaces 6) rows))) (sym whole)
     (subst (λ part. StandsIn (encode_utf8_all part)
-    (encode_utf8_all (report_text drawn_rows narrow sum_tree own.answers))) (behind rows shown cause_arrow) stands)
+    (encode_utf8_all (report_text whole_drawing narrow sum_tree own.answers))) (behind rows shown cause_arrow) stands)

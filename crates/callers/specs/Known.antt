@@ -13,7 +13,7 @@ use Rattle.miette_highlight.specs.rules.Pieces.{plain_pieces}
 use Rattle.miette_graphical.specs.rules.Answers.{Answers}
 use Rattle.miette_graphical.specs.rules.Calls.{report_calls}
 use Rattle.miette_graphical.specs.rules.Settings.{Settings, default_settings}
-use Rattle.miette_graphical.specs.rules.Snippets.{drawn_rows}
+use Rattle.miette_graphical.specs.rules.Snippets.{whole_drawing}
 use Rattle.miette_graphical.specs.rules.Text.{report_text}
 use Rattle.miette_graphical.specs.laws.Headline.{AreOwnMarks, ShowsRanges, SnippetHangs, groups_of, marks_under}
 use Rattle.miette_graphical.specs.laws.Headline.{shown_lines}
@@ -71,4 +71,4 @@ TextHangs s = AllByRecursion (SnippetHangs s settings_file (name_label ∷ []))
 pub record IsAskedPlainly (text : List ℕ) : Type 0 where
   pub answers : Answers
   pub plainly : AnsweredBy plain_pieces (report_calls plain warning_tree answers)
-  pub is : text ≡ encode_utf8_all (report_text drawn_rows plain warning_tree answers)
+  pub is : text ≡ encode_utf8_all (report_text whole_drawing plain warning_tree answers)

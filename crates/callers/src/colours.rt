@@ -5,7 +5,7 @@ ghost use Rattle.miette_graphical.specs.laws.Colourless.{colourless};
 ghost use Rattle.miette_graphical.specs.rules.Answers.{unlisted};
 ghost use Rattle.miette_graphical.specs.rules.ByLine.{answers_by};
 ghost use Rattle.miette_graphical.specs.rules.PossibleAnswers.{IsTextOf};
-ghost use Rattle.miette_graphical.specs.rules.Snippets.{drawn_rows};
+ghost use Rattle.miette_graphical.specs.rules.Snippets.{whole_drawing};
 ghost use Rattle.miette_graphical.specs.rules.Text.{report_text};
 ghost use Rattle.miette_highlight.specs.rules.Pieces.{plain_pieces};
 ghost use Rattle.miette_runs.specs.rules.Sequences.{erase};
@@ -36,9 +36,10 @@ pub fn highlighted_both<H: Highlighter, K: Highlighter>(
     ensures alike { IfOk result (λ p. erase (string_bytes p.coloured) ≡ erase (string_bytes p.plain)) }
     // which is that of no highlighter: by `colourless`
     ensures bare { IfOk result (λ p. erase (string_bytes p.coloured)
-        ≡ encode_utf8_all (report_text drawn_rows plain warning_tree unlisted)) }
+        ≡ encode_utf8_all (report_text whole_drawing plain warning_tree unlisted)) }
     // and may be printed by a handler of plain styles: by `colours`
-    ensures printed { IfOk result (λ p. IsTextOf drawn_rows plain true warning_tree (erase (string_bytes p.coloured))) }
+    ensures printed { IfOk result (λ p. IsTextOf whole_drawing plain true warning_tree
+        (erase (string_bytes p.coloured))) }
 {
     themes_law();
     let mut coloured = String::new(alloc);
@@ -60,7 +61,7 @@ pub fn draw_blank(alloc: Global, report: &Report) -> Result<String, RenderError>
     ensures asked { IfOk result (λ text. IsAskedPlainly (string_bytes text)) }
     // so that is the text: by `stateless`
     ensures text { IfOk result (λ text. string_bytes text ≡ encode_utf8_all
-        (report_text drawn_rows plain warning_tree (answers_by plain_pieces 1 warning_tree))) }
+        (report_text whole_drawing plain warning_tree (answers_by plain_pieces 1 warning_tree))) }
 {
     let mut text = String::new(alloc);
     let theme = GraphicalTheme::unicode_nocolor(alloc)?;

@@ -2,7 +2,7 @@
 
 ghost use Rattle.std.specs.Prelude.{◌≡◌, IfOk, string_bytes, encode_utf8_all};
 ghost use Rattle.miette_graphical.specs.rules.Answers.{unlisted};
-ghost use Rattle.miette_graphical.specs.rules.Snippets.{drawn_rows};
+ghost use Rattle.miette_graphical.specs.rules.Snippets.{whole_drawing};
 ghost use Rattle.miette_graphical.specs.rules.Text.{report_text};
 ghost use Rattle.miette_runs.specs.rules.Sequences.{erase};
 ghost use Rattle.miette_tree.specs.views.Report.{tree_of};
@@ -45,7 +45,7 @@ pub fn draw_both(alloc: Global, report: &Report) -> Result<Pictures, RenderError
         ⟦<Box<dyn SourceCode> as SourceCode>⟧.source report.now ≡ warning_tree }
     // the plain one is the text of the definition,
     ensures plain { IfOk result (λ p. string_bytes p.plain
-        ≡ encode_utf8_all (report_text drawn_rows plain warning_tree unlisted)) }
+        ≡ encode_utf8_all (report_text whole_drawing plain warning_tree unlisted)) }
     // and the coloured one is it too, without its colours
     ensures colours { IfOk result (λ p. erase (string_bytes p.coloured) ≡ string_bytes p.plain) }
     // its snippet shows the two lines, the label's mark is the column of the name, and its text
@@ -70,7 +70,7 @@ pub fn debug_plain(alloc: Global, report: &Report) -> Result<String, RenderError
     requires { tree_of ⟦<Box<dyn Diagnostic> as Diagnostic>⟧.meaning
         ⟦<Box<dyn SourceCode> as SourceCode>⟧.source report.now ≡ warning_tree }
     ensures { IfOk result (λ text. string_bytes text
-        ≡ encode_utf8_all (report_text drawn_rows plain warning_tree unlisted)) }
+        ≡ encode_utf8_all (report_text whole_drawing plain warning_tree unlisted)) }
 {
     only_law();
     let mut text = String::new(alloc);

@@ -6,7 +6,7 @@ ghost use Rattle.std.specs.List.{Contains};
 ghost use Rattle.miette_graphical.specs.laws.Alike.{AreDrawnAlike};
 ghost use Rattle.miette_graphical.specs.laws.Paths.{HasPath};
 ghost use Rattle.miette_graphical.specs.rules.Answers.{Answers};
-ghost use Rattle.miette_graphical.specs.rules.DiagnosticText.{SnippetRows};
+ghost use Rattle.miette_graphical.specs.rules.DiagnosticText.{Drawing};
 ghost use Rattle.miette_graphical.specs.rules.PrintedDiagnostics.{diagnostics_of};
 ghost use Rattle.miette_graphical.specs.rules.Text.{report_text};
 ghost use Rattle.miette_graphical.specs.views.Handling.{draws_plain, without_highlighter};
@@ -141,12 +141,12 @@ pub fn cause_is_printed()
     paths_law();
 }
 
-/// Of no source but these two does the text hold a snippet: rows that are the same for both diagnostics give the same
-/// text, whatever they are for others.
+/// Of no source but these two does the text hold a snippet: drawings that are the same for both diagnostics give the
+/// same text, whatever they are for others.
 pub fn no_others_are_drawn()
-    ensures { (rows others : SnippetRows) (a : Answers) → AreDrawnAlike rows others printed_sum →
-        AreDrawnAlike rows others printed_cause →
-        report_text rows narrow sum_tree a ≡ report_text others narrow sum_tree a }
+    ensures { (drawing other : Drawing) (a : Answers) → AreDrawnAlike drawing other printed_sum →
+        AreDrawnAlike drawing other printed_cause →
+        report_text drawing narrow sum_tree a ≡ report_text other narrow sum_tree a }
 {
     printed_law();
 }

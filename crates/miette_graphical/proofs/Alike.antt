@@ -1,4 +1,4 @@
--- Rows and answers that agree wherever a diagnostic is printed give the same text.
+-- Drawings and answers that agree wherever a diagnostic is printed give the same text.
 use Rattle.std.proofs.Common.{◌≡◌, ℕ, zero, suc, inl, inr, Bool, true, false, List, [], ◌∷◌, ◌++◌, Option, Some, None}
 use Rattle.std.proofs.Common.{refl, ap, ap₂, ◌∙◌, subst, if◌then◌else◌}
 use Rattle.std.specs.List.{AllByRecursion, Contains}
@@ -11,11 +11,12 @@ use Rattle.miette_tree.specs.rules.Tree.{effective, Tree, tree, Cause, diagnosti
 use Rattle.miette_graphical.specs.rules.Answers.{Answer, Answers, RelatedAnswers, own_answer, cause_answers}
 use Rattle.miette_graphical.specs.rules.Answers.{related_answers, first_answers, later_answers}
 use Rattle.miette_graphical.specs.rules.Indents.{narrow_settings}
-use Rattle.miette_graphical.specs.rules.DiagnosticText.{SnippetRows, rows_text, under_arrow, title_text}
+use Rattle.miette_graphical.specs.rules.DiagnosticText.{Drawing, fixes_text, help_text, rows_text, under_arrow}
+use Rattle.miette_graphical.specs.rules.DiagnosticText.{title_text}
 use Rattle.miette_graphical.specs.rules.PrintedDiagnostics.{PrintedDiagnostic, over}
 use Rattle.miette_graphical.specs.rules.Settings.{Settings}
-use Rattle.miette_graphical.specs.rules.Text.{are_last, body_over, causes_text, ends_there, inner_over, only_if}
-use Rattle.miette_graphical.specs.rules.Text.{related_text, report_text}
+use Rattle.miette_graphical.specs.rules.Text.{are_last, body_over, causes_text, drawn_text, ends_there, inner_over}
+use Rattle.miette_graphical.specs.rules.Text.{only_if, related_text, report_text}
 use Rattle.miette_graphical.specs.laws.Alike.{answer_at, numbered_answers}
 use Rattle.miette_graphical.specs.laws.Paths.{Step, to_cause, to_related, at_cause, at_related, printed_at}
 use Rattle.miette_graphical.proofs.Outermost.{if_same, report_over}
@@ -28,22 +29,23 @@ holds_there P [] p all h = absurd (none p h)
 holds_there P (q ∷ ps) p all h = elim (first_or_later q ps p h)
     [ inl same ↦ subst P same all.0 | inr there ↦ holds_there P ps p all.1 there ]
 
-module _ (rows others : SnippetRows) where
-  -- the rows of a printed diagnostic, under an answer and under another one
+module _ (drawing other : Drawing) where
+  -- what is drawn of a printed diagnostic, under an answer and under another one
   abbrev AreSame : PrintedDiagnostic → Answer → Answer → Type 0
-  AreSame p a b = (u : Settings) → rows u p.source p.meaning a
-      ≡ others u p.source p.meaning b
+  AreSame p a b = (u : Settings) → (drawing.rows u p.source p.meaning a ≡ other.rows u p.source p.meaning b)
+      × (drawing.fixes u p.source p.meaning a ≡ other.fixes u p.source p.meaning b)
 
   same_drawn : (u : Settings) (source : Option Source) (m : Diagnosis) (a b : Answer) → AreSame (over source m) a b →
-      rows_text (rows u source m a) ≡ rows_text (others u source m b)
-  same_drawn u source m a b h = ap rows_text (h u)
+      drawn_text drawing u m source a ≡ drawn_text other u m source b
+  same_drawn u source m a b h =
+      ap₂ (λ rows fixes. rows_text rows ++ help_text u m.help ++ fixes_text u fixes) (h u).0 (h u).1
 
   mutual
     causes_alike : (s : Settings) (outer : Option Severity) (inherited : Option Source) (c : Cause) (a b : Answers)
         (nested : Bool) → s.related_as_nested ≡ nested →
         ((path : List Step) (p : PrintedDiagnostic) → at_cause nested inherited c path ≡ Some p
         → AreSame p (answer_at a path) (answer_at b path)) →
-        causes_text rows s outer inherited c a ≡ causes_text others s outer inherited c b
+        causes_text drawing s outer inherited c a ≡ causes_text other s outer inherited c b
     causes_alike s outer inherited (texts ts) a b nested w h = refl
     causes_alike s outer inherited (diagnostic (tree m own c r)) a b nested w h =
         let source = effective own inherited in
@@ -59,7 +61,7 @@ module _ (rows others : SnippetRows) where
         (a b : RelatedAnswers) (nested : Bool) → s.related_as_nested ≡ nested →
         ((k : ℕ) (path : List Step) (p : PrintedDiagnostic) → at_related nested inherited ts k path ≡ Some p
         → AreSame p (answer_at (numbered_answers a k) path) (answer_at (numbered_answers b k) path)) →
-        related_text rows s outer inherited ts a ≡ related_text others s outer inherited ts b
+        related_text drawing s outer inherited ts a ≡ related_text other s outer inherited ts b
     related_alike s outer inherited no_trees a b nested w h = refl
     related_alike s outer inherited (more_trees (tree m own c r) ts) a b true w h =
         let source = effective own inherited in
@@ -78,13 +80,13 @@ module _ (rows others : SnippetRows) where
         ap₂ (λ x y. x ++ y)
         (if_same s.related_as_nested _ _ _ _
         (λ y. absurd (cc))
-        (λ y. ap (λ x. title_text s m ++ body_over s m x (causes_text rows s m.severity source c
-        (cause_answers (first_answers a))) (related_text rows s m.severity source r
+        (λ y. ap (λ x. title_text s m ++ body_over s m x (causes_text drawing s m.severity source c
+        (cause_answers (first_answers a))) (related_text drawing s m.severity source r
         (related_answers (first_answers a))))
         (same_drawn s source m (own_answer (first_answers a)) (own_answer (first_answers b))
         (h zero [] (over source m) refl))
-        ∙ ap₂ (λ x z. title_text s m ++ body_over s m (rows_text
-        (others s source m (own_answer (first_answers b)))) x z)
+        ∙ ap₂ (λ x z. title_text s m ++ body_over s m (drawn_text other s m source
+        (own_answer (first_answers b))) x z)
         (causes_alike s m.severity source c (cause_answers (first_answers a)) (cause_answers (first_answers b)) false w
         (λ path. h zero (to_cause ∷ path)))
         (related_alike s m.severity source r (related_answers (first_answers a)) (related_answers (first_answers b))
@@ -95,18 +97,18 @@ module _ (rows others : SnippetRows) where
       ((path : List Step) (p : PrintedDiagnostic) → (if chain then at_cause s.related_as_nested own c path else None)
       ≡ Some p
       → AreSame p (answer_at a path) (answer_at b path)) →
-      only_if chain (causes_text rows s m.severity own c a) ≡ only_if chain (causes_text others s m.severity own c b)
+      only_if chain (causes_text drawing s m.severity own c a) ≡ only_if chain (causes_text other s m.severity own c b)
   root_alike true s m own c a b h = causes_alike s m.severity own c a b s.related_as_nested refl h
   root_alike false s m own c a b h = refl
 
   pub report_alike : (s : Settings) (t : Tree) (a b : Answers) →
       ((path : List Step) (p : PrintedDiagnostic) → printed_at s t path ≡ Some p
-      → AreSame p (answer_at a path) (answer_at b path)) → report_text rows s t a ≡ report_text others s t b
+      → AreSame p (answer_at a path) (answer_at b path)) → report_text drawing s t a ≡ report_text other s t b
   report_alike s (tree m own c r) a b h =
-      ap (λ x. report_over s m x (only_if s.cause_chain (causes_text rows s m.severity own c (cause_answers a)))
-      (related_text rows s m.severity own r (related_answers a)))
+      ap (λ x. report_over s m x (only_if s.cause_chain (causes_text drawing s m.severity own c (cause_answers a)))
+      (related_text drawing s m.severity own r (related_answers a)))
       (same_drawn s own m (own_answer a) (own_answer b) (h [] (over own m) refl))
-      ∙ ap₂ (report_over s m (rows_text (others s own m (own_answer b))))
+      ∙ ap₂ (report_over s m (drawn_text other s m own (own_answer b)))
       (root_alike s.cause_chain s m own c (cause_answers a) (cause_answers b) (λ path. h (to_cause ∷ path)))
       (related_alike s m.severity own r (related_answers a) (related_answers b) s.related_as_nested refl
       (λ k path. h (to_related k ∷ path)))

@@ -5,36 +5,38 @@ use Rattle.miette_tree.specs.rules.Tree.{Tree, tree}
 use Rattle.miette_style.specs.rules.Themes.{Styles}
 use Rattle.miette_row_laws.specs.laws.Fading.{unhighlighted_answer}
 use Rattle.miette_graphical.specs.rules.Settings.{Settings}
-use Rattle.miette_graphical.specs.rules.Snippets.{drawn_rows, snippet_settings}
+use Rattle.miette_graphical.specs.rules.Snippets.{whole_drawing, snippet_settings}
 use Rattle.miette_graphical.specs.rules.Sources.{LabelledSource, snippets_after, snippets_with, sources_of}
-use Rattle.miette_graphical.specs.rules.Sources.{sources_read}
+use Rattle.miette_graphical.specs.rules.Sources.{reads_for, sources_read}
 use Rattle.miette_snippet_rules.specs.rules.Settings as snippets
 use Rattle.miette_tree.specs.rules.Reads.{always_reads}
 use Rattle.std.proofs.lemmas.Bool.{and_parts}
-use Rattle.miette_graphical.specs.rules.Answers.{Answer, Answers, unlisted, listed, RelatedAnswers, no_more, and_more}
-use Rattle.miette_graphical.specs.rules.Answers.{first_source}
+use Rattle.miette_graphical.specs.rules.Answers.{Answers, SourceAnswers, unlisted, listed, RelatedAnswers, no_more}
+use Rattle.miette_graphical.specs.rules.Answers.{and_more, first_source}
 use Rattle.miette_graphical.specs.rules.Answers.{own_answer, cause_answers, related_answers}
 use Rattle.miette_graphical.specs.rules.Answers.{first_answers, later_answers}
 use Rattle.miette_graphical.specs.rules.PossibleAnswers.{AreAnswers, AreAnswersOver}
-use Rattle.miette_graphical.specs.rules.PrintedDiagnostics.{all_read, diagnostics_of}
+use Rattle.miette_graphical.specs.rules.PrintedDiagnostics.{all_read, diagnostics_of, reads_labels}
 use Rattle.miette_graphical.specs.rules.Text.{report_text}
 use Rattle.miette_graphical.specs.laws.Alike.{answer_at, numbered_answers}
-use Rattle.miette_graphical.specs.laws.Colourless.{restyled, unhighlighted_answers, unhighlighted_related_answers}
+use Rattle.miette_graphical.specs.laws.Colourless.{restyled, unhighlighted, unhighlighted_answers}
+use Rattle.miette_graphical.specs.laws.Colourless.{unhighlighted_related_answers}
 use Rattle.miette_graphical.specs.laws.Paths.{Step, to_cause, to_related, printed_at}
 use Rattle.miette_graphical.proofs.Only.{nothing_at}
-use Rattle.miette_graphical.proofs.PrintedAnswers.{AgreeAlong, AgreeOver, agreed_alike, answer_there, reads_there}
+use Rattle.miette_graphical.proofs.PrintedAnswers.{Agree, AgreeAlong, AgreeOver, agreed_alike, answer_there}
+use Rattle.miette_graphical.proofs.PrintedAnswers.{reads_there}
 
 -- ---- the parts of such answers
 
-pub first-bare-source : (a : Answer) → unhighlighted_answer (first_source a) ≡ first_source (map unhighlighted_answer a)
+pub first-bare-source : (a : SourceAnswers) → unhighlighted_answer (first_source a) ≡ first_source (map unhighlighted_answer a)
 first-bare-source [] = refl
 first-bare-source (own ∷ more) = refl
 
-pub later-bare-sources : (a : Answer) → map unhighlighted_answer (drop 1 a) ≡ drop 1 (map unhighlighted_answer a)
+pub later-bare-sources : (a : SourceAnswers) → map unhighlighted_answer (drop 1 a) ≡ drop 1 (map unhighlighted_answer a)
 later-bare-sources [] = refl
 later-bare-sources (own ∷ more) = refl
 
-pub own-bare : (a : Answers) → map unhighlighted_answer (own_answer a) ≡ own_answer (unhighlighted_answers a)
+pub own-bare : (a : Answers) → unhighlighted (own_answer a) ≡ own_answer (unhighlighted_answers a)
 own-bare unlisted = refl
 own-bare (listed own cause related) = refl
 
@@ -66,7 +68,7 @@ numbered_bare more (suc k) = ap (λ later. numbered_answers later k) (sym (later
     ∙ numbered_bare (later_answers more) k
 
 bare_at : (a : Answers) (path : List Step) → answer_at (unhighlighted_answers a) path
-    ≡ map unhighlighted_answer (answer_at a path)
+    ≡ unhighlighted (answer_at a path)
 bare_at a [] = sym (own-bare a)
 bare_at a (to_cause ∷ path) = ap (λ b. answer_at b path) (sym (cause-bare a)) ∙ bare_at (cause_answers a) path
 bare_at a (to_related k ∷ path) =
@@ -88,7 +90,7 @@ pub restyled-printed : (s : Settings) (styles : Styles) (t : Tree)
 restyled-printed s styles (tree m own c r) = refl
 
 -- where every read succeeds, such an answer says nothing
-nothing_over : (l : snippets.SnippetSettings) (blank : Bool) (sources : List LabelledSource) (a : Answer)
+nothing_over : (l : snippets.SnippetSettings) (blank : Bool) (sources : List LabelledSource) (a : SourceAnswers)
     → AreAnswersOver l blank sources a → sources_read sources ≡ true
     → AgreeOver sources (map unhighlighted_answer a) []
 nothing_over l blank [] a h e = tt
@@ -104,21 +106,24 @@ nothing_alike : (s : Settings) (styles : Styles) (blank : Bool) (t : Tree) (a : 
     → AgreeAlong (restyled s styles) t (unhighlighted_answers a) unlisted
 nothing_alike s styles blank t a h reads = λ path p shown.
     let found = sym (restyled_at s styles t path) ∙ shown in
-    subst (λ b. AgreeOver (sources_of p.source p.meaning) b (answer_at unlisted path)) (sym (bare_at a path))
-    (subst (λ b. AgreeOver (sources_of p.source p.meaning) (map unhighlighted_answer (answer_at a path)) b)
-    (sym (nothing_at path))
-    (nothing_over (snippets_with p.meaning.snippets (snippet_settings s)) blank (sources_of p.source p.meaning)
-    (answer_at a path) (answer_there s blank t a path p h found) (reads_there s t path p reads found)))
+    let there = answer_there s blank t a path p h found in
+    let all = and_parts (reads_labels p) (reads_for p.source p.meaning.fixes) (reads_there s t path p reads found) in
+    subst (λ b. Agree p b (answer_at unlisted path)) (sym (bare_at a path))
+    (subst (λ b. Agree p (unhighlighted (answer_at a path)) b) (sym (nothing_at path)) (
+      nothing_over (snippets_with p.meaning.snippets (snippet_settings s)) blank (sources_of p.source p.meaning)
+          (answer_at a path).sources there.sources all.0,
+      there.fixes all.1,
+    ))
 
 pub bare-report : (s : Settings) (styles : Styles) (blank : Bool) (t : Tree) (a : Answers)
     → AreAnswers s blank t a → all_read (diagnostics_of s t) ≡ true →
-    report_text drawn_rows (restyled s styles) t (unhighlighted_answers a)
-    ≡ report_text drawn_rows (restyled s styles) t unlisted
+    report_text whole_drawing (restyled s styles) t (unhighlighted_answers a)
+    ≡ report_text whole_drawing (restyled s styles) t unlisted
 bare-report s styles blank t a h reads =
     agreed_alike (restyled s styles) t (unhighlighted_answers a) unlisted (nothing_alike s styles blank t a h reads)
 
 -- where lines are left plain, there are no pieces
-plain_over : (l : snippets.SnippetSettings) (sources : List LabelledSource) (a : Answer)
+plain_over : (l : snippets.SnippetSettings) (sources : List LabelledSource) (a : SourceAnswers)
     → AreAnswersOver l true sources a → AgreeOver sources a (map unhighlighted_answer a)
 plain_over l [] a h = tt
 plain_over l (it ∷ more) a h = (
@@ -130,10 +135,12 @@ plain_over l (it ∷ more) a h = (
 plain_alike : (s : Settings) (t : Tree) (a : Answers) → AreAnswers s true t a
     → AgreeAlong s t a (unhighlighted_answers a)
 plain_alike s t a h = λ path p found.
-    subst (λ b. AgreeOver (sources_of p.source p.meaning) (answer_at a path) b) (sym (bare_at a path))
-    (plain_over (snippets_with p.meaning.snippets (snippet_settings s)) (sources_of p.source p.meaning)
-    (answer_at a path) (answer_there s true t a path p h found))
+    subst (λ b. Agree p (answer_at a path) b) (sym (bare_at a path)) (
+      plain_over (snippets_with p.meaning.snippets (snippet_settings s)) (sources_of p.source p.meaning)
+          (answer_at a path).sources (answer_there s true t a path p h found).sources,
+      refl,
+    )
 
 pub plain-report : (s : Settings) (t : Tree) (a : Answers) → AreAnswers s true t a →
-    report_text drawn_rows s t a ≡ report_text drawn_rows s t (unhighlighted_answers a)
+    report_text whole_drawing s t a ≡ report_text whole_drawing s t (unhighlighted_answers a)
 plain-report s t a h = agreed_alike s t a (unhighlighted_answers a) (plain_alike s t a h)

@@ -21,11 +21,12 @@ use Rattle.miette_page.specs.rules.Rows.{Row}
 use Rattle.miette_page.specs.views.Tokens.{rows_tokens}
 use Rattle.miette_page.specs.views.Printouts.{Printout, printout_of, ended_text, ◌⊕◌}
 use Rattle.miette_tree.specs.views.Handler.{AppendsOne}
-use Rattle.miette_graphical.specs.rules.Answers.{SourceAnswer, pieces_listed, source_unlisted}
-use Rattle.miette_graphical.specs.rules.PossibleAnswers.{AreAnswersOver, HasRows, HasPieces, IsAnswerOf}
+use Rattle.miette_graphical.specs.rules.Answers.{SourceAnswer, nothing_listed, pieces_listed, source_unlisted}
+use Rattle.miette_graphical.specs.rules.PossibleAnswers.{AreAnswersOver, HasRows, HasPieces, IsAnswer, IsAnswerOf}
+use Rattle.miette_tree.specs.rules.Diagnosis.{Diagnosis}
 use Rattle.miette_tree.specs.rules.Reads.{always_reads}
 use Rattle.miette_graphical.specs.rules.DiagnosticText.{rows_text}
-use Rattle.miette_graphical.specs.rules.Sources.{LabelledSource, labelled, snippets_after}
+use Rattle.miette_graphical.specs.rules.Sources.{LabelledSource, labelled, snippets_after, snippets_with, sources_of}
 use Rattle.miette_graphical.specs.rules.Settings.{Settings}
 use Rattle.miette_graphical.specs.rules.Snippets.{snippet_settings, shown_rows, source_rows}
 use Rattle.miette_graphical.proofs.PrintedRows.{rows_printed}
@@ -124,13 +125,21 @@ unlisted_is s blank source labels reads = record {
 }
 
 -- the same over several sources
-pub nothing_over : (l : snippets.SnippetSettings) (blank : Bool) (sources : List LabelledSource)
+nothing_over : (l : snippets.SnippetSettings) (blank : Bool) (sources : List LabelledSource)
     → AreAnswersOver l blank sources []
 nothing_over l blank [] = tt
 nothing_over l blank (it ∷ more) = (
   unlisted_is l blank it.source it.labels (always_reads it.source it.labels),
   nothing_over (snippets_after (length it.labels) l) blank more,
 )
+
+-- of a diagnostic
+pub nothing_is : (l : snippets.SnippetSettings) (blank : Bool) (source : Option Source) (m : Diagnosis)
+    → IsAnswer l blank source m nothing_listed
+nothing_is l blank source m = record {
+  sources = nothing_over (snippets_with m.snippets l) blank (sources_of source m);
+  fixes = λ h. refl;
+}
 
 page_given : (text : List ℕ) (rows : Option (List Row)) (page : Printout) → Some page
     ≡ option_map (λ rows. printout_of text ⊕ rows_tokens rows) rows → ended_text page ≡ text

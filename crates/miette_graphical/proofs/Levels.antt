@@ -14,7 +14,7 @@ use Rattle.miette_style.specs.rules.Codes.{colour_start, colour_stop, style_code
 use Rattle.miette_runs.specs.rules.Runs.{Styled, printed_run}
 use Rattle.miette_tree.specs.rules.Tree.{Tree}
 use Rattle.miette_graphical.specs.rules.Answers.{Answers}
-use Rattle.miette_graphical.specs.rules.DiagnosticText.{SnippetRows, line_feed, under_arrow}
+use Rattle.miette_graphical.specs.rules.DiagnosticText.{Drawing, line_feed, under_arrow}
 use Rattle.miette_graphical.specs.rules.Indents.{arrow_indent, narrow_settings, stem_indent}
 use Rattle.miette_graphical.specs.rules.Settings.{Settings}
 use Rattle.miette_graphical.specs.laws.Alike.{answer_at}
@@ -226,13 +226,13 @@ levels-stand (arrow ∷ arrows) s drawn text w held rows among fit =
 
 -- ---- in the bytes of a report
 
-pub levels-hold : (rows : SnippetRows) (s : Settings) (t : Tree) (a : Answers) (text : List ℕ)
-    → s.wrapping.wrap_lines ≡ true → HoldsSnippets rows s t a text → HoldsLevels rows s t a (encode_utf8_all text)
-levels-hold rows s t a text w held path p found shown among fit =
+pub levels-hold : (drawing : Drawing) (s : Settings) (t : Tree) (a : Answers) (text : List ℕ)
+    → s.wrapping.wrap_lines ≡ true → HoldsSnippets drawing s t a text → HoldsLevels drawing s t a (encode_utf8_all text)
+levels-hold drawing s t a text w held path p found shown among fit =
     let arrows = arrows_at s t path in
     let answer = answer_at a path in
     bytes-stand (fed_rows (barred_rows s arrows shown)) text
-    (levels-stand arrows s (text_at rows p answer) text w (held path p found) shown
-    (subst (λ drawn. AreAmong drawn arrows shown) (printed-rows (rows_at rows p answer (settings_under s arrows)))
+    (levels-stand arrows s (text_at drawing p answer) text w (held path p found) shown
+    (subst (λ drawn. AreAmong drawn arrows shown) (printed-rows (rows_at drawing p answer (settings_under s arrows)))
     among)
     fit)

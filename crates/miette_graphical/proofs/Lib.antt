@@ -8,6 +8,9 @@ pub mod Lists
 pub mod Outermost
 pub mod Painted
 pub mod Steps
+pub mod WholeReads
+pub mod ShownFixes
+pub mod FixPictures
 pub mod Remaining
 pub mod SourceRows
 pub mod TextLaws
@@ -18,6 +21,7 @@ pub mod Alike
 pub mod PrintedAnswers
 pub mod DrawnRows
 pub mod SnippetsFading
+pub mod FixesFading
 pub mod Styling
 pub mod Themes
 pub mod RenderedBytes

@@ -4,19 +4,21 @@ use Rattle.std.proofs.Common.{◌≡◌, ℕ, zero, suc, true, List, [], ◌∷�
 use Rattle.std.proofs.Common.{encode_utf8_all}
 use Rattle.miette_tree.specs.rules.Tree.{Tree}
 use Rattle.miette_graphical.specs.rules.Settings.{Settings}
-use Rattle.miette_graphical.specs.rules.Answers.{Answer, Answers, no_more, nothing_listed, pieces_listed, unlisted}
+use Rattle.miette_graphical.specs.rules.Answers.{Answers, SourceAnswers, no_more, nothing_listed, pieces_listed}
+use Rattle.miette_graphical.specs.rules.Answers.{unlisted}
 use Rattle.miette_graphical.specs.rules.PossibleAnswers.{AreAnswers, AreAnswersOver, IsTextOf}
-use Rattle.miette_graphical.specs.rules.PrintedDiagnostics.{all_read, diagnostics_of}
-use Rattle.miette_graphical.specs.rules.Snippets.{drawn_rows, snippet_settings}
+use Rattle.miette_graphical.specs.rules.PrintedDiagnostics.{all_read, diagnostics_of, reads_labels}
+use Rattle.miette_graphical.specs.rules.Snippets.{whole_drawing, snippet_settings}
 use Rattle.miette_graphical.specs.rules.Sources.{LabelledSource, snippets_after, snippets_with, sources_of}
-use Rattle.miette_graphical.specs.rules.Sources.{sources_read}
+use Rattle.miette_graphical.specs.rules.Sources.{reads_for, sources_read}
 use Rattle.miette_snippet_rules.specs.rules.Settings as snippets
 use Rattle.miette_tree.specs.rules.Reads.{always_reads}
 use Rattle.std.proofs.lemmas.Bool.{and_parts}
 use Rattle.miette_graphical.specs.rules.Text.{report_text}
 use Rattle.miette_graphical.specs.laws.Alike.{answer_at, numbered_answers}
 use Rattle.miette_graphical.specs.laws.Paths.{Step, to_cause, to_related}
-use Rattle.miette_graphical.proofs.PrintedAnswers.{AgreeAlong, AgreeOver, agreed_alike, answer_there, reads_there}
+use Rattle.miette_graphical.proofs.PrintedAnswers.{Agree, AgreeAlong, AgreeOver, agreed_alike, answer_there}
+use Rattle.miette_graphical.proofs.PrintedAnswers.{reads_there}
 
 numbered_none : (k : ℕ) → numbered_answers no_more k ≡ unlisted
 numbered_none zero = refl
@@ -27,7 +29,7 @@ nothing_at [] = refl
 nothing_at (to_cause ∷ path) = nothing_at path
 nothing_at (to_related k ∷ path) = ap (λ a. answer_at a path) (numbered_none k) ∙ nothing_at path
 
-unlisted_over : (l : snippets.SnippetSettings) (sources : List LabelledSource) (a : Answer)
+unlisted_over : (l : snippets.SnippetSettings) (sources : List LabelledSource) (a : SourceAnswers)
     → AreAnswersOver l true sources a → sources_read sources ≡ true → AgreeOver sources a []
 unlisted_over l [] a h e = tt
 unlisted_over l (it ∷ more) a h e =
@@ -39,12 +41,16 @@ unlisted_over l (it ∷ more) a h e =
 unlisted_alike : (s : Settings) (t : Tree) (a : Answers) → AreAnswers s true t a
     → all_read (diagnostics_of s t) ≡ true → AgreeAlong s t a unlisted
 unlisted_alike s t a h reads = λ path p found.
-    subst (λ b. AgreeOver (sources_of p.source p.meaning) (answer_at a path) b) (sym (nothing_at path))
-    (unlisted_over (snippets_with p.meaning.snippets (snippet_settings s)) (sources_of p.source p.meaning)
-    (answer_at a path) (answer_there s true t a path p h found) (reads_there s t path p reads found))
+    let there = answer_there s true t a path p h found in
+    let all = and_parts (reads_labels p) (reads_for p.source p.meaning.fixes) (reads_there s t path p reads found) in
+    subst (λ b. Agree p (answer_at a path) b) (sym (nothing_at path)) (
+      unlisted_over (snippets_with p.meaning.snippets (snippet_settings s)) (sources_of p.source p.meaning)
+          (answer_at a path).sources there.sources all.0,
+      there.fixes all.1,
+    )
 
-pub only-text : (s : Settings) (t : Tree) (bytes : List ℕ) → IsTextOf drawn_rows s true t bytes
-    → all_read (diagnostics_of s t) ≡ true → bytes ≡ encode_utf8_all (report_text drawn_rows s t unlisted)
+pub only-text : (s : Settings) (t : Tree) (bytes : List ℕ) → IsTextOf whole_drawing s true t bytes
+    → all_read (diagnostics_of s t) ≡ true → bytes ≡ encode_utf8_all (report_text whole_drawing s t unlisted)
 only-text s t bytes printed reads =
     printed.2 ∙ ap encode_utf8_all (printed.1.2 ∙ agreed_alike s t printed.1.0 unlisted
     (unlisted_alike s t printed.1.0 printed.1.1 reads))

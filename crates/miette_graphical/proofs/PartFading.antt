@@ -19,20 +19,21 @@ use Rattle.miette_graphical.proofs.TextLaws.{TextLaws}
 use Rattle.miette_graphical.specs.rules.Answers.{Answer}
 use Rattle.miette_graphical.specs.rules.Indents.{bare_text, spaces, wrapped_under, icon_indent, bar_indent, arrow_text}
 use Rattle.miette_graphical.specs.rules.Indents.{stem_text, arrow_indent, stem_indent, help_indent, further_help_indent}
-use Rattle.miette_graphical.specs.rules.Indents.{footer_indent, narrow_settings}
+use Rattle.miette_graphical.specs.rules.Indents.{fix_indent, footer_indent, further_fix_indent, narrow_settings}
 use Rattle.miette_graphical.specs.rules.DiagnosticText.{footer_of, line_feed, header, header_by, message_text}
 use Rattle.miette_graphical.specs.rules.DiagnosticText.{help_text, footer_text, under_arrow, header_or_end, title_text}
-use Rattle.miette_graphical.specs.rules.DiagnosticText.{SnippetRows, rows_text}
+use Rattle.miette_graphical.specs.rules.DiagnosticText.{Drawing, ShownFix, fix_text, fixes_text, rows_text}
 use Rattle.miette_tree.specs.rules.DiagnosticParts.{given_labels, severity_title}
 use Rattle.miette_graphical.specs.rules.Text.{cause_texts, inner_text, body_over, drawn_text}
 use Rattle.miette_tree.specs.rules.Tree.{effective}
 use Rattle.std.specs.List.{AllByRecursion}
 use Rattle.miette_row_laws.specs.laws.Clean.{IsClean, IsCleanText, IsCleanLabel, IsCleanSource}
-use Rattle.miette_row_laws.specs.laws.Fading.{AreAllPlain, unhighlighted_answer}
+use Rattle.miette_row_laws.specs.laws.Fading.{AreAllPlain}
 use Rattle.miette_row_laws.proofs.PlainStyles.{faded_are_plain, faded_styles}
 use Rattle.miette_row_laws.proofs.CleanTexts.{clean_cons, clean_append}
 use Rattle.miette_graphical.specs.laws.Clean.{AreCleanCharacters, AreCleanSettings, AreCleanLabels, IsCleanMeaning}
-use Rattle.miette_graphical.specs.laws.Colourless.{AreSnippets, restyled}
+use Rattle.miette_graphical.specs.laws.Colourless.{AreDrawings, AreFaded, IsCleanShown, IsFaded, restyled}
+use Rattle.miette_graphical.specs.laws.Colourless.{unhighlighted}
 use Rattle.miette_graphical.proofs.Fading.{Fades, Pales, fades-to, fades-append, fades-clean, fades-print}
 use Rattle.miette_graphical.proofs.Fading.{fades-leading, fades-under, fades-feed, fades-rows, columns-pale}
 
@@ -200,6 +201,33 @@ module _ (laws : TextLaws) (hs : List Style) (bare : AreAllPlain hs) where
       (fades-under laws s (faded_styles hs) (help_indent s) (help_indent (faded hs s)) further_help_indent
       further_help_indent (chars help) (chars help) (pale-help s h) pale-spaces (fades-clean laws (chars help) k))
 
+  pale-fix : (s : Settings) → AreCleanSettings s → Pales (fix_indent s) (fix_indent (faded hs s))
+  pale-fix s h = record { clean = (refl, tt); same = refl }
+
+  pale-fix-spaces : Pales further_fix_indent further_fix_indent
+  pale-fix-spaces = record { clean = (refl, tt); same = refl }
+
+  fades-fix : (s : Settings) (fix pale : ShownFix) → AreCleanSettings s → IsCleanShown fix → IsFaded pale fix
+      → Fades (fix_text s fix) (fix_text (faded hs s) pale)
+  fades-fix s fix pale h k j =
+      let message = wrapped_under s (fix_indent s) further_fix_indent (chars fix.message) in
+      let other = wrapped_under (faded hs s) (fix_indent (faded hs s)) further_fix_indent (chars pale.message) in
+      fades-append laws (message ++ line_feed) (other ++ line_feed) (rows_text fix.rows) (rows_text pale.rows)
+      (fades-line message other
+      (fades-under laws s (faded_styles hs) (fix_indent s) (fix_indent (faded hs s)) further_fix_indent
+      further_fix_indent (chars fix.message) (chars pale.message) (pale-fix s h) pale-fix-spaces
+      (fades-to (fades-clean laws (chars fix.message) k.message) (ap chars (sym j.message)))))
+      (fades-to (fades-rows laws fix.rows k.rows) (sym j.rows))
+
+  fades-fixes : (s : Settings) (fixes pales : List ShownFix) → AreCleanSettings s → AllByRecursion IsCleanShown fixes
+      → AreFaded pales fixes → Fades (fixes_text s fixes) (fixes_text (faded hs s) pales)
+  fades-fixes s [] [] h k j = fades-clean laws [] refl
+  fades-fixes s [] (pale ∷ pales) h k j = absurd j
+  fades-fixes s (fix ∷ fixes) [] h k j = absurd j
+  fades-fixes s (fix ∷ fixes) (pale ∷ pales) h k j =
+      fades-append laws (fix_text s fix) (fix_text (faded hs s) pale) (fixes_text s fixes)
+      (fixes_text (faded hs s) pales) (fades-fix s fix pale h k.0 j.0) (fades-fixes s fixes pales h k.1 j.1)
+
   fades-footer_of : (s : Settings) (footer : Option (List ℕ)) → IfSome footer IsClean
       → Fades (footer_of s footer) (footer_of (faded hs s) footer)
   fades-footer_of s None k = fades-clean laws [] refl
@@ -240,41 +268,54 @@ module _ (laws : TextLaws) (hs : List Style) (bare : AreAllPlain hs) where
   effective-clean None inherited h k = k
   effective-clean (Some s) inherited h k = h
 
-  pub fades-body : (rows : SnippetRows) → AreSnippets rows
+  -- the rows of snippets, help, and fixes
+  fades-drawn : (drawing : Drawing) → AreDrawings drawing
+      → (s : Settings) (m : Diagnosis) (source : Option Source) (a : Answer) → AreCleanSettings s → IsCleanMeaning m
+      → IfSome source IsCleanSource →
+      Fades (drawn_text drawing s m source a) (drawn_text drawing (faded hs s) m source (unhighlighted a))
+  fades-drawn drawing law s m source a h k j =
+      let rs = drawing.rows s source m a in
+      let rs2 = drawing.rows (faded hs s) source m (unhighlighted a) in
+      let plain_ones = faded_are_plain hs bare in
+      let snippets : Fades (rows_text rs) (rows_text rs2) =
+      fades-to (fades-rows laws rs (law.snippets.clean s source m a h j k))
+      (sym (law.snippets.fade s (faded_styles hs) source m a plain_ones)) in
+      fades-append laws (rows_text rs ++ help_text s m.help) (rows_text rs2 ++ help_text (faded hs s) m.help)
+      (fixes_text s (drawing.fixes s source m a))
+      (fixes_text (faded hs s) (drawing.fixes (faded hs s) source m (unhighlighted a)))
+      (fades-append laws (rows_text rs) (rows_text rs2) (help_text s m.help) (help_text (faded hs s) m.help) snippets
+      (fades-help s m.help h k.help))
+      (fades-fixes s (drawing.fixes s source m a) (drawing.fixes (faded hs s) source m (unhighlighted a)) h
+      (law.clean s source m a h j k) (law.fade s (faded_styles hs) source m a plain_ones))
+
+  pub fades-body : (drawing : Drawing) → AreDrawings drawing
       → (s : Settings) (m : Diagnosis) (source : Option Source) (a : Answer) (causes causes2 related related2 : List ℕ) →
       AreCleanSettings s → IsCleanMeaning m → IfSome source IsCleanSource → Fades causes causes2
       → Fades related related2 →
-      Fades (body_over s m (drawn_text rows s m source a) causes related)
-      (body_over (faded hs s) m (drawn_text rows (faded hs s) m source (map unhighlighted_answer a)) causes2
+      Fades (body_over s m (drawn_text drawing s m source a) causes related)
+      (body_over (faded hs s) m (drawn_text drawing (faded hs s) m source (unhighlighted a)) causes2
       related2)
-  fades-body rows law s m source a causes causes2 related related2 h k j p q =
-      let rs = rows s source m a in
-      let rs2 = rows (faded hs s) source m (map unhighlighted_answer a) in
-      let snippets : Fades (rows_text rs) (rows_text rs2) =
-      fades-to (fades-rows laws rs (law.clean s source m a h j k))
-      (sym (law.fade s (faded_styles hs) source m a (faded_are_plain hs bare))) in
+  fades-body drawing law s m source a causes causes2 related related2 h k j p q =
+      let own = drawn_text drawing s m source a in
+      let own2 = drawn_text drawing (faded hs s) m source (unhighlighted a) in
       let one = fades-append laws (message_text s m) (message_text (faded hs s) m) causes causes2
       (fades-message s m h k) p in
-      let two = fades-append laws (message_text s m ++ causes) (message_text (faded hs s) m ++ causes2) (rows_text rs)
-      (rows_text rs2) one snippets in
-      let three = fades-append laws (message_text s m ++ causes ++ rows_text rs)
-      (message_text (faded hs s) m ++ causes2 ++ rows_text rs2) (help_text s m.help)
-      (help_text (faded hs s) m.help) two (fades-help s m.help h k.help) in
-      fades-append laws (message_text s m ++ causes ++ rows_text rs ++ help_text s m.help)
-      (message_text (faded hs s) m ++ causes2 ++ rows_text rs2 ++ help_text (faded hs s) m.help) related related2
-      three q
+      let two = fades-append laws (message_text s m ++ causes) (message_text (faded hs s) m ++ causes2) own own2 one
+      (fades-drawn drawing law s m source a h k j) in
+      fades-append laws (message_text s m ++ causes ++ own) (message_text (faded hs s) m ++ causes2 ++ own2) related
+      related2 two q
 
-  pub fades-inner : (rows : SnippetRows) → AreSnippets rows
+  pub fades-inner : (drawing : Drawing) → AreDrawings drawing
       → (s : Settings) (m : Diagnosis) (source : Option Source) (a : Answer) (related related2 : List ℕ) →
       AreCleanSettings s → IsCleanMeaning m → IfSome source IsCleanSource → Fades related related2 →
-      Fades (inner_text rows s m source a related) (inner_text rows (faded hs s) m source (map unhighlighted_answer a)
+      Fades (inner_text drawing s m source a related) (inner_text drawing (faded hs s) m source (unhighlighted a)
       related2)
-  fades-inner rows law s m source a related related2 h k j q =
-      fades-leading laws (print (header s m) ++ body_over s m (drawn_text rows s m source a) [] related)
+  fades-inner drawing law s m source a related related2 h k j q =
+      fades-leading laws (print (header s m) ++ body_over s m (drawn_text drawing s m source a) [] related)
       (print (header (faded hs s) m) ++ body_over (faded hs s) m
-      (drawn_text rows (faded hs s) m source (map unhighlighted_answer a)) [] related2)
+      (drawn_text drawing (faded hs s) m source (unhighlighted a)) [] related2)
       (fades-append laws (print (header s m)) (print (header (faded hs s) m))
-      (body_over s m (drawn_text rows s m source a) [] related)
-      (body_over (faded hs s) m (drawn_text rows (faded hs s) m source (map unhighlighted_answer a)) [] related2)
-      (fades-header s m h k) (fades-body rows law s m source a [] [] related related2 h k j (fades-clean laws [] refl)
+      (body_over s m (drawn_text drawing s m source a) [] related)
+      (body_over (faded hs s) m (drawn_text drawing (faded hs s) m source (unhighlighted a)) [] related2)
+      (fades-header s m h k) (fades-body drawing law s m source a [] [] related related2 h k j (fades-clean laws [] refl)
       q))

@@ -21,8 +21,8 @@ use Rattle.miette_snippet_rules.proofs.NoPieces.{none_have}
 use Rattle.miette_page.specs.rules.Rows.{Row, glyphs_of}
 use Rattle.miette_graphical.specs.rules.Settings.{Settings}
 use Rattle.miette_graphical.specs.rules.Snippets.{snippet_settings}
-use Rattle.miette_graphical.specs.rules.Answers.{Answer, Answers, RelatedAnswers, SourceAnswer, first_answers, later_answers}
-use Rattle.miette_graphical.specs.rules.Answers.{first_source}
+use Rattle.miette_graphical.specs.rules.Answers.{Answers, RelatedAnswers, SourceAnswer, SourceAnswers, first_answers}
+use Rattle.miette_graphical.specs.rules.Answers.{first_source, later_answers}
 use Rattle.miette_graphical.specs.rules.Answers.{own_answer, cause_answers, related_answers}
 use Rattle.miette_graphical.specs.rules.PossibleAnswers.{AreAnswers, AreCauseAnswers, AreRelatedAnswers, HasPieces}
 use Rattle.miette_graphical.specs.rules.PossibleAnswers.{AreAnswersOver, HasRows, IsAnswer, IsAnswerOf}
@@ -71,7 +71,7 @@ module _ (kept : AreRowsKept) where
   }
 
   -- over each source; the highlights that follow are as plain as those before
-  over_possible : (l : snippets.SnippetSettings) (blank : Bool) (sources : List LabelledSource) (a : Answer)
+  over_possible : (l : snippets.SnippetSettings) (blank : Bool) (sources : List LabelledSource) (a : SourceAnswers)
       → AreAnswersOver l blank sources a
       → AreAnswersOver (fading.colourless l) true sources (map unhighlighted_answer a)
   over_possible l blank [] a h = tt
@@ -89,8 +89,11 @@ module _ (kept : AreRowsKept) where
       → IsAnswer l blank source m (own_answer a) →
       IsAnswer (fading.colourless l) true source m (own_answer (unhighlighted_answers a))
   own_possible l blank source m a h =
-      subst (IsAnswer (fading.colourless l) true source m) (own-bare a)
-      (over_possible (snippets_with m.snippets l) blank (sources_of source m) (own_answer a) h)
+      subst (IsAnswer (fading.colourless l) true source m) (own-bare a) (record {
+        sources = over_possible (snippets_with m.snippets l) blank (sources_of source m) (own_answer a).sources
+            h.sources;
+        fixes = h.fixes;
+      })
 
   mutual
     causes_possible : (l : snippets.SnippetSettings) (blank : Bool) (inherited : Option Source) (c : Cause)

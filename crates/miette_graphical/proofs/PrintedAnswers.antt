@@ -1,58 +1,68 @@
 -- What holds of the answers of a report holds of each where a diagnostic is printed; and where all answers are the same
 -- there, the texts are.
 use Rattle.std.proofs.Common.{◌≡◌, zero, suc, ℕ, inl, inr, Bool, true, false, List, [], ◌∷◌, Option, Some, None, refl}
-use Rattle.std.proofs.Common.{ap, ap₂, drop, length, subst, ◌++◌, if◌then◌else◌}
+use Rattle.std.proofs.Common.{ap, ap₂, drop, length, map, subst, ◌++◌, if◌then◌else◌}
 use Rattle.std.specs.List.{Contains}
 use Rattle.std.proofs.lemmas.Bool.{and_parts}
 use Rattle.std.proofs.lemmas.Option.{same_Some}
 use Rattle.miette_protocol.specs.rules.Reading.{Source}
 use Rattle.miette_graphical.specs.rules.Sources.{LabelledSource, after_labels, drawn_with, sources_of}
-use Rattle.miette_graphical.specs.rules.Sources.{sources_read}
 use Rattle.miette_tree.specs.rules.Tree.{effective, Tree, tree, Cause, diagnostic, texts, Trees, no_trees, more_trees}
 use Rattle.miette_snippet_rules.specs.rules.Settings as snippets
-use Rattle.miette_graphical.specs.rules.Answers.{Answer, Answers, RelatedAnswers, cause_answers, related_answers}
+use Rattle.miette_graphical.specs.rules.Answers.{Answer, Answers, RelatedAnswers, SourceAnswers, cause_answers}
+use Rattle.miette_graphical.specs.rules.Answers.{related_answers}
 use Rattle.miette_graphical.specs.rules.Answers.{first_answers, first_source, later_answers, own_answer}
-use Rattle.miette_graphical.specs.rules.DiagnosticText.{SnippetRows}
+use Rattle.miette_graphical.specs.rules.DiagnosticText.{Drawing}
 use Rattle.miette_graphical.specs.rules.PossibleAnswers.{AreAnswers, AreCauseAnswers, AreRelatedAnswers, IsAnswer}
 use Rattle.miette_graphical.specs.rules.PrintedDiagnostics.{PrintedDiagnostic, all_read, diagnostics_of, over}
+use Rattle.miette_graphical.specs.rules.PrintedDiagnostics.{reads_all}
 use Rattle.miette_graphical.specs.rules.Settings.{Settings}
-use Rattle.miette_graphical.specs.rules.Snippets.{drawn_rows, rows_over, snippet_settings, source_rows}
+use Rattle.miette_graphical.specs.rules.Snippets.{drawn_fix, rows_over, snippet_settings, source_rows, whole_drawing}
 use Rattle.miette_graphical.specs.rules.Text.{report_text}
 use Rattle.miette_graphical.specs.laws.Alike.{AreAnsweredAlike, answer_at, numbered_answers}
 use Rattle.miette_graphical.specs.laws.Paths.{Step, to_cause, to_related, at_cause, at_related, printed_at}
 use Rattle.miette_graphical.proofs.Alike.{report_alike}
 use Rattle.miette_graphical.proofs.Paths.{first_or_later, none, printed_there}
 
-pub answered_alike : (rows : SnippetRows) (s : Settings) (t : Tree) (a b : Answers) → AreAnsweredAlike s t a b
-    → report_text rows s t a ≡ report_text rows s t b
-answered_alike rows s t a b alike =
-    report_alike rows rows s t a b
-    (λ path p found u. ap (rows u p.source p.meaning) (alike path p found))
+pub answered_alike : (drawing : Drawing) (s : Settings) (t : Tree) (a b : Answers) → AreAnsweredAlike s t a b
+    → report_text drawing s t a ≡ report_text drawing s t b
+answered_alike drawing s t a b alike =
+    report_alike drawing drawing s t a b (λ path p found u. (
+      ap (drawing.rows u p.source p.meaning) (alike path p found),
+      ap (drawing.fixes u p.source p.meaning) (alike path p found),
+    ))
 
 -- ---- answers that agree on each source
 
-abbrev pub AgreeOver : List LabelledSource → Answer → Answer → Type 0
+abbrev pub AgreeOver : List LabelledSource → SourceAnswers → SourceAnswers → Type 0
 AgreeOver [] a b = Unit {0}
 AgreeOver (it ∷ more) a b = (first_source a ≡ first_source b) × AgreeOver more (drop 1 a) (drop 1 b)
 
-over_alike : (s : Settings) (sources : List LabelledSource) (a b : Answer) → AgreeOver sources a b
+over_alike : (s : Settings) (sources : List LabelledSource) (a b : SourceAnswers) → AgreeOver sources a b
     → rows_over s sources a ≡ rows_over s sources b
 over_alike s [] a b h = refl
 over_alike s (it ∷ more) a b h =
     ap₂ (λ x y. source_rows s it.source it.labels x ++ y) h.0
     (over_alike (after_labels (length it.labels) s) more (drop 1 a) (drop 1 b) h.1)
 
+-- of a printed diagnostic
+abbrev pub Agree : PrintedDiagnostic → Answer → Answer → Type 0
+Agree p a b = AgreeOver (sources_of p.source p.meaning) a.sources b.sources × (a.fixes_fail ≡ b.fixes_fail)
+
 -- wherever a diagnostic is printed
 abbrev pub AgreeAlong : Settings → Tree → Answers → Answers → Type 0
 AgreeAlong s t a b = (path : List Step) (p : PrintedDiagnostic) → printed_at s t path ≡ Some p →
-    AgreeOver (sources_of p.source p.meaning) (answer_at a path) (answer_at b path)
+    Agree p (answer_at a path) (answer_at b path)
 
 pub agreed_alike : (s : Settings) (t : Tree) (a b : Answers) → AgreeAlong s t a b
-    → report_text drawn_rows s t a ≡ report_text drawn_rows s t b
+    → report_text whole_drawing s t a ≡ report_text whole_drawing s t b
 agreed_alike s t a b alike =
-    report_alike drawn_rows drawn_rows s t a b
-    (λ path p found u. over_alike (drawn_with p.meaning.snippets u) (sources_of p.source p.meaning) (answer_at a path)
-    (answer_at b path) (alike path p found))
+    report_alike whole_drawing whole_drawing s t a b
+    (λ path p found u. (
+      over_alike (drawn_with p.meaning.snippets u) (sources_of p.source p.meaning) (answer_at a path).sources
+          (answer_at b path).sources (alike path p found).0,
+      ap (λ fails. map (drawn_fix u p.source fails) p.meaning.fixes) (alike path p found).1,
+    ))
 
 -- ---- each is an answer of its reads and of the highlighter
 
@@ -109,16 +119,16 @@ answer_there s blank (tree m own c r) a (to_related k ∷ path) p h e =
 -- ---- each is read from a source that always reads, where all are
 
 one_reads : (ps : List PrintedDiagnostic) (p : PrintedDiagnostic) → all_read ps ≡ true → Contains ps p
-    → sources_read (sources_of p.source p.meaning) ≡ true
+    → reads_all p ≡ true
 one_reads [] p all h = absurd (none p h)
 one_reads (q ∷ ps) p all h =
-    let both = and_parts (sources_read (sources_of q.source q.meaning)) (all_read ps) all in
+    let both = and_parts (reads_all q) (all_read ps) all in
     elim (first_or_later q ps p h) [
-      | inl same ↦ subst (λ x. sources_read (sources_of x.source x.meaning) ≡ true) same both.0
+      | inl same ↦ subst (λ x. reads_all x ≡ true) same both.0
       | inr later ↦ one_reads ps p both.1 later
     ]
 
 pub reads_there : (s : Settings) (t : Tree) (path : List Step) (p : PrintedDiagnostic)
     → all_read (diagnostics_of s t) ≡ true → printed_at s t path ≡ Some p
-    → sources_read (sources_of p.source p.meaning) ≡ true
+    → reads_all p ≡ true
 reads_there s t path p all found = one_reads (diagnostics_of s t) p all (printed_there s t path p found)

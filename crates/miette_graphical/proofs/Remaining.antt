@@ -11,10 +11,10 @@ use Rattle.miette_tree.specs.views.Handler.{AppendsOne}
 use Rattle.miette_graphical.specs.rules.Answers.{Answers, RelatedAnswers}
 use Rattle.miette_graphical.specs.rules.PossibleAnswers.{AreCauseAnswers, AreRelatedAnswers}
 use Rattle.miette_graphical.specs.rules.Calls.{cause_calls, related_calls}
-use Rattle.miette_graphical.specs.rules.PrintedDiagnostics.{all_read, printed_causes}
+use Rattle.miette_graphical.specs.rules.PrintedDiagnostics.{labels_read, printed_causes}
 use Rattle.miette_graphical.specs.rules.PrintedDiagnostics.{printed_related}
 use Rattle.miette_graphical.specs.rules.Settings.{Settings}
-use Rattle.miette_graphical.specs.rules.Snippets.{drawn_rows, snippet_settings}
+use Rattle.miette_graphical.specs.rules.Snippets.{whole_drawing, snippet_settings}
 use Rattle.miette_graphical.specs.rules.Text.{are_last, causes_text, related_text}
 use Rattle.miette_graphical.specs.steps.PartTexts.{IsOneCause, IsOneRelated}
 use Rattle.miette_graphical.specs.views.Painting.{Keeps, Paints, PrintsOnly, settings_of}
@@ -36,8 +36,8 @@ abbrev pub causes_under : Option Severity → Option Source → Settings → Boo
 causes_under outer inherited s blank = record {
   are = AreCauseAnswers (snippet_settings s) blank inherited;
   calls = cause_calls s.layout.context_lines s.related_as_nested inherited;
-  shows = causes_text drawn_rows s outer inherited;
-  reads = λ c. all_read (printed_causes s.related_as_nested inherited c);
+  shows = causes_text whole_drawing s outer inherited;
+  reads = λ c. labels_read (printed_causes s.related_as_nested inherited c);
   size = cause_size;
 }
 
@@ -45,8 +45,8 @@ abbrev pub related_under : Option Severity → Option Source → Settings → Bo
 related_under outer inherited s blank = record {
   are = AreRelatedAnswers (snippet_settings s) blank inherited;
   calls = related_calls s.layout.context_lines s.related_as_nested inherited;
-  shows = related_text drawn_rows s outer inherited;
-  reads = λ ts. all_read (printed_related s.related_as_nested inherited ts);
+  shows = related_text whole_drawing s outer inherited;
+  reads = λ ts. labels_read (printed_related s.related_as_nested inherited ts);
   size = trees_size;
 }
 

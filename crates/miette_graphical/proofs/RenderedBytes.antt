@@ -5,7 +5,7 @@ use Rattle.miette_graphical.specs.rules.PossibleAnswers.{Appends, IsAskedText, I
 use Rattle.miette_graphical.specs.rules.Answers.{unlisted}
 use Rattle.miette_graphical.specs.rules.PrintedDiagnostics.{all_read, diagnostics_of}
 use Rattle.miette_graphical.specs.rules.Settings.{Settings}
-use Rattle.miette_graphical.specs.rules.Snippets.{drawn_rows}
+use Rattle.miette_graphical.specs.rules.Snippets.{whole_drawing}
 use Rattle.miette_graphical.specs.rules.Text.{report_text}
 use Rattle.miette_graphical.specs.laws.Clean.{AreCleanSettings, IsCleanTree}
 use Rattle.miette_graphical.specs.laws.Colourless.{IsColouredText, IsRestyledText, colourless, restyled}
@@ -20,7 +20,7 @@ use Rattle.miette_graphical.proofs.Only.{only-text}
 
 -- by whatever calls
 pub unasked : (s : Settings) (blank : Bool) (happen : List Call → Type 0) (t : Tree) (old new : List ℕ)
-    → AppendsOne (IsAskedText drawn_rows s blank happen t) old new → Appends drawn_rows s blank t old new
+    → AppendsOne (IsAskedText whole_drawing s blank happen t) old new → Appends whole_drawing s blank t old new
 unasked s blank happen t old new ok =
     let given = ok.is_given.1 in record {
       text = ok.text;
@@ -29,30 +29,30 @@ unasked s blank happen t old new ok =
     }
 
 pub rendered-ok : {A E : Type 0} (r : Result A E) (s : Settings) (blank : Bool) (happen : List Call → Type 0) (t : Tree)
-    (old new : List ℕ) → OnOk r (AppendsOne (IsAskedText drawn_rows s blank happen t) old new)
-    → OnOk r (Appends drawn_rows s blank t old new)
+    (old new : List ℕ) → OnOk r (AppendsOne (IsAskedText whole_drawing s blank happen t) old new)
+    → OnOk r (Appends whole_drawing s blank t old new)
 rendered-ok (Err e) s blank happen t old new ok = tt
 rendered-ok (Ok x) s blank happen t old new ok = unasked s blank happen t old new ok
 
-only-appended : (s : Settings) (blank : Bool) (t : Tree) (old new : List ℕ) → Appends drawn_rows s blank t old new
+only-appended : (s : Settings) (blank : Bool) (t : Tree) (old new : List ℕ) → Appends whole_drawing s blank t old new
     → blank ≡ true → all_read (diagnostics_of s t) ≡ true
-    → new ≡ old ++ encode_utf8_all (report_text drawn_rows s t unlisted)
+    → new ≡ old ++ encode_utf8_all (report_text whole_drawing s t unlisted)
 only-appended s blank t old new ok plain reads =
     ok.appended ∙ ap (λ x. old ++ x)
-    (only-text s t ok.text (subst (λ b. IsTextOf drawn_rows s b t ok.text) plain ok.is_given) reads)
+    (only-text s t ok.text (subst (λ b. IsTextOf whole_drawing s b t ok.text) plain ok.is_given) reads)
 
 pub rendered-only : {A E : Type 0} (r : Result A E) (s : Settings) (blank : Bool) (t : Tree) (old new : List ℕ)
-    → OnOk r (Appends drawn_rows s blank t old new)
+    → OnOk r (Appends whole_drawing s blank t old new)
     → OnOk r (blank ≡ true → all_read (diagnostics_of s t) ≡ true → new ≡ old
-    ++ encode_utf8_all (report_text drawn_rows s t unlisted))
+    ++ encode_utf8_all (report_text whole_drawing s t unlisted))
 rendered-only (Err e) s blank t old new ok = tt
 rendered-only (Ok x) s blank t old new ok = only-appended s blank t old new ok
 
 pub rendered-colours : {A E : Type 0} (r : Result A E) (s : Settings) (blank : Bool) (t : Tree) (old new : List ℕ)
     → ((s : Settings) (blank : Bool) (t : Tree) (bytes : List ℕ) → AreCleanSettings s → IsCleanTree t
-    → IsTextOf drawn_rows s blank t bytes → IsColouredText drawn_rows s blank t bytes)
-    → OnOk r (Appends drawn_rows s blank t old new) → OnOk r
-    (AreCleanSettings s → IsCleanTree t → AppendsOne (IsColouredText drawn_rows s blank t) old new)
+    → IsTextOf whole_drawing s blank t bytes → IsColouredText whole_drawing s blank t bytes)
+    → OnOk r (Appends whole_drawing s blank t old new) → OnOk r
+    (AreCleanSettings s → IsCleanTree t → AppendsOne (IsColouredText whole_drawing s blank t) old new)
 rendered-colours (Err e) s blank t old new law ok = tt
 rendered-colours (Ok x) s blank t old new law ok = λ settings tree.
     let bytes : List ℕ = ok.text in record {
@@ -63,42 +63,42 @@ rendered-colours (Ok x) s blank t old new law ok = λ settings tree.
 
 pub rendered-colourless : {A E : Type 0} (r : Result A E) (s : Settings) (blank : Bool) (t : Tree) (old new : List ℕ)
     → ((s : Settings) (blank : Bool) (t : Tree) (bytes : List ℕ) → AreCleanSettings s → IsCleanTree t
-    → IsTextOf drawn_rows s blank t bytes → all_read (diagnostics_of s t) ≡ true
-    → erase bytes ≡ encode_utf8_all (report_text drawn_rows (colourless s) t unlisted))
-    → OnOk r (Appends drawn_rows s blank t old new)
+    → IsTextOf whole_drawing s blank t bytes → all_read (diagnostics_of s t) ≡ true
+    → erase bytes ≡ encode_utf8_all (report_text whole_drawing (colourless s) t unlisted))
+    → OnOk r (Appends whole_drawing s blank t old new)
     → OnOk r (all_read (diagnostics_of s t) ≡ true → AreCleanSettings s → IsCleanTree t
-    → AppendsErasing old new (encode_utf8_all (report_text drawn_rows (colourless s) t unlisted)))
+    → AppendsErasing old new (encode_utf8_all (report_text whole_drawing (colourless s) t unlisted)))
 rendered-colourless (Err e) s blank t old new law ok = tt
 rendered-colourless (Ok x) s blank t old new law ok = λ reads settings tree.
     (ok.text, ok.appended, law s blank t ok.text settings tree ok.is_given reads)
 
 pub rendered-plain : {A E : Type 0} (r : Result A E) (s : Settings) (blank : Bool) (t : Tree) (old new : List ℕ)
     → ((s : Settings) (styles : Styles) (blank : Bool) (t : Tree) (bytes : List ℕ) → AreCleanSettings s
-    → IsCleanTree t → ArePlain styles → IsTextOf drawn_rows s blank t bytes → all_read (diagnostics_of s t) ≡ true
-    → erase bytes ≡ encode_utf8_all (report_text drawn_rows (restyled s styles) t unlisted))
-    → OnOk r (Appends drawn_rows s blank t old new)
+    → IsCleanTree t → ArePlain styles → IsTextOf whole_drawing s blank t bytes → all_read (diagnostics_of s t) ≡ true
+    → erase bytes ≡ encode_utf8_all (report_text whole_drawing (restyled s styles) t unlisted))
+    → OnOk r (Appends whole_drawing s blank t old new)
     → OnOk r (all_read (diagnostics_of s t) ≡ true → AreCleanSettings s → IsCleanTree t → (styles : Styles)
     → ArePlain styles
-    → AppendsErasing old new (encode_utf8_all (report_text drawn_rows (restyled s styles) t unlisted)))
+    → AppendsErasing old new (encode_utf8_all (report_text whole_drawing (restyled s styles) t unlisted)))
 rendered-plain (Err e) s blank t old new law ok = tt
 rendered-plain (Ok x) s blank t old new law ok = λ reads settings tree styles bare.
     (ok.text, ok.appended, law s styles blank t ok.text settings tree bare ok.is_given reads)
 
 pub rendered-themes : {A E : Type 0} (r : Result A E) (s : Settings) (blank : Bool) (t : Tree) (old new : List ℕ)
     → ((s : Settings) (blank : Bool) (t : Tree) (bytes others : List ℕ) → AreCleanSettings s → IsCleanTree t
-    → IsTextOf drawn_rows s blank t bytes → all_read (diagnostics_of s t) ≡ true
-    → IsRestyledText drawn_rows s t others → erase bytes ≡ erase others)
-    → OnOk r (Appends drawn_rows s blank t old new)
+    → IsTextOf whole_drawing s blank t bytes → all_read (diagnostics_of s t) ≡ true
+    → IsRestyledText whole_drawing s t others → erase bytes ≡ erase others)
+    → OnOk r (Appends whole_drawing s blank t old new)
     → OnOk r (all_read (diagnostics_of s t) ≡ true → AreCleanSettings s → IsCleanTree t → (others : List ℕ)
-    → IsRestyledText drawn_rows s t others → AppendsErasing old new (erase others))
+    → IsRestyledText whole_drawing s t others → AppendsErasing old new (erase others))
 rendered-themes (Err e) s blank t old new law ok = tt
 rendered-themes (Ok x) s blank t old new law ok = λ reads settings tree others again.
     (ok.text, ok.appended, law s blank t ok.text others settings tree ok.is_given reads again)
 
 pub rendered-holds : {A E : Type 0} (r : Result A E) (s : Settings) (blank : Bool) (t : Tree) (old new : List ℕ)
-    → ((s : Settings) (blank : Bool) (t : Tree) (bytes : List ℕ) → IsTextOf drawn_rows s blank t bytes
-    → IsHoldingText drawn_rows s blank t bytes)
-    → OnOk r (Appends drawn_rows s blank t old new) → OnOk r (AppendsOne (IsHoldingText drawn_rows s blank t) old new)
+    → ((s : Settings) (blank : Bool) (t : Tree) (bytes : List ℕ) → IsTextOf whole_drawing s blank t bytes
+    → IsHoldingText whole_drawing s blank t bytes)
+    → OnOk r (Appends whole_drawing s blank t old new) → OnOk r (AppendsOne (IsHoldingText whole_drawing s blank t) old new)
 rendered-holds (Err e) s blank t old new law ok = tt
 rendered-holds (Ok x) s blank t old new law ok =
     let bytes : List ℕ = ok.text in record {

@@ -6,8 +6,10 @@ use Rattle.std.proofs.lemmas.Str.{encode_ascii, encodes-append}
 use Rattle.miette_runs.specs.rules.Runs.{Fragment, print}
 use Rattle.miette_protocol.specs.declared.protocol.Severity.{Severity}
 use Rattle.miette_tree.specs.rules.Diagnosis.{Diagnosis}
-use Rattle.miette_graphical.specs.rules.DiagnosticText.{help_text, line_feed, message_text, rows_text, under_arrow}
-use Rattle.miette_graphical.specs.rules.Indents.{arrow_indent, bar_indent, further_help_indent, help_indent}
+use Rattle.miette_graphical.specs.rules.DiagnosticText.{ShownFix, fix_text, fixes_text, help_text, line_feed}
+use Rattle.miette_graphical.specs.rules.DiagnosticText.{message_text, rows_text, under_arrow}
+use Rattle.miette_graphical.specs.rules.Indents.{arrow_indent, bar_indent, fix_indent, further_fix_indent}
+use Rattle.miette_graphical.specs.rules.Indents.{further_help_indent, help_indent}
 use Rattle.miette_graphical.specs.rules.Indents.{icon_indent, stem_indent, wrapped_under}
 use Rattle.miette_graphical.specs.rules.Settings.{Settings}
 use Rattle.miette_graphical.specs.rules.Text.{body_over, cause_texts}
@@ -56,6 +58,14 @@ pub drawn-rows : (rows : List (List Fragment)) → EndsRow (rows_text rows)
 drawn-rows [] = inl refl
 drawn-rows (row ∷ rows) = inr (ended-rows (print row ++ line_feed) (rows_text rows) (print row, refl) (drawn-rows rows))
 
+pub fixes-rows : (s : Settings) (fixes : List ShownFix) → EndsRow (fixes_text s fixes)
+fixes-rows s [] = inl refl
+fixes-rows s (fix ∷ fixes) =
+    let message = wrapped_under s (fix_indent s) further_fix_indent (chars fix.message) in
+    inr (ended-rows (fix_text s fix) (fixes_text s fixes)
+    (ended-rows (message ++ line_feed) (rows_text fix.rows) (message, refl) (drawn-rows fix.rows))
+    (fixes-rows s fixes))
+
 pub texts-rows : (s : Settings) (outer : Option Severity) (xs : List (List ℕ)) → EndsRow (cause_texts s outer xs)
 texts-rows s outer [] = inl refl
 texts-rows s outer (x ∷ xs) =
@@ -63,34 +73,30 @@ texts-rows s outer (x ∷ xs) =
     (arrow-ended s outer (is_nil xs) (chars x)) (texts-rows s outer xs))
 
 -- what stands in front of a body belongs to its first row
-grouped : (x a b c d e : List ℕ) → x ++ (a ++ b ++ c ++ d ++ e) ≡ (x ++ a) ++ b ++ c ++ d ++ e
-grouped x a b c d e =
-    sym (append_assoc x (a ++ b ++ c ++ d) e)
-    ∙ ap (λ t. t ++ e) (sym (append_assoc x (a ++ b ++ c) d)
+grouped : (x a b c d : List ℕ) → x ++ (a ++ b ++ c ++ d) ≡ (x ++ a) ++ b ++ c ++ d
+grouped x a b c d =
+    sym (append_assoc x (a ++ b ++ c) d)
     ∙ ap (λ t. t ++ d) (sym (append_assoc x (a ++ b) c)
-    ∙ ap (λ t. t ++ c) (sym (append_assoc x a b))))
+    ∙ ap (λ t. t ++ c) (sym (append_assoc x a b)))
 
 pub body-grouped : (x : List ℕ) (s : Settings) (m : Diagnosis) (drawn causes related : List ℕ)
-    → x ++ body_over s m drawn causes related ≡ (x ++ message_text s m) ++ causes ++ drawn ++ help_text s m.help
-    ++ related
-body-grouped x s m drawn causes related = grouped x (message_text s m) causes drawn (help_text s m.help) related
+    → x ++ body_over s m drawn causes related ≡ (x ++ message_text s m) ++ causes ++ drawn ++ related
+body-grouped x s m drawn causes related = grouped x (message_text s m) causes drawn related
 
 pub above-ended : (x : List ℕ) (s : Settings) (m : Diagnosis) → IsEnded (x ++ message_text s m)
 above-ended x s m = ended-behind x (message_text s m) (message-ended s m)
 
 pub drawn-ended : (x : List ℕ) (s : Settings) (m : Diagnosis) (drawn causes : List ℕ) → EndsRow drawn → EndsRow causes
-    → IsEnded ((x ++ message_text s m) ++ causes ++ drawn ++ help_text s m.help)
+    → IsEnded ((x ++ message_text s m) ++ causes ++ drawn)
 drawn-ended x s m drawn causes d h =
     let above = x ++ message_text s m in
-    ended-rows (above ++ causes ++ drawn) (help_text s m.help)
-    (ended-rows (above ++ causes) drawn (ended-rows above causes (above-ended x s m) h) d) (help-rows s m.help)
+    ended-rows (above ++ causes) drawn (ended-rows above causes (above-ended x s m) h) d
 
 pub body-ended : (x : List ℕ) (s : Settings) (m : Diagnosis) (drawn causes related : List ℕ) → EndsRow drawn
     → EndsRow causes → EndsRow related → IsEnded (x ++ body_over s m drawn causes related)
 body-ended x s m drawn causes related d h r =
     subst IsEnded (sym (body-grouped x s m drawn causes related))
-    (ended-rows ((x ++ message_text s m) ++ causes ++ drawn ++ help_text s m.help) related
-    (drawn-ended x s m drawn causes d h) r)
+    (ended-rows ((x ++ message_text s m) ++ causes ++ drawn) related (drawn-ended x s m drawn causes d h) r)
 
 -- ---- parts of texts
 

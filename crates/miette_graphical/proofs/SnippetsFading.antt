@@ -25,10 +25,10 @@ use Rattle.miette_style.specs.rules.Themes.{Styles}
 use Rattle.miette_snippet_rules.specs.rules.Settings as snippets
 use Rattle.miette_snippet_rules.specs.rules.SnippetLayout.{snippet_rows}
 use Rattle.miette_page.specs.rules.Rows.{Glyph, Row, Run, glyphs_of}
-use Rattle.miette_graphical.specs.rules.Answers.{Answer, SourceAnswer, first_source}
+use Rattle.miette_graphical.specs.rules.Answers.{Answer, SourceAnswer, SourceAnswers, first_source}
 use Rattle.miette_graphical.specs.laws.Clean.{AreCleanLabels, AreCleanSettings, HaveNoEscapes, IsCleanMeaning}
 use Rattle.miette_graphical.specs.laws.Clean.{IsCleanSection}
-use Rattle.miette_graphical.specs.laws.Colourless.{AreSnippets, restyled}
+use Rattle.miette_graphical.specs.laws.Colourless.{AreSnippets, restyled, unhighlighted}
 use Rattle.miette_graphical.specs.rules.DiagnosticText.{line_feed, rows_text}
 use Rattle.miette_graphical.specs.rules.Settings.{Settings}
 use Rattle.miette_graphical.specs.rules.Snippets.{drawn_rows, rows_over, snippet_settings, run_text, runs_of_row}
@@ -135,15 +135,15 @@ plain_row (run ∷ row) h =
     ∙ sym (map-append (λ p. p.code) run.glyphs (glyphs_of row))
 
 -- rows by their characters
-abbrev text_of : List (List Glyph) → List ℕ
+abbrev pub text_of : List (List Glyph) → List ℕ
 text_of [] = []
 text_of (pieces ∷ more) = codes_of pieces ++ line_feed ++ text_of more
 
-bare_rows : (rows : List Row) → rows_text (map (map plain_run) (map runs_of_row rows)) ≡ text_of (map glyphs_of rows)
+pub bare_rows : (rows : List Row) → rows_text (map (map plain_run) (map runs_of_row rows)) ≡ text_of (map glyphs_of rows)
 bare_rows [] = refl
 bare_rows (row ∷ rows) = ap₂ (λ x y. x ++ line_feed ++ y) (bare_row row) (bare_rows rows)
 
-plain_rows : (rows : List Row) → AllByRecursion IsPlainRow rows → rows_text (map runs_of_row rows)
+pub plain_rows : (rows : List Row) → AllByRecursion IsPlainRow rows → rows_text (map runs_of_row rows)
     ≡ text_of (map glyphs_of rows)
 plain_rows [] h = refl
 plain_rows (row ∷ rows) h = ap₂ (λ x y. x ++ line_feed ++ y) (plain_row row h.0) (plain_rows rows h.1)
@@ -167,7 +167,7 @@ clean_row : (row : Row) → IsCleanRow row → HaveNoEscape (runs_of_row row)
 clean_row [] h = tt
 clean_row (run ∷ row) h = (ap no_escape (run_codes run) ∙ h.0, clean_row row h.1)
 
-clean_rows : (rows : List Row) → AllByRecursion IsCleanRow rows → HaveNoEscapes (map runs_of_row rows)
+pub clean_rows : (rows : List Row) → AllByRecursion IsCleanRow rows → HaveNoEscapes (map runs_of_row rows)
 clean_rows [] h = tt
 clean_rows (row ∷ rows) h = (clean_row row h.0, clean_rows rows h.1)
 
@@ -256,7 +256,7 @@ source_clean : LayoutLaws → (s : Settings) (it : LabelledSource) (a : SourceAn
     → IsCleanOver it → HaveNoEscapes (source_rows s it.source it.labels a)
 source_clean laws s it a h k = clean_over laws s it.source it.labels a h k.0 k.1
 
-over_fade : LayoutLaws → (s : Settings) (styles : Styles) (sources : List LabelledSource) (a : Answer)
+over_fade : LayoutLaws → (s : Settings) (styles : Styles) (sources : List LabelledSource) (a : SourceAnswers)
     → ArePlain styles → rows_text (rows_over (restyled s styles) sources (map unhighlighted_answer a))
     ≡ rows_text (map (map plain_run) (rows_over s sources a))
 over_fade laws s styles [] a bare = refl
@@ -275,7 +275,7 @@ over_fade laws s styles (it ∷ more) a bare =
     ∙ sym (rows-appended (map (map plain_run) own) (map (map plain_run) rest))
     ∙ ap rows_text (sym (map-append (map plain_run) own rest))
 
-over_clean : LayoutLaws → (s : Settings) (sources : List LabelledSource) (a : Answer) → AreCleanSettings s
+over_clean : LayoutLaws → (s : Settings) (sources : List LabelledSource) (a : SourceAnswers) → AreCleanSettings s
     → AllByRecursion IsCleanOver sources → HaveNoEscapes (rows_over s sources a)
 over_clean laws s [] a h k = tt
 over_clean laws s (it ∷ more) a h k =
@@ -287,13 +287,14 @@ over_clean laws s (it ∷ more) a h k =
 -- ---- a diagnostic's
 
 drawn_fade : LayoutLaws → (s : Settings) (styles : Styles) (source : Option Source) (m : Diagnosis) (a : Answer)
-    → ArePlain styles → rows_text (drawn_rows (restyled s styles) source m (map unhighlighted_answer a))
+    → ArePlain styles → rows_text (drawn_rows (restyled s styles) source m (unhighlighted a))
     ≡ rows_text (map (map plain_run) (drawn_rows s source m a))
-drawn_fade laws s styles source m a bare = over_fade laws (drawn_with m.snippets s) styles (sources_of source m) a bare
+drawn_fade laws s styles source m a bare = over_fade laws (drawn_with m.snippets s) styles (sources_of source m) a.sources
+    bare
 
 drawn_clean : LayoutLaws → (s : Settings) (source : Option Source) (m : Diagnosis) (a : Answer) →
     AreCleanSettings s → IfSome source IsCleanSource → IsCleanMeaning m → HaveNoEscapes (drawn_rows s source m a)
-drawn_clean laws s source m a h k j = over_clean laws (drawn_with m.snippets s) (sources_of source m) a h
+drawn_clean laws s source m a h k j = over_clean laws (drawn_with m.snippets s) (sources_of source m) a.sources h
     ((k, labels-clean m.labels j.labels), further-clean m.snippets j.snippets)
 
 pub drawn_snippets : LayoutLaws → AreSnippets drawn_rows

@@ -10,7 +10,7 @@ use Rattle.miette_snippet_rules.specs.rules.Highlighting.{follows, leaves_plain}
 use Rattle.miette_tree.specs.rules.Reads.{always_reads}
 use Rattle.miette_tree.specs.views.Handler.{AppendsOne}
 use Rattle.miette_graphical.specs.declared.painter.Painter.{Painter}
-use Rattle.miette_graphical.specs.rules.Answers.{Answer}
+use Rattle.miette_graphical.specs.rules.Answers.{SourceAnswers}
 use Rattle.miette_graphical.specs.rules.Calls.{calls_over, source_calls}
 use Rattle.miette_graphical.specs.rules.DiagnosticText.{rows_text}
 use Rattle.miette_graphical.specs.rules.PossibleAnswers.{AreAnswersOver}
@@ -33,7 +33,7 @@ pub record SourcesLeft : Type 0 where
 abbrev pub left_in : Settings → List LabelledSource → SourcesLeft
 left_in s sources = record { settings = s; sources = sources }
 
-abbrev pub sources_left : Settings → Bool → Chain SourcesLeft Answer
+abbrev pub sources_left : Settings → Bool → Chain SourcesLeft SourceAnswers
 sources_left s blank = record {
   are = λ left. AreAnswersOver (snippet_settings left.settings) blank left.sources;
   calls = λ left. calls_over left.settings.layout.context_lines left.sources;

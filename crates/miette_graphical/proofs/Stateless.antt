@@ -32,7 +32,8 @@ use Rattle.miette_tree.specs.rules.Reads.{always_reads}
 use Rattle.miette_tree.specs.views.Handler.{AppendsOne}
 use Rattle.miette_graphical.specs.rules.PossibleAnswers.{IsAskedText, AreAnswers, AreCauseAnswers, AreRelatedAnswers}
 use Rattle.miette_graphical.specs.rules.PossibleAnswers.{AreAnswersOver, IsAnswer}
-use Rattle.miette_graphical.specs.rules.Answers.{Answer, Answers, RelatedAnswers, SourceAnswer, first_source}
+use Rattle.miette_graphical.specs.rules.Answers.{Answer, Answers, RelatedAnswers, SourceAnswer, SourceAnswers}
+use Rattle.miette_graphical.specs.rules.Answers.{first_source}
 use Rattle.miette_graphical.specs.rules.Answers.{pieces_listed, own_answer}
 use Rattle.miette_graphical.specs.rules.Answers.{cause_answers, related_answers, first_answers, later_answers}
 use Rattle.miette_graphical.specs.rules.ByLine.{answers_by, causes_by, labels_by, own_by, related_by, source_by}
@@ -40,15 +41,16 @@ use Rattle.miette_graphical.specs.rules.ByLine.{sources_by}
 use Rattle.miette_graphical.specs.rules.Calls.{calls_over, cause_calls, own_calls, related_calls, report_calls}
 use Rattle.miette_graphical.specs.rules.Calls.{source_calls}
 use Rattle.miette_graphical.specs.rules.Indents.{narrow_settings}
-use Rattle.miette_graphical.specs.rules.DiagnosticText.{rows_text, title_text, under_arrow}
-use Rattle.miette_graphical.specs.rules.PrintedDiagnostics.{all_read, diagnostics_of, printed_causes, printed_related}
+use Rattle.miette_graphical.specs.rules.DiagnosticText.{fixes_text, help_text, rows_text, title_text, under_arrow}
+use Rattle.miette_graphical.specs.rules.PrintedDiagnostics.{all_read, diagnostics_of, over, printed_causes}
+use Rattle.miette_graphical.specs.rules.PrintedDiagnostics.{printed_related, reads_all}
 use Rattle.miette_graphical.specs.rules.Settings.{Settings}
-use Rattle.miette_graphical.specs.rules.Snippets.{drawn_rows, rows_over, snippet_settings, shown_rows}
-use Rattle.miette_graphical.specs.rules.Snippets.{source_rows}
+use Rattle.miette_graphical.specs.rules.Snippets.{drawn_fix, rows_over, snippet_settings, shown_rows, source_rows}
+use Rattle.miette_graphical.specs.rules.Snippets.{whole_drawing}
 use Rattle.miette_graphical.specs.rules.Sources.{LabelledSource, after_labels, drawn_with, snippets_after}
-use Rattle.miette_graphical.specs.rules.Sources.{snippets_with, sources_of, sources_read}
-use Rattle.miette_graphical.specs.rules.Text.{are_last, body_over, causes_text, ends_there, inner_over, only_if}
-use Rattle.miette_graphical.specs.rules.Text.{related_text, report_text}
+use Rattle.miette_graphical.specs.rules.Sources.{reads_for, snippets_with, sources_of, sources_read}
+use Rattle.miette_graphical.specs.rules.Text.{are_last, body_over, causes_text, drawn_text, ends_there, inner_over}
+use Rattle.miette_graphical.specs.rules.Text.{only_if, related_text, report_text}
 use Rattle.miette_graphical.proofs.DrawnRows.{groups_given, none_listed}
 use Rattle.miette_graphical.proofs.Lists.{both_read}
 use Rattle.miette_graphical.proofs.Outermost.{if_same, report_over}
@@ -130,7 +132,7 @@ source_rows_by f s (Some source) labels a e h =
 
 -- over several, in whatever settings answers are possible for them
 over_by : (f : List ℕ → List Piece) (l : snippets.SnippetSettings) (blank : Bool) (s : Settings)
-    (sources : List LabelledSource) (a : Answer) → AreAnswersOver l blank sources a → sources_read sources ≡ true
+    (sources : List LabelledSource) (a : SourceAnswers) → AreAnswersOver l blank sources a → sources_read sources ≡ true
     → AnsweredBy f (calls_over s.layout.context_lines sources a)
     → rows_over s sources a ≡ rows_over s sources (sources_by f s.layout.context_lines sources)
 over_by f l blank s [] a h e b = refl
@@ -143,14 +145,18 @@ over_by f l blank s (it ∷ more) a h e b =
     (over_by f (snippets_after (length it.labels) l) blank (after_labels (length it.labels) s) more (drop 1 a) h.1 p.1
     k.1)
 
--- a diagnostic's rows
+-- what is drawn of a diagnostic
 rows_by : (f : List ℕ → List Piece) (l : snippets.SnippetSettings) (blank : Bool) (s : Settings)
     (source : Option Source) (m : Diagnosis) (a : Answer) → IsAnswer l blank source m a
-    → sources_read (sources_of source m) ≡ true → AnsweredBy f (own_calls s.layout.context_lines source m a) →
-    rows_text (drawn_rows s source m a)
-    ≡ rows_text (drawn_rows s source m (own_by f s.layout.context_lines source m))
+    → reads_all (over source m) ≡ true → AnsweredBy f (own_calls s.layout.context_lines source m a) →
+    drawn_text whole_drawing s m source a
+    ≡ drawn_text whole_drawing s m source (own_by f s.layout.context_lines source m)
 rows_by f l blank s source m a h e b =
-    ap rows_text (over_by f (snippets_with m.snippets l) blank (drawn_with m.snippets s) (sources_of source m) a h e b)
+    let p = and_parts (sources_read (sources_of source m)) (reads_for source m.fixes) e in
+    ap₂ (λ rows fails. rows_text rows ++ help_text s m.help ++ fixes_text s (map (drawn_fix s source fails) m.fixes))
+    (over_by f (snippets_with m.snippets l) blank (drawn_with m.snippets s) (sources_of source m) a.sources h.sources
+    p.0 b)
+    (h.fixes p.1)
 
 -- ---- texts
 
@@ -162,14 +168,14 @@ mutual
       →
       AreCauseAnswers l blank inherited c a → all_read (printed_causes nested inherited c) ≡ true
       → AnsweredBy f (cause_calls s.layout.context_lines nested inherited c a) →
-      causes_text drawn_rows s outer inherited c a ≡ causes_text drawn_rows s outer inherited c
+      causes_text whole_drawing s outer inherited c a ≡ causes_text whole_drawing s outer inherited c
       (causes_by f s.layout.context_lines inherited c)
   cause_text_by f l blank s outer inherited (texts ts) a nested w h e b = refl
   cause_text_by f l blank s outer inherited (diagnostic (tree m own c r)) a nested w h e b =
       let source = effective own inherited in
       let n = narrow_settings s outer (ends_there c) in
       let p = both_read (printed_inner nested source (tree m own c r)) (printed_causes nested inherited c) e in
-      let q = and_parts (sources_read (sources_of source m)) (all_read (printed_related nested source r)) p.0
+      let q = and_parts (reads_all (over source m)) (all_read (printed_related nested source r)) p.0
       in
       let more = related_calls s.layout.context_lines nested source r (related_answers a) in
       let k = parts_by f (own_calls s.layout.context_lines source m (own_answer a) ++ more)
@@ -186,7 +192,7 @@ mutual
       → s.related_as_nested ≡ nested →
       AreRelatedAnswers l blank inherited ts more → all_read (printed_related nested inherited ts) ≡ true
       → AnsweredBy f (related_calls s.layout.context_lines nested inherited ts more) →
-      related_text drawn_rows s outer inherited ts more ≡ related_text drawn_rows s outer inherited ts
+      related_text whole_drawing s outer inherited ts more ≡ related_text whole_drawing s outer inherited ts
       (related_by f s.layout.context_lines inherited ts)
   related_text_by f l blank s outer inherited no_trees more nested w h e b = refl
   related_text_by f l blank s outer inherited (more_trees (tree m own c r) ts) more true w h e b =
@@ -194,7 +200,7 @@ mutual
       let n = narrow_settings s outer (are_last ts) in
       let a = first_answers more in
       let p = both_read (printed_inner true source (tree m own c r)) (printed_related true inherited ts) e in
-      let q = and_parts (sources_read (sources_of source m)) (all_read (printed_related true source r)) p.0 in
+      let q = and_parts (reads_all (over source m)) (all_read (printed_related true source r)) p.0 in
       let own_ones = own_calls s.layout.context_lines source m (own_answer a) in
       let below = related_calls s.layout.context_lines true source r (related_answers a) in
       let k = parts_by f (own_ones ++ below) (related_calls s.layout.context_lines true inherited ts
@@ -211,7 +217,7 @@ mutual
       let source = effective own inherited in
       let a = first_answers more in
       let p = both_read (printed_sibling false source (tree m own c r)) (printed_related false inherited ts) e in
-      let q = and_parts (sources_read (sources_of source m))
+      let q = and_parts (reads_all (over source m))
       (all_read (printed_causes false source c ++ printed_related false source r)) p.0 in
       let o = both_read (printed_causes false source c) (printed_related false source r) q.1 in
       let caused = cause_calls s.layout.context_lines false source c (cause_answers a) in
@@ -224,11 +230,11 @@ mutual
       ap₂ (λ x y. x ++ y)
       (if_same s.related_as_nested _ _ _ _
       (λ y. absurd (cc))
-      (λ y. ap (λ x. title_text s m ++ body_over s m x (causes_text drawn_rows s m.severity source c (cause_answers a))
-      (related_text drawn_rows s m.severity source r (related_answers a)))
+      (λ y. ap (λ x. title_text s m ++ body_over s m x (causes_text whole_drawing s m.severity source c (cause_answers a))
+      (related_text whole_drawing s m.severity source r (related_answers a)))
       (rows_by f l blank s source m (own_answer a) h.0 q.0 j.0)
-      ∙ ap₂ (λ x y. title_text s m ++ body_over s m (rows_text
-      (drawn_rows s source m (own_by f s.layout.context_lines source m))) x y)
+      ∙ ap₂ (λ x y. title_text s m ++ body_over s m (drawn_text whole_drawing s m source
+      (own_by f s.layout.context_lines source m)) x y)
       (cause_text_by f l blank s m.severity source c (cause_answers a) false w h.1 o.0 i.0)
       (related_text_by f l blank s m.severity source r (related_answers a) false w h.2 o.1 j.1)))
       (related_text_by f l blank s outer inherited ts (later_answers more) false w h.3 p.1 k.1)
@@ -238,19 +244,19 @@ root_text_by : (f : List ℕ → List Piece) (l : snippets.SnippetSettings) (bla
     (chain ≡ true → AreCauseAnswers l blank own c a) → all_read
     (if chain then printed_causes s.related_as_nested own c else [])
     ≡ true → AnsweredBy f (if chain then cause_calls s.layout.context_lines s.related_as_nested own c a else []) →
-    only_if chain (causes_text drawn_rows s m.severity own c a)
-    ≡ only_if chain (causes_text drawn_rows s m.severity own c (causes_by f s.layout.context_lines own c))
+    only_if chain (causes_text whole_drawing s m.severity own c a)
+    ≡ only_if chain (causes_text whole_drawing s m.severity own c (causes_by f s.layout.context_lines own c))
 root_text_by f l blank s m own c a true h e b = cause_text_by f l blank s m.severity own c a s.related_as_nested refl
     (h refl) e b
 root_text_by f l blank s m own c a false h e b = refl
 
 report_text_by : (f : List ℕ → List Piece) (s : Settings) (blank : Bool) (t : Tree) (a : Answers)
     → AreAnswers s blank t a → all_read (diagnostics_of s t) ≡ true → AnsweredBy f (report_calls s t a) →
-    report_text drawn_rows s t a ≡ report_text drawn_rows s t (answers_by f s.layout.context_lines t)
+    report_text whole_drawing s t a ≡ report_text whole_drawing s t (answers_by f s.layout.context_lines t)
 report_text_by f s blank (tree m own c r) a h e b =
     let l = snippet_settings s in
     let causes = if s.cause_chain then printed_causes s.related_as_nested own c else [] in
-    let p = and_parts (sources_read (sources_of own m))
+    let p = and_parts (reads_all (over own m))
     (all_read (causes ++ printed_related s.related_as_nested own r)) e
     in
     let q = both_read causes (printed_related s.related_as_nested own r) p.1 in
@@ -260,21 +266,21 @@ report_text_by f s blank (tree m own c r) a h e b =
     let below = related_calls s.layout.context_lines s.related_as_nested own r (related_answers a) in
     let k = parts_by f caused (own_ones ++ below) b in
     let j = parts_by f own_ones below k.1 in
-    ap (λ x. report_over s m x (only_if s.cause_chain (causes_text drawn_rows s m.severity own c (cause_answers a)))
-    (related_text drawn_rows s m.severity own r (related_answers a)))
+    ap (λ x. report_over s m x (only_if s.cause_chain (causes_text whole_drawing s m.severity own c (cause_answers a)))
+    (related_text whole_drawing s m.severity own r (related_answers a)))
     (rows_by f l blank s own m (own_answer a) h.0 p.0 j.0)
-    ∙ ap₂ (report_over s m (rows_text (drawn_rows s own m
-    (own_by f s.layout.context_lines own m))))
+    ∙ ap₂ (report_over s m (drawn_text whole_drawing s m own
+    (own_by f s.layout.context_lines own m)))
     (root_text_by f l blank s m own c (cause_answers a) s.cause_chain h.1 q.0 k.0)
     (related_text_by f l blank s m.severity own r (related_answers a) s.related_as_nested refl h.2 q.1 j.1)
 
 -- ---- what was appended
 
 stateless-text : (s : Settings) (blank : Bool) (before after : List Call → Type 0) (t : Tree) (old new : List ℕ)
-    → AppendsOne (IsAskedText drawn_rows s blank (λ calls. Leads before calls after) t) old new
+    → AppendsOne (IsAskedText whole_drawing s blank (λ calls. Leads before calls after) t) old new
     → (f : List ℕ → List Piece) → ((calls : List Call) → before calls → AnsweredBy f calls) → after []
     → all_read (diagnostics_of s t) ≡ true
-    → new ≡ old ++ encode_utf8_all (report_text drawn_rows s t (answers_by f s.layout.context_lines t))
+    → new ≡ old ++ encode_utf8_all (report_text whole_drawing s t (answers_by f s.layout.context_lines t))
 stateless-text s blank before after t old new ok f by over reads =
     let given = ok.is_given.1 in
     let calls = report_calls s t given.0 in
@@ -284,9 +290,9 @@ stateless-text s blank before after t old new ok f by over reads =
 
 pub rendered-stateless : {A E : Type 0} (r : Result A E) (s : Settings) (blank : Bool)
     (before after : List Call → Type 0) (t : Tree) (old new : List ℕ)
-    → OnOk r (AppendsOne (IsAskedText drawn_rows s blank (λ calls. Leads before calls after) t) old new)
+    → OnOk r (AppendsOne (IsAskedText whole_drawing s blank (λ calls. Leads before calls after) t) old new)
     → OnOk r ((f : List ℕ → List Piece) → ((calls : List Call) → before calls → AnsweredBy f calls) → after []
     → all_read (diagnostics_of s t) ≡ true
-    → new ≡ old ++ encode_utf8_all (report_text drawn_rows s t (answers_by f s.layout.context_lines t)))
+    → new ≡ old ++ encode_utf8_all (report_text whole_drawing s t (answers_by f s.layout.context_lines t)))
 rendered-stateless (Err e) s blank before after t old new ok = tt
 rendered-stateless (Ok x) s blank before after t old new ok = stateless-text s blank before after t old new ok

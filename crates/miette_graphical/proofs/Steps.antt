@@ -14,17 +14,17 @@ use Rattle.miette_graphical.specs.rules.Settings.{Settings}
 use Rattle.miette_graphical.specs.rules.Answers.{Answers, unlisted, listed, no_more, and_more, own_answer}
 use Rattle.miette_graphical.specs.rules.Answers.{cause_answers, related_answers}
 use Rattle.miette_graphical.specs.rules.Indents.{narrow_settings}
-use Rattle.miette_graphical.specs.rules.DiagnosticText.{rows_text, under_arrow, header, message_text}
+use Rattle.miette_graphical.specs.rules.DiagnosticText.{fixes_text, rows_text, under_arrow, header, message_text}
 use Rattle.miette_graphical.specs.rules.DiagnosticText.{help_text, footer_text, title_text}
-use Rattle.miette_graphical.specs.rules.Sources.{snippets_with, sources_of, sources_read}
+use Rattle.miette_graphical.specs.rules.Sources.{drawn_with, sources_of, sources_read}
 use Rattle.miette_graphical.specs.rules.Text.{cause_texts, ends_there, are_last, body_over, inner_over, drawn_text}
 use Rattle.miette_graphical.specs.rules.Text.{inner_text, causes_text, related_text, only_if}
 use Rattle.miette_tree.specs.rules.Tree.{effective}
 use Rattle.miette_snippet_rules.specs.rules.Settings as snippets
-use Rattle.miette_graphical.specs.rules.PrintedDiagnostics.{all_read, over, diagnostics_of, printed_causes}
+use Rattle.miette_graphical.specs.rules.PrintedDiagnostics.{labels_read, over, diagnostics_of, printed_causes}
 use Rattle.miette_graphical.specs.rules.PrintedDiagnostics.{printed_related}
-use Rattle.miette_graphical.specs.rules.Snippets.{drawn_rows, snippet_settings}
-use Rattle.miette_graphical.proofs.DrawnRows.{nothing_over}
+use Rattle.miette_graphical.specs.rules.Snippets.{drawn_fix, rows_over, snippet_settings, whole_drawing}
+use Rattle.miette_graphical.proofs.DrawnRows.{nothing_is}
 use Rattle.miette_graphical.proofs.Lists.{first_fails, later_fails}
 use Rattle.miette_graphical.proofs.Outermost.{report_over}
 use Rattle.miette_tree.specs.views.Handler.{AppendsOne}
@@ -34,7 +34,8 @@ use Rattle.miette_graphical.specs.declared.painter.Painter.{Painter}
 use Rattle.miette_snippet_rules.specs.rules.Highlighting.{follows, leaves_plain}
 use Rattle.miette_graphical.proofs.Painted.{keeps_on, only_kept, paints_after, paints_before}
 use Rattle.miette_graphical.specs.rules.Calls.{own_calls, cause_calls, related_calls}
-use Rattle.miette_graphical.specs.steps.PartTexts.{IsDrawn, AreCauses, AreRelated, IsInner, IsSibling, IsOneCause}
+use Rattle.miette_graphical.specs.steps.PartTexts.{AppendsFixes, AreRowsDrawn, IsDrawn}
+use Rattle.miette_graphical.specs.steps.PartTexts.{AreCauses, AreRelated, IsInner, IsSibling, IsOneCause}
 use Rattle.miette_graphical.specs.steps.PartTexts.{IsNested, IsOneRelated, AreRootCauses, IsBelow, IsOutermost}
 use Rattle.miette_graphical.specs.steps.PrintedParts.{printed_inner, printed_sibling, printed_one, printed_root_causes}
 use Rattle.miette_highlight.specs.rules.HighlighterCalls.{Call, Leads}
@@ -55,7 +56,7 @@ mutual
       → AreCauseAnswers l blank inherited c unlisted
   causes-unlisted l blank inherited (texts ts) = tt
   causes-unlisted l blank inherited (diagnostic (tree m own c r)) = (
-    nothing_over (snippets_with m.snippets l) blank (sources_of (effective own inherited) m),
+    nothing_is l blank (effective own inherited) m,
     related-unlisted l blank (effective own inherited) r,
     causes-unlisted l blank inherited c,
   )
@@ -64,7 +65,7 @@ mutual
       → AreRelatedAnswers l blank inherited ts no_more
   related-unlisted l blank inherited no_trees = tt
   related-unlisted l blank inherited (more_trees (tree m own c r) ts) = (
-    nothing_over (snippets_with m.snippets l) blank (sources_of (effective own inherited) m),
+    nothing_is l blank (effective own inherited) m,
     causes-unlisted l blank (effective own inherited) c,
     related-unlisted l blank (effective own inherited) r,
     related-unlisted l blank inherited ts,
@@ -82,7 +83,7 @@ leads_on a b c xs ys h k = λ later n. subst a (sym (append_assoc xs ys later)) 
 
 pub causes_none : (s : Settings) (blank : Bool) (now : List Call → Type 0)
     (outer : Option Severity) (inherited : Option Source) (ts : List (List ℕ)) (text : List ℕ) →
-    text ≡ causes_text drawn_rows s outer inherited (texts ts) unlisted
+    text ≡ causes_text whole_drawing s outer inherited (texts ts) unlisted
     → AreCauses outer inherited (texts ts) (printing s blank now now) text
 causes_none s blank now outer inherited ts text e = (unlisted, tt, leads_none now, e)
 
@@ -109,11 +110,11 @@ none_related s blank now outer inherited value (r ∷ rs) text h e = absurd (ome
 -- the texts of what stands below a tree's causes
 abbrev pub below_drawn : (by : Printing)
     (source : Option Source) (t : Tree) (text : List ℕ) → IsBelow source t by text → List ℕ
-below_drawn by source t text p = rows_text (drawn_rows by.settings source (head t) p.0)
+below_drawn by source t text p = drawn_text whole_drawing by.settings (head t) source p.0
 
 abbrev pub below_related : (by : Printing)
     (source : Option Source) (t : Tree) (text : List ℕ) → IsBelow source t by text → List ℕ
-below_related by source t text p = related_text drawn_rows by.settings (head t).severity source (related_of t) p.1
+below_related by source t text p = related_text whole_drawing by.settings (head t).severity source (related_of t) p.1
 
 pub inner_step : (by : Printing)
     (source : Option Source) (t : Tree) (text : List ℕ) (p : IsBelow source t by text) →
@@ -138,8 +139,8 @@ sibling_step s blank begun mid now source (tree m own c r) causes text q p = (
   leads_on begun mid now (cause_calls s.layout.context_lines s.related_as_nested source c q.0)
       (own_calls s.layout.context_lines source m p.0 ++ related_calls s.layout.context_lines s.related_as_nested source
       r p.1) q.2 p.4,
-  ap (λ x. title_text s m ++ body_over s m (rows_text (drawn_rows s source m p.0)) x
-      (related_text drawn_rows s m.severity source r p.1)) q.3,
+  ap (λ x. title_text s m ++ body_over s m (drawn_text whole_drawing s m source p.0) x
+      (related_text whole_drawing s m.severity source r p.1)) q.3,
 )
 
 -- one of several related reports, with its answers in one
@@ -157,12 +158,12 @@ one_by : (by : Printing) (outer : Option Severity)
     ++ related_calls by.settings.layout.context_lines by.settings.related_as_nested source r
     (related_answers a)))
     × (text ≡ (if nested then
-    under_arrow by.settings outer last (without_trailing (inner_text drawn_rows (narrow_settings by.settings outer last)
+    under_arrow by.settings outer last (without_trailing (inner_text whole_drawing (narrow_settings by.settings outer last)
     m source (own_answer a)
-    (related_text drawn_rows (narrow_settings by.settings outer last) m.severity source r (related_answers a))))
-    else title_text by.settings m ++ body_over by.settings m (drawn_text drawn_rows by.settings m source (own_answer a))
-    (causes_text drawn_rows by.settings m.severity source c (cause_answers a))
-    (related_text drawn_rows by.settings m.severity source r (related_answers a))))
+    (related_text whole_drawing (narrow_settings by.settings outer last) m.severity source r (related_answers a))))
+    else title_text by.settings m ++ body_over by.settings m (drawn_text whole_drawing by.settings m source (own_answer a))
+    (causes_text whole_drawing by.settings m.severity source c (cause_answers a))
+    (related_text whole_drawing by.settings m.severity source r (related_answers a))))
 one_by by outer source last m own c r text true p = (
   listed p.1.0 unlisted p.1.1,
   p.1.2,
@@ -201,7 +202,7 @@ root_by : (by : Printing) (m : Diagnosis)
     (a : Answers) × (chain ≡ true → AreCauseAnswers (snippet_settings by.settings) by.blank own c a)
     × by.happen (if chain then cause_calls by.settings.layout.context_lines by.settings.related_as_nested own c a
     else [])
-    × (causes ≡ only_if chain (causes_text drawn_rows by.settings m.severity own c a))
+    × (causes ≡ only_if chain (causes_text whole_drawing by.settings m.severity own c a))
 root_by by m own c causes true p = (p.0, λ h. p.1, p.2, p.3)
 root_by by m own c causes false p = (
   unlisted,
@@ -225,8 +226,8 @@ root_step s blank begun mid now (tree m own c r) causes text q p =
           else [])
           (own_calls s.layout.context_lines own m p.0 ++ related_calls s.layout.context_lines s.related_as_nested own r
           p.1) b.2 p.4,
-      ap (λ x. report_over s m (rows_text (drawn_rows s own m p.0)) x
-          (related_text drawn_rows s m.severity own r p.1)) b.3,
+      ap (λ x. report_over s m (drawn_text whole_drawing s m own p.0) x
+          (related_text whole_drawing s m.severity own r p.1)) b.3,
     )
 
 -- ---- texts that are appended
@@ -257,21 +258,48 @@ no_related_behind s blank now outer inherited value rs old h =
     nothing_behind (AreRelated outer inherited (trees (map value rs)) (printing s blank now now)) old
     (none_related s blank now outer inherited value rs [] h refl)
 
--- the rows of snippets, help, and related reports
-pub below_behind : {H : Type 0} (is_blank : H → Bool) (may_follow : H → List Call → Type 0) (source : Option Source)
-    (t : Tree) (old drawn helped new : Painter H) →
-    Paints is_blank may_follow (IsDrawn source (head t)) old drawn → Keeps is_blank old drawn
-    → helped.out ≡ drawn.out ++ help_text (settings_of drawn) (head t).help → PrintsOnly drawn helped →
-    Paints is_blank may_follow (AreRelated (head t).severity source (related_of t)) helped new
-    → Paints is_blank may_follow (IsBelow source t) old new
-below_behind is_blank may_follow source t old drawn helped new p kept e only r =
+-- the rows of snippets, help, and fixes
+pub own_behind : {H : Type 0} (is_blank : H → Bool) (may_follow : H → List Call → Type 0) (source : Option Source)
+    (m : Diagnosis) (old drawn helped new : Painter H) →
+    Paints is_blank may_follow (AreRowsDrawn source m) old drawn → Keeps is_blank old drawn
+    → helped.out ≡ drawn.out ++ help_text (settings_of drawn) m.help → PrintsOnly drawn helped →
+    AppendsFixes (settings_of helped) source m.fixes helped.out new.out → PrintsOnly helped new
+    → Paints is_blank may_follow (IsDrawn source m) old new
+own_behind is_blank may_follow source m old drawn helped new p kept e only fixes last =
     let s = settings_of old in
-    let help = help_text s (head t).help in
-    let q = paints_after is_blank may_follow (AreRelated (head t).severity source (related_of t)) old drawn helped new
-    kept only r in
+    let help = help_text s m.help in
+    let own = p.is_given in
+    let shown = fixes_text s (map (drawn_fix s source fixes.fails) m.fixes) in
+    let after : drawn.highlighter ≡ new.highlighter = sym (last.1 ∙ only.1) in record {
+      text = p.text ++ help ++ shown;
+      is_given = (
+        record { sources = own.0; fixes_fail = fixes.fails },
+        record { sources = own.1; fixes = fixes.possible },
+        subst (λ h. Leads (follows may_follow old.highlighter)
+            (own_calls s.layout.context_lines source m (record { sources = own.0; fixes_fail = fixes.fails }))
+            (follows may_follow h)) after own.2,
+        ap (λ x. x ++ help ++ shown) own.3,
+      );
+      appended = behind old.out helped.out new.out (p.text ++ help) shown
+          (behind old.out drawn.out helped.out p.text help p.appended
+          (subst (λ s. helped.out ≡ drawn.out ++ help_text s m.help) kept.0 e))
+          (subst (λ s. new.out ≡ helped.out ++ fixes_text s (map (drawn_fix s source fixes.fails) m.fixes))
+          (only.0 ∙ kept.0) fixes.appended);
+    }
+
+-- what is drawn, and related reports
+pub below_behind : {H : Type 0} (is_blank : H → Bool) (may_follow : H → List Call → Type 0) (source : Option Source)
+    (t : Tree) (old drawn new : Painter H) →
+    Paints is_blank may_follow (IsDrawn source (head t)) old drawn → Keeps is_blank old drawn →
+    Paints is_blank may_follow (AreRelated (head t).severity source (related_of t)) drawn new
+    → Paints is_blank may_follow (IsBelow source t) old new
+below_behind is_blank may_follow source t old drawn new p kept r =
+    let s = settings_of old in
+    let q = paints_after is_blank may_follow (AreRelated (head t).severity source (related_of t)) old drawn drawn new
+    kept (refl, refl) r in
     let own = p.is_given in
     let more = q.is_given in record {
-      text = p.text ++ help ++ q.text;
+      text = p.text ++ q.text;
       is_given = (
         own.0,
         more.0,
@@ -280,24 +308,19 @@ below_behind is_blank may_follow source t old drawn helped new p kept e only r =
         leads_on (follows may_follow old.highlighter) (follows may_follow drawn.highlighter)
             (follows may_follow new.highlighter) (own_calls s.layout.context_lines source (head t) own.0)
             (related_calls s.layout.context_lines s.related_as_nested source (related_of t) more.0) own.2 more.2,
-        ap₂ (λ x y. x ++ help ++ y) own.3 more.3,
+        ap₂ (λ x y. x ++ y) own.3 more.3,
       );
-      appended = behind old.out helped.out new.out (p.text ++ help) q.text
-          (behind old.out drawn.out helped.out p.text help p.appended
-          (subst (λ s. helped.out ≡ drawn.out ++ help_text s (head t).help) kept.0 e)) q.appended;
+      appended = behind old.out drawn.out new.out p.text q.text p.appended q.appended;
     }
-
-regrouped : (a b c d : List ℕ) → a ++ (b ++ c ++ d) ≡ a ++ b ++ c ++ d
-regrouped a b c d = sym (append_assoc a (b ++ c) d) ∙ ap (λ x. x ++ d) (sym (append_assoc a b c))
 
 -- message, causes, and what stands below them
 body_behind : (s : Settings) (m : Diagnosis) (old told caused new drawn causes related below : List ℕ) → told ≡ old
     ++ message_text s m → caused ≡ told ++ causes → new ≡ caused ++ below →
-    below ≡ drawn ++ help_text s m.help ++ related → new ≡ old ++ body_over s m drawn causes related
+    below ≡ drawn ++ related → new ≡ old ++ body_over s m drawn causes related
 body_behind s m old told caused new drawn causes related below p q r e =
     behind old caused new (message_text s m ++ causes) below (behind old told caused (message_text s m) causes p q) r
     ∙ ap (λ x. old ++ x) (ap (λ x. message_text s m ++ causes ++ x) e
-    ∙ regrouped (message_text s m ++ causes) drawn (help_text s m.help) related)
+    ∙ sym (append_assoc (message_text s m ++ causes) drawn related))
 
 pub inner_whole : (by : Printing)
     (source : Option Source) (t : Tree) (old headed told new text : List ℕ) →
@@ -380,20 +403,20 @@ report_whole is_blank may_follow t old told caused drawn new e only causes kept 
 -- ---- refusals
 
 pub one_cause_fails : (nested : Bool) (inherited : Option Source) (t : Tree)
-    → all_read (printed_inner nested (effective (source_of t) inherited) t) ≡ false →
-    all_read (printed_causes nested inherited (diagnostic t)) ≡ false
+    → labels_read (printed_inner nested (effective (source_of t) inherited) t) ≡ false →
+    labels_read (printed_causes nested inherited (diagnostic t)) ≡ false
 one_cause_fails nested inherited (tree m own c r) h = first_fails
     (printed_inner nested (effective own inherited) (tree m own c r)) (printed_causes nested inherited c) h
 
 pub later_cause_fails : (nested : Bool) (inherited : Option Source) (t : Tree)
-    → all_read (printed_causes nested inherited (cause_of t)) ≡ false →
-    all_read (printed_causes nested inherited (diagnostic t)) ≡ false
+    → labels_read (printed_causes nested inherited (cause_of t)) ≡ false →
+    labels_read (printed_causes nested inherited (diagnostic t)) ≡ false
 later_cause_fails nested inherited (tree m own c r) h =
     later_fails (printed_inner nested (effective own inherited) (tree m own c r)) (printed_causes nested inherited c) h
 
 pub inner_related_fail : (nested : Bool) (source : Option Source) (t : Tree)
-    → all_read (printed_related nested source (related_of t)) ≡ false →
-    all_read (printed_inner nested source t) ≡ false
+    → labels_read (printed_related nested source (related_of t)) ≡ false →
+    labels_read (printed_inner nested source t) ≡ false
 inner_related_fail nested source (tree m own c r) h = later_fails (over source m ∷ []) (printed_related nested source r)
     h
 
@@ -402,34 +425,34 @@ and_later true b c f h = f h
 and_later false b c f h = refl
 
 pub inner_rows_fail : (nested : Bool) (source : Option Source) (t : Tree)
-    → sources_read (sources_of source (head t)) ≡ false → all_read (printed_inner nested source t) ≡ false
-inner_rows_fail nested source (tree m own c r) h = ap (λ b. b && all_read (printed_related nested source r)) h
+    → sources_read (sources_of source (head t)) ≡ false → labels_read (printed_inner nested source t) ≡ false
+inner_rows_fail nested source (tree m own c r) h = ap (λ b. b && labels_read (printed_related nested source r)) h
 
-pub sibling_below_fails : (nested : Bool) (source : Option Source) (t : Tree) → all_read (printed_inner nested source t)
-    ≡ false → all_read (printed_sibling nested source t) ≡ false
+pub sibling_below_fails : (nested : Bool) (source : Option Source) (t : Tree) → labels_read (printed_inner nested source t)
+    ≡ false → labels_read (printed_sibling nested source t) ≡ false
 sibling_below_fails nested source (tree m own c r) h =
-    and_later (sources_read (sources_of source m)) (all_read (printed_related nested source r))
-    (all_read (printed_causes nested source c ++ printed_related nested source r))
+    and_later (sources_read (sources_of source m)) (labels_read (printed_related nested source r))
+    (labels_read (printed_causes nested source c ++ printed_related nested source r))
     (later_fails (printed_causes nested source c) (printed_related nested source r)) h
 
-pub root_below_fails : (s : Settings) (t : Tree) → all_read (printed_inner s.related_as_nested (source_of t) t) ≡ false
-    → all_read (diagnostics_of s t) ≡ false
+pub root_below_fails : (s : Settings) (t : Tree) → labels_read (printed_inner s.related_as_nested (source_of t) t) ≡ false
+    → labels_read (diagnostics_of s t) ≡ false
 root_below_fails s (tree m own c r) h =
     let causes = printed_root_causes s.cause_chain s.related_as_nested (tree m own c r) in
-    and_later (sources_read (sources_of own m)) (all_read (printed_related s.related_as_nested own r))
-    (all_read (causes ++ printed_related s.related_as_nested own r))
+    and_later (sources_read (sources_of own m)) (labels_read (printed_related s.related_as_nested own r))
+    (labels_read (causes ++ printed_related s.related_as_nested own r))
     (later_fails causes (printed_related s.related_as_nested own r)) h
 
 pub sibling_causes_fail : (nested : Bool) (source : Option Source) (t : Tree)
-    → all_read (printed_causes nested source (cause_of t)) ≡ false →
-    all_read (printed_sibling nested source t) ≡ false
+    → labels_read (printed_causes nested source (cause_of t)) ≡ false →
+    labels_read (printed_sibling nested source t) ≡ false
 sibling_causes_fail nested source (tree m own c r) h =
     later_fails (over source m ∷ []) (printed_causes nested source c ++ printed_related nested source r)
     (first_fails (printed_causes nested source c) (printed_related nested source r) h)
 
 pub one_related_fails : (nested : Bool) (inherited : Option Source) (t : Tree) (ts : Trees)
-    → all_read (printed_one nested (effective (source_of t) inherited) t) ≡ false →
-    all_read (printed_related nested inherited (more_trees t ts)) ≡ false
+    → labels_read (printed_one nested (effective (source_of t) inherited) t) ≡ false →
+    labels_read (printed_related nested inherited (more_trees t ts)) ≡ false
 one_related_fails true inherited (tree m own c r) ts h =
     first_fails (printed_inner true (effective own inherited) (tree m own c r)) (printed_related true inherited ts) h
 one_related_fails false inherited (tree m own c r) ts h =
@@ -437,17 +460,17 @@ one_related_fails false inherited (tree m own c r) ts h =
     h
 
 pub later_related_fails : (nested : Bool) (inherited : Option Source) (t : Tree) (ts : Trees)
-    → all_read (printed_related nested inherited ts) ≡ false →
-    all_read (printed_related nested inherited (more_trees t ts)) ≡ false
+    → labels_read (printed_related nested inherited ts) ≡ false →
+    labels_read (printed_related nested inherited (more_trees t ts)) ≡ false
 later_related_fails true inherited (tree m own c r) ts h =
     later_fails (printed_inner true (effective own inherited) (tree m own c r)) (printed_related true inherited ts) h
 later_related_fails false inherited (tree m own c r) ts h =
     later_fails (printed_sibling false (effective own inherited) (tree m own c r)) (printed_related false inherited ts)
     h
 
-pub root_causes_fail : (s : Settings) (t : Tree) → all_read (printed_root_causes s.cause_chain s.related_as_nested t)
+pub root_causes_fail : (s : Settings) (t : Tree) → labels_read (printed_root_causes s.cause_chain s.related_as_nested t)
     ≡ false
-    → all_read (diagnostics_of s t) ≡ false
+    → labels_read (diagnostics_of s t) ≡ false
 root_causes_fail s (tree m own c r) h =
     later_fails (over own m ∷ []) (printed_root_causes s.cause_chain s.related_as_nested (tree m own c r)
     ++ printed_related s.related_as_nested own r)

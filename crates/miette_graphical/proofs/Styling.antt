@@ -26,3 +26,7 @@ title_characters (Some Advice) = advice_characters
 pub help_text : chars (codes "  help: ") ≡ codes "  help: "
 unfolding chars
 help_text = refl
+
+pub fix_words : chars (codes "  fix: ") ≡ codes "  fix: "
+unfolding chars
+fix_words = refl

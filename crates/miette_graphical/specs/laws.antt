@@ -7,6 +7,7 @@ pub mod CharacterSets
 pub mod LabelLines
 pub mod Headline
 pub mod Holding
+pub mod FixPictures
 pub mod FittingRows
 pub mod Arrows
 pub mod Levels

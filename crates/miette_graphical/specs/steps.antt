@@ -2,3 +2,4 @@
 pub mod PartTexts
 pub mod PrintedParts
 pub mod TextKinds
+pub mod FixSources

@@ -39,6 +39,8 @@ pub enum TextKind {
     Cause(Branch),
     /// A help.
     Help,
+    /// A fix's message.
+    Fix,
     /// The footer.
     Footer,
 }
@@ -206,6 +208,15 @@ fn help_indent<H>(painter: &Painter<'_, H>) -> Result<Runs, AllocError>
     Ok(runs)
 }
 
+// `  fix: `
+fn fix_indent<H>(painter: &Painter<'_, H>) -> Result<Runs, AllocError>
+    ensures { IfOk result (λ r. spell r ≡ print (indents.fix_indent (settings_of painter.now))) }
+{
+    let mut runs = Runs::new(painter.alloc);
+    runs.push_run(painter.settings.theme.styles.help, "  fix: ")?;
+    Ok(runs)
+}
+
 // These spaces, as runs.
 fn blank_indent(alloc: Global, spaces: &[char]) -> Result<Runs, AllocError>
     ensures { IfOk result (λ r. spell r ≡ spaces.now) }
@@ -223,6 +234,7 @@ fn first_indent<H>(painter: &Painter<'_, H>, kind: TextKind) -> Result<Runs, All
         TextKind::Message(severity) => icon_indent(painter, severity),
         TextKind::Cause(branch) => arrow_indent(painter, branch),
         TextKind::Help => help_indent(painter),
+        TextKind::Fix => fix_indent(painter),
         TextKind::Footer => blank_indent(painter.alloc, &[' ', ' ']),
     }
 }
@@ -235,6 +247,7 @@ fn further_indent<H>(painter: &Painter<'_, H>, kind: TextKind) -> Result<Runs, A
         TextKind::Message(severity) => bar_indent(painter, severity),
         TextKind::Cause(branch) => stem_indent(painter, branch),
         TextKind::Help => blank_indent(painter.alloc, &[' '; 8]),
+        TextKind::Fix => blank_indent(painter.alloc, &[' '; 7]),
         TextKind::Footer => blank_indent(painter.alloc, &[' ', ' ']),
     }
 }

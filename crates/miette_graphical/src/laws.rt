@@ -6,14 +6,16 @@ ghost use Rattle.miette_graphical.specs.rules.PossibleAnswers.{IsTextOf};
 ghost use Rattle.miette_graphical.specs.rules.Answers.{Answers, unlisted};
 ghost use Rattle.miette_graphical.specs.laws.Clean.{AreCleanCharacters, AreCleanSettings, IsCleanTree};
 ghost use Rattle.miette_graphical.specs.laws.Alike.{AreAnsweredAlike, AreDrawnAlike};
-ghost use Rattle.miette_graphical.specs.laws.Colourless.{AreSnippets, IsColouredText, IsRestyledText};
+ghost use Rattle.miette_graphical.specs.laws.Colourless.{AreDrawings, IsColouredText, IsRestyledText};
 ghost use Rattle.miette_graphical.specs.laws.Colourless.{ArePlain, colourless, restyled, unhighlighted_answers};
 ghost use Rattle.std.specs.List.{AllByRecursion, Contains};
+ghost use Rattle.miette_graphical.specs.laws.FixPictures.{FixesAreTold};
 ghost use Rattle.miette_graphical.specs.laws.Headline.{EndsAreDrawn, LabelsAreFolded, LinesAreShown, MarksAreApart};
 ghost use Rattle.miette_graphical.specs.laws.Headline.{TextsHang, CutsAreExact, LinesThatFitStay};
-ghost use Rattle.miette_graphical.specs.rules.DiagnosticText.{SnippetRows, rows_text};
+ghost use Rattle.miette_graphical.specs.rules.DiagnosticText.{Drawing, rows_text};
 ghost use Rattle.miette_graphical.specs.laws.Paths.{HasPath, Step, printed_at};
-ghost use Rattle.miette_graphical.specs.laws.Holding.{Arrow, HoldsRows, HoldsSnippets, HoldsUnder, IsHoldingText};
+ghost use Rattle.miette_graphical.specs.laws.Holding.{Arrow, HoldsFixes, HoldsRows, HoldsSnippets, HoldsUnder};
+ghost use Rattle.miette_graphical.specs.laws.Holding.{IsHoldingText};
 ghost use Rattle.miette_graphical.specs.laws.Arrows.{DrawnRowsStand, FirstStands, InnerRowsStand, RowsStand};
 ghost use Rattle.miette_graphical.specs.laws.FittingRows.{fed_rows};
 ghost use Rattle.miette_graphical.specs.laws.Levels.{HasPlainBars, HaveRoom, HoldsLevels, LevelRowsStand};
@@ -28,8 +30,9 @@ ghost use Rattle.miette_graphical.specs.laws.CharacterSets.{AreNarrow, AreShippe
 ghost use Rattle.miette_graphical.specs.rules.PrintedDiagnostics.{HoldsOfPrinted, PrintedDiagnostic, all_read};
 ghost use Rattle.miette_graphical.specs.rules.PrintedDiagnostics.{diagnostics_of};
 ghost use Rattle.miette_graphical.specs.rules.Settings.{Settings, default_settings};
-ghost use Rattle.miette_graphical.specs.rules.Answers.{SourceAnswer};
-ghost use Rattle.miette_graphical.specs.rules.Snippets.{drawn_rows, own_rows, source_rows};
+ghost use Rattle.miette_graphical.specs.rules.Answers.{SourceAnswer, sources_listed};
+ghost use Rattle.miette_graphical.specs.rules.Snippets.{drawn_rows, drawn_without_fixes, own_rows, source_rows};
+ghost use Rattle.miette_graphical.specs.rules.Snippets.{whole_drawing};
 ghost use Rattle.miette_graphical.specs.rules.Sources.{LabelledSource};
 ghost use Rattle.miette_tree.specs.rules.Diagnosis.{Diagnosis};
 ghost use Rattle.miette_tree.specs.rules.DiagnosticParts.{given_labels};
@@ -41,6 +44,10 @@ ghost use Rattle.miette_runs.specs.rules.Sequences.{erase};
 ghost use Rattle.miette_text.specs.laws.Tame.{IsTame};
 ghost use Rattle.miette_cells.specs.rules.Widths.{width_of};
 
+use miette_fix_laws::laws::{fix_rows_fade, fix_rows_hold_no_escape};
+use miette_fix_rows::laws::{
+    a_diff_has_the_applied_text, a_diff_has_the_source, changes_are_trimmed,
+};
 use miette_layout::laws::{
     cut_lines_are_parted, cut_rows_are_narrow, ends_are_drawn, groups_are_ranges,
     left_out_lines_are_inside, lines_that_fit_stay, marks_are_apart,
@@ -51,25 +58,25 @@ use miette_text::wrap::laws::{
     columns_law, cutting_law, encoding_law, joining_law, printing_law, wrapping_law,
 };
 
-/// For all rows of snippets that fade, where no text, url, source, name, setting or theme character holds an escape:
-/// a report's text without its colours is the text of the same tree in plain styles under the same reads, and can be
-/// wrapped again in another one.
+/// For all rows of snippets and of fixes that fade, where no text, url, source, name, setting or theme character holds
+/// an escape: a report's text without its colours is the text of the same tree in plain styles under the same reads,
+/// and can be wrapped again in another one.
 pub fn colours_law()
-    ensures erase { (rows : SnippetRows) (s : Settings) (t : Tree) (a : Answers) → AreSnippets rows →
+    ensures erase { (drawing : Drawing) (s : Settings) (t : Tree) (a : Answers) → AreDrawings drawing →
         AreCleanSettings s → IsCleanTree t →
-        erase (report_text rows s t a) ≡ report_text rows (colourless s) t (unhighlighted_answers a) }
-    ensures tame { (rows : SnippetRows) (s : Settings) (t : Tree) (a : Answers) → AreSnippets rows →
+        erase (report_text drawing s t a) ≡ report_text drawing (colourless s) t (unhighlighted_answers a) }
+    ensures tame { (drawing : Drawing) (s : Settings) (t : Tree) (a : Answers) → AreDrawings drawing →
         AreCleanSettings s → IsCleanTree t →
-        IsTame (report_text rows s t a) }
+        IsTame (report_text drawing s t a) }
     // Settings that differ in styles alone give the same text but for colours.
-    ensures alike { (rows : SnippetRows) (s u : Settings) (t : Tree) (a b : Answers) → AreSnippets rows →
+    ensures alike { (drawing : Drawing) (s u : Settings) (t : Tree) (a b : Answers) → AreDrawings drawing →
         AreCleanSettings s → AreCleanSettings u → IsCleanTree t →
         colourless s ≡ colourless u → unhighlighted_answers a ≡ unhighlighted_answers b →
-        erase (report_text rows s t a) ≡ erase (report_text rows u t b) }
+        erase (report_text drawing s t a) ≡ erase (report_text drawing u t b) }
     // The text without its colours is that of any plain styles, with however many highlights.
-    ensures plain { (rows : SnippetRows) (s : Settings) (styles : Styles) (t : Tree) (a : Answers) →
-        AreSnippets rows → AreCleanSettings s → IsCleanTree t → ArePlain styles →
-        erase (report_text rows s t a) ≡ report_text rows (restyled s styles) t (unhighlighted_answers a) }
+    ensures plain { (drawing : Drawing) (s : Settings) (styles : Styles) (t : Tree) (a : Answers) →
+        AreDrawings drawing → AreCleanSettings s → IsCleanTree t → ArePlain styles →
+        erase (report_text drawing s t a) ≡ report_text drawing (restyled s styles) t (unhighlighted_answers a) }
 {
     wrapping_law();
     joining_law();
@@ -78,12 +85,14 @@ pub fn colours_law()
     columns_law();
 }
 
-/// The rows of snippets, as they are drawn, fade and hold no escape.
+/// The rows of snippets and of fixes, as they are drawn, fade and hold no escape.
 pub fn drawn_rows_law()
-    ensures { AreSnippets drawn_rows }
+    ensures { AreDrawings whole_drawing }
 {
     rows_fade();
     rows_hold_no_escape();
+    fix_rows_fade();
+    fix_rows_hold_no_escape();
 }
 
 /// Of each text that may be printed of such a report: without its colours it is the text in plain styles under the
@@ -92,19 +101,19 @@ pub fn drawn_rows_law()
 /// equal characters leave the same one, whatever their styles (`themes`).
 pub fn erasing_law()
     ensures text { (s : Settings) (blank : Bool) (t : Tree) (bytes : List ℕ) → AreCleanSettings s → IsCleanTree t →
-        IsTextOf drawn_rows s blank t bytes → IsColouredText drawn_rows s blank t bytes }
+        IsTextOf whole_drawing s blank t bytes → IsColouredText whole_drawing s blank t bytes }
     ensures possible { (s : Settings) (blank : Bool) (t : Tree) (bytes : List ℕ) → AreCleanSettings s → IsCleanTree t →
-        IsTextOf drawn_rows s blank t bytes → IsTextOf drawn_rows (colourless s) true t (erase bytes) }
+        IsTextOf whole_drawing s blank t bytes → IsTextOf whole_drawing (colourless s) true t (erase bytes) }
     ensures only { (s : Settings) (blank : Bool) (t : Tree) (bytes : List ℕ) → AreCleanSettings s → IsCleanTree t →
-        IsTextOf drawn_rows s blank t bytes → all_read (diagnostics_of s t) ≡ true →
-        erase bytes ≡ encode_utf8_all (report_text drawn_rows (colourless s) t unlisted) }
+        IsTextOf whole_drawing s blank t bytes → all_read (diagnostics_of s t) ≡ true →
+        erase bytes ≡ encode_utf8_all (report_text whole_drawing (colourless s) t unlisted) }
     ensures plain { (s : Settings) (styles : Styles) (blank : Bool) (t : Tree) (bytes : List ℕ) →
         AreCleanSettings s → IsCleanTree t → ArePlain styles →
-        IsTextOf drawn_rows s blank t bytes → all_read (diagnostics_of s t) ≡ true →
-        erase bytes ≡ encode_utf8_all (report_text drawn_rows (restyled s styles) t unlisted) }
+        IsTextOf whole_drawing s blank t bytes → all_read (diagnostics_of s t) ≡ true →
+        erase bytes ≡ encode_utf8_all (report_text whole_drawing (restyled s styles) t unlisted) }
     ensures themes { (s : Settings) (blank : Bool) (t : Tree) (bytes others : List ℕ) → AreCleanSettings s →
-        IsCleanTree t → IsTextOf drawn_rows s blank t bytes → all_read (diagnostics_of s t) ≡ true →
-        IsRestyledText drawn_rows s t others → erase bytes ≡ erase others }
+        IsCleanTree t → IsTextOf whole_drawing s blank t bytes → all_read (diagnostics_of s t) ≡ true →
+        IsRestyledText whole_drawing s t others → erase bytes ≡ erase others }
 {
     colours_law();
     drawn_rows_law();
@@ -116,11 +125,11 @@ pub fn erasing_law()
 /// (`text`), and so each that a handler may print whose highlighter leaves lines plain (`printed`). The styles of the
 /// shipped themes without colours are plain (`shipped`).
 pub fn plain_law()
-    ensures text { (rows : SnippetRows) (s : Settings) (t : Tree) (a : Answers) → AreSnippets rows →
+    ensures text { (drawing : Drawing) (s : Settings) (t : Tree) (a : Answers) → AreDrawings drawing →
         AreCleanSettings s → IsCleanTree t → ArePlain s.theme.styles → unhighlighted_answers a ≡ a →
-        erase (report_text rows s t a) ≡ report_text rows s t a }
+        erase (report_text drawing s t a) ≡ report_text drawing s t a }
     ensures printed { (s : Settings) (t : Tree) (bytes : List ℕ) → AreCleanSettings s → IsCleanTree t →
-        ArePlain s.theme.styles → IsTextOf drawn_rows s true t bytes → erase bytes ≡ bytes }
+        ArePlain s.theme.styles → IsTextOf whole_drawing s true t bytes → erase bytes ≡ bytes }
     ensures shipped { ArePlain no_styles }
 {
     colours_law();
@@ -131,8 +140,8 @@ pub fn plain_law()
 /// Where every source always reads and lines are plain, one text may be printed of a report: the one in which nothing
 /// is listed.
 pub fn only_law()
-    ensures { (s : Settings) (t : Tree) (bytes : List ℕ) → IsTextOf drawn_rows s true t bytes →
-        all_read (diagnostics_of s t) ≡ true → bytes ≡ encode_utf8_all (report_text drawn_rows s t unlisted) }
+    ensures { (s : Settings) (t : Tree) (bytes : List ℕ) → IsTextOf whole_drawing s true t bytes →
+        all_read (diagnostics_of s t) ≡ true → bytes ≡ encode_utf8_all (report_text whole_drawing s t unlisted) }
 {}
 
 /// The snippets of each printed diagnostic show the lines in the context of its labels, its marks are apart, each line
@@ -165,6 +174,17 @@ pub fn snippets_law()
     short_labels_stay();
 }
 
+/// Of each printed fix that can be applied, over a source that always reads: its rows are the frames of what it changes.
+/// The removed and the unchanged lines of that are exactly the source's lines, the added and the unchanged ones the
+/// applied text's; no change has lines in common at its ends.
+pub fn fixes_law()
+    ensures { (s : Settings) (t : Tree) → AllByRecursion (FixesAreTold s) (diagnostics_of s t) }
+{
+    a_diff_has_the_source();
+    a_diff_has_the_applied_text();
+    changes_are_trimmed();
+}
+
 /// The printed diagnostics are those that stand at a path from the outermost one: by steps to a cause where causes
 /// are shown, and to a related report by its number.
 pub fn paths_law()
@@ -174,35 +194,41 @@ pub fn paths_law()
         Contains (diagnostics_of s t) p }
 {}
 
-/// Of no diagnostic but the printed ones does a report's text hold a snippet: rows that are the same for each of them
-/// give the same text, whatever they are for other sources and diagnostics (`rows`), and so do answers that are the
-/// same at each path at which a diagnostic is printed (`answers`). Where none of them has labels over a further source,
-/// the text is that of their own labels (`without_snippets`). The rows of some labels over one source are those of a
+/// Of no diagnostic but the printed ones does a report's text hold a snippet or a fix: drawings that are the same for
+/// each of them give the same text, whatever they are for other sources and diagnostics (`rows`), and so do answers
+/// that are the same at each path at which a diagnostic is printed (`answers`). Where none of them has labels over a further
+/// source, the text is that of their own labels (`without_snippets`), and where none has a fix, that without fixes
+/// (`without_fixes`). The rows of some labels over one source are those of a
 /// diagnostic with these labels alone (`sources`).
 pub fn printed_law()
-    ensures rows { (rows others : SnippetRows) (s : Settings) (t : Tree) (a : Answers) →
-        AllByRecursion (AreDrawnAlike rows others) (diagnostics_of s t) →
-        report_text rows s t a ≡ report_text others s t a }
-    ensures answers { (rows : SnippetRows) (s : Settings) (t : Tree) (a b : Answers) → AreAnsweredAlike s t a b →
-        report_text rows s t a ≡ report_text rows s t b }
+    ensures rows { (drawing other : Drawing) (s : Settings) (t : Tree) (a : Answers) →
+        AllByRecursion (AreDrawnAlike drawing other) (diagnostics_of s t) →
+        report_text drawing s t a ≡ report_text other s t a }
+    ensures answers { (drawing : Drawing) (s : Settings) (t : Tree) (a b : Answers) → AreAnsweredAlike s t a b →
+        report_text drawing s t a ≡ report_text drawing s t b }
     ensures without_snippets { (s : Settings) (t : Tree) (a : Answers) →
         AllByRecursion (λ p. p.meaning.snippets ≡ []) (diagnostics_of s t) →
-        report_text drawn_rows s t a ≡ report_text own_rows s t a }
+        report_text whole_drawing s t a ≡ report_text (record whole_drawing { rows = own_rows }) s t a }
+    ensures without_fixes { (s : Settings) (t : Tree) (a : Answers) →
+        AllByRecursion (λ p. p.meaning.fixes ≡ []) (diagnostics_of s t) →
+        report_text whole_drawing s t a ≡ report_text drawn_without_fixes s t a }
     ensures sources { (s : Settings) (it : LabelledSource) (m : Diagnosis) (a : SourceAnswer) →
         given_labels m.labels ≡ it.labels → m.snippets ≡ [] →
-        source_rows s it.source it.labels a ≡ drawn_rows s it.source m (a ∷ []) }
+        source_rows s it.source it.labels a ≡ drawn_rows s it.source m (sources_listed (a ∷ [])) }
 {}
 
-/// Of each printed diagnostic a report's text holds the snippets: at each path, under the arrows that are on it, as
-/// they are where there is none (`holds`). There each row stands in the bytes, with the line feed behind it, at the
-/// beginning of a line (`rows`). So it is of each text that may be printed (`text`).
+/// Of each printed diagnostic a report's text holds the snippets and the fixes: at each path, under the arrows that are
+/// on it, as they are where there is none (`holds`, `fixes`). There each row of the snippets stands in the bytes, with the line feed
+/// behind it, at the beginning of a line (`rows`). So it is of each text that may be printed (`text`).
 pub fn holding_law()
-    ensures holds { (rows : SnippetRows) (s : Settings) (t : Tree) (a : Answers) →
-        HoldsSnippets rows s t a (report_text rows s t a) }
-    ensures rows { (rows : SnippetRows) (s : Settings) (t : Tree) (a : Answers) →
-        HoldsRows rows s t a (encode_utf8_all (report_text rows s t a)) }
-    ensures text { (rows : SnippetRows) (s : Settings) (blank : Bool) (t : Tree) (bytes : List ℕ) →
-        IsTextOf rows s blank t bytes → IsHoldingText rows s blank t bytes }
+    ensures holds { (drawing : Drawing) (s : Settings) (t : Tree) (a : Answers) →
+        HoldsSnippets drawing s t a (report_text drawing s t a) }
+    ensures fixes { (drawing : Drawing) (s : Settings) (t : Tree) (a : Answers) →
+        HoldsFixes drawing s t a (report_text drawing s t a) }
+    ensures rows { (drawing : Drawing) (s : Settings) (t : Tree) (a : Answers) →
+        HoldsRows drawing s t a (encode_utf8_all (report_text drawing s t a)) }
+    ensures text { (drawing : Drawing) (s : Settings) (blank : Bool) (t : Tree) (bytes : List ℕ) →
+        IsTextOf drawing s blank t bytes → IsHoldingText drawing s blank t bytes }
 {}
 
 /// Where rows are wrapped, rows of a text that have room stand under an arrow one after the other, without their last
@@ -230,8 +256,9 @@ pub fn arrows_law()
 pub fn levels_law()
     ensures drawn { (s : Settings) (arrows : List Arrow) (drawn : Settings → List ℕ) (text : List ℕ) →
         s.wrapping.wrap_lines ≡ true → HoldsUnder arrows s drawn text → LevelRowsStand s arrows drawn text }
-    ensures bytes { (rows : SnippetRows) (s : Settings) (t : Tree) (a : Answers) (text : List ℕ) →
-        s.wrapping.wrap_lines ≡ true → HoldsSnippets rows s t a text → HoldsLevels rows s t a (encode_utf8_all text) }
+    ensures bytes { (drawing : Drawing) (s : Settings) (t : Tree) (a : Answers) (text : List ℕ) →
+        s.wrapping.wrap_lines ≡ true → HoldsSnippets drawing s t a text →
+        HoldsLevels drawing s t a (encode_utf8_all text) }
     ensures room { (s : Settings) (arrows : List Arrow) (rows : List (List ℕ)) → HasPlainBars s →
         HaveRoom s arrows rows }
     ensures bars { (s : Settings) (arrows : List Arrow) (rows : List (List ℕ)) → HasPlainBars s →

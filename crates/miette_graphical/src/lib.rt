@@ -2,10 +2,12 @@
 #![tactic(auto)]
 
 mod diagnostic;
+mod fixes;
 pub mod handler;
 mod header;
 mod indents;
 pub mod laws;
+mod own;
 mod painter;
 mod printing;
 mod report;

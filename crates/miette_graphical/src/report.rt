@@ -4,7 +4,7 @@ ghost use Rattle.std.specs.Prelude.{◌≡◌, [], IfOk, OnOk, false, map};
 ghost use Rattle.miette_graphical.specs.steps.PartTexts.{AreCauses, AreRelated, IsBelow, IsInner};
 ghost use Rattle.miette_graphical.specs.steps.PartTexts.{IsNested, IsOneCause, IsOneRelated, IsSibling, narrowed};
 ghost use Rattle.miette_graphical.specs.views.Painting.{Keeps, Paints, printing_of, settings_of, source_shown};
-ghost use Rattle.miette_graphical.specs.rules.PrintedDiagnostics.{all_read, printed_causes};
+ghost use Rattle.miette_graphical.specs.rules.PrintedDiagnostics.{labels_read, printed_causes};
 ghost use Rattle.miette_graphical.specs.steps.PrintedParts.{printed_inner, printed_one, printed_sibling};
 ghost use Rattle.miette_graphical.specs.rules.PrintedDiagnostics.{printed_related};
 ghost use Rattle.miette_tree.specs.views.Owned.{shown_source};
@@ -15,9 +15,9 @@ ghost use Rattle.miette_runs.specs.rules.Cutting.{without_leading};
 ghost use Rattle.miette_runs.specs.rules.Sequences.{spell};
 
 use crate::diagnostic::{is_nil, push_cause_texts, push_sibling_start, push_start};
-use crate::indents::{Branch, push_help, push_under_arrow, width_under};
+use crate::indents::{Branch, push_under_arrow, width_under};
+use crate::own::push_own;
 use crate::painter::Painter;
-use crate::sources::push_rows;
 use miette_highlight::highlight::Highlighter;
 use miette_protocol::error::RenderError;
 use miette_protocol::protocol::{Diagnostic, Severity};
@@ -60,7 +60,7 @@ pub fn push_causes<D: Diagnostic, S: SourceCode, H: Highlighter>(
     ensures ok { OnOk result (Paints H.is_blank H.may_follow (AreCauses outer (source_shown S.source inherited.entry)
         (cause_of (tree_of D.meaning S.source report.now))) painter.old painter.new) }
     ensures refused { (result ≡ Err RenderError.Refused) →
-        all_read (printed_causes (settings_of painter.old).related_as_nested (source_shown S.source inherited.entry)
+        labels_read (printed_causes (settings_of painter.old).related_as_nested (source_shown S.source inherited.entry)
         (cause_of (tree_of D.meaning S.source report.now))) ≡ false }
     ensures keeps { Keeps H.is_blank painter.old painter.new }
 {
@@ -84,7 +84,7 @@ fn push_one_cause<D: Diagnostic, S: SourceCode, H: Highlighter>(
     ensures ok { OnOk result (Paints H.is_blank H.may_follow (IsOneCause outer (source_shown S.source inherited.entry)
         (tree_of D.meaning S.source cause.now)) painter.old painter.new) }
     ensures refused { (result ≡ Err RenderError.Refused) →
-        all_read (printed_inner (settings_of painter.old).related_as_nested
+        labels_read (printed_inner (settings_of painter.old).related_as_nested
         (effective (source_of (tree_of D.meaning S.source cause.now)) (source_shown S.source inherited.entry))
         (tree_of D.meaning S.source cause.now)) ≡ false }
     ensures keeps { Keeps H.is_blank painter.old painter.new }
@@ -111,7 +111,7 @@ fn inner_text<D: Diagnostic, S: SourceCode, H: Highlighter>(
         (spell r)) }
     ensures out { painter.new.out ≡ painter.old.out }
     ensures refused { (result ≡ Err RenderError.Refused) →
-        all_read (printed_inner (settings_of painter.old).related_as_nested (source_shown S.source source.entry)
+        labels_read (printed_inner (settings_of painter.old).related_as_nested (source_shown S.source source.entry)
         (tree_of D.meaning S.source report.now)) ≡ false }
     ensures keeps { Keeps H.is_blank painter.old painter.new }
 {
@@ -140,7 +140,7 @@ fn inner_runs<D: Diagnostic, S: SourceCode, H: Highlighter>(
         (tree_of D.meaning S.source report.now) (printing_of H.is_blank H.may_follow painter.old painter.new)
         (spell r)) }
     ensures refused { (result ≡ Err RenderError.Refused) →
-        all_read (printed_inner (settings_of painter.old).related_as_nested (source_shown S.source source.entry)
+        labels_read (printed_inner (settings_of painter.old).related_as_nested (source_shown S.source source.entry)
         (tree_of D.meaning S.source report.now)) ≡ false }
     ensures keeps { Keeps H.is_blank painter.old painter.new }
 {
@@ -157,8 +157,8 @@ fn runs_without_leading(alloc: Global, text: Output) -> Result<Runs, AllocError>
     without_leading(alloc, text.into_runs(alloc)?)
 }
 
-/// Appends what stands below a report's causes, over its effective source: the rows of its snippets, its help, and
-/// its related reports.
+/// Appends what stands below a report's causes, over its effective source: what is drawn of it, and its related
+/// reports.
 #[cycle(report)]
 pub fn push_below<D: Diagnostic, S: SourceCode, H: Highlighter>(
     painter: &mut Painter<'_, H>,
@@ -168,12 +168,11 @@ pub fn push_below<D: Diagnostic, S: SourceCode, H: Highlighter>(
     ensures ok { OnOk result (Paints H.is_blank H.may_follow (IsBelow (source_shown S.source source.entry)
         (tree_of D.meaning S.source report.now)) painter.old painter.new) }
     ensures refused { (result ≡ Err RenderError.Refused) →
-        all_read (printed_inner (settings_of painter.old).related_as_nested (source_shown S.source source.entry)
+        labels_read (printed_inner (settings_of painter.old).related_as_nested (source_shown S.source source.entry)
         (tree_of D.meaning S.source report.now)) ≡ false }
     ensures keeps { Keeps H.is_blank painter.old painter.new }
 {
-    push_rows(painter, source, report)?;
-    push_help(painter, report.help())?;
+    push_own(painter, source, report)?;
     push_related(painter, report.severity(), source, report.related())
 }
 
@@ -187,7 +186,7 @@ fn push_sibling<D: Diagnostic, S: SourceCode, H: Highlighter>(
     ensures ok { OnOk result (Paints H.is_blank H.may_follow (IsSibling (source_shown S.source source.entry)
         (tree_of D.meaning S.source report.now)) painter.old painter.new) }
     ensures refused { (result ≡ Err RenderError.Refused) →
-        all_read (printed_sibling (settings_of painter.old).related_as_nested (source_shown S.source source.entry)
+        labels_read (printed_sibling (settings_of painter.old).related_as_nested (source_shown S.source source.entry)
         (tree_of D.meaning S.source report.now)) ≡ false }
     ensures keeps { Keeps H.is_blank painter.old painter.new }
 {
@@ -207,7 +206,7 @@ fn push_nested<D: Diagnostic, S: SourceCode, H: Highlighter>(
     ensures ok { OnOk result (Paints H.is_blank H.may_follow (IsNested branch.outer branch.is_last
         (source_shown S.source source.entry) (tree_of D.meaning S.source report.now)) painter.old painter.new) }
     ensures refused { (result ≡ Err RenderError.Refused) →
-        all_read (printed_inner (settings_of painter.old).related_as_nested (source_shown S.source source.entry)
+        labels_read (printed_inner (settings_of painter.old).related_as_nested (source_shown S.source source.entry)
         (tree_of D.meaning S.source report.now)) ≡ false }
     ensures keeps { Keeps H.is_blank painter.old painter.new }
 {
@@ -228,7 +227,7 @@ fn push_one_related<D: Diagnostic, S: SourceCode, H: Highlighter>(
     ensures ok { OnOk result (Paints H.is_blank H.may_follow (IsOneRelated branch.outer branch.is_last
         (source_shown S.source source.entry) (tree_of D.meaning S.source report.now)) painter.old painter.new) }
     ensures refused { (result ≡ Err RenderError.Refused) →
-        all_read (printed_one (settings_of painter.old).related_as_nested (source_shown S.source source.entry)
+        labels_read (printed_one (settings_of painter.old).related_as_nested (source_shown S.source source.entry)
         (tree_of D.meaning S.source report.now)) ≡ false }
     ensures keeps { Keeps H.is_blank painter.old painter.new }
 {
@@ -250,7 +249,7 @@ fn push_related<D: Diagnostic, S: SourceCode, H: Highlighter>(
     ensures ok { OnOk result (Paints H.is_blank H.may_follow (AreRelated outer (source_shown S.source inherited.entry)
         (trees (map (tree_of D.meaning S.source) reports.now))) painter.old painter.new) }
     ensures refused { (result ≡ Err RenderError.Refused) →
-        all_read (printed_related (settings_of painter.old).related_as_nested (source_shown S.source inherited.entry)
+        labels_read (printed_related (settings_of painter.old).related_as_nested (source_shown S.source inherited.entry)
         (trees (map (tree_of D.meaning S.source) reports.now))) ≡ false }
     ensures keeps { Keeps H.is_blank painter.old painter.new }
 {

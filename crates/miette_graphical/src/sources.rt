@@ -4,7 +4,7 @@ ghost use Rattle.std.specs.Prelude.{◌≡◌, Some, IfOk, OnOk, false, map};
 ghost use Rattle.std.specs.List.{list_any};
 ghost use Rattle.miette_graphical.specs.rules.Sources.{further_sources, is_labelled, labelled, layout_with, sources_of};
 ghost use Rattle.miette_graphical.specs.rules.Sources.{after_labels, sources_read, theme_after, turned};
-ghost use Rattle.miette_graphical.specs.steps.PartTexts.{AreDrawn, AreSourcesDrawn, IsDrawn, IsSourceDrawn};
+ghost use Rattle.miette_graphical.specs.steps.PartTexts.{AreDrawn, AreRowsDrawn, AreSourcesDrawn, IsSourceDrawn};
 ghost use Rattle.miette_graphical.specs.views.Painting.{Keeps, Paints, settings_of, settings_with, source_shown};
 ghost use Rattle.miette_tree.specs.rules.Reads.{always_reads};
 ghost use Rattle.miette_tree.specs.rules.Tree.{head};
@@ -191,7 +191,7 @@ pub(crate) fn push_rows<D: Diagnostic, S: SourceCode, H: Highlighter>(
     source: Option<SourceRef<'_, S>>,
     report: &Report<D, S>,
 ) -> Result<(), RenderError>
-    ensures ok { OnOk result (Paints H.is_blank H.may_follow (IsDrawn (source_shown S.source source.entry)
+    ensures ok { OnOk result (Paints H.is_blank H.may_follow (AreRowsDrawn (source_shown S.source source.entry)
         (head (tree_of D.meaning S.source report.now))) painter.old painter.new) }
     ensures refused { (result ≡ Err RenderError.Refused) → sources_read (sources_of
         (source_shown S.source source.entry) (head (tree_of D.meaning S.source report.now))) ≡ false }

@@ -2,7 +2,7 @@
 
 ghost use Rattle.std.specs.Prelude.{◌≡◌, IfOk, OnOk, false};
 ghost use Rattle.miette_snippet_rules.specs.rules.Highlighting.{follows, leaves_plain};
-ghost use Rattle.miette_graphical.specs.rules.PrintedDiagnostics.{all_read, diagnostics_of};
+ghost use Rattle.miette_graphical.specs.rules.PrintedDiagnostics.{labels_read, diagnostics_of};
 ghost use Rattle.miette_graphical.specs.views.Painting.{Keeps, Paints, printing, settings_of};
 ghost use Rattle.miette_graphical.specs.views.SettingsView.{handler_settings};
 ghost use Rattle.miette_graphical.specs.steps.PartTexts.{AreRootCauses, IsOutermost};
@@ -33,8 +33,8 @@ fn push_root_causes<D: Diagnostic, S: SourceCode, H: Highlighter>(
     ensures ok { OnOk result (Paints H.is_blank H.may_follow (AreRootCauses (tree_of D.meaning S.source report.now))
         painter.old painter.new) }
     ensures refused { (result ≡ Err RenderError.Refused) →
-        all_read (printed_root_causes (settings_of painter.old).cause_chain (settings_of painter.old).related_as_nested
-        (tree_of D.meaning S.source report.now)) ≡ false }
+        labels_read (printed_root_causes (settings_of painter.old).cause_chain
+        (settings_of painter.old).related_as_nested (tree_of D.meaning S.source report.now)) ≡ false }
     ensures keeps { Keeps H.is_blank painter.old painter.new }
 {
     if !painter.settings.cause_chain {
@@ -51,7 +51,7 @@ fn push_report<D: Diagnostic, S: SourceCode, H: Highlighter>(
     ensures ok { OnOk result (Paints H.is_blank H.may_follow (IsOutermost (tree_of D.meaning S.source report.now))
         painter.old painter.new) }
     ensures refused { (result ≡ Err RenderError.Refused) →
-        all_read (diagnostics_of (settings_of painter.old) (tree_of D.meaning S.source report.now)) ≡ false }
+        labels_read (diagnostics_of (settings_of painter.old) (tree_of D.meaning S.source report.now)) ≡ false }
     ensures keeps { Keeps H.is_blank painter.old painter.new }
 {
     painter.out.reserve(' ', SMALL)?;
@@ -73,7 +73,7 @@ pub fn report_output<D: Diagnostic, S: SourceCode, H: Highlighter>(
         (printing (handler_settings settings.now) (leaves_plain H.is_blank highlighter.old)
         (follows H.may_follow highlighter.old) (follows H.may_follow highlighter.new)) o) }
     ensures refused { (result ≡ Err RenderError.Refused) →
-        all_read (diagnostics_of (handler_settings settings.now) (tree_of D.meaning S.source report.now)) ≡ false }
+        labels_read (diagnostics_of (handler_settings settings.now) (tree_of D.meaning S.source report.now)) ≡ false }
     ensures stays { leaves_plain H.is_blank highlighter.new ≡ leaves_plain H.is_blank highlighter.old }
 {
     let mut painter = Painter {

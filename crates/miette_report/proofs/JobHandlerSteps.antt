@@ -19,12 +19,13 @@ use Rattle.miette_tree.specs.views.Handler.{AppendsOne}
 use Rattle.miette_tree.specs.rules.Reads.{AlwaysReads, report_accepted, report_reads}
 use Rattle.miette_tree.proofs.Readings.{told_reads}
 use Rattle.miette_debug.specs.rules.DebugText.{IsDebugText}
-use Rattle.miette_graphical.specs.rules.PrintedDiagnostics.{all_read, diagnostics_of}
+use Rattle.miette_graphical.specs.rules.PrintedDiagnostics.{diagnostics_of, labels_read}
+use Rattle.miette_graphical.proofs.Lists.{labels_of_all}
 use Rattle.miette_json.specs.rules.Json.{json_text}
 use Rattle.miette_json.specs.rules.JsonReport.{value_of}
 use Rattle.miette_graphical.specs.rules.PossibleAnswers as drawn
 use Rattle.miette_graphical.specs.views.Handling.{Handling, draws_plain}
-use Rattle.miette_graphical.specs.rules.Snippets.{drawn_rows}
+use Rattle.miette_graphical.specs.rules.Snippets.{whole_drawing}
 use Rattle.miette_graphical.specs.rules.Text.{report_text}
 use Rattle.miette_report.specs.steps.JobHandler.{IsAsked, IsGiven, MayRefuse, Stays}
 use Rattle.miette_description.specs.rules.Description.{tree_for}
@@ -54,15 +55,15 @@ debug-given is_blank h t old new (Ok x) is text = subst (λ k. AppendsOne (IsGiv
 
 -- where lines are left plain, the text is the one under the answers that always come
 only-text : {H : Type 0} (is_blank : H → Bool) (it : Handling H) (t : Tree) (text : List ℕ) → AlwaysReads t
-    → drawn.IsTextOf drawn_rows it.settings (draws_plain is_blank it) t text
-    → draws_plain is_blank it ≡ true → text ≡ encode_utf8_all (report_text drawn_rows it.settings t unlisted)
+    → drawn.IsTextOf whole_drawing it.settings (draws_plain is_blank it) t text
+    → draws_plain is_blank it ≡ true → text ≡ encode_utf8_all (report_text whole_drawing it.settings t unlisted)
 only-text is_blank it t text reads given plain =
     one_text.only-text it.settings t text
-    (subst (λ b. drawn.IsTextOf drawn_rows it.settings b t text) plain given) (printed-reads it.settings t reads)
+    (subst (λ b. drawn.IsTextOf whole_drawing it.settings b t text) plain given) (printed-reads it.settings t reads)
 
 pub graphical-given : {A E H : Type 0} (is_blank : H → Bool) (h : JobHandler H) (it : Handling H) (t : Tree)
     (old new : List ℕ) (r : Result A E) → h ≡ chosen.Built (handler.Graphical it) → AlwaysReads t
-    → OnOk r (drawn.Appends drawn_rows it.settings (draws_plain is_blank it) t old new)
+    → OnOk r (drawn.Appends whole_drawing it.settings (draws_plain is_blank it) t old new)
     → OnOk r (AppendsOne (IsGiven is_blank h t) old new)
 graphical-given is_blank h it t old new (Err e) is reads ok = tt
 graphical-given is_blank h it t old new (Ok x) is reads ok =
@@ -76,8 +77,10 @@ graphical-given is_blank h it t old new (Ok x) is reads ok =
 
 -- no label of such a report is refused
 pub graphical-accepts : {H : Type 0} (h : JobHandler H) (it : Handling H) (t : Tree) → AlwaysReads t
-    → all_read (diagnostics_of it.settings t) ≡ false → MayRefuse h t
-graphical-accepts h it t reads refused = let no : true ≡ false = sym (printed-reads it.settings t reads) ∙ refused in cc
+    → labels_read (diagnostics_of it.settings t) ≡ false → MayRefuse h t
+graphical-accepts h it t reads refused =
+    let no : true ≡ false =
+    sym (labels_of_all (diagnostics_of it.settings t) (printed-reads it.settings t reads)) ∙ refused in cc
 
 pub narrated-given : {A E H : Type 0} (is_blank : H → Bool) (h : JobHandler H) (s : narrated.NarrationSettings)
     (t : Tree) (old new : List ℕ) (r : Result A E) → h ≡ chosen.Built (handler.Narrated s) → AlwaysReads t
@@ -231,10 +234,10 @@ given-before is_blank chosen.Debug k t text stays given = subst (λ x. IsGiven i
 given-before is_blank (chosen.Built h) chosen.Json t text stays given = absurd stays
 given-before is_blank (chosen.Built h) chosen.Debug t text stays given = absurd stays
 given-before is_blank (chosen.Built (handler.Graphical h)) (chosen.Built (handler.Graphical k)) t text stays given =
-    subst (λ b. drawn.IsTextOf drawn_rows h.settings b t text
-    × (b ≡ true → text ≡ encode_utf8_all (report_text drawn_rows h.settings t unlisted))) stays.1
-    (subst (λ s. drawn.IsTextOf drawn_rows s (draws_plain is_blank k) t text
-    × (draws_plain is_blank k ≡ true → text ≡ encode_utf8_all (report_text drawn_rows s t unlisted))) stays.0
+    subst (λ b. drawn.IsTextOf whole_drawing h.settings b t text
+    × (b ≡ true → text ≡ encode_utf8_all (report_text whole_drawing h.settings t unlisted))) stays.1
+    (subst (λ s. drawn.IsTextOf whole_drawing s (draws_plain is_blank k) t text
+    × (draws_plain is_blank k ≡ true → text ≡ encode_utf8_all (report_text whole_drawing s t unlisted))) stays.0
     given)
 given-before is_blank (chosen.Built (handler.Narrated h)) (chosen.Built (handler.Narrated k)) t text stays given =
     subst (λ s. IsBuiltText is_blank (handler.Narrated s) t text) stays given

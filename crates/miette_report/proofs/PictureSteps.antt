@@ -8,9 +8,10 @@ use Rattle.miette_tree.proofs.Readings.{none_further}
 use Rattle.miette_style.specs.rules.Themes.{no_styles, theme_of, unicode_characters}
 use Rattle.miette_style.specs.declared.theme.GraphicalTheme.{GraphicalTheme}
 use Rattle.miette_graphical.specs.rules.Answers.{unlisted}
-use Rattle.miette_graphical.specs.rules.PrintedDiagnostics.{all_read, diagnostics_of}
+use Rattle.miette_graphical.specs.rules.PrintedDiagnostics.{all_read, diagnostics_of, labels_read}
+use Rattle.miette_graphical.proofs.Lists.{labels_of_all}
 use Rattle.miette_graphical.specs.views.Handling.{Handling, draws_plain, without_highlighter}
-use Rattle.miette_graphical.specs.rules.Snippets.{drawn_rows}
+use Rattle.miette_graphical.specs.rules.Snippets.{whole_drawing}
 use Rattle.miette_graphical.specs.rules.Text.{report_text}
 use Rattle.miette_brief.specs.rules.Report as rows
 use Rattle.miette_report.proofs.AlwaysRead.{printed-reads}
@@ -33,17 +34,18 @@ pub pictured : {H : Type 0} (limit : Option ℕ) (is_blank : H → Bool) (theme 
     (t : Tree) (old new : List ℕ) → theme_of theme ≡ record { characters = unicode_characters; styles = no_styles }
     → h ≡ without_highlighter (draw_settings limit) → old ≡ []
     → (draws_plain is_blank h ≡ true → all_read (diagnostics_of h.settings t) ≡ true → new ≡ old
-    ++ encode_utf8_all (report_text drawn_rows h.settings t unlisted))
+    ++ encode_utf8_all (report_text whole_drawing h.settings t unlisted))
     → IsReadWhole limit t → IsPicture limit t new
 pictured limit is_blank theme h t old new is same none only reads =
     only (ap (draws_plain is_blank) same) (reads-whole limit theme h t same reads)
-    ∙ ap₂ (λ o u. o ++ encode_utf8_all (report_text drawn_rows u.settings t unlisted)) none same
+    ∙ ap₂ (λ o u. o ++ encode_utf8_all (report_text whole_drawing u.settings t unlisted)) none same
 
 pub unrefused : {H : Type 0} (limit : Option ℕ) (theme : GraphicalTheme) (h : Handling H) (t : Tree) → h
     ≡ without_highlighter (draw_settings limit)
-    → all_read (diagnostics_of h.settings t) ≡ false → IsReadWhole limit t → ⊥
-unrefused limit theme h t same refused reads = let k : true ≡ false = sym (reads-whole limit theme h t same reads)
-    ∙ refused in cc
+    → labels_read (diagnostics_of h.settings t) ≡ false → IsReadWhole limit t → ⊥
+unrefused limit theme h t same refused reads =
+    let k : true ≡ false =
+    sym (labels_of_all (diagnostics_of h.settings t) (reads-whole limit theme h t same reads)) ∙ refused in cc
 
 -- of a diagnostic over an input every label is read
 pub reads-over : (limit : Option ℕ) (t : Tree) (name : List ℕ) (m : Meaning) (input : List ℕ) → t

@@ -7,18 +7,18 @@ use Rattle.miette_narrated.specs.rules.PossibleAnswers.{IsNarrated}
 use Rattle.miette_graphical.specs.rules.PossibleAnswers.{IsAskedText, IsTextOf}
 use Rattle.miette_graphical.specs.views.Handling.{AreCallsOf, draws_plain}
 use Rattle.miette_highlight.specs.rules.HighlighterCalls.{Call}
-use Rattle.miette_graphical.specs.rules.PrintedDiagnostics.{all_read, diagnostics_of}
-use Rattle.miette_graphical.specs.rules.Snippets.{drawn_rows}
+use Rattle.miette_graphical.specs.rules.PrintedDiagnostics.{labels_read, diagnostics_of}
+use Rattle.miette_graphical.specs.rules.Snippets.{whole_drawing}
 use Rattle.miette.specs.declared.options.handler.MietteHandler.{MietteHandler}
 use Rattle.miette.specs.declared.options.handler.MietteHandler.TheVariants.{Graphical, Narrated, Brief}
 
 abbrev pub Gives : {H : Type 0} → (H → Bool) → MietteHandler H → Tree → List ℕ → Type 0
-Gives is_blank (Graphical it) t = IsTextOf drawn_rows it.settings (draws_plain is_blank it) t
+Gives is_blank (Graphical it) t = IsTextOf whole_drawing it.settings (draws_plain is_blank it) t
 Gives is_blank (Narrated it) t = IsNarrated it t
 Gives is_blank (Brief it) t = brief.IsBrief it t
 
 abbrev pub Refuses : {H : Type 0} → MietteHandler H → Tree → Type 0
-Refuses (Graphical it) t = all_read (diagnostics_of it.settings t) ≡ false
+Refuses (Graphical it) t = labels_read (diagnostics_of it.settings t) ≡ false
 Refuses (Narrated it) t = report_accepted t ≡ false
 Refuses (Brief it) t = report_accepted t ≡ false
 
@@ -40,7 +40,7 @@ Keeps is_blank (Brief old) (Narrated new) = ⊥
 abbrev pub Asks : {H : Type 0} → (H → Bool) → (H → List Call → Type 0) → MietteHandler H → MietteHandler H → Tree
     → List ℕ → Type 0
 Asks is_blank may_follow (Graphical old) (Graphical new) t text =
-    IsAskedText drawn_rows old.settings (draws_plain is_blank old) (AreCallsOf may_follow old new) t text
+    IsAskedText whole_drawing old.settings (draws_plain is_blank old) (AreCallsOf may_follow old new) t text
 Asks is_blank may_follow (Narrated old) (Narrated new) t text = IsNarrated old t text
 Asks is_blank may_follow (Brief old) (Brief new) t text = brief.IsBrief old t text
 Asks is_blank may_follow (Graphical old) (Narrated new) t text = ⊥

@@ -1,17 +1,19 @@
--- Rows that are the same for a printed diagnostic, and answers that are the same where a diagnostic is printed.
+-- Drawings that are the same for a printed diagnostic, and answers that are the same where a diagnostic is printed.
 use Rattle.std.specs.Prelude.{◌≡◌, ℕ, zero, suc, List, [], ◌∷◌, Some}
 use Rattle.miette_tree.specs.rules.Tree.{Tree}
 use Rattle.miette_graphical.specs.rules.Settings.{Settings}
 use Rattle.miette_graphical.specs.rules.Answers.{Answer, Answers, RelatedAnswers, own_answer, cause_answers}
 use Rattle.miette_graphical.specs.rules.Answers.{related_answers, first_answers, later_answers}
-use Rattle.miette_graphical.specs.rules.DiagnosticText.{SnippetRows}
+use Rattle.miette_graphical.specs.rules.DiagnosticText.{Drawing}
 use Rattle.miette_graphical.specs.rules.PrintedDiagnostics.{PrintedDiagnostic}
 use Rattle.miette_graphical.specs.laws.Paths.{Step, to_cause, to_related, printed_at}
 
 -- over the diagnostic's source and by its labels, in every settings and under every answer
-abbrev pub AreDrawnAlike : SnippetRows → SnippetRows → PrintedDiagnostic → Type 0
-AreDrawnAlike rows others p = (s : Settings) (a : Answer) →
-    rows s p.source p.meaning a ≡ others s p.source p.meaning a
+pub record AreDrawnAlike (drawing other : Drawing) (p : PrintedDiagnostic) : Type 0 where
+  pub rows : (s : Settings) (a : Answer) →
+      drawing.rows s p.source p.meaning a ≡ other.rows s p.source p.meaning a
+  pub fixes : (s : Settings) (a : Answer) →
+      drawing.fixes s p.source p.meaning a ≡ other.fixes s p.source p.meaning a
 
 -- the answers of the related report with this number
 abbrev pub numbered_answers : RelatedAnswers → ℕ → Answers

@@ -3,6 +3,7 @@ use Rattle.std.specs.Prelude.{List, Option, IfSome}
 use Rattle.std.specs.List.{AllByRecursion}
 use Rattle.miette_runs.specs.rules.Runs.{Fragment, HaveNoEscape}
 use Rattle.miette_style.specs.rules.Themes.{Characters}
+use Rattle.miette_fixes.specs.rules.Edits.{Proposal}
 use Rattle.miette_protocol.specs.views.Meaning.{Label}
 use Rattle.miette_tree.specs.rules.Diagnosis.{Diagnosis, Section}
 use Rattle.miette_row_laws.specs.laws.Clean.{IsClean, IsCleanText, IsCleanLabel, IsCleanSource, AreCleanDrawings}
@@ -31,6 +32,11 @@ AreCleanLabels labels = IfSome labels (AllByRecursion IsCleanLabel)
 abbrev pub IsCleanSection : Section → Type 0
 IsCleanSection section = IsCleanSource section.source × AllByRecursion IsCleanLabel section.labels
 
+-- of a fix: its message, and the bytes of its edits' texts
+pub record IsCleanFix (fix : Proposal) : Type 0 where
+  pub message : IsCleanText fix.message
+  pub texts : AllByRecursion (λ edit. IsClean edit.text) fix.edits
+
 pub record IsCleanMeaning (m : Diagnosis) : Type 0 where
   pub message : IsCleanText m.message
   pub code : IfSome m.code IsCleanText
@@ -38,6 +44,7 @@ pub record IsCleanMeaning (m : Diagnosis) : Type 0 where
   pub url : IfSome m.url IsCleanText
   pub labels : AreCleanLabels m.labels
   pub snippets : AllByRecursion IsCleanSection m.snippets
+  pub fixes : AllByRecursion IsCleanFix m.fixes
 
 -- every text of a tree, and every source with its name
 abbrev mutual

@@ -1,4 +1,4 @@
--- Where a report's text holds the snippets of a printed diagnostic: as they are, or in the text of an inner report,
+-- Where a report's text holds the snippets and the fixes of a printed diagnostic: as they are, or in the text of an inner report,
 -- which is wrapped under an arrow, level by level.
 use Rattle.std.specs.Prelude.{◌≡◌, ◌⊎◌, ℕ, zero, suc, Bool, if◌then◌else◌, List, [], ◌∷◌, ◌++◌, Option, Some}
 use Rattle.std.specs.Prelude.{encode_utf8_all, true, false}
@@ -8,7 +8,7 @@ use Rattle.miette_runs.specs.rules.Runs.{Fragment, print}
 use Rattle.miette_protocol.specs.declared.protocol.Severity.{Severity}
 use Rattle.miette_tree.specs.rules.Tree.{Tree, tree, Cause, diagnostic, texts, Trees, no_trees, more_trees}
 use Rattle.miette_graphical.specs.rules.Answers.{Answer, Answers}
-use Rattle.miette_graphical.specs.rules.DiagnosticText.{SnippetRows, line_feed, rows_text, under_arrow}
+use Rattle.miette_graphical.specs.rules.DiagnosticText.{Drawing, fixes_text, line_feed, rows_text, under_arrow}
 use Rattle.miette_graphical.specs.rules.Indents.{narrow_settings}
 use Rattle.miette_graphical.specs.rules.PossibleAnswers.{AreAnswers}
 use Rattle.miette_graphical.specs.rules.PrintedDiagnostics.{PrintedDiagnostic}
@@ -83,30 +83,40 @@ HoldsUnder (arrow ∷ arrows) s drawn text =
     (inner : List ℕ) × StandsIn (under_arrow s arrow.outer arrow.is_last (cut_text arrow inner)) text
     × HoldsUnder arrows (narrow_settings s arrow.outer arrow.is_last) drawn inner
 
--- ---- the snippets of a report
+-- ---- the snippets and the fixes of a report
 
 -- the rows of a printed diagnostic, under an answer and in whatever settings
-abbrev pub rows_at : SnippetRows → PrintedDiagnostic → Answer → Settings → List (List Fragment)
-rows_at rows p answer s = rows s p.source p.meaning answer
+abbrev pub rows_at : Drawing → PrintedDiagnostic → Answer → Settings → List (List Fragment)
+rows_at drawing p answer s = drawing.rows s p.source p.meaning answer
 
-abbrev pub text_at : SnippetRows → PrintedDiagnostic → Answer → Settings → List ℕ
-text_at rows p answer s = rows_text (rows_at rows p answer s)
+abbrev pub text_at : Drawing → PrintedDiagnostic → Answer → Settings → List ℕ
+text_at drawing p answer s = rows_text (rows_at drawing p answer s)
+
+-- the text of its fixes
+abbrev pub fixes_at : Drawing → PrintedDiagnostic → Answer → Settings → List ℕ
+fixes_at drawing p answer s = fixes_text s (drawing.fixes s p.source p.meaning answer)
 
 -- A text holds the snippets of what is printed at each path, under the arrows on it.
-abbrev pub HoldsSnippets : SnippetRows → Settings → Tree → Answers → List ℕ → Type 0
-HoldsSnippets rows s t a text = (path : List Step) (p : PrintedDiagnostic) → printed_at s t path ≡ Some p →
-    HoldsUnder (arrows_at s t path) s (text_at rows p (answer_at a path)) text
+abbrev pub HoldsSnippets : Drawing → Settings → Tree → Answers → List ℕ → Type 0
+HoldsSnippets drawing s t a text = (path : List Step) (p : PrintedDiagnostic) → printed_at s t path ≡ Some p →
+    HoldsUnder (arrows_at s t path) s (text_at drawing p (answer_at a path)) text
+
+-- and so its fixes
+abbrev pub HoldsFixes : Drawing → Settings → Tree → Answers → List ℕ → Type 0
+HoldsFixes drawing s t a text = (path : List Step) (p : PrintedDiagnostic) → printed_at s t path ≡ Some p →
+    HoldsUnder (arrows_at s t path) s (fixes_at drawing p (answer_at a path)) text
 
 -- Where no arrow is on the path, each row of the snippets stands in these bytes on a line of its own.
-abbrev pub HoldsRows : SnippetRows → Settings → Tree → Answers → List ℕ → Type 0
-HoldsRows rows s t a bytes = (path : List Step) (p : PrintedDiagnostic) → printed_at s t path ≡ Some p →
-    arrows_at s t path ≡ [] → (row : List Fragment) → Contains (rows_at rows p (answer_at a path) s) row →
+abbrev pub HoldsRows : Drawing → Settings → Tree → Answers → List ℕ → Type 0
+HoldsRows drawing s t a bytes = (path : List Step) (p : PrintedDiagnostic) → printed_at s t path ≡ Some p →
+    arrows_at s t path ≡ [] → (row : List Fragment) → Contains (rows_at drawing p (answer_at a path) s) row →
     StandsIn (encode_utf8_all (print row ++ line_feed)) bytes
 
--- The bytes of a report's text under some answers, which hold the snippets of each printed diagnostic.
-pub record IsHoldingText (rows : SnippetRows) (s : Settings) (blank : Bool) (t : Tree) (bytes : List ℕ) : Type 0 where
+-- The bytes of a report's text under some answers, which hold the snippets and the fixes of each printed diagnostic.
+pub record IsHoldingText (drawing : Drawing) (s : Settings) (blank : Bool) (t : Tree) (bytes : List ℕ) : Type 0 where
   pub answers : Answers
   pub are : AreAnswers s blank t answers
-  pub text : bytes ≡ encode_utf8_all (report_text rows s t answers)
-  pub holds : HoldsSnippets rows s t answers (report_text rows s t answers)
-  pub rows_stand : HoldsRows rows s t answers bytes
+  pub text : bytes ≡ encode_utf8_all (report_text drawing s t answers)
+  pub holds : HoldsSnippets drawing s t answers (report_text drawing s t answers)
+  pub fixes : HoldsFixes drawing s t answers (report_text drawing s t answers)
+  pub rows_stand : HoldsRows drawing s t answers bytes

@@ -9,7 +9,7 @@ use Rattle.miette_text.specs.laws.Tame.{IsTame}
 use Rattle.miette_text.specs.rules.Wrapping.{only_spaces}
 use Rattle.miette_tree.specs.rules.Tree.{Tree}
 use Rattle.miette_graphical.specs.rules.Answers.{Answers}
-use Rattle.miette_graphical.specs.rules.DiagnosticText.{SnippetRows}
+use Rattle.miette_graphical.specs.rules.DiagnosticText.{Drawing}
 use Rattle.miette_graphical.specs.rules.Indents.{narrow_settings, stem_indent}
 use Rattle.miette_graphical.specs.rules.PrintedDiagnostics.{PrintedDiagnostic}
 use Rattle.miette_graphical.specs.rules.Settings.{Settings}
@@ -104,8 +104,8 @@ StandBehindBars s arrows rows = AllByRecursion IsShownRow rows →
 
 -- At each path rows of the snippets that are printed there, if they have room on each level, stand in these bytes on
 -- lines of their own, one after the other, behind the bars of all arrows on the path.
-abbrev pub HoldsLevels : SnippetRows → Settings → Tree → Answers → List ℕ → Type 0
-HoldsLevels rows s t a bytes = (path : List Step) (p : PrintedDiagnostic) → printed_at s t path ≡ Some p →
-    (shown : List (List ℕ)) → AreAmong (fed_rows (map print (rows_at rows p (answer_at a path)
+abbrev pub HoldsLevels : Drawing → Settings → Tree → Answers → List ℕ → Type 0
+HoldsLevels drawing s t a bytes = (path : List Step) (p : PrintedDiagnostic) → printed_at s t path ≡ Some p →
+    (shown : List (List ℕ)) → AreAmong (fed_rows (map print (rows_at drawing p (answer_at a path)
     (settings_under s (arrows_at s t path))))) (arrows_at s t path) shown → FitLevels s (arrows_at s t path) shown →
     StandsIn (encode_utf8_all (fed_rows (barred_rows s (arrows_at s t path) shown))) bytes

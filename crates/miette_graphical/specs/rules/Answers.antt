@@ -1,5 +1,5 @@
 -- What isn't determined by a tree and the settings: what reads answered, and the highlighter's pieces.
-use Rattle.std.specs.Prelude.{List, [], ◌∷◌}
+use Rattle.std.specs.Prelude.{Bool, false, List, [], ◌∷◌}
 use Rattle.miette_labels.specs.rules.Answers as snippet_answers
 use Rattle.miette_tree.specs.rules.Answers.{AnswerTree, AnswerTrees, own_or}
 pub use Rattle.miette_tree.specs.rules.Answers.{unlisted, listed, no_more, and_more, cause_answers, related_answers}
@@ -17,15 +17,24 @@ pieces_listed pieces = record { label_fails = []; join_fails = []; place_fails =
 abbrev pub source_unlisted : SourceAnswer
 source_unlisted = pieces_listed []
 
--- Of one diagnostic: of the labels over its own source, and of those over each further one. Nothing is listed of a
--- source that isn't listed.
-abbrev pub Answer : Type 0
-Answer = List SourceAnswer
+-- Of the labels over a diagnostic's own source, and of those over each further one. Nothing is listed of a source that
+-- isn't listed.
+abbrev pub SourceAnswers : Type 0
+SourceAnswers = List SourceAnswer
+
+-- Of one diagnostic: of its labels, and whether the read for its fixes failed.
+pub record Answer : Type 0 where
+  pub sources : SourceAnswers
+  pub fixes_fail : Bool
+
+-- no read for fixes failed
+abbrev pub sources_listed : SourceAnswers → Answer
+sources_listed sources = record { sources = sources; fixes_fail = false }
 
 abbrev pub nothing_listed : Answer
-nothing_listed = []
+nothing_listed = sources_listed []
 
-abbrev pub first_source : Answer → SourceAnswer
+abbrev pub first_source : SourceAnswers → SourceAnswer
 first_source [] = source_unlisted
 first_source (a ∷ more) = a
 

@@ -9,7 +9,8 @@ use Rattle.miette_labels.specs.rules.Groups.{groups_of, in_order}
 use Rattle.miette_snippet_rules.specs.rules.Highlighting.{pieces_by}
 use Rattle.miette_graphical.specs.rules.Sources.{LabelledSource, sources_of}
 use Rattle.miette_tree.specs.rules.Tree.{effective, Tree, tree, Cause, diagnostic, texts, Trees, no_trees, more_trees}
-use Rattle.miette_graphical.specs.rules.Answers.{Answer, Answers, RelatedAnswers, SourceAnswer, pieces_listed, source_unlisted}
+use Rattle.miette_graphical.specs.rules.Answers.{Answer, Answers, RelatedAnswers, SourceAnswer, SourceAnswers}
+use Rattle.miette_graphical.specs.rules.Answers.{pieces_listed, source_unlisted, sources_listed}
 use Rattle.miette_graphical.specs.rules.Answers.{unlisted, listed, no_more, and_more}
 
 -- for the snippets of some labels, sorted by offset, over a source, with so many lines of context
@@ -22,12 +23,12 @@ source_by answer context None labels = source_unlisted
 source_by answer context (Some source) labels = labels_by answer context source (in_order labels)
 
 -- for the snippets of a diagnostic, by its sources
-abbrev pub sources_by : (List ℕ → List Piece) → ℕ → List LabelledSource → Answer
+abbrev pub sources_by : (List ℕ → List Piece) → ℕ → List LabelledSource → SourceAnswers
 sources_by answer context [] = []
 sources_by answer context (it ∷ more) = source_by answer context it.source it.labels ∷ sources_by answer context more
 
 abbrev pub own_by : (List ℕ → List Piece) → ℕ → Option Source → Diagnosis → Answer
-own_by answer context source m = sources_by answer context (sources_of source m)
+own_by answer context source m = sources_listed (sources_by answer context (sources_of source m))
 
 abbrev mutual
   -- for the causes of a report

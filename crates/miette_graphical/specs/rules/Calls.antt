@@ -1,6 +1,6 @@
 -- The calls on a highlighter for a report, in the order of drawing: for each diagnostic with labels over a source it is
--- restarted and asked as its snippets want (`snippet_calls`), with so many lines of context. A report's causes come
--- before its own snippets, its related reports behind them.
+-- restarted and asked as its snippets want (`snippet_calls`), with so many lines of context. Fixes ask nothing. A
+-- report's causes come before its own snippets, its related reports behind them.
 use Rattle.std.specs.Prelude.{ℕ, Bool, if◌then◌else◌, List, [], ◌∷◌, ◌++◌, drop, Option, Some, None}
 use Rattle.miette_tree.specs.rules.Diagnosis.{Diagnosis}
 use Rattle.miette_protocol.specs.rules.Reading.{Source}
@@ -10,7 +10,8 @@ use Rattle.miette_protocol.specs.views.Meaning.{Label}
 use Rattle.miette_graphical.specs.rules.Sources.{LabelledSource, sources_of}
 use Rattle.miette_tree.specs.rules.Tree.{effective, Tree, tree, Cause, diagnostic, texts, Trees, no_trees, more_trees}
 use Rattle.miette_graphical.specs.rules.Settings.{Settings}
-use Rattle.miette_graphical.specs.rules.Answers.{Answer, Answers, RelatedAnswers, SourceAnswer, first_source, own_answer, cause_answers}
+use Rattle.miette_graphical.specs.rules.Answers.{Answer, Answers, RelatedAnswers, SourceAnswer, SourceAnswers}
+use Rattle.miette_graphical.specs.rules.Answers.{first_source, own_answer, cause_answers}
 use Rattle.miette_graphical.specs.rules.Answers.{related_answers, first_answers, later_answers}
 
 -- for the snippets of some labels, over a source where there is one
@@ -19,13 +20,13 @@ source_calls context None labels a = []
 source_calls context (Some source) labels a = snippet_calls context source labels a
 
 -- for the snippets of a diagnostic, by its sources
-abbrev pub calls_over : ℕ → List LabelledSource → Answer → List Call
+abbrev pub calls_over : ℕ → List LabelledSource → SourceAnswers → List Call
 calls_over context [] a = []
 calls_over context (it ∷ more) a =
     source_calls context it.source it.labels (first_source a) ++ calls_over context more (drop 1 a)
 
 abbrev pub own_calls : ℕ → Option Source → Diagnosis → Answer → List Call
-own_calls context source m a = calls_over context (sources_of source m) a
+own_calls context source m a = calls_over context (sources_of source m) a.sources
 
 abbrev mutual
   -- for the causes of a report, each with its related reports

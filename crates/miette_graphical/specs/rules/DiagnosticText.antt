@@ -11,6 +11,7 @@ use Rattle.miette_graphical.specs.declared.settings.UrlMode.TheVariants.{Links, 
 use Rattle.miette_graphical.specs.rules.Answers.{Answer}
 use Rattle.miette_graphical.specs.rules.Indents.{bare_text, wrapped_under, icon_indent, bar_indent, arrow_indent}
 use Rattle.miette_graphical.specs.rules.Indents.{stem_indent, help_indent, further_help_indent, footer_indent}
+use Rattle.miette_graphical.specs.rules.Indents.{fix_indent, further_fix_indent}
 use Rattle.miette_tree.specs.rules.DiagnosticParts.{severity_title}
 
 abbrev pub line_feed : List ℕ
@@ -94,3 +95,30 @@ SnippetRows = Settings → Option Source → Diagnosis → Answer → List (List
 abbrev pub rows_text : List (List Fragment) → List ℕ
 rows_text [] = []
 rows_text (row ∷ rows) = print row ++ line_feed ++ rows_text rows
+
+-- ---- fixes
+
+-- a fix as it is shown: its message, in bytes, and the rows below it, in runs
+pub record ShownFix : Type 0 where
+  pub message : List ℕ
+  pub rows : List (List Fragment)
+
+-- a diagnostic's fixes, by the same as its snippets
+abbrev pub ShownFixes : Type 0
+ShownFixes = Settings → Option Source → Diagnosis → Answer → List ShownFix
+
+-- the message, wrapped, and the rows
+abbrev pub fix_text : Settings → ShownFix → List ℕ
+fix_text s fix =
+    wrapped_under s (fix_indent s) further_fix_indent (chars fix.message) ++ line_feed ++ rows_text fix.rows
+
+abbrev pub fixes_text : Settings → List ShownFix → List ℕ
+fixes_text s [] = []
+fixes_text s (fix ∷ fixes) = fix_text s fix ++ fixes_text s fixes
+
+-- ---- what is drawn
+
+-- What is drawn of a diagnostic over its sources: the rows of its snippets, and its fixes.
+pub record Drawing : Type 0 where
+  pub rows : SnippetRows
+  pub fixes : ShownFixes

@@ -65,6 +65,13 @@ help_indent s = Styled s.theme.styles.help (codes "  help: ") ∷ []
 abbrev pub further_help_indent : List Fragment
 further_help_indent = bare_text (spaces 8) ∷ []
 
+-- in front of a fix's message
+abbrev pub fix_indent : Settings → List Fragment
+fix_indent s = Styled s.theme.styles.help (codes "  fix: ") ∷ []
+
+abbrev pub further_fix_indent : List Fragment
+further_fix_indent = bare_text (spaces 7) ∷ []
+
 abbrev pub footer_indent : List Fragment
 footer_indent = bare_text (spaces 2) ∷ []
 

@@ -1,16 +1,17 @@
 -- Which answers the reads of a tree's sources and the highlighter can have given, and the texts that stand for some
 -- of them.
-use Rattle.std.specs.Prelude.{◌≡◌, ℕ, Bool, true, List, [], ◌∷◌, drop, length, Option, Some, None, is_some}
+use Rattle.std.specs.Prelude.{◌≡◌, ℕ, Bool, true, false, List, [], ◌∷◌, drop, length, Option, Some, None, is_some}
 use Rattle.std.specs.Prelude.{encode_utf8_all}
 use Rattle.miette_protocol.specs.views.Meaning.{Label}
 use Rattle.miette_tree.specs.rules.Diagnosis.{Diagnosis}
 use Rattle.miette_protocol.specs.rules.Reading.{Source}
 use Rattle.miette_tree.specs.rules.Tree.{Tree, tree, Cause, diagnostic, texts, Trees, no_trees, more_trees}
 use Rattle.miette_graphical.specs.rules.Settings.{Settings}
-use Rattle.miette_graphical.specs.rules.Answers.{Answer, Answers, RelatedAnswers, SourceAnswer, first_source, pieces_listed, own_answer}
+use Rattle.miette_graphical.specs.rules.Answers.{Answer, Answers, RelatedAnswers, SourceAnswer, SourceAnswers}
+use Rattle.miette_graphical.specs.rules.Answers.{first_source, pieces_listed, own_answer}
 use Rattle.miette_graphical.specs.rules.Answers.{cause_answers, related_answers, first_answers, later_answers}
-use Rattle.miette_graphical.specs.rules.DiagnosticText.{SnippetRows}
-use Rattle.miette_graphical.specs.rules.Sources.{LabelledSource, snippets_after, snippets_with, sources_of}
+use Rattle.miette_graphical.specs.rules.DiagnosticText.{Drawing}
+use Rattle.miette_graphical.specs.rules.Sources.{LabelledSource, reads_for, snippets_after, snippets_with, sources_of}
 use Rattle.miette_snippet_rules.specs.rules.Settings as snippets
 use Rattle.miette_labels.specs.rules.Around.{group_context}
 use Rattle.miette_labels.specs.rules.Groups.{in_order, groups_of}
@@ -49,14 +50,17 @@ pub record IsAnswerOf (l : snippets.SnippetSettings) (blank : Bool) (source : Op
   pub rows : HasRows l source labels a
 
 -- of labels over several sources, one after the other
-abbrev pub AreAnswersOver : snippets.SnippetSettings → Bool → List LabelledSource → Answer → Type 0
+abbrev pub AreAnswersOver : snippets.SnippetSettings → Bool → List LabelledSource → SourceAnswers → Type 0
 AreAnswersOver l blank [] a = Unit {0}
 AreAnswersOver l blank (it ∷ more) a =
     IsAnswerOf l blank it.source it.labels (always_reads it.source it.labels) (first_source a)
     × AreAnswersOver (snippets_after (length it.labels) l) blank more (drop 1 a)
 
-abbrev pub IsAnswer : snippets.SnippetSettings → Bool → Option Source → Diagnosis → Answer → Type 0
-IsAnswer l blank source m a = AreAnswersOver (snippets_with m.snippets l) blank (sources_of source m) a
+-- of a diagnostic
+pub record IsAnswer (l : snippets.SnippetSettings) (blank : Bool) (source : Option Source) (m : Diagnosis) (a : Answer)
+    : Type 0 where
+  pub sources : AreAnswersOver (snippets_with m.snippets l) blank (sources_of source m) a.sources
+  pub fixes : reads_for source m.fixes ≡ true → a.fixes_fail ≡ false
 
 abbrev mutual
   pub AreCauseAnswers : snippets.SnippetSettings → Bool → Option Source → Cause → Answers → Type 0
@@ -83,21 +87,21 @@ AreAnswers s blank (tree m own c r) a =
 -- ---- a whole report
 
 -- under answers that a highlighter gave by calls that happen
-abbrev pub IsAskedReport : SnippetRows → Settings → Bool → (List Call → Type 0) → Tree → List ℕ → Type 0
-IsAskedReport rows s blank happen t text =
-    (a : Answers) × AreAnswers s blank t a × happen (report_calls s t a) × (text ≡ report_text rows s t a)
+abbrev pub IsAskedReport : Drawing → Settings → Bool → (List Call → Type 0) → Tree → List ℕ → Type 0
+IsAskedReport drawing s blank happen t text =
+    (a : Answers) × AreAnswers s blank t a × happen (report_calls s t a) × (text ≡ report_text drawing s t a)
 
-abbrev pub IsReport : SnippetRows → Settings → Bool → Tree → List ℕ → Type 0
-IsReport rows s blank t text = (a : Answers) × AreAnswers s blank t a × (text ≡ report_text rows s t a)
+abbrev pub IsReport : Drawing → Settings → Bool → Tree → List ℕ → Type 0
+IsReport drawing s blank t text = (a : Answers) × AreAnswers s blank t a × (text ≡ report_text drawing s t a)
 
 -- the bytes of a whole report
-abbrev pub IsAskedText : SnippetRows → Settings → Bool → (List Call → Type 0) → Tree → List ℕ → Type 0
-IsAskedText rows s blank happen t bytes =
-    (text : List ℕ) × IsAskedReport rows s blank happen t text × (bytes ≡ encode_utf8_all text)
+abbrev pub IsAskedText : Drawing → Settings → Bool → (List Call → Type 0) → Tree → List ℕ → Type 0
+IsAskedText drawing s blank happen t bytes =
+    (text : List ℕ) × IsAskedReport drawing s blank happen t text × (bytes ≡ encode_utf8_all text)
 
-abbrev pub IsTextOf : SnippetRows → Settings → Bool → Tree → List ℕ → Type 0
-IsTextOf rows s blank t bytes = (text : List ℕ) × IsReport rows s blank t text × (bytes ≡ encode_utf8_all text)
+abbrev pub IsTextOf : Drawing → Settings → Bool → Tree → List ℕ → Type 0
+IsTextOf drawing s blank t bytes = (text : List ℕ) × IsReport drawing s blank t text × (bytes ≡ encode_utf8_all text)
 
 -- a whole report is appended
-abbrev pub Appends : SnippetRows → Settings → Bool → Tree → List ℕ → List ℕ → Type 0
-Appends rows s blank t old new = AppendsOne (IsTextOf rows s blank t) old new
+abbrev pub Appends : Drawing → Settings → Bool → Tree → List ℕ → List ℕ → Type 0
+Appends drawing s blank t old new = AppendsOne (IsTextOf drawing s blank t) old new

@@ -1,11 +1,12 @@
 -- The diagnostics that a report prints, each with its effective source.
-use Rattle.std.specs.Prelude.{Bool, true, ◌&&◌, if◌then◌else◌, List, [], ◌∷◌, ◌++◌, Option}
+use Rattle.std.specs.Prelude.{Bool, ◌&&◌, if◌then◌else◌, List, [], ◌∷◌, ◌++◌, Option}
 use Rattle.miette_tree.specs.rules.Diagnosis.{Diagnosis}
 use Rattle.miette_protocol.specs.rules.Reading.{Source}
 use Rattle.miette_tree.specs.rules.Tree.{effective, Tree, tree, Cause, diagnostic, texts, Trees, no_trees, more_trees}
 use Rattle.miette_graphical.specs.rules.Settings.{Settings}
-use Rattle.miette_graphical.specs.rules.Sources.{HoldsOfSources, LabelledSource, drawn_with, sources_of}
+use Rattle.miette_graphical.specs.rules.Sources.{HoldsOfSources, LabelledSource, drawn_with, reads_for, sources_of}
 use Rattle.miette_graphical.specs.rules.Sources.{sources_read}
+use Rattle.std.specs.List.{list_all}
 
 -- a printed diagnostic
 pub record PrintedDiagnostic : Type 0 where
@@ -43,7 +44,17 @@ diagnostics_of s (tree m own c r) =
 abbrev pub HoldsOfPrinted : (Settings → LabelledSource → Type 0) → Settings → PrintedDiagnostic → Type 0
 HoldsOfPrinted holds s p = HoldsOfSources holds (drawn_with p.meaning.snippets s) (sources_of p.source p.meaning)
 
--- whether every source that labels of these diagnostics are read from always reads
+-- whether every source that labels of a printed diagnostic are read from always reads, and also the one that its fixes
+-- are read from
+abbrev pub reads_labels : PrintedDiagnostic → Bool
+reads_labels p = sources_read (sources_of p.source p.meaning)
+
+abbrev pub reads_all : PrintedDiagnostic → Bool
+reads_all p = reads_labels p && reads_for p.source p.meaning.fixes
+
+-- whether this holds of all of these diagnostics
+abbrev pub labels_read : List PrintedDiagnostic → Bool
+labels_read ps = list_all reads_labels ps
+
 abbrev pub all_read : List PrintedDiagnostic → Bool
-all_read [] = true
-all_read (p ∷ ps) = sources_read (sources_of p.source p.meaning) && all_read ps
+all_read ps = list_all reads_all ps

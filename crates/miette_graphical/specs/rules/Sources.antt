@@ -1,9 +1,10 @@
 -- The sources of a diagnostic with the labels over each, and the settings in which these are drawn.
-use Rattle.std.specs.Prelude.{ℕ, ◌%◌, List, [], ◌∷◌, ◌++◌, Bool, true, ◌&&◌, ◌||◌, not, Option, Some, drop, length, map}
+use Rattle.std.specs.Prelude.{ℕ, ◌%◌, List, [], ◌∷◌, ◌++◌, Bool, true, ◌&&◌, ◌||◌, not, Option, Some, None, drop, length, map}
 use Rattle.std.specs.Prelude.{take}
 use Rattle.std.specs.List.{list_any}
 use Rattle.miette_basics.specs.rules.Lists.{is_nil}
 use Rattle.miette_protocol.specs.views.Meaning.{Label}
+use Rattle.miette_fixes.specs.rules.Edits.{Proposal}
 use Rattle.miette_protocol.specs.rules.Reading.{Source}
 use Rattle.miette_snippet_rules.specs.declared.options.LayoutOptions.{LayoutOptions}
 use Rattle.miette_snippet_rules.specs.rules.Settings as snippets
@@ -32,6 +33,15 @@ sources_of source m = labelled source (given_labels m.labels) ∷ further_source
 abbrev pub sources_read : List LabelledSource → Bool
 sources_read [] = true
 sources_read (it ∷ more) = always_reads it.source it.labels && sources_read more
+
+-- Fixes that have edits are shown over the source read as a whole, once for all of them.
+abbrev pub has_edits : Proposal → Bool
+has_edits fix = not (is_nil fix.edits)
+
+-- whether the source that fixes of a diagnostic are read from, if they are, always reads
+abbrev pub reads_for : Option Source → List Proposal → Bool
+reads_for None fixes = true
+reads_for (Some source) fixes = not (list_any has_edits fixes) || source.always_reads
 
 -- ---- settings
 

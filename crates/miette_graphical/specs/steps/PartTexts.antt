@@ -1,31 +1,39 @@
 -- Texts of a report's parts, each by what it is printed.
-use Rattle.std.specs.Prelude.{◌≡◌, ℕ, Bool, List, [], ◌++◌, Option, Some, MatchBool}
+use Rattle.std.specs.Prelude.{◌≡◌, ℕ, Bool, true, false, List, [], ◌++◌, map, Option, Some, MatchBool}
 use Rattle.miette_runs.specs.rules.Cutting.{without_trailing}
 use Rattle.miette_protocol.specs.views.Meaning.{Label}
+use Rattle.miette_fixes.specs.rules.Edits.{Proposal}
 use Rattle.miette_tree.specs.rules.Diagnosis.{Diagnosis}
 use Rattle.miette_protocol.specs.rules.Reading.{Source}
 use Rattle.miette_tree.specs.rules.Tree.{Tree, tree, Cause, Trees, head, source_of, cause_of, related_of, effective}
 use Rattle.miette_protocol.specs.declared.protocol.Severity.{Severity}
-use Rattle.miette_graphical.specs.rules.Answers.{Answer, Answers, RelatedAnswers, SourceAnswer}
+use Rattle.miette_graphical.specs.rules.Answers.{Answer, Answers, RelatedAnswers, SourceAnswer, SourceAnswers}
 use Rattle.miette_graphical.specs.rules.Indents.{narrow_settings}
-use Rattle.miette_graphical.specs.rules.DiagnosticText.{rows_text, title_text, help_text, under_arrow}
+use Rattle.miette_graphical.specs.rules.DiagnosticText.{fixes_text, rows_text, title_text, under_arrow}
 use Rattle.miette_tree.specs.rules.Reads.{always_reads}
 use Rattle.miette_graphical.specs.rules.Settings.{Settings}
-use Rattle.miette_graphical.specs.rules.Sources.{LabelledSource}
+use Rattle.miette_graphical.specs.rules.Sources.{LabelledSource, drawn_with, reads_for, sources_of}
 use Rattle.miette_snippet_rules.specs.rules.Highlighting.{snippet_calls}
-use Rattle.miette_graphical.specs.rules.Snippets.{drawn_rows, rows_over, snippet_settings, source_rows}
+use Rattle.miette_graphical.specs.rules.Snippets.{drawn_fix, rows_over, snippet_settings, source_rows, whole_drawing}
 use Rattle.miette_graphical.specs.rules.Calls.{own_calls, calls_over, source_calls, cause_calls, related_calls}
 use Rattle.miette_graphical.specs.rules.Text.{ends_there, inner_text, causes_text, related_text, body_over, drawn_text}
 use Rattle.miette_graphical.specs.rules.PossibleAnswers.{IsAnswerOf, IsAnswer, AreAnswersOver, AreCauseAnswers, AreRelatedAnswers}
 use Rattle.miette_graphical.specs.rules.PossibleAnswers.{IsAskedReport}
 use Rattle.miette_graphical.specs.views.Painting.{Printing}
 
--- the text of the rows of a diagnostic's snippets
+-- what is drawn of a diagnostic: the rows of its snippets, its help, and its fixes
 abbrev pub IsDrawn : Option Source → Diagnosis → Printing → List ℕ → Type 0
 IsDrawn source m by text =
     (a : Answer) × IsAnswer (snippet_settings by.settings) by.blank source m a
     × by.happen (own_calls by.settings.layout.context_lines source m a)
-    × (text ≡ rows_text (drawn_rows by.settings source m a))
+    × (text ≡ drawn_text whole_drawing by.settings m source a)
+
+-- fixes behind a text, over their source, of which the read for them fails or not
+pub record AppendsFixes (s : Settings) (source : Option Source) (fixes : List Proposal) (old new : List ℕ) : Type 0
+  where
+    pub fails : Bool
+    pub possible : reads_for source fixes ≡ true → fails ≡ false
+    pub appended : new ≡ old ++ fixes_text s (map (drawn_fix s source fails) fixes)
 
 -- the text of the rows of some labels' snippets over a source, drawn in these settings
 abbrev pub AreDrawn : Settings → Source → List Label → Printing → List ℕ → Type 0
@@ -44,35 +52,37 @@ IsSourceDrawn s it by text =
 
 abbrev pub AreSourcesDrawn : Settings → List LabelledSource → Printing → List ℕ → Type 0
 AreSourcesDrawn s sources by text =
-    (a : Answer) × AreAnswersOver (snippet_settings s) by.blank sources a
+    (a : SourceAnswers) × AreAnswersOver (snippet_settings s) by.blank sources a
     × by.happen (calls_over s.layout.context_lines sources a)
     × (text ≡ rows_text (rows_over s sources a))
+
+-- the text of the rows of a diagnostic's snippets
+abbrev pub AreRowsDrawn : Option Source → Diagnosis → Printing → List ℕ → Type 0
+AreRowsDrawn source m by text = AreSourcesDrawn (drawn_with m.snippets by.settings) (sources_of source m) by text
 
 -- the causes of a report
 abbrev pub AreCauses : Option Severity → Option Source → Cause → Printing → List ℕ → Type 0
 AreCauses outer inherited c by text =
     (a : Answers) × AreCauseAnswers (snippet_settings by.settings) by.blank inherited c a
     × by.happen (cause_calls by.settings.layout.context_lines by.settings.related_as_nested inherited c a)
-    × (text ≡ causes_text drawn_rows by.settings outer inherited c a)
+    × (text ≡ causes_text whole_drawing by.settings outer inherited c a)
 
 -- its related reports
 abbrev pub AreRelated : Option Severity → Option Source → Trees → Printing → List ℕ → Type 0
 AreRelated outer inherited ts by text =
     (more : RelatedAnswers) × AreRelatedAnswers (snippet_settings by.settings) by.blank inherited ts more
     × by.happen (related_calls by.settings.layout.context_lines by.settings.related_as_nested inherited ts more)
-    × (text ≡ related_text drawn_rows by.settings outer inherited ts more)
+    × (text ≡ related_text whole_drawing by.settings outer inherited ts more)
 
--- what stands below a tree's causes, over its effective source: the rows of its snippets, its help, and its related
--- reports
+-- what stands below a tree's causes, over its effective source: what is drawn of it, and its related reports
 abbrev pub IsBelow : Option Source → Tree → Printing → List ℕ → Type 0
 IsBelow source t by text =
     (a : Answer) × (more : RelatedAnswers) × IsAnswer (snippet_settings by.settings) by.blank source (head t) a
     × AreRelatedAnswers (snippet_settings by.settings) by.blank source (related_of t) more
     × by.happen (own_calls by.settings.layout.context_lines source (head t) a
     ++ related_calls by.settings.layout.context_lines by.settings.related_as_nested source (related_of t) more)
-    × (text ≡ rows_text (drawn_rows by.settings source (head t) a)
-    ++ help_text by.settings (head t).help
-    ++ related_text drawn_rows by.settings (head t).severity source (related_of t) more)
+    × (text ≡ drawn_text whole_drawing by.settings (head t) source a
+    ++ related_text whole_drawing by.settings (head t).severity source (related_of t) more)
 
 -- a tree as an inner report, over its effective source
 abbrev pub IsInner : Option Source → Tree → Printing → List ℕ → Type 0
@@ -81,7 +91,7 @@ IsInner source (tree m own c r) by text =
     × AreRelatedAnswers (snippet_settings by.settings) by.blank source r more
     × by.happen (own_calls by.settings.layout.context_lines source m a
     ++ related_calls by.settings.layout.context_lines by.settings.related_as_nested source r more)
-    × (text ≡ inner_text drawn_rows by.settings m source a (related_text drawn_rows by.settings m.severity source r
+    × (text ≡ inner_text whole_drawing by.settings m source a (related_text whole_drawing by.settings m.severity source r
     more))
 
 -- a related tree as a sibling
@@ -94,9 +104,9 @@ IsSibling source (tree m own c r) by text =
     × by.happen (cause_calls by.settings.layout.context_lines by.settings.related_as_nested source c below
     ++ (own_calls by.settings.layout.context_lines source m a
     ++ related_calls by.settings.layout.context_lines by.settings.related_as_nested source r more))
-    × (text ≡ title_text by.settings m ++ body_over by.settings m (drawn_text drawn_rows by.settings m source a)
-    (causes_text drawn_rows by.settings m.severity source c below)
-    (related_text drawn_rows by.settings m.severity source r more))
+    × (text ≡ title_text by.settings m ++ body_over by.settings m (drawn_text whole_drawing by.settings m source a)
+    (causes_text whole_drawing by.settings m.severity source c below)
+    (related_text whole_drawing by.settings m.severity source r more))
 
 -- under an arrow: narrower
 abbrev pub narrowed : Option Severity → Bool → Printing → Printing
@@ -125,4 +135,4 @@ AreRootCauses (tree m own c r) by text =
 
 -- the outermost report
 abbrev pub IsOutermost : Tree → Printing → List ℕ → Type 0
-IsOutermost t by text = IsAskedReport drawn_rows by.settings by.blank by.happen t text
+IsOutermost t by text = IsAskedReport whole_drawing by.settings by.blank by.happen t text

@@ -2,17 +2,19 @@
 
 ghost use Rattle.std.specs.Prelude.{◌≡◌, ◌++◌, ℕ, List, [], OnErr, OnOk, false, true, chars, string_bytes};
 ghost use Rattle.std.specs.Prelude.{encode_utf8_all, option_map};
+ghost use Rattle.std.specs.List.{AllByRecursion};
 ghost use Rattle.miette_graphical.specs.laws.Clean.{AreCleanSettings, IsCleanTree};
 ghost use Rattle.miette_graphical.specs.laws.Colourless.{ArePlain, IsColouredText, IsRestyledText, colourless};
 ghost use Rattle.miette_graphical.specs.laws.Colourless.{restyled};
 ghost use Rattle.miette_graphical.specs.laws.Headline.{CutsAreExact, LinesThatFitStay, MarksAreApart, TextsHang};
 ghost use Rattle.miette_graphical.specs.laws.Headline.{EndsAreDrawn, LabelsAreFolded, LinesAreShown};
+ghost use Rattle.miette_graphical.specs.laws.FixPictures.{FixesAreTold};
 ghost use Rattle.miette_graphical.specs.laws.Holding.{IsHoldingText};
 ghost use Rattle.miette_graphical.specs.rules.Answers.{unlisted};
 ghost use Rattle.miette_graphical.specs.rules.ByLine.{answers_by};
 ghost use Rattle.miette_graphical.specs.rules.PossibleAnswers.{Appends, IsAskedText, IsTextOf};
-ghost use Rattle.miette_graphical.specs.rules.PrintedDiagnostics.{all_read, diagnostics_of};
-ghost use Rattle.miette_graphical.specs.rules.Snippets.{drawn_rows};
+ghost use Rattle.miette_graphical.specs.rules.PrintedDiagnostics.{all_read, diagnostics_of, labels_read};
+ghost use Rattle.miette_graphical.specs.rules.Snippets.{whole_drawing};
 ghost use Rattle.miette_graphical.specs.rules.Text.{report_text};
 ghost use Rattle.miette_graphical.specs.views.Handling.{AreCallsOf, EachPrinted, Keeps, draws_plain, follows_of};
 ghost use Rattle.miette_tree.specs.views.Handler.{AppendsOne};
@@ -24,7 +26,7 @@ ghost use Rattle.miette_style.specs.rules.Themes.{Styles};
 ghost use Rattle.miette_text.specs.rules.ColouredTexts.{AppendsErasing};
 
 use crate::handler::GraphicalReportHandler;
-use crate::laws::{erasing_law, holding_law, snippets_law};
+use crate::laws::{erasing_law, fixes_law, holding_law, snippets_law};
 use crate::printing::append_printed;
 use crate::whole::report_output;
 use miette_highlight::highlight::Highlighter;
@@ -42,11 +44,11 @@ impl<H: Highlighter> GraphicalReportHandler<H> {
         out: &mut String,
     ) -> Result<(), RenderError>
         ensures keeps { Keeps H.is_blank self.old self.new }
-        ensures calls { OnOk result (AppendsOne (IsAskedText drawn_rows self.old.settings
+        ensures calls { OnOk result (AppendsOne (IsAskedText whole_drawing self.old.settings
             (draws_plain H.is_blank self.old) (AreCallsOf H.may_follow self.old self.new)
             (tree_of D.meaning S.source report.now)) (string_bytes out.old) (string_bytes out.new)) }
         ensures refused { (result ≡ Err RenderError.Refused) →
-            all_read (diagnostics_of self.old.settings (tree_of D.meaning S.source report.now)) ≡ false }
+            labels_read (diagnostics_of self.old.settings (tree_of D.meaning S.source report.now)) ≡ false }
         ensures err { OnErr result (string_bytes out.new ≡ string_bytes out.old) }
     {
         let alloc = *out.allocator();
@@ -61,7 +63,8 @@ impl<H: Highlighter> GraphicalReportHandler<H> {
     /// snippet's read, and is then given the text of each line in order. After an error `out` is as before: `Memory`
     /// where memory was refused, to the highlighter too; `Refused` where a printed diagnostic has labels over a
     /// source that doesn't always read, and that source refused the place of a snippet, or a group of labels of which
-    /// one has its own number of context lines, which is read again.
+    /// one has its own number of context lines, which is read again. A source that can't be read for fixes refuses
+    /// nothing: each of these says so.
     pub fn render_report<D: Diagnostic, S: SourceCode>(
         &mut self,
         report: &Report<D, S>,
@@ -70,52 +73,53 @@ impl<H: Highlighter> GraphicalReportHandler<H> {
         ensures settings { self.new.settings ≡ self.old.settings }
         // a blank highlighter stays blank, and one that isn't blank doesn't become so
         ensures blank { draws_plain H.is_blank self.new ≡ draws_plain H.is_blank self.old }
-        ensures ok { OnOk result (Appends drawn_rows self.old.settings (draws_plain H.is_blank self.old)
+        ensures ok { OnOk result (Appends whole_drawing self.old.settings (draws_plain H.is_blank self.old)
             (tree_of D.meaning S.source report.now) (string_bytes out.old) (string_bytes out.new)) }
         // The highlighter gave that text's answers by these calls: restarted once for each snippet with the contents of
         // its read, then asked once for each line of it, in order.
-        ensures calls { OnOk result (AppendsOne (IsAskedText drawn_rows self.old.settings
+        ensures calls { OnOk result (AppendsOne (IsAskedText whole_drawing self.old.settings
             (draws_plain H.is_blank self.old) (AreCallsOf H.may_follow self.old self.new)
             (tree_of D.meaning S.source report.now)) (string_bytes out.old) (string_bytes out.new)) }
-        // Where every source always reads, and a line's pieces are a function of its text, there is one such text.
+        // Where every source that is read always reads, and a line's pieces are a function of its text, there is one such
+        // text.
         ensures stateless { let tree = tree_of D.meaning S.source report.now in
             OnOk result ((answer : List ℕ → List Piece) →
             ((calls : List Call) → follows_of H.may_follow self.old calls → AnsweredBy answer calls) →
             follows_of H.may_follow self.new [] → all_read (diagnostics_of self.old.settings tree) ≡ true →
-            string_bytes out.new ≡ string_bytes out.old ++ encode_utf8_all (report_text drawn_rows self.old.settings
+            string_bytes out.new ≡ string_bytes out.old ++ encode_utf8_all (report_text whole_drawing self.old.settings
             tree (answers_by answer self.old.settings.layout.context_lines tree))) }
         // where every source always reads, and no highlighter or a blank one is set, there is one such text
         ensures only { let tree = tree_of D.meaning S.source report.now in
             OnOk result (draws_plain H.is_blank self.old ≡ true →
             all_read (diagnostics_of self.old.settings tree) ≡ true → string_bytes out.new ≡ string_bytes out.old
-            ++ encode_utf8_all (report_text drawn_rows self.old.settings tree unlisted)) }
+            ++ encode_utf8_all (report_text whole_drawing self.old.settings tree unlisted)) }
         // where the texts, the sources with their names, the settings and the theme's characters hold no escape:
         // without its colours, what was appended is the text in plain styles and without a highlighter under the same
         // reads,
         ensures colours { let tree = tree_of D.meaning S.source report.now in
             OnOk result (AreCleanSettings self.old.settings → IsCleanTree tree →
-            AppendsOne (IsColouredText drawn_rows self.old.settings (draws_plain H.is_blank self.old) tree)
+            AppendsOne (IsColouredText whole_drawing self.old.settings (draws_plain H.is_blank self.old) tree)
             (string_bytes out.old) (string_bytes out.new)) }
         // which is one text where every source always reads, whatever a highlighter says,
         ensures colourless { let tree = tree_of D.meaning S.source report.now in
             OnOk result (all_read (diagnostics_of self.old.settings tree) ≡ true → AreCleanSettings self.old.settings →
             IsCleanTree tree →
             AppendsErasing (string_bytes out.old) (string_bytes out.new)
-            (encode_utf8_all (report_text drawn_rows (colourless self.old.settings) tree unlisted))) }
+            (encode_utf8_all (report_text whole_drawing (colourless self.old.settings) tree unlisted))) }
         // that in the same characters and any plain styles,
         ensures plain { let tree = tree_of D.meaning S.source report.now in
             OnOk result (all_read (diagnostics_of self.old.settings tree) ≡ true → AreCleanSettings self.old.settings →
             IsCleanTree tree → (styles : Styles) → ArePlain styles →
             AppendsErasing (string_bytes out.old) (string_bytes out.new)
-            (encode_utf8_all (report_text drawn_rows (restyled self.old.settings styles) tree unlisted))) }
+            (encode_utf8_all (report_text whole_drawing (restyled self.old.settings styles) tree unlisted))) }
         // and the same for all themes with these characters
         ensures themes { let tree = tree_of D.meaning S.source report.now in
             OnOk result (all_read (diagnostics_of self.old.settings tree) ≡ true → AreCleanSettings self.old.settings →
-            IsCleanTree tree → (others : List ℕ) → IsRestyledText drawn_rows self.old.settings tree others →
+            IsCleanTree tree → (others : List ℕ) → IsRestyledText whole_drawing self.old.settings tree others →
             AppendsErasing (string_bytes out.old) (string_bytes out.new) (erase others)) }
-        // It holds the snippets of each printed diagnostic: their rows as they are, each on a line of its own, where no
-        // arrow leads there, and else in the text that is wrapped under each arrow.
-        ensures holds { OnOk result (AppendsOne (IsHoldingText drawn_rows self.old.settings
+        // It holds the snippets and the fixes of each printed diagnostic: their rows as they are, those of snippets
+        // each on a line of its own, where no arrow leads there, and else in the text that is wrapped under each arrow.
+        ensures holds { OnOk result (AppendsOne (IsHoldingText whole_drawing self.old.settings
             (draws_plain H.is_blank self.old) (tree_of D.meaning S.source report.now))
             (string_bytes out.old) (string_bytes out.new)) }
         // of each printed diagnostic: its snippets show the lines in the context of its labels, once and in order,
@@ -135,11 +139,17 @@ impl<H: Highlighter> GraphicalReportHandler<H> {
         // and where labels are folded, no label begins or ends on a line that is left out, the bars of a break are
         // those of the labels that run through it, and short labels change nothing
         ensures folds { OnOk result (EachPrinted LabelsAreFolded self.old (tree_of D.meaning S.source report.now)) }
+        // of each of its fixes that can be applied, over a source that always reads: its rows are the frames of what it
+        // changes, whose removed and unchanged lines are exactly the source's, and whose added and unchanged ones the
+        // applied text's
+        ensures fixes { OnOk result (AllByRecursion (FixesAreTold self.old.settings)
+            (diagnostics_of self.old.settings (tree_of D.meaning S.source report.now))) }
         ensures refused { (result ≡ Err RenderError.Refused) →
-            all_read (diagnostics_of self.old.settings (tree_of D.meaning S.source report.now)) ≡ false }
+            labels_read (diagnostics_of self.old.settings (tree_of D.meaning S.source report.now)) ≡ false }
         ensures err { OnErr result (string_bytes out.new ≡ string_bytes out.old) }
     {
         snippets_law();
+        fixes_law();
         erasing_law();
         holding_law();
         self.draw(report, out)
@@ -147,13 +157,13 @@ impl<H: Highlighter> GraphicalReportHandler<H> {
 }
 
 impl<H: Highlighter> ReportHandler for GraphicalReportHandler<H> {
-    ghost gives = { λ it t. IsTextOf drawn_rows it.settings (draws_plain H.is_blank it) t };
+    ghost gives = { λ it t. IsTextOf whole_drawing it.settings (draws_plain H.is_blank it) t };
 
-    ghost refuses = { λ it t. all_read (diagnostics_of it.settings t) ≡ false };
+    ghost refuses = { λ it t. labels_read (diagnostics_of it.settings t) ≡ false };
 
     ghost keeps = { λ old new. Keeps H.is_blank old new };
 
-    ghost asks = { λ old new t before after. AppendsOne (IsAskedText drawn_rows old.settings
+    ghost asks = { λ old new t before after. AppendsOne (IsAskedText whole_drawing old.settings
         (draws_plain H.is_blank old) (AreCallsOf H.may_follow old new) t) before after };
 
     fn debug<D: Diagnostic, S: SourceCode>(

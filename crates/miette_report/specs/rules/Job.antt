@@ -14,7 +14,7 @@ use Rattle.miette_graphical.specs.rules.Answers.{unlisted}
 use Rattle.miette_graphical.specs.views.Handling.{draws_plain}
 use Rattle.miette_json.specs.rules.Json.{json_text}
 use Rattle.miette_json.specs.rules.JsonReport.{value_of}
-use Rattle.miette_graphical.specs.rules.Snippets.{drawn_rows}
+use Rattle.miette_graphical.specs.rules.Snippets.{whole_drawing}
 use Rattle.miette_graphical.specs.rules.Text.{report_text}
 use Rattle.miette_debug.specs.rules.DebugText.{IsDebugText}
 use Rattle.miette_description.specs.rules.Description.{tree_for}
@@ -25,8 +25,8 @@ use Rattle.miette_report.specs.declared.option_words.Choice.TheVariants.{Build, 
 -- blank one is set; a narrated or brief text only where every label that is told is accepted.
 abbrev pub IsBuiltText : {H : Type 0} → (H → Bool) → MietteHandler H → Tree → List ℕ → Type 0
 IsBuiltText is_blank (Graphical it) t text =
-    IsTextOf drawn_rows it.settings (draws_plain is_blank it) t text
-    × (draws_plain is_blank it ≡ true → text ≡ encode_utf8_all (report_text drawn_rows it.settings t unlisted))
+    IsTextOf whole_drawing it.settings (draws_plain is_blank it) t text
+    × (draws_plain is_blank it ≡ true → text ≡ encode_utf8_all (report_text whole_drawing it.settings t unlisted))
 IsBuiltText is_blank (Narrated it) t text = (report_accepted t ≡ true)
     × (text ≡ narrated.narration it t narrated.unlisted)
 IsBuiltText is_blank (Brief it) t text = (report_accepted t ≡ true) × (text ≡ brief.brief it t brief.unlisted)

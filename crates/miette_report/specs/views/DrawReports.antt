@@ -8,7 +8,7 @@ use Rattle.miette_tree.specs.rules.Diagnosis.{plain_diagnosis}
 use Rattle.miette_style.specs.rules.Themes.{Theme, no_styles, unicode_characters}
 use Rattle.miette_graphical.specs.rules.Answers.{unlisted}
 use Rattle.miette_graphical.specs.rules.Settings.{Settings, default_settings}
-use Rattle.miette_graphical.specs.rules.Snippets.{drawn_rows}
+use Rattle.miette_graphical.specs.rules.Snippets.{whole_drawing}
 use Rattle.miette_graphical.specs.rules.Text.{report_text}
 use Rattle.miette_report.specs.rules.Words.{AreDrawWords, DrawRequest}
 use Rattle.miette_report.specs.declared.draw.DrawWords.{DrawWords}
@@ -61,7 +61,7 @@ draw_settings = settings_in (record { characters = unicode_characters; styles = 
 
 -- the text of a report that is read whole
 abbrev pub IsPicture : Option ℕ → Tree → List ℕ → Type 0
-IsPicture limit t text = text ≡ encode_utf8_all (report_text drawn_rows (draw_settings limit) t unlisted)
+IsPicture limit t text = text ≡ encode_utf8_all (report_text whole_drawing (draw_settings limit) t unlisted)
 
 -- A fact of the picture that is asked for on this input.
 abbrev pub Pictures : DrawRequest → List ℕ → (List ℕ → Type 0) → Type 0

@@ -2,7 +2,7 @@ use Rattle.callers.proofs.SumSteps.{cause_stands, cause_stays, end_stands, is_cu
 use Rattle.miette_graphical.specs.laws.Headline.{CutsAreExact, EndsAreDrawn, LabelsAreFolded, LinesThatFitStay}
 use Rattle.std.proofs.Common.{refl, inl, ◌∷◌, []}
 use Rattle.callers.specs.Sums.{cause_arrow, narrow, sum_tree}
-use Rattle.miette_graphical.specs.rules.Snippets.{drawn_rows}
+use Rattle.miette_graphical.specs.rules.Snippets.{whole_drawing}
 use Rattle.callers.proofs.pictures.draw_sum.Goals as goal
 
 pub returns-clause-rows : goal.returns-clause-rows
@@ -15,7 +15,7 @@ returns-clause-under g c =
     let bars = c.levels_law.ensures.shipped narrow (inl refl) in
     cause_stands _ _ _ _ _ c.in_ok-handler.ensures c.requires c.new-text.ensures.bytes
     c.in_ok-render_report.ensures.holds
-    (λ a text. c.levels_law.ensures.bytes drawn_rows narrow sum_tree a text refl)
+    (λ a text. c.levels_law.ensures.bytes whole_drawing narrow sum_tree a text refl)
     (λ rows. c.levels_law.ensures.room narrow (cause_arrow ∷ []) rows bars)
     (λ rows. c.levels_law.ensures.bars narrow [] rows bars)
 

@@ -21,11 +21,11 @@ returns c =
       print-erase = c.printing_law.ensures.erase;
       erase-columns = c.columns_law.ensures;
     } in record {
-      erase = λ rows s t a law h k. (fades-plain laws rows law s no_styles t a h k none_are_plain).same;
-      tame = λ rows s t a law h k. (fades-plain laws rows law s no_styles t a h k none_are_plain).tame;
-      alike = λ rows s u t a b law h j k e d.
-          (fades-plain laws rows law s no_styles t a h k none_are_plain).same
-          ∙ ap₂ (λ v o. report_text rows v t o) e d
-          ∙ sym (fades-plain laws rows law u no_styles t b j k none_are_plain).same;
-      plain = λ rows s styles t a law h k bare. (fades-plain laws rows law s styles t a h k bare).same;
+      erase = λ drawing s t a law h k. (fades-plain laws drawing law s no_styles t a h k none_are_plain).same;
+      tame = λ drawing s t a law h k. (fades-plain laws drawing law s no_styles t a h k none_are_plain).tame;
+      alike = λ drawing s u t a b law h j k e d.
+          (fades-plain laws drawing law s no_styles t a h k none_are_plain).same
+          ∙ ap₂ (λ v o. report_text drawing v t o) e d
+          ∙ sym (fades-plain laws drawing law u no_styles t b j k none_are_plain).same;
+      plain = λ drawing s styles t a law h k bare. (fades-plain laws drawing law s styles t a h k bare).same;
     }

@@ -2,7 +2,7 @@ use Rattle.std.proofs.Common.{refl, ap, ◌∙◌, encode_utf8_all, sym}
 use Rattle.miette_runs.specs.rules.Sequences.{erase}
 use Rattle.miette_graphical.specs.laws.Colourless.{colourless, restyled, unhighlighted_answers}
 use Rattle.miette_graphical.specs.rules.PrintedDiagnostics.{all_read}
-use Rattle.miette_graphical.specs.rules.Snippets.{drawn_rows}
+use Rattle.miette_graphical.specs.rules.Snippets.{whole_drawing}
 use Rattle.miette_graphical.specs.rules.Text.{report_text}
 use Rattle.miette_graphical.proofs.Bare.{bare-report, restyled-printed}
 use Rattle.miette_row_laws.proofs.PlainStyles.{none_are_plain}
@@ -19,13 +19,13 @@ returns-clause-text c = λ s blank t bytes settings tree printed. record {
   erased =
       ap erase printed.2 ∙ c.encoding_law.ensures printed.0
       ∙ ap (λ text. encode_utf8_all (erase text)) printed.1.2
-      ∙ ap encode_utf8_all (c.colours_law.ensures.erase drawn_rows s t printed.1.0 c.drawn_rows_law.ensures settings
+      ∙ ap encode_utf8_all (c.colours_law.ensures.erase whole_drawing s t printed.1.0 c.drawn_rows_law.ensures settings
       tree);
 }
 
 pub returns-clause-possible : goal.returns-clause-possible
 returns-clause-possible c = λ s blank t bytes settings tree printed. (
-  report_text drawn_rows (colourless s) t (unhighlighted_answers printed.1.0),
+  report_text whole_drawing (colourless s) t (unhighlighted_answers printed.1.0),
   (
     unhighlighted_answers printed.1.0,
     answers_possible c.rows_fade.ensures.same s blank t printed.1.0 printed.1.1,
@@ -33,7 +33,7 @@ returns-clause-possible c = λ s blank t bytes settings tree printed. (
   ),
   ap erase printed.2 ∙ c.encoding_law.ensures printed.0
       ∙ ap (λ text. encode_utf8_all (erase text)) printed.1.2
-      ∙ ap encode_utf8_all (c.colours_law.ensures.erase drawn_rows s t printed.1.0 c.drawn_rows_law.ensures settings
+      ∙ ap encode_utf8_all (c.colours_law.ensures.erase whole_drawing s t printed.1.0 c.drawn_rows_law.ensures settings
       tree),
 )
 
@@ -41,7 +41,7 @@ pub returns-clause-plain : goal.returns-clause-plain
 returns-clause-plain c = λ s styles blank t bytes settings tree bare printed reads.
     ap erase printed.2 ∙ c.encoding_law.ensures printed.0
     ∙ ap (λ text. encode_utf8_all (erase text)) printed.1.2
-    ∙ ap encode_utf8_all (c.colours_law.ensures.plain drawn_rows s styles t printed.1.0 c.drawn_rows_law.ensures
+    ∙ ap encode_utf8_all (c.colours_law.ensures.plain whole_drawing s styles t printed.1.0 c.drawn_rows_law.ensures
     settings tree bare)
     ∙ ap encode_utf8_all (bare-report s styles blank t printed.1.0 printed.1.1 reads)
 

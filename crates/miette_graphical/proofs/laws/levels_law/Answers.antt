@@ -6,7 +6,7 @@ pub returns-clause-drawn : goal.returns-clause-drawn
 returns-clause-drawn c = λ s arrows drawn text wraps held. levels-stand arrows s drawn text wraps held
 
 pub returns-clause-bytes : goal.returns-clause-bytes
-returns-clause-bytes c = λ rows s t a text wraps held. levels-hold rows s t a text wraps held
+returns-clause-bytes c = λ drawing s t a text wraps held. levels-hold drawing s t a text wraps held
 
 pub returns-clause-room : goal.returns-clause-room
 returns-clause-room c = λ s arrows rows bars. have-room s arrows rows bars

@@ -12,9 +12,9 @@ use Rattle.miette_graphical.specs.steps.PartTexts.{IsBelow, AreCauses, AreRelate
 use Rattle.miette_graphical.specs.steps.PartTexts.{IsNested, narrowed}
 use Rattle.miette_tree.specs.views.Handler.{AppendsOne}
 use Rattle.miette_tree.proofs.Nesting.{texts_shown}
-use Rattle.miette_graphical.specs.rules.PrintedDiagnostics.{all_read, printed_causes, printed_related}
+use Rattle.miette_graphical.specs.rules.PrintedDiagnostics.{labels_read, printed_causes, printed_related}
 use Rattle.miette_graphical.specs.rules.Indents.{narrow_settings}
-use Rattle.miette_graphical.specs.rules.DiagnosticText.{header, help_text, under_arrow}
+use Rattle.miette_graphical.specs.rules.DiagnosticText.{header, under_arrow}
 use Rattle.miette_graphical.specs.rules.Text.{are_last, cause_texts, ends_there}
 use Rattle.miette_graphical.specs.views.Painting.{Paints, printing, printing_of, settings_of, source_shown}
 use Rattle.miette_graphical.proofs.Remaining.{all_printed, all_remain, cause_printed, causes_under, first_falls}
@@ -58,10 +58,10 @@ push_causes-returns-in_err-push_one_cause-clause-refused g t c = λ h.
     let inherited = source_shown g.S.SourceCode.source c.args.inherited in
     let cause = tree_of g.D.Diagnostic.meaning g.S.SourceCode.source c.in-Diagnostic.next.now in
     let nested = (settings_of c.args.painter.now).related_as_nested in
-    let one : all_read (printed_inner nested (effective (source_of cause) inherited) cause) ≡ false =
-    subst (λ s. all_read (printed_inner s.related_as_nested (effective (source_of cause) inherited) cause) ≡ false)
+    let one : labels_read (printed_inner nested (effective (source_of cause) inherited) cause) ≡ false =
+    subst (λ s. labels_read (printed_inner s.related_as_nested (effective (source_of cause) inherited) cause) ≡ false)
     c.loop-next.invariant.1.0 (c.in_err-push_one_cause.ensures.refused (search rules)) in
-    c.loop-next.invariant.0.fails (subst (λ x. all_read (printed_causes nested inherited x) ≡ false)
+    c.loop-next.invariant.0.fails (subst (λ x. labels_read (printed_causes nested inherited x) ≡ false)
     c.in-Diagnostic.ensures.value (one_cause_fails nested inherited cause one))
 
 pub push_causes-returns-clause-ok : goal.push_causes-returns-clause-ok
@@ -153,12 +153,12 @@ inner_runs-returns-clause-ok g t c = λ n.
     c.in_ok-push_below.ensures.ok) (c.in_ok-runs_without_leading.ensures
     ∙ ap without_leading c.replace-text.ensures.value)
 
-pub push_below-returns-in_err-push_rows-clause-refused : goal.push_below-returns-in_err-push_rows-clause-refused
-push_below-returns-in_err-push_rows-clause-refused g t c = λ h.
+pub push_below-returns-in_err-push_own-clause-refused : goal.push_below-returns-in_err-push_own-clause-refused
+push_below-returns-in_err-push_own-clause-refused g t c = λ h.
     inner_rows_fail (settings_of c.args.painter.now).related_as_nested
     (source_shown g.S.SourceCode.source c.args.source)
     (tree_of g.D.Diagnostic.meaning g.S.SourceCode.source c.args.report.now)
-    (c.in_err-push_rows.ensures.refused (search rules))
+    (c.in_err-push_own.ensures.refused (search rules))
 
 pub push_below-returns-clause-refused : goal.push_below-returns-clause-refused
 push_below-returns-clause-refused g t c = λ h.
@@ -166,26 +166,24 @@ push_below-returns-clause-refused g t c = λ h.
     let value = tree_of g.D.Diagnostic.meaning g.S.SourceCode.source c.args.report.now in
     let nested = (settings_of c.args.painter.now).related_as_nested in
     inner_related_fail nested source value
-    (subst (λ r. all_read (printed_related nested source r) ≡ false) c.related.ensures.value
-    (subst (λ s. all_read (printed_related s.related_as_nested source
+    (subst (λ r. labels_read (printed_related nested source r) ≡ false) c.related.ensures.value
+    (subst (λ s. labels_read (printed_related s.related_as_nested source
     (trees (map (tree_of g.D.Diagnostic.meaning g.S.SourceCode.source) c.related.result.now))) ≡ false)
-    (c.push_help.ensures.stays.0 ∙ c.push_rows.ensures.keeps.0) (c.push_related.ensures.refused h)))
+    c.push_own.ensures.keeps.0 (c.push_related.ensures.refused h)))
 
 pub push_below-returns-clause-ok : goal.push_below-returns-clause-ok
 push_below-returns-clause-ok g t c =
     let is_blank = g.H.Highlighter.is_blank in
     let may = g.H.Highlighter.may_follow in
-    let drawn = c.push_rows.new.painter in
-    let helped = c.push_help.new.painter in
+    let drawn = c.push_own.new.painter in
     let new = c.push_related.new.painter in
     let source = source_shown g.S.SourceCode.source c.args.source in
     let value = tree_of g.D.Diagnostic.meaning g.S.SourceCode.source c.args.report.now in
     on_ok_weaker c.push_related.result (λ h.
-    below_behind is_blank may source value c.args.painter.now drawn helped new c.in_ok-push_rows.ensures.ok
-    c.push_rows.ensures.keeps (subst (λ o. helped.out ≡ drawn.out ++ help_text (settings_of drawn) o) c.help.ensures
-    c.in_ok-push_help.ensures.text) c.push_help.ensures.stays
-    (subst (λ v. Paints is_blank may (AreRelated v source (related_of value)) helped new) c.severity.ensures
-    (subst (λ r. Paints is_blank may (AreRelated c.severity.result source r) helped new) c.related.ensures.value h)))
+    below_behind is_blank may source value c.args.painter.now drawn new c.in_ok-push_own.ensures.ok
+    c.push_own.ensures.keeps
+    (subst (λ v. Paints is_blank may (AreRelated v source (related_of value)) drawn new) c.severity.ensures
+    (subst (λ r. Paints is_blank may (AreRelated c.severity.result source r) drawn new) c.related.ensures.value h)))
     c.push_related.ensures.ok
 
 pub push_sibling-returns-in_err-push_causes-clause-refused : goal.push_sibling-returns-in_err-push_causes-clause-refused
@@ -193,7 +191,7 @@ push_sibling-returns-in_err-push_causes-clause-refused g t c = λ h.
     let source = source_shown g.S.SourceCode.source c.args.source in
     let value = tree_of g.D.Diagnostic.meaning g.S.SourceCode.source c.args.report.now in
     sibling_causes_fail (settings_of c.args.painter.now).related_as_nested source value
-    (subst (λ s. all_read (printed_causes s.related_as_nested source (cause_of value)) ≡ false)
+    (subst (λ s. labels_read (printed_causes s.related_as_nested source (cause_of value)) ≡ false)
     c.push_sibling_start.ensures.stays.0 (c.in_err-push_causes.ensures.refused (search rules)))
 
 pub push_sibling-returns-clause-refused : goal.push_sibling-returns-clause-refused
@@ -201,7 +199,7 @@ push_sibling-returns-clause-refused g t c = λ h.
     let source = source_shown g.S.SourceCode.source c.args.source in
     let value = tree_of g.D.Diagnostic.meaning g.S.SourceCode.source c.args.report.now in
     sibling_below_fails (settings_of c.args.painter.now).related_as_nested source value
-    (subst (λ s. all_read (printed_inner s.related_as_nested source value) ≡ false)
+    (subst (λ s. labels_read (printed_inner s.related_as_nested source value) ≡ false)
     (c.push_causes.ensures.keeps.0 ∙ c.push_sibling_start.ensures.stays.0) (c.push_below.ensures.refused h))
 
 pub push_sibling-returns-clause-ok : goal.push_sibling-returns-clause-ok
@@ -285,17 +283,17 @@ push_related-returns-in_err-push_one_related-clause-refused g t c = λ h.
     let rs = c.loop-rest.rest.now in
     let more = take (length rs - 1) (drop 1 rs) in
     let item = c.report-item.result in
-    let one : all_read (printed_one nested (source_shown g.S.SourceCode.source c.own_or-source.result) (value item))
+    let one : labels_read (printed_one nested (source_shown g.S.SourceCode.source c.own_or-source.result) (value item))
     ≡ false =
-    subst (λ s. all_read (printed_one s.related_as_nested
+    subst (λ s. labels_read (printed_one s.related_as_nested
     (source_shown g.S.SourceCode.source c.own_or-source.result) (value item)) ≡ false) c.loop-rest.invariant.1.0
     (c.in_err-push_one_related.ensures.refused (search rules)) in
-    c.loop-rest.invariant.0.fails (subst (λ ts. all_read (printed_related nested inherited ts) ≡ false)
+    c.loop-rest.invariant.0.fails (subst (λ ts. labels_read (printed_related nested inherited ts) ≡ false)
     (first_and_more value rs item c.in-len1-up.len_at_least)
     (one_related_fails nested inherited (value (get_or rs 0 item)) (trees (map value more))
-    (subst (λ r. all_read (printed_one nested (effective (source_of (value r)) inherited) (value r)) ≡ false)
+    (subst (λ r. labels_read (printed_one nested (effective (source_of (value r)) inherited) (value r)) ≡ false)
     c.report-item.is
-    (subst (λ o. all_read (printed_one nested o (value item)) ≡ false) c.own_or-source.ensures one))))
+    (subst (λ o. labels_read (printed_one nested o (value item)) ≡ false) c.own_or-source.ensures one))))
 
 pub push_related-returns-clause-ok : goal.push_related-returns-clause-ok
 push_related-returns-clause-ok g t c =

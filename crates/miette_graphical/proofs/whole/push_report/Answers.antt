@@ -3,7 +3,7 @@ use Rattle.miette_tree.specs.views.Report.{tree_of}
 use Rattle.miette_graphical.specs.steps.PartTexts.{IsBelow, IsOutermost}
 use Rattle.miette_graphical.specs.steps.PrintedParts.{printed_inner, printed_root_causes}
 use Rattle.miette_tree.specs.views.Handler.{AppendsOne}
-use Rattle.miette_graphical.specs.rules.PrintedDiagnostics.{all_read}
+use Rattle.miette_graphical.specs.rules.PrintedDiagnostics.{labels_read}
 use Rattle.miette_graphical.specs.views.Painting.{Paints, printing_of, settings_of, source_shown}
 use Rattle.miette_graphical.proofs.Steps.{report_whole, root_causes_fail, root_below_fails}
 use Rattle.miette_graphical.proofs.whole.push_report.Goals as goal
@@ -12,7 +12,7 @@ pub returns-in_err-push_root_causes-clause-refused : goal.returns-in_err-push_ro
 returns-in_err-push_root_causes-clause-refused g c = λ h.
     let value = tree_of g.D.Diagnostic.meaning g.S.SourceCode.source c.args.report.now in
     root_causes_fail (settings_of c.args.painter.now) value
-    (subst (λ s. all_read (printed_root_causes s.cause_chain s.related_as_nested value) ≡ false)
+    (subst (λ s. labels_read (printed_root_causes s.cause_chain s.related_as_nested value) ≡ false)
     c.push_start.ensures.stays.0 (c.in_err-push_root_causes.ensures.refused (search rules)))
 
 pub returns-in_err-push_below-clause-refused : goal.returns-in_err-push_below-clause-refused
@@ -20,11 +20,11 @@ returns-in_err-push_below-clause-refused g c = λ h.
     let value = tree_of g.D.Diagnostic.meaning g.S.SourceCode.source c.args.report.now in
     let source = source_shown g.S.SourceCode.source c.source_code.result in
     let s = settings_of c.args.painter.now in
-    let below : all_read (printed_inner s.related_as_nested source value) ≡ false =
-    subst (λ s. all_read (printed_inner s.related_as_nested source value) ≡ false)
+    let below : labels_read (printed_inner s.related_as_nested source value) ≡ false =
+    subst (λ s. labels_read (printed_inner s.related_as_nested source value) ≡ false)
     (c.push_root_causes.ensures.keeps.0 ∙ c.push_start.ensures.stays.0)
     (c.in_err-push_below.ensures.refused (search rules)) in
-    root_below_fails s value (subst (λ o. all_read (printed_inner s.related_as_nested o value) ≡ false)
+    root_below_fails s value (subst (λ o. labels_read (printed_inner s.related_as_nested o value) ≡ false)
     c.source_code.ensures below)
 
 pub returns-clause-ok : goal.returns-clause-ok

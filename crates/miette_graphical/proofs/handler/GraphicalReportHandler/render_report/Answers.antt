@@ -1,4 +1,4 @@
-use Rattle.miette_graphical.specs.rules.Snippets.{drawn_rows}
+use Rattle.miette_graphical.specs.rules.Snippets.{whole_drawing}
 use Rattle.miette_graphical.specs.views.Handling.{AreCallsOf, follows_of}
 use Rattle.miette_graphical.proofs.RenderedBytes.{rendered-ok, rendered-only, rendered-colours, rendered-colourless}
 use Rattle.miette_graphical.proofs.RenderedBytes.{rendered-holds, rendered-plain, rendered-themes}
@@ -31,4 +31,4 @@ returns-clause-themes g c = rendered-themes _ _ _ _ _ _ c.erasing_law.ensures.th
 
 pub returns-clause-holds : goal.returns-clause-holds
 returns-clause-holds g c =
-    rendered-holds _ _ _ _ _ _ (c.holding_law.ensures.text drawn_rows) (returns-clause-ok g c)
+    rendered-holds _ _ _ _ _ _ (c.holding_law.ensures.text whole_drawing) (returns-clause-ok g c)

@@ -1,0 +1,10 @@
+use Rattle.miette_graphical.specs.rules.PrintedDiagnostics.{diagnostics_of}
+use Rattle.miette_graphical.proofs.FixPictures.{fixes_told}
+use Rattle.miette_graphical.proofs.laws.fixes_law.Goals as goal
+
+pub returns : goal.returns
+returns c = λ s t. fixes_told (record {
+  source = c.a_diff_has_the_source.ensures.source;
+  applied_text = c.a_diff_has_the_applied_text.ensures.applied;
+  trimmed = c.changes_are_trimmed.ensures.trimmed;
+}) s (diagnostics_of s t)

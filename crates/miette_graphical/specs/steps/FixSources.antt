@@ -1,0 +1,12 @@
+-- What fixes are drawn over, as a program has it: which source that is, and whether the read of it for fixes failed.
+use Rattle.std.specs.Prelude.{◌≡◌, Bool, true, false, Option, Some, None}
+use Rattle.std.specs.Option.{option_copied}
+use Rattle.miette_protocol.specs.rules.Reading.{Source}
+use Rattle.miette_graphical.specs.declared.fixes.FixSource.{FixSource}
+use Rattle.miette_graphical.specs.declared.fixes.FixSource.TheVariants as given
+
+abbrev pub IsGivenOver : FixSource → Option Source → Bool → Type 0
+IsGivenOver given.Nowhere source fails = source ≡ None
+IsGivenOver given.Unread source fails = (whole : Source) × (source ≡ Some whole) × (fails ≡ true)
+IsGivenOver (given.Whole it) source fails = (whole : Source) × (source ≡ Some whole) × (fails ≡ false)
+    × (whole.bytes ≡ it.bytes.now) × (whole.name ≡ option_copied it.name)
