@@ -1,5 +1,5 @@
 -- What is told of an error with a message in front.
-use Rattle.std.proofs.Common.{◌≡◌, Option, Some, None, Result, Ok, Err, IfErr, refl, subst}
+use Rattle.std.proofs.Common.{◌≡◌, Option, Some, Result, Ok, Err, IfErr, refl, subst}
 use Rattle.std.specs.Option.{IsNone}
 use Rattle.std.specs.Result.{IsErrAnd, result_ok}
 

@@ -6,7 +6,6 @@ use Rattle.miette_runs.specs.rules.Cutting.{without_trailing}
 use Rattle.miette_tree.specs.rules.Diagnosis.{Diagnosis}
 use Rattle.miette_protocol.specs.rules.Reading.{Source}
 use Rattle.miette_protocol.specs.declared.protocol.Severity.{Severity}
-use Rattle.miette_tree.specs.rules.DiagnosticParts.{given_labels}
 use Rattle.miette_tree.specs.rules.Tree.{effective, Tree, tree, Cause, diagnostic, texts, Trees, no_trees, more_trees}
 use Rattle.miette_graphical.specs.rules.Answers.{Answer, Answers, RelatedAnswers, own_answer, cause_answers}
 use Rattle.miette_graphical.specs.rules.Answers.{related_answers, first_answers, later_answers}

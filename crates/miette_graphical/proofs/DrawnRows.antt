@@ -6,7 +6,7 @@ use Rattle.std.proofs.lemmas.Bool.{cases_Bool}
 use Rattle.miette_protocol.specs.views.Meaning.{Label}
 use Rattle.miette_protocol.specs.rules.Reading.{Source, is_accepted}
 use Rattle.miette_labels.specs.rules.Answers.{Highlight, NoneFails, AlwaysReads}
-use Rattle.miette_highlight.specs.rules.HighlighterCalls.{Call, Leads}
+use Rattle.miette_highlight.specs.rules.HighlighterCalls.{Call}
 use Rattle.miette_layout.specs.views.Outcomes.{MayGive}
 use Rattle.miette_snippet_rules.specs.rules.Folds.{spreads_of}
 use Rattle.miette_snippet_rules.specs.rules.Settings as snippets

@@ -4,7 +4,6 @@ use Rattle.std.proofs.Common.{Option, Some, None, IfSome}
 use Rattle.miette_basics.specs.rules.Lists.{is_nil}
 use Rattle.miette_runs.specs.rules.Runs.{Fragment, Styled, print}
 use Rattle.miette_style.specs.rules.Styles.{plain}
-use Rattle.std.proofs.Common.{map}
 use Rattle.miette_tree.specs.rules.Diagnosis.{Diagnosis}
 use Rattle.miette_protocol.specs.rules.Reading.{Source}
 use Rattle.miette_protocol.specs.declared.protocol.Severity.{Severity}
@@ -23,15 +22,15 @@ use Rattle.miette_graphical.specs.rules.Indents.{fix_indent, footer_indent, furt
 use Rattle.miette_graphical.specs.rules.DiagnosticText.{footer_of, line_feed, header, header_by, message_text}
 use Rattle.miette_graphical.specs.rules.DiagnosticText.{help_text, footer_text, under_arrow, header_or_end, title_text}
 use Rattle.miette_graphical.specs.rules.DiagnosticText.{Drawing, ShownFix, fix_text, fixes_text, rows_text}
-use Rattle.miette_tree.specs.rules.DiagnosticParts.{given_labels, severity_title}
+use Rattle.miette_tree.specs.rules.DiagnosticParts.{severity_title}
 use Rattle.miette_graphical.specs.rules.Text.{cause_texts, inner_text, body_over, drawn_text}
 use Rattle.miette_tree.specs.rules.Tree.{effective}
 use Rattle.std.specs.List.{AllByRecursion}
-use Rattle.miette_row_laws.specs.laws.Clean.{IsClean, IsCleanText, IsCleanLabel, IsCleanSource}
+use Rattle.miette_row_laws.specs.laws.Clean.{IsClean, IsCleanText, IsCleanSource}
 use Rattle.miette_row_laws.specs.laws.Fading.{AreAllPlain}
 use Rattle.miette_row_laws.proofs.PlainStyles.{faded_are_plain, faded_styles}
 use Rattle.miette_row_laws.proofs.CleanTexts.{clean_cons, clean_append}
-use Rattle.miette_graphical.specs.laws.Clean.{AreCleanCharacters, AreCleanSettings, AreCleanLabels, IsCleanMeaning}
+use Rattle.miette_graphical.specs.laws.Clean.{AreCleanCharacters, AreCleanSettings, IsCleanMeaning}
 use Rattle.miette_graphical.specs.laws.Colourless.{AreDrawings, AreFaded, IsCleanShown, IsFaded, restyled}
 use Rattle.miette_graphical.specs.laws.Colourless.{unhighlighted}
 use Rattle.miette_graphical.proofs.Fading.{Fades, Pales, fades-to, fades-append, fades-clean, fades-print}

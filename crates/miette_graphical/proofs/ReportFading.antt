@@ -1,5 +1,5 @@
 -- A whole report without its colours, by induction over the tree.
-use Rattle.std.proofs.Common.{◌≡◌, ℕ, Bool, List, [], ◌++◌, map, refl, sym, ap, ap₂, ◌∙◌, subst, Option, IfSome}
+use Rattle.std.proofs.Common.{◌≡◌, ℕ, Bool, List, [], ◌++◌, refl, sym, ap, ap₂, ◌∙◌, subst, Option, IfSome}
 use Rattle.std.proofs.Common.{if◌then◌else◌}
 use Rattle.miette_runs.specs.rules.Runs.{print}
 use Rattle.miette_runs.specs.rules.Cutting.{without_trailing}

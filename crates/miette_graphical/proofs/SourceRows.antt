@@ -1,5 +1,5 @@
 -- Printing the snippets over several sources, one after the other.
-use Rattle.std.proofs.Common.{◌≡◌, ◌≤◌, ℕ, Bool, false, ◌&&◌, List, [], ◌∷◌, ◌++◌, drop, length, refl, sym, ap, ap₂, ◌∙◌}
+use Rattle.std.proofs.Common.{◌≡◌, ◌≤◌, Bool, false, ◌&&◌, List, [], ◌∷◌, ◌++◌, drop, length, refl, sym, ap, ap₂, ◌∙◌}
 use Rattle.std.proofs.Common.{◌-◌, ◌<◌, ◌||◌, Some, arith, get_or, map, take}
 use Rattle.std.specs.List.{list_any}
 use Rattle.std.proofs.lemmas.List.{take_rest}
@@ -8,7 +8,6 @@ use Rattle.std.proofs.Math.Bool.{and-false}
 use Rattle.miette_highlight.specs.rules.HighlighterCalls.{Call}
 use Rattle.miette_snippet_rules.specs.rules.Highlighting.{follows, leaves_plain}
 use Rattle.miette_tree.specs.rules.Reads.{always_reads}
-use Rattle.miette_tree.specs.views.Handler.{AppendsOne}
 use Rattle.miette_graphical.specs.declared.painter.Painter.{Painter}
 use Rattle.miette_graphical.specs.rules.Answers.{SourceAnswers}
 use Rattle.miette_graphical.specs.rules.Calls.{calls_over, source_calls}
@@ -19,7 +18,7 @@ use Rattle.miette_graphical.specs.rules.Snippets.{rows_over, snippet_settings, s
 use Rattle.miette_graphical.specs.rules.Sources.{LabelledSource, after_labels, further_sources, is_labelled}
 use Rattle.miette_graphical.specs.rules.Sources.{labelled, some_further, sources_read}
 use Rattle.miette_graphical.specs.steps.PartTexts.{AreSourcesDrawn, IsSourceDrawn}
-use Rattle.miette_graphical.specs.views.Painting.{Keeps, Paints, printing, settings_of}
+use Rattle.miette_graphical.specs.views.Painting.{Keeps, Paints, settings_of}
 use Rattle.miette_graphical.proofs.Painted.{paints_after}
 use Rattle.miette_graphical.proofs.Remaining.{Chain, Left, all_printed, one_printed}
 use Rattle.miette_graphical.proofs.SnippetsFading.{rows-appended}

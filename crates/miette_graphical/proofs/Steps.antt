@@ -14,16 +14,16 @@ use Rattle.miette_graphical.specs.rules.Settings.{Settings}
 use Rattle.miette_graphical.specs.rules.Answers.{Answers, unlisted, listed, no_more, and_more, own_answer}
 use Rattle.miette_graphical.specs.rules.Answers.{cause_answers, related_answers}
 use Rattle.miette_graphical.specs.rules.Indents.{narrow_settings}
-use Rattle.miette_graphical.specs.rules.DiagnosticText.{fixes_text, rows_text, under_arrow, header, message_text}
+use Rattle.miette_graphical.specs.rules.DiagnosticText.{fixes_text, under_arrow, header, message_text}
 use Rattle.miette_graphical.specs.rules.DiagnosticText.{help_text, footer_text, title_text}
-use Rattle.miette_graphical.specs.rules.Sources.{drawn_with, sources_of, sources_read}
+use Rattle.miette_graphical.specs.rules.Sources.{sources_of, sources_read}
 use Rattle.miette_graphical.specs.rules.Text.{cause_texts, ends_there, are_last, body_over, inner_over, drawn_text}
 use Rattle.miette_graphical.specs.rules.Text.{inner_text, causes_text, related_text, only_if}
 use Rattle.miette_tree.specs.rules.Tree.{effective}
 use Rattle.miette_snippet_rules.specs.rules.Settings as snippets
 use Rattle.miette_graphical.specs.rules.PrintedDiagnostics.{labels_read, over, diagnostics_of, printed_causes}
 use Rattle.miette_graphical.specs.rules.PrintedDiagnostics.{printed_related}
-use Rattle.miette_graphical.specs.rules.Snippets.{drawn_fix, rows_over, snippet_settings, whole_drawing}
+use Rattle.miette_graphical.specs.rules.Snippets.{drawn_fix, snippet_settings, whole_drawing}
 use Rattle.miette_graphical.proofs.DrawnRows.{nothing_is}
 use Rattle.miette_graphical.proofs.Lists.{first_fails, later_fails}
 use Rattle.miette_graphical.proofs.Outermost.{report_over}

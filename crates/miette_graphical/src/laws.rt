@@ -174,9 +174,9 @@ pub fn snippets_law()
     short_labels_stay();
 }
 
-/// Of each printed fix that can be applied, over a source that always reads: its rows are the frames of what it changes.
-/// The removed and the unchanged lines of that are exactly the source's lines, the added and the unchanged ones the
-/// applied text's; no change has lines in common at its ends.
+/// Of each printed fix that can be applied, over a source that always reads: its rows are the frames of what it
+/// changes. The removed and the unchanged lines of that are exactly the source's lines, the added and the unchanged
+/// ones the applied text's; no change has lines in common at its ends.
 pub fn fixes_law()
     ensures { (s : Settings) (t : Tree) → AllByRecursion (FixesAreTold s) (diagnostics_of s t) }
 {
@@ -196,10 +196,10 @@ pub fn paths_law()
 
 /// Of no diagnostic but the printed ones does a report's text hold a snippet or a fix: drawings that are the same for
 /// each of them give the same text, whatever they are for other sources and diagnostics (`rows`), and so do answers
-/// that are the same at each path at which a diagnostic is printed (`answers`). Where none of them has labels over a further
-/// source, the text is that of their own labels (`without_snippets`), and where none has a fix, that without fixes
-/// (`without_fixes`). The rows of some labels over one source are those of a
-/// diagnostic with these labels alone (`sources`).
+/// that are the same at each path at which a diagnostic is printed (`answers`). Where none of them has labels over a
+/// further source, the text is that of their own labels (`without_snippets`), and where none has a fix, that without
+/// fixes (`without_fixes`). The rows of some labels over one source are those of a diagnostic with these labels alone
+/// (`sources`).
 pub fn printed_law()
     ensures rows { (drawing other : Drawing) (s : Settings) (t : Tree) (a : Answers) →
         AllByRecursion (AreDrawnAlike drawing other) (diagnostics_of s t) →
@@ -218,8 +218,8 @@ pub fn printed_law()
 {}
 
 /// Of each printed diagnostic a report's text holds the snippets and the fixes: at each path, under the arrows that are
-/// on it, as they are where there is none (`holds`, `fixes`). There each row of the snippets stands in the bytes, with the line feed
-/// behind it, at the beginning of a line (`rows`). So it is of each text that may be printed (`text`).
+/// on it, as they are where there is none (`holds`, `fixes`). There each row of the snippets stands in the bytes, with
+/// the line feed behind it, at the beginning of a line (`rows`). So it is of each text that may be printed (`text`).
 pub fn holding_law()
     ensures holds { (drawing : Drawing) (s : Settings) (t : Tree) (a : Answers) →
         HoldsSnippets drawing s t a (report_text drawing s t a) }

@@ -1,5 +1,5 @@
--- Where a report's text holds the snippets and the fixes of a printed diagnostic: as they are, or in the text of an inner report,
--- which is wrapped under an arrow, level by level.
+-- Where a report's text holds the snippets and the fixes of a printed diagnostic: as they are, or in the text of an
+-- inner report, which is wrapped under an arrow, level by level.
 use Rattle.std.specs.Prelude.{◌≡◌, ◌⊎◌, ℕ, zero, suc, Bool, if◌then◌else◌, List, [], ◌∷◌, ◌++◌, Option, Some}
 use Rattle.std.specs.Prelude.{encode_utf8_all, true, false}
 use Rattle.std.specs.List.{Contains}

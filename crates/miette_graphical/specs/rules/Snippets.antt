@@ -1,5 +1,6 @@
 -- The rows of a diagnostic's snippets and of its fixes, as runs.
-use Rattle.std.specs.Prelude.{ℕ, Bool, List, [], ◌∷◌, ◌++◌, drop, length, map, chars, encode_utf8_all, Option, Some, None, unwrap_or}
+use Rattle.std.specs.Prelude.{ℕ, Bool, List, [], ◌∷◌, ◌++◌, drop, length, map, chars}
+use Rattle.std.specs.Prelude.{encode_utf8_all, Option, Some, None, unwrap_or}
 use Rattle.miette_runs.specs.rules.Runs.{Fragment, Styled}
 use Rattle.miette_page.specs.rules.Rows.{Row, Run}
 use Rattle.miette_snippet_rules.specs.rules.Settings as snippets

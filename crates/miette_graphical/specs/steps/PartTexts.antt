@@ -17,8 +17,8 @@ use Rattle.miette_snippet_rules.specs.rules.Highlighting.{snippet_calls}
 use Rattle.miette_graphical.specs.rules.Snippets.{drawn_fix, rows_over, snippet_settings, source_rows, whole_drawing}
 use Rattle.miette_graphical.specs.rules.Calls.{own_calls, calls_over, source_calls, cause_calls, related_calls}
 use Rattle.miette_graphical.specs.rules.Text.{ends_there, inner_text, causes_text, related_text, body_over, drawn_text}
-use Rattle.miette_graphical.specs.rules.PossibleAnswers.{IsAnswerOf, IsAnswer, AreAnswersOver, AreCauseAnswers, AreRelatedAnswers}
-use Rattle.miette_graphical.specs.rules.PossibleAnswers.{IsAskedReport}
+use Rattle.miette_graphical.specs.rules.PossibleAnswers.{IsAnswerOf, IsAnswer, AreAnswersOver, AreCauseAnswers}
+use Rattle.miette_graphical.specs.rules.PossibleAnswers.{AreRelatedAnswers, IsAskedReport}
 use Rattle.miette_graphical.specs.views.Painting.{Printing}
 
 -- what is drawn of a diagnostic: the rows of its snippets, its help, and its fixes
@@ -91,8 +91,8 @@ IsInner source (tree m own c r) by text =
     × AreRelatedAnswers (snippet_settings by.settings) by.blank source r more
     × by.happen (own_calls by.settings.layout.context_lines source m a
     ++ related_calls by.settings.layout.context_lines by.settings.related_as_nested source r more)
-    × (text ≡ inner_text whole_drawing by.settings m source a (related_text whole_drawing by.settings m.severity source r
-    more))
+    × (text ≡ inner_text whole_drawing by.settings m source a
+    (related_text whole_drawing by.settings m.severity source r more))
 
 -- a related tree as a sibling
 abbrev pub IsSibling : Option Source → Tree → Printing → List ℕ → Type 0

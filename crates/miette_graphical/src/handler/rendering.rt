@@ -80,8 +80,8 @@ impl<H: Highlighter> GraphicalReportHandler<H> {
         ensures calls { OnOk result (AppendsOne (IsAskedText whole_drawing self.old.settings
             (draws_plain H.is_blank self.old) (AreCallsOf H.may_follow self.old self.new)
             (tree_of D.meaning S.source report.now)) (string_bytes out.old) (string_bytes out.new)) }
-        // Where every source that is read always reads, and a line's pieces are a function of its text, there is one such
-        // text.
+        // Where every source that is read always reads, and a line's pieces are a function of its text, there is one
+        // such text.
         ensures stateless { let tree = tree_of D.meaning S.source report.now in
             OnOk result ((answer : List ℕ → List Piece) →
             ((calls : List Call) → follows_of H.may_follow self.old calls → AnsweredBy answer calls) →

@@ -120,6 +120,7 @@ pub(crate) fn letters_len(codes: &[char]) -> usize
 }
 
 // The same, up to so many: the codes behind these aren't looked at.
+#[inline(always)]
 fn letters_within(codes: &[char], most: usize) -> usize
     ensures value { result ≡ min (letters_len codes.now) most }
     ensures within { result ≤ length codes.now }

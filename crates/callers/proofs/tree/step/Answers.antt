@@ -1,4 +1,4 @@
-use Rattle.std.proofs.Common.{inl, inr, refl, rules}
+use Rattle.std.proofs.Common.{inl, inr, rules}
 use Rattle.callers.proofs.Wrapping.{told_behind}
 use Rattle.callers.proofs.tree.step.Goals as goal
 

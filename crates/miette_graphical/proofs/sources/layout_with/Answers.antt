@@ -1,4 +1,4 @@
-use Rattle.std.proofs.Common.{◌≡◌, ◌||◌, ap, false, map, sym, true, ◌∙◌}
+use Rattle.std.proofs.Common.{◌≡◌, ◌||◌, ap, false, map, true, ◌∙◌}
 use Rattle.miette_tree.specs.views.Attached.{section_of}
 use Rattle.miette_graphical.specs.rules.Sources.{some_further}
 use Rattle.miette_graphical.proofs.SourceRows.{some_mapped}

@@ -1,4 +1,4 @@
-use Rattle.std.proofs.Common.{◌≡◌, ◌-◌, [], Some, ap, drop, false, get_or, length, map, refl, rules, subst, sym, take, ◌∙◌}
+use Rattle.std.proofs.Common.{◌≡◌, ◌-◌, [], Some, ap, drop, false, get_or, length, map, rules, subst, sym, take, ◌∙◌}
 use Rattle.miette_style.specs.rules.Themes.{theme_of}
 use Rattle.miette_tree.specs.rules.Reads.{always_reads}
 use Rattle.miette_tree.specs.views.Attached.{section_of}

@@ -1,4 +1,4 @@
-use Rattle.std.proofs.Common.{[], Some, refl, sym, ◌∙◌}
+use Rattle.std.proofs.Common.{[], Some}
 use Rattle.miette_snippet_rules.specs.rules.Highlighting.{follows}
 use Rattle.miette_tree.specs.views.Owned.{shown_source}
 use Rattle.miette_graphical.specs.rules.Sources.{labelled}

@@ -1,4 +1,4 @@
-use Rattle.std.proofs.Common.{[], refl, sym, subst}
+use Rattle.std.proofs.Common.{[], sym, subst}
 use Rattle.miette_snippet_rules.specs.rules.Highlighting.{follows}
 use Rattle.miette_graphical.specs.rules.Sources.{labelled}
 use Rattle.miette_graphical.specs.steps.PartTexts.{IsSourceDrawn}

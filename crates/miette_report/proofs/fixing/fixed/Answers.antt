@@ -1,4 +1,4 @@
-use Rattle.std.proofs.Common.{◌≡◌, List, [], Some, None, length, sym, ap, ◌∙◌}
+use Rattle.std.proofs.Common.{◌≡◌, [], Some, None, length, sym, ap, ◌∙◌}
 use Rattle.std.proofs.lemmas.Result.{IfOk-weaker}
 use Rattle.std.specs.List.{list_any}
 use Rattle.std.specs.Option.{option_map}
