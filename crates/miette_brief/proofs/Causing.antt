@@ -25,7 +25,8 @@ pub one_more : (at : Place) (source : Option Source) (all left : Cause) (t : Tre
     (message old now new : List ℕ)
     → CausesSoFar at source all left old now → diagnostic t ≡ left → own ≡ effective (source_of t) source → labels
     ≡ given_labels (head t).labels → further ≡ (head t).snippets → message ≡ (head t).message
-    → primary ≡ primary_spot own (in_order labels) further → IsCausePlace at primary place → new ≡ now ++ rows_text (cause_row place message ∷ [])
+    → primary ≡ primary_spot own (in_order labels) further → IsCausePlace at primary place → new ≡ now ++ rows_text
+    (cause_row place message ∷ [])
     → CausesSoFar at source all (cause_of t) old new
 one_more at source all left (tree m s c r) own labels further primary place message old now new so_far is es el ef et
     ep h e =

@@ -1,6 +1,7 @@
 -- The primary label, and the places that reads of it give.
 use Rattle.std.proofs.Common.{ℕ, suc, ◌+◌, ◌≡◌, ◌<◌, ◌≤◌, List, [], ◌∷◌, length, get_or, map, drop, add-one, Bool, true}
-use Rattle.std.proofs.Common.{false, cond, ◌&&◌, ◌||◌, Option, Some, None, unwrap_or, refl, sym, ap, ap₂, subst, ◌∙◌, arith}
+use Rattle.std.proofs.Common.{false, cond, ◌&&◌, ◌||◌, Option, Some, None, unwrap_or, refl, sym, ap, ap₂, subst, ◌∙◌}
+use Rattle.std.proofs.Common.{arith}
 use Rattle.std.proofs.Common.{All}
 use Rattle.std.specs.List.{list_all}
 use Rattle.std.proofs.Math.Bool.{and-false}
@@ -16,7 +17,8 @@ use Rattle.miette_tree.proofs.Nesting.{Reads}
 use Rattle.miette_labels.specs.rules.Groups.{in_order}
 use Rattle.miette_labels.proofs.OwnContexts.{order_all, order_nil}
 use Rattle.miette_brief.specs.rules.Rows.{Place}
-use Rattle.miette_brief.specs.rules.Places.{Spot, marked_in, first_in, spot_over, else_spot, found_further, primary_spot}
+use Rattle.miette_brief.specs.rules.Places.{Spot, marked_in, first_in, spot_over, else_spot, found_further}
+use Rattle.miette_brief.specs.rules.Places.{primary_spot}
 use Rattle.miette_brief.specs.rules.Places.{span_place, chosen_place, source_of_spot}
 use Rattle.miette_brief.specs.declared.spots.Found.{Found}
 use Rattle.miette_brief.specs.declared.spots.Found.TheVariants as found
@@ -281,7 +283,8 @@ cause_none at primary is =
 
 -- ---- where every source reads, that of the primary label does
 
-spot_reads : (source : Option Source) (span : Option Span) → Reads source → Reads (source_of_spot (spot_over source span))
+spot_reads : (source : Option Source) (span : Option Span) → Reads source → Reads
+    (source_of_spot (spot_over source span))
 spot_reads None span h = tt
 spot_reads (Some source) None h = tt
 spot_reads (Some source) (Some span) h = h

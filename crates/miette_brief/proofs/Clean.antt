@@ -1,5 +1,6 @@
 -- No row is empty, and none has a control character.
-use Rattle.std.proofs.Common.{◌≡◌, ◌≢◌, ℕ, suc, zero, ◌+◌, ◌<◌, ◌≤◌, ◌/◌, ◌%◌, ◌==◌, List, [], ◌∷◌, ◌++◌, Bool, true, false}
+use Rattle.std.proofs.Common.{◌≡◌, ◌≢◌, ℕ, suc, zero, ◌+◌, ◌<◌, ◌≤◌, ◌/◌, ◌%◌, ◌==◌, List, [], ◌∷◌, ◌++◌, Bool, true}
+use Rattle.std.proofs.Common.{false}
 use Rattle.std.proofs.Common.{cond, ◌&&◌, nat_le, nat_lt, Option, Some, None, refl, ap, ap₂, ◌∙◌, codes, arith}
 use Rattle.std.specs.Prelude.{encode_utf8_all, decimal, if◌then◌else◌, ◌||◌, unwrap_or}
 use Rattle.std.specs.Fmt.{digits, digits_onto, digit_glyph}
@@ -16,7 +17,8 @@ use Rattle.miette_basics.proofs.Cases.{by_cases}
 use Rattle.miette_brief.specs.declared.fix_its.Position.{Position}
 use Rattle.miette_brief.specs.rules.FixIts.{FixIt, octal, escaped_byte, escaped, in_quotes, position_text, range_text}
 use Rattle.miette_brief.specs.rules.FixIts.{fix_it_text}
-use Rattle.miette_brief.specs.rules.Rows.{Kind, finding, note, cause, help, fix, failure, ToldRow, ReportRow, told, applied}
+use Rattle.miette_brief.specs.rules.Rows.{Kind, finding, note, cause, help, fix, failure, ToldRow, ReportRow, told}
+use Rattle.miette_brief.specs.rules.Rows.{applied}
 use Rattle.miette_brief.specs.rules.Rows.{gap, shown_for, spaced_text, one_row, behind_colon, place_text, code_text}
 use Rattle.miette_brief.specs.rules.Rows.{kind_text, told_text, row_text}
 

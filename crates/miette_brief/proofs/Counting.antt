@@ -28,7 +28,8 @@ use Rattle.miette_brief.specs.rules.Report.{cause_row, cause_rows, caused_rows, 
 use Rattle.miette_brief.specs.rules.Report.{report_rows, related_rows, brief, further_notes, labelled_rows, advice_rows}
 use Rattle.miette_brief.specs.rules.PossibleAnswers.{IsBrief}
 use Rattle.miette_brief.specs.laws.Parts.{texts_in, texts_further, told_causes, edit_parts, fix_parts, fixes_parts}
-use Rattle.miette_brief.specs.laws.Parts.{advice_parts, parts, parts_below, all_parts, text_of_rows, IsRows, HasEachPart}
+use Rattle.miette_brief.specs.laws.Parts.{advice_parts, parts, parts_below, all_parts, text_of_rows, IsRows}
+use Rattle.miette_brief.specs.laws.Parts.{HasEachPart}
 use Rattle.miette_brief.proofs.Clean.{text_clean, text_nonempty}
 
 -- ---- rows of a text

@@ -1,5 +1,6 @@
 -- The row of an edit, read back.
-use Rattle.std.proofs.Common.{◌≡◌, ℕ, ◌+◌, ◌-◌, ◌*◌, ◌/◌, ◌%◌, ◌<◌, ◌^◌, ◌==◌, List, [], ◌∷◌, ◌++◌, Bool, true, false, not}
+use Rattle.std.proofs.Common.{◌≡◌, ℕ, ◌+◌, ◌-◌, ◌*◌, ◌/◌, ◌%◌, ◌<◌, ◌^◌, ◌==◌, List, [], ◌∷◌, ◌++◌, Bool, true, false}
+use Rattle.std.proofs.Common.{not}
 use Rattle.std.proofs.Common.{Option, Some, None, IfSome, subst, refl, sym, ap, ap₂, ◌∙◌, append_assoc, arith, eq-eqb}
 use Rattle.std.specs.Prelude.{◌||◌, ◌&&◌, decimal, drop, if◌then◌else◌, unwrap_or}
 use Rattle.std.specs.List.{All, AllByRecursion, list_all}
@@ -10,7 +11,8 @@ use Rattle.std.proofs.lemmas.Fmt.{decimal_is_IsNumeral}
 use Rattle.std.proofs.lemmas.List.Elements.{recursion_from_All}
 use Rattle.miette_basics.proofs.Cases.{by_cases}
 use Rattle.miette_brief.specs.declared.fix_its.Position.{Position}
-use Rattle.miette_brief.specs.rules.FixIts.{FixIt, octal, is_printable, escaped_byte, escaped, position_text, fix_it_text}
+use Rattle.miette_brief.specs.rules.FixIts.{FixIt, octal, is_printable, escaped_byte, escaped, position_text}
+use Rattle.miette_brief.specs.rules.FixIts.{fix_it_text}
 use Rattle.miette_brief.specs.laws.ReadBack.{is_digit}
 use Rattle.miette_brief.specs.laws.EditBack.{as_it_is, text_to_quote, behind_quote, up_to, behind, position_to}
 use Rattle.miette_brief.specs.laws.EditBack.{name_onwards, start_onwards, end_onwards, text_onwards, ReadsEdit}
@@ -151,7 +153,8 @@ position_back end none at rest small =
     same_position (digits_value 10 (up_to 58 bs)) (digits_value 10 (up_to end (behind 58 bs))) at
     (ap (λ l. digits_value 10 (up_to 58 l)) shape ∙ number_back 58 no_colon at.line column small.0)
     (ap (λ l. digits_value 10 (up_to end (behind 58 l))) shape
-    ∙ ap (λ l. digits_value 10 (up_to end l)) (behind_past 58 (decimal at.line) column (number_lacks 58 no_colon at.line))
+    ∙ ap (λ l. digits_value 10 (up_to end l))
+    (behind_past 58 (decimal at.line) column (number_lacks 58 no_colon at.line))
     ∙ number_back end none at.column rest small.1)
 
 -- ---- rows

@@ -29,7 +29,8 @@ never_both : {X : Type 0} (o : Option X) (x : X) → o ≡ None → o ≡ Some x
 never_both o x e f = cc
 
 -- none of edits that can be applied ends behind the end
-pub applied_inside : (n : ℕ) (edits : List Replacement) → refusal n edits ≡ None → list_any (ends_behind n) edits ≡ false
+pub applied_inside : (n : ℕ) (edits : List Replacement) → refusal n edits ≡ None → list_any (ends_behind n) edits ≡
+    false
 applied_inside n edits e =
     by_cases {C = list_any (ends_behind n) edits ≡ false} (list_any (ends_behind n) edits)
     (λ t. absurd (never_both (refusal n edits) OutOfRange e (rw t refl)))

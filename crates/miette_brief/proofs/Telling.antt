@@ -23,7 +23,8 @@ use Rattle.miette_brief.specs.rules.Report.{note_rows, cause_row, cause_rows, ca
 use Rattle.miette_brief.specs.rules.Report.{rows_at, own_rows, report_rows, related_rows, brief, further_notes}
 use Rattle.miette_brief.specs.rules.Report.{labelled_rows, advice_rows, ReadAnswers, own_answer}
 use Rattle.miette_brief.specs.rules.Fixes.{fixed_source, fixes_rows}
-use Rattle.miette_brief.specs.rules.PossibleAnswers.{HasAccepted, FurtherAccepted, AreCauseAnswers, AreCausedAnswers, AreAnswers}
+use Rattle.miette_brief.specs.rules.PossibleAnswers.{HasAccepted, FurtherAccepted, AreCauseAnswers, AreCausedAnswers}
+use Rattle.miette_brief.specs.rules.PossibleAnswers.{AreAnswers}
 use Rattle.miette_brief.specs.rules.PossibleAnswers.{AllAnswers, IsBrief}
 use Rattle.miette_brief.specs.steps.Reads.{IsDiagnosticPlace}
 use Rattle.miette_brief.proofs.Choosing.{nothing_met, primary_reads, accepts_order}

@@ -15,16 +15,16 @@ ghost use Rattle.miette_brief.specs.laws.EditBack.{ReadsEdit};
 ghost use Rattle.miette_brief.specs.laws.ReadBack.{has_no_colon, ReadsBack, position_first};
 
 /// A report has exactly one row for each of its parts: its message, its labels with a text, its causes where they are
-/// told, its help, its fixes, each with its edits or why these can't be applied, and the parts of each report related to
-/// it. None is empty, none holds a control character, and each ends in LF.
+/// told, its help, its fixes, each with its edits or why these can't be applied, and the parts of each report related
+/// to it. None is empty, none holds a control character, and each ends in LF.
 pub fn each_part_has_one_row()
     ensures rows { (s : BriefSettings) (t : Tree) (a : Answers) → IsRows (parts s.chain t a) (brief s t a) }
     ensures given { (s : BriefSettings) (t : Tree) (text : List ℕ) → IsBrief s t text → HasEachPart s.chain t text }
 {}
 
-/// In a row with a name that has no colon the place reads back, but for an edit's: up to the first colon stands the name
-/// as it is spelled, and behind it the line and the column, each up to the next one, or a space where the row has no
-/// position.
+/// In a row with a name that has no colon the place reads back, but for an edit's: up to the first colon stands the
+/// name as it is spelled, and behind it the line and the column, each up to the next one, or a space where the row has
+/// no position.
 pub fn a_place_reads_back()
     ensures { (row : ToldRow) (name : List ℕ) → row.place.name ≡ Some name → has_no_colon (one_row name) ≡ true →
         IfSome row.place.position (λ at. (at.line < 2 ^ 64) × (at.column < 2 ^ 64)) →

@@ -21,7 +21,8 @@ apart_drop (suc i) [] h = tt
 apart_drop (suc i) (s ∷ ss) h = apart_drop i ss (apart_from (s.offset + s.len) ss h.1)
 
 -- a span that ends before a cell has no byte of it, nor one that begins behind it
-pub ended : (cell : Cell) (span : Span) (offset : ℕ) → nat_le (span.offset + span.len) offset ≡ true → offset ≤ cell.start
+pub ended : (cell : Cell) (span : Span) (offset : ℕ) → nat_le (span.offset + span.len) offset ≡ true → offset ≤
+    cell.start
     → holds_byte cell span ≡ false
 ended cell span offset e le = grind (arith, nat_tests)
 

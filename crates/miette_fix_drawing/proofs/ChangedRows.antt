@@ -22,10 +22,13 @@ use Rattle.miette_cuts.specs.steps.Stops.{ComeFrom}
 use Rattle.miette_cuts.specs.views.CutEnds.{cut_with_ends}
 use Rattle.miette_cuts.specs.views.Cuts.{made_runs, measure}
 use Rattle.miette_cuts.proofs.CutText.{shown_at_ends}
-use Rattle.miette_fix_rows.specs.rules.DiffRows.{ChangedLine, before_some, changed_rows, marks_row, row_if_some, sign_start}
+use Rattle.miette_fix_rows.specs.rules.DiffRows.{ChangedLine, before_some, changed_rows, marks_row, row_if_some}
+use Rattle.miette_fix_rows.specs.rules.DiffRows.{sign_start}
 use Rattle.miette_fix_rows.specs.rules.DiffRows.{text_row}
-use Rattle.miette_fix_rows.specs.rules.DiffTexts.{cut_around, edit_marks, ends_of, holds_byte, is_on, line_cells, line_ends}
-use Rattle.miette_fix_rows.specs.rules.DiffTexts.{line_text, look_alike, onto_painted, painted, parts_in, pieces, sign_runs}
+use Rattle.miette_fix_rows.specs.rules.DiffTexts.{cut_around, edit_marks, ends_of, holds_byte, is_on, line_cells}
+use Rattle.miette_fix_rows.specs.rules.DiffTexts.{line_ends}
+use Rattle.miette_fix_rows.specs.rules.DiffTexts.{line_text, look_alike, onto_painted, painted, parts_in, pieces}
+use Rattle.miette_fix_rows.specs.rules.DiffTexts.{sign_runs}
 use Rattle.miette_fix_drawing.specs.steps.Ends.{line_cut}
 use Rattle.miette_fix_drawing.specs.steps.Starts.{digits_row}
 
@@ -36,7 +39,8 @@ cut_alike (Some limit) es cells = refl
 
 pub sign_put : (s : SnippetSettings) (w : ℕ) (line : ChangedLine) (p d b g k n : Printout)
     → d ≡ p ⊕ row_tokens (digits_row s w line.number) → b ≡ d ⊕ styled_tokens plain (replicate 1 32)
-    → g ≡ b ⊕ begins line.style ∷ [] → k ≡ g ⊕ text_tokens (line.sign ∷ []) → n ≡ k ⊕ styled_tokens plain (replicate 1 32)
+    → g ≡ b ⊕ begins line.style ∷ [] → k ≡ g ⊕ text_tokens (line.sign ∷ []) → n ≡ k ⊕ styled_tokens plain
+    (replicate 1 32)
     → n ≡ p ⊕ row_tokens (sign_start s w line)
 sign_put s w line p d b g k n hd hb hg hk hn =
     let one : Row = blank s 1 ∷ [] in
@@ -55,7 +59,8 @@ sign_put s w line p d b g k n hd hb hg hk hn =
 pub text_put : (s : SnippetSettings) (w : ℕ) (line : ChangedLine) (cells : List Cell) (made : List Highlight)
     (cut : Option (List MadeStretch)) (p a t n : Printout) → cells ≡ line_cells s line.start line.text
     → made ≡ pieces line.style line.spans cells → cut ≡ line_cut s line → a ≡ p ⊕ row_tokens (sign_start s w line)
-    → t ≡ a ⊕ row_tokens (made_runs cut made cells) → n ≡ t ⊕ row_end ∷ [] → n ≡ p ⊕ rows_tokens (text_row s w line ∷ [])
+    → t ≡ a ⊕ row_tokens (made_runs cut made cells) → n ≡ t ⊕ row_end ∷ [] → n ≡ p ⊕ rows_tokens
+    (text_row s w line ∷ [])
 text_put s w line cells made cut p a t n hcells hmade hcut ha ht hn =
     let most : Option ℕ = s.layout.line_columns in
     let es : List ℕ = line_ends s line.start line.text line.spans in
@@ -99,8 +104,10 @@ painted_same a b at (c ∷ cs) same h =
 
 pub near_rows : (s : SnippetSettings) (w : ℕ) (line : ChangedLine) (near : List Span) (other : Option (List ℕ))
     → ComeFrom line.start (line_cells s line.start line.text)
-    → ((cell : Cell) → line.start ≤ cell.start → list_any (holds_byte cell) near ≡ list_any (holds_byte cell) line.spans)
-    → parts_in line.start (length line.text) line.style near ≡ parts_in line.start (length line.text) line.style line.spans
+    → ((cell : Cell) → line.start ≤ cell.start → list_any (holds_byte cell) near ≡ list_any (holds_byte cell)
+    line.spans)
+    → parts_in line.start (length line.text) line.style near ≡ parts_in line.start (length line.text) line.style
+    line.spans
     → filter (is_on line.start line.text) near ≡ filter (is_on line.start line.text) line.spans
     → changed_rows s w (record line { spans = near }) other ≡ changed_rows s w line other
 near_rows s w line near other come held parts on =

@@ -106,7 +106,8 @@ pub no_edit_drawn : (s : SnippetSettings) (whole : Source) (given edits : List R
 no_edit_drawn s whole given edits p g e = no_rows s whole edits p (sym (ap (λ es. eqb (length es) 0) g) ∙ e)
 
 pub edits_drawn : (s : SnippetSettings) (whole : Source) (bytes : List ℕ) (size : ℕ)
-    (given again edits : List Replacement) (r : Option FixError) (p n : Printout) → given ≡ edits → eqb (length given) 0 ≡ false → whole.bytes ≡ bytes
+    (given again edits : List Replacement) (r : Option FixError) (p n : Printout) → given ≡ edits → eqb (length given) 0
+    ≡ false → whole.bytes ≡ bytes
     → size ≡ length bytes → again ≡ edits → refusal size again ≡ r → n ≡ p ⊕ rows_tokens (rows_unless s whole edits r)
     → n ≡ p ⊕ rows_tokens (fix_rows s whole false edits)
 edits_drawn s whole bytes size given again edits r p n g e b k a h put =

@@ -1,5 +1,6 @@
 -- The rows of a frame.
-use Rattle.std.proofs.Common.{ℕ, ◌≡◌, List, [], ◌∷◌, ◌++◌, length, decimal, Option, Some, true, ap, ◌∙◌, option_copied, refl, sym, false}
+use Rattle.std.proofs.Common.{ℕ, ◌≡◌, List, [], ◌∷◌, ◌++◌, length, decimal, Option, Some, true, ap, ◌∙◌, option_copied}
+use Rattle.std.proofs.Common.{refl, sym, false}
 use Rattle.miette_page.specs.rules.Rows.{Row}
 use Rattle.miette_page.specs.views.Printouts.{Printout, ◌⊕◌}
 use Rattle.miette_page.specs.views.Tokens.{rows_tokens}
@@ -26,19 +27,22 @@ place_by line column = record { line = line; column = column }
 pub frame_put : (d : FixDrawing) (f : DiffFrame) (w : ℕ) (place : ℕ × ℕ) (p a b n : Printout) (most : ℕ)
     → w ≡ length (decimal most) → most ≡ largest f.at f.lines → place.0 ≡ line_of d.source.now f.place
     → place.1 ≡ column_of d.source.now f.place
-    → a ≡ p ⊕ rows_tokens (top_row_of (settings_of d.settings) w (option_copied d.name) true (Some (made.place_at place)) ∷ [])
+    → a ≡ p ⊕ rows_tokens (top_row_of (settings_of d.settings) w (option_copied d.name) true
+    (Some (made.place_at place)) ∷ [])
     → b ≡ a ⊕ rows_tokens (rows_of_lines (context_over d w) f.at f.lines)
     → n ≡ b ⊕ rows_tokens (bottom_row (settings_of d.settings) w ∷ []) → n ≡ p ⊕ rows_tokens (drawn_frame d f)
 unfolding framed place_by
 frame_put d f w place p a b n most hw hm hl hc ha hb hn =
-    let top : List Row = top_row_of (settings_of d.settings) w (option_copied d.name) true (Some (made.place_at place)) ∷ [] in
+    let top : List Row = top_row_of (settings_of d.settings) w (option_copied d.name) true (Some (made.place_at place))
+    ∷ [] in
     let rows : List Row = rows_of_lines (context_over d w) f.at f.lines in
     let bottom : List Row = bottom_row (settings_of d.settings) w ∷ [] in
     let width : w ≡ frame_width f = hw ∙ ap (λ m. length (decimal m)) hm in
     rows_then top (rows ++ bottom) p a n ha (rows_then rows bottom a b n hb hn)
     ∙ ap (λ x. p ⊕ rows_tokens (framed d f w (place_by x place.1))) hl
     ∙ ap (λ x. p ⊕ rows_tokens (framed d f w (place_by (line_of d.source.now f.place) x))) hc
-    ∙ ap (λ x. p ⊕ rows_tokens (framed d f x (place_by (line_of d.source.now f.place) (column_of d.source.now f.place)))) width
+    ∙ ap (λ x. p ⊕ rows_tokens (framed d f x
+    (place_by (line_of d.source.now f.place) (column_of d.source.now f.place)))) width
 
 -- the rows of frames, once those of the first are put
 pub frames_go_on : (d : FixDrawing) (context : ℕ) (behind : List (List ℕ)) (at next : Standing) (hunk : Hunk)
@@ -51,5 +55,6 @@ pub frames_go_on : (d : FixDrawing) (context : ℕ) (behind : List (List ℕ)) (
 frames_go_on d context behind at next hunk more later hunks f p q e hf rest hq =
     rows_then (drawn_frame d f) (drawn_frames d (frames_from context behind false next later)) p q _ hq refl
     ∙ ap (λ x. p ⊕ rows_tokens (drawn_frame d f ++ drawn_frames d x)) (sym rest)
-    ∙ ap (λ x. p ⊕ rows_tokens (drawn_frame d x ++ drawn_frames d (frames_from context behind true (past_hunk at hunk) more))) hf
+    ∙ ap (λ x. p ⊕ rows_tokens (drawn_frame d x ++ drawn_frames d
+    (frames_from context behind true (past_hunk at hunk) more))) hf
     ∙ ap (λ x. p ⊕ rows_tokens (drawn_frames d (frames_from context behind false at x))) (sym e)

@@ -1,5 +1,6 @@
 -- Frames, lines and segments one after the other.
-use Rattle.std.proofs.Common.{ℕ, zero, suc, ◌+◌, ◌-◌, ◌<◌, ◌≤◌, ◌≡◌, get_or, subst, List, [], ◌∷◌, ◌++◌, length, map, take, drop, max, arith, length-append, Option, cond}
+use Rattle.std.proofs.Common.{ℕ, zero, suc, ◌+◌, ◌-◌, ◌<◌, ◌≤◌, ◌≡◌, get_or, subst, List, [], ◌∷◌, ◌++◌, length, map}
+use Rattle.std.proofs.Common.{take, drop, max, arith, length-append, Option, cond}
 use Rattle.std.proofs.Common.{refl, sym, ap, ap₂, ◌∙◌, append_assoc, append-nil, Bool, true, false, ◌&&◌}
 use Rattle.std.specs.List.{AllByRecursion, flat_map}
 use Rattle.std.proofs.Math.Seq.{drop-cons}
@@ -12,8 +13,10 @@ use Rattle.miette_page.specs.views.Tokens.{rows_tokens}
 use Rattle.miette_frames.proofs.TextRows.{rows_then}
 use Rattle.miette_fix_rows.specs.rules.Blocks.{bytes_of, line_texts}
 use Rattle.miette_fix_rows.specs.rules.Hunks.{Change, Hunk, added_lines, removed_lines}
-use Rattle.miette_fix_rows.specs.rules.DiffFrames.{DiffLine, Standing, added_with, behind_hunk, changed_lines, frame_at, frames_from}
-use Rattle.miette_fix_rows.specs.rules.DiffFrames.{is_near, kept_lines, past_changes, past_hunk, past_kept, removed_with}
+use Rattle.miette_fix_rows.specs.rules.DiffFrames.{DiffLine, Standing, added_with, behind_hunk, changed_lines, frame_at}
+use Rattle.miette_fix_rows.specs.rules.DiffFrames.{frames_from}
+use Rattle.miette_fix_rows.specs.rules.DiffFrames.{is_near, kept_lines, past_changes, past_hunk, past_kept}
+use Rattle.miette_fix_rows.specs.rules.DiffFrames.{removed_with}
 use Rattle.miette_fix_rows.specs.rules.DiffRows.{DiffContext, largest, number_of, past, rows_of_line, rows_of_lines}
 use Rattle.miette_fix_drawing.specs.declared.hunks.Hunk.{Hunk as MadeHunk}
 use Rattle.miette_fix_drawing.specs.steps.Framing.{IsFar}
@@ -33,7 +36,8 @@ pub rows_append : (c : DiffContext) (at : Standing) (a b : List DiffLine)
 rows_append c at [] b = refl
 rows_append c at (l ∷ a) b =
     ap (λ rows. rows_of_line c at l ++ rows) (rows_append c (past at l) a b)
-    ∙ sym (append_assoc (rows_of_line c at l) (rows_of_lines c (past at l) a) (rows_of_lines c (past_lines (past at l) a) b))
+    ∙ sym (append_assoc (rows_of_line c at l) (rows_of_lines c (past at l) a)
+    (rows_of_lines c (past_lines (past at l) a) b))
 
 max_turned : (a b c : ℕ) → max a (max b c) ≡ max (max a b) c
 max_turned a b c = omega arith
@@ -108,7 +112,8 @@ bytes_on [] b = omega arith
 bytes_on (l ∷ a) b = omega (arith, bytes_on a b)
 
 all_removed : (at : Standing) (cs : List Change)
-    → past_lines at (flat_map (λ change. removed_with change.removed change.added) cs) ≡ past_removed at (removed_lines cs)
+    → past_lines at (flat_map (λ change. removed_with change.removed change.added) cs) ≡ past_removed at
+    (removed_lines cs)
 all_removed at [] = same_stand _ _ (omega arith) refl (omega arith) refl
 all_removed at (c ∷ cs) =
     let more : List DiffLine = flat_map (λ change. removed_with change.removed change.added) cs in
@@ -185,7 +190,8 @@ near_frames : (context : ℕ) (behind : List (List ℕ)) (at : Standing) (hunk :
     → frames_from context behind true at (hunk ∷ more) ≡ frames_from context behind true (past_hunk at hunk) more
 near_frames context behind at hunk more e =
     ap (λ b. cond b (frames_from context behind true (past_hunk at hunk) more)
-    (frame_at context at hunk (behind_hunk context behind more) ∷ frames_from context behind true (past_hunk at hunk) more)) e
+    (frame_at context at hunk (behind_hunk context behind more) ∷ frames_from context behind true (past_hunk at hunk)
+    more)) e
 
 near_behind : (context : ℕ) (behind : List (List ℕ)) (hunk : Hunk) (more : List Hunk) → is_near context hunk ≡ true
     → behind_hunk context behind (hunk ∷ more)
@@ -199,7 +205,8 @@ pub far_frames : (context : ℕ) (behind : List (List ℕ)) (at : Standing) (hun
 far_frames context behind at [] far = refl
 far_frames context behind at (hunk ∷ more) far =
     ap (λ b. cond b (frames_from context behind true (past_hunk at hunk) more)
-    (frame_at context at hunk (behind_hunk context behind more) ∷ frames_from context behind true (past_hunk at hunk) more)) far
+    (frame_at context at hunk (behind_hunk context behind more) ∷ frames_from context behind true (past_hunk at hunk)
+    more)) far
 
 -- lines with those of a hunk that is near, and what goes on behind it
 pub near_lines : (context : ℕ) (behind : List (List ℕ)) (hunk : Hunk) (more : List Hunk) (made next : List DiffLine)
@@ -210,7 +217,8 @@ near_lines context behind hunk more made next e h =
     let changed : List DiffLine = changed_lines hunk.changes in
     let rest : List DiffLine = behind_hunk context behind more in
     ap (λ ls. ls ++ rest) h ∙ append_assoc made (kept ++ changed) rest
-    ∙ ap (λ ls. made ++ ls) (append_assoc kept changed rest) ∙ ap (λ ls. made ++ ls) (sym (near_behind context behind hunk more e))
+    ∙ ap (λ ls. made ++ ls) (append_assoc kept changed rest) ∙ ap (λ ls. made ++ ls)
+    (sym (near_behind context behind hunk more e))
 
 pub near_standing : (context : ℕ) (behind : List (List ℕ)) (at : Standing) (hunk : Hunk) (more : List Hunk)
     (made next : List DiffLine) → is_near context hunk ≡ true

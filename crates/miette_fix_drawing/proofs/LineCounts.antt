@@ -1,5 +1,6 @@
 -- Lines in front of others.
-use Rattle.std.proofs.Common.{ℕ, zero, suc, ◌+◌, ◌-◌, ◌<◌, ◌≤◌, ◌≡◌, List, [], ◌∷◌, length, take, drop, refl, sym, ap, ◌∙◌, arith}
+use Rattle.std.proofs.Common.{ℕ, zero, suc, ◌+◌, ◌-◌, ◌<◌, ◌≤◌, ◌≡◌, List, [], ◌∷◌, length, take, drop, refl, sym, ap}
+use Rattle.std.proofs.Common.{◌∙◌, arith}
 use Rattle.std.proofs.lemmas.List.{length-drop, take_rest}
 use Rattle.miette_source_lines.specs.declared.lines.LineOfText.{LineOfText}
 use Rattle.miette_source_lines.specs.views.Walking.{IsFirst}
@@ -13,7 +14,8 @@ rest_of rest line h =
     first_text rest line h
     ∙ ap (λ ms. take line.end rest ∷ line_texts ms) (sym (take_rest rest line.end))
 
-pub left_of : (rest : List ℕ) (n : ℕ) → n ≤ length rest → n + length (take (length rest - n) (drop n rest)) ≡ length rest
+pub left_of : (rest : List ℕ) (n : ℕ) → n ≤ length rest → n + length (take (length rest - n) (drop n rest)) ≡ length
+    rest
 left_of rest n le = omega (arith, ap length (take_rest rest n), length-drop n rest, le)
 
 pub counted : (rest : List ℕ) (line : LineOfText) (count all : ℕ) → IsFirst (record { start = 0; bytes = rest }) line
@@ -35,13 +37,15 @@ take_length zero bs le = refl
 take_length (suc n) [] le = absurd (omega (arith, le))
 take_length (suc n) (b ∷ bs) le = ap suc (take_length n bs (omega (arith, le)))
 
-taken : (k : ℕ) (l : List ℕ) (ls : List (List ℕ)) → 0 < k → bytes_of (take k (l ∷ ls)) ≡ length l + bytes_of (take (k - 1) ls)
+taken : (k : ℕ) (l : List ℕ) (ls : List (List ℕ)) → 0 < k → bytes_of (take k (l ∷ ls)) ≡ length l + bytes_of
+    (take (k - 1) ls)
 taken zero l ls lt = absurd (omega (arith, lt))
 taken (suc k) l ls lt = let e : suc k - 1 ≡ k = omega arith in ap (λ m. length l + bytes_of (take m ls)) (sym e)
 
 pub sized : (rest : List ℕ) (line : LineOfText) (size left all : ℕ) → IsFirst (record { start = 0; bytes = rest }) line
     → 0 < left → size + bytes_of (take left (line_texts rest)) ≡ all
-    → size + line.end + bytes_of (take (left - 1) (line_texts (take (length rest - line.end) (drop line.end rest)))) ≡ all
+    → size + line.end + bytes_of (take (left - 1) (line_texts (take (length rest - line.end) (drop line.end rest)))) ≡
+    all
 sized rest line size left all h lt e =
     let ms : List (List ℕ) = line_texts (take (length rest - line.end) (drop line.end rest)) in
     let own : length (take line.end rest) ≡ line.end = take_length line.end rest (omega (arith, h.to)) in

@@ -1,5 +1,6 @@
 -- A line's characters in pieces.
-use Rattle.std.proofs.Common.{ℕ, ◌+◌, ◌≡◌, Bool, true, false, cond, List, [], ◌∷◌, ◌++◌, map, refl, sym, ap, ◌∙◌, append_assoc, arith}
+use Rattle.std.proofs.Common.{ℕ, ◌+◌, ◌≡◌, Bool, true, false, cond, List, [], ◌∷◌, ◌++◌, map, refl, sym, ap, ◌∙◌}
+use Rattle.std.proofs.Common.{append_assoc, arith}
 use Rattle.std.specs.Bool.{beq}
 use Rattle.std.specs.Prelude.{not}
 use Rattle.std.proofs.lemmas.List.{map-append}
@@ -77,7 +78,8 @@ onto_other a b x y (n ∷ rest) h =
     (λ f. rw (f, h) refl)
 
 pub put_same : (items new : List (ℕ × Style)) (style : Style) (reached next both : MadePainted) (rest : List Painted)
-    → beq next.changed reached.changed ≡ true → both ≡ record reached { bytes = reached.bytes + next.bytes } → new ≡ items
+    → beq next.changed reached.changed ≡ true → both ≡ record reached { bytes = reached.bytes + next.bytes } → new ≡
+    items
     → map highlight_of new ++ told style (onto both rest)
     ≡ map highlight_of items ++ told style (onto reached (onto next rest))
 put_same items new style reached next both rest same b n =

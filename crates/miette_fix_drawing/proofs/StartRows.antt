@@ -11,7 +11,8 @@ use Rattle.miette_snippet_rules.proofs.RowTokens.{then, told_as, run_one, blank_
 use Rattle.miette_frames.proofs.TextRows.{parts_then}
 use Rattle.miette_fix_drawing.specs.steps.Starts.{digits_row}
 
-pub digits_put : (s : SnippetSettings) (w number : ℕ) (p b l d : Printout) → b ≡ p ⊕ styled_tokens plain (replicate 1 32)
+pub digits_put : (s : SnippetSettings) (w number : ℕ) (p b l d : Printout) → b ≡ p ⊕ styled_tokens plain
+    (replicate 1 32)
     → l ≡ b ⊕ begins s.theme.styles.linum ∷ []
     → d ≡ l ⊕ text_tokens (replicate (w - length (decimal number)) 32 ++ decimal number)
     → d ≡ p ⊕ row_tokens (digits_row s w number)

@@ -1,13 +1,15 @@
 //! The frames of a fix.
 
-ghost use Rattle.std.specs.Prelude.{◌≡◌, ◌≤◌, ◌<◌, ◌+◌, ◌-◌, ◌++◌, [], ◌∷◌, ℕ, List, length, decimal, drop, max, take, true, false, IfOk, OnOk};
+ghost use Rattle.std.specs.Prelude.{◌≡◌, ◌≤◌, ◌<◌, ◌+◌, ◌-◌, ◌++◌, [], ◌∷◌, ℕ, List, length, decimal, drop, max};
+ghost use Rattle.std.specs.Prelude.{take, true, false, IfOk, OnOk};
 ghost use Rattle.std.specs.List.{AllByRecursion, flat_map};
 ghost use Rattle.miette_page.specs.views.Printouts.{◌⊕◌};
 ghost use Rattle.miette_page.specs.views.Tokens.{rows_tokens};
 ghost use Rattle.miette_fix_rows.specs.rules.Blocks.{line_texts};
 ghost use Rattle.miette_fix_rows.specs.rules.DiffFrames.{Standing as RuledStanding};
 ghost use Rattle.miette_fix_rows.specs.rules.DiffFrames.{added_with, behind_hunk, changed_lines, first_place, frame_at};
-ghost use Rattle.miette_fix_rows.specs.rules.DiffFrames.{frames_from, is_near, kept_lines, left_before, past_hunk, past_kept};
+ghost use Rattle.miette_fix_rows.specs.rules.DiffFrames.{frames_from, is_near, kept_lines, left_before};
+ghost use Rattle.miette_fix_rows.specs.rules.DiffFrames.{past_hunk, past_kept};
 ghost use Rattle.miette_fix_rows.specs.rules.DiffFrames.{removed_with};
 ghost use Rattle.miette_fix_rows.specs.rules.DiffRows.{largest, rows_of_lines};
 ghost use Rattle.miette_fix_drawing.specs.steps.Framing.{IsCursor, IsFar, PointsWithin, drawn_frame, drawn_frames};
@@ -238,7 +240,8 @@ fn take_near<'a>(
         lines_of_segments list.new.items ++ behind_hunk context behind (hunks_of (drop taken hunks.now))
         ≡ lines_of_segments list.old.items ++ behind_hunk context behind (hunks_of hunks.now)) }
     ensures frames { IfOk result (λ taken. (behind : List (List ℕ)) → (at : RuledStanding) →
-        frames_from context behind true (past_lines at (lines_of_segments list.new.items)) (hunks_of (drop taken hunks.now))
+        frames_from context behind true (past_lines at (lines_of_segments list.new.items))
+        (hunks_of (drop taken hunks.now))
         ≡ frames_from context behind true (past_lines at (lines_of_segments list.old.items)) (hunks_of hunks.now)) }
     ensures far { IfOk result (λ taken. IsFar context (hunks_of (drop taken hunks.now))) }
     ensures within { IfOk result (λ taken. taken ≤ length hunks.now) }

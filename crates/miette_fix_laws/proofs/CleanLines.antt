@@ -8,15 +8,18 @@ use Rattle.miette_basics.proofs.Cases.{by_cases}
 use Rattle.miette_source_lines.specs.rules.Lines.{ends_line}
 use Rattle.miette_fixes.specs.rules.Applying.{by_offset, put_edit, text_from}
 use Rattle.miette_fixes.specs.rules.Edits.{Replacement, end_of, is_behind}
-use Rattle.miette_fix_rows.specs.rules.Blocks.{block_from, block_to, blocks, line_texts, new_lines, old_lines, onto_blocks}
+use Rattle.miette_fix_rows.specs.rules.Blocks.{block_from, block_to, blocks, line_texts, new_lines, old_lines}
+use Rattle.miette_fix_rows.specs.rules.Blocks.{onto_blocks}
 use Rattle.miette_fix_rows.specs.rules.Blocks.{onto_line, text_between}
 use Rattle.miette_fix_rows.specs.rules.DiffFrames.{DiffFrame, DiffLine, Standing, added, added_with, behind_hunk}
 use Rattle.miette_fix_rows.specs.rules.DiffFrames.{changed_lines, frame_at, frames_from, frames_of, is_near, kept}
 use Rattle.miette_fix_rows.specs.rules.DiffFrames.{kept_lines, left_before, past_hunk, removed, removed_with}
 use Rattle.miette_fix_rows.specs.rules.Hunks.{Change, Diff, Hunk, change_of, changes, changes_of, common_before}
-use Rattle.miette_fix_rows.specs.rules.Hunks.{common_behind, diff, diff_from, is_nil, onto_changes, onto_hunks, onto_kept}
+use Rattle.miette_fix_rows.specs.rules.Hunks.{common_behind, diff, diff_from, is_nil, onto_changes, onto_hunks}
+use Rattle.miette_fix_rows.specs.rules.Hunks.{onto_kept}
 use Rattle.miette_row_laws.specs.laws.Clean.{IsClean, IsCleanCode}
-use Rattle.miette_row_laws.proofs.CleanTexts.{clean_append, clean_cons, clean_drop, clean_first, clean_range, clean_rest}
+use Rattle.miette_row_laws.proofs.CleanTexts.{clean_append, clean_cons, clean_drop, clean_first, clean_range}
+use Rattle.miette_row_laws.proofs.CleanTexts.{clean_rest}
 use Rattle.miette_row_laws.proofs.CleanTexts.{clean_take}
 use Rattle.miette_row_laws.proofs.Paling.{all_append}
 

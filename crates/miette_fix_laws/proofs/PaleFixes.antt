@@ -22,7 +22,8 @@ use Rattle.miette_fix_rows.specs.rules.Hunks.{diff}
 use Rattle.miette_labels.specs.rules.Answers.{Highlight}
 use Rattle.miette_page.specs.rules.Rows.{Row}
 use Rattle.miette_protocol.specs.rules.Reading.{Source, Span}
-use Rattle.miette_snippet_rules.specs.rules.CutLines.{Stretch, bytes_in, cut_runs, dots, is_kept, is_near, pieces_within}
+use Rattle.miette_snippet_rules.specs.rules.CutLines.{Stretch, bytes_in, cut_runs, dots, is_kept, is_near}
+use Rattle.miette_snippet_rules.specs.rules.CutLines.{pieces_within}
 use Rattle.miette_snippet_rules.specs.rules.CutLines.{shown_marks, shown_runs}
 use Rattle.miette_snippet_rules.specs.rules.Frames.{bottom_row, number_start, other_start}
 use Rattle.miette_snippet_rules.specs.rules.Marks.{Mark, marks}
@@ -41,7 +42,8 @@ use Rattle.miette_row_laws.proofs.CutFading.{IsCleanStretch, pale_shown, shown_b
 use Rattle.miette_row_laws.proofs.PaleSnippets.{faded, pale_bottom, pale_number_start, pale_other_start, pale_top}
 use Rattle.miette_row_laws.proofs.PaleSnippets.{pale_unstyled}
 use Rattle.miette_row_laws.proofs.Paling.{PaleRow, PaleRows, all_append, bleached, bleached_mark, pale_append}
-use Rattle.miette_row_laws.proofs.Paling.{pale_blank, pale_cons, pale_nil, pale_styled, rows_append, rows_cons, rows_nil}
+use Rattle.miette_row_laws.proofs.Paling.{pale_blank, pale_cons, pale_nil, pale_styled, rows_append, rows_cons}
+use Rattle.miette_row_laws.proofs.Paling.{rows_nil}
 use Rattle.miette_row_laws.proofs.PlainStyles.{are_faded}
 use Rattle.miette_fix_laws.proofs.CleanLines.{AreCleanEdits, AreCleanShown, IsCleanFrame, frames_clean}
 

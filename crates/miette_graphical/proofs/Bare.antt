@@ -1,6 +1,7 @@
 -- Answers without a highlighter. Where every source always reads they say nothing: the text is the one in which nothing
 -- is listed.
-use Rattle.std.proofs.Common.{◌≡◌, ℕ, zero, suc, Bool, true, List, [], ◌∷◌, drop, map, refl, sym, ap, ◌∙◌, length, subst}
+use Rattle.std.proofs.Common.{◌≡◌, ℕ, zero, suc, Bool, true, List, [], ◌∷◌, drop, map, refl, sym, ap, ◌∙◌, length}
+use Rattle.std.proofs.Common.{subst}
 use Rattle.miette_tree.specs.rules.Tree.{Tree, tree}
 use Rattle.miette_style.specs.rules.Themes.{Styles}
 use Rattle.miette_row_laws.specs.laws.Fading.{unhighlighted_answer}
@@ -28,7 +29,8 @@ use Rattle.miette_graphical.proofs.PrintedAnswers.{reads_there}
 
 -- ---- the parts of such answers
 
-pub first-bare-source : (a : SourceAnswers) → unhighlighted_answer (first_source a) ≡ first_source (map unhighlighted_answer a)
+pub first-bare-source : (a : SourceAnswers) → unhighlighted_answer (first_source a) ≡ first_source
+    (map unhighlighted_answer a)
 first-bare-source [] = refl
 first-bare-source (own ∷ more) = refl
 

@@ -1,6 +1,7 @@
 -- The rows of snippets under answers: where nothing fails, they are those in which nothing is listed.
 use Rattle.std.proofs.Common.{◌≡◌, ◌≢◌, ℕ, Bool, true, false, ◌||◌, if◌then◌else◌, inl, inr, List, [], ◌∷◌, refl, sym}
-use Rattle.std.proofs.Common.{ap, ap₂, ◌∙◌, subst, Option, Some, None, is_some, option_map, codes, length, ◌<◌, ◌≤◌, arith}
+use Rattle.std.proofs.Common.{ap, ap₂, ◌∙◌, subst, Option, Some, None, is_some, option_map, codes, length, ◌<◌, ◌≤◌}
+use Rattle.std.proofs.Common.{arith}
 use Rattle.std.proofs.Common.{◌++◌, drop}
 use Rattle.std.proofs.lemmas.Bool.{cases_Bool}
 use Rattle.miette_protocol.specs.views.Meaning.{Label}
@@ -46,7 +47,8 @@ refusal_none bytes fails (label ∷ labels) h =
     (refusal_none bytes (drop 1 fails) labels (later_none fails h))
 
 -- the rows of groups where nothing fails
-pub groups_given : (s : snippets.SnippetSettings) (source : Source) (labels : List Label) (a : SourceAnswer) → AlwaysReads a →
+pub groups_given : (s : snippets.SnippetSettings) (source : Source) (labels : List Label) (a : SourceAnswer) →
+    AlwaysReads a →
     rows_of_groups s source labels a (groups_of s.layout.context_lines source a.join_fails labels)
     ≡ Some (all_snippets (settings_around s labels) (spreads_of s.layout.label_lines s.layout.context_lines source
     labels) source labels
@@ -63,14 +65,16 @@ groups_given s source labels a h =
 pub none_listed : (pieces : List (List (List Highlight))) → AlwaysReads (pieces_listed pieces)
 none_listed pieces = record { labels = tt; joins = tt; places = tt }
 
-unless_same : (s : snippets.SnippetSettings) (source : Source) (labels : List Label) (a : SourceAnswer) (refused : Option Row)
+unless_same : (s : snippets.SnippetSettings) (source : Source) (labels : List Label) (a : SourceAnswer)
+    (refused : Option Row)
     → AlwaysReads a →
     rows_unless s source labels a refused ≡ rows_unless s source labels (pieces_listed a.pieces) refused
 unless_same s source labels a (Some row) h = refl
 unless_same s source labels a None h = groups_given s source labels a h
     ∙ sym (groups_given s source labels (pieces_listed a.pieces) (none_listed a.pieces))
 
-pub rows_same : (s : snippets.SnippetSettings) (source : Source) (labels : List Label) (a : SourceAnswer) → AlwaysReads a →
+pub rows_same : (s : snippets.SnippetSettings) (source : Source) (labels : List Label) (a : SourceAnswer) → AlwaysReads
+    a →
     snippet_rows s source labels a ≡ snippet_rows s source labels (pieces_listed a.pieces)
 rows_same s source labels a h =
     ap (λ r. rows_unless s source (in_order labels) a (option_map (refused_row s) r))

@@ -209,7 +209,8 @@ module _ (drawing : Drawing) where
         drawn_below (print (header n m)) n m (drawn_text drawing n m source a) [] related (inl refl),
       )
 
-  more_under : (s : Settings) (arrow : Arrow) (arrows : List Arrow) (at : Drawn) (m : Diagnosis) (source : Option Source)
+  more_under : (s : Settings) (arrow : Arrow) (arrows : List Arrow) (at : Drawn) (m : Diagnosis)
+      (source : Option Source)
       (a : Answer) (related : List ℕ) →
       HoldsUnder arrows (narrow_settings s arrow.outer arrow.is_last) at related
       → HoldsUnder (arrow ∷ arrows) s at (under s arrow m source a related)
@@ -422,7 +423,8 @@ module _ (drawing : Drawing) where
   pub text_holds : (s : Settings) (blank : Bool) (t : Tree) (bytes : List ℕ) → IsTextOf drawing s blank t bytes
       → IsHoldingText drawing s blank t bytes
   text_holds s blank t bytes printed =
-      let is : bytes ≡ encode_utf8_all (report_text drawing s t printed.1.0) = printed.2 ∙ ap encode_utf8_all printed.1.2
+      let is : bytes ≡ encode_utf8_all (report_text drawing s t printed.1.0) = printed.2 ∙ ap encode_utf8_all
+      printed.1.2
       in record {
         answers = printed.1.0;
         are = printed.1.1;

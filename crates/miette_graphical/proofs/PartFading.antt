@@ -288,7 +288,8 @@ module _ (laws : TextLaws) (hs : List Style) (bare : AreAllPlain hs) where
       (law.clean s source m a h j k) (law.fade s (faded_styles hs) source m a plain_ones))
 
   pub fades-body : (drawing : Drawing) → AreDrawings drawing
-      → (s : Settings) (m : Diagnosis) (source : Option Source) (a : Answer) (causes causes2 related related2 : List ℕ) →
+      → (s : Settings) (m : Diagnosis) (source : Option Source) (a : Answer) (causes causes2 related related2 : List ℕ)
+      →
       AreCleanSettings s → IsCleanMeaning m → IfSome source IsCleanSource → Fades causes causes2
       → Fades related related2 →
       Fades (body_over s m (drawn_text drawing s m source a) causes related)
@@ -316,5 +317,6 @@ module _ (laws : TextLaws) (hs : List Style) (bare : AreAllPlain hs) where
       (fades-append laws (print (header s m)) (print (header (faded hs s) m))
       (body_over s m (drawn_text drawing s m source a) [] related)
       (body_over (faded hs s) m (drawn_text drawing (faded hs s) m source (unhighlighted a)) [] related2)
-      (fades-header s m h k) (fades-body drawing law s m source a [] [] related related2 h k j (fades-clean laws [] refl)
+      (fades-header s m h k) (fades-body drawing law s m source a [] [] related related2 h k j
+      (fades-clean laws [] refl)
       q))

@@ -28,7 +28,8 @@ use Rattle.miette_graphical.specs.rules.PossibleAnswers.{AreAnswers, AreCauseAns
 use Rattle.miette_graphical.specs.rules.PossibleAnswers.{AreAnswersOver, HasRows, IsAnswer, IsAnswerOf}
 use Rattle.miette_tree.specs.rules.Reads.{always_reads}
 use Rattle.miette_graphical.specs.laws.Colourless.{colourless, unhighlighted_answers, unhighlighted_related_answers}
-use Rattle.miette_graphical.proofs.Bare.{first-bare-source, later-bare-sources, own-bare, cause-bare, related-bare, first-bare, later-bare}
+use Rattle.miette_graphical.proofs.Bare.{first-bare-source, later-bare-sources, own-bare, cause-bare, related-bare}
+use Rattle.miette_graphical.proofs.Bare.{first-bare, later-bare}
 
 -- in plain styles the rows have the same characters, which the layer of snippets promises
 abbrev pub AreRowsKept : Type 0

@@ -98,7 +98,8 @@ rendered-themes (Ok x) s blank t old new law ok = λ reads settings tree others 
 pub rendered-holds : {A E : Type 0} (r : Result A E) (s : Settings) (blank : Bool) (t : Tree) (old new : List ℕ)
     → ((s : Settings) (blank : Bool) (t : Tree) (bytes : List ℕ) → IsTextOf whole_drawing s blank t bytes
     → IsHoldingText whole_drawing s blank t bytes)
-    → OnOk r (Appends whole_drawing s blank t old new) → OnOk r (AppendsOne (IsHoldingText whole_drawing s blank t) old new)
+    → OnOk r (Appends whole_drawing s blank t old new) → OnOk r
+    (AppendsOne (IsHoldingText whole_drawing s blank t) old new)
 rendered-holds (Err e) s blank t old new law ok = tt
 rendered-holds (Ok x) s blank t old new law ok =
     let bytes : List ℕ = ok.text in record {

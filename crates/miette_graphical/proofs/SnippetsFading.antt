@@ -139,7 +139,8 @@ abbrev pub text_of : List (List Glyph) → List ℕ
 text_of [] = []
 text_of (pieces ∷ more) = codes_of pieces ++ line_feed ++ text_of more
 
-pub bare_rows : (rows : List Row) → rows_text (map (map plain_run) (map runs_of_row rows)) ≡ text_of (map glyphs_of rows)
+pub bare_rows : (rows : List Row) → rows_text (map (map plain_run) (map runs_of_row rows)) ≡ text_of
+    (map glyphs_of rows)
 bare_rows [] = refl
 bare_rows (row ∷ rows) = ap₂ (λ x y. x ++ line_feed ++ y) (bare_row row) (bare_rows rows)
 
@@ -289,7 +290,8 @@ over_clean laws s (it ∷ more) a h k =
 drawn_fade : LayoutLaws → (s : Settings) (styles : Styles) (source : Option Source) (m : Diagnosis) (a : Answer)
     → ArePlain styles → rows_text (drawn_rows (restyled s styles) source m (unhighlighted a))
     ≡ rows_text (map (map plain_run) (drawn_rows s source m a))
-drawn_fade laws s styles source m a bare = over_fade laws (drawn_with m.snippets s) styles (sources_of source m) a.sources
+drawn_fade laws s styles source m a bare = over_fade laws (drawn_with m.snippets s) styles (sources_of source m)
+    a.sources
     bare
 
 drawn_clean : LayoutLaws → (s : Settings) (source : Option Source) (m : Diagnosis) (a : Answer) →

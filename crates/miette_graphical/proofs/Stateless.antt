@@ -230,7 +230,8 @@ mutual
       ap₂ (λ x y. x ++ y)
       (if_same s.related_as_nested _ _ _ _
       (λ y. absurd (cc))
-      (λ y. ap (λ x. title_text s m ++ body_over s m x (causes_text whole_drawing s m.severity source c (cause_answers a))
+      (λ y. ap (λ x. title_text s m ++ body_over s m x
+      (causes_text whole_drawing s m.severity source c (cause_answers a))
       (related_text whole_drawing s m.severity source r (related_answers a)))
       (rows_by f l blank s source m (own_answer a) h.0 q.0 j.0)
       ∙ ap₂ (λ x y. title_text s m ++ body_over s m (drawn_text whole_drawing s m source

@@ -158,10 +158,12 @@ one_by : (by : Printing) (outer : Option Severity)
     ++ related_calls by.settings.layout.context_lines by.settings.related_as_nested source r
     (related_answers a)))
     × (text ≡ (if nested then
-    under_arrow by.settings outer last (without_trailing (inner_text whole_drawing (narrow_settings by.settings outer last)
+    under_arrow by.settings outer last (without_trailing
+    (inner_text whole_drawing (narrow_settings by.settings outer last)
     m source (own_answer a)
     (related_text whole_drawing (narrow_settings by.settings outer last) m.severity source r (related_answers a))))
-    else title_text by.settings m ++ body_over by.settings m (drawn_text whole_drawing by.settings m source (own_answer a))
+    else title_text by.settings m ++ body_over by.settings m
+    (drawn_text whole_drawing by.settings m source (own_answer a))
     (causes_text whole_drawing by.settings m.severity source c (cause_answers a))
     (related_text whole_drawing by.settings m.severity source r (related_answers a))))
 one_by by outer source last m own c r text true p = (
@@ -428,14 +430,16 @@ pub inner_rows_fail : (nested : Bool) (source : Option Source) (t : Tree)
     → sources_read (sources_of source (head t)) ≡ false → labels_read (printed_inner nested source t) ≡ false
 inner_rows_fail nested source (tree m own c r) h = ap (λ b. b && labels_read (printed_related nested source r)) h
 
-pub sibling_below_fails : (nested : Bool) (source : Option Source) (t : Tree) → labels_read (printed_inner nested source t)
+pub sibling_below_fails : (nested : Bool) (source : Option Source) (t : Tree) → labels_read
+    (printed_inner nested source t)
     ≡ false → labels_read (printed_sibling nested source t) ≡ false
 sibling_below_fails nested source (tree m own c r) h =
     and_later (sources_read (sources_of source m)) (labels_read (printed_related nested source r))
     (labels_read (printed_causes nested source c ++ printed_related nested source r))
     (later_fails (printed_causes nested source c) (printed_related nested source r)) h
 
-pub root_below_fails : (s : Settings) (t : Tree) → labels_read (printed_inner s.related_as_nested (source_of t) t) ≡ false
+pub root_below_fails : (s : Settings) (t : Tree) → labels_read (printed_inner s.related_as_nested (source_of t) t) ≡
+    false
     → labels_read (diagnostics_of s t) ≡ false
 root_below_fails s (tree m own c r) h =
     let causes = printed_root_causes s.cause_chain s.related_as_nested (tree m own c r) in

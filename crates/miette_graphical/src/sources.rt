@@ -95,7 +95,8 @@ fn push_drawn<S: SourceCode, H: Highlighter>(
     source: SourceRef<'_, S>,
     labels: &[LabeledSpan],
 ) -> Result<(), RenderError>
-    ensures ok { OnOk result (Paints H.is_blank H.may_follow (AreDrawn (settings_with (settings_of painter.old) look.now)
+    ensures ok { OnOk result (Paints H.is_blank H.may_follow (AreDrawn
+        (settings_with (settings_of painter.old) look.now)
         (shown_source S.source source.entry) labels.now) painter.old painter.new) }
     ensures refused { (result ≡ Err RenderError.Refused) → (shown_source S.source source.entry).always_reads ≡ false }
     ensures keeps { Keeps H.is_blank painter.old painter.new }

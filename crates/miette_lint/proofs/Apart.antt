@@ -93,7 +93,8 @@ all_count n low before (fix ∷ fixes) h apart =
     let more : List (List Replacement) = before ++ (e ∷ []) ∷ [] in
     let next : counted_with n before (e ∷ []) ≡ more = ap (λ b. cond b more before) yes in
     let below : AllByRecursion (LiesBelow (next_at e)) (all_of more) =
-    subst (AllByRecursion (LiesBelow (next_at e))) (sym (all_more before e)) (below_more low e (all_of before) from h) in
+    subst (AllByRecursion (LiesBelow (next_at e))) (sym (all_more before e)) (below_more low e (all_of before) from h)
+        in
     ap (λ es. counted n (counted_with n before es) (lists_in fixes)) one
     ∙ ap (λ b. counted n b (lists_in fixes)) next
     ∙ all_count n (next_at e) more fixes below apart.2

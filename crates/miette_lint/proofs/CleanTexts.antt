@@ -1,5 +1,6 @@
 -- A fixed text of a line has no blanks at its end, and no tab after a space in those at its beginning.
-use Rattle.std.proofs.Common.{◌≡◌, ℕ, zero, suc, ◌+◌, ◌-◌, ◌%◌, ◌<◌, ◌≤◌, Bool, true, false, cond, eqb, ltb, List, [], ◌∷◌}
+use Rattle.std.proofs.Common.{◌≡◌, ℕ, zero, suc, ◌+◌, ◌-◌, ◌%◌, ◌<◌, ◌≤◌, Bool, true, false, cond, eqb, ltb, List, []}
+use Rattle.std.proofs.Common.{◌∷◌}
 use Rattle.std.proofs.Common.{◌++◌, length, take, drop, get_or, reverse, Option, Some, None, refl, sym, ap, ◌∙◌, arith}
 use Rattle.std.proofs.Common.{subst, inl, inr}
 use Rattle.std.specs.Prelude.{codes, is_none, position, take_while, All}
@@ -10,7 +11,8 @@ use Rattle.std.proofs.lemmas.List.{get_or-reverse, length-append, length-drop, l
 use Rattle.std.proofs.lemmas.List.{append-nil, take-append-drop}
 use Rattle.std.proofs.lemmas.List.Elements.{All-append, All-cons, All-drop, All-nil, All-take}
 use Rattle.std.proofs.lemmas.List.Folds.{length-prefix_len, prefix_len-append}
-use Rattle.std.proofs.lemmas.List.Sums.{prefix_len-drop_all, prefix_len-drop_no, prefix_len-le-length, prefix_len_passes}
+use Rattle.std.proofs.lemmas.List.Sums.{prefix_len-drop_all, prefix_len-drop_no, prefix_len-le-length}
+use Rattle.std.proofs.lemmas.List.Sums.{prefix_len_passes}
 use Rattle.std.proofs.lemmas.List.Sums.{prefix_len_stops}
 use Rattle.std.proofs.Math.Seq.{drop-append_seam, take-append_seam}
 use Rattle.miette_basics.proofs.Cases.{by_cases}

@@ -1,6 +1,7 @@
 -- The fixed text of a source has clean lines: nothing but lines that are too wide is found in it, and it stays.
 use Rattle.std.proofs.Common.{◌≡◌, ℕ, ◌+◌, ◌-◌, ◌<◌, ◌≤◌, Bool, true, false, cond, eqb, List, [], ◌∷◌, ◌++◌, length}
-use Rattle.std.proofs.Common.{drop, map, Option, None, refl, sym, ap, ap₂, ◌∙◌, arith, subst, inl, append_assoc, append-nil}
+use Rattle.std.proofs.Common.{drop, map, Option, None, refl, sym, ap, ap₂, ◌∙◌, arith, subst, inl, append_assoc}
+use Rattle.std.proofs.Common.{append-nil}
 use Rattle.std.specs.Prelude.{codes, slice_range, take_while}
 use Rattle.std.specs.List.{AllByRecursion, flat_map, last_or}
 use Rattle.std.specs.Option.{option_map_or}

@@ -1,5 +1,6 @@
 -- The text after all proposals is the fixed text.
-use Rattle.std.proofs.Common.{◌≡◌, ℕ, ◌+◌, ◌-◌, ◌<◌, ◌≤◌, Bool, true, false, cond, eqb, List, [], ◌∷◌, ◌++◌, length, take}
+use Rattle.std.proofs.Common.{◌≡◌, ℕ, ◌+◌, ◌-◌, ◌<◌, ◌≤◌, Bool, true, false, cond, eqb, List, [], ◌∷◌, ◌++◌, length}
+use Rattle.std.proofs.Common.{take}
 use Rattle.std.proofs.Common.{drop, refl, sym, ap, ap₂, ◌∙◌, arith, subst, inl, inr, append_assoc}
 use Rattle.std.specs.Prelude.{codes, is_none, slice_range, take_while}
 use Rattle.std.specs.List.{flat_map, prefix_len}
@@ -189,7 +190,8 @@ has_parts source at end le within =
     let some : ℕ = length text - k in
     let short : kept ≡ take some later = take-take some (end - at) later (omega (arith, size)) in
     let kept_size : length kept ≡ some = length-take-le some text (omega arith) in
-    let fits : m ≤ some = omega (arith, length-prefix_len is_blank kept, prefix_len-le-length is_blank kept, kept_size) in
+    let fits : m ≤ some = omega (arith, length-prefix_len is_blank kept, prefix_len-le-length is_blank kept, kept_size)
+        in
     let before : ℕ = end - k in
     let behind : ℕ = at + m in
     let gap : ℕ = before - behind in
@@ -241,7 +243,8 @@ line_makes source ending l fixes rest begins ends within last h =
     (omega (arith, p.order, p.to, ends, within)) p.blanks c in
     let same : bf ++ (tf ++ (ef ++ fixes)) ≡ (bf ++ (tf ++ ef)) ++ fixes =
     ap (λ xs. bf ++ xs) (sym (append_assoc tf ef fixes)) ∙ sym (append_assoc bf (tf ++ ef) fixes) in
-    let whole : even_blanks blanks ++ (drop m kept ++ (end ++ rest)) ≡ ((even_blanks blanks ++ drop m kept) ++ end) ++ rest =
+    let whole : even_blanks blanks ++ (drop m kept ++ (end ++ rest)) ≡ ((even_blanks blanks ++ drop m kept) ++ end) ++
+        rest =
     sym (append_assoc (even_blanks blanks) (drop m kept) (end ++ rest))
     ∙ sym (append_assoc (even_blanks blanks ++ drop m kept) end rest) in
     subst (λ fs. Makes source l.start fs (fixed_line source ending l ++ rest)) same

@@ -117,7 +117,8 @@ module _ (P : Type 0) (s : SnippetSettings) (hs : List Style) (bare : AreAllPlai
   pale_location_of name several None h = pale_nil P
   pale_location_of name several (Some place) h = pale_location name several place h
 
-  pub pale_top : (w : ℕ) (name : Option (List ℕ)) (several : Bool) (place : Option Place) → (P → IfSome name IsCleanText)
+  pub pale_top : (w : ℕ) (name : Option (List ℕ)) (several : Bool) (place : Option Place) →
+      (P → IfSome name IsCleanText)
       → PaleRow P (top_row_of (faded hs s) w name several place) (top_row_of s w name several place)
   pale_top w name several place h =
       pale_cons P (pale_blank P s (w + 2))

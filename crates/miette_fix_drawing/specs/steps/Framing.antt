@@ -1,5 +1,6 @@
 -- Frames in the making.
-use Rattle.std.specs.Prelude.{ℕ, ◌+◌, ◌≡◌, ◌≤◌, length, List, [], ◌∷◌, ◌++◌, take, Option, Some, option_copied, true, false}
+use Rattle.std.specs.Prelude.{ℕ, ◌+◌, ◌≡◌, ◌≤◌, length, List, [], ◌∷◌, ◌++◌, take, Option, Some, option_copied, true}
+use Rattle.std.specs.Prelude.{false}
 use Rattle.miette_source_lines.specs.rules.Lines.{line_of}
 use Rattle.miette_page.specs.rules.Rows.{Row}
 use Rattle.miette_snippet_rules.specs.rules.Frames.{top_row_of, bottom_row}

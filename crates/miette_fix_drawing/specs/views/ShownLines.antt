@@ -2,7 +2,8 @@
 use Rattle.std.specs.Prelude.{ℕ, ◌+◌, ◌<◌, ◌^◌, length, List, [], ◌∷◌, Option, Some, None, option_copied}
 use Rattle.std.specs.List.{flat_map}
 use Rattle.miette_fix_rows.specs.rules.Blocks.{line_texts}
-use Rattle.miette_fix_rows.specs.rules.DiffFrames.{DiffLine, Standing, kept, removed, added, kept_lines, removed_with, added_with}
+use Rattle.miette_fix_rows.specs.rules.DiffFrames.{DiffLine, Standing, kept, removed, added, kept_lines, removed_with}
+use Rattle.miette_fix_rows.specs.rules.DiffFrames.{added_with}
 use Rattle.miette_fix_drawing.specs.declared.segments.Segment.{Segment}
 use Rattle.miette_fix_drawing.specs.declared.segments.ShownLine.{ShownLine}
 use Rattle.miette_fix_drawing.specs.declared.segments.Kind.{Kind}

@@ -4,7 +4,8 @@ use Rattle.miette_runs.specs.rules.Runs.{Fragment}
 use Rattle.miette_graphical.specs.declared.indents.TextKind.{TextKind}
 use Rattle.miette_graphical.specs.declared.indents.TextKind.TheVariants.{Cause, Fix, Footer, Help, Message}
 use Rattle.miette_graphical.specs.rules.Settings.{Settings}
-use Rattle.miette_graphical.specs.rules.Indents.{arrow_indent, bar_indent, fix_indent, footer_indent, further_fix_indent}
+use Rattle.miette_graphical.specs.rules.Indents.{arrow_indent, bar_indent, fix_indent, footer_indent}
+use Rattle.miette_graphical.specs.rules.Indents.{further_fix_indent}
 use Rattle.miette_graphical.specs.rules.Indents.{further_help_indent, help_indent, icon_indent, stem_indent}
 
 -- in front of the first row

@@ -1,5 +1,6 @@
 -- What `lint` proposes for what it finds, line by line, and a source after all of it.
-use Rattle.std.specs.Prelude.{ℕ, ◌+◌, ◌-◌, ◌%◌, ◌==◌, if◌then◌else◌, List, [], ◌∷◌, ◌++◌, codes, drop, flat_map, is_none}
+use Rattle.std.specs.Prelude.{ℕ, ◌+◌, ◌-◌, ◌%◌, ◌==◌, if◌then◌else◌, List, [], ◌∷◌, ◌++◌, codes, drop, flat_map}
+use Rattle.std.specs.Prelude.{is_none}
 use Rattle.std.specs.Prelude.{length, slice_range, take, take_while}
 use Rattle.miette_source_lines.specs.rules.Lines.{Line, LF, is_terminated, lines_of}
 use Rattle.miette_protocol.specs.views.Meaning.{Label}

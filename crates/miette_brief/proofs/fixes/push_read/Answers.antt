@@ -1,4 +1,5 @@
-use Rattle.std.proofs.Common.{◌≢◌, ◌≡◌, List, Some, ap, sym, subst, ◌∙◌, ◌++◌, length, string_bytes, option_copied, codes}
+use Rattle.std.proofs.Common.{◌≢◌, ◌≡◌, List, Some, ap, sym, subst, ◌∙◌, ◌++◌, length, string_bytes, option_copied}
+use Rattle.std.proofs.Common.{codes}
 use Rattle.std.proofs.lemmas.Result.{on_ok_weaker}
 use Rattle.miette_fixes.specs.declared.error.FixError.TheVariants.{Memory}
 use Rattle.miette_fixes.specs.rules.Applying.{refusal}

@@ -64,4 +64,5 @@ returns-in_err-push_further_notes-clause-refused g c = λ h.
     c.args.order.now c.labels_of-labels.ensures c.requires.ordered _ _ c.further_snippets-further.ensures
     (further_refused (option_map (shown_source g.S.SourceCode.source) c.args.source)
     (map (label c.labels_of-labels.result.now) c.args.order.now)
-    (map (section_of g.S.SourceCode.source) c.further_snippets-further.result.now) (c.in_err-push_further_notes.ensures.refused (search rules)))
+    (map (section_of g.S.SourceCode.source) c.further_snippets-further.result.now)
+    (c.in_err-push_further_notes.ensures.refused (search rules)))

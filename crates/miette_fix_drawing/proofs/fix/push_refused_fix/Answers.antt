@@ -17,7 +17,8 @@ returns g c =
     let end = c.push_ascii-5.new.page in
     row_done (styled_run width_of plain (codes "  [") ∷ what) c.args.page.now end c.end_row.new.self
     (run_then width_of plain (codes "  [") what c.args.page.now c.push_ascii.new.page end c.in_ok-push_ascii.ensures
-    (run_then width_of styles.error (codes "Failed to apply fix") colon c.push_ascii.new.page c.push_ascii-2.new.page end
+    (run_then width_of styles.error (codes "Failed to apply fix") colon c.push_ascii.new.page c.push_ascii-2.new.page
+    end
     c.in_ok-push_ascii-2.ensures
     (run_then width_of plain (codes ": ") name c.push_ascii-2.new.page c.push_ascii-3.new.page end
     c.in_ok-push_ascii-3.ensures

@@ -28,7 +28,8 @@ returns-clause-lines c =
     let left : c.saturating_sub-left.result ≡ left_before c.args.context (hunk_of c.args.hunk.now) =
     search rules in
     c.in_ok-push_hunk.ensures
-    ∙ ap (λ items. lines_of_segments items ++ (kept_lines (line_texts (take (length bytes - n) (drop n bytes))) ++ changed))
+    ∙ ap (λ items. lines_of_segments items ++
+    (kept_lines (line_texts (take (length bytes - n) (drop n bytes))) ++ changed))
     c.new-lines.ensures.items
     ∙ ap (λ ls. kept_lines ls ++ changed)
     (rest_texts bytes n c.saturating_sub-left.result c.first_lines-shown_from.ensures.size

@@ -17,5 +17,6 @@ returns-clause-rows g c =
     c.push_top_row.new.page c.push_lines.new.page c.push_bottom_row.new.page c.args.frame.now.largest c.digits.ensures
     c.requires.largest c.place_of.ensures.line c.place_of.ensures.column c.in_ok-push_top_row.ensures
     (c.in_ok-push_lines.ensures
-    ∙ ap (λ items. c.push_top_row.new.page ⊕ rows_tokens (rows_of_lines (context_over c.args.drawing.now c.digits.result)
+    ∙ ap (λ items. c.push_top_row.new.page ⊕ rows_tokens
+    (rows_of_lines (context_over c.args.drawing.now c.digits.result)
     (standing_of c.args.frame.now.at) (lines_of_segments items))) c.deref.ensures.value) h) c.push_bottom_row.ensures

@@ -16,7 +16,8 @@ loop-i-preserved c =
     let next = lines_of_segments c.push_hunk.new.list.items in
     let near : is_near context hunk ≡ true = search (rules, c.is_near.ensures, c.if-not-is_near.false) in
     let items : hunks_of (drop c.loop-i.i hunks) ≡ hunk ∷ more =
-    ap hunks_of (item_first hunks c.loop-i.i c.index-hunks-i.result (omega (arith, c.loop-i-test.true, c.loop-i.auto.i-end))
+    ap hunks_of (item_first hunks c.loop-i.i c.index-hunks-i.result
+    (omega (arith, c.loop-i-test.true, c.loop-i.auto.i-end))
     c.index-hunks-i.is) in
     record {
       lines = λ behind. near_lines context behind hunk more made next near c.in_ok-push_hunk.ensures

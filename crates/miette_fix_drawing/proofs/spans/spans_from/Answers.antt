@@ -11,7 +11,8 @@ use Rattle.miette_fix_drawing.proofs.spans.spans_from.Goals as goal
 
 ends : (s r : Span) (offset : ℕ) → r ≡ s → nat_lt (r.offset + r.len) offset ≡ true → s.offset + s.len < offset
 ends s r offset e t =
-    let own : nat_lt (s.offset + s.len) offset ≡ true = ap (λ (x : Span). nat_lt (x.offset + x.len) offset) (sym e) ∙ t in
+    let own : nat_lt (s.offset + s.len) offset ≡ true = ap (λ (x : Span). nat_lt (x.offset + x.len) offset) (sym e) ∙ t
+    in
     grind (arith, nat_tests)
 
 pub returns-then-ends_before-clause-apart : goal.returns-then-ends_before-clause-apart
@@ -24,7 +25,8 @@ returns-then-ends_before-clause-held c = λ cell le.
     ap (list_any (holds_byte cell)) (take_rest c.args.spans.now c.partition_point-many.result)
     ∙ left_out (list_any (holds_byte cell)) c.args.offset (held_later cell c.args.offset le) c.args.spans.now
     c.partition_point-many.result c.index-spans-many.result c.requires c.if-many-gt0.true c.if-many-spans.true
-    (ends _ c.index-spans-many.result c.args.offset c.index-spans-many.is (sym c.ends_before.ensures ∙ c.if-ends_before.true))
+    (ends _ c.index-spans-many.result c.args.offset c.index-spans-many.is
+    (sym c.ends_before.ensures ∙ c.if-ends_before.true))
 
 pub returns-then-ends_before-clause-parts : goal.returns-then-ends_before-clause-parts
 returns-then-ends_before-clause-parts c = λ bytes style.
@@ -32,11 +34,13 @@ returns-then-ends_before-clause-parts c = λ bytes style.
     ∙ left_out (parts_in c.args.offset bytes style) c.args.offset (parts_later c.args.offset bytes style)
     c.args.spans.now c.partition_point-many.result c.index-spans-many.result c.requires c.if-many-gt0.true
     c.if-many-spans.true
-    (ends _ c.index-spans-many.result c.args.offset c.index-spans-many.is (sym c.ends_before.ensures ∙ c.if-ends_before.true))
+    (ends _ c.index-spans-many.result c.args.offset c.index-spans-many.is
+    (sym c.ends_before.ensures ∙ c.if-ends_before.true))
 
 pub returns-then-ends_before-clause-on : goal.returns-then-ends_before-clause-on
 returns-then-ends_before-clause-on c = λ line.
     ap (filter (is_on c.args.offset line)) (take_rest c.args.spans.now c.partition_point-many.result)
     ∙ left_out (filter (is_on c.args.offset line)) c.args.offset (on_later c.args.offset line) c.args.spans.now
     c.partition_point-many.result c.index-spans-many.result c.requires c.if-many-gt0.true c.if-many-spans.true
-    (ends _ c.index-spans-many.result c.args.offset c.index-spans-many.is (sym c.ends_before.ensures ∙ c.if-ends_before.true))
+    (ends _ c.index-spans-many.result c.args.offset c.index-spans-many.is
+    (sym c.ends_before.ensures ∙ c.if-ends_before.true))

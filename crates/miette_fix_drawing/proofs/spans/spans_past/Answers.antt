@@ -11,7 +11,8 @@ pub loop-i-preserved : goal.loop-i-preserved
 loop-i-preserved c = λ cell le.
     any_at (holds_byte cell) c.args.spans.now c.loop-i.i c.index-spans-i.result c.loop-i-test.true
     (ap (holds_byte cell) (sym c.index-spans-i.is)
-    ∙ ended cell c.index-spans-i.result c.args.offset (sym c.ends_by.ensures ∙ c.if-not-ends_by.false) le) ∙ c.loop-i.invariant cell le
+    ∙ ended cell c.index-spans-i.result c.args.offset (sym c.ends_by.ensures ∙ c.if-not-ends_by.false) le) ∙
+    c.loop-i.invariant cell le
 
 pub returns-then-not-ends_by-clause-apart : goal.returns-then-not-ends_by-clause-apart
 returns-then-not-ends_by-clause-apart c =
