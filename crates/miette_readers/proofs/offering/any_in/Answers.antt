@@ -1,0 +1,15 @@
+use Rattle.std.proofs.Common.{◌≡◌, ◌∙◌, Bor, rules, tests}
+use Rattle.std.specs.List.{list_any}
+use Rattle.std.proofs.lemmas.Iterator.{YieldsList-from_slice}
+use Rattle.std.proofs.lemmas.Iterator.Search.{any_from_yields_List}
+use Rattle.miette_readers.proofs.Steps.{any_of}
+use Rattle.miette_readers.specs.rules.Proposing.{FileEdit, is_in}
+use Rattle.miette_readers.proofs.offering.any_in.Goals as goal
+
+pub returns : goal.returns
+returns c =
+    let behind = λ (e : Bor FileEdit). e.now in
+    let edits = c.args.edits.now in
+    any_from_yields_List (λ e. is_in c.args.name.now (behind e)) _ _ _ c.any.ensures.ran
+    (YieldsList-from_slice edits cc) (λ x b q k. search (rules, tests))
+    ∙ any_of behind (is_in c.args.name.now) edits

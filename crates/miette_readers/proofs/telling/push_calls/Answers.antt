@@ -1,0 +1,24 @@
+use Rattle.std.proofs.Common.{◌≡◌, ◌∷◌, [], ◌++◌, Bor, Some, None, ap, ◌∙◌, rules}
+use Rattle.serde_json.specs.View.{view}
+use Rattle.serde_json.specs.declared.value.Value.{Value}
+use Rattle.miette_readers.specs.rules.Rustc.{macro_told}
+use Rattle.miette_readers.proofs.Steps.{found_more, found_no_more}
+use Rattle.miette_readers.proofs.telling.push_calls.Goals.{in-Some+in_ok-push, in_default}
+use Rattle.miette_readers.proofs.telling.push_calls.Goals as goal
+
+pub loop-span-preserved : goal.loop-span-preserved
+loop-span-preserved g c =
+    let files = g.F.Files.found c.args.files.now in
+    let l = c.loop-span in
+    let initial = c.args.list.now.items in
+    let look = λ (v : Bor Value). view v.now in
+    elim c.match-branch-2.branch [
+      | in-Some+in_ok-push w ↦
+          found_more look c.args.spans.now l.span-index c.span-item.result c.loop-span-test.true c.span-item.is
+          (macro_told files) initial l.list.items c.match-branch-2.list.items w.in-Some.told (search rules)
+          (ap (λ v. v.items) w.list-is ∙ w.in_ok-push.ensures.items) l.invariant
+      | in_default w ↦
+          found_no_more look c.args.spans.now l.span-index c.span-item.result c.loop-span-test.true c.span-item.is
+          (macro_told files) initial c.match-branch-2.list.items (search rules)
+          (ap (λ v. v.items) w.list-is ∙ l.invariant)
+    ]

@@ -1,0 +1,7 @@
+-- What users rely on, in the words of docs/RULES.md.
+pub mod Members
+pub mod Places
+pub mod Settling
+pub mod Proposing
+pub mod Rustc
+pub mod RustcReport

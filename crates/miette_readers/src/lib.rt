@@ -1,0 +1,15 @@
+//! Reports from what compilers and linters write for machines.
+#![tactic(auto)]
+
+pub mod files;
+mod members;
+mod offering;
+mod offers;
+mod place;
+pub mod rustc;
+mod settle;
+mod settling;
+mod spans;
+pub mod table;
+mod telling;
+mod tree;

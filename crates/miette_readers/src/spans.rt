@@ -1,0 +1,246 @@
+//! Spans of rustc's messages.
+
+ghost use Rattle.std.specs.Prelude.{◌≡◌, ◌++◌, IfOk, OnOk, filter, not, option_map};
+ghost use Rattle.std.specs.Option.{option_copied};
+ghost use Rattle.serde_json.specs.View.{view};
+ghost use Rattle.miette_readers.specs.rules.Rustc.{call_of, call_text, edits_of, expansion_of, file_name, holds_span};
+ghost use Rattle.miette_readers.specs.rules.Rustc.{is_attribute, is_derive, is_invocation};
+ghost use Rattle.miette_readers.specs.rules.Rustc.{is_primary, is_secondary, outermost_from, place_of, proposes};
+ghost use Rattle.miette_readers.specs.rules.Rustc.{spans_of, standing, standing_from, stretch_of, tells};
+ghost use Rattle.miette_readers.specs.views.Values.{seen, viewed};
+
+use crate::files::Files;
+use crate::members::{flag_at, found_at, items_at, said_at, text_at, whole_at};
+use crate::place::{Place, Stretch};
+use serde_json::Value;
+use std::alloc::{AllocError, Global};
+
+// How many calls of macros stand in one another at most: JSON that is read nests no deeper.
+const CALLS: usize = 64;
+
+/// Its bytes, where both offsets are there.
+pub(crate) fn stretch_of(span: &Value) -> Option<Stretch>
+    ensures { result ≡ stretch_of (view span.now) }
+{
+    let start = whole_at(span, "byte_start")?;
+    let end = whole_at(span, "byte_end")?;
+    Some(Stretch {
+        start: start as usize,
+        end: end as usize,
+    })
+}
+
+/// The name of its file.
+pub(crate) fn file_name(span: &Value) -> &str
+    ensures { result.now ≡ file_name (view span.now) }
+{
+    text_at(span, "file_name").unwrap_or("")
+}
+
+/// The place that it tells.
+pub(crate) fn place_of(span: &Value) -> Place<'_>
+    ensures { result ≡ place_of (view span.now) }
+{
+    Place {
+        name: file_name(span),
+        stretch: stretch_of(span),
+        line: whole_at(span, "line_start").unwrap_or(0),
+        column: whole_at(span, "column_start").unwrap_or(0),
+    }
+}
+
+/// Whether it is a primary one.
+pub(crate) fn is_primary(span: &Value) -> bool
+    ensures { result ≡ is_primary (view span.now) }
+{
+    flag_at(span, "is_primary")
+}
+
+/// Whether it is an edit.
+pub(crate) fn proposes(span: &Value) -> bool
+    ensures { result ≡ proposes (view span.now) }
+{
+    text_at(span, "suggested_replacement").is_some()
+}
+
+/// Whether it is no edit, or has a label beside it.
+fn tells(span: &Value) -> bool
+    ensures { result ≡ tells (view span.now) }
+{
+    !proposes(span) || said_at(span, "label").is_some()
+}
+
+/// Appends those of spans that are primary.
+fn push_primary<'v>(list: &mut Vec<&'v Value>, spans: &'v [Value]) -> Result<(), AllocError>
+    ensures { OnOk result (seen list.new.items ≡ seen list.old.items ++ filter is_primary (viewed spans.now)) }
+{
+    for span in spans {
+        if is_primary(span) {
+            list.push(span)?;
+        }
+    }
+    Ok(())
+}
+
+/// Appends those of spans that aren't primary.
+fn push_secondary<'v>(list: &mut Vec<&'v Value>, spans: &'v [Value]) -> Result<(), AllocError>
+    ensures { OnOk result (seen list.new.items ≡ seen list.old.items ++ filter is_secondary (viewed spans.now)) }
+{
+    for span in spans {
+        if !is_primary(span) {
+            list.push(span)?;
+        }
+    }
+    Ok(())
+}
+
+/// The spans of a message, a note or a help, those that are primary first.
+pub(crate) fn spans_of<'v>(alloc: Global, message: &'v Value) -> Result<Vec<&'v Value>, AllocError>
+    ensures { IfOk result (λ list. seen list.items ≡ spans_of (view message.now)) }
+{
+    let spans = items_at(message, "spans");
+    let mut list = Vec::new(alloc);
+    push_primary(&mut list, spans)?;
+    push_secondary(&mut list, spans)?;
+    Ok(list)
+}
+
+/// Those of spans that tell something beside an edit.
+pub(crate) fn telling<'v>(alloc: Global, spans: &[&'v Value]) -> Result<Vec<&'v Value>, AllocError>
+    ensures { IfOk result (λ list. seen list.items ≡ filter tells (seen spans.now)) }
+{
+    let mut list = Vec::new(alloc);
+    for span in spans {
+        let span = *span;
+        if tells(span) {
+            list.push(span)?;
+        }
+    }
+    Ok(list)
+}
+
+/// Appends those of spans that are edits.
+fn push_edits<'v>(list: &mut Vec<&'v Value>, spans: &'v [Value]) -> Result<(), AllocError>
+    ensures { OnOk result (seen list.new.items ≡ seen list.old.items ++ filter proposes (viewed spans.now)) }
+{
+    for span in spans {
+        if proposes(span) {
+            list.push(span)?;
+        }
+    }
+    Ok(())
+}
+
+/// The edits that a note or a help proposes.
+pub(crate) fn edits_of<'v>(alloc: Global, child: &'v Value) -> Result<Vec<&'v Value>, AllocError>
+    ensures { IfOk result (λ list. seen list.items ≡ edits_of (view child.now)) }
+{
+    let mut list = Vec::new(alloc);
+    push_edits(&mut list, items_at(child, "spans"))?;
+    Ok(list)
+}
+
+/// What a span says of the macro that it stands in.
+pub(crate) fn expansion_of(span: &Value) -> Option<&Value>
+    ensures { option_map (λ v. view v.now) result ≡ expansion_of (view span.now) }
+{
+    let found = found_at(span, "expansion")?;
+    if found.is_object() { Some(found) } else { None }
+}
+
+/// Where the macro was called that a span stands in.
+fn call_of(span: &Value) -> Option<&Value>
+    ensures { option_map (λ v. view v.now) result ≡ call_of (view span.now) }
+{
+    found_at(expansion_of(span)?, "span")
+}
+
+/// The first span whose file is there, of this one and so many calls of macros.
+#[tactic(auto, unfolding(crate::specs::rules::Rustc::standing_from))]
+fn standing_from<'v, F: Files>(files: &F, span: &'v Value, left: usize) -> Option<&'v Value>
+    ensures { option_map (λ v. view v.now) result ≡ standing_from (F.found files.now) left (view span.now) }
+{
+    if left == 0 {
+        return None;
+    }
+    if files.find(file_name(span)).is_some() {
+        return Some(span);
+    }
+    standing_from(files, call_of(span)?, left - 1)
+}
+
+/// Where a span stands whose file may not be there.
+pub(crate) fn standing<'v, F: Files>(files: &F, span: &'v Value) -> &'v Value
+    ensures { view result.now ≡ standing (F.found files.now) (view span.now) }
+{
+    match standing_from(files, span, CALLS) {
+        Some(found) => found,
+        None => span,
+    }
+}
+
+/// What is said of the outermost of so many calls of macros.
+#[tactic(auto, unfolding(crate::specs::rules::Rustc::outermost_from))]
+pub(crate) fn outermost_from(expansion: &Value, left: usize) -> &Value
+    ensures { view result.now ≡ outermost_from left (view expansion.now) }
+{
+    if left == 0 {
+        return expansion;
+    }
+    let Some(span) = found_at(expansion, "span") else {
+        return expansion;
+    };
+    match expansion_of(span) {
+        Some(outer) => outermost_from(outer, left - 1),
+        None => expansion,
+    }
+}
+
+/// Whether two spans are in one file, the second within the first.
+pub(crate) fn holds_span(outer: &Value, inner: &Value) -> bool
+    ensures { result ≡ holds_span (view outer.now) (view inner.now) }
+{
+    if file_name(outer) != file_name(inner) {
+        return false;
+    }
+    match (stretch_of(outer), stretch_of(inner)) {
+        (Some(outer), Some(inner)) => outer.holds(inner),
+        _ => false,
+    }
+}
+
+/// Whether a macro of this name is a derive.
+fn is_derive(name: &str) -> bool
+    ensures { result ≡ is_derive name.now }
+{
+    name.starts_with("#[derive(")
+}
+
+/// Whether a macro of this name is an attribute.
+fn is_attribute(name: &str) -> bool
+    ensures { result ≡ is_attribute name.now }
+{
+    name.starts_with("#[")
+}
+
+/// Whether a macro of this name is called with `!`.
+fn is_invocation(name: &str) -> bool
+    ensures { result ≡ is_invocation name.now }
+{
+    name.ends_with("!")
+}
+
+/// What rustc itself says at the outermost call of a macro.
+pub(crate) fn call_text(name: &str) -> Option<&'static str>
+    ensures { option_copied result ≡ call_text name.now }
+{
+    if is_derive(name) {
+        Some("in this derive macro expansion")
+    } else if is_attribute(name) {
+        Some("in this attribute macro expansion")
+    } else if is_invocation(name) {
+        Some("in this macro invocation")
+    } else {
+        None
+    }
+}
