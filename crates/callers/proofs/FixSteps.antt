@@ -38,4 +38,4 @@ colon_told h t p q all =
     subst (λ u. AllByRecursion (FixesAreTold plain) (diagnostics_of plain u)) q
     (subst (λ g. AllByRecursion (FixesAreTold g.settings) (diagnostics_of g.settings t)) p all) in
     let told : TellsChanges plain code_file colon.edits = (known.0 refl).0 refl in
-    record { rows = told.rows; before = told.before; after = told.after }
+    record { rows = told.rows; frames = told.frames; before = told.before; after = told.after }
