@@ -142,7 +142,7 @@ fn word_part(word: Broken, cuts: Cuts, codes: &[char]) -> Result<(Part, Broken),
 impl Stop for Broken {
     ghost stop = { never };
 
-    ghost letters = { λ _ _. refl };
+    ghost solid = { λ _ _. refl };
 
     fn is_stop(_code: char) -> bool {
         false
