@@ -21,6 +21,7 @@ pub mod SpaceWords
 pub mod BreakWords
 pub mod BreakParts
 pub mod SolidRuns
+pub mod PrintedRuns
 pub mod Passing
 pub mod LineWise
 pub mod InterleavedCells

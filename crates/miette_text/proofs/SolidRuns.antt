@@ -29,10 +29,10 @@ more_solid : (b : Bool) (n k : ℕ) → suc k ≤ (if b then suc n else 0) → (
 more_solid true n k h = (refl, omega (arith, h))
 more_solid false n k h = absurd (omega (arith, h))
 
-abbrev chosen : Bool → Bool → Bool → ℕ → ℕ
+abbrev pub chosen : Bool → Bool → Bool → ℕ → ℕ
 chosen ends wide hyphen more = if ends then 0 else if wide then 0 else if hyphen then 1 else suc more
 
-has_room : (narrow used w : ℕ) → w ≡ 1 → used + 1 ≤ narrow → nat_lt narrow (used + w) ≡ false
+pub has_room : (narrow used w : ℕ) → w ≡ 1 → used + 1 ≤ narrow → nat_lt narrow (used + w) ≡ false
 has_room narrow used w h r = grind (arith, nat_tests)
 
 -- those that have room are in the part
