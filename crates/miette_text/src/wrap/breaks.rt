@@ -12,7 +12,9 @@ ghost use Rattle.miette_text.specs.views.Cutting.{word_cuts};
 ghost use Rattle.miette_runs.specs.rules.Cells.{Cell};
 ghost use Rattle.miette_runs.specs.steps.Cells.{code_columns};
 
-use crate::wrap::ends::{Cuts, Letters, Part, Stop, Words, bare_len, first_part, gap_len, letters_len};
+use crate::wrap::ends::{
+    Cuts, Letters, Part, Stop, Words, bare_len, first_part, gap_len, letters_len,
+};
 use miette_line_breaks::breaks::State;
 use std::alloc::AllocError;
 

@@ -1,4 +1,4 @@
-use Rattle.std.proofs.Common.{◌≡◌, ◌∙◌, ℕ, ap, arith, length, refl, sym, take}
+use Rattle.std.proofs.Common.{◌≡◌, ◌∙◌, ap, arith, length, sym, take}
 use Rattle.std.proofs.lemmas.List.{length-take-le, take-take}
 use Rattle.miette_runs.specs.steps.Cells.{code_columns}
 use Rattle.miette_text.specs.declared.wrap.WordSeparator.TheVariants.{UnicodeBreakProperties}
