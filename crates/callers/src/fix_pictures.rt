@@ -37,7 +37,7 @@ pub fn draw_fix(alloc: Global, report: &Report) -> Result<String, RenderError>
         ⟦<Box<dyn SourceCode> as SourceCode>⟧.source report.now ≡ colon_tree }
     // the fix stands in the text: by `holds`
     ensures stands { IfOk result (λ text. FixStands (string_bytes text)) }
-    // its rows leave out none but unchanged lines of the file, and of that with the colon: by `fixes`
+    // its rows leave out only lines that the file and that with the colon share: by `fixes`
     ensures lines { IfOk result (λ text. TellsColon) }
 {
     let mut text = String::new(alloc);
