@@ -94,7 +94,7 @@ all_count n low before (fix ∷ fixes) h apart =
     let next : counted_with n before (e ∷ []) ≡ more = ap (λ b. cond b more before) yes in
     let below : AllByRecursion (LiesBelow (next_at e)) (all_of more) =
     subst (AllByRecursion (LiesBelow (next_at e))) (sym (all_more before e)) (below_more low e (all_of before) from h)
-        in
+    in
     ap (λ es. counted n (counted_with n before es) (lists_in fixes)) one
     ∙ ap (λ b. counted n b (lists_in fixes)) next
     ∙ all_count n (next_at e) more fixes below apart.2
@@ -116,7 +116,7 @@ all_are_taken n low before (fix ∷ fixes) h apart =
     let next : counted_with n before (e ∷ []) ≡ more = ap (λ b. cond b more before) yes in
     let below : AllByRecursion (LiesBelow (next_at e)) (all_of more) =
     subst (AllByRecursion (LiesBelow (next_at e))) (sym (all_more before e)) (below_more low e (all_of before) from h)
-        in
+    in
     ap (λ es. is_taken n before es ∷ taken n (counted_with n before es) (lists_in fixes)) one
     ∙ ap (λ b. (b || is_among (e ∷ []) before) ∷ taken n (counted_with n before (e ∷ [])) (lists_in fixes)) yes
     ∙ ap (λ bs. true ∷ taken n bs (lists_in fixes)) next

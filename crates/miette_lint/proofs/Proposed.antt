@@ -191,7 +191,7 @@ has_parts source at end le within =
     let short : kept ≡ take some later = take-take some (end - at) later (omega (arith, size)) in
     let kept_size : length kept ≡ some = length-take-le some text (omega arith) in
     let fits : m ≤ some = omega (arith, length-prefix_len is_blank kept, prefix_len-le-length is_blank kept, kept_size)
-        in
+    in
     let before : ℕ = end - k in
     let behind : ℕ = at + m in
     let gap : ℕ = before - behind in
@@ -244,7 +244,7 @@ line_makes source ending l fixes rest begins ends within last h =
     let same : bf ++ (tf ++ (ef ++ fixes)) ≡ (bf ++ (tf ++ ef)) ++ fixes =
     ap (λ xs. bf ++ xs) (sym (append_assoc tf ef fixes)) ∙ sym (append_assoc bf (tf ++ ef) fixes) in
     let whole : even_blanks blanks ++ (drop m kept ++ (end ++ rest)) ≡ ((even_blanks blanks ++ drop m kept) ++ end) ++
-        rest =
+    rest =
     sym (append_assoc (even_blanks blanks) (drop m kept) (end ++ rest))
     ∙ sym (append_assoc (even_blanks blanks ++ drop m kept) end rest) in
     subst (λ fs. Makes source l.start fs (fixed_line source ending l ++ rest)) same
