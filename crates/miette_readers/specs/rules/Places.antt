@@ -1,6 +1,6 @@
 -- Places in files, and what a message tells of them.
 use Rattle.std.specs.Prelude.{ℕ, ◌-◌, List, [], ◌∷◌, ◌++◌, Option, Some, None, Bool, ◌&&◌, ◌||◌, ◌==◌, nat_lt, nat_le}
-use Rattle.std.specs.Prelude.{if◌then◌else◌, option_and_then, max, min, length, slice_range, count_by, unwrap_or, decimal}
+use Rattle.std.specs.Prelude.{max, min, length, slice_range, count_by, decimal}
 use Rattle.std.specs.Prelude.{codes}
 use Rattle.std.specs.List.{fold}
 

@@ -1,4 +1,4 @@
-use Rattle.std.proofs.Common.{◌≡◌, [], Bor, Some, None, true, false, ap, sym, rules}
+use Rattle.std.proofs.Common.{◌≡◌, [], Bor, Some, None, false, ap, sym, rules}
 use Rattle.std.specs.List.{filter_map}
 use Rattle.std.specs.Prelude.{if◌then◌else◌}
 use Rattle.serde_json.specs.View.{view}

@@ -1,4 +1,4 @@
-use Rattle.std.proofs.Common.{◌≡◌, ◌∷◌, [], ◌++◌, Some, None, ap, ◌∙◌, rules}
+use Rattle.std.proofs.Common.{ap, ◌∙◌, rules}
 use Rattle.serde_json.specs.View.{view}
 use Rattle.miette_readers.specs.rules.RustcReport.{offer_of}
 use Rattle.miette_readers.proofs.Steps.{found_more, found_no_more}

@@ -1,4 +1,4 @@
-use Rattle.std.proofs.Common.{◌≡◌, ◌∷◌, [], ◌++◌, Bor, Some, None, ap, ◌∙◌, rules}
+use Rattle.std.proofs.Common.{Bor, ap, ◌∙◌, rules}
 use Rattle.serde_json.specs.View.{view}
 use Rattle.serde_json.specs.declared.value.Value.{Value}
 use Rattle.miette_readers.specs.rules.Rustc.{macro_told}

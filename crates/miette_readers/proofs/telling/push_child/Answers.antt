@@ -1,4 +1,4 @@
-use Rattle.std.proofs.Common.{◌≡◌, ℕ, ◌<◌, List, [], ◌∷◌, ◌++◌, Bool, false, Bor, length, OnOk, ap, sym, refl, subst, ◌∙◌}
+use Rattle.std.proofs.Common.{◌≡◌, ◌<◌, List, [], ◌∷◌, ◌++◌, Bool, false, Bor, length, OnOk, ap, sym, refl, subst, ◌∙◌}
 use Rattle.std.proofs.Common.{rules, arith}
 use Rattle.std.specs.Prelude.{if◌then◌else◌, not, filter}
 use Rattle.serde_json.specs.Data.{Data}

@@ -1,4 +1,4 @@
-use Rattle.std.proofs.Common.{◌≡◌, [], ◌∷◌, ◌++◌, take, map}
+use Rattle.std.proofs.Common.{◌≡◌, [], ◌++◌, take, map}
 use Rattle.miette_readers.specs.rules.Rustc.{note_told}
 use Rattle.miette_readers.specs.views.Values.{seen}
 use Rattle.miette_readers.proofs.telling.push_leading.Given as goal
