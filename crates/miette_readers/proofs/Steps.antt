@@ -1,6 +1,6 @@
 -- One item more of a list that a loop goes over, and one of several items, by what is seen of it.
-use Rattle.std.proofs.Common.{◌≡◌, ℕ, zero, suc, ◌+◌, ◌<◌, List, [], ◌∷◌, ◌++◌, Bool, true, false, length, get_or, take, map}
-use Rattle.std.proofs.Common.{Option, Some, None, arith, refl, sym, ap, ap₂, ◌∙◌, append_assoc}
+use Rattle.std.proofs.Common.{◌≡◌, ℕ, zero, suc, ◌+◌, ◌<◌, List, [], ◌∷◌, ◌++◌, Bool, true, false, length, get_or}
+use Rattle.std.proofs.Common.{take, map, Option, Some, None, arith, refl, sym, ap, ap₂, ◌∙◌, append_assoc}
 use Rattle.std.specs.Prelude.{◌||◌, ◌&&◌}
 use Rattle.std.specs.List.{list_any, list_all, filter_map, cons_option}
 use Rattle.std.proofs.lemmas.List.{append-nil, map-append, take_more}
@@ -51,7 +51,8 @@ module _ {V W : Type 0} (look : V → W) (xs : List V) (i : ℕ) (x : V) (h : i 
       ∙ ap (λ o. initial ++ (before ++ cons_option o [])) (sym e) ∙ ap (λ l. initial ++ l) (sym (next_found g))
 
   pub found_no_more : {Y : Type 0} (g : W → Option Y) (initial old : List Y) → g (look x) ≡ None
-      → old ≡ initial ++ filter_map g (map look (take i xs)) → old ≡ initial ++ filter_map g (map look (take (i + 1) xs))
+      → old ≡ initial ++ filter_map g (map look (take i xs))
+      → old ≡ initial ++ filter_map g (map look (take (i + 1) xs))
   found_no_more g initial old e inv =
       let before = filter_map g (map look (take i xs)) in
       inv ∙ ap (λ l. initial ++ l) (sym (append-nil before))

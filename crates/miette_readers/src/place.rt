@@ -2,7 +2,8 @@
 
 ghost use Rattle.std.specs.Prelude.{◌≡◌, ◌++◌, ◌∷◌, IfOk, OnOk, map, option_map, string_bytes, codes, decimal};
 ghost use Rattle.miette_readers.specs.rules.Places.{clash, ends_between, holds, is_same, is_within, joined, last_byte};
-ghost use Rattle.miette_readers.specs.rules.Places.{near, on_one_line, place_text, row_behind, shares_byte, text_behind};
+ghost use Rattle.miette_readers.specs.rules.Places.{near, on_one_line, place_text, row_behind, shares_byte};
+ghost use Rattle.miette_readers.specs.rules.Places.{text_behind};
 
 use miette_basics::numbers::push_number;
 use std::alloc::{AllocError, Global};

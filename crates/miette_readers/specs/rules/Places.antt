@@ -45,7 +45,8 @@ clash bytes s t = shares_byte s t && (on_one_line bytes s && on_one_line bytes t
 
 -- They are near where the first line of each is at most three below the last line of the other.
 abbrev pub near : List ℕ → Stretch → Stretch → Bool
-near bytes s t = nat_le (ends_between bytes (last_byte s) t.start) 3 && nat_le (ends_between bytes (last_byte t) s.start) 3
+near bytes s t =
+    nat_le (ends_between bytes (last_byte s) t.start) 3 && nat_le (ends_between bytes (last_byte t) s.start) 3
 
 abbrev pub is_same : Stretch → Stretch → Bool
 is_same s t = (s.start == t.start) && (s.end == t.end)

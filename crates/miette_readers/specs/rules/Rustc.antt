@@ -1,8 +1,8 @@
 -- What a message of rustc tells, as its JSON format (`--error-format=json`) says.
 use Rattle.std.specs.Prelude.{ℕ, zero, suc, List, [], ◌∷◌, ◌++◌, Option, Some, None, Bool, true, false, not, ◌&&◌, ◌||◌}
-use Rattle.std.specs.Prelude.{if◌then◌else◌, option_and_then, option_map, is_some, unwrap_or, map, filter, bytes_eq, codes}
+use Rattle.std.specs.Prelude.{if◌then◌else◌, option_and_then, option_map, is_some, unwrap_or, map, filter, bytes_eq}
 use Rattle.std.specs.List.{ends_with, filter_map, flat_map, starts_with}
-use Rattle.std.specs.Prelude.{nat_eq}
+use Rattle.std.specs.Prelude.{codes, nat_eq}
 use Rattle.serde_json.specs.Data.{Data}
 use Rattle.serde_json.specs.Find.{as_object, get}
 use Rattle.miette_protocol.specs.rules.Reading.{Source}

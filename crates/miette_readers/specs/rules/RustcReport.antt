@@ -1,7 +1,7 @@
 -- The report of a message of rustc or cargo.
 use Rattle.std.specs.Prelude.{ℕ, ◌+◌, ◌-◌, List, [], ◌∷◌, ◌++◌, Option, Some, None, Bool, false, ◌&&◌, ◌||◌}
-use Rattle.std.specs.Prelude.{if◌then◌else◌, ◌==◌, option_and_then, option_map, is_none, is_some, unwrap_or, map, filter}
-use Rattle.std.specs.Prelude.{bytes_eq, codes}
+use Rattle.std.specs.Prelude.{if◌then◌else◌, ◌==◌, option_and_then, option_map, is_none, is_some, unwrap_or, map}
+use Rattle.std.specs.Prelude.{filter, bytes_eq, codes}
 use Rattle.std.specs.List.{filter_map, flat_map, fold, list_all, list_any}
 use Rattle.serde_json.specs.Data.{Data}
 use Rattle.serde_json.specs.Find.{get}

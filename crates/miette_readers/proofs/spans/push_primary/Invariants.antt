@@ -4,4 +4,5 @@ use Rattle.miette_readers.specs.views.Values.{seen, viewed}
 use Rattle.miette_readers.proofs.spans.push_primary.Given as goal
 
 abbrev pub invariant-loop-span : goal.invariant-loop-span
-invariant-loop-span l = seen l.list.items ≡ seen l.fn.list.items ++ filter is_primary (viewed (take l.span-index l.spans))
+invariant-loop-span l =
+    seen l.list.items ≡ seen l.fn.list.items ++ filter is_primary (viewed (take l.span-index l.spans))

@@ -6,4 +6,5 @@ use Rattle.miette_readers.proofs.telling.push_leading.Given as goal
 -- what the spans that are passed tell
 abbrev pub invariant-loop-span : goal.invariant-loop-span
 invariant-loop-span g l =
-    l.list.items ≡ l.initial.list.items ++ map (note_told (g.F.Files.found l.files) []) (seen (take l.span-index l.rest))
+    l.list.items
+    ≡ l.initial.list.items ++ map (note_told (g.F.Files.found l.files) []) (seen (take l.span-index l.rest))
