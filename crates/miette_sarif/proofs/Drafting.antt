@@ -1,9 +1,8 @@
 -- Drafts that are made edit by edit are the joined edits.
-use Rattle.std.proofs.Common.{◌≡◌, ℕ, Bool, true, false, List, [], ◌∷◌, ◌++◌, map, refl, sym, ap, ◌∙◌, append_assoc}
+use Rattle.std.proofs.Common.{◌≡◌, ℕ, true, false, List, [], ◌∷◌, ◌++◌, map, refl, sym, ap, ◌∙◌, append_assoc}
 use Rattle.std.proofs.Common.{append-nil}
 use Rattle.std.specs.Prelude.{slice_range}
 use Rattle.miette_basics.proofs.Cases.{by_cases}
-use Rattle.miette_fixes.specs.rules.Applying.{by_offset}
 use Rattle.miette_fixes.specs.rules.Edits.{Replacement, end_of}
 use Rattle.miette_positions.specs.declared.place.Stretch.{Stretch}
 use Rattle.miette_sarif.specs.rules.Findings.{Replaced}

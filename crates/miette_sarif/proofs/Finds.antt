@@ -4,14 +4,13 @@ use Rattle.std.proofs.Common.{append_assoc, append-nil}
 use Rattle.std.specs.Option.{option_map}
 use Rattle.miette_fixes.specs.rules.Edits.{Proposal}
 use Rattle.miette_tree.specs.rules.Diagnosis.{Diagnosis, Section}
-use Rattle.miette_tree.specs.rules.Tree.{Cause, Tree, tree, cause_of, head}
+use Rattle.miette_tree.specs.rules.Tree.{Tree, tree, cause_of, head}
 use Rattle.miette_sarif.specs.rules.Findings.{Finding, Mark, Proposed, SeenSource}
-use Rattle.miette_sarif.specs.rules.Gathered.{cause_marks, cause_proposals, cause_refused, finding}
+use Rattle.miette_sarif.specs.rules.Gathered.{cause_marks, cause_proposals, cause_refused}
 use Rattle.miette_sarif.specs.rules.Marks.{Group, Picked, groups_of, marks_of, other_marks, others_in, primary_in}
 use Rattle.miette_sarif.specs.rules.Marks.{mark_or, primary_mark, seen_further}
 use Rattle.miette_sarif.specs.rules.Proposals.{listed_fix, proposal_over, proposals, refused, refused_fix}
-use Rattle.miette_sarif.specs.rules.SourceAnswers.{Faults, SourceFaults}
-use Rattle.miette_sarif.specs.steps.Gathering.{AddsCauses, AddsOver, IsFound, Kept, Telling, faults_of, told, with_fix}
+use Rattle.miette_sarif.specs.steps.Gathering.{AddsCauses, AddsOver, IsFound, Kept, Telling, told, with_fix}
 use Rattle.miette_sarif.specs.steps.Gathering.{with_fixes}
 use Rattle.miette_sarif.specs.steps.Sees.{SeesFurther}
 

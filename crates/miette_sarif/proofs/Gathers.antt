@@ -1,5 +1,5 @@
 -- What is gathered so far, and what is left: whatever is answered of the rest, the whole has answers.
-use Rattle.std.proofs.Common.{◌≡◌, ℕ, suc, ◌+◌, ◌<◌, ◌≤◌, Bool, List, [], ◌∷◌, ◌++◌, length, map, drop, get_or, Option, Some}
+use Rattle.std.proofs.Common.{◌≡◌, ℕ, ◌+◌, ◌<◌, ◌≤◌, Bool, List, [], ◌∷◌, ◌++◌, length, map, drop, get_or, Option}
 use Rattle.std.proofs.Common.{None, refl, sym, ap, ap₂, ◌∙◌, arith, subst, append_assoc, append-nil, add-one, drop-cons}
 use Rattle.std.proofs.lemmas.List.{drop_all}
 use Rattle.miette_json.specs.rules.JsonReport.{AreFurther}
@@ -7,16 +7,16 @@ use Rattle.miette_protocol.specs.rules.Reading.{Source}
 use Rattle.miette_tree.specs.rules.Answers.{and_more, listed, no_more, unlisted}
 use Rattle.miette_tree.specs.rules.Diagnosis.{Diagnosis, Section}
 use Rattle.miette_tree.specs.rules.Reads.{MayMeet}
-use Rattle.miette_tree.specs.rules.Tree.{Cause, diagnostic, texts, Tree, tree, Trees, more_trees, no_trees, trees}
+use Rattle.miette_tree.specs.rules.Tree.{Cause, diagnostic, texts, Tree, tree, Trees, more_trees, no_trees}
 use Rattle.miette_tree.specs.rules.Tree.{cause_of, head, related_of, source_of}
-use Rattle.miette_sarif.specs.rules.Findings.{Finding, Mark, Proposed, SeenSource}
+use Rattle.miette_sarif.specs.rules.Findings.{Finding, SeenSource}
 use Rattle.miette_sarif.specs.rules.Gathered.{all_findings, cause_marks, cause_proposals, cause_refused, finding}
 use Rattle.miette_sarif.specs.rules.Gathered.{AreFindingsOf, findings}
 use Rattle.miette_sarif.specs.rules.Marks.{groups_of, marks_of, seen_further}
 use Rattle.miette_sarif.specs.rules.Proposals.{proposals, refused}
 use Rattle.miette_sarif.specs.rules.Seen.{count_all, count_causes, count_in, count_own, seen, seen_or}
-use Rattle.miette_sarif.specs.rules.SourceAnswers.{AllAnswers, AreAnswers, AreOfCauses, Faults, RelatedSourceAnswers}
-use Rattle.miette_sarif.specs.rules.SourceAnswers.{SourceAnswers, SourceFaults}
+use Rattle.miette_sarif.specs.rules.SourceAnswers.{AllAnswers, AreOfCauses, Faults, RelatedSourceAnswers}
+use Rattle.miette_sarif.specs.rules.SourceAnswers.{SourceFaults}
 use Rattle.miette_sarif.specs.steps.Gathering.{Adds, AddsAll, AddsCauses, AddsOver, Found, IsFound, Kept}
 use Rattle.miette_sarif.specs.steps.Sees.{Sees, SeesFurther, SeesOwn, seen_first}
 use Rattle.miette_sarif.proofs.Reading.{own_first}

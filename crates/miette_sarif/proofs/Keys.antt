@@ -1,8 +1,8 @@
 -- Texts that a set holds, seen as texts: inserting one, and where one stands.
 use Rattle.std.proofs.Common.{String, Global, ◌≡◌, ℕ, suc, ◌+◌, Bool, true, false, cond, List, [], ◌∷◌, ◌++◌, refl}
 use Rattle.std.proofs.Common.{append_assoc, ap, ◌∙◌, map, length, string_bytes, sym}
-use Rattle.std.specs.Prelude.{nat_lt, not, ◌||◌, Option, Some, None, position}
-use Rattle.std.specs.List.{list_any, position_or_len, prefix_len}
+use Rattle.std.specs.Prelude.{nat_lt, not, ◌||◌, Some, None, position}
+use Rattle.std.specs.List.{list_any, position_or_len}
 use Rattle.std.specs.Str.{bytes_eq}
 use Rattle.std.specs.String.{string_eq}
 use Rattle.indexmap.specs.IndexSet.{insert_all, insert_key}

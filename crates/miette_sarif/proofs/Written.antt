@@ -2,7 +2,7 @@
 use Rattle.std.proofs.Common.{◌≡◌, ℕ, ◌<◌, ◌^◌, List, [], ◌∷◌, ◌++◌, sym, ap, ◌∙◌, append_assoc}
 use Rattle.std.specs.Fmt.{decimal}
 use denote.Ref.{Bor}
-use Rattle.miette_json.specs.rules.Json.{Json, number, array, object, numeral, json_text, items_text, members_text}
+use Rattle.miette_json.specs.rules.Json.{Json, number, array, object, json_text, items_text, members_text}
 use Rattle.miette_json.proofs.JsonSpelled.{numeral_decimal}
 use Rattle.miette_sarif.specs.declared.value.Value.{Value}
 use Rattle.miette_sarif.specs.views.Values.{items_view, members_view}

@@ -1,5 +1,5 @@
 -- The labels of a report as marks: the primary one, and the others.
-use Rattle.std.specs.Prelude.{ℕ, ◌+◌, List, [], ◌∷◌, ◌++◌, map, slice_range, Bool, true, ◌&&◌, ◌==◌, not, if◌then◌else◌}
+use Rattle.std.specs.Prelude.{ℕ, ◌+◌, List, [], ◌∷◌, ◌++◌, slice_range, Bool, true, ◌&&◌, ◌==◌, not, if◌then◌else◌}
 use Rattle.std.specs.Prelude.{Option, Some, None, unwrap_or, is_none, option_map}
 use Rattle.std.specs.Str.{is_utf8}
 use Rattle.miette_basics.specs.rules.Lists.{is_nil}

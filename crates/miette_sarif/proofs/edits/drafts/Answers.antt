@@ -2,7 +2,7 @@ use Rattle.std.proofs.Common.{◌≡◌, ◌+◌, ◌++◌, ◌∷◌, [], ◌�
 use Rattle.std.proofs.lemmas.List.{map-append}
 use Rattle.miette_fixes.specs.rules.Edits.{Replacement}
 use Rattle.miette_fixes.specs.views.Ordered.{edits_of}
-use Rattle.miette_sarif.specs.steps.Drafts.{begun, drafts, drafts_from, with_edit}
+use Rattle.miette_sarif.specs.steps.Drafts.{begun, drafts_from, with_edit}
 use Rattle.miette_sarif.specs.views.Drafted.{draft_of}
 use Rattle.miette_sarif.proofs.Drafting.{draft_joined, draft_next}
 use Rattle.miette_sarif.proofs.Gathers.{next_in}

@@ -1,5 +1,4 @@
 use Rattle.std.proofs.Common.{ap, sym, ◌∙◌}
-use Rattle.std.specs.Prelude.{string_bytes}
 use Rattle.miette_sarif.specs.views.Rules.{option_text}
 use Rattle.miette_sarif.proofs.Noted.{noted_before, noted_now, not_nil}
 use Rattle.miette_sarif.proofs.rules.note_uri.Goals as goal

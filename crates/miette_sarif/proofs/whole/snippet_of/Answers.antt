@@ -1,4 +1,4 @@
-use Rattle.std.proofs.Common.{◌∙◌, Some, ap, arith, eq-eqb, sym}
+use Rattle.std.proofs.Common.{◌∙◌, Some, ap, arith, eq-eqb}
 use Rattle.miette_sarif.proofs.Shown.{not_shown, shown}
 use Rattle.miette_sarif.proofs.whole.snippet_of.Goals as goal
 

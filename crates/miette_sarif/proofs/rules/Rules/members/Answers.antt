@@ -1,4 +1,4 @@
-use Rattle.std.proofs.Common.{◌≡◌, cond, [], ◌++◌, ap, sym, ◌∙◌}
+use Rattle.std.proofs.Common.{cond, [], ◌++◌, ap, sym, ◌∙◌}
 use Rattle.std.specs.Prelude.{codes, unwrap_or}
 use Rattle.std.specs.Str.{bytes_eq}
 use Rattle.miette_json.specs.rules.Json.{number, string}
