@@ -1,3 +1,15 @@
 pub mod Braces
+pub mod Drafting
+pub mod Finds
+pub mod Finishing
+pub mod Gathers
+pub mod Keys
+pub mod Made
+pub mod Noted
+pub mod Picks
+pub mod Reading
+pub mod Runs
+pub mod Shown
 pub mod Spelling
+pub mod Taken
 pub mod Written

@@ -1,11 +1,11 @@
 -- A number, a list and an object, written.
-use Rattle.std.proofs.Common.{rules, Vec, Global, ◌≡◌, ℕ, ◌<◌, ◌^◌, List, [], ◌∷◌, ◌++◌, sym, ap, ◌∙◌, append_assoc}
+use Rattle.std.proofs.Common.{◌≡◌, ℕ, ◌<◌, ◌^◌, List, [], ◌∷◌, ◌++◌, sym, ap, ◌∙◌, append_assoc}
 use Rattle.std.specs.Fmt.{decimal}
 use denote.Ref.{Bor}
-use Rattle.miette_json.specs.rules.Json.{Json, number, array, object, numeral, json_text, items_text, members_text}
+use Rattle.miette_json.specs.rules.Json.{Json, number, array, object, json_text, items_text, members_text}
 use Rattle.miette_json.proofs.JsonSpelled.{numeral_decimal}
-use Rattle.miette_sarif.specs.declared.value.Value.{Value, Number, List as Listed, Object, the_lemmas}
-use Rattle.miette_sarif.specs.views.Values.{json_of, items_view, members_view}
+use Rattle.miette_sarif.specs.declared.value.Value.{Value}
+use Rattle.miette_sarif.specs.views.Values.{items_view, members_view}
 
 pub number_written : (v : Json) (n : ℕ) (old new : List ℕ) → n < 2 ^ 64 → v ≡ number n → new ≡ old ++ decimal n
     → new ≡ old ++ json_text v
@@ -26,14 +26,3 @@ object_written v slice members old mid new is begun same e =
     e ∙ ap (λ l. l ++ members_text (members_view slice)) begun
     ∙ append_assoc old (123 ∷ []) (members_text (members_view slice))
     ∙ ap (λ l. old ++ 123 ∷ members_text (members_view l)) same ∙ ap (λ l. old ++ json_text l) (sym is)
-
--- ---- one level of a value
-
-pub json_number : (n : ℕ) → json_of (Number n) ≡ number n
-json_number n = search (rules, the_lemmas)
-
-pub json_list : (v : Vec Value Global) → json_of (Listed v) ≡ array (items_view v.items)
-json_list v = search (rules, the_lemmas)
-
-pub json_object : (v : Vec (Bor (List ℕ) × Value) Global) → json_of (Object v) ≡ object (members_view v.items)
-json_object v = search (rules, the_lemmas)

@@ -1,7 +1,22 @@
 //! The edits of a fix as replacements: widened to whole characters and terminators, and joined where they meet.
 
+ghost use Rattle.std.specs.Prelude.{◌≡◌, ◌++◌, ◌&&◌, None, Some, IfOk, OnOk, length, map, is_none};
+ghost use Rattle.std.specs.Prelude.{if◌then◌else◌, slice_range};
+ghost use Rattle.std.specs.Option.{option_map};
+ghost use Rattle.std.specs.List.{list_all};
+ghost use Rattle.std.specs.Str.{is_utf8};
+ghost use Rattle.miette_fixes.specs.rules.Edits.{end_of};
+ghost use Rattle.miette_fixes.specs.views.Ordered.{edits_of};
+ghost use Rattle.miette_sarif.specs.rules.Proposals.{applicable, later_end, meets, proposal_over, widened};
+ghost use Rattle.miette_sarif.specs.steps.Drafts.{begun, drafts, finished, finished_one, made_of, with_edit};
+ghost use Rattle.miette_sarif.specs.views.Drafted.{draft_of};
+ghost use Rattle.miette_sarif.specs.views.Found.{proposed_of, replaced_of};
+ghost use Rattle.miette_sarif.specs.views.Sources.{over_of};
+
 use crate::finding::{Proposal, Replacement};
-use crate::seen::{Seen, SeenText};
+use crate::seen::Seen;
+use crate::whole::{WholeText, between};
+use miette_basics::sums::sum;
 use miette_fixes::apply::checked;
 use miette_fixes::fix::{Edit, Fix, FixError};
 use miette_positions::place::Stretch;
@@ -15,88 +30,116 @@ struct Draft {
     reached: usize,
 }
 
+// Where an edit ends.
+fn end_of(edit: &Edit) -> Result<usize, AllocError>
+    ensures { IfOk result (λ end. end ≡ end_of edit.now) }
+{
+    sum(edit.offset(), edit.len())
+}
+
 // The edit of a source widened to whole characters and terminators.
-fn widened(seen: &SeenText<'_>, edit: &Edit) -> Stretch {
-    Stretch {
-        start: seen.index.stop_before(edit.offset()),
-        end: seen
-            .index
-            .stop_after(edit.offset().saturating_add(edit.len())),
-    }
+fn widened(text: &WholeText<'_>, edit: &Edit) -> Result<Stretch, AllocError>
+    ensures { IfOk result (λ it. it ≡ widened text.now edit.now) }
+{
+    let end = end_of(edit)?;
+    Ok(Stretch {
+        start: text.stop_before(edit.offset()),
+        end: text.stop_after(end),
+    })
 }
 
 // Whether a stretch overlaps one before it, or begins where it does.
-fn meets(before: &Stretch, stretch: &Stretch) -> bool {
+fn meets(before: Stretch, stretch: Stretch) -> bool
+    ensures { result ≡ meets before stretch }
+{
     stretch.start.offset < before.end.offset || stretch.start.offset == before.start.offset
 }
 
-// Appends the source between two offsets.
-fn push_kept(text: &mut Vec<u8>, bytes: &[u8], from: usize, to: usize) -> Result<(), AllocError> {
-    text.extend_from_slice(bytes.get(from..to).unwrap_or(&[]))
+// A stretch up to the end of another one, where that ends behind it.
+fn later_end(before: Stretch, stretch: Stretch) -> Stretch
+    ensures { result ≡ later_end before stretch }
+{
+    if before.end.offset < stretch.end.offset {
+        Stretch {
+            start: before.start,
+            end: stretch.end,
+        }
+    } else {
+        before
+    }
 }
 
 // A draft with one edit.
-fn begun(alloc: Global, bytes: &[u8], deleted: Stretch, edit: &Edit) -> Result<Draft, AllocError> {
+fn begun(alloc: Global, bytes: &[u8], deleted: Stretch, edit: &Edit) -> Result<Draft, AllocError>
+    ensures { IfOk result (λ it. draft_of it ≡ begun bytes.now deleted edit.now) }
+{
+    let reached = end_of(edit)?;
     let mut text = Vec::new(alloc);
-    push_kept(&mut text, bytes, deleted.start.offset, edit.offset())?;
+    text.extend_from_slice(between(bytes, deleted.start.offset, edit.offset()))?;
     text.extend_from_slice(edit.text().as_bytes())?;
     Ok(Draft {
         deleted,
         text,
-        reached: edit.offset().saturating_add(edit.len()),
+        reached,
     })
 }
 
 // A draft with one more edit.
-fn joined(
-    mut draft: Draft,
-    bytes: &[u8],
-    stretch: Stretch,
-    edit: &Edit,
-) -> Result<Draft, AllocError> {
-    push_kept(&mut draft.text, bytes, draft.reached, edit.offset())?;
-    draft.text.extend_from_slice(edit.text().as_bytes())?;
-    draft.reached = edit.offset().saturating_add(edit.len());
-    if draft.deleted.end.offset < stretch.end.offset {
-        draft.deleted.end = stretch.end;
+fn with_edit(draft: Draft, bytes: &[u8], stretch: Stretch, edit: &Edit) -> Result<Draft, AllocError>
+    ensures { IfOk result (λ it. draft_of it ≡ with_edit bytes.now stretch (draft_of draft) edit.now) }
+{
+    let end = end_of(edit)?;
+    let Draft {
+        deleted,
+        mut text,
+        reached,
+    } = draft;
+    text.extend_from_slice(between(bytes, reached, edit.offset()))?;
+    text.extend_from_slice(edit.text().as_bytes())?;
+    Ok(Draft {
+        deleted: later_end(deleted, stretch),
+        text,
+        reached: end,
+    })
+}
+
+// The drafts of edits by offset: those that meet are joined.
+fn drafts(alloc: Global, text: &WholeText<'_>, edits: &[&Edit]) -> Result<Vec<Draft>, AllocError>
+    ensures { IfOk result (λ list. map draft_of list.items ≡ drafts text.now (edits_of edits.now)) }
+{
+    let mut done = Vec::new(alloc);
+    let Some((first, rest)) = edits.split_first() else {
+        return Ok(done);
+    };
+    let mut before = begun(alloc, text.bytes(), widened(text, first)?, first)?;
+    for edit in rest {
+        let stretch = widened(text, edit)?;
+        if meets(before.deleted, stretch) {
+            before = with_edit(before, text.bytes(), stretch, edit)?;
+        } else {
+            let next = begun(alloc, text.bytes(), stretch, edit)?;
+            done.push(before)?;
+            before = next;
+        }
     }
-    Ok(draft)
+    done.push(before)?;
+    Ok(done)
 }
 
 // The replacement of a draft, none where its text is no UTF-8.
-fn finished(mut draft: Draft, bytes: &[u8]) -> Result<Option<Replacement>, AllocError> {
-    push_kept(
-        &mut draft.text,
-        bytes,
-        draft.reached,
-        draft.deleted.end.offset,
-    )?;
-    let Draft { deleted, text, .. } = draft;
+fn finished(draft: Draft, bytes: &[u8]) -> Result<Option<Replacement>, AllocError>
+    ensures { IfOk result (λ made. option_map replaced_of made ≡ finished_one (finished bytes.now (draft_of draft))) }
+{
+    let Draft {
+        deleted,
+        mut text,
+        reached,
+    } = draft;
+    text.extend_from_slice(between(bytes, reached, deleted.end.offset))?;
     match String::from_utf8(text) {
         Ok(text) => Ok(Some(Replacement { deleted, text })),
         Err(_) => Ok(None),
     }
-}
-
-// Replacements, and what becomes of a draft, after one more edit. None where a text is no UTF-8.
-fn drafts(alloc: Global, seen: &SeenText<'_>, edits: &[&Edit]) -> Result<Vec<Draft>, AllocError> {
-    let mut list: Vec<Draft> = Vec::new(alloc);
-    for edit in edits {
-        let stretch = widened(seen, edit);
-        let draft = match list.pop() {
-            Some(last) => {
-                if meets(&last.deleted, &stretch) {
-                    joined(last, seen.bytes, stretch, edit)?
-                } else {
-                    list.push(last)?;
-                    begun(alloc, seen.bytes, stretch, edit)?
-                }
-            }
-            None => begun(alloc, seen.bytes, stretch, edit)?,
-        };
-        list.push(draft)?;
-    }
-    Ok(list)
 }
 
 // The replacements of drafts, none where the text of one is no UTF-8.
@@ -104,7 +147,10 @@ fn replacements(
     alloc: Global,
     bytes: &[u8],
     drafts: Vec<Draft>,
-) -> Result<Option<Vec<Replacement>>, AllocError> {
+) -> Result<Option<Vec<Replacement>>, AllocError>
+    ensures { IfOk result (λ made. option_map (λ list. map replaced_of list.items) made
+        ≡ made_of bytes.now (map draft_of drafts.items)) }
+{
     let mut list = Vec::with_capacity(alloc, drafts.len())?;
     for draft in drafts {
         match finished(draft, bytes)? {
@@ -116,13 +162,16 @@ fn replacements(
 }
 
 // The replacements of edits, none where they can't be applied, or a text is no UTF-8.
-fn applied(
+fn applicable(
     alloc: Global,
-    seen: &SeenText<'_>,
+    text: &WholeText<'_>,
     edits: &[Edit],
-) -> Result<Option<Vec<Replacement>>, AllocError> {
-    match checked(alloc, seen.bytes.len(), edits) {
-        Ok(list) => replacements(alloc, seen.bytes, drafts(alloc, seen, &list)?),
+) -> Result<Option<Vec<Replacement>>, AllocError>
+    ensures { IfOk result (λ made. option_map (λ list. map replaced_of list.items) made
+        ≡ applicable text.now edits.now) }
+{
+    match checked(alloc, text.bytes().len(), edits) {
+        Ok(list) => replacements(alloc, text.bytes(), drafts(alloc, text, &list)?),
         Err(FixError::Memory) => Err(AllocError),
         Err(FixError::OutOfBounds) => Ok(None),
         Err(FixError::Overlap) => Ok(None),
@@ -131,11 +180,13 @@ fn applied(
 
 /// What a fix proposes over a source. None without edits, where they can't be applied, and where what takes the place
 /// of whole characters is no UTF-8.
-pub(crate) fn proposal_of<'a>(
+pub(crate) fn proposal_over<'a>(
     alloc: Global,
     fix: &'a Fix,
     seen: Option<&Seen<'a>>,
-) -> Result<Option<Proposal<'a>>, AllocError> {
+) -> Result<Option<Proposal<'a>>, AllocError>
+    ensures { IfOk result (λ made. option_map proposed_of made ≡ proposal_over (over_of seen.entry) fix.now) }
+{
     let Some(seen) = seen else {
         return Ok(None);
     };
@@ -145,7 +196,7 @@ pub(crate) fn proposal_of<'a>(
     if fix.edits().is_empty() {
         return Ok(None);
     }
-    let Some(replacements) = applied(alloc, text, fix.edits())? else {
+    let Some(replacements) = applicable(alloc, text, fix.edits())? else {
         return Ok(None);
     };
     Ok(Some(Proposal {

@@ -1,10 +1,28 @@
 //! Findings of reports: of each one and of each that is related to it, depth first.
 
-use crate::edits::proposal_of;
-use crate::finding::{Finding, Told};
-use crate::labels::{Chosen, Group, primary_label, primary_of, push_groups};
+ghost use Rattle.std.specs.Prelude.{◌≡◌, ◌+◌, ◌++◌, IfOk, OnOk, length, map, string_bytes};
+ghost use Rattle.std.specs.Option.{option_map};
+ghost use Rattle.miette_tree.specs.rules.Tree.{cause_of, causes_of, head, source_of, trees};
+ghost use Rattle.miette_tree.specs.views.Attached.{section_of};
+ghost use Rattle.miette_tree.specs.views.Owned.{shown_source};
+ghost use Rattle.miette_tree.specs.views.Report.{tree_of};
+ghost use Rattle.miette_sarif.specs.rules.Gathered.{AreFindingsOf, level};
+ghost use Rattle.miette_sarif.specs.rules.Marks.{groups_of};
+ghost use Rattle.miette_sarif.specs.rules.Proposals.{proposal_over};
+ghost use Rattle.miette_sarif.specs.rules.Seen.{count_causes, count_own};
+ghost use Rattle.miette_sarif.specs.steps.Gathering.{Adds, AddsAll, AddsCauses, AddsOver, IsFound, told, with_fix, with_fixes};
+ghost use Rattle.miette_sarif.specs.steps.Sees.{Sees, SeesFurther, SeesOwn, seen_first};
+ghost use Rattle.miette_sarif.specs.views.Collected.{collected_of, gathered_of, told_of};
+ghost use Rattle.miette_sarif.specs.views.Found.{finding_of, findings_of};
+ghost use Rattle.miette_sarif.specs.views.Grouped.{groups_in, labels_in};
+ghost use Rattle.miette_sarif.specs.views.Sources.{over_of, seen_of};
+
+use crate::edits::proposal_over;
+use crate::finding::{Finding, Mark, Proposal, Told};
+use crate::labels::{Group, primary_or, push_groups, take_primary};
 use crate::seen::{Seen, see};
 use miette_basics::sums::sum;
+use miette_fixes::fix::Fix;
 use miette_protocol::protocol::{Diagnostic, LabeledSpan, Severity};
 use miette_protocol::source::SourceCode;
 use miette_tree::parts::{cause_texts, labels_of};
@@ -18,14 +36,26 @@ struct Gathered<'a> {
     sources: usize,
 }
 
+// What is told of the places of a report and its causes.
+#[derive(Drop)]
+struct Collected<'a> {
+    marks: Vec<Mark<'a>>,
+    fixes: Vec<Proposal<'a>>,
+    unapplied: Vec<&'a str>,
+}
+
 // Reads a source, and counts it.
 fn see_next<'a, S: SourceCode>(
     alloc: Global,
     sources: &mut usize,
     source: SourceRef<'a, S>,
-) -> Result<Seen<'a>, AllocError> {
+) -> Result<Seen<'a>, AllocError>
+    ensures seen { IfOk result (λ it. Sees sources.old (shown_source S.source source.entry) (seen_of it)) }
+    ensures counted { OnOk result (sources.new ≡ sources.old + 1) }
+{
+    let next = sum(*sources, 1)?;
     let seen = see(alloc, *sources, source)?;
-    *sources = sum(*sources, 1)?;
+    *sources = next;
     Ok(seen)
 }
 
@@ -34,10 +64,31 @@ fn see_own<'a, D: Diagnostic, S: SourceCode>(
     alloc: Global,
     sources: &mut usize,
     report: &'a Report<D, S>,
-) -> Result<Option<Seen<'a>>, AllocError> {
+) -> Result<Option<Seen<'a>>, AllocError>
+    ensures seen { IfOk result (λ it. SeesOwn sources.old (source_of (tree_of D.meaning S.source report.now))
+        (option_map seen_of it)) }
+    ensures counted { OnOk result (sources.new
+        ≡ sources.old + count_own (source_of (tree_of D.meaning S.source report.now))) }
+{
     match report.source_code() {
-        Some(source) => Ok(Some(see_next(alloc, sources, source)?)),
+        Some(source) => {
+            let seen = see_next(alloc, sources, source)?;
+            Ok(Some(seen))
+        }
         None => Ok(None),
+    }
+}
+
+// The own source of a report, else another one.
+fn own_or<'s, 'a>(
+    own: &'s Option<Seen<'a>>,
+    inherited: Option<&'s Seen<'a>>,
+) -> Option<&'s Seen<'a>>
+    ensures { over_of result ≡ seen_first (option_map seen_of own.now) (over_of inherited.entry) }
+{
+    match own {
+        Some(own) => Some(own),
+        None => inherited,
     }
 }
 
@@ -46,34 +97,63 @@ fn see_further<'a, S: SourceCode>(
     alloc: Global,
     sources: &mut usize,
     sections: &'a [Snippets<S>],
-) -> Result<Vec<Seen<'a>>, AllocError> {
+) -> Result<Vec<Seen<'a>>, AllocError>
+    ensures seen { IfOk result (λ list. SeesFurther sources.old (map (section_of S.source) sections.now)
+        (map seen_of list.items)) }
+    ensures counted { OnOk result (sources.new ≡ sources.old + length sections.now) }
+{
     let mut list = Vec::with_capacity(alloc, sections.len())?;
     for section in sections {
-        list.push(see_next(alloc, sources, section.source())?)?;
+        let seen = see_next(alloc, sources, section.source())?;
+        list.push(seen)?;
     }
     Ok(list)
 }
 
-// The labels of a report, by source.
-fn groups_of<'s, 'a, S: SourceCode>(
+// References to labels, in the order given.
+fn listed<'a>(alloc: Global, labels: &'a [LabeledSpan]) -> Result<Vec<&'a LabeledSpan>, AllocError>
+    ensures { IfOk result (λ list. labels_in list.items ≡ labels.now) }
+{
+    let mut list = Vec::with_capacity(alloc, labels.len())?;
+    for label in labels {
+        list.push(label)?;
+    }
+    Ok(list)
+}
+
+// The labels of a report over a source, and over its further ones.
+fn groups_of<'s, 'a, D: Diagnostic, S: SourceCode>(
     alloc: Global,
-    own: Group<'s, 'a>,
+    report: &'a Report<D, S>,
+    seen: Option<&'s Seen<'a>>,
     further: &'s [Seen<'a>],
-    sections: &'a [Snippets<S>],
-) -> Result<Vec<Group<'s, 'a>>, AllocError> {
+) -> Result<Vec<Group<'s, 'a>>, AllocError>
+    ensures { IfOk result (λ groups. groups_in groups.items ≡ groups_of (over_of seen.entry)
+        (map seen_of further.now) (head (tree_of D.meaning S.source report.now))) }
+{
+    let sections = report.further_snippets();
     let mut groups = Vec::with_capacity(alloc, sections.len())?;
-    groups.push(own)?;
-    for (seen, section) in further.iter().zip(sections) {
+    let labels = listed(alloc, labels_of(report))?;
+    groups.push(Group { seen, labels })?;
+    let mut left = further;
+    for section in sections {
+        let [seen, rest @ ..] = left else {
+            return Ok(groups);
+        };
+        let labels = listed(alloc, section.labels())?;
         groups.push(Group {
             seen: Some(seen),
-            labels: section.labels(),
+            labels,
         })?;
+        left = rest;
     }
     Ok(groups)
 }
 
 // The level of a severity.
-fn level_of(severity: Option<Severity>) -> &'static str {
+fn level_of(severity: Option<Severity>) -> &'static str
+    ensures { result.now ≡ level severity }
+{
     match severity {
         Some(Severity::Advice) => "note",
         Some(Severity::Warning) => "warning",
@@ -81,119 +161,167 @@ fn level_of(severity: Option<Severity>) -> &'static str {
     }
 }
 
+// Appends texts.
+fn push_texts<'a>(rows: &mut Vec<&'a str>, texts: &'a [String]) -> Result<(), AllocError>
+    ensures { OnOk result (map (λ row. row.now) rows.new.items
+        ≡ map (λ row. row.now) rows.old.items ++ map string_bytes texts.now) }
+{
+    for text in texts {
+        rows.push(text.as_str())?;
+    }
+    Ok(())
+}
+
 // The messages and texts of causes, the nearest first.
 fn cause_rows<'a, D: Diagnostic, S: SourceCode>(
     alloc: Global,
     report: &'a Report<D, S>,
-) -> Result<Vec<&'a str>, AllocError> {
+) -> Result<Vec<&'a str>, AllocError>
+    ensures { IfOk result (λ rows. map (λ row. row.now) rows.items
+        ≡ causes_of (cause_of (tree_of D.meaning S.source report.now))) }
+{
     let mut rows = Vec::new(alloc);
     let mut at = report;
     while let Cause::Diagnostic(next) = at.cause() {
         rows.push(next.message())?;
         at = next;
     }
-    for text in cause_texts(at) {
-        rows.push(text.as_str())?;
-    }
+    push_texts(&mut rows, cause_texts(at))?;
     Ok(rows)
 }
 
-// What is said of a report.
+// What is said of a report beside its places.
 fn told_of<'a, D: Diagnostic, S: SourceCode>(
     alloc: Global,
     report: &'a Report<D, S>,
-) -> Result<Told<'a>, AllocError> {
+) -> Result<Told<'a>, AllocError>
+    ensures { IfOk result (λ it. told_of it ≡ told (head (tree_of D.meaning S.source report.now))
+        (cause_of (tree_of D.meaning S.source report.now))) }
+{
+    let causes = cause_rows(alloc, report)?;
     Ok(Told {
         code: report.code().unwrap_or(""),
         level: level_of(report.severity()),
         message: report.message(),
-        causes: cause_rows(alloc, report)?,
+        causes,
         help: report.help(),
         url: report.url(),
     })
 }
 
-// A finding with the fixes of a report over a source.
-fn with_fixes<'a, D: Diagnostic, S: SourceCode>(
+// Appends what a fix over a source proposes, or its message where it can't be proposed.
+fn push_fix<'a>(
     alloc: Global,
-    mut finding: Finding<'a>,
-    report: &'a Report<D, S>,
+    collected: &mut Collected<'a>,
+    fix: &'a Fix,
     seen: Option<&Seen<'a>>,
-) -> Result<Finding<'a>, AllocError> {
-    for fix in report.fixes() {
-        match proposal_of(alloc, fix, seen)? {
-            Some(proposal) => finding.fixes.push(proposal)?,
-            None => finding.unapplied.push(fix.message())?,
-        }
+) -> Result<(), AllocError>
+    ensures { OnOk result (collected_of collected.new
+        ≡ with_fix (proposal_over (over_of seen.entry) fix.now) fix.now.message (collected_of collected.old)) }
+{
+    match proposal_over(alloc, fix, seen)? {
+        Some(proposal) => collected.fixes.push(proposal)?,
+        None => collected.unapplied.push(fix.message())?,
     }
-    Ok(finding)
+    Ok(())
 }
 
-// The finding of a report over a source, without its causes' labels and fixes.
-fn own_finding<'a, D: Diagnostic, S: SourceCode>(
+// Appends what fixes over a source propose, and the messages of those that can't be proposed.
+fn push_fixes<'a>(
     alloc: Global,
-    report: &'a Report<D, S>,
+    collected: &mut Collected<'a>,
+    fixes: &'a [Fix],
     seen: Option<&Seen<'a>>,
-    sources: &mut usize,
-) -> Result<Finding<'a>, AllocError> {
-    let sections = report.further_snippets();
-    let further = see_further(alloc, sources, sections)?;
-    let own = Group {
-        seen,
-        labels: labels_of(report),
-    };
-    let groups = groups_of(alloc, own, &further, sections)?;
-    let primary = primary_label(&groups);
-    let mut marks = Vec::new(alloc);
-    push_groups(alloc, &mut marks, &groups, primary)?;
-    let finding = Finding {
-        told: told_of(alloc, report)?,
-        primary: primary_of(&groups, primary, seen),
-        marks,
-        fixes: Vec::new(alloc),
-        unapplied: Vec::new(alloc),
-    };
-    with_fixes(alloc, finding, report, seen)
+) -> Result<(), AllocError>
+    ensures { OnOk result (collected_of collected.new
+        ≡ with_fixes (over_of seen.entry) fixes.now (collected_of collected.old)) }
+{
+    for fix in fixes {
+        push_fix(alloc, collected, fix, seen)?;
+    }
+    Ok(())
 }
 
-// A finding with the labels and fixes of a report that is a cause, over a source.
-fn with_cause<'a, D: Diagnostic, S: SourceCode>(
+// Adds the labels and fixes of a report that is a cause, over a source.
+fn push_cause<'a, D: Diagnostic, S: SourceCode>(
     alloc: Global,
-    mut finding: Finding<'a>,
     cause: &'a Report<D, S>,
     seen: Option<&Seen<'a>>,
     sources: &mut usize,
-) -> Result<Finding<'a>, AllocError> {
-    let sections = cause.further_snippets();
-    let further = see_further(alloc, sources, sections)?;
-    let own = Group {
-        seen,
-        labels: labels_of(cause),
-    };
-    let groups = groups_of(alloc, own, &further, sections)?;
-    push_groups(alloc, &mut finding.marks, &groups, None)?;
-    with_fixes(alloc, finding, cause, seen)
+    collected: &mut Collected<'a>,
+) -> Result<(), AllocError>
+    ensures added { OnOk result (AddsOver (over_of seen.entry) sources.old
+        (head (tree_of D.meaning S.source cause.now)) (collected_of collected.old) (collected_of collected.new)) }
+    ensures counted { OnOk result (sources.new
+        ≡ sources.old + length (head (tree_of D.meaning S.source cause.now)).snippets) }
+{
+    let further = see_further(alloc, sources, cause.further_snippets())?;
+    let groups = groups_of(alloc, cause, seen, &further)?;
+    push_groups(&mut collected.marks, groups)?;
+    push_fixes(alloc, collected, cause.fixes(), seen)
 }
 
-// A finding with those of the causes of a report over a source, each over its own or else over this one.
-fn with_causes<'a, D: Diagnostic, S: SourceCode>(
+// Adds those of the causes of a report over a source, each over its own or else over this one.
+fn push_causes<'a, D: Diagnostic, S: SourceCode>(
     alloc: Global,
-    mut finding: Finding<'a>,
     report: &'a Report<D, S>,
     seen: Option<&Seen<'a>>,
     sources: &mut usize,
-) -> Result<Finding<'a>, AllocError> {
+    collected: &mut Collected<'a>,
+) -> Result<(), AllocError>
+    ensures added { OnOk result (AddsCauses (over_of seen.entry) sources.old
+        (cause_of (tree_of D.meaning S.source report.now)) (collected_of collected.old)
+        (collected_of collected.new)) }
+    ensures counted { OnOk result (sources.new
+        ≡ sources.old + count_causes (cause_of (tree_of D.meaning S.source report.now))) }
+{
     let mut at = report;
     while let Cause::Diagnostic(cause) = at.cause() {
         let own = see_own(alloc, sources, cause)?;
-        let over = match &own {
-            Some(own) => Some(own),
-            None => seen,
-        };
-        finding = with_cause(alloc, finding, cause, over, sources)?;
+        let over = own_or(&own, seen);
+        push_cause(alloc, cause, over, sources, collected)?;
         at = cause;
     }
-    Ok(finding)
+    Ok(())
+}
+
+// The finding of a report over a source.
+fn finding_of<'a, D: Diagnostic, S: SourceCode>(
+    alloc: Global,
+    report: &'a Report<D, S>,
+    seen: Option<&Seen<'a>>,
+    sources: &mut usize,
+) -> Result<Finding<'a>, AllocError>
+    ensures found { IfOk result (λ it. IsFound (over_of seen.entry) sources.old
+        (tree_of D.meaning S.source report.now) (finding_of it)) }
+    ensures counted { OnOk result (sources.new
+        ≡ sources.old + length (head (tree_of D.meaning S.source report.now)).snippets
+        + count_causes (cause_of (tree_of D.meaning S.source report.now))) }
+{
+    let further = see_further(alloc, sources, report.further_snippets())?;
+    let mut groups = groups_of(alloc, report, seen, &further)?;
+    let primary = primary_or(take_primary(&mut groups), seen);
+    let told = told_of(alloc, report)?;
+    let mut collected = Collected {
+        marks: Vec::new(alloc),
+        fixes: Vec::new(alloc),
+        unapplied: Vec::new(alloc),
+    };
+    push_groups(&mut collected.marks, groups)?;
+    push_fixes(alloc, &mut collected, report.fixes(), seen)?;
+    push_causes(alloc, report, seen, sources, &mut collected)?;
+    let Collected {
+        marks,
+        fixes,
+        unapplied,
+    } = collected;
+    Ok(Finding {
+        told,
+        primary,
+        marks,
+        fixes,
+        unapplied,
+    })
 }
 
 // Adds the findings of a report that inherits a source, or none.
@@ -203,14 +331,13 @@ fn gather<'a, D: Diagnostic, S: SourceCode>(
     report: &'a Report<D, S>,
     inherited: Option<&Seen<'a>>,
     gathered: &mut Gathered<'a>,
-) -> Result<(), AllocError> {
+) -> Result<(), AllocError>
+    ensures { OnOk result (Adds (over_of inherited.entry) (tree_of D.meaning S.source report.now)
+        (gathered_of gathered.old) (gathered_of gathered.new)) }
+{
     let own = see_own(alloc, &mut gathered.sources, report)?;
-    let seen = match &own {
-        Some(own) => Some(own),
-        None => inherited,
-    };
-    let finding = own_finding(alloc, report, seen, &mut gathered.sources)?;
-    let finding = with_causes(alloc, finding, report, seen, &mut gathered.sources)?;
+    let seen = own_or(&own, inherited);
+    let finding = finding_of(alloc, report, seen, &mut gathered.sources)?;
     gathered.findings.push(finding)?;
     gather_all(alloc, report.related(), seen, gathered)
 }
@@ -222,7 +349,11 @@ fn gather_all<'a, D: Diagnostic, S: SourceCode>(
     reports: &'a [Report<D, S>],
     inherited: Option<&Seen<'a>>,
     gathered: &mut Gathered<'a>,
-) -> Result<(), AllocError> {
+) -> Result<(), AllocError>
+    ensures { OnOk result (AddsAll (over_of inherited.entry)
+        (trees (map (tree_of D.meaning S.source) reports.now))
+        (gathered_of gathered.old) (gathered_of gathered.new)) }
+{
     for report in reports {
         gather(alloc, report, inherited, gathered)?;
     }
@@ -233,7 +364,10 @@ fn gather_all<'a, D: Diagnostic, S: SourceCode>(
 pub(crate) fn findings_of<'a, D: Diagnostic, S: SourceCode>(
     alloc: Global,
     reports: &'a [Report<D, S>],
-) -> Result<Vec<Finding<'a>>, AllocError> {
+) -> Result<Vec<Finding<'a>>, AllocError>
+    ensures { IfOk result (λ list. AreFindingsOf (trees (map (tree_of D.meaning S.source) reports.now))
+        (findings_of list.items)) }
+{
     let mut gathered = Gathered {
         findings: Vec::new(alloc),
         sources: 0,

@@ -1,10 +1,12 @@
 //! The handler of SARIF logs.
 
-ghost use Rattle.std.specs.Prelude.{◌≡◌, ◌++◌, IfOk, OnOk, OnErr, string_bytes};
+ghost use Rattle.std.specs.Prelude.{◌≡◌, ◌∷◌, [], None, Some, IfOk, OnOk, OnErr, map, string_bytes};
+ghost use Rattle.miette_tree.specs.rules.Tree.{trees};
 ghost use Rattle.miette_tree.specs.views.Handler.{AppendsOne};
-ghost use Rattle.miette_sarif.specs.rules.Spelled.{IsSpelled};
-ghost use Rattle.miette_json.specs.rules.Json.{json_text};
-ghost use Rattle.miette_sarif.specs.views.Values.{json_of};
+ghost use Rattle.miette_tree.specs.views.Report.{tree_of};
+ghost use Rattle.miette_sarif.specs.rules.LogText.{IsLogOf};
+ghost use Rattle.miette_sarif.specs.views.Handled.{tool_in};
+ghost use Rattle.miette_sarif.specs.views.Tool.{tool_view};
 
 use crate::gather::findings_of;
 use crate::log::{Tool, log_value};
@@ -31,7 +33,9 @@ impl SarifReportHandler {
     ///
     /// # Errors
     /// `AllocError` where memory for the name is refused.
-    pub fn new(alloc: Global, tool: &str) -> Result<Self, AllocError> {
+    pub fn new(alloc: Global, tool: &str) -> Result<Self, AllocError>
+        ensures { IfOk result (λ it. tool_in it ≡ record { name = tool.now; version = None; information = None }) }
+    {
         Ok(SarifReportHandler {
             tool: String::from_str(alloc, tool)?,
             version: None,
@@ -43,7 +47,9 @@ impl SarifReportHandler {
     ///
     /// # Errors
     /// `AllocError` where memory for it is refused; the handler is dropped.
-    pub fn with_version(self, alloc: Global, version: &str) -> Result<Self, AllocError> {
+    pub fn with_version(self, alloc: Global, version: &str) -> Result<Self, AllocError>
+        ensures { IfOk result (λ it. tool_in it ≡ record (tool_in self) { version = Some version.now }) }
+    {
         Ok(SarifReportHandler {
             version: Some(String::from_str(alloc, version)?),
             ..self
@@ -54,7 +60,9 @@ impl SarifReportHandler {
     ///
     /// # Errors
     /// `AllocError` where memory for it is refused; the handler is dropped.
-    pub fn with_information_uri(self, alloc: Global, uri: &str) -> Result<Self, AllocError> {
+    pub fn with_information_uri(self, alloc: Global, uri: &str) -> Result<Self, AllocError>
+        ensures { IfOk result (λ it. tool_in it ≡ record (tool_in self) { information = Some uri.now }) }
+    {
         Ok(SarifReportHandler {
             information_uri: Some(String::from_str(alloc, uri)?),
             ..self
@@ -62,7 +70,9 @@ impl SarifReportHandler {
     }
 
     // What is said of the tool.
-    fn told(&self) -> Tool<'_> {
+    fn told(&self) -> Tool<'_>
+        ensures { tool_view result ≡ tool_in self.now }
+    {
         Tool {
             name: self.tool.as_str(),
             version: self.version.as_deref(),
@@ -72,7 +82,12 @@ impl SarifReportHandler {
 
     /// Appends the log of a report. After an error, which is want of memory, `out` is as before.
     pub fn render_report(&self, report: &Report, out: &mut String) -> Result<(), RenderError>
-        ensures text { OnOk result (AppendsOne IsSpelled (string_bytes out.old) (string_bytes out.new)) }
+        // The text is the spelling of the log, for some answers of the sources; it stands for that value, and for no
+        // other.
+        ensures value { let tree = tree_of ⟦<Box<dyn Diagnostic> as Diagnostic>⟧.meaning
+            ⟦<Box<dyn SourceCode> as SourceCode>⟧.source report.now in
+            OnOk result (AppendsOne (IsLogOf (tool_in self.now) (trees (tree ∷ [])))
+            (string_bytes out.old) (string_bytes out.new)) }
         ensures memory { OnErr result (result ≡ Err RenderError.Memory) }
         ensures err { OnErr result (string_bytes out.new ≡ string_bytes out.old) }
     {
@@ -81,7 +96,12 @@ impl SarifReportHandler {
 
     /// Appends the log of reports, in their order. After an error, which is want of memory, `out` is as before.
     pub fn render_reports(&self, reports: &[Report], out: &mut String) -> Result<(), RenderError>
-        ensures text { OnOk result (AppendsOne IsSpelled (string_bytes out.old) (string_bytes out.new)) }
+        // The text is the spelling of the log, for some answers of the sources; it stands for that value, and for no
+        // other.
+        ensures value { let tree = tree_of ⟦<Box<dyn Diagnostic> as Diagnostic>⟧.meaning
+            ⟦<Box<dyn SourceCode> as SourceCode>⟧.source in
+            OnOk result (AppendsOne (IsLogOf (tool_in self.now) (trees (map tree reports.now)))
+            (string_bytes out.old) (string_bytes out.new)) }
         ensures memory { OnErr result (result ≡ Err RenderError.Memory) }
         ensures err { OnErr result (string_bytes out.new ≡ string_bytes out.old) }
     {
@@ -102,11 +122,13 @@ fn log_of<D: Diagnostic, S: SourceCode>(
     tool: &Tool<'_>,
     reports: &[Report<D, S>],
 ) -> Result<String, AllocError>
-    ensures { IfOk result (λ text. IsSpelled (string_bytes text)) }
+    ensures { IfOk result (λ text. IsLogOf (tool_view tool.now) (trees (map (tree_of D.meaning S.source) reports.now))
+        (string_bytes text)) }
 {
     laws::the_spelling_denotes_its_value();
     laws::a_text_denotes_one_value();
-    let value = log_value(alloc, tool, &findings_of(alloc, reports)?)?;
+    let findings = findings_of(alloc, reports)?;
+    let value = log_value(alloc, tool, &findings)?;
     let mut text = String::new(alloc);
     push_value(&mut text, &value)?;
     Ok(text)

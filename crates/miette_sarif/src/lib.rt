@@ -15,4 +15,5 @@ mod rules;
 mod seen;
 mod uri;
 mod value;
+mod whole;
 mod write;

@@ -1,9 +1,12 @@
 //! Messages: rows of text, in which braces are doubled, since single ones are placeholders of a message's arguments.
 
-ghost use Rattle.std.specs.Prelude.{◌≡◌, ◌++◌, true, map, OnOk, string_bytes, position};
-ghost use Rattle.miette_sarif.specs.rules.Messages.{is_brace, double_byte, doubled, row, rows};
+ghost use Rattle.std.specs.Prelude.{◌≡◌, ◌++◌, true, map, IfOk, OnOk, string_bytes, position};
+ghost use Rattle.std.specs.Option.{option_copied};
+ghost use Rattle.miette_sarif.specs.rules.Messages.{is_brace, double_byte, doubled, maybe_row, row, rows};
+ghost use Rattle.miette_sarif.specs.rules.Objects.{message_of};
+ghost use Rattle.miette_sarif.specs.views.Values.{json_of};
 
-use crate::value::{Value, single};
+use crate::value::{Value, owned_value, single, text_value};
 use std::alloc::{AllocError, Global};
 
 // Whether a byte is doubled.
@@ -65,9 +68,33 @@ pub(crate) fn push_rows(out: &mut String, title: &str, texts: &[&str]) -> Result
     Ok(())
 }
 
-/// The message of a text.
-pub(crate) fn message_value(alloc: Global, text: &str) -> Result<Value, AllocError> {
+/// Appends a row below others, where there is a text.
+pub(crate) fn push_maybe(
+    out: &mut String,
+    title: &str,
+    text: Option<&str>,
+) -> Result<(), AllocError>
+    ensures { OnOk result (string_bytes out.new
+        ≡ string_bytes out.old ++ maybe_row title.now (option_copied text.entry)) }
+{
+    match text {
+        Some(text) => push_row(out, title, text),
+        None => Ok(()),
+    }
+}
+
+/// The message of a text that stands as it is.
+pub(crate) fn plain_message(alloc: Global, text: &str) -> Result<Value, AllocError>
+    ensures { IfOk result (λ value. json_of value ≡ message_of text.now) }
+{
+    single(alloc, "text", text_value(alloc, text)?)
+}
+
+/// The message of a text, with its braces doubled.
+pub(crate) fn message_value(alloc: Global, text: &str) -> Result<Value, AllocError>
+    ensures { IfOk result (λ value. json_of value ≡ message_of (doubled text.now)) }
+{
     let mut doubled = String::new(alloc);
     push_doubled(&mut doubled, text)?;
-    single(alloc, "text", Value::Text(doubled))
+    single(alloc, "text", owned_value(doubled))
 }

@@ -1,5 +1,6 @@
 -- Messages: rows of text, with their braces doubled.
 use Rattle.std.specs.Prelude.{ℕ, List, [], ◌∷◌, ◌++◌, Bool, ◌||◌, ◌==◌, if◌then◌else◌}
+use Rattle.std.specs.Prelude.{Option, Some, None}
 
 -- `{` and `}`, which alone begin and end what stands for an argument of a message
 abbrev pub is_brace : ℕ → Bool
@@ -20,3 +21,7 @@ row title text = 10 ∷ (title ++ doubled text)
 abbrev pub rows : List ℕ → List (List ℕ) → List ℕ
 rows title [] = []
 rows title (text ∷ texts) = row title text ++ rows title texts
+
+abbrev pub maybe_row : List ℕ → Option (List ℕ) → List ℕ
+maybe_row title None = []
+maybe_row title (Some text) = row title text

@@ -1,15 +1,12 @@
 -- The JSON value that a made one stands for.
 use Rattle.std.specs.Prelude.{Bool, true, false, ℕ, List, [], ◌∷◌, map, string_bytes}
 use denote.Ref.{Bor}
-use Rattle.miette_json.specs.rules.Json.{Json, number, string, array, object, Items, no_items, item, Members}
+use Rattle.miette_json.specs.rules.Json.{Json, number, string, array, object, Items, Members}
 use Rattle.miette_json.specs.rules.Json.{no_members, member, items_text, more_items_text, members_text}
 use Rattle.miette_json.specs.rules.Json.{more_members_text}
 use Rattle.miette_sarif.specs.declared.value.Value.{Value, fold-Value}
 use Rattle.miette_sarif.specs.declared.value.Value.TheOpen.{Value-F}
-
-abbrev pub items_of : List Json → Items
-items_of [] = no_items
-items_of (v ∷ vs) = item v (items_of vs)
+use Rattle.miette_sarif.specs.rules.Objects.{Pairs, items_of}
 
 abbrev pub members_of : List (Bor (List ℕ) × Json) → Members
 members_of [] = no_members
@@ -30,6 +27,12 @@ items_view vs = items_of (map json_of vs)
 
 abbrev pub members_view : List (Bor (List ℕ) × Value) → Members
 members_view ms = members_of (map (λ m. (m.0, json_of m.1)) ms)
+
+abbrev pub values_of : List Value → List Json
+values_of vs = map json_of vs
+
+abbrev pub pairs_of : List (Bor (List ℕ) × Value) → Pairs
+pairs_of ms = map (λ m. (m.0.now, json_of m.1)) ms
 
 -- the rest of a list and its end, from its first item on or from a later one on
 abbrev pub rest_items : Bool → Items → List ℕ

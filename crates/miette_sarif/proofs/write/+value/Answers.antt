@@ -1,8 +1,8 @@
 use Rattle.std.proofs.Common.{◌≡◌, ◌∙◌, ap, ◌++◌, [], ◌∷◌, string_bytes, rules, arith}
 use Rattle.std.proofs.lemmas.Result.{on_ok_weaker}
 use Rattle.miette_sarif.specs.views.Values.{json_of}
-use Rattle.miette_sarif.proofs.Written.{number_written, list_written, object_written, json_number, json_list}
-use Rattle.miette_sarif.proofs.Written.{json_object}
+use Rattle.miette_sarif.proofs.Made.{json_number, json_list, json_object}
+use Rattle.miette_sarif.proofs.Written.{number_written, list_written, object_written}
 use Rattle.miette_sarif.proofs.write.+value.Goals as goal
 
 pub push_value-returns-in-Number : goal.push_value-returns-in-Number

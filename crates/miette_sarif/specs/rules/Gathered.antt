@@ -1,0 +1,81 @@
+-- The findings of reports, by their trees and by what the reads of their sources answered.
+use Rattle.std.specs.Prelude.{◌≡◌, ℕ, ◌+◌, List, [], ◌∷◌, ◌++◌, length, codes, Option, Some, None, unwrap_or}
+use Rattle.miette_protocol.specs.declared.protocol.Severity.{Severity}
+use Rattle.miette_protocol.specs.declared.protocol.Severity.TheVariants.{Advice, Warning, Error}
+use Rattle.miette_tree.specs.rules.Answers.{own_or, related_answers, first_answers, later_answers}
+use Rattle.miette_tree.specs.rules.Diagnosis.{Diagnosis}
+use Rattle.miette_tree.specs.rules.Tree.{Tree, tree, Cause, diagnostic, texts, causes_of, Trees, no_trees, more_trees}
+use Rattle.miette_sarif.specs.rules.Findings.{Finding, Mark, Proposed, SeenSource}
+use Rattle.miette_sarif.specs.rules.Marks.{groups_of, marks_of, other_marks, primary_in, primary_mark, seen_further}
+use Rattle.miette_sarif.specs.rules.Proposals.{proposals, refused}
+use Rattle.miette_sarif.specs.rules.Seen.{count_causes, count_here, count_in, count_own, seen_or}
+use Rattle.miette_sarif.specs.rules.SourceAnswers.{AllAnswers, Faults, RelatedSourceAnswers, SourceAnswers, SourceFaults}
+use Rattle.miette_sarif.specs.rules.SourceAnswers.{first_faults, later_causes, none_met}
+
+-- ---- causes, each over its own source, else over that of the report
+
+abbrev pub cause_marks : Option SeenSource → List Faults → ℕ → Cause → List Mark
+cause_marks over faults n (texts ts) = []
+cause_marks over faults n (diagnostic (tree m s c r)) =
+    marks_of (groups_of (seen_or (first_faults faults).own n s over)
+    (seen_further (first_faults faults).further (n + count_own s) m.snippets) m)
+    ++ cause_marks over (later_causes faults) (n + count_here s m.snippets) c
+
+abbrev pub cause_proposals : Option SeenSource → List Faults → ℕ → Cause → List Proposed
+cause_proposals over faults n (texts ts) = []
+cause_proposals over faults n (diagnostic (tree m s c r)) =
+    proposals (seen_or (first_faults faults).own n s over) m.fixes
+    ++ cause_proposals over (later_causes faults) (n + count_here s m.snippets) c
+
+abbrev pub cause_refused : Option SeenSource → List Faults → ℕ → Cause → List (List ℕ)
+cause_refused over faults n (texts ts) = []
+cause_refused over faults n (diagnostic (tree m s c r)) =
+    refused (seen_or (first_faults faults).own n s over) m.fixes
+    ++ cause_refused over (later_causes faults) (n + count_here s m.snippets) c
+
+-- ---- findings
+
+abbrev pub level : Option Severity → List ℕ
+level None = codes "error"
+level (Some Error) = codes "error"
+level (Some Warning) = codes "warning"
+level (Some Advice) = codes "note"
+
+-- of a report over a source, before whose further sources so many were read
+abbrev pub finding : Option SeenSource → SourceFaults → ℕ → Diagnosis → Cause → Finding
+finding over faults n m c =
+    let groups = groups_of over (seen_further faults.report.further n m.snippets) m in
+    let later = n + length m.snippets in
+    record {
+      code = unwrap_or m.code [];
+      level = level m.severity;
+      message = m.message;
+      causes = causes_of c;
+      help = m.help;
+      url = m.url;
+      primary = primary_mark (primary_in groups) over;
+      marks = other_marks (primary_in groups) groups ++ cause_marks over faults.causes later c;
+      fixes = proposals over m.fixes ++ cause_proposals over faults.causes later c;
+      unapplied = refused over m.fixes ++ cause_refused over faults.causes later c;
+    }
+
+-- Of a report that inherits a source, or none, and of those that are related to it, depth first; so many sources were
+-- read before.
+abbrev mutual
+  pub findings : ℕ → Option SeenSource → SourceAnswers → Tree → List Finding
+  findings n inherited a (tree m s c r) =
+      let faults = own_or none_met a in
+      let over = seen_or faults.report.own n s inherited in
+      finding over faults (n + count_own s) m c
+      ∷ all_findings (n + count_here s m.snippets + count_causes c) over (related_answers a) r
+
+  pub all_findings : ℕ → Option SeenSource → RelatedSourceAnswers → Trees → List Finding
+  all_findings n inherited a no_trees = []
+  all_findings n inherited a (more_trees t ts) =
+      findings n inherited (first_answers a) t ++ all_findings (n + count_in t) inherited (later_answers a) ts
+
+-- the findings of reports, for some answers that their sources can have given
+pub record AreFindingsOf (ts : Trees) (found : List Finding) : Type 0 where
+  pub answers : RelatedSourceAnswers
+  pub possible : AllAnswers answers ts
+  pub are : found ≡ all_findings 0 None answers ts

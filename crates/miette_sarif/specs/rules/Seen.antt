@@ -1,0 +1,37 @@
+-- Sources as they are seen, and how many a report gives.
+use Rattle.std.specs.Prelude.{ℕ, ◌+◌, List, [], length, Bool, Option, Some, None, unwrap_or, if◌then◌else◌}
+use Rattle.miette_protocol.specs.rules.Reading.{Source}
+use Rattle.miette_tree.specs.rules.Diagnosis.{Section}
+use Rattle.miette_tree.specs.rules.Tree.{Tree, tree, Cause, diagnostic, texts, Trees, no_trees, more_trees}
+use Rattle.miette_sarif.specs.rules.Findings.{SeenSource}
+
+-- a source before which so many were read; without name and text where its read met a fault
+abbrev pub seen : Bool → ℕ → Source → SeenSource
+seen fault n s =
+    if fault then record { source = record { name = []; number = n }; text = None }
+    else record { source = record { name = unwrap_or s.name []; number = n }; text = Some s.bytes }
+
+-- the own source of a report, else another one
+abbrev pub seen_or : Bool → ℕ → Option Source → Option SeenSource → Option SeenSource
+seen_or fault n None inherited = inherited
+seen_or fault n (Some own) inherited = Some (seen fault n own)
+
+abbrev pub count_own : Option Source → ℕ
+count_own None = 0
+count_own (Some own) = 1
+
+-- how many sources a report gives for its own labels
+abbrev pub count_here : Option Source → List Section → ℕ
+count_here own sections = count_own own + length sections
+
+abbrev pub count_causes : Cause → ℕ
+count_causes (texts ts) = 0
+count_causes (diagnostic (tree m s c r)) = count_here s m.snippets + count_causes c
+
+abbrev mutual
+  pub count_in : Tree → ℕ
+  count_in (tree m s c r) = count_here s m.snippets + count_causes c + count_all r
+
+  pub count_all : Trees → ℕ
+  count_all no_trees = 0
+  count_all (more_trees t ts) = count_in t + count_all ts

@@ -1,0 +1,5 @@
+-- How the code comes to what the rules say.
+pub mod Drafts
+pub mod Gathering
+pub mod Picking
+pub mod Sees
