@@ -1,3 +1,4 @@
+pub mod Always
 pub mod Braces
 pub mod Drafting
 pub mod Finds

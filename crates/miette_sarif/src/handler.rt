@@ -1,10 +1,11 @@
 //! The handler of SARIF logs.
 
-ghost use Rattle.std.specs.Prelude.{◌≡◌, ◌∷◌, [], None, Some, IfOk, OnOk, OnErr, map, string_bytes};
+ghost use Rattle.std.specs.Prelude.{◌≡◌, ◌++◌, ◌∷◌, [], None, Some, IfOk, OnOk, OnErr, map, string_bytes};
+ghost use Rattle.miette_tree.specs.rules.Reads.{AllAlwaysRead};
 ghost use Rattle.miette_tree.specs.rules.Tree.{trees};
 ghost use Rattle.miette_tree.specs.views.Handler.{AppendsOne};
 ghost use Rattle.miette_tree.specs.views.Report.{tree_of};
-ghost use Rattle.miette_sarif.specs.rules.LogText.{IsLogOf};
+ghost use Rattle.miette_sarif.specs.rules.LogText.{IsLogOf, log_text};
 ghost use Rattle.miette_sarif.specs.views.Handled.{tool_in};
 ghost use Rattle.miette_sarif.specs.views.Tool.{tool_view};
 
@@ -84,10 +85,15 @@ impl SarifReportHandler {
     pub fn render_report(&self, report: &Report, out: &mut String) -> Result<(), RenderError>
         // The text is the spelling of the log, for some answers of the sources; it stands for that value, and for no
         // other.
-        ensures value { let tree = tree_of ⟦<Box<dyn Diagnostic> as Diagnostic>⟧.meaning
+        ensures text { let tree = tree_of ⟦<Box<dyn Diagnostic> as Diagnostic>⟧.meaning
             ⟦<Box<dyn SourceCode> as SourceCode>⟧.source report.now in
             OnOk result (AppendsOne (IsLogOf (tool_in self.now) (trees (tree ∷ [])))
             (string_bytes out.old) (string_bytes out.new)) }
+        // Where all sources of the report always read, there is one such log.
+        ensures value { let tree = tree_of ⟦<Box<dyn Diagnostic> as Diagnostic>⟧.meaning
+            ⟦<Box<dyn SourceCode> as SourceCode>⟧.source report.now in
+            OnOk result (AllAlwaysRead (trees (tree ∷ []))
+            → string_bytes out.new ≡ string_bytes out.old ++ log_text (tool_in self.now) (trees (tree ∷ []))) }
         ensures memory { OnErr result (result ≡ Err RenderError.Memory) }
         ensures err { OnErr result (string_bytes out.new ≡ string_bytes out.old) }
     {
@@ -98,10 +104,15 @@ impl SarifReportHandler {
     pub fn render_reports(&self, reports: &[Report], out: &mut String) -> Result<(), RenderError>
         // The text is the spelling of the log, for some answers of the sources; it stands for that value, and for no
         // other.
-        ensures value { let tree = tree_of ⟦<Box<dyn Diagnostic> as Diagnostic>⟧.meaning
+        ensures text { let tree = tree_of ⟦<Box<dyn Diagnostic> as Diagnostic>⟧.meaning
             ⟦<Box<dyn SourceCode> as SourceCode>⟧.source in
             OnOk result (AppendsOne (IsLogOf (tool_in self.now) (trees (map tree reports.now)))
             (string_bytes out.old) (string_bytes out.new)) }
+        // Where all sources of the reports always read, there is one such log.
+        ensures value { let tree = tree_of ⟦<Box<dyn Diagnostic> as Diagnostic>⟧.meaning
+            ⟦<Box<dyn SourceCode> as SourceCode>⟧.source in let ts = trees (map tree reports.now) in
+            OnOk result (AllAlwaysRead ts
+            → string_bytes out.new ≡ string_bytes out.old ++ log_text (tool_in self.now) ts) }
         ensures memory { OnErr result (result ≡ Err RenderError.Memory) }
         ensures err { OnErr result (string_bytes out.new ≡ string_bytes out.old) }
     {

@@ -2,7 +2,7 @@
 use Rattle.std.specs.Prelude.{◌≡◌, ℕ, ◌+◌, List, [], ◌∷◌, ◌++◌, length, codes, Option, Some, None, unwrap_or}
 use Rattle.miette_protocol.specs.declared.protocol.Severity.{Severity}
 use Rattle.miette_protocol.specs.declared.protocol.Severity.TheVariants.{Advice, Warning, Error}
-use Rattle.miette_tree.specs.rules.Answers.{own_or, related_answers, first_answers, later_answers}
+use Rattle.miette_tree.specs.rules.Answers.{first_answers, later_answers, no_more, own_or, related_answers}
 use Rattle.miette_tree.specs.rules.Diagnosis.{Diagnosis}
 use Rattle.miette_tree.specs.rules.Tree.{Tree, tree, Cause, diagnostic, texts, causes_of, Trees, no_trees, more_trees}
 use Rattle.miette_sarif.specs.rules.Findings.{Finding, Mark, Proposed, SeenSource}
@@ -73,6 +73,10 @@ abbrev mutual
   all_findings n inherited a no_trees = []
   all_findings n inherited a (more_trees t ts) =
       findings n inherited (first_answers a) t ++ all_findings (n + count_in t) inherited (later_answers a) ts
+
+-- of reports whose sources always read
+abbrev pub read_findings : Trees → List Finding
+read_findings ts = all_findings 0 None no_more ts
 
 -- the findings of reports, for some answers that their sources can have given
 pub record AreFindingsOf (ts : Trees) (found : List Finding) : Type 0 where
