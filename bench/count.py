@@ -4,14 +4,14 @@
     bench/count.py [--peers FOLDER] [--seconds N] [--keep FILE] [NAME ..]
 
 Counted are the workloads of workloads.py whose names begin with a NAME, or all. The program is
-`crates/bench/out/bench`, `crates/draw/out/draw` where a source is drawn, and `crates/job/out/job`
-where fixes are applied, as the gate builds them. FOLDER has the programs of the peers (README.md);
-without it ours is counted alone.
+`crates/bench/out/bench`, `crates/draw/out/draw` where a source is drawn, `crates/job/out/job` where
+fixes are applied, and `crates/lint/out/lint` where a source is linted, as the gate builds them.
+FOLDER has the programs of the peers (README.md); without it ours is counted alone.
 
 Instructions are counted by `valgrind --tool=cachegrind`: a run with one rendering less a run with
 none, or, where the input is short, a tenth of a run with eleven less one with one, so that starting
-the program and reading the input don't count. Of `draw` it is the whole process less that over an
-empty source, of `job --fix` less that of the same description without fixes.
+the program and reading the input don't count. Of `draw` and `lint` it is the whole process less
+that over an empty source, of `job --fix` less that of the same description without fixes.
 
 Memory is what is in the heap at the peak of one rendering above what was there before it, the text
 included, in thousands of bytes. Of ours a library that is loaded before the C library notes each
@@ -85,8 +85,8 @@ def command(who, workload, times, asked, suffix=""):
     return [program, *words, *([] if name == "draw" else ["--repeat", str(times)])]
 
 
-def run(words, path, asked):
-    """What a run writes, to standard output and to standard error."""
+def run(words, path, asked, fine=(0,)):
+    """What a run that ends with one of these statuses writes, to standard output and to standard error."""
 
     def limit():
         resource.setrlimit(resource.RLIMIT_CPU, (asked.seconds, asked.seconds))
@@ -97,15 +97,15 @@ def run(words, path, asked):
             words, stdin=given, capture_output=True, env=kept, preexec_fn=limit, check=False
         )
     said = ended.stderr.decode(errors="replace")
-    if ended.returncode != 0:
+    if ended.returncode not in fine:
         lines = [it for it in said.split("\n") if it and not it.startswith("==")]
         raise Failed(f"status {ended.returncode}: {' / '.join(lines)[:200]}")
     return ended.stdout, said
 
 
-def instructions(words, path, asked):
+def instructions(words, path, asked, fine=(0,)):
     """The instructions of a whole run."""
-    _, said = run([*VALGRIND, *words], path, asked)
+    _, said = run([*VALGRIND, *words], path, asked, fine)
     return int(re.search(r"I +refs: +([\d,]+)", said)[1].replace(",", ""))
 
 
@@ -115,7 +115,9 @@ def counted(who, workload, path, asked):
         words, other = command(who, workload, 1, asked), path + ".beside"
         with open(other, "wb") as file:
             file.write(workload.beside())
-        whole, beside = (instructions(words, it, asked) for it in (path, other))
+        # `lint` ends with 1 where it finds something
+        fine = (0, 1) if workload.program == "lint" else (0,)
+        whole, beside = (instructions(words, it, asked, fine) for it in (path, other))
         os.remove(other)
         return {"instructions": whole - beside}
     less, more = (1, 11) if os.path.getsize(path) < SHORT else (0, 1)

@@ -1,6 +1,6 @@
 #!/usr/bin/env python3
 """Makes the workloads: descriptions, the words of `bench` that they are rendered by, or of `job`
-that applies their fixes, and the source of a workload that is drawn by `draw`.
+that applies their fixes, and the source of a workload that is drawn by `draw` or read by `lint`.
 
     bench/workloads.py FOLDER           writes all of them, and manifest.json
     bench/workloads.py FOLDER NAME ..   writes those whose names begin so
@@ -49,7 +49,7 @@ class Workload(NamedTuple):
 
     def file(self):
         """The name of its file."""
-        return self.name + (".txt" if self.program == "draw" else ".json")
+        return self.name + (".txt" if self.program in ("draw", "lint") else ".json")
 
 
 def described(report):
@@ -156,6 +156,20 @@ def fixes():
             yield Workload(name, f"x_{kind}", ("--fix",), made, "job", beside=bare)
 
 
+def linted(count):
+    """So many lines, with a finding in each hundredth one."""
+    line = b"    let value = compute(that, other);"
+    return b"".join(line + (b" \n" if number % 100 == 0 else b"\n") for number in range(count))
+
+
+def lints():
+    """A source that is linted, and mended."""
+    for count in (200_000, 400_000):
+        made = lambda count=count: linted(count)
+        for kind, words in (("find", ()), ("fix", ("--fix",)), ("diff", ("--diff",))):
+            yield Workload(f"y_{kind}_{count}", f"y_{kind}", (*words, "f", "80"), made, "lint")
+
+
 def inner_reports():
     """Related reports and causes."""
     for count in (1000, 2000, 4000):
@@ -203,7 +217,7 @@ def hard_lines():
 
 
 FAMILIES = (everyday, big_sources, long_lines, long_texts, texts_by_unicode, several_sources)
-FAMILIES += (fixes, inner_reports, others, hard, hard_lines)
+FAMILIES += (fixes, lints, inner_reports, others, hard, hard_lines)
 ALL = [workload for family in FAMILIES for workload in family()]
 
 

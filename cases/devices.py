@@ -28,6 +28,10 @@ FOUND = (
     "  ⚠ 3 findings\n   ╭─[f:1:6]\n 1 │ x = 1 \n   ·      ┬\n   ·      ╰── trailing blanks\n 2 │     y\n   ·  ─┬─\n"
     "   ·   ╰── tab after space\n 3 │ end\n   ·   ┬\n   ·   ╰── no final terminator\n   ╰────\n"
 )
+MENDED = (
+    "  ⚠ 1 findings\n   ╭─[f:1:2]\n 1 │ a \n   ·  ┬\n   ·  ╰── trailing blanks\n   ╰────\n"
+    "  fix: 1 of 1 findings\n   ╭─[f:1:2]\n 1 - a \n   ·  -\n 1 + a\n   ╰────\n"
+)
 SMALL = '{"message":"m"}'
 SMALL_JSON = '{"message": "m","severity": "error","causes": [],"labels": [],"related": []}'
 LABELLED = '{"message":"漢","source":{"text":"a\\nb"},"labels":[{"offset":2,"length":1,"label":"x"}]}'
@@ -48,6 +52,8 @@ LABELLED_JSON = (
 RUNS = [
     (["draw", "bad_file.rs", "9", "4", "This bit here", "oops!"], README, 0, DRAWN),
     (["lint", "f", "80"], "x = 1 \n \ty\nend", 1, FOUND),
+    (["lint", "--fix", "f", "80"], "x = 1 \n \ty\nend", 0, "x = 1\n    y\nend\n"),
+    (["lint", "--diff", "f", "80"], "a \n", 1, MENDED),
     (["job", "--json"], SMALL, 0, SMALL_JSON),
     (["job", "--debug"], SMALL, 0, 'Diagnostic { message: "m" }\n'),
     (["job", "--term-unicode", "yes"], LABELLED, 0, PICTURE),
@@ -63,7 +69,7 @@ REFUSED = [
     (["draw", "f", "9", "+4", "l", "m"], "usage: draw NAME OFFSET LENGTH LABEL MESSAGE\n"),
     (["job", "--jsonx"], "usage: job [OPTIONS]\n"),
     (["bench", "x"], "usage: bench N [OPTIONS]\n"),
-    (["lint", "f"], "usage: lint [--brief | --fix] NAME WIDTH\n"),
+    (["lint", "f"], "usage: lint [--brief | --fix | --diff] NAME WIDTH\n"),
 ]
 # words and an input of which nothing is written, status, row
 SILENT = [

@@ -1,5 +1,5 @@
 #!/usr/bin/env python3
-"""lint_fixes.py: writes the cases of `lint --fix` (lint-fix.jsonl) to standard output.
+"""lint_fixes.py: writes the cases of `lint --fix` and `lint --diff` (lint-fix.jsonl) to standard output.
 
 Sources of any bytes are drawn by chance from a fixed seed: blanks in front and at the end, every kind of terminator,
 wide lines, bytes that are no UTF-8, and up to 200 lines, with what the rules ask for (lint_model.py). What a line
@@ -10,7 +10,7 @@ import random
 
 import lint_model
 
-COUNT = 150
+COUNT = 300
 PIECES = [b"a", b"be", b"fn x(y)", "é".encode(), "漢字".encode(), "e\u0301".encode(), b"=1;", b"a b"]
 RARE = [b"\xff", b"\xe6\xbc", b"\x1b[31mr\x1b[0m", b"\x01", "\u3000".encode(), "\u200b".encode(), b"\x80\x80", b"\x1b"]
 BLANKS = [b"", b"", b" ", b"    ", b"\t", b" \t", b"  \t\t ", b"\t \t", b"     \t"]
@@ -45,12 +45,16 @@ def of_bytes(name, data):
 def case(number):
     dice = random.Random(number)
     data, name, width = source_of(dice), dice.choice(["f", "x.rs", "src/漢", ""]), dice.choice(WIDTHS)
-    made, left, status = lint_model.fix(data, name, width)
-    words = ["lint", "--fix", name, str(width)]
+    if number % 2:
+        text, status = lint_model.diff(data, name, width)
+        made, left = text.encode(), ""
+    else:
+        made, left, status = lint_model.fix(data, name, width)
+    words = ["lint", "--diff" if number % 2 else "--fix", name, str(width)]
     wanted = {"what": "a linted source, mended", "argv": words, **of_bytes("stdin", data)}
     return {**wanted, **of_bytes("stdout", made), "status": status, "stderr": left}
 
 
 if __name__ == "__main__":
     for number in range(COUNT):
-        print(json.dumps(case(2 * number), ensure_ascii=True))
+        print(json.dumps(case(number), ensure_ascii=True))

@@ -44,15 +44,28 @@ OWN = {
     "source": {"text": NINE},
     "labels": [{"offset": 0, "length": 1, "context": 1}, {"offset": 16, "length": 1, "context": 2, "label": "x"}],
 }
+MENDED = {
+    "message": "m",
+    "source": {"name": "f", "text": "a \nb\n"},
+    "fixes": [
+        {
+            "message": "x",
+            "edits": [{"offset": 1, "length": 1, "text": ""}, {"offset": 3, "length": 0, "text": "漢"}],
+        },
+        {"message": "y", "edits": [{"offset": 9, "length": 1, "text": ""}]},
+    ],
+}
 REFUSED = {"message": "m", "source": {"text": "a"}, "labels": [{"offset": 9, "length": 1}]}
 TERMINAL = ["--term-unicode", "yes", "--term-color", "rgb", "--rgb", "always", "--term-links", "yes", "--width", "20"]
 PLAIN = ["--term-unicode", "yes"]
-REPORTS = (LABELLED, LINKED, RELATED, MANY, APART, OWN, REFUSED)
+REPORTS = (LABELLED, LINKED, RELATED, MANY, APART, OWN, MENDED, REFUSED)
 KINDS = (PLAIN, TERMINAL, ["--nested", "yes", "--footer", "bye"], ["--narrated"], ["--brief"], ["--json"], ["--debug"])
 
 RUNS = [
     (["draw", "bad_file.rs", "9", "4", "This bit here", "oops!"], README),
     (["lint", "f", "80"], "x = 1 \n \ty\nend"),
+    (["lint", "--fix", "f", "80"], "x = 1 \n \ty\nend"),
+    (["lint", "--diff", "f", "80"], "x = 1 \n \ty\nend"),
     (["bench", "2", *PLAIN], json.dumps(LABELLED)),
 ] + [
     (["job", *words], json.dumps(description))

@@ -1,4 +1,5 @@
 pub mod AcceptedFindings
+pub mod AllTogether
 pub mod Apart
 pub mod CleanTexts
 pub mod FindingSteps

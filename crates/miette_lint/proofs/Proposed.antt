@@ -269,18 +269,21 @@ lines_make source ending at (l ∷ ls) cut last =
     (line_makes source ending l fixes rest (omega (arith, cut.0, cut.1)) cut.2 within
     (λ f. none_fixed source ending ls (last.0 f)) (lines_make source ending l.end ls cut.4 last.1))
 
-all_make : (source : List ℕ) → Makes source 0 (proposals_of source) (fixed_text source)
-all_make source =
+proposals_make : (source : List ℕ) → Makes source 0 (proposals_of source) (fixed_text source)
+proposals_make source =
     lines_make source (ending_of source) 0 (lines_of source) (lines_cut source)
     (ends_last 0 (lines_of source) source (lines_are source))
 
+pub proposals_apart : (source : List ℕ) → AreApart (length source) 0 (proposals_of source)
+proposals_apart source = (proposals_make source).apart
+
+pub proposals_made : (source : List ℕ) → text_from source 0 (edits_in (proposals_of source)) ≡ fixed_text source
+proposals_made source = (proposals_make source).made
+
 pub fixed_applied : (source : List ℕ) → all_applied source (lists_in (proposals_of source)) ≡ fixed_text source
 fixed_applied source =
-    let h : Makes source 0 (proposals_of source) (fixed_text source) = all_make source in
-    applied_apart source (proposals_of source) h.apart ∙ h.made
+    applied_apart source (proposals_of source) (proposals_apart source) ∙ proposals_made source
 
 pub proposals_taken : (source : List ℕ) → taken (length source) [] (lists_in (proposals_of source))
     ≡ map (λ (fix : Proposal). true) (proposals_of source)
-proposals_taken source =
-    let h : Makes source 0 (proposals_of source) (fixed_text source) = all_make source in
-    all_are_taken (length source) 0 [] (proposals_of source) tt h.apart
+proposals_taken source = all_are_taken (length source) 0 [] (proposals_of source) tt (proposals_apart source)

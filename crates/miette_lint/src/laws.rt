@@ -1,9 +1,11 @@
-//! Laws of what is proposed. The function does nothing: its contract is the law, and a proof above calls it.
+//! Laws of what is proposed. The functions do nothing: their contracts are the laws, and a proof above calls them.
 
-ghost use Rattle.std.specs.Prelude.{◌≡◌, ℕ, List, [], length, map, true};
+ghost use Rattle.std.specs.Prelude.{◌≡◌, ℕ, List, [], None, length, map, true};
+ghost use Rattle.miette_fixes.specs.rules.Applying.{applied, refusal};
 ghost use Rattle.miette_fixes.specs.rules.ApplyingAll.{all_applied, taken};
 ghost use Rattle.miette_lint.specs.rules.Findings.{findings_of};
 ghost use Rattle.miette_lint.specs.rules.Fixes.{fixed_text, proposals_of, wide_lines};
+ghost use Rattle.miette_lint.specs.rules.Joint.{joint_proposal};
 
 /// Of every source: nothing but lines that are too wide is found in the fixed text, and nothing is proposed for it.
 /// Fixing it again changes nothing. It is the text after all proposals, and each of these is taken.
@@ -16,4 +18,12 @@ pub fn fixed_laws()
         ≡ fixed_text source }
     ensures taken { (source : List ℕ) → taken (length source) [] (map (λ fix. fix.edits) (proposals_of source))
         ≡ map (λ fix. true) (proposals_of source) }
+{}
+
+/// Of every source: all that is proposed as one fix can be applied, and gives the fixed text.
+pub fn joint_laws()
+    ensures accepted { (source : List ℕ) (found : ℕ) →
+        refusal (length source) (joint_proposal source found).edits ≡ None }
+    ensures applied { (source : List ℕ) (found : ℕ) → applied source (joint_proposal source found).edits
+        ≡ fixed_text source }
 {}

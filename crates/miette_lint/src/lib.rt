@@ -5,6 +5,7 @@ mod blanks;
 mod endings;
 pub mod findings;
 pub mod fixed;
+pub mod joint;
 pub mod laws;
 pub mod proposals;
 mod spaces;

@@ -6,6 +6,7 @@ pub mod PictureSteps
 pub mod AlwaysRead
 pub mod JobHandlerSteps
 pub mod AcceptedFindings
+pub mod LintDiffSteps
 pub mod LintFixSteps
 pub mod LintSteps
 pub mod OptionWordSteps

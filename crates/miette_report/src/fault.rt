@@ -97,7 +97,7 @@ impl Program {
             Program::Draw => ("draw", "NAME OFFSET LENGTH LABEL MESSAGE"),
             Program::Job => ("job", "[OPTIONS]"),
             Program::Bench => ("bench", "N [OPTIONS]"),
-            Program::Lint => ("lint", "[--brief | --fix] NAME WIDTH"),
+            Program::Lint => ("lint", "[--brief | --fix | --diff] NAME WIDTH"),
         }
     }
 

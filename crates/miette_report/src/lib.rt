@@ -13,6 +13,7 @@ mod job_handler;
 pub mod language;
 pub mod laws;
 pub mod lint;
+pub mod lint_diff;
 pub mod lint_fix;
 mod option_words;
 mod picture;

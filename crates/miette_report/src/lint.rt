@@ -78,15 +78,18 @@ fn count_text(alloc: Global, count: usize) -> Result<String, AllocError>
     Ok(text)
 }
 
-// Whether nothing is found.
-fn is_clean(found: &Vec<LabeledSpan>) -> bool
+/// Whether nothing is found.
+pub(crate) fn is_clean(found: &Vec<LabeledSpan>) -> bool
     ensures { IsClean found.now.items result }
 {
     found.as_slice().is_empty()
 }
 
-// One warning with the labels.
-fn diagnostic(alloc: Global, found: Vec<LabeledSpan>) -> Result<MietteDiagnostic, AllocError>
+/// One warning with the labels.
+pub(crate) fn diagnostic(
+    alloc: Global,
+    found: Vec<LabeledSpan>,
+) -> Result<MietteDiagnostic, AllocError>
     ensures { IfOk result (λ it. meaning_of it ≡ warning found.items) }
 {
     let message = count_text(alloc, found.len())?;

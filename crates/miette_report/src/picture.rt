@@ -24,8 +24,8 @@ use std::alloc::{AllocError, Global};
 // How many columns a row may have.
 const WIDTH: usize = 80;
 
-// The report of a diagnostic over the input under its name.
-fn report<D: Diagnostic, S: SourceCode>(
+/// The report of a diagnostic over the input under its name.
+pub(crate) fn report<D: Diagnostic, S: SourceCode>(
     alloc: Global,
     name: &str,
     diagnostic: MietteDiagnostic,
@@ -49,8 +49,12 @@ fn drawing(theme: GraphicalTheme, limit: Option<usize>) -> GraphicalReportHandle
     }
 }
 
-// The picture of a report, in plain characters, with lines cut at a limit, if there is one.
-fn draw(alloc: Global, report: &Report, limit: Option<usize>) -> Result<String, RenderError>
+/// The picture of a report, in plain characters, with lines cut at a limit, if there is one.
+pub(crate) fn draw(
+    alloc: Global,
+    report: &Report,
+    limit: Option<usize>,
+) -> Result<String, RenderError>
     requires reads { IsReadWhole limit (tree_of ⟦<Box<dyn Diagnostic> as Diagnostic>⟧.meaning
         ⟦<Box<dyn SourceCode> as SourceCode>⟧.source report.now) }
     ensures ok { IfOk result (λ text. IsPicture limit

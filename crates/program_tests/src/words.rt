@@ -3,6 +3,8 @@
 use crate::comparing::same;
 use crate::devices::words_of;
 use miette_report::draw::DrawWords;
+use miette_report::lint::LintWords;
+use miette_report::lint_diff::diffing;
 use miette_report::words::WordsFault;
 use miette_report::{bench, draw, job, lint};
 use std::process::Abort;
@@ -41,5 +43,17 @@ fn five_words_are_read(rt: HostRuntime) -> Result<(), Fail> {
         message: "m",
     };
     same(&rt, DrawWords::read(words.as_slice()), Some(wanted));
+    Ok(())
+}
+
+#[test]
+fn three_words_ask_for_a_diff(rt: HostRuntime) -> Result<(), Fail> {
+    let words = words_of(rt.alloc(), &["--diff", "f", "80"])?;
+    let wanted = LintWords {
+        brief: false,
+        name: "f",
+        width: 80,
+    };
+    same(&rt, diffing(words.as_slice()), Some(wanted));
     Ok(())
 }

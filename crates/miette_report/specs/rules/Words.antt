@@ -53,3 +53,13 @@ pub record AreFixWords (words : List (List ℕ)) (name : List ℕ) (width : ℕ)
 -- no reading of the words is one of `lint --fix`
 abbrev pub IsNoFixCall : List (List ℕ) → Type 0
 IsNoFixCall words = (name : List ℕ) (width : ℕ) → ¬ (AreFixWords words name width)
+
+-- three words: `--diff`, a name and a number
+pub record AreDiffWords (words : List (List ℕ)) (name : List ℕ) (width : ℕ) : Type 0 where
+  pub width_word : List ℕ
+  pub are : words ≡ codes "--diff" ∷ name ∷ width_word ∷ []
+  pub width_is : IsReadAs width_word (Some width)
+
+-- no reading of the words is one of `lint --diff`
+abbrev pub IsNoDiffCall : List (List ℕ) → Type 0
+IsNoDiffCall words = (name : List ℕ) (width : ℕ) → ¬ (AreDiffWords words name width)

@@ -1,13 +1,14 @@
 -- What the program `lint` reports.
 use Rattle.std.specs.Prelude.{◌≡◌, ℕ, ◌<◌, Bool, true, false, List, [], ◌∷◌, ◌++◌, Some, codes, decimal, length}
 use Rattle.miette.specs.Diagnostic.{message_alone}
-use Rattle.miette.specs.Tree.{Tree}
+use Rattle.miette.specs.Tree.{Tree, with_fix}
 use Rattle.miette_brief.specs.rules.Report as rows
 use Rattle.miette.specs.Meaning.{Label, Meaning}
 use Rattle.miette_protocol.specs.declared.protocol.Severity.TheVariants.{Warning}
 use Rattle.miette_report.specs.views.DrawReports.{over_input, IsPicture}
 use Rattle.miette_lint.specs.rules.Findings.{findings_of}
 use Rattle.miette_lint.specs.rules.Fixes.{fixed_text}
+use Rattle.miette_lint.specs.rules.Joint.{joint_proposal}
 use Rattle.miette_report.specs.rules.Words.{AreLintWords}
 
 abbrev pub count_text : ℕ → List ℕ
@@ -64,3 +65,21 @@ LintFixes name width input clean holds =
     (left : List ℕ) × IsClean (findings_of (fixed_text input) width) clean
     × IsLinted false name width (fixed_text input) (findings_of (fixed_text input) width) left
     × holds (fixed_text input) left
+
+-- The picture of what is found in the input, with one fix of all that is proposed for it: nothing where nothing is
+-- found.
+abbrev pub IsDiffed : List ℕ → ℕ → List ℕ → List Label → List ℕ → Type 0
+IsDiffed name width input [] text = text ≡ []
+IsDiffed name width input (l ∷ ls) text = IsPicture (Some width)
+    (with_fix (joint_proposal input (length (l ∷ ls))) (over_input name (warning (l ∷ ls)) input)) text
+
+-- A fact of that picture, with whether nothing is found in the input.
+abbrev pub LintDiffs : List ℕ → ℕ → List ℕ → Bool → (List ℕ → Type 0) → Type 0
+LintDiffs name width input clean holds =
+    (text : List ℕ) × IsClean (findings_of input width) clean × IsDiffed name width input (findings_of input width) text
+    × holds text
+
+-- A fact of the picture alone.
+abbrev pub LintDiffsText : List ℕ → ℕ → List ℕ → (List ℕ → Type 0) → Type 0
+LintDiffsText name width input holds =
+    (text : List ℕ) × IsDiffed name width input (findings_of input width) text × holds text

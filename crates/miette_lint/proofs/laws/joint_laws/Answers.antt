@@ -1,0 +1,8 @@
+use Rattle.miette_lint.proofs.AllTogether.{joint_accepted, joint_applied}
+use Rattle.miette_lint.proofs.laws.joint_laws.Goals as goal
+
+pub returns-clause-accepted : goal.returns-clause-accepted
+returns-clause-accepted c = joint_accepted
+
+pub returns-clause-applied : goal.returns-clause-applied
+returns-clause-applied c = joint_applied
