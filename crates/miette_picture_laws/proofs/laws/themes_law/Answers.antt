@@ -1,5 +1,5 @@
-use Rattle.miette_graphical.proofs.Themes.{default_clean, shipped_clean, shipped_narrow, terminal_shipped}
-use Rattle.miette_graphical.proofs.laws.themes_law.Goals as goal
+use Rattle.miette_picture_laws.proofs.Themes.{default_clean, shipped_clean, shipped_narrow, terminal_shipped}
+use Rattle.miette_picture_laws.proofs.laws.themes_law.Goals as goal
 
 pub returns-clause-narrow : goal.returns-clause-narrow
 returns-clause-narrow c = λ characters shipped. shipped_narrow characters shipped

@@ -1,6 +1,6 @@
-use Rattle.miette_graphical.proofs.Arrows.{first-stands, inner-stand, printed-rows, rows-stand}
-use Rattle.miette_graphical.proofs.ArrowRows.{drawn-stand}
-use Rattle.miette_graphical.proofs.laws.arrows_law.Goals as goal
+use Rattle.miette_picture_laws.proofs.Arrows.{first-stands, inner-stand, printed-rows, rows-stand}
+use Rattle.miette_picture_laws.proofs.ArrowRows.{drawn-stand}
+use Rattle.miette_picture_laws.proofs.laws.arrows_law.Goals as goal
 
 pub returns-clause-rows : goal.returns-clause-rows
 returns-clause-rows c = λ s outer is_last text wraps. rows-stand s outer is_last text wraps

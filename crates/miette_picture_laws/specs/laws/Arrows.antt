@@ -6,7 +6,7 @@ use Rattle.miette_runs.specs.rules.Cutting.{only_feeds}
 use Rattle.miette_runs.specs.rules.Runs.{Fragment, print}
 use Rattle.miette_runs.specs.rules.Sequences.{tokens}
 use Rattle.miette_protocol.specs.declared.protocol.Severity.{Severity}
-use Rattle.miette_graphical.specs.laws.FittingRows.{FitsRow, bare_row, fed_rows, indented_rows}
+use Rattle.miette_picture_laws.specs.laws.FittingRows.{FitsRow, bare_row, fed_rows, indented_rows}
 use Rattle.miette_graphical.specs.rules.DiagnosticText.{line_feed, under_arrow}
 use Rattle.miette_graphical.specs.rules.Indents.{arrow_indent, narrow_settings, stem_indent}
 use Rattle.miette_graphical.specs.rules.Settings.{Settings}

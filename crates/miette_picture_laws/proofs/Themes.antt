@@ -1,9 +1,7 @@
--- The shipped themes are one column wide and hold no escape; so are a space and the digits.
-use Rattle.std.proofs.Common.{◌≡◌, ℕ, ◌<◌, ◌≤◌, inl, inr, Bool, true, false, ◌&&◌, if◌then◌else◌, option_map}
-use Rattle.std.proofs.Common.{string_bytes, codes, refl, ap, ◌∙◌, arith}
-use Rattle.std.proofs.lemmas.Bool.Decides.{nat_tests}
+-- The shipped themes are one column wide and hold no escape.
+use Rattle.std.proofs.Common.{◌≡◌, inl, inr, Bool, true, false, ◌&&◌, if◌then◌else◌, option_map}
+use Rattle.std.proofs.Common.{string_bytes, codes, refl, ap, ◌∙◌}
 use Rattle.std.specs.Str.{chars}
-use Rattle.unicode_width.specs.Width.{char_width}
 use Rattle.unicode_width.proofs.Computing.{unicode_width}
 use Rattle.miette_style.specs.declared.theme.Terminal.{Terminal}
 use Rattle.miette_style.specs.rules.Escapes.{is_escape, no_escape}
@@ -11,24 +9,9 @@ use Rattle.miette_style.specs.rules.Themes.{Characters, Theme, ansi_styles, asci
 use Rattle.miette_style.specs.rules.Themes.{no_styles, refuses_colours, terminal_theme, unicode_characters}
 use Rattle.miette_cells.specs.rules.Widths.{width_of}
 use Rattle.miette_row_laws.specs.laws.Clean.{IsClean}
-use Rattle.miette_snippet_rules.specs.rules.Drawing.{IsNarrow}
 use Rattle.miette_graphical.specs.laws.Clean.{AreCleanCharacters, AreCleanSettings}
 use Rattle.miette_graphical.specs.laws.CharacterSets.{AreNarrow, AreShipped}
 use Rattle.miette_graphical.specs.rules.Settings.{default_settings}
-
--- ---- widths
-
-digit_narrow : (d : ℕ) → 48 ≤ d → d < 58 → width_of d ≡ 1
-unfolding char_width
-digit_narrow d low high = grind (arith, nat_tests)
-
-space_narrow : width_of 32 ≡ 1
-unfolding char_width
-space_narrow = refl
-
--- with a space and the digits, which always are
-pub is_narrow : (c : Characters) → AreNarrow width_of c → IsNarrow width_of c
-is_narrow c h = record { drawings = h; space = space_narrow; digits = digit_narrow }
 
 -- what each table has, the shipped characters have
 pub shipped : {X : Type 0} (c : Characters) → AreShipped c → (f : Characters → X) (x : X) → f unicode_characters ≡ x
@@ -53,8 +36,6 @@ shipped_narrow c h = record {
   underbar = shipped c h (λ c. width_of c.underbar) 1 refl refl refl;
   underline = shipped c h (λ c. width_of c.underline) 1 refl refl refl;
 }
-
--- ---- escapes
 
 pub shipped_clean : (c : Characters) → AreShipped c → AreCleanCharacters c
 shipped_clean c h =
@@ -83,8 +64,6 @@ link_clean = refl
 
 pub default_clean : (theme : Theme) → AreShipped theme.characters → AreCleanSettings (default_settings theme)
 default_clean theme h = (shipped_clean theme.characters h, link_clean, tt)
-
--- ---- the theme of a terminal
 
 either : (b : Bool) (t u : Theme) → AreShipped t.characters → AreShipped u.characters
     → AreShipped (if b then t else u).characters

@@ -1,5 +1,5 @@
-use Rattle.miette_graphical.proofs.NumberRows.{prints-itself, prints-number}
-use Rattle.miette_graphical.proofs.laws.number_rows_law.Goals as goal
+use Rattle.miette_picture_laws.proofs.NumberRows.{prints-itself, prints-number}
+use Rattle.miette_picture_laws.proofs.laws.number_rows_law.Goals as goal
 
 pub returns-clause-rows : goal.returns-clause-rows
 returns-clause-rows c = λ context line number is. prints-number context line number is

@@ -4,12 +4,12 @@ use Rattle.std.proofs.Common.{append_assoc, subst}
 use Rattle.miette_runs.specs.rules.Colours.{is_colour}
 use Rattle.miette_runs.specs.rules.Cutting.{only_feeds}
 use Rattle.miette_runs.specs.rules.Sequences.{Token, Character, Sequence, is_line_feed, tokens}
-use Rattle.miette_graphical.specs.laws.Arrows.{DrawnRowsStand, rows_under}
-use Rattle.miette_graphical.specs.laws.FittingRows.{fed_rows}
+use Rattle.miette_picture_laws.specs.laws.Arrows.{DrawnRowsStand, rows_under}
+use Rattle.miette_picture_laws.specs.laws.FittingRows.{fed_rows}
 use Rattle.miette_graphical.specs.laws.Holding.{Arrow, EndsRow, HoldsUnder, StandsIn, cut_text}
 use Rattle.miette_graphical.specs.rules.DiagnosticText.{line_feed, under_arrow}
 use Rattle.miette_graphical.specs.rules.Settings.{Settings}
-use Rattle.miette_graphical.proofs.Arrows.{inner-stand}
+use Rattle.miette_picture_laws.proofs.Arrows.{inner-stand}
 use Rattle.miette_text.proofs.Feeds.{seen-behind, tokens-fed}
 use Rattle.miette_graphical.proofs.Rows.{IsEnded, ended-rows, within-stands}
 

@@ -5,7 +5,7 @@ use Rattle.miette_protocol.specs.declared.protocol.Severity.{Severity}
 use Rattle.miette_runs.specs.rules.Cutting.{only_feeds, without_leading, without_trailing}
 use Rattle.miette_runs.specs.rules.Runs.{Fragment, print}
 use Rattle.miette_runs.specs.rules.Sequences.{tokens}
-use Rattle.miette_graphical.specs.laws.FittingRows.{bare_row, fed_rows}
+use Rattle.miette_picture_laws.specs.laws.FittingRows.{bare_row, fed_rows}
 use Rattle.miette_text.specs.rules.Wrapping.{Plan}
 use Rattle.miette_text.specs.views.Plans.{cuts_hyphens}
 use Rattle.miette_text.proofs.Feeds.{leading-kept, seen-behind, trailing-kept}
@@ -13,7 +13,7 @@ use Rattle.miette_text.proofs.FittingRows.{first-wrapped, rows-wrapped}
 use Rattle.miette_graphical.specs.rules.DiagnosticText.{line_feed, rows_text}
 use Rattle.miette_graphical.specs.rules.Indents.{arrow_indent, stem_indent}
 use Rattle.miette_graphical.specs.rules.Settings.{Settings}
-use Rattle.miette_graphical.specs.laws.Arrows.{FirstStands, InnerRowsStand, RowsStand, rows_under}
+use Rattle.miette_picture_laws.specs.laws.Arrows.{FirstStands, InnerRowsStand, RowsStand, rows_under}
 use Rattle.miette_graphical.specs.laws.Holding.{Arrow, cut_text}
 
 -- how what stands under an arrow is wrapped

@@ -1,6 +1,6 @@
-use Rattle.miette_graphical.proofs.Barred.{have-room, shipped-bars, stand-behind}
-use Rattle.miette_graphical.proofs.Levels.{levels-hold, levels-stand}
-use Rattle.miette_graphical.proofs.laws.levels_law.Goals as goal
+use Rattle.miette_picture_laws.proofs.Barred.{have-room, shipped-bars, stand-behind}
+use Rattle.miette_picture_laws.proofs.Levels.{levels-hold, levels-stand}
+use Rattle.miette_picture_laws.proofs.laws.levels_law.Goals as goal
 
 pub returns-clause-drawn : goal.returns-clause-drawn
 returns-clause-drawn c = λ s arrows drawn text wraps held. levels-stand arrows s drawn text wraps held

@@ -1,5 +1,6 @@
-use Rattle.miette_graphical.proofs.Paths.{named, printed_there}
-use Rattle.miette_graphical.proofs.laws.paths_law.Goals as goal
+use Rattle.miette_graphical.proofs.Paths.{printed_there}
+use Rattle.miette_picture_laws.proofs.NamedPaths.{named}
+use Rattle.miette_picture_laws.proofs.laws.paths_law.Goals as goal
 
 pub returns-clause-named : goal.returns-clause-named
 returns-clause-named c = λ s t p printed. named s t p printed

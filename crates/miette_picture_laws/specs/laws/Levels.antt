@@ -14,8 +14,8 @@ use Rattle.miette_graphical.specs.rules.Indents.{narrow_settings, stem_indent}
 use Rattle.miette_graphical.specs.rules.PrintedDiagnostics.{PrintedDiagnostic}
 use Rattle.miette_graphical.specs.rules.Settings.{Settings}
 use Rattle.miette_graphical.specs.laws.Alike.{answer_at}
-use Rattle.miette_graphical.specs.laws.Arrows.{FitUnder}
-use Rattle.miette_graphical.specs.laws.FittingRows.{FitsRow, bare_row, fed_rows, indented_rows, is_row}
+use Rattle.miette_picture_laws.specs.laws.Arrows.{FitUnder}
+use Rattle.miette_picture_laws.specs.laws.FittingRows.{FitsRow, bare_row, fed_rows, indented_rows, is_row}
 use Rattle.miette_graphical.specs.laws.Holding.{Arrow, StandsIn, arrows_at, rows_at}
 use Rattle.miette_graphical.specs.laws.Paths.{Step, printed_at}
 

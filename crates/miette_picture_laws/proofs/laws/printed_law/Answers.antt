@@ -11,9 +11,10 @@ use Rattle.miette_graphical.specs.laws.Alike.{answer_at}
 use Rattle.miette_graphical.specs.laws.Alike.{AreDrawnAlike}
 use Rattle.miette_graphical.specs.rules.PrintedDiagnostics.{diagnostics_of}
 use Rattle.miette_graphical.proofs.Paths.{printed_there}
-use Rattle.miette_graphical.proofs.PrintedAnswers.{answered_alike}
-use Rattle.miette_graphical.proofs.Alike.{holds_there, report_alike}
-use Rattle.miette_graphical.proofs.laws.printed_law.Goals as goal
+use Rattle.miette_picture_laws.proofs.PrintedAlike.{answered_alike}
+use Rattle.miette_graphical.proofs.Alike.{report_alike}
+use Rattle.miette_picture_laws.proofs.PrintedAlike.{holds_there}
+use Rattle.miette_picture_laws.proofs.laws.printed_law.Goals as goal
 
 pub returns-clause-rows : goal.returns-clause-rows
 returns-clause-rows c = λ drawing other s t a alike.

@@ -3,8 +3,8 @@ use Rattle.miette_runs.specs.rules.Sequences.{erase}
 use Rattle.miette_row_laws.proofs.PlainStyles.{none_are_plain}
 use Rattle.miette_graphical.specs.rules.Snippets.{whole_drawing}
 use Rattle.miette_graphical.specs.rules.Text.{report_text}
-use Rattle.miette_graphical.proofs.Bare.{plain-report}
-use Rattle.miette_graphical.proofs.laws.plain_law.Goals as goal
+use Rattle.miette_picture_laws.proofs.PlainLines.{plain-report}
+use Rattle.miette_picture_laws.proofs.laws.plain_law.Goals as goal
 
 pub returns-clause-text : goal.returns-clause-text
 returns-clause-text c = λ drawing s t a law settings tree bare none.

@@ -22,9 +22,9 @@ use Rattle.miette_snippet_rules.specs.rules.Settings.{SnippetSettings}
 use Rattle.miette_snippet_rules.specs.rules.SnippetLayout.{SnippetContext, line_cut, line_rows}
 use Rattle.miette_source_lines.specs.rules.Lines.{Line}
 use Rattle.miette_style.specs.rules.Styles.{plain}
-use Rattle.miette_graphical.specs.laws.NumberRows.{IsPlainLine, PrintsItself, PrintsNumber, line_bytes, numbered}
-use Rattle.miette_graphical.specs.laws.NumberRows.{padded}
-use Rattle.miette_graphical.specs.laws.NumberRows.{printed_line}
+use Rattle.miette_picture_laws.specs.laws.NumberRows.{IsPlainLine, PrintsItself, PrintsNumber, line_bytes, numbered}
+use Rattle.miette_picture_laws.specs.laws.NumberRows.{padded}
+use Rattle.miette_picture_laws.specs.laws.NumberRows.{printed_line}
 use Rattle.miette_graphical.specs.rules.Indents.{spaces}
 use Rattle.miette_graphical.specs.rules.Snippets.{runs_of_row}
 use Rattle.miette_graphical.proofs.SnippetsFading.{codes_of, plain_row}
