@@ -1,2 +1,4 @@
+pub mod AlwaysRead
+pub mod NameSteps
 pub mod Sections
 pub mod Steps

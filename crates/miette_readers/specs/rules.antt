@@ -1,5 +1,6 @@
 -- What users rely on, in the words of docs/RULES.md.
 pub mod Members
+pub mod Names
 pub mod Places
 pub mod Settling
 pub mod Proposing

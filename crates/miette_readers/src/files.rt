@@ -58,7 +58,7 @@ impl<'f> SourceCode for LentFile<'f> {
 
 /// Looks files up by the names that a tool gives them.
 pub trait Files {
-    ghost use Rattle.std.specs.Prelude.{ℕ, List, Option};
+    ghost use Rattle.std.specs.Prelude.{◌≡◌, ℕ, List, Option, IfSome, true};
     ghost use Rattle.miette_protocol.specs.rules.Reading.{Source};
 
     ghost found: { Self → List ℕ → Option Source };
@@ -66,4 +66,6 @@ pub trait Files {
     /// The file of this name, where it is there and can be read.
     fn find(&self, name: &str) -> Option<LentFile<'_>>
         ensures { result ≡ found self.now name.now };
+
+    ghost reads: { (it : Self) (name : List ℕ) → IfSome (found it name) (λ s. s.always_reads ≡ true) };
 }

@@ -2,7 +2,9 @@
 #![tactic(auto)]
 
 pub mod files;
+pub mod laws;
 mod members;
+pub mod names;
 mod offering;
 mod offers;
 mod place;

@@ -1,13 +1,15 @@
 //! The members of a tool's messages, by their types.
 
-ghost use Rattle.std.specs.Prelude.{◌≡◌, option_map};
+ghost use Rattle.std.specs.Prelude.{◌≡◌, IfOk, option_map};
 ghost use Rattle.std.specs.Option.{option_copied};
 ghost use Rattle.serde_json.specs.View.{view};
 ghost use Rattle.serde_json.specs.Find.{as_array, get};
-ghost use Rattle.miette_readers.specs.rules.Members.{flag_at, items_at, items_in, said, text_at, whole_at};
-ghost use Rattle.miette_readers.specs.views.Values.{viewed};
+ghost use Rattle.miette_readers.specs.rules.Members.{flag_at, items_at, items_in, object_at, objects_at};
+ghost use Rattle.miette_readers.specs.rules.Members.{said, text_at, whole_at};
+ghost use Rattle.miette_readers.specs.views.Values.{seen, viewed};
 
 use serde_json::Value;
+use std::alloc::{AllocError, Global};
 
 /// What stands at a key.
 pub(crate) fn found_at<'v>(value: &'v Value, key: &str) -> Option<&'v Value>
@@ -48,6 +50,14 @@ pub(crate) fn flag_at(value: &Value, key: &str) -> bool
     }
 }
 
+/// The object at a key.
+pub(crate) fn object_at<'v>(value: &'v Value, key: &str) -> Option<&'v Value>
+    ensures { option_map (λ v. view v.now) result ≡ object_at key.now (view value.now) }
+{
+    let found = found_at(value, key)?;
+    if found.is_object() { Some(found) } else { None }
+}
+
 /// The items of a list; what is no list has none.
 fn items_in(value: &Value) -> &[Value]
     ensures { viewed result.now ≡ items_in (as_array (view value.now)) }
@@ -59,11 +69,28 @@ fn items_in(value: &Value) -> &[Value]
 }
 
 /// The items of the list at a key.
-pub(crate) fn items_at<'v>(value: &'v Value, key: &str) -> &'v [Value]
+fn items_at<'v>(value: &'v Value, key: &str) -> &'v [Value]
     ensures { viewed result.now ≡ items_at key.now (view value.now) }
 {
     match found_at(value, key) {
         Some(found) => items_in(found),
         None => &[],
     }
+}
+
+/// The objects of the list at a key.
+pub(crate) fn objects_at<'v>(
+    alloc: Global,
+    value: &'v Value,
+    key: &str,
+) -> Result<Vec<&'v Value>, AllocError>
+    ensures { IfOk result (λ list. seen list.items ≡ objects_at key.now (view value.now)) }
+{
+    let mut list = Vec::new(alloc);
+    for item in items_at(value, key) {
+        if item.is_object() {
+            list.push(item)?;
+        }
+    }
+    Ok(list)
 }

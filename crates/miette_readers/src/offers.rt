@@ -6,10 +6,10 @@ ghost use Rattle.serde_json.specs.View.{view};
 ghost use Rattle.miette_fixes.specs.rules.ApplyingAll.{conflict};
 ghost use Rattle.miette_readers.specs.rules.Proposing.{all_parts, begun, fixes_in, with_edit, with_item};
 ghost use Rattle.miette_readers.specs.rules.RustcReport.{all_found, edit_at, offer_of, offers_of, sureness_of};
-ghost use Rattle.miette_readers.specs.views.Values.{seen, viewed};
+ghost use Rattle.miette_readers.specs.views.Values.{seen};
 
 use crate::files::{Files, LentFile};
-use crate::members::{items_at, text_at};
+use crate::members::{objects_at, text_at};
 use crate::place::Stretch;
 use crate::settle::found_place;
 use crate::spans::{edits_of, file_name, place_of};
@@ -142,12 +142,13 @@ fn push_offers<'f, 'v, F: Files>(
     list: &mut Vec<Offer<'f, 'v>>,
     alloc: Global,
     files: &'f F,
-    children: &'v [Value],
+    children: &[&'v Value],
 ) -> Result<(), AllocError>
     ensures { OnOk result (list.new.items
-        ≡ list.old.items ++ filter_map (offer_of (F.found files.now)) (viewed children.now)) }
+        ≡ list.old.items ++ filter_map (offer_of (F.found files.now)) (seen children.now)) }
 {
     for child in children {
+        let child = *child;
         if let Some(offer) = offer_of(alloc, files, child)? {
             list.push(offer)?;
         }
@@ -163,8 +164,9 @@ pub(crate) fn offers_of<'f, 'v, F: Files>(
 ) -> Result<Vec<Offer<'f, 'v>>, AllocError>
     ensures { IfOk result (λ list. list.items ≡ offers_of (F.found files.now) (view message.now)) }
 {
+    let children = objects_at(alloc, message, "children")?;
     let mut list = Vec::new(alloc);
-    push_offers(&mut list, alloc, files, items_at(message, "children"))?;
+    push_offers(&mut list, alloc, files, children.as_slice())?;
     Ok(list)
 }
 

@@ -4,10 +4,11 @@ ghost use Rattle.std.specs.Prelude.{◌≡◌, Err, Some, None, IfOk, codes, opt
 ghost use Rattle.serde_json.specs.View.{view};
 ghost use Rattle.miette_tree.specs.views.Report.{tree_of};
 ghost use Rattle.miette_readers.specs.rules.Members.{text_at};
-ghost use Rattle.miette_readers.specs.rules.RustcReport.{diagnostic_in, message_tree, of_cargo, rustc_tree};
+ghost use Rattle.miette_readers.specs.rules.RustcReport.{held_in, is_other_reason, is_other_type, message_tree};
+ghost use Rattle.miette_readers.specs.rules.RustcReport.{rustc_tree};
 
 use crate::files::{Files, LentFile};
-use crate::members::{found_at, text_at};
+use crate::members::{object_at, text_at};
 use crate::offering::{fixes_of, related_of};
 use crate::offers::offers_of;
 use crate::settle::settled;
@@ -40,34 +41,34 @@ impl From<AllocError> for ReadError {
     }
 }
 
-/// The diagnostic in a row of rustc or cargo, if it is one: of cargo the member `message` where the `reason` is
-/// `compiler-message`, of rustc the whole where the `$message_type` is `diagnostic` or isn't there.
-fn diagnostic_in(value: &Value) -> Option<&Value>
-    ensures { option_map (λ v. view v.now) result ≡ diagnostic_in (view value.now) }
+/// Whether it holds no message of rustc, as cargo says.
+fn is_other_reason(value: &Value) -> bool
+    ensures { result ≡ is_other_reason (view value.now) }
 {
-    let message = of_cargo(value)?;
-    let Some(kind) = text_at(message, "$message_type") else {
-        return Some(message);
-    };
-    if kind == "diagnostic" {
-        Some(message)
-    } else {
-        None
+    match text_at(value, "reason") {
+        Some(reason) => reason != "compiler-message",
+        None => false,
+    }
+}
+
+/// Whether it is no diagnostic, as rustc says.
+fn is_other_type(message: &Value) -> bool
+    ensures { result ≡ is_other_type (view message.now) }
+{
+    match text_at(message, "$message_type") {
+        Some(kind) => kind != "diagnostic",
+        None => false,
     }
 }
 
 /// What a row of cargo holds for rustc's, the row itself where it is rustc's own.
-fn of_cargo(value: &Value) -> Option<&Value>
+fn held_in(value: &Value) -> Option<&Value>
     ensures { option_map (λ v. view v.now) result
-        ≡ of_cargo (view value.now) (text_at (codes "reason") (view value.now)) }
+        ≡ held_in (view value.now) (text_at (codes "reason") (view value.now)) }
 {
-    let Some(reason) = text_at(value, "reason") else {
-        return Some(value);
-    };
-    if reason == "compiler-message" {
-        found_at(value, "message")
-    } else {
-        None
+    match text_at(value, "reason") {
+        Some(_) => object_at(value, "message"),
+        None => Some(value),
     }
 }
 
@@ -105,9 +106,13 @@ pub fn rustc_report<'f, D: Diagnostic, F: Files>(
         ≡ Some (option_map (tree_of D.meaning ⟦<LentFile<'f> as SourceCode>⟧.source) o)) }
     ensures message { (result ≡ Err ReadError.NoMessage) → rustc_tree (F.found files.now) (view value.now) ≡ None }
 {
-    let Some(message) = diagnostic_in(value) else {
+    if is_other_reason(value) {
         return Ok(None);
-    };
+    }
+    let message = held_in(value).ok_or(ReadError::NoMessage)?;
+    if is_other_type(message) {
+        return Ok(None);
+    }
     if text_at(message, "message").is_none() {
         return Err(ReadError::NoMessage);
     }

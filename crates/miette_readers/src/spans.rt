@@ -7,10 +7,10 @@ ghost use Rattle.miette_readers.specs.rules.Rustc.{call_of, call_text, edits_of,
 ghost use Rattle.miette_readers.specs.rules.Rustc.{is_attribute, is_derive, is_invocation};
 ghost use Rattle.miette_readers.specs.rules.Rustc.{is_primary, is_secondary, outermost_from, place_of, proposes};
 ghost use Rattle.miette_readers.specs.rules.Rustc.{spans_of, standing, standing_from, stretch_of, tells};
-ghost use Rattle.miette_readers.specs.views.Values.{seen, viewed};
+ghost use Rattle.miette_readers.specs.views.Values.{seen};
 
 use crate::files::Files;
-use crate::members::{flag_at, found_at, items_at, said_at, text_at, whole_at};
+use crate::members::{flag_at, object_at, objects_at, said_at, text_at, whole_at};
 use crate::place::{Place, Stretch};
 use serde_json::Value;
 use std::alloc::{AllocError, Global};
@@ -71,10 +71,11 @@ fn tells(span: &Value) -> bool
 }
 
 /// Appends those of spans that are primary.
-fn push_primary<'v>(list: &mut Vec<&'v Value>, spans: &'v [Value]) -> Result<(), AllocError>
-    ensures { OnOk result (seen list.new.items ≡ seen list.old.items ++ filter is_primary (viewed spans.now)) }
+fn push_primary<'v>(list: &mut Vec<&'v Value>, spans: &[&'v Value]) -> Result<(), AllocError>
+    ensures { OnOk result (seen list.new.items ≡ seen list.old.items ++ filter is_primary (seen spans.now)) }
 {
     for span in spans {
+        let span = *span;
         if is_primary(span) {
             list.push(span)?;
         }
@@ -83,10 +84,11 @@ fn push_primary<'v>(list: &mut Vec<&'v Value>, spans: &'v [Value]) -> Result<(),
 }
 
 /// Appends those of spans that aren't primary.
-fn push_secondary<'v>(list: &mut Vec<&'v Value>, spans: &'v [Value]) -> Result<(), AllocError>
-    ensures { OnOk result (seen list.new.items ≡ seen list.old.items ++ filter is_secondary (viewed spans.now)) }
+fn push_secondary<'v>(list: &mut Vec<&'v Value>, spans: &[&'v Value]) -> Result<(), AllocError>
+    ensures { OnOk result (seen list.new.items ≡ seen list.old.items ++ filter is_secondary (seen spans.now)) }
 {
     for span in spans {
+        let span = *span;
         if !is_primary(span) {
             list.push(span)?;
         }
@@ -98,10 +100,10 @@ fn push_secondary<'v>(list: &mut Vec<&'v Value>, spans: &'v [Value]) -> Result<(
 pub(crate) fn spans_of<'v>(alloc: Global, message: &'v Value) -> Result<Vec<&'v Value>, AllocError>
     ensures { IfOk result (λ list. seen list.items ≡ spans_of (view message.now)) }
 {
-    let spans = items_at(message, "spans");
+    let spans = objects_at(alloc, message, "spans")?;
     let mut list = Vec::new(alloc);
-    push_primary(&mut list, spans)?;
-    push_secondary(&mut list, spans)?;
+    push_primary(&mut list, spans.as_slice())?;
+    push_secondary(&mut list, spans.as_slice())?;
     Ok(list)
 }
 
@@ -120,10 +122,11 @@ pub(crate) fn telling<'v>(alloc: Global, spans: &[&'v Value]) -> Result<Vec<&'v 
 }
 
 /// Appends those of spans that are edits.
-fn push_edits<'v>(list: &mut Vec<&'v Value>, spans: &'v [Value]) -> Result<(), AllocError>
-    ensures { OnOk result (seen list.new.items ≡ seen list.old.items ++ filter proposes (viewed spans.now)) }
+fn push_edits<'v>(list: &mut Vec<&'v Value>, spans: &[&'v Value]) -> Result<(), AllocError>
+    ensures { OnOk result (seen list.new.items ≡ seen list.old.items ++ filter proposes (seen spans.now)) }
 {
     for span in spans {
+        let span = *span;
         if proposes(span) {
             list.push(span)?;
         }
@@ -135,8 +138,9 @@ fn push_edits<'v>(list: &mut Vec<&'v Value>, spans: &'v [Value]) -> Result<(), A
 pub(crate) fn edits_of<'v>(alloc: Global, child: &'v Value) -> Result<Vec<&'v Value>, AllocError>
     ensures { IfOk result (λ list. seen list.items ≡ edits_of (view child.now)) }
 {
+    let spans = objects_at(alloc, child, "spans")?;
     let mut list = Vec::new(alloc);
-    push_edits(&mut list, items_at(child, "spans"))?;
+    push_edits(&mut list, spans.as_slice())?;
     Ok(list)
 }
 
@@ -144,15 +148,14 @@ pub(crate) fn edits_of<'v>(alloc: Global, child: &'v Value) -> Result<Vec<&'v Va
 pub(crate) fn expansion_of(span: &Value) -> Option<&Value>
     ensures { option_map (λ v. view v.now) result ≡ expansion_of (view span.now) }
 {
-    let found = found_at(span, "expansion")?;
-    if found.is_object() { Some(found) } else { None }
+    object_at(span, "expansion")
 }
 
 /// Where the macro was called that a span stands in.
 fn call_of(span: &Value) -> Option<&Value>
     ensures { option_map (λ v. view v.now) result ≡ call_of (view span.now) }
 {
-    found_at(expansion_of(span)?, "span")
+    object_at(expansion_of(span)?, "span")
 }
 
 /// The first span whose file is there, of this one and so many calls of macros.
@@ -187,7 +190,7 @@ pub(crate) fn outermost_from(expansion: &Value, left: usize) -> &Value
     if left == 0 {
         return expansion;
     }
-    let Some(span) = found_at(expansion, "span") else {
+    let Some(span) = object_at(expansion, "span") else {
         return expansion;
     };
     match expansion_of(span) {

@@ -46,9 +46,11 @@ impl FileTable {
 impl Files for FileTable {
     ghost use Rattle.std.specs.Prelude.{option_map, find, bytes_eq};
     ghost use Rattle.miette_protocol.specs.views.Named.{name_of};
-    ghost use Rattle.miette_readers.specs.views.Files.{file_source};
+    ghost use Rattle.miette_readers.specs.views.Files.{each_reads, file_source};
 
     ghost found = { λ it name. option_map file_source (find (λ f. bytes_eq (name_of f) name) it) };
+
+    ghost reads = { λ it name. each_reads (find (λ f. bytes_eq (name_of f) name) it) };
 
     fn find(&self, name: &str) -> Option<LentFile<'_>> {
         let file = self.files.iter().find(|file| file.name() == name)?;

@@ -8,10 +8,10 @@ ghost use Rattle.miette_readers.specs.rules.Rustc.{call_told, outer_told};
 ghost use Rattle.miette_readers.specs.rules.Rustc.{child_told, is_help, label_rows, leading, macro_told, maybe_row};
 ghost use Rattle.miette_readers.specs.rules.Rustc.{message_of, note_message, note_told, own_told, span_told, text_told};
 ghost use Rattle.miette_readers.specs.rules.Rustc.{tells, told_of};
-ghost use Rattle.miette_readers.specs.views.Values.{seen, viewed};
+ghost use Rattle.miette_readers.specs.views.Values.{seen};
 
 use crate::files::Files;
-use crate::members::{found_at, items_at, said_at, text_at};
+use crate::members::{object_at, objects_at, said_at, text_at};
 use crate::place::Told;
 use crate::spans::{
     call_text, edits_of, expansion_of, holds_span, is_primary, outermost_from, place_of, spans_of,
@@ -109,7 +109,7 @@ fn call_at<'v, F: Files>(
     ensures { option_map (λ it. call_told it.1.now (view it.0.now)) result
         ≡ outer_told (F.found files.now) (view span.now) (view outer.now) }
 {
-    let call = found_at(outer, "span")?;
+    let call = object_at(outer, "span")?;
     if holds_span(call, standing(files, span)) {
         return None;
     }
@@ -252,12 +252,13 @@ fn push_children<'v, F: Files>(
     list: &mut Vec<Told<'v>>,
     alloc: Global,
     files: &F,
-    children: &'v [Value],
+    children: &[&'v Value],
 ) -> Result<(), AllocError>
     ensures { OnOk result (list.new.items
-        ≡ list.old.items ++ flat_map (child_told (F.found files.now)) (viewed children.now)) }
+        ≡ list.old.items ++ flat_map (child_told (F.found files.now)) (seen children.now)) }
 {
     for child in children {
+        let child = *child;
         push_child(list, alloc, files, child)?;
     }
     Ok(())
@@ -272,9 +273,10 @@ pub(crate) fn told_of<'v, F: Files>(
     ensures { IfOk result (λ list. list.items ≡ told_of (F.found files.now) (view message.now)) }
 {
     let spans = spans_of(alloc, message)?;
+    let children = objects_at(alloc, message, "children")?;
     let mut list = Vec::new(alloc);
     push_own(&mut list, alloc, files, spans.as_slice())?;
     push_calls(&mut list, alloc, files, spans.as_slice())?;
-    push_children(&mut list, alloc, files, items_at(message, "children"))?;
+    push_children(&mut list, alloc, files, children.as_slice())?;
     Ok(list)
 }

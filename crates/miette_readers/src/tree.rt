@@ -9,10 +9,10 @@ ghost use Rattle.miette_tree.specs.views.Report.{tree_of};
 ghost use Rattle.miette_readers.specs.rules.RustcReport.{code_of, further_files, help_of, help_rows, helps, label_of};
 ghost use Rattle.miette_readers.specs.rules.RustcReport.{labels_in, maybe_source, meaning_with, sections_from};
 ghost use Rattle.miette_readers.specs.rules.RustcReport.{severity_of, some_labels, told_tree};
-ghost use Rattle.miette_readers.specs.views.Values.{viewed};
+ghost use Rattle.miette_readers.specs.views.Values.{seen};
 
 use crate::files::{Files, LentFile};
-use crate::members::{found_at, items_at, text_at};
+use crate::members::{found_at, objects_at, text_at};
 use crate::offers::offer_of;
 use crate::place::joined;
 use crate::settling::{Mark, Settled, push_row};
@@ -99,7 +99,8 @@ fn helps<F: Files>(alloc: Global, files: &F, child: &Value) -> Result<bool, Allo
     ensures { IfOk result (λ told. told ≡ helps (F.found files.now) (view child.now)) }
 {
     if edits_of(alloc, child)?.is_empty() {
-        return Ok(is_help(child) && items_at(child, "spans").is_empty());
+        let spans = objects_at(alloc, child, "spans")?;
+        return Ok(is_help(child) && spans.is_empty());
     }
     let offer = offer_of(alloc, files, child)?;
     Ok(offer.is_none())
@@ -109,13 +110,14 @@ fn helps<F: Files>(alloc: Global, files: &F, child: &Value) -> Result<bool, Allo
 fn help_rows<F: Files>(
     alloc: Global,
     files: &F,
-    children: &[Value],
+    children: &[&Value],
 ) -> Result<Vec<String>, AllocError>
     ensures { IfOk result (λ rows. map string_bytes rows.items
-        ≡ help_rows (F.found files.now) (viewed children.now)) }
+        ≡ help_rows (F.found files.now) (seen children.now)) }
 {
     let mut rows = Vec::new(alloc);
     for child in children {
+        let child = *child;
         if helps(alloc, files, child)? {
             push_row(&mut rows, alloc, message_of(child))?;
         }
@@ -131,7 +133,8 @@ pub(crate) fn helps_of<F: Files>(
 ) -> Result<Option<String>, AllocError>
     ensures { IfOk result (λ help. option_map string_bytes help ≡ help_of (F.found files.now) (view message.now)) }
 {
-    let rows = help_rows(alloc, files, items_at(message, "children"))?;
+    let children = objects_at(alloc, message, "children")?;
+    let rows = help_rows(alloc, files, children.as_slice())?;
     joined(alloc, rows.as_slice())
 }
 

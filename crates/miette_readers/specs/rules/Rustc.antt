@@ -4,9 +4,8 @@ use Rattle.std.specs.Prelude.{if◌then◌else◌, option_and_then, option_map, 
 use Rattle.std.specs.List.{ends_with, filter_map, flat_map, starts_with}
 use Rattle.std.specs.Prelude.{codes, nat_eq}
 use Rattle.serde_json.specs.Data.{Data}
-use Rattle.serde_json.specs.Find.{as_object, get}
 use Rattle.miette_protocol.specs.rules.Reading.{Source}
-use Rattle.miette_readers.specs.rules.Members.{flag_at, items_at, said, text_at, whole_at}
+use Rattle.miette_readers.specs.rules.Members.{flag_at, object_at, objects_at, said, text_at, whole_at}
 use Rattle.miette_readers.specs.rules.Places.{Stretch, Place, Told, holds}
 use Rattle.miette_readers.specs.rules.Settling.{has_no_rows}
 
@@ -50,16 +49,12 @@ label_rows d = maybe_row (said (text_at (codes "label") d))
 
 -- ---- macros
 
--- null, which stands where there is none, is no object
-abbrev pub objects_alone : Data → Option Data
-objects_alone d = if is_some (as_object d) then Some d else None
-
 abbrev pub expansion_of : Data → Option Data
-expansion_of d = option_and_then objects_alone (get (codes "expansion") d)
+expansion_of d = object_at (codes "expansion") d
 
 -- where the macro was called whose expansion a span is in
 abbrev pub call_of : Data → Option Data
-call_of d = option_and_then (get (codes "span")) (expansion_of d)
+call_of d = option_and_then (object_at (codes "span")) (expansion_of d)
 
 -- the first span whose file is there, of this one and those where its macros were called
 unfoldable pub standing_from : (List ℕ → Option Source) → ℕ → Data → Option Data
@@ -74,7 +69,7 @@ standing files d = unwrap_or (standing_from files 64 d) d
 unfoldable pub outermost_from : ℕ → Data → Data
 outermost_from zero e = e
 outermost_from (suc n) e =
-    unwrap_or (option_map (outermost_from n) (option_and_then expansion_of (get (codes "span") e))) e
+    unwrap_or (option_map (outermost_from n) (option_and_then expansion_of (object_at (codes "span") e))) e
 
 unfoldable pub is_derive : List ℕ → Bool
 is_derive name = starts_with nat_eq name (codes "#[derive(")
@@ -126,7 +121,7 @@ outer_told files d e =
     option_and_then (λ span.
     if holds_span span (standing files d) then None
     else option_map (λ text. call_told text span) (call_text (unwrap_or (text_at (codes "macro_decl_name") e) [])))
-    (get (codes "span") e)
+    (object_at (codes "span") e)
 
 abbrev pub macro_told : (List ℕ → Option Source) → Data → Option Told
 macro_told files d = option_and_then (λ e. outer_told files d (outermost_from 64 e)) (expansion_of d)
@@ -154,11 +149,11 @@ abbrev pub tells : Data → Bool
 tells d = not (proposes d) || not (has_no_rows (label_rows d))
 
 abbrev pub spans_of : Data → List Data
-spans_of c = primary_first (items_at (codes "spans") c)
+spans_of c = primary_first (objects_at (codes "spans") c)
 
 -- the edits that a note or a help proposes
 abbrev pub edits_of : Data → List Data
-edits_of c = filter proposes (items_at (codes "spans") c)
+edits_of c = filter proposes (objects_at (codes "spans") c)
 
 abbrev pub is_empty : List Data → Bool
 is_empty [] = true
@@ -183,4 +178,4 @@ child_told files c =
 abbrev pub told_of : (List ℕ → Option Source) → Data → List Told
 told_of files d =
     (map (own_told files) (spans_of d) ++ filter_map (macro_told files) (spans_of d))
-    ++ flat_map (child_told files) (items_at (codes "children") d)
+    ++ flat_map (child_told files) (objects_at (codes "children") d)

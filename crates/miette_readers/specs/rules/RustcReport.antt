@@ -1,7 +1,7 @@
 -- The report of a message of rustc or cargo.
 use Rattle.std.specs.Prelude.{ℕ, ◌+◌, ◌-◌, List, [], ◌∷◌, ◌++◌, Option, Some, None, Bool, false, ◌&&◌, ◌||◌}
 use Rattle.std.specs.Prelude.{if◌then◌else◌, ◌==◌, option_and_then, option_map, is_none, is_some, unwrap_or, map}
-use Rattle.std.specs.Prelude.{filter, bytes_eq, codes}
+use Rattle.std.specs.Prelude.{filter, bytes_eq, codes, not}
 use Rattle.std.specs.List.{filter_map, flat_map, fold, list_all, list_any}
 use Rattle.serde_json.specs.Data.{Data}
 use Rattle.serde_json.specs.Find.{get}
@@ -16,7 +16,7 @@ use Rattle.miette_protocol.specs.views.Meaning.{Label, Meaning}
 use Rattle.miette_tree.specs.rules.Diagnosis.{Section, plain_diagnosis}
 use Rattle.miette_tree.specs.rules.Tree.{Tree, alone, texts, trees, with_source, with_cause, with_related}
 use Rattle.miette_tree.specs.rules.Tree.{with_all_snippets, with_fixes}
-use Rattle.miette_readers.specs.rules.Members.{items_at, text_at}
+use Rattle.miette_readers.specs.rules.Members.{object_at, objects_at, text_at}
 use Rattle.miette_readers.specs.rules.Places.{Stretch, joined}
 use Rattle.miette_readers.specs.rules.Proposing.{FileEdit, Offer, fixes_in, is_in}
 use Rattle.miette_readers.specs.rules.Rustc.{edits_of, file_name, is_empty, is_help, message_of, place_of, told_of}
@@ -24,18 +24,23 @@ use Rattle.miette_readers.specs.rules.Settling.{Mark, Settled, found_place, main
 
 -- ---- which row is a message
 
-abbrev pub of_cargo : Data → Option (List ℕ) → Option Data
-of_cargo d None = Some d
-of_cargo d (Some reason) = if bytes_eq reason (codes "compiler-message") then get (codes "message") d else None
+-- the word that is there is another one
+abbrev pub is_other : List ℕ → Option (List ℕ) → Bool
+is_other word None = false
+is_other word (Some found) = not (bytes_eq found word)
 
-abbrev pub of_type : Data → Option (List ℕ) → Option Data
-of_type d None = Some d
-of_type d (Some kind) = if bytes_eq kind (codes "diagnostic") then Some d else None
+-- a row of cargo that holds no message of rustc
+abbrev pub is_other_reason : Data → Bool
+is_other_reason d = is_other (codes "compiler-message") (text_at (codes "reason") d)
 
--- the diagnostic in a row, if it is one
-abbrev pub diagnostic_in : Data → Option Data
-diagnostic_in d =
-    option_and_then (λ m. of_type m (text_at (codes "$message_type") m)) (of_cargo d (text_at (codes "reason") d))
+-- a row of rustc that is no diagnostic
+abbrev pub is_other_type : Data → Bool
+is_other_type d = is_other (codes "diagnostic") (text_at (codes "$message_type") d)
+
+-- what a row of cargo holds for rustc's, the row itself where it is rustc's own
+abbrev pub held_in : Data → Option (List ℕ) → Option Data
+held_in d None = Some d
+held_in d (Some reason) = object_at (codes "message") d
 
 abbrev pub severity_named : List ℕ → Severity
 severity_named level =
@@ -129,7 +134,7 @@ abbrev pub offer_of : (List ℕ → Option Source) → Data → Option Offer
 offer_of files c = offer_with files c (edits_of c)
 
 abbrev pub offers_of : (List ℕ → Option Source) → Data → List Offer
-offers_of files d = filter_map (offer_of files) (items_at (codes "children") d)
+offers_of files d = filter_map (offer_of files) (objects_at (codes "children") d)
 
 -- an offer's fixes over the main file
 abbrev pub main_fixes : Option (List ℕ) → Offer → List Proposal
@@ -166,13 +171,13 @@ advice_of main offer = map (advice offer) (others main offer.edits)
 -- a help without places, and a proposal that can't be found
 abbrev pub helps : (List ℕ → Option Source) → Data → Bool
 helps files c =
-    if is_empty (edits_of c) then is_help c && is_empty (items_at (codes "spans") c) else is_none (offer_of files c)
+    if is_empty (edits_of c) then is_help c && is_empty (objects_at (codes "spans") c) else is_none (offer_of files c)
 
 abbrev pub help_rows : (List ℕ → Option Source) → List Data → List (List ℕ)
 help_rows files children = with_rows [] (map message_of (filter (helps files) children))
 
 abbrev pub help_of : (List ℕ → Option Source) → Data → Option (List ℕ)
-help_of files d = joined (help_rows files (items_at (codes "children") d))
+help_of files d = joined (help_rows files (objects_at (codes "children") d))
 
 -- ---- the report
 
@@ -204,10 +209,14 @@ message_tree_with files d done =
 abbrev pub message_tree : (List ℕ → Option Source) → Data → Tree
 message_tree files d = message_tree_with files d (settled files (told_of files d))
 
--- Nothing where a message isn't one; no report of another row; else its report.
-abbrev pub row_tree : (List ℕ → Option Source) → Option Data → Option (Option Tree)
-row_tree files None = Some None
-row_tree files (Some d) = option_map (λ text. Some (message_tree files d)) (text_at (codes "message") d)
+-- the report of a diagnostic that has a message; none of another row of rustc
+abbrev pub row_tree : (List ℕ → Option Source) → Data → Option (Option Tree)
+row_tree files d =
+    if is_other_type d then Some None
+    else option_map (λ text. Some (message_tree files d)) (text_at (codes "message") d)
 
+-- Nothing where a message isn't one; no report of another row; else its report.
 abbrev pub rustc_tree : (List ℕ → Option Source) → Data → Option (Option Tree)
-rustc_tree files d = row_tree files (diagnostic_in d)
+rustc_tree files d =
+    if is_other_reason d then Some None
+    else option_and_then (row_tree files) (held_in d (text_at (codes "reason") d))

@@ -1,5 +1,5 @@
--- JSON values, and those behind references.
-use Rattle.std.specs.Prelude.{List, map}
+-- JSON values, those behind references, and texts.
+use Rattle.std.specs.Prelude.{ℕ, List, map}
 use Rattle.serde_json.specs.Data.{Data}
 use Rattle.serde_json.specs.View.{view}
 use Rattle.serde_json.specs.declared.value.Value.{Value}
@@ -10,3 +10,6 @@ viewed values = map view values
 
 abbrev pub seen : List (Bor Value) → List Data
 seen values = map (λ v. view v.now) values
+
+abbrev pub texts : List (Bor (List ℕ)) → List (List ℕ)
+texts xs = map (λ x. x.now) xs

@@ -1,0 +1,15 @@
+//! What holds of the reports of all messages. Each law is the contract of a function that does nothing; a caller cites
+//! it by calling it.
+
+ghost use Rattle.std.specs.Prelude.{◌≡◌, ℕ, List, Option, IfSome, true};
+ghost use Rattle.serde_json.specs.Data.{Data};
+ghost use Rattle.miette_protocol.specs.rules.Reading.{Source};
+ghost use Rattle.miette_tree.specs.rules.Reads.{AlwaysReads};
+ghost use Rattle.miette_readers.specs.rules.RustcReport.{rustc_tree};
+
+/// The sources of a message's report always read, where the files that are found do.
+pub fn messages_always_read()
+    ensures { (files : List ℕ → Option Source) (d : Data)
+        → ((name : List ℕ) → IfSome (files name) (λ s. s.always_reads ≡ true))
+        → IfSome (rustc_tree files d) (λ row. IfSome row AlwaysReads) }
+{}
