@@ -1,10 +1,11 @@
 -- Fixes behind a text: each as its message and its rows.
-use Rattle.std.proofs.Common.{◌≡◌, Bool, false, List, [], ◌∷◌, ◌++◌, ℕ, map, Option, Some, None, refl, sym, ap}
+use Rattle.std.proofs.Common.{◌≡◌, Bool, true, false, List, [], ◌∷◌, ◌++◌, ℕ, map, Option, Some, None, refl, sym, ap}
 use Rattle.std.proofs.Common.{ap₂, ◌∙◌}
-use Rattle.std.proofs.Common.{append-nil, chars}
+use Rattle.std.proofs.Common.{append-nil, arith, chars, length, nat_eq}
 use Rattle.std.specs.Prelude.{not}
 use Rattle.std.specs.List.{list_any}
 use Rattle.std.proofs.lemmas.Bool.{or_parts}
+use Rattle.std.proofs.lemmas.Bool.Decides.{nat_tests}
 use Rattle.miette_basics.specs.rules.Lists.{is_nil}
 use Rattle.miette_fixes.specs.rules.Edits.{Proposal, Replacement}
 use Rattle.miette_page.specs.rules.Rows.{Row}
@@ -59,6 +60,12 @@ messages_same s source (fix ∷ fixes) h =
     let both = or_parts (has_edits fix) (list_any has_edits fixes) h in
     ap₂ (λ rows more. record { message = fix.message; rows = rows } ∷ more) (nowhere_same s source fix.edits both.0)
     (messages_same s source fixes both.1)
+
+-- of no fixes nothing is appended
+pub over_nothing : (s : Settings) (source : Option Source) (fixes : List Proposal) (out : List ℕ)
+    → nat_eq (length fixes) 0 ≡ true → AppendsFixes s source fixes out out
+over_nothing s source [] out h = record { fails = false; possible = λ h. refl; appended = sym (append-nil out) }
+over_nothing s source (fix ∷ fixes) out h = absurd (let e = h in grind (arith, nat_tests))
 
 pub over_unneeded : (s : Settings) (source : Option Source) (it : Source) (fixes : List Proposal) (old new : List ℕ)
     → source ≡ Some it → list_any has_edits fixes ≡ false

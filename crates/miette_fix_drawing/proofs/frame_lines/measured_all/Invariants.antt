@@ -1,7 +1,7 @@
 use Rattle.std.proofs.Common.{◌≡◌, max, drop}
 use Rattle.miette_fix_drawing.specs.steps.Passing.{largest_segments, past_segments}
 use Rattle.miette_fix_drawing.specs.views.Standings.{standing_of}
-use Rattle.miette_fix_drawing.proofs.frames.measured_all.Given as goal
+use Rattle.miette_fix_drawing.proofs.frame_lines.measured_all.Given as goal
 
 abbrev pub invariant-loop-segment : goal.invariant-loop-segment
 invariant-loop-segment l = record {

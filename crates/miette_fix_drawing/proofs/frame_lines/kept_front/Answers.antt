@@ -1,7 +1,7 @@
 use Rattle.std.proofs.Common.{ap, ◌∙◌}
 use Rattle.miette_fix_rows.specs.rules.DiffFrames.{kept_lines}
 use Rattle.miette_fix_drawing.proofs.Framing.{front_texts}
-use Rattle.miette_fix_drawing.proofs.frames.kept_front.Goals as goal
+use Rattle.miette_fix_drawing.proofs.frame_lines.kept_front.Goals as goal
 
 pub returns : goal.returns
 returns c =

@@ -1,7 +1,7 @@
 use Rattle.std.proofs.Common.{◌∙◌, arith}
 use Rattle.miette_fix_drawing.specs.views.Standings.{standing_of}
 use Rattle.miette_fix_drawing.proofs.Framing.{largest_of_segments, most_end, past_end, past_of_segments}
-use Rattle.miette_fix_drawing.proofs.frames.measured_all.Goals as goal
+use Rattle.miette_fix_drawing.proofs.frame_lines.measured_all.Goals as goal
 
 pub returns-clause-behind : goal.returns-clause-behind
 returns-clause-behind c =

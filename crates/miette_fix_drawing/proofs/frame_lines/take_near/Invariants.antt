@@ -3,7 +3,7 @@ use Rattle.miette_fix_rows.specs.rules.DiffFrames.{Standing, behind_hunk, frames
 use Rattle.miette_fix_rows.specs.laws.Frames.{past_lines}
 use Rattle.miette_fix_drawing.specs.views.Hunks.{hunks_of}
 use Rattle.miette_fix_drawing.specs.views.ShownLines.{lines_of_segments}
-use Rattle.miette_fix_drawing.proofs.frames.take_near.Given as goal
+use Rattle.miette_fix_drawing.proofs.frame_lines.take_near.Given as goal
 
 abbrev pub invariant-loop-i : goal.invariant-loop-i
 invariant-loop-i l = record {

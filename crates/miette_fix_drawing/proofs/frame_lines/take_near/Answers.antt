@@ -4,7 +4,7 @@ use Rattle.miette_fix_rows.specs.laws.Frames.{past_lines}
 use Rattle.miette_fix_drawing.specs.views.Hunks.{hunk_of, hunks_of}
 use Rattle.miette_fix_drawing.specs.views.ShownLines.{lines_of_segments}
 use Rattle.miette_fix_drawing.proofs.Framing.{item_first, near_lines, near_standing}
-use Rattle.miette_fix_drawing.proofs.frames.take_near.Goals as goal
+use Rattle.miette_fix_drawing.proofs.frame_lines.take_near.Goals as goal
 
 pub loop-i-preserved : goal.loop-i-preserved
 loop-i-preserved c =
