@@ -128,8 +128,8 @@ fn some_edits(fixes: &[Fix]) -> bool
     fixes.iter().any(|fix| has_edits(fix))
 }
 
-// Appends fixes over the effective source of their diagnostic. Where one of them has edits, that is read once for all of
-// them, as a whole.
+// Appends fixes over the effective source of their diagnostic. Where one of them has edits, that is read once for all
+// of them, as a whole.
 #[inline(never)]
 fn push_some<S: SourceCode, H>(
     painter: &mut Painter<'_, H>,
