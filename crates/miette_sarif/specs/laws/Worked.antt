@@ -37,8 +37,8 @@ bad_file =
 
 abbrev pub bad_file_log : List ℕ
 bad_file_log =
-    codes "{\"$schema\": \"https://docs.oasis-open.org/sarif/sarif/v2.1.0/errata01/os/schemas/sarif-schema-2.1.0.json\","
-    ++ codes "\"version\": \"2.1.0\",\"runs\": [{\"tool\": {\"driver\": {\"name\": \"lint\","
+    codes "{\"$schema\": \"https://docs.oasis-open.org/sarif/sarif/v2.1.0/errata01/os/schemas/sarif-schema-2.1.0.json\""
+    ++ codes ",\"version\": \"2.1.0\",\"runs\": [{\"tool\": {\"driver\": {\"name\": \"lint\","
     ++ codes "\"rules\": [{\"id\": \"oops::my::bad\",\"helpUri\": \"https://x.org/bad\"}]}},"
     ++ codes "\"columnKind\": \"utf16CodeUnits\",\"newlineSequences\": [\"\\r\\n\",\"\\n\",\"\\r\"],"
     ++ codes "\"artifacts\": [{\"location\": {\"uri\": \"bad_file.rs\"}}],"
