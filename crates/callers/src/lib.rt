@@ -19,5 +19,6 @@ pub mod pictures;
 pub mod positions;
 pub mod printing;
 pub mod protocol;
+pub mod readers;
 pub mod text;
 pub mod tree;
