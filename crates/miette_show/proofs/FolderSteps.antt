@@ -1,5 +1,5 @@
 -- A file that was looked for stays as it was found.
-use Rattle.std.proofs.Common.{◌≡◌, ℕ, List, Option, Some, None, Bool, true, false, sym, ap, subst, refl, ◌∙◌}
+use Rattle.std.proofs.Common.{◌≡◌, ℕ, List, Option, None, Bool, true, false, sym, ap, refl, ◌∙◌}
 use Rattle.std.proofs.Common.{cond, bytes_eq, rules}
 use Rattle.std.specs.Prelude.{is_some, option_and_then, option_map}
 use Rattle.std.specs.HashMap.{get_by_text}

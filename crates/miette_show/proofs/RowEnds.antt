@@ -1,5 +1,5 @@
 -- The first end of a row in bytes.
-use Rattle.std.proofs.Common.{◌≡◌, ℕ, zero, suc, ◌+◌, ◌<◌, ◌≤◌, List, [], ◌∷◌, ◌++◌, Bool, true, false, length, take}
+use Rattle.std.proofs.Common.{◌≡◌, ℕ, zero, suc, ◌+◌, ◌<◌, List, [], ◌∷◌, ◌++◌, true, false, length, take}
 use Rattle.std.proofs.Common.{drop, refl, sym, ap, ap₂, ◌∙◌, arith, append_assoc}
 use Rattle.std.proofs.Common.{Some, take-append-drop}
 use Rattle.std.specs.Prelude.{◌==◌, ◌||◌}
@@ -41,7 +41,8 @@ end_after (b ∷ bs) (suc at) h is =
     ap (λ (n : ℕ). take n (b ∷ bs)) next ∙ ap (λ l. b ∷ l) (end_after bs at (omega (arith, h)) is)
 
 -- the first end, and none
-pub row_found : (bs : List ℕ) (at : ℕ) → NoneBefore (Ends bs) 0 (length bs) at → Ends bs at → IsRowEnd bs (Some (at + 1))
+pub row_found : (bs : List ℕ) (at : ℕ) → NoneBefore (Ends bs) 0 (length bs) at → Ends bs at
+    → IsRowEnd bs (Some (at + 1))
 row_found bs at before is = (take at bs, text_before bs at before.high before.before, end_after bs at before.high is)
 
 -- ---- what is taken of what is pending

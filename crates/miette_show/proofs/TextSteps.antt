@@ -1,5 +1,5 @@
 -- Texts of rows, as they are made.
-use Rattle.std.proofs.Common.{◌≡◌, ℕ, List, Option, Some, None, Bool, true, false, refl, sym, ap, subst, ◌∙◌}
+use Rattle.std.proofs.Common.{◌≡◌, ℕ, List, Option, Some, None, true, false, refl, sym, ap, subst, ◌∙◌}
 use Rattle.std.proofs.Common.{IfOk, Ok, Err, Result, String, string_bytes}
 use Rattle.std.specs.Prelude.{IsUtf8, option_and_then}
 use Rattle.serde_json.specs.Data.{Data}
@@ -9,7 +9,7 @@ use Rattle.miette_tree.specs.rules.Tree.{Tree}
 use Rattle.miette_readers.specs.rules.Names.{names_of}
 use Rattle.miette_readers.specs.rules.RustcReport.{rustc_tree}
 use Rattle.miette_show.specs.rules.Rows.{begins_object}
-use Rattle.miette_show.specs.rules.Shown.{IsRowText, IsShown, Shown, row_tree}
+use Rattle.miette_show.specs.rules.Shown.{IsRowText, IsShown, row_tree}
 use Rattle.miette_show.specs.views.Texts.{IsValueText, shown_text}
 use Rattle.miette_show.specs.declared.verdict.RowKind.{RowKind}
 use Rattle.miette_show.specs.declared.verdict.RowKind.TheVariants.{Passed, Unread, Other, Message}
@@ -64,7 +64,8 @@ told gives found files row d kind text begins utf8 is known said = (
     some_same : (a b : Data) → Some a ≡ Some b → a ≡ b
     some_same a b e = cc
 
-pub told_ok : {E Z : Type 0} (gives : Given) (found : Finding) (files : List ℕ → Option Source) (row : List ℕ) (d : Data)
+pub told_ok : {E Z : Type 0} (gives : Given) (found : Finding) (files : List ℕ → Option Source) (row : List ℕ)
+    (d : Data)
     (r : Result (RowKind × String Z) E) → begins_object row ≡ true → IsUtf8 row → read row ≡ Some d
     → found files (names_of d)
     → IfOk r (λ it. IsValueText gives (rustc_tree files d) it.0 (string_bytes it.1))

@@ -1,5 +1,5 @@
 -- The rows of what is read.
-use Rattle.std.specs.Prelude.{ℕ, List, [], ◌∷◌, ◌++◌, Bool, if◌then◌else◌, ◌==◌, codes, nat_eq}
+use Rattle.std.specs.Prelude.{ℕ, List, [], ◌∷◌, ◌++◌, Bool, if◌then◌else◌, ◌==◌, nat_eq}
 use Rattle.std.specs.List.{list_any, starts_with}
 
 -- a row that no LF ends, where it has a byte

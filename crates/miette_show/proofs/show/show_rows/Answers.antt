@@ -1,6 +1,6 @@
 use Rattle.std.proofs.Common.{◌≡◌, ◌<◌, ◌∙◌, ℕ, List, [], Err, inl, inr, length, refl, sym, ap, subst, rules}
 use Rattle.std.proofs.lemmas.List.{nil_from_length}
-use Rattle.miette_report.proofs.JobHandlerSteps.{given-before, refused-before, stays-itself, stays-on}
+use Rattle.miette_report.proofs.JobHandlerSteps.{given-before, stays-itself, stays-on}
 use Rattle.miette_report.specs.declared.fault.Fault.TheVariants.{Read, Refused, Usage, Write}
 use Rattle.miette_report.specs.steps.JobHandler.{IsGiven}
 use Rattle.miette_show.specs.rules.Looking.{IsFoundBy}
@@ -65,7 +65,8 @@ loop-number-preserved g c =
     let shown = c.in_ok-kind.ensures.shown in
     let some : 0 < length row = search rules in
     let is_shown : IsShown gives found (record { row = row; kind = kind; text = shown.0 }) =
-    subst (λ (r : List ℕ). IsShown gives found (record { row = r; kind = kind; text = shown.0 })) c.as_slice.ensures.value
+    subst (λ (r : List ℕ). IsShown gives found (record { row = r; kind = kind; text = shown.0 }))
+    c.as_slice.ensures.value
     (shown_by (IsGiven blank l.handler) gives (IsFoundBy g.F.Files.found g.F.Loader.knows l.files) found _
     (λ t x. given-before blank c.args.handler.now l.handler t x l.invariant.stays)
     (λ files names. found_before g.F.Files.found g.F.Loader.knows first l.files files names l.invariant.goes) shown.1)

@@ -28,5 +28,8 @@ returns-then-not-branch-clause-row g c =
     c.take.ensures.inner
     in (
       read_on g.R.Read.remaining c.args.self.now new c.refill.new.self after read c.in_ok-refill.ensures.left,
-      inr (part_free g.R.Read.remaining old new before after c.loop.invariant.none taken, c.in_ok-refill.ensures.end (search rules)),
+      inr (
+        part_free g.R.Read.remaining old new before after c.loop.invariant.none taken,
+        c.in_ok-refill.ensures.end (search rules),
+      ),
     )

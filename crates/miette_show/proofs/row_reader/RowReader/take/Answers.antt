@@ -27,5 +27,7 @@ returns-in_ok-extend_from_slice-in-None-clause-taken g c =
     let none : IsRowEnd c.args.self.now.pending None = subst (λ p. IsRowEnd p None) same
     (subst (IsRowEnd c.pending-pending.result.now) c.in-None.is c.row_end.ensures.end)
     in
-    let got : c.extend_from_slice-in-None.new.self.items ≡ c.args.row.now.items ++ c.pending-pending.result.now = search rules in
+    let got : c.extend_from_slice-in-None.new.self.items ≡ c.args.row.now.items ++ c.pending-pending.result.now =
+    search rules
+    in
     (none, search (rules, drop_all), got ∙ ap (λ p. c.args.row.now.items ++ p) same)
