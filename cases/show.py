@@ -16,7 +16,7 @@ import subprocess
 import sys
 import tempfile
 
-from programs import HERE, SHOWN, counted, program, run
+from programs import HERE, counted, program, run
 from readers_model import shown_of
 from tree_model import Page, whole_picture
 
@@ -26,10 +26,13 @@ WORDS = ["--theme", "unicode_nocolor", "--links", "no", "--width", "120"]
 CHATTER = [b"   Compiling a v0.1.0\n", b"\n", b"{not json}\n", b"[1, 2]\n", b"\xff{\"\n", b" {\"message\":\"m\"}\n"]
 OTHER = [b'{"reason":"build-finished","success":true}\n', b'{"$message_type":"artifact","artifact":"a","emit":"b"}\n']
 BAD = [b'{"message":5}\n', b'{"\n', b'{"reason":"compiler-message"}\n', b'{"\xff":1}\n', b'{"message":"m"} x\n']
+# the members of a message that are changed
+READ = ("message", "code", "level", "spans", "children")
 SPAN = {"byte_start": 0, "byte_end": 3, "file_name": "borrow.rs", "is_primary": True, "label": "here"}
 
 
 def files_in(folder):
+    """The sources in a folder, by their names."""
     files = {}
     for name in os.listdir(folder):
         if name.endswith(".rs"):
@@ -39,26 +42,27 @@ def files_in(folder):
 
 
 def recorded(name):
+    """What rustc wrote of a program."""
     with open(os.path.join(FOLDER, f"{name}.jsonl"), "rb") as file:
         return file.read()
-
-
-def wanted(given, files, known={}):
-    """Status, standard output and standard error, row by row."""
-    page = Page(120)
-    shown, notes, unread, error = [], [], False, False
-    for number, row in enumerate(given.splitlines(keepends=True) if b"\r" not in given else rows_of(given), 1):
-        text, bad, grave = shown_of(row, files, lambda report: whole_picture(report, page))
-        shown.append(text)
-        notes += [f"show: row {number}: no message that can be read\n".encode()] if bad else []
-        unread, error = unread or bad, error or grave
-    return 3 if unread else 1 if error else 0, b"".join(shown), b"".join(notes)
 
 
 def rows_of(given):
     """The rows, each with the LF that ends it."""
     rows = given.split(b"\n")
     return [it + b"\n" for it in rows[:-1]] + ([rows[-1]] if rows[-1] else [])
+
+
+def wanted(given, files):
+    """Status, standard output and standard error, row by row."""
+    page = Page(120)
+    shown, notes, unread, error = [], [], False, False
+    for number, row in enumerate(rows_of(given), 1):
+        text, bad, grave = shown_of(row, files, lambda report: whole_picture(report, page))
+        shown.append(text)
+        notes += [f"show: row {number}: no message that can be read\n".encode()] if bad else []
+        unread, error = unread or bad, error or grave
+    return 3 if unread else 1 if error else 0, b"".join(shown), b"".join(notes)
 
 
 # ---- rows that are changed
@@ -97,7 +101,7 @@ def changed(dice, row):
     """A row with a few members or items removed, or of other values and types."""
     row = copy.deepcopy(row)
     for _ in range(dice.choice([1, 1, 2, 3])):
-        every = [it for it in places(row) if it[0] in ("message", "code", "level", "spans", "children") and "text" not in it]
+        every = [it for it in places(row) if it[0] in READ and "text" not in it]
         if not every:
             break
         key = dice.choice(sorted({str(it[-1]) for it in every}))
@@ -123,7 +127,8 @@ def hostile(dice, count):
 
 def cut_rows(name):
     """Every row cut at every 50th byte."""
-    return b"".join(row[:end].rstrip(b"\n") + b"\n" for row in rows_of(recorded(name)) for end in range(1, len(row), 50))
+    rows = [row[:end].rstrip(b"\n") for row in rows_of(recorded(name)) for end in range(1, len(row), 50)]
+    return b"".join(row + b"\n" for row in rows)
 
 
 def of_cargo(name):
@@ -146,7 +151,7 @@ def inputs(folder):
         yield f"{name} without its last bytes", given[: -len(given) // 7], FOLDER
         yield f"{name} over files that are gone or shorter", given, folder
     yield "rows that can't be read", b"".join(CHATTER + BAD + OTHER + [b'{"message":"m","level":"error"}']), FOLDER
-    yield "rows that are changed", hostile(random.Random(7), 2000), folder
+    yield "rows that are changed", hostile(random.Random(7), 1000), folder
     yield "nothing", b"", FOLDER
 
 
@@ -159,7 +164,8 @@ def tried(folder, what, given, root):
         if got != want:
             print(f"{what}: status {got[0]}, wanted {want[0]}")
             at = next((i for i, (a, b) in enumerate(zip(got[1], want[1])) if a != b), min(len(got[1]), len(want[1])))
-            print(f"  got    .. {got[1][max(0, at - 300) : at + 200]!r}\n  wanted .. {want[1][max(0, at - 300) : at + 200]!r}")
+            near = slice(max(0, at - 300), at + 200)
+            print(f"  got    .. {got[1][near]!r}\n  wanted .. {want[1][near]!r}")
             print(f"  standard error {got[2][-300:]!r}, wanted {want[2][-300:]!r}")
     return elsewhere == want and there == want
 
@@ -191,7 +197,7 @@ def live_tried():
             shutil.copy(os.path.join(FOLDER, name), folder)
         words = ["rustc", "--edition", "2021", "--error-format=json", "--emit=metadata", "multi.rs"]
         given = subprocess.run(words, cwd=folder, capture_output=True, check=False).stderr
-        return [tried(folder, "rustc itself", given, folder)]
+        return [given != b"" and tried(folder, "rustc itself", given, folder)]
 
 
 def most_memory(count):
@@ -209,6 +215,7 @@ def most_memory(count):
 
 
 def memory_tried(count):
+    """So many messages take no more memory than a hundredth of them."""
     few, many = most_memory(count // 100), most_memory(count)
     print(f"{count} messages: {many[0]} KB, {many[1]:.1f} s; {count // 100}: {few[0]} KB")
     return [many[2] == 1 and many[0] <= few[0] + 500]
