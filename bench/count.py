@@ -11,7 +11,8 @@ FOLDER has the programs of the peers (README.md); without it ours is counted alo
 Instructions are counted by `valgrind --tool=cachegrind`: a run with one rendering less a run with
 none, or, where the input is short, a tenth of a run with eleven less one with one, so that starting
 the program and reading the input don't count. Of `draw` and `lint` it is the whole process less
-that over an empty source, of `job --fix` less that of the same description without fixes.
+that over an empty source, of `job --fix` less that of the same description without fixes, of
+`job --sarif` less `job --fix` of the same description.
 
 Memory is what is in the heap at the peak of one rendering above what was there before it, the text
 included, in thousands of bytes. Of ours a library that is loaded before the C library notes each
@@ -117,7 +118,8 @@ def counted(who, workload, path, asked):
             file.write(workload.beside())
         # `lint` ends with 1 where it finds something
         fine = (0, 1) if workload.program == "lint" else (0,)
-        whole, beside = (instructions(words, it, asked, fine) for it in (path, other))
+        bare = [words[0], *workload.beside_words] if workload.beside_words else words
+        whole, beside = instructions(words, path, asked, fine), instructions(bare, other, asked, fine)
         os.remove(other)
         return {"instructions": whole - beside}
     less, more = (1, 11) if os.path.getsize(path) < SHORT else (0, 1)
@@ -129,11 +131,14 @@ def counted(who, workload, path, asked):
 def heap_of_ours(who, workload, path, asked):
     """Bytes of the text, and calls and peak of one rendering of ours."""
     calls = [command(who, workload, it, asked) for it in (0, 1)]
+    if workload.heap_words:
+        calls[0] = [calls[0][0], *workload.heap_words]
     text, _ = run(calls[1], path, asked)
     none, one = [notes_of(asked.library, it, path, asked.folder) for it in calls]
     if none is None or one is None:
         raise Failed("no notes")
-    return {"text": int(text), "calls": calls_of(none, one), "heap": peak_of(none, one)}
+    size = len(text) if workload.heap_words else int(text)
+    return {"text": size, "calls": calls_of(none, one), "heap": peak_of(none, one)}
 
 
 def heap_of_peer(who, workload, path, asked):
@@ -148,7 +153,7 @@ def taken(who, workload, path, asked):
     if command(who, workload, 1, asked) is None:
         return {}
     ways = [counted]
-    if workload.program == "bench" and who != INDEXED:
+    if workload.program == "bench" and who != INDEXED or workload.heap_words and who == OURS:
         ways.append(heap_of_ours if who == OURS else heap_of_peer)
     found = {}
     for way in ways:

@@ -44,8 +44,11 @@ class Workload(NamedTuple):
     ours: tuple = ()
     # Whether the original has no such output.
     is_new: bool = False
-    # What a program but `bench` runs on for the count that is taken off.
+    # What a program but `bench` runs on for the count that is taken off; where it is the input itself, by which words,
+    # and by which words it takes the same memory until it renders.
     beside: Callable[[], bytes] = bytes
+    beside_words: tuple = ()
+    heap_words: tuple = ()
 
     def file(self):
         """The name of its file."""
@@ -170,6 +173,14 @@ def lints():
             yield Workload(f"y_{kind}_{count}", f"y_{kind}", (*words, "f", "80"), made, "lint")
 
 
+def logs():
+    """Labels over 1 MB, in SARIF logs."""
+    for count in (1000, 2000, 4000):
+        made = lambda count=count: described(of.spread(count, MB))
+        words = {"beside_words": ("--fix",), "heap_words": ("--brief",)}
+        yield Workload(f"z_log_{count}", "z_log", ("--sarif",), made, "job", beside=made, **words)
+
+
 def inner_reports():
     """Related reports and causes."""
     for count in (1000, 2000, 4000):
@@ -217,7 +228,7 @@ def hard_lines():
 
 
 FAMILIES = (everyday, big_sources, long_lines, long_texts, texts_by_unicode, several_sources)
-FAMILIES += (fixes, lints, inner_reports, others, hard, hard_lines)
+FAMILIES += (fixes, lints, logs, inner_reports, others, hard, hard_lines)
 ALL = [workload for family in FAMILIES for workload in family()]
 
 

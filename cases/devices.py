@@ -34,6 +34,11 @@ MENDED = (
 )
 SMALL = '{"message":"m"}'
 SMALL_JSON = '{"message": "m","severity": "error","causes": [],"labels": [],"related": []}'
+LOG = (
+    '{"$schema": "https://docs.oasis-open.org/sarif/sarif/v2.1.0/errata01/os/schemas/sarif-schema-2.1.0.json",'
+    '"version": "2.1.0","runs": [{"tool": {"driver": {"name": "%s"}},"columnKind": "utf16CodeUnits",'
+    '"newlineSequences": ["\\r\\n","\\n","\\r"],"results": [%s]}]}'
+)
 LABELLED = '{"message":"漢","source":{"text":"a\\nb"},"labels":[{"offset":2,"length":1,"label":"x"}]}'
 PICTURE = "  × 漢\n   ╭─[2:1]\n 1 │ a\n 2 │ b\n   · ┬\n   · ╰── x\n   ╰────\n"
 COLOURED = (
@@ -54,6 +59,8 @@ RUNS = [
     (["lint", "f", "80"], "x = 1 \n \ty\nend", 1, FOUND),
     (["lint", "--fix", "f", "80"], "x = 1 \n \ty\nend", 0, "x = 1\n    y\nend\n"),
     (["lint", "--diff", "f", "80"], "a \n", 1, MENDED),
+    (["lint", "--sarif", "f", "80"], "a\n", 0, LOG % ("lint", "")),
+    (["job", "--sarif"], SMALL, 0, LOG % ("job", '{"level": "error","message": {"text": "m"}}')),
     (["job", "--json"], SMALL, 0, SMALL_JSON),
     (["job", "--debug"], SMALL, 0, 'Diagnostic { message: "m" }\n'),
     (["job", "--term-unicode", "yes"], LABELLED, 0, PICTURE),
@@ -71,12 +78,13 @@ REFUSED = [
     (["draw", "f", "9", "+4", "l", "m"], "usage: draw NAME OFFSET LENGTH LABEL MESSAGE\n"),
     (["job", "--jsonx"], "usage: job [OPTIONS]\n"),
     (["bench", "x"], "usage: bench N [OPTIONS]\n"),
-    (["lint", "f"], "usage: lint [--brief | --fix | --diff] NAME WIDTH\n"),
+    (["lint", "f"], "usage: lint [--brief | --fix | --diff | --sarif [--tool TOOL]] NAME WIDTH\n"),
     (["show", "--from", "gcc"], "usage: show [--from rustc] [--root DIR] [OPTIONS]\n"),
 ]
 # words and an input of which nothing is written, status, row
 SILENT = [
     (["job", "--json"], "[]", 3, "job: bad description\n"),
+    (["job", "--sarif"], "[]", 3, "job: bad description\n"),
     (["bench", "1"], "[]", 3, "bench: bad description\n"),
     (
         ["job", "--narrated"],

@@ -71,13 +71,15 @@ MESSAGE = {
 TERMINAL = ["--term-unicode", "yes", "--term-color", "rgb", "--rgb", "always", "--term-links", "yes", "--width", "20"]
 PLAIN = ["--term-unicode", "yes"]
 REPORTS = (LABELLED, LINKED, RELATED, MANY, APART, OWN, MENDED, REFUSED)
-KINDS = (PLAIN, TERMINAL, ["--nested", "yes", "--footer", "bye"], ["--narrated"], ["--brief"], ["--json"], ["--debug"])
+NESTED = ["--nested", "yes", "--footer", "bye"]
+KINDS = (PLAIN, TERMINAL, NESTED, ["--narrated"], ["--brief"], ["--json"], ["--debug"], ["--sarif"])
 
 RUNS = [
     (["draw", "bad_file.rs", "9", "4", "This bit here", "oops!"], README),
     (["lint", "f", "80"], "x = 1 \n \ty\nend"),
     (["lint", "--fix", "f", "80"], "x = 1 \n \ty\nend"),
     (["lint", "--diff", "f", "80"], "x = 1 \n \ty\nend"),
+    (["lint", "--sarif", "f", "80"], "x = 1 \n \ty\nend"),
     (["bench", "2", *PLAIN], json.dumps(LABELLED)),
     (["show", *PLAIN], json.dumps(MESSAGE)),
     (["show", "--brief"], json.dumps(MESSAGE)),

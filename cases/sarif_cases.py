@@ -14,6 +14,14 @@ NAMES = ["a.rs", "src/b c.rs", "/tmp/x:y", "a:b", "a:b/c:d", "https://x.org/a b%
 URLS = ["https://x.org/bad", "https://x.org/a b", "https://x.org/100%/%c3", "see there", "mailto:a@b", ":x", "", "1x:y"]
 TEXTS = ["here", "", "two\nrows", "漢", "`{}` and }", 'quoted "\\']
 CODES = ["c", "a::b", "", "c"]
+# the tool's name, and the words that say it
+TOOLS = [
+    ("job", ["--sarif"]),
+    ("job", ["--sarif"]),
+    ("job", ["--sarif"]),
+    ("my lint", ["--sarif", "--tool", "my lint"]),
+    ('é"{}', ["--tool", 'é"{}', "--sarif"]),
+]
 
 
 def source_of(dice):
@@ -76,8 +84,9 @@ def report_of(dice, inherited, depth):
 
 def case(number):
     report = report_of(random.Random(number), None, 3)
-    wanted = {"what": "a log", "argv": ["job", "--sarif"], "report": report}
-    return {**wanted, "stdout_text": spelled_log([report], "job") + "\n", "status": 0, "stderr": ""}
+    tool, words = TOOLS[number % 5]
+    wanted = {"what": "a log", "argv": ["job", *words], "report": report}
+    return {**wanted, "stdout_text": spelled_log([report], tool), "status": 0, "stderr": ""}
 
 
 if __name__ == "__main__":

@@ -22,11 +22,37 @@ class Stop(NamedTuple):
     column: int
 
 
-def stops(text):
-    """The stops of a text, in order."""
+def pieces(data):
+    """The characters and terminators of a source, each with its bytes; a part that is no UTF-8 is U+FFFD."""
+    text = data.decode(errors="surrogateescape")
+    if text.isprintable() or not any("\udc80" <= it <= "\udcff" for it in text):
+        return [(it, len(it.encode())) for it in re.findall("\r\n|.", text, re.DOTALL)]
+    found, at = [], 0
+    while at < len(data):
+        it, length = character(data[at : at + 4])
+        if it == "\r" and data[at + 1 : at + 2] == b"\n":
+            it, length = "\r\n", 2
+        found.append((it, length))
+        at += length
+    return found
+
+
+def character(data):
+    """The first character, and how many bytes it has: of what is no UTF-8 the longest beginning of a character."""
+    for length in range(1, len(data) + 1):
+        try:
+            return data[:length].decode(), length
+        except UnicodeDecodeError as fault:
+            if fault.reason != "unexpected end of data":
+                return "\ufffd", max(fault.end, 1)
+    return "\ufffd", len(data)
+
+
+def stops(data):
+    """The stops of a source, in order."""
     found, offset, line, column = [Stop(0, 0, 0)], 0, 0, 0
-    for piece in re.findall("\r\n|.", text, re.DOTALL):
-        offset += len(piece.encode())
+    for piece, length in pieces(data):
+        offset += length
         ends = piece in ("\r\n", "\n", "\r")
         line, column = (line + 1, 0) if ends else (line, column + len(piece.encode("utf-16-le")) // 2)
         found.append(Stop(offset, line, column))
@@ -34,12 +60,13 @@ def stops(text):
 
 
 class Source:
-    """A source: its text, and the name that it has."""
+    """A source: its bytes, and the name that it has."""
 
     def __init__(self, given):
-        self.text, self.data = given["text"], given["text"].encode()
-        self.name = given.get("name") or ""
-        self.stops = stops(self.text)
+        self.data = given["data"] if "data" in given else given["text"].encode()
+        self.is_read = not given.get("unread")
+        self.name = given.get("name") or "" if self.is_read else ""
+        self.stops = stops(self.data)
 
     def down(self, offset):
         return max(it for it in self.stops if it.offset <= offset)
@@ -49,7 +76,7 @@ class Source:
 
     def stretch(self, offset, length):
         """The stops of a span, or None where it is refused."""
-        if offset > len(self.data) or offset + length > len(self.data) + 1:
+        if not self.is_read or offset > len(self.data) or offset + length > len(self.data) + 1:
             return None
         end = min(offset + length, len(self.data))
         return self.down(offset), self.up(end) if end > offset else self.down(offset)
@@ -117,7 +144,10 @@ def whole_region(source, stretch):
     start, end = stretch
     value = {**region(stretch), "byteOffset": start.offset, "byteLength": end.offset - start.offset}
     if start.line == end.line and start.offset < end.offset:
-        value["snippet"] = {"text": source.data[start.offset : end.offset].decode()}
+        try:
+            value["snippet"] = {"text": source.data[start.offset : end.offset].decode()}
+        except UnicodeDecodeError:
+            pass
     return value
 
 
@@ -164,7 +194,7 @@ def primary_of(groups):
 
 def replacements(source, edits):
     """What takes the place of whole characters and terminators. None where edits can't be applied, or there are none."""
-    if not edits or refusal(source.data, edits):
+    if not edits or not source.is_read or refusal(source.data, edits):
         return None
     joined = []
     for edit in by_offset(edits):

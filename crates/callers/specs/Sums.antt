@@ -17,8 +17,8 @@ use Rattle.miette_graphical.specs.rules.PrintedDiagnostics.{PrintedDiagnostic, o
 use Rattle.miette_graphical.specs.laws.Headline.{EndsBehind, SnippetStays, cut_under, drawn_labels}
 use Rattle.miette_graphical.specs.laws.Headline.{groups_of, is_kept_at, line_of}
 use Rattle.miette_graphical.specs.laws.Holding.{Arrow, StandsIn}
-use Rattle.miette_graphical.specs.laws.FittingRows.{FitsRow, fed_rows, indented_rows}
-use Rattle.miette_graphical.specs.laws.Levels.{AreAmong, IsShownRow, settings_under}
+use Rattle.miette_picture_laws.specs.laws.FittingRows.{FitsRow, fed_rows, indented_rows}
+use Rattle.miette_picture_laws.specs.laws.Levels.{AreAmong, IsShownRow, settings_under}
 use Rattle.miette_graphical.specs.rules.Indents.{spaces}
 use Rattle.miette_range_laws.specs.laws.Folding.{IsInside}
 use Rattle.callers.specs.Known.{plain}

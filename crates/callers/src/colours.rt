@@ -19,8 +19,8 @@ use miette::protocol::Diagnostic;
 use miette::report::Report;
 use miette::source::SourceCode;
 use miette::theme::GraphicalTheme;
-use miette_graphical::laws::themes_law;
 use miette_highlight::highlight::{BlankHighlighter, Highlighter};
+use miette_picture_laws::laws::themes_law;
 use std::alloc::Global;
 
 /// The warning in colours by one highlighter, and in plain styles by another one, each of any kind.

@@ -15,7 +15,7 @@ use miette::protocol::{Diagnostic, LabeledSpan};
 use miette::report::{OwnedSource, Report};
 use miette::source::SourceCode;
 use miette::theme::GraphicalTheme;
-use miette_graphical::laws::{only_law, plain_law, themes_law};
+use miette_picture_laws::laws::{only_law, plain_law, themes_law};
 use std::alloc::{AllocError, Global};
 
 /// A report in colours, and in plain characters.

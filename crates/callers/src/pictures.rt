@@ -22,8 +22,8 @@ use miette::protocol::{Diagnostic, LabeledSpan};
 use miette::report::{OwnedSource, Report};
 use miette::source::SourceCode;
 use miette::theme::GraphicalTheme;
-use miette_graphical::laws::{levels_law, paths_law, printed_law};
 use miette_highlight::highlight::{BlankHighlighter, Highlighter};
+use miette_picture_laws::laws::{levels_law, paths_law, printed_law};
 use std::alloc::{AllocError, Global};
 
 /// The cause: a setting that is too large.

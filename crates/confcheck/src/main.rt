@@ -3,10 +3,10 @@
 
 mod settings;
 
-use crate::settings::{is_known, line_of, port_of};
+use crate::settings::{is_known, key_in, line_of, nearest, port_of};
 use miette::prelude::{
-    Host, IntoDiagnostic, LabeledSpan, MietteDiagnostic, OwnedSource, Report, Result, Severity,
-    WrapErr, print_report,
+    Applicability, Edit, Fix, Host, IntoDiagnostic, LabeledSpan, MietteDiagnostic, OwnedSource,
+    Report, Result, Severity, WrapErr, print_report,
 };
 use miette_tree::miette;
 use std::alloc::{AllocError, Global};
@@ -70,6 +70,7 @@ fn bad_port(alloc: Global, text: &str, table: &Table) -> Result<Report> {
         help = "write a number, as in `port = 8080`",
         url = "https://toml.io/en/v1.0.0#integer",
         labels = labels,
+        fixes = vec![in alloc; port_fix(alloc, text)?]?,
         "the port is missing or wrong"
     );
     let mut warnings = Vec::new(alloc);
@@ -84,7 +85,35 @@ fn bad_port(alloc: Global, text: &str, table: &Table) -> Result<Report> {
 /// A warning that nothing reads this key.
 fn unread_key(alloc: Global, text: &str, key: &str) -> Result<Report> {
     let labels = label_on(alloc, line_of(text, key), "this key isn't known")?;
-    Ok(miette!(in alloc; severity = Severity::Warning, labels = labels, "nothing reads `{key}`"))
+    let warning = miette!(
+        in alloc;
+        severity = Severity::Warning,
+        labels = labels,
+        fixes = key_fixes(alloc, text, key)?,
+        "nothing reads `{key}`"
+    );
+    Ok(warning)
+}
+
+/// A port that is right: in place of the line that sets one, or in front.
+fn port_fix(alloc: Global, text: &str) -> Result<Fix, AllocError> {
+    let edit = match line_of(text, "port") {
+        Some(line) => Edit::replace(line, String::from_str(alloc, "port = 8080")?),
+        None => Edit::insert(0, String::from_str(alloc, "port = 8080\n")?),
+    };
+    let fix = Fix::new(alloc, "set a port")?.with_edit(edit)?;
+    Ok(fix.with_applicability(Applicability::HasPlaceholders))
+}
+
+/// The known key that is nearest to this one, in its place, where there is one.
+fn key_fixes(alloc: Global, text: &str, key: &str) -> Result<Vec<Fix>, AllocError> {
+    let mut fixes = Vec::new(alloc);
+    if let (Some(known), Some(place)) = (nearest(alloc, key)?, key_in(text, key)) {
+        let edit = Edit::replace(place, String::from_str(alloc, known)?);
+        let fix = Fix::new(alloc, "a known key has a similar name")?.with_edit(edit)?;
+        fixes.push(fix.with_applicability(Applicability::MaybeIncorrect))?;
+    }
+    Ok(fixes)
 }
 
 /// A label on a line, where there is one.

@@ -1,24 +1,33 @@
-//! Labels what is amiss in the lines of a source from standard input, shows how to mend it, or prints it mended.
+//! Labels what is amiss in the lines of a source from standard input, shows how to mend it, prints it mended, or gives
+//! a SARIF log of it.
 #![tactic(auto)]
 
 use miette_report::lint::{lint_with, refuse_words};
 use miette_report::lint_diff::{diff_with, diffing};
 use miette_report::lint_fix::{fix_with, fixing};
+use miette_report::lint_sarif::{log_with, logging};
 use miette_report::words::program_words;
 use std::process::ExitCode;
 
 fn main(rt: HostRuntime) -> ExitCode {
     ExitCode::from(match program_words(&rt) {
-        Ok(words) => match (fixing(&words), diffing(&words)) {
-            (Some(asked), _) => fix_with(rt.alloc(), &asked, rt.stdin(), rt.stdout(), rt.stderr()),
-            (None, Some(asked)) => diff_with(
+        Ok(words) => match (fixing(&words), diffing(&words), logging(&words)) {
+            (Some(asked), _, _) => {
+                fix_with(rt.alloc(), &asked, rt.stdin(), rt.stdout(), rt.stderr())
+            }
+            (None, Some(asked), _) => diff_with(
                 rt.alloc(),
                 &asked,
                 rt.stdin(),
                 rt.stdout(),
                 rt.stderr(),
             ),
-            (None, None) => lint_with(rt.alloc(), &words, rt.stdin(), rt.stdout(), rt.stderr()),
+            (None, None, Some(asked)) => {
+                log_with(rt.alloc(), &asked, rt.stdin(), rt.stdout(), rt.stderr())
+            }
+            (None, None, None) => {
+                lint_with(rt.alloc(), &words, rt.stdin(), rt.stdout(), rt.stderr())
+            }
         },
         Err(fault) => refuse_words(fault, rt.stderr()),
     })

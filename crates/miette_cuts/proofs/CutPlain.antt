@@ -7,7 +7,7 @@ use Rattle.std.specs.List.{list_all, list_any}
 use Rattle.std.specs.Str.{IsAscii}
 use Rattle.std.proofs.lemmas.Bool.{and_parts, lt-ltb, le-ltb, le-leb, lt-leb}
 use Rattle.std.proofs.lemmas.Bool.Decides.{nat_tests}
-use Rattle.std.proofs.lemmas.List.{at_drop_more, at_drop_all, drop-drop, drop_all, length-drop, map-append}
+use Rattle.std.proofs.lemmas.List.{at_drop_more, at_drop_all, drop-drop, length-drop, map-append}
 use Rattle.std.proofs.lemmas.List.{nil_from_length}
 use Rattle.std.proofs.Math.Bool.{and-false}
 use Rattle.miette_style.specs.rules.Styles.{plain}
@@ -228,16 +228,6 @@ found_even limit es before first bs cs column s h from is =
     (stretches (is_near limit es) s.near (plain_cells p (column + s.cells) xs ++ cs)))) at left
     ∙ ap (λ (m : MadeStretch). onto_made m (behind limit es s.near first bs cs (column + s.cells))) (sym is.even)
 
-pub even_first : (limit : ℕ) (es : List ℕ) (near : Bool) (first : PlainCells) (bs : List ℕ) (cs : List Cell)
-    → behind limit es near first bs cs first.from
-    ≡ map measure (stretches (is_near limit es) near (plain_cells first.start first.from bs ++ cs))
-even_first limit es near first bs cs =
-    let none : first.from - first.from ≡ 0 = omega arith in
-    let at : first.start + 0 ≡ first.start = omega arith in
-    ap (λ i. map measure (stretches (is_near limit es) near
-    (plain_cells (first.start + i) first.from (drop i bs) ++ cs))) none
-    ∙ ap (λ o. map measure (stretches (is_near limit es) near (plain_cells o first.from bs ++ cs))) at
-
 pub even_more : (limit : ℕ) (es : List ℕ) (first : PlainCells) (bs : List ℕ) (cs : List Cell) (column : ℕ)
     (made new whole : List MadeStretch) (reached next later : MadeStretch) → list_all is_printable bs ≡ true
     → first.from ≤ column → IsEven limit es column (first.from + length bs) next → later.near ≡ next.near →
@@ -249,15 +239,6 @@ even_more limit es first bs cs column made new whole reached next later h from i
     ∙ put (behind limit es next.near first bs cs (column + next.cells))
     ∙ ap (λ r. made ++ onto_made reached r) (sym (found_even limit es reached.near first bs cs column next h from is))
     ∙ inv
-
-pub even_end : (limit : ℕ) (es : List ℕ) (first : PlainCells) (bs : List ℕ) (cs : List Cell) (column : ℕ)
-    (made whole : List MadeStretch) (reached : MadeStretch) → first.from + length bs ≤ column →
-    made ++ onto_made reached (behind limit es reached.near first bs cs column) ≡ whole →
-    made ++ onto_made reached (map measure (stretches (is_near limit es) reached.near cs)) ≡ whole
-even_end limit es first bs cs column made whole reached le inv =
-    ap (λ xs. made ++ onto_made reached (map measure (stretches (is_near limit es) reached.near
-    (plain_cells (first.start + (column - first.from)) column xs ++ cs))))
-    (sym (drop_all (column - first.from) bs (omega (arith, le)))) ∙ inv
 
 -- a line's stretches behind those of these cells
 pub plain_put : (limit : ℕ) (es : List ℕ) (first : PlainCells) (walk left : List Cell)

@@ -3,7 +3,7 @@ use Rattle.std.proofs.Common.{ℕ, zero, suc, ◌+◌, ◌-◌, ◌<◌, ◌≤�
 use Rattle.std.proofs.Common.{length, drop}
 use Rattle.std.proofs.Common.{refl, sym, ap, subst, ◌∙◌, arith}
 use Rattle.std.proofs.lemmas.Bool.{le-ltb, lt-ltb, lt-leb, ltb-true, ltb-false}
-use Rattle.std.proofs.lemmas.List.{length-drop, nil_from_length}
+use Rattle.std.proofs.lemmas.List.{length-drop}
 use Rattle.bstr.specs.Utf8.{decoded, pieces, or_replacement, Decoded}
 use Rattle.bstr.proofs.lemmas.PieceLemmas.{pieces-step, pieces-nil, piece-bounds}
 use Rattle.miette_snippet_rules.specs.rules.PrintedCells.{first_column, last_column, cells_width}
@@ -14,7 +14,7 @@ use Rattle.miette_cells.specs.views.Walking.{ComeFirst}
 use Rattle.miette_basics.proofs.Cases.{by_cases}
 use Rattle.miette_cuts.specs.declared.marks.Stop.{Stop}
 use Rattle.miette_cuts.specs.declared.passing.Passage.{Passage}
-use Rattle.miette_cuts.specs.steps.Stops.{ComeFrom, SameFrom, HasPassed, IsStop, first_from, last_from}
+use Rattle.miette_cuts.specs.steps.Stops.{ComeFrom, HasPassed, IsStop, first_from, last_from}
 use Rattle.miette_cuts.proofs.PlainText.{plain_first, plain_first_end, plain_last, plain_last_end, width_then}
 
 first_later : (cell : Cell) (left : List Cell) (e w o : ℕ) → cell.after ≤ o → first_column left e w o
@@ -129,22 +129,6 @@ passed_plain cells first p q f some r h =
       come = subst (λ n. ComeFrom n q.walk) behind come.1;
     }
 
-none_first : (first : PlainCells) (walk left : List Cell) → ComeFirst first walk left → first.many ≤ 0 → walk ≡ left
-none_first first walk left f none =
-    f.cells_are ∙ ap (λ bs. plain_cells first.start first.from bs ++ left)
-    (nil_from_length f.bytes (omega (arith, f.many, none)))
-
--- no cell
-pub passed_none : (cells : List Cell) (first : PlainCells) (p q : Passage) → ComeFirst first p.walk q.walk → first.many
-    ≤ 0 → q.reached ≡ p.reached → HasPassed cells p → HasPassed cells q
-passed_none cells first p q f none r h =
-    let same : p.walk ≡ q.walk = none_first first p.walk q.walk f none in
-    record {
-      same = subst (λ n. SameFrom n q.walk cells) (sym r)
-          (subst (λ (cs : List Cell). SameFrom p.reached cs cells) same h.same);
-      come = subst (λ n. ComeFrom n q.walk) (sym r) (subst (λ (cs : List Cell). ComeFrom p.reached cs) same h.come);
-    }
-
 -- the columns of a line with what is passed of it
 width_anyway : (k o c : ℕ) (bs : List ℕ) (cs : List Cell) → 0 < length bs → cells_width k (plain_cells o c bs ++ cs)
     ≡ cells_width (c + length bs) cs
@@ -158,18 +142,6 @@ width_plain first walk left old new f some n =
     ap (λ k. cells_width k left) many
     ∙ sym (width_anyway old first.start first.from f.bytes left (omega (arith, some, f.many)))
     ∙ ap (cells_width old) (sym f.cells_are)
-
-pub width_none : (first : PlainCells) (walk left : List Cell) (width : ℕ) → ComeFirst first walk left → first.many ≤ 0
-    → cells_width width left ≡ cells_width width walk
-width_none first walk left width f none = ap (cells_width width) (sym (none_first first walk left f none))
-
-more_left : (o c : ℕ) (bs : List ℕ) (cs : List Cell) → length cs ≤ length (plain_cells o c bs ++ cs)
-more_left o c [] cs = omega arith
-more_left o c (b ∷ bs) cs = omega (arith, more_left (o + 1) (c + 1) bs cs)
-
-pub plain_left : (first : PlainCells) (walk left : List Cell) → ComeFirst first walk left → length left ≤ length walk
-plain_left first walk left f = subst (λ (cs : List Cell). length left ≤ length cs) (sym f.cells_are)
-    (more_left first.start first.from f.bytes left)
 
 -- ---- stops
 

@@ -200,7 +200,7 @@ rows_next c at next ss more s p q r e n h g =
     (rows_of_segments c (past_lines at (lines_of_segment s)) more) (rows_of_segments c at ss) p q r h
     (ap (rows_of_segments c at) e) g
 
-pub all_drop : (P : Hunk → Type 0) (n : ℕ) (xs : List Hunk) → AllByRecursion P xs → AllByRecursion P (drop n xs)
+pub all_drop : {A : Type 0} (P : A → Type 0) (n : ℕ) (xs : List A) → AllByRecursion P xs → AllByRecursion P (drop n xs)
 all_drop P zero xs h = h
 all_drop P (suc n) [] h = h
 all_drop P (suc n) (x ∷ xs) h = all_drop P n xs h.1

@@ -1,11 +1,15 @@
--- Where hunks point to.
-use Rattle.std.proofs.Common.{ℕ, ◌≤◌, List, [], ◌∷◌}
+-- Where hunks point to, and where they stand.
+use Rattle.std.proofs.Common.{ℕ, ◌-◌, ◌≡◌, ◌≤◌, List, [], ◌∷◌, ◌++◌, length, take, drop, sym, ap, ap₂}
+use Rattle.std.proofs.Common.{◌∙◌, subst, arith}
 use Rattle.std.specs.Prelude.{slice_range}
 use Rattle.std.specs.List.{AllByRecursion}
 use Rattle.miette_basics.proofs.Cases.{by_cases}
+use Rattle.miette_source_lines.proofs.Parts.{part_length}
 use Rattle.miette_fix_rows.specs.rules.Blocks.{line_texts}
 use Rattle.miette_fix_rows.specs.rules.Hunks.{Change, Diff, Hunk, diff_from, is_nil, onto_hunks, onto_kept}
+use Rattle.miette_fix_drawing.specs.declared.hunks.Hunk.{Hunk as MadeHunk}
 use Rattle.miette_fix_drawing.specs.steps.Framing.{PointsWithin}
+use Rattle.miette_fix_drawing.specs.steps.Places.{StandsIn}
 use Rattle.miette_fix_drawing.specs.steps.Rising.{AreRising}
 
 kept_within : (size : ℕ) (lines : List (List ℕ)) (hunks : List Hunk) (behind : List (List ℕ))
@@ -28,3 +32,22 @@ hunks_within source size at (c ∷ cs) h =
     let rest : Diff = diff_from source c.to cs in
     kept_within size (line_texts (slice_range source at c.from)) (onto_hunks c rest.hunks) rest.behind
     (change_within size c rest.hunks h.3 (hunks_within source size c.to cs h.4))
+
+-- ---- where they stand
+
+all_pushed : (P : MadeHunk → Type 0) (xs : List MadeHunk) (x : MadeHunk) → AllByRecursion P xs → P x
+    → AllByRecursion P (xs ++ x ∷ [])
+all_pushed P [] x h p = (p, tt)
+all_pushed P (y ∷ xs) x h p = (h.0, all_pushed P xs x h.1 p)
+
+-- one more that stands in the source
+pub stand_put : (source : List ℕ) (at from : ℕ) (xs ys : List MadeHunk) (hunk : MadeHunk) → at ≤ from
+    → from ≤ length source → hunk.at ≡ at → hunk.kept.now ≡ slice_range source at from
+    → AllByRecursion (StandsIn source) xs → ys ≡ xs ++ hunk ∷ [] → AllByRecursion (StandsIn source) ys
+stand_put source at from xs ys hunk le within a k h e =
+    let long : length hunk.kept.now ≡ from - at = ap length k ∙ part_length source at from within in
+    let stands : StandsIn source hunk = record {
+      kept = k ∙ ap₂ (λ n o. take n (drop o source)) (sym long) (sym a);
+      within = omega (arith, long, a, le, within);
+    } in
+    subst (AllByRecursion (StandsIn source)) (sym e) (all_pushed (StandsIn source) xs hunk h stands)

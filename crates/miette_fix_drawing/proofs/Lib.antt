@@ -1,4 +1,5 @@
 pub mod LineCounts
+pub mod LinePlaces
 pub mod StartRows
 pub mod KeptRows
 pub mod FixRows

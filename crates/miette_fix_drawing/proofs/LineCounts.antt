@@ -18,15 +18,6 @@ pub left_of : (rest : List ℕ) (n : ℕ) → n ≤ length rest → n + length (
     rest
 left_of rest n le = omega (arith, ap length (take_rest rest n), length-drop n rest, le)
 
-pub counted : (rest : List ℕ) (line : LineOfText) (count all : ℕ) → IsFirst (record { start = 0; bytes = rest }) line
-    → count + length (line_texts rest) ≡ all
-    → count + 1 + length (line_texts (take (length rest - line.end) (drop line.end rest))) ≡ all
-counted rest line count all h e = omega (arith, e, ap length (rest_of rest line h))
-
-pub none_left : (rest : List ℕ) → length rest ≡ 0 → length (line_texts rest) ≡ 0
-none_left [] e = refl
-none_left (b ∷ bs) e = absurd (omega (arith, e))
-
 pub no_bytes : (rest : List ℕ) (k : ℕ) → length rest ≡ 0 → bytes_of (take k (line_texts rest)) ≡ 0
 no_bytes [] zero e = refl
 no_bytes [] (suc k) e = refl
@@ -52,13 +43,6 @@ sized rest line size left all h lt e =
     let t : bytes_of (take left (line_texts rest)) ≡ length (take line.end rest) + bytes_of (take (left - 1) ms) =
     ap (λ ls. bytes_of (take left ls)) (rest_of rest line h) ∙ taken left (take line.end rest) ms lt in
     omega (arith, e, t, own)
-
-pub few_more : (rest : List ℕ) (line : LineOfText) (count all : ℕ) → IsFirst (record { start = 0; bytes = rest }) line
-    → count + length rest ≤ all → count + 1 + length (take (length rest - line.end) (drop line.end rest)) ≤ all
-few_more rest line count all h le =
-    let to : line.end ≤ length rest = omega (arith, h.to) in
-    let some : 0 < line.end = omega (arith, h.some) in
-    omega (arith, le, some, left_of rest line.end to)
 
 pub whole_more : (rest : List ℕ) (line : LineOfText) (size all : ℕ) → IsFirst (record { start = 0; bytes = rest }) line
     → size + length rest ≡ all → size + line.end + length (take (length rest - line.end) (drop line.end rest)) ≡ all

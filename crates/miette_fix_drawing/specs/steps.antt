@@ -3,6 +3,7 @@ pub mod Framing
 pub mod Looks
 pub mod Passing
 pub mod Pieces
+pub mod Places
 pub mod Rising
 pub mod Spans
 pub mod Starts

@@ -22,17 +22,21 @@ use miette_fixes::apply::checked;
 use miette_fixes::fix::{Edit, Fix, FixError};
 use miette_page::canvas::Canvas;
 use miette_page::page::{PLAIN, Page};
+use miette_protocol::source::SourceCode;
 use miette_snippet_rules::options::SnippetSettings;
 use miette_style::style::Style;
 use std::alloc::AllocError;
 
-/// A source as its fixes are drawn over it: all its bytes, and what it is called, if it has a name.
-#[derive(Clone, Copy)]
-pub struct WholeSource<'a> {
+/// A source as its fixes are drawn over it: all its bytes, what it is called, if it has a name, and the source itself,
+/// which is asked for the numbers of lines.
+#[derive_where(Clone, Copy)]
+pub struct WholeSource<'a, S> {
     /// All its bytes.
     pub bytes: &'a [u8],
     /// What it is called, if it has a name.
     pub name: Option<&'a str>,
+    /// The source itself: where it keeps an index of its lines, no bytes are gone through in front of a change.
+    pub asked: &'a S,
 }
 
 // A run of ASCII characters.
@@ -100,13 +104,14 @@ fn push_refusal<O: Canvas>(
 }
 
 // The frames of a fix that nothing refuses, whose edits in their order are these.
-fn push_ordered_fix<O: Canvas>(
+fn push_ordered_fix<O: Canvas, S: SourceCode>(
     page: &mut Page<O>,
     settings: &SnippetSettings<'_>,
-    source: &WholeSource<'_>,
+    source: &WholeSource<'_, S>,
     fix: &Fix,
     edits: &[&Edit],
 ) -> Outcome
+    requires asked { (S.source source.now.asked.now).bytes ≡ source.now.bytes.now }
     requires unrefused { refusal (length source.now.bytes.now) fix.now.edits ≡ None }
     requires order { edits_of edits.now ≡ by_offset fix.now.edits }
     ensures { OnOk result ((whole : Source) → whole.bytes ≡ source.now.bytes.now →
@@ -129,17 +134,19 @@ fn push_ordered_fix<O: Canvas>(
         deleted: &deleted,
         inserted: &inserted,
     };
-    push_frames(page, &drawing, &hunks, behind)
+    push_frames(page, &drawing, source.asked, &hunks, behind)
 }
 
 /// The rows below a fix's message: none without edits or where nothing changes, the row of a refusal, or the frames.
-/// `AllocError` where memory is refused, or a number is past the largest `usize`.
-pub fn push_fix_rows<O: Canvas>(
+/// The source that is asked has these bytes; where it can't be read again, lines are counted. `AllocError` where memory
+/// is refused, or a number is past the largest `usize`.
+pub fn push_fix_rows<O: Canvas, S: SourceCode>(
     page: &mut Page<O>,
     settings: &SnippetSettings<'_>,
-    source: &WholeSource<'_>,
+    source: &WholeSource<'_, S>,
     fix: &Fix,
 ) -> Result<(), AllocError>
+    requires asked { (S.source source.now.asked.now).bytes ≡ source.now.bytes.now }
     ensures { OnOk result ((whole : Source) → whole.bytes ≡ source.now.bytes.now →
         whole.name ≡ option_copied source.now.name → page.new ≡ page.old
         ⊕ rows_tokens (fix_rows (settings_of settings.now) whole false fix.now.edits)) }

@@ -1,8 +1,10 @@
 //! The changes of blocks with no unchanged line between them, behind unchanged lines.
 
 ghost use Rattle.std.specs.Prelude.{◌≡◌, ◌≤◌, length, IfOk};
+ghost use Rattle.std.specs.List.{AllByRecursion};
 ghost use Rattle.miette_fix_rows.specs.rules.Blocks.{line_texts};
 ghost use Rattle.miette_fix_rows.specs.rules.Hunks.{diff_from};
+ghost use Rattle.miette_fix_drawing.specs.steps.Places.{StandsIn};
 ghost use Rattle.miette_fix_drawing.specs.steps.Rising.{AreRising, joined, joined_end};
 ghost use Rattle.miette_fix_drawing.specs.views.Hunks.{hunks_of};
 
@@ -12,6 +14,8 @@ use std::alloc::{AllocError, Global};
 /// Changes with no unchanged line between them, behind unchanged lines.
 #[derive(Clone, Copy)]
 pub(crate) struct Hunk<'a> {
+    /// Where the unchanged lines begin in the source.
+    pub(crate) at: usize,
     /// The unchanged lines.
     pub(crate) kept: &'a [u8],
     /// The changes.
@@ -55,6 +59,7 @@ pub(crate) fn hunks_of<'a>(
 ) -> Result<(Vec<Hunk<'a>>, &'a [u8]), AllocError>
     requires { AreRising (length source.now) 0 changes.now }
     ensures hunks { IfOk result (λ it. hunks_of it.0.items ≡ (diff_from source.now 0 changes.now).hunks) }
+    ensures stand { IfOk result (λ it. AllByRecursion (StandsIn source.now) it.0.items) }
     ensures behind { IfOk result (λ it. line_texts it.1.now ≡ (diff_from source.now 0 changes.now).behind) }
 {
     let mut list = Vec::new(alloc);
@@ -64,6 +69,7 @@ pub(crate) fn hunks_of<'a>(
         let from = changes[low].from();
         let (many, end) = joined(source, from, &changes[low..]);
         list.push(Hunk {
+            at,
             kept: &source[at..from],
             changes: &changes[low..low + many],
         })?;

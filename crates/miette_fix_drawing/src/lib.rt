@@ -7,6 +7,7 @@ pub mod counting;
 mod digits;
 mod edit_spans;
 pub mod fix;
+mod frame_lines;
 mod frames;
 mod hunks;
 pub mod kept_row;

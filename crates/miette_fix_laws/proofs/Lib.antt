@@ -1,2 +1,3 @@
 pub mod CleanLines
 pub mod PaleFixes
+pub mod ShownContext

@@ -1,8 +1,12 @@
-//! What holds of the rows of a fix, as laws of their definitions: of their colours.
+//! What holds of the rows of a fix, as laws of their definitions: of their colours, and of the lines that are shown.
 
-ghost use Rattle.std.specs.Prelude.{◌≡◌, Bool, List, map};
+ghost use Rattle.std.specs.Prelude.{◌≡◌, ℕ, Bool, List, map};
 ghost use Rattle.std.specs.List.{AllByRecursion};
+ghost use Rattle.miette_fix_laws.specs.laws.Context.{lines_in, shown_lines};
+ghost use Rattle.miette_fix_rows.specs.laws.Frames.{all_lines};
+ghost use Rattle.miette_fix_rows.specs.rules.DiffFrames.{frames_of};
 ghost use Rattle.miette_fix_rows.specs.rules.DiffRows.{fix_rows};
+ghost use Rattle.miette_fix_rows.specs.rules.Hunks.{diff};
 ghost use Rattle.miette_fixes.specs.rules.Edits.{Replacement};
 ghost use Rattle.miette_page.specs.rules.Rows.{glyphs_of};
 ghost use Rattle.miette_protocol.specs.rules.Reading.{Source};
@@ -29,4 +33,13 @@ pub fn fix_rows_hold_no_escape()
         AreCleanDrawings s.theme.characters → IsCleanSource source →
         AllByRecursion (λ edit. IsClean edit.text) edits →
         AllByRecursion IsCleanRow (fix_rows s source fails edits) }
+{}
+
+/// The lines in the frames of edits are the changed ones, and of the unchanged ones exactly those of which one of the
+/// context lines on a side is changed: each once, in order.
+#[tactic(auto, using(crate::proofs::ShownContext::frames_show))]
+pub fn frames_show_the_context()
+    ensures { (context : ℕ) (source : List ℕ) (edits : List Replacement) →
+        lines_in (frames_of context (diff source edits))
+        ≡ shown_lines context (all_lines (diff source edits)) }
 {}

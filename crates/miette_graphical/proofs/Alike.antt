@@ -1,7 +1,6 @@
 -- Drawings and answers that agree wherever a diagnostic is printed give the same text.
-use Rattle.std.proofs.Common.{◌≡◌, ℕ, zero, suc, inl, inr, Bool, true, false, List, [], ◌∷◌, ◌++◌, Option, Some, None}
-use Rattle.std.proofs.Common.{refl, ap, ap₂, ◌∙◌, subst, if◌then◌else◌}
-use Rattle.std.specs.List.{AllByRecursion, Contains}
+use Rattle.std.proofs.Common.{◌≡◌, ℕ, zero, suc, Bool, true, false, List, [], ◌∷◌, ◌++◌, Option, Some, None}
+use Rattle.std.proofs.Common.{refl, ap, ap₂, ◌∙◌, if◌then◌else◌}
 use Rattle.miette_runs.specs.rules.Cutting.{without_trailing}
 use Rattle.miette_tree.specs.rules.Diagnosis.{Diagnosis}
 use Rattle.miette_protocol.specs.rules.Reading.{Source}
@@ -19,14 +18,6 @@ use Rattle.miette_graphical.specs.rules.Text.{only_if, related_text, report_text
 use Rattle.miette_graphical.specs.laws.Alike.{answer_at, numbered_answers}
 use Rattle.miette_graphical.specs.laws.Paths.{Step, to_cause, to_related, at_cause, at_related, printed_at}
 use Rattle.miette_graphical.proofs.Outermost.{if_same, report_over}
-use Rattle.miette_graphical.proofs.Paths.{first_or_later, none}
-
--- what holds of each of a list holds of one that is in it
-pub holds_there : (P : PrintedDiagnostic → Type 0) (ps : List PrintedDiagnostic) (p : PrintedDiagnostic)
-    → AllByRecursion P ps → Contains ps p → P p
-holds_there P [] p all h = absurd (none p h)
-holds_there P (q ∷ ps) p all h = elim (first_or_later q ps p h)
-    [ inl same ↦ subst P same all.0 | inr there ↦ holds_there P ps p all.1 there ]
 
 module _ (drawing other : Drawing) where
   -- what is drawn of a printed diagnostic, under an answer and under another one

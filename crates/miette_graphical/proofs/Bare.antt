@@ -69,7 +69,7 @@ numbered_bare more zero = sym (first-bare more)
 numbered_bare more (suc k) = ap (λ later. numbered_answers later k) (sym (later-bare more))
     ∙ numbered_bare (later_answers more) k
 
-bare_at : (a : Answers) (path : List Step) → answer_at (unhighlighted_answers a) path
+pub bare_at : (a : Answers) (path : List Step) → answer_at (unhighlighted_answers a) path
     ≡ unhighlighted (answer_at a path)
 bare_at a [] = sym (own-bare a)
 bare_at a (to_cause ∷ path) = ap (λ b. answer_at b path) (sym (cause-bare a)) ∙ bare_at (cause_answers a) path
@@ -123,26 +123,3 @@ pub bare-report : (s : Settings) (styles : Styles) (blank : Bool) (t : Tree) (a 
     ≡ report_text whole_drawing (restyled s styles) t unlisted
 bare-report s styles blank t a h reads =
     agreed_alike (restyled s styles) t (unhighlighted_answers a) unlisted (nothing_alike s styles blank t a h reads)
-
--- where lines are left plain, there are no pieces
-plain_over : (l : snippets.SnippetSettings) (sources : List LabelledSource) (a : SourceAnswers)
-    → AreAnswersOver l true sources a → AgreeOver sources a (map unhighlighted_answer a)
-plain_over l [] a h = tt
-plain_over l (it ∷ more) a h = (
-  ap (λ pieces. record (first_source a) { pieces = pieces }) (h.0.plain refl) ∙ first-bare-source a,
-  subst (λ later. AgreeOver more (drop 1 a) later) (later-bare-sources a)
-      (plain_over (snippets_after (length it.labels) l) more (drop 1 a) h.1),
-)
-
-plain_alike : (s : Settings) (t : Tree) (a : Answers) → AreAnswers s true t a
-    → AgreeAlong s t a (unhighlighted_answers a)
-plain_alike s t a h = λ path p found.
-    subst (λ b. Agree p (answer_at a path) b) (sym (bare_at a path)) (
-      plain_over (snippets_with p.meaning.snippets (snippet_settings s)) (sources_of p.source p.meaning)
-          (answer_at a path).sources (answer_there s true t a path p h found).sources,
-      refl,
-    )
-
-pub plain-report : (s : Settings) (t : Tree) (a : Answers) → AreAnswers s true t a →
-    report_text whole_drawing s t a ≡ report_text whole_drawing s t (unhighlighted_answers a)
-plain-report s t a h = agreed_alike s t a (unhighlighted_answers a) (plain_alike s t a h)

@@ -1,6 +1,6 @@
 -- The rows of snippets under answers: where nothing fails, they are those in which nothing is listed.
 use Rattle.std.proofs.Common.{◌≡◌, ◌≢◌, ℕ, Bool, true, false, ◌||◌, if◌then◌else◌, inl, inr, List, [], ◌∷◌, refl, sym}
-use Rattle.std.proofs.Common.{ap, ap₂, ◌∙◌, subst, Option, Some, None, is_some, option_map, codes, length, ◌<◌, ◌≤◌}
+use Rattle.std.proofs.Common.{ap, ap₂, ◌∙◌, subst, Option, Some, None, is_some, option_map, codes, length, ◌<◌}
 use Rattle.std.proofs.Common.{arith}
 use Rattle.std.proofs.Common.{◌++◌, drop}
 use Rattle.std.proofs.lemmas.Bool.{cases_Bool}
@@ -257,14 +257,6 @@ drawn_unlabelled u s blank now source labels e =
       (λ later h. h),
       refl,
     )
-
--- labels that are there, over a source that is
-pub drawn_labelled : (u s : Settings) (blank : Bool) (begun now : List Call → Type 0) (source : Source)
-    (labels : List Label) (text : List ℕ) → 1 ≤ length labels
-    → AreDrawn s source labels (printing u blank begun now) text
-    → IsSourceDrawn s (labelled (Some source) labels) (printing u blank begun now) text
-drawn_labelled u s blank begun now source [] text h p = absurd (omega arith)
-drawn_labelled u s blank begun now source (l ∷ ls) text h p = p
 
 pub empty_list : {A : Type 0} (xs : List A) → length xs < 1 → xs ≡ []
 empty_list [] h = refl

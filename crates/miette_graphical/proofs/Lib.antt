@@ -23,14 +23,9 @@ pub mod DrawnRows
 pub mod SnippetsFading
 pub mod FixesFading
 pub mod Styling
-pub mod Themes
 pub mod RenderedBytes
 pub mod Stateless
 pub mod Rows
 pub mod Holding
-pub mod Arrows
-pub mod ArrowRows
-pub mod Levels
-pub mod Barred
 pub mod LabelLines
-pub mod NumberRows
+pub mod NarrowCharacters

@@ -12,25 +12,16 @@ use Rattle.miette_snippet_rules.specs.rules.Settings as snippets
 use Rattle.miette_graphical.specs.rules.Answers.{Answer, Answers, RelatedAnswers, SourceAnswers, cause_answers}
 use Rattle.miette_graphical.specs.rules.Answers.{related_answers}
 use Rattle.miette_graphical.specs.rules.Answers.{first_answers, first_source, later_answers, own_answer}
-use Rattle.miette_graphical.specs.rules.DiagnosticText.{Drawing}
 use Rattle.miette_graphical.specs.rules.PossibleAnswers.{AreAnswers, AreCauseAnswers, AreRelatedAnswers, IsAnswer}
 use Rattle.miette_graphical.specs.rules.PrintedDiagnostics.{PrintedDiagnostic, all_read, diagnostics_of, over}
 use Rattle.miette_graphical.specs.rules.PrintedDiagnostics.{reads_all}
 use Rattle.miette_graphical.specs.rules.Settings.{Settings}
 use Rattle.miette_graphical.specs.rules.Snippets.{drawn_fix, rows_over, snippet_settings, source_rows, whole_drawing}
 use Rattle.miette_graphical.specs.rules.Text.{report_text}
-use Rattle.miette_graphical.specs.laws.Alike.{AreAnsweredAlike, answer_at, numbered_answers}
+use Rattle.miette_graphical.specs.laws.Alike.{answer_at, numbered_answers}
 use Rattle.miette_graphical.specs.laws.Paths.{Step, to_cause, to_related, at_cause, at_related, printed_at}
 use Rattle.miette_graphical.proofs.Alike.{report_alike}
 use Rattle.miette_graphical.proofs.Paths.{first_or_later, none, printed_there}
-
-pub answered_alike : (drawing : Drawing) (s : Settings) (t : Tree) (a b : Answers) → AreAnsweredAlike s t a b
-    → report_text drawing s t a ≡ report_text drawing s t b
-answered_alike drawing s t a b alike =
-    report_alike drawing drawing s t a b (λ path p found u. (
-      ap (drawing.rows u p.source p.meaning) (alike path p found),
-      ap (drawing.fixes u p.source p.meaning) (alike path p found),
-    ))
 
 -- ---- answers that agree on each source
 

@@ -1,10 +1,11 @@
 -- Fixes behind a text: each as its message and its rows.
 use Rattle.std.proofs.Common.{◌≡◌, Bool, true, false, List, [], ◌∷◌, ◌++◌, ℕ, map, Option, Some, None, refl, sym, ap}
 use Rattle.std.proofs.Common.{ap₂, ◌∙◌}
-use Rattle.std.proofs.Common.{append-nil, chars, subst}
-use Rattle.std.specs.Prelude.{not, ◌||◌}
+use Rattle.std.proofs.Common.{append-nil, arith, chars, length, nat_eq}
+use Rattle.std.specs.Prelude.{not}
 use Rattle.std.specs.List.{list_any}
 use Rattle.std.proofs.lemmas.Bool.{or_parts}
+use Rattle.std.proofs.lemmas.Bool.Decides.{nat_tests}
 use Rattle.miette_basics.specs.rules.Lists.{is_nil}
 use Rattle.miette_fixes.specs.rules.Edits.{Proposal, Replacement}
 use Rattle.miette_page.specs.rules.Rows.{Row}
@@ -15,7 +16,7 @@ use Rattle.miette_graphical.specs.rules.DiagnosticText.{fix_text, fixes_text, li
 use Rattle.miette_graphical.specs.rules.Indents.{fix_indent, further_fix_indent, wrapped_under}
 use Rattle.miette_graphical.specs.rules.Settings.{Settings}
 use Rattle.miette_graphical.specs.rules.Snippets.{drawn_fix, rows_of_fix, runs_of_row}
-use Rattle.miette_graphical.specs.rules.Sources.{has_edits, reads_for}
+use Rattle.miette_graphical.specs.rules.Sources.{has_edits}
 use Rattle.miette_graphical.specs.steps.PartTexts.{AppendsFixes}
 use Rattle.miette_graphical.proofs.PrintedRows.{rows_printed}
 use Rattle.miette_graphical.proofs.Steps.{behind}
@@ -60,10 +61,11 @@ messages_same s source (fix ∷ fixes) h =
     ap₂ (λ rows more. record { message = fix.message; rows = rows } ∷ more) (nowhere_same s source fix.edits both.0)
     (messages_same s source fixes both.1)
 
--- what is appended over no source, over one that isn't needed, over one that was read, and over one that wasn't
-pub over_none : (s : Settings) (source : Option Source) (fixes : List Proposal) (old new : List ℕ) → source ≡ None
-    → new ≡ old ++ fixes_text s (map (drawn_fix s source false) fixes) → AppendsFixes s source fixes old new
-over_none s source fixes old new none e = record { fails = false; possible = λ h. refl; appended = e }
+-- of no fixes nothing is appended
+pub over_nothing : (s : Settings) (source : Option Source) (fixes : List Proposal) (out : List ℕ)
+    → nat_eq (length fixes) 0 ≡ true → AppendsFixes s source fixes out out
+over_nothing s source [] out h = record { fails = false; possible = λ h. refl; appended = sym (append-nil out) }
+over_nothing s source (fix ∷ fixes) out h = absurd (let e = h in grind (arith, nat_tests))
 
 pub over_unneeded : (s : Settings) (source : Option Source) (it : Source) (fixes : List Proposal) (old new : List ℕ)
     → source ≡ Some it → list_any has_edits fixes ≡ false
@@ -78,21 +80,6 @@ over_unneeded s source it fixes old new is none e = record {
 pub over_read : (s : Settings) (source : Option Source) (fixes : List Proposal) (old new : List ℕ)
     → new ≡ old ++ fixes_text s (map (drawn_fix s source false) fixes) → AppendsFixes s source fixes old new
 over_read s source fixes old new e = record { fails = false; possible = λ h. refl; appended = e }
-
--- where a fix has edits, the source doesn't always read
-unread_for : (it : Source) (some : Bool) → some ≡ true → it.always_reads ≡ false
-    → (not some || it.always_reads) ≡ true → true ≡ false
-unread_for it some e f h = sym h ∙ ap₂ (λ a b. not a || b) e f
-
-pub over_unread : (s : Settings) (source : Option Source) (it : Source) (fixes : List Proposal) (old new : List ℕ)
-    → source ≡ Some it → list_any has_edits fixes ≡ true → it.always_reads ≡ false
-    → new ≡ old ++ fixes_text s (map (drawn_fix s source true) fixes) → AppendsFixes s source fixes old new
-over_unread s source it fixes old new is some fault e = record {
-  fails = true;
-  possible = subst (λ o. reads_for o fixes ≡ true → true ≡ false) (sym is)
-      (unread_for it (list_any has_edits fixes) some fault);
-  appended = e;
-}
 
 -- ---- rows below a message, in whatever settings they were drawn
 

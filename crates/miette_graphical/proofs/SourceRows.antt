@@ -106,11 +106,6 @@ sources_printed is_blank may_follow old now s end sources r =
     all_printed is_blank may_follow sources_left old now now (left_in s sources) (left_in end []) r (refl, refl)
     (nothing_behind _ now.out ([], tt, leads_none was, refl))
 
-pub no_sources : {H : Type 0} (is_blank : H → Bool) (may_follow : H → List Call → Type 0) (old : Painter H)
-    (s : Settings) → Paints is_blank may_follow (AreSourcesDrawn s []) old old
-no_sources is_blank may_follow old s =
-    nothing_behind _ old.out ([], tt, leads_none (follows may_follow old.highlighter), refl)
-
 -- a diagnostic's own source, and then its further ones
 pub own_and_further : {H : Type 0} (is_blank : H → Bool) (may_follow : H → List Call → Type 0)
     (old mid new : Painter H) (s : Settings) (it : LabelledSource) (more : List LabelledSource) →

@@ -1,11 +1,8 @@
 -- The read of a whole source.
-use Rattle.std.proofs.Common.{◌≡◌, ℕ, ◌+◌, ◌-◌, ◌<◌, ◌≤◌, false, List, length, ap, ap₂, ◌∙◌, arith, inl, inr}
+use Rattle.std.proofs.Common.{◌≡◌, ℕ, ◌+◌, ◌-◌, ◌<◌, ◌≤◌, List, length, ap, ap₂, ◌∙◌, arith, inl, inr}
 use Rattle.std.specs.Prelude.{slice_range}
 use Rattle.std.proofs.lemmas.Bool.{cases_lt}
 use Rattle.std.proofs.lemmas.List.{take_all}
-use Rattle.miette_protocol.specs.declared.error.MietteError.{MietteError}
-use Rattle.miette_protocol.specs.declared.error.MietteError.TheVariants.{IoError, OutOfBounds}
-use Rattle.miette_protocol.specs.rules.Outcome.{Refuses}
 use Rattle.miette_protocol.specs.rules.Reading.{Source, Span, contents_of, data_end, data_start, reading_end}
 use Rattle.miette_protocol.proofs.Wholes.{end_within, start_is, end_is}
 use Rattle.miette_source_lines.specs.rules.Lines.{line_of, line_start, line_end}
@@ -35,9 +32,3 @@ whole_read source most some small =
       | inr g ↦ end ∙ line_end_past bytes k (omega (arith, g))
     ] in
     ap₂ (slice_range bytes) start full ∙ take_all (length bytes - 0) bytes (omega arith)
-
--- a fault
-pub fault_met : (source : Source) (e : MietteError) → Refuses source nowhere e
-    → source.always_reads ≡ false
-fault_met source OutOfBounds h = absurd (h (record { begins = omega arith; ends = omega arith }))
-fault_met source (IoError x) h = h

@@ -8,7 +8,3 @@ pub mod LabelLines
 pub mod Headline
 pub mod Holding
 pub mod FixPictures
-pub mod FittingRows
-pub mod Arrows
-pub mod Levels
-pub mod NumberRows

@@ -6,7 +6,7 @@ ghost use Rattle.std.specs.Option.{option_copied};
 ghost use Rattle.miette_graphical.specs.rules.DiagnosticText.{fix_text, fixes_text, rows_text};
 ghost use Rattle.miette_graphical.specs.rules.Snippets.{drawn_fix, rows_of_fix};
 ghost use Rattle.miette_graphical.specs.rules.Sources.{has_edits};
-ghost use Rattle.miette_graphical.specs.steps.FixSources.{IsGivenOver};
+ghost use Rattle.miette_graphical.specs.steps.FixSources.{AsksItself, IsGivenOver};
 ghost use Rattle.miette_graphical.specs.steps.PartTexts.{AppendsFixes};
 ghost use Rattle.miette_graphical.specs.views.Painting.{PrintsOnly, settings_of, source_shown};
 ghost use Rattle.miette_protocol.specs.rules.Reading.{Source};
@@ -25,19 +25,20 @@ use std::alloc::AllocError;
 use std::mem;
 
 /// What fixes are drawn over: no source, one that could not be read, or one that was read as a whole.
-#[derive(Clone, Copy)]
-pub(crate) enum FixSource<'a> {
+#[derive_where(Clone, Copy)]
+pub(crate) enum FixSource<'a, S> {
     Nowhere,
     Unread,
-    Whole(WholeSource<'a>),
+    Whole(WholeSource<'a, S>),
 }
 
 // Appends the rows below a fix's message, over a source that was read as a whole.
-fn push_changes<H>(
+fn push_changes<S: SourceCode, H>(
     painter: &mut Painter<'_, H>,
-    source: &WholeSource<'_>,
+    source: &WholeSource<'_, S>,
     fix: &Fix,
 ) -> Result<(), AllocError>
+    requires { (S.source source.now.asked.now).bytes ≡ source.now.bytes.now }
     ensures text { OnOk result ((whole : Source) → whole.bytes ≡ source.now.bytes.now →
         whole.name ≡ option_copied source.now.name → painter.new.out ≡ painter.old.out
         ++ rows_text (rows_of_fix (settings_of painter.old) (Some whole) false fix.now.edits)) }
@@ -74,11 +75,12 @@ fn push_unread<H>(painter: &mut Painter<'_, H>, fix: &Fix) -> Result<(), AllocEr
 }
 
 // Appends a fix: its message, and the rows below it.
-fn push_fix<H>(
+fn push_fix<S: SourceCode, H>(
     painter: &mut Painter<'_, H>,
-    over: &FixSource<'_>,
+    over: &FixSource<'_, S>,
     fix: &Fix,
 ) -> Result<(), AllocError>
+    requires { AsksItself S.source over.now }
     ensures text { OnOk result ((source : Option Source) (fails : Bool) → IsGivenOver over.now source fails →
         painter.new.out ≡ painter.old.out
         ++ fix_text (settings_of painter.old) (drawn_fix (settings_of painter.old) source fails fix.now)) }
@@ -93,11 +95,12 @@ fn push_fix<H>(
 }
 
 // Appends fixes, in the order given.
-fn push_each<H>(
+fn push_each<S: SourceCode, H>(
     painter: &mut Painter<'_, H>,
-    over: &FixSource<'_>,
+    over: &FixSource<'_, S>,
     fixes: &[Fix],
 ) -> Result<(), AllocError>
+    requires { AsksItself S.source over.now }
     ensures text { OnOk result ((source : Option Source) (fails : Bool) → IsGivenOver over.now source fails →
         painter.new.out ≡ painter.old.out ++ fixes_text (settings_of painter.old)
         (map (drawn_fix (settings_of painter.old) source fails) fixes.now)) }
@@ -125,8 +128,43 @@ fn some_edits(fixes: &[Fix]) -> bool
     fixes.iter().any(|fix| has_edits(fix))
 }
 
-/// Appends a diagnostic's fixes over its effective source. Where one of them has edits, that is read once for all of
-/// them, as a whole.
+// Appends fixes over the effective source of their diagnostic. Where one of them has edits, that is read once for all
+// of them, as a whole.
+#[inline(never)]
+fn push_some<S: SourceCode, H>(
+    painter: &mut Painter<'_, H>,
+    source: Option<SourceRef<'_, S>>,
+    fixes: &[Fix],
+) -> Result<(), AllocError>
+    ensures ok { OnOk result (AppendsFixes (settings_of painter.old) (source_shown S.source source.entry) fixes.now
+        painter.old.out painter.new.out) }
+    ensures stays { PrintsOnly painter.old painter.new }
+{
+    let nowhere: FixSource<'_, SourceRef<'_, S>> = FixSource::Nowhere;
+    let Some(source) = source else {
+        return push_each(painter, &nowhere, fixes);
+    };
+    if !some_edits(fixes) {
+        return push_each(painter, &nowhere, fixes);
+    }
+    let begin = SourceSpan::new(SourceOffset::from(0), 0);
+    match source.read_span(&begin, 1, usize::MAX) {
+        Ok(lent) => {
+            let whole = WholeSource {
+                bytes: lent.data(),
+                name: lent.name(),
+                asked: &source,
+            };
+            push_each(painter, &FixSource::Whole(whole), fixes)
+        }
+        Err(_) => {
+            let unread: FixSource<'_, SourceRef<'_, S>> = FixSource::Unread;
+            push_each(painter, &unread, fixes)
+        }
+    }
+}
+
+/// Appends a diagnostic's fixes over its effective source.
 pub(crate) fn push_fixes<S: SourceCode, H>(
     painter: &mut Painter<'_, H>,
     source: Option<SourceRef<'_, S>>,
@@ -136,21 +174,8 @@ pub(crate) fn push_fixes<S: SourceCode, H>(
         painter.old.out painter.new.out) }
     ensures stays { PrintsOnly painter.old painter.new }
 {
-    let Some(source) = source else {
-        return push_each(painter, &FixSource::Nowhere, fixes);
-    };
-    if !some_edits(fixes) {
-        return push_each(painter, &FixSource::Nowhere, fixes);
+    if fixes.is_empty() {
+        return Ok(());
     }
-    let begin = SourceSpan::new(SourceOffset::from(0), 0);
-    match source.read_span(&begin, 1, usize::MAX) {
-        Ok(lent) => {
-            let whole = WholeSource {
-                bytes: lent.data(),
-                name: lent.name(),
-            };
-            push_each(painter, &FixSource::Whole(whole), fixes)
-        }
-        Err(_) => push_each(painter, &FixSource::Unread, fixes),
-    }
+    push_some(painter, source, fixes)
 }

@@ -18,9 +18,6 @@ pub use Rattle.miette_graphical.specs.rules.ByLine
 pub use Rattle.miette_graphical.specs.rules.Snippets
 pub use Rattle.miette_graphical.specs.laws.Headline
 pub use Rattle.miette_graphical.specs.laws.Holding
-pub use Rattle.miette_graphical.specs.laws.Arrows
-pub use Rattle.miette_graphical.specs.laws.Levels
-pub use Rattle.miette_graphical.specs.laws.NumberRows
 pub use Rattle.miette_json.specs.rules.Json
 pub use Rattle.miette_json.specs.rules.Denotes
 pub use Rattle.miette_json.specs.rules.JsonReport

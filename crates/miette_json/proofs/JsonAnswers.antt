@@ -10,7 +10,7 @@ use Rattle.miette_protocol.specs.rules.Reading.{Source}
 use Rattle.miette_protocol.specs.views.Meaning.{Label}
 use Rattle.miette_tree.specs.rules.Tree.{Tree, tree, Trees, no_trees, more_trees, trees, effective, head, source_of}
 use Rattle.miette_tree.specs.rules.Tree.{Cause, cause_of, causes_of, related_of}
-use Rattle.miette_json.specs.rules.Json.{Json, string, array, object, Items, item, no_members, member, items_text}
+use Rattle.miette_json.specs.rules.Json.{Json, string, array, object, item, no_members, member, items_text}
 use Rattle.miette_json.specs.rules.Json.{json_text}
 use Rattle.miette_json.specs.rules.Denotes.{Denotes, HasTokensOf}
 use Rattle.miette_json.specs.rules.JsonReport.{NameAnswers, unlisted, listed, RelatedNameAnswers, no_more, and_more}
@@ -18,7 +18,7 @@ use Rattle.miette_json.specs.rules.JsonReport.{related_answers, first_answers, l
 use Rattle.miette_json.specs.rules.JsonReport.{report_json, report_object, reports_json, file_name, NameFaults}
 use Rattle.miette_json.specs.rules.JsonReport.{own_faults, first_fault, later_faults, AreFurther, section_json}
 use Rattle.miette_json.specs.rules.JsonReport.{sections_json, labels_json}
-use Rattle.miette_tree.specs.rules.DiagnosticParts.{given_labels, severity_text}
+use Rattle.miette_tree.specs.rules.DiagnosticParts.{given_labels}
 use Rattle.miette_tree.proofs.Readings.{fault_free, own_holds}
 use Rattle.miette_tree.specs.rules.Reads.{MayMeet, always_reads, holds_of, holds_of_all, holds_further}
 use Rattle.miette_json.specs.rules.JsonText.{IsJsonOf}

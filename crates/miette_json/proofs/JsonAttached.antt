@@ -1,7 +1,7 @@
 -- Further sources and fixes, written one after the other.
 use Rattle.std.proofs.Common.{◌≡◌, ℕ, suc, ◌+◌, ◌<◌, ◌≤◌, List, [], ◌∷◌, ◌++◌, length, map, drop, get_or, Bool, true}
 use Rattle.std.proofs.Common.{false}
-use Rattle.std.proofs.Common.{Some, None, refl, sym, ap, subst, ◌∙◌, append_assoc, append-nil, add-one, codes}
+use Rattle.std.proofs.Common.{Some, refl, sym, ap, subst, ◌∙◌, append_assoc, add-one, codes}
 use Rattle.std.specs.Prelude.{if◌then◌else◌, unwrap_or}
 use Rattle.std.proofs.Math.Seq.{drop-cons}
 use Rattle.std.proofs.lemmas.List.{drop_all}
@@ -100,13 +100,6 @@ module _ {X : Type 0} (value : X → Section) (xs : List X) (i : ℕ) where
       subst (λ left. SectionsSoFar (map value xs) (map value left) false old now) (drop_all i xs end) h in
       record { faults = r.with_rest []; possible = r.possible [] tt; appended = e ∙ r.joined_is [] }
 
--- ---- only where there are some
-
-pub no_snippets : {X : Type 0} (value : X → Section) (xs : List X) (old : List ℕ) → length xs ≡ 0
-    → AppendsSnippets (map value xs) old old
-no_snippets value [] old e = record { faults = []; possible = tt; appended = sym (append-nil old) }
-no_snippets value (x ∷ xs) old e = absurd (cc)
-
 pub some_snippets : {X : Type 0} (value : X → Section) (xs : List X) (old now new : List ℕ) → (length xs ≡ 0 → ⊥)
     → now ≡ old ++ list_key_text (codes "snippets") → AppendsSections (map value xs) now new
     → AppendsSnippets (map value xs) old new
@@ -119,11 +112,6 @@ some_snippets value (x ∷ xs) old now new h e a = record {
       ∙ append_assoc old (list_key_text (codes "snippets"))
       (items_text (sections_json a.faults (value x ∷ map value xs)));
 }
-
-pub no_fixes : (fixes : List Proposal) (old : List ℕ) → length fixes ≡ 0
-    → old ≡ old ++ maybe_list_text (codes "fixes") (fixes_json fixes)
-no_fixes [] old e = sym (append-nil old)
-no_fixes (x ∷ xs) old e = absurd (cc)
 
 pub some_fixes : (fixes : List Proposal) (old now new : List ℕ) → (length fixes ≡ 0 → ⊥)
     → now ≡ old ++ list_key_text (codes "fixes") → new ≡ now ++ items_text (fixes_json fixes)

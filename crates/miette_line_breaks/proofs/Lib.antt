@@ -1,3 +1,4 @@
 pub mod AsciiClasses
 pub mod Plain
 pub mod States
+pub mod PrintableTable

@@ -1,2 +1,3 @@
 -- The code's own steps.
 pub mod States
+pub mod Printable

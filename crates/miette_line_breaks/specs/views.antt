@@ -1,3 +1,4 @@
 -- What a value of the code stands for.
 pub mod Left
 pub mod Places
+pub mod Printable

@@ -6,5 +6,6 @@ pub mod breaks;
 mod characters;
 mod classes;
 mod opportunity;
+pub mod printable;
 mod remaining;
 mod state;

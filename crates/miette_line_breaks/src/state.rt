@@ -6,8 +6,9 @@ ghost use Rattle.miette_line_breaks.specs.declared.opportunity.BreakOpportunity.
 ghost use Rattle.miette_line_breaks.specs.rules.Rules.{break_before, joins, joins_letter, joins_number};
 ghost use Rattle.miette_line_breaks.specs.rules.Rules.{joins_parenthesis};
 ghost use Rattle.miette_line_breaks.specs.rules.Rules.{joins_syllable, takes_marks};
-ghost use Rattle.miette_line_breaks.specs.steps.States.{attaches, base_behind, base_of, break_in, is_start};
-ghost use Rattle.miette_line_breaks.specs.steps.States.{is_ideographic, is_plain, joined_behind, spaced};
+ghost use Rattle.miette_line_breaks.specs.steps.States.{attaches, base_behind, base_of, break_in, ends_hebrew};
+ghost use Rattle.miette_line_breaks.specs.steps.States.{is_empty, is_ideographic, is_lone, is_plain, is_start};
+ghost use Rattle.miette_line_breaks.specs.steps.States.{joined_behind, spaced};
 ghost use Rattle.miette_line_breaks.specs.steps.States.{keeps_direct, keeps_in, state_behind};
 ghost use Rattle.miette_line_breaks.specs.views.Places.{behind, found_before, is_in_word, state_of};
 
@@ -96,15 +97,29 @@ impl State {
     /// Whether the last character but spaces is a letter that is neither wide nor Hebrew, with nothing before it that
     /// counts.
     #[inline(always)]
-    pub fn is_plain(&self) -> bool
+    fn is_plain(&self) -> bool
         ensures { result ≡ is_plain self.now }
     {
-        matches!(self.base.class, LineBreak::Alphabetic)
-            && !(self.base.is_wide
-                || self.base.is_future_emoji
-                || self.is_joined
-                || self.follows_hebrew
-                || self.has_half_flag)
+        matches!(self.base.class, LineBreak::Alphabetic) && self.is_lone()
+    }
+
+    /// Whether nothing counts but the class of the last character but spaces.
+    #[inline(always)]
+    fn is_lone(&self) -> bool
+        ensures { result ≡ is_lone self.now }
+    {
+        !(self.base.is_wide
+            || self.base.is_future_emoji
+            || self.is_joined
+            || self.follows_hebrew
+            || self.has_half_flag)
+    }
+
+    /// Whether no character stands before this place.
+    pub(crate) fn is_empty(&self) -> bool
+        ensures { result ≡ is_empty self.now }
+    {
+        self.is_start() && self.is_lone()
     }
 
     /// Whether such a letter is the last character: letters of ASCII go on with it.
@@ -131,10 +146,17 @@ impl State {
 
     /// The same with spaces behind it, or without.
     #[inline(always)]
-    pub fn spaced(&self, is_spaced: bool) -> State
+    fn spaced(&self, is_spaced: bool) -> State
         ensures { result ≡ spaced is_spaced self.now }
     {
         State { is_spaced, ..*self }
+    }
+
+    /// Whether the last character is a Hebrew letter.
+    pub(crate) fn ends_hebrew(&self) -> bool
+        ensures { result ≡ ends_hebrew self.now }
+    {
+        !self.is_spaced && is_hebrew(self.base.class)
     }
 
     fn attaches(&self) -> bool
@@ -168,7 +190,7 @@ impl State {
             },
             is_spaced: is_space(base.class),
             is_joined,
-            follows_hebrew: !self.is_spaced && is_hebrew(self.base.class),
+            follows_hebrew: self.ends_hebrew(),
             has_half_flag: is_regional(base.class) && !self.has_half_flag,
         }
     }

@@ -1,6 +1,6 @@
 -- What is found in a source lies in it, so that each label is accepted.
 use Rattle.std.proofs.Common.{◌≡◌, ℕ, ◌+◌, ◌-◌, ◌<◌, ◌≤◌, Bool, true, false, cond, eqb, List, [], ◌∷◌, ◌++◌, length}
-use Rattle.std.proofs.Common.{drop, map, Option, Some, None, IfSome, refl, sym, ap, ◌∙◌, arith, subst}
+use Rattle.std.proofs.Common.{drop, map, Option, Some, None, IfSome, refl, sym, arith, subst}
 use Rattle.std.specs.Prelude.{codes, find, nat_lt, position, slice_range, take_while}
 use Rattle.std.specs.List.{AllByRecursion, flat_map, last_or, position_or_len, prefix_len}
 use Rattle.std.specs.Option.{option_and_then, option_map, option_map_or}

@@ -1,17 +1,16 @@
 -- Fixes of one edit each, one behind another: all are taken, and the text after them is made from front to back.
-use Rattle.std.proofs.Common.{◌≡◌, ℕ, ◌+◌, ◌-◌, ◌<◌, ◌≤◌, max, Bool, true, false, cond, eqb, ltb, ◌&&◌, ◌||◌, not, List}
+use Rattle.std.proofs.Common.{◌≡◌, ℕ, ◌+◌, ◌-◌, ◌<◌, ◌≤◌, max, Bool, true, false, cond, eqb, ltb, ◌&&◌, ◌||◌, List}
 use Rattle.std.proofs.Common.{[], ◌∷◌, ◌++◌, length, take, drop, map, refl, sym, ap, ◌∙◌, arith, subst, append_assoc}
-use Rattle.std.proofs.Common.{append-nil, None}
-use Rattle.std.specs.Prelude.{is_none, slice_range}
-use Rattle.std.specs.List.{AllByRecursion, flat_map, list_any}
+use Rattle.std.proofs.Common.{append-nil}
+use Rattle.std.specs.Prelude.{slice_range}
+use Rattle.std.specs.List.{AllByRecursion, list_any}
 use Rattle.std.proofs.lemmas.Bool.{le-ltb, lt-ltb, ne_eqb, or_from, or_left}
 use Rattle.std.proofs.lemmas.Grind.{flat_map-append}
 use Rattle.std.proofs.lemmas.List.{drop-drop, take-append-drop, take-take, drop-take}
 use Rattle.std.proofs.lemmas.List.Folds.{drop_split}
-use Rattle.miette_basics.proofs.Cases.{by_cases}
-use Rattle.miette_fixes.specs.rules.Applying.{by_offset, put_edit, refusal, text_from}
+use Rattle.miette_fixes.specs.rules.Applying.{by_offset, put_edit, text_from}
 use Rattle.miette_fixes.specs.rules.ApplyingAll.{all_applied, all_of, conflict, counted, counted_with, counts}
-use Rattle.miette_fixes.specs.rules.ApplyingAll.{is_among, is_taken, some_conflict, taken}
+use Rattle.miette_fixes.specs.rules.ApplyingAll.{is_among, is_taken, taken}
 use Rattle.miette_fixes.specs.rules.Edits.{Proposal, Replacement, end_of, ends_behind, is_behind, overlap}
 use Rattle.miette_lint.specs.rules.Fixes.{proposal}
 

@@ -7,7 +7,7 @@ use Rattle.std.specs.Prelude.{codes, is_none, position, take_while, All}
 use Rattle.std.specs.List.{AllByRecursion, position_or_len, prefix_len}
 use Rattle.std.specs.Option.{option_and_then, option_map}
 use Rattle.std.proofs.lemmas.Bool.{cases_lt, eq-eqb, le-ltb}
-use Rattle.std.proofs.lemmas.List.{get_or-reverse, length-append, length-drop, length-reverse, reverse-append}
+use Rattle.std.proofs.lemmas.List.{get_or-reverse, length-drop, length-reverse, reverse-append}
 use Rattle.std.proofs.lemmas.List.{append-nil, take-append-drop}
 use Rattle.std.proofs.lemmas.List.Elements.{All-append, All-cons, All-drop, All-nil, All-take}
 use Rattle.std.proofs.lemmas.List.Folds.{length-prefix_len, prefix_len-append}
@@ -43,14 +43,6 @@ passes_upto p (suc n) (x ∷ xs) e =
 passes_taken : (p : ℕ → Bool) (xs : List ℕ)
     → prefix_len p (take (prefix_len p xs) xs) ≡ length (take (prefix_len p xs) xs)
 passes_taken p xs = passes_upto p (prefix_len p xs) xs refl
-
-passes_joined : (p : ℕ → Bool) (xs ys : List ℕ) → prefix_len p xs ≡ length xs → prefix_len p ys ≡ length ys
-    → prefix_len p (xs ++ ys) ≡ length (xs ++ ys)
-passes_joined p xs ys h k =
-    let e : eqb (prefix_len p xs) (length xs) ≡ true = eq-eqb (prefix_len p xs) (length xs) h in
-    let f : prefix_len p (xs ++ ys) ≡ length xs + prefix_len p ys = prefix_len-append p xs ys
-    ∙ ap (λ b. cond b (length xs + prefix_len p ys) (prefix_len p xs)) e in
-    omega (arith, f, k, length-append xs ys)
 
 -- before one that doesn't
 passes_before : (p : ℕ → Bool) (xs ys : List ℕ) → prefix_len p xs ≡ length xs → prefix_len p ys ≡ 0

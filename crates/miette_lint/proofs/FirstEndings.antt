@@ -1,12 +1,10 @@
 -- The terminator of a source's first line.
-use Rattle.std.proofs.Common.{◌≡◌, ◌<◌, ap, sym, ◌∙◌, List, ◌∷◌, [], subst, cond, true, ℕ}
+use Rattle.std.proofs.Common.{◌≡◌, ◌<◌, ap, sym, ◌∙◌, List, ◌∷◌, subst, ℕ}
 use Rattle.std.specs.Prelude.{slice_range}
 use Rattle.std.specs.List.{AllByRecursion}
-use Rattle.std.proofs.lemmas.Bool.{lt-ltb}
-use Rattle.miette_source_lines.specs.rules.Lines.{LF, Line, lines_of}
+use Rattle.miette_source_lines.specs.rules.Lines.{lines_of}
 use Rattle.miette_source_lines.specs.declared.lines.LineOfText.{LineOfText}
 use Rattle.miette_source_lines.specs.views.Walking.{Rest, IsFirst, behind, line_of_text, lines_left}
-use Rattle.miette_lint.specs.rules.Fixes.{ending_of, first_ending}
 use Rattle.miette_lint.proofs.Pieces.{IsCutOut, IsEnding, cut_outs}
 
 abbrev whole : List ℕ → Rest
@@ -20,11 +18,3 @@ first_ends source rest line is first lt =
     let all : AllByRecursion (IsCutOut source) (line_of_text line ∷ lines_left (behind rest line)) =
     subst (AllByRecursion (IsCutOut source)) there (cut_outs source) in
     all.0.ended lt
-
-pub first_is : (source : List ℕ) (rest : Rest) (line : LineOfText) → rest ≡ whole source → IsFirst rest line
-    → line.text_end < line.end → slice_range source line.text_end line.end ≡ ending_of source
-first_is source rest line is first lt =
-    let there : lines_of source ≡ line_of_text line ∷ lines_left (behind rest line) =
-    ap lines_left (sym is) ∙ first.lines in
-    sym (ap (first_ending source) there
-    ∙ ap (λ b. cond b (slice_range source line.text_end line.end) (LF ∷ [])) (lt-ltb line.text_end line.end lt))

@@ -1,5 +1,5 @@
 -- The fixed text of a source has clean lines: nothing but lines that are too wide is found in it, and it stays.
-use Rattle.std.proofs.Common.{◌≡◌, ℕ, ◌+◌, ◌-◌, ◌<◌, ◌≤◌, Bool, true, false, cond, eqb, List, [], ◌∷◌, ◌++◌, length}
+use Rattle.std.proofs.Common.{◌≡◌, ℕ, ◌+◌, ◌-◌, true, cond, eqb, List, [], ◌∷◌, ◌++◌, length}
 use Rattle.std.proofs.Common.{drop, map, Option, None, refl, sym, ap, ap₂, ◌∙◌, arith, subst, inl, append_assoc}
 use Rattle.std.proofs.Common.{append-nil}
 use Rattle.std.specs.Prelude.{codes, is_none, slice_range, take_while}
@@ -10,12 +10,12 @@ use Rattle.std.proofs.lemmas.List.{drop_all}
 use Rattle.std.proofs.lemmas.List.Folds.{drop_split}
 use Rattle.miette_basics.proofs.Cases.{by_cases}
 use Rattle.miette_source_lines.specs.rules.Lines.{IsCut, LF, Line, is_terminated, lines_of}
-use Rattle.miette_source_lines.proofs.Cuts.{cut_le, lines_cut}
+use Rattle.miette_source_lines.proofs.Cuts.{lines_cut}
 use Rattle.miette_protocol.specs.views.Meaning.{Label}
 use Rattle.miette_fixes.specs.rules.Edits.{Proposal}
 use Rattle.miette_cells.specs.rules.Cells.{Cell}
 use Rattle.miette_lint.specs.rules.Findings.{cells_of, finding, findings_of, is_blank, line_findings, misplaced_tab}
-use Rattle.miette_lint.specs.rules.Findings.{missing_terminator, overlong, tab_after_space, text_findings}
+use Rattle.miette_lint.specs.rules.Findings.{missing_terminator, overlong, text_findings}
 use Rattle.miette_lint.specs.rules.Findings.{trailing_space}
 use Rattle.miette_lint.specs.rules.Fixes.{blanks_fix, ending_fix, ending_of, first_ending, fixed_line, fixed_line_text}
 use Rattle.miette_lint.specs.rules.Fixes.{fixed_text, line_fixes, proposal, proposals_of, spaces_from, terminator_or}

@@ -2,6 +2,8 @@ pub mod AcceptedFindings
 pub mod AllTogether
 pub mod Apart
 pub mod CleanTexts
+pub mod CodedLabels
+pub mod CodedSteps
 pub mod FindingSteps
 pub mod FirstEndings
 pub mod FixedLines

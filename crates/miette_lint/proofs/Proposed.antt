@@ -1,12 +1,12 @@
 -- The text after all proposals is the fixed text.
 use Rattle.std.proofs.Common.{◌≡◌, ℕ, ◌+◌, ◌-◌, ◌<◌, ◌≤◌, Bool, true, false, cond, eqb, List, [], ◌∷◌, ◌++◌, length}
 use Rattle.std.proofs.Common.{take}
-use Rattle.std.proofs.Common.{drop, map, refl, sym, ap, ap₂, ◌∙◌, arith, subst, inl, inr, append_assoc}
+use Rattle.std.proofs.Common.{drop, map, refl, sym, ap, ◌∙◌, arith, subst, inl, inr, append_assoc}
 use Rattle.std.specs.Prelude.{codes, is_none, slice_range, take_while}
-use Rattle.std.specs.List.{flat_map, prefix_len}
+use Rattle.std.specs.List.{flat_map}
 use Rattle.std.proofs.lemmas.Bool.{eqb-true, ltb-false}
 use Rattle.std.proofs.lemmas.Bool.Decides.{nat_tests}
-use Rattle.std.proofs.lemmas.List.{drop-drop, drop-take, drop_all, length-drop, length-take, length-take-le, take-take}
+use Rattle.std.proofs.lemmas.List.{drop-drop, drop-take, drop_all, length-take-le, take-take}
 use Rattle.std.proofs.lemmas.List.{length-append}
 use Rattle.std.proofs.lemmas.List.Folds.{length-prefix_len}
 use Rattle.std.proofs.lemmas.List.Sums.{prefix_len-le-length}
@@ -21,7 +21,7 @@ use Rattle.miette_fixes.specs.rules.Applying.{text_from}
 use Rattle.miette_fixes.specs.rules.ApplyingAll.{all_applied, taken}
 use Rattle.miette_fixes.specs.rules.Edits.{Proposal}
 use Rattle.miette_lint.specs.rules.Findings.{ending_blanks, is_blank, tab_after_space}
-use Rattle.miette_lint.specs.rules.Fixes.{blanks_fix, ending_fix, ending_of, even_blanks, evened, fixed_line}
+use Rattle.miette_lint.specs.rules.Fixes.{blanks_fix, ending_fix, ending_of, even_blanks, fixed_line}
 use Rattle.miette_lint.specs.rules.Fixes.{fixed_text, line_fixes, proposal, proposals_of, spaces_from, terminator_or}
 use Rattle.miette_lint.specs.rules.Fixes.{trailing_fix, trimmed}
 use Rattle.miette_lint.proofs.Apart.{AreApart, all_are_taken, applied_apart, apart_unless, earlier, edits_in, goes_on}

@@ -74,8 +74,8 @@ fn push_words(
     push_finding(found, text, at)
 }
 
-// `trailing blanks`, where blanks end the text, which ends there
-fn push_trailing(
+/// `trailing blanks`, where blanks end the text, which ends there
+pub(crate) fn push_trailing(
     alloc: Global,
     found: &mut Vec<LabeledSpan>,
     text: &[u8],
@@ -91,8 +91,8 @@ fn push_trailing(
     push_words(alloc, found, "trailing blanks", end - blanks..end)
 }
 
-// `tab after space`, where the blanks that begin the text have one
-fn push_tab(
+/// `tab after space`, where the blanks that begin the text have one
+pub(crate) fn push_tab(
     alloc: Global,
     found: &mut Vec<LabeledSpan>,
     text: &[u8],
@@ -117,8 +117,8 @@ fn wide_text(alloc: Global, width: usize) -> Result<String, AllocError>
     Ok(text)
 }
 
-// `wider than 80 columns`, from the first character that goes past the width to the end of the line's text
-fn push_overlong(
+/// `wider than 80 columns`, from the first character that goes past the width to the end of the line's text
+pub(crate) fn push_overlong(
     alloc: Global,
     found: &mut Vec<LabeledSpan>,
     text: &[u8],
@@ -138,8 +138,8 @@ fn push_overlong(
     }
 }
 
-// `no final terminator`, on the last character of a line that has none
-fn push_unended(
+/// `no final terminator`, on the last character of a line that has none
+pub(crate) fn push_unended(
     alloc: Global,
     found: &mut Vec<LabeledSpan>,
     text: &[u8],

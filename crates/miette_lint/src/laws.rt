@@ -3,6 +3,7 @@
 ghost use Rattle.std.specs.Prelude.{◌≡◌, ℕ, List, [], None, length, map, true};
 ghost use Rattle.miette_fixes.specs.rules.Applying.{applied, refusal};
 ghost use Rattle.miette_fixes.specs.rules.ApplyingAll.{all_applied, taken};
+ghost use Rattle.miette_lint.specs.rules.Coded.{Coded, coded_findings};
 ghost use Rattle.miette_lint.specs.rules.Findings.{findings_of};
 ghost use Rattle.miette_lint.specs.rules.Fixes.{fixed_text, proposals_of, wide_lines};
 ghost use Rattle.miette_lint.specs.rules.Joint.{joint_proposal};
@@ -26,4 +27,10 @@ pub fn joint_laws()
         refusal (length source) (joint_proposal source found).edits ≡ None }
     ensures applied { (source : List ℕ) (found : ℕ) → applied source (joint_proposal source found).edits
         ≡ fixed_text source }
+{}
+
+/// Of every source: the labels of the findings with codes are the findings.
+pub fn coded_laws()
+    ensures labels { (source : List ℕ) (width : ℕ) → map (λ (it : Coded). it.label) (coded_findings source width)
+        ≡ findings_of source width }
 {}

@@ -2,6 +2,7 @@
 #![tactic(auto)]
 
 mod blanks;
+pub mod coded;
 mod endings;
 pub mod findings;
 pub mod fixed;

@@ -33,8 +33,8 @@ fn push_fix(
     Ok(())
 }
 
-// Even blanks, where those that begin the text have a tab after a space.
-fn push_blanks(
+/// Even blanks, where those that begin the text have a tab after a space.
+pub(crate) fn push_blanks(
     alloc: Global,
     fixes: &mut Vec<Fix>,
     blanks: &[u8],
@@ -58,8 +58,8 @@ fn push_blanks(
     }
 }
 
-// No blanks at the end of the text, which ends there.
-fn push_trailing(
+/// No blanks at the end of the text, which ends there.
+pub(crate) fn push_trailing(
     alloc: Global,
     fixes: &mut Vec<Fix>,
     text: &[u8],
@@ -81,8 +81,8 @@ fn push_trailing(
     )
 }
 
-// A terminator, where the line has none.
-fn push_ending(
+/// A terminator, where the line has none.
+pub(crate) fn push_ending(
     alloc: Global,
     fixes: &mut Vec<Fix>,
     line: LineOfText,

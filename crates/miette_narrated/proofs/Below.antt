@@ -9,26 +9,7 @@ use Rattle.miette_tree.proofs.Readings.{fault_free}
 use Rattle.miette_narrated.specs.rules.Fixes.{fixed_source, fixes_rows}
 use Rattle.miette_narrated.specs.rules.Report.{all_snippets, advice_rows, row_if, url_rows}
 use Rattle.miette_narrated.specs.rules.PossibleAnswers.{reads_for}
-use Rattle.miette_narrated.specs.steps.AppendedParts.{AppendsAll, AppendsFixes, AppendsAdvice, AppendsBelow}
-
-advice_joined : (old a b c new he fi co ur : List ℕ) → a ≡ old ++ he → b ≡ a ++ fi → c ≡ b ++ co → new ≡ c ++ ur
-    → new ≡ old ++ (he ++ (fi ++ (co ++ ur)))
-advice_joined old a b c new he fi co ur e f g h = h
-    ∙ ap (λ y. y ++ ur) (g ∙ ap (λ y. y ++ co) (f ∙ ap (λ y. y ++ fi) e)) ∙ simp append_assoc
-
-pub advice_told : (source : Option Source) (m : Diagnosis) (fixes : List Proposal) (help code url : Option (List ℕ))
-    (old a b c new : List ℕ) → help ≡ m.help → fixes ≡ m.fixes → code ≡ m.code → url ≡ m.url
-    → a ≡ old ++ row_if (codes "diagnostic help: ") help → AppendsFixes source fixes a b
-    → c ≡ b ++ row_if (codes "diagnostic code: ") code → new ≡ c ++ url_rows url → AppendsAdvice source m old new
-advice_told source m fixes help code url old a b c new eh ef ec eu h f k u = record {
-  fails = f.fails;
-  possible = f.possible;
-  appended = advice_joined old a b c new (row_if (codes "diagnostic help: ") m.help)
-      (fixes_rows (fixed_source source f.fails) m.fixes) (row_if (codes "diagnostic code: ") m.code) (url_rows m.url)
-      (h ∙ ap (λ x. old ++ row_if (codes "diagnostic help: ") x) eh)
-      (f.appended ∙ ap (λ x. a ++ fixes_rows (fixed_source source f.fails) x) ef)
-      (k ∙ ap (λ x. b ++ row_if (codes "diagnostic code: ") x) ec) (u ∙ ap (λ x. c ++ url_rows x) eu);
-}
+use Rattle.miette_narrated.specs.steps.AppendedParts.{AppendsAll, AppendsAdvice, AppendsBelow}
 
 pub below_told : (context : ℕ) (source : Option Source) (m : Diagnosis) (old now new : List ℕ)
     → AppendsAll context source m old now → AppendsAdvice source m now new → AppendsBelow context source m old new

@@ -18,9 +18,6 @@ use Rattle.miette_fixes.specs.declared.error.FixError.{FixError}
 use Rattle.miette_fixes.specs.declared.error.FixError.TheVariants.{OutOfBounds as OutOfRange, Memory}
 use Rattle.miette_fixes.specs.rules.Applying.{by_offset, refusal}
 use Rattle.miette_fixes.specs.rules.Edits.{Replacement, Proposal, ends_behind}
-use Rattle.miette_protocol.specs.declared.error.MietteError.{MietteError}
-use Rattle.miette_protocol.specs.declared.error.MietteError.TheVariants.{IoError, OutOfBounds}
-use Rattle.miette_protocol.specs.rules.Outcome.{Refuses}
 use Rattle.miette_protocol.specs.rules.Reading.{Source, Span, contents_of, reading_end, data_start, data_end}
 use Rattle.miette_protocol.proofs.Wholes.{end_within, start_is, end_is}
 use Rattle.miette_source_lines.specs.rules.Lines.{line_of, line_start, line_end}
@@ -28,7 +25,7 @@ use Rattle.miette_source_lines.proofs.Parts.{part_length}
 use Rattle.miette_source_lines.proofs.Places.{line_of_none, line_of_le, line_of_end, line_end_past, line_start_first}
 use Rattle.miette_tree.specs.rules.Reads.{MayMeet}
 use Rattle.miette_narrated.specs.rules.Labels.{row}
-use Rattle.miette_narrated.specs.rules.Fixes.{FixedSource, fixed_source, fixes_rows, unread, no_source, read}
+use Rattle.miette_narrated.specs.rules.Fixes.{FixedSource, fixed_source, fixes_rows, read}
 use Rattle.miette_narrated.specs.rules.Fixes.{failure_row, reason_text, edit_rows, applied_rows, rows_over, fix_rows}
 use Rattle.miette_narrated.specs.steps.AppendedParts.{AppendsFixes}
 
@@ -69,33 +66,11 @@ whole_read source most some small =
     ] in
     ap₂ (slice_range bytes) start full ∙ take_all (length bytes - 0) bytes (omega arith)
 
--- a fault
-pub fault_met : (source : Source) (e : MietteError) → Refuses source nowhere e
-    → source.always_reads ≡ false
-fault_met source OutOfBounds h = absurd (h (record { begins = omega arith; ends = omega arith }))
-fault_met source (IoError x) h = h
-
 -- ---- what is appended
 
 never_fails : (source : Option Source) → MayMeet source false
 never_fails None = refl
 never_fails (Some source) = λ t. (let no : false ≡ true = t in cc)
-
-pub no_fixes : (source : Option Source) (fixes : List Proposal) (old : List ℕ) → fixes ≡ []
-    → AppendsFixes source fixes old old
-no_fixes source fixes old e = record {
-  fails = false;
-  possible = never_fails source;
-  appended = sym (append-nil old) ∙ ap (λ x. old ++ fixes_rows (fixed_source source false) x) (sym e);
-}
-
-pub over_none : (source : Option Source) (fixes : List Proposal) (old new : List ℕ) → source ≡ None
-    → new ≡ old ++ fixes_rows no_source fixes → AppendsFixes source fixes old new
-over_none source fixes old new is e = record {
-  fails = false;
-  possible = never_fails source;
-  appended = e ∙ ap (λ o. old ++ fixes_rows (fixed_source o false) fixes) (sym is);
-}
 
 pub over_read : (source : Option Source) (s : Source) (bytes : List ℕ) (fixes : List Proposal) (old new : List ℕ)
     → source ≡ Some s → bytes ≡ s.bytes → new ≡ old ++ fixes_rows (read bytes) fixes
@@ -105,15 +80,6 @@ over_read source s bytes fixes old new is whole e = record {
   possible = never_fails source;
   appended = e ∙ ap (λ bs. old ++ fixes_rows (read bs) fixes) whole
       ∙ ap (λ o. old ++ fixes_rows (fixed_source o false) fixes) (sym is);
-}
-
-pub over_unread : (source : Option Source) (s : Source) (fixes : List Proposal) (old new : List ℕ)
-    → source ≡ Some s → s.always_reads ≡ false → new ≡ old ++ fixes_rows unread fixes
-    → AppendsFixes source fixes old new
-over_unread source s fixes old new is fault e = record {
-  fails = true;
-  possible = subst (λ o. MayMeet o true) (sym is) (λ t. fault);
-  appended = e ∙ ap (λ o. old ++ fixes_rows (fixed_source o true) fixes) (sym is);
 }
 
 -- ---- a text as a string of JSON

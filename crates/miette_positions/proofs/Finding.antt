@@ -7,14 +7,9 @@ use Rattle.miette_positions.specs.declared.marked.Target.TheVariants.{ToOffset, 
 use Rattle.miette_positions.specs.declared.place.PositionEncoding.{PositionEncoding}
 use Rattle.miette_positions.specs.declared.place.Stop.{Stop}
 use Rattle.miette_positions.specs.rules.Regions.{first_stop, last_stop}
-use Rattle.miette_positions.specs.rules.Stops.{start, stops_from}
+use Rattle.miette_positions.specs.rules.Stops.{stops_from}
 use Rattle.miette_positions.specs.steps.Marks.{IsMark, IsWithin, is_reached}
 use Rattle.miette_positions.proofs.Stepping.{Later}
-
--- ---- one step
-
-pub last_none : (test : Stop → Bool) (s : Stop) (ss : List Stop) → ss ≡ [] → last_stop test s ss ≡ s
-last_none test s ss e = ap (last_stop test s) e
 
 pub last_on : (test : Stop → Bool) (s t : Stop) (ss ts : List Stop) → ss ≡ t ∷ ts → test t ≡ true →
     last_stop test s ss ≡ last_stop test t ts
@@ -24,9 +19,6 @@ pub last_here : (test : Stop → Bool) (s t : Stop) (ss ts : List Stop) → ss �
     last_stop test s ss ≡ s
 last_here test s t ss ts e h = ap (last_stop test s) e ∙ rw h refl
 
-pub first_none : (test : Stop → Bool) (s : Stop) (ss : List Stop) → ss ≡ [] → first_stop test s ss ≡ s
-first_none test s ss e = ap (first_stop test s) e
-
 pub first_on : (test : Stop → Bool) (s t : Stop) (ss ts : List Stop) → ss ≡ t ∷ ts → test s ≡ false →
     first_stop test s ss ≡ first_stop test t ts
 first_on test s t ss ts e h = ap (first_stop test s) e ∙ rw h refl
@@ -34,23 +26,6 @@ first_on test s t ss ts e h = ap (first_stop test s) e ∙ rw h refl
 pub first_here : (test : Stop → Bool) (s : Stop) (ss : List Stop) → test s ≡ true → first_stop test s ss ≡ s
 first_here test s [] h = refl
 first_here test s (t ∷ ts) h = rw h refl
-
--- ---- marks
-
-pub start_reached : (target : Target) → is_reached target start ≡ true
-start_reached (ToOffset at) = grind (arith, nat_tests)
-start_reached (ToPosition p) = tested p.line p.column
-  where
-    tested : (l c : ℕ) → (ltb 0 l || (eqb 0 l && leb 0 c)) ≡ true
-    tested l c = grind (arith, nat_tests)
-
-pub mark_start : (e : PositionEncoding) (source : List ℕ) → IsMark e source start
-mark_start e source =
-    record {
-      within = record { offset = omega arith; line = omega arith; column = omega arith };
-      last = λ target h. refl;
-      first = λ at h. refl;
-    }
 
 reached_before : (target : Target) (m n : Stop) → Later m n → is_reached target n ≡ true →
     is_reached target m ≡ true

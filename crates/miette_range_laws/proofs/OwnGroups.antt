@@ -13,7 +13,7 @@ use Rattle.miette_labels.specs.rules.Contexts.{contents, lines_of_contents}
 use Rattle.miette_snippet_rules.specs.rules.Folds.{Spread}
 use Rattle.miette_snippet_rules.specs.rules.Frames.{width_of_lines}
 use Rattle.miette_labels.specs.rules.Groups as G
-use Rattle.miette_labels.specs.rules.Groups.{in_order, put_label, stretch, put_span, by_begin, stretches_from}
+use Rattle.miette_labels.specs.rules.Groups.{stretch, by_begin, stretches_from}
 use Rattle.miette_labels.specs.rules.Groups.{joined_stretches, own_groups}
 use Rattle.miette_snippet_rules.specs.rules.Gutters.{gutter_columns}
 use Rattle.miette_labels.specs.rules.Labels.{DrawnLabel}

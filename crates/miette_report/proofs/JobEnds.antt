@@ -1,5 +1,5 @@
 -- Why `job` and `bench` end, and with which status.
-use Rattle.std.proofs.Common.{◌≡◌, ◌⊎◌, ◌↔◌, IsTrue, true, false, inl, inr, ℕ, ◌<◌, List, ◌∷◌, length, Option, Some}
+use Rattle.std.proofs.Common.{◌≡◌, ◌⊎◌, ◌↔◌, IsTrue, true, false, inl, inr, ℕ, ◌<◌, List, length, Option, Some}
 use Rattle.std.proofs.Common.{None, IfSome, refl, sym, ap, ◌∙◌, subst, arith, ◌++◌, Bool, Result, Ok, Err, OnOk}
 use Rattle.std.proofs.Common.{codes, decimal}
 use Rattle.std.proofs.lemmas.Result.{on_ok_weaker}
@@ -10,7 +10,6 @@ use Rattle.miette_report.specs.rules.Job.{IsDescription, IsNoDescription, IsRefu
 use Rattle.miette_report.specs.rules.JobCalls.{AreBenchWords, CallMeasures, CallWrites, IsJobEnd, IsJobStatus}
 use Rattle.miette_report.specs.rules.JobCalls.{IsNoBenchCall, Measures}
 use Rattle.miette_report.specs.rules.OptionWords.{asked_by, request_of, AreWanted}
-use Rattle.miette_report.specs.rules.Words.{IsReadAs}
 use Rattle.miette_report.specs.declared.fault.Fault.{Fault}
 use Rattle.miette_report.specs.declared.fault.Fault.TheVariants.{Usage, Memory, Description, Refused}
 use Rattle.miette_report.specs.declared.language.LanguageHighlighter.{LanguageHighlighter}
@@ -153,28 +152,3 @@ pub measured : (is_blank : LanguageHighlighter → Bool) (c : Choice) (o : Optio
 measured is_blank c o t told bytes slice text sent times n P read same zero some made sent_is h =
     told-of told bytes slice (λ b. Measures times (Writes is_blank c o t b) P) read same
     (n, zero, some, subst P (sent_is ∙ made) h)
-
--- ---- the words of `bench`
-
-heads : (x y : List ℕ) (xs ys : List (List ℕ)) → x ∷ xs ≡ y ∷ ys → x ≡ y
-heads x y xs ys e = cc
-
-tails : (x y : List ℕ) (xs ys : List (List ℕ)) → x ∷ xs ≡ y ∷ ys → xs ≡ ys
-tails x y xs ys e = cc
-
--- one that is no number
-pub no-times : (words : List (List ℕ)) (first : List ℕ) (rest : List (List ℕ)) → words ≡ first ∷ rest
-    → IsReadAs first None → IsNoBenchCall words
-no-times words first rest is none = λ times options are.
-    let same : first ≡ are.times_word = heads first are.times_word rest options (sym is ∙ are.are) in
-    absurd (omega (arith, subst (λ w. IsReadAs w None) same none are.times_is.0, are.times_is.1))
-
--- words after it that ask for nothing
-pub no-options : (words : List (List ℕ)) (first : List ℕ) (rest : List (List ℕ)) → words ≡ first ∷ rest
-    → asked_by rest ≡ None → IsNoBenchCall words
-no-options words first rest is none = λ times options are.
-    subst (λ ws. asked_by ws ≡ None) (tails first are.times_word rest options (sym is ∙ are.are)) none
-
-pub no-words : (words : List (List ℕ)) → length words ≡ 0 → IsNoBenchCall words
-no-words words none = λ times options are.
-    absurd (omega (arith, none, ap (λ (ws : List (List ℕ)). length ws) are.are))

@@ -38,18 +38,6 @@ fixes_begun None input text bytes P read is same p = tt
 fixes_begun (Some bs) input text bytes P read is same p =
     subst (λ i. P (fixed_text i)) read (subst P (same ∙ is) p)
 
--- a fact that follows, and whether it is clean by another name
-pub fixes_weaker : (name : List ℕ) (width : ℕ) (all : Option (List ℕ)) (clean known : Bool)
-    (P Q : List ℕ → List ℕ → Type 0) → clean ≡ known → ((t l : List ℕ) → P t l → Q t l)
-    → IfSome all (λ bs. LintFixes name width bs clean P) → IfSome all (λ bs. LintFixes name width bs known Q)
-fixes_weaker name width None clean known P Q e weaker h = tt
-fixes_weaker name width (Some bs) clean known P Q e weaker h = (
-  h.0,
-  subst (λ (c : Bool). IsClean (findings_of (fixed_text bs) width) c) e h.1,
-  h.2,
-  weaker (fixed_text bs) h.0 h.3,
-)
-
 pub fixes_clean : (name : List ℕ) (width : ℕ) (all : Option (List ℕ)) (clean : Bool) (Q : List ℕ → List ℕ → Type 0)
     → IfSome all (λ bs. (left : List ℕ) × IsClean (findings_of (fixed_text bs) width) clean
     × IsLinted false name width (fixed_text bs) (findings_of (fixed_text bs) width) left × Q bs left)

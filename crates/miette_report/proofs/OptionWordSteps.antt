@@ -105,7 +105,3 @@ pub all_done : {Z : Type 0} (rest : List (String Z)) (r : JobRequest) → true �
     → with_words (map string_bytes rest) r ≡ Some r
 all_done [] r h = refl
 all_done (x ∷ xs) r h = absurd (omega (arith, eqb-true (length (x ∷ xs)) 0 (sym h)))
-
-pub some_left : {Z : Type 0} (rest : List (String Z)) → false ≡ (length rest == 0) → 0 < length (map string_bytes rest)
-some_left [] h = let k : false ≡ true = h in absurd (cc)
-some_left (x ∷ xs) h = omega arith

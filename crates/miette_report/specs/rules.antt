@@ -3,6 +3,7 @@ pub mod Words
 pub mod LanguageRules
 pub mod OptionWords
 pub mod Job
+pub mod Logs
 pub mod JobCalls
 pub mod Faults
 pub mod Fixing

@@ -99,7 +99,10 @@ impl Program {
             Program::Draw => ("draw", "NAME OFFSET LENGTH LABEL MESSAGE"),
             Program::Job => ("job", "[OPTIONS]"),
             Program::Bench => ("bench", "N [OPTIONS]"),
-            Program::Lint => ("lint", "[--brief | --fix | --diff] NAME WIDTH"),
+            Program::Lint => (
+                "lint",
+                "[--brief | --fix | --diff | --sarif [--tool TOOL]] NAME WIDTH",
+            ),
             Program::Show => ("show", "[--from rustc] [--root DIR] [OPTIONS]"),
         }
     }

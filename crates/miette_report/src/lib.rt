@@ -15,9 +15,11 @@ pub mod laws;
 pub mod lint;
 pub mod lint_diff;
 pub mod lint_fix;
+pub mod lint_sarif;
 mod option_words;
 mod picture;
 mod pipeline;
+pub mod sarif;
 pub mod whole;
 pub mod words;
 

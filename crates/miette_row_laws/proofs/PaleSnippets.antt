@@ -1,25 +1,25 @@
 -- The rows of snippets in their styles, and the same rows in plain ones: frames, lines and whole snippets.
 use Rattle.std.proofs.Common.{◌≡◌, ℕ, ◌+◌, ◌-◌, Bool, true, false, ◌&&◌, ◌||◌, not, if◌then◌else◌, List, [], ◌∷◌, ◌++◌}
-use Rattle.std.proofs.Common.{map, length, replicate, decimal, codes, chars, Option, Some, None, IfSome, option_map}
+use Rattle.std.proofs.Common.{map, length, replicate, decimal, codes, chars, Option, Some, None, IfSome}
 use Rattle.std.proofs.Common.{refl, sym, ap, ap₂, ◌∙◌, subst, drop}
 use Rattle.std.specs.Prelude.{nat_lt, slice_range}
 use Rattle.std.specs.List.{AllByRecursion}
 use Rattle.miette_source_lines.specs.rules.Lines.{Line}
 use Rattle.miette_protocol.specs.views.Meaning.{Label}
 use Rattle.miette_protocol.specs.rules.Reading.{Span, Source, Contents, is_accepted}
-use Rattle.miette_labels.specs.rules.Answers.{Answers, Highlight, next_answer, first_of}
+use Rattle.miette_labels.specs.rules.Answers.{Highlight, next_answer, first_of}
 use Rattle.miette_snippet_rules.specs.rules.CutLines.{cut_line, shown_marks, shown_runs}
 use Rattle.miette_cells.specs.rules.Cells.{Cell, characters}
-use Rattle.miette_row_laws.specs.laws.Clean.{IsClean, IsCleanText, IsCleanRow, IsCleanLabel, IsCleanSource}
+use Rattle.miette_row_laws.specs.laws.Clean.{IsClean, IsCleanText, IsCleanLabel, IsCleanSource}
 use Rattle.miette_row_laws.specs.laws.Clean.{AreCleanDrawings}
 use Rattle.miette_labels.specs.rules.Contexts.{contents, lines_of_contents}
 use Rattle.miette_snippet_rules.specs.rules.Drawing.{marked_rows}
-use Rattle.miette_row_laws.specs.laws.Fading.{AreAllPlain, ArePlain, IsPlainRow, restyled, unhighlighted_answer}
-use Rattle.miette_snippet_rules.specs.rules.Folds.{Spread, spreads_of}
+use Rattle.miette_row_laws.specs.laws.Fading.{AreAllPlain, restyled}
+use Rattle.miette_snippet_rules.specs.rules.Folds.{Spread}
 use Rattle.miette_snippet_rules.specs.rules.Frames.{Place, text_or_none, refused_row, number_start}
 use Rattle.miette_snippet_rules.specs.rules.Frames.{other_start, break_start, place_text, location, location_of}
 use Rattle.miette_snippet_rules.specs.rules.Frames.{top_row_of, bottom_row, number_width}
-use Rattle.miette_labels.specs.rules.Groups.{Refusal, refusal, in_order, groups_of, some_fails, groups_fail}
+use Rattle.miette_labels.specs.rules.Groups.{Refusal, refusal}
 use Rattle.miette_snippet_rules.specs.rules.Gutters.{number_gutter, other_gutter, break_gutter, closing_rows}
 use Rattle.miette_snippet_rules.specs.rules.Gutters.{gutter_columns}
 use Rattle.miette_labels.specs.rules.Labels.{DrawnLabel, some_shows_end, one_line, multi_line, closing_labels}
@@ -27,14 +27,13 @@ use Rattle.miette_labels.specs.rules.Labels.{is_one_line, is_multi_line, ends_on
 use Rattle.miette_snippet_rules.specs.rules.SnippetLayout.{text_of_cells, cells_of, before_each, line_rows_of}
 use Rattle.miette_snippet_rules.specs.rules.SnippetLayout.{line_rows, break_row, line_or_break, rows_of_lines, left_out}
 use Rattle.miette_snippet_rules.specs.rules.SnippetLayout.{body_rows, place_of, drawn_labels, snippet, all_snippets}
-use Rattle.miette_snippet_rules.specs.rules.SnippetLayout.{settings_around, rows_unless, snippet_rows, line_cut}
+use Rattle.miette_snippet_rules.specs.rules.SnippetLayout.{line_cut}
 use Rattle.miette_snippet_rules.specs.rules.Marks.{marks}
-use Rattle.miette_page.specs.rules.Rows.{Run, Row, glyphs_of, plain_run}
+use Rattle.miette_page.specs.rules.Rows.{Run, Row, plain_run}
 use Rattle.miette_style.specs.declared.style.Style.{Style}
 use Rattle.miette_style.specs.rules.Styles.{plain}
-use Rattle.miette_style.specs.rules.Themes.{Styles}
 use Rattle.miette_row_laws.proofs.Bleaching.{filter_bleached, all_filter, marks_bleached, marks_clean}
-use Rattle.miette_row_laws.proofs.Bleaching.{gutter_bleached, drawn_bleached, drawn_clean, ordered_clean}
+use Rattle.miette_row_laws.proofs.Bleaching.{gutter_bleached, drawn_bleached, drawn_clean}
 use Rattle.miette_row_laws.proofs.CleanTexts.{AreCleanCells, clean_cons, clean_append, clean_replicate, clean_if}
 use Rattle.miette_row_laws.proofs.CleanTexts.{clean_range, clean_decimal, clean_characters, clean_cells}
 use Rattle.miette_row_laws.proofs.Paling.{bleached, HasCleanParts, PaleRow, PaleRows, pale_nil, pale_cons}
@@ -43,7 +42,7 @@ use Rattle.miette_row_laws.proofs.Paling.{pale_blank, pale_number_gutter, pale_o
 use Rattle.miette_row_laws.proofs.Paling.{pale_closing_rows, pale_marked, all_append, bleached_mark}
 use Rattle.miette_row_laws.proofs.CutFading.{cut_bleached, cut_clean, pale_shown, shown_bleached, shown_clean}
 use Rattle.miette_row_laws.proofs.Flat.{before_pieces}
-use Rattle.miette_row_laws.proofs.PlainStyles.{faded_styles, are_faded}
+use Rattle.miette_row_laws.proofs.PlainStyles.{faded_styles}
 use Rattle.miette_snippet_rules.specs.rules.SnippetLayout.{snippet_context, line_in, line_shown}
 use Rattle.miette_snippet_rules.specs.rules.Settings.{SnippetSettings}
 

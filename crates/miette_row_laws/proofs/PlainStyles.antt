@@ -1,5 +1,5 @@
 -- Plain styles.
-use Rattle.std.proofs.Common.{◌≡◌, ℕ, zero, suc, ◌%◌, length, List, [], ◌∷◌, refl, ap, ap₂, ◌∙◌}
+use Rattle.std.proofs.Common.{◌≡◌, ℕ, zero, suc, ◌%◌, length, List, [], ◌∷◌, refl, ap₂, ◌∙◌}
 use Rattle.std.specs.Prelude.{slice_index_or}
 use Rattle.miette_labels.specs.rules.Labels.{style_at}
 use Rattle.miette_style.specs.declared.style.Style.{Style}

@@ -7,7 +7,7 @@ use Rattle.miette_protocol.specs.rules.Reading.{Source}
 use Rattle.miette_tree.specs.rules.Answers.{and_more, listed, no_more, unlisted}
 use Rattle.miette_tree.specs.rules.Diagnosis.{Diagnosis, Section}
 use Rattle.miette_tree.specs.rules.Reads.{MayMeet}
-use Rattle.miette_tree.specs.rules.Tree.{Cause, diagnostic, texts, Tree, tree, Trees, more_trees, no_trees}
+use Rattle.miette_tree.specs.rules.Tree.{Cause, diagnostic, texts, Tree, tree, Trees, trees, more_trees, no_trees}
 use Rattle.miette_tree.specs.rules.Tree.{cause_of, head, related_of, source_of}
 use Rattle.miette_sarif.specs.rules.Findings.{Finding, SeenSource}
 use Rattle.miette_sarif.specs.rules.Gathered.{all_findings, cause_marks, cause_proposals, cause_refused, finding}
@@ -17,7 +17,7 @@ use Rattle.miette_sarif.specs.rules.Proposals.{proposals, refused}
 use Rattle.miette_sarif.specs.rules.Seen.{count_all, count_causes, count_in, count_own, seen, seen_or}
 use Rattle.miette_sarif.specs.rules.SourceAnswers.{AllAnswers, AreOfCauses, Faults, RelatedSourceAnswers}
 use Rattle.miette_sarif.specs.rules.SourceAnswers.{SourceFaults}
-use Rattle.miette_sarif.specs.steps.Gathering.{Adds, AddsAll, AddsCauses, AddsOver, Found, IsFound, Kept}
+use Rattle.miette_sarif.specs.steps.Gathering.{Adds, AddsAll, AddsCause, AddsCauses, AddsOver, Found, IsFound, Kept}
 use Rattle.miette_sarif.specs.steps.Sees.{Sees, SeesFurther, SeesOwn, seen_first}
 use Rattle.miette_sarif.proofs.Reading.{own_first}
 
@@ -130,19 +130,28 @@ cause_added over n all m s c r k old now new fault possible so_far h =
       counted = omega (arith, so_far.counted);
     }
 
-pub one_cause : (over it here : Option SeenSource) (n : ℕ) (all : Cause) (t : Tree) (k mid next : ℕ) (old now new : Kept)
-    → CausesSoFar over n all (diagnostic t) k old now → here ≡ seen_first it over → SeesOwn k (source_of t) it
-    → mid ≡ k + count_own (source_of t) → AddsOver here mid (head t) now new → next ≡ mid + length (head t).snippets
+-- a cause over its own source as it was seen, else over this one
+pub cause_over : (over it here : Option SeenSource) (t : Tree) (n mid : ℕ) (old new : Kept)
+    → here ≡ seen_first it over → SeesOwn n (source_of t) it → mid ≡ n + count_own (source_of t)
+    → AddsOver here mid (head t) old new → AddsCause over n t old new
+cause_over over it here t n mid old new is o e h =
+    let same : here ≡ seen_or o.fault n (source_of t) over =
+    is ∙ ap (λ x. seen_first x over) o.is ∙ own_first o.fault n (source_of t) over in
+    record {
+      fault = o.fault;
+      possible = o.possible;
+      added = subst (λ x. AddsOver x (n + count_own (source_of t)) (head t) old new) same
+          (subst (λ x. AddsOver here x (head t) old new) e h);
+    }
+
+pub one_cause : (over : Option SeenSource) (n : ℕ) (all : Cause) (t : Tree) (k next : ℕ) (old now new : Kept)
+    → CausesSoFar over n all (diagnostic t) k old now → AddsCause over k t now new
+    → next ≡ k + count_own (source_of t) + length (head t).snippets
     → CausesSoFar over n all (cause_of t) next old new
-one_cause over it here n all (tree m s c r) k mid next old now new so_far is o e h f =
-    let same : here ≡ seen_or o.fault k s over =
-    is ∙ ap (λ x. seen_first x over) o.is ∙ own_first o.fault k s over in
-    let added : AddsOver (seen_or o.fault k s over) (k + count_own s) m now new =
-    subst (λ x. AddsOver x (k + count_own s) m now new) same
-    (subst (λ x. AddsOver here x m now new) e h) in
-    let place : k + (count_own s + length m.snippets) ≡ next = omega (arith, e, f) in
+one_cause over n all (tree m s c r) k next old now new so_far h e =
+    let place : k + (count_own s + length m.snippets) ≡ next = omega (arith, e) in
     subst (λ x. CausesSoFar over n all c x old new) place
-    (cause_added over n all m s c r k old now new o.fault o.possible so_far added)
+    (cause_added over n all m s c r k old now new h.fault h.possible so_far h.added)
 
 pub all_causes : (over : Option SeenSource) (n : ℕ) (all left : Cause) (ts : List (List ℕ)) (k : ℕ) (old now : Kept)
     → texts ts ≡ left → CausesSoFar over n all left k old now
@@ -240,4 +249,14 @@ all_found ts old new e f h = record {
   answers = h.answers;
   possible = h.possible;
   are = h.added ∙ ap₂ (λ l n. l ++ all_findings n None h.answers ts) e f;
+}
+
+-- those of one report
+pub one_found : (t : Tree) (old new : Found) → old.findings ≡ [] → old.sources ≡ 0 → Adds None t old new
+    → AreFindingsOf (trees (t ∷ [])) new.findings
+one_found t old new e f h = record {
+  answers = and_more h.answers no_more;
+  possible = (h.possible, tt);
+  are = h.added ∙ ap₂ (λ l n. l ++ findings n None h.answers t) e f
+      ∙ sym (append-nil (findings 0 None h.answers t));
 }

@@ -1,6 +1,6 @@
 //! Findings of reports: of each one and of each that is related to it, depth first.
 
-ghost use Rattle.std.specs.Prelude.{◌≡◌, ◌+◌, ◌++◌, IfOk, OnOk, length, map, string_bytes};
+ghost use Rattle.std.specs.Prelude.{◌≡◌, ◌+◌, ◌++◌, ◌∷◌, [], IfOk, OnOk, length, map, string_bytes};
 ghost use Rattle.std.specs.Option.{option_map};
 ghost use Rattle.miette_tree.specs.rules.Tree.{cause_of, causes_of, head, source_of, trees};
 ghost use Rattle.miette_tree.specs.views.Attached.{section_of};
@@ -10,7 +10,8 @@ ghost use Rattle.miette_sarif.specs.rules.Gathered.{AreFindingsOf, level};
 ghost use Rattle.miette_sarif.specs.rules.Marks.{groups_of};
 ghost use Rattle.miette_sarif.specs.rules.Proposals.{proposal_over};
 ghost use Rattle.miette_sarif.specs.rules.Seen.{count_causes, count_own};
-ghost use Rattle.miette_sarif.specs.steps.Gathering.{Adds, AddsAll, AddsCauses, AddsOver, IsFound, told, with_fix, with_fixes};
+ghost use Rattle.miette_sarif.specs.steps.Gathering.{Adds, AddsAll, AddsCause, AddsCauses, AddsOver, IsFound, told};
+ghost use Rattle.miette_sarif.specs.steps.Gathering.{with_fix, with_fixes};
 ghost use Rattle.miette_sarif.specs.steps.Sees.{Sees, SeesFurther, SeesOwn, seen_first};
 ghost use Rattle.miette_sarif.specs.views.Collected.{collected_of, gathered_of, told_of};
 ghost use Rattle.miette_sarif.specs.views.Found.{finding_of, findings_of};
@@ -261,6 +262,25 @@ fn push_cause<'a, D: Diagnostic, S: SourceCode>(
     push_fixes(alloc, collected, cause.fixes(), seen)
 }
 
+// Adds those of a cause over its own source, or else over this one.
+fn push_own_cause<'a, D: Diagnostic, S: SourceCode>(
+    alloc: Global,
+    cause: &'a Report<D, S>,
+    seen: Option<&Seen<'a>>,
+    sources: &mut usize,
+    collected: &mut Collected<'a>,
+) -> Result<(), AllocError>
+    ensures added { OnOk result (AddsCause (over_of seen.entry) sources.old (tree_of D.meaning S.source cause.now)
+        (collected_of collected.old) (collected_of collected.new)) }
+    ensures counted { OnOk result (sources.new ≡ sources.old
+        + count_own (source_of (tree_of D.meaning S.source cause.now))
+        + length (head (tree_of D.meaning S.source cause.now)).snippets) }
+{
+    let own = see_own(alloc, sources, cause)?;
+    let over = own_or(&own, seen);
+    push_cause(alloc, cause, over, sources, collected)
+}
+
 // Adds those of the causes of a report over a source, each over its own or else over this one.
 fn push_causes<'a, D: Diagnostic, S: SourceCode>(
     alloc: Global,
@@ -277,9 +297,7 @@ fn push_causes<'a, D: Diagnostic, S: SourceCode>(
 {
     let mut at = report;
     while let Cause::Diagnostic(cause) = at.cause() {
-        let own = see_own(alloc, sources, cause)?;
-        let over = own_or(&own, seen);
-        push_cause(alloc, cause, over, sources, collected)?;
+        push_own_cause(alloc, cause, seen, sources, collected)?;
         at = cause;
     }
     Ok(())
@@ -373,5 +391,21 @@ pub(crate) fn findings_of<'a, D: Diagnostic, S: SourceCode>(
         sources: 0,
     };
     gather_all(alloc, reports, None, &mut gathered)?;
+    Ok(gathered.findings)
+}
+
+/// The findings of one report.
+pub(crate) fn findings_in<'a, D: Diagnostic, S: SourceCode>(
+    alloc: Global,
+    report: &'a Report<D, S>,
+) -> Result<Vec<Finding<'a>>, AllocError>
+    ensures { IfOk result (λ list. AreFindingsOf (trees (tree_of D.meaning S.source report.now ∷ []))
+        (findings_of list.items)) }
+{
+    let mut gathered = Gathered {
+        findings: Vec::new(alloc),
+        sources: 0,
+    };
+    gather(alloc, report, None, &mut gathered)?;
     Ok(gathered.findings)
 }

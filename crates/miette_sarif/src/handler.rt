@@ -2,14 +2,17 @@
 
 ghost use Rattle.std.specs.Prelude.{◌≡◌, ◌++◌, ◌∷◌, [], None, Some, IfOk, OnOk, OnErr, map, string_bytes};
 ghost use Rattle.miette_tree.specs.rules.Reads.{AllAlwaysRead};
-ghost use Rattle.miette_tree.specs.rules.Tree.{trees};
+ghost use Rattle.miette_tree.specs.rules.Tree.{Trees, trees};
 ghost use Rattle.miette_tree.specs.views.Handler.{AppendsOne};
 ghost use Rattle.miette_tree.specs.views.Report.{tree_of};
+ghost use Rattle.miette_sarif.specs.rules.Gathered.{AreFindingsOf};
 ghost use Rattle.miette_sarif.specs.rules.LogText.{IsLogOf, log_text};
+ghost use Rattle.miette_sarif.specs.views.Found.{findings_of};
 ghost use Rattle.miette_sarif.specs.views.Handled.{tool_in};
 ghost use Rattle.miette_sarif.specs.views.Tool.{tool_view};
 
-use crate::gather::findings_of;
+use crate::finding::Finding;
+use crate::gather::{findings_in, findings_of};
 use crate::log::{Tool, log_value};
 use crate::write::push_value;
 use miette_json::laws;
@@ -17,6 +20,7 @@ use miette_protocol::error::RenderError;
 use miette_protocol::protocol::Diagnostic;
 use miette_protocol::source::SourceCode;
 use miette_tree::report::Report;
+use miette_tree::text_handler::TextHandler;
 use std::alloc::{AllocError, Global};
 use std::slice;
 
@@ -127,6 +131,23 @@ impl SarifReportHandler {
     }
 }
 
+/// One report's log: the handler is a `ReportHandler` too.
+impl TextHandler for SarifReportHandler {
+    ghost texts = { λ it tree. IsLogOf (tool_in it) (trees (tree ∷ [])) };
+
+    ghost refusals = { λ _ _. ⊥ };
+
+    fn text_of<D: Diagnostic, S: SourceCode>(
+        &self,
+        alloc: Global,
+        report: &Report<D, S>,
+    ) -> Result<String, RenderError> {
+        let findings = findings_in(alloc, report)?;
+        let text = spelled_log(alloc, &self.told(), findings)?;
+        Ok(text)
+    }
+}
+
 // The text of the log of reports.
 fn log_of<D: Diagnostic, S: SourceCode>(
     alloc: Global,
@@ -136,9 +157,21 @@ fn log_of<D: Diagnostic, S: SourceCode>(
     ensures { IfOk result (λ text. IsLogOf (tool_view tool.now) (trees (map (tree_of D.meaning S.source) reports.now))
         (string_bytes text)) }
 {
+    let findings = findings_of(alloc, reports)?;
+    spelled_log(alloc, tool, findings)
+}
+
+// The text of the log of findings.
+fn spelled_log(
+    alloc: Global,
+    tool: &Tool<'_>,
+    findings: Vec<Finding<'_>>,
+) -> Result<String, AllocError>
+    ensures { IfOk result (λ text. (ts : Trees) → AreFindingsOf ts (findings_of findings.entry.items)
+        → IsLogOf (tool_view tool.now) ts (string_bytes text)) }
+{
     laws::the_spelling_denotes_its_value();
     laws::a_text_denotes_one_value();
-    let findings = findings_of(alloc, reports)?;
     let value = log_value(alloc, tool, &findings)?;
     let mut text = String::new(alloc);
     push_value(&mut text, &value)?;

@@ -16,4 +16,5 @@ mod seen;
 mod uri;
 mod value;
 mod whole;
+pub mod worked;
 mod write;

@@ -3,7 +3,7 @@ use Rattle.std.proofs.Common.{◌≡◌, ℕ, zero, suc, ◌+◌, ◌-◌, ◌<�
 use Rattle.std.proofs.Common.{List, [], ◌∷◌, flat_map, length, take, drop, get_or, refl, sym, ap, ap₂, ◌∙◌}
 use Rattle.std.proofs.Common.{if◌then◌else◌, arith, length-drop, drop-drop}
 use Rattle.std.proofs.lemmas.Bool.Decides.{nat_tests}
-use Rattle.std.proofs.lemmas.List.{drop-take, length-map, length-take, take-take}
+use Rattle.std.proofs.lemmas.List.{drop_all, drop-take, drop_more, length-map, length-take, take-take}
 use Rattle.std.specs.Option.{is_some}
 use Rattle.miette_line_breaks.specs.declared.state.State.{State}
 use Rattle.miette_line_breaks.specs.views.Places.{behind, found_before}
@@ -16,9 +16,10 @@ use Rattle.miette_text.specs.views.Breaks.{is_done, left_in, never, parts_behind
 use Rattle.miette_text.specs.views.Breaks.{words_in}
 use Rattle.miette_text.proofs.BreakWords.{bare-columns, behind-taken, first-words, part-some, parted, word-last}
 use Rattle.miette_text.proofs.BreakWords.{word-more}
-use Rattle.miette_text.proofs.FirstRow.{take-codes}
+use Rattle.miette_text.proofs.FirstRow.{behind-last, take-codes}
 use Rattle.miette_text.proofs.InterleavedCells.{bare-codes}
 use Rattle.miette_text.proofs.Parting.{drop-codes}
+use Rattle.miette_text.proofs.Passing.{state-more}
 
 -- ---- the loop over the codes of a word
 
@@ -32,6 +33,11 @@ piece-goes s t joined next i c cs d e f g =
     ∙ (let z : i + suc more ≡ (i + 1) + more = omega arith in z)
     ∙ ap₂ (λ s k. (i + 1) + piece_len s k (drop (i + 1) cs)) (sym f) (sym g)
 
+-- behind so many printable codes: what is left of the word, whose first code begins no word behind a hyphen
+pub record Walked (start s : State) (i : ℕ) (cs : List ℕ) : Type 0 where
+  pub len : piece_len start true cs ≡ i + piece_len s (is_hyphen (code_behind 0 i cs)) (drop i cs)
+  pub state : s ≡ state_at start i cs
+
 state-suc : (s : State) (i c : ℕ) (cs : List ℕ) → drop i cs ≡ c ∷ drop (suc i) cs → state_at s (suc i) cs
     ≡ behind (state_at s i cs) c
 state-suc s zero c [] h = absurd (cc)
@@ -44,6 +50,61 @@ pub state-goes : (s t : State) (i c : ℕ) (cs : List ℕ) → drop i cs ≡ c �
 state-goes s t i c cs d e =
     let k : i + 1 ≡ suc i = omega arith in
     e ∙ sym (state-suc s i c cs (d ∙ ap (λ j. c ∷ drop j cs) k)) ∙ ap (λ j. state_at s j cs) (sym k)
+
+-- ---- the same for printable ones
+
+pub walked-first : (start s : State) (c : ℕ) (cs : List ℕ) → s ≡ behind start c → Walked start s 1 (c ∷ cs)
+walked-first start s c cs e = record {
+  len = (let more = piece_len (behind start c) (is_hyphen c) cs in
+      let z : suc more ≡ 1 + more = omega arith in z)
+      ∙ ap (λ t. 1 + piece_len t (is_hyphen c) cs) (sym e);
+  state = e;
+}
+
+behind-next : (i c : ℕ) (cs : List ℕ) → c ≡ get_or cs i c → i < length cs → c ≡ code_behind 0 (i + 1) cs
+behind-next i c cs e l = e ∙ ap (λ j. get_or cs j c) (omega arith)
+    ∙ behind-last 0 (i + 1) c cs (omega arith) (omega (arith, l))
+
+pub walked-next : (start s t : State) (i c : ℕ) (cs : List ℕ) → Walked start s i cs → c ≡ get_or cs i c →
+    i < length cs → (not (is_hyphen (code_behind 0 i cs)) && is_some (found_before s c)) ≡ false → t ≡ behind s c →
+    Walked start t (i + 1) cs
+walked-next start s t i c cs w e l f g =
+    let d : drop i cs ≡ c ∷ drop (i + 1) cs = drop_more cs i c l ∙ ap (λ x. x ∷ drop (i + 1) cs) (sym e) in record {
+      len = w.len ∙ piece-goes s t (is_hyphen (code_behind 0 i cs)) (is_hyphen (code_behind 0 (i + 1) cs)) i c cs d f g
+          (ap is_hyphen (sym (behind-next i c cs e l)));
+      state = state-goes start t i c cs d (g ∙ ap (λ s. behind s c) w.state);
+    }
+
+-- a word begins here
+pub walked-over : (start s : State) (i c : ℕ) (cs : List ℕ) → Walked start s i cs → c ≡ get_or cs i c →
+    i < length cs → (not (is_hyphen (code_behind 0 i cs)) && is_some (found_before s c)) ≡ true →
+    i ≡ piece_len start true cs
+walked-over start s i c cs w e l f =
+    let d : drop i cs ≡ c ∷ drop (i + 1) cs = drop_more cs i c l ∙ ap (λ x. x ∷ drop (i + 1) cs) (sym e) in
+    let joined = is_hyphen (code_behind 0 i cs) in
+    let more = piece_len (behind s c) (is_hyphen c) (drop (i + 1) cs) in
+    let none : piece_len s joined (drop i cs) ≡ 0 =
+    ap (piece_len s joined) d ∙ ap (λ (v : Bool). if v then 0 else suc more) f in
+    omega (arith, w.len, none)
+
+-- none is left
+pub walked-all : (start s : State) (i : ℕ) (cs : List ℕ) → Walked start s i cs → length cs ≤ i →
+    i ≡ piece_len start true cs
+walked-all start s i cs w l =
+    let joined = is_hyphen (code_behind 0 i cs) in
+    let none : piece_len s joined (drop i cs) ≡ 0 = ap (piece_len s joined) (drop_all i cs l) in
+    omega (arith, w.len, none)
+
+-- the others are walked by the rules
+pub walked-rest : (start s t : State) (i n : ℕ) (joined : Bool) (cs : List ℕ) → Walked start s i cs →
+    joined ≡ is_hyphen (code_behind 0 i cs) → n ≡ piece_len s joined (drop i cs) → t ≡ state_at s n (drop i cs) →
+    (i + n ≡ piece_len start true cs) × (t ≡ state_at start (i + n) cs)
+walked-rest start s t i n joined cs w e f g =
+    let same : n ≡ piece_len s (is_hyphen (code_behind 0 i cs)) (drop i cs) =
+    f ∙ ap (λ j. piece_len s j (drop i cs)) e in (
+      omega (arith, w.len, same),
+      g ∙ ap (λ u. state_at u n (drop i cs)) w.state ∙ sym (state-more start i n (i + n) cs refl),
+    )
 
 -- ---- what is left
 

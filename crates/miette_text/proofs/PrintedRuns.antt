@@ -1,15 +1,16 @@
 -- Printable ASCII without a hyphen: each character has a column, and no word is cut behind one.
-use Rattle.std.proofs.Common.{◌≡◌, ℕ, zero, suc, ◌+◌, ◌≤◌, Bool, true, false, ◌&&◌, ◌==◌, nat_lt}
-use Rattle.std.proofs.Common.{List, [], ◌∷◌, length, take, drop, refl, ap, ap₂, ◌∙◌, if◌then◌else◌, arith}
+use Rattle.std.proofs.Common.{◌≡◌, ℕ, zero, suc, ◌+◌, ◌<◌, ◌≤◌, Bool, true, false, ◌&&◌, ◌==◌, nat_lt}
+use Rattle.std.proofs.Common.{List, [], ◌∷◌, ◌++◌, get_or, length, take, refl, sym, ap, ap₂, ◌∙◌, arith}
 use Rattle.std.proofs.lemmas.Bool.{and_parts}
 use Rattle.std.proofs.lemmas.Bool.Decides.{nat_tests}
+use Rattle.std.proofs.lemmas.List.{take_more}
 use Rattle.std.proofs.lemmas.List.Sums.{sum_by-cons}
 use Rattle.std.proofs.Math.Bool.{and-false}
-use Rattle.std.specs.Char.{is_ascii_alphabetic}
+use Rattle.miette_line_breaks.specs.views.Printable.{is_printable}
 use Rattle.miette_runs.specs.rules.Cells.{width}
 use Rattle.miette_runs.specs.steps.Cells.{code_columns}
-use Rattle.miette_text.specs.rules.Wrapping.{Cuts, is_alphanumeric, is_space}
-use Rattle.miette_text.specs.steps.Ends.{begins_word, gap_len, letters_len, part_len}
+use Rattle.miette_text.specs.rules.Wrapping.{Cuts, is_alphanumeric}
+use Rattle.miette_text.specs.steps.Ends.{begins_word, part_len}
 use Rattle.miette_text.specs.views.Breaks.{all_printed, is_printed, never}
 use Rattle.miette_text.proofs.Fitting.{printed-width}
 use Rattle.miette_text.proofs.SolidRuns.{chosen, has_room}
@@ -67,32 +68,19 @@ printed-fewer (suc b) (suc k) (c ∷ cs) l h =
     let p = and_parts (is_printed c) (all_printed (take k cs)) h in
     both (is_printed c) (all_printed (take b cs)) p.0 (printed-fewer b k cs (omega (arith, l)) p.1)
 
--- ---- letters, and the spaces behind them
+-- ---- one more
 
-letter-printed : (c : ℕ) → is_ascii_alphabetic c ≡ true → is_printed c ≡ true
-letter-printed c h = grind (arith, nat_tests)
+printed-append : (cs : List ℕ) (c : ℕ) → all_printed cs ≡ true → is_printed c ≡ true →
+    all_printed (cs ++ c ∷ []) ≡ true
+printed-append [] c h k = both (is_printed c) true k refl
+printed-append (b ∷ cs) c h k =
+    let p = and_parts (is_printed b) (all_printed cs) h in
+    both (is_printed b) (all_printed (cs ++ c ∷ [])) p.0 (printed-append cs c p.1 k)
 
-space-printed : (c : ℕ) → is_space c ≡ true → is_printed c ≡ true
-space-printed c h = grind (arith, nat_tests)
+pub printed-next : (i c : ℕ) (cs : List ℕ) → c ≡ get_or cs i c → i < length cs → all_printed (take i cs) ≡ true →
+    is_printed c ≡ true → all_printed (take (i + 1) cs) ≡ true
+printed-next i c cs e l h k =
+    ap all_printed (take_more cs i c l ∙ ap (λ d. take i cs ++ d ∷ []) (sym e)) ∙ printed-append (take i cs) c h k
 
-gap-printed : (m : ℕ) (cs : List ℕ) → m ≤ gap_len cs → all_printed (take m cs) ≡ true
-gap-printed zero cs l = refl
-gap-printed (suc m) [] l = refl
-gap-printed (suc m) (c ∷ cs) l = elim (is_space c) as (λ v. is_space c ≡ v → suc m ≤ (if v then suc (gap_len cs) else 0)
-    → (is_printed c && all_printed (take m cs)) ≡ true) [
-      | true ↦ λ e k. both (is_printed c) (all_printed (take m cs)) (space-printed c e)
-          (gap-printed m cs (omega (arith, k)))
-      | false ↦ λ e k. absurd (omega (arith, k))
-    ] refl l
-
-pub word-printed : (n m j : ℕ) (cs : List ℕ) → j ≡ n + m → n ≤ letters_len cs → m ≤ gap_len (drop n cs) →
-    all_printed (take j cs) ≡ true
-word-printed zero m j cs e l g = ap (λ k. all_printed (take k cs)) (omega (arith, e)) ∙ gap-printed m cs g
-word-printed (suc n) m zero cs e l g = refl
-word-printed (suc n) m (suc j) [] e l g = refl
-word-printed (suc n) m (suc j) (c ∷ cs) e l g = elim (is_ascii_alphabetic c) as (λ v. is_ascii_alphabetic c ≡ v →
-    suc n ≤ (if v then suc (letters_len cs) else 0) → (is_printed c && all_printed (take j cs)) ≡ true) [
-      | true ↦ λ a k. both (is_printed c) (all_printed (take j cs)) (letter-printed c a)
-          (word-printed n m j cs (omega (arith, e)) (omega (arith, k)) g)
-      | false ↦ λ a k. absurd (omega (arith, k))
-    ] refl l
+pub printable-printed : (c : ℕ) → is_printable c ≡ true → (c == 45) ≡ false → is_printed c ≡ true
+printable-printed c h k = grind (arith, nat_tests)

@@ -22,8 +22,6 @@ mod json;
 #[cfg(test)]
 mod narrated;
 #[cfg(test)]
-mod narrated_fixes;
-#[cfg(test)]
 mod options;
 #[cfg(test)]
 mod printing;

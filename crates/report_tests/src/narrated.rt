@@ -9,7 +9,7 @@ use miette::report::{OwnedSource, Report};
 use std::alloc::{AllocError, Global};
 
 /// The narrated text of the report.
-pub(crate) fn narrate(alloc: Global, report: &Report) -> Result<String, RenderError> {
+fn narrate(alloc: Global, report: &Report) -> Result<String, RenderError> {
     let mut out = String::new(alloc);
     NarratableReportHandler::new().render_report(report, &mut out)?;
     Ok(out)

@@ -1,7 +1,6 @@
 -- Frames in the making.
-use Rattle.std.specs.Prelude.{ℕ, ◌+◌, ◌≡◌, ◌≤◌, length, List, [], ◌∷◌, ◌++◌, Some, option_copied, true}
+use Rattle.std.specs.Prelude.{ℕ, ◌+◌, ◌≡◌, ◌≤◌, List, [], ◌∷◌, ◌++◌, Some, option_copied, true}
 use Rattle.std.specs.Prelude.{false}
-use Rattle.miette_source_lines.specs.rules.Lines.{line_of}
 use Rattle.miette_page.specs.rules.Rows.{Row}
 use Rattle.miette_snippet_rules.specs.rules.Frames.{top_row_of, bottom_row}
 use Rattle.miette_snippet_rules.specs.views.SettingsView.{settings_of}
@@ -9,7 +8,6 @@ use Rattle.miette_fix_rows.specs.rules.Hunks.{Hunk}
 use Rattle.miette_fix_rows.specs.rules.DiffFrames.{DiffFrame, first_place, is_near}
 use Rattle.miette_fix_rows.specs.rules.DiffRows.{DiffContext, frame_width, place_at, rows_of_lines}
 use Rattle.miette_fix_drawing.specs.declared.frames.FixDrawing.{FixDrawing}
-use Rattle.miette_fix_drawing.specs.declared.places.Cursor.{Cursor}
 
 -- the rows of a frame, with what the frames of a fix are drawn with
 abbrev pub context_over : FixDrawing → ℕ → DiffContext
@@ -39,8 +37,3 @@ IsFar context (hunk ∷ hunks) = is_near context hunk ≡ false
 -- frames point into a source
 abbrev pub PointsWithin : ℕ → Hunk → Type 0
 PointsWithin size hunk = first_place hunk.changes ≤ size
-
--- a cursor tells the line of its offset
-pub record IsCursor (source : List ℕ) (cursor : Cursor) : Type 0 where
-  pub within : cursor.offset ≤ length source
-  pub line : cursor.line ≡ line_of source cursor.offset

@@ -53,12 +53,16 @@ is_start s = is_space s.base.class && not s.is_spaced
 abbrev pub attaches : State → Bool
 attaches s = not s.is_spaced && takes_marks s.base.class
 
+-- a Hebrew letter is the last character
+abbrev pub ends_hebrew : State → Bool
+ends_hebrew s = not s.is_spaced && is_hebrew s.base.class
+
 abbrev pub base_behind : State → Character → Bool → State
 base_behind s b joined = record {
   base = if is_space b.class then s.base else b;
   is_spaced = is_space b.class;
   is_joined = joined;
-  follows_hebrew = not s.is_spaced && is_hebrew s.base.class;
+  follows_hebrew = ends_hebrew s;
   has_half_flag = is_regional b.class && not s.has_half_flag;
 }
 
@@ -116,11 +120,17 @@ abbrev pub is_ideographic : LineBreak → Bool
 is_ideographic Ideographic = true
 is_ideographic _ = false
 
+-- Nothing counts but the class of the last character but spaces.
+abbrev pub is_lone : State → Bool
+is_lone s = not (s.base.is_wide || s.base.is_future_emoji || s.is_joined || s.follows_hebrew || s.has_half_flag)
+
 -- A letter that is neither wide nor Hebrew is the last but for spaces, and nothing before it counts.
 abbrev pub is_plain : State → Bool
-is_plain s =
-    is_alphabetic s.base.class
-    && not (s.base.is_wide || s.base.is_future_emoji || s.is_joined || s.follows_hebrew || s.has_half_flag)
+is_plain s = is_alphabetic s.base.class && is_lone s
+
+-- where no character stands before
+abbrev pub is_empty : State → Bool
+is_empty s = is_start s && is_lone s
 
 -- it is the last
 abbrev pub is_in_word : State → Bool

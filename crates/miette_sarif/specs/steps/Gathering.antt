@@ -2,14 +2,15 @@
 use Rattle.std.specs.Prelude.{◌≡◌, ℕ, ◌+◌, List, [], ◌∷◌, ◌++◌, Bool, false, Option, Some, None, unwrap_or}
 use Rattle.miette_json.specs.rules.JsonReport.{AreFurther}
 use Rattle.miette_tree.specs.rules.Diagnosis.{Diagnosis}
-use Rattle.miette_tree.specs.rules.Tree.{Cause, Tree, Trees, cause_of, causes_of, head}
+use Rattle.miette_tree.specs.rules.Reads.{MayMeet}
+use Rattle.miette_tree.specs.rules.Tree.{Cause, Tree, Trees, cause_of, causes_of, head, source_of}
 use Rattle.miette_sarif.specs.rules.Findings.{Finding, Mark, Proposed, SeenSource}
 use Rattle.miette_sarif.specs.rules.Gathered.{all_findings, cause_marks, cause_proposals, cause_refused, finding}
 use Rattle.miette_sarif.specs.rules.Gathered.{findings, level}
 use Rattle.miette_sarif.specs.rules.Marks.{groups_of, marks_of, seen_further}
 use Rattle.miette_fixes.specs.rules.Edits.{Proposal}
 use Rattle.miette_sarif.specs.rules.Proposals.{proposal_over, proposals, refused}
-use Rattle.miette_sarif.specs.rules.Seen.{count_all, count_in}
+use Rattle.miette_sarif.specs.rules.Seen.{count_all, count_in, count_own, seen_or}
 use Rattle.miette_sarif.specs.rules.SourceAnswers.{AllAnswers, AreAnswers, AreOfCauses, Faults, RelatedSourceAnswers}
 use Rattle.miette_sarif.specs.rules.SourceAnswers.{SourceAnswers, SourceFaults}
 
@@ -55,6 +56,12 @@ pub record AddsOver (over : Option SeenSource) (n : ℕ) (m : Diagnosis) (old ne
   pub marks : new.marks ≡ old.marks ++ marks_of (groups_of over (seen_further faults n m.snippets) m)
   pub fixes : new.fixes ≡ old.fixes ++ proposals over m.fixes
   pub unapplied : new.unapplied ≡ old.unapplied ++ refused over m.fixes
+
+-- those of a cause, over its own source, else over this one
+pub record AddsCause (over : Option SeenSource) (n : ℕ) (t : Tree) (old new : Kept) : Type 0 where
+  pub fault : Bool
+  pub possible : MayMeet (source_of t) fault
+  pub added : AddsOver (seen_or fault n (source_of t) over) (n + count_own (source_of t)) (head t) old new
 
 -- those of all causes, over a report's source
 pub record AddsCauses (over : Option SeenSource) (n : ℕ) (c : Cause) (old new : Kept) : Type 0 where

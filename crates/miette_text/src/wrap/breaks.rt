@@ -16,6 +16,7 @@ use crate::wrap::ends::{
     Cuts, Letters, Part, Stop, Words, bare_len, first_part, gap_len, letters_len,
 };
 use miette_line_breaks::breaks::State;
+use miette_line_breaks::printable::{Printable, Step};
 use std::alloc::AllocError;
 
 /// The rest of a word: its letters, the code before them, and the spaces behind them; and what stands before the next.
@@ -48,24 +49,28 @@ fn passed_len(state: State, is_joined: bool, codes: &[char]) -> usize
     letters_len(codes)
 }
 
-// What a word begins with behind a letter: letters of ASCII, and the spaces behind them. How many codes, what stands
-// behind them, and whether no word can begin there.
-#[inline(always)]
-fn plain_len(start: State, codes: &[char]) -> (usize, State, bool)
-    ensures len { piece_len start true codes.now ≡ result.0 + piece_len result.1 result.2 (drop result.0 codes.now) }
+// How many codes are left of the first word and its spaces, and what stands before the next; its first code begins no
+// word where that is said.
+fn rest_len(start: State, joined: bool, codes: &[char]) -> (usize, State)
+    ensures len { result.0 ≡ piece_len start joined codes.now }
     ensures state { result.1 ≡ state_at start result.0 codes.now }
-    ensures printed { all_printed (take result.0 codes.now) ≡ true }
     ensures within { result.0 ≤ length codes.now }
 {
-    if !start.is_plain() {
-        return (0, start, true);
+    let mut state = start;
+    let mut is_joined = joined;
+    let mut i: usize = 0;
+    'rest: while i < codes.len() {
+        let code = codes[i];
+        let (found, behind) = state.step(code);
+        if !is_joined && found.is_some() {
+            return (i, state);
+        }
+        is_joined = is_hyphen(code);
+        state = behind;
+        let next = i + 1;
+        i = next + passed_len(state, is_joined, &codes[next..]);
     }
-    let n = letters_len(codes);
-    if n == 0 {
-        return (0, start, true);
-    }
-    let spaces = gap_len(&codes[n..]);
-    (n + spaces, start.spaced(0 < spaces), false)
+    (i, state)
 }
 
 // How many codes the first word and its spaces have, what stands before the next, and whether all of them are seen to be
@@ -76,20 +81,37 @@ fn word_len(start: State, codes: &[char]) -> (usize, State, bool)
     ensures printed { result.2 ≡ true → all_printed (take result.0 codes.now) ≡ true }
     ensures within { result.0 ≤ length codes.now }
 {
-    let (first, mut state, mut is_joined) = plain_len(start, codes);
-    let mut i = first;
+    let [first, ..] = codes else {
+        return (0, start, true);
+    };
+    let Some(mut place) = Printable::behind(start, *first) else {
+        let (len, state) = rest_len(start, true, codes);
+        return (len, state, false);
+    };
+    let mut is_printed = *first != '-';
+    let mut i = 1;
     'rest: while i < codes.len() {
-        let code = codes[i];
-        let (found, behind) = state.step(code);
-        if !is_joined && found.is_some() {
-            return (i, state, i == first);
+        match place.step(codes[i]) {
+            Step::Within(next) => place = next,
+            Step::Hyphen(next) => {
+                place = next;
+                is_printed = false;
+            }
+            Step::Broken(next) => {
+                if !is_hyphen(codes[i - 1]) {
+                    return (i, place.state(), is_printed);
+                }
+                place = next;
+                is_printed = false;
+            }
+            Step::Other => {
+                let (len, state) = rest_len(place.state(), is_hyphen(codes[i - 1]), &codes[i..]);
+                return (i + len, state, false);
+            }
         }
-        is_joined = is_hyphen(code);
-        state = behind;
-        let next = i + 1;
-        i = next + passed_len(state, is_joined, &codes[next..]);
+        i += 1;
     }
-    (i, state, i == first)
+    (i, place.state(), is_printed)
 }
 
 // The first of the words, and whether its letters are seen to be printable ASCII without a hyphen.

@@ -10,8 +10,8 @@ use Rattle.miette_fix_drawing.specs.views.Frames.{frame_of}
 use Rattle.miette_fix_drawing.proofs.FrameRows.{frame_put}
 use Rattle.miette_fix_drawing.proofs.frames.push_frame.Goals as goal
 
-pub returns-clause-rows : goal.returns-clause-rows
-returns-clause-rows g c =
+pub returns : goal.returns
+returns g c =
     on_ok_weaker c.push_bottom_row.result
     (λ h. frame_put c.args.drawing.now (frame_of c.args.frame.now) c.digits.result c.place_of.result c.args.page.now
     c.push_top_row.new.page c.push_lines.new.page c.push_bottom_row.new.page c.args.frame.now.largest c.digits.ensures

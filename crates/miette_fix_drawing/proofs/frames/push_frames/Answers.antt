@@ -3,6 +3,7 @@ use Rattle.std.specs.List.{AllByRecursion}
 use Rattle.std.proofs.lemmas.List.{take_rest}
 use Rattle.miette_source_lines.proofs.Places.{line_of_none}
 use Rattle.miette_fix_drawing.specs.steps.Framing.{PointsWithin}
+use Rattle.miette_fix_drawing.specs.steps.Places.{StandsIn}
 use Rattle.miette_fix_drawing.specs.views.Hunks.{hunks_of}
 use Rattle.miette_fix_drawing.proofs.Framing.{all_drop, hunks_drop}
 use Rattle.miette_fix_drawing.proofs.frames.push_frames.Goals as goal
@@ -11,7 +12,11 @@ pub loop-done-init : goal.loop-done-init
 loop-done-init g c = record {
   rows = refl;
   within = omega arith;
-  cursor = record { within = omega arith; line = sym (line_of_none c.args.drawing.now.source.now) };
+  cursor = record {
+    within = omega arith;
+    line = sym (line_of_none c.args.drawing.now.source.now);
+    asked = c.requires.asked;
+  };
 }
 
 pub push_next-requires-clause-places : goal.push_next-requires-clause-places
@@ -22,3 +27,10 @@ push_next-requires-clause-places g c =
     subst (λ l. AllByRecursion points (hunks_of l)) (sym (take_rest hunks done))
     (subst (λ l. AllByRecursion points l) (sym (hunks_drop done hunks))
     (all_drop points done (hunks_of hunks) c.requires.places))
+
+pub push_next-requires-clause-stand : goal.push_next-requires-clause-stand
+push_next-requires-clause-stand g c =
+    let hunks = c.args.hunks.now in
+    let stands = StandsIn c.args.drawing.now.source.now in
+    subst (AllByRecursion stands) (sym (take_rest hunks c.loop-done.done))
+    (all_drop stands c.loop-done.done hunks c.requires.stand)

@@ -3,7 +3,8 @@ use Rattle.miette_page.specs.views.Printouts.{◌⊕◌}
 use Rattle.miette_page.specs.views.Tokens.{rows_tokens}
 use Rattle.miette_fix_rows.specs.rules.Blocks.{line_texts}
 use Rattle.miette_fix_rows.specs.rules.DiffFrames.{frames_from}
-use Rattle.miette_fix_drawing.specs.steps.Framing.{IsCursor, drawn_frames}
+use Rattle.miette_fix_drawing.specs.steps.Framing.{drawn_frames}
+use Rattle.miette_fix_drawing.specs.steps.Places.{IsCursor}
 use Rattle.miette_fix_drawing.specs.views.Frames.{start_standing}
 use Rattle.miette_fix_drawing.specs.views.Hunks.{hunks_of}
 use Rattle.miette_fix_drawing.specs.views.Standings.{standing_of}
@@ -18,7 +19,7 @@ invariant-loop-done g l = record {
       (frames_from l.drawing.settings.layout.now.context_lines (line_texts l.behind) false start_standing
       (hunks_of l.hunks)));
   within : l.done ≤ length l.hunks;
-  cursor : IsCursor l.drawing.source.now l.progress.cursor;
+  cursor : IsCursor g.S.SourceCode.source l.drawing.source.now l.progress.cursor;
 }
 
 abbrev pub decreases-loop-done : goal.decreases-loop-done

@@ -3,7 +3,8 @@ use Rattle.std.proofs.lemmas.List.{drop-drop, length-drop, take_all}
 use Rattle.miette_fix_rows.specs.rules.Hunks.{diff_from}
 use Rattle.miette_fix_drawing.specs.steps.Rising.{AreRising, joined, joined_end}
 use Rattle.miette_fix_drawing.specs.views.Hunks.{hunks_of}
-use Rattle.miette_fix_drawing.proofs.HunkLists.{behind_put, first_from, from_first, hunk_put, rising_put}
+use Rattle.miette_fix_drawing.proofs.HunkLists.{behind_put, first_from, first_within, from_first, hunk_put, rising_put}
+use Rattle.miette_fix_drawing.proofs.HunkPlaces.{stand_put}
 use Rattle.miette_fix_drawing.proofs.hunks.hunks_of.Goals as goal
 
 pub loop-low-preserved : goal.loop-low-preserved
@@ -24,6 +25,7 @@ loop-low-preserved c =
     c.joined-many.ensures.many ∙ ap (joined c.from-from.result) rest in
     let last : c.joined-many.result.1 ≡ joined_end c.from-from.result xs =
     c.joined-many.ensures.end ∙ ap (joined_end c.from-from.result) rest in
+    let first = first_within (length source) c.loop-low.at xs c.loop-low.invariant.rising some in
     record {
       within = omega (arith, long, c.joined-many.ensures.within, c.loop-low.invariant.within);
       rising = subst (AreRising (length source) c.joined-many.result.1) more
@@ -33,6 +35,9 @@ loop-low-preserved c =
           ∙ hunk_put source c.loop-low.at c.from-from.result n c.joined-many.result.1 xs c.loop-low.list.items
           c.push.new.self.items _ (diff_from source 0 all) c.loop-low.invariant.rising some f many last refl
           (ap (λ k. take k xs) e) c.in_ok-push.ensures.items c.loop-low.invariant.hunks;
+      stand = stand_put source c.loop-low.at c.from-from.result c.loop-low.list.items c.push.new.self.items _
+          (omega (arith, first.0, f)) (omega (arith, first.1, f)) refl refl c.loop-low.invariant.stand
+          c.in_ok-push.ensures.items;
       behind = ap (λ cs. (diff_from source c.joined-many.result.1 cs).behind) (sym more)
           ∙ behind_put source c.loop-low.at c.from-from.result n c.joined-many.result.1 xs (diff_from source 0 all)
           c.loop-low.invariant.rising some f many last

@@ -2,7 +2,7 @@ use Rattle.std.proofs.Common.{◌≡◌, ◌++◌, false, true, ap, chars, ◌�
 use Rattle.std.proofs.lemmas.Result.{on_ok_weaker}
 use Rattle.miette_graphical.specs.rules.DiagnosticText.{line_feed}
 use Rattle.miette_graphical.specs.rules.Indents.{fix_indent, further_fix_indent, wrapped_under}
-use Rattle.miette_graphical.specs.steps.FixSources.{IsGivenOver}
+use Rattle.miette_graphical.specs.steps.FixSources.{AsksItself, IsGivenOver}
 use Rattle.miette_graphical.specs.views.Painting.{settings_of}
 use Rattle.miette_graphical.proofs.ShownFixes.{fix_alone, fix_behind, message_of, moved_rows}
 use Rattle.miette_graphical.proofs.fixes.push_fix.Goals as goal
@@ -52,3 +52,6 @@ returns-in-Whole-clause-text g c =
     fix_behind s source fails fix old.out told.out new.out message
     (moved_rows s (settings_of told) source is.0 fails false fix.edits told.out new.out c.push_text.ensures.stays.0
     is.1 is.2 (h is.0 is.3 is.4))) c.push_changes.ensures.text
+
+pub push_changes-requires : goal.push_changes-requires
+push_changes-requires g c = subst (AsksItself g.S.SourceCode.source) c.in-Whole.is c.requires

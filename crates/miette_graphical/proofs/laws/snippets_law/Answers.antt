@@ -28,7 +28,7 @@ use Rattle.miette_labels.specs.rules.Answers.{Answers}
 use Rattle.miette_snippet_rules.specs.rules.SnippetLayout.{snippet_rows}
 use Rattle.miette_graphical.proofs.DrawnRows.{none_listed}
 use Rattle.miette_graphical.proofs.LabelLines.{labels_have_lines}
-use Rattle.miette_graphical.proofs.Themes.{is_narrow}
+use Rattle.miette_graphical.proofs.NarrowCharacters.{is_narrow}
 use Rattle.miette_graphical.proofs.laws.snippets_law.Goals as goal
 
 each : {A : Type 0} (P : A → Type 0) → ((x : A) → P x) → (xs : List A) → AllByRecursion P xs

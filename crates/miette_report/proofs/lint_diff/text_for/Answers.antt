@@ -1,4 +1,4 @@
-use Rattle.std.proofs.Common.{Bool, Some, rules, subst}
+use Rattle.std.proofs.Common.{Bool, Some, subst}
 use Rattle.miette_report.specs.views.LintReports.{IsClean}
 use Rattle.miette_report.proofs.LintDiffSteps.{diff_reads, nothing_diffed, some_diffed}
 use Rattle.miette_report.proofs.lint_diff.text_for.Goals as goal

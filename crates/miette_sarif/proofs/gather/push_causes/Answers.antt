@@ -17,28 +17,7 @@ loop-cause-preserved g c =
     let so_far = subst (λ x. CausesSoFar (over_of c.args.seen) c.args.sources.now (cause_of (value c.args.report.now)) x
     l.sources (collected_of c.args.collected.now) (collected_of l.collected)) (sym c.in-Diagnostic.ensures.value)
     l.invariant in
-    one_cause _ _ _ _ _ _ _ _ _ _ _ _ so_far c.own_or-over.ensures c.in_ok-own.ensures.seen
-    c.in_ok-own.ensures.counted c.in_ok-push_cause.ensures.added c.in_ok-push_cause.ensures.counted
-
-pub loop-cause-preserved-in_ok-push_cause : goal.loop-cause-preserved-in_ok-push_cause
-loop-cause-preserved-in_ok-push_cause g c =
-    let l = c.loop-cause in
-    let value = tree_of g.D.Diagnostic.meaning g.S.SourceCode.source in
-    let so_far = subst (λ x. CausesSoFar (over_of c.args.seen) c.args.sources.now (cause_of (value c.args.report.now)) x
-    l.sources (collected_of c.args.collected.now) (collected_of l.collected)) (sym c.in-Diagnostic.ensures.value)
-    l.invariant in
-    one_cause _ _ _ _ _ _ _ _ _ _ _ _ so_far c.own_or-over.ensures c.in_ok-own.ensures.seen
-    c.in_ok-own.ensures.counted c.in_ok-push_cause.ensures.added c.in_ok-push_cause.ensures.counted
-
-pub loop-cause-preserved-in_ok-push_cause-2 : goal.loop-cause-preserved-in_ok-push_cause-2
-loop-cause-preserved-in_ok-push_cause-2 g c =
-    let l = c.loop-cause in
-    let value = tree_of g.D.Diagnostic.meaning g.S.SourceCode.source in
-    let so_far = subst (λ x. CausesSoFar (over_of c.args.seen) c.args.sources.now (cause_of (value c.args.report.now)) x
-    l.sources (collected_of c.args.collected.now) (collected_of l.collected)) (sym c.in-Diagnostic.ensures.value)
-    l.invariant in
-    one_cause _ _ _ _ _ _ _ _ _ _ _ _ so_far c.own_or-over.ensures c.in_ok-own.ensures.seen
-    c.in_ok-own.ensures.counted c.in_ok-push_cause.ensures.added c.in_ok-push_cause.ensures.counted
+    one_cause _ _ _ _ _ _ _ _ _ so_far c.in_ok-push_own_cause.ensures.added c.in_ok-push_own_cause.ensures.counted
 
 pub returns : goal.returns
 returns g c =

@@ -1,15 +1,10 @@
-use Rattle.std.proofs.Common.{ap, ◌∙◌}
-use Rattle.std.proofs.lemmas.Str.{IsUtf8-string_bytes}
-use Rattle.miette_sarif.specs.rules.Log.{log}
-use Rattle.miette_sarif.specs.views.Found.{findings_of}
-use Rattle.miette_sarif.specs.views.Tool.{tool_view}
-use Rattle.miette_sarif.proofs.Spelling.{is_log}
+use Rattle.std.proofs.Common.{map}
+use Rattle.std.proofs.lemmas.Result.{IfOk-weaker}
+use Rattle.miette_tree.specs.rules.Tree.{trees}
+use Rattle.miette_tree.specs.views.Report.{tree_of}
 use Rattle.miette_sarif.proofs.handler.log_of.Goals as goal
 
 pub returns : goal.returns
 returns g c =
-    let tool = tool_view c.args.tool.now in
-    is_log c.the_spelling_denotes_its_value.ensures.tokens c.a_text_denotes_one_value.ensures tool _ _
-    c.in_ok-findings.ensures _
-    (c.in_ok-value.ensures ∙ ap (λ fs. log tool (findings_of fs)) c.deref.ensures.value) _ _
-    (IsUtf8-string_bytes c.push_value.new.out) c.new-text.ensures.bytes c.in_ok-push_value.ensures
+    let ts = trees (map (tree_of g.D.Diagnostic.meaning g.S.SourceCode.source) c.args.reports.now) in
+    IfOk-weaker c.spelled_log.result _ _ (λ text log. log ts c.in_ok-findings.ensures) c.spelled_log.ensures

@@ -1,41 +1,99 @@
-use Rattle.std.proofs.Common.{◌≡◌, ◌∙◌, ◌+◌, ◌∷◌, ◌&&◌, Bool, false, true, length, length-drop, not, ap, ap₂, arith}
-use Rattle.std.proofs.Common.{drop, subst, sym}
-use Rattle.std.proofs.lemmas.List.{drop_more, take_rest}
+use Rattle.std.proofs.Common.{◌≡◌, ◌∙◌, ◌+◌, ◌&&◌, Bool, false, true, not, ap, ap₂, arith, sym}
+use Rattle.std.proofs.Common.{take}
+use Rattle.std.proofs.Math.Bool.{and-false}
+use Rattle.std.proofs.lemmas.List.{take_rest}
 use Rattle.std.specs.Option.{is_some}
-use Rattle.miette_line_breaks.specs.views.Places.{behind, found_before}
-use Rattle.miette_text.specs.views.Breaks.{piece_len, state_at}
-use Rattle.miette_text.proofs.BreakParts.{piece-goes, state-goes}
-use Rattle.miette_text.proofs.Passing.{piece-passes, state-passes}
+use Rattle.miette_line_breaks.specs.views.Places.{found_before}
+use Rattle.miette_line_breaks.specs.views.Printable.{state_in}
+use Rattle.miette_text.specs.rules.Wrapping.{is_hyphen}
+use Rattle.miette_text.specs.steps.Ends.{code_behind}
+use Rattle.miette_text.specs.views.Breaks.{all_printed, piece_len, state_at}
+use Rattle.miette_text.proofs.BreakParts.{Walked, walked-next, walked-over, walked-rest}
+use Rattle.miette_text.proofs.FirstRow.{behind-last}
+use Rattle.miette_text.proofs.PrintedRuns.{printable-printed, printed-next}
 use Rattle.miette_text.proofs.wrap.breaks.word_len.Goals as goal
-use Rattle.miette_text.proofs.wrap.breaks.word_len.Goals.{else-not-is_joined-via-then-not-is_joined+else-is_some}
-use Rattle.miette_text.proofs.wrap.breaks.word_len.Goals.{else-not-is_joined-via-else-not-is_joined}
+use Rattle.miette_text.proofs.wrap.breaks.word_len.Goals.{in-Within, in-Hyphen, in-Broken+else-not-is_hyphen}
+
+pub returns-then-not-is_hyphen-clause-len : goal.returns-then-not-is_hyphen-clause-len
+returns-then-not-is_hyphen-clause-len c =
+    let cs = c.args.codes.now in
+    let i = c.rest.i in
+    let v = c.rest.invariant in
+    let e : is_hyphen (code_behind 0 i cs) ≡ false =
+    sym (ap is_hyphen (c.index-codes-i-in-Broken.is ∙ behind-last 0 i _ cs v.some v.within))
+    ∙ sym c.is_hyphen.ensures ∙ c.if-not-is_hyphen.true in
+    walked-over c.args.start (state_in c.rest.place) i c.index-codes-i.result cs v.walked c.index-codes-i.is
+    c.rest-test.true (ap₂ (λ (j f : Bool). not j && f) e c.in-Broken.ensures.1)
+
+pub returns-in-Other-clause-len : goal.returns-in-Other-clause-len
+returns-in-Other-clause-len c =
+    let cs = c.args.codes.now in
+    let i = c.rest.i in
+    let v = c.rest.invariant in
+    let n = c.rest_len-len-in-Other.result.0 in
+    let j = c.is_hyphen-in-Other.result in
+    (walked-rest c.args.start (state_in c.rest.place) c.rest_len-len-in-Other.result.1 i n j cs v.walked
+    (c.is_hyphen-in-Other.ensures
+    ∙ ap is_hyphen (c.index-codes-i-in-Other.is ∙ behind-last 0 i _ cs v.some v.within))
+    (c.rest_len-len-in-Other.ensures.len
+    ∙ ap₂ (λ s xs. piece_len s j xs) c.state-in-Other.ensures (take_rest cs i))
+    (c.rest_len-len-in-Other.ensures.state
+    ∙ ap₂ (λ s xs. state_at s n xs) c.state-in-Other.ensures (take_rest cs i))).0
+
+pub returns-in-Other-clause-state : goal.returns-in-Other-clause-state
+returns-in-Other-clause-state c =
+    let cs = c.args.codes.now in
+    let i = c.rest.i in
+    let v = c.rest.invariant in
+    let n = c.rest_len-len-in-Other.result.0 in
+    let j = c.is_hyphen-in-Other.result in
+    (walked-rest c.args.start (state_in c.rest.place) c.rest_len-len-in-Other.result.1 i n j cs v.walked
+    (c.is_hyphen-in-Other.ensures
+    ∙ ap is_hyphen (c.index-codes-i-in-Other.is ∙ behind-last 0 i _ cs v.some v.within))
+    (c.rest_len-len-in-Other.ensures.len
+    ∙ ap₂ (λ s xs. piece_len s j xs) c.state-in-Other.ensures (take_rest cs i))
+    (c.rest_len-len-in-Other.ensures.state
+    ∙ ap₂ (λ s xs. state_at s n xs) c.state-in-Other.ensures (take_rest cs i))).1
+
+impossible : {A : Type 0} → false ≡ true → A
+impossible h = absurd (cc)
 
 pub rest-preserved : goal.rest-preserved
 rest-preserved c =
     let cs = c.args.codes.now in
     let i = c.rest.i in
     let x = c.index-codes-i.result in
-    let s = c.rest.state in
-    let t = c.step-found.result.1 in
-    let j = c.is_hyphen-is_joined.result in
-    let n = c.passed_len.result in
-    let r = take_rest cs (i + 1) in
-    let d : drop i cs ≡ x ∷ drop (i + 1) cs = drop_more cs i _ c.rest-test.true
-    ∙ ap (λ y. y ∷ drop (i + 1) cs) (sym c.index-codes-i.is) in
-    let e : (not c.rest.is_joined && is_some (found_before s x)) ≡ false = elim c.else-not-is_joined.branch [
-      | else-not-is_joined-via-then-not-is_joined+else-is_some w ↦
-          ap₂ (λ (j f : Bool). not j && f) w.if-not-is_joined.true
-          (ap is_some (sym c.step-found.ensures.found) ∙ sym w.is_some.ensures ∙ w.if-is_some.false)
-      | else-not-is_joined-via-else-not-is_joined w ↦
-          ap (λ (j : Bool). not j && is_some (found_before s x)) w.if-not-is_joined.false
+    let s = state_in c.rest.place in
+    let v = c.rest.invariant in
+    let test = c.rest-test.true in
+    let joined = is_hyphen (code_behind 0 i cs) in
+    let walked : Walked c.args.start (state_in c.match-step.place) (i + 1) cs = elim c.match-step.branch [
+      | in-Within w ↦
+          walked-next c.args.start s (state_in c.match-step.place) i x cs v.walked c.index-codes-i.is test
+          (ap (λ o. not joined && is_some o) w.in-Within.ensures.2 ∙ and-false (not joined))
+          (ap state_in w.place-is ∙ sym w.in-Within.ensures.3)
+      | in-Hyphen w ↦
+          walked-next c.args.start s (state_in c.match-step.place) i x cs v.walked c.index-codes-i.is test
+          (ap (λ o. not joined && is_some o) w.in-Hyphen.ensures.1 ∙ and-false (not joined))
+          (ap state_in w.place-is ∙ sym w.in-Hyphen.ensures.2)
+      | in-Broken+else-not-is_hyphen w ↦
+          let e : joined ≡ true =
+          sym (ap is_hyphen (w.index-codes-i-in-Broken.is ∙ behind-last 0 i _ cs v.some v.within))
+          ∙ sym w.is_hyphen.ensures ∙ w.if-not-is_hyphen.false in
+          walked-next c.args.start s (state_in c.match-step.place) i x cs v.walked c.index-codes-i.is test
+          (ap (λ (j : Bool). not j && is_some (found_before s x)) e)
+          (ap state_in w.place-is ∙ sym w.in-Broken.ensures.2)
+    ] in
+    let printed : c.match-step.is_printed ≡ true → all_printed (take (i + 1) cs) ≡ true =
+    elim c.match-step.branch [
+      | in-Within w ↦ λ h. printed-next i x cs c.index-codes-i.is test (v.printed (sym w.is_printed-is ∙ h))
+          (printable-printed x w.in-Within.ensures.0 w.in-Within.ensures.1)
+      | in-Hyphen w ↦ λ h. impossible (sym w.is_printed-is ∙ h)
+      | in-Broken+else-not-is_hyphen w ↦ λ h. impossible (sym w.is_printed-is ∙ h)
     ] in
     record {
-      len = piece-passes t j (piece_len c.args.start true cs) (i + 1) n cs
-          (c.rest.invariant.len ∙ piece-goes s t c.rest.is_joined j i x cs d e c.step-found.ensures.behind
-          c.is_hyphen-is_joined.ensures)
-          (subst (λ xs. piece_len t j xs ≡ n + piece_len t j (drop n xs)) r c.passed_len.ensures.len);
-      state = state-passes c.args.start t (i + 1) n cs (state-goes c.args.start t i x cs d
-          (c.step-found.ensures.behind ∙ ap (λ s. behind s x) c.rest.invariant.state))
-          (subst (λ xs. state_at t n xs ≡ t) r c.passed_len.ensures.state);
-      within = omega (arith, c.passed_len.ensures.within, ap length r, length-drop (i + 1) cs, c.rest-test.true);
+      walked = walked;
+      printed = printed;
+      some = omega arith;
+      within = omega (arith, test);
     }

@@ -1,11 +1,14 @@
-use Rattle.std.proofs.Common.{◌≡◌, ◌+◌, ◌-◌, ◌≤◌, true, drop, length}
-use Rattle.miette_text.specs.views.Breaks.{piece_len, state_at}
+use Rattle.std.proofs.Common.{◌≡◌, ◌-◌, ◌<◌, ◌≤◌, true, length, take}
+use Rattle.miette_line_breaks.specs.views.Printable.{state_in}
+use Rattle.miette_text.specs.views.Breaks.{all_printed}
+use Rattle.miette_text.proofs.BreakParts.{Walked}
 use Rattle.miette_text.proofs.wrap.breaks.word_len.Given as goal
 
 abbrev pub invariant-rest : goal.invariant-rest
 invariant-rest l = record {
-  len : piece_len l.fn.start true l.codes ≡ l.i + piece_len l.state l.is_joined (drop l.i l.codes);
-  state : l.state ≡ state_at l.fn.start l.i l.codes;
+  walked : Walked l.fn.start (state_in l.place) l.i l.codes;
+  printed : l.is_printed ≡ true → all_printed (take l.i l.codes) ≡ true;
+  some : 0 < l.i;
   within : l.i ≤ length l.codes;
 }
 

@@ -1,0 +1,27 @@
+use Rattle.std.proofs.Common.{◌≡◌, ◌+◌, ap, sym, ◌∙◌, ◌∷◌, ◌++◌, drop, true, arith, rules}
+use Rattle.miette_fix_rows.specs.rules.DiffFrames.{behind_hunk, frames_from, is_near}
+use Rattle.miette_fix_rows.specs.laws.Frames.{past_lines}
+use Rattle.miette_fix_drawing.specs.views.Hunks.{hunk_of, hunks_of}
+use Rattle.miette_fix_drawing.specs.views.ShownLines.{lines_of_segments}
+use Rattle.miette_fix_drawing.proofs.Framing.{item_first, near_lines, near_standing}
+use Rattle.miette_fix_drawing.proofs.frame_lines.take_near.Goals as goal
+
+pub loop-i-preserved : goal.loop-i-preserved
+loop-i-preserved c =
+    let context = c.args.context in
+    let hunks = c.args.hunks.now in
+    let hunk = hunk_of c.index-hunks-i.result in
+    let more = hunks_of (drop (c.loop-i.i + 1) hunks) in
+    let made = lines_of_segments c.loop-i.list.items in
+    let next = lines_of_segments c.push_hunk.new.list.items in
+    let near : is_near context hunk ≡ true = search (rules, c.is_near.ensures, c.if-not-is_near.false) in
+    let items : hunks_of (drop c.loop-i.i hunks) ≡ hunk ∷ more =
+    ap hunks_of (item_first hunks c.loop-i.i c.index-hunks-i.result
+    (omega (arith, c.loop-i-test.true, c.loop-i.auto.i-end))
+    c.index-hunks-i.is) in
+    record {
+      lines = λ behind. near_lines context behind hunk more made next near c.in_ok-push_hunk.ensures
+          ∙ ap (λ hs. made ++ behind_hunk context behind hs) (sym items) ∙ c.loop-i.invariant.lines behind;
+      frames = λ behind at. near_standing context behind at hunk more made next near c.in_ok-push_hunk.ensures
+          ∙ ap (frames_from context behind true (past_lines at made)) (sym items) ∙ c.loop-i.invariant.frames behind at;
+    }

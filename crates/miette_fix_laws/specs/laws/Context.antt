@@ -1,0 +1,30 @@
+-- Which lines of a diff are shown.
+use Rattle.std.specs.Prelude.{ℕ, List, [], ◌∷◌, ◌++◌, take, Bool, true, false, ◌||◌, if◌then◌else◌}
+use Rattle.std.specs.List.{list_any}
+use Rattle.miette_fix_rows.specs.rules.DiffFrames.{DiffFrame, DiffLine, kept, removed, added}
+
+abbrev pub is_changed : DiffLine → Bool
+is_changed (kept text) = false
+is_changed (removed text other) = true
+is_changed (added text other) = true
+
+-- Whether a line is shown, between those before it, from the last one back, and those behind it: it is changed, or one
+-- of the context lines on a side of it is.
+abbrev pub is_shown : ℕ → List DiffLine → DiffLine → List DiffLine → Bool
+is_shown context before line behind =
+    is_changed line || (list_any is_changed (take context before) || list_any is_changed (take context behind))
+
+-- the lines that are shown, each once, in order
+abbrev pub shown_behind : ℕ → List DiffLine → List DiffLine → List DiffLine
+shown_behind context before [] = []
+shown_behind context before (line ∷ lines) =
+    if is_shown context before line lines then line ∷ shown_behind context (line ∷ before) lines
+    else shown_behind context (line ∷ before) lines
+
+abbrev pub shown_lines : ℕ → List DiffLine → List DiffLine
+shown_lines context lines = shown_behind context [] lines
+
+-- the lines of frames, one frame after the other
+abbrev pub lines_in : List DiffFrame → List DiffLine
+lines_in [] = []
+lines_in (frame ∷ frames) = frame.lines ++ lines_in frames

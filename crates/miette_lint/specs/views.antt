@@ -1,0 +1,2 @@
+-- What values of the code stand for.
+pub mod Found

@@ -1,0 +1,166 @@
+//! What `lint` finds, each with its code and with what is proposed for it.
+
+ghost use Rattle.std.specs.Prelude.{◌≡◌, ◌+◌, ◌++◌, ◌<◌, ◌≤◌, ◌^◌, length, map, IfOk, OnOk};
+ghost use Rattle.miette_source_lines.specs.views.Walking.{line_of_text};
+ghost use Rattle.miette_lint.specs.rules.Coded.{coded, coded_ending, coded_findings, coded_overlong, coded_tab};
+ghost use Rattle.miette_lint.specs.rules.Coded.{coded_trailing, line_coded};
+ghost use Rattle.miette_lint.specs.rules.Findings.{cells_of};
+ghost use Rattle.miette_lint.specs.views.Found.{coded_of};
+
+use crate::blanks::beginning_blanks;
+use crate::endings::ending_of;
+use crate::fixed::trimmed;
+use crate::{findings, proposals};
+use miette_fixes::fix::Fix;
+use miette_protocol::protocol::LabeledSpan;
+use miette_source_lines::lines::{LineOfText, Lines};
+use std::alloc::{AllocError, Global};
+
+/// What is found at a place.
+#[derive(Drop)]
+pub struct CodedFinding {
+    /// Which kind it is: `trailing-blanks`, `tab-after-space`, `wide-line` or `final-terminator`.
+    pub code: &'static str,
+    /// The place, whose text says what is found.
+    pub label: LabeledSpan,
+    /// What is proposed for it: one fix, or none.
+    pub fixes: Vec<Fix>,
+}
+
+// What lines are held to: so many columns, and a terminator.
+#[derive(Clone, Copy)]
+struct LineRules {
+    width: usize,
+    ending: &'static str,
+}
+
+// One more finding, where there is a label.
+fn push_coded(
+    found: &mut Vec<CodedFinding>,
+    code: &'static str,
+    labels: Vec<LabeledSpan>,
+    fixes: Vec<Fix>,
+) -> Result<(), AllocError>
+    ensures { OnOk result (map coded_of found.new.items
+        ≡ map coded_of found.old.items ++ coded code.now fixes.items labels.items) }
+{
+    let mut labels = labels.into_iter();
+    if let Some(label) = labels.next() {
+        found.push(CodedFinding { code, label, fixes })?;
+    }
+    Ok(())
+}
+
+// `trailing-blanks`, where blanks end the text, which ends there
+fn push_trailing(
+    alloc: Global,
+    found: &mut Vec<CodedFinding>,
+    text: &[u8],
+    end: usize,
+) -> Result<(), AllocError>
+    requires within { length text.now ≤ end }
+    ensures { OnOk result (map coded_of found.new.items
+        ≡ map coded_of found.old.items ++ coded_trailing end text.now) }
+{
+    let mut labels = Vec::new(alloc);
+    findings::push_trailing(alloc, &mut labels, text, end)?;
+    let mut fixes = Vec::new(alloc);
+    proposals::push_trailing(alloc, &mut fixes, text, end)?;
+    push_coded(found, "trailing-blanks", labels, fixes)
+}
+
+// `tab-after-space`, where the blanks that begin the text have one
+fn push_tab(
+    alloc: Global,
+    found: &mut Vec<CodedFinding>,
+    text: &[u8],
+    start: usize,
+) -> Result<(), AllocError>
+    requires within { start + length text.now < 2 ^ 64 }
+    ensures { OnOk result (map coded_of found.new.items
+        ≡ map coded_of found.old.items ++ coded_tab start text.now) }
+{
+    let mut labels = Vec::new(alloc);
+    findings::push_tab(alloc, &mut labels, text, start)?;
+    let mut fixes = Vec::new(alloc);
+    proposals::push_blanks(alloc, &mut fixes, beginning_blanks(trimmed(text)), start)?;
+    push_coded(found, "tab-after-space", labels, fixes)
+}
+
+// `wide-line`, where the text has more columns
+fn push_overlong(
+    alloc: Global,
+    found: &mut Vec<CodedFinding>,
+    text: &[u8],
+    line: LineOfText,
+    width: usize,
+) -> Result<(), AllocError>
+    requires within { line.start + length text.now < 2 ^ 64 }
+    ensures { OnOk result (map coded_of found.new.items ≡ map coded_of found.old.items
+        ++ coded_overlong width line.text_end (cells_of line.start text.now)) }
+{
+    let mut labels = Vec::new(alloc);
+    findings::push_overlong(alloc, &mut labels, text, line, width)?;
+    push_coded(found, "wide-line", labels, Vec::new(alloc))
+}
+
+// `final-terminator`, of a line that has none
+fn push_unended(
+    alloc: Global,
+    found: &mut Vec<CodedFinding>,
+    text: &[u8],
+    line: LineOfText,
+    ending: &str,
+) -> Result<(), AllocError>
+    requires within { line.start + length text.now < 2 ^ 64 }
+    ensures { OnOk result (map coded_of found.new.items ≡ map coded_of found.old.items
+        ++ coded_ending ending.now (line_of_text line) (cells_of line.start text.now)) }
+{
+    let mut labels = Vec::new(alloc);
+    findings::push_unended(alloc, &mut labels, text, line)?;
+    let mut fixes = Vec::new(alloc);
+    proposals::push_ending(alloc, &mut fixes, line, ending)?;
+    push_coded(found, "final-terminator", labels, fixes)
+}
+
+// All that is found in a line.
+fn push_line(
+    alloc: Global,
+    found: &mut Vec<CodedFinding>,
+    source: &[u8],
+    line: LineOfText,
+    rules: LineRules,
+) -> Result<(), AllocError>
+    requires text { line.start ≤ line.text_end }
+    requires within { line.text_end ≤ length source.now }
+    ensures { OnOk result (map coded_of found.new.items ≡ map coded_of found.old.items
+        ++ line_coded source.now rules.width rules.ending.now (line_of_text line)) }
+{
+    let text = &source[line.start..line.text_end];
+    push_trailing(alloc, found, text, line.text_end)?;
+    push_tab(alloc, found, text, line.start)?;
+    push_overlong(alloc, found, text, line, rules.width)?;
+    push_unended(alloc, found, text, line, rules.ending)
+}
+
+/// All that `lint` finds in a source, in the order of `findings`, each with its code and with what is proposed for it.
+///
+/// # Errors
+/// Where no memory is found.
+pub fn coded_findings(
+    alloc: Global,
+    source: &[u8],
+    width: usize,
+) -> Result<Vec<CodedFinding>, AllocError>
+    ensures { IfOk result (λ found. map coded_of found.items ≡ coded_findings source.now width) }
+{
+    let rules = LineRules {
+        width,
+        ending: ending_of(source),
+    };
+    let mut found = Vec::new(alloc);
+    for line in Lines::new(source, 0) {
+        push_line(alloc, &mut found, source, line, rules)?;
+    }
+    Ok(found)
+}

@@ -1,0 +1,9 @@
+pub mod Arrows
+pub mod ArrowRows
+pub mod Levels
+pub mod Barred
+pub mod NumberRows
+pub mod PlainLines
+pub mod NamedPaths
+pub mod PrintedAlike
+pub mod Themes

@@ -1,0 +1,5 @@
+-- What holds of pictures.
+pub mod FittingRows
+pub mod Arrows
+pub mod Levels
+pub mod NumberRows

@@ -1,0 +1,152 @@
+//! What holds of the definition of a report's text, beside what each picture is proved to keep: which diagnostics are
+//! printed, how their rows stand under arrows, and what the shipped themes keep.
+
+ghost use Rattle.std.specs.Prelude.{◌≡◌, ℕ, Bool, List, [], ◌∷◌, Option, Some, encode_utf8_all, map, true};
+ghost use Rattle.miette_graphical.specs.rules.PossibleAnswers.{IsTextOf};
+ghost use Rattle.miette_graphical.specs.rules.Answers.{Answers, unlisted};
+ghost use Rattle.miette_graphical.specs.laws.Clean.{AreCleanCharacters, AreCleanSettings, IsCleanTree};
+ghost use Rattle.miette_graphical.specs.laws.Alike.{AreAnsweredAlike, AreDrawnAlike};
+ghost use Rattle.miette_graphical.specs.laws.Colourless.{AreDrawings};
+ghost use Rattle.miette_graphical.specs.laws.Colourless.{ArePlain, unhighlighted_answers};
+ghost use Rattle.std.specs.List.{AllByRecursion, Contains};
+ghost use Rattle.miette_graphical.specs.rules.DiagnosticText.{Drawing, rows_text};
+ghost use Rattle.miette_graphical.specs.laws.Paths.{HasPath, Step, printed_at};
+ghost use Rattle.miette_graphical.specs.laws.Holding.{Arrow, HoldsSnippets, HoldsUnder};
+ghost use Rattle.miette_picture_laws.specs.laws.Arrows.{DrawnRowsStand, FirstStands, InnerRowsStand, RowsStand};
+ghost use Rattle.miette_picture_laws.specs.laws.FittingRows.{fed_rows};
+ghost use Rattle.miette_picture_laws.specs.laws.Levels.{HasPlainBars, HaveRoom, HoldsLevels, LevelRowsStand};
+ghost use Rattle.miette_picture_laws.specs.laws.Levels.{StandBehindBars};
+ghost use Rattle.miette_picture_laws.specs.laws.NumberRows.{IsPlainLine, PrintsItself, PrintsNumber};
+ghost use Rattle.miette_snippet_rules.specs.rules.Settings.{SnippetSettings};
+ghost use Rattle.miette_snippet_rules.specs.rules.SnippetLayout.{SnippetContext};
+ghost use Rattle.miette_source_lines.specs.rules.Lines.{Line};
+ghost use Rattle.miette_runs.specs.rules.Runs.{Fragment, print};
+ghost use Rattle.miette_protocol.specs.declared.protocol.Severity.{Severity};
+ghost use Rattle.miette_graphical.specs.laws.CharacterSets.{AreNarrow, AreShipped};
+ghost use Rattle.miette_graphical.specs.rules.PrintedDiagnostics.{PrintedDiagnostic, all_read};
+ghost use Rattle.miette_graphical.specs.rules.PrintedDiagnostics.{diagnostics_of};
+ghost use Rattle.miette_graphical.specs.rules.Settings.{Settings, default_settings};
+ghost use Rattle.miette_graphical.specs.rules.Answers.{SourceAnswer, sources_listed};
+ghost use Rattle.miette_graphical.specs.rules.Snippets.{drawn_rows, drawn_without_fixes, own_rows, source_rows};
+ghost use Rattle.miette_graphical.specs.rules.Snippets.{whole_drawing};
+ghost use Rattle.miette_graphical.specs.rules.Sources.{LabelledSource};
+ghost use Rattle.miette_tree.specs.rules.Diagnosis.{Diagnosis};
+ghost use Rattle.miette_tree.specs.rules.DiagnosticParts.{given_labels};
+ghost use Rattle.miette_graphical.specs.rules.Text.{report_text};
+ghost use Rattle.miette_tree.specs.rules.Tree.{Tree};
+ghost use Rattle.miette_style.specs.declared.theme.Terminal.{Terminal};
+ghost use Rattle.miette_style.specs.rules.Themes.{Characters, no_styles, terminal_theme, Theme};
+ghost use Rattle.miette_runs.specs.rules.Sequences.{erase};
+ghost use Rattle.miette_cells.specs.rules.Widths.{width_of};
+
+use miette_graphical::laws::{colours_law, drawn_rows_law};
+use miette_text::wrap::laws::encoding_law;
+
+/// A text in plain styles is its own without colours: by the definition, where no line has a highlighter's pieces
+/// (`text`), and so each that a handler may print whose highlighter leaves lines plain (`printed`). The styles of the
+/// shipped themes without colours are plain (`shipped`).
+pub fn plain_law()
+    ensures text { (drawing : Drawing) (s : Settings) (t : Tree) (a : Answers) → AreDrawings drawing →
+        AreCleanSettings s → IsCleanTree t → ArePlain s.theme.styles → unhighlighted_answers a ≡ a →
+        erase (report_text drawing s t a) ≡ report_text drawing s t a }
+    ensures printed { (s : Settings) (t : Tree) (bytes : List ℕ) → AreCleanSettings s → IsCleanTree t →
+        ArePlain s.theme.styles → IsTextOf whole_drawing s true t bytes → erase bytes ≡ bytes }
+    ensures shipped { ArePlain no_styles }
+{
+    colours_law();
+    drawn_rows_law();
+    encoding_law();
+}
+
+/// Where every source always reads and lines are plain, one text may be printed of a report: the one in which nothing
+/// is listed.
+pub fn only_law()
+    ensures { (s : Settings) (t : Tree) (bytes : List ℕ) → IsTextOf whole_drawing s true t bytes →
+        all_read (diagnostics_of s t) ≡ true → bytes ≡ encode_utf8_all (report_text whole_drawing s t unlisted) }
+{}
+
+/// The printed diagnostics are those that stand at a path from the outermost one: by steps to a cause where causes
+/// are shown, and to a related report by its number.
+pub fn paths_law()
+    ensures named { (s : Settings) (t : Tree) (p : PrintedDiagnostic) → Contains (diagnostics_of s t) p →
+        HasPath s t p }
+    ensures only { (s : Settings) (t : Tree) (path : List Step) (p : PrintedDiagnostic) → printed_at s t path ≡ Some p →
+        Contains (diagnostics_of s t) p }
+{}
+
+/// Of no diagnostic but the printed ones does a report's text hold a snippet or a fix: drawings that are the same for
+/// each of them give the same text, whatever they are for other sources and diagnostics (`rows`), and so do answers
+/// that are the same at each path at which a diagnostic is printed (`answers`). Where none of them has labels over a
+/// further source, the text is that of their own labels (`without_snippets`), and where none has a fix, that without
+/// fixes (`without_fixes`). The rows of some labels over one source are those of a diagnostic with these labels alone
+/// (`sources`).
+pub fn printed_law()
+    ensures rows { (drawing other : Drawing) (s : Settings) (t : Tree) (a : Answers) →
+        AllByRecursion (AreDrawnAlike drawing other) (diagnostics_of s t) →
+        report_text drawing s t a ≡ report_text other s t a }
+    ensures answers { (drawing : Drawing) (s : Settings) (t : Tree) (a b : Answers) → AreAnsweredAlike s t a b →
+        report_text drawing s t a ≡ report_text drawing s t b }
+    ensures without_snippets { (s : Settings) (t : Tree) (a : Answers) →
+        AllByRecursion (λ p. p.meaning.snippets ≡ []) (diagnostics_of s t) →
+        report_text whole_drawing s t a ≡ report_text (record whole_drawing { rows = own_rows }) s t a }
+    ensures without_fixes { (s : Settings) (t : Tree) (a : Answers) →
+        AllByRecursion (λ p. p.meaning.fixes ≡ []) (diagnostics_of s t) →
+        report_text whole_drawing s t a ≡ report_text drawn_without_fixes s t a }
+    ensures sources { (s : Settings) (it : LabelledSource) (m : Diagnosis) (a : SourceAnswer) →
+        given_labels m.labels ≡ it.labels → m.snippets ≡ [] →
+        source_rows s it.source it.labels a ≡ drawn_rows s it.source m (sources_listed (a ∷ [])) }
+{}
+
+/// Where rows are wrapped, rows of a text that have room stand under an arrow one after the other, without their last
+/// spaces and in their colours, each behind the bar that goes down from the arrow (`rows`); the first one stands behind
+/// the arrow (`first`). So do the rows of an inner report, of which line feeds are cut off (`inner`), and what is drawn
+/// in a text that holds it under one arrow (`drawn`). The rows of snippets are such rows (`printed`).
+pub fn arrows_law()
+    ensures rows { (s : Settings) (outer : Option Severity) (is_last : Bool) (text : List ℕ) →
+        s.wrapping.wrap_lines ≡ true → RowsStand s outer is_last text }
+    ensures first { (s : Settings) (outer : Option Severity) (is_last : Bool) (text : List ℕ) →
+        s.wrapping.wrap_lines ≡ true → FirstStands s outer is_last text }
+    ensures inner { (s : Settings) (arrow : Arrow) (front back : List ℕ) (rows : List (List ℕ)) →
+        s.wrapping.wrap_lines ≡ true → InnerRowsStand s arrow front back rows }
+    ensures drawn { (s : Settings) (arrow : Arrow) (drawn : Settings → List ℕ) (text : List ℕ) →
+        s.wrapping.wrap_lines ≡ true → HoldsUnder (arrow ∷ []) s drawn text → DrawnRowsStand s arrow drawn text }
+    ensures printed { (rows : List (List Fragment)) → fed_rows (map print rows) ≡ rows_text rows }
+{}
+
+/// Where rows are wrapped, the same under any number of arrows, each inside the one before: what is drawn in rows that
+/// have room on each level stands in a text that holds it, one row after the other, behind the bars of all arrows
+/// (`drawn`). So stand the rows of the snippets at each path, on lines of their own, in the bytes of a text that holds
+/// them, as each that may be printed does (`bytes`). Rows of at most the columns that are left under the innermost
+/// arrow have room on each level (`room`), and those in which something is to be seen stand behind all bars at once
+/// (`bars`), in themes whose bar is a visible character, as that of each shipped one is (`shipped`).
+pub fn levels_law()
+    ensures drawn { (s : Settings) (arrows : List Arrow) (drawn : Settings → List ℕ) (text : List ℕ) →
+        s.wrapping.wrap_lines ≡ true → HoldsUnder arrows s drawn text → LevelRowsStand s arrows drawn text }
+    ensures bytes { (drawing : Drawing) (s : Settings) (t : Tree) (a : Answers) (text : List ℕ) →
+        s.wrapping.wrap_lines ≡ true → HoldsSnippets drawing s t a text →
+        HoldsLevels drawing s t a (encode_utf8_all text) }
+    ensures room { (s : Settings) (arrows : List Arrow) (rows : List (List ℕ)) → HasPlainBars s →
+        HaveRoom s arrows rows }
+    ensures bars { (s : Settings) (arrows : List Arrow) (rows : List (List ℕ)) → HasPlainBars s →
+        StandBehindBars s arrows rows }
+    ensures shipped { (s : Settings) → AreShipped s.theme.characters → HasPlainBars s }
+{}
+
+/// The row of a source line that isn't cut, on which no label of several lines lies, in a theme whose numbers are plain
+/// and without a highlighter's pieces: a space, the number to the right in its columns, a space, the bar, a space, and
+/// the text, tabs as spaces, behind a gutter of spaces where the snippet has one (`rows`, by characters and by bytes).
+/// The bytes of printable ASCII text are the line's own (`text`).
+pub fn number_rows_law()
+    ensures rows { (c : SnippetContext) (line : Line) (number : ℕ) → IsPlainLine c line → PrintsNumber c line number }
+    ensures text { (s : SnippetSettings) (bytes : List ℕ) (line : Line) → PrintsItself s bytes line }
+{}
+
+/// Of the characters of the shipped themes: those that frames, gutters and marks are drawn with are one column wide
+/// (`narrow`), none that is printed is an escape (`clean`), and so the settings that a handler is made with hold none,
+/// in whatever styles (`settings`). The theme that fits a terminal has such characters (`terminal`).
+pub fn themes_law()
+    ensures narrow { (c : Characters) → AreShipped c → AreNarrow width_of c }
+    ensures clean { (c : Characters) → AreShipped c → AreCleanCharacters c }
+    ensures settings { (theme : Theme) → AreShipped theme.characters → AreCleanSettings (default_settings theme) }
+    ensures terminal { (t : Terminal) → AreShipped (terminal_theme t).characters }
+{}

@@ -1,0 +1,4 @@
+//! What holds of pictures.
+#![tactic(auto)]
+
+pub mod laws;

@@ -1,0 +1,2 @@
+-- What laws and worked rows say.
+pub mod Worked

@@ -1,0 +1,41 @@
+use Rattle.std.proofs.Common.{◌≡◌, ◌∙◌, ◌+◌, ◌∷◌, ◌&&◌, Bool, false, length, length-drop, not, ap, ap₂, arith}
+use Rattle.std.proofs.Common.{drop, subst, sym}
+use Rattle.std.proofs.lemmas.List.{drop_more, take_rest}
+use Rattle.std.specs.Option.{is_some}
+use Rattle.miette_line_breaks.specs.views.Places.{behind, found_before}
+use Rattle.miette_text.specs.views.Breaks.{piece_len, state_at}
+use Rattle.miette_text.proofs.BreakParts.{piece-goes, state-goes}
+use Rattle.miette_text.proofs.Passing.{piece-passes, state-passes}
+use Rattle.miette_text.proofs.wrap.breaks.rest_len.Goals as goal
+use Rattle.miette_text.proofs.wrap.breaks.rest_len.Goals.{else-not-is_joined-via-then-not-is_joined+else-is_some}
+use Rattle.miette_text.proofs.wrap.breaks.rest_len.Goals.{else-not-is_joined-via-else-not-is_joined}
+
+pub rest-preserved : goal.rest-preserved
+rest-preserved c =
+    let cs = c.args.codes.now in
+    let i = c.rest.i in
+    let x = c.index-codes-i.result in
+    let s = c.rest.state in
+    let t = c.step-found.result.1 in
+    let j = c.is_hyphen-is_joined.result in
+    let n = c.passed_len.result in
+    let r = take_rest cs (i + 1) in
+    let d : drop i cs ≡ x ∷ drop (i + 1) cs = drop_more cs i _ c.rest-test.true
+    ∙ ap (λ y. y ∷ drop (i + 1) cs) (sym c.index-codes-i.is) in
+    let e : (not c.rest.is_joined && is_some (found_before s x)) ≡ false = elim c.else-not-is_joined.branch [
+      | else-not-is_joined-via-then-not-is_joined+else-is_some w ↦
+          ap₂ (λ (j f : Bool). not j && f) w.if-not-is_joined.true
+          (ap is_some (sym c.step-found.ensures.found) ∙ sym w.is_some.ensures ∙ w.if-is_some.false)
+      | else-not-is_joined-via-else-not-is_joined w ↦
+          ap (λ (j : Bool). not j && is_some (found_before s x)) w.if-not-is_joined.false
+    ] in
+    record {
+      len = piece-passes t j (piece_len c.args.start c.args.joined cs) (i + 1) n cs
+          (c.rest.invariant.len ∙ piece-goes s t c.rest.is_joined j i x cs d e c.step-found.ensures.behind
+          c.is_hyphen-is_joined.ensures)
+          (subst (λ xs. piece_len t j xs ≡ n + piece_len t j (drop n xs)) r c.passed_len.ensures.len);
+      state = state-passes c.args.start t (i + 1) n cs (state-goes c.args.start t i x cs d
+          (c.step-found.ensures.behind ∙ ap (λ s. behind s x) c.rest.invariant.state))
+          (subst (λ xs. state_at t n xs ≡ t) r c.passed_len.ensures.state);
+      within = omega (arith, c.passed_len.ensures.within, ap length r, length-drop (i + 1) cs, c.rest-test.true);
+    }

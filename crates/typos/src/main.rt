@@ -1,0 +1,85 @@
+//! Finds words that are often misspelt: `typos FILE` labels them, `typos --fix FILE` prints the file with them mended.
+#![tactic(auto)]
+
+use miette::prelude::*;
+use miette_tree::miette;
+use std::alloc::{AllocError, Global};
+use std::io::Write;
+use std::process::ExitCode;
+use std::{env, fs};
+
+/// Words as they are often misspelt, each with how it is spelt.
+const WORDS: [(&str, &str); 4] = [
+    ("lenght", "length"),
+    ("occured", "occurred"),
+    ("recieve", "receive"),
+    ("seperate", "separate"),
+];
+
+/// How the program is called.
+const USAGE: &str = "usage: typos [--fix] FILE";
+
+fn main(rt: HostRuntime) -> ExitCode {
+    match run(&rt) {
+        Ok(()) => ExitCode::SUCCESS,
+        Err(report) => print_report(&rt, &report),
+    }
+}
+
+fn run<R: Host>(rt: &R) -> Result<()> {
+    let alloc = rt.alloc();
+    let mut words = env::args(rt).into_diagnostic(alloc)?.skip(1);
+    let first = words.next().wrap_err(alloc, USAGE)?;
+    let is_fixing = first.as_str() == "--fix";
+    let name = if is_fixing {
+        words.next().wrap_err(alloc, USAGE)?
+    } else {
+        first
+    };
+    let text = fs::read_to_string(rt, name.as_str())
+        .into_diagnostic(alloc)
+        .wrap_err_with(alloc, || format!(in alloc; "could not read {name}"))?;
+    check(rt, name.as_str(), text, is_fixing)
+}
+
+/// Prints a text with its misspelt words mended, or fails with a report of them.
+fn check<R: Host>(rt: &R, name: &str, text: String, is_fixing: bool) -> Result<()> {
+    let alloc = rt.alloc();
+    let fix = fix_of(alloc, text.as_str())?;
+    if is_fixing {
+        let fixed = fix.apply(alloc, text.as_bytes()).into_diagnostic(alloc)?;
+        return rt
+            .output()
+            .write_all(fixed.as_slice())
+            .into_diagnostic(alloc);
+    }
+    if fix.edits().is_empty() {
+        return Ok(());
+    }
+    let source = OwnedSource::named(alloc, name, None, text.into_bytes())?;
+    Err(report_of(alloc, fix)?.with_owned_source(source))
+}
+
+/// A fix with an edit for each misspelt word of a text.
+fn fix_of(alloc: Global, text: &str) -> Result<Fix, AllocError> {
+    let mut fix = Fix::new(alloc, "spell it right")?;
+    for (wrong, right) in WORDS {
+        for (offset, word) in text.match_indices(wrong) {
+            let edit = Edit::replace((offset, word.len()), String::from_str(alloc, right)?);
+            fix = fix.with_edit(edit)?;
+        }
+    }
+    Ok(fix)
+}
+
+/// A report with a label on each misspelt word, and the fix.
+fn report_of(alloc: Global, fix: Fix) -> Result<Report> {
+    let mut labels = Vec::new(alloc);
+    for edit in fix.edits() {
+        let why = format!(in alloc; "should be `{}`", edit.text())?;
+        labels.push(LabeledSpan::new_with_span(Some(why), *edit.span()))?;
+    }
+    let count = labels.len();
+    let fixes = vec![in alloc; fix]?;
+    Ok(miette!(in alloc; labels = labels, fixes = fixes, "misspelt words: {count}"))
+}
