@@ -1,7 +1,7 @@
 -- The reports of messages always read, over files that do.
 use Rattle.std.proofs.Common.{◌≡◌, ℕ, ◌+◌, List, [], ◌∷◌, ◌++◌, Option, Some, None, option_map, Bool, true, false}
-use Rattle.std.proofs.Common.{All, IfSome, codes, map}
-use Rattle.std.specs.Prelude.{⊤, ◌&&◌, ◌||◌, if◌then◌else◌, option_and_then}
+use Rattle.std.proofs.Common.{All, IfSome, codes, length, map}
+use Rattle.std.specs.Prelude.{⊤, ◌==◌, ◌&&◌, ◌||◌, if◌then◌else◌, option_and_then}
 use Rattle.std.specs.List.{cons_option, filter_map, flat_map, fold, list_all, list_any}
 use Rattle.std.proofs.lemmas.List.Elements.{All-nil, All-cons}
 use Rattle.serde_json.specs.Data.{Data}
@@ -9,7 +9,7 @@ use Rattle.miette_fixes.specs.rules.Edits.{Proposal}
 use Rattle.miette_protocol.specs.rules.Reading.{Source}
 use Rattle.miette_tree.specs.rules.Diagnosis.{Diagnosis, Section}
 use Rattle.miette_tree.specs.rules.Reads.{AllAlwaysRead, AlwaysReads}
-use Rattle.miette_tree.specs.rules.Tree.{Tree, tree, Trees, alone, texts, trees, with_all_snippets}
+use Rattle.miette_tree.specs.rules.Tree.{Tree, tree, Trees, no_trees, alone, texts, trees, with_all_snippets}
 use Rattle.miette_tree.specs.rules.Tree.{with_cause, with_fixes, with_related}
 use Rattle.miette_readers.specs.rules.Members.{objects_at, text_at}
 use Rattle.miette_readers.specs.rules.Places.{Place, Stretch, Told, is_within, joined}
@@ -17,8 +17,8 @@ use Rattle.miette_readers.specs.rules.Proposing.{FileEdit, Offer, is_in}
 use Rattle.miette_readers.specs.rules.Rustc.{edits_of, place_of, told_of}
 use Rattle.miette_readers.specs.rules.RustcReport.{advice, advice_of, all_found, edit_at, edit_found, further_files}
 use Rattle.miette_readers.specs.rules.RustcReport.{held_in, help_of, is_found, is_main, is_other_reason, is_other_type}
-use Rattle.miette_readers.specs.rules.RustcReport.{main_fixes, maybe_source, message_tree, offer_by}
-use Rattle.miette_readers.specs.rules.RustcReport.{offer_of, offer_with, offers_of, others, row_tree}
+use Rattle.miette_readers.specs.rules.RustcReport.{main_fixes, maybe_source, meaning_with, message_tree, offer_by}
+use Rattle.miette_readers.specs.rules.RustcReport.{offer_of, offer_with, offered_tree, offers_of, others, row_tree}
 use Rattle.miette_readers.specs.rules.RustcReport.{rustc_tree, sections_from, told_tree, with_other}
 use Rattle.miette_readers.specs.rules.Settling.{Mark, Settled, found_place, has_no_rows, is_around, is_at, main_of}
 use Rattle.miette_readers.specs.rules.Settling.{marked, maybe_text, newly_marked, nothing_settled, settled, settled_at}

@@ -58,7 +58,7 @@ fn push_names_among<'v>(
 }
 
 /// The names of the files that a row speaks of: the texts that are members `file_name` of its objects, at any depth,
-/// each as often as it is there. Of other files nothing is asked when its report is made.
+/// each as often as it is there.
 ///
 /// # Errors
 /// `AllocError` where memory is refused.
