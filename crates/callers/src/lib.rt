@@ -19,6 +19,5 @@ pub mod pictures;
 pub mod positions;
 pub mod printing;
 pub mod protocol;
-pub mod readers;
 pub mod text;
 pub mod tree;
