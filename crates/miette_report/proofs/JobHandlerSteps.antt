@@ -7,8 +7,6 @@ use Rattle.miette.specs.rules.Choice.{is_graphical}
 use Rattle.miette.specs.rules.Options.{Options}
 use Rattle.miette.specs.declared.options.handler.MietteHandler.TheVariants as handler
 use Rattle.miette_style.specs.declared.theme.Terminal.{Terminal}
-use Rattle.miette_protocol.specs.declared.error.RenderError.{RenderError}
-use Rattle.miette_protocol.specs.declared.error.RenderError.TheVariants as errors
 use Rattle.miette_tree.specs.rules.Tree.{Tree}
 use Rattle.miette_brief.specs.rules.PossibleAnswers as briefly
 use Rattle.miette_brief.specs.rules.Report as brief
@@ -23,6 +21,7 @@ use Rattle.miette_graphical.specs.rules.PrintedDiagnostics.{diagnostics_of, labe
 use Rattle.miette_graphical.proofs.Lists.{labels_of_all}
 use Rattle.miette_json.specs.rules.Json.{json_text}
 use Rattle.miette_json.specs.rules.JsonReport.{value_of}
+use Rattle.miette_json.specs.rules.JsonText.{IsJsonOf}
 use Rattle.miette_graphical.specs.rules.PossibleAnswers as drawn
 use Rattle.miette_graphical.specs.views.Handling.{Handling, draws_plain}
 use Rattle.miette_graphical.specs.rules.Snippets.{whole_drawing}
@@ -46,6 +45,13 @@ json-given is_blank h t old new (Ok x) is reads value =
     let one : AppendsOne (IsGiven is_blank chosen.Json t) old new =
     record { text = json_text (value_of t); is_given = refl; appended = value (told_reads t reads) } in
     subst (λ k. AppendsOne (IsGiven is_blank k t) old new) (sym is) one
+
+-- the spelling of the one value that the report has, where its sources always read
+pub spelled-value : {A E : Type 0} (t : Tree) (old new : List ℕ) (r : Result A E)
+    → OnOk r (AppendsOne (IsJsonOf t) old new) → OnOk r (report_reads t ≡ true → new ≡ old ++ json_text (value_of t))
+spelled-value t old new (Err e) text = tt
+spelled-value t old new (Ok x) text =
+    λ reads. text.appended ∙ ap (λ x. old ++ x) (text.is_given.spelled ∙ ap json_text (text.is_given.always reads))
 
 pub debug-given : {A E H : Type 0} (is_blank : H → Bool) (h : JobHandler H) (t : Tree) (old new : List ℕ)
     (r : Result A E) → h ≡ chosen.Debug
@@ -123,12 +129,6 @@ narrated-refuses {H} h s t is refused =
     let here : MayRefuse {H = H} (chosen.Built (handler.Narrated s)) t = refused in
     subst (λ (k : JobHandler H). MayRefuse k t) (sym is) here
 
--- one that fails only for want of memory refuses none
-pub never-refuses : {A X : Type 0} (r : Result A RenderError) → OnErr r (r ≡ Err errors.Memory) → r ≡ Err errors.Refused
-    → X
-never-refuses (Ok x) memory refused = cc
-never-refuses (Err e) memory refused = let same = sym memory ∙ refused in cc
-
 -- the text where it was appended to none
 pub text-given : {A E F Z : Type 0} (rendered : Result A E) (result : Result (String Z) F) (text : String Z)
     (old : List ℕ) (P : List ℕ → Type 0) → OnOk rendered (AppendsOne P old (string_bytes text))
@@ -150,7 +150,7 @@ handed-on given rendered result out text old P one is_given is_out ended none =
 
 -- ---- what was asked for
 
-asked-text : {H : Type 0} (is_blank : H → Bool) (c : Choice) (o : Options H) (l : Terminal) (h : JobHandler H)
+pub asked-text : {H : Type 0} (is_blank : H → Bool) (c : Choice) (o : Options H) (l : Terminal) (h : JobHandler H)
     (t : Tree) (text : List ℕ) → IsAsked c o l h → IsGiven is_blank h t text → IsJobText is_blank c o l t text
 asked-text is_blank c o l chosen.Json t text is given = subst (λ k. IsJobText is_blank k o l t text) (sym is) given
 asked-text is_blank c o l chosen.Debug t text is given = subst (λ k. IsJobText is_blank k o l t text) (sym is) given
@@ -168,8 +168,8 @@ render-writes is_blank c o l h bytes t (Ok text) is read given =
 no-picture : {H : Type 0} (o : Options H) (l : Terminal) → o.brief ≡ true → is_graphical o l ≡ false
 no-picture o l is = ap (λ b. not b && is_graphical (record o { brief = false }) l) is
 
-asked-refusal : {H : Type 0} (c : Choice) (o : Options H) (l : Terminal) (h : JobHandler H) (t : Tree) → IsAsked c o l h
-    → MayRefuse h t → IsTelling c o l × (report_accepted t ≡ false)
+pub asked-refusal : {H : Type 0} (c : Choice) (o : Options H) (l : Terminal) (h : JobHandler H) (t : Tree)
+    → IsAsked c o l h → MayRefuse h t → IsTelling c o l × (report_accepted t ≡ false)
 asked-refusal c o l chosen.Json t is refused = absurd refused
 asked-refusal c o l chosen.Debug t is refused = absurd refused
 asked-refusal c o l (chosen.Built (handler.Graphical it)) t is refused = absurd refused
@@ -227,8 +227,8 @@ stays-on is_blank (chosen.Built (handler.Brief h)) (chosen.Built (handler.Graphi
 stays-on is_blank (chosen.Built (handler.Brief h)) (chosen.Built (handler.Narrated k)) (chosen.Built m) p q = absurd p
 
 -- what it gives then, it might have given at first
-given-before : {H : Type 0} (is_blank : H → Bool) (h k : JobHandler H) (t : Tree) (text : List ℕ) → Stays is_blank h k
-    → IsGiven is_blank k t text → IsGiven is_blank h t text
+pub given-before : {H : Type 0} (is_blank : H → Bool) (h k : JobHandler H) (t : Tree) (text : List ℕ)
+    → Stays is_blank h k → IsGiven is_blank k t text → IsGiven is_blank h t text
 given-before is_blank chosen.Json k t text stays given = subst (λ x. IsGiven is_blank x t text) stays given
 given-before is_blank chosen.Debug k t text stays given = subst (λ x. IsGiven is_blank x t text) stays given
 given-before is_blank (chosen.Built h) chosen.Json t text stays given = absurd stays
