@@ -11,3 +11,4 @@ pub mod Counting
 pub mod ReadingBack
 pub mod EditsBack
 pub mod Fixing
+pub mod Escaping
