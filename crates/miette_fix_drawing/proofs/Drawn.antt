@@ -1,5 +1,5 @@
 -- The rows of a fix, from those of its frames.
-use Rattle.std.proofs.Common.{ℕ, ◌+◌, ◌-◌, ◌≤◌, ◌≡◌, true, false, eqb, List, [], ◌∷◌, ◌++◌, Option, Some, None}
+use Rattle.std.proofs.Common.{ℕ, ◌+◌, ◌-◌, ◌≡◌, true, false, eqb, List, [], ◌∷◌, ◌++◌, Option, Some}
 use Rattle.std.proofs.Common.{length, refl, sym, ap, ap₂, ◌∙◌, subst, arith}
 use Rattle.std.specs.Prelude.{option_copied}
 use Rattle.std.proofs.lemmas.Bool.{eqb-true}
@@ -17,7 +17,7 @@ use Rattle.miette_fix_rows.specs.rules.DiffFrames.{DiffFrame, frames_from, frame
 use Rattle.miette_fix_rows.specs.rules.DiffRows.{fix_rows, frame_rows, frame_width, place_at, rows_of_frames}
 use Rattle.miette_fix_rows.specs.rules.DiffRows.{rows_of_lines, rows_unless}
 use Rattle.miette_fix_rows.specs.rules.DiffTexts.{deleted_spans, inserted_from, inserted_spans}
-use Rattle.miette_fix_rows.specs.rules.Hunks.{Change, Diff, Hunk, changes, diff, diff_from}
+use Rattle.miette_fix_rows.specs.rules.Hunks.{Change, Hunk, changes, diff, diff_from}
 use Rattle.miette_fix_drawing.specs.declared.frames.FixDrawing.{FixDrawing}
 use Rattle.miette_fix_drawing.specs.steps.Framing.{context_over, drawn_frame, drawn_frames}
 use Rattle.miette_fix_drawing.specs.steps.Spans.{AreApart, AreApartFrom}

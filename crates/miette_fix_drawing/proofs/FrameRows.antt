@@ -1,5 +1,5 @@
 -- The rows of a frame.
-use Rattle.std.proofs.Common.{ℕ, ◌≡◌, List, [], ◌∷◌, ◌++◌, length, decimal, Option, Some, true, ap, ◌∙◌, option_copied}
+use Rattle.std.proofs.Common.{ℕ, ◌≡◌, List, [], ◌∷◌, ◌++◌, length, decimal, Some, true, ap, ◌∙◌, option_copied}
 use Rattle.std.proofs.Common.{refl, sym, false}
 use Rattle.miette_page.specs.rules.Rows.{Row}
 use Rattle.miette_page.specs.views.Printouts.{Printout, ◌⊕◌}

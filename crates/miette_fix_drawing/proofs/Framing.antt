@@ -1,35 +1,32 @@
 -- Frames, lines and segments one after the other.
-use Rattle.std.proofs.Common.{ℕ, zero, suc, ◌+◌, ◌-◌, ◌<◌, ◌≤◌, ◌≡◌, get_or, subst, List, [], ◌∷◌, ◌++◌, length, map}
-use Rattle.std.proofs.Common.{take, drop, max, arith, length-append, Option, cond}
-use Rattle.std.proofs.Common.{refl, sym, ap, ap₂, ◌∙◌, append_assoc, append-nil, Bool, true, false, ◌&&◌}
-use Rattle.std.specs.List.{AllByRecursion, flat_map}
+use Rattle.std.proofs.Common.{ℕ, zero, suc, ◌+◌, ◌-◌, ◌<◌, ◌≤◌, ◌≡◌, get_or, subst, List, [], ◌∷◌, ◌++◌, length}
+use Rattle.std.proofs.Common.{take, drop, max, arith, cond}
+use Rattle.std.proofs.Common.{refl, sym, ap, ◌∙◌, append_assoc, append-nil, true, false}
+use Rattle.std.specs.List.{AllByRecursion}
 use Rattle.std.proofs.Math.Seq.{drop-cons}
 use Rattle.std.proofs.lemmas.Grind.{flat_map-append}
-use Rattle.std.proofs.lemmas.List.{drop-drop, length-drop, map-append, nil_from_length, take-append-drop, take_rest}
+use Rattle.std.proofs.lemmas.List.{drop-drop, length-drop, nil_from_length, take_rest}
 use Rattle.miette_fix_rows.proofs.Texts.{texts_drop, texts_take}
 use Rattle.miette_page.specs.rules.Rows.{Row}
 use Rattle.miette_page.specs.views.Printouts.{Printout, ◌⊕◌}
 use Rattle.miette_page.specs.views.Tokens.{rows_tokens}
 use Rattle.miette_frames.proofs.TextRows.{rows_then}
 use Rattle.miette_fix_rows.specs.rules.Blocks.{bytes_of, line_texts}
-use Rattle.miette_fix_rows.specs.rules.Hunks.{Change, Hunk, added_lines, removed_lines}
-use Rattle.miette_fix_rows.specs.rules.DiffFrames.{DiffLine, Standing, added_with, behind_hunk, changed_lines, frame_at}
+use Rattle.miette_fix_rows.specs.rules.Hunks.{Hunk}
+use Rattle.miette_fix_rows.specs.rules.DiffFrames.{DiffLine, Standing, behind_hunk, changed_lines, frame_at}
 use Rattle.miette_fix_rows.specs.rules.DiffFrames.{frames_from}
-use Rattle.miette_fix_rows.specs.rules.DiffFrames.{is_near, kept_lines, past_changes, past_hunk, past_kept}
-use Rattle.miette_fix_rows.specs.rules.DiffFrames.{removed_with}
+use Rattle.miette_fix_rows.specs.rules.DiffFrames.{is_near, kept_lines, past_hunk}
 use Rattle.miette_fix_rows.specs.rules.DiffRows.{DiffContext, largest, number_of, past, rows_of_line, rows_of_lines}
 use Rattle.miette_fix_drawing.specs.declared.hunks.Hunk.{Hunk as MadeHunk}
 use Rattle.miette_fix_drawing.specs.steps.Framing.{IsFar}
 use Rattle.miette_fix_drawing.specs.views.Hunks.{hunks_of}
 use Rattle.miette_fix_drawing.specs.declared.segments.Segment.{Segment}
-use Rattle.miette_fix_drawing.specs.steps.Passing.{largest_segments, past_lines, past_segments, rows_of_segments}
+use Rattle.miette_fix_rows.specs.laws.Frames.{past_lines}
+use Rattle.miette_fix_rows.proofs.Passing.{past_append, past_whole_hunk}
+use Rattle.miette_fix_drawing.specs.steps.Passing.{largest_segments, past_segments, rows_of_segments}
 use Rattle.miette_fix_drawing.specs.views.ShownLines.{lines_of_segment, lines_of_segments}
 
 -- ---- lines one after the other
-
-pub past_append : (at : Standing) (a b : List DiffLine) → past_lines at (a ++ b) ≡ past_lines (past_lines at a) b
-past_append at [] b = refl
-past_append at (l ∷ a) b = past_append (past at l) a b
 
 pub rows_append : (c : DiffContext) (at : Standing) (a b : List DiffLine)
     → rows_of_lines c at (a ++ b) ≡ rows_of_lines c at a ++ rows_of_lines c (past_lines at a) b
@@ -63,91 +60,6 @@ pub rows_done : (rows more all : List Row) (p q r : Printout) → q ≡ p ⊕ ro
     → p ⊕ rows_tokens all ≡ r → q ⊕ rows_tokens more ≡ r
 rows_done rows more all p q r h e g =
     rows_then rows more p q _ h refl ∙ ap (λ x. p ⊕ rows_tokens x) (sym e) ∙ g
-
--- ---- past lines that stay, and past changes
-
-abbrev stand : ℕ → ℕ → ℕ → ℕ → Standing
-stand a b c d = record { old_line = a; new_line = b; old_offset = c; new_offset = d }
-
-same_stand : (s t : Standing) → s.old_line ≡ t.old_line → s.new_line ≡ t.new_line → s.old_offset ≡ t.old_offset
-    → s.new_offset ≡ t.new_offset → s ≡ t
-same_stand s t p q r w =
-    ap (λ x. stand x s.new_line s.old_offset s.new_offset) p ∙ ap (λ x. stand t.old_line x s.old_offset s.new_offset) q
-    ∙ ap (λ x. stand t.old_line t.new_line x s.new_offset) r
-    ∙ ap (λ x. stand t.old_line t.new_line t.old_offset x) w
-
-pub past_all_kept : (at : Standing) (ls : List (List ℕ)) → past_lines at (kept_lines ls) ≡ past_kept at ls
-past_all_kept at [] = same_stand _ _ (omega arith) (omega arith) (omega arith) (omega arith)
-past_all_kept at (l ∷ ls) =
-    past_all_kept (past at (DiffLine.kept l)) ls
-    ∙ same_stand _ _ (omega arith) (omega arith) (omega arith) (omega arith)
-
--- past removed lines, and past added ones
-abbrev past_removed : Standing → List (List ℕ) → Standing
-past_removed at ls = record at { old_line = at.old_line + length ls; old_offset = at.old_offset + bytes_of ls }
-
-abbrev past_added : Standing → List (List ℕ) → Standing
-past_added at ls = record at { new_line = at.new_line + length ls; new_offset = at.new_offset + bytes_of ls }
-
-removed_with_past : (at : Standing) (ls os : List (List ℕ)) → past_lines at (removed_with ls os) ≡ past_removed at ls
-removed_with_past at [] os = same_stand _ _ (omega arith) refl (omega arith) refl
-removed_with_past at (l ∷ ls) [] =
-    removed_with_past (past at (DiffLine.removed l Option.None)) ls []
-    ∙ same_stand _ _ (omega arith) refl (omega arith) refl
-removed_with_past at (l ∷ ls) (o ∷ os) =
-    removed_with_past (past at (DiffLine.removed l (Option.Some o))) ls os
-    ∙ same_stand _ _ (omega arith) refl (omega arith) refl
-
-added_with_past : (at : Standing) (ls os : List (List ℕ)) → past_lines at (added_with ls os) ≡ past_added at ls
-added_with_past at [] os = same_stand _ _ refl (omega arith) refl (omega arith)
-added_with_past at (l ∷ ls) [] =
-    added_with_past (past at (DiffLine.added l Option.None)) ls []
-    ∙ same_stand _ _ refl (omega arith) refl (omega arith)
-added_with_past at (l ∷ ls) (o ∷ os) =
-    added_with_past (past at (DiffLine.added l (Option.Some o))) ls os
-    ∙ same_stand _ _ refl (omega arith) refl (omega arith)
-
-bytes_on : (a b : List (List ℕ)) → bytes_of (a ++ b) ≡ bytes_of a + bytes_of b
-bytes_on [] b = omega arith
-bytes_on (l ∷ a) b = omega (arith, bytes_on a b)
-
-all_removed : (at : Standing) (cs : List Change)
-    → past_lines at (flat_map (λ change. removed_with change.removed change.added) cs) ≡ past_removed at
-    (removed_lines cs)
-all_removed at [] = same_stand _ _ (omega arith) refl (omega arith) refl
-all_removed at (c ∷ cs) =
-    let more : List DiffLine = flat_map (λ change. removed_with change.removed change.added) cs in
-    past_append at (removed_with c.removed c.added) more
-    ∙ ap (λ s. past_lines s more) (removed_with_past at c.removed c.added)
-    ∙ all_removed (past_removed at c.removed) cs
-    ∙ same_stand _ _ (omega (arith, length-append c.removed (removed_lines cs))) refl
-    (omega (arith, bytes_on c.removed (removed_lines cs))) refl
-
-all_added : (at : Standing) (cs : List Change)
-    → past_lines at (flat_map (λ change. added_with change.added change.removed) cs) ≡ past_added at (added_lines cs)
-all_added at [] = same_stand _ _ refl (omega arith) refl (omega arith)
-all_added at (c ∷ cs) =
-    let more : List DiffLine = flat_map (λ change. added_with change.added change.removed) cs in
-    past_append at (added_with c.added c.removed) more
-    ∙ ap (λ s. past_lines s more) (added_with_past at c.added c.removed)
-    ∙ all_added (past_added at c.added) cs
-    ∙ same_stand _ _ refl (omega (arith, length-append c.added (added_lines cs))) refl
-    (omega (arith, bytes_on c.added (added_lines cs)))
-
-pub past_all_changed : (at : Standing) (cs : List Change) → past_lines at (changed_lines cs) ≡ past_changes at cs
-past_all_changed at cs =
-    let gone : List DiffLine = flat_map (λ change. removed_with change.removed change.added) cs in
-    let come : List DiffLine = flat_map (λ change. added_with change.added change.removed) cs in
-    let parts : changed_lines cs ≡ gone ++ come = refl in
-    ap (past_lines at) parts ∙ past_append at gone come ∙ ap (λ s. past_lines s come) (all_removed at cs)
-    ∙ all_added (past_removed at (removed_lines cs)) cs
-
-pub past_whole_hunk : (at : Standing) (hunk : Hunk)
-    → past_lines at (kept_lines hunk.kept ++ changed_lines hunk.changes) ≡ past_hunk at hunk
-past_whole_hunk at hunk =
-    past_append at (kept_lines hunk.kept) (changed_lines hunk.changes)
-    ∙ ap (λ s. past_lines s (changed_lines hunk.changes)) (past_all_kept at hunk.kept)
-    ∙ past_all_changed (past_kept at hunk.kept) hunk.changes
 
 -- ---- segments one after the other
 
@@ -265,19 +177,6 @@ largest_pushed at next ss s m n hm hn h =
     ∙ ap (λ x. max (largest at (lines_of_segments ss)) (largest x (lines_of_segment s))) hn
     ∙ sym (largest_append at (lines_of_segments ss) (lines_of_segment s))
     ∙ ap (largest at) (sym (segments_pushed ss s))
-
-pub past_first : (at : Standing) (hunk : Hunk) (n : ℕ)
-    → past_lines (past_kept at (take n hunk.kept)) (kept_lines (drop n hunk.kept) ++ changed_lines hunk.changes)
-    ≡ past_hunk at hunk
-past_first at hunk n =
-    let changed : List DiffLine = changed_lines hunk.changes in
-    let k : List (List ℕ) = hunk.kept in
-    ap (λ s. past_lines s (kept_lines (drop n k) ++ changed)) (sym (past_all_kept at (take n k)))
-    ∙ sym (past_append at (kept_lines (take n k)) (kept_lines (drop n k) ++ changed))
-    ∙ ap (past_lines at) (sym (append_assoc (kept_lines (take n k)) (kept_lines (drop n k)) changed))
-    ∙ ap (λ ls. past_lines at (ls ++ changed)) (sym (map-append DiffLine.kept (take n k) (drop n k)))
-    ∙ ap (λ ls. past_lines at (kept_lines ls ++ changed)) (take-append-drop n k)
-    ∙ past_whole_hunk at hunk
 
 -- ---- the items of a loop
 

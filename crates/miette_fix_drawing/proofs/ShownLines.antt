@@ -1,13 +1,13 @@
 -- Lines that are shown, one after the other.
-use Rattle.std.proofs.Common.{ℕ, ◌≡◌, List, [], ◌∷◌, ◌++◌, Option, Some, None, max, refl, sym, ap, ◌∙◌}
+use Rattle.std.proofs.Common.{ℕ, ◌≡◌, List, [], ◌∷◌, ◌++◌, Option, Some, None, refl, sym, ap, ◌∙◌}
 use Rattle.miette_page.specs.views.Printouts.{Printout, ◌⊕◌}
 use Rattle.miette_page.specs.views.Tokens.{rows_tokens}
 use Rattle.miette_frames.proofs.TextRows.{rows_then}
 use Rattle.miette_fix_rows.specs.rules.DiffFrames.{DiffLine, Standing, added_with, removed_with, removed, added}
-use Rattle.miette_fix_rows.specs.rules.DiffRows.{DiffContext, largest, number_of, past, rows_of_line, rows_of_lines}
+use Rattle.miette_fix_rows.specs.rules.DiffRows.{DiffContext, past, rows_of_line, rows_of_lines}
 use Rattle.miette_fix_drawing.specs.declared.segments.Kind.{Kind}
 use Rattle.miette_fix_drawing.specs.declared.segments.Kind.TheVariants.{Kept, Removed, Added}
-use Rattle.miette_fix_drawing.specs.steps.Passing.{past_lines}
+use Rattle.miette_fix_rows.specs.laws.Frames.{past_lines}
 use Rattle.miette_fix_drawing.specs.views.ShownLines.{line_by, lines_by, text_before}
 
 -- the first of lines, which goes with the first of others

@@ -13,7 +13,7 @@ ghost use Rattle.miette_fix_rows.specs.rules.DiffFrames.{past_hunk, past_kept};
 ghost use Rattle.miette_fix_rows.specs.rules.DiffFrames.{removed_with};
 ghost use Rattle.miette_fix_rows.specs.rules.DiffRows.{largest, rows_of_lines};
 ghost use Rattle.miette_fix_drawing.specs.steps.Framing.{IsCursor, IsFar, PointsWithin, drawn_frame, drawn_frames};
-ghost use Rattle.miette_fix_drawing.specs.steps.Passing.{past_lines};
+ghost use Rattle.miette_fix_rows.specs.laws.Frames.{past_lines};
 ghost use Rattle.miette_fix_drawing.specs.steps.Spans.{AreApart};
 ghost use Rattle.miette_fix_drawing.specs.views.Contexts.{context_with};
 ghost use Rattle.miette_fix_drawing.specs.views.Frames.{frame_of, start_standing};

@@ -5,7 +5,7 @@ ghost use Rattle.miette_page.specs.views.Printouts.{◌⊕◌};
 ghost use Rattle.miette_page.specs.views.Tokens.{rows_tokens};
 ghost use Rattle.miette_fix_rows.specs.rules.Blocks.{line_texts};
 ghost use Rattle.miette_fix_rows.specs.rules.DiffRows.{largest, number_of, past, rows_of_line, rows_of_lines};
-ghost use Rattle.miette_fix_drawing.specs.steps.Passing.{past_lines};
+ghost use Rattle.miette_fix_rows.specs.laws.Frames.{past_lines};
 ghost use Rattle.miette_fix_drawing.specs.steps.Spans.{AreApart};
 ghost use Rattle.miette_fix_drawing.specs.views.Contexts.{context_with};
 ghost use Rattle.miette_fix_drawing.specs.views.ShownLines.{Fits, line_of_shown, lines_of_segment, shown_before};

@@ -1,4 +1,6 @@
 pub mod Texts
+pub mod Passing
+pub mod Frames
 pub mod Commons
 pub mod Places
 pub mod Parting

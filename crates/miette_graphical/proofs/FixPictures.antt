@@ -1,11 +1,13 @@
 -- Each printed fix that can be applied shows its changes.
 use Rattle.std.proofs.Common.{◌≡◌, ℕ, List, [], ◌∷◌, length, map, Option, Some, None, IfSome, false, true, refl, ap}
+use Rattle.std.proofs.Common.{◌∙◌}
 use Rattle.std.specs.List.{AllByRecursion}
+use Rattle.miette_fix_rows.specs.laws.Frames.{StandAmong, all_lines, at_start, new_texts, old_texts}
 use Rattle.miette_fix_rows.specs.laws.Whole.{IsTrimmed}
 use Rattle.miette_fix_rows.specs.rules.Blocks.{line_texts}
 use Rattle.miette_fix_rows.specs.rules.DiffFrames.{frames_of}
 use Rattle.miette_fix_rows.specs.rules.DiffRows.{rows_of_frames, rows_unless}
-use Rattle.miette_fix_rows.specs.rules.Hunks.{changes, diff, lines_after, lines_before}
+use Rattle.miette_fix_rows.specs.rules.Hunks.{Diff, changes, diff, lines_after, lines_before}
 use Rattle.miette_fixes.specs.rules.Applying.{applied, by_offset, refusal}
 use Rattle.miette_fixes.specs.rules.Edits.{Proposal, Replacement}
 use Rattle.miette_protocol.specs.rules.Reading.{Source}
@@ -21,6 +23,9 @@ pub record ChangeLaws : Type 0 where
   pub applied_text : (source : List ℕ) (edits : List Replacement) → refusal (length source) edits ≡ None
       → lines_after (diff source edits) ≡ line_texts (applied source edits)
   pub trimmed : (source : List ℕ) (edits : List Replacement) → AllByRecursion IsTrimmed (changes source edits)
+  pub frames : (context : ℕ) (d : Diff) → StandAmong false at_start (frames_of context d) (all_lines d)
+  pub old : (d : Diff) → old_texts (all_lines d) ≡ lines_before d
+  pub new : (d : Diff) → new_texts (all_lines d) ≡ lines_after d
 
 framed : (s : Settings) (source : Source) (edits : List Replacement) → refusal (length source.bytes) edits ≡ None
     → rows_of_fix s (Some source) false edits ≡ map runs_of_row (rows_of_frames (snippet_settings s) source
@@ -33,8 +38,9 @@ tells : ChangeLaws → (s : Settings) (source : Source) (edits : List Replacemen
     → refusal (length source.bytes) edits ≡ None → TellsChanges s source edits
 tells laws s source edits h = record {
   rows = framed s source edits h;
-  before = laws.source source.bytes edits h;
-  after = laws.applied_text source.bytes edits h;
+  frames = laws.frames s.layout.context_lines (diff source.bytes edits);
+  before = laws.old (diff source.bytes edits) ∙ laws.source source.bytes edits h;
+  after = laws.new (diff source.bytes edits) ∙ laws.applied_text source.bytes edits h;
   trimmed = laws.trimmed source.bytes edits;
 }
 

@@ -46,7 +46,7 @@ ghost use Rattle.miette_cells.specs.rules.Widths.{width_of};
 
 use miette_fix_laws::laws::{fix_rows_fade, fix_rows_hold_no_escape};
 use miette_fix_rows::laws::{
-    a_diff_has_the_applied_text, a_diff_has_the_source, changes_are_trimmed,
+    a_diff_has_the_applied_text, a_diff_has_the_source, changes_are_trimmed, frames_stand_in_a_diff,
 };
 use miette_layout::laws::{
     cut_lines_are_parted, cut_rows_are_narrow, ends_are_drawn, groups_are_ranges,
@@ -175,14 +175,16 @@ pub fn snippets_law()
 }
 
 /// Of each printed fix that can be applied, over a source that always reads: its rows are the frames of what it
-/// changes. The removed and the unchanged lines of that are exactly the source's lines, the added and the unchanged
-/// ones the applied text's; no change has lines in common at its ends.
+/// changes. These stand among all lines of that, in order and none twice, each numbered by what stands before it, and
+/// nothing but unchanged lines is left out. Of all lines the removed and the unchanged ones are exactly the source's,
+/// the added and the unchanged ones the applied text's; no change has lines in common at its ends.
 pub fn fixes_law()
     ensures { (s : Settings) (t : Tree) → AllByRecursion (FixesAreTold s) (diagnostics_of s t) }
 {
     a_diff_has_the_source();
     a_diff_has_the_applied_text();
     changes_are_trimmed();
+    frames_stand_in_a_diff();
 }
 
 /// The printed diagnostics are those that stand at a path from the outermost one: by steps to a cause where causes

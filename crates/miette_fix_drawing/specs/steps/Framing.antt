@@ -1,12 +1,12 @@
 -- Frames in the making.
-use Rattle.std.specs.Prelude.{ℕ, ◌+◌, ◌≡◌, ◌≤◌, length, List, [], ◌∷◌, ◌++◌, take, Option, Some, option_copied, true}
+use Rattle.std.specs.Prelude.{ℕ, ◌+◌, ◌≡◌, ◌≤◌, length, List, [], ◌∷◌, ◌++◌, Some, option_copied, true}
 use Rattle.std.specs.Prelude.{false}
 use Rattle.miette_source_lines.specs.rules.Lines.{line_of}
 use Rattle.miette_page.specs.rules.Rows.{Row}
 use Rattle.miette_snippet_rules.specs.rules.Frames.{top_row_of, bottom_row}
 use Rattle.miette_snippet_rules.specs.views.SettingsView.{settings_of}
 use Rattle.miette_fix_rows.specs.rules.Hunks.{Hunk}
-use Rattle.miette_fix_rows.specs.rules.DiffFrames.{DiffFrame, DiffLine, first_place, is_near}
+use Rattle.miette_fix_rows.specs.rules.DiffFrames.{DiffFrame, first_place, is_near}
 use Rattle.miette_fix_rows.specs.rules.DiffRows.{DiffContext, frame_width, place_at, rows_of_lines}
 use Rattle.miette_fix_drawing.specs.declared.frames.FixDrawing.{FixDrawing}
 use Rattle.miette_fix_drawing.specs.declared.places.Cursor.{Cursor}

@@ -1,16 +1,12 @@
--- Past lines, one after the other.
+-- Segments, one after the other.
 use Rattle.std.specs.Prelude.{ℕ, List, [], ◌∷◌, ◌++◌, max}
 use Rattle.miette_page.specs.rules.Rows.{Row}
-use Rattle.miette_fix_rows.specs.rules.DiffFrames.{DiffLine, Standing}
-use Rattle.miette_fix_rows.specs.rules.DiffRows.{DiffContext, largest, past, rows_of_lines}
+use Rattle.miette_fix_rows.specs.laws.Frames.{past_lines}
+use Rattle.miette_fix_rows.specs.rules.DiffFrames.{Standing}
+use Rattle.miette_fix_rows.specs.rules.DiffRows.{DiffContext, largest, rows_of_lines}
 use Rattle.miette_fix_drawing.specs.declared.segments.Segment.{Segment}
 use Rattle.miette_fix_drawing.specs.views.ShownLines.{lines_of_segment}
 
-abbrev pub past_lines : Standing → List DiffLine → Standing
-past_lines at [] = at
-past_lines at (line ∷ lines) = past_lines (past at line) lines
-
--- segment by segment
 abbrev pub past_segments : Standing → List Segment → Standing
 past_segments at [] = at
 past_segments at (s ∷ ss) = past_segments (past_lines at (lines_of_segment s)) ss

@@ -4,7 +4,7 @@ use Rattle.std.proofs.lemmas.Result.{on_ok_weaker}
 use Rattle.miette_fixes.proofs.Overlaps.{fit_unrefused}
 use Rattle.miette_fixes.specs.rules.Applying.{by_offset}
 use Rattle.miette_fix_rows.specs.rules.DiffTexts.{deleted_spans, inserted_spans}
-use Rattle.miette_fix_rows.specs.rules.Hunks.{changes, diff_from}
+use Rattle.miette_fix_rows.specs.rules.Hunks.{changes}
 use Rattle.miette_fix_drawing.specs.steps.Framing.{PointsWithin}
 use Rattle.miette_fix_drawing.specs.steps.Rising.{AreRising}
 use Rattle.miette_fix_drawing.specs.views.Hunks.{hunks_of}

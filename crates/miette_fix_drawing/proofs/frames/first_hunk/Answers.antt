@@ -1,11 +1,12 @@
-use Rattle.std.proofs.Common.{◌≡◌, ap, sym, ◌∙◌, ◌++◌, ◌-◌, length, drop, take, rules}
-use Rattle.miette_fix_rows.specs.rules.Blocks.{bytes_of, line_texts}
+use Rattle.std.proofs.Common.{◌≡◌, ap, ◌∙◌, ◌++◌, ◌-◌, length, drop, take, rules}
+use Rattle.miette_fix_rows.specs.rules.Blocks.{line_texts}
 use Rattle.miette_fix_rows.specs.rules.DiffFrames.{changed_lines, kept_lines, left_before, past_kept}
-use Rattle.miette_fix_drawing.specs.steps.Passing.{past_lines}
+use Rattle.miette_fix_rows.specs.laws.Frames.{past_lines}
 use Rattle.miette_fix_drawing.specs.views.Hunks.{hunk_of}
 use Rattle.miette_fix_drawing.specs.views.ShownLines.{lines_of_segments}
 use Rattle.miette_fix_drawing.specs.views.Standings.{standing_of}
-use Rattle.miette_fix_drawing.proofs.Framing.{front_texts, past_all_kept, rest_texts}
+use Rattle.miette_fix_rows.proofs.Passing.{past_all_kept}
+use Rattle.miette_fix_drawing.proofs.Framing.{front_texts, rest_texts}
 use Rattle.miette_fix_drawing.proofs.frames.first_hunk.Goals as goal
 
 pub returns-clause-at : goal.returns-clause-at

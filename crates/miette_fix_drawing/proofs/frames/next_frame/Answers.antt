@@ -1,12 +1,13 @@
-use Rattle.std.proofs.Common.{◌≡◌, ap, sym, ◌∙◌, ◌++◌, true, drop, take}
+use Rattle.std.proofs.Common.{◌≡◌, ap, sym, ◌∙◌, ◌++◌, true, drop}
 use Rattle.miette_fix_rows.specs.rules.Blocks.{line_texts}
 use Rattle.miette_fix_rows.specs.rules.DiffFrames.{changed_lines, frames_from, kept_lines, left_before, past_hunk}
 use Rattle.miette_fix_rows.specs.rules.DiffRows.{largest}
-use Rattle.miette_fix_drawing.specs.steps.Passing.{past_lines}
+use Rattle.miette_fix_rows.specs.laws.Frames.{past_lines}
 use Rattle.miette_fix_drawing.specs.views.Hunks.{hunk_of, hunks_of}
 use Rattle.miette_fix_drawing.specs.views.ShownLines.{lines_of_segments}
 use Rattle.miette_fix_drawing.specs.views.Standings.{standing_of}
-use Rattle.miette_fix_drawing.proofs.Framing.{far_frames, largest_pushed, past_first}
+use Rattle.miette_fix_rows.proofs.Passing.{past_first}
+use Rattle.miette_fix_drawing.proofs.Framing.{far_frames, largest_pushed}
 use Rattle.miette_fix_drawing.proofs.frames.next_frame.Goals as goal
 
 pub returns-clause-largest : goal.returns-clause-largest

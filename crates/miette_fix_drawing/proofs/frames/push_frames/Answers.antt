@@ -1,15 +1,10 @@
-use Rattle.std.proofs.Common.{◌≡◌, ◌+◌, ◌-◌, ap, refl, subst, sym, ◌∙◌, length, take, drop, false, arith}
+use Rattle.std.proofs.Common.{◌-◌, refl, subst, sym, length, arith}
 use Rattle.std.specs.List.{AllByRecursion}
 use Rattle.std.proofs.lemmas.List.{take_rest}
 use Rattle.miette_source_lines.proofs.Places.{line_of_none}
-use Rattle.miette_page.specs.views.Printouts.{◌⊕◌}
-use Rattle.miette_page.specs.views.Tokens.{rows_tokens}
-use Rattle.miette_fix_rows.specs.rules.Blocks.{line_texts}
-use Rattle.miette_fix_rows.specs.rules.DiffFrames.{frames_from}
-use Rattle.miette_fix_drawing.specs.steps.Framing.{PointsWithin, drawn_frames}
+use Rattle.miette_fix_drawing.specs.steps.Framing.{PointsWithin}
 use Rattle.miette_fix_drawing.specs.views.Hunks.{hunks_of}
-use Rattle.miette_fix_drawing.specs.views.Standings.{standing_of}
-use Rattle.miette_fix_drawing.proofs.Framing.{all_drop, hunks_drop, left_behind}
+use Rattle.miette_fix_drawing.proofs.Framing.{all_drop, hunks_drop}
 use Rattle.miette_fix_drawing.proofs.frames.push_frames.Goals as goal
 
 pub loop-done-init : goal.loop-done-init

@@ -1,6 +1,6 @@
 use Rattle.std.proofs.Common.{◌≡◌, ◌+◌, ap, sym, ◌∙◌, ◌∷◌, ◌++◌, drop, true, arith, rules}
 use Rattle.miette_fix_rows.specs.rules.DiffFrames.{behind_hunk, frames_from, is_near}
-use Rattle.miette_fix_drawing.specs.steps.Passing.{past_lines}
+use Rattle.miette_fix_rows.specs.laws.Frames.{past_lines}
 use Rattle.miette_fix_drawing.specs.views.Hunks.{hunk_of, hunks_of}
 use Rattle.miette_fix_drawing.specs.views.ShownLines.{lines_of_segments}
 use Rattle.miette_fix_drawing.proofs.Framing.{item_first, near_lines, near_standing}

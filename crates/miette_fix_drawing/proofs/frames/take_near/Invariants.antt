@@ -1,6 +1,6 @@
 use Rattle.std.proofs.Common.{ℕ, ◌≡◌, ◌++◌, List, drop, true}
 use Rattle.miette_fix_rows.specs.rules.DiffFrames.{Standing, behind_hunk, frames_from}
-use Rattle.miette_fix_drawing.specs.steps.Passing.{past_lines}
+use Rattle.miette_fix_rows.specs.laws.Frames.{past_lines}
 use Rattle.miette_fix_drawing.specs.views.Hunks.{hunks_of}
 use Rattle.miette_fix_drawing.specs.views.ShownLines.{lines_of_segments}
 use Rattle.miette_fix_drawing.proofs.frames.take_near.Given as goal

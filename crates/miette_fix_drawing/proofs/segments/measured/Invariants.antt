@@ -1,6 +1,6 @@
 use Rattle.std.proofs.Common.{◌≡◌, length, max}
 use Rattle.miette_fix_rows.specs.rules.DiffRows.{largest}
-use Rattle.miette_fix_drawing.specs.steps.Passing.{past_lines}
+use Rattle.miette_fix_rows.specs.laws.Frames.{past_lines}
 use Rattle.miette_fix_drawing.specs.views.ShownLines.{lines_of_segment}
 use Rattle.miette_fix_drawing.specs.views.Standings.{standing_of}
 use Rattle.miette_fix_drawing.proofs.segments.measured.Given as goal

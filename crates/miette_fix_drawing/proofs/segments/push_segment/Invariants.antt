@@ -2,7 +2,7 @@ use Rattle.std.proofs.Common.{◌≡◌, length}
 use Rattle.miette_page.specs.views.Printouts.{◌⊕◌}
 use Rattle.miette_page.specs.views.Tokens.{rows_tokens}
 use Rattle.miette_fix_rows.specs.rules.DiffRows.{rows_of_lines}
-use Rattle.miette_fix_drawing.specs.steps.Passing.{past_lines}
+use Rattle.miette_fix_rows.specs.laws.Frames.{past_lines}
 use Rattle.miette_fix_drawing.specs.views.Contexts.{context_with}
 use Rattle.miette_fix_drawing.specs.views.ShownLines.{lines_of_segment}
 use Rattle.miette_fix_drawing.specs.views.Standings.{standing_of}

@@ -1,0 +1,282 @@
+-- The frames of a diff stand among its lines.
+use Rattle.std.proofs.Common.{ℕ, ◌+◌, ◌<◌, ◌≡◌, Bool, true, false, cond, List, [], ◌∷◌, ◌++◌, length, take, drop}
+use Rattle.std.proofs.Common.{arith, refl, sym, ap, ◌∙◌, append_assoc, subst}
+use Rattle.std.specs.List.{flat_map}
+use Rattle.std.proofs.lemmas.Bool.{leb-false}
+use Rattle.std.proofs.lemmas.List.{length-drop, length-take-le, map-append, take-append-drop, take-take}
+use Rattle.miette_fix_rows.specs.laws.Frames.{StandAmong, all_lines, at_start, lines_with, new_texts, old_texts}
+use Rattle.miette_fix_rows.specs.laws.Frames.{past_lines}
+use Rattle.miette_fix_rows.specs.rules.DiffFrames.{DiffFrame, DiffLine, Standing, added_with, behind_hunk}
+use Rattle.miette_fix_rows.specs.rules.DiffFrames.{changed_lines, frame_at, frames_from, frames_of, is_near, kept_lines}
+use Rattle.miette_fix_rows.specs.rules.DiffFrames.{left_before, past_hunk, past_kept, removed_with}
+use Rattle.miette_fix_rows.specs.rules.Hunks.{Change, Diff, Hunk, added_lines, lines_after, lines_before, removed_lines}
+use Rattle.miette_fix_rows.proofs.Passing.{past_all_kept, past_append, past_first, past_whole_hunk}
+
+-- ---- the lines before the edits
+
+old_kept : (ls : List (List ℕ)) (x : List DiffLine) → old_texts (kept_lines ls ++ x) ≡ ls ++ old_texts x
+old_kept [] x = refl
+old_kept (l ∷ ls) x = ap (λ t. l ∷ t) (old_kept ls x)
+
+old_removed : (ls os : List (List ℕ)) (x : List DiffLine) → old_texts (removed_with ls os ++ x) ≡ ls ++ old_texts x
+old_removed [] os x = refl
+old_removed (l ∷ ls) [] x = ap (λ t. l ∷ t) (old_removed ls [] x)
+old_removed (l ∷ ls) (o ∷ os) x = ap (λ t. l ∷ t) (old_removed ls os x)
+
+old_added : (ls os : List (List ℕ)) (x : List DiffLine) → old_texts (added_with ls os ++ x) ≡ old_texts x
+old_added [] os x = refl
+old_added (l ∷ ls) [] x = old_added ls [] x
+old_added (l ∷ ls) (o ∷ os) x = old_added ls os x
+
+-- the lines that changes remove, and those that they add
+abbrev gone : List Change → List DiffLine
+gone cs = flat_map (λ change. removed_with change.removed change.added) cs
+
+abbrev come : List Change → List DiffLine
+come cs = flat_map (λ change. added_with change.added change.removed) cs
+
+old_gone : (cs : List Change) (x : List DiffLine) → old_texts (gone cs ++ x) ≡ removed_lines cs ++ old_texts x
+old_gone [] x = refl
+old_gone (c ∷ cs) x =
+    ap old_texts (append_assoc (removed_with c.removed c.added) (gone cs) x)
+    ∙ old_removed c.removed c.added (gone cs ++ x) ∙ ap (λ t. c.removed ++ t) (old_gone cs x)
+    ∙ sym (append_assoc c.removed (removed_lines cs) (old_texts x))
+
+old_come : (cs : List Change) (x : List DiffLine) → old_texts (come cs ++ x) ≡ old_texts x
+old_come [] x = refl
+old_come (c ∷ cs) x =
+    ap old_texts (append_assoc (added_with c.added c.removed) (come cs) x)
+    ∙ old_added c.added c.removed (come cs ++ x) ∙ old_come cs x
+
+old_changed : (cs : List Change) (x : List DiffLine)
+    → old_texts (changed_lines cs ++ x) ≡ removed_lines cs ++ old_texts x
+old_changed cs x =
+    ap old_texts (append_assoc (gone cs) (come cs) x) ∙ old_gone cs (come cs ++ x)
+    ∙ ap (λ t. removed_lines cs ++ t) (old_come cs x)
+
+old_only_kept : (ls : List (List ℕ)) → old_texts (kept_lines ls) ≡ ls
+old_only_kept [] = refl
+old_only_kept (l ∷ ls) = ap (λ t. l ∷ t) (old_only_kept ls)
+
+grouped : (a b c d : List (List ℕ)) → a ++ (b ++ (c ++ d)) ≡ ((a ++ b) ++ c) ++ d
+grouped a b c d = sym (append_assoc (a ++ b) c d ∙ append_assoc a b (c ++ d))
+
+old_with : (behind : List (List ℕ)) (hunks : List Hunk) → old_texts (lines_with behind hunks)
+    ≡ flat_map (λ (hunk : Hunk). hunk.kept ++ removed_lines hunk.changes) hunks ++ behind
+old_with behind [] = old_only_kept behind
+old_with behind (h ∷ hunks) =
+    let more : List (List ℕ) = flat_map (λ (hunk : Hunk). hunk.kept ++ removed_lines hunk.changes) hunks in
+    old_kept h.kept (changed_lines h.changes ++ lines_with behind hunks)
+    ∙ ap (λ t. h.kept ++ t) (old_changed h.changes (lines_with behind hunks))
+    ∙ ap (λ t. h.kept ++ (removed_lines h.changes ++ t)) (old_with behind hunks)
+    ∙ grouped h.kept (removed_lines h.changes) more behind
+
+pub old_lines : (diff : Diff) → old_texts (all_lines diff) ≡ lines_before diff
+old_lines diff = old_with diff.behind diff.hunks
+
+-- ---- the lines after them
+
+new_kept : (ls : List (List ℕ)) (x : List DiffLine) → new_texts (kept_lines ls ++ x) ≡ ls ++ new_texts x
+new_kept [] x = refl
+new_kept (l ∷ ls) x = ap (λ t. l ∷ t) (new_kept ls x)
+
+new_removed : (ls os : List (List ℕ)) (x : List DiffLine) → new_texts (removed_with ls os ++ x) ≡ new_texts x
+new_removed [] os x = refl
+new_removed (l ∷ ls) [] x = new_removed ls [] x
+new_removed (l ∷ ls) (o ∷ os) x = new_removed ls os x
+
+new_added : (ls os : List (List ℕ)) (x : List DiffLine) → new_texts (added_with ls os ++ x) ≡ ls ++ new_texts x
+new_added [] os x = refl
+new_added (l ∷ ls) [] x = ap (λ t. l ∷ t) (new_added ls [] x)
+new_added (l ∷ ls) (o ∷ os) x = ap (λ t. l ∷ t) (new_added ls os x)
+
+new_gone : (cs : List Change) (x : List DiffLine) → new_texts (gone cs ++ x) ≡ new_texts x
+new_gone [] x = refl
+new_gone (c ∷ cs) x =
+    ap new_texts (append_assoc (removed_with c.removed c.added) (gone cs) x)
+    ∙ new_removed c.removed c.added (gone cs ++ x) ∙ new_gone cs x
+
+new_come : (cs : List Change) (x : List DiffLine) → new_texts (come cs ++ x) ≡ added_lines cs ++ new_texts x
+new_come [] x = refl
+new_come (c ∷ cs) x =
+    ap new_texts (append_assoc (added_with c.added c.removed) (come cs) x)
+    ∙ new_added c.added c.removed (come cs ++ x) ∙ ap (λ t. c.added ++ t) (new_come cs x)
+    ∙ sym (append_assoc c.added (added_lines cs) (new_texts x))
+
+new_changed : (cs : List Change) (x : List DiffLine)
+    → new_texts (changed_lines cs ++ x) ≡ added_lines cs ++ new_texts x
+new_changed cs x =
+    ap new_texts (append_assoc (gone cs) (come cs) x) ∙ new_gone cs (come cs ++ x) ∙ new_come cs x
+
+new_only_kept : (ls : List (List ℕ)) → new_texts (kept_lines ls) ≡ ls
+new_only_kept [] = refl
+new_only_kept (l ∷ ls) = ap (λ t. l ∷ t) (new_only_kept ls)
+
+new_with : (behind : List (List ℕ)) (hunks : List Hunk) → new_texts (lines_with behind hunks)
+    ≡ flat_map (λ (hunk : Hunk). hunk.kept ++ added_lines hunk.changes) hunks ++ behind
+new_with behind [] = new_only_kept behind
+new_with behind (h ∷ hunks) =
+    let more : List (List ℕ) = flat_map (λ (hunk : Hunk). hunk.kept ++ added_lines hunk.changes) hunks in
+    new_kept h.kept (changed_lines h.changes ++ lines_with behind hunks)
+    ∙ ap (λ t. h.kept ++ t) (new_changed h.changes (lines_with behind hunks))
+    ∙ ap (λ t. h.kept ++ (added_lines h.changes ++ t)) (new_with behind hunks)
+    ∙ grouped h.kept (added_lines h.changes) more behind
+
+pub new_lines : (diff : Diff) → new_texts (all_lines diff) ≡ lines_after diff
+new_lines diff = new_with diff.behind diff.hunks
+
+-- ---- frames
+
+-- Some of the lines that hunks have are shown at their front, and frames stand among the rest.
+abbrev IsFollowed : List (List ℕ) → List Hunk → Standing → List DiffLine → List DiffFrame → Type 0
+IsFollowed behind hunks at shown frames =
+    (rest : List DiffLine) × (lines_with behind hunks ≡ shown ++ rest)
+    × StandAmong true (past_lines at shown) frames rest
+
+near : (behind : List (List ℕ)) (at : Standing) (hunk : Hunk) (hunks : List Hunk) (shown : List DiffLine)
+    (frames : List DiffFrame) → IsFollowed behind hunks (past_hunk at hunk) shown frames
+    → IsFollowed behind (hunk ∷ hunks) at (kept_lines hunk.kept ++ (changed_lines hunk.changes ++ shown)) frames
+near behind at hunk hunks shown frames h =
+    let k : List DiffLine = kept_lines hunk.kept in
+    let c : List DiffLine = changed_lines hunk.changes in
+    let stands : past_lines at (k ++ (c ++ shown)) ≡ past_lines (past_hunk at hunk) shown =
+    ap (past_lines at) (sym (append_assoc k c shown)) ∙ past_append at (k ++ c) shown
+    ∙ ap (λ s. past_lines s shown) (past_whole_hunk at hunk) in (
+      h.0,
+      ap (λ t. k ++ (c ++ t)) h.1 ∙ ap (λ t. k ++ t) (sym (append_assoc c shown h.0))
+          ∙ sym (append_assoc k (c ++ shown) h.0),
+      subst (λ s. StandAmong true s frames h.0) (sym stands) h.2,
+    )
+
+kept_parts : (ls : List (List ℕ)) (n : ℕ) → kept_lines ls ≡ kept_lines (take n ls) ++ kept_lines (drop n ls)
+kept_parts ls n = ap kept_lines (sym (take-append-drop n ls)) ∙ map-append DiffLine.kept (take n ls) (drop n ls)
+
+-- a frame with its hunk, among the lines behind those that are left out
+framed : (behind : List (List ℕ)) (hunk : Hunk) (hunks : List Hunk) (n : ℕ) (shown rest : List DiffLine)
+    → lines_with behind hunks ≡ shown ++ rest
+    → kept_lines (drop n hunk.kept) ++ (changed_lines hunk.changes ++ lines_with behind hunks)
+    ≡ (kept_lines (drop n hunk.kept) ++ (changed_lines hunk.changes ++ shown)) ++ rest
+framed behind hunk hunks n shown rest e =
+    let d : List DiffLine = kept_lines (drop n hunk.kept) in
+    let c : List DiffLine = changed_lines hunk.changes in
+    ap (λ t. d ++ (c ++ t)) e ∙ ap (λ t. d ++ t) (sym (append_assoc c shown rest))
+    ∙ sym (append_assoc d (c ++ shown) rest)
+
+past_frame : (at : Standing) (hunk : Hunk) (n : ℕ) (shown : List DiffLine)
+    → past_lines (past_kept at (take n hunk.kept))
+    (kept_lines (drop n hunk.kept) ++ (changed_lines hunk.changes ++ shown)) ≡ past_lines (past_hunk at hunk) shown
+past_frame at hunk n shown =
+    let s : Standing = past_kept at (take n hunk.kept) in
+    let d : List DiffLine = kept_lines (drop n hunk.kept) in
+    let c : List DiffLine = changed_lines hunk.changes in
+    ap (past_lines s) (sym (append_assoc d c shown)) ∙ past_append s (d ++ c) shown
+    ∙ ap (λ t. past_lines t shown) (past_first at hunk n)
+
+-- the lines between two hunks that are left out
+abbrev left_out : ℕ → Hunk → List (List ℕ)
+left_out context hunk = drop context (take (left_before context hunk) hunk.kept)
+
+left_parts : (context : ℕ) (hunk : Hunk) → context + context < length hunk.kept
+    → take (left_before context hunk) hunk.kept ≡ take context hunk.kept ++ left_out context hunk
+left_parts context hunk lt =
+    let n : ℕ = left_before context hunk in
+    sym (take-append-drop context (take n hunk.kept))
+    ∙ ap (λ t. t ++ left_out context hunk) (take-take context n hunk.kept (omega (arith, lt)))
+
+left_some : (context : ℕ) (hunk : Hunk) → context + context < length hunk.kept → 0 < length (left_out context hunk)
+left_some context hunk lt =
+    let n : ℕ = left_before context hunk in
+    let whole : length (take n hunk.kept) ≡ n = length-take-le n hunk.kept (omega arith) in
+    omega (arith, lt, length-drop context (take n hunk.kept), whole)
+
+far : (context : ℕ) (behind : List (List ℕ)) (at : Standing) (hunk : Hunk) (hunks : List Hunk)
+    (shown : List DiffLine) (frames : List DiffFrame) → context + context < length hunk.kept
+    → IsFollowed behind hunks (past_hunk at hunk) shown frames
+    → IsFollowed behind (hunk ∷ hunks) at (kept_lines (take context hunk.kept))
+    (frame_at context at hunk shown ∷ frames)
+far context behind at hunk hunks shown frames lt h =
+    let n : ℕ = left_before context hunk in
+    let front : List DiffLine = kept_lines (take context hunk.kept) in
+    let left : List (List ℕ) = left_out context hunk in
+    let frame : DiffFrame = frame_at context at hunk shown in
+    let rest : List DiffLine = kept_lines left ++ (frame.lines ++ h.0) in
+    let parts : kept_lines (take n hunk.kept) ≡ front ++ kept_lines left =
+    ap kept_lines (left_parts context hunk lt) ∙ map-append DiffLine.kept (take context hunk.kept) left in
+    let changed : List DiffLine = changed_lines hunk.changes ++ lines_with behind hunks in
+    let last : List DiffLine = kept_lines (drop n hunk.kept) in
+    let all : lines_with behind (hunk ∷ hunks) ≡ front ++ rest =
+    ap (λ t. t ++ changed) (kept_parts hunk.kept n) ∙ ap (λ t. (t ++ last) ++ changed) parts
+    ∙ append_assoc (front ++ kept_lines left) last changed
+    ∙ append_assoc front (kept_lines left) (last ++ changed)
+    ∙ ap (λ t. front ++ (kept_lines left ++ t)) (framed behind hunk hunks n shown h.0 h.1) in
+    let numbered : frame.at ≡ past_lines (past_lines at front) (kept_lines left) =
+    sym (past_all_kept at (take n hunk.kept)) ∙ ap (past_lines at) parts
+    ∙ past_append at front (kept_lines left) in (
+      rest,
+      all,
+      (
+        left,
+        h.0,
+        refl,
+        numbered,
+        λ on. left_some context hunk lt,
+        subst (λ s. StandAmong true s frames h.0) (sym (past_frame at hunk n shown)) h.2,
+      ),
+    )
+
+-- what is shown, and the frames, if the next hunk is near
+abbrev shown_if : Bool → ℕ → List (List ℕ) → Hunk → List Hunk → List DiffLine
+shown_if b context behind hunk hunks =
+    cond b (kept_lines hunk.kept ++ (changed_lines hunk.changes ++ behind_hunk context behind hunks))
+    (kept_lines (take context hunk.kept))
+
+abbrev frames_if : Bool → ℕ → List (List ℕ) → Standing → Hunk → List Hunk → List DiffFrame
+frames_if b context behind at hunk hunks =
+    cond b (frames_from context behind true (past_hunk at hunk) hunks)
+    (frame_at context at hunk (behind_hunk context behind hunks)
+    ∷ frames_from context behind true (past_hunk at hunk) hunks)
+
+followed_if : (b : Bool) (context : ℕ) (behind : List (List ℕ)) (at : Standing) (hunk : Hunk) (hunks : List Hunk)
+    → is_near context hunk ≡ b → IsFollowed behind hunks (past_hunk at hunk) (behind_hunk context behind hunks)
+    (frames_from context behind true (past_hunk at hunk) hunks)
+    → IsFollowed behind (hunk ∷ hunks) at (shown_if b context behind hunk hunks)
+    (frames_if b context behind at hunk hunks)
+followed_if true context behind at hunk hunks e h =
+    near behind at hunk hunks (behind_hunk context behind hunks)
+    (frames_from context behind true (past_hunk at hunk) hunks) h
+followed_if false context behind at hunk hunks e h =
+    far context behind at hunk hunks (behind_hunk context behind hunks)
+    (frames_from context behind true (past_hunk at hunk) hunks)
+    (leb-false (length hunk.kept) (context + context) e) h
+
+followed : (context : ℕ) (behind : List (List ℕ)) (at : Standing) (hunks : List Hunk)
+    → IsFollowed behind hunks at (behind_hunk context behind hunks) (frames_from context behind true at hunks)
+followed context behind at [] =
+    (kept_lines (drop context behind), kept_parts behind context, (drop context behind, refl))
+followed context behind at (hunk ∷ hunks) =
+    followed_if (is_near context hunk) context behind at hunk hunks refl
+    (followed context behind (past_hunk at hunk) hunks)
+
+stand_from : (context : ℕ) (behind : List (List ℕ)) (at : Standing) (hunks : List Hunk)
+    → StandAmong false at (frames_from context behind false at hunks) (lines_with behind hunks)
+stand_from context behind at [] = (behind, refl)
+stand_from context behind at (hunk ∷ hunks) =
+    let n : ℕ = left_before context hunk in
+    let shown : List DiffLine = behind_hunk context behind hunks in
+    let frames : List DiffFrame = frames_from context behind true (past_hunk at hunk) hunks in
+    let h : IsFollowed behind hunks (past_hunk at hunk) shown frames =
+    followed context behind (past_hunk at hunk) hunks in
+    let front : List DiffLine = kept_lines (take n hunk.kept) in
+    let last : List DiffLine = kept_lines (drop n hunk.kept) in
+    let changed : List DiffLine = changed_lines hunk.changes ++ lines_with behind hunks in (
+      take n hunk.kept,
+      h.0,
+      ap (λ t. t ++ changed) (kept_parts hunk.kept n) ∙ append_assoc front last changed
+          ∙ ap (λ t. front ++ t) (framed behind hunk hunks n shown h.0 h.1),
+      sym (past_all_kept at (take n hunk.kept)),
+      λ on. (let no : false ≡ true = on in cc),
+      subst (λ s. StandAmong true s frames h.0) (sym (past_frame at hunk n shown)) h.2,
+    )
+
+pub frames_stand : (context : ℕ) (diff : Diff) → StandAmong false at_start (frames_of context diff) (all_lines diff)
+frames_stand context diff = stand_from context diff.behind at_start diff.hunks
