@@ -2,19 +2,19 @@
 use Rattle.std.proofs.Common.{◌≡◌, ℕ, zero, suc, ◌+◌, ◌<◌, ◌≤◌, Bool, true, false, cond, List, [], ◌∷◌, ◌++◌, refl, sym}
 use Rattle.std.proofs.Common.{ap, ◌∙◌, arith, append_assoc, add-one, length, get_or, take, drop}
 use Rattle.std.specs.Prelude.{nat_lt, not, Some, None, position}
-use Rattle.std.specs.List.{position_or_len, prefix_len}
+use Rattle.std.specs.List.{list_all, position_or_len, prefix_len}
 use Rattle.std.proofs.Math.Seq.{drop-cons}
 use Rattle.std.proofs.lemmas.List.Quantifiers.{position-Some}
-use Rattle.std.proofs.lemmas.Bool.{ltb-false}
+use Rattle.std.proofs.lemmas.Bool.{and_parts, ltb-false, not-true}
 use Rattle.std.proofs.lemmas.Bool.Decides.{nat_tests}
 use Rattle.miette_brief.specs.declared.escapes.Part.{Part}
 use Rattle.miette_brief.specs.declared.escapes.Part.TheVariants.{Message, Property}
 use Rattle.miette_brief.specs.rules.Commands.{byte_text, escaped, is_escaped, percent}
 
-byte_single : (part : Part) (x : ℕ) → is_escaped part x ≡ false → byte_text part x ≡ x ∷ []
+pub byte_single : (part : Part) (x : ℕ) → is_escaped part x ≡ false → byte_text part x ≡ x ∷ []
 byte_single part x e = rw e refl
 
-byte_escaped : (part : Part) (x : ℕ) → is_escaped part x ≡ true → byte_text part x ≡ percent x
+pub byte_escaped : (part : Part) (x : ℕ) → is_escaped part x ≡ true → byte_text part x ≡ percent x
 byte_escaped part x e = rw e refl
 
 pub escaped_is_ascii : (part : Part) (x : ℕ) → is_escaped part x ≡ true → x < 128
@@ -85,3 +85,12 @@ module _ (part : Part) where
 
   pub none_escaped : (xs : List ℕ) → None ≡ position (is_escaped part) xs → escaped part xs ≡ xs
   none_escaped xs e = none_found xs (nat_lt (position_or_len (is_escaped part) xs) (length xs)) refl e
+
+-- a text of bytes that stand for themselves
+pub plain_escaped : (part : Part) (xs : List ℕ) → list_all (λ b. not (is_escaped part b)) xs ≡ true
+    → escaped part xs ≡ xs
+plain_escaped part [] h = refl
+plain_escaped part (x ∷ xs) h =
+    let p = and_parts (not (is_escaped part x)) (list_all (λ b. not (is_escaped part b)) xs) h in
+    ap (λ l. l ++ escaped part xs) (byte_single part x (not-true (is_escaped part x) p.0))
+    ∙ ap (λ l. x ∷ l) (plain_escaped part xs p.1)

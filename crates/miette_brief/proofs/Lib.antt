@@ -12,3 +12,6 @@ pub mod ReadingBack
 pub mod EditsBack
 pub mod Fixing
 pub mod Escaping
+pub mod Marking
+pub mod Commanding
+pub mod CommandsBack

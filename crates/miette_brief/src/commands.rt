@@ -136,6 +136,6 @@ pub(crate) fn push_saying(out: &mut String, title: &str, text: &str) -> Result<(
         ≡ string_bytes out.old ++ saying_text (record { title = title.now; text = text.now })) }
 {
     out.push_str("%0A")?;
-    out.push_str(title)?;
+    push_escaped(out, Part::Message, title)?;
     push_escaped(out, Part::Message, text)
 }

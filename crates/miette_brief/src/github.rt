@@ -1,7 +1,7 @@
 //! A report as a workflow command of GitHub.
 
 ghost use Rattle.std.specs.Prelude.{◌≡◌, ◌++◌, ◌∷◌, ◌<◌, ◌&&◌, [], false, codes, OnOk, IfOk, string_bytes, map, length};
-ghost use Rattle.std.specs.Prelude.{option_copied, IfSome};
+ghost use Rattle.std.specs.Prelude.{◌+◌, Some, drop, option_copied, slice_range, take, IfSome};
 ghost use Rattle.std.specs.Option.{option_map};
 ghost use Rattle.miette_tree.specs.views.Report.{tree_of};
 ghost use Rattle.miette_tree.specs.views.Owned.{shown_source};
@@ -16,13 +16,14 @@ ghost use Rattle.miette_brief.specs.rules.Github.{advice_sayings, cause_sayings,
 ghost use Rattle.miette_brief.specs.rules.Github.{note_sayings, saying, saying_if, site_in};
 ghost use Rattle.miette_brief.specs.rules.Marks.{with_first};
 ghost use Rattle.miette_brief.specs.steps.AppendedParts.{AppendsOwn};
-ghost use Rattle.miette_brief.specs.steps.CommandParts.{mark_of, site_of, spot_of};
-ghost use Rattle.miette_brief.specs.steps.Marking.{IsChosenSite, IsSourceSite};
+ghost use Rattle.miette_brief.specs.steps.CommandParts.{mark_of, site_of};
+ghost use Rattle.miette_brief.specs.steps.Marking.{IsChosenSite, IsSourceSite, spot_at, spot_of_mark};
+ghost use Rattle.miette_brief.specs.steps.Reads.{IsSpotUnread};
 ghost use Rattle.miette_labels.specs.rules.Groups.{in_order};
 
 use crate::commands::{Site, push_head, push_saying};
 use crate::escapes::{Part, push_escaped};
-use crate::marks::{Mark, Spot, marks_of, primary_at, spot_at};
+use crate::marks::{Mark, marks_of, primary_at};
 use crate::places::source_place;
 use miette_fixes::fix::Fix;
 use miette_positions::place::{PositionEncoding, Region};
@@ -54,6 +55,13 @@ fn site_in<'a>(name: Option<&'a str>, region: Option<Region>) -> Option<Site<'a>
     }
 }
 
+/// The region of a span, in UTF-16.
+fn whole_region(span: SourceSpan, source: &[u8]) -> Option<Region>
+    ensures { result ≡ region_of Utf16 source.now span }
+{
+    region_of(span, source, PositionEncoding::Utf16)
+}
+
 /// The name of a source alone.
 fn source_site<'a, S: SourceCode>(source: Option<SourceRef<'a, S>>) -> Option<Site<'a>>
     ensures { IsSourceSite (option_map (shown_source S.source) source.entry) (option_map site_of result) }
@@ -62,34 +70,55 @@ fn source_site<'a, S: SourceCode>(source: Option<SourceRef<'a, S>>) -> Option<Si
 }
 
 /// Where a span over a source lies; `Refused` where the source can't be read as a whole.
-fn spot_site<'a, S: SourceCode>(spot: Spot<'a, S>) -> Result<Option<Site<'a>>, RenderError>
-    ensures site { IfOk result (λ site. option_map site_of site ≡ site_in (spot_of S.source spot.entry).source.name
-        (region_of Utf16 (spot_of S.source spot.entry).source.bytes (spot_of S.source spot.entry).span)) }
-    ensures refused { (result ≡ Err RenderError.Refused) →
-        (spot_of S.source spot.entry).source.always_reads ≡ false }
+fn span_site<'a, S: SourceCode>(
+    source: SourceRef<'a, S>,
+    span: &SourceSpan,
+) -> Result<Option<Site<'a>>, RenderError>
+    ensures site { IfOk result (λ site. option_map site_of site ≡ site_in (shown_source S.source source.entry).name
+        (region_of Utf16 (shown_source S.source source.entry).bytes span.now)) }
+    ensures refused { (result ≡ Err RenderError.Refused) → (shown_source S.source source.entry).always_reads ≡ false }
 {
     let begin = SourceSpan::new(SourceOffset::from(0), 0);
-    match spot.source.read_span(&begin, 1, usize::MAX) {
+    match source.read_span(&begin, 1, usize::MAX) {
         Ok(lent) => {
-            let region = region_of(spot.span, lent.data(), PositionEncoding::Utf16);
+            let region = whole_region(*span, lent.data());
             Ok(site_in(lent.name(), region))
         }
         Err(_) => Err(RenderError::Refused),
     }
 }
 
-/// Where a diagnostic lies: at its primary label, else in its source.
-fn chosen_site<'a, S: SourceCode>(
+/// Where a label lies, a label without a source at the name of this one; `Refused` where a source can't be read.
+fn mark_site<'a, S: SourceCode>(
     source: Option<SourceRef<'a, S>>,
-    spot: Option<Spot<'a, S>>,
+    mark: &Mark<'a, S>,
 ) -> Result<Option<Site<'a>>, RenderError>
     ensures site { IfOk result (λ site. IsChosenSite (option_map (shown_source S.source) source.entry)
-        (option_map (spot_of S.source) spot.entry) (option_map site_of site)) }
-    ensures refused { (result ≡ Err RenderError.Refused) →
-        IfSome spot.entry (λ it. (spot_of S.source it).source.always_reads ≡ false) }
+        (spot_of_mark (mark_of S.source mark.now)) (option_map site_of site)) }
+    ensures refused { (result ≡ Err RenderError.Refused) → IsSpotUnread (spot_of_mark (mark_of S.source mark.now)) }
 {
-    match spot {
-        Some(spot) => spot_site(spot),
+    match mark.source {
+        Some(own) => span_site(own, mark.label.inner()),
+        None => Ok(source_site(source)),
+    }
+}
+
+/// Where a diagnostic lies with this primary label, or without one; `Refused` where a source can't be read.
+fn chosen_site<'a, S: SourceCode>(
+    source: Option<SourceRef<'a, S>>,
+    marks: &[Mark<'a, S>],
+    at: Option<usize>,
+) -> Result<Option<Site<'a>>, RenderError>
+    ensures site { IfOk result (λ site. IsChosenSite (option_map (shown_source S.source) source.entry)
+        (spot_at at (map (mark_of S.source) marks.now)) (option_map site_of site)) }
+    ensures refused { (result ≡ Err RenderError.Refused) →
+        IsSpotUnread (spot_at at (map (mark_of S.source) marks.now)) }
+{
+    let Some(at) = at else {
+        return Ok(source_site(source));
+    };
+    match marks.get(at) {
+        Some(mark) => mark_site(source, mark),
         None => Ok(source_site(source)),
     }
 }
@@ -124,7 +153,36 @@ fn push_notes<S: SourceCode>(out: &mut String, marks: &[Mark<'_, S>]) -> Result<
     Ok(())
 }
 
-/// The text of one label first, then those of all others.
+/// The label at a place, those before it, and those behind it.
+fn parted<'m, 'a, S: SourceCode>(
+    marks: &'m [Mark<'a, S>],
+    at: usize,
+) -> (&'m [Mark<'a, S>], &'m [Mark<'a, S>], &'m [Mark<'a, S>])
+    requires { at < length marks.now }
+    ensures first { result.0.now ≡ slice_range marks.now at (at + 1) }
+    ensures before { result.1.now ≡ take at marks.now }
+    ensures behind { result.2.now ≡ drop (at + 1) marks.now }
+{
+    (&marks[at..at + 1], &marks[..at], &marks[at + 1..])
+}
+
+/// The text of the label at a place first, then those of all others.
+fn push_notes_from<S: SourceCode>(
+    out: &mut String,
+    marks: &[Mark<'_, S>],
+    at: usize,
+) -> Result<(), AllocError>
+    requires { at < length marks.now }
+    ensures { OnOk result (string_bytes out.new ≡ string_bytes out.old
+        ++ sayings_text (note_sayings (with_first (Some at) (map (mark_of S.source) marks.now)))) }
+{
+    let (first, before, behind) = parted(marks, at);
+    push_notes(out, first)?;
+    push_notes(out, before)?;
+    push_notes(out, behind)
+}
+
+/// The texts of labels, that of one of them first, where it is told which.
 fn push_first_notes<S: SourceCode>(
     out: &mut String,
     marks: &[Mark<'_, S>],
@@ -134,12 +192,10 @@ fn push_first_notes<S: SourceCode>(
     ensures { OnOk result (string_bytes out.new
         ≡ string_bytes out.old ++ sayings_text (note_sayings (with_first first (map (mark_of S.source) marks.now)))) }
 {
-    let Some(at) = first else {
-        return push_notes(out, marks);
-    };
-    push_notes(out, &marks[at..at + 1])?;
-    push_notes(out, &marks[..at])?;
-    push_notes(out, &marks[at + 1..])
+    match first {
+        Some(at) => push_notes_from(out, marks, at),
+        None => push_notes(out, marks),
+    }
 }
 
 /// Causes that are texts.
@@ -248,7 +304,7 @@ pub(crate) fn push_command<'a, D: Diagnostic, S: SourceCode>(
 {
     let marks = marks_of(*out.allocator(), report, source)?;
     let first = primary_at(&marks);
-    let site = chosen_site(source, spot_at(&marks, first))?;
+    let site = chosen_site(source, &marks, first)?;
     push_head(out, report.severity(), site, nonempty(report.code()))?;
     push_message(chain, report, &marks, first, out)?;
     Ok(())

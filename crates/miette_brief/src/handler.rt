@@ -166,9 +166,10 @@ impl BriefReportHandler {
             (in_order (given_labels (head (tree_of D.meaning S.source report.now)).labels))
             && holds_further accepts (head (tree_of D.meaning S.source report.now)).snippets) ≡ false }
     {
+        let chain = self.tells_causes();
         match self.form() {
-            Form::Gcc => push_own(self.tells_causes(), report, source, out),
-            Form::Github => push_command(self.tells_causes(), report, source, out),
+            Form::Gcc => push_own(chain, report, source, out),
+            Form::Github => push_command(chain, report, source, out),
         }
     }
 

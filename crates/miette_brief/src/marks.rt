@@ -1,6 +1,6 @@
 //! The labels of a diagnostic over all of its sources, and the primary one among them.
 
-ghost use Rattle.std.specs.Prelude.{◌≡◌, ◌<◌, ◌∷◌, ◌++◌, ◌&&◌, [], false, IfSome, OnOk, IfOk, map, length, Some};
+ghost use Rattle.std.specs.Prelude.{◌≡◌, ◌<◌, ◌∷◌, ◌++◌, ◌&&◌, [], false, IfSome, OnOk, IfOk, map, length, position, Some};
 ghost use Rattle.std.specs.List.{All};
 ghost use Rattle.std.specs.Option.{option_map};
 ghost use Rattle.miette_tree.specs.views.Attached.{section_of};
@@ -14,14 +14,13 @@ ghost use Rattle.miette_labels.specs.views.GivenLabels.{label_at};
 ghost use Rattle.miette_brief.specs.rules.Marks.{further_marks, is_marked, is_placed, mark_over, marks};
 ghost use Rattle.miette_brief.specs.rules.Marks.{primary_at as primary_index};
 ghost use Rattle.miette_brief.specs.rules.PossibleAnswers.{HasAccepted, FurtherAccepted};
-ghost use Rattle.miette_brief.specs.steps.CommandParts.{mark_of, spot_of};
-ghost use Rattle.miette_brief.specs.steps.Marking.{spot_at as spot_in};
+ghost use Rattle.miette_brief.specs.steps.CommandParts.{mark_of};
 
 use crate::places::label_place;
 use crate::spots::label_of;
 use miette_labels::order::{Turn, by_offset};
 use miette_protocol::error::RenderError;
-use miette_protocol::protocol::{Diagnostic, LabeledSpan, SourceSpan};
+use miette_protocol::protocol::{Diagnostic, LabeledSpan};
 use miette_protocol::source::SourceCode;
 use miette_tree::parts::labels_of;
 use miette_tree::report::{Report, Snippets, SourceRef};
@@ -33,13 +32,6 @@ use std::alloc::{AllocError, Global};
 pub(crate) struct Mark<'a, S> {
     pub(crate) source: Option<SourceRef<'a, S>>,
     pub(crate) label: &'a LabeledSpan,
-}
-
-/// A span over a source.
-#[derive_where(Clone, Copy)]
-pub(crate) struct Spot<'a, S> {
-    pub(crate) source: SourceRef<'a, S>,
-    pub(crate) span: SourceSpan,
 }
 
 /// Appends a label.
@@ -151,28 +143,29 @@ fn is_marked<S: SourceCode>(it: &Mark<'_, S>) -> bool
     it.source.is_some() && it.label.primary()
 }
 
+/// How many labels stand before the first over a source that is marked as primary, if there is one.
+fn marked_at<S: SourceCode>(marks: &[Mark<'_, S>]) -> Option<usize>
+    ensures at { result ≡ position is_marked (map (mark_of S.source) marks.now) }
+    ensures inside { IfSome result (λ at. at < length marks.now) }
+{
+    marks.iter().position(|it| is_marked(it))
+}
+
+/// How many stand before the first over a source, if there is one.
+fn placed_at<S: SourceCode>(marks: &[Mark<'_, S>]) -> Option<usize>
+    ensures at { result ≡ position is_placed (map (mark_of S.source) marks.now) }
+    ensures inside { IfSome result (λ at. at < length marks.now) }
+{
+    marks.iter().position(|it| is_placed(it))
+}
+
 /// How many labels stand before the primary one, if there is one.
 pub(crate) fn primary_at<S: SourceCode>(marks: &[Mark<'_, S>]) -> Option<usize>
     ensures at { result ≡ primary_index (map (mark_of S.source) marks.now) }
     ensures inside { IfSome result (λ at. at < length marks.now) }
 {
-    match marks.iter().position(|it| is_marked(it)) {
+    match marked_at(marks) {
         Some(at) => Some(at),
-        None => marks.iter().position(|it| is_placed(it)),
+        None => placed_at(marks),
     }
-}
-
-/// The span of a label and its source, where there are both.
-pub(crate) fn spot_at<'a, S: SourceCode>(
-    marks: &[Mark<'a, S>],
-    at: Option<usize>,
-) -> Option<Spot<'a, S>>
-    ensures { option_map (spot_of S.source) result ≡ spot_in at (map (mark_of S.source) marks.now) }
-{
-    let mark = marks.get(at?)?;
-    let source = mark.source?;
-    Some(Spot {
-        source,
-        span: *mark.label.inner(),
-    })
 }

@@ -109,7 +109,7 @@ command_name (Some Advice) = codes "notice"
 
 -- `%0Ahelp: try it`
 abbrev pub saying_text : Saying → List ℕ
-saying_text it = codes "%0A" ++ (it.title ++ escaped Message it.text)
+saying_text it = codes "%0A" ++ (escaped Message it.title ++ escaped Message it.text)
 
 abbrev pub sayings_text : List Saying → List ℕ
 sayings_text its = flat_map saying_text its

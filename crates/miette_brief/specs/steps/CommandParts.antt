@@ -4,20 +4,15 @@ use Rattle.miette_protocol.specs.rules.Reading.{Source}
 use Rattle.miette_tree.specs.views.Owned.{shown_source}
 use Rattle.miette_brief.specs.declared.commands.Site.{Site as GivenSite}
 use Rattle.miette_brief.specs.declared.marks.Mark.{Mark as GivenMark}
-use Rattle.miette_brief.specs.declared.marks.Spot.{Spot as GivenSpot}
 use Rattle.miette_brief.specs.rules.Commands.{Command, Site, Property, property_text, further_property, title_properties}
 use Rattle.miette_brief.specs.rules.Commands.{properties_text, site_properties, command_name}
 use Rattle.miette_brief.specs.rules.Marks.{Mark}
-use Rattle.miette_brief.specs.rules.Places.{Spot}
 
 abbrev pub site_of : GivenSite → Site
 site_of it = record { file = it.file.now; region = it.region }
 
 abbrev pub mark_of : {S : Type 0} → (S → Source) → GivenMark S → Mark
 mark_of is it = record { source = option_map (shown_source is) it.source; label = it.label.now }
-
-abbrev pub spot_of : {S : Type 0} → (S → Source) → GivenSpot S → Spot
-spot_of is it = record { source = shown_source is it.source; span = it.span }
 
 -- a title behind a file or not
 abbrev pub title_text : Option Site → Option (List ℕ) → List ℕ
