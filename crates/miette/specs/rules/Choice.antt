@@ -6,7 +6,6 @@ use Rattle.std.specs.Str.{bytes_eq}
 use Rattle.miette_style.specs.rules.Themes.{Styles, Theme, ansi_styles, ascii_characters, no_styles}
 use Rattle.miette_style.specs.rules.Themes.{rgb_styles, unicode_characters}
 use Rattle.miette_style.specs.declared.theme.Terminal.{Terminal}
-use Rattle.miette_brief.specs.declared.form.Form.TheVariants.{Gcc}
 use Rattle.miette_brief.specs.rules.Report.{BriefSettings}
 use Rattle.miette_narrated.specs.rules.Report as narrated
 use Rattle.miette_graphical.specs.views.Handling.{Handling}
@@ -73,9 +72,9 @@ picture_settings o t =
 abbrev pub narration_settings : {H : Type 0} → Options H → narrated.NarrationSettings
 narration_settings o = record { chain = o.cause_chain; context = o.layout.context_lines; footer = o.footer }
 
--- how reports are told in brief, in the rows of GCC
+-- how reports are told in brief
 abbrev pub brief_settings : {H : Type 0} → Options H → BriefSettings
-brief_settings o = record { chain = o.cause_chain; form = Gcc }
+brief_settings o = record { chain = o.cause_chain; form = o.brief_form }
 
 -- the graphical handler that options and a terminal choose
 pub record IsDrawing {H : Type 0} (o : Options H) (t : Terminal) (it : Handling H) : Type 0 where
