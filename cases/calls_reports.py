@@ -26,6 +26,11 @@ def over(text, *rows):
     return {"message": "m", "source": {"text": text}, "labels": labels(*rows)}
 
 
+def fix(message, offset, length, text):
+    """A fix of one edit."""
+    return {"message": message, "edits": [{"offset": offset, "length": length, "text": text}]}
+
+
 def further(report):
     """The source and the labels of a report, as those of a further source."""
     return {key: report[key] for key in ("source", "labels")}
@@ -54,6 +59,8 @@ MANY = (
     (12, 4, "i"),
     (16, 1, "j"),
 )
+LONGER = fix("a longer word", 9, 4, "a text")
+MENDED = {**OOPS, "fixes": [LONGER, fix("far off", 99, 1, "")]}
 RELATED = {"message": "m", "related": [{"message": "rel", "severity": "warning"}, OOPS]}
 STOPS = "a cause over a source that stops"
 REPORTS = {
@@ -71,6 +78,8 @@ REPORTS = {
     "related reports in one another": {**CROSSING, "related": [RELATED]},
     "a refused label": over("a", (9, 1, "far off"), (0, 1, "here")),
     "labels over two sources": {**OOPS, "snippets": [further(CROSSING)]},
+    "fixes": MENDED,
+    "fixes of a cause": {"message": "m", "fixes": [LONGER], "cause": MENDED},
     STOPS: {"message": "m", "cause": UNNAMED},
 }
 STOPPED = {
@@ -82,6 +91,7 @@ STOPPED = {
     "a related report": {"message": "m", "related": [over(NINE, (8, 1, "here"))]},
     "a cause": {"message": "m", "labels": labels((0, 1, "a"), (16, 1, "b")), "cause": over(NINE, (8, 1, "here"))},
     "a further source": {"message": "m", "snippets": [further(over(NINE, (8, 1, "here")))]},
+    "a fix": {**over(NINE), "fixes": [fix("five", 8, 1, "five")]},
 }
 DRAWN = ["--theme", "unicode", "--links", "yes"]
 NESTED = ["--nested", "yes"]
@@ -160,13 +170,18 @@ def unquoted(column):
     return re.sub(r"\\(n|t|\\|\"|u\{1b\}|u\{fe0f\})", lambda it: plain[it[1]], text)
 
 
+def highlighted(text):
+    """How many lines a highlighter is asked for: those of snippets, not of fixes; here no snippet follows a fix."""
+    return len(NUMBER.findall(text.split("fix: ")[0]))
+
+
 def is_drawn(column, text, highlights):
     """Whether a column has this text, or, by a highlighter, this text with more of it in red."""
     got = unquoted(column)
     if not highlights:
         return column == quoted("> " + text)
     red, before = len(RED_TEXT.findall(got)), len(RED_TEXT.findall(text))
-    return RED_TEXT.sub(r"\1", got) == RED_TEXT.sub(r"\1", text) and red == before + len(NUMBER.findall(text))
+    return RED_TEXT.sub(r"\1", got) == RED_TEXT.sub(r"\1", text) and red == before + highlighted(text)
 
 
 def is_wanted(description, handler, columns, lines=1):
@@ -177,7 +192,7 @@ def is_wanted(description, handler, columns, lines=1):
         return False
     if text is None:
         return columns[1] == f"not read: {BEFORE}"
-    if handler in WANTING and len(NUMBER.findall(text)) > 1:
+    if handler in WANTING and highlighted(text) > 1:
         # the second line is refused memory
         return columns[1] == f"refused: {BEFORE}"
     return is_drawn(columns[1], text, handler in HIGHLIGHTING)

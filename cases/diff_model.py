@@ -195,9 +195,10 @@ def look_alike(old, new):
 
 
 def laid_out(line, limit, ends):
-    """The cells that are shown, none in place of those that dots stand for, and where a column is in the row."""
+    """The stretches of cells that are shown, with none in place of those that dots stand for, and where a column is in
+    the row."""
     if limit is None or line.width <= limit:
-        return line.cells, lambda column: column
+        return [line.cells], lambda column: column
     near, before = [], False
     for cell in line.cells:
         before = before if cell.column == cell.next_column else is_near(limit, ends, cell)
@@ -208,9 +209,9 @@ def laid_out(line, limit, ends):
         first, after = cells[0].column, cells[-1].next_column
         if is_shown or after - first <= 3:
             places.update({column: row + column - first for column in range(first, after)})
-            shown, row = [*shown, *cells], row + after - first
+            shown, row = [*shown, cells], row + after - first
         else:
-            shown, row = [*shown, None], row + 3
+            shown, row = [*shown, [None]], row + 3
     return shown, lambda column: places[column] if column < line.width else row + column - line.width
 
 
@@ -220,14 +221,15 @@ def printed(cell):
     return " " * (cell.next_column - cell.column) if cell.character == "\t" else cell.character
 
 
-def text_of(cells, parts, code):
-    """The text of a row, in which characters with a byte of one of these parts are painted."""
+def text_of(stretches, parts, code):
+    """The text of a row, in which characters with a byte of one of these parts are painted, neighbours of a stretch
+    together."""
 
     def is_painted(cell):
         return cell is not None and any(begin < cell.end and cell.start < end for begin, end in parts if begin < end)
 
     text = ""
-    for changed, group in groupby(cells, key=is_painted):
+    for changed, group in (it for cells in stretches for it in groupby(cells, key=is_painted)):
         piece = "".join(printed(it) for it in group)
         text += painted(piece, code) if changed else piece
     return text
@@ -262,14 +264,14 @@ class Frame:
         return self.pad + self.theme.drawn(signs)
 
     def unchanged(self, source, number):
-        cells, _ = laid_out(source.lines[number], self.settings.line_columns, [])
-        return self.head(number, self.theme.drawn("│")) + text_of(cells, [], "")
+        stretches, _ = laid_out(source.lines[number], self.settings.line_columns, [])
+        return self.head(number, self.theme.drawn("│")) + text_of(stretches, [], "")
 
     def changed(self, side, number, alike):
         """The row of a removed or an added line, and that of its marks, where it has some."""
         line, parts = side.line(number), side.parts(number)
-        cells, place = laid_out(line, self.settings.line_columns, ends_of(line, parts))
-        rows = [self.head(number, painted(side.sign, side.code)) + text_of(cells, parts, side.code)]
+        stretches, place = laid_out(line, self.settings.line_columns, ends_of(line, parts))
+        rows = [self.head(number, painted(side.sign, side.code)) + text_of(stretches, parts, side.code)]
         marks = mark_row(line, parts, place, side) if alike else ""
         return rows + ([self.other("· ") + marks] if marks else [])
 

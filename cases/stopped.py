@@ -4,13 +4,13 @@
 `calls stops` renders reports over a source of which one read fails, the first, the second, and so on until none does,
 alone or with all after it, by each handler, with 0, 1 and 2 lines of context. What each row must be is worked out here
 from docs/RULES.md: which reads a handler makes, one after another, and what comes of one that fails. The report is
-refused and the text is as before; or one row says which label wasn't read; or two labels stand apart whose span
-couldn't be read as one. JSON and the debug report are as without the fault. A text without a fault is that of `job`
-(calls_reports.py), each other one is written by hand here. The last line is 'N passed, M failed'."""
+refused and the text is as before; or one row says which label, or that a fix, wasn't read; or two labels stand apart
+whose span couldn't be read as one. JSON and the debug report are as without the fault. A text without a fault is that
+of `job` (calls_reports.py), each other one is written by hand here. The last line is 'N passed, M failed'."""
 import sys
 from itertools import count
 
-from calls_expected import END, LINK, RED, YELLOW
+from calls_expected import CYAN, END, LINK, RED, YELLOW
 from calls_reports import BEFORE, HIGHLIGHTING, NARRATED, STOPPED, indented, is_drawn, is_wanted
 from programs import SHOWN, counted, each, run
 
@@ -19,7 +19,7 @@ DRAWING = ("graphical", "nested", "chosen")
 LINES = (0, 1, 2)
 WAYS = ("at", "from")
 # what comes of a fault, beside the label that wasn't read
-WHOLE, REFUSED, APART, UNPLACED = "whole", "refused", "apart", "unplaced"
+WHOLE, REFUSED, APART, UNPLACED, UNFIXED = "whole", "refused", "apart", "unplaced", "unfixed"
 
 
 class Reads:
@@ -47,6 +47,11 @@ def shown_labels(name, handler):
     return (*report.get("related", ()), *report.get("snippets", ()), report)[0]["labels"]
 
 
+def fixed_outcome(name, reads):
+    """What a report comes to behind its labels: where it has fixes, its source is read for them."""
+    return UNFIXED if "fixes" in STOPPED[name] and not reads.is_read() else WHOLE
+
+
 def brief_outcome(name, labels, reads):
     """What a brief report comes to, over these reads."""
     if "cause" in STOPPED[name]:
@@ -55,7 +60,7 @@ def brief_outcome(name, labels, reads):
     if not labels:
         # the source's name is read, and these sources have none
         reads.is_read()
-        return WHOLE
+        return fixed_outcome(name, reads)
     # where the diagnostic lies, and then each label
     return WHOLE if all(reads.is_read() for _ in (labels[0], *labels)) else REFUSED
 
@@ -89,7 +94,7 @@ def outcome(name, handler, lines, reads):
     for is_asked in (has_own, handler not in NARRATED):
         if is_asked and not all(reads.is_read() for _ in groups):
             return REFUSED
-    return APART if apart else WHOLE
+    return APART if apart else fixed_outcome(name, reads)
 
 
 HEAD = f"  {RED}×{END} m\n"
@@ -164,6 +169,16 @@ TOLD_APART = {
 }
 
 
+# the fix `five`, whose source wasn't read
+UNFIXED_DRAWN = f"{HEAD}{CYAN}  fix: {END}five\n  [{RED}Failed to apply fix{END}: {YELLOW}IoError{END}]\n"
+UNFIXED_TOLD = f"{TOLD_HEAD}diagnostic fix: five\n    failed to apply: IoError\n"
+UNFIXED_TEXTS = {
+    **dict.fromkeys(DRAWING, UNFIXED_DRAWN),
+    **dict.fromkeys(NARRATED, UNFIXED_TOLD),
+    "brief": "error: m\nfix: five\nnote: failed to apply fix: IoError\n",
+}
+
+
 def is_expected(name, handler, lines, came_to, columns):
     """Whether the columns after a row's name are those of what the report came to."""
     if came_to == WHOLE:
@@ -174,7 +189,9 @@ def is_expected(name, handler, lines, came_to, columns):
         return columns[1] == f"not read: {BEFORE}"
     if came_to == UNPLACED:
         return is_drawn(columns[1], "error: m\nnote: a\nnote: b\nnote: caused by: m\n", False)
-    if came_to == APART:
+    if came_to == UNFIXED:
+        text = UNFIXED_TEXTS[handler]
+    elif came_to == APART:
         text = (TOLD_APART if handler in NARRATED else DRAWN_APART)[lines]
     else:
         label = next(it for it in shown_labels(name, handler) if it["label"] == came_to)

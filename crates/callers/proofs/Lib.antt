@@ -2,3 +2,4 @@ pub mod ClauseSteps
 pub mod SumSteps
 pub mod ColourSteps
 pub mod Wrapping
+pub mod FixSteps

@@ -1,3 +1,4 @@
 pub mod Known
+pub mod Mended
 pub mod Rows
 pub mod Sums

@@ -6,6 +6,7 @@
 pub mod brief;
 pub mod colours;
 pub mod descriptions;
+pub mod fix_pictures;
 pub mod fix_rows;
 pub mod fixes;
 pub mod handlers;

@@ -1,29 +1,22 @@
 //! Worked reports, by each handler: `calls report`, or `calls report NAME HANDLER` for one row.
 
-use crate::fixtures::{
-    Label, M, Made, Written, report_and_further, report_beside, report_beside_one, report_of,
-    report_over, report_over_texts, stopping_report,
-};
+use crate::fixtures::Made;
 use crate::rows::{Done, end_row, write_given, write_text};
-use crate::sources::README;
-use crate::stopping::{Reads, Red, Stopping};
+use crate::stopping::{Reads, Red};
 use crate::themes::terminal;
+use crate::worked::report;
 use miette::handlers::{
     BriefReportHandler, DebugReportHandler, GraphicalReportHandler, JSONReportHandler,
     NarratableReportHandler, ReportHandler,
 };
 use miette::options::MietteHandlerOpts;
-use miette::protocol::Severity;
 use miette::theme::GraphicalTheme;
 use std::alloc::{AllocError, Global};
 use std::cell::Cell;
 use std::io::Write;
 
-/// Labels, and the bytes of the source below them.
-type Labelled = (&'static [Label<'static>], &'static [u8]);
-
 /// The reports.
-pub static NAMES: [&str; 15] = [
+pub static NAMES: [&str; 17] = [
     "one label",
     "labels on one line",
     "wide characters",
@@ -38,6 +31,8 @@ pub static NAMES: [&str; 15] = [
     "related reports in one another",
     "a refused label",
     "labels over two sources",
+    "fixes",
+    "fixes of a cause",
     "a cause over a source that stops",
 ];
 
@@ -56,162 +51,6 @@ pub static HANDLERS: [&str; 12] = [
     "json",
     "debug",
 ];
-
-const OOPS: Written<'static> = Written {
-    message: "oops!",
-    code: "oops::my::bad",
-    url: "http://x",
-    help: "try doing it better next time?",
-    labels: &[(9, 4, 0, "This bit here")],
-    name: "bad_file.rs",
-    source: Some(README),
-    ..M
-};
-
-static ONE_LABEL: Written<'static> = OOPS;
-
-static CROSSING: Written<'static> = Written {
-    labels: &[(0, 5, 0, "x"), (2, 5, 0, "y\nand z")],
-    source: Some(b"a\nb\nc\nd\n"),
-    ..M
-};
-
-static PLAIN: Written<'static> = M;
-
-static TEXTS: [&str; 3] = ["first", "se-cond\nin two lines", "third"];
-
-static LINKED: Written<'static> = Written {
-    message: "in-ner text here",
-    code: "c::d",
-    url: "http://a-b/ c",
-    help: "try it",
-    ..M
-};
-
-static BESIDE: [Written<'static>; 2] = [
-    Written {
-        message: "rel",
-        severity: Some(Severity::Warning),
-        ..M
-    },
-    OOPS,
-];
-
-static ON_ONE_LINE: Labelled = (&[(1, 3, 0, "a"), (2, 3, 0, "b")], b"abcdef");
-
-static WIDE: Labelled = (
-    &[
-        (4, 4, 0, "wider than 4 columns"),
-        (7, 1, 0, "no final terminator"),
-    ],
-    b"a\xe6\xbc\xa2\xe6\xbc\xa2b",
-);
-
-static TABS: Labelled = (
-    &[(5, 1, 0, "blank"), (8, 1, 0, "tab")],
-    b"x = 1 \n \ty\nend",
-);
-
-const NINE_LINES: &[u8] = b"1\n2\n3\n4\n5\n6\n7\n8\n9\n";
-
-static OWN: Labelled = (
-    &[(0, 1, 1, ""), (8, 1, 0, "here"), (16, 1, 2, "")],
-    NINE_LINES,
-);
-
-static MANY: Labelled = (
-    &[
-        (0, 1, 0, "a"),
-        (1, 1, 0, ""),
-        (2, 3, 0, "c"),
-        (3, 3, 0, "d"),
-        (6, 0, 0, "e"),
-        (8, 1, 0, "f"),
-        (8, 9, 0, "g"),
-        (10, 1, 0, ""),
-        (12, 4, 0, "i"),
-        (16, 1, 0, "j"),
-    ],
-    NINE_LINES,
-);
-
-static REFUSED: Labelled = (&[(9, 1, 0, "far off"), (0, 1, 0, "here")], b"a");
-
-/// The report of this name, or an error where memory is refused. Of the source that stops the first read fails.
-fn report<'a>(alloc: Global, name: &str, reads: &'a Reads) -> Result<Made<'a>, AllocError> {
-    match lone_report(name) {
-        Some(written) => report_of(alloc, &written),
-        None => with_others(alloc, name, reads),
-    }
-}
-
-/// What is written of a report that has nothing beside it or below it.
-fn lone_report(name: &str) -> Option<Written<'static>> {
-    match name {
-        "one label" => Some(ONE_LABEL),
-        "lines that cross" => Some(CROSSING),
-        _ => match labels_and_source(name) {
-            Some((labels, source)) => Some(Written {
-                labels,
-                source: Some(source),
-                ..M
-            }),
-            None => None,
-        },
-    }
-}
-
-/// The labels and the source of a report that has no more.
-fn labels_and_source(name: &str) -> Option<Labelled> {
-    match name {
-        "labels on one line" => Some(ON_ONE_LINE),
-        "wide characters" => Some(WIDE),
-        "tabs" => Some(TABS),
-        "own context" => Some(OWN),
-        "many labels" => Some(MANY),
-        "a refused label" => Some(REFUSED),
-        _ => None,
-    }
-}
-
-fn with_others<'a>(alloc: Global, name: &str, reads: &'a Reads) -> Result<Made<'a>, AllocError> {
-    match name {
-        "related reports" => report_with_related(alloc),
-        "related reports in one another" => report_with_related_below(alloc),
-        "texts" => report_over_texts(alloc, report_of(alloc, &PLAIN)?, &TEXTS),
-        "labels over two sources" => {
-            report_and_further(alloc, report_of(alloc, &ONE_LABEL), &CROSSING)
-        }
-        _ => report_over(alloc, report_of(alloc, &PLAIN), cause(alloc, name, reads)),
-    }
-}
-
-fn report_with_related_below<'a>(alloc: Global) -> Result<Made<'a>, AllocError> {
-    report_beside_one(
-        alloc,
-        report_of(alloc, &CROSSING),
-        report_with_related(alloc),
-    )
-}
-
-fn report_with_related<'a>(alloc: Global) -> Result<Made<'a>, AllocError> {
-    report_beside(alloc, report_of(alloc, &PLAIN)?, &BESIDE)
-}
-
-fn cause<'a>(alloc: Global, name: &str, reads: &'a Reads) -> Result<Made<'a>, AllocError> {
-    match name {
-        "a linked cause" => report_of(alloc, &LINKED),
-        "causes with sources" => report_over(
-            alloc,
-            report_of(alloc, &ONE_LABEL),
-            report_of(alloc, &CROSSING),
-        ),
-        _ => {
-            let bytes = README;
-            stopping_report(alloc, &ONE_LABEL, Stopping { bytes, reads })
-        }
-    }
-}
 
 /// The rows that are asked for: those of a report, of a handler, or all.
 ///

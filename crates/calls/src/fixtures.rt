@@ -4,6 +4,7 @@ use crate::stopping::Stopping;
 use miette::diagnostic::MietteDiagnostic;
 use miette::protocol::{LabeledSpan, Severity};
 use miette::report::{OwnedSource, Report};
+use miette_fixes::fix::{Edit, Fix};
 use std::alloc::{AllocError, Global};
 
 /// A report over plain diagnostics and sources that may stop.
@@ -195,6 +196,24 @@ pub fn report_and_stopping<'a>(
 ) -> Result<Made<'a>, AllocError> {
     let labels = labels_of(alloc, labels)?;
     report?.with_snippets(alloc, source, labels)
+}
+
+/// A fix of one edit: its message, the offset and the length of what is replaced, and the text that takes its place.
+pub type Mended<'a> = (&'a str, usize, usize, &'a str);
+
+/// A report with a fix too.
+///
+/// # Errors
+/// Where memory is refused.
+pub fn report_and_fix<'a>(
+    alloc: Global,
+    report: Result<Made<'a>, AllocError>,
+    mended: &Mended<'_>,
+) -> Result<Made<'a>, AllocError> {
+    let (message, offset, length, text) = *mended;
+    let edit = Edit::replace((offset, length), String::from_str(alloc, text)?);
+    let fix = Fix::new(alloc, message)?.with_edit(edit)?;
+    report?.with_fix(alloc, fix)
 }
 
 fn diagnostic_of(alloc: Global, written: &Written<'_>) -> Result<MietteDiagnostic, AllocError> {

@@ -23,6 +23,7 @@ mod stopping;
 mod stops;
 mod texts;
 mod themes;
+mod worked;
 
 use crate::rows::{Done, Stop, end_row};
 use miette::terminal::Streams;

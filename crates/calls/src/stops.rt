@@ -2,8 +2,8 @@
 
 use crate::examples::render_made;
 use crate::fixtures::{
-    M, Made, Written, report_and_stopping, report_beside_one, report_of, report_over,
-    stopping_report,
+    M, Made, Mended, Written, report_and_fix, report_and_stopping, report_beside_one, report_of,
+    report_over, stopping_report,
 };
 use crate::rows::{Done, Stop, end_row};
 use crate::stopping::{Reads, Stopping};
@@ -11,7 +11,7 @@ use std::alloc::{AllocError, Global};
 use std::cell::Cell;
 use std::io::Write;
 
-static NAMES: [&str; 8] = [
+static NAMES: [&str; 9] = [
     "one label",
     "two labels",
     "labels far apart",
@@ -20,6 +20,7 @@ static NAMES: [&str; 8] = [
     "a related report",
     "a cause",
     "a further source",
+    "a fix",
 ];
 
 static HANDLERS: [&str; 8] = [
@@ -59,6 +60,9 @@ static OWN: Written<'static> = Written {
     labels: &[(0, 1, 1, "a"), (4, 1, 2, "b"), (16, 1, 0, "c")],
     ..M
 };
+
+/// A fix of the fifth line.
+static FIFTH: Mended<'static> = ("five", 8, 1, "five");
 
 /// A row for each handler, each number of context lines and each read that fails, alone or with those after it. The
 /// last row of each is that in which no read fails.
@@ -117,6 +121,9 @@ fn report<'a>(alloc: Global, name: &str, reads: &'a Reads) -> Result<Made<'a>, A
     }
     if name == "a related report" || name == "a cause" {
         return with_another(alloc, name, stopping_report(alloc, &ONE, source));
+    }
+    if name == "a fix" {
+        return report_and_fix(alloc, stopping_report(alloc, &PLAIN, source), &FIFTH);
     }
     stopping_report(alloc, lone_report(name), source)
 }

@@ -8,6 +8,8 @@ mod comparing;
 #[cfg(test)]
 mod contexts;
 #[cfg(test)]
+mod drawn_fixes;
+#[cfg(test)]
 mod drops;
 #[cfg(test)]
 mod edges;

@@ -10,7 +10,7 @@ use miette::report::{OwnedSource, Report};
 use std::alloc::{AllocError, Global};
 
 /// A source with a name.
-fn named(alloc: Global, name: &str, text: &str) -> Result<OwnedSource, AllocError> {
+pub(crate) fn named(alloc: Global, name: &str, text: &str) -> Result<OwnedSource, AllocError> {
     OwnedSource::named(alloc, name, None, text.as_bytes().to_vec(alloc)?)
 }
 
@@ -68,7 +68,7 @@ fn a_refused_label_over_a_further_source(rt: HostRuntime) {
 }
 
 /// A replacement.
-fn put(alloc: Global, span: (usize, usize), new: &str) -> Result<Edit, AllocError> {
+pub(crate) fn put(alloc: Global, span: (usize, usize), new: &str) -> Result<Edit, AllocError> {
     Ok(Edit::replace(span, text(alloc, new)?))
 }
 

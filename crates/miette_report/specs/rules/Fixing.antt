@@ -1,6 +1,6 @@
 -- What `job --fix` takes, and what it writes.
 use Rattle.std.specs.Prelude.{◌≡◌, ℕ, ◌<◌, Bool, true, false, not, List, [], ◌∷◌, ◌++◌, Option, Some, None, map, length}
-use Rattle.std.specs.Prelude.{IfSome, IsUtf8, bytes_eq, codes}
+use Rattle.std.specs.Prelude.{IfSome, IsUtf8, bytes_eq, codes, if◌then◌else◌}
 use Rattle.std.specs.List.{filter, list_any}
 use Rattle.miette_basics.specs.rules.Lists.{is_nil}
 use Rattle.miette_description.specs.rules.Description.{tree_for}

@@ -1,0 +1,54 @@
+-- What is known of the picture of a report with a fix.
+use Rattle.std.specs.Prelude.{◌≡◌, ℕ, map, false, List, [], ◌∷◌, Some, None, codes, encode_utf8_all}
+use Rattle.miette_fix_rows.specs.laws.Frames.{StandAmong, all_lines, at_start, new_texts, old_texts}
+use Rattle.miette_fix_rows.specs.rules.Blocks.{line_texts}
+use Rattle.miette_fix_rows.specs.rules.DiffFrames.{DiffFrame, frames_of}
+use Rattle.miette_fix_rows.specs.rules.DiffRows.{rows_of_frames}
+use Rattle.miette_fix_rows.specs.rules.Hunks.{Diff, diff}
+use Rattle.miette_fixes.specs.declared.applicability.Applicability.TheVariants.{Unspecified}
+use Rattle.miette_fixes.specs.rules.Edits.{Proposal}
+use Rattle.miette_protocol.specs.rules.Reading.{Source, named_source, plain_source}
+use Rattle.miette_protocol.specs.views.Diagnostic.{message_alone}
+use Rattle.miette_tree.specs.rules.Diagnosis.{plain_diagnosis}
+use Rattle.miette_tree.specs.rules.Tree.{Tree, alone, with_fix, with_source}
+use Rattle.miette_graphical.specs.laws.Holding.{StandsIn}
+use Rattle.miette_graphical.specs.rules.DiagnosticText.{fixes_text}
+use Rattle.miette_graphical.specs.rules.Snippets.{drawn_fix, rows_of_fix, runs_of_row, snippet_settings}
+use Rattle.callers.specs.Known.{plain}
+
+-- ---- the report: a colon is missing at the end of the second of three lines
+
+abbrev pub code_file : Source
+code_file = named_source (plain_source (codes "def f(x):\n  if x\n    return 1\n")) (codes "f.py") None
+
+abbrev pub colon : Proposal
+colon = record {
+  message = codes "a colon is missing";
+  applicability = Unspecified;
+  edits = record { span = record { offset = 16; len = 0 }; text = codes ":" } ∷ [];
+}
+
+abbrev pub colon_tree : Tree
+colon_tree = with_fix colon (with_source code_file (alone (plain_diagnosis (message_alone (codes "no colon")))))
+
+-- ---- what its picture is known to show
+
+-- the fix's message and its rows stand in a text
+abbrev pub FixStands : List ℕ → Type 0
+FixStands text = StandsIn (encode_utf8_all (fixes_text plain (drawn_fix plain (Some code_file) false colon ∷ []))) text
+
+-- what it changes, and the frames that show that, with one context line
+abbrev pub colon_diff : Diff
+colon_diff = diff code_file.bytes colon.edits
+
+abbrev pub colon_frames : List DiffFrame
+colon_frames = frames_of 1 colon_diff
+
+-- Its rows are those of frames that leave out nothing but unchanged lines. The removed and the unchanged lines are
+-- exactly those of the file, the added and the unchanged ones exactly those with the colon.
+pub record TellsColon : Type 0 where
+  pub rows : rows_of_fix plain (Some code_file) false colon.edits
+      ≡ map runs_of_row (rows_of_frames (snippet_settings plain) code_file colon.edits colon_frames)
+  pub frames : StandAmong false at_start colon_frames (all_lines colon_diff)
+  pub before : old_texts (all_lines colon_diff) ≡ line_texts (codes "def f(x):\n  if x\n    return 1\n")
+  pub after : new_texts (all_lines colon_diff) ≡ line_texts (codes "def f(x):\n  if x:\n    return 1\n")

@@ -1,0 +1,47 @@
+//! What a caller knows of the picture of a fix, by the clauses of the call that draws it.
+
+ghost use Rattle.std.specs.Prelude.{◌≡◌, IfOk, string_bytes};
+ghost use Rattle.miette_tree.specs.views.Report.{tree_of};
+ghost use Rattle.callers.specs.Mended.{FixStands, TellsColon, colon_tree};
+
+use miette::diagnostic::MietteDiagnostic;
+use miette::error::RenderError;
+use miette::handlers::GraphicalReportHandler;
+use miette::protocol::Diagnostic;
+use miette::report::{OwnedSource, Report};
+use miette::source::SourceCode;
+use miette::theme::GraphicalTheme;
+use miette_fixes::fix::{Edit, Fix};
+use std::alloc::{AllocError, Global};
+
+/// A line without its colon, and what puts one there.
+pub fn no_colon(alloc: Global) -> Result<Report, AllocError>
+    ensures { IfOk result (λ r. tree_of ⟦<Box<dyn Diagnostic> as Diagnostic>⟧.meaning
+        ⟦<Box<dyn SourceCode> as SourceCode>⟧.source r ≡ colon_tree) }
+{
+    let edit = Edit::insert(16, String::from_str(alloc, ":")?);
+    let fix = Fix::new(alloc, "a colon is missing")?.with_edit(edit)?;
+    let code = "def f(x):\n  if x\n    return 1\n"
+        .as_bytes()
+        .to_vec(alloc)?;
+    let source = OwnedSource::named(alloc, "f.py", None, code)?;
+    let diagnostic = MietteDiagnostic::new(alloc, "no colon")?;
+    Report::new(diagnostic)
+        .with_owned_source(source)
+        .with_fix(alloc, fix)
+}
+
+/// The picture of that report.
+pub fn draw_fix(alloc: Global, report: &Report) -> Result<String, RenderError>
+    requires { tree_of ⟦<Box<dyn Diagnostic> as Diagnostic>⟧.meaning
+        ⟦<Box<dyn SourceCode> as SourceCode>⟧.source report.now ≡ colon_tree }
+    // the fix stands in the text: by `holds`
+    ensures stands { IfOk result (λ text. FixStands (string_bytes text)) }
+    // its rows leave out only lines that the file and that with the colon share: by `fixes`
+    ensures lines { IfOk result (λ text. TellsColon) }
+{
+    let mut text = String::new(alloc);
+    let mut handler = GraphicalReportHandler::new_themed(GraphicalTheme::unicode_nocolor(alloc)?);
+    handler.render_report(report, &mut text)?;
+    Ok(text)
+}
