@@ -2,7 +2,8 @@
 use Rattle.std.proofs.Common.{◌≡◌, ℕ, suc, ◌+◌, ◌-◌, ◌<◌, ◌≤◌, Bool, true, false, List, [], ◌∷◌, ◌++◌, refl, sym, ap, ap₂}
 use Rattle.std.proofs.Common.{◌∙◌, subst, arith, append_assoc, append-nil, add-one, length, get_or, map, take, drop}
 use Rattle.std.proofs.Common.{Option, Some, None, codes, decimal}
-use Rattle.std.specs.Prelude.{not, slice_range, ◌&&◌}
+use Rattle.std.specs.Prelude.{not, slice_range, ◌&&◌, max}
+use Rattle.miette_positions.specs.declared.place.Region.{Region}
 use Rattle.std.specs.List.{flat_map, list_all}
 use Rattle.std.proofs.Math.Seq.{drop-cons}
 use Rattle.std.proofs.lemmas.Bool.{and_parts}
@@ -21,6 +22,7 @@ use Rattle.miette_brief.specs.declared.escapes.Part.TheVariants.{Message, Proper
 use Rattle.miette_brief.specs.declared.form.Form.{Form}
 use Rattle.miette_brief.specs.declared.form.Form.TheVariants.{Github}
 use Rattle.miette_brief.specs.rules.Commands.{Property, Saying, Site, command_name, escaped, further_property}
+use Rattle.miette_brief.specs.rules.Commands.{line_columns}
 use Rattle.miette_brief.specs.rules.Commands.{is_escaped, properties_text, property_text, region_properties, saying_text}
 use Rattle.miette_brief.specs.rules.Commands.{sayings_text, site_properties, title_properties}
 use Rattle.miette_brief.specs.rules.Github.{advice_sayings, cause_sayings, chosen_site, diagnostic_site, nonempty}
@@ -47,6 +49,22 @@ digit_stays d h = grind (arith, nat_tests)
 pub number_stays : (n : ℕ) → escaped InProperty (decimal n) ≡ decimal n
 number_stays n = plain_escaped InProperty (decimal n)
     (decimal_all (λ b. not (is_escaped InProperty b)) digit_stays n)
+
+-- both columns of a region on one line
+pub columns_put : (r : Region) (old a new : List ℕ) (first last : ℕ) → first ≡ r.start.column + 1
+    → last ≡ max first r.end.column
+    → a ≡ old ++ further_property (record { key = codes "col"; value = decimal first })
+    → new ≡ a ++ further_property (record { key = codes "endColumn"; value = decimal last })
+    → new ≡ old ++ flat_map further_property (line_columns r)
+columns_put r old a new first last ef el ea en =
+    let col : ℕ → Property = λ n. record { key = codes "col"; value = decimal n } in
+    let end : ℕ → Property = λ n. record { key = codes "endColumn"; value = decimal n } in
+    let most : last ≡ max (r.start.column + 1) r.end.column = el ∙ ap (λ n. max n r.end.column) ef in
+    en ∙ ap₂ (λ l n. l ++ further_property (end n)) (ea ∙ ap (λ n. old ++ further_property (col n)) ef) most
+    ∙ append_assoc old (further_property (col (r.start.column + 1)))
+    (further_property (end (max (r.start.column + 1) r.end.column)))
+    ∙ ap (λ l. old ++ (further_property (col (r.start.column + 1)) ++ l))
+    (sym (append-nil (further_property (end (max (r.start.column + 1) r.end.column)))))
 
 pub titled : (site : Option Site) (title : Option (List ℕ)) → properties_text (site_properties site)
     ++ title_text site title ≡ properties_text (site_properties site ++ title_properties title)
@@ -93,12 +111,15 @@ said_end said xs i out goal none end h =
     sym (append-nil out) ∙ ap (λ l. out ++ sayings_text l) (sym none)
     ∙ ap (λ ys. out ++ sayings_text (said ys)) (sym (drop_all i xs end)) ∙ h
 
+three_texts : (old x y z : List ℕ) → ((old ++ x) ++ y) ++ z ≡ old ++ (x ++ (y ++ z))
+three_texts old x y z = simp append_assoc
+
 -- three lists, one behind the other
 pub three_said : (xs ys zs : List Saying) (old a b new : List ℕ) → a ≡ old ++ sayings_text xs
     → b ≡ a ++ sayings_text ys → new ≡ b ++ sayings_text zs → new ≡ old ++ sayings_text (xs ++ (ys ++ zs))
 three_said xs ys zs old a b new e f g =
     g ∙ ap (λ l. l ++ sayings_text zs) (f ∙ ap (λ l. l ++ sayings_text ys) e)
-    ∙ simp append_assoc
+    ∙ three_texts old (sayings_text xs) (sayings_text ys) (sayings_text zs)
     ∙ ap (λ l. old ++ (sayings_text xs ++ l)) (sym (said_joined ys zs))
     ∙ ap (λ l. old ++ l) (sym (said_joined xs (ys ++ zs)))
 

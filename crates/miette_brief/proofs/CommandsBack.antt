@@ -21,7 +21,7 @@ use Rattle.miette_brief.specs.laws.CommandBack.{decoded, diagnostics_in, head_in
 use Rattle.miette_brief.specs.laws.CommandBack.{pieces_of, onto_first, properties_behind, property_of, said}
 use Rattle.miette_brief.specs.laws.EditBack.{up_to, behind}
 use Rattle.miette_brief.specs.laws.Parts.{text_of_rows}
-use Rattle.miette_brief.specs.rules.Commands.{Command, Property, Saying, Site, byte_text, columns, command_name}
+use Rattle.miette_brief.specs.rules.Commands.{Command, Property, Saying, Site, byte_text, columns_if, command_name}
 use Rattle.miette_brief.specs.rules.Commands.{command_text, commands_text, escaped, further_property, hex_digit}
 use Rattle.miette_brief.specs.rules.Commands.{is_escaped, percent, properties, properties_text, property_text}
 use Rattle.miette_brief.specs.rules.Commands.{region_properties, saying_text, sayings_text, site_properties}
@@ -143,15 +143,13 @@ keys_joined : (ps qs : List Property) → AreKeys ps → AreKeys qs → AreKeys 
 keys_joined [] qs h k = k
 keys_joined (p ∷ ps) qs h k = (h.0, keys_joined ps qs h.1 k)
 
-columns_keys : (r : Region) → AreKeys (columns r)
-columns_keys r =
-    by_cases {C = AreKeys (columns r)} (r.start.line == r.end.line)
-    (λ t. rw t ((refl, refl, refl, refl), ((refl, refl, refl, refl), tt)))
-    (λ f. rw f tt)
+columns_keys : (b : Bool) (r : Region) → AreKeys (columns_if b r)
+columns_keys true r = ((refl, refl, refl, refl), ((refl, refl, refl, refl), tt))
+columns_keys false r = tt
 
 region_keys : (r : Option Region) → AreKeys (region_properties r)
 region_keys None = tt
-region_keys (Some r) = ((refl, refl, refl, refl), ((refl, refl, refl, refl), columns_keys r))
+region_keys (Some r) = ((refl, refl, refl, refl), ((refl, refl, refl, refl), columns_keys (r.start.line == r.end.line) r))
 
 site_keys : (site : Option Site) → AreKeys (site_properties site)
 site_keys None = tt

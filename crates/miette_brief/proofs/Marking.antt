@@ -1,9 +1,10 @@
 -- The labels of a diagnostic over all of its sources, and the primary one among them.
 use Rattle.std.proofs.Common.{◌≡◌, ℕ, suc, ◌+◌, ◌<◌, ◌≤◌, Bool, true, false, cond, List, [], ◌∷◌, ◌++◌, refl, sym}
-use Rattle.std.proofs.Common.{ap, ap₂, ◌∙◌, arith, append_assoc, append-nil, add-one, length, get_or, map, drop}
+use Rattle.std.proofs.Common.{ap, ap₂, ◌∙◌, subst, arith, append_assoc, append-nil, add-one, length, get_or, map, drop}
 use Rattle.std.proofs.Common.{Option, Some, None}
-use Rattle.std.specs.Prelude.{nat_lt, not, position, slice_get, is_some, unwrap_or, IfSome}
-use Rattle.std.specs.List.{prefix_len}
+use Rattle.std.specs.Prelude.{nat_lt, not, position, slice_get, is_some, unwrap_or, ◌&&◌, IfSome}
+use Rattle.std.specs.List.{position_from, prefix_len}
+use Rattle.std.proofs.Math.Seq.{drop-cons}
 use Rattle.std.specs.Option.{option_map_or}
 use Rattle.std.proofs.lemmas.Bool.{ltb-true, ltb-false}
 use Rattle.std.proofs.lemmas.List.{drop_all, length-map}
@@ -14,7 +15,8 @@ use Rattle.miette_protocol.specs.views.Meaning.{Label}
 use Rattle.miette_tree.specs.rules.Diagnosis.{Diagnosis, Section}
 use Rattle.miette_tree.specs.rules.DiagnosticParts.{given_labels}
 use Rattle.miette_labels.specs.rules.Groups.{in_order}
-use Rattle.miette_brief.specs.rules.Marks.{Mark, mark_over, further_marks, marks, is_placed, is_marked, primary_at}
+use Rattle.miette_brief.specs.rules.Marks.{Mark, mark_over, further_marks, marks, else_at, is_placed, is_marked}
+use Rattle.miette_brief.specs.rules.Marks.{primary_at}
 use Rattle.miette_brief.specs.rules.Places.{Spot, spot_over, else_spot, marked_in, first_in, found_further, primary_spot}
 use Rattle.miette_brief.specs.steps.Marking.{spot_of_mark, spot_at}
 use Rattle.miette_brief.proofs.Choosing.{left_at, sections_left}
@@ -59,15 +61,27 @@ module _ {X : Type 0} (value : X → Section) (xs : List X) (i : ℕ) where
 abbrev failing : {X : Type 0} → (X → Bool) → List X → ℕ
 failing p xs = prefix_len (λ x. not (p x)) xs
 
-prefix_map : {X Y : Type 0} (q : Y → Bool) (f : X → Y) (xs : List X) → prefix_len q (map f xs)
-    ≡ prefix_len (λ x. q (f x)) xs
-prefix_map q f [] = refl
-prefix_map q f (x ∷ xs) = ap (λ n. cond (q (f x)) (1 + n) 0) (prefix_map q f xs)
+-- behind an element that fails
+pub from_later : {X Y : Type 0} (p : Y → Bool) (f : X → Y) (xs : List X) (i : ℕ) (x : X) (at : ℕ) (goal : Option ℕ)
+    → i < length xs → x ≡ get_or xs i x → p (f x) ≡ false → position_from p at (map f (drop i xs)) ≡ goal
+    → position_from p (at + 1) (map f (drop (i + 1) xs)) ≡ goal
+from_later p f xs i x at goal lt is fails h =
+    ap (λ k. position_from p (at + 1) (map f (drop k xs))) (add-one i)
+    ∙ sym (ap (λ b. cond b (Some at) (position_from p (at + 1) (map f (drop (suc i) xs)))) fails)
+    ∙ ap (λ ys. position_from p at (map f ys)) (sym (drop-cons xs i x lt ∙ ap (λ y. y ∷ drop (suc i) xs) (sym is))) ∙ h
 
-pub position_map : {X Y : Type 0} (p : Y → Bool) (f : X → Y) (xs : List X) → position p (map f xs)
-    ≡ position (λ x. p (f x)) xs
-position_map p f xs = ap₂ (λ n k. cond (nat_lt n k) (Some n) None) (prefix_map (λ y. not (p y)) f xs)
-    (length-map xs f)
+-- at one that passes
+pub from_here : {X Y : Type 0} (p : Y → Bool) (f : X → Y) (xs : List X) (i : ℕ) (x : X) (at : ℕ) (goal : Option ℕ)
+    → i < length xs → x ≡ get_or xs i x → p (f x) ≡ true → position_from p at (map f (drop i xs)) ≡ goal
+    → Some at ≡ goal
+from_here p f xs i x at goal lt is passes h =
+    sym (ap (λ b. cond b (Some at) (position_from p (at + 1) (map f (drop (suc i) xs)))) passes)
+    ∙ ap (λ ys. position_from p at (map f ys)) (sym (drop-cons xs i x lt ∙ ap (λ y. y ∷ drop (suc i) xs) (sym is))) ∙ h
+
+-- behind the last one
+pub from_none : {X Y : Type 0} (p : Y → Bool) (f : X → Y) (xs : List X) (i at : ℕ) (goal : Option ℕ) → length xs ≤ i
+    → position_from p at (map f (drop i xs)) ≡ goal → None ≡ goal
+from_none p f xs i at goal le h = ap (λ ys. position_from p at (map f ys)) (sym (drop_all i xs le)) ∙ h
 
 found_inside : (n k m at : ℕ) (b : Bool) → nat_lt n k ≡ b → Some at ≡ cond b (Some n) None → k ≡ m → at < m
 found_inside n k m at false t g e = cc
@@ -76,18 +90,32 @@ found_inside n k m at true t g e =
     let low : n < k = ltb-true n k t in
     omega (arith, same, e, low)
 
-pub position_inside : {X Y : Type 0} (p : Y → Bool) (f : X → Y) (xs : List X) (o : Option ℕ)
+position_inside : {X Y : Type 0} (p : Y → Bool) (f : X → Y) (xs : List X) (o : Option ℕ)
     → o ≡ position p (map f xs) → IfSome o (λ at. at < length xs)
 position_inside p f xs None e = tt
 position_inside p f xs (Some at) e =
     let ys = map f xs in
     found_inside (failing p ys) (length ys) (length xs) at (nat_lt (failing p ys) (length ys)) refl e (length-map xs f)
 
-first_spot : (Mark → Bool) → List Mark → Option Spot
+either_inside : (n : ℕ) (a b : Option ℕ) → IfSome a (λ at. at < n) → IfSome b (λ at. at < n)
+    → IfSome (else_at a b) (λ at. at < n)
+either_inside n None b h k = k
+either_inside n (Some at) b h k = h
+
+-- the primary label is one of the labels
+pub primary_inside : {X : Type 0} (f : X → Mark) (xs : List X) (o : Option ℕ) → o ≡ primary_at (map f xs)
+    → IfSome o (λ at. at < length xs)
+primary_inside f xs o e =
+    subst (λ (i : Option ℕ). IfSome i (λ at. at < length xs)) (sym e)
+    (either_inside (length xs) (position is_marked (map f xs)) (position is_placed (map f xs))
+    (position_inside is_marked f xs (position is_marked (map f xs)) refl)
+    (position_inside is_placed f xs (position is_placed (map f xs)) refl))
+
+abbrev first_spot : (Mark → Bool) → List Mark → Option Spot
 first_spot p [] = None
 first_spot p (x ∷ xs) = cond (p x) (spot_of_mark x) (first_spot p xs)
 
-spot_in : List Mark → ℕ → Option Spot
+abbrev spot_in : List Mark → ℕ → Option Spot
 spot_in xs n = option_map_or spot_of_mark (slice_get xs n) None
 
 one_found : (x : Mark) (xs : List Mark) (n : ℕ) (later : Option Spot) (b : Bool) → spot_in xs n ≡ later
@@ -127,11 +155,12 @@ spot_found p xs =
     (λ t. rw t (found_at p xs))
     (λ f. rw f (sym (none_found p xs (ltb-false (failing p xs) (length xs) f))))
 
+both_there : (o : Option Source) (b : Bool) → (is_some o && b) ≡ true → is_some o ≡ true
+both_there None b e = cc
+both_there (Some s) b e = refl
+
 marked_placed : (x : Mark) → is_marked x ≡ true → is_placed x ≡ true
-marked_placed x h = by_source x.source x.label.primary h where
-  by_source : (o : Option Source) (b : Bool) → cond (is_some o) b false ≡ true → is_some o ≡ true
-  by_source None b e = e
-  by_source (Some s) b e = refl
+marked_placed x h = both_there x.source x.label.primary h
 
 spot_chosen : (xs : List Mark) → spot_at (primary_at xs) xs
     ≡ else_spot (first_spot is_marked xs) (first_spot is_placed xs)
@@ -169,7 +198,7 @@ own_placed : (source : Option Source) (labels : List Label) (rest : List Mark)
     → first_spot is_placed (map (mark_over source) labels ++ rest)
     ≡ else_spot (spot_over source (first_in labels)) (first_spot is_placed rest)
 own_placed source [] rest = no_spot source (first_spot is_placed rest)
-own_placed None (label ∷ labels) rest = own_placed None labels rest ∙ refl
+own_placed None (label ∷ labels) rest = own_placed None labels rest
 own_placed (Some s) (label ∷ labels) rest = refl
 
 further_marked : (sections : List Section) → first_spot is_marked (further_marks sections)

@@ -1,9 +1,9 @@
 //! Workflow commands of GitHub, part by part.
 
-ghost use Rattle.std.specs.Prelude.{◌≡◌, ◌++◌, codes, OnOk, string_bytes, option_copied, decimal};
+ghost use Rattle.std.specs.Prelude.{◌≡◌, ◌==◌, ◌++◌, codes, max, OnOk, string_bytes, option_copied, decimal};
 ghost use Rattle.std.specs.List.{flat_map};
 ghost use Rattle.std.specs.Option.{option_map};
-ghost use Rattle.miette_brief.specs.rules.Commands.{columns, command_name, further_property, properties_text};
+ghost use Rattle.miette_brief.specs.rules.Commands.{columns, command_name, further_property, line_columns, properties_text};
 ghost use Rattle.miette_brief.specs.rules.Commands.{region_properties, saying_text, site_properties, title_properties};
 ghost use Rattle.miette_brief.specs.steps.CommandParts.{site_of, title_text};
 
@@ -22,9 +22,9 @@ pub(crate) struct Site<'a> {
 }
 
 /// `,line=2`
-fn push_numbered(out: &mut String, key: &str, number: usize) -> Result<(), AllocError>
+fn push_keyed(out: &mut String, key: &str, number: usize) -> Result<(), AllocError>
     ensures { OnOk result (string_bytes out.new
-        ≡ string_bytes out.old ++ further_property (record { key = key.now; value = decimal number })) }
+        ≡ string_bytes out.old ++ (codes "," ++ (key.now ++ (codes "=" ++ decimal number)))) }
 {
     out.push_str(",")?;
     out.push_str(key)?;
@@ -32,17 +32,48 @@ fn push_numbered(out: &mut String, key: &str, number: usize) -> Result<(), Alloc
     push_number(out, number)
 }
 
+/// A number as a property, behind others.
+fn push_numbered(out: &mut String, key: &str, number: usize) -> Result<(), AllocError>
+    ensures { OnOk result (string_bytes out.new
+        ≡ string_bytes out.old ++ further_property (record { key = key.now; value = decimal number })) }
+{
+    push_keyed(out, key, number)
+}
+
+/// The greater of two numbers.
+fn greater(first: usize, second: usize) -> usize
+    ensures { result ≡ max first second }
+{
+    first.max(second)
+}
+
+/// `,col=3,endColumn=6`
+fn push_line_columns(out: &mut String, region: Region) -> Result<(), AllocError>
+    ensures { OnOk result (string_bytes out.new
+        ≡ string_bytes out.old ++ flat_map further_property (line_columns region)) }
+{
+    let first = sum(region.start.column, 1)?;
+    let last = greater(first, region.end.column);
+    push_numbered(out, "col", first)?;
+    push_numbered(out, "endColumn", last)
+}
+
+/// Whether a region is on one line.
+fn is_on_one_line(region: Region) -> bool
+    ensures { result ≡ (region.start.line == region.end.line) }
+{
+    region.start.line == region.end.line
+}
+
 /// `,col=3,endColumn=6` where a region is on one line.
 fn push_columns(out: &mut String, region: Region) -> Result<(), AllocError>
     ensures { OnOk result (string_bytes out.new
         ≡ string_bytes out.old ++ flat_map further_property (columns region)) }
 {
-    if region.start.line != region.end.line {
-        return Ok(());
+    if is_on_one_line(region) {
+        return push_line_columns(out, region);
     }
-    let first = sum(region.start.column, 1)?;
-    push_numbered(out, "col", first)?;
-    push_numbered(out, "endColumn", first.max(region.end.column))
+    Ok(())
 }
 
 /// `,line=2,endLine=2,col=3,endColumn=6`

@@ -1,6 +1,6 @@
 //! The labels of a diagnostic over all of its sources, and the primary one among them.
 
-ghost use Rattle.std.specs.Prelude.{◌≡◌, ◌<◌, ◌∷◌, ◌++◌, ◌&&◌, [], false, IfSome, OnOk, IfOk, map, length, position, Some};
+ghost use Rattle.std.specs.Prelude.{◌≡◌, ◌<◌, ◌∷◌, ◌++◌, ◌&&◌, [], false, OnOk, IfOk, map, length, position, Some};
 ghost use Rattle.std.specs.List.{All};
 ghost use Rattle.std.specs.Option.{option_map};
 ghost use Rattle.miette_tree.specs.views.Attached.{section_of};
@@ -145,24 +145,35 @@ fn is_marked<S: SourceCode>(it: &Mark<'_, S>) -> bool
 
 /// How many labels stand before the first over a source that is marked as primary, if there is one.
 fn marked_at<S: SourceCode>(marks: &[Mark<'_, S>]) -> Option<usize>
-    ensures at { result ≡ position is_marked (map (mark_of S.source) marks.now) }
-    ensures inside { IfSome result (λ at. at < length marks.now) }
+    ensures { result ≡ position is_marked (map (mark_of S.source) marks.now) }
 {
-    marks.iter().position(|it| is_marked(it))
+    let mut at = 0;
+    for mark in marks {
+        if is_marked(mark) {
+            return Some(at);
+        }
+        at += 1;
+    }
+    None
 }
 
 /// How many stand before the first over a source, if there is one.
 fn placed_at<S: SourceCode>(marks: &[Mark<'_, S>]) -> Option<usize>
-    ensures at { result ≡ position is_placed (map (mark_of S.source) marks.now) }
-    ensures inside { IfSome result (λ at. at < length marks.now) }
+    ensures { result ≡ position is_placed (map (mark_of S.source) marks.now) }
 {
-    marks.iter().position(|it| is_placed(it))
+    let mut at = 0;
+    for mark in marks {
+        if is_placed(mark) {
+            return Some(at);
+        }
+        at += 1;
+    }
+    None
 }
 
 /// How many labels stand before the primary one, if there is one.
 pub(crate) fn primary_at<S: SourceCode>(marks: &[Mark<'_, S>]) -> Option<usize>
-    ensures at { result ≡ primary_index (map (mark_of S.source) marks.now) }
-    ensures inside { IfSome result (λ at. at < length marks.now) }
+    ensures { result ≡ primary_index (map (mark_of S.source) marks.now) }
 {
     match marked_at(marks) {
         Some(at) => Some(at),

@@ -1,5 +1,5 @@
 -- Workflow commands of GitHub as data, and how they are spelled.
-use Rattle.std.specs.Prelude.{ℕ, ◌+◌, ◌/◌, ◌%◌, ◌==◌, nat_lt, max, Bool, ◌||◌, List, [], ◌∷◌, ◌++◌, Option, Some}
+use Rattle.std.specs.Prelude.{ℕ, ◌+◌, ◌/◌, ◌%◌, ◌==◌, nat_lt, max, Bool, true, false, ◌||◌, List, [], ◌∷◌, ◌++◌, Option, Some}
 use Rattle.std.specs.Prelude.{None, codes, decimal, if◌then◌else◌}
 use Rattle.std.specs.List.{flat_map}
 use Rattle.miette_protocol.specs.declared.protocol.Severity.{Severity}
@@ -34,14 +34,19 @@ pub record Property : Type 0 where
   pub key : List ℕ
   pub value : List ℕ
 
--- The columns of a region on one line, from 1: its first one, and its last one, which is the first where it is empty.
--- There are none where it is on several lines.
+-- the columns of a region on one line, from 1: its first one, and its last one, which is the first where it is empty
+abbrev pub line_columns : Region → List Property
+line_columns r =
+    record { key = codes "col"; value = decimal (r.start.column + 1) }
+    ∷ record { key = codes "endColumn"; value = decimal (max (r.start.column + 1) r.end.column) } ∷ []
+
+-- none of a region on several lines
+abbrev pub columns_if : Bool → Region → List Property
+columns_if true r = line_columns r
+columns_if false r = []
+
 abbrev pub columns : Region → List Property
-columns r =
-    if r.start.line == r.end.line then
-      record { key = codes "col"; value = decimal (r.start.column + 1) }
-      ∷ record { key = codes "endColumn"; value = decimal (max (r.start.column + 1) r.end.column) } ∷ []
-    else []
+columns r = columns_if (r.start.line == r.end.line) r
 
 -- its lines, from 1, and its columns
 abbrev pub region_properties : Option Region → List Property

@@ -1,10 +1,10 @@
-use Rattle.std.proofs.Common.{◌≡◌, decimal, rules}
-use Rattle.miette_brief.specs.declared.escapes.Part.TheVariants.{Property as InProperty}
-use Rattle.miette_brief.specs.rules.Commands.{escaped}
+use Rattle.std.proofs.Common.{◌++◌, ◌∙◌, sym, ap, codes, string_bytes}
+use Rattle.std.proofs.lemmas.Result.{on_ok_weaker}
 use Rattle.miette_brief.proofs.Commanding.{number_stays}
 use Rattle.miette_brief.proofs.commands.push_numbered.Goals as goal
 
 pub returns : goal.returns
 returns c =
-    let same : escaped InProperty (decimal c.args.number) ≡ decimal c.args.number = number_stays c.args.number in
-    search rules
+    on_ok_weaker c.push_keyed.result (λ h. h
+    ∙ ap (λ l. string_bytes c.args.out.now ++ (codes "," ++ (c.args.key.now ++ (codes "=" ++ l))))
+    (sym (number_stays c.args.number))) c.push_keyed.ensures

@@ -1,18 +1,28 @@
-use Rattle.std.proofs.Common.{◌≡◌, ◌∙◌, sym, rules}
-use Rattle.std.specs.Prelude.{position}
+use Rattle.std.proofs.Common.{◌≡◌, ◌+◌, ◌∙◌, sym, ap, map}
+use Rattle.std.proofs.lemmas.Iterator.Adapters.{position_from-zero}
 use Rattle.miette_brief.specs.rules.Marks.{is_placed}
 use Rattle.miette_brief.specs.steps.CommandParts.{mark_of}
-use Rattle.miette_brief.proofs.Marking.{position_map, position_inside}
+use Rattle.miette_brief.proofs.Marking.{from_here, from_later, from_none}
 use Rattle.miette_brief.proofs.marks.placed_at.Goals as goal
 
-pub returns-clause-at : goal.returns-clause-at
-returns-clause-at g c =
+pub loop-mark-preserved : goal.loop-mark-preserved
+loop-mark-preserved g c =
     let f = mark_of g.S.SourceCode.source in
-    let found : c.position.result ≡ position (λ x. is_placed (f x)) c.args.marks.now = search rules in
-    found ∙ sym (position_map is_placed f c.args.marks.now)
+    record {
+      found = from_later is_placed f c.args.marks.now c.loop-mark.mark-index c.mark-item.result c.loop-mark.at _
+          c.loop-mark-test.true c.mark-item.is (sym c.is_placed.ensures ∙ c.if-is_placed.false) c.loop-mark.invariant.found;
+      same = ap (λ n. n + 1) c.loop-mark.invariant.same;
+    }
 
-pub returns-clause-inside : goal.returns-clause-inside
-returns-clause-inside g c =
+pub returns-then-is_placed : goal.returns-then-is_placed
+returns-then-is_placed g c =
     let f = mark_of g.S.SourceCode.source in
-    let found : c.position.result ≡ position (λ x. is_placed (f x)) c.args.marks.now = search rules in
-    position_inside is_placed f c.args.marks.now c.position.result (found ∙ sym (position_map is_placed f c.args.marks.now))
+    from_here is_placed f c.args.marks.now c.loop-mark.mark-index c.mark-item.result c.loop-mark.at _
+    c.loop-mark-test.true c.mark-item.is (sym c.is_placed.ensures ∙ c.if-is_placed.true) c.loop-mark.invariant.found
+    ∙ sym (position_from-zero is_placed (map f c.args.marks.now))
+
+pub returns : goal.returns
+returns g c =
+    let f = mark_of g.S.SourceCode.source in
+    from_none is_placed f c.args.marks.now c.loop-mark.mark-index c.loop-mark.at _ c.loop-mark-test.false
+    c.loop-mark.invariant.found ∙ sym (position_from-zero is_placed (map f c.args.marks.now))

@@ -1,12 +1,12 @@
-use Rattle.std.proofs.Common.{◌≡◌, ◌∙◌, ap, rules, map, List, ◌++◌, ◌∷◌, []}
+use Rattle.std.proofs.Common.{rules, map, subst}
 use Rattle.std.specs.Option.{option_map}
-use Rattle.miette_protocol.specs.views.Meaning.{Label}
+use Rattle.miette_protocol.specs.rules.Reading.{Span}
 use Rattle.miette_tree.specs.views.Owned.{shown_source}
 use Rattle.miette_labels.specs.views.GivenLabels.{label_at}
 use Rattle.miette_labels.specs.declared.order.Turn.{Turn}
 use Rattle.miette_brief.specs.rules.Marks.{mark_over}
 use Rattle.miette_brief.specs.steps.CommandParts.{mark_of}
-use Rattle.miette_brief.specs.steps.Reads.{IsUnread}
+use Rattle.miette_brief.specs.steps.Reads.{IsReadAt, IsUnread}
 use Rattle.miette_brief.proofs.Noting.{some_refused, accepted_more, accepted_end}
 use Rattle.miette_brief.proofs.Marking.{marks_more, marks_end}
 use Rattle.miette_brief.proofs.marks.push_marks.Goals as goal
@@ -26,14 +26,16 @@ loop-turn-preserved g c =
           c.in_ok-push_mark.ensures c.loop-turn.invariant.marks;
       accepted = accepted_more label source c.args.order.now c.loop-turn.turn-index none c.label_of-label.result.now
           (map label c.args.order.now) c.loop-turn-test.true c.label_of-label.ensures
-          c.in_ok-label_place.ensures.accepted c.loop-turn.invariant.accepted;
+          (subst (λ (span : Span). IsReadAt source span) c.inner.ensures c.in_ok-label_place.ensures.accepted)
+          c.loop-turn.invariant.accepted;
     }
 
 pub returns-in_err-label_place-clause-refused : goal.returns-in_err-label_place-clause-refused
 returns-in_err-label_place-clause-refused g c = λ h.
     let source = option_map (shown_source g.S.SourceCode.source) c.args.source in
     let unread : IsUnread source c.label_of-label.result.now.span =
-    c.in_err-label_place.ensures.refused (search rules) in
+    subst (λ (span : Span). IsUnread source span) c.inner.ensures
+    (c.in_err-label_place.ensures.refused (search rules)) in
     some_refused (λ turn. label_at c.args.labels.now turn.index) source c.args.order.now c.loop-turn.turn-index none
     c.label_of-label.result.now c.loop-turn-test.true c.label_of-label.ensures unread
 
