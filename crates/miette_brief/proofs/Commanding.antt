@@ -4,9 +4,8 @@ use Rattle.std.proofs.Common.{◌∙◌, subst, arith, append_assoc, append-nil,
 use Rattle.std.proofs.Common.{Option, Some, None, codes, decimal}
 use Rattle.std.specs.Prelude.{not, slice_range, ◌&&◌, max}
 use Rattle.miette_positions.specs.declared.place.Region.{Region}
-use Rattle.std.specs.List.{flat_map, list_all}
+use Rattle.std.specs.List.{flat_map}
 use Rattle.std.proofs.Math.Seq.{drop-cons}
-use Rattle.std.proofs.lemmas.Bool.{and_parts}
 use Rattle.std.proofs.lemmas.Bool.Decides.{nat_tests}
 use Rattle.std.proofs.lemmas.Grind.{flat_map-append}
 use Rattle.std.proofs.lemmas.List.{drop_all, drop-map, take-map}
@@ -17,7 +16,6 @@ use Rattle.miette_tree.specs.rules.Tree.{Tree, tree, Cause, diagnostic, texts, h
 use Rattle.miette_tree.specs.rules.DiagnosticParts.{given_labels}
 use Rattle.miette_tree.specs.rules.Reads.{accepts, holds_further}
 use Rattle.miette_labels.specs.rules.Groups.{in_order}
-use Rattle.miette_brief.specs.declared.escapes.Part.{Part}
 use Rattle.miette_brief.specs.declared.escapes.Part.TheVariants.{Message, Property as InProperty}
 use Rattle.miette_brief.specs.declared.form.Form.{Form}
 use Rattle.miette_brief.specs.declared.form.Form.TheVariants.{Github}
@@ -70,8 +68,8 @@ pub titled : (site : Option Site) (title : Option (List ℕ)) → properties_tex
     ++ title_text site title ≡ properties_text (site_properties site ++ title_properties title)
 titled None None = refl
 titled None (Some title) = (
-  let p : Property = record { key = codes "title"; value = title } in
-  ap (λ l. 32 ∷ l) (sym (append-nil (property_text p))))
+    let p : Property = record { key = codes "title"; value = title } in
+    ap (λ l. 32 ∷ l) (sym (append-nil (property_text p))))
 titled (Some site) None =
     append-nil (properties_text (site_properties (Some site)))
     ∙ ap properties_text (sym (append-nil (site_properties (Some site))))

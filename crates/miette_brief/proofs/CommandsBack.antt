@@ -1,6 +1,6 @@
 -- The row of a command reads back.
-use Rattle.std.proofs.Common.{◌≡◌, ℕ, suc, ◌+◌, ◌*◌, ◌/◌, ◌%◌, ◌<◌, Bool, true, false, ◌&&◌, ◌||◌, List, [], ◌∷◌, ◌++◌, refl}
-use Rattle.std.proofs.Common.{sym, ap, ap₂, ◌∙◌, subst, arith, append_assoc, append-nil, length, map, drop, Option, Some, None}
+use Rattle.std.proofs.Common.{◌≡◌, ℕ, ◌+◌, ◌*◌, ◌/◌, ◌%◌, ◌<◌, Bool, true, false, ◌&&◌, List, [], ◌∷◌, ◌++◌, refl}
+use Rattle.std.proofs.Common.{sym, ap, ap₂, ◌∙◌, arith, append_assoc, append-nil, length, map, drop, Option, Some, None}
 use Rattle.std.specs.Prelude.{◌==◌, not}
 use Rattle.std.specs.List.{AllByRecursion, flat_map, list_all}
 use Rattle.std.proofs.lemmas.Bool.{and_parts, not-true}
@@ -17,7 +17,7 @@ use Rattle.miette_brief.specs.declared.escapes.Part.TheVariants.{Message, Proper
 use Rattle.miette_brief.specs.declared.form.Form.{Form}
 use Rattle.miette_brief.specs.declared.form.Form.TheVariants.{Gcc, Github}
 use Rattle.miette_brief.specs.laws.CommandBack.{AreCommands, AreRead, ReadsCommand, all_diagnostics_in, as_it_is, body_in}
-use Rattle.miette_brief.specs.laws.CommandBack.{decoded, diagnostics_in, head_in, hex_value, is_one_line, message_in}
+use Rattle.miette_brief.specs.laws.CommandBack.{decoded, diagnostics_in, head_in, hex_value, is_one_line}
 use Rattle.miette_brief.specs.laws.CommandBack.{pieces_of, onto_first, properties_behind, property_of, said}
 use Rattle.miette_brief.specs.laws.EditBack.{up_to, behind}
 use Rattle.miette_brief.specs.laws.Parts.{text_of_rows}
@@ -27,7 +27,7 @@ use Rattle.miette_brief.specs.rules.Commands.{is_escaped, percent, properties, p
 use Rattle.miette_brief.specs.rules.Commands.{region_properties, saying_text, sayings_text, site_properties}
 use Rattle.miette_brief.specs.rules.Commands.{title_properties}
 use Rattle.miette_brief.specs.rules.Report.{Answers, BriefSettings, RelatedAnswers, brief, first_answers, later_answers}
-use Rattle.miette_brief.specs.rules.Report.{own_command, related_answers, related_commands, report_commands, text_in}
+use Rattle.miette_brief.specs.rules.Report.{related_answers, related_commands, report_commands, text_in}
 use Rattle.miette_brief.proofs.Clean.{both_pass}
 use Rattle.miette_brief.proofs.EditsBack.{behind_past, lacks, up_past}
 use Rattle.miette_brief.proofs.Escaping.{byte_escaped, byte_single, escaped_is_ascii}
@@ -163,22 +163,22 @@ all_keys : (c : Command) → AreKeys (properties c)
 all_keys c = keys_joined (site_properties c.site) (title_properties c.title) (site_keys c.site) (title_keys c.title)
 
 module _ (q : ℕ → Bool) (equals : q 61 ≡ true) (comma : q 44 ≡ true) (space : q 32 ≡ true) (kept : IsKept InProperty q)
-    where
-  property_kept : (p : Property) → list_all q p.key ≡ true → list_all q (property_text p) ≡ true
-  property_kept p h = both_pass q p.key (61 ∷ escaped InProperty p.value) h
-      (both_true _ _ equals (text_kept InProperty q kept p.value))
+  where
+    property_kept : (p : Property) → list_all q p.key ≡ true → list_all q (property_text p) ≡ true
+    property_kept p h = both_pass q p.key (61 ∷ escaped InProperty p.value) h
+        (both_true _ _ equals (text_kept InProperty q kept p.value))
 
-  further_kept : (ps : List Property) → AllByRecursion (λ p. list_all q p.key ≡ true) ps
-      → list_all q (flat_map further_property ps) ≡ true
-  further_kept [] h = refl
-  further_kept (p ∷ ps) h = both_true _ _ comma
-      (both_pass q (property_text p) (flat_map further_property ps) (property_kept p h.0) (further_kept ps h.1))
+    further_kept : (ps : List Property) → AllByRecursion (λ p. list_all q p.key ≡ true) ps
+        → list_all q (flat_map further_property ps) ≡ true
+    further_kept [] h = refl
+    further_kept (p ∷ ps) h = both_true _ _ comma
+        (both_pass q (property_text p) (flat_map further_property ps) (property_kept p h.0) (further_kept ps h.1))
 
-  properties_kept : (ps : List Property) → AllByRecursion (λ p. list_all q p.key ≡ true) ps
-      → list_all q (properties_text ps) ≡ true
-  properties_kept [] h = refl
-  properties_kept (p ∷ ps) h = both_true _ _ space
-      (both_pass q (property_text p) (flat_map further_property ps) (property_kept p h.0) (further_kept ps h.1))
+    properties_kept : (ps : List Property) → AllByRecursion (λ p. list_all q p.key ≡ true) ps
+        → list_all q (properties_text ps) ≡ true
+    properties_kept [] h = refl
+    properties_kept (p ∷ ps) h = both_true _ _ space
+        (both_pass q (property_text p) (flat_map further_property ps) (property_kept p h.0) (further_kept ps h.1))
 
 colons_lacking : (ps : List Property) → AreKeys ps → AllByRecursion (λ p. lacks 58 p.key ≡ true) ps
 colons_lacking [] h = tt

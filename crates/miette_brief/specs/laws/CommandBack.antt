@@ -1,6 +1,6 @@
 -- How the row of a command is read back, as GitHub's runner does it.
 use Rattle.std.specs.Prelude.{◌≡◌, ℕ, ◌+◌, ◌-◌, ◌*◌, ◌==◌, nat_lt, Bool, not, true, ◌&&◌, List, [], ◌∷◌, ◌++◌, drop}
-use Rattle.std.specs.Prelude.{length, map, codes, if◌then◌else◌, ⊤}
+use Rattle.std.specs.Prelude.{map, codes, if◌then◌else◌, ⊤}
 use Rattle.std.specs.List.{flat_map, list_all}
 use Rattle.miette_tree.specs.rules.Tree.{Tree, tree, Trees, no_trees, more_trees}
 use Rattle.miette_brief.specs.laws.EditBack.{up_to, behind}

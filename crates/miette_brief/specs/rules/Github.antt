@@ -1,7 +1,7 @@
 -- The commands of a report: one for it and for each related report.
 use Rattle.std.specs.Prelude.{ℕ, Bool, true, false, List, [], ◌∷◌, ◌++◌, map, Option, Some, None, codes}
 use Rattle.std.specs.List.{flat_map}
-use Rattle.miette_protocol.specs.rules.Reading.{Source, Span}
+use Rattle.miette_protocol.specs.rules.Reading.{Source}
 use Rattle.miette_positions.specs.declared.place.PositionEncoding.TheVariants.{Utf16}
 use Rattle.miette_positions.specs.declared.place.Region.{Region}
 use Rattle.miette_positions.specs.rules.Regions.{region_of}

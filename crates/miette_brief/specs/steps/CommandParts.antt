@@ -1,11 +1,10 @@
 -- Parts of a command as they are written one behind the other, and what a program gives for them.
-use Rattle.std.specs.Prelude.{ℕ, List, [], ◌∷◌, ◌++◌, Option, Some, None, codes, Bool, true, false, option_map}
+use Rattle.std.specs.Prelude.{ℕ, List, [], ◌++◌, Option, Some, None, codes, option_map}
 use Rattle.miette_protocol.specs.rules.Reading.{Source}
 use Rattle.miette_tree.specs.views.Owned.{shown_source}
 use Rattle.miette_brief.specs.declared.commands.Site.{Site as GivenSite}
 use Rattle.miette_brief.specs.declared.marks.Mark.{Mark as GivenMark}
-use Rattle.miette_brief.specs.rules.Commands.{Command, Site, Property, property_text, further_property, title_properties}
-use Rattle.miette_brief.specs.rules.Commands.{properties_text, site_properties, command_name}
+use Rattle.miette_brief.specs.rules.Commands.{Site, property_text, further_property}
 use Rattle.miette_brief.specs.rules.Marks.{Mark}
 
 abbrev pub site_of : GivenSite → Site

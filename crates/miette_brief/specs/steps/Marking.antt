@@ -1,5 +1,5 @@
 -- What is found of a diagnostic's labels, and the sites that reads gave.
-use Rattle.std.specs.Prelude.{◌≡◌, ℕ, List, [], ◌∷◌, Option, Some, None, Bool, slice_get}
+use Rattle.std.specs.Prelude.{◌≡◌, ℕ, List, Option, Some, None, Bool, slice_get}
 use Rattle.std.specs.Option.{option_map_or}
 use Rattle.miette_protocol.specs.rules.Reading.{Source}
 use Rattle.miette_tree.specs.rules.Reads.{MayMeet}

@@ -1,4 +1,4 @@
-use Rattle.std.proofs.Common.{◌≡◌, ◌+◌, ◌∙◌, sym, ap, map}
+use Rattle.std.proofs.Common.{◌+◌, ◌∙◌, sym, ap, map}
 use Rattle.std.proofs.lemmas.Iterator.Adapters.{position_from-zero}
 use Rattle.miette_brief.specs.rules.Marks.{is_marked}
 use Rattle.miette_brief.specs.steps.CommandParts.{mark_of}
