@@ -1,5 +1,6 @@
 -- Commands, put together from their parts.
-use Rattle.std.proofs.Common.{◌≡◌, ℕ, suc, ◌+◌, ◌-◌, ◌<◌, ◌≤◌, Bool, true, false, List, [], ◌∷◌, ◌++◌, refl, sym, ap, ap₂}
+use Rattle.std.proofs.Common.{◌≡◌, ℕ, suc, ◌+◌, ◌-◌, ◌<◌, ◌≤◌, Bool, true, false, List, [], ◌∷◌, ◌++◌, refl, sym, ap}
+use Rattle.std.proofs.Common.{ap₂}
 use Rattle.std.proofs.Common.{◌∙◌, subst, arith, append_assoc, append-nil, add-one, length, get_or, map, take, drop}
 use Rattle.std.proofs.Common.{Option, Some, None, codes, decimal}
 use Rattle.std.specs.Prelude.{not, slice_range, ◌&&◌, max}
@@ -21,7 +22,8 @@ use Rattle.miette_brief.specs.declared.form.Form.{Form}
 use Rattle.miette_brief.specs.declared.form.Form.TheVariants.{Github}
 use Rattle.miette_brief.specs.rules.Commands.{Property, Saying, Site, command_name, escaped, further_property}
 use Rattle.miette_brief.specs.rules.Commands.{line_columns}
-use Rattle.miette_brief.specs.rules.Commands.{is_escaped, properties_text, property_text, region_properties, saying_text}
+use Rattle.miette_brief.specs.rules.Commands.{is_escaped, properties_text, property_text, region_properties}
+use Rattle.miette_brief.specs.rules.Commands.{saying_text}
 use Rattle.miette_brief.specs.rules.Commands.{sayings_text, site_properties, title_properties}
 use Rattle.miette_brief.specs.rules.Github.{advice_sayings, cause_sayings, chosen_site, diagnostic_site, nonempty}
 use Rattle.miette_brief.specs.rules.Github.{note_sayings, saying}

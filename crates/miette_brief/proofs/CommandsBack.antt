@@ -16,7 +16,8 @@ use Rattle.miette_brief.specs.declared.escapes.Part.{Part}
 use Rattle.miette_brief.specs.declared.escapes.Part.TheVariants.{Message, Property as InProperty}
 use Rattle.miette_brief.specs.declared.form.Form.{Form}
 use Rattle.miette_brief.specs.declared.form.Form.TheVariants.{Gcc, Github}
-use Rattle.miette_brief.specs.laws.CommandBack.{AreCommands, AreRead, ReadsCommand, all_diagnostics_in, as_it_is, body_in}
+use Rattle.miette_brief.specs.laws.CommandBack.{AreCommands, AreRead, ReadsCommand, all_diagnostics_in, as_it_is}
+use Rattle.miette_brief.specs.laws.CommandBack.{body_in}
 use Rattle.miette_brief.specs.laws.CommandBack.{decoded, diagnostics_in, head_in, hex_value, is_one_line}
 use Rattle.miette_brief.specs.laws.CommandBack.{pieces_of, onto_first, properties_behind, property_of, said}
 use Rattle.miette_brief.specs.laws.EditBack.{up_to, behind}
@@ -149,7 +150,10 @@ columns_keys false r = tt
 
 region_keys : (r : Option Region) → AreKeys (region_properties r)
 region_keys None = tt
-region_keys (Some r) = ((refl, refl, refl, refl), ((refl, refl, refl, refl), columns_keys (r.start.line == r.end.line) r))
+region_keys (Some r) = (
+  (refl, refl, refl, refl),
+  ((refl, refl, refl, refl), columns_keys (r.start.line == r.end.line) r),
+)
 
 site_keys : (site : Option Site) → AreKeys (site_properties site)
 site_keys None = tt

@@ -17,7 +17,8 @@ use Rattle.miette_tree.specs.rules.DiagnosticParts.{given_labels}
 use Rattle.miette_labels.specs.rules.Groups.{in_order}
 use Rattle.miette_brief.specs.rules.Marks.{Mark, mark_over, further_marks, marks, else_at, is_placed, is_marked}
 use Rattle.miette_brief.specs.rules.Marks.{primary_at}
-use Rattle.miette_brief.specs.rules.Places.{Spot, spot_over, else_spot, marked_in, first_in, found_further, primary_spot}
+use Rattle.miette_brief.specs.rules.Places.{Spot, spot_over, else_spot, marked_in, first_in, found_further}
+use Rattle.miette_brief.specs.rules.Places.{primary_spot}
 use Rattle.miette_brief.specs.steps.Marking.{spot_of_mark, spot_at}
 use Rattle.miette_brief.proofs.Choosing.{left_at, sections_left}
 

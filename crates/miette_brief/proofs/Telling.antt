@@ -151,7 +151,8 @@ commands_joined (c ∷ cs) more =
 -- a report is told as its own part, and behind it those related to it
 report_joined : (f : Form) (chain : Bool) (inherited : Option Source) (a : Answers) (m : Diagnosis)
     (s : Option Source) (c : Cause) (rs : Trees) → text_in f chain inherited a (tree m s c rs)
-    ≡ own_text f chain (effective s inherited) a m c ++ related_text f chain (effective s inherited) (related_answers a) rs
+    ≡ own_text f chain (effective s inherited) a m c ++ related_text f chain (effective s inherited) (related_answers a)
+    rs
 report_joined Gcc chain inherited a m s c rs =
     let from = effective s inherited in
     rows_joined (own_rows chain from a m c) (related_rows chain from (related_answers a) rs)

@@ -3,7 +3,8 @@
 ghost use Rattle.std.specs.Prelude.{◌≡◌, ◌==◌, ◌++◌, codes, max, OnOk, string_bytes, option_copied, decimal};
 ghost use Rattle.std.specs.List.{flat_map};
 ghost use Rattle.std.specs.Option.{option_map};
-ghost use Rattle.miette_brief.specs.rules.Commands.{columns, command_name, further_property, line_columns, properties_text};
+ghost use Rattle.miette_brief.specs.rules.Commands.{columns, command_name, further_property, line_columns};
+ghost use Rattle.miette_brief.specs.rules.Commands.{properties_text};
 ghost use Rattle.miette_brief.specs.rules.Commands.{region_properties, saying_text, site_properties, title_properties};
 ghost use Rattle.miette_brief.specs.steps.CommandParts.{site_of, title_text};
 

@@ -17,9 +17,9 @@ ghost use Rattle.miette_brief.specs.laws.CommandBack.{AreCommands, diagnostics_i
 ghost use Rattle.miette_brief.specs.laws.EditBack.{ReadsEdit};
 ghost use Rattle.miette_brief.specs.laws.ReadBack.{has_no_colon, ReadsBack, position_first};
 
-/// In the rows of GCC a report has exactly one row for each of its parts: its message, its labels with a text, its causes where they are
-/// told, its help, its fixes, each with its edits or why these can't be applied, and the parts of each report related
-/// to it. None is empty, none holds a control character, and each ends in LF.
+/// In the rows of GCC a report has exactly one row for each of its parts: its message, its labels with a text, its
+/// causes where they are told, its help, its fixes, each with its edits or why these can't be applied, and the parts of
+/// each report related to it. None is empty, none holds a control character, and each ends in LF.
 pub fn each_part_has_one_row()
     ensures rows { (s : BriefSettings) (t : Tree) (a : Answers) → s.form ≡ Gcc →
         IsRows (parts s.chain t a) (brief s t a) }
@@ -27,8 +27,8 @@ pub fn each_part_has_one_row()
         HasEachPart s.chain t text }
 {}
 
-/// In commands of GitHub a report has exactly one row for itself and one for each report related to it. Each row stands on
-/// one line, and its command reads back: its name, its properties, its message.
+/// In commands of GitHub a report has exactly one row for itself and one for each report related to it. Each row stands
+/// on one line, and its command reads back: its name, its properties, its message.
 pub fn each_diagnostic_has_one_command()
     ensures read { (s : BriefSettings) (t : Tree) (a : Answers) → s.form ≡ Github →
         AreCommands (report_commands s.chain None a t) (brief s t a) }

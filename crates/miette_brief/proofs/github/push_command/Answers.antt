@@ -53,5 +53,6 @@ returns-clause-text g c =
     commanded c.args.chain source m (cause_of value) its at site old mid (string_bytes c.push_message.new.out)
     c.in_ok-marks.ensures.marks chosen placed c.in_ok-marks.ensures.accepted begun
     (c.in_ok-push_message.ensures
-    ∙ ap (λ ms. mid ++ (message_text c.args.chain m (cause_of value) (with_first at (map (mark_of is) ms)) ++ codes "\n"))
+    ∙ ap (λ ms. mid ++ (message_text c.args.chain m (cause_of value) (with_first at (map (mark_of is) ms)) ++ codes
+    "\n"))
     c.deref-3.ensures.value)

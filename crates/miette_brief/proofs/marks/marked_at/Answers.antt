@@ -10,7 +10,8 @@ loop-mark-preserved g c =
     let f = mark_of g.S.SourceCode.source in
     record {
       found = from_later is_marked f c.args.marks.now c.loop-mark.mark-index c.mark-item.result c.loop-mark.at _
-          c.loop-mark-test.true c.mark-item.is (sym c.is_marked.ensures ∙ c.if-is_marked.false) c.loop-mark.invariant.found;
+          c.loop-mark-test.true c.mark-item.is (sym c.is_marked.ensures ∙ c.if-is_marked.false)
+          c.loop-mark.invariant.found;
       same = ap (λ n. n + 1) c.loop-mark.invariant.same;
     }
 

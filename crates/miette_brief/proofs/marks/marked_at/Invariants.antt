@@ -8,6 +8,7 @@ abbrev pub invariant-loop-mark : goal.invariant-loop-mark
 invariant-loop-mark g l =
     let f = mark_of g.S.SourceCode.source in
     record {
-      found : position_from is_marked l.at (map f (drop l.mark-index l.marks)) ≡ position_from is_marked 0 (map f l.marks);
+      found : position_from is_marked l.at (map f (drop l.mark-index l.marks)) ≡ position_from is_marked 0
+          (map f l.marks);
       same : l.at ≡ l.mark-index;
     }
