@@ -11,7 +11,7 @@ use Rattle.std.proofs.lemmas.List.Folds.{drop_split}
 use Rattle.miette_basics.proofs.Cases.{by_cases}
 use Rattle.miette_fixes.specs.rules.Applying.{by_offset, put_edit, refusal, text_from}
 use Rattle.miette_fixes.specs.rules.ApplyingAll.{all_applied, all_of, conflict, counted, counted_with, counts}
-use Rattle.miette_fixes.specs.rules.ApplyingAll.{some_conflict}
+use Rattle.miette_fixes.specs.rules.ApplyingAll.{is_among, is_taken, some_conflict, taken}
 use Rattle.miette_fixes.specs.rules.Edits.{Proposal, Replacement, end_of, ends_behind, is_behind, overlap}
 use Rattle.miette_lint.specs.rules.Fixes.{proposal}
 
@@ -94,12 +94,33 @@ all_count n low before (fix ∷ fixes) h apart =
     let next : counted_with n before (e ∷ []) ≡ more = ap (λ b. cond b more before) yes in
     let below : AllByRecursion (LiesBelow (next_at e)) (all_of more) =
     subst (AllByRecursion (LiesBelow (next_at e))) (sym (all_more before e)) (below_more low e (all_of before) from h)
-        in
+    in
     ap (λ es. counted n (counted_with n before es) (lists_in fixes)) one
     ∙ ap (λ b. counted n b (lists_in fixes)) next
     ∙ all_count n (next_at e) more fixes below apart.2
     ∙ append_assoc before ((e ∷ []) ∷ []) (lists_in fixes)
     ∙ ap (λ es. before ++ es ∷ lists_in fixes) (sym one)
+
+-- and so all are taken
+pub all_are_taken : (n low : ℕ) (before : List (List Replacement)) (fixes : List Proposal)
+    → AllByRecursion (LiesBelow low) (all_of before) → AreApart n low fixes
+    → taken n before (lists_in fixes) ≡ map (λ (fix : Proposal). true) fixes
+all_are_taken n low before [] h apart = refl
+all_are_taken n low before (fix ∷ fixes) h apart =
+    let e : Replacement = apart.0 in
+    let one : fix.edits ≡ e ∷ [] = apart.1.one in
+    let from : low ≤ e.span.offset = apart.1.from in
+    let yes : counts n (all_of before) (e ∷ []) ≡ true =
+    one_counts n low e (all_of before) from apart.1.within h in
+    let more : List (List Replacement) = before ++ (e ∷ []) ∷ [] in
+    let next : counted_with n before (e ∷ []) ≡ more = ap (λ b. cond b more before) yes in
+    let below : AllByRecursion (LiesBelow (next_at e)) (all_of more) =
+    subst (AllByRecursion (LiesBelow (next_at e))) (sym (all_more before e)) (below_more low e (all_of before) from h)
+    in
+    ap (λ es. is_taken n before es ∷ taken n (counted_with n before es) (lists_in fixes)) one
+    ∙ ap (λ b. (b || is_among (e ∷ []) before) ∷ taken n (counted_with n before (e ∷ [])) (lists_in fixes)) yes
+    ∙ ap (λ bs. true ∷ taken n bs (lists_in fixes)) next
+    ∙ ap (λ (ts : List Bool). true ∷ ts) (all_are_taken n (next_at e) more fixes below apart.2)
 
 -- ---- in which order
 

@@ -242,7 +242,7 @@ all_taken : (xs : List ℕ) → take (length xs + 0) xs ≡ xs
 all_taken xs = let n : length xs + 0 ≡ length xs = omega arith in
     ap (λ k. take k xs) n ∙ ap (take (length xs)) (sym (append-nil xs)) ∙ take-append_seam xs []
 
-trimmed_same : (text : List ℕ) → ending_blanks text ≡ 0 → trimmed text ≡ text
+pub trimmed_same : (text : List ℕ) → ending_blanks text ≡ 0 → trimmed text ≡ text
 trimmed_same text h =
     let n : length text - ending_blanks text ≡ length text + 0 = omega (arith, h) in
     ap (λ k. take k text) n ∙ all_taken text

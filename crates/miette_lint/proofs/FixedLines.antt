@@ -2,7 +2,7 @@
 use Rattle.std.proofs.Common.{◌≡◌, ℕ, ◌+◌, ◌-◌, ◌<◌, ◌≤◌, Bool, true, false, cond, eqb, List, [], ◌∷◌, ◌++◌, length}
 use Rattle.std.proofs.Common.{drop, map, Option, None, refl, sym, ap, ap₂, ◌∙◌, arith, subst, inl, append_assoc}
 use Rattle.std.proofs.Common.{append-nil}
-use Rattle.std.specs.Prelude.{codes, slice_range, take_while}
+use Rattle.std.specs.Prelude.{codes, is_none, slice_range, take_while}
 use Rattle.std.specs.List.{AllByRecursion, flat_map, last_or}
 use Rattle.std.specs.Option.{option_map_or}
 use Rattle.std.proofs.lemmas.Bool.{ltb-true}
@@ -12,12 +12,15 @@ use Rattle.miette_basics.proofs.Cases.{by_cases}
 use Rattle.miette_source_lines.specs.rules.Lines.{IsCut, LF, Line, is_terminated, lines_of}
 use Rattle.miette_source_lines.proofs.Cuts.{cut_le, lines_cut}
 use Rattle.miette_protocol.specs.views.Meaning.{Label}
+use Rattle.miette_fixes.specs.rules.Edits.{Proposal}
 use Rattle.miette_cells.specs.rules.Cells.{Cell}
 use Rattle.miette_lint.specs.rules.Findings.{cells_of, finding, findings_of, is_blank, line_findings, misplaced_tab}
-use Rattle.miette_lint.specs.rules.Findings.{missing_terminator, overlong, text_findings, trailing_space}
-use Rattle.miette_lint.specs.rules.Fixes.{ending_of, first_ending, fixed_line, fixed_line_text, fixed_text}
-use Rattle.miette_lint.specs.rules.Fixes.{terminator_or, wide_line, wide_lines}
-use Rattle.miette_lint.proofs.CleanTexts.{IsClean, clean_line, clean_stays, text_line}
+use Rattle.miette_lint.specs.rules.Findings.{missing_terminator, overlong, tab_after_space, text_findings}
+use Rattle.miette_lint.specs.rules.Findings.{trailing_space}
+use Rattle.miette_lint.specs.rules.Fixes.{blanks_fix, ending_fix, ending_of, first_ending, fixed_line, fixed_line_text}
+use Rattle.miette_lint.specs.rules.Fixes.{fixed_text, line_fixes, proposal, proposals_of, spaces_from, terminator_or}
+use Rattle.miette_lint.specs.rules.Fixes.{text_fixes, trailing_fix, trimmed, wide_line, wide_lines}
+use Rattle.miette_lint.proofs.CleanTexts.{IsClean, clean_line, clean_stays, text_line, trimmed_same}
 use Rattle.miette_lint.proofs.Pieces.{IsCleanLine, IsCutOut, IsEnding, IsWhole, Piece, clean_joined, cut_outs, joined}
 
 -- ---- the pieces of the fixed text
@@ -125,3 +128,33 @@ pub fixed_again : (source : List ℕ) → fixed_text (fixed_text source) ≡ fix
 fixed_again source =
     let text : List ℕ = fixed_text source in
     stays_from text (ending_of text) 0 (lines_of text) (lines_cut text) (clean_lines source)
+
+-- ---- nothing is proposed for clean lines
+
+none_proposed : (ending : List ℕ) (l : Line) (text : List ℕ) → IsClean text → is_terminated l ≡ true
+    → text_fixes ending l text ≡ []
+none_proposed ending l text clean ended =
+    let blanks : List ℕ = take_while is_blank text in
+    let made : List ℕ → Proposal =
+    λ bs. proposal (codes "indent by spaces") l.start (length bs) (spaces_from 0 bs) in
+    let a : blanks_fix l.start (take_while is_blank (trimmed text)) ≡ [] =
+    ap (λ (x : List ℕ). blanks_fix l.start (take_while is_blank x)) (trimmed_same text clean.ends)
+    ∙ ap (λ (o : Option ℕ). cond (is_none o) [] (made blanks ∷ [])) clean.begins in
+    let b : trailing_fix l.text_end text ≡ [] =
+    ap (λ n. cond (eqb n 0) [] (proposal (codes "delete trailing blanks") (l.text_end - n) n [] ∷ [])) clean.ends in
+    let c : ending_fix ending l ≡ [] =
+    ap (λ t. cond t [] (proposal (codes "end the last line") l.end 0 ending ∷ [])) ended in
+    ap (λ (xs : List Proposal). xs ++ (trailing_fix l.text_end text ++ ending_fix ending l)) a
+    ∙ ap (λ (xs : List Proposal). xs ++ ending_fix ending l) b ∙ c
+
+none_from : (source ending : List ℕ) (ls : List Line) → AllByRecursion (IsCleanLine source) ls
+    → flat_map (line_fixes source ending) ls ≡ []
+none_from source ending [] h = refl
+none_from source ending (l ∷ ls) h =
+    ap (λ (xs : List Proposal). xs ++ flat_map (line_fixes source ending) ls)
+    (none_proposed ending l (slice_range source l.start l.text_end) h.0.clean h.0.terminated)
+    ∙ none_from source ending ls h.1
+
+pub fixed_needs_nothing : (source : List ℕ) → proposals_of (fixed_text source) ≡ []
+fixed_needs_nothing source =
+    none_from (fixed_text source) (ending_of (fixed_text source)) (lines_of (fixed_text source)) (clean_lines source)

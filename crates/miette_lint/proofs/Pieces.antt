@@ -69,8 +69,14 @@ cut_out source at l bytes rest is le w =
     let to : l.end ≡ l.text_end + length end = omega (arith, w.end, w.text_end) in
     let terminator : slice_range source l.text_end l.end ≡ end = front_is source l.text_end end rest l.end behind to in
     let size : length source - at ≡ length text + (length end + length rest) =
-    omega (arith, sym (length-drop at source), ap length whole, length-append text (end ++ rest), length-append end
-        rest)
+    omega (
+      arith,
+      sym (length-drop at source),
+      ap length whole,
+      length-append text (end ++ rest),
+      length-append end
+          rest,
+    )
     in (
       record {
         begins = omega (arith, w.start, w.text_end);

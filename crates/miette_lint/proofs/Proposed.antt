@@ -1,7 +1,7 @@
 -- The text after all proposals is the fixed text.
 use Rattle.std.proofs.Common.{◌≡◌, ℕ, ◌+◌, ◌-◌, ◌<◌, ◌≤◌, Bool, true, false, cond, eqb, List, [], ◌∷◌, ◌++◌, length}
 use Rattle.std.proofs.Common.{take}
-use Rattle.std.proofs.Common.{drop, refl, sym, ap, ap₂, ◌∙◌, arith, subst, inl, inr, append_assoc}
+use Rattle.std.proofs.Common.{drop, map, refl, sym, ap, ap₂, ◌∙◌, arith, subst, inl, inr, append_assoc}
 use Rattle.std.specs.Prelude.{codes, is_none, slice_range, take_while}
 use Rattle.std.specs.List.{flat_map, prefix_len}
 use Rattle.std.proofs.lemmas.Bool.{eqb-true, ltb-false}
@@ -18,14 +18,14 @@ use Rattle.miette_source_lines.proofs.AreLines.{lines_are}
 use Rattle.miette_source_lines.proofs.Cuts.{cut_le, lines_cut}
 use Rattle.miette_source_lines.proofs.Parts.{part_length}
 use Rattle.miette_fixes.specs.rules.Applying.{text_from}
-use Rattle.miette_fixes.specs.rules.ApplyingAll.{all_applied}
+use Rattle.miette_fixes.specs.rules.ApplyingAll.{all_applied, taken}
 use Rattle.miette_fixes.specs.rules.Edits.{Proposal}
 use Rattle.miette_lint.specs.rules.Findings.{ending_blanks, is_blank, tab_after_space}
 use Rattle.miette_lint.specs.rules.Fixes.{blanks_fix, ending_fix, ending_of, even_blanks, evened, fixed_line}
 use Rattle.miette_lint.specs.rules.Fixes.{fixed_text, line_fixes, proposal, proposals_of, spaces_from, terminator_or}
 use Rattle.miette_lint.specs.rules.Fixes.{trailing_fix, trimmed}
-use Rattle.miette_lint.proofs.Apart.{AreApart, applied_apart, apart_unless, earlier, edits_in, goes_on, lists_in}
-use Rattle.miette_lint.proofs.Apart.{nothing_there, text_unless}
+use Rattle.miette_lint.proofs.Apart.{AreApart, all_are_taken, applied_apart, apart_unless, earlier, edits_in, goes_on}
+use Rattle.miette_lint.proofs.Apart.{lists_in, nothing_there, text_unless}
 use Rattle.miette_lint.proofs.CleanTexts.{begun_whole, ending_le}
 
 -- ---- only the last line has no terminator
@@ -191,7 +191,7 @@ has_parts source at end le within =
     let short : kept ≡ take some later = take-take some (end - at) later (omega (arith, size)) in
     let kept_size : length kept ≡ some = length-take-le some text (omega arith) in
     let fits : m ≤ some = omega (arith, length-prefix_len is_blank kept, prefix_len-le-length is_blank kept, kept_size)
-        in
+    in
     let before : ℕ = end - k in
     let behind : ℕ = at + m in
     let gap : ℕ = before - behind in
@@ -244,7 +244,7 @@ line_makes source ending l fixes rest begins ends within last h =
     let same : bf ++ (tf ++ (ef ++ fixes)) ≡ (bf ++ (tf ++ ef)) ++ fixes =
     ap (λ xs. bf ++ xs) (sym (append_assoc tf ef fixes)) ∙ sym (append_assoc bf (tf ++ ef) fixes) in
     let whole : even_blanks blanks ++ (drop m kept ++ (end ++ rest)) ≡ ((even_blanks blanks ++ drop m kept) ++ end) ++
-        rest =
+    rest =
     sym (append_assoc (even_blanks blanks) (drop m kept) (end ++ rest))
     ∙ sym (append_assoc (even_blanks blanks ++ drop m kept) end rest) in
     subst (λ fs. Makes source l.start fs (fixed_line source ending l ++ rest)) same
@@ -269,9 +269,18 @@ lines_make source ending at (l ∷ ls) cut last =
     (line_makes source ending l fixes rest (omega (arith, cut.0, cut.1)) cut.2 within
     (λ f. none_fixed source ending ls (last.0 f)) (lines_make source ending l.end ls cut.4 last.1))
 
+all_make : (source : List ℕ) → Makes source 0 (proposals_of source) (fixed_text source)
+all_make source =
+    lines_make source (ending_of source) 0 (lines_of source) (lines_cut source)
+    (ends_last 0 (lines_of source) source (lines_are source))
+
 pub fixed_applied : (source : List ℕ) → all_applied source (lists_in (proposals_of source)) ≡ fixed_text source
 fixed_applied source =
-    let h : Makes source 0 (proposals_of source) (fixed_text source) =
-    lines_make source (ending_of source) 0 (lines_of source) (lines_cut source)
-    (ends_last 0 (lines_of source) source (lines_are source)) in
+    let h : Makes source 0 (proposals_of source) (fixed_text source) = all_make source in
     applied_apart source (proposals_of source) h.apart ∙ h.made
+
+pub proposals_taken : (source : List ℕ) → taken (length source) [] (lists_in (proposals_of source))
+    ≡ map (λ (fix : Proposal). true) (proposals_of source)
+proposals_taken source =
+    let h : Makes source 0 (proposals_of source) (fixed_text source) = all_make source in
+    all_are_taken (length source) 0 [] (proposals_of source) tt h.apart

@@ -20,7 +20,8 @@ pub mod FirstRow
 pub mod SpaceWords
 pub mod BreakWords
 pub mod BreakParts
-pub mod LetterRuns
+pub mod SolidRuns
+pub mod PrintedRuns
 pub mod Passing
 pub mod LineWise
 pub mod InterleavedCells

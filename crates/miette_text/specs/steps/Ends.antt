@@ -1,6 +1,6 @@
 -- Where the first part of a word, the first row, and a row without its last spaces end.
-use Rattle.std.specs.Prelude.{◌≡◌, ℕ, zero, suc, ◌+◌, Bool, true, false, ◌&&◌, ◌==◌, nat_lt, List, [], ◌∷◌, ◌++◌}
-use Rattle.std.specs.Prelude.{if◌then◌else◌, map, flat_map, take, drop}
+use Rattle.std.specs.Prelude.{◌≡◌, ℕ, zero, suc, ◌+◌, Bool, true, false, ◌&&◌, ◌==◌, nat_le, nat_lt, List, [], ◌∷◌}
+use Rattle.std.specs.Prelude.{◌++◌, if◌then◌else◌, map, flat_map, take, drop}
 use Rattle.std.specs.Char.{is_ascii_alphabetic}
 use Rattle.miette_runs.specs.rules.Sequences.{is_line_feed}
 use Rattle.miette_text.specs.rules.Wrapping.{Cuts, Word, is_space, is_alphanumeric, hyphen_parts, narrow_parts}
@@ -34,6 +34,15 @@ part_len stop cuts before used (c ∷ cs) =
     else if cuts.breaks && (nat_lt 0 used && nat_lt cuts.narrow (used + width c)) then 0
     else if cuts.hyphens && ((c == 45) && is_alphanumeric before && begins_word cs) then 1
     else suc (part_len stop cuts c (used + width c) cs)
+
+-- from `.` to `~`: it has a column, and no word ends at it or is cut behind it
+abbrev pub is_solid : ℕ → Bool
+is_solid c = nat_le 46 c && nat_le c 126
+
+-- how many such codes there are at the front
+abbrev pub solid_len : List ℕ → ℕ
+solid_len [] = 0
+solid_len (c ∷ cs) = if is_solid c then suc (solid_len cs) else 0
 
 abbrev pub gap_len : List ℕ → ℕ
 gap_len [] = 0

@@ -1,6 +1,6 @@
 -- Words between the places at which a line may be broken: what is left of a line behind a part.
-use Rattle.std.specs.Prelude.{◌≡◌, ℕ, zero, suc, ◌+◌, ◌≤◌, Bool, false, not, ◌&&◌, ◌||◌, ◌==◌, if◌then◌else◌}
-use Rattle.std.specs.Prelude.{List, [], ◌∷◌, ◌++◌, map, flat_map, take, drop, length}
+use Rattle.std.specs.Prelude.{◌≡◌, ℕ, zero, suc, ◌+◌, ◌≤◌, Bool, true, false, not, ◌&&◌, ◌||◌, ◌==◌, nat_le}
+use Rattle.std.specs.Prelude.{if◌then◌else◌, List, [], ◌∷◌, ◌++◌, map, flat_map, take, drop, length}
 use Rattle.std.specs.Option.{is_some}
 use Rattle.miette_basics.specs.rules.Lists.{onto}
 use Rattle.miette_line_breaks.specs.declared.state.State.{State}
@@ -14,6 +14,14 @@ use Rattle.miette_text.specs.steps.Ends.{hyphenated_behind, letters_len}
 -- no code ends each word
 abbrev pub never : ℕ → Bool
 never c = false
+
+-- printable ASCII but `-`: it has a column, and no word is cut behind it
+abbrev pub is_printed : ℕ → Bool
+is_printed c = nat_le 32 c && nat_le c 126 && not (c == 45)
+
+abbrev pub all_printed : List ℕ → Bool
+all_printed [] = true
+all_printed (c ∷ cs) = is_printed c && all_printed cs
 
 -- behind so many codes
 abbrev pub state_at : State → ℕ → List ℕ → State

@@ -5,13 +5,16 @@ ghost use Rattle.miette_text.specs.declared.wrap.WordSeparator.TheVariants.{Unic
 ghost use Rattle.miette_text.specs.rules.Wrapping as rules;
 ghost use Rattle.miette_text.specs.rules.Wrapping.{is_hyphen, parts};
 ghost use Rattle.miette_text.specs.steps.Ends.{IsPart, codes_of};
-ghost use Rattle.miette_text.specs.views.Breaks.{fits_in, is_done, left_in, never, passed_len};
+ghost use Rattle.miette_text.specs.steps.Ends.{part_len};
+ghost use Rattle.miette_text.specs.views.Breaks.{all_printed, fits_in, is_done, left_in, never, passed_len};
 ghost use Rattle.miette_text.specs.views.Breaks.{piece_len, state_at, words_in};
 ghost use Rattle.miette_text.specs.views.Cutting.{word_cuts};
 ghost use Rattle.miette_runs.specs.rules.Cells.{Cell};
 ghost use Rattle.miette_runs.specs.steps.Cells.{code_columns};
 
-use crate::wrap::ends::{Cuts, Part, Stop, Words, bare_len, first_part, gap_len, letters_len};
+use crate::wrap::ends::{
+    Cuts, Letters, Part, Stop, Words, bare_len, first_part, gap_len, letters_len,
+};
 use miette_line_breaks::breaks::State;
 use std::alloc::AllocError;
 
@@ -51,6 +54,7 @@ fn passed_len(state: State, is_joined: bool, codes: &[char]) -> usize
 fn plain_len(start: State, codes: &[char]) -> (usize, State, bool)
     ensures len { piece_len start true codes.now ≡ result.0 + piece_len result.1 result.2 (drop result.0 codes.now) }
     ensures state { result.1 ≡ state_at start result.0 codes.now }
+    ensures printed { all_printed (take result.0 codes.now) ≡ true }
     ensures within { result.0 ≤ length codes.now }
 {
     if !start.is_plain() {
@@ -64,50 +68,86 @@ fn plain_len(start: State, codes: &[char]) -> (usize, State, bool)
     (n + spaces, start.spaced(0 < spaces), false)
 }
 
-// How many codes the first word and its spaces have, and what stands before the next.
-fn word_len(start: State, codes: &[char]) -> (usize, State)
+// How many codes the first word and its spaces have, what stands before the next, and whether all of them are seen to be
+// printable ASCII without a hyphen.
+fn word_len(start: State, codes: &[char]) -> (usize, State, bool)
     ensures len { result.0 ≡ piece_len start true codes.now }
     ensures state { result.1 ≡ state_at start result.0 codes.now }
+    ensures printed { result.2 ≡ true → all_printed (take result.0 codes.now) ≡ true }
     ensures within { result.0 ≤ length codes.now }
 {
-    let (mut i, mut state, mut is_joined) = plain_len(start, codes);
+    let (first, mut state, mut is_joined) = plain_len(start, codes);
+    let mut i = first;
     'rest: while i < codes.len() {
         let code = codes[i];
         let (found, behind) = state.step(code);
         if !is_joined && found.is_some() {
-            return (i, state);
+            return (i, state, i == first);
         }
         is_joined = is_hyphen(code);
         state = behind;
         let next = i + 1;
         i = next + passed_len(state, is_joined, &codes[next..]);
     }
-    (i, state)
+    (i, state, i == first)
 }
 
-// The first of the words.
-fn first_word(start: State, codes: &[char]) -> Broken
+// The first of the words, and whether its letters are seen to be printable ASCII without a hyphen.
+fn first_word(start: State, codes: &[char]) -> (Broken, bool)
     requires { 0 < length codes.now }
     ensures left { (cuts : rules.Cuts) (cells : List Cell) → codes_of cells ≡ codes.now →
-        left_in result cuts cells ≡ flat_map (parts cuts) (words_in start cells) }
-    ensures fits { fits_in result codes.now }
-    ensures some { is_done result ≡ false }
+        left_in result.0 cuts cells ≡ flat_map (parts cuts) (words_in start cells) }
+    ensures fits { fits_in result.0 codes.now }
+    ensures some { is_done result.0 ≡ false }
+    ensures printed { result.1 ≡ true → all_printed (take result.0.letters codes.now) ≡ true }
 {
-    let (len, state) = word_len(start, codes);
+    let (len, state, is_printed) = word_len(start, codes);
     let letters = bare_len(&codes[..len]);
-    Broken {
+    let word = Broken {
         before: '\0',
         letters,
         spaces: len - letters,
         state,
+    };
+    (word, is_printed)
+}
+
+// The letters of the part at the front of the rest of a word. Where they are printable ASCII without a hyphen, and have
+// room, they are all that is left.
+#[inline(always)]
+fn part_letters(
+    word: Broken,
+    is_printed: bool,
+    cuts: Cuts,
+    codes: &[char],
+) -> Result<Letters, AllocError>
+    requires fits { word.letters ≤ length codes.now }
+    requires printed { is_printed ≡ true → all_printed (take word.letters codes.now) ≡ true }
+    ensures len { IfOk result (λ p.
+        p.len ≡ part_len never (word_cuts UnicodeBreakProperties cuts) word.before 0 (take word.letters codes.now)) }
+    ensures columns { IfOk result (λ p. p.columns ≡ code_columns (take p.len (take word.letters codes.now))) }
+    ensures within { IfOk result (λ p. p.len ≤ length (take word.letters codes.now)) }
+{
+    if is_printed && word.letters <= cuts.narrow {
+        return Ok(Letters {
+            len: word.letters,
+            columns: word.letters,
+        });
     }
+    first_part::<Broken>(cuts, word.before, &codes[..word.letters])
 }
 
 // The part at the front of the rest of a word.
 #[inline(always)]
-fn word_part(word: Broken, cuts: Cuts, codes: &[char]) -> Result<(Part, Broken), AllocError>
+fn word_part(
+    word: Broken,
+    is_printed: bool,
+    cuts: Cuts,
+    codes: &[char],
+) -> Result<(Part, Broken), AllocError>
     requires fits { fits_in word codes.now }
     requires some { is_done word ≡ false }
+    requires printed { is_printed ≡ true → all_printed (take word.letters codes.now) ≡ true }
     ensures is { IfOk result (λ (p, behind). IsPart (left_in word (word_cuts UnicodeBreakProperties cuts))
         (left_in behind (word_cuts UnicodeBreakProperties cuts)) codes.now p.letters.len p.spaces) }
     ensures columns { IfOk result (λ (p, behind). p.letters.columns ≡ code_columns (take p.letters.len codes.now)) }
@@ -117,7 +157,7 @@ fn word_part(word: Broken, cuts: Cuts, codes: &[char]) -> Result<(Part, Broken),
     ensures within { IfOk result (λ (p, behind). p.letters.len + p.spaces ≤ length codes.now) }
     ensures fits { IfOk result (λ (p, behind). fits_in behind (drop (p.letters.len + p.spaces) codes.now)) }
 {
-    let letters = first_part::<Broken>(cuts, word.before, &codes[..word.letters])?;
+    let letters = part_letters(word, is_printed, cuts, codes)?;
     if letters.len == word.letters {
         let part = Part {
             letters,
@@ -142,7 +182,7 @@ fn word_part(word: Broken, cuts: Cuts, codes: &[char]) -> Result<(Part, Broken),
 impl Stop for Broken {
     ghost stop = { never };
 
-    ghost letters = { λ _ _. refl };
+    ghost solid = { λ _ _. refl };
 
     fn is_stop(_code: char) -> bool {
         false
@@ -169,9 +209,9 @@ impl Words for Broken {
 
     fn part(self, cuts: Cuts, codes: &[char]) -> Result<(Part, Broken), AllocError> {
         if self.letters == 0 && self.spaces == 0 {
-            let word = first_word(self.state, codes);
-            return word_part(word, cuts, codes);
+            let (word, is_printed) = first_word(self.state, codes);
+            return word_part(word, is_printed, cuts, codes);
         }
-        word_part(self, cuts, codes)
+        word_part(self, false, cuts, codes)
     }
 }

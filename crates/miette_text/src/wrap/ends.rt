@@ -2,13 +2,12 @@
 
 ghost use Rattle.std.proofs.Common.{arith};
 ghost use Rattle.std.proofs.lemmas.Bool.Decides.{nat_tests};
-ghost use Rattle.std.specs.Char.{is_ascii_alphabetic};
 ghost use Rattle.std.specs.Prelude.{◌≡◌, ◌≤◌, ◌<◌, ◌+◌, ◌==◌, ◌&&◌, ℕ, Bool, true, false, List, []};
 ghost use Rattle.std.specs.Prelude.{IfOk, drop, length, min, refl, take};
 ghost use Rattle.miette_text.specs.declared.wrap.WordSeparator.{WordSeparator};
 ghost use Rattle.miette_text.specs.declared.wrap.WordSeparator.TheVariants.{AsciiSpace};
 ghost use Rattle.miette_text.specs.steps.Ends.{IsFirstRow, IsPart, bare_len, begins_word, gap_len};
-ghost use Rattle.miette_text.specs.steps.Ends.{letters_len, part_len};
+ghost use Rattle.miette_text.specs.steps.Ends.{is_solid, letters_len, part_len, solid_len};
 ghost use Rattle.miette_text.specs.steps.Ends.{words_behind};
 ghost use Rattle.miette_text.specs.views.Cutting.{word_cuts};
 ghost use Rattle.miette_runs.specs.rules.Cells.{Cell};
@@ -49,8 +48,8 @@ pub(crate) trait Stop {
     fn is_stop(code: char) -> bool
         ensures { result ≡ stop code };
 
-    /// No letter of ASCII ends one.
-    ghost letters: { (c : ℕ) → is_ascii_alphabetic c ≡ true → stop c ≡ false };
+    /// None from `.` to `~` does.
+    ghost solid: { (c : ℕ) → is_solid c ≡ true → stop c ≡ false };
 }
 
 /// The words of a line, part by part from the front.
@@ -119,16 +118,38 @@ pub(crate) fn letters_len(codes: &[char]) -> usize
     codes.len()
 }
 
-// The same, up to so many: the codes behind these aren't looked at.
+// Whether it is one from `.` to `~`: it has a column, and no word ends at it or is cut behind it.
 #[inline(always)]
-fn letters_within(codes: &[char], most: usize) -> usize
-    ensures value { result ≡ min (letters_len codes.now) most }
-    ensures within { result ≤ length codes.now }
+fn is_solid(code: char) -> bool
+    ensures { result ≡ is_solid code }
 {
-    letters_len(&codes[..codes.len().min(most)])
+    '.' <= code && code <= '~'
 }
 
-/// The letters of the part at the front, behind a code. Letters of ASCII that have room are passed at once.
+// How many such codes there are at the front.
+#[inline(always)]
+fn solid_len(codes: &[char]) -> usize
+    ensures value { result ≡ solid_len codes.now }
+    ensures within { result ≤ length codes.now }
+{
+    for (i, code) in codes.iter().enumerate() {
+        if !is_solid(*code) {
+            return i;
+        }
+    }
+    codes.len()
+}
+
+// The same, up to so many: the codes behind these aren't looked at.
+#[inline(always)]
+fn solid_within(codes: &[char], most: usize) -> usize
+    ensures value { result ≡ min (solid_len codes.now) most }
+    ensures within { result ≤ length codes.now }
+{
+    solid_len(&codes[..codes.len().min(most)])
+}
+
+/// The letters of the part at the front, behind a code. Solid ones that have room are passed at once.
 pub(crate) fn first_part<T: Stop>(
     cuts: Cuts,
     first: char,
@@ -139,7 +160,7 @@ pub(crate) fn first_part<T: Stop>(
     ensures columns { IfOk result (λ p. p.columns ≡ code_columns (take p.len codes.now)) }
     ensures within { IfOk result (λ p. p.len ≤ length codes.now) }
 {
-    let n = letters_within(codes, cuts.narrow);
+    let n = solid_within(codes, cuts.narrow);
     if n == 0 {
         return part_behind::<T>(cuts, first, 0, codes);
     }
@@ -237,7 +258,7 @@ pub(crate) struct Spaced {
 impl Stop for Spaced {
     ghost stop = { is_space };
 
-    ghost letters = { λ c h. Prim.grind (arith, nat_tests) };
+    ghost solid = { λ c h. Prim.grind (arith, nat_tests) };
 
     fn is_stop(code: char) -> bool {
         code == ' '

@@ -17,4 +17,4 @@ returns-then-limit-width c =
     cut_at_is limit c.in_ok-width.width c.args.ends.now (text_cells c.args.text.now) c.in_ok-made.made.items
     (c.in_ok-width.ensures ∙ ap (cells_width 0) (c.copy.ensures ∙ c.new-walk.ensures)) c.if-limit-width.true
     (c.in_ok-made.ensures ∙ ap (λ cs. map measure (stretches (is_near limit c.args.ends.now) false cs))
-        c.new-walk.ensures)
+    c.new-walk.ensures)

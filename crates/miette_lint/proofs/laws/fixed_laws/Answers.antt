@@ -1,5 +1,5 @@
-use Rattle.miette_lint.proofs.FixedLines.{fixed_clean, fixed_again}
-use Rattle.miette_lint.proofs.Proposed.{fixed_applied}
+use Rattle.miette_lint.proofs.FixedLines.{fixed_again, fixed_clean, fixed_needs_nothing}
+use Rattle.miette_lint.proofs.Proposed.{fixed_applied, proposals_taken}
 use Rattle.miette_lint.proofs.laws.fixed_laws.Goals as goal
 
 pub returns-clause-clean : goal.returns-clause-clean
@@ -10,3 +10,9 @@ returns-clause-again c = fixed_again
 
 pub returns-clause-applied : goal.returns-clause-applied
 returns-clause-applied c = fixed_applied
+
+pub returns-clause-settled : goal.returns-clause-settled
+returns-clause-settled c = fixed_needs_nothing
+
+pub returns-clause-taken : goal.returns-clause-taken
+returns-clause-taken c = proposals_taken

@@ -2,6 +2,7 @@ use Rattle.std.proofs.Common.{◌<◌, ◌≤◌, ◌-◌, ℕ, arith}
 use Rattle.std.proofs.lemmas.List.{length-take}
 use Rattle.miette_text.proofs.BreakParts.{begun, first-left, first-spaces, not-done}
 use Rattle.miette_text.proofs.BreakWords.{piece-some}
+use Rattle.miette_text.proofs.PrintedRuns.{printed-fewer}
 use Rattle.miette_text.proofs.wrap.breaks.first_word.Goals as goal
 
 pub returns-clause-left : goal.returns-clause-left
@@ -32,3 +33,11 @@ returns-clause-some c =
     let some : 0 < k = omega (arith, c.word_len-len.ensures.len, piece-some c.args.start codes c.requires) in
     let within : b ≤ k = omega (arith, c.bare_len-letters.ensures.within, length-take {A = ℕ} k codes) in
     not-done (begun b (k - b) c.word_len-len.result.1) (omega arith)
+
+pub returns-clause-printed : goal.returns-clause-printed
+returns-clause-printed c = λ h.
+    let codes = c.args.codes.now in
+    let k = c.word_len-len.result.0 in
+    let b = c.bare_len-letters.result in
+    let within : b ≤ k = omega (arith, c.bare_len-letters.ensures.within, length-take {A = ℕ} k codes) in
+    printed-fewer b k codes within (c.word_len-len.ensures.printed h)

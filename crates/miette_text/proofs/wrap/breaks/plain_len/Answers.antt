@@ -1,9 +1,10 @@
-use Rattle.std.proofs.Common.{◌≡◌, ◌∙◌, ◌+◌, ◌<◌, false, true, ap, arith, drop, sym}
+use Rattle.std.proofs.Common.{◌≡◌, ◌∙◌, ◌+◌, ◌<◌, false, true, ap, arith, drop, refl, sym}
 use Rattle.std.proofs.lemmas.List.{take_rest}
 use Rattle.miette_line_breaks.specs.steps.States.{is_plain}
 use Rattle.miette_text.specs.steps.Ends.{gap_len}
 use Rattle.miette_text.specs.views.Breaks.{piece_len}
 use Rattle.miette_text.proofs.Passing.{plain-piece, plain-state}
+use Rattle.miette_text.proofs.PrintedRuns.{word-printed}
 use Rattle.miette_text.proofs.wrap.breaks.plain_len.Goals as goal
 
 pub returns-clause-len : goal.returns-clause-len
@@ -28,3 +29,11 @@ returns-clause-state c =
     let m = c.gap_len-spaces.result in
     let g : m ≡ gap_len (drop n cs) = c.gap_len-spaces.ensures.value ∙ ap gap_len (take_rest cs n) in
     c.spaced.ensures ∙ plain-state s n m cs h c.letters_len-n.ensures.value l g
+
+pub returns-clause-printed : goal.returns-clause-printed
+returns-clause-printed c =
+    let cs = c.args.codes.now in
+    let n = c.letters_len-n.result in
+    let m = c.gap_len-spaces.result in
+    let g : m ≡ gap_len (drop n cs) = c.gap_len-spaces.ensures.value ∙ ap gap_len (take_rest cs n) in
+    word-printed n m (n + m) cs refl (omega (arith, c.letters_len-n.ensures.value)) (omega (arith, g))

@@ -1,0 +1,144 @@
+#!/usr/bin/env python3
+"""mended.py: ten files of C, Rust and TOML, to which blanks were added, through `lint --fix`.
+
+The files of C are those of this repository and `stdio.h`, those of Rust are sources of this repository, those of TOML
+hold its cases. By chance, from a fixed seed, lines get blanks at their ends, and tabs after spaces in place of the
+spaces that they begin with; the last terminator is dropped; some files have CR LF. What `lint --fix` prints of that must
+be the file as it was, in which `lint` finds nothing; and what reads the language must read both alike: the assembly that
+`cc` makes, the rows that it reads of a header, the words of Rust, the value of TOML. The last line is 'N passed, M
+failed', and the exit status is 0 only where nothing failed."""
+import json
+import os
+import random
+import re
+import subprocess
+import sys
+import tempfile
+
+from programs import ROOT, counted, each, run
+
+CC = os.environ.get("CC") or "cc"
+WIDTH = str(2**64 - 1)
+C = ["cases/stop.c", "cases/refuse.c", "bench/heap.c"]
+HEADER = "stdio.h"
+RUST = ["crates/miette_text/src/wrap.rt", "crates/miette_graphical/src/report.rt", "crates/miette_lint/src/findings.rt"]
+TOML = ["gallery", "worked", "examples"]
+# the words of Rust: comments, texts, letters, words, numbers, signs
+RUST_WORD = re.compile(rb"""//[^\n\r]*|b?"(?:[^"\\]|\\.)*"|b?'(?:[^'\\\n]|\\.[^'\n]*)'|\w+|[^\s\w]""", re.DOTALL)
+
+
+def file_in(path):
+    with open(os.path.join(ROOT, path), "rb") as file:
+        return file.read()
+
+
+def header():
+    """The text of the header that `cc` reads."""
+    done = subprocess.run([CC, "-M", "-x", "c", "-"], input=f"#include <{HEADER}>\n", capture_output=True, text=True)
+    return file_in(next(it for it in done.stdout.split() if it.endswith("/" + HEADER)))
+
+
+def toml(name):
+    """The texts of a file of cases as TOML."""
+    text = ""
+    for line in file_in(f"cases/{name}.jsonl").decode().splitlines():
+        case = json.loads(line)
+        text += f"[[case]]\nwhat = {json.dumps(case.get('what', name))}\nwords = [\n"
+        text += "".join(f"    {json.dumps(word)},\n" for word in case["argv"])
+        text += f"]\nwanted = {json.dumps(case.get('stdout_text', ''))}\n\n"
+    return text.rstrip("\n").encode() + b"\n"
+
+
+# ---- what reads a language
+
+
+def assembly(text):
+    words = [CC, "-O1", "-w", "-S", "-x", "c", "-o", "-", "-"]
+    done = subprocess.run(words, input=text, capture_output=True, check=True)
+    return done.stdout
+
+
+def header_words(text):
+    """The words of a header after it is read."""
+    with tempfile.TemporaryDirectory() as folder:
+        path = os.path.join(folder, "read.h")
+        with open(path, "wb") as file:
+            file.write(text)
+        done = subprocess.run([CC, "-w", "-E", "-P", "-x", "c", path], capture_output=True, check=True)
+    return done.stdout.split()
+
+
+def rust_words(text):
+    """The words of Rust, without the blanks that end a comment."""
+    return [it.rstrip() if it.startswith(b"//") else it for it in RUST_WORD.findall(text)]
+
+
+def toml_value(text):
+    try:
+        import tomllib
+    except ImportError:
+        return None
+    return tomllib.loads(text.decode())
+
+
+def files():
+    """Each file: its name, its text, and what reads it."""
+    yield from ((path, file_in(path), assembly) for path in C)
+    yield HEADER, header(), header_words
+    yield from ((path, file_in(path), rust_words) for path in RUST)
+    yield from ((f"{name}.toml", toml(name), toml_value) for name in TOML)
+
+
+# ---- lines that are amiss
+
+
+def uneven(dice, line):
+    """A line with a tab after a space in place of four spaces at its beginning, by chance."""
+    spaces = len(line) - len(line.lstrip(b" "))
+    if spaces >= 4 and line.strip() and dice.random() < 0.4:
+        at = 4 * dice.randrange(spaces // 4)
+        line = line[:at] + b" " * dice.randint(1, 3) + b"\t" + line[at + 4 :]
+    return line
+
+
+def amiss(dice, text):
+    """A text with lines that `lint` finds fault with."""
+    lines = []
+    for line in text.split(b"\n"):
+        line = uneven(dice, line)
+        lines.append(line + dice.choice([b" ", b"\t", b"   ", b" \t", b"\t  "]) if dice.random() < 0.3 else line)
+    return b"\n".join(lines[:-1])
+
+
+def fault_of(number, name, text, reads):
+    """Why a file isn't mended, and how many lines were amiss."""
+    dice, found = random.Random(number), 0
+    worse = amiss(dice, text)
+    if number % 3 == 2:
+        text, worse = text.replace(b"\n", b"\r\n"), worse.replace(b"\n", b"\r\n")
+    if run(["lint", name, WIDTH], text) != (0, b"", b""):
+        return "something is found in the file as it was", found
+    status, labels, row = run(["lint", "--brief", name, WIDTH], worse)
+    found = labels.count(b": note: ")
+    if status != 1 or row or not found:
+        return f"status {status}, {found} findings, {row!r}", found
+    mended = run(["lint", "--fix", name, WIDTH], worse)
+    if mended != (0, text, b""):
+        return f"status {mended[0]}, {mended[2]!r}, another text", found
+    if reads(worse) != reads(text):
+        return "it is read in another way", found
+    return None, found
+
+
+def main():
+    results = each(lambda it: fault_of(it[0], *it[1]), list(enumerate(files())))
+    for (name, _, _), (fault, _) in zip(files(), results):
+        if fault:
+            print(f"{name}: {fault}")
+    print(f"findings in ten files: {sum(found for _, found in results)}")
+    failed = sum(fault is not None for fault, _ in results)
+    return counted(len(results) - failed, failed)
+
+
+if __name__ == "__main__":
+    sys.exit(main())

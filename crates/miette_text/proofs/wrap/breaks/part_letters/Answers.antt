@@ -1,0 +1,23 @@
+use Rattle.std.proofs.Common.{◌≡◌, ◌∙◌, ap, arith, length, sym, take}
+use Rattle.std.proofs.lemmas.List.{length-take-le, take-take}
+use Rattle.miette_runs.specs.steps.Cells.{code_columns}
+use Rattle.miette_text.specs.declared.wrap.WordSeparator.TheVariants.{UnicodeBreakProperties}
+use Rattle.miette_text.specs.views.Cutting.{word_cuts}
+use Rattle.miette_text.proofs.PrintedRuns.{printed-columns, printed-part}
+use Rattle.miette_text.proofs.wrap.breaks.part_letters.Goals as goal
+
+pub returns-then-word-cuts-clause-len : goal.returns-then-word-cuts-clause-len
+returns-then-word-cuts-clause-len c =
+    let n = c.args.word.letters in
+    let cs = take n c.args.codes.now in
+    let all : length cs ≡ n = length-take-le n c.args.codes.now c.requires.fits in
+    sym (printed-part (word_cuts UnicodeBreakProperties c.args.cuts) c.args.word.before 0 n cs
+    (c.requires.printed c.if-is_printed.true) (omega (arith, all)) c.if-word-cuts.true ∙ all)
+
+pub returns-then-word-cuts-clause-columns : goal.returns-then-word-cuts-clause-columns
+returns-then-word-cuts-clause-columns c =
+    let n = c.args.word.letters in
+    let cs = take n c.args.codes.now in
+    let same : take n cs ≡ cs = take-take n n c.args.codes.now (omega arith) in
+    sym (ap code_columns same ∙ printed-columns cs (c.requires.printed c.if-is_printed.true)
+    ∙ length-take-le n c.args.codes.now c.requires.fits)
