@@ -11,3 +11,7 @@ pub mod Counting
 pub mod ReadingBack
 pub mod EditsBack
 pub mod Fixing
+pub mod Escaping
+pub mod Marking
+pub mod Commanding
+pub mod CommandsBack

@@ -2,3 +2,5 @@
 pub mod Reads
 pub mod Conversions
 pub mod AppendedParts
+pub mod CommandParts
+pub mod Marking

@@ -7,7 +7,7 @@ use Rattle.miette_brief.proofs.handler.BriefReportHandlerTextHandler.text_of.Goa
 pub returns-clause-text : goal.returns-clause-text
 returns-clause-text g c =
     let value = tree_of g.D.Diagnostic.meaning g.S.SourceCode.source c.args.report.now in
-    let chain = c.args.self.now.chain in
-    is_brief chain value (string_bytes c.push_report.new.out)
-    (subst (λ (old : List ℕ). AppendsReport chain None value old (string_bytes c.push_report.new.out))
+    let settings = c.args.self.now in
+    is_brief settings value (string_bytes c.push_report.new.out)
+    (subst (λ (old : List ℕ). AppendsReport settings None value old (string_bytes c.push_report.new.out))
     c.new-text.ensures.bytes c.in_ok-push_report.ensures.text)
