@@ -69,12 +69,15 @@ def github_outcome(name, labels, reads):
     """What a report in commands of GitHub comes to: no cause is read, and no fix."""
     if "cause" in STOPPED[name]:
         return WHOLE
+    if "snippets" in STOPPED[name]:
+        # each label, and then the source of the primary one as a whole
+        return WHOLE if all(reads.is_read() for _ in (*labels, labels[0])) else REFUSED
+    # the source as a whole, and then each label over it, or its name, and these sources have none
+    is_whole = reads.is_read()
     if not labels:
-        # the source's name is read, and these sources have none
         reads.is_read()
         return WHOLE
-    # each label, and then the source of the primary one as a whole
-    return WHOLE if all(reads.is_read() for _ in (*labels, labels[0])) else REFUSED
+    return WHOLE if all(reads.is_read() for _ in labels) and is_whole else REFUSED
 
 
 def outcome(name, handler, lines, reads):

@@ -13,5 +13,6 @@ pub mod EditsBack
 pub mod Fixing
 pub mod Escaping
 pub mod Marking
+pub mod Wholes
 pub mod Commanding
 pub mod CommandsBack

@@ -4,3 +4,4 @@ pub mod Conversions
 pub mod AppendedParts
 pub mod CommandParts
 pub mod Marking
+pub mod Wholes

@@ -8,30 +8,26 @@ ghost use Rattle.miette_tree.specs.views.Owned.{shown_source};
 ghost use Rattle.miette_tree.specs.rules.Tree.{head, cause_of, causes_of};
 ghost use Rattle.miette_tree.specs.rules.DiagnosticParts.{given_labels};
 ghost use Rattle.miette_tree.specs.rules.Reads.{accepts, holds_further};
-ghost use Rattle.miette_positions.specs.rules.Regions.{region_of};
-ghost use Rattle.miette_positions.specs.declared.place.PositionEncoding.TheVariants.{Utf16};
 ghost use Rattle.miette_brief.specs.declared.form.Form.TheVariants.{Github};
 ghost use Rattle.miette_brief.specs.rules.Commands.{escaped, sayings_text};
 ghost use Rattle.miette_brief.specs.rules.Github.{advice_sayings, cause_sayings, fix_saying, nonempty, note_saying};
-ghost use Rattle.miette_brief.specs.rules.Github.{note_sayings, saying, saying_if, site_in};
+ghost use Rattle.miette_brief.specs.rules.Github.{note_sayings, saying, saying_if};
 ghost use Rattle.miette_brief.specs.rules.Marks.{with_first};
 ghost use Rattle.miette_brief.specs.steps.AppendedParts.{AppendsOwn};
-ghost use Rattle.miette_brief.specs.steps.CommandParts.{mark_of, site_of};
-ghost use Rattle.miette_brief.specs.steps.Marking.{IsChosenSite, IsSourceSite, spot_at, spot_of_mark};
-ghost use Rattle.miette_brief.specs.steps.Reads.{IsSpotUnread};
+ghost use Rattle.miette_brief.specs.steps.CommandParts.{mark_of};
+ghost use Rattle.miette_brief.specs.steps.Wholes.{IsWhole};
 ghost use Rattle.miette_labels.specs.rules.Groups.{in_order};
 
 use crate::commands::{Site, push_head, push_saying};
 use crate::escapes::{Part, push_escaped};
 use crate::marks::{Mark, marks_of, primary_at};
-use crate::places::source_place;
+use crate::sites::chosen_site;
+use crate::whole::Whole;
 use miette_fixes::fix::Fix;
-use miette_positions::place::{PositionEncoding, Region};
-use miette_positions::spans::region_of;
 use miette_protocol::error::RenderError;
-use miette_protocol::protocol::{Diagnostic, LabeledSpan, SourceOffset, SourceSpan};
+use miette_protocol::protocol::{Diagnostic, LabeledSpan};
 use miette_protocol::source::SourceCode;
-use miette_tree::parts::cause_texts;
+use miette_tree::parts::{cause_texts, labels_of};
 use miette_tree::report::{Cause, Report, SourceRef};
 use std::alloc::AllocError;
 
@@ -42,84 +38,6 @@ fn nonempty(text: Option<&str>) -> Option<&str>
     match text {
         Some(text) if !text.is_empty() => Some(text),
         _ => None,
-    }
-}
-
-/// A file with a name that isn't empty.
-fn site_in<'a>(name: Option<&'a str>, region: Option<Region>) -> Option<Site<'a>>
-    ensures { option_map site_of result ≡ site_in (option_copied name.entry) region }
-{
-    match name {
-        Some(file) if !file.is_empty() => Some(Site { file, region }),
-        _ => None,
-    }
-}
-
-/// The region of a span, in UTF-16.
-fn whole_region(span: SourceSpan, source: &[u8]) -> Option<Region>
-    ensures { result ≡ region_of Utf16 source.now span }
-{
-    region_of(span, source, PositionEncoding::Utf16)
-}
-
-/// The name of a source alone.
-fn source_site<'a, S: SourceCode>(source: Option<SourceRef<'a, S>>) -> Option<Site<'a>>
-    ensures { IsSourceSite (option_map (shown_source S.source) source.entry) (option_map site_of result) }
-{
-    site_in(source_place(source).name, None)
-}
-
-/// Where a span over a source lies; `Refused` where the source can't be read as a whole.
-fn span_site<'a, S: SourceCode>(
-    source: SourceRef<'a, S>,
-    span: &SourceSpan,
-) -> Result<Option<Site<'a>>, RenderError>
-    ensures site { IfOk result (λ site. option_map site_of site ≡ site_in (shown_source S.source source.entry).name
-        (region_of Utf16 (shown_source S.source source.entry).bytes span.now)) }
-    ensures refused { (result ≡ Err RenderError.Refused) → (shown_source S.source source.entry).always_reads ≡ false }
-{
-    let begin = SourceSpan::new(SourceOffset::from(0), 0);
-    match source.read_span(&begin, 1, usize::MAX) {
-        Ok(lent) => {
-            let region = whole_region(*span, lent.data());
-            Ok(site_in(lent.name(), region))
-        }
-        Err(_) => Err(RenderError::Refused),
-    }
-}
-
-/// Where a label lies, a label without a source at the name of this one; `Refused` where a source can't be read.
-fn mark_site<'a, S: SourceCode>(
-    source: Option<SourceRef<'a, S>>,
-    mark: &Mark<'a, S>,
-) -> Result<Option<Site<'a>>, RenderError>
-    ensures site { IfOk result (λ site. IsChosenSite (option_map (shown_source S.source) source.entry)
-        (spot_of_mark (mark_of S.source mark.now)) (option_map site_of site)) }
-    ensures refused { (result ≡ Err RenderError.Refused) → IsSpotUnread (spot_of_mark (mark_of S.source mark.now)) }
-{
-    match mark.source {
-        Some(own) => span_site(own, mark.label.inner()),
-        None => Ok(source_site(source)),
-    }
-}
-
-/// Where a diagnostic lies with this primary label, or without one; `Refused` where a source can't be read.
-fn chosen_site<'a, S: SourceCode>(
-    source: Option<SourceRef<'a, S>>,
-    marks: &[Mark<'a, S>],
-    at: Option<usize>,
-) -> Result<Option<Site<'a>>, RenderError>
-    ensures site { IfOk result (λ site. IsChosenSite (option_map (shown_source S.source) source.entry)
-        (spot_at at (map (mark_of S.source) marks.now)) (option_map site_of site)) }
-    ensures refused { (result ≡ Err RenderError.Refused) →
-        IsSpotUnread (spot_at at (map (mark_of S.source) marks.now)) }
-{
-    let Some(at) = at else {
-        return Ok(source_site(source));
-    };
-    match marks.get(at) {
-        Some(mark) => mark_site(source, mark),
-        None => Ok(source_site(source)),
     }
 }
 
@@ -287,13 +205,15 @@ fn push_message<D: Diagnostic, S: SourceCode>(
     out.push_str("\n")
 }
 
-/// The command of a report over a source, or over none, without those of related reports.
+/// The command of a report over a source that was read as a whole, or over none, without those of related reports.
 pub(crate) fn push_command<'a, D: Diagnostic, S: SourceCode>(
     chain: bool,
     report: &'a Report<D, S>,
     source: Option<SourceRef<'a, S>>,
+    whole: &Whole<'a>,
     out: &mut String,
 ) -> Result<(), RenderError>
+    requires { IsWhole (option_map (shown_source S.source) source) whole.now }
     ensures text { OnOk result (AppendsOwn (record { chain = chain; form = Github })
         (option_map (shown_source S.source) source.entry) (head (tree_of D.meaning S.source report.now))
         (cause_of (tree_of D.meaning S.source report.now)) (string_bytes out.old) (string_bytes out.new)) }
@@ -304,7 +224,7 @@ pub(crate) fn push_command<'a, D: Diagnostic, S: SourceCode>(
 {
     let marks = marks_of(*out.allocator(), report, source)?;
     let first = primary_at(&marks);
-    let site = chosen_site(source, &marks, first)?;
+    let site = chosen_site(source, whole, labels_of(report).len(), &marks, first)?;
     push_head(out, report.severity(), site, nonempty(report.code()))?;
     push_message(chain, report, &marks, first, out)?;
     Ok(())

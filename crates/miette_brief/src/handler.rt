@@ -1,9 +1,9 @@
 //! The handler of brief reports.
 
-ghost use Rattle.std.specs.Prelude.{◌≡◌, ◌++◌, ◌&&◌, true, false, map, OnOk, OnErr, string_bytes};
+ghost use Rattle.std.specs.Prelude.{◌≡◌, ◌++◌, ◌&&◌, true, false, map, IfOk, OnOk, OnErr, string_bytes};
 ghost use Rattle.std.specs.Option.{option_map};
 ghost use Rattle.miette_tree.specs.rules.DiagnosticParts.{given_labels};
-ghost use Rattle.miette_tree.specs.rules.Tree.{cause_of, head, trees};
+ghost use Rattle.miette_tree.specs.rules.Tree.{cause_of, head, source_of, trees};
 ghost use Rattle.miette_tree.specs.views.Owned.{shown_source};
 ghost use Rattle.miette_tree.specs.views.Report.{tree_of};
 ghost use Rattle.miette_tree.specs.views.Handler.{AppendsOne};
@@ -13,17 +13,19 @@ ghost use Rattle.miette_labels.specs.rules.Groups.{in_order};
 ghost use Rattle.miette_brief.specs.rules.Report.{default_settings, brief, unlisted};
 ghost use Rattle.miette_brief.specs.rules.PossibleAnswers.{IsBrief};
 ghost use Rattle.miette_brief.specs.steps.AppendedParts.{AppendsOwn, AppendsRelated, AppendsReport};
+ghost use Rattle.miette_brief.specs.steps.Wholes.{IsOwnIn, IsWholeIn};
 
 use crate::form::Form;
 use crate::github::push_command;
 use crate::report::push_own;
+use crate::whole::{Whole, own_whole, whole_or};
 use miette_protocol::error::RenderError;
 use miette_protocol::protocol::Diagnostic;
 use miette_protocol::source::SourceCode;
 use miette_tree::parts::own_or;
 use miette_tree::report::{Report, SourceRef};
 use miette_tree::text_handler::{TextHandler, append_text};
-use std::alloc::Global;
+use std::alloc::{AllocError, Global};
 use std::marker::Model;
 
 /// Tells a report in one row for each of its parts, as editors and build logs read it: `NAME:LINE:COLUMN: error: ..`.
@@ -156,8 +158,10 @@ impl BriefReportHandler {
         &self,
         report: &'a Report<D, S>,
         source: Option<SourceRef<'a, S>>,
+        whole: &Whole<'a>,
         out: &mut String,
     ) -> Result<(), RenderError>
+        requires { IsWholeIn self.now.form (option_map (shown_source S.source) source) whole.now }
         ensures text { OnOk result (AppendsOwn self.now (option_map (shown_source S.source) source.entry)
             (head (tree_of D.meaning S.source report.now)) (cause_of (tree_of D.meaning S.source report.now))
             (string_bytes out.old) (string_bytes out.new)) }
@@ -169,7 +173,22 @@ impl BriefReportHandler {
         let chain = self.tells_causes();
         match self.form() {
             Form::Gcc => push_own(chain, report, source, out),
-            Form::Github => push_command(chain, report, source, out),
+            Form::Github => push_command(chain, report, source, whole, out),
+        }
+    }
+
+    // The own source of a report as a whole, if it has one and the form asks for it.
+    fn own_whole<'a, D: Diagnostic, S: SourceCode>(
+        &self,
+        alloc: Global,
+        report: &'a Report<D, S>,
+    ) -> Result<Option<Whole<'a>>, AllocError>
+        ensures { IfOk result (λ own. IsOwnIn self.now.form
+            (source_of (tree_of D.meaning S.source report.now)) own) }
+    {
+        match self.form() {
+            Form::Gcc => Ok(None),
+            Form::Github => own_whole(alloc, report),
         }
     }
 
@@ -179,8 +198,10 @@ impl BriefReportHandler {
         &self,
         report: &'a Report<D, S>,
         inherited: Option<SourceRef<'a, S>>,
+        whole: &Whole<'a>,
         out: &mut String,
     ) -> Result<(), RenderError>
+        requires { IsWholeIn self.now.form (option_map (shown_source S.source) inherited) whole.now }
         ensures text { OnOk result (AppendsReport self.now (option_map (shown_source S.source) inherited.entry)
             (tree_of D.meaning S.source report.now) (string_bytes out.old) (string_bytes out.new)) }
         ensures refused { (result ≡ Err RenderError.Refused) →
@@ -188,8 +209,10 @@ impl BriefReportHandler {
             (tree_of D.meaning S.source report.now) ≡ false }
     {
         let source = own_or(report, inherited);
-        self.push_own(report, source, out)?;
-        self.push_related(report.related(), source, out)
+        let own = self.own_whole(*out.allocator(), report)?;
+        let whole = whole_or(&own, &*whole);
+        self.push_own(report, source, whole, out)?;
+        self.push_related(report.related(), source, whole, out)
     }
 
     // Appends related reports, below a report with this source.
@@ -198,8 +221,10 @@ impl BriefReportHandler {
         &self,
         reports: &'a [Report<D, S>],
         source: Option<SourceRef<'a, S>>,
+        whole: &Whole<'a>,
         out: &mut String,
     ) -> Result<(), RenderError>
+        requires { IsWholeIn self.now.form (option_map (shown_source S.source) source) whole.now }
         ensures text { OnOk result (AppendsRelated self.now (option_map (shown_source S.source) source.entry)
             (trees (map (tree_of D.meaning S.source) reports.now)) (string_bytes out.old) (string_bytes out.new)) }
         ensures refused { (result ≡ Err RenderError.Refused) →
@@ -207,7 +232,7 @@ impl BriefReportHandler {
             (trees (map (tree_of D.meaning S.source) reports.now)) ≡ false }
     {
         for report in reports {
-            self.push_report(report, source, out)?;
+            self.push_report(report, source, &*whole, out)?;
         }
         Ok(())
     }
@@ -224,7 +249,7 @@ impl TextHandler for BriefReportHandler {
         report: &Report<D, S>,
     ) -> Result<String, RenderError> {
         let mut text = String::new(alloc);
-        self.push_report(report, None, &mut text)?;
+        self.push_report(report, None, &Whole::Nowhere, &mut text)?;
         Ok(text)
     }
 }

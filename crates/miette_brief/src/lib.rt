@@ -13,5 +13,7 @@ mod marks;
 mod places;
 mod report;
 mod rows;
+mod sites;
 mod spots;
+mod whole;
 mod words;

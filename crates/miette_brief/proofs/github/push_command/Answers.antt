@@ -1,4 +1,4 @@
-use Rattle.std.proofs.Common.{◌≡◌, ◌∙◌, ◌++◌, List, sym, ap, ap₂, subst, map, string_bytes, codes, rules}
+use Rattle.std.proofs.Common.{◌≡◌, ◌∙◌, ◌++◌, List, length, sym, ap, ap₂, subst, map, string_bytes, codes, rules}
 use Rattle.std.specs.Option.{option_map}
 use Rattle.miette_tree.specs.rules.Tree.{head, cause_of}
 use Rattle.miette_tree.specs.views.Owned.{shown_source}
@@ -10,6 +10,7 @@ use Rattle.miette_brief.specs.steps.Marking.{IsChosenSite, spot_at}
 use Rattle.miette_brief.specs.steps.Reads.{IsSpotUnread}
 use Rattle.miette_brief.proofs.Commanding.{commanded, head_text, message_text, unread_refused}
 use Rattle.miette_brief.proofs.Marking.{primary_inside}
+use Rattle.miette_brief.proofs.Wholes.{own_over}
 use Rattle.miette_brief.proofs.github.push_command.Goals as goal
 
 pub push_message-requires : goal.push_message-requires
@@ -17,6 +18,18 @@ push_message-requires g c =
     let f = mark_of g.S.SourceCode.source in
     primary_inside f c.deref-3.result.now c.primary_at-first.result (c.primary_at-first.ensures
     ∙ ap (λ ms. primary_at (map f ms)) (c.deref.ensures.value ∙ sym c.deref-3.ensures.value))
+
+pub chosen_site-requires : goal.chosen_site-requires
+chosen_site-requires g c =
+    let is = g.S.SourceCode.source in
+    let value = tree_of g.D.Diagnostic.meaning is c.args.report.now in
+    let source = option_map (shown_source is) c.args.source in
+    record {
+      whole = c.requires;
+      own = own_over source (head value) c.len.result (map (mark_of is) c.deref-2.result.now)
+          (c.len.ensures ∙ ap length c.labels_of.ensures)
+          (ap (map (mark_of is)) c.deref-2.ensures.value ∙ c.in_ok-marks.ensures.marks);
+    }
 
 pub returns-in_err-site-clause-refused : goal.returns-in_err-site-clause-refused
 returns-in_err-site-clause-refused g c = λ h.

@@ -1,13 +1,14 @@
 use Rattle.std.proofs.Common.{rules, arith, map}
 use Rattle.std.specs.Option.{option_map}
 use Rattle.std.proofs.lemmas.Result.{on_ok_weaker}
-use Rattle.miette_tree.specs.rules.Tree.{trees}
+use Rattle.miette_tree.specs.rules.Tree.{source_of, trees}
 use Rattle.miette_tree.specs.views.Owned.{shown_source}
 use Rattle.miette_tree.specs.views.Report.{tree_of}
 use Rattle.miette_tree.proofs.TreeSizes.{item_falls}
 use Rattle.miette_tree.proofs.Readings.{refused_below, one_refused}
 use Rattle.miette_brief.proofs.SoFar.{none_so_far}
 use Rattle.miette_brief.proofs.Telling.{one_more, all_told, report_told, refused_here}
+use Rattle.miette_brief.proofs.Wholes.{whole_in}
 use Rattle.miette_brief.proofs.handler.BriefReportHandler.+report.Goals as goal
 
 pub push_related-loop-report-preserved : goal.push_related-loop-report-preserved
@@ -29,6 +30,13 @@ pub push_related-returns-clause-text : goal.push_related-returns-clause-text
 push_related-returns-clause-text g t c =
     all_told (tree_of g.D.Diagnostic.meaning g.S.SourceCode.source) c.args.self.now _ c.args.reports.now
     c.loop-report.report-index _ _ (omega arith) c.loop-report.invariant
+
+pub push_report-push_own-requires : goal.push_report-push_own-requires
+push_report-push_own-requires g t c =
+    whole_in c.args.self.now.form (source_of (tree_of g.D.Diagnostic.meaning g.S.SourceCode.source c.args.report.now))
+    (option_map (shown_source g.S.SourceCode.source) c.args.inherited)
+    (option_map (shown_source g.S.SourceCode.source) c.own_or-source.result) c.in_ok-own.own c.args.whole.now
+    c.whole_or-whole.result.now c.own_or-source.ensures c.whole_or-whole.ensures c.in_ok-own.ensures c.requires
 
 pub push_report-returns-clause-text : goal.push_report-returns-clause-text
 push_report-returns-clause-text g t c =

@@ -4,11 +4,18 @@ use Rattle.std.proofs.lemmas.Result.{on_ok_weaker}
 use Rattle.miette_tree.specs.rules.Tree.{cause_of, head}
 use Rattle.miette_tree.specs.views.Owned.{shown_source}
 use Rattle.miette_tree.specs.views.Report.{tree_of}
+use Rattle.miette_brief.specs.declared.form.Form.{Form}
 use Rattle.miette_brief.specs.declared.form.Form.TheVariants.{Gcc, Github}
 use Rattle.miette_brief.specs.rules.Report.{BriefSettings}
 use Rattle.miette_brief.specs.steps.AppendedParts.{AppendsOwn}
+use Rattle.miette_brief.specs.steps.Wholes.{IsWholeIn}
 use Rattle.miette_brief.proofs.Commanding.{same_settings}
 use Rattle.miette_brief.proofs.handler.BriefReportHandler.push_own.Goals as goal
+
+pub push_command-requires : goal.push_command-requires
+push_command-requires g c =
+    let source = option_map (shown_source g.S.SourceCode.source) c.args.source in
+    subst (λ (f : Form). IsWholeIn f source c.args.whole.now) (sym c.form.ensures ∙ c.in-Github.is) c.requires
 
 pub returns-in-Gcc-clause-text : goal.returns-in-Gcc-clause-text
 returns-in-Gcc-clause-text g c =
