@@ -2,7 +2,9 @@
 use Rattle.std.proofs.Common.{◌≡◌, ℕ, suc, zero, ◌+◌, ◌<◌, Bool, true, false, List, [], ◌∷◌, ◌++◌, refl, sym, ap, ◌∙◌}
 use Rattle.std.proofs.Common.{ap₂, subst, arith, length, map, Option, Some, None, cond}
 use Rattle.std.specs.Prelude.{nat_le, nat_lt, option_map, slice_get, unwrap_or}
+use Rattle.std.specs.Option.{option_map_or}
 use Rattle.std.proofs.lemmas.Bool.{ltb-true}
+use Rattle.std.proofs.lemmas.Option.{slice_get_past}
 use Rattle.miette_positions.specs.rules.Regions.{Placed, region_of}
 use Rattle.miette_protocol.specs.rules.Reading.{Source, Span}
 use Rattle.miette_protocol.specs.views.Meaning.{Label}
@@ -18,7 +20,7 @@ use Rattle.miette_brief.specs.rules.Commands.{Site}
 use Rattle.miette_brief.specs.rules.Github.{site_in}
 use Rattle.miette_brief.specs.rules.Marks.{Mark, further_marks, mark_over, marks}
 use Rattle.miette_brief.specs.rules.Places.{spot_over}
-use Rattle.miette_brief.specs.steps.Marking.{IsChosenSite}
+use Rattle.miette_brief.specs.steps.Marking.{IsChosenSite, spot_at, spot_of_mark}
 use Rattle.miette_brief.specs.steps.Reads.{IsSpotUnread}
 use Rattle.miette_brief.specs.steps.Wholes.{AreOver, IsOwn, IsOwnIn, IsWhole, IsWholeIn, site_over}
 use Rattle.miette_brief.proofs.Choosing.{nothing_met}
@@ -31,6 +33,23 @@ get_mapped : {X Y : Type 0} (f : X → Y) (xs : List X) (at : ℕ) (x : X) → s
 get_mapped f [] at x e = cc
 get_mapped f (y ∷ ys) zero x e = ap (λ o. option_map f o) e
 get_mapped f (y ∷ ys) (suc at) x e = get_mapped f ys at x e
+
+get_none : {X Y : Type 0} (f : X → Y) (xs : List X) (at : ℕ) → slice_get xs at ≡ None
+    → slice_get (map f xs) at ≡ None
+get_none f [] at e = slice_get_past [] at (omega arith)
+get_none f (y ∷ ys) zero e = absurd (some_not_none y e)
+get_none f (y ∷ ys) (suc at) e = get_none f ys at e
+
+-- the spot of a label that is there, or isn't
+pub spot_there : {X : Type 0} (f : X → Mark) (o : Option ℕ) (xs : List X) (at : ℕ) (x : X) → o ≡ Some at
+    → slice_get xs at ≡ Some x → spot_at o (map f xs) ≡ spot_of_mark (f x)
+spot_there f o xs at x e l = ap (λ i. spot_at i (map f xs)) e
+    ∙ ap (λ q. option_map_or spot_of_mark q None) (get_mapped f xs at x l)
+
+pub spot_missing : {X : Type 0} (f : X → Mark) (o : Option ℕ) (xs : List X) (at : ℕ) → o ≡ Some at
+    → slice_get xs at ≡ None → spot_at o (map f xs) ≡ None
+spot_missing f o xs at e l = ap (λ i. spot_at i (map f xs)) e
+    ∙ ap (λ q. option_map_or spot_of_mark q None) (get_none f xs at l)
 
 -- ---- below a report
 

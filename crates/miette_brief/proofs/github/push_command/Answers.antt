@@ -26,8 +26,7 @@ chosen_site-requires g c =
     let source = option_map (shown_source is) c.args.source in
     record {
       whole = c.requires;
-      own = own_over source (head value) c.len.result (map (mark_of is) c.deref-2.result.now)
-          (c.len.ensures ∙ ap length c.labels_of.ensures)
+      own = own_over source (head value) _ (map (mark_of is) c.deref-2.result.now) (ap length c.labels_of.ensures)
           (ap (map (mark_of is)) c.deref-2.ensures.value ∙ c.in_ok-marks.ensures.marks);
     }
 

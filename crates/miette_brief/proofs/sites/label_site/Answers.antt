@@ -16,5 +16,5 @@ whole_site-requires g c =
 pub returns-then-is_own-clause-site : goal.returns-then-is_own-clause-site
 returns-then-is_own-clause-site g c =
     let it = mark_of g.S.SourceCode.source c.args.mark.now in
-    IfOk-weaker c.whole_site.result (λ site h. subst (λ (o : Option Source). IsChosenSite o (spot_of_mark it)
+    IfOk-weaker c.whole_site.result _ _ (λ site h. subst (λ (o : Option Source). IsChosenSite o (spot_of_mark it)
     (option_map site_of site)) (c.requires.own c.if-is_own.true) h) c.whole_site.ensures.site
