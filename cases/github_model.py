@@ -2,8 +2,8 @@
 """github_model.py: writes the cases of `job --github` (job-github.jsonl) to standard output.
 
 It is a model of the rules of GitHub's workflow commands (docs/RULES.md, 'Commands of GitHub'), made without the
-programs: reports drawn by chance from a fixed seed, with the commands that the rules ask for, each of which is read back
-as GitHub's runner reads it. What a line holds: run.py."""
+programs: reports drawn by chance from a fixed seed, with the commands that the rules ask for, each of which is read
+back as GitHub's runner reads it. What a line holds: run.py."""
 import json
 import random
 

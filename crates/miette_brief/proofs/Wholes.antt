@@ -1,5 +1,5 @@
 -- Sources that were read for commands, from a report to those below it.
-use Rattle.std.proofs.Common.{◌≡◌, ℕ, suc, zero, ◌+◌, ◌<◌, Bool, true, false, List, [], ◌∷◌, ◌++◌, refl, sym, ap, ◌∙◌}
+use Rattle.std.proofs.Common.{◌≡◌, ℕ, suc, zero, ◌+◌, Bool, true, false, List, [], ◌∷◌, ◌++◌, refl, sym, ap, ◌∙◌}
 use Rattle.std.proofs.Common.{ap₂, subst, arith, length, map, Option, Some, None, cond}
 use Rattle.std.specs.Prelude.{nat_le, nat_lt, option_map, slice_get, unwrap_or}
 use Rattle.std.specs.Option.{option_map_or}
@@ -73,6 +73,11 @@ whole_in form own inherited source mine it below es eb h k =
     subst (λ (o : Option Source). IsWholeIn form o below) (sym es)
     (subst (λ (w : Whole). IsWholeIn form (effective own inherited) w) (sym eb)
     (whole_below form own inherited mine it h k))
+
+-- above all reports there is no source
+pub nowhere_in : (form : Form) → IsWholeIn form None Nowhere
+nowhere_in Gcc = tt
+nowhere_in Github = tt
 
 -- ---- where a label lies
 

@@ -63,7 +63,10 @@ pub(crate) fn own_whole<'a, D: Diagnostic, S: SourceCode>(
 }
 
 /// What a report lies over: its own source, or else what it inherits.
-pub(crate) fn whole_or<'w, 'a>(own: &'w Option<Whole<'a>>, inherited: &'w Whole<'a>) -> &'w Whole<'a>
+pub(crate) fn whole_or<'w, 'a>(
+    own: &'w Option<Whole<'a>>,
+    inherited: &'w Whole<'a>,
+) -> &'w Whole<'a>
     ensures { result.now ≡ unwrap_or own.now inherited.now }
 {
     match own {

@@ -1,6 +1,5 @@
-use Rattle.std.proofs.Common.{◌≡◌, ◌∙◌, Option, Some, None, sym, ap, subst, rules}
+use Rattle.std.proofs.Common.{◌∙◌, sym, ap, rules}
 use Rattle.std.specs.Option.{option_map}
-use Rattle.miette_protocol.specs.rules.Reading.{Span}
 use Rattle.miette_brief.specs.steps.CommandParts.{mark_of, site_of}
 use Rattle.miette_brief.specs.steps.Wholes.{site_over}
 use Rattle.miette_brief.proofs.Wholes.{site_chosen, site_unread}

@@ -38,6 +38,15 @@ push_report-push_own-requires g t c =
     (option_map (shown_source g.S.SourceCode.source) c.own_or-source.result) c.in_ok-own.own c.args.whole.now
     c.whole_or-whole.result.now c.own_or-source.ensures c.whole_or-whole.ensures c.in_ok-own.ensures c.requires
 
+pub push_report-push_related-requires : goal.push_report-push_related-requires
+push_report-push_related-requires g t c =
+    let below =
+    whole_in c.args.self.now.form (source_of (tree_of g.D.Diagnostic.meaning g.S.SourceCode.source c.args.report.now))
+    (option_map (shown_source g.S.SourceCode.source) c.args.inherited)
+    (option_map (shown_source g.S.SourceCode.source) c.own_or-source.result) c.in_ok-own.own c.args.whole.now
+    c.whole_or-whole.result.now c.own_or-source.ensures c.whole_or-whole.ensures c.in_ok-own.ensures c.requires in
+    search rules
+
 pub push_report-returns-clause-text : goal.push_report-returns-clause-text
 push_report-returns-clause-text g t c =
     let value = tree_of g.D.Diagnostic.meaning g.S.SourceCode.source c.args.report.now in

@@ -2,7 +2,11 @@ use Rattle.std.proofs.Common.{subst, string_bytes, None, List, ℕ}
 use Rattle.miette_tree.specs.views.Report.{tree_of}
 use Rattle.miette_brief.specs.steps.AppendedParts.{AppendsReport}
 use Rattle.miette_brief.proofs.Telling.{is_brief}
+use Rattle.miette_brief.proofs.Wholes.{nowhere_in}
 use Rattle.miette_brief.proofs.handler.BriefReportHandlerTextHandler.text_of.Goals as goal
+
+pub push_report-requires : goal.push_report-requires
+push_report-requires g c = nowhere_in c.args.self.now.form
 
 pub returns-clause-text : goal.returns-clause-text
 returns-clause-text g c =
