@@ -117,11 +117,11 @@ impl<H: Highlighter> MietteHandlerOpts<H> {
     fn brief_handler(&self) -> BriefReportHandler
         ensures { result ≡ brief_settings self.now }
     {
-        let handler = BriefReportHandler::new().with_form(self.brief_form);
+        let telling = BriefReportHandler::new().with_form(self.brief_form);
         if self.cause_chain {
-            handler.with_cause_chain()
+            telling.with_cause_chain()
         } else {
-            handler.without_cause_chain()
+            telling.without_cause_chain()
         }
     }
 
