@@ -1,5 +1,5 @@
 -- Sources that were read for commands, from a report to those below it.
-use Rattle.std.proofs.Common.{◌≡◌, ℕ, suc, zero, ◌+◌, Bool, true, false, List, [], ◌∷◌, ◌++◌, refl, sym, ap, ◌∙◌}
+use Rattle.std.proofs.Common.{◌≡◌, ℕ, suc, zero, ◌+◌, ◌<◌, Bool, true, false, List, [], ◌∷◌, ◌++◌, refl, sym, ap, ◌∙◌}
 use Rattle.std.proofs.Common.{ap₂, subst, arith, length, map, Option, Some, None, cond}
 use Rattle.std.specs.Prelude.{nat_le, nat_lt, option_map, slice_get, unwrap_or}
 use Rattle.std.specs.Option.{option_map_or}
@@ -10,7 +10,8 @@ use Rattle.miette_protocol.specs.rules.Reading.{Source, Span}
 use Rattle.miette_protocol.specs.views.Meaning.{Label}
 use Rattle.miette_tree.specs.rules.Diagnosis.{Diagnosis}
 use Rattle.miette_tree.specs.rules.DiagnosticParts.{given_labels}
-use Rattle.miette_tree.specs.rules.Tree.{effective}
+use Rattle.miette_tree.specs.rules.Tree.{Tree, tree, Trees, effective, related_of}
+use Rattle.miette_tree.proofs.TreeSizes.{cause_size, tree_size, trees_size}
 use Rattle.miette_labels.specs.rules.Groups.{in_order, put_label}
 use Rattle.miette_brief.specs.declared.form.Form.{Form}
 use Rattle.miette_brief.specs.declared.form.Form.TheVariants.{Gcc, Github}
@@ -52,6 +53,11 @@ spot_missing f o xs at e l = ap (λ i. spot_at i (map f xs)) e
     ∙ ap (λ q. option_map_or spot_of_mark q None) (get_none f xs at l)
 
 -- ---- below a report
+
+-- all reports that are related to one are smaller than it
+pub related_falls : (t : Tree) (ts : Trees) → ts ≡ related_of t → trees_size ts < tree_size t
+related_falls (tree m s c r) ts e =
+    subst (λ (x : Trees). trees_size x < suc (cause_size c + trees_size r)) (sym e) (omega arith)
 
 own_or_else : (own inherited : Option Source) (mine : Option Whole) (it : Whole) → IsOwn own mine
     → IsWhole inherited it → IsWhole (effective own inherited) (unwrap_or mine it)
