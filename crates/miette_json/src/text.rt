@@ -1,6 +1,6 @@
 //! Strings as JSON, appended to a text.
 
-ghost use Rattle.std.specs.Prelude.{◌≡◌, ◌<◌, ◌++◌, true, OnOk, map, position, string_bytes};
+ghost use Rattle.std.specs.Prelude.{◌≡◌, ◌<◌, ◌++◌, ◌/◌, ◌∷◌, [], true, OnOk, map, position, string_bytes};
 ghost use Rattle.std.specs.Char.{digit_char};
 ghost use Rattle.std.specs.List.{prefix_len};
 ghost use Rattle.std.specs.Simd.Lanes.{mask_l};
@@ -99,11 +99,21 @@ fn push_escape(out: &mut String, byte: u8) -> Result<(), AllocError>
 
 /// `\u001b`
 fn push_control(out: &mut String, byte: u8) -> Result<(), AllocError>
+    requires { byte < 32 }
     ensures { OnOk result (string_bytes out.new ≡ string_bytes out.old ++ control_text byte) }
 {
-    out.push_str("\\u00")?;
-    out.push(hex_digit(byte / 16))?;
+    out.push_str(control_front(byte))?;
     out.push(hex_digit(byte % 16))
+}
+
+/// All but the last digit of what stands for a control character.
+#[inline(always)]
+#[tactic(auto, using(crate::proofs::JsonSpelled::front_low, crate::proofs::JsonSpelled::front_high))]
+fn control_front(byte: u8) -> &'static str
+    requires { byte < 32 }
+    ensures { result.now ≡ 92 ∷ 117 ∷ 48 ∷ 48 ∷ digit_char (byte / 16) ∷ [] }
+{
+    if byte < 16 { "\\u000" } else { "\\u001" }
 }
 
 /// The digit in base 16, in lower case.
