@@ -9,7 +9,7 @@ ghost use Rattle.miette_report.specs.steps.JobHandler.{IsGiven, Stays};
 ghost use Rattle.miette_report.specs.views.Device.{TakesBeginning};
 ghost use Rattle.miette_show.specs.rules.Looking.{Goes, IsFoundBy};
 ghost use Rattle.miette_show.specs.rules.ShowCalls.{CallShows, CallShowsFirst};
-ghost use Rattle.miette_show.specs.rules.Shown.{IsShown, Shows, ShowsFirst, kind_unread, note_of};
+ghost use Rattle.miette_show.specs.rules.Shown.{IsShown, Shows, ShowsFirst, kind_unread, note_of, note_row};
 ghost use Rattle.miette_show.specs.rules.Statuses.{status_of};
 ghost use Rattle.miette_show.specs.declared.verdict.Verdict.{Verdict};
 ghost use Rattle.miette_show.specs.views.Reading.{left_of};
@@ -26,7 +26,7 @@ use miette_report::job::Arguments;
 use miette_report::job_handler::JobHandler;
 use miette_report::language::LanguageHighlighter;
 use miette_report::whole::write_whole;
-use std::alloc::Global;
+use std::alloc::{AllocError, Global};
 use std::io::{Read, Write};
 
 /// What the program reads, where it writes what is shown, and where it says what it can't read.
@@ -96,6 +96,13 @@ fn show_row<H: Highlighter, F: Loader, W: Write>(
     Ok(kind)
 }
 
+/// What is said of a row that can't be read.
+fn note_text(alloc: Global, number: u64) -> Result<String, AllocError>
+    ensures { IfOk result (λ text. string_bytes text ≡ note_row number) }
+{
+    format!(in alloc; "show: row {number}: no message that can be read\n")
+}
+
 /// Says that a row can't be read, where it can't.
 fn note<E: Write>(
     alloc: Global,
@@ -115,7 +122,7 @@ fn note<E: Write>(
     if !kind.is_unread() {
         return Ok(());
     }
-    let note = format!(in alloc; "show: row {number}: no message that can be read\n")?;
+    let note = note_text(alloc, number)?;
     write_whole(faults, note.as_bytes())
 }
 

@@ -1,4 +1,4 @@
-use Rattle.std.proofs.Common.{◌≡◌, ◌<◌, ◌∙◌, ℕ, List, [], Err, IfSome, inl, inr, length, refl, sym, ap, subst, rules}
+use Rattle.std.proofs.Common.{◌≡◌, ◌<◌, ◌∙◌, Err, IfSome, inl, inr, length, refl, sym, ap, subst, rules}
 use Rattle.std.proofs.lemmas.List.{nil_from_length}
 use Rattle.miette_report.proofs.JobHandlerSteps.{stays-itself, stays-on}
 use Rattle.miette_report.specs.declared.fault.Fault.TheVariants.{Read, Refused, Usage, Write}
