@@ -1,10 +1,11 @@
 //! What is shown of a row.
 
-ghost use Rattle.std.specs.Prelude.{◌≡◌, ◌⊎◌, IfOk, IfSome, IsUtf8, None, OnErr, Some, string_bytes};
+ghost use Rattle.std.specs.Prelude.{◌≡◌, ◌⊎◌, IfOk, IfSome, IsUtf8, None, OnErr, OnOk, Some};
+ghost use Rattle.std.specs.Prelude.{string_bytes};
 ghost use Rattle.serde_json.specs.Read.{read};
 ghost use Rattle.serde_json.specs.View.{view};
 ghost use Rattle.miette_readers.specs.rules.RustcReport.{rustc_tree};
-ghost use Rattle.miette_report.specs.steps.JobHandler.{IsGiven, Stays};
+ghost use Rattle.miette_report.specs.steps.JobHandler.{IsGiven, IsLed, Stays};
 ghost use Rattle.miette_show.specs.rules.Looking.{Goes, IsFoundBy};
 ghost use Rattle.miette_show.specs.rules.Rows.{begins_object};
 ghost use Rattle.miette_show.specs.rules.Shown.{IsShown, is_grave};
@@ -48,17 +49,19 @@ fn value_in(alloc: Global, row: &[u8]) -> Result<Option<Value>, Fault>
 }
 
 /// What a value says over files that were looked for, and the text that is shown of it.
+#[tactic(auto, using(crate::proofs::Going::led_still))]
 fn value_text<H: Highlighter, F: Files>(
     alloc: Global,
     handler: &mut JobHandler<H>,
     files: &F,
     value: &Value,
 ) -> Result<(RowKind, String), Fault>
-    ensures text { IfOk result (λ it. IsValueText (IsGiven H.is_blank handler.old)
+    ensures text { IfOk result (λ it. IsValueText (IsGiven H.is_blank H.may_follow handler.old)
         (rustc_tree (F.found files.now) (view value.now)) it.0 (string_bytes it.1)) }
     ensures refused { (result ≡ Err Fault.Refused) → IsRefusing handler.old }
     ensures others { OnErr result ((result ≡ Err Fault.Refused) ⊎ (result ≡ Err Fault.Memory)) }
     ensures stays { Stays H.is_blank handler.old handler.new }
+    ensures led { OnOk result (IsLed H.may_follow handler.old handler.new) }
 {
     messages_always_read();
     let report: Report<MietteDiagnostic, LentFile<'_>> = match rustc_report(alloc, files, value) {
@@ -84,17 +87,19 @@ fn is_error(severity: Option<Severity>) -> bool
 }
 
 /// What a row is, and the text that is shown in its place where that isn't the row itself.
+#[tactic(auto, using(crate::proofs::Going::led_still))]
 pub(crate) fn row_text<H: Highlighter, F: Loader>(
     alloc: Global,
     handler: &mut JobHandler<H>,
     files: &mut F,
     row: &[u8],
 ) -> Result<(RowKind, String), Fault>
-    ensures shown { IfOk result (λ it. IsShown (IsGiven H.is_blank handler.old) (IsFoundBy F.found F.knows files.old)
+    ensures shown { IfOk result (λ it. IsShown (IsGiven H.is_blank H.may_follow handler.old) (IsFoundBy F.found F.knows files.old)
         (record { row = row.now; kind = it.0; text = shown_text it.0 row.now (string_bytes it.1) })) }
     ensures refused { (result ≡ Err Fault.Refused) → IsRefusing handler.old }
     ensures others { OnErr result ((result ≡ Err Fault.Refused) ⊎ (result ≡ Err Fault.Memory)) }
     ensures stays { Stays H.is_blank handler.old handler.new }
+    ensures led { OnOk result (IsLed H.may_follow handler.old handler.new) }
     ensures goes { Goes (F.found files.old) (F.knows files.old) (F.found files.new) (F.knows files.new) }
 {
     if !begins_object(row) {

@@ -1,5 +1,7 @@
 -- The rules of the languages that have a highlighter, and what a highlighter of a language is.
 use Rattle.std.specs.Prelude.{ℕ, List, Option, None}
+use Rattle.miette_highlight.specs.rules.FollowingCalls.{FollowTokens}
+use Rattle.miette_highlight.specs.rules.HighlighterCalls.{Call}
 use Rattle.miette_highlight.specs.rules.Languages.{RuleText, json_rules, rule_texts, rust_rules, toml_rules}
 use Rattle.miette_report.specs.declared.language.Language.{Language}
 use Rattle.miette_report.specs.declared.language.Language.TheVariants.{Toml, Json, Rust}
@@ -26,3 +28,7 @@ highlighting_of it = record {
 -- that of a language, at the start of a text
 abbrev pub language_highlighting : Language → Highlighting
 language_highlighting it = record { language = it; rules = language_rules it; left_open = None }
+
+-- what may follow for such a highlighter: each line is cut into its tokens by the rules
+abbrev pub TokensFollow : LanguageHighlighter → List Call → Type 0
+TokensFollow it = FollowTokens it.patterns.rules.items it.patterns.left_open
