@@ -1,4 +1,5 @@
-//! Highlighters are restarted with what was read, and asked for each line.
+//! Highlighters of snippets are restarted with what was read, and asked for each line. What stands in their rows, by
+//! `job`, is in `cases/`, and so are snippets over sources that stop.
 
 use crate::comparing::{gives, same};
 use miette_highlight::highlight::Highlighter;

@@ -238,17 +238,19 @@ fn fails_anywhere(rt: &impl Abort, alloc: Global, job: Job<'_>) -> Result<(), Al
     Ok(())
 }
 
+/// Words for five kinds of text.
+static CHOSEN: [&[&str]; 5] = [
+    &["--term-unicode", "yes"],
+    &["--theme", "unicode"],
+    &["--narrated"],
+    &["--json"],
+    &["--debug"],
+];
+
 #[test]
 fn a_job_over_a_writer_that_fails(rt: HostRuntime) -> Result<(), AllocError> {
-    let chosen: [&[&str]; 5] = [
-        &["--term-unicode", "yes"],
-        &["--theme", "unicode"],
-        &["--narrated"],
-        &["--json"],
-        &["--debug"],
-    ];
-    for words in chosen {
-        fails_anywhere(&rt, rt.alloc(), (words, LABELLED))?;
+    for words in &CHOSEN {
+        fails_anywhere(&rt, rt.alloc(), (*words, LABELLED))?;
     }
     Ok(())
 }

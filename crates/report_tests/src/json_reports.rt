@@ -59,15 +59,15 @@ pub(crate) fn reads_back(
     has_labels(rt, &read, wanted)
 }
 
-/// Places of a JSON report, with the text or the number that stands there.
-type Places<'a> = &'a [(&'a str, Option<&'a str>, Option<u64>)];
+/// A place of a JSON report, with the text or the number that stands there.
+type Place<'a> = (&'a str, Option<&'a str>, Option<u64>);
 
 /// What `job --json` writes of a description is read as a value with these at their places.
 fn job_has(
     rt: &impl Abort,
     alloc: Global,
     description: &str,
-    places: Places<'_>,
+    places: &[Place<'_>],
 ) -> Result<(), Fail> {
     let words = words_of(alloc, &["--json"])?;
     let mut text = Vec::new(alloc);
@@ -93,44 +93,46 @@ const LABELLED: &str = r#"{"message": "oops!", "help": "try doing it better next
     "source": {"text": "source\n  text\n    here", "name": "bad_file.rs"},
     "labels": [{"offset": 9, "length": 4, "label": "This bit here"}], "code": "oops::my::bad"}"#;
 
+static MEMBERS: [Place<'static>; 10] = [
+    ("/message", Some("oops!"), None),
+    ("/code", Some("oops::my::bad"), None),
+    ("/severity", Some("error"), None),
+    ("/help", Some("try doing it better next time?"), None),
+    ("/filename", Some("bad_file.rs"), None),
+    ("/labels/0/label", Some("This bit here"), None),
+    ("/labels/0/span/offset", None, Some(9)),
+    ("/labels/0/span/length", None, Some(4)),
+    ("/labels/1", None, None),
+    ("/url", None, None),
+];
+
 #[test]
 fn all_members(rt: HostRuntime) -> Result<(), Fail> {
-    let places: Places<'_> = &[
-        ("/message", Some("oops!"), None),
-        ("/code", Some("oops::my::bad"), None),
-        ("/severity", Some("error"), None),
-        ("/help", Some("try doing it better next time?"), None),
-        ("/filename", Some("bad_file.rs"), None),
-        ("/labels/0/label", Some("This bit here"), None),
-        ("/labels/0/span/offset", None, Some(9)),
-        ("/labels/0/span/length", None, Some(4)),
-        ("/labels/1", None, None),
-        ("/url", None, None),
-    ];
-    job_has(&rt, rt.alloc(), LABELLED, places)
+    job_has(&rt, rt.alloc(), LABELLED, &MEMBERS)
 }
+
+static ESCAPED: [(&str, &[Place<'static>]); 2] = [
+    (
+        r#"{"message": "a\u0001b", "url": "x\"y"}"#,
+        &[
+            ("/message", Some("a\u{1}b"), None),
+            ("/url", Some("x\"y"), None),
+        ],
+    ),
+    (
+        r#"{"message": "\\ \" \r\n\t\b\f\u0000\u001f\u007f\u2028漢"}"#,
+        &[(
+            "/message",
+            Some("\\ \" \r\n\t\u{8}\u{c}\0\u{1f}\u{7f}\u{2028}漢"),
+            None,
+        )],
+    ),
+];
 
 #[test]
 fn escapes(rt: HostRuntime) -> Result<(), Fail> {
-    let texts: [(&str, Places<'_>); 2] = [
-        (
-            r#"{"message": "a\u0001b", "url": "x\"y"}"#,
-            &[
-                ("/message", Some("a\u{1}b"), None),
-                ("/url", Some("x\"y"), None),
-            ],
-        ),
-        (
-            r#"{"message": "\\ \" \r\n\t\b\f\u0000\u001f\u007f\u2028漢"}"#,
-            &[(
-                "/message",
-                Some("\\ \" \r\n\t\u{8}\u{c}\0\u{1f}\u{7f}\u{2028}漢"),
-                None,
-            )],
-        ),
-    ];
-    for (description, places) in texts {
-        job_has(&rt, rt.alloc(), description, places)?;
+    for (description, places) in &ESCAPED {
+        job_has(&rt, rt.alloc(), description, *places)?;
     }
     Ok(())
 }
@@ -139,17 +141,18 @@ const RELATED: &str = r#"{"message": "m", "related": [{"message": "r", "severity
     "labels": [{"offset": 9, "length": 1, "label": "x"}]}], "source": {"text": "ab", "name": "f"},
     "labels": [{"offset": 0, "length": 1}]}"#;
 
+static RELATED_MEMBERS: [Place<'static>; 8] = [
+    ("/filename", Some("f"), None),
+    ("/labels/0/label", None, None),
+    ("/labels/0/span/length", None, Some(1)),
+    ("/related/0/message", Some("r"), None),
+    ("/related/0/severity", Some("advice"), None),
+    ("/related/0/filename", Some(""), None),
+    ("/related/0/labels/0/label", Some("x"), None),
+    ("/related/0/labels/0/span/offset", None, Some(9)),
+];
+
 #[test]
 fn a_related_report(rt: HostRuntime) -> Result<(), Fail> {
-    let places: Places<'_> = &[
-        ("/filename", Some("f"), None),
-        ("/labels/0/label", None, None),
-        ("/labels/0/span/length", None, Some(1)),
-        ("/related/0/message", Some("r"), None),
-        ("/related/0/severity", Some("advice"), None),
-        ("/related/0/filename", Some(""), None),
-        ("/related/0/labels/0/label", Some("x"), None),
-        ("/related/0/labels/0/span/offset", None, Some(9)),
-    ];
-    job_has(&rt, rt.alloc(), RELATED, places)
+    job_has(&rt, rt.alloc(), RELATED, &RELATED_MEMBERS)
 }
