@@ -24,13 +24,14 @@ static NAMES: [&str; 10] = [
     "a fix far down",
 ];
 
-static HANDLERS: [&str; 8] = [
+static HANDLERS: [&str; 9] = [
     "graphical",
     "nested",
     "chosen",
     "chosen narrated",
     "narrated",
     "brief",
+    "github",
     "json",
     "debug",
 ];
