@@ -92,6 +92,7 @@ STOPPED = {
     "a cause": {"message": "m", "labels": labels((0, 1, "a"), (16, 1, "b")), "cause": over(NINE, (8, 1, "here"))},
     "a further source": {"message": "m", "snippets": [further(over(NINE, (8, 1, "here")))]},
     "a fix": {**over(NINE), "fixes": [fix("five", 8, 1, "five")]},
+    "a fix far down": {**over("\n" * 1200), "fixes": [fix("five", 1150, 0, "five")]},
 }
 DRAWN = ["--theme", "unicode", "--links", "yes"]
 NESTED = ["--nested", "yes"]

@@ -47,9 +47,16 @@ def shown_labels(name, handler):
     return (*report.get("related", ()), *report.get("snippets", ()), report)[0]["labels"]
 
 
-def fixed_outcome(name, reads):
-    """What a report comes to behind its labels: where it has fixes, its source is read for them."""
-    return UNFIXED if "fixes" in STOPPED[name] and not reads.is_read() else WHOLE
+def fixed_outcome(name, handler, reads):
+    """What a report comes to behind its labels: where it has fixes, its source is read for them. A picture asks it too
+    which line a fix stands in that is far down; where that read fails, it counts the lines."""
+    if "fixes" not in STOPPED[name]:
+        return WHOLE
+    if not reads.is_read():
+        return UNFIXED
+    if name == "a fix far down" and handler in DRAWING:
+        reads.is_read()
+    return WHOLE
 
 
 def brief_outcome(name, labels, reads):
@@ -60,7 +67,7 @@ def brief_outcome(name, labels, reads):
     if not labels:
         # the source's name is read, and these sources have none
         reads.is_read()
-        return fixed_outcome(name, reads)
+        return fixed_outcome(name, "brief", reads)
     # where the diagnostic lies, and then each label
     return WHOLE if all(reads.is_read() for _ in (labels[0], *labels)) else REFUSED
 
@@ -111,7 +118,7 @@ def outcome(name, handler, lines, reads):
     for is_asked in (has_own, handler not in NARRATED):
         if is_asked and not all(reads.is_read() for _ in groups):
             return REFUSED
-    return APART if apart else fixed_outcome(name, reads)
+    return APART if apart else fixed_outcome(name, handler, reads)
 
 
 HEAD = f"  {RED}×{END} m\n"

@@ -11,7 +11,7 @@ use std::alloc::{AllocError, Global};
 use std::cell::Cell;
 use std::io::Write;
 
-static NAMES: [&str; 9] = [
+static NAMES: [&str; 10] = [
     "one label",
     "two labels",
     "labels far apart",
@@ -21,6 +21,7 @@ static NAMES: [&str; 9] = [
     "a cause",
     "a further source",
     "a fix",
+    "a fix far down",
 ];
 
 static HANDLERS: [&str; 9] = [
@@ -39,6 +40,9 @@ static HANDLERS: [&str; 9] = [
 const MOST: usize = 99;
 
 const NINE: &[u8] = b"1\n2\n3\n4\n5\n6\n7\n8\n9\n";
+
+/// So many lines that a picture asks their source which one a fix stands in.
+static MANY: [u8; 1200] = [b'\n'; 1200];
 
 static PLAIN: Written<'static> = M;
 
@@ -64,6 +68,9 @@ static OWN: Written<'static> = Written {
 
 /// A fix of the fifth line.
 static FIFTH: Mended<'static> = ("five", 8, 1, "five");
+
+/// A fix of a line behind many.
+static FAR_DOWN: Mended<'static> = ("five", 1150, 0, "five");
 
 /// A row for each handler, each number of context lines and each read that fails, alone or with those after it. The
 /// last row of each is that in which no read fails.
@@ -125,6 +132,13 @@ fn report<'a>(alloc: Global, name: &str, reads: &'a Reads) -> Result<Made<'a>, A
     }
     if name == "a fix" {
         return report_and_fix(alloc, stopping_report(alloc, &PLAIN, source), &FIFTH);
+    }
+    if name == "a fix far down" {
+        let source = Stopping {
+            bytes: &MANY,
+            reads,
+        };
+        return report_and_fix(alloc, stopping_report(alloc, &PLAIN, source), &FAR_DOWN);
     }
     stopping_report(alloc, lone_report(name), source)
 }

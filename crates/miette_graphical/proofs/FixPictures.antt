@@ -2,6 +2,7 @@
 use Rattle.std.proofs.Common.{◌≡◌, ℕ, List, [], ◌∷◌, length, map, Option, Some, None, IfSome, false, true, refl, ap}
 use Rattle.std.proofs.Common.{◌∙◌}
 use Rattle.std.specs.List.{AllByRecursion}
+use Rattle.miette_fix_laws.specs.laws.Context.{lines_in, shown_lines}
 use Rattle.miette_fix_rows.specs.laws.Frames.{StandAmong, all_lines, at_start, new_texts, old_texts}
 use Rattle.miette_fix_rows.specs.laws.Whole.{IsTrimmed}
 use Rattle.miette_fix_rows.specs.rules.Blocks.{line_texts}
@@ -24,6 +25,8 @@ pub record ChangeLaws : Type 0 where
       → lines_after (diff source edits) ≡ line_texts (applied source edits)
   pub trimmed : (source : List ℕ) (edits : List Replacement) → AllByRecursion IsTrimmed (changes source edits)
   pub frames : (context : ℕ) (d : Diff) → StandAmong false at_start (frames_of context d) (all_lines d)
+  pub shown : (context : ℕ) (source : List ℕ) (edits : List Replacement)
+      → lines_in (frames_of context (diff source edits)) ≡ shown_lines context (all_lines (diff source edits))
   pub old : (d : Diff) → old_texts (all_lines d) ≡ lines_before d
   pub new : (d : Diff) → new_texts (all_lines d) ≡ lines_after d
 
@@ -39,6 +42,7 @@ tells : ChangeLaws → (s : Settings) (source : Source) (edits : List Replacemen
 tells laws s source edits h = record {
   rows = framed s source edits h;
   frames = laws.frames s.layout.context_lines (diff source.bytes edits);
+  shown = laws.shown s.layout.context_lines source.bytes edits;
   before = laws.old (diff source.bytes edits) ∙ laws.source source.bytes edits h;
   after = laws.new (diff source.bytes edits) ∙ laws.applied_text source.bytes edits h;
   trimmed = laws.trimmed source.bytes edits;

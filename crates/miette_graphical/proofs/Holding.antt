@@ -10,7 +10,8 @@ use Rattle.miette_tree.specs.rules.Tree.{effective, Tree, tree, Cause, diagnosti
 use Rattle.miette_tree.specs.rules.Tree.{source_of}
 use Rattle.miette_graphical.specs.rules.Answers.{Answer, Answers, RelatedAnswers, own_answer, cause_answers}
 use Rattle.miette_graphical.specs.rules.Answers.{related_answers, first_answers, later_answers}
-use Rattle.miette_graphical.specs.rules.DiagnosticText.{Drawing, fixes_text, footer_text, header, help_text, line_feed}
+use Rattle.miette_graphical.specs.rules.DiagnosticText.{Drawing, fix_text, fixes_text, footer_text, header, help_text}
+use Rattle.miette_graphical.specs.rules.DiagnosticText.{line_feed}
 use Rattle.miette_graphical.specs.rules.DiagnosticText.{message_text, rows_text, title_text, under_arrow}
 use Rattle.miette_graphical.specs.rules.Indents.{narrow_settings}
 use Rattle.miette_graphical.specs.rules.PossibleAnswers.{IsTextOf}
@@ -20,13 +21,14 @@ use Rattle.miette_graphical.specs.rules.Text.{are_last, body_over, causes_text, 
 use Rattle.miette_graphical.specs.rules.Text.{only_if, related_text, report_text}
 use Rattle.miette_graphical.specs.laws.Alike.{answer_at, numbered_answers}
 use Rattle.miette_graphical.specs.laws.Holding.{Arrow, EndsRow, HoldsRows, HoldsSnippets, HoldsUnder, IsHoldingText}
-use Rattle.miette_graphical.specs.laws.Holding.{HoldsFixes, StandsIn, arrows_at, cause_arrows, cut_text, fixes_at}
+use Rattle.miette_graphical.specs.laws.Holding.{HoldsFixRows, HoldsFixes, StandsIn, arrows_at, cause_arrows, cut_text}
+use Rattle.miette_graphical.specs.laws.Holding.{fixes_at}
 use Rattle.miette_graphical.specs.laws.Holding.{related_arrows, rows_at, text_at}
 use Rattle.miette_graphical.specs.laws.Paths.{Step, to_cause, to_related, at_cause, at_related, printed_at}
 use Rattle.miette_graphical.proofs.Rows.{IsEnded, above-ended, ahead-stands, arrow-ended, behind-stands, body-ended}
 use Rattle.miette_graphical.proofs.Rows.{body-grouped, bytes-stand, drawn-ended, drawn-rows, ended-rows, fixes-rows}
 use Rattle.miette_graphical.proofs.Rows.{help-rows, here-stands, row-stands, rows-behind, texts-rows, whole-stands}
-use Rattle.miette_graphical.proofs.Rows.{within-stands}
+use Rattle.miette_graphical.proofs.Rows.{fix-row-stands, fix-stands, within-stands}
 
 -- ---- what a part holds, the whole holds
 
@@ -419,6 +421,19 @@ module _ (drawing : Drawing) where
       (within-stands (print row ++ line_feed) (text_at drawing p (answer_at a path) s) (report_text drawing s t a)
       (row-stands own row there) whole)
 
+  pub fix_rows_hold : (s : Settings) (t : Tree) (a : Answers)
+      → HoldsFixRows drawing s t a (encode_utf8_all (report_text drawing s t a))
+  fix_rows_hold s t a path p found none fix row there in_it =
+      let answer = answer_at a path in
+      let fixes = drawing.fixes s p.source p.meaning answer in
+      let whole : StandsIn (fixes_at drawing p answer s) (report_text drawing s t a) =
+      subst (λ arrows. HoldsUnder arrows s (fixes_at drawing p answer) (report_text drawing s t a)) none
+      (fixes_hold s t a path p found) in
+      bytes-stand (print row ++ line_feed) (report_text drawing s t a)
+      (within-stands (print row ++ line_feed) (fixes_at drawing p answer s) (report_text drawing s t a)
+      (within-stands (print row ++ line_feed) (fix_text s fix) (fixes_text s fixes) (fix-row-stands s fix row in_it)
+      (fix-stands s fixes fix there)) whole)
+
   -- of each text that may be printed
   pub text_holds : (s : Settings) (blank : Bool) (t : Tree) (bytes : List ℕ) → IsTextOf drawing s blank t bytes
       → IsHoldingText drawing s blank t bytes
@@ -432,4 +447,5 @@ module _ (drawing : Drawing) where
         holds = snippets_hold s t printed.1.0;
         fixes = fixes_hold s t printed.1.0;
         rows_stand = subst (HoldsRows drawing s t printed.1.0) (sym is) (rows_hold s t printed.1.0);
+        fix_rows_stand = subst (HoldsFixRows drawing s t printed.1.0) (sym is) (fix_rows_hold s t printed.1.0);
       }

@@ -140,6 +140,28 @@ row-stands (q ∷ rows) row h =
           (row-stands rows row there)
     ]
 
+-- a fix among fixes, and a row of it
+pub fix-stands : (s : Settings) (fixes : List ShownFix) (fix : ShownFix) → Contains fixes fix
+    → StandsIn (fix_text s fix) (fixes_text s fixes)
+fix-stands s [] fix h = absurd (none fix h)
+fix-stands s (q ∷ fixes) fix h =
+    let message = wrapped_under s (fix_indent s) further_fix_indent (chars q.message) in
+    let ended : IsEnded (fix_text s q) =
+    ended-rows (message ++ line_feed) (rows_text q.rows) (message, refl) (drawn-rows q.rows) in
+    elim (first_or_later q fixes fix h) [
+      | inl same ↦ subst (λ f. StandsIn (fix_text s f) (fixes_text s (q ∷ fixes))) same
+          (here-stands (fix_text s q) (fixes_text s fixes))
+      | inr there ↦ ahead-stands (fix_text s q) (fix_text s fix) (fixes_text s fixes) (inr ended)
+          (fix-stands s fixes fix there)
+    ]
+
+pub fix-row-stands : (s : Settings) (fix : ShownFix) (row : List Fragment) → Contains fix.rows row
+    → StandsIn (print row ++ line_feed) (fix_text s fix)
+fix-row-stands s fix row h =
+    let message = wrapped_under s (fix_indent s) further_fix_indent (chars fix.message) in
+    ahead-stands (message ++ line_feed) (print row ++ line_feed) (rows_text fix.rows) (inr (message, refl))
+    (row-stands fix.rows row h)
+
 -- ---- in bytes
 
 fed-bytes : encode_utf8_all line_feed ≡ line_feed

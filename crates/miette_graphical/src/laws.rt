@@ -12,7 +12,7 @@ ghost use Rattle.miette_graphical.specs.laws.FixPictures.{FixesAreTold};
 ghost use Rattle.miette_graphical.specs.laws.Headline.{EndsAreDrawn, LabelsAreFolded, LinesAreShown, MarksAreApart};
 ghost use Rattle.miette_graphical.specs.laws.Headline.{TextsHang, CutsAreExact, LinesThatFitStay};
 ghost use Rattle.miette_graphical.specs.rules.DiagnosticText.{Drawing};
-ghost use Rattle.miette_graphical.specs.laws.Holding.{HoldsFixes, HoldsRows, HoldsSnippets};
+ghost use Rattle.miette_graphical.specs.laws.Holding.{HoldsFixRows, HoldsFixes, HoldsRows, HoldsSnippets};
 ghost use Rattle.miette_graphical.specs.laws.Holding.{IsHoldingText};
 ghost use Rattle.miette_graphical.specs.rules.PrintedDiagnostics.{HoldsOfPrinted, all_read};
 ghost use Rattle.miette_graphical.specs.rules.PrintedDiagnostics.{diagnostics_of};
@@ -24,7 +24,7 @@ ghost use Rattle.miette_style.specs.rules.Themes.{Styles};
 ghost use Rattle.miette_runs.specs.rules.Sequences.{erase};
 ghost use Rattle.miette_text.specs.laws.Tame.{IsTame};
 
-use miette_fix_laws::laws::{fix_rows_fade, fix_rows_hold_no_escape};
+use miette_fix_laws::laws::{fix_rows_fade, fix_rows_hold_no_escape, frames_show_the_context};
 use miette_fix_rows::laws::{
     a_diff_has_the_applied_text, a_diff_has_the_source, changes_are_trimmed, frames_stand_in_a_diff,
 };
@@ -133,8 +133,9 @@ pub fn snippets_law()
 
 /// Of each printed fix that can be applied, over a source that always reads: its rows are the frames of what it
 /// changes. These stand among all lines of that, in order and none twice, each numbered by what stands before it, and
-/// nothing but unchanged lines is left out. Of all lines the removed and the unchanged ones are exactly the source's,
-/// the added and the unchanged ones the applied text's; no change has lines in common at its ends.
+/// nothing but unchanged lines is left out: exactly those of which none of the context lines on a side is changed. Of
+/// all lines the removed and the unchanged ones are exactly the source's, the added and the unchanged ones the applied
+/// text's; no change has lines in common at its ends.
 pub fn fixes_law()
     ensures { (s : Settings) (t : Tree) → AllByRecursion (FixesAreTold s) (diagnostics_of s t) }
 {
@@ -142,11 +143,13 @@ pub fn fixes_law()
     a_diff_has_the_applied_text();
     changes_are_trimmed();
     frames_stand_in_a_diff();
+    frames_show_the_context();
 }
 
 /// Of each printed diagnostic a report's text holds the snippets and the fixes: at each path, under the arrows that are
 /// on it, as they are where there is none (`holds`, `fixes`). There each row of the snippets stands in the bytes, with
-/// the line feed behind it, at the beginning of a line (`rows`). So it is of each text that may be printed (`text`).
+/// the line feed behind it, at the beginning of a line (`rows`), and so does each row below a fix's message
+/// (`fix_rows`). So it is of each text that may be printed (`text`).
 pub fn holding_law()
     ensures holds { (drawing : Drawing) (s : Settings) (t : Tree) (a : Answers) →
         HoldsSnippets drawing s t a (report_text drawing s t a) }
@@ -154,6 +157,8 @@ pub fn holding_law()
         HoldsFixes drawing s t a (report_text drawing s t a) }
     ensures rows { (drawing : Drawing) (s : Settings) (t : Tree) (a : Answers) →
         HoldsRows drawing s t a (encode_utf8_all (report_text drawing s t a)) }
+    ensures fix_rows { (drawing : Drawing) (s : Settings) (t : Tree) (a : Answers) →
+        HoldsFixRows drawing s t a (encode_utf8_all (report_text drawing s t a)) }
     ensures text { (drawing : Drawing) (s : Settings) (blank : Bool) (t : Tree) (bytes : List ℕ) →
         IsTextOf drawing s blank t bytes → IsHoldingText drawing s blank t bytes }
 {}

@@ -8,7 +8,8 @@ use Rattle.miette_runs.specs.rules.Runs.{Fragment, print}
 use Rattle.miette_protocol.specs.declared.protocol.Severity.{Severity}
 use Rattle.miette_tree.specs.rules.Tree.{Tree, tree, Cause, diagnostic, texts, Trees, no_trees, more_trees}
 use Rattle.miette_graphical.specs.rules.Answers.{Answer, Answers}
-use Rattle.miette_graphical.specs.rules.DiagnosticText.{Drawing, fixes_text, line_feed, rows_text, under_arrow}
+use Rattle.miette_graphical.specs.rules.DiagnosticText.{Drawing, ShownFix, fixes_text, line_feed, rows_text}
+use Rattle.miette_graphical.specs.rules.DiagnosticText.{under_arrow}
 use Rattle.miette_graphical.specs.rules.Indents.{narrow_settings}
 use Rattle.miette_graphical.specs.rules.PossibleAnswers.{AreAnswers}
 use Rattle.miette_graphical.specs.rules.PrintedDiagnostics.{PrintedDiagnostic}
@@ -112,6 +113,13 @@ HoldsRows drawing s t a bytes = (path : List Step) (p : PrintedDiagnostic) → p
     arrows_at s t path ≡ [] → (row : List Fragment) → Contains (rows_at drawing p (answer_at a path) s) row →
     StandsIn (encode_utf8_all (print row ++ line_feed)) bytes
 
+-- Where no arrow is on the path, each row below the message of a fix stands in these bytes on a line of its own.
+abbrev pub HoldsFixRows : Drawing → Settings → Tree → Answers → List ℕ → Type 0
+HoldsFixRows drawing s t a bytes = (path : List Step) (p : PrintedDiagnostic) → printed_at s t path ≡ Some p →
+    arrows_at s t path ≡ [] → (fix : ShownFix) (row : List Fragment) →
+    Contains (drawing.fixes s p.source p.meaning (answer_at a path)) fix → Contains fix.rows row →
+    StandsIn (encode_utf8_all (print row ++ line_feed)) bytes
+
 -- The bytes of a report's text under some answers, which hold the snippets and the fixes of each printed diagnostic.
 pub record IsHoldingText (drawing : Drawing) (s : Settings) (blank : Bool) (t : Tree) (bytes : List ℕ) : Type 0 where
   pub answers : Answers
@@ -120,3 +128,4 @@ pub record IsHoldingText (drawing : Drawing) (s : Settings) (blank : Bool) (t : 
   pub holds : HoldsSnippets drawing s t answers (report_text drawing s t answers)
   pub fixes : HoldsFixes drawing s t answers (report_text drawing s t answers)
   pub rows_stand : HoldsRows drawing s t answers bytes
+  pub fix_rows_stand : HoldsFixRows drawing s t answers bytes

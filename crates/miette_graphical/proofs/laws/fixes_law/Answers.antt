@@ -8,6 +8,7 @@ returns c = λ s t. fixes_told (record {
   applied_text = c.a_diff_has_the_applied_text.ensures.applied;
   trimmed = c.changes_are_trimmed.ensures.trimmed;
   frames = c.frames_stand_in_a_diff.ensures.frames;
+  shown = c.frames_show_the_context.ensures;
   old = c.frames_stand_in_a_diff.ensures.before;
   new = c.frames_stand_in_a_diff.ensures.after;
 }) s (diagnostics_of s t)
