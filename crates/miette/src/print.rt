@@ -8,6 +8,7 @@ ghost use Rattle.miette.specs.declared.print.PrintError.TheVariants.{Memory};
 ghost use Rattle.miette.specs.rules.Detection.{IsToldBy};
 ghost use Rattle.miette.specs.rules.Options.{no_options};
 ghost use Rattle.miette.specs.rules.Printing.{IsPrinted, MayRefuse, WritesOne, unprinted_row};
+ghost use Rattle.miette.specs.views.Handler.{GivesByCalls};
 
 use crate::options::MietteHandlerOpts;
 use crate::terminal::{Lookup, Stream, Streams, detect};
@@ -168,8 +169,9 @@ pub fn print_on<
 ) -> io::Result<ExitCode>
     ensures status { IfOk result (λ code. (exit_status code ≡ 0) ⊎ (exit_status code ≡ 1)) }
     ensures printed { IfOk result (λ code. exit_status code ≡ 0 →
-        WritesOne (IsPrinted (IsToldBy (R.variable_may_be rt.now) (R.terminal_may_be rt.now)) H.is_blank options stream
-        (tree_of D.meaning S.source report.now)) (W.contents outputs.old.writer) (W.contents outputs.new.writer)) }
+        WritesOne (IsPrinted (IsToldBy (R.variable_may_be rt.now) (R.terminal_may_be rt.now))
+        (GivesByCalls H.is_blank H.may_follow) options stream (tree_of D.meaning S.source report.now))
+        (W.contents outputs.old.writer) (W.contents outputs.new.writer)) }
     ensures silent { IfOk result (λ code. exit_status code ≡ 0 → outputs.new.faults ≡ outputs.old.faults) }
     ensures told { IfOk result (λ code. exit_status code ≡ 1 → (why : PrintError)
         × Appends (F.contents outputs.old.faults) (F.contents outputs.new.faults) (unprinted_row why)
@@ -204,8 +206,9 @@ pub fn print_to<
     report: &Report<D, S>,
     writer: &mut W,
 ) -> Result<(), PrintError>
+    // One text of a handler that the options choose, by calls on its highlighter, was written, and nothing else.
     ensures ok { OnOk result (WritesOne (IsPrinted (IsToldBy (R.variable_may_be rt.now) (R.terminal_may_be rt.now))
-        H.is_blank options stream (tree_of D.meaning S.source report.now))
+        (GivesByCalls H.is_blank H.may_follow) options stream (tree_of D.meaning S.source report.now))
         (W.contents writer.old) (W.contents writer.new)) }
     ensures refused { (result ≡ Err PrintError.Refused) → MayRefuse
         (IsToldBy (R.variable_may_be rt.now) (R.terminal_may_be rt.now)) options stream

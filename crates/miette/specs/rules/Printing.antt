@@ -1,5 +1,5 @@
 -- What printing a report writes.
-use Rattle.std.specs.Prelude.{ℕ, Bool, List, Option, ◌++◌, codes}
+use Rattle.std.specs.Prelude.{ℕ, List, Option, ◌++◌, codes}
 use Rattle.std.specs.Io.KnownBytes.{Appends}
 use Rattle.miette_protocol.specs.declared.error.RenderError.{RenderError}
 use Rattle.miette_protocol.specs.declared.error.RenderError.TheVariants as rendering
@@ -7,7 +7,7 @@ use Rattle.miette_style.specs.declared.theme.Terminal.{Terminal}
 use Rattle.miette_tree.specs.rules.Tree.{Tree}
 use Rattle.miette.specs.rules.Choice.{IsChosen}
 use Rattle.miette.specs.rules.Detection.{IsDetected}
-use Rattle.miette.specs.views.Handler.{Gives, Refuses}
+use Rattle.miette.specs.views.Handler.{Refuses}
 use Rattle.miette.specs.rules.Options.{Options}
 use Rattle.miette.specs.declared.options.handler.MietteHandler.{MietteHandler}
 use Rattle.miette.specs.declared.print.PrintError.{PrintError}
@@ -24,10 +24,11 @@ abbrev pub IsChosenFor : {H : Type 0} → (Variables → Type 0) → Options H �
 IsChosenFor is_told o stream handler =
     (v : Variables) × (terminal : Terminal) × is_told v × IsDetected v stream terminal × IsChosen o terminal handler
 
--- the text is one that such a handler may give
-abbrev pub IsPrinted : {H : Type 0} → (Variables → Type 0) → (H → Bool) → Options H → Stream → Tree → List ℕ → Type 0
-IsPrinted {H} is_told is_blank o stream t text =
-    (handler : MietteHandler H) × IsChosenFor is_told o stream handler × Gives is_blank handler t text
+-- the text is one that such a handler gives
+abbrev pub IsPrinted : {H : Type 0} → (Variables → Type 0) → (MietteHandler H → Tree → List ℕ → Type 0) → Options H
+    → Stream → Tree → List ℕ → Type 0
+IsPrinted {H} is_told gives o stream t text =
+    (handler : MietteHandler H) × IsChosenFor is_told o stream handler × gives handler t text
 
 -- such a handler may refuse the report
 abbrev pub MayRefuse : {H : Type 0} → (Variables → Type 0) → Options H → Stream → Tree → Type 0

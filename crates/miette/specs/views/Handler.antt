@@ -49,3 +49,9 @@ Asks is_blank may_follow (Narrated old) (Graphical new) t text = ⊥
 Asks is_blank may_follow (Narrated old) (Brief new) t text = ⊥
 Asks is_blank may_follow (Brief old) (Graphical new) t text = ⊥
 Asks is_blank may_follow (Brief old) (Narrated new) t text = ⊥
+
+-- One of the texts of a handler, by such calls that end in some state.
+abbrev pub GivesByCalls : {H : Type 0} → (H → Bool) → (H → List Call → Type 0) → MietteHandler H → Tree → List ℕ
+    → Type 0
+GivesByCalls {H} is_blank may_follow handler t text =
+    (after : MietteHandler H) × Asks is_blank may_follow handler after t text

@@ -1,5 +1,11 @@
+use Rattle.std.proofs.Common.{ℕ, List, [], subst, sym}
 use Rattle.std.proofs.lemmas.Result.{on_ok_weaker}
+use Rattle.miette_tree.specs.views.Handler.{AppendsOne}
 use Rattle.miette.proofs.print.print_to.Goals as goal
+
+-- what was appended to nothing
+whole : (given : List ℕ → Type 0) (text : List ℕ) → AppendsOne given [] text → given text
+whole given text one = subst given (sym one.appended) one.is_given
 
 pub returns-clause-ok : goal.returns-clause-ok
 returns-clause-ok g c =
@@ -9,8 +15,8 @@ returns-clause-ok g c =
       (
         c.in_ok-handler.handler,
         (found.0, c.in_ok-terminal.terminal, found.1, found.2, c.in_ok-handler.ensures),
-        one.1,
+        (c.write_report.new.handler, whole _ one.0 one.1),
       ),
       one.2,
     ))
-    c.write_report.ensures.ok
+    c.write_report.ensures.asks
