@@ -1,5 +1,5 @@
 -- Steps of telling what is found.
-use Rattle.std.proofs.Common.{◌≡◌, ℕ, ◌<◌, ◌↔◌, ◌⊎◌, inl, inr, Bool, true, false, eqb, eqb-true, List, [], ◌∷◌, length}
+use Rattle.std.proofs.Common.{◌≡◌, ℕ, ◌<◌, ◌↔◌, Bool, true, false, eqb, eqb-true, List, [], ◌∷◌, length}
 use Rattle.std.proofs.Common.{Option, Some, None, Result, Ok, Err, IfOk, IfSome, IsTrue, arith, sym, ◌∙◌, subst, ap, ◌++◌}
 use Rattle.std.proofs.Common.{get_or}
 use Rattle.std.proofs.lemmas.Bool.Decides.{nat_tests}
@@ -55,22 +55,20 @@ fewer : (xs ys : List (List ℕ)) → xs ≡ ys → length xs ≡ length ys
 fewer xs ys e = ap length e
 
 one_formed : (first name width : List ℕ) (before : List (List ℕ)) (form : LintForm) (other width_word : List ℕ) (n : ℕ)
-    → (form_named first ≡ None) ⊎ IsReadAs width None
+    → ((f : LintForm) → form_named first ≡ Some f → IsReadAs width None)
     → first ∷ name ∷ width ∷ [] ≡ before ++ (other ∷ width_word ∷ []) → AskFor form before
     → IsReadAs width_word (Some n) → ⊥
 one_formed first name width [] form other width_word n none e asked is =
     absurd (omega (arith, fewer (first ∷ name ∷ width ∷ []) (other ∷ width_word ∷ []) e))
-one_formed first name width (word ∷ []) form other width_word n (inl none) e asked is =
+one_formed first name width (word ∷ []) form other width_word n none e asked is =
     let same = third first name width word other width_word e in
-    let no : None ≡ Some form = sym none ∙ ap form_named same.0 ∙ asked in cc
-one_formed first name width (word ∷ []) form other width_word n (inr none) e asked is =
-    let same = third first name width word other width_word e in
-    unread width_word n (subst (λ (w : List ℕ). IsReadAs w None) same.1 none) is
+    unread width_word n (subst (λ (w : List ℕ). IsReadAs w None) same.1 (none form (ap form_named same.0 ∙ asked))) is
 one_formed first name width (word ∷ more ∷ rest) form other width_word n none e asked is = asked
 
 -- three others
 pub no_three : (words : List (List ℕ)) (first name width : List ℕ)
-    → (form_named first ≡ None) ⊎ IsReadAs width None → words ≡ first ∷ name ∷ width ∷ [] → IsNoLintCall words
+    → ((f : LintForm) → form_named first ≡ Some f → IsReadAs width None) → words ≡ first ∷ name ∷ width ∷ []
+    → IsNoLintCall words
 no_three words first name width none are form other n h =
     one_formed first name width h.form_words form other h.width_word n none (sym are ∙ h.are) h.form_is h.width_is
 

@@ -1,6 +1,6 @@
 //! The words that `lint` is called with.
 
-ghost use Rattle.std.specs.Prelude.{◌≡◌, ◌⊎◌, IfSome, IsNone, Some, None, map, string_bytes};
+ghost use Rattle.std.specs.Prelude.{◌≡◌, IfSome, IsNone, Some, None, map, string_bytes};
 ghost use Rattle.miette_report.specs.rules.Words.{AreLintWords, IsNoLintCall, IsReadAs, form_named};
 
 use crate::words::number;
@@ -61,7 +61,8 @@ impl<'a> LintWords<'a> {
     fn with_word(word: &str, name: &'a str, width: &str) -> Option<Self>
         ensures some { IfSome result (λ it. (form_named word.now ≡ Some it.form) × (it.name.now ≡ name.now)
             × IsReadAs width.now (Some it.width)) }
-        ensures none { IsNone result → (form_named word.now ≡ None) ⊎ IsReadAs width.now None }
+        ensures none { IsNone result → (form : LintForm) → form_named word.now ≡ Some form
+            → IsReadAs width.now None }
     {
         let Some(form) = form_named(word) else {
             return None;
