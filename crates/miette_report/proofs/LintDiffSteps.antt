@@ -1,6 +1,6 @@
 -- Steps of `lint --diff`.
 use Rattle.std.proofs.Common.{◌≡◌, ℕ, ◌<◌, List, [], ◌∷◌, length, Option, Some, None, IfSome, sym, ◌∙◌, subst, ap}
-use Rattle.std.proofs.Common.{arith, Bool, false, refl, Result, Ok, Err, IfOk}
+use Rattle.std.proofs.Common.{arith, Bool, refl, Result, Ok, Err, IfOk}
 use Rattle.std.specs.Prelude.{codes}
 use Rattle.miette_protocol.specs.views.Meaning.{Label, Meaning}
 use Rattle.miette_fixes.specs.rules.Edits.{Proposal}
