@@ -5,8 +5,10 @@ use Rattle.miette_report.proofs.lint_sarif.text_of.Goals as goal
 
 pub log_of-requires : goal.log_of-requires
 log_of-requires c =
-    record { reads = trees_read c.args.words.now.name.now c.args.input.items (map coded_of c.in_ok-found.found.items) _
-        (over_slice _ _ _ _ _ _ c.as_slice-3.ensures.value c.in_ok-reports.ensures) }
+    record {
+      reads = trees_read c.args.words.now.name.now c.args.input.items (map coded_of c.in_ok-found.found.items) _
+          (over_slice _ _ _ _ _ _ c.as_slice-3.ensures.value c.in_ok-reports.ensures);
+    }
 
 pub returns-clause-clean : goal.returns-clause-clean
 returns-clause-clean c =
