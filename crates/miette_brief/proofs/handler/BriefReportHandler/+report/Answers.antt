@@ -6,7 +6,6 @@ use Rattle.miette_tree.specs.views.Owned.{shown_source}
 use Rattle.miette_tree.specs.views.Report.{tree_of}
 use Rattle.miette_tree.proofs.TreeSizes.{item_falls}
 use Rattle.miette_tree.proofs.Readings.{refused_below, one_refused}
-use Rattle.miette_brief.specs.steps.Wholes.{IsWholeIn}
 use Rattle.miette_brief.proofs.SoFar.{none_so_far}
 use Rattle.miette_brief.proofs.Telling.{one_more, all_told, report_told, refused_here}
 use Rattle.miette_brief.proofs.Wholes.{related_falls, whole_in}
@@ -41,13 +40,12 @@ push_report-push_own-requires g t c =
 
 pub push_report-push_related-requires : goal.push_report-push_related-requires
 push_report-push_related-requires g t c =
-    let value = tree_of g.D.Diagnostic.meaning g.S.SourceCode.source in
-    let source = option_map (shown_source g.S.SourceCode.source) c.own_or-source.result in
-    let small = related_falls (value c.args.report.now) (trees (map value c.related.result.now))
-    c.related.ensures.value in
-    let below : IsWholeIn c.args.self.now.form source c.whole_or-whole.result.now =
-    whole_in c.args.self.now.form (source_of (value c.args.report.now))
-    (option_map (shown_source g.S.SourceCode.source) c.args.inherited) source c.in_ok-own.own c.args.whole.now
+    let small = related_falls (tree_of g.D.Diagnostic.meaning g.S.SourceCode.source c.args.report.now)
+    (trees (map (tree_of g.D.Diagnostic.meaning g.S.SourceCode.source) c.related.result.now)) c.related.ensures.value in
+    let below =
+    whole_in c.args.self.now.form (source_of (tree_of g.D.Diagnostic.meaning g.S.SourceCode.source c.args.report.now))
+    (option_map (shown_source g.S.SourceCode.source) c.args.inherited)
+    (option_map (shown_source g.S.SourceCode.source) c.own_or-source.result) c.in_ok-own.own c.args.whole.now
     c.whole_or-whole.result.now c.own_or-source.ensures c.whole_or-whole.ensures c.in_ok-own.ensures c.requires in
     search rules
 
