@@ -28,16 +28,16 @@ read_at value [] i r lt is h = absurd (omega (arith, lt))
 read_at value (x ∷ xs) zero r lt is h = subst (λ y. AlwaysReads (value y)) (sym is) h.0
 read_at value (x ∷ xs) (suc i) r lt is h = read_at value xs i r (omega (arith, lt)) is h.1
 
-module _ {R : Type 0} (value : R → Tree) (s : rows.BriefSettings) (rs : List R) (i : ℕ) where
+module _ {R : Type 0} (value : R → Tree) (rs : List R) (i : ℕ) where
   -- those that are left
   abbrev pub AreLeft : List ℕ → List ℕ → Type 0
   AreLeft out all = out ++ commands_of (trees (map value (drop i rs))) ≡ all
 
-  pub told_more : (r : R) (old new all : List ℕ) → i < length rs → r ≡ get_or rs i r → s ≡ commands_settings
-      → AllAlwaysRead (trees (map value rs))
+  pub told_more : (s : rows.BriefSettings) (r : R) (old new all : List ℕ) → i < length rs → r ≡ get_or rs i r
+      → s ≡ commands_settings → AllAlwaysRead (trees (map value rs))
       → (AlwaysReads (value r) → new ≡ old ++ rows.brief s (value r) rows.unlisted) → AreLeft old all
       → new ++ commands_of (trees (map value (drop (i + 1) rs))) ≡ all
-  told_more r old new all lt is same reads only h =
+  told_more s r old new all lt is same reads only h =
       let later : List ℕ = commands_of (trees (map value (drop (suc i) rs))) in
       let mine : List ℕ = rows.brief commands_settings (value r) rows.unlisted in
       let put : new ≡ old ++ mine =
@@ -50,7 +50,7 @@ module _ {R : Type 0} (value : R → Tree) (s : rows.BriefSettings) (rs : List R
 
   pub told_all : (out all : List ℕ) → length rs ≤ i → AreLeft out all → out ≡ all
   told_all out all end h =
-      sym (append-nil out) ∙ ap (λ l. out ++ commands_of (trees (map value l))) (sym (drop_all rs i end)) ∙ h
+      sym (append-nil out) ∙ ap (λ l. out ++ commands_of (trees (map value l))) (sym (drop_all i rs end)) ∙ h
 
 -- ---- no label of a finding is refused
 

@@ -77,19 +77,19 @@ pub(crate) fn reports_over<D: Diagnostic, S: SourceCode>(
 }
 
 // The commands of reports whose sources always read, one after the other.
-fn push_commands(reports: &[Report], text: &mut String) -> Result<(), RenderError>
-    requires reads { AllAlwaysRead (trees (map (tree_of ⟦<Box<dyn Diagnostic> as Diagnostic>⟧.meaning
-        ⟦<Box<dyn SourceCode> as SourceCode>⟧.source) reports.now)) }
+fn push_commands<D: Diagnostic, S: SourceCode>(
+    reports: &[Report<D, S>],
+    text: &mut String,
+) -> Result<(), RenderError>
+    requires reads { AllAlwaysRead (trees (map (tree_of D.meaning S.source) reports.now)) }
     ensures ok { OnOk result (string_bytes text.new ≡ string_bytes text.old
-        ++ commands_of (trees (map (tree_of ⟦<Box<dyn Diagnostic> as Diagnostic>⟧.meaning
-        ⟦<Box<dyn SourceCode> as SourceCode>⟧.source) reports.now))) }
+        ++ commands_of (trees (map (tree_of D.meaning S.source) reports.now))) }
     ensures refused { (result ≡ Err RenderError.Refused) → holds_of_all accepts None
-        (trees (map (tree_of ⟦<Box<dyn Diagnostic> as Diagnostic>⟧.meaning
-        ⟦<Box<dyn SourceCode> as SourceCode>⟧.source) reports.now)) ≡ false }
+        (trees (map (tree_of D.meaning S.source) reports.now)) ≡ false }
 {
     let handler = BriefReportHandler::new().with_form(Form::Github);
     for report in reports {
-        handler.render_report(report, text)?;
+        handler.render(report, text)?;
     }
     Ok(())
 }
