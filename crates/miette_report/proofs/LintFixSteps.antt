@@ -24,7 +24,8 @@ fix_words words first name width (Some it) are is h = record {
 pub fixes_told : (name : List ℕ) (width : ℕ) (all : Option (List ℕ)) (input text bytes left : List ℕ) (clean : Bool)
     (P : List ℕ → Type 0) → IfSome all (λ bs. input ≡ bs) → text ≡ fixed_text input
     → IsClean (findings_of (fixed_text input) width) clean
-    → IsLinted Picture name width (fixed_text input) (findings_of (fixed_text input) width) left → bytes ≡ text → P bytes
+    → IsLinted Picture name width (fixed_text input) (findings_of (fixed_text input) width) left → bytes ≡ text
+    → P bytes
     → IfSome all (λ bs. LintFixes name width bs clean (λ t l. (left ≡ l) × P t))
 fixes_told name width None input text bytes left clean P read is none linted same p = tt
 fixes_told name width (Some bs) input text bytes left clean P read is none linted same p =

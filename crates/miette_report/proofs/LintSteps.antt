@@ -1,7 +1,7 @@
 -- Steps of telling what is found.
 use Rattle.std.proofs.Common.{◌≡◌, ℕ, ◌<◌, ◌↔◌, Bool, true, false, eqb, eqb-true, List, [], ◌∷◌, length}
-use Rattle.std.proofs.Common.{Option, Some, None, Result, Ok, Err, IfOk, IfSome, IsTrue, arith, sym, ◌∙◌, subst, ap, ◌++◌}
-use Rattle.std.proofs.Common.{get_or}
+use Rattle.std.proofs.Common.{Option, Some, None, Result, Ok, Err, IfOk, IfSome, IsTrue, arith, sym, ◌∙◌, subst, ap}
+use Rattle.std.proofs.Common.{◌++◌, get_or}
 use Rattle.std.proofs.lemmas.Bool.Decides.{nat_tests}
 use Rattle.std.proofs.lemmas.List.{nil_from_length}
 use Rattle.miette_protocol.specs.views.Meaning.{Label}
@@ -97,8 +97,8 @@ formed words (word ∷ more ∷ rest) form name width two three e asked = asked
 pub no_others : (words : List (List ℕ)) → (length words ≡ 2 → ⊥) → (length words ≡ 3 → ⊥) → IsNoLintCall words
 no_others words two three form name n h = formed words h.form_words form name h.width_word two three h.are h.form_is
 
-pub nothing_linted : (form : LintForm) (name : List ℕ) (width : ℕ) (input text : List ℕ) (found : List Label) → found ≡ []
-    → text ≡ [] → IsLinted form name width input found text
+pub nothing_linted : (form : LintForm) (name : List ℕ) (width : ℕ) (input text : List ℕ) (found : List Label)
+    → found ≡ [] → text ≡ [] → IsLinted form name width input found text
 nothing_linted form name width input text found e none =
     subst (λ f. IsLinted form name width input f text) (sym e) none
 
