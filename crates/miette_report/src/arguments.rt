@@ -1,6 +1,6 @@
 //! What a job is asked for.
 
-ghost use Rattle.std.specs.Prelude.{◌≡◌, ◌⊎◌, IfOk, OnErr, Some, None, map, string_bytes};
+ghost use Rattle.std.specs.Prelude.{◌≡◌, ◌⊎◌, IfOk, OnErr, Some, None, map, string_bytes, true};
 ghost use Rattle.miette_report.specs.rules.OptionWords as table;
 ghost use Rattle.miette_report.specs.rules.OptionWords.{AreWanted, asked_by, chosen_by, nothing_asked};
 ghost use Rattle.miette_report.specs.steps.AskedWords.{AreGiven, asked_of, with_asked};
