@@ -1,4 +1,4 @@
-use Rattle.std.proofs.Common.{ap, ◌∙◌}
+use Rattle.std.proofs.Common.{ap, ◌∙◌, List, ℕ}
 use Rattle.std.proofs.lemmas.Result.{IfOk-weaker}
 use Rattle.miette_protocol.specs.views.Meaning.{Meaning}
 use Rattle.miette_brief.specs.rules.Report as rows
@@ -8,7 +8,7 @@ use Rattle.miette_report.proofs.lint.listed.Goals as goal
 
 pub returns-clause-shown : goal.returns-clause-shown
 returns-clause-shown c =
-    let told : Meaning → _ = λ m. rows.brief rows.default_settings (over_input c.args.words.now.name.now m
+    let told : Meaning → List ℕ = λ m. rows.brief rows.default_settings (over_input c.args.words.now.name.now m
     c.args.input.items) rows.unlisted in
     IfOk-weaker c.rows_over.result _ _ (λ text h. h ∙ ap told c.in_ok-diagnostic.ensures) c.rows_over.ensures.ok
 

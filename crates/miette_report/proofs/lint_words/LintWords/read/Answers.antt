@@ -10,7 +10,8 @@ returns-in-len2-clause-some c =
 
 pub returns-in-len2-clause-none : goal.returns-in-len2-clause-none
 returns-in-len2-clause-none c = λ none.
-    no_two (map string_bytes c.args.words.now) _ _ (c.with_name.ensures.none none) (grind (arith, common_steps))
+    no_two (map string_bytes c.args.words.now) c.as_str.result.now _ (c.with_name.ensures.none none)
+    (grind (arith, common_steps))
 
 pub returns-in-len3-clause-some : goal.returns-in-len3-clause-some
 returns-in-len3-clause-some c =
