@@ -15,13 +15,13 @@ returns-in-len2-clause-none c = λ none.
 
 pub returns-in-len3-clause-some : goal.returns-in-len3-clause-some
 returns-in-len3-clause-some c =
-    three_words (map string_bytes c.args.words.now) _ _ _ c.with_word.result c.with_word.ensures.some
-    (grind (arith, common_steps))
+    three_words (map string_bytes c.args.words.now) c.as_str-in-len3.result.now c.as_str-in-len3-2.result.now
+    c.as_str-in-len3-3.result.now c.with_word.result c.with_word.ensures.some (grind (arith, common_steps))
 
 pub returns-in-len3-clause-none : goal.returns-in-len3-clause-none
 returns-in-len3-clause-none c = λ none.
-    no_three (map string_bytes c.args.words.now) _ c.as_str-in-len3-2.result.now _ (c.with_word.ensures.none none)
-    (grind (arith, common_steps))
+    no_three (map string_bytes c.args.words.now) c.as_str-in-len3.result.now c.as_str-in-len3-2.result.now
+    c.as_str-in-len3-3.result.now (c.with_word.ensures.none none) (grind (arith, common_steps))
 
 pub returns-in_default-clause-none : goal.returns-in_default-clause-none
 returns-in_default-clause-none c = λ none.
