@@ -86,13 +86,15 @@ led_still may_follow h = led-nowhere may_follow h
 
 -- what is shown after a while is what would be shown at first
 pub shown_before : {H F : Type 0} (is_blank : H → Bool) (may_follow : H → List Call → Type 0) (h k : JobHandler H)
-    (found : F → List ℕ → Option Source) (knows : F → List ℕ → Type 0) (first second : F) (slice row : List ℕ) (kind : RowKind) (text : List ℕ)
-    → Stays is_blank h k → IsLed may_follow h k → Goes (found first) (knows first) (found second) (knows second)
-    → slice ≡ row
+    (found : F → List ℕ → Option Source) (knows : F → List ℕ → Type 0) (first second : F) (slice row : List ℕ)
+    (kind : RowKind) (text : List ℕ) → Stays is_blank h k → IsLed may_follow h k
+    → Goes (found first) (knows first) (found second) (knows second) → slice ≡ row
     → IsShown (IsGiven is_blank may_follow k) (IsFoundBy found knows second)
     (record { row = slice; kind = kind; text = text })
-    → IsShown (IsGiven is_blank may_follow h) (IsFoundBy found knows first) (record { row = row; kind = kind; text = text })
-shown_before is_blank may_follow h k found knows first second slice row kind text stays led goes same shown =
+    → IsShown (IsGiven is_blank may_follow h) (IsFoundBy found knows first)
+    (record { row = row; kind = kind; text = text })
+shown_before is_blank may_follow h k found knows first second slice row kind text stays led goes same
+    shown =
     subst (λ (r : List ℕ). IsShown (IsGiven is_blank may_follow h) (IsFoundBy found knows first)
     (record { row = r; kind = kind; text = text })) same
     (shown_by (IsGiven is_blank may_follow k) (IsGiven is_blank may_follow h) (IsFoundBy found knows second)

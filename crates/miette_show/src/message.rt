@@ -1,7 +1,6 @@
 //! What is shown of a row.
 
-ghost use Rattle.std.specs.Prelude.{◌≡◌, ◌⊎◌, IfOk, IfSome, IsUtf8, None, OnErr, OnOk, Some};
-ghost use Rattle.std.specs.Prelude.{string_bytes};
+ghost use Rattle.std.specs.Prelude.{◌≡◌, ◌⊎◌, IfOk, IfSome, IsUtf8, None, OnErr, OnOk, Some, string_bytes};
 ghost use Rattle.serde_json.specs.Read.{read};
 ghost use Rattle.serde_json.specs.View.{view};
 ghost use Rattle.miette_readers.specs.rules.RustcReport.{rustc_tree};
@@ -94,7 +93,8 @@ pub(crate) fn row_text<H: Highlighter, F: Loader>(
     files: &mut F,
     row: &[u8],
 ) -> Result<(RowKind, String), Fault>
-    ensures shown { IfOk result (λ it. IsShown (IsGiven H.is_blank H.may_follow handler.old) (IsFoundBy F.found F.knows files.old)
+    ensures shown { IfOk result (λ it. IsShown (IsGiven H.is_blank H.may_follow handler.old)
+        (IsFoundBy F.found F.knows files.old)
         (record { row = row.now; kind = it.0; text = shown_text it.0 row.now (string_bytes it.1) })) }
     ensures refused { (result ≡ Err Fault.Refused) → IsRefusing handler.old }
     ensures others { OnErr result ((result ≡ Err Fault.Refused) ⊎ (result ≡ Err Fault.Memory)) }

@@ -71,7 +71,8 @@ loop-number-preserved g c =
     let shown = c.in_ok-kind.ensures.shown in
     let some : 0 < length row = search rules in
     let is_shown = shown_before blank follow c.args.handler.now l.handler g.F.Files.found g.F.Loader.knows first l.files
-    c.as_slice.result.now row kind shown.0 l.invariant.stays l.invariant.led l.invariant.goes c.as_slice.ensures.value shown.1
+    c.as_slice.result.now row kind shown.0 l.invariant.stays l.invariant.led l.invariant.goes
+    c.as_slice.ensures.value shown.1
     in
     record {
       rows_sound = not_failed _ _ Read c.in_ok-next.ensures.failed;
@@ -105,9 +106,9 @@ returns-in_err-kind-clause-beginning g c =
     on_err_of _ _ (elim c.in_err-kind.ensures.untouched [
       | inl failed ↦
           (let cut = c.in_err-kind.ensures.beginning failed in
-          let is_shown = shown_before g.H.Highlighter.is_blank g.H.Highlighter.may_follow c.args.handler.now l.handler g.F.Files.found
-          g.F.Loader.knows first l.files c.as_slice.result.now row cut.0 cut.1 l.invariant.stays l.invariant.led l.invariant.goes
-          c.as_slice.ensures.value cut.2
+          let is_shown = shown_before g.H.Highlighter.is_blank g.H.Highlighter.may_follow c.args.handler.now
+          l.handler g.F.Files.found g.F.Loader.knows first l.files c.as_slice.result.now row cut.0 cut.1
+          l.invariant.stays l.invariant.led l.invariant.goes c.as_slice.ensures.value cut.2
           in
           progress.begun_with gives found left _ _ _ _ _ _ _ _ l.number l.verdict row cut.0 cut.1 some
           l.invariant.progress c.in_ok-next.ensures.row is_shown cut.3
@@ -131,9 +132,9 @@ returns-in_err-note-clause-beginning g c =
     let row = c.next.new.row.items in
     let shown = c.in_ok-kind.ensures.shown in
     let some : 0 < length row = search rules in
-    let is_shown = shown_before g.H.Highlighter.is_blank g.H.Highlighter.may_follow c.args.handler.now l.handler g.F.Files.found g.F.Loader.knows
-    first l.files c.as_slice.result.now row kind shown.0 l.invariant.stays l.invariant.led l.invariant.goes c.as_slice.ensures.value
-    shown.1
+    let is_shown = shown_before g.H.Highlighter.is_blank g.H.Highlighter.may_follow c.args.handler.now l.handler
+    g.F.Files.found g.F.Loader.knows first l.files c.as_slice.result.now row kind shown.0 l.invariant.stays
+    l.invariant.led l.invariant.goes c.as_slice.ensures.value shown.1
     in
     let before = g.E.Write.contents l.streams.faults.inner in
     let said = note_of l.number (kind_unread kind) in
