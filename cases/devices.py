@@ -78,7 +78,7 @@ REFUSED = [
     (["draw", "f", "9", "+4", "l", "m"], "usage: draw NAME OFFSET LENGTH LABEL MESSAGE\n"),
     (["job", "--jsonx"], "usage: job [OPTIONS]\n"),
     (["bench", "x"], "usage: bench N [OPTIONS]\n"),
-    (["lint", "f"], "usage: lint [--brief | --fix | --diff | --sarif [--tool TOOL]] NAME WIDTH\n"),
+    (["lint", "f"], "usage: lint [--brief | --github | --fix | --diff | --sarif [--tool TOOL]] NAME WIDTH\n"),
     (["show", "--from", "gcc"], "usage: show [--from rustc] [--root DIR] [OPTIONS]\n"),
 ]
 # words and an input of which nothing is written, status, row

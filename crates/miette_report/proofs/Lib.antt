@@ -10,6 +10,7 @@ pub mod AcceptedFindings
 pub mod LintDiffSteps
 pub mod LintFixSteps
 pub mod LintSteps
+pub mod CommandSteps
 pub mod LogSteps
 pub mod OptionWordSteps
 pub mod WriteResults

@@ -1,16 +1,17 @@
 -- Steps of `lint --fix`.
-use Rattle.std.proofs.Common.{◌≡◌, ℕ, ◌↔◌, Bool, false, List, [], ◌∷◌, Option, Some, None, IfSome}
+use Rattle.std.proofs.Common.{◌≡◌, ℕ, ◌↔◌, Bool, List, [], ◌∷◌, Option, Some, None, IfSome}
 use Rattle.std.proofs.Common.{refl, sym, ◌∙◌, subst, ap}
 use Rattle.std.specs.Prelude.{codes}
 use Rattle.miette_lint.specs.rules.Findings.{findings_of}
 use Rattle.miette_lint.specs.rules.Fixes.{fixed_text}
 use Rattle.miette_report.specs.rules.Words.{AreFixWords, IsReadAs}
 use Rattle.miette_report.specs.views.LintReports.{IsClean, IsLinted, LintFixes}
-use Rattle.miette_report.specs.declared.lint.LintWords.{LintWords}
+use Rattle.miette_report.specs.declared.lint_words.LintForm.TheVariants.{Picture}
+use Rattle.miette_report.specs.declared.lint_words.LintWords.{LintWords}
 
 pub fix_words : (words : List (List ℕ)) (first name width : List ℕ) (r : Option LintWords) → words ≡ first ∷ name
     ∷ width ∷ [] → first ≡ codes "--fix"
-    → IfSome r (λ it. (it.brief ≡ false) × (it.name.now ≡ name) × IsReadAs width (Some it.width))
+    → IfSome r (λ it. (it.form ≡ Picture) × (it.name.now ≡ name) × IsReadAs width (Some it.width))
     → IfSome r (λ it. AreFixWords words it.name.now it.width)
 fix_words words first name width None are is h = tt
 fix_words words first name width (Some it) are is h = record {
@@ -23,7 +24,8 @@ fix_words words first name width (Some it) are is h = record {
 pub fixes_told : (name : List ℕ) (width : ℕ) (all : Option (List ℕ)) (input text bytes left : List ℕ) (clean : Bool)
     (P : List ℕ → Type 0) → IfSome all (λ bs. input ≡ bs) → text ≡ fixed_text input
     → IsClean (findings_of (fixed_text input) width) clean
-    → IsLinted false name width (fixed_text input) (findings_of (fixed_text input) width) left → bytes ≡ text → P bytes
+    → IsLinted Picture name width (fixed_text input) (findings_of (fixed_text input) width) left → bytes ≡ text
+    → P bytes
     → IfSome all (λ bs. LintFixes name width bs clean (λ t l. (left ≡ l) × P t))
 fixes_told name width None input text bytes left clean P read is none linted same p = tt
 fixes_told name width (Some bs) input text bytes left clean P read is none linted same p =
@@ -40,7 +42,7 @@ fixes_begun (Some bs) input text bytes P read is same p =
 
 pub fixes_clean : (name : List ℕ) (width : ℕ) (all : Option (List ℕ)) (clean : Bool) (Q : List ℕ → List ℕ → Type 0)
     → IfSome all (λ bs. (left : List ℕ) × IsClean (findings_of (fixed_text bs) width) clean
-    × IsLinted false name width (fixed_text bs) (findings_of (fixed_text bs) width) left × Q bs left)
+    × IsLinted Picture name width (fixed_text bs) (findings_of (fixed_text bs) width) left × Q bs left)
     → IfSome all (λ bs. IsClean (findings_of (fixed_text bs) width) clean)
 fixes_clean name width None clean Q h = tt
 fixes_clean name width (Some bs) clean Q h = h.1

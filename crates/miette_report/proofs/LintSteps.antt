@@ -1,42 +1,111 @@
 -- Steps of telling what is found.
-use Rattle.std.proofs.Common.{◌≡◌, ℕ, ◌<◌, ◌↔◌, Bool, true, false, eqb, eqb-true, List, [], ◌∷◌, length, Option, Some}
-use Rattle.std.proofs.Common.{None, Result, Ok, Err, IfOk, IfSome, IsTrue, arith, sym, ◌∙◌, subst, ap, ap₂, ◌++◌, codes}
+use Rattle.std.proofs.Common.{◌≡◌, ℕ, ◌<◌, ◌↔◌, Bool, true, false, eqb, eqb-true, List, [], ◌∷◌, length}
+use Rattle.std.proofs.Common.{Option, Some, None, Result, Ok, Err, IfOk, IfSome, IsTrue, arith, sym, ◌∙◌, subst, ap}
+use Rattle.std.proofs.Common.{◌++◌, get_or}
 use Rattle.std.proofs.lemmas.Bool.Decides.{nat_tests}
 use Rattle.std.proofs.lemmas.List.{nil_from_length}
-use Rattle.miette_protocol.specs.views.Meaning.{Label, Meaning}
-use Rattle.miette_report.specs.views.DrawReports.{over_input}
+use Rattle.miette_protocol.specs.views.Meaning.{Label}
 use Rattle.miette_lint.specs.rules.Findings.{findings_of}
-use Rattle.miette_report.specs.views.LintReports.{warning, CallIsClean, CallLints, CallLintsText, IsClean, IsLinted}
+use Rattle.miette_report.specs.views.LintReports.{CallIsClean, CallLints, CallLintsText, IsClean, IsLinted}
 use Rattle.miette_report.specs.views.LintReports.{IsShown, Lints, LintsText}
-use Rattle.miette_report.specs.rules.Words.{brief_word, AreLintWords, IsNoLintCall, IsReadAs}
+use Rattle.miette_report.specs.rules.Words.{AreLintWords, AskFor, IsNoLintCall, IsReadAs, form_named}
 use Rattle.miette_report.specs.views.Endings.{IsFound}
 use Rattle.miette_report.specs.declared.fault.Fault.{Fault}
 use Rattle.miette_report.specs.declared.fault.Fault.TheVariants.{Usage, Read, Write}
-use Rattle.miette_report.specs.declared.lint.LintWords.{LintWords}
+use Rattle.miette_report.specs.declared.lint_words.LintForm.{LintForm}
+use Rattle.miette_report.specs.declared.lint_words.LintForm.TheVariants.{Picture}
+use Rattle.miette_report.specs.declared.lint_words.LintWords.{LintWords}
 
--- three words, the first of which asks for rows
-pub three_words : (words : List (List ℕ)) (first name width : List ℕ) (r : Option LintWords) → words ≡ first ∷ name
-    ∷ width ∷ [] → first ≡ codes "--brief"
-    → IfSome r (λ it. (it.brief ≡ true) × (it.name.now ≡ name) × IsReadAs width (Some it.width))
-    → IfSome r (λ it. AreLintWords words it.brief it.name.now it.width)
-three_words words first name width None are is h = tt
-three_words words first name width (Some it) are is h = record {
+-- two words
+pub two_words : (words : List (List ℕ)) (name width : List ℕ) (r : Option LintWords)
+    → IfSome r (λ it. (it.form ≡ Picture) × (it.name.now ≡ name) × IsReadAs width (Some it.width))
+    → words ≡ name ∷ width ∷ [] → IfSome r (λ it. AreLintWords words it.form it.name.now it.width)
+two_words words name width None h are = tt
+two_words words name width (Some it) h are = record {
+  form_words = [];
   width_word = width;
-  are = are ∙ ap (λ f. f ∷ name ∷ width ∷ []) is ∙ ap₂ (λ b n. brief_word b ++ (n ∷ width ∷ [])) (sym h.0) (sym h.1);
+  are = are ∙ ap (λ n. n ∷ width ∷ []) (sym h.1);
+  form_is = h.0;
   width_is = h.2;
 }
 
-pub nothing_linted : (brief : Bool) (name : List ℕ) (width : ℕ) (input text : List ℕ) (found : List Label) → found ≡ []
-    → text ≡ [] → IsLinted brief name width input found text
-nothing_linted brief name width input text found e none =
-    subst (λ f. IsLinted brief name width input f text) (sym e) none
+-- three words, the first of which asks for a form
+pub three_words : (words : List (List ℕ)) (first name width : List ℕ) (r : Option LintWords)
+    → IfSome r (λ it. (form_named first ≡ Some it.form) × (it.name.now ≡ name) × IsReadAs width (Some it.width))
+    → words ≡ first ∷ name ∷ width ∷ [] → IfSome r (λ it. AreLintWords words it.form it.name.now it.width)
+three_words words first name width None h are = tt
+three_words words first name width (Some it) h are = record {
+  form_words = first ∷ [];
+  width_word = width;
+  are = are ∙ ap (λ n. first ∷ n ∷ width ∷ []) (sym h.1);
+  form_is = h.0;
+  width_is = h.2;
+}
 
-pub some_linted : (brief : Bool) (name : List ℕ) (width : ℕ) (input text : List ℕ) (found : List Label) (m : Meaning)
-    → 0 < length found → m ≡ warning found → IsShown brief width (over_input name m input) text
-    → IsLinted brief name width input found text
-some_linted brief name width input text [] m some is p = absurd (omega (arith, some))
-some_linted brief name width input text (l ∷ ls) m some is p =
-    subst (λ v. IsShown brief width (over_input name v input) text) is p
+unread : (width : List ℕ) (n : ℕ) → IsReadAs width None → IsReadAs width (Some n) → ⊥
+unread width n none some = absurd (omega (arith, none some.0, some.1))
+
+third : (first name width a b c : List ℕ) → first ∷ name ∷ width ∷ [] ≡ a ∷ b ∷ c ∷ [] → (first ≡ a) × (width ≡ c)
+third first name width a b c e = (
+  ap (λ (l : List (List ℕ)). get_or l 0 []) e,
+  ap (λ (l : List (List ℕ)). get_or l 2 []) e,
+)
+
+fewer : (xs ys : List (List ℕ)) → xs ≡ ys → length xs ≡ length ys
+fewer xs ys e = ap length e
+
+one_formed : (first name width : List ℕ) (before : List (List ℕ)) (form : LintForm) (other width_word : List ℕ) (n : ℕ)
+    → ((f : LintForm) → form_named first ≡ Some f → IsReadAs width None)
+    → first ∷ name ∷ width ∷ [] ≡ before ++ (other ∷ width_word ∷ []) → AskFor form before
+    → IsReadAs width_word (Some n) → ⊥
+one_formed first name width [] form other width_word n none e asked is =
+    absurd (omega (arith, fewer (first ∷ name ∷ width ∷ []) (other ∷ width_word ∷ []) e))
+one_formed first name width (word ∷ []) form other width_word n none e asked is =
+    let same = third first name width word other width_word e in
+    unread width_word n (subst (λ (w : List ℕ). IsReadAs w None) same.1 (none form (ap form_named same.0 ∙ asked))) is
+one_formed first name width (word ∷ more ∷ rest) form other width_word n none e asked is = asked
+
+-- three others
+pub no_three : (words : List (List ℕ)) (first name width : List ℕ)
+    → ((f : LintForm) → form_named first ≡ Some f → IsReadAs width None) → words ≡ first ∷ name ∷ width ∷ []
+    → IsNoLintCall words
+no_three words first name width none are form other n h =
+    one_formed first name width h.form_words form other h.width_word n none (sym are ∙ h.are) h.form_is h.width_is
+
+two_formed : (name width : List ℕ) (before : List (List ℕ)) (form : LintForm) (other width_word : List ℕ) (n : ℕ)
+    → IsReadAs width None → name ∷ width ∷ [] ≡ before ++ (other ∷ width_word ∷ []) → AskFor form before
+    → IsReadAs width_word (Some n) → ⊥
+two_formed name width [] form other width_word n none e asked is =
+    unread width_word n (subst (λ (w : List ℕ). IsReadAs w None) (ap (λ (l : List (List ℕ)). get_or l 1 []) e) none) is
+two_formed name width (word ∷ []) form other width_word n none e asked is =
+    absurd (omega (arith, fewer (name ∷ width ∷ []) (word ∷ other ∷ width_word ∷ []) e))
+two_formed name width (word ∷ more ∷ rest) form other width_word n none e asked is = asked
+
+-- two others
+pub no_two : (words : List (List ℕ)) (name width : List ℕ) → IsReadAs width None → words ≡ name ∷ width ∷ []
+    → IsNoLintCall words
+no_two words name width none are form other n h =
+    two_formed name width h.form_words form other h.width_word n none (sym are ∙ h.are) h.form_is h.width_is
+
+formed : (words before : List (List ℕ)) (form : LintForm) (name width : List ℕ) → (length words ≡ 2 → ⊥)
+    → (length words ≡ 3 → ⊥) → words ≡ before ++ (name ∷ width ∷ []) → AskFor form before → ⊥
+formed words [] form name width two three e asked = two (ap length e)
+formed words (word ∷ []) form name width two three e asked = three (ap length e)
+formed words (word ∷ more ∷ rest) form name width two three e asked = asked
+
+-- fewer or more
+pub no_others : (words : List (List ℕ)) → (length words ≡ 2 → ⊥) → (length words ≡ 3 → ⊥) → IsNoLintCall words
+no_others words two three form name n h = formed words h.form_words form name h.width_word two three h.are h.form_is
+
+pub nothing_linted : (form : LintForm) (name : List ℕ) (width : ℕ) (input text : List ℕ) (found : List Label)
+    → found ≡ [] → text ≡ [] → IsLinted form name width input found text
+nothing_linted form name width input text found e none =
+    subst (λ f. IsLinted form name width input f text) (sym e) none
+
+pub some_linted : (form : LintForm) (name : List ℕ) (width : ℕ) (input text : List ℕ) (found : List Label)
+    → 0 < length found → IsShown form name width input found text → IsLinted form name width input found text
+some_linted form name width input text [] some is = absurd (omega (arith, some))
+some_linted form name width input text (l ∷ ls) some is = is
 
 positive : (n : ℕ) → false ≡ eqb n 0 → 0 < n
 positive n h = grind (arith, nat_tests)
@@ -45,59 +114,59 @@ pub clean_of : (found slice : List Label) (r : Bool) → slice ≡ found → r �
 clean_of found slice true same e = sym same ∙ nil_from_length slice (eqb-true _ _ (sym e))
 clean_of found slice false same e = subst (λ (l : List Label). 0 < length l) same (positive (length slice) e)
 
-pub linted_told : (brief : Bool) (name : List ℕ) (width : ℕ) (all : Option (List ℕ)) (input text bytes : List ℕ)
+pub linted_told : (form : LintForm) (name : List ℕ) (width : ℕ) (all : Option (List ℕ)) (input text bytes : List ℕ)
     (found : List Label) (clean : Bool) (P : List ℕ → Type 0)
     → IfSome all (λ bs. input ≡ bs) → found ≡ findings_of input width → IsClean found clean
-    → IsLinted brief name width input found text → bytes ≡ text → P bytes
-    → IfSome all (λ bs. Lints brief name width bs clean P)
-linted_told brief name width None input text bytes found clean P read e none is same p = tt
-linted_told brief name width (Some bs) input text bytes found clean P read e none is same p =
-    let here : Lints brief name width input clean P = (
+    → IsLinted form name width input found text → bytes ≡ text → P bytes
+    → IfSome all (λ bs. Lints form name width bs clean P)
+linted_told form name width None input text bytes found clean P read e none is same p = tt
+linted_told form name width (Some bs) input text bytes found clean P read e none is same p =
+    let here : Lints form name width input clean P = (
       text,
       subst (λ f. IsClean f clean) e none,
-      subst (λ f. IsLinted brief name width input f text) e is,
+      subst (λ f. IsLinted form name width input f text) e is,
       subst P same p,
     ) in
-    subst (λ i. Lints brief name width i clean P) read here
+    subst (λ i. Lints form name width i clean P) read here
 
-pub linted_begun : (brief : Bool) (name : List ℕ) (width : ℕ) (all : Option (List ℕ)) (input text bytes : List ℕ)
+pub linted_begun : (form : LintForm) (name : List ℕ) (width : ℕ) (all : Option (List ℕ)) (input text bytes : List ℕ)
     (found : List Label) (P : List ℕ → Type 0)
-    → IfSome all (λ bs. input ≡ bs) → found ≡ findings_of input width → IsLinted brief name width input found text
-    → bytes ≡ text → P bytes → IfSome all (λ bs. LintsText brief name width bs P)
-linted_begun brief name width None input text bytes found P read e is same p = tt
-linted_begun brief name width (Some bs) input text bytes found P read e is same p =
-    let here : LintsText brief name width input P = (
+    → IfSome all (λ bs. input ≡ bs) → found ≡ findings_of input width → IsLinted form name width input found text
+    → bytes ≡ text → P bytes → IfSome all (λ bs. LintsText form name width bs P)
+linted_begun form name width None input text bytes found P read e is same p = tt
+linted_begun form name width (Some bs) input text bytes found P read e is same p =
+    let here : LintsText form name width input P = (
       text,
-      subst (λ f. IsLinted brief name width input f text) e is,
+      subst (λ f. IsLinted form name width input f text) e is,
       subst P same p,
     ) in
-    subst (λ i. LintsText brief name width i P) read here
+    subst (λ i. LintsText form name width i P) read here
 
-pub call_linted : {E : Type 0} (words : List (List ℕ)) (brief : Bool) (name : List ℕ) (width : ℕ) (r : Result Bool E)
+pub call_linted : {E : Type 0} (words : List (List ℕ)) (form : LintForm) (name : List ℕ) (width : ℕ) (r : Result Bool E)
     (all : Option (List ℕ)) (P : List ℕ → Type 0)
-    → AreLintWords words brief name width → IfOk r (λ clean. IfSome all (λ bs. Lints brief name width bs clean P))
+    → AreLintWords words form name width → IfOk r (λ clean. IfSome all (λ bs. Lints form name width bs clean P))
     → IfOk r (λ clean. IfSome all (λ bs. CallLints words bs clean P))
-call_linted words brief name width (Ok clean) None P are h = tt
-call_linted words brief name width (Ok clean) (Some bs) P are h = (brief, name, width, are, h)
-call_linted words brief name width (Err e) all P are h = tt
+call_linted words form name width (Ok clean) None P are h = tt
+call_linted words form name width (Ok clean) (Some bs) P are h = (form, name, width, are, h)
+call_linted words form name width (Err e) all P are h = tt
 
-pub call_clean : {E : Type 0} (words : List (List ℕ)) (brief : Bool) (name : List ℕ) (width : ℕ) (r : Result Bool E)
+pub call_clean : {E : Type 0} (words : List (List ℕ)) (form : LintForm) (name : List ℕ) (width : ℕ) (r : Result Bool E)
     (all : Option (List ℕ)) (P : List ℕ → Type 0)
-    → AreLintWords words brief name width → IfOk r (λ clean. IfSome all (λ bs. Lints brief name width bs clean P))
+    → AreLintWords words form name width → IfOk r (λ clean. IfSome all (λ bs. Lints form name width bs clean P))
     → IfOk r (λ clean. IfSome all (λ bs. CallIsClean words bs clean))
-call_clean words brief name width (Ok clean) None P are h = tt
-call_clean words brief name width (Ok clean) (Some bs) P are h = (brief, name, width, are, h.1)
-call_clean words brief name width (Err e) all P are h = tt
+call_clean words form name width (Ok clean) None P are h = tt
+call_clean words form name width (Ok clean) (Some bs) P are h = (form, name, width, are, h.1)
+call_clean words form name width (Err e) all P are h = tt
 
-pub usage_called : (Q : Type 0) (words : List (List ℕ)) (brief : Bool) (name : List ℕ) (width : ℕ)
-    → AreLintWords words brief name width → (Q → ⊥) → Q ↔ IsNoLintCall words
-usage_called Q words brief name width are called = (λ q. absurd (called q), λ none. absurd (none brief name width are))
+pub usage_called : (Q : Type 0) (words : List (List ℕ)) (form : LintForm) (name : List ℕ) (width : ℕ)
+    → AreLintWords words form name width → (Q → ⊥) → Q ↔ IsNoLintCall words
+usage_called Q words form name width are called = (λ q. absurd (called q), λ none. absurd (none form name width are))
 
-pub call_begun : (words : List (List ℕ)) (brief : Bool) (name : List ℕ) (width : ℕ) (all : Option (List ℕ))
-    (P : List ℕ → Type 0) → AreLintWords words brief name width
-    → IfSome all (λ bs. LintsText brief name width bs P) → IfSome all (λ bs. CallLintsText words bs P)
-call_begun words brief name width None P are h = tt
-call_begun words brief name width (Some bs) P are h = (brief, name, width, are, h)
+pub call_begun : (words : List (List ℕ)) (form : LintForm) (name : List ℕ) (width : ℕ) (all : Option (List ℕ))
+    (P : List ℕ → Type 0) → AreLintWords words form name width
+    → IfSome all (λ bs. LintsText form name width bs P) → IfSome all (λ bs. CallLintsText words bs P)
+call_begun words form name width None P are h = tt
+call_begun words form name width (Some bs) P are h = (form, name, width, are, h)
 
 -- ---- how the program ends
 

@@ -101,7 +101,7 @@ impl Program {
             Program::Bench => ("bench", "N [OPTIONS]"),
             Program::Lint => (
                 "lint",
-                "[--brief | --fix | --diff | --sarif [--tool TOOL]] NAME WIDTH",
+                "[--brief | --github | --fix | --diff | --sarif [--tool TOOL]] NAME WIDTH",
             ),
             Program::Show => ("show", "[--from rustc] [--root DIR] [OPTIONS]"),
         }

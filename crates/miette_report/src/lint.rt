@@ -1,73 +1,35 @@
 //! The program `lint` over any reader and writers.
 
-ghost use Rattle.std.specs.Prelude.{◌≡◌, ◌↔◌, ◌⊎◌, ◌<◌, false, true, IfOk, IfSome, IsNone, IsTrue, OnErr, map};
-ghost use Rattle.std.specs.Prelude.{Some, None, string_bytes};
+ghost use Rattle.std.specs.Prelude.{◌≡◌, ◌↔◌, ◌⊎◌, ◌<◌, false, true, IfOk, IfSome, IsTrue, OnErr, map, string_bytes};
 ghost use Rattle.std.specs.Io.KnownBytes.{Appends};
 ghost use Rattle.miette.specs.Diagnostic.{meaning_of};
-ghost use Rattle.miette_tree.specs.rules.DiagnosticParts.{given_labels};
 ghost use Rattle.miette_labels.specs.rules.Groups.{AreAccepted};
 ghost use Rattle.miette_report.specs.views.Device.{TakesBeginning};
-ghost use Rattle.miette_report.specs.views.DrawReports.{over_input};
 ghost use Rattle.miette_report.specs.views.Endings.{IsFailure, IsFound};
-ghost use Rattle.miette_report.specs.views.LintReports.{count_text, warning, CallIsClean, CallLints, CallLintsText};
+ghost use Rattle.miette_report.specs.views.LintReports.{commands_of, count_text, warning, CallIsClean, CallLints};
+ghost use Rattle.miette_report.specs.views.LintReports.{CallLintsText};
 ghost use Rattle.miette_report.specs.views.LintReports.{IsClean, IsLinted, IsShown, Lints, LintsText};
+ghost use Rattle.miette_lint.specs.rules.Coded.{coded_findings};
 ghost use Rattle.miette_lint.specs.rules.Findings.{findings_of};
-ghost use Rattle.miette_report.specs.rules.Words.{AreLintWords, IsNoLintCall, IsReadAs};
+ghost use Rattle.miette_report.specs.declared.lint_words.LintForm.TheVariants.{Picture, Rows};
+ghost use Rattle.miette_report.specs.rules.Logs.{finding_trees};
+ghost use Rattle.miette_report.specs.rules.Words.{IsNoLintCall};
 
 use crate::device::Device;
 use crate::fault::{Ending, Fault, Program};
+use crate::lint_reports::commands_over;
+pub use crate::lint_words::{LintForm, LintWords};
 use crate::picture::{picture_over, rows_over};
 use crate::whole::{read_whole, write_whole};
-use crate::words::number;
 use itoa::Buffer;
 use miette::diagnostic::MietteDiagnostic;
 use miette::error::RenderError;
 use miette::protocol::{LabeledSpan, Severity};
+use miette_lint::coded::coded_findings;
 pub use miette_lint::findings::findings;
+use miette_lint::laws::coded_laws;
 use std::alloc::{AllocError, Global};
 use std::io::{Read, Write};
-
-/// What the words ask for.
-#[derive(Clone, Copy, Debug, PartialEq, Eq)]
-pub struct LintWords<'a> {
-    /// Whether the findings are brief rows, and no picture.
-    pub brief: bool,
-    /// The source's name.
-    pub name: &'a str,
-    /// How many columns a line may have.
-    pub width: usize,
-}
-
-impl<'a> LintWords<'a> {
-    /// Reads the words after the program's name: two, and perhaps `--brief` before them. Nothing, where they are
-    /// others, or where the last is no number.
-    pub fn read(words: &'a [String]) -> Option<Self>
-        ensures some { IfSome result (λ it. AreLintWords (map string_bytes words.now) it.brief it.name.now
-            it.width) }
-        ensures none { IsNone result → IsNoLintCall (map string_bytes words.now) }
-    {
-        match words {
-            [name, width] => LintWords::with_name(false, name.as_str(), width.as_str()),
-            [word, name, width] if word.as_str() == "--brief" => {
-                LintWords::with_name(true, name.as_str(), width.as_str())
-            }
-            _ => None,
-        }
-    }
-
-    /// With this name and the width that this word writes. Nothing, where it is no number.
-    pub(crate) fn with_name(brief: bool, name: &'a str, width: &str) -> Option<Self>
-        ensures some { IfSome result (λ it. (it.brief ≡ brief) × (it.name.now ≡ name.now)
-            × IsReadAs width.now (Some it.width)) }
-        ensures none { IsNone result → IsReadAs width.now None }
-    {
-        Some(LintWords {
-            brief,
-            name,
-            width: number(width)?,
-        })
-    }
-}
 
 // `3 findings`
 fn count_text(alloc: Global, count: usize) -> Result<String, AllocError>
@@ -101,22 +63,62 @@ pub(crate) fn diagnostic(
     )
 }
 
-// The text of a diagnostic over the input: brief rows, or a picture whose lines are cut at the width.
-fn diagnostic_text(
+// A picture of what is found in the input, whose lines are cut at the width.
+fn pictured(
     alloc: Global,
     words: &LintWords<'_>,
-    diagnostic: MietteDiagnostic,
+    found: Vec<LabeledSpan>,
     input: Vec<u8>,
 ) -> Result<String, RenderError>
-    ensures shown { IfOk result (λ text. IsShown words.now.brief words.now.width
-        (over_input words.now.name.now (meaning_of diagnostic) input.items) (string_bytes text)) }
-    ensures accepted { AreAccepted input.items (given_labels (meaning_of diagnostic).labels)
-        → ¬ (result ≡ Err RenderError.Refused) }
+    ensures shown { IfOk result (λ text. IsShown Picture words.now.name.now words.now.width input.items found.items
+        (string_bytes text)) }
+    ensures accepted { ¬ (result ≡ Err RenderError.Refused) }
 {
-    if words.brief {
-        rows_over(alloc, words.name, diagnostic, input)
-    } else {
-        picture_over(alloc, words.name, diagnostic, input, Some(words.width))
+    let diagnostic = diagnostic(alloc, found)?;
+    picture_over(alloc, words.name, diagnostic, input, Some(words.width))
+}
+
+// Brief rows of what is found in the input.
+fn listed(
+    alloc: Global,
+    words: &LintWords<'_>,
+    found: Vec<LabeledSpan>,
+    input: Vec<u8>,
+) -> Result<String, RenderError>
+    ensures shown { IfOk result (λ text. IsShown Rows words.now.name.now words.now.width input.items found.items
+        (string_bytes text)) }
+    ensures accepted { AreAccepted input.items found.items → ¬ (result ≡ Err RenderError.Refused) }
+{
+    let diagnostic = diagnostic(alloc, found)?;
+    rows_over(alloc, words.name, diagnostic, input)
+}
+
+// Commands of GitHub for all that is found in the input.
+fn commanded(alloc: Global, words: &LintWords<'_>, input: Vec<u8>) -> Result<String, RenderError>
+    ensures shown { IfOk result (λ text. string_bytes text ≡ commands_of (finding_trees words.now.name.now input.items
+        (coded_findings input.items words.now.width))) }
+    ensures accepted { ¬ (result ≡ Err RenderError.Refused) }
+{
+    coded_laws();
+    let coded = coded_findings(alloc, input.as_slice(), words.width)?;
+    commands_over(alloc, words.name, coded, input)
+}
+
+// The text for what is found in the input, which is something. A further form has its text here.
+fn shown(
+    alloc: Global,
+    words: &LintWords<'_>,
+    found: Vec<LabeledSpan>,
+    input: Vec<u8>,
+) -> Result<String, RenderError>
+    ensures shown { IfOk result (λ text. IsShown words.now.form words.now.name.now words.now.width input.items
+        found.items (string_bytes text)) }
+    ensures accepted { AreAccepted input.items found.items → ¬ (result ≡ Err RenderError.Refused) }
+{
+    match words.form {
+        LintForm::Picture => pictured(alloc, words, found, input),
+        LintForm::Rows => listed(alloc, words, found, input),
+        LintForm::Commands => commanded(alloc, words, input),
     }
 }
 
@@ -127,15 +129,14 @@ fn text_for(
     found: Vec<LabeledSpan>,
     input: Vec<u8>,
 ) -> Result<String, Fault>
-    ensures linted { IfOk result (λ text. IsLinted words.now.brief words.now.name.now words.now.width input.items
+    ensures linted { IfOk result (λ text. IsLinted words.now.form words.now.name.now words.now.width input.items
         found.items (string_bytes text)) }
     ensures others { AreAccepted input.items found.items → OnErr result (result ≡ Err Fault.Memory) }
 {
     if is_clean(&found) {
         return Ok(String::new(alloc));
     }
-    let diagnostic = diagnostic(alloc, found)?;
-    match diagnostic_text(alloc, words, diagnostic, input) {
+    match shown(alloc, words, found, input) {
         Ok(text) => Ok(text),
         Err(RenderError::Memory) => Err(Fault::Memory),
         Err(RenderError::Refused) => Err(Fault::Refused),
@@ -149,7 +150,7 @@ pub(crate) fn text_of(
     input: Vec<u8>,
 ) -> Result<(bool, String), Fault>
     ensures clean { IfOk result (λ it. IsClean (findings_of input.items words.now.width) it.0) }
-    ensures linted { IfOk result (λ it. IsLinted words.now.brief words.now.name.now words.now.width input.items
+    ensures linted { IfOk result (λ it. IsLinted words.now.form words.now.name.now words.now.width input.items
         (findings_of input.items words.now.width) (string_bytes it.1)) }
     ensures others { OnErr result (result ≡ Err Fault.Memory) }
 {
@@ -174,7 +175,7 @@ pub fn write_findings<R: Read, W: Write>(
     requires reader_sound { reader.old.failed ≡ false }
     requires writer_sound { writer.old.failed ≡ false }
     ensures ok { IfOk result (λ clean. IfSome (R.remaining reader.old.inner) (λ bytes.
-        Lints words.now.brief words.now.name.now words.now.width bytes clean
+        Lints words.now.form words.now.name.now words.now.width bytes clean
         (Appends (W.contents writer.old.inner) (W.contents writer.new.inner)))) }
     ensures others { OnErr result ((result ≡ Err Fault.Memory) ⊎ (result ≡ Err Fault.Read)
         ⊎ (result ≡ Err Fault.Write)) }
@@ -183,7 +184,7 @@ pub fn write_findings<R: Read, W: Write>(
     ensures write_failed { IsTrue writer.new.failed ↔ (result ≡ Err Fault.Write) }
     // After a write fault a beginning of the text was taken.
     ensures beginning { (result ≡ Err Fault.Write) → IfSome (R.remaining reader.old.inner) (λ bytes.
-        LintsText words.now.brief words.now.name.now words.now.width bytes
+        LintsText words.now.form words.now.name.now words.now.width bytes
         (TakesBeginning (W.contents writer.old.inner) (W.contents writer.new.inner))) }
     // After any other error nothing was written.
     ensures untouched { OnErr result ((result ≡ Err Fault.Write) ⊎ (writer.new ≡ writer.old)) }

@@ -16,7 +16,7 @@ ghost use Rattle.miette_report.specs.views.LintReports.{warning, IsClean, IsDiff
 
 use crate::device::Device;
 use crate::fault::{Ending, Fault, Program};
-use crate::lint::{LintWords, diagnostic, is_clean};
+use crate::lint::{LintForm, LintWords, diagnostic, is_clean};
 use crate::picture::{draw, report};
 use crate::whole::{read_whole, write_whole};
 use miette::error::RenderError;
@@ -36,7 +36,7 @@ pub fn diffing(words: &[String]) -> Option<LintWords<'_>>
 {
     match words {
         [word, name, width] if word.as_str() == "--diff" => {
-            LintWords::with_name(false, name.as_str(), width.as_str())
+            LintWords::with_name(LintForm::Picture, name.as_str(), width.as_str())
         }
         _ => None,
     }

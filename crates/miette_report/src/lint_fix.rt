@@ -5,6 +5,7 @@ ghost use Rattle.std.specs.Prelude.{string_bytes};
 ghost use Rattle.std.specs.Io.KnownBytes.{Appends};
 ghost use Rattle.miette_lint.specs.rules.Fixes.{fixed_text};
 ghost use Rattle.miette_lint.specs.rules.Findings.{findings_of};
+ghost use Rattle.miette_report.specs.declared.lint_words.LintForm.TheVariants.{Picture};
 ghost use Rattle.miette_report.specs.rules.Words.{AreFixWords, IsNoFixCall};
 ghost use Rattle.miette_report.specs.views.Device.{TakesBeginning};
 ghost use Rattle.miette_report.specs.views.Endings.{IsFailure, IsFound};
@@ -12,7 +13,7 @@ ghost use Rattle.miette_report.specs.views.LintReports.{IsClean, IsLinted, LintF
 
 use crate::device::Device;
 use crate::fault::{Ending, Fault, Program};
-use crate::lint::{LintWords, text_of};
+use crate::lint::{LintForm, LintWords, text_of};
 use crate::whole::{read_whole, write_whole};
 use miette_lint::fixed::fixed;
 use std::alloc::Global;
@@ -42,7 +43,7 @@ pub fn fixing(words: &[String]) -> Option<LintWords<'_>>
 {
     match words {
         [word, name, width] if word.as_str() == "--fix" => {
-            LintWords::with_name(false, name.as_str(), width.as_str())
+            LintWords::with_name(LintForm::Picture, name.as_str(), width.as_str())
         }
         _ => None,
     }
@@ -52,14 +53,14 @@ pub fn fixing(words: &[String]) -> Option<LintWords<'_>>
 fn fixed_lines(alloc: Global, words: &LintWords<'_>, input: Vec<u8>) -> Result<FixedLines, Fault>
     ensures text { IfOk result (λ it. it.text.items ≡ fixed_text input.items) }
     ensures clean { IfOk result (λ it. IsClean (findings_of (fixed_text input.items) words.now.width) it.left.clean) }
-    ensures left { IfOk result (λ it. IsLinted false words.now.name.now words.now.width (fixed_text input.items)
+    ensures left { IfOk result (λ it. IsLinted Picture words.now.name.now words.now.width (fixed_text input.items)
         (findings_of (fixed_text input.items) words.now.width) (string_bytes it.left.text)) }
     ensures others { OnErr result (result ≡ Err Fault.Memory) }
 {
     let text = fixed(alloc, input.as_slice())?;
     let copy = text.clone()?;
     let pictured = LintWords {
-        brief: false,
+        form: LintForm::Picture,
         name: words.name,
         width: words.width,
     };

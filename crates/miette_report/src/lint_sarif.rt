@@ -3,11 +3,8 @@
 ghost use Rattle.std.specs.Prelude.{◌≡◌, ◌↔◌, ◌⊎◌, ◌<◌, false, true, IfOk, IfSome, IsNone, IsTrue, OnErr, OnOk};
 ghost use Rattle.std.specs.Prelude.{Some, None, map, string_bytes};
 ghost use Rattle.std.specs.Io.KnownBytes.{Appends};
-ghost use Rattle.miette.specs.Report.{tree_of};
-ghost use Rattle.miette.specs.Tree.{trees};
 ghost use Rattle.miette_lint.specs.rules.Findings.{findings_of};
-ghost use Rattle.miette_lint.specs.views.Found.{coded_of};
-ghost use Rattle.miette_report.specs.rules.Logs.{AreLogWords, IsNoLogCall, finding_tree, finding_trees, lint_log};
+ghost use Rattle.miette_report.specs.rules.Logs.{AreLogWords, IsNoLogCall, lint_log};
 ghost use Rattle.miette_report.specs.views.Device.{TakesBeginning};
 ghost use Rattle.miette_report.specs.views.Endings.{IsFailure, IsFound};
 ghost use Rattle.miette_report.specs.rules.Words.{IsReadAs};
@@ -15,14 +12,12 @@ ghost use Rattle.miette_report.specs.views.LintReports.{IsClean};
 
 use crate::device::Device;
 use crate::fault::{Ending, Fault, Program};
+use crate::lint_reports::reports_over;
 use crate::sarif::log_of;
 use crate::whole::{read_whole, write_whole};
 use crate::words::number;
-use miette::diagnostic::MietteDiagnostic;
-use miette::protocol::{Diagnostic, Severity};
-use miette::report::{OwnedSource, Report};
-use miette::source::SourceCode;
-use miette_lint::coded::{CodedFinding, coded_findings};
+use miette::report::Report;
+use miette_lint::coded::coded_findings;
 use miette_lint::laws::coded_laws;
 use std::alloc::{AllocError, Global};
 use std::io::{Read, Write};
@@ -66,61 +61,6 @@ fn with_tool<'a>(tool: &'a str, name: &'a str, width: &str) -> Option<LogWords<'
         name,
         width: number(width)?,
     })
-}
-
-// The report of a finding.
-fn report_of<D: Diagnostic, S: SourceCode>(
-    alloc: Global,
-    finding: CodedFinding,
-) -> Result<Report<D, S>, AllocError>
-    ensures { IfOk result (λ it. tree_of D.meaning S.source it ≡ finding_tree (coded_of finding)) }
-{
-    let CodedFinding { code, label, fixes } = finding;
-    let diagnostic = MietteDiagnostic::new(alloc, label.label().unwrap_or(""))?
-        .with_code(alloc, code)?
-        .with_severity(Severity::Warning);
-    let mut place = label;
-    place.set_label(None);
-    let mut labels = Vec::with_capacity(alloc, 1)?;
-    labels.push(place)?;
-    Report::built(diagnostic.with_labels(labels)).with_fixes(alloc, fixes)
-}
-
-// The reports of findings.
-fn reports_of<D: Diagnostic, S: SourceCode>(
-    alloc: Global,
-    found: Vec<CodedFinding>,
-) -> Result<Vec<Report<D, S>>, AllocError>
-    ensures { IfOk result (λ list. map (tree_of D.meaning S.source) list.items
-        ≡ map finding_tree (map coded_of found.items)) }
-{
-    let mut reports = Vec::with_capacity(alloc, found.len())?;
-    for finding in found {
-        let report = report_of(alloc, finding)?;
-        reports.push(report)?;
-    }
-    Ok(reports)
-}
-
-// The reports of findings in an input under its name: the first one has it, and the others are related to that.
-fn reports_over<D: Diagnostic, S: SourceCode>(
-    alloc: Global,
-    name: &str,
-    found: Vec<CodedFinding>,
-    input: Vec<u8>,
-) -> Result<Vec<Report<D, S>>, AllocError>
-    ensures { IfOk result (λ list. trees (map (tree_of D.meaning S.source) list.items)
-        ≡ finding_trees name.now input.items (map coded_of found.items)) }
-{
-    let mut reports = reports_of(alloc, found)?;
-    if reports.as_slice().is_empty() {
-        return Ok(reports);
-    }
-    let first = reports.remove(0);
-    let source = OwnedSource::named(alloc, name, None, input)?;
-    let mut list = Vec::with_capacity(alloc, 1)?;
-    list.push(first.with_related(reports).with_owned_source(source))?;
-    Ok(list)
 }
 
 // Whether nothing is found in the input, and the log of what is.

@@ -3,7 +3,7 @@
 use crate::comparing::same;
 use crate::devices::words_of;
 use miette_report::draw::DrawWords;
-use miette_report::lint::LintWords;
+use miette_report::lint::{LintForm, LintWords};
 use miette_report::lint_diff::diffing;
 use miette_report::words::WordsFault;
 use miette_report::{bench, draw, job, lint};
@@ -64,7 +64,7 @@ fn five_words_are_read(rt: HostRuntime) -> Result<(), Fail> {
 fn three_words_ask_for_a_diff(rt: HostRuntime) -> Result<(), Fail> {
     let words = words_of(rt.alloc(), &["--diff", "f", "80"])?;
     let wanted = LintWords {
-        brief: false,
+        form: LintForm::Picture,
         name: "f",
         width: 80,
     };

@@ -1,7 +1,9 @@
 -- The words that programs are called with.
-use Rattle.std.specs.Prelude.{◌≡◌, ℕ, ◌<◌, ◌≤◌, ◌^◌, Bool, true, false, List, [], ◌∷◌, ◌++◌, Option, Some, None}
-use Rattle.std.specs.Prelude.{codes}
+use Rattle.std.specs.Prelude.{◌≡◌, ℕ, ◌<◌, ◌≤◌, ◌^◌, List, [], ◌∷◌, ◌++◌, Option, Some, None}
+use Rattle.std.specs.Prelude.{bytes_eq, codes, if◌then◌else◌}
 use Rattle.std.specs.Str.Parse.{IsNumeral, digits_value}
+use Rattle.miette_report.specs.declared.lint_words.LintForm.{LintForm}
+use Rattle.miette_report.specs.declared.lint_words.LintForm.TheVariants.{Picture, Rows, Commands}
 
 -- What a word is read as: the number that its digits write, one or more and nothing else, where that number is below
 -- 2 ^ 64.
@@ -29,20 +31,29 @@ pub record AreDrawWords (words : List (List ℕ)) (request : DrawRequest) : Type
 abbrev pub IsNoDrawCall : List (List ℕ) → Type 0
 IsNoDrawCall words = (request : DrawRequest) → ¬ (AreDrawWords words request)
 
--- the word that asks for rows in place of a picture
-abbrev pub brief_word : Bool → List (List ℕ)
-brief_word true = codes "--brief" ∷ []
-brief_word false = []
+-- the form that a word asks for
+abbrev pub form_named : List ℕ → Option LintForm
+form_named word =
+    if bytes_eq word (codes "--brief") then Some Rows
+    else (if bytes_eq word (codes "--github") then Some Commands else None)
 
--- two words, the second of which is a number, and before them perhaps `--brief`
-pub record AreLintWords (words : List (List ℕ)) (brief : Bool) (name : List ℕ) (width : ℕ) : Type 0 where
+-- the words that ask for a form: none for a picture
+abbrev pub AskFor : LintForm → List (List ℕ) → Type 0
+AskFor form [] = form ≡ Picture
+AskFor form (word ∷ []) = form_named word ≡ Some form
+AskFor form (word ∷ more ∷ rest) = ⊥
+
+-- two words, the second of which is a number, and before them perhaps one that asks for a form
+pub record AreLintWords (words : List (List ℕ)) (form : LintForm) (name : List ℕ) (width : ℕ) : Type 0 where
+  pub form_words : List (List ℕ)
   pub width_word : List ℕ
-  pub are : words ≡ brief_word brief ++ (name ∷ width_word ∷ [])
+  pub are : words ≡ form_words ++ (name ∷ width_word ∷ [])
+  pub form_is : AskFor form form_words
   pub width_is : IsReadAs width_word (Some width)
 
 -- no reading of the words is one of `lint`'s
 abbrev pub IsNoLintCall : List (List ℕ) → Type 0
-IsNoLintCall words = (brief : Bool) (name : List ℕ) (width : ℕ) → ¬ (AreLintWords words brief name width)
+IsNoLintCall words = (form : LintForm) (name : List ℕ) (width : ℕ) → ¬ (AreLintWords words form name width)
 
 -- three words: `--fix`, a name and a number
 pub record AreFixWords (words : List (List ℕ)) (name : List ℕ) (width : ℕ) : Type 0 where

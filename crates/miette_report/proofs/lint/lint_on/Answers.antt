@@ -8,3 +8,6 @@ returns-in-Err-clause-failed g c = λ two. (
   found_fault _ _ _ c.run_asked.result c.in-Err.fault c.in-Err.is c.run_asked.ensures.usage
       c.run_asked.ensures.read_failed c.run_asked.ensures.write_failed,
 )
+
+pub returns-in-Ok-false-clause-found : goal.returns-in-Ok-false-clause-found
+returns-in-Ok-false-clause-found g c = λ one. rw c.in-Ok-false.field-0-test at c.in-Ok-false.ensures.ok

@@ -11,7 +11,7 @@ returns-in_default-clause-usage g c = (λ fault. let h = c.in_default.ensures.no
 pub returns-clause-ok : goal.returns-clause-ok
 returns-clause-ok g c =
     let words = c.in-Some.words in
-    call_linted (map string_bytes c.args.words.now) words.brief words.name.now words.width c.write_findings.result
+    call_linted (map string_bytes c.args.words.now) words.form words.name.now words.width c.write_findings.result
     (g.R.Read.remaining c.args.reader.now.inner)
     (Appends (g.W.Write.contents c.args.writer.now.inner) (g.W.Write.contents c.write_findings.new.writer.inner))
     c.in-Some.ensures.some c.write_findings.ensures.ok
@@ -19,13 +19,13 @@ returns-clause-ok g c =
 pub returns-clause-clean : goal.returns-clause-clean
 returns-clause-clean g c =
     let words = c.in-Some.words in
-    call_clean (map string_bytes c.args.words.now) words.brief words.name.now words.width c.write_findings.result _ _
+    call_clean (map string_bytes c.args.words.now) words.form words.name.now words.width c.write_findings.result _ _
     c.in-Some.ensures.some c.write_findings.ensures.ok
 
 pub returns-clause-beginning : goal.returns-clause-beginning
 returns-clause-beginning g c =
     let words = c.in-Some.words in
-    λ fault. call_begun (map string_bytes c.args.words.now) words.brief words.name.now words.width
+    λ fault. call_begun (map string_bytes c.args.words.now) words.form words.name.now words.width
     (g.R.Read.remaining c.args.reader.now.inner)
     (TakesBeginning (g.W.Write.contents c.args.writer.now.inner) (g.W.Write.contents c.write_findings.new.writer.inner))
     c.in-Some.ensures.some (c.write_findings.ensures.beginning fault)
@@ -33,7 +33,7 @@ returns-clause-beginning g c =
 pub returns-clause-usage : goal.returns-clause-usage
 returns-clause-usage g c =
     let words = c.in-Some.words in
-    usage_called _ (map string_bytes c.args.words.now) words.brief words.name.now words.width c.in-Some.ensures.some
+    usage_called _ (map string_bytes c.args.words.now) words.form words.name.now words.width c.in-Some.ensures.some
     c.write_findings.ensures.called
 
 pub returns-clause-others : goal.returns-clause-others

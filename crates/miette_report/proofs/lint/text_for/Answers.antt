@@ -1,6 +1,5 @@
 use Rattle.std.proofs.Common.{Bool, rules, subst}
 use Rattle.miette_report.specs.views.LintReports.{IsClean}
-use Rattle.miette_report.proofs.AcceptedFindings.{warned_accepted}
 use Rattle.miette_report.proofs.LintSteps.{nothing_linted, some_linted}
 use Rattle.miette_report.proofs.lint.text_for.Goals as goal
 
@@ -11,10 +10,8 @@ returns-then-is_clean-clause-linted c =
 
 pub returns-in-Ok-clause-linted : goal.returns-in-Ok-clause-linted
 returns-in-Ok-clause-linted c =
-    some_linted _ _ _ _ _ c.args.found.items _ (subst (λ (b : Bool). IsClean c.args.found.items b) c.if-is_clean.false
-    c.is_clean.ensures) c.in_ok-diagnostic.ensures c.in-Ok.ensures.shown
+    some_linted _ _ _ _ _ c.args.found.items (subst (λ (b : Bool). IsClean c.args.found.items b) c.if-is_clean.false
+    c.is_clean.ensures) c.in-Ok.ensures.shown
 
 pub returns-in-Err-Refused-clause-others : goal.returns-in-Err-Refused-clause-others
-returns-in-Err-Refused-clause-others c = λ accepted.
-    absurd (c.diagnostic_text.ensures.accepted (warned_accepted _ c.args.found.items c.args.input.items
-    c.in_ok-diagnostic.ensures accepted) (search rules))
+returns-in-Err-Refused-clause-others c = λ accepted. absurd (c.shown.ensures.accepted accepted (search rules))

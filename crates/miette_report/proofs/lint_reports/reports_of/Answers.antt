@@ -1,7 +1,7 @@
 use Rattle.miette_lint.specs.views.Found.{coded_of}
 use Rattle.miette_tree.specs.views.Report.{tree_of}
 use Rattle.miette_report.proofs.LogSteps.{one_reported}
-use Rattle.miette_report.proofs.lint_sarif.reports_of.Goals as goal
+use Rattle.miette_report.proofs.lint_reports.reports_of.Goals as goal
 
 pub loop-finding-preserved : goal.loop-finding-preserved
 loop-finding-preserved g c =

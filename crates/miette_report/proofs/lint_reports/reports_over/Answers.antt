@@ -2,7 +2,7 @@ use Rattle.std.proofs.Common.{map, rules}
 use Rattle.miette_lint.specs.views.Found.{coded_of}
 use Rattle.miette_tree.specs.views.Report.{tree_of}
 use Rattle.miette_report.proofs.LogSteps.{all_over, none_over, none_there, some_there}
-use Rattle.miette_report.proofs.lint_sarif.reports_over.Goals as goal
+use Rattle.miette_report.proofs.lint_reports.reports_over.Goals as goal
 
 pub returns-then-is_empty : goal.returns-then-is_empty
 returns-then-is_empty g c =
