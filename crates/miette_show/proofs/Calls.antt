@@ -1,5 +1,5 @@
 -- What rows show by the words of a call.
-use Rattle.std.proofs.Common.{◌≡◌, ℕ, List, Option, Some, None, IfSome, IfOk, Bool, Result, Ok, Err}
+use Rattle.std.proofs.Common.{◌≡◌, ◌⊎◌, ℕ, List, Option, Some, None, IfSome, IfOk, OnErr, Bool, Result, Ok, Err, inr}
 use Rattle.std.specs.Prelude.{⊤}
 use Rattle.miette.specs.rules.Options.{Options}
 use Rattle.miette_protocol.specs.rules.Reading.{Source}
@@ -12,12 +12,12 @@ use Rattle.miette_report.specs.steps.JobHandler.{IsAsked, IsGiven}
 use Rattle.miette_report.specs.declared.job_handler.JobHandler.{JobHandler}
 use Rattle.miette_report.specs.declared.language.LanguageHighlighter.{LanguageHighlighter}
 use Rattle.miette_report.specs.declared.option_words.Choice.{Choice}
-use Rattle.miette_show.specs.rules.ShowCalls.{CallShows}
-use Rattle.miette_show.specs.rules.Shown.{Shows}
+use Rattle.miette_show.specs.rules.ShowCalls.{CallShows, CallShowsFirst}
+use Rattle.miette_show.specs.rules.Shown.{Shows, ShowsFirst}
 use Rattle.miette_show.specs.rules.Statuses.{status_of}
 use Rattle.miette_show.specs.views.Texts.{IsRefusing}
 use Rattle.miette_show.specs.declared.verdict.Verdict.{Verdict}
-use Rattle.miette_show.proofs.Going.{shows_by}
+use Rattle.miette_show.proofs.Going.{first_by, shows_by}
 
 module _ (is_blank : LanguageHighlighter → Bool) (words : List (List ℕ)) (c : Choice) (o : Options LanguageHighlighter)
     (l : Terminal) (h : JobHandler LanguageHighlighter) (are : AreWanted words c o l) (asked : IsAsked c o l h) where
@@ -35,6 +35,22 @@ module _ (is_blank : LanguageHighlighter → Bool) (words : List (List ℕ)) (c 
     shows_by (IsGiven is_blank h) (IsJobText is_blank c o l) found bytes holds v
         (λ t x. asked-text is_blank c o l h t x asked) shows,
   )
+
+  pub call_first : {E : Type 0} (found : (List ℕ → Option Source) → List (List ℕ) → Type 0) (told : Option (List ℕ))
+      (holds : List ℕ → List ℕ → Type 0) (r : Result Verdict E) (other : Type 0)
+      → OnErr r (IfSome told (λ bytes. ShowsFirst (IsGiven is_blank h) found bytes holds))
+      → OnErr r (other ⊎ IfSome told (λ bytes. CallShowsFirst is_blank words found bytes holds))
+  call_first found told holds (Ok v) other shows = tt
+  call_first found None holds (Err e) other shows = inr tt
+  call_first found (Some bytes) holds (Err e) other shows =
+      inr (
+        c,
+        o,
+        l,
+        are,
+        first_by (IsGiven is_blank h) (IsJobText is_blank c o l) found bytes holds
+            (λ t x. asked-text is_blank c o l h t x asked) shows,
+      )
 
 pub call_tells : (words : List (List ℕ)) (c : Choice) (o : Options LanguageHighlighter) (l : Terminal)
     (h : JobHandler LanguageHighlighter) → AreWanted words c o l → IsAsked c o l h → IsRefusing h → CallTells words

@@ -1,6 +1,6 @@
 -- Files that are looked for, and handlers that are called, one after another.
 use Rattle.std.proofs.Common.{zero, suc, arith}
-use Rattle.std.proofs.Common.{◌≡◌, ℕ, ◌+◌, ◌<◌, List, [], ◌∷◌, Option, All, Bor, length, get_or, take, refl}
+use Rattle.std.proofs.Common.{◌≡◌, ℕ, ◌+◌, ◌<◌, List, [], ◌∷◌, Option, All, Bool, Bor, length, get_or, take, refl}
 use Rattle.std.proofs.Common.{sym, ap, subst, ◌∙◌}
 use Rattle.std.proofs.lemmas.List.{map-append}
 use Rattle.std.proofs.lemmas.List.Elements.{All-nil, All-cons, All-append}
@@ -8,8 +8,11 @@ use Rattle.miette_protocol.specs.rules.Reading.{Source}
 use Rattle.miette_tree.specs.rules.Tree.{Tree}
 use Rattle.miette_readers.proofs.Steps.{next_taken}
 use Rattle.miette_readers.specs.views.Values.{texts}
+use Rattle.miette_report.proofs.JobHandlerSteps.{given-before}
+use Rattle.miette_report.specs.declared.job_handler.JobHandler.{JobHandler}
+use Rattle.miette_report.specs.steps.JobHandler.{IsGiven, Stays}
 use Rattle.miette_show.specs.rules.Looking.{Goes, IsFoundBy}
-use Rattle.miette_show.specs.rules.Shown.{IsRowText, IsShown, Shown, Shows}
+use Rattle.miette_show.specs.rules.Shown.{IsRowText, IsShown, Shown, Shows, ShowsFirst}
 use Rattle.miette_show.specs.declared.verdict.RowKind.{RowKind}
 use Rattle.miette_show.specs.declared.verdict.Verdict.{Verdict}
 use Rattle.miette_show.specs.declared.verdict.RowKind.TheVariants.{Passed, Unread, Other, Message}
@@ -74,3 +77,23 @@ pub shows_by : (p q : Tree → List ℕ → Type 0) (f : (List ℕ → Option So
     → Shows p f bytes holds verdict → Shows q f bytes holds verdict
 shows_by p q f bytes holds verdict h s =
     (s.0, s.1, (λ i d k. shown_by p q f f _ h (λ files names x. x) (s.2 i d k)), s.3, s.4)
+
+-- what is shown after a while is what would be shown at first
+pub shown_before : {H F : Type 0} (is_blank : H → Bool) (h k : JobHandler H) (found : F → List ℕ → Option Source)
+    (knows : F → List ℕ → Type 0) (first second : F) (slice row : List ℕ) (kind : RowKind) (text : List ℕ)
+    → Stays is_blank h k → Goes (found first) (knows first) (found second) (knows second) → slice ≡ row
+    → IsShown (IsGiven is_blank k) (IsFoundBy found knows second)
+    (record { row = slice; kind = kind; text = text })
+    → IsShown (IsGiven is_blank h) (IsFoundBy found knows first) (record { row = row; kind = kind; text = text })
+shown_before is_blank h k found knows first second slice row kind text stays goes same shown =
+    subst (λ (r : List ℕ). IsShown (IsGiven is_blank h) (IsFoundBy found knows first)
+    (record { row = r; kind = kind; text = text })) same
+    (shown_by (IsGiven is_blank k) (IsGiven is_blank h) (IsFoundBy found knows second) (IsFoundBy found knows first) _
+    (λ t x. given-before is_blank h k t x stays)
+    (λ files names. found_before found knows first second files names goes) shown)
+
+pub first_by : (p q : Tree → List ℕ → Type 0) (f : (List ℕ → Option Source) → List (List ℕ) → Type 0) (bytes : List ℕ)
+    (holds : List ℕ → List ℕ → Type 0) → ((t : Tree) (x : List ℕ) → p t x → q t x) → ShowsFirst p f bytes holds
+    → ShowsFirst q f bytes holds
+first_by p q f bytes holds h s =
+    (s.0, s.1, s.2, (λ i d k. shown_by p q f f _ h (λ files names x. x) (s.3 i d k)), s.4)

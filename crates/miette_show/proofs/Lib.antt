@@ -1,3 +1,4 @@
+pub mod Beginnings
 pub mod Calls
 pub mod FolderSteps
 pub mod Going

@@ -1,5 +1,6 @@
 -- What the results of writing say.
-use Rattle.std.proofs.Common.{◌≡◌, ◌⊎◌, ◌↔◌, Bool, true, false, IsTrue, Result, Ok, Err, inl, inr, refl, sym, ◌∙◌}
+use Rattle.std.proofs.Common.{◌≡◌, ◌⊎◌, ◌↔◌, Bool, true, false, IsTrue, OnErr, OnOk, Result, Ok, Err, inl, inr, refl}
+use Rattle.std.proofs.Common.{sym, ◌∙◌}
 use Rattle.miette_report.specs.declared.fault.Fault.{Fault}
 use Rattle.miette_report.specs.declared.fault.Fault.TheVariants.{Memory, Write}
 
@@ -19,3 +20,11 @@ no_other r s f g is same (inr w) not_memory not_write e =
     let k : Err f ≡ Err Write = sym is ∙ w in
     let l : Err f ≡ Err g = sym same ∙ e in
     not_write cc
+
+pub on_err_of : {A E : Type 0} (r : Result A E) (P : Type 0) → P → OnErr r P
+on_err_of (Ok x) P p = tt
+on_err_of (Err e) P p = p
+
+pub on_ok_of : {A E : Type 0} (r : Result A E) (P : Type 0) → P → OnOk r P
+on_ok_of (Ok x) P p = p
+on_ok_of (Err e) P p = tt

@@ -10,14 +10,17 @@ use Rattle.std.proofs.lemmas.List.Concat.{flat_map-append}
 use Rattle.std.proofs.lemmas.List.Elements.{All-nil, All-cons, All-append}
 use Rattle.std.proofs.lemmas.List.Folds.{list_any-append}
 use Rattle.miette_protocol.specs.rules.Reading.{Source}
+use Rattle.miette_report.specs.views.Device.{TakesBeginning}
 use Rattle.miette_tree.specs.rules.Tree.{Tree}
 use Rattle.miette_show.specs.rules.Rows.{rows_of}
+use Rattle.miette_show.specs.rules.Shown.{ShowsFirst}
 use Rattle.miette_show.specs.rules.Shown.{IsShown, Shown, Shows, is_error, is_unread, kind_grave, kind_unread, note_of}
 use Rattle.miette_show.specs.rules.Shown.{notes_from, text_of, verdict_of}
 use Rattle.miette_show.specs.views.Reading.{IsNextRow}
 use Rattle.miette_show.specs.declared.verdict.RowKind.{RowKind}
 use Rattle.miette_show.specs.declared.verdict.Verdict.{Verdict}
-use Rattle.miette_show.proofs.RowSteps.{RowsLeft, rows_begin, rows_end, rows_more}
+use Rattle.miette_show.proofs.Beginnings.{all_taken, taken_then}
+use Rattle.miette_show.proofs.RowSteps.{RowsLeft, first_rows, rows_begin, rows_end, rows_more}
 
 abbrev row_of : Shown → List ℕ
 row_of s = s.row
@@ -116,3 +119,45 @@ module _ (gives : Tree → List ℕ → Type 0) (found : (List ℕ → Option So
           verdict)
       ended None e = tt
       ended (Some bytes) e = (p.shown, e, p.each, (p.text, p.notes), p.is)
+
+  -- ---- after an error
+
+  so_far : (first : Option (List ℕ)) (shown : List Shown) (holds : List ℕ → List ℕ → Type 0)
+      → IfSome first (λ bytes. (others : List (List ℕ)) × (rows_of bytes ≡ map row_of shown ++ others))
+      → All (IsShown gives found) shown → holds (text_of shown) (notes_from 1 shown)
+      → IfSome first (λ bytes. ShowsFirst gives found bytes holds)
+  so_far None shown holds rows each h = tt
+  so_far (Some bytes) shown holds rows each h = (shown, rows.0, rows.1, each, h)
+
+  -- the rows before this one
+  pub begun : (first left old new before after : Option (List ℕ)) (number : ℕ) (verdict : Verdict)
+      → Progress gives found first left old new before after number verdict
+      → IfSome first (λ bytes. ShowsFirst gives found bytes
+      (λ text notes. TakesBeginning old new text × TakesBeginning before after notes))
+  begun first left old new before after number verdict p =
+      so_far first p.shown (λ text notes. TakesBeginning old new text × TakesBeginning before after notes)
+      (first_rows first left (map row_of p.shown) p.rows) p.each
+      (all_taken old new (text_of p.shown) p.text, all_taken before after (notes_from 1 p.shown) p.notes)
+
+  -- and a beginning of this one's text and note
+  pub begun_with : (first left next old new newer before after later : Option (List ℕ)) (number : ℕ) (verdict : Verdict)
+      (row : List ℕ) (kind : RowKind) (text : List ℕ) → 0 < length row
+      → Progress gives found first left old new before after number verdict → IsNextRow left next row
+      → IsShown gives found (record { row = row; kind = kind; text = text }) → TakesBeginning new newer text
+      → TakesBeginning after later (note_of number (kind_unread kind))
+      → IfSome first (λ bytes. ShowsFirst gives found bytes
+      (λ text notes. TakesBeginning old newer text × TakesBeginning before later notes))
+  begun_with first left next old new newer before after later number verdict row kind text some p is_next is_shown took
+      said =
+      let s : Shown = record { row = row; kind = kind; text = text } in
+      so_far first (p.shown ++ s ∷ []) (λ text notes. TakesBeginning old newer text × TakesBeginning before later notes)
+      (first_rows first next (map row_of (p.shown ++ s ∷ []))
+      (subst (RowsLeft first next) (sym (map-append row_of p.shown (s ∷ [])))
+      (rows_more first left next (map row_of p.shown) row some p.rows is_next)))
+      (All-append (IsShown gives found) p.shown (s ∷ []) p.each
+      (All-cons (IsShown gives found) s [] is_shown (All-nil (IsShown gives found)))) (
+        subst (TakesBeginning old newer) (sym (text_more p.shown s))
+            (taken_then old new newer (text_of p.shown) text p.text took),
+        subst (TakesBeginning before later) (sym (notes_more 1 p.shown s number p.count))
+            (taken_then before after later (notes_from 1 p.shown) (note_of number (kind_unread kind)) p.notes said),
+      )

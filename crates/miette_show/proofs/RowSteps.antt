@@ -78,3 +78,10 @@ rows_end (Some xs) None new done row none left next = absurd left
 rows_end (Some xs) (Some ys) None done row none left next = absurd next.0
 rows_end (Some xs) (Some ys) (Some zs) done row none left next =
     sym (left ∙ ap (λ l. done ++ rows_of l) (none_next ys zs row none next) ∙ append-nil done)
+
+-- the rows that were read are the first ones
+pub first_rows : (first left : Option (List ℕ)) (done : List (List ℕ)) → RowsLeft first left done
+    → IfSome first (λ bytes. (others : List (List ℕ)) × (rows_of bytes ≡ done ++ others))
+first_rows None left done is = tt
+first_rows (Some xs) None done is = absurd is
+first_rows (Some xs) (Some ys) done is = (rows_of ys, is)

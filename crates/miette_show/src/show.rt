@@ -6,9 +6,10 @@ ghost use Rattle.std.specs.Io.KnownBytes.{Appends};
 ghost use Rattle.miette_report.specs.rules.JobCalls.{CallTells};
 ghost use Rattle.miette_report.specs.rules.OptionWords.{asked_by};
 ghost use Rattle.miette_report.specs.steps.JobHandler.{IsGiven, Stays};
+ghost use Rattle.miette_report.specs.views.Device.{TakesBeginning};
 ghost use Rattle.miette_show.specs.rules.Looking.{Goes, IsFoundBy};
-ghost use Rattle.miette_show.specs.rules.ShowCalls.{CallShows};
-ghost use Rattle.miette_show.specs.rules.Shown.{IsShown, Shows, kind_unread, note_of};
+ghost use Rattle.miette_show.specs.rules.ShowCalls.{CallShows, CallShowsFirst};
+ghost use Rattle.miette_show.specs.rules.Shown.{IsShown, Shows, ShowsFirst, kind_unread, note_of};
 ghost use Rattle.miette_show.specs.rules.Statuses.{status_of};
 ghost use Rattle.miette_show.specs.declared.verdict.Verdict.{Verdict};
 ghost use Rattle.miette_show.specs.views.Reading.{left_of};
@@ -77,6 +78,12 @@ fn show_row<H: Highlighter, F: Loader, W: Write>(
         × IsShown (IsGiven H.is_blank handler.old) (IsFoundBy F.found F.knows files.old)
         (record { row = row.now; kind = kind; text = text })
         × Appends (W.contents writer.old.inner) (W.contents writer.new.inner) text) }
+    // After a write fault a beginning of what is shown was taken, after other errors nothing.
+    ensures beginning { (result ≡ Err Fault.Write) → (kind : RowKind) × (text : List ℕ)
+        × IsShown (IsGiven H.is_blank handler.old) (IsFoundBy F.found F.knows files.old)
+        (record { row = row.now; kind = kind; text = text })
+        × TakesBeginning (W.contents writer.old.inner) (W.contents writer.new.inner) text }
+    ensures untouched { OnErr result ((result ≡ Err Fault.Write) ⊎ (writer.new ≡ writer.old)) }
     ensures refused { (result ≡ Err Fault.Refused) → IsRefusing handler.old }
     ensures failed { IsTrue writer.new.failed ↔ (result ≡ Err Fault.Write) }
     ensures others { OnErr result ((result ≡ Err Fault.Refused) ⊎ (result ≡ Err Fault.Memory)
@@ -99,6 +106,9 @@ fn note<E: Write>(
     requires sound { faults.old.failed ≡ false }
     ensures noted { OnOk result (Appends (E.contents faults.old.inner) (E.contents faults.new.inner)
         (note_of number (kind_unread kind))) }
+    ensures beginning { (result ≡ Err Fault.Write) → TakesBeginning (E.contents faults.old.inner)
+        (E.contents faults.new.inner) (note_of number (kind_unread kind)) }
+    ensures untouched { OnErr result ((result ≡ Err Fault.Write) ⊎ (faults.new ≡ faults.old)) }
     ensures failed { IsTrue faults.new.failed ↔ (result ≡ Err Fault.Write) }
     ensures others { OnErr result ((result ≡ Err Fault.Memory) ⊎ (result ≡ Err Fault.Write)) }
 {
@@ -123,6 +133,11 @@ fn show_rows<H: Highlighter, F: Loader, R: Read, W: Write, E: Write>(
         Shows (IsGiven H.is_blank handler.old) (IsFoundBy F.found F.knows files.old) bytes
         (λ text notes. Appends (W.contents streams.old.writer.inner) (W.contents streams.new.writer.inner) text
         × Appends (E.contents streams.old.faults.inner) (E.contents streams.new.faults.inner) notes) verdict)) }
+    // After an error the first rows were shown, the last of them perhaps in part.
+    ensures beginning { OnErr result (IfSome (left_of R.remaining streams.old.rows) (λ bytes.
+        ShowsFirst (IsGiven H.is_blank handler.old) (IsFoundBy F.found F.knows files.old) bytes
+        (λ text notes. TakesBeginning (W.contents streams.old.writer.inner) (W.contents streams.new.writer.inner) text
+        × TakesBeginning (E.contents streams.old.faults.inner) (E.contents streams.new.faults.inner) notes))) }
     ensures refused { (result ≡ Err Fault.Refused) → IsRefusing handler.old }
     ensures read_failed { IsTrue streams.new.rows.failed ↔ (result ≡ Err Fault.Read) }
     ensures write_failed { (IsTrue streams.new.writer.failed ⊎ IsTrue streams.new.faults.failed)
@@ -164,7 +179,14 @@ pub fn show_on<F: Loader, R: Read, W: Write, E: Write>(
         (λ text notes. Appends (W.contents streams.old.writer.inner) (W.contents streams.new.writer.inner) text
         × Appends (E.contents streams.old.faults.inner) (E.contents streams.new.faults.inner) notes) verdict)) }
     ensures usage { (result ≡ Err Fault.Usage) → asked_by (map string_bytes words.now) ≡ None }
+    ensures right { OnOk result (¬ (asked_by (map string_bytes words.now) ≡ None)) }
     ensures unread { asked_by (map string_bytes words.now) ≡ None → streams.new ≡ streams.old }
+    // After any other error the first rows were shown, the last of them perhaps in part.
+    ensures beginning { OnErr result ((streams.new ≡ streams.old) ⊎ IfSome (left_of R.remaining streams.old.rows)
+        (λ bytes. CallShowsFirst ⟦<LanguageHighlighter as Highlighter>⟧.is_blank (map string_bytes words.now)
+        (IsFoundBy F.found F.knows files.old) bytes
+        (λ text notes. TakesBeginning (W.contents streams.old.writer.inner) (W.contents streams.new.writer.inner) text
+        × TakesBeginning (E.contents streams.old.faults.inner) (E.contents streams.new.faults.inner) notes))) }
     ensures refused { (result ≡ Err Fault.Refused) → CallTells (map string_bytes words.now) }
     ensures read_failed { IsTrue streams.new.rows.failed ↔ (result ≡ Err Fault.Read) }
     ensures write_failed { (IsTrue streams.new.writer.failed ⊎ IsTrue streams.new.faults.failed)
@@ -195,6 +217,7 @@ where
     ensures status { (result ≡ 2) ⊎ IfSome (left_of R.remaining streams.rows) (λ bytes. (verdict : Verdict)
         × (result ≡ status_of verdict) × CallShows ⟦<LanguageHighlighter as Highlighter>⟧.is_blank
         (map string_bytes words.now) (IsFoundBy F.found F.knows files.old) bytes (λ text notes. ⊤) verdict) }
+    ensures usage { asked_by (map string_bytes words.now) ≡ None → result ≡ 2 }
 {
     let mut streams = streams;
     match show_on(alloc, words, files, &mut streams) {

@@ -95,3 +95,10 @@ abbrev pub Shows : (Tree → List ℕ → Type 0) → ((List ℕ → Option Sour
     → (List ℕ → List ℕ → Type 0) → Verdict → Type 0
 Shows gives found bytes holds verdict = (shown : List Shown) × (map (λ s. s.row) shown ≡ rows_of bytes)
     × All (IsShown gives found) shown × holds (text_of shown) (notes_from 1 shown) × (verdict ≡ verdict_of shown)
+
+-- The first rows of these bytes are shown so, and this holds of their text and notes.
+abbrev pub ShowsFirst : (Tree → List ℕ → Type 0) → ((List ℕ → Option Source) → List (List ℕ) → Type 0) → List ℕ
+    → (List ℕ → List ℕ → Type 0) → Type 0
+ShowsFirst gives found bytes holds = (shown : List Shown) × (others : List (List ℕ))
+    × (rows_of bytes ≡ map (λ s. s.row) shown ++ others) × All (IsShown gives found) shown
+    × holds (text_of shown) (notes_from 1 shown)

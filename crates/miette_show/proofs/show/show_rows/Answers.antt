@@ -1,12 +1,15 @@
-use Rattle.std.proofs.Common.{◌≡◌, ◌<◌, ◌∙◌, ℕ, List, [], Err, inl, inr, length, refl, sym, ap, subst, rules}
+use Rattle.std.proofs.Common.{◌≡◌, ◌<◌, ◌∙◌, ℕ, List, [], Err, IfSome, inl, inr, length, refl, sym, ap, subst, rules}
 use Rattle.std.proofs.lemmas.List.{nil_from_length}
-use Rattle.miette_report.proofs.JobHandlerSteps.{given-before, stays-itself, stays-on}
+use Rattle.miette_report.proofs.JobHandlerSteps.{stays-itself, stays-on}
 use Rattle.miette_report.specs.declared.fault.Fault.TheVariants.{Read, Refused, Usage, Write}
 use Rattle.miette_report.specs.steps.JobHandler.{IsGiven}
+use Rattle.miette_report.specs.views.Device.{TakesBeginning}
 use Rattle.miette_show.specs.rules.Looking.{IsFoundBy}
-use Rattle.miette_show.specs.rules.Shown.{IsShown}
-use Rattle.miette_show.proofs.Going.{found_before, goes_on, goes_still, shown_by}
-use Rattle.miette_show.proofs.NoteEnds.{no_other, not_failed}
+use Rattle.miette_show.specs.rules.Shown.{ShowsFirst, kind_unread, note_of}
+use Rattle.miette_show.specs.views.Reading.{left_of}
+use Rattle.miette_show.proofs.Beginnings.{all_taken, none_taken}
+use Rattle.miette_show.proofs.Going.{goes_on, goes_still, shown_before}
+use Rattle.miette_show.proofs.NoteEnds.{no_other, not_failed, on_err_of}
 use Rattle.miette_show.proofs.Progress as progress
 use Rattle.miette_show.proofs.show.show_rows.Goals as goal
 
@@ -64,12 +67,8 @@ loop-number-preserved g c =
     let row = c.next.new.row.items in
     let shown = c.in_ok-kind.ensures.shown in
     let some : 0 < length row = search rules in
-    let is_shown : IsShown gives found (record { row = row; kind = kind; text = shown.0 }) =
-    subst (λ (r : List ℕ). IsShown gives found (record { row = r; kind = kind; text = shown.0 }))
-    c.as_slice.ensures.value
-    (shown_by (IsGiven blank l.handler) gives (IsFoundBy g.F.Files.found g.F.Loader.knows l.files) found _
-    (λ t x. given-before blank c.args.handler.now l.handler t x l.invariant.stays)
-    (λ files names. found_before g.F.Files.found g.F.Loader.knows first l.files files names l.invariant.goes) shown.1)
+    let is_shown = shown_before blank c.args.handler.now l.handler g.F.Files.found g.F.Loader.knows first l.files
+    c.as_slice.result.now row kind shown.0 l.invariant.stays l.invariant.goes c.as_slice.ensures.value shown.1
     in
     record {
       rows_sound = not_failed _ _ Read c.in_ok-next.ensures.failed;
@@ -84,3 +83,66 @@ loop-number-preserved g c =
           some l.invariant.progress c.in_ok-next.ensures.row is_shown shown.2 c.in_ok-note.ensures.noted
           c.with-verdict.ensures;
     }
+
+pub returns-in_err-next-clause-beginning : goal.returns-in_err-next-clause-beginning
+returns-in_err-next-clause-beginning g c = on_err_of _ _
+    (progress.begun _ _ _ _ _ _ _ _ c.loop-number.number c.loop-number.verdict c.loop-number.invariant.progress)
+
+pub returns-in_err-kind-clause-beginning : goal.returns-in_err-kind-clause-beginning
+returns-in_err-kind-clause-beginning g c =
+    let l = c.loop-number in
+    let first = c.args.files.now in
+    let gives = IsGiven g.H.Highlighter.is_blank c.args.handler.now in
+    let found = IsFoundBy g.F.Files.found g.F.Loader.knows first in
+    let left = left_of g.R.Read.remaining c.args.streams.now.rows in
+    let row = c.next.new.row.items in
+    let some : 0 < length row = search rules in
+    on_err_of _ _ (elim c.in_err-kind.ensures.untouched [
+      | inl failed ↦
+          (let cut = c.in_err-kind.ensures.beginning failed in
+          let is_shown = shown_before g.H.Highlighter.is_blank c.args.handler.now l.handler g.F.Files.found
+          g.F.Loader.knows first l.files c.as_slice.result.now row cut.0 cut.1 l.invariant.stays l.invariant.goes
+          c.as_slice.ensures.value cut.2
+          in
+          progress.begun_with gives found left _ _ _ _ _ _ _ _ l.number l.verdict row cut.0 cut.1 some
+          l.invariant.progress c.in_ok-next.ensures.row is_shown cut.3
+          (none_taken _ _))
+      | inr same ↦
+          subst (λ d. IfSome left (λ bytes. ShowsFirst gives found bytes
+          (λ text notes. TakesBeginning (g.W.Write.contents c.args.streams.now.writer.inner)
+          (g.W.Write.contents d.inner) text × TakesBeginning (g.E.Write.contents c.args.streams.now.faults.inner)
+          (g.E.Write.contents l.streams.faults.inner) notes))) (sym same)
+          (progress.begun gives found left _ _ _ _ _ l.number l.verdict l.invariant.progress)
+    ])
+
+pub returns-in_err-note-clause-beginning : goal.returns-in_err-note-clause-beginning
+returns-in_err-note-clause-beginning g c =
+    let l = c.loop-number in
+    let first = c.args.files.now in
+    let gives = IsGiven g.H.Highlighter.is_blank c.args.handler.now in
+    let found = IsFoundBy g.F.Files.found g.F.Loader.knows first in
+    let left = left_of g.R.Read.remaining c.args.streams.now.rows in
+    let kind = c.in_ok-kind.kind in
+    let row = c.next.new.row.items in
+    let shown = c.in_ok-kind.ensures.shown in
+    let some : 0 < length row = search rules in
+    let is_shown = shown_before g.H.Highlighter.is_blank c.args.handler.now l.handler g.F.Files.found g.F.Loader.knows
+    first l.files c.as_slice.result.now row kind shown.0 l.invariant.stays l.invariant.goes c.as_slice.ensures.value
+    shown.1
+    in
+    let before = g.E.Write.contents l.streams.faults.inner in
+    let said = note_of l.number (kind_unread kind) in
+    let taken : TakesBeginning before (g.E.Write.contents c.note.new.faults.inner) said =
+    elim c.in_err-note.ensures.untouched [
+      | inl failed ↦ c.in_err-note.ensures.beginning failed
+      | inr same ↦
+          subst (λ d. TakesBeginning before (g.E.Write.contents d.inner) said) (sym same) (none_taken before said)
+    ]
+    in
+    on_err_of _ _
+    (progress.begun_with gives found left _ _ _ _ _ _ _ _ l.number l.verdict row kind shown.0 some
+    l.invariant.progress c.in_ok-next.ensures.row is_shown (all_taken _ _ _ shown.2) taken)
+
+pub returns-clause-beginning : goal.returns-clause-beginning
+returns-clause-beginning g c =
+    progress.begun _ _ _ _ _ _ _ _ c.loop-number.number c.loop-number.verdict c.loop-number.invariant.progress
