@@ -1,6 +1,6 @@
 //! What is shown of a row.
 
-ghost use Rattle.std.specs.Prelude.{◌≡◌, ◌⊎◌, IfOk, IfSome, IsUtf8, None, OnErr, Some, string_bytes};
+ghost use Rattle.std.specs.Prelude.{◌≡◌, IfOk, IfSome, IsUtf8, None, OnErr, Some, string_bytes};
 ghost use Rattle.serde_json.specs.Read.{read};
 ghost use Rattle.serde_json.specs.View.{view};
 ghost use Rattle.miette_readers.specs.rules.RustcReport.{rustc_tree};
@@ -8,7 +8,7 @@ ghost use Rattle.miette_report.specs.steps.JobHandler.{IsGiven, Stays};
 ghost use Rattle.miette_show.specs.rules.Looking.{Goes, IsFoundBy};
 ghost use Rattle.miette_show.specs.rules.Rows.{begins_object};
 ghost use Rattle.miette_show.specs.rules.Shown.{IsShown, is_grave};
-ghost use Rattle.miette_show.specs.views.Texts.{IsRefusing, IsValueText, shown_text};
+ghost use Rattle.miette_show.specs.views.Texts.{IsValueText, shown_text};
 
 use crate::loader::{Loader, load_all};
 use crate::verdict::RowKind;
@@ -16,7 +16,7 @@ use miette_highlight::highlight::Highlighter;
 use miette_protocol::diagnostic::MietteDiagnostic;
 use miette_protocol::protocol::Severity;
 use miette_readers::files::{Files, LentFile};
-use miette_readers::laws::messages_always_read;
+use miette_readers::laws::{labels_are_accepted, messages_always_read};
 use miette_readers::rustc::{ReadError, rustc_report};
 use miette_report::fault::Fault;
 use miette_report::job_handler::JobHandler;
@@ -56,11 +56,11 @@ fn value_text<H: Highlighter, F: Files>(
 ) -> Result<(RowKind, String), Fault>
     ensures text { IfOk result (λ it. IsValueText (IsGiven H.is_blank handler.old)
         (rustc_tree (F.found files.now) (view value.now)) it.0 (string_bytes it.1)) }
-    ensures refused { (result ≡ Err Fault.Refused) → IsRefusing handler.old }
-    ensures others { OnErr result ((result ≡ Err Fault.Refused) ⊎ (result ≡ Err Fault.Memory)) }
+    ensures others { OnErr result (result ≡ Err Fault.Memory) }
     ensures stays { Stays H.is_blank handler.old handler.new }
 {
     messages_always_read();
+    labels_are_accepted();
     let report: Report<MietteDiagnostic, LentFile<'_>> = match rustc_report(alloc, files, value) {
         Ok(Some(report)) => report,
         Ok(None) => return Ok((RowKind::Other, String::new(alloc))),
@@ -92,8 +92,7 @@ pub(crate) fn row_text<H: Highlighter, F: Loader>(
 ) -> Result<(RowKind, String), Fault>
     ensures shown { IfOk result (λ it. IsShown (IsGiven H.is_blank handler.old) (IsFoundBy F.found F.knows files.old)
         (record { row = row.now; kind = it.0; text = shown_text it.0 row.now (string_bytes it.1) })) }
-    ensures refused { (result ≡ Err Fault.Refused) → IsRefusing handler.old }
-    ensures others { OnErr result ((result ≡ Err Fault.Refused) ⊎ (result ≡ Err Fault.Memory)) }
+    ensures others { OnErr result (result ≡ Err Fault.Memory) }
     ensures stays { Stays H.is_blank handler.old handler.new }
     ensures goes { Goes (F.found files.old) (F.knows files.old) (F.found files.new) (F.knows files.new) }
 {
