@@ -1,18 +1,18 @@
 -- The labels of a message's report are accepted, over files that always read.
-use Rattle.std.proofs.Common.{◌≡◌, ◌⊎◌, ℕ, zero, suc, ◌+◌, ◌-◌, ◌≤◌, List, [], ◌∷◌, ◌++◌, Option, Some, None, option_map, Bool}
-use Rattle.std.proofs.Common.{true, false, IfSome, arith, length, map, filter, codes, refl, sym, ap, subst, ◌∙◌, inl, inr}
-use Rattle.std.specs.Prelude.{⊤, ◌==◌, ◌&&◌, ◌||◌, if◌then◌else◌, not, option_and_then, nat_le, bytes_eq}
+use Rattle.std.proofs.Common.{◌≡◌, ◌⊎◌, ℕ, zero, suc, ◌+◌, ◌-◌, ◌≤◌, List, [], ◌∷◌, ◌++◌, Option, Some, None}
+use Rattle.std.proofs.Common.{option_map, Bool, true, false, IfSome, arith, length, map, filter, codes, refl, sym, ap}
+use Rattle.std.proofs.Common.{subst, ◌∙◌, inl, inr}
+use Rattle.std.specs.Prelude.{⊤, ◌==◌, ◌&&◌, if◌then◌else◌, option_and_then}
 use Rattle.std.specs.List.{flat_map, fold, list_all, list_any}
 use Rattle.std.proofs.lemmas.Bool.{and_from, and_parts, eq-eqb, eqb-true, leb-true, le-leb, or_cases, or_right}
 use Rattle.std.proofs.lemmas.Slice.Eq.{bytes_eq-Decides}
 use Rattle.serde_json.specs.Data.{Data}
-use Rattle.miette_basics.specs.rules.Lists.{is_nil}
 use Rattle.miette_fixes.specs.rules.Edits.{Proposal}
 use Rattle.miette_protocol.specs.rules.Reading.{Source, is_accepted}
 use Rattle.miette_protocol.specs.views.Meaning.{Label}
-use Rattle.miette_tree.specs.rules.Diagnosis.{Diagnosis, plain_diagnosis}
+use Rattle.miette_tree.specs.rules.Diagnosis.{plain_diagnosis}
 use Rattle.miette_tree.specs.rules.DiagnosticParts.{given_labels}
-use Rattle.miette_tree.specs.rules.Reads.{accepts, holds_further, holds_of, holds_of_all, report_accepted}
+use Rattle.miette_tree.specs.rules.Reads.{accepts, holds_further, holds_of_all, report_accepted}
 use Rattle.miette_tree.specs.rules.Tree.{Tree, Trees, alone, texts, trees, with_all_snippets, with_cause, with_fixes}
 use Rattle.miette_tree.specs.rules.Tree.{with_related}
 use Rattle.miette_readers.specs.rules.Members.{text_at}
@@ -21,13 +21,13 @@ use Rattle.miette_readers.specs.rules.Proposing.{FileEdit, Offer}
 use Rattle.miette_readers.specs.rules.Rustc.{told_of}
 use Rattle.miette_readers.specs.rules.RustcReport.{advice, advice_of, further_files, held_in, help_of, is_listed}
 use Rattle.miette_readers.specs.rules.RustcReport.{is_other_reason, is_other_type, label_of, labels_in, main_fixes}
-use Rattle.miette_readers.specs.rules.RustcReport.{maybe_source, meaning_with, message_tree, offers_of, others, row_tree}
-use Rattle.miette_readers.specs.rules.RustcReport.{rustc_tree, sections_from, some_labels}
+use Rattle.miette_readers.specs.rules.RustcReport.{maybe_source, meaning_with, message_tree, offers_of, others}
+use Rattle.miette_readers.specs.rules.RustcReport.{row_tree, rustc_tree, sections_from, some_labels}
 use Rattle.miette_readers.specs.rules.Settling.{Mark, Settled, first_open, found_place, has_no_rows, is_around, is_at}
 use Rattle.miette_readers.specs.rules.Settling.{is_open, main_of, marked, maybe_text, meets, new_mark, newly_marked}
 use Rattle.miette_readers.specs.rules.Settling.{nothing_settled, settled, settled_at, settled_one, settled_with}
-use Rattle.miette_readers.specs.rules.Settling.{told_again, within_of, with_mark}
-use Rattle.miette_readers.proofs.AlwaysRead.{EachReads, FilesRead, SettledReads, either, settled_reads}
+use Rattle.miette_readers.specs.rules.Settling.{told_again, within_of}
+use Rattle.miette_readers.proofs.AlwaysRead.{EachReads, FilesRead, either, settled_reads}
 
 -- ---- the files of lists by their numbers
 
@@ -109,7 +109,8 @@ opened : (opens : ℕ → Bool) (n left : ℕ)
 opened opens n zero = inl (omega arith)
 opened opens n (suc left) = opened_by opens n left (opens n) refl (opened opens (n + 1) left)
 
-newly_fits : (files : List ℕ → Option Source) (done : Settled) (name : List ℕ) (source : Source) (s : Stretch) (t : Told)
+newly_fits : (files : List ℕ → Option Source) (done : Settled) (name : List ℕ) (source : Source) (s : Stretch)
+    (t : Told)
     → SettledFits files done → files name ≡ Some source → is_within source.bytes s ≡ true
     → SettledFits files (newly_marked done name source s t)
 newly_fits files done name source s t h is within =
@@ -135,7 +136,8 @@ newly_fits files done name source s t h is within =
           (fit_more files done.files done.marks m h (source, is, there, within)))
     ]
 
-marked_fits : (files : List ℕ → Option Source) (done : Settled) (name : List ℕ) (source : Source) (s : Stretch) (t : Told)
+marked_fits : (files : List ℕ → Option Source) (done : Settled) (name : List ℕ) (source : Source) (s : Stretch)
+    (t : Told)
     → SettledFits files done → files name ≡ Some source → is_within source.bytes s ≡ true
     → SettledFits files (marked done name source s t)
 marked_fits files done name source s t h is within =
@@ -152,7 +154,8 @@ text_fits files done None h = h
 text_fits files done (Some text) h = h
 
 within_by : (x : Source) (s : Stretch) (b : Bool) → is_within x.bytes s ≡ b
-    → IfSome (if b then Some (x, s) else None) (λ f. (Some x ≡ Some f.0) × (is_within f.0.bytes f.1 ≡ true))
+    → IfSome {T = Source × Stretch} (if b then Some (x, s) else None)
+        (λ f. (Some x ≡ Some f.0) × (is_within f.0.bytes f.1 ≡ true))
 within_by x s true e = (refl, e)
 within_by x s false e = tt
 
