@@ -10,12 +10,12 @@ import copy
 import json
 import os
 import random
-import resource
 import shutil
 import subprocess
 import sys
 import tempfile
 
+import size_runs
 from programs import HERE, counted, program, run
 from readers_model import shown_of
 from tree_model import Page, whole_picture
@@ -28,6 +28,8 @@ OTHER = [b'{"reason":"build-finished","success":true}\n', b'{"$message_type":"ar
 BAD = [b'{"message":5}\n', b'{"\n', b'{"reason":"compiler-message"}\n', b'{"\xff":1}\n', b'{"message":"m"} x\n']
 # the members of a message that are changed
 READ = ("message", "code", "level", "spans", "children")
+# what a run over many messages may take
+MANY = size_runs.Limits(size_runs.WIDE_STACK_KB, size_runs.WIDE_SPACE, 60)
 SPAN = {"byte_start": 0, "byte_end": 3, "file_name": "borrow.rs", "is_primary": True, "label": "here"}
 
 
@@ -201,24 +203,23 @@ def live_tried():
 
 
 def most_memory(count):
-    """The memory in KB that so many messages take at most, and the seconds."""
+    """How the program ends that reads so many messages, with the bytes of memory that it takes at most."""
     rows = rows_of(recorded("borrow"))
-    with tempfile.TemporaryFile() as given:
-        for at in range(count):
-            given.write(rows[at % len(rows)])
-        given.seek(0)
-        before = resource.getrusage(resource.RUSAGE_CHILDREN).ru_utime
-        child = subprocess.Popen([program("show"), *WORDS], stdin=given, stdout=subprocess.DEVNULL, cwd=FOLDER)
-        _, status, used = os.wait4(child.pid, 0)
-        child.returncode = os.waitstatus_to_exitcode(status)
-    return used.ru_maxrss, used.ru_utime, child.returncode
+    with tempfile.TemporaryDirectory() as folder:
+        path = os.path.join(folder, "rows")
+        with open(path, "wb") as given:
+            for at in range(count):
+                given.write(rows[at % len(rows)])
+        return size_runs.run([program("show"), "--root", FOLDER, *WORDS], path, MANY)
 
 
 def memory_tried(count):
     """So many messages take no more memory than a hundredth of them."""
+    size_runs.wait_for_all()
     few, many = most_memory(count // 100), most_memory(count)
-    print(f"{count} messages: {many[0]} KB, {many[1]:.1f} s; {count // 100}: {few[0]} KB")
-    return [many[2] == 1 and many[0] <= few[0] + 500]
+    kb = size_runs.KB
+    print(f"{count} messages: {many.memory // kb} KB, {many.seconds:.1f} s; {count // 100}: {few.memory // kb} KB")
+    return [many.status == 1 and many.written == 100 * few.written and many.memory <= few.memory + 500 * kb]
 
 
 def main(words):

@@ -155,7 +155,7 @@ text_fits files done (Some text) h = h
 
 within_by : (x : Source) (s : Stretch) (b : Bool) → is_within x.bytes s ≡ b
     → IfSome {T = Source × Stretch} (if b then Some (x, s) else None)
-        (λ f. (Some x ≡ Some f.0) × (is_within f.0.bytes f.1 ≡ true))
+    (λ f. (Some x ≡ Some f.0) × (is_within f.0.bytes f.1 ≡ true))
 within_by x s true e = (refl, e)
 within_by x s false e = tt
 
@@ -200,22 +200,22 @@ same_some : (a b : Source) → Some a ≡ Some b → a ≡ b
 same_some a b e = cc
 
 module _ (files : List ℕ → Option Source) (ss : List Source) (source : Source) (n : ℕ) (is : nth ss n ≡ Some source)
-    where
-  listed : (m : Mark) (ms : List Mark) (b : Bool) → is_listed n m ≡ b → Fits files ss m
-      → list_all (λ label. is_accepted source.bytes label.span) (map label_of ms) ≡ true
-      → list_all (λ label. is_accepted source.bytes label.span) (map label_of (if b then m ∷ ms else ms)) ≡ true
-  listed m ms false e f all = all
-  listed m ms true e f all =
-      let same : f.0 ≡ source = same_some f.0 source
-      (sym (subst (λ k. nth ss k ≡ Some f.0) (eqb-true m.list n e) f.2) ∙ is) in
-      and_from _ _
-      (label_accepted source.bytes m (subst (λ (k : Source). is_within k.bytes m.stretch ≡ true) same f.3)) all
+  where
+    listed : (m : Mark) (ms : List Mark) (b : Bool) → is_listed n m ≡ b → Fits files ss m
+        → list_all (λ label. is_accepted source.bytes label.span) (map label_of ms) ≡ true
+        → list_all (λ label. is_accepted source.bytes label.span) (map label_of (if b then m ∷ ms else ms)) ≡ true
+    listed m ms false e f all = all
+    listed m ms true e f all =
+        let same : f.0 ≡ source = same_some f.0 source
+        (sym (subst (λ k. nth ss k ≡ Some f.0) (eqb-true m.list n e) f.2) ∙ is) in
+        and_from _ _
+        (label_accepted source.bytes m (subst (λ (k : Source). is_within k.bytes m.stretch ≡ true) same f.3)) all
 
-  labels_accepted : (ms : List Mark) → AllFit files ss ms
-      → list_all (λ label. is_accepted source.bytes label.span) (labels_in ms n) ≡ true
-  labels_accepted [] h = refl
-  labels_accepted (m ∷ ms) h =
-      listed m (filter (is_listed n) ms) (is_listed n m) refl h.0 (labels_accepted ms h.1)
+    labels_accepted : (ms : List Mark) → AllFit files ss ms
+        → list_all (λ label. is_accepted source.bytes label.span) (labels_in ms n) ≡ true
+    labels_accepted [] h = refl
+    labels_accepted (m ∷ ms) h =
+        listed m (filter (is_listed n) ms) (is_listed n m) refl h.0 (labels_accepted ms h.1)
 
 source_accepts : (source : Source) (ls : List Label)
     → list_all (λ label. is_accepted source.bytes label.span) ls ≡ true → source.always_reads ≡ true

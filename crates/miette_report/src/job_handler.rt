@@ -1,9 +1,9 @@
 //! The handler that a job is asked for.
 
-ghost use Rattle.std.specs.Prelude.{◌≡◌, ◌⊎◌, IfOk, OnErr, string_bytes};
+ghost use Rattle.std.specs.Prelude.{◌≡◌, ◌⊎◌, IfOk, OnErr, OnOk, string_bytes};
 ghost use Rattle.miette_tree.specs.views.Report.{tree_of};
 ghost use Rattle.miette_tree.specs.rules.Reads.{AlwaysReads};
-ghost use Rattle.miette_report.specs.steps.JobHandler.{IsAsked, IsGiven, MayRefuse, Stays};
+ghost use Rattle.miette_report.specs.steps.JobHandler.{IsAsked, IsGiven, IsLed, MayRefuse, Stays};
 
 use crate::arguments::Arguments;
 use crate::fault::Fault;
@@ -75,12 +75,14 @@ impl<H: Highlighter> JobHandler<H> {
         report: &Report<D, S>,
     ) -> Result<String, Fault>
         requires reads { AlwaysReads (tree_of D.meaning S.source report.now) }
-        ensures ok { IfOk result (λ text. IsGiven H.is_blank self.old (tree_of D.meaning S.source report.now)
-            (string_bytes text)) }
+        ensures ok { IfOk result (λ text. IsGiven H.is_blank H.may_follow self.old
+            (tree_of D.meaning S.source report.now) (string_bytes text)) }
         ensures refused { (result ≡ Err Fault.Refused) →
             MayRefuse self.old (tree_of D.meaning S.source report.now) }
         ensures others { OnErr result ((result ≡ Err Fault.Refused) ⊎ (result ≡ Err Fault.Memory)) }
         ensures stays { Stays H.is_blank self.old self.new }
+        // By its own calls its highlighter is where it is, once it gave a text.
+        ensures led { OnOk result (IsLed H.may_follow self.old self.new) }
     {
         let mut text = String::new(alloc);
         let rendered = match self {
@@ -106,7 +108,7 @@ impl<H: Highlighter> JobHandler<H> {
     ) -> Result<String, Fault>
         requires reads { AlwaysReads (tree_of ⟦<Box<dyn Diagnostic> as Diagnostic>⟧.meaning
             ⟦<Box<dyn SourceCode> as SourceCode>⟧.source report.now) }
-        ensures ok { IfOk result (λ text. IsGiven H.is_blank self.old
+        ensures ok { IfOk result (λ text. IsGiven H.is_blank H.may_follow self.old
             (tree_of ⟦<Box<dyn Diagnostic> as Diagnostic>⟧.meaning ⟦<Box<dyn SourceCode> as SourceCode>⟧.source
             report.now) (string_bytes text)) }
         ensures others { OnErr result ((result ≡ Err Fault.Refused) ⊎ (result ≡ Err Fault.Memory)) }

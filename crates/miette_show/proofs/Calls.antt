@@ -7,6 +7,7 @@ use Rattle.miette_style.specs.declared.theme.Terminal.{Terminal}
 use Rattle.miette_report.proofs.JobHandlerSteps.{asked-refusal, asked-text}
 use Rattle.miette_report.specs.rules.Job.{IsJobText}
 use Rattle.miette_report.specs.rules.OptionWords.{AreWanted}
+use Rattle.miette_report.specs.rules.LanguageRules.{TokensFollow}
 use Rattle.miette_report.specs.steps.JobHandler.{IsAsked, IsGiven}
 use Rattle.miette_report.specs.declared.job_handler.JobHandler.{JobHandler}
 use Rattle.miette_report.specs.declared.language.LanguageHighlighter.{LanguageHighlighter}
@@ -21,7 +22,7 @@ module _ (is_blank : LanguageHighlighter → Bool) (words : List (List ℕ)) (c 
     (l : Terminal) (h : JobHandler LanguageHighlighter) (are : AreWanted words c o l) (asked : IsAsked c o l h) where
   pub call_shows : {E : Type 0} (found : (List ℕ → Option Source) → List (List ℕ) → Type 0) (told : Option (List ℕ))
       (holds : List ℕ → List ℕ → Type 0) (r : Result Verdict E)
-      → IfOk r (λ v. IfSome told (λ bytes. Shows (IsGiven is_blank h) found bytes holds v))
+      → IfOk r (λ v. IfSome told (λ bytes. Shows (IsGiven is_blank TokensFollow h) found bytes holds v))
       → IfOk r (λ v. IfSome told (λ bytes. CallShows is_blank words found bytes holds v))
   call_shows found told holds (Err e) shows = tt
   call_shows found None holds (Ok v) shows = tt
@@ -30,13 +31,13 @@ module _ (is_blank : LanguageHighlighter → Bool) (words : List (List ℕ)) (c 
     o,
     l,
     are,
-    shows_by (IsGiven is_blank h) (IsJobText is_blank c o l) found bytes holds v
+    shows_by (IsGiven is_blank TokensFollow h) (IsJobText is_blank c o l) found bytes holds v
         (λ t x. asked-text is_blank c o l h t x asked) shows,
   )
 
   pub call_first : {E : Type 0} (found : (List ℕ → Option Source) → List (List ℕ) → Type 0) (told : Option (List ℕ))
       (holds : List ℕ → List ℕ → Type 0) (r : Result Verdict E) (other : Type 0)
-      → OnErr r (IfSome told (λ bytes. ShowsFirst (IsGiven is_blank h) found bytes holds))
+      → OnErr r (IfSome told (λ bytes. ShowsFirst (IsGiven is_blank TokensFollow h) found bytes holds))
       → OnErr r (other ⊎ IfSome told (λ bytes. CallShowsFirst is_blank words found bytes holds))
   call_first found told holds (Ok v) other shows = tt
   call_first found None holds (Err e) other shows = inr tt
@@ -46,7 +47,7 @@ module _ (is_blank : LanguageHighlighter → Bool) (words : List (List ℕ)) (c 
         o,
         l,
         are,
-        first_by (IsGiven is_blank h) (IsJobText is_blank c o l) found bytes holds
+        first_by (IsGiven is_blank TokensFollow h) (IsJobText is_blank c o l) found bytes holds
             (λ t x. asked-text is_blank c o l h t x asked) shows,
       )
 

@@ -8,9 +8,11 @@ use Rattle.miette_protocol.specs.rules.Reading.{Source}
 use Rattle.miette_tree.specs.rules.Tree.{Tree}
 use Rattle.miette_readers.proofs.Steps.{next_taken}
 use Rattle.miette_readers.specs.views.Values.{texts}
+use Rattle.miette_highlight.specs.rules.HighlighterCalls.{Call}
+use Rattle.miette_report.proofs.HighlighterSteps.{led-nowhere}
 use Rattle.miette_report.proofs.JobHandlerSteps.{given-before}
 use Rattle.miette_report.specs.declared.job_handler.JobHandler.{JobHandler}
-use Rattle.miette_report.specs.steps.JobHandler.{IsGiven, Stays}
+use Rattle.miette_report.specs.steps.JobHandler.{IsGiven, IsLed, Stays}
 use Rattle.miette_show.specs.rules.Looking.{Goes, IsFoundBy}
 use Rattle.miette_show.specs.rules.Shown.{IsRowText, IsShown, Shown, Shows, ShowsFirst}
 use Rattle.miette_show.specs.declared.verdict.RowKind.{RowKind}
@@ -78,18 +80,26 @@ pub shows_by : (p q : Tree → List ℕ → Type 0) (f : (List ℕ → Option So
 shows_by p q f bytes holds verdict h s =
     (s.0, s.1, (λ i d k. shown_by p q f f _ h (λ files names x. x) (s.2 i d k)), s.3, s.4)
 
+-- a handler that isn't called
+pub led_still : {H : Type 0} (may_follow : H → List Call → Type 0) (h : JobHandler H) → IsLed may_follow h h
+led_still may_follow h = led-nowhere may_follow h
+
 -- what is shown after a while is what would be shown at first
-pub shown_before : {H F : Type 0} (is_blank : H → Bool) (h k : JobHandler H) (found : F → List ℕ → Option Source)
-    (knows : F → List ℕ → Type 0) (first second : F) (slice row : List ℕ) (kind : RowKind) (text : List ℕ)
-    → Stays is_blank h k → Goes (found first) (knows first) (found second) (knows second) → slice ≡ row
-    → IsShown (IsGiven is_blank k) (IsFoundBy found knows second)
+pub shown_before : {H F : Type 0} (is_blank : H → Bool) (may_follow : H → List Call → Type 0) (h k : JobHandler H)
+    (found : F → List ℕ → Option Source) (knows : F → List ℕ → Type 0) (first second : F) (slice row : List ℕ)
+    (kind : RowKind) (text : List ℕ) → Stays is_blank h k → IsLed may_follow h k
+    → Goes (found first) (knows first) (found second) (knows second) → slice ≡ row
+    → IsShown (IsGiven is_blank may_follow k) (IsFoundBy found knows second)
     (record { row = slice; kind = kind; text = text })
-    → IsShown (IsGiven is_blank h) (IsFoundBy found knows first) (record { row = row; kind = kind; text = text })
-shown_before is_blank h k found knows first second slice row kind text stays goes same shown =
-    subst (λ (r : List ℕ). IsShown (IsGiven is_blank h) (IsFoundBy found knows first)
+    → IsShown (IsGiven is_blank may_follow h) (IsFoundBy found knows first)
+    (record { row = row; kind = kind; text = text })
+shown_before is_blank may_follow h k found knows first second slice row kind text stays led goes same
+    shown =
+    subst (λ (r : List ℕ). IsShown (IsGiven is_blank may_follow h) (IsFoundBy found knows first)
     (record { row = r; kind = kind; text = text })) same
-    (shown_by (IsGiven is_blank k) (IsGiven is_blank h) (IsFoundBy found knows second) (IsFoundBy found knows first) _
-    (λ t x. given-before is_blank h k t x stays)
+    (shown_by (IsGiven is_blank may_follow k) (IsGiven is_blank may_follow h) (IsFoundBy found knows second)
+    (IsFoundBy found knows first) _
+    (λ t x. given-before is_blank may_follow h k t x stays led)
     (λ files names. found_before found knows first second files names goes) shown)
 
 pub first_by : (p q : Tree → List ℕ → Type 0) (f : (List ℕ → Option Source) → List (List ℕ) → Type 0) (bytes : List ℕ)

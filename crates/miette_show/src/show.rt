@@ -4,11 +4,11 @@ ghost use Rattle.std.specs.Prelude.{◌≡◌, ◌↔◌, ◌⊎◌, ◌<◌, �
 ghost use Rattle.std.specs.Prelude.{[], false, map, string_bytes, ⊤};
 ghost use Rattle.std.specs.Io.KnownBytes.{Appends};
 ghost use Rattle.miette_report.specs.rules.OptionWords.{asked_by};
-ghost use Rattle.miette_report.specs.steps.JobHandler.{IsGiven, Stays};
+ghost use Rattle.miette_report.specs.steps.JobHandler.{IsGiven, IsLed, Stays};
 ghost use Rattle.miette_report.specs.views.Device.{TakesBeginning};
 ghost use Rattle.miette_show.specs.rules.Looking.{Goes, IsFoundBy};
 ghost use Rattle.miette_show.specs.rules.ShowCalls.{CallShows, CallShowsFirst};
-ghost use Rattle.miette_show.specs.rules.Shown.{IsShown, Shows, ShowsFirst, kind_unread, note_of};
+ghost use Rattle.miette_show.specs.rules.Shown.{IsShown, Shows, ShowsFirst, kind_unread, note_of, note_row};
 ghost use Rattle.miette_show.specs.rules.Statuses.{status_of};
 ghost use Rattle.miette_show.specs.declared.verdict.Verdict.{Verdict};
 ghost use Rattle.miette_show.specs.views.Reading.{left_of};
@@ -25,7 +25,7 @@ use miette_report::job::Arguments;
 use miette_report::job_handler::JobHandler;
 use miette_report::language::LanguageHighlighter;
 use miette_report::whole::write_whole;
-use std::alloc::Global;
+use std::alloc::{AllocError, Global};
 use std::io::{Read, Write};
 
 /// What the program reads, where it writes what is shown, and where it says what it can't read.
@@ -74,23 +74,31 @@ fn show_row<H: Highlighter, F: Loader, W: Write>(
 ) -> Result<RowKind, Fault>
     requires sound { writer.old.failed ≡ false }
     ensures shown { IfOk result (λ kind. (text : List ℕ)
-        × IsShown (IsGiven H.is_blank handler.old) (IsFoundBy F.found F.knows files.old)
+        × IsShown (IsGiven H.is_blank H.may_follow handler.old) (IsFoundBy F.found F.knows files.old)
         (record { row = row.now; kind = kind; text = text })
         × Appends (W.contents writer.old.inner) (W.contents writer.new.inner) text) }
     // After a write fault a beginning of what is shown was taken, after other errors nothing.
     ensures beginning { (result ≡ Err Fault.Write) → (kind : RowKind) × (text : List ℕ)
-        × IsShown (IsGiven H.is_blank handler.old) (IsFoundBy F.found F.knows files.old)
+        × IsShown (IsGiven H.is_blank H.may_follow handler.old) (IsFoundBy F.found F.knows files.old)
         (record { row = row.now; kind = kind; text = text })
         × TakesBeginning (W.contents writer.old.inner) (W.contents writer.new.inner) text }
     ensures untouched { OnErr result ((result ≡ Err Fault.Write) ⊎ (writer.new ≡ writer.old)) }
     ensures failed { IsTrue writer.new.failed ↔ (result ≡ Err Fault.Write) }
     ensures others { OnErr result ((result ≡ Err Fault.Memory) ⊎ (result ≡ Err Fault.Write)) }
     ensures stays { Stays H.is_blank handler.old handler.new }
+    ensures led { OnOk result (IsLed H.may_follow handler.old handler.new) }
     ensures goes { Goes (F.found files.old) (F.knows files.old) (F.found files.new) (F.knows files.new) }
 {
     let (kind, text) = row_text(alloc, handler, files, row)?;
     write_whole(writer, shown_bytes(kind, row, &text))?;
     Ok(kind)
+}
+
+/// What is said of a row that can't be read.
+fn note_text(alloc: Global, number: u64) -> Result<String, AllocError>
+    ensures { IfOk result (λ text. string_bytes text ≡ note_row number) }
+{
+    format!(in alloc; "show: row {number}: no message that can be read\n")
 }
 
 /// Says that a row can't be read, where it can't.
@@ -112,7 +120,7 @@ fn note<E: Write>(
     if !kind.is_unread() {
         return Ok(());
     }
-    let note = format!(in alloc; "show: row {number}: no message that can be read\n")?;
+    let note = note_text(alloc, number)?;
     write_whole(faults, note.as_bytes())
 }
 
@@ -127,12 +135,12 @@ fn show_rows<H: Highlighter, F: Loader, R: Read, W: Write, E: Write>(
     requires writer_sound { streams.old.writer.failed ≡ false }
     requires faults_sound { streams.old.faults.failed ≡ false }
     ensures ok { IfOk result (λ verdict. IfSome (left_of R.remaining streams.old.rows) (λ bytes.
-        Shows (IsGiven H.is_blank handler.old) (IsFoundBy F.found F.knows files.old) bytes
+        Shows (IsGiven H.is_blank H.may_follow handler.old) (IsFoundBy F.found F.knows files.old) bytes
         (λ text notes. Appends (W.contents streams.old.writer.inner) (W.contents streams.new.writer.inner) text
         × Appends (E.contents streams.old.faults.inner) (E.contents streams.new.faults.inner) notes) verdict)) }
     // After an error the first rows were shown, the last of them perhaps in part.
     ensures beginning { OnErr result (IfSome (left_of R.remaining streams.old.rows) (λ bytes.
-        ShowsFirst (IsGiven H.is_blank handler.old) (IsFoundBy F.found F.knows files.old) bytes
+        ShowsFirst (IsGiven H.is_blank H.may_follow handler.old) (IsFoundBy F.found F.knows files.old) bytes
         (λ text notes. TakesBeginning (W.contents streams.old.writer.inner) (W.contents streams.new.writer.inner) text
         × TakesBeginning (E.contents streams.old.faults.inner) (E.contents streams.new.faults.inner) notes))) }
     ensures accepted { ¬ (result ≡ Err Fault.Refused) }

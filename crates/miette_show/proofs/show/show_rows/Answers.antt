@@ -1,5 +1,6 @@
-use Rattle.std.proofs.Common.{◌≡◌, ◌<◌, ◌∙◌, ℕ, List, [], Err, IfSome, inl, inr, length, refl, sym, ap, subst, rules}
+use Rattle.std.proofs.Common.{◌≡◌, ◌<◌, ◌∙◌, Err, IfSome, inl, inr, length, refl, sym, ap, subst, rules}
 use Rattle.std.proofs.lemmas.List.{nil_from_length}
+use Rattle.miette_report.proofs.HighlighterSteps.{led-nowhere, led-on}
 use Rattle.miette_report.proofs.JobHandlerSteps.{stays-itself, stays-on}
 use Rattle.miette_report.specs.declared.fault.Fault.TheVariants.{Read, Refused, Usage, Write}
 use Rattle.miette_report.specs.steps.JobHandler.{IsGiven}
@@ -20,6 +21,7 @@ loop-number-init g c = record {
   faults_sound = c.requires.faults_sound;
   goes = goes_still _ _;
   stays = stays-itself g.H.Highlighter.is_blank _;
+  led = led-nowhere g.H.Highlighter.may_follow _;
   progress = progress.begin _ _ _ _ _ 1 c.none-verdict.result refl c.none-verdict.ensures;
 }
 
@@ -61,14 +63,16 @@ loop-number-preserved g c =
     let l = c.loop-number in
     let first = c.args.files.now in
     let blank = g.H.Highlighter.is_blank in
-    let gives = IsGiven blank c.args.handler.now in
+    let follow = g.H.Highlighter.may_follow in
+    let gives = IsGiven blank follow c.args.handler.now in
     let found = IsFoundBy g.F.Files.found g.F.Loader.knows first in
     let kind = c.in_ok-kind.kind in
     let row = c.next.new.row.items in
     let shown = c.in_ok-kind.ensures.shown in
     let some : 0 < length row = search rules in
-    let is_shown = shown_before blank c.args.handler.now l.handler g.F.Files.found g.F.Loader.knows first l.files
-    c.as_slice.result.now row kind shown.0 l.invariant.stays l.invariant.goes c.as_slice.ensures.value shown.1
+    let is_shown = shown_before blank follow c.args.handler.now l.handler g.F.Files.found g.F.Loader.knows first l.files
+    c.as_slice.result.now row kind shown.0 l.invariant.stays l.invariant.led l.invariant.goes
+    c.as_slice.ensures.value shown.1
     in
     record {
       rows_sound = not_failed _ _ Read c.in_ok-next.ensures.failed;
@@ -79,6 +83,8 @@ loop-number-preserved g c =
           c.show_row.ensures.goes;
       stays = stays-on blank c.args.handler.now l.handler c.show_row.new.handler l.invariant.stays
           c.show_row.ensures.stays;
+      led = led-on follow c.args.handler.now l.handler c.show_row.new.handler l.invariant.led
+          c.in_ok-kind.ensures.led;
       progress = progress.more gives found _ _ _ _ _ _ _ _ _ l.number l.verdict c.with-verdict.result row kind shown.0
           some l.invariant.progress c.in_ok-next.ensures.row is_shown shown.2 c.in_ok-note.ensures.noted
           c.with-verdict.ensures;
@@ -92,7 +98,7 @@ pub returns-in_err-kind-clause-beginning : goal.returns-in_err-kind-clause-begin
 returns-in_err-kind-clause-beginning g c =
     let l = c.loop-number in
     let first = c.args.files.now in
-    let gives = IsGiven g.H.Highlighter.is_blank c.args.handler.now in
+    let gives = IsGiven g.H.Highlighter.is_blank g.H.Highlighter.may_follow c.args.handler.now in
     let found = IsFoundBy g.F.Files.found g.F.Loader.knows first in
     let left = left_of g.R.Read.remaining c.args.streams.now.rows in
     let row = c.next.new.row.items in
@@ -100,9 +106,9 @@ returns-in_err-kind-clause-beginning g c =
     on_err_of _ _ (elim c.in_err-kind.ensures.untouched [
       | inl failed ↦
           (let cut = c.in_err-kind.ensures.beginning failed in
-          let is_shown = shown_before g.H.Highlighter.is_blank c.args.handler.now l.handler g.F.Files.found
-          g.F.Loader.knows first l.files c.as_slice.result.now row cut.0 cut.1 l.invariant.stays l.invariant.goes
-          c.as_slice.ensures.value cut.2
+          let is_shown = shown_before g.H.Highlighter.is_blank g.H.Highlighter.may_follow c.args.handler.now
+          l.handler g.F.Files.found g.F.Loader.knows first l.files c.as_slice.result.now row cut.0 cut.1
+          l.invariant.stays l.invariant.led l.invariant.goes c.as_slice.ensures.value cut.2
           in
           progress.begun_with gives found left _ _ _ _ _ _ _ _ l.number l.verdict row cut.0 cut.1 some
           l.invariant.progress c.in_ok-next.ensures.row is_shown cut.3
@@ -119,16 +125,16 @@ pub returns-in_err-note-clause-beginning : goal.returns-in_err-note-clause-begin
 returns-in_err-note-clause-beginning g c =
     let l = c.loop-number in
     let first = c.args.files.now in
-    let gives = IsGiven g.H.Highlighter.is_blank c.args.handler.now in
+    let gives = IsGiven g.H.Highlighter.is_blank g.H.Highlighter.may_follow c.args.handler.now in
     let found = IsFoundBy g.F.Files.found g.F.Loader.knows first in
     let left = left_of g.R.Read.remaining c.args.streams.now.rows in
     let kind = c.in_ok-kind.kind in
     let row = c.next.new.row.items in
     let shown = c.in_ok-kind.ensures.shown in
     let some : 0 < length row = search rules in
-    let is_shown = shown_before g.H.Highlighter.is_blank c.args.handler.now l.handler g.F.Files.found g.F.Loader.knows
-    first l.files c.as_slice.result.now row kind shown.0 l.invariant.stays l.invariant.goes c.as_slice.ensures.value
-    shown.1
+    let is_shown = shown_before g.H.Highlighter.is_blank g.H.Highlighter.may_follow c.args.handler.now l.handler
+    g.F.Files.found g.F.Loader.knows first l.files c.as_slice.result.now row kind shown.0 l.invariant.stays
+    l.invariant.led l.invariant.goes c.as_slice.ensures.value shown.1
     in
     let before = g.E.Write.contents l.streams.faults.inner in
     let said = note_of l.number (kind_unread kind) in

@@ -1,5 +1,5 @@
 use Rattle.std.proofs.Common.{◌≡◌, false}
-use Rattle.miette_report.specs.steps.JobHandler.{IsGiven, Stays}
+use Rattle.miette_report.specs.steps.JobHandler.{IsGiven, IsLed, Stays}
 use Rattle.miette_show.specs.rules.Looking.{Goes, IsFoundBy}
 use Rattle.miette_show.specs.views.Reading.{left_of}
 use Rattle.miette_show.proofs.Progress.{Progress}
@@ -14,7 +14,8 @@ invariant-loop-number g l = record {
   goes : Goes (g.F.Files.found l.initial.files) (g.F.Loader.knows l.initial.files) (g.F.Files.found l.files)
       (g.F.Loader.knows l.files);
   stays : Stays g.H.Highlighter.is_blank l.initial.handler l.handler;
-  progress : Progress (IsGiven g.H.Highlighter.is_blank l.initial.handler)
+  led : IsLed g.H.Highlighter.may_follow l.initial.handler l.handler;
+  progress : Progress (IsGiven g.H.Highlighter.is_blank g.H.Highlighter.may_follow l.initial.handler)
       (IsFoundBy g.F.Files.found g.F.Loader.knows l.initial.files) (left_of g.R.Read.remaining l.initial.streams.rows)
       (left_of g.R.Read.remaining l.streams.rows) (g.W.Write.contents l.initial.streams.writer.inner)
       (g.W.Write.contents l.streams.writer.inner) (g.E.Write.contents l.initial.streams.faults.inner)

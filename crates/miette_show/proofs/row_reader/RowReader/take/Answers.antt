@@ -1,4 +1,4 @@
-use Rattle.std.proofs.Common.{◌≡◌, ◌+◌, ◌++◌, Some, None, drop, take, sym, ap, subst, ◌∙◌, rules}
+use Rattle.std.proofs.Common.{◌≡◌, ◌++◌, Some, None, drop, take, sym, ap, subst, ◌∙◌, rules}
 use Rattle.std.proofs.lemmas.List.{drop_all, drop-drop}
 use Rattle.miette_show.specs.views.Reading.{IsRowEnd}
 use Rattle.miette_show.proofs.RowEnds.{taken_row}
