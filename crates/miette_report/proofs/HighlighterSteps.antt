@@ -15,7 +15,7 @@ use Rattle.miette_highlight.specs.declared.rule.Rule.{Rule}
 use Rattle.miette_labels.specs.rules.Answers.{Highlight}
 use Rattle.miette_labels.specs.rules.Around.{group_context}
 use Rattle.miette_labels.specs.rules.Groups.{groups_of, in_order, refusal}
-use Rattle.miette_snippet_rules.specs.rules.Highlighting.{AreCallsOn, follows, group_calls, snippet_calls}
+use Rattle.miette_snippet_rules.specs.rules.Highlighting.{follows, group_calls}
 use Rattle.miette_tree.specs.rules.Diagnosis.{Diagnosis}
 use Rattle.miette_tree.specs.rules.Tree.{Tree, tree, Cause, diagnostic, texts, Trees, no_trees, more_trees, effective}
 use Rattle.miette_graphical.specs.rules.Answers.{Answer, Answers, RelatedAnswers, SourceAnswer, SourceAnswers}

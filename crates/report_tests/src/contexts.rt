@@ -6,7 +6,7 @@ use crate::trees::{join_cause, join_chain};
 use callers::load;
 use miette_protocol::diagnostic::MietteDiagnostic;
 use miette_protocol::protocol::{LabeledSpan, Severity};
-use miette_tree::report::{Cause, Context, IntoDiagnostic, Report, ReportKind, Result, WrapErr};
+use miette_tree::report::{Context, Report, ReportKind, Result, WrapErr};
 use miette_tree::{bail, diagnostic, ensure};
 use std::alloc::{AllocError, Global};
 use std::process::Abort;
@@ -26,28 +26,6 @@ fn fails(rt: &impl Abort, given: Result<u32>, message: &str, code: Option<&str>)
         Ok(_) => panic!(rt; "a value was given"),
         Err(report) => same(rt, (report.message(), report.code()), (message, code)),
     }
-}
-
-/// Whether nothing was given, but a report of a message alone.
-fn is_bare(given: Result<u32>) -> bool {
-    match given {
-        Ok(_) => false,
-        Err(report) => {
-            matches!(report.kind(), ReportKind::Message) && matches!(report.cause(), Cause::None)
-        }
-    }
-}
-
-#[test]
-fn a_missing_value_is_told(rt: HostRuntime) {
-    same(&rt, is_bare(None.wrap_err(rt.alloc(), "no")), true);
-}
-
-#[test]
-fn a_value_is_passed_on(rt: HostRuntime) {
-    has_value(&rt, Some(3u32).wrap_err(rt.alloc(), "no"), 3);
-    let fine: Result<u32, u8> = Ok(5);
-    has_value(&rt, fine.into_diagnostic(rt.alloc()), 5);
 }
 
 #[test]
@@ -107,8 +85,13 @@ fn half(alloc: Global, n: u32) -> Result<u32> {
 #[test]
 fn what_is_ensured(rt: HostRuntime) {
     has_value(&rt, half(rt.alloc(), 8), 4);
-    fails(&rt, half(rt.alloc(), 3), "3 is odd", Some("odd::number"));
-    fails(&rt, half(rt.alloc(), 102), "102 is past 100", None);
+    let rows = [
+        (3, "3 is odd", Some("odd::number")),
+        (102, "102 is past 100", None),
+    ];
+    for (number, message, code) in rows {
+        fails(&rt, half(rt.alloc(), number), message, code);
+    }
 }
 
 /// A diagnostic of all parts, by macro.
@@ -119,25 +102,25 @@ fn sum_of(alloc: Global, x: u8, y: u8) -> Result<MietteDiagnostic, AllocError> {
         labels = vec![in alloc; label]?, "{x} + {} = {z}", y, z = sum)
 }
 
+/// The report says this sum, and has all parts.
+fn tells_sum(rt: &impl Abort, it: &Report) -> Result<(), Fail> {
+    let texts = (it.message(), it.code(), it.help(), it.url());
+    same(rt, texts, ("1 + 2 = 3", Some("a::b"), Some("h"), Some("u")));
+    let others = (it.severity(), it.labels().ok_or("labels")?.len());
+    same(rt, others, (Some(Severity::Warning), 1));
+    Ok(())
+}
+
 #[test]
 fn a_diagnostic_by_macro(rt: HostRuntime) -> Result<(), Fail> {
-    let report = Report::new(sum_of(rt.alloc(), 1, 2)?);
-    same(&rt, report.message(), "1 + 2 = 3");
-    same(
-        &rt,
-        (report.code(), report.help(), report.url()),
-        (Some("a::b"), Some("h"), Some("u")),
-    );
-    same(&rt, report.severity(), Some(Severity::Warning));
-    same(&rt, report.labels().ok_or("labels")?.len(), 1);
-    Ok(())
+    tells_sum(&rt, &Report::new(sum_of(rt.alloc(), 1, 2)?))
 }
 
 /// The report of a file that is not there.
 fn is_missing_file(rt: &impl Abort, alloc: Global, report: &Report) {
     let system = "No such file or directory (os error 2)";
-    same(rt, report.message(), "the settings could not be loaded");
-    same(rt, report.root_cause(), system);
+    let ends = (report.message(), report.root_cause());
+    same(rt, ends, ("the settings could not be loaded", system));
     gives(
         rt,
         join_cause(alloc, report.cause()),
@@ -146,8 +129,8 @@ fn is_missing_file(rt: &impl Abort, alloc: Global, report: &Report) {
     same(rt, report.related().len(), 1);
     for hint in report.related() {
         let text = "without no/such/file the default settings hold";
-        same(rt, hint.message(), text);
-        same(rt, hint.severity(), Some(Severity::Advice));
+        let told = (hint.message(), hint.severity());
+        same(rt, told, (text, Some(Severity::Advice)));
     }
 }
 

@@ -41,10 +41,14 @@ fn top(alloc: Global) -> Result<Report, AllocError> {
 #[test]
 fn short_forms(rt: HostRuntime) {
     let alloc = rt.alloc();
-    gives(&rt, display(alloc, true, outer(alloc)), "> outer: inner");
-    gives(&rt, display(alloc, false, outer(alloc)), "> outer");
-    gives(&rt, display(alloc, true, top(alloc)), "> top: outer: inner");
-    gives(&rt, display(alloc, false, top(alloc)), "> top");
+    let rows = [
+        (true, "> outer: inner", "> top: outer: inner"),
+        (false, "> outer", "> top"),
+    ];
+    for (chain, one, two) in rows {
+        gives(&rt, display(alloc, chain, outer(alloc)), one);
+        gives(&rt, display(alloc, chain, top(alloc)), two);
+    }
 }
 
 /// Bytes, of which no more than four are read at once.

@@ -100,28 +100,32 @@ impl Lookup for Names {
     }
 }
 
+/// The text of a variable, by its place among the fields.
+fn nth_text(it: &Variables, place: usize) -> Option<&str> {
+    match place {
+        0 => it.force_color.as_deref(),
+        1 => it.no_color.as_deref(),
+        2 => it.clicolor.as_deref(),
+        3 => it.colorterm.as_deref(),
+        4 => it.term.as_deref(),
+        5 => it.term_program.as_deref(),
+        6 => it.vte_version.as_deref(),
+        7 => it.konsole_version.as_deref(),
+        8 => it.wt_session.as_deref(),
+        9 => it.lc_all.as_deref(),
+        10 => it.lc_ctype.as_deref(),
+        11 => it.lang.as_deref(),
+        12 => it.columns.as_deref(),
+        _ => it.no_graphics.as_deref(),
+    }
+}
+
 /// The texts of all variables, in the order of their fields.
 fn all_names(alloc: Global) -> Result<String, RenderError> {
     let it = Variables::read(&Names { alloc }, true, false)?;
-    let texts = [
-        it.force_color.as_deref(),
-        it.no_color.as_deref(),
-        it.clicolor.as_deref(),
-        it.colorterm.as_deref(),
-        it.term.as_deref(),
-        it.term_program.as_deref(),
-        it.vte_version.as_deref(),
-        it.konsole_version.as_deref(),
-        it.wt_session.as_deref(),
-        it.lc_all.as_deref(),
-        it.lc_ctype.as_deref(),
-        it.lang.as_deref(),
-        it.columns.as_deref(),
-        it.no_graphics.as_deref(),
-    ];
     let mut all = String::new(alloc);
-    for text in texts {
-        all.push_str(text.unwrap_or("-"))?;
+    for place in 0..14 {
+        all.push_str(nth_text(&it, place).unwrap_or("-"))?;
         all.push(' ')?;
     }
     Ok(all)

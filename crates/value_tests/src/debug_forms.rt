@@ -4,38 +4,47 @@ use crate::comparing::gives;
 use miette_protocol::protocol::LabeledSpan;
 use miette_protocol::source::NamedSource;
 use std::alloc::{AllocError, Global};
+use std::fmt::Debug;
 
-fn label_in_a_row(alloc: Global) -> Result<String, AllocError> {
-    let label = LabeledSpan::at(alloc, (9, 4), "é\t\"")?.with_context_lines(2);
-    format!(in alloc; "{label:?}")
+fn label(alloc: Global, text: &str) -> Result<LabeledSpan, AllocError> {
+    LabeledSpan::at(alloc, (9, 4), text)
 }
 
-fn label_in_rows(alloc: Global) -> Result<String, AllocError> {
-    let label = LabeledSpan::at(alloc, (9, 4), "é")?;
-    format!(in alloc; "{label:#?}")
+fn own_label(alloc: Global) -> Result<LabeledSpan, AllocError> {
+    Ok(label(alloc, "é\t\"")?.with_context_lines(2))
 }
 
-fn source_in_a_row(alloc: Global) -> Result<String, AllocError> {
-    let source = NamedSource::new(alloc, "é.rs", "x")?.with_language(alloc, "Rust")?;
-    format!(in alloc; "{source:?}")
+fn source(alloc: Global, name: &str) -> Result<NamedSource<&'static str>, AllocError> {
+    NamedSource::new(alloc, name, "x")
 }
 
-fn source_in_rows(alloc: Global) -> Result<String, AllocError> {
-    let source = NamedSource::new(alloc, "a.rs", "x")?;
-    format!(in alloc; "{source:#?}")
+fn source_in_rust(alloc: Global) -> Result<NamedSource<&'static str>, AllocError> {
+    source(alloc, "é.rs")?.with_language(alloc, "Rust")
+}
+
+/// What `{:?}` prints of a value, where it was made.
+fn row<T: Debug + Drop>(alloc: Global, made: Result<T, AllocError>) -> Result<String, AllocError> {
+    let it = made?;
+    format!(in alloc; "{it:?}")
+}
+
+/// What `{:#?}` prints of it.
+fn rows<T: Debug + Drop>(alloc: Global, made: Result<T, AllocError>) -> Result<String, AllocError> {
+    let it = made?;
+    format!(in alloc; "{it:#?}")
 }
 
 #[test]
 fn debug_forms_in_a_row(rt: HostRuntime) {
     gives(
         &rt,
-        label_in_a_row(rt.alloc()),
+        row(rt.alloc(), own_label(rt.alloc())),
         "LabeledSpan { label: Some(\"é\\t\\\"\"), span: SourceSpan { offset: SourceOffset(9), length: 4 }, \
         primary: false, context_lines: Some(2) }",
     );
     gives(
         &rt,
-        source_in_a_row(rt.alloc()),
+        row(rt.alloc(), source_in_rust(rt.alloc())),
         "NamedSource { name: \"é.rs\", source: \"<redacted>\", language: Some(\"Rust\") }",
     );
 }
@@ -44,14 +53,14 @@ fn debug_forms_in_a_row(rt: HostRuntime) {
 fn debug_forms_in_rows(rt: HostRuntime) {
     gives(
         &rt,
-        label_in_rows(rt.alloc()),
+        rows(rt.alloc(), label(rt.alloc(), "é")),
         "LabeledSpan {\n    label: Some(\n        \"é\",\n    ),\n    span: SourceSpan {\n        \
         offset: SourceOffset(\n            9,\n        ),\n        length: 4,\n    },\n    \
         primary: false,\n    context_lines: None,\n}",
     );
     gives(
         &rt,
-        source_in_rows(rt.alloc()),
+        rows(rt.alloc(), source(rt.alloc(), "a.rs")),
         "NamedSource {\n    name: \"a.rs\",\n    source: \"<redacted>\",\n    language: None,\n}",
     );
 }

@@ -1,7 +1,6 @@
 //! Values as JSON.
 
 use crate::comparing::same;
-use crate::diagnostics::all_but_labels;
 use miette_protocol::diagnostic::MietteDiagnostic;
 use miette_protocol::protocol::{LabeledSpan, Severity, SourceOffset, SourceSpan};
 use serde::{Deserialize, Serialize};
@@ -51,15 +50,12 @@ fn a_label_with_its_own_context(rt: HostRuntime) -> Result<(), serde_json::Error
     Ok(())
 }
 
+/// A label's JSON up to its number of context lines.
+const UP_TO_LINES: &str = r#"{"span":{"offset":1,"length":2},"primary":false,"context_lines":"#;
+
 /// A label's JSON with this number of context lines.
 fn text_with(alloc: Global, lines: &str) -> Result<String, AllocError> {
-    let mut text = String::from_str(
-        alloc,
-        r#"{"span":{"offset":1,"length":2},"primary":false,"context_lines":"#,
-    )?;
-    text.push_str(lines)?;
-    text.push_str("}")?;
-    Ok(text)
+    format!(in alloc; "{}{}{}", UP_TO_LINES, lines, "}")
 }
 
 /// A label that is read with this number of context lines.
@@ -114,6 +110,15 @@ fn a_diagnostic_with_nulls(rt: HostRuntime) -> Result<(), serde_json::Error> {
         r#"{"message":"message","code":null,"severity":null,"help":null,"url":null,"labels":null}"#;
     assert!(rt; serde_json::from_str::<MietteDiagnostic>(rt.alloc(), null)? == made);
     Ok(())
+}
+
+/// All parts but labels.
+fn all_but_labels(alloc: Global, message: &str) -> Result<MietteDiagnostic, AllocError> {
+    MietteDiagnostic::new(alloc, message)?
+        .with_code(alloc, "c")?
+        .with_severity(Severity::Warning)
+        .with_help(alloc, "h")?
+        .with_url(alloc, "u")
 }
 
 /// All parts, with a label.

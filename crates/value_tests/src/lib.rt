@@ -1,4 +1,6 @@
-//! Tests of values: spans, sources and their reads, labels, diagnostics; styles, themes, runs, wrapped texts.
+//! Tests of values: places in texts, sources and their reads, JSON, what is printed; highlighters, runs, wrapped texts.
+//! What a clause says word for word isn't tried again: what spans, labels, diagnostics, errors, styles and themes are
+//! made of, and how they are compared, hashed and cloned (`miette_protocol::protocol::comparison_laws` and the others).
 #![tactic(auto)]
 
 #[cfg(test)]
@@ -8,17 +10,11 @@ mod comparing;
 #[cfg(test)]
 mod debug_forms;
 #[cfg(test)]
-mod diagnostics;
-#[cfg(test)]
 mod errors;
 #[cfg(test)]
 mod highlighters;
 #[cfg(test)]
 mod json;
-#[cfg(test)]
-mod labels;
-#[cfg(test)]
-mod named;
 #[cfg(test)]
 mod patterns;
 #[cfg(test)]
@@ -29,9 +25,5 @@ mod reads;
 mod runs;
 #[cfg(test)]
 mod spans;
-#[cfg(test)]
-mod styles;
-#[cfg(test)]
-mod themes;
 #[cfg(test)]
 mod wrapping;

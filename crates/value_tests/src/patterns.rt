@@ -27,7 +27,7 @@ fn paint(alloc: Global, it: &mut PatternHighlighter, line: &str) -> Result<Strin
         let Some((text, tail)) = rest.split_at_checked(piece.0) else {
             return Err(Fail::from("a piece ends inside a character"));
         };
-        push_piece(&mut out, text, letter(piece.1))?;
+        push_piece(alloc, &mut out, text, letter(piece.1))?;
         rest = tail;
     }
     out.push('|')?;
@@ -36,14 +36,11 @@ fn paint(alloc: Global, it: &mut PatternHighlighter, line: &str) -> Result<Strin
 }
 
 // In brackets where its style has a letter.
-fn push_piece(out: &mut String, text: &str, letter: &str) -> Result<(), AllocError> {
+fn push_piece(alloc: Global, out: &mut String, text: &str, letter: &str) -> Result<(), AllocError> {
     if letter.is_empty() {
         return out.push_str(text);
     }
-    out.push('[')?;
-    out.push_str(text)?;
-    out.push(']')?;
-    out.push_str(letter)
+    out.push_str(format!(in alloc; "[{text}]{letter}")?.as_str())
 }
 
 // Each line as it is wanted, from the start of a snippet on.
@@ -60,24 +57,32 @@ fn paints(
     Ok(())
 }
 
+/// Appends a rule, where its pattern was made.
+fn push_rule(
+    rules: &mut Vec<Rule>,
+    pattern: Result<Pattern, AllocError>,
+    color: Color,
+) -> Result<(), AllocError> {
+    let style = Style::new().color(color);
+    rules.push(Rule {
+        pattern: pattern?,
+        style,
+    })?;
+    Ok(())
+}
+
+/// What stands between two delimiters.
+fn between(alloc: Global) -> Result<Pattern, AllocError> {
+    Ok(Pattern::Between(Delimiters::new(alloc, "<é", "é>")?))
+}
+
 /// Two words, bytes and delimiters, one rule over another.
 fn three_rules(alloc: Global) -> Result<PatternHighlighter, AllocError> {
-    let green = Style::new().color(Color::Green);
-    let cyan = Style::new().color(Color::Cyan);
-    let rules = vec![in alloc;
-        Rule {
-            pattern: Pattern::words(alloc, &["if", "é"])?,
-            style: green,
-        },
-        Rule {
-            pattern: Pattern::From(b'a', b'i'),
-            style: cyan,
-        },
-        Rule {
-            pattern: Pattern::Between(Delimiters::new(alloc, "<é", "é>")?),
-            style: green,
-        },
-    ]?;
+    let mut rules = Vec::new(alloc);
+    let words = Pattern::words(alloc, &["if", "é"]);
+    push_rule(&mut rules, words, Color::Green)?;
+    push_rule(&mut rules, Ok(Pattern::From(b'a', b'i')), Color::Cyan)?;
+    push_rule(&mut rules, between(alloc), Color::Green)?;
     Ok(PatternHighlighter::new(rules))
 }
 

@@ -1,8 +1,9 @@
-//! Reads of sources, as values, and each call of the module `source` once.
+//! Reads of sources, as values, through each type that is a source. What values of the module `source` are made of and
+//! say is what their clauses say.
 
 use crate::comparing::same;
 use miette_protocol::diagnostic::diagnostic_equality_law;
-use miette_protocol::error::{MietteError, RenderError, render_error_law};
+use miette_protocol::error::{MietteError, render_error_law};
 use miette_protocol::laws;
 use miette_protocol::protocol::{SourceOffset, SourceSpan, comparison_laws, location_law};
 use miette_protocol::source::{
@@ -14,7 +15,7 @@ use std::io;
 use std::process::Abort;
 use std::test::Fail;
 
-const README: &str = "source\n  text\n    here";
+const README: &[u8] = b"source\n  text\n    here";
 
 /// What a read gives: the data, its offset and length, line, column and count of lines.
 type ReadParts<'a> = (&'a [u8], (usize, usize), usize, usize, usize);
@@ -48,72 +49,79 @@ fn read<S: SourceCode>(
     }
 }
 
-#[test]
-fn reads_a_text(rt: HostRuntime) {
-    let all = README.as_bytes();
-    let found = read(&README, 9, 4, 0, 0);
-    same(&rt, found, Some((&all[9..13], (9, 4), 1, 2, 0)));
-    let found = read(&README, 9, 4, 1, 1);
-    same(&rt, found, Some((all, (0, 22), 0, 0, 2)));
-    let found = read(&README, 22, 1, 0, 0);
-    same(&rt, found, Some((&all[22..], (22, 0), 2, 8, 0)));
+/// A source, the offset and the length that are asked for, the lines of context before and behind, and what is read: its
+/// offset and length, line, column and count of lines; nothing where it lies outside.
+type Row<'a> = (
+    &'a [u8],
+    (usize, usize),
+    usize,
+    Option<((usize, usize), usize, usize, usize)>,
+);
+
+const MOST: usize = usize::MAX;
+
+static ROWS: [Row<'static>; 13] = [
+    (README, (9, 4), 0, Some(((9, 4), 1, 2, 0))),
+    (README, (9, 4), 1, Some(((0, 22), 0, 0, 2))),
+    (README, (22, 1), 0, Some(((22, 0), 2, 8, 0))),
+    (README, (22, 2), 0, None),
+    (README, (23, 0), 0, None),
+    // an empty source accepts one byte
+    (b"", (0, 1), 1, Some(((0, 0), 0, 0, 0))),
+    (b"", (1, 1), 1, None),
+    // context is whole lines, and terminators are read whole
+    (b"a\nb\nc\nd", (0, 2), 1, Some(((0, 6), 0, 0, 3))),
+    (b"foo\r\nbar", (0, 4), 0, Some(((0, 5), 0, 0, 1))),
+    (b"\nx", (0, 0), 0, Some(((0, 1), 0, 0, 1))),
+    // sums past the largest number are refused or cut, and nothing wraps
+    (README, (MOST, MOST), 0, None),
+    (README, (1, MOST), 0, None),
+    (README, (9, 4), MOST, Some(((0, 22), 0, 0, 2))),
+];
+
+/// What a row's read gives.
+fn wanted<'a>(row: &Row<'a>) -> Option<ReadParts<'a>> {
+    let (place, line, column, count) = row.3?;
+    let data = row.0.get(place.0..place.0.saturating_add(place.1))?;
+    Some((data, place, line, column, count))
 }
 
-#[test]
-fn refuses_what_lies_outside(rt: HostRuntime) {
-    same(&rt, read(&README, 22, 2, 0, 0), None);
-    same(&rt, read(&README, 23, 0, 0, 0), None);
-    let outside = README.read_span(&span(23, 0), 0, 0);
-    assert!(rt; matches!(outside, Err(MietteError::OutOfBounds)));
-}
-
-#[test]
-fn an_empty_source_accepts_one_byte(rt: HostRuntime) {
-    let empty = b"".as_slice();
-    let found = read(&empty, 0, 1, 1, 1);
-    same(&rt, found, Some((empty, (0, 0), 0, 0, 0)));
-    same(&rt, read(&empty, 1, 1, 1, 1), None);
-}
-
-#[test]
-fn context_is_whole_lines(rt: HostRuntime) -> Result<(), AllocError> {
-    let bytes = b"a\nb\nc\nd";
-    let owned = bytes.to_vec(rt.alloc())?;
-    let found = read(&owned, 0, 2, 1, 1);
-    same(&rt, found, Some((&bytes[..6], (0, 6), 0, 0, 3)));
-    Ok(())
-}
-
-#[test]
-fn terminators_are_read_whole(rt: HostRuntime) -> Result<(), AllocError> {
-    let text = String::from_str(rt.alloc(), "foo\r\nbar")?;
-    let foo = b"foo\r\n".as_slice();
-    let found = read(&text, 0, 4, 0, 0);
-    same(&rt, found, Some((foo, (0, 5), 0, 0, 1)));
-    let bytes = b"\nx".as_slice();
-    let found = read(&bytes, 0, 0, 0, 0);
-    same(&rt, found, Some((b"\n".as_slice(), (0, 1), 0, 0, 1)));
-    Ok(())
+/// The source gives what the row says.
+fn reads<S: SourceCode>(rt: &impl Abort, code: &S, row: &Row<'_>) {
+    let (offset, len) = row.1;
+    same(rt, read(code, offset, len, row.2, row.2), wanted(row));
 }
 
 fn indexed_source(alloc: Global, bytes: &[u8]) -> Result<IndexedSource, AllocError> {
     IndexedSource::new(alloc, bytes.to_vec(alloc)?)
 }
 
-/// Sums past the largest number are refused or cut, and nothing wraps.
-fn stops_at_its_end<S: SourceCode>(rt: &impl Abort, code: &S) {
-    let most = usize::MAX;
-    same(rt, read(code, most, most, 0, 0), None);
-    same(rt, read(code, 1, most, 0, 0), None);
-    let found = read(code, 9, 4, most, most);
-    same(rt, found, Some((README.as_bytes(), (0, 22), 0, 0, 2)));
+#[test]
+fn bytes_are_read(rt: HostRuntime) -> Result<(), AllocError> {
+    for row in &ROWS {
+        reads(&rt, &row.0, row);
+        reads(&rt, &row.0.to_vec(rt.alloc())?, row);
+        reads(&rt, &indexed_source(rt.alloc(), row.0)?, row);
+    }
+    Ok(())
 }
 
 #[test]
-fn the_largest_numbers(rt: HostRuntime) -> Result<(), AllocError> {
-    stops_at_its_end(&rt, &README);
-    stops_at_its_end(&rt, &indexed_source(rt.alloc(), README.as_bytes())?);
+fn texts_are_read(rt: HostRuntime) -> Result<(), Fail> {
+    for row in &ROWS {
+        let Ok(text) = str::from_utf8(row.0) else {
+            return Err(Fail::from("no text"));
+        };
+        reads(&rt, &text, row);
+        reads(&rt, &String::from_str(rt.alloc(), text)?, row);
+    }
     Ok(())
+}
+
+#[test]
+fn a_refusal_says_that_it_lies_outside(rt: HostRuntime) {
+    let outside = README.read_span(&span(23, 0), 0, 0);
+    assert!(rt; matches!(outside, Err(MietteError::OutOfBounds)));
 }
 
 /// A thousand bytes: a CRLF that stands between two blocks of 224, a lone CR and an LF.
@@ -135,14 +143,13 @@ fn long_sources(rt: HostRuntime) -> Result<(), AllocError> {
     let bytes = long_source(rt.alloc())?;
     let all = bytes.as_slice();
     let rows = [
-        ((999, 1, 0), ((999, 1), 3, 298, 0)),
-        ((224, 0, 0), ((224, 1), 0, 223, 1)),
-        ((220, 4, 0), ((220, 5), 0, 220, 1)),
-        ((600, 1, 1), ((225, 775), 1, 0, 2)),
+        (all, (999, 1), 0, Some(((999, 1), 3, 298, 0))),
+        (all, (224, 0), 0, Some(((224, 1), 0, 223, 1))),
+        (all, (220, 4), 0, Some(((220, 5), 0, 220, 1))),
+        (all, (600, 1), 1, Some(((225, 775), 1, 0, 2))),
     ];
-    for ((offset, len, context), numbers) in rows {
-        let found = read(&all, offset, len, context, context);
-        same(&rt, found.map(|it| (it.1, it.2, it.3, it.4)), Some(numbers));
+    for row in &rows {
+        reads(&rt, &all, row);
     }
     Ok(())
 }
@@ -167,7 +174,7 @@ impl SourceCode for Broken {
 }
 
 fn named_readme(alloc: Global) -> Result<NamedSource<Vec<u8>>, AllocError> {
-    let bytes = README.as_bytes().to_vec(alloc)?;
+    let bytes = README.to_vec(alloc)?;
     NamedSource::new(alloc, "bad_file.rs", bytes)?.with_language(alloc, "Rust")
 }
 
@@ -180,7 +187,9 @@ fn reads_the_word<S: SourceCode>(
     name: &str,
 ) -> Result<(), MietteError> {
     let contents = code.read_span(&span(9, 4), lines, lines)?;
-    says(rt, &contents, wanted, (Some(name), Some("Rust")));
+    same(rt, parts_of(&contents), wanted);
+    let names = (contents.name(), contents.language());
+    same(rt, names, (Some(name), Some("Rust")));
     Ok(())
 }
 
@@ -221,51 +230,9 @@ fn twice_named_source(alloc: Global) -> Result<NamedSource<NamedSource<Vec<u8>>>
 
 #[test]
 fn names_pass_the_rest_on(rt: HostRuntime) -> Result<(), Fail> {
+    let wanted = (README, (0, 22), 0, 0, 2);
     let outer = twice_named_source(rt.alloc())?;
-    same(&rt, outer.name(), "other.rs");
-    same(&rt, outer.inner().name(), "bad_file.rs");
-    same(&rt, outer.inner().inner().as_slice(), README.as_bytes());
-    let wanted = (README.as_bytes(), (0, 22), 0, 0, 2);
     reads_the_word(&rt, &outer, 1, wanted, "other.rs")?;
-    Ok(())
-}
-
-/// The contents are these, with this name and language.
-fn says(
-    rt: &impl Abort,
-    contents: &MietteSpanContents<'_>,
-    wanted: ReadParts<'_>,
-    names: (Option<&str>, Option<&str>),
-) {
-    same(rt, parts_of(contents), wanted);
-    same(rt, (contents.name(), contents.language()), names);
-}
-
-#[test]
-fn contents_by_hand(rt: HostRuntime) {
-    let plain = MietteSpanContents::new(b"ab".as_slice(), span(3, 2), 4, 5, 6);
-    let wanted = (b"ab".as_slice(), (3, 2), 4, 5, 6);
-    says(&rt, &plain, wanted, (None, None));
-    let named = MietteSpanContents::new_named("f", b"ab".as_slice(), span(3, 2), 4, 5, 6);
-    let named = named.with_language("Rust");
-    says(&rt, &named, wanted, (Some("f"), Some("Rust")));
-}
-
-#[test]
-fn few_looks_at_the_index(rt: HostRuntime) -> Result<(), AllocError> {
-    let bytes = b"a\r\nb\rc\n".as_slice();
-    let source = indexed_source(rt.alloc(), bytes)?;
-    same(&rt, source.bytes(), bytes);
-    for (offset, line) in [(0, 0), (2, 0), (3, 1), (5, 2), (7, 3), (9, 3)] {
-        let (found, looks) = source.line_of(offset);
-        same(&rt, (found, looks <= 2), (line, true));
-    }
-    Ok(())
-}
-
-#[test]
-fn no_look_at_an_index_without_ends(rt: HostRuntime) -> Result<(), AllocError> {
-    same(&rt, indexed_source(rt.alloc(), b"abc")?.line_of(2), (0, 0));
     Ok(())
 }
 
@@ -344,14 +311,4 @@ fn laws_do_nothing(_rt: HostRuntime) {
     comparison_laws();
     location_law();
     diagnostic_equality_law();
-}
-
-#[test]
-fn contents_are_cloned(rt: HostRuntime) -> Result<(), Fail> {
-    let bytes = b"abc".as_slice();
-    let contents = bytes.read_span(&span(1, 1), 0, 0)?;
-    let again = contents.clone()?;
-    same(&rt, parts_of(&again), (b"b".as_slice(), (1, 1), 0, 1, 0));
-    same(&rt, RenderError::from(AllocError), RenderError::Memory);
-    Ok(())
 }

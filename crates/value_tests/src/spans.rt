@@ -1,7 +1,7 @@
-//! Places in texts, and what a span is made from.
+//! Places in texts.
 
-use crate::comparing::{gives, same, text_of};
-use miette_protocol::protocol::{LabeledSpan, LengthOverflow, SourceOffset, SourceSpan};
+use crate::comparing::same;
+use miette_protocol::protocol::{LabeledSpan, SourceOffset, SourceSpan};
 use std::alloc::{AllocError, Global};
 
 fn locate(text: &str, line: usize, column: usize) -> usize {
@@ -82,53 +82,4 @@ fn a_label_where_json_ends(rt: HostRuntime) {
 
 fn parts(span: SourceSpan) -> (usize, usize) {
     (span.offset(), span.len())
-}
-
-#[test]
-fn conversions(rt: HostRuntime) {
-    let rows = [
-        (SourceSpan::new(SourceOffset::from(3), 4), (3, 4)),
-        (SourceSpan::from((3, 4)), (3, 4)),
-        (SourceSpan::from((SourceOffset::from(3), 4)), (3, 4)),
-        (SourceSpan::from(2..5), (2, 3)),
-        (SourceSpan::from(5..3), (5, 0)),
-        (SourceSpan::from(SourceOffset::from(7)), (7, 0)),
-        (SourceSpan::from(7), (7, 0)),
-    ];
-    for (span, wanted) in rows {
-        same(&rt, parts(span), wanted);
-    }
-    assert!(rt; SourceSpan::from(7).is_empty());
-}
-
-#[test]
-fn inclusive_ranges(rt: HostRuntime) {
-    same(
-        &rt,
-        SourceSpan::try_from(2..=5),
-        Ok(SourceSpan::from((2, 4))),
-    );
-    same(
-        &rt,
-        SourceSpan::try_from(5..=3),
-        Ok(SourceSpan::from((5, 0))),
-    );
-    same(
-        &rt,
-        SourceSpan::try_from(0..=usize::MAX),
-        Err(LengthOverflow),
-    );
-}
-
-#[test]
-fn a_length_that_is_too_great_prints(rt: HostRuntime) {
-    let wanted = "the length of the range is greater than a usize can say";
-    gives(&rt, text_of(rt.alloc(), &LengthOverflow), wanted);
-}
-
-#[test]
-fn order(rt: HostRuntime) {
-    assert!(rt; SourceSpan::from((1, 9)) < SourceSpan::from((2, 0)));
-    assert!(rt; SourceSpan::from((1, 1)) < SourceSpan::from((1, 2)));
-    assert!(rt; SourceOffset::from(1) < SourceOffset::from(2));
 }

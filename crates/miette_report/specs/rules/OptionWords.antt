@@ -11,6 +11,7 @@ use Rattle.miette_text.specs.declared.wrap.WordSeparator.TheVariants.{AsciiSpace
 use Rattle.miette_text.specs.declared.wrap.WordSplitter.{WordSplitter}
 use Rattle.miette_text.specs.declared.wrap.WordSplitter.TheVariants.{HyphenSplitter, NoHyphenation}
 use Rattle.miette.specs.rules.Options.{Options, no_options}
+use Rattle.miette_brief.specs.declared.form.Form.TheVariants.{Gcc, Github}
 use Rattle.miette.specs.declared.options.builder.RgbColors.{RgbColors}
 use Rattle.miette.specs.declared.options.builder.RgbColors.TheVariants.{Always, Preferred, Never}
 use Rattle.miette_report.specs.declared.language.Language.{Language}
@@ -98,13 +99,15 @@ report_named word =
     if bytes_eq word (codes "--json") then Some report.Json
     else (if bytes_eq word (codes "--debug") then Some report.Debug
     else (if bytes_eq word (codes "--brief") then Some report.Brief
+    else (if bytes_eq word (codes "--github") then Some report.Github
     else (if bytes_eq word (codes "--narrated") then Some report.Narrated
-    else (if bytes_eq word (codes "--graphical") then Some report.Graphical else None))))
+    else (if bytes_eq word (codes "--graphical") then Some report.Graphical else None)))))
 
 abbrev pub with_report : ReportAsked → JobRequest → JobRequest
 with_report report.Json r = record r { choice = Json }
 with_report report.Debug r = record r { choice = Debug }
-with_report report.Brief r = record r { options = record r.options { brief = true } }
+with_report report.Brief r = record r { options = record r.options { brief = true; brief_form = Gcc } }
+with_report report.Github r = record r { options = record r.options { brief = true; brief_form = Github } }
 with_report report.Narrated r = record r { options = record r.options { narrated = Some true } }
 with_report report.Graphical r = record r { options = record r.options { graphical = Some true } }
 
