@@ -31,7 +31,7 @@ Reads s = s.always_reads ≡ true
 abbrev pub FilesRead : (List ℕ → Option Source) → Type 0
 FilesRead files = (name : List ℕ) → IfSome (files name) Reads
 
-either : {A : Type 0} (P : A → Type 0) (b : Bool) (x y : A) → P x → P y → P (if b then x else y)
+pub either : {A : Type 0} (P : A → Type 0) (b : Bool) (x y : A) → P x → P y → P (if b then x else y)
 either P true x y p q = p
 either P false x y p q = q
 
@@ -50,7 +50,7 @@ place_reads files h p = within_reads (files p.name) p.stretch (h p.name)
 
 -- ---- the files of lists
 
-abbrev EachReads : List Source → Type 0
+abbrev pub EachReads : List Source → Type 0
 EachReads [] = ⊤
 EachReads (s ∷ ss) = Reads s × EachReads ss
 
@@ -58,7 +58,7 @@ each_more : (ss : List Source) (s : Source) → EachReads ss → Reads s → Eac
 each_more [] s h r = (r, tt)
 each_more (x ∷ xs) s h r = (h.0, each_more xs s h.1 r)
 
-abbrev SettledReads : Settled → Type 0
+abbrev pub SettledReads : Settled → Type 0
 SettledReads done = EachReads done.files
 
 newly_reads : (done : Settled) (name : List ℕ) (source : Source) (s : Stretch) (t : Told) → SettledReads done
@@ -86,7 +86,7 @@ with_reads : (files : List ℕ → Option Source) → FilesRead files → (done 
 with_reads files h done t None d = text_reads done (joined t.rows) d
 with_reads files h done t (Some p) d = at_reads done t p (found_place files p) d (place_reads files h p)
 
-settled_reads : (files : List ℕ → Option Source) → FilesRead files → (ts : List Told) (done : Settled)
+pub settled_reads : (files : List ℕ → Option Source) → FilesRead files → (ts : List Told) (done : Settled)
     → SettledReads done → SettledReads (fold (settled_one files) done ts)
 settled_reads files h [] done d = d
 settled_reads files h (t ∷ ts) done d =

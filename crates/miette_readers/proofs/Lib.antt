@@ -1,3 +1,4 @@
+pub mod Accepted
 pub mod AlwaysRead
 pub mod NameSteps
 pub mod Sections

@@ -4,7 +4,7 @@
 ghost use Rattle.std.specs.Prelude.{◌≡◌, ℕ, List, Option, IfSome, true};
 ghost use Rattle.serde_json.specs.Data.{Data};
 ghost use Rattle.miette_protocol.specs.rules.Reading.{Source};
-ghost use Rattle.miette_tree.specs.rules.Reads.{AlwaysReads};
+ghost use Rattle.miette_tree.specs.rules.Reads.{AlwaysReads, report_accepted};
 ghost use Rattle.miette_readers.specs.rules.RustcReport.{rustc_tree};
 
 /// The sources of a message's report always read, where the files that are found do.
@@ -12,4 +12,12 @@ pub fn messages_always_read()
     ensures { (files : List ℕ → Option Source) (d : Data)
         → ((name : List ℕ) → IfSome (files name) (λ s. s.always_reads ≡ true))
         → IfSome (rustc_tree files d) (λ row. IfSome row AlwaysReads) }
+{}
+
+/// The labels of a message's report are accepted by their sources, where the files that are found always read: so
+/// narrated and brief reports are never refused.
+pub fn labels_are_accepted()
+    ensures { (files : List ℕ → Option Source) (d : Data)
+        → ((name : List ℕ) → IfSome (files name) (λ s. s.always_reads ≡ true))
+        → IfSome (rustc_tree files d) (λ row. IfSome row (λ tree. report_accepted tree ≡ true)) }
 {}

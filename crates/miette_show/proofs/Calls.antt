@@ -6,7 +6,6 @@ use Rattle.miette_protocol.specs.rules.Reading.{Source}
 use Rattle.miette_style.specs.declared.theme.Terminal.{Terminal}
 use Rattle.miette_report.proofs.JobHandlerSteps.{asked-refusal, asked-text}
 use Rattle.miette_report.specs.rules.Job.{IsJobText}
-use Rattle.miette_report.specs.rules.JobCalls.{CallTells}
 use Rattle.miette_report.specs.rules.OptionWords.{AreWanted}
 use Rattle.miette_report.specs.rules.LanguageRules.{TokensFollow}
 use Rattle.miette_report.specs.steps.JobHandler.{IsAsked, IsGiven}
@@ -16,7 +15,6 @@ use Rattle.miette_report.specs.declared.option_words.Choice.{Choice}
 use Rattle.miette_show.specs.rules.ShowCalls.{CallShows, CallShowsFirst}
 use Rattle.miette_show.specs.rules.Shown.{Shows, ShowsFirst}
 use Rattle.miette_show.specs.rules.Statuses.{status_of}
-use Rattle.miette_show.specs.views.Texts.{IsRefusing}
 use Rattle.miette_show.specs.declared.verdict.Verdict.{Verdict}
 use Rattle.miette_show.proofs.Going.{first_by, shows_by}
 
@@ -52,10 +50,6 @@ module _ (is_blank : LanguageHighlighter → Bool) (words : List (List ℕ)) (c 
         first_by (IsGiven is_blank TokensFollow h) (IsJobText is_blank c o l) found bytes holds
             (λ t x. asked-text is_blank c o l h t x asked) shows,
       )
-
-pub call_tells : (words : List (List ℕ)) (c : Choice) (o : Options LanguageHighlighter) (l : Terminal)
-    (h : JobHandler LanguageHighlighter) → AreWanted words c o l → IsAsked c o l h → IsRefusing h → CallTells words
-call_tells words c o l h are asked refusing = (c, o, l, are, (asked-refusal c o l h refusing.0 asked refusing.1).0)
 
 any_holds : (is_blank : LanguageHighlighter → Bool) (words : List (List ℕ))
     (found : (List ℕ → Option Source) → List (List ℕ) → Type 0) (bytes : List ℕ) (holds : List ℕ → List ℕ → Type 0)

@@ -1,11 +1,18 @@
 -- Texts of rows, as they are made.
 use Rattle.std.proofs.Common.{◌≡◌, ℕ, List, Option, Some, None, true, false, refl, sym, ap, subst, ◌∙◌}
-use Rattle.std.proofs.Common.{IfOk, Ok, Err, Result, String, string_bytes}
+use Rattle.std.proofs.Common.{◌⊎◌, IfOk, OnErr, Ok, Err, Result, String, inl, inr, string_bytes}
 use Rattle.std.specs.Prelude.{IsUtf8, option_and_then}
 use Rattle.serde_json.specs.Data.{Data}
 use Rattle.serde_json.specs.Read.{read}
 use Rattle.miette_protocol.specs.rules.Reading.{Source}
+use Rattle.miette_tree.specs.rules.Reads.{report_accepted}
 use Rattle.miette_tree.specs.rules.Tree.{Tree}
+use Rattle.miette.specs.declared.options.handler.MietteHandler.TheVariants as handler
+use Rattle.miette_report.specs.declared.fault.Fault.{Fault}
+use Rattle.miette_report.specs.declared.fault.Fault.TheVariants.{Memory, Refused}
+use Rattle.miette_report.specs.declared.job_handler.JobHandler.{JobHandler}
+use Rattle.miette_report.specs.declared.job_handler.JobHandler.TheVariants as chosen
+use Rattle.miette_report.specs.steps.JobHandler.{MayRefuse}
 use Rattle.miette_readers.specs.rules.Names.{names_of}
 use Rattle.miette_readers.specs.rules.RustcReport.{rustc_tree}
 use Rattle.miette_show.specs.rules.Rows.{begins_object}
@@ -74,3 +81,18 @@ pub told_ok : {E Z : Type 0} (gives : Given) (found : Finding) (files : List ℕ
 told_ok gives found files row d (Err e) begins utf8 is known said = tt
 told_ok gives found files row d (Ok it) begins utf8 is known said =
     told gives found files row d it.0 (string_bytes it.1) begins utf8 is known said
+
+-- ---- reports that aren't refused
+
+no_refusal : {H : Type 0} (h : JobHandler H) (t : Tree) → report_accepted t ≡ true → MayRefuse h t → ⊥
+no_refusal chosen.Json t accepted refused = refused
+no_refusal chosen.Debug t accepted refused = refused
+no_refusal (chosen.Built (handler.Graphical it)) t accepted refused = refused
+no_refusal (chosen.Built (handler.Narrated it)) t accepted refused = let e = sym accepted ∙ refused in cc
+no_refusal (chosen.Built (handler.Brief it)) t accepted refused = let e = sym accepted ∙ refused in cc
+
+pub only_memory : {A H : Type 0} (h : JobHandler H) (t : Tree) (r : Result A Fault) → report_accepted t ≡ true
+    → (r ≡ Err Refused → MayRefuse h t) → OnErr r ((r ≡ Err Refused) ⊎ (r ≡ Err Memory)) → OnErr r (r ≡ Err Memory)
+only_memory h t (Ok x) accepted refused others = tt
+only_memory h t (Err e) accepted refused (inl is) = absurd (no_refusal h t accepted (refused is))
+only_memory h t (Err e) accepted refused (inr is) = is

@@ -96,9 +96,9 @@ impl<'r, H: rt::Files + AllocGlobal> Loader for Folder<'r, H> {
         if self.files.get(name).is_some() {
             return Ok(());
         }
+        let key = String::from_str(alloc, name)?;
         let file = self.read(alloc, name)?;
-        let name = String::from_str(alloc, name)?;
-        self.files.insert(name, file)?;
+        self.files.insert(key, file)?;
         Ok(())
     }
 }

@@ -1,22 +1,25 @@
 //! What is shown of a row.
 
-ghost use Rattle.std.specs.Prelude.{◌≡◌, ◌⊎◌, IfOk, IfSome, IsUtf8, None, OnErr, OnOk, Some, string_bytes};
+ghost use Rattle.std.specs.Prelude.{◌≡◌, IfOk, IfSome, IsUtf8, None, OnErr, OnOk, Some, string_bytes, true};
 ghost use Rattle.serde_json.specs.Read.{read};
 ghost use Rattle.serde_json.specs.View.{view};
+ghost use Rattle.miette_tree.specs.rules.Reads.{AlwaysReads, report_accepted};
+ghost use Rattle.miette_tree.specs.views.Report.{tree_of};
 ghost use Rattle.miette_readers.specs.rules.RustcReport.{rustc_tree};
 ghost use Rattle.miette_report.specs.steps.JobHandler.{IsGiven, IsLed, Stays};
 ghost use Rattle.miette_show.specs.rules.Looking.{Goes, IsFoundBy};
 ghost use Rattle.miette_show.specs.rules.Rows.{begins_object};
 ghost use Rattle.miette_show.specs.rules.Shown.{IsShown, is_grave};
-ghost use Rattle.miette_show.specs.views.Texts.{IsRefusing, IsValueText, shown_text};
+ghost use Rattle.miette_show.specs.views.Texts.{IsValueText, shown_text};
 
 use crate::loader::{Loader, load_all};
 use crate::verdict::RowKind;
 use miette_highlight::highlight::Highlighter;
 use miette_protocol::diagnostic::MietteDiagnostic;
-use miette_protocol::protocol::Severity;
+use miette_protocol::protocol::{Diagnostic, Severity};
+use miette_protocol::source::SourceCode;
 use miette_readers::files::{Files, LentFile};
-use miette_readers::laws::messages_always_read;
+use miette_readers::laws::{labels_are_accepted, messages_always_read};
 use miette_readers::rustc::{ReadError, rustc_report};
 use miette_report::fault::Fault;
 use miette_report::job_handler::JobHandler;
@@ -47,6 +50,23 @@ fn value_in(alloc: Global, row: &[u8]) -> Result<Option<Value>, Fault>
     }
 }
 
+/// The text of a report whose labels are accepted: it isn't refused.
+fn accepted_text<H: Highlighter, D: Diagnostic, S: SourceCode>(
+    alloc: Global,
+    handler: &mut JobHandler<H>,
+    report: &Report<D, S>,
+) -> Result<String, Fault>
+    requires reads { AlwaysReads (tree_of D.meaning S.source report.now) }
+    requires accepted { report_accepted (tree_of D.meaning S.source report.now) ≡ true }
+    ensures ok { IfOk result (λ text. IsGiven H.is_blank H.may_follow handler.old
+        (tree_of D.meaning S.source report.now) (string_bytes text)) }
+    ensures others { OnErr result (result ≡ Err Fault.Memory) }
+    ensures stays { Stays H.is_blank handler.old handler.new }
+    ensures led { OnOk result (IsLed H.may_follow handler.old handler.new) }
+{
+    handler.render(alloc, report)
+}
+
 /// What a value says over files that were looked for, and the text that is shown of it.
 #[tactic(auto, using(crate::proofs::Going::led_still))]
 fn value_text<H: Highlighter, F: Files>(
@@ -57,12 +77,12 @@ fn value_text<H: Highlighter, F: Files>(
 ) -> Result<(RowKind, String), Fault>
     ensures text { IfOk result (λ it. IsValueText (IsGiven H.is_blank H.may_follow handler.old)
         (rustc_tree (F.found files.now) (view value.now)) it.0 (string_bytes it.1)) }
-    ensures refused { (result ≡ Err Fault.Refused) → IsRefusing handler.old }
-    ensures others { OnErr result ((result ≡ Err Fault.Refused) ⊎ (result ≡ Err Fault.Memory)) }
+    ensures others { OnErr result (result ≡ Err Fault.Memory) }
     ensures stays { Stays H.is_blank handler.old handler.new }
     ensures led { OnOk result (IsLed H.may_follow handler.old handler.new) }
 {
     messages_always_read();
+    labels_are_accepted();
     let report: Report<MietteDiagnostic, LentFile<'_>> = match rustc_report(alloc, files, value) {
         Ok(Some(report)) => report,
         Ok(None) => return Ok((RowKind::Other, String::new(alloc))),
@@ -70,7 +90,7 @@ fn value_text<H: Highlighter, F: Files>(
         Err(ReadError::Memory) => return Err(Fault::Memory),
     };
     let error = is_error(report.severity());
-    let mut text = handler.render(alloc, &report)?;
+    let mut text = accepted_text(alloc, handler, &report)?;
     text.push('\n')?;
     Ok((RowKind::Message(error), text))
 }
@@ -96,8 +116,7 @@ pub(crate) fn row_text<H: Highlighter, F: Loader>(
     ensures shown { IfOk result (λ it. IsShown (IsGiven H.is_blank H.may_follow handler.old)
         (IsFoundBy F.found F.knows files.old)
         (record { row = row.now; kind = it.0; text = shown_text it.0 row.now (string_bytes it.1) })) }
-    ensures refused { (result ≡ Err Fault.Refused) → IsRefusing handler.old }
-    ensures others { OnErr result ((result ≡ Err Fault.Refused) ⊎ (result ≡ Err Fault.Memory)) }
+    ensures others { OnErr result (result ≡ Err Fault.Memory) }
     ensures stays { Stays H.is_blank handler.old handler.new }
     ensures led { OnOk result (IsLed H.may_follow handler.old handler.new) }
     ensures goes { Goes (F.found files.old) (F.knows files.old) (F.found files.new) (F.knows files.new) }

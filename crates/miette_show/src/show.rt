@@ -3,7 +3,6 @@
 ghost use Rattle.std.specs.Prelude.{◌≡◌, ◌↔◌, ◌⊎◌, ◌<◌, ℕ, List, IfOk, IfSome, IsTrue, None, OnErr, OnOk};
 ghost use Rattle.std.specs.Prelude.{[], false, map, string_bytes, ⊤};
 ghost use Rattle.std.specs.Io.KnownBytes.{Appends};
-ghost use Rattle.miette_report.specs.rules.JobCalls.{CallTells};
 ghost use Rattle.miette_report.specs.rules.OptionWords.{asked_by};
 ghost use Rattle.miette_report.specs.steps.JobHandler.{IsGiven, IsLed, Stays};
 ghost use Rattle.miette_report.specs.views.Device.{TakesBeginning};
@@ -13,7 +12,7 @@ ghost use Rattle.miette_show.specs.rules.Shown.{IsShown, Shows, ShowsFirst, kind
 ghost use Rattle.miette_show.specs.rules.Statuses.{status_of};
 ghost use Rattle.miette_show.specs.declared.verdict.Verdict.{Verdict};
 ghost use Rattle.miette_show.specs.views.Reading.{left_of};
-ghost use Rattle.miette_show.specs.views.Texts.{IsRefusing, shown_text};
+ghost use Rattle.miette_show.specs.views.Texts.{shown_text};
 
 use crate::loader::Loader;
 use crate::message::row_text;
@@ -84,10 +83,8 @@ fn show_row<H: Highlighter, F: Loader, W: Write>(
         (record { row = row.now; kind = kind; text = text })
         × TakesBeginning (W.contents writer.old.inner) (W.contents writer.new.inner) text }
     ensures untouched { OnErr result ((result ≡ Err Fault.Write) ⊎ (writer.new ≡ writer.old)) }
-    ensures refused { (result ≡ Err Fault.Refused) → IsRefusing handler.old }
     ensures failed { IsTrue writer.new.failed ↔ (result ≡ Err Fault.Write) }
-    ensures others { OnErr result ((result ≡ Err Fault.Refused) ⊎ (result ≡ Err Fault.Memory)
-        ⊎ (result ≡ Err Fault.Write)) }
+    ensures others { OnErr result ((result ≡ Err Fault.Memory) ⊎ (result ≡ Err Fault.Write)) }
     ensures stays { Stays H.is_blank handler.old handler.new }
     ensures led { OnOk result (IsLed H.may_follow handler.old handler.new) }
     ensures goes { Goes (F.found files.old) (F.knows files.old) (F.found files.new) (F.knows files.new) }
@@ -146,7 +143,7 @@ fn show_rows<H: Highlighter, F: Loader, R: Read, W: Write, E: Write>(
         ShowsFirst (IsGiven H.is_blank H.may_follow handler.old) (IsFoundBy F.found F.knows files.old) bytes
         (λ text notes. TakesBeginning (W.contents streams.old.writer.inner) (W.contents streams.new.writer.inner) text
         × TakesBeginning (E.contents streams.old.faults.inner) (E.contents streams.new.faults.inner) notes))) }
-    ensures refused { (result ≡ Err Fault.Refused) → IsRefusing handler.old }
+    ensures accepted { ¬ (result ≡ Err Fault.Refused) }
     ensures read_failed { IsTrue streams.new.rows.failed ↔ (result ≡ Err Fault.Read) }
     ensures write_failed { (IsTrue streams.new.writer.failed ⊎ IsTrue streams.new.faults.failed)
         ↔ (result ≡ Err Fault.Write) }
@@ -170,7 +167,7 @@ fn show_rows<H: Highlighter, F: Loader, R: Read, W: Write, E: Write>(
 ///
 /// # Errors
 /// `Usage` where the words are wrong, before anything is read. `Read` exactly where a call of the reader failed,
-/// `Write` exactly where one of the writers failed. `Refused` only of narrated and brief reports. `Memory`.
+/// `Write` exactly where one of the writers failed. `Memory`. No report is refused.
 pub fn show_on<F: Loader, R: Read, W: Write, E: Write>(
     alloc: Global,
     words: &[String],
@@ -195,7 +192,8 @@ pub fn show_on<F: Loader, R: Read, W: Write, E: Write>(
         (IsFoundBy F.found F.knows files.old) bytes
         (λ text notes. TakesBeginning (W.contents streams.old.writer.inner) (W.contents streams.new.writer.inner) text
         × TakesBeginning (E.contents streams.old.faults.inner) (E.contents streams.new.faults.inner) notes))) }
-    ensures refused { (result ≡ Err Fault.Refused) → CallTells (map string_bytes words.now) }
+    // Labels of messages are within their files.
+    ensures accepted { ¬ (result ≡ Err Fault.Refused) }
     ensures read_failed { IsTrue streams.new.rows.failed ↔ (result ≡ Err Fault.Read) }
     ensures write_failed { (IsTrue streams.new.writer.failed ⊎ IsTrue streams.new.faults.failed)
         ↔ (result ≡ Err Fault.Write) }

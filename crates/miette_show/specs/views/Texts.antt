@@ -1,8 +1,6 @@
 -- Texts of rows, as they are made.
 use Rattle.std.specs.Prelude.{◌≡◌, ℕ, List, [], ◌∷◌, ◌++◌, Option, Some, None}
 use Rattle.miette_tree.specs.rules.Tree.{Tree, head}
-use Rattle.miette_report.specs.declared.job_handler.JobHandler.{JobHandler}
-use Rattle.miette_report.specs.steps.JobHandler.{MayRefuse}
 use Rattle.miette_show.specs.rules.Shown.{is_grave}
 use Rattle.miette_show.specs.declared.verdict.RowKind.{RowKind}
 use Rattle.miette_show.specs.declared.verdict.RowKind.TheVariants.{Passed, Unread, Other, Message}
@@ -21,7 +19,3 @@ shown_text Passed row text = row
 shown_text Unread row text = row
 shown_text Other row text = text
 shown_text (Message grave) row text = text
-
--- there is a report that this handler may refuse
-abbrev pub IsRefusing : {H : Type 0} → JobHandler H → Type 0
-IsRefusing handler = (t : Tree) × MayRefuse handler t

@@ -4,7 +4,7 @@ use Rattle.miette_report.proofs.JobEnds.{not-wrong}
 use Rattle.miette_report.specs.views.Device.{TakesBeginning}
 use Rattle.miette_show.specs.rules.Looking.{IsFoundBy}
 use Rattle.miette_show.specs.views.Reading.{left_of}
-use Rattle.miette_show.proofs.Calls.{call_first, call_shows, call_tells}
+use Rattle.miette_show.proofs.Calls.{call_first, call_shows}
 use Rattle.miette_show.proofs.NoteEnds.{on_ok_of}
 use Rattle.miette_show.proofs.show.show_on.Goals as goal
 
@@ -18,12 +18,6 @@ returns-clause-ok g c =
     (g.W.Write.contents c.show_rows.new.streams.writer.inner) text
     × Appends (g.E.Write.contents c.args.streams.now.faults.inner)
     (g.E.Write.contents c.show_rows.new.streams.faults.inner) notes) c.show_rows.result c.show_rows.ensures.ok
-
-pub returns-clause-refused : goal.returns-clause-refused
-returns-clause-refused g c =
-    let it = c.in_ok-settings.settings in
-    λ e. call_tells (map string_bytes c.args.words.now) it.choice it.options it.terminal c.in_ok-handler.handler
-    c.in_ok-settings.ensures.table c.in_ok-handler.ensures (c.show_rows.ensures.refused e)
 
 pub returns-clause-beginning : goal.returns-clause-beginning
 returns-clause-beginning g c =

@@ -31,9 +31,9 @@ returns-then-is_empty-clause-ok g c =
     progress.end _ _ _ _ _ _ _ _ _ c.loop-number.number c.loop-number.verdict c.next.new.row.items
     (nil_from_length c.next.new.row.items none) c.loop-number.invariant.progress c.in_ok-next.ensures.row
 
-pub returns-in_err-note-clause-refused : goal.returns-in_err-note-clause-refused
-returns-in_err-note-clause-refused g c = λ e.
-    absurd (no_other _ _ _ Refused refl (search rules) c.in_err-note.ensures.others (λ k. cc) (λ k. cc) e)
+pub returns-in_err-note-clause-accepted : goal.returns-in_err-note-clause-accepted
+returns-in_err-note-clause-accepted g c = λ e.
+    no_other _ _ _ Refused refl (search rules) c.in_err-note.ensures.others (λ k. cc) (λ k. cc) e
 
 pub returns-in_err-note-clause-called : goal.returns-in_err-note-clause-called
 returns-in_err-note-clause-called g c = λ e.
