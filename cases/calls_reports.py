@@ -106,12 +106,13 @@ WORDS = {
     "chosen narrated": ["--narrated"],
     "narrated": ["--narrated"],
     "brief": ["--brief"],
+    "github": ["--github"],
     "json": ["--json"],
     "debug": ["--debug"],
 }
 # what colours the lines of sources, what is refused memory at the second one
 NARRATED = ("chosen narrated", "narrated")
-HIGHLIGHTING = [it for it in WORDS if it not in ("graphical", *NARRATED, "brief", "json", "debug")]
+HIGHLIGHTING = [it for it in WORDS if it not in ("graphical", *NARRATED, "brief", "github", "json", "debug")]
 WANTING = [it for it in WORDS if it.endswith("wanting")]
 RED_TEXT = re.compile(re.escape(RED) + "(.*?)" + re.escape(END))
 NUMBER = re.compile(r"\x1b\[2m *\d+\x1b\[0m │ .")

@@ -69,6 +69,8 @@ RUNS = [
     (["job", "--brief"], LABELLED, 0, "2:1: error: 漢\n2:1: note: x\n"),
     (["job", "--json"], LABELLED, 0, LABELLED_JSON),
     (["bench", "2", "--narrated"], SMALL, 0, "33\n"),
+    (["show", "--theme", "unicode_nocolor"], '{"message":"漢","level":"error"}', 1, "  × 漢\n\n"),
+    (["show"], "chatter", 0, "chatter"),
 ]
 # words that are refused, status, row
 REFUSED = [
@@ -77,6 +79,7 @@ REFUSED = [
     (["job", "--jsonx"], "usage: job [OPTIONS]\n"),
     (["bench", "x"], "usage: bench N [OPTIONS]\n"),
     (["lint", "f"], "usage: lint [--brief | --fix | --diff | --sarif [--tool TOOL]] NAME WIDTH\n"),
+    (["show", "--from", "gcc"], "usage: show [--from rustc] [--root DIR] [OPTIONS]\n"),
 ]
 # words and an input of which nothing is written, status, row
 SILENT = [

@@ -11,7 +11,7 @@ PROCESSORS = os.cpu_count() or 2
 # how many of the failed cases are shown
 SHOWN = 5
 # the programs that read a report or a source, and the status of each where memory or a device fails
-STATUS = {"draw": 1, "job": 1, "bench": 1, "lint": 2}
+STATUS = {"draw": 1, "job": 1, "bench": 1, "lint": 2, "show": 2}
 # no run meets more growths of memory than these
 MOST_GROWTHS = 20000
 

@@ -6,10 +6,11 @@ on standard error; or end as the whole run does, where a smaller growth served i
 must end as the whole run does. The last line is 'N passed, M failed', one for each report below, and the exit status is
 0 only where nothing failed."""
 import json
+import os
 import sys
 import tempfile
 
-from programs import STATUS, built, counted, each, library_in, refusals, run_refusing
+from programs import ROOT, STATUS, built, counted, each, library_in, refusals, run_refusing
 
 README = "source\n  text\n    here"
 NINE = "1\n2\n3\n4\n5\n6\n7\n8\n9\n"
@@ -56,6 +57,17 @@ MENDED = {
     ],
 }
 REFUSED = {"message": "m", "source": {"text": "a"}, "labels": [{"offset": 9, "length": 1}]}
+SPAN = {"file_name": os.path.join(ROOT, "crates/draw/stdin"), "byte_start": 9, "byte_end": 13}
+MESSAGE = {
+    "message": "m",
+    "code": {"code": "c"},
+    "spans": [{**SPAN, "is_primary": True, "label": "here"}, {**SPAN, "byte_start": 0, "byte_end": 1}],
+    "children": [
+        {"message": "n", "level": "note", "spans": [SPAN]},
+        {"message": "h", "level": "help", "spans": [{**SPAN, "suggested_replacement": "there"}]},
+        {"message": "o", "level": "help", "spans": [{**SPAN, "file_name": "gone"}]},
+    ],
+}
 TERMINAL = ["--term-unicode", "yes", "--term-color", "rgb", "--rgb", "always", "--term-links", "yes", "--width", "20"]
 PLAIN = ["--term-unicode", "yes"]
 REPORTS = (LABELLED, LINKED, RELATED, MANY, APART, OWN, MENDED, REFUSED)
@@ -69,6 +81,8 @@ RUNS = [
     (["lint", "--diff", "f", "80"], "x = 1 \n \ty\nend"),
     (["lint", "--sarif", "f", "80"], "x = 1 \n \ty\nend"),
     (["bench", "2", *PLAIN], json.dumps(LABELLED)),
+    (["show", *PLAIN], json.dumps(MESSAGE)),
+    (["show", "--brief"], json.dumps(MESSAGE)),
 ] + [
     (["job", *words], json.dumps(description))
     for description in REPORTS

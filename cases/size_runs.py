@@ -1,4 +1,5 @@
-"""How sizes.py runs a program under limits, and what it counts of a run."""
+"""How sizes.py and show.py run a program under limits, and what they count of a run."""
+import ctypes
 import os
 import re
 import shutil
@@ -10,6 +11,7 @@ KB, MB = 1024, 1024 * 1024
 # What a run has that only tells how much is written.
 WIDE_STACK_KB, WIDE_SPACE = 1024 * KB, 8192 * MB
 SPACE_TIMES, SPACE_MORE = 10, 64 * MB
+BECOME_REAPER = 36
 # A child of the shell waits for a line, and becomes the program once the shell has ended. So only
 # the program's own memory is counted, and the program is waited for here.
 START = """exec 3<&0; given=$1; ulimit -c 0; ulimit -St $2; ulimit -v $3; ulimit -s $4; shift 4
@@ -49,6 +51,11 @@ class Counter(NamedTuple):
 
     words: list
     form: str
+
+
+def wait_for_all():
+    """Has Linux give a program whose shell has ended to this process, which then waits for it."""
+    ctypes.CDLL(None).prctl(BECOME_REAPER, 1, 0, 0, 0)
 
 
 def start(command, path, limits):

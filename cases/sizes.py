@@ -20,7 +20,6 @@ worst growth of each family, so far as there is one, and the most memory that it
 `--least-stack` finds the least stack on which the deepest descriptions run. The last line is
 'N passed, M failed', and the exit status is 0 only where nothing failed."""
 import argparse
-import ctypes
 import os
 import re
 import signal
@@ -31,7 +30,7 @@ from typing import NamedTuple, Optional
 from programs import counted, program
 from size_inputs import ALL, FAMILIES, MIDDLE, Family, Way
 from size_runs import MB, WIDE_SPACE, WIDE_STACK_KB, Ended, Limits
-from size_runs import counter_of, instructions, least_stack, run, run_limited
+from size_runs import counter_of, instructions, least_stack, run, run_limited, wait_for_all
 
 STACK_KB = 1024
 GATE_SECONDS, ALL_SECONDS = 2, 60
@@ -42,7 +41,6 @@ LEAST_SECONDS = 0.2
 # A growth of seconds that is above the bound, but within noise, is measured again this often.
 AGAIN, NOISE = 2, 1.5
 DEEPEST = ("only a message", "related 63 deep", "causes 126 deep")
-BECOME_REAPER = 36
 HEAD = """| Input | Size | Text bytes | Seconds | Instructions | Peak MB | Memory/text \
 | Time grows by | Memory grows by | Text grows by | Stack | Faults |
 |---|--:|--:|--:|--:|--:|--:|--:|--:|--:|--:|---|"""
@@ -281,8 +279,7 @@ def words():
 
 def main():
     """Runs what the words ask for, and gives the exit status."""
-    # Linux gives a program whose shell has ended to this process, which then waits for it.
-    ctypes.CDLL(None).prctl(BECOME_REAPER, 1, 0, 0, 0)
+    wait_for_all()
     asked = words()
     return least_stacks(asked) if asked.least_stack else run_all(asked)
 

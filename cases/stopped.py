@@ -14,7 +14,7 @@ from calls_expected import CYAN, END, LINK, RED, YELLOW
 from calls_reports import BEFORE, HIGHLIGHTING, NARRATED, STOPPED, indented, is_drawn, is_wanted
 from programs import SHOWN, counted, each, run
 
-HANDLERS = ("graphical", "nested", "chosen", "chosen narrated", "narrated", "brief", "json", "debug")
+HANDLERS = ("graphical", "nested", "chosen", "chosen narrated", "narrated", "brief", "github", "json", "debug")
 DRAWING = ("graphical", "nested", "chosen")
 LINES = (0, 1, 2)
 WAYS = ("at", "from")
@@ -65,6 +65,21 @@ def brief_outcome(name, labels, reads):
     return WHOLE if all(reads.is_read() for _ in (labels[0], *labels)) else REFUSED
 
 
+def github_outcome(name, labels, reads):
+    """What a report in commands of GitHub comes to: no cause is read, and no fix."""
+    if "cause" in STOPPED[name]:
+        return WHOLE
+    if "snippets" in STOPPED[name]:
+        # each label, and then the source of the primary one as a whole
+        return WHOLE if all(reads.is_read() for _ in (*labels, labels[0])) else REFUSED
+    # the source as a whole, and then each label over it, or its name, and these sources have none
+    is_whole = reads.is_read()
+    if not labels:
+        reads.is_read()
+        return WHOLE
+    return WHOLE if all(reads.is_read() for _ in labels) and is_whole else REFUSED
+
+
 def outcome(name, handler, lines, reads):
     """What a report by a handler comes to, over these reads."""
     labels = shown_labels(name, handler)
@@ -72,6 +87,8 @@ def outcome(name, handler, lines, reads):
         return WHOLE
     if handler == "brief":
         return brief_outcome(name, labels, reads)
+    if handler == "github":
+        return github_outcome(name, labels, reads)
     if handler == "json":
         # the first label is read for the source's name, and these sources have none
         if labels:

@@ -1,7 +1,7 @@
 #!/usr/bin/env python3
 """streams.py: runs the built programs over streams of a byte a call that stop after each number of bytes.
 
-`stop.c`, loaded before the C library, has the four programs read a byte a call and write one, or as many as are asked
+`stop.c`, loaded before the C library, has the programs read a byte a call and write one, or as many as are asked
 for. After each number of bytes a read or a write fails, by a fault of the device or by being interrupted, or a write
 takes nothing. A fault of the reader, and nothing is written; or one of the writer, after exactly the bytes that were
 taken. The words, inputs and texts are those of devices.py. The last line is 'N passed, M failed', and the exit status

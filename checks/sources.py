@@ -199,6 +199,38 @@ def words_of_specs(text):
     return {word for form in WORDS_OF_SPECS for word in form.findall(text)}
 
 
+OWNER = re.compile(r"(?m)^(?:pub(?:\(\w+\))? )?(?:unsafe )?(impl|trait)\b(.*)$")
+
+
+def without_first_brackets(text):
+    """A text without the generic parameters that it begins with."""
+    depth = 0
+    for at, it in enumerate(text):
+        depth += (it == "<") - (it == ">" and text[at - 1] != "-")
+        if depth == 0:
+            return text[at + 1 :].strip() if it == ">" else text
+    return text
+
+
+def word_of(text):
+    """The last word of a type's or a trait's path, without its parameters."""
+    return re.sub(r"<.*", "", text.strip()).split("::")[-1].split()[-1].lstrip("&")
+
+
+def name_of(file, text, number):
+    """The end of the name of a function of a file, as a check prints it: `module::name`, `Type::name`, `TypeTrait::name`."""
+    its = functions(text)[number]
+    if not its.indent:
+        module = file.removeprefix("src/").removesuffix(".rt").replace("/", "::")
+        return its.name if module in ("lib", "main") else f"{module}::{its.name}"
+    owner = [it for it in OWNER.finditer(text) if it.start() < its.start][-1]
+    head = without_first_brackets(owner[2].strip()).split("{")[0].split(" where ")[0]
+    if owner[1] == "trait":
+        return f"{word_of(head.split(':')[0])}::{its.name}"
+    first, _, last = head.partition(" for ")
+    return f"{word_of(last)}{word_of(first)}::{its.name}" if last else f"{word_of(head)}::{its.name}"
+
+
 # ---- the toolchain
 
 

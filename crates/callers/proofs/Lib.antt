@@ -3,3 +3,4 @@ pub mod SumSteps
 pub mod ColourSteps
 pub mod Wrapping
 pub mod FixSteps
+pub mod RowSteps

@@ -5,7 +5,7 @@ use Rattle.std.specs.List.{AllByRecursion, Contains}
 use Rattle.bstr.specs.Utf8.{pieces_from}
 use Rattle.unicode_width.specs.Width.{char_width}
 use Rattle.miette_runs.specs.rules.Runs.{print}
-use Rattle.miette_source_lines.specs.rules.Lines.{ends_line, line_of}
+use Rattle.miette_source_lines.specs.rules.Lines.{ends_line, line_end, line_of, line_start}
 use Rattle.miette_labels.specs.rules.Groups.{AreAccepted}
 use Rattle.miette_snippet_rules.specs.rules.PrintedCells.{cells_width}
 use Rattle.miette_tree.specs.rules.Tree.{Tree}
@@ -57,7 +57,10 @@ is_cut all =
     }
 
 pub cause_stays : AllByRecursion (HoldsOfPrinted LinesThatFitStay narrow) (diagnostics_of narrow sum_tree) → CauseStays
-cause_stays all = all.1.0.0
+unfolding ends_line line_of line_start line_end pieces_from char_width
+cause_stays all =
+    let width : cells_width 0 (cells_under narrow depth_file 0) ≡ 9 = refl in
+    all.1.0.0.1 ((omega (arith, width), tt), tt)
 
 -- ---- labels at the end, and folded ones
 

@@ -65,6 +65,10 @@ abbrev pub TextHangs : Settings → Type 0
 TextHangs s = AllByRecursion (SnippetHangs s settings_file (name_label ∷ []))
     (groups_of s settings_file (name_label ∷ []))
 
+-- the row of the second line, with the line feed behind it
+abbrev pub host_row : List ℕ
+host_row = encode_utf8_all (codes " 2 │ host = x\n")
+
 -- ---- how a highlighter that leaves lines plain is asked
 
 -- A text of that warning, under answers to calls that were answered by one plain piece for each line.

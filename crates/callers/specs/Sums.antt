@@ -4,18 +4,18 @@ use Rattle.std.specs.Prelude.{◌≡◌, ◌≢◌, ◌++◌, ℕ, map, true, fa
 use Rattle.std.specs.Prelude.{encode_utf8_all}
 use Rattle.std.specs.List.{AllByRecursion, Contains}
 use Rattle.miette_protocol.specs.views.Diagnostic.{message_alone}
+use Rattle.miette_labels.specs.rules.Answers.{Highlight}
 use Rattle.miette_protocol.specs.views.Meaning.{Label}
 use Rattle.miette_protocol.specs.rules.Reading.{Source, named_source, plain_source}
 use Rattle.miette_runs.specs.rules.Runs.{Fragment, print}
 use Rattle.miette_tree.specs.rules.Diagnosis.{plain_diagnosis}
 use Rattle.miette_tree.specs.rules.Tree.{Tree, alone, diagnostic, head, with_cause, with_source}
-use Rattle.miette_graphical.specs.rules.Answers.{nothing_listed}
+use Rattle.miette_graphical.specs.rules.Answers.{nothing_listed, pieces_listed}
 use Rattle.miette_graphical.specs.rules.DiagnosticText.{line_feed}
 use Rattle.miette_graphical.specs.rules.Settings.{Settings}
-use Rattle.miette_graphical.specs.rules.Snippets.{drawn_rows}
+use Rattle.miette_graphical.specs.rules.Snippets.{drawn_rows, source_rows}
 use Rattle.miette_graphical.specs.rules.PrintedDiagnostics.{PrintedDiagnostic, over}
-use Rattle.miette_graphical.specs.laws.Headline.{EndsBehind, SnippetStays, cut_under, drawn_labels}
-use Rattle.miette_graphical.specs.laws.Headline.{groups_of, is_kept_at, line_of}
+use Rattle.miette_graphical.specs.laws.Headline.{EndsBehind, cut_under, drawn_labels, is_kept_at, line_of}
 use Rattle.miette_graphical.specs.laws.Holding.{Arrow, StandsIn}
 use Rattle.miette_picture_laws.specs.laws.FittingRows.{FitsRow, fed_rows, indented_rows}
 use Rattle.miette_picture_laws.specs.laws.Levels.{AreAmong, IsShownRow, settings_under}
@@ -92,9 +92,15 @@ pub record IsCut : Type 0 where
   pub long : cut_under narrow sum_file sum_labels 5 ≢ None
   pub short : cut_under narrow sum_file sum_labels 0 ≡ None
 
--- the rows of the cause's snippet are those without a limit
+-- the same settings, in which no line is cut
+abbrev pub uncut : Settings
+uncut = record narrow { layout = record narrow.layout { line_columns = None } }
+
+-- the rows of the cause's labels are those without a limit, in whatever pieces
 abbrev pub CauseStays : Type 0
-CauseStays = AllByRecursion (SnippetStays narrow depth_file depth_labels) (groups_of narrow depth_file depth_labels)
+CauseStays = (pieces : List (List (List Highlight))) →
+    source_rows narrow (Some depth_file) depth_labels (pieces_listed pieces)
+    ≡ source_rows uncut (Some depth_file) depth_labels (pieces_listed pieces)
 
 -- the third line is left out, on which no label begins or ends
 pub record IsLeftOut : Type 0 where

@@ -1,12 +1,14 @@
 //! What a caller knows of the pictures of a report, by the clauses of the call that draws them.
 
 ghost use Rattle.std.specs.Prelude.{◌≡◌, IfOk, string_bytes, encode_utf8_all};
+ghost use Rattle.miette_graphical.specs.laws.Holding.{StandsIn};
 ghost use Rattle.miette_graphical.specs.rules.Answers.{unlisted};
 ghost use Rattle.miette_graphical.specs.rules.Snippets.{whole_drawing};
 ghost use Rattle.miette_graphical.specs.rules.Text.{report_text};
 ghost use Rattle.miette_runs.specs.rules.Sequences.{erase};
 ghost use Rattle.miette_tree.specs.views.Report.{tree_of};
-ghost use Rattle.callers.specs.Known.{HasOwnMark, ShowsBothLines, TextHangs, plain, warning_tree};
+ghost use Rattle.callers.specs.Known.{HasOwnMark, ShowsBothLines, TextHangs, host_row, plain};
+ghost use Rattle.callers.specs.Known.{warning_tree};
 
 use miette::diagnostic::MietteDiagnostic;
 use miette::error::RenderError;
@@ -15,7 +17,9 @@ use miette::protocol::{Diagnostic, LabeledSpan};
 use miette::report::{OwnedSource, Report};
 use miette::source::SourceCode;
 use miette::theme::GraphicalTheme;
-use miette_picture_laws::laws::{only_law, plain_law, themes_law};
+use miette_picture_laws::laws::{
+    number_rows_law, only_law, plain_law, shown_lines_law, themes_law,
+};
 use std::alloc::{AllocError, Global};
 
 /// A report in colours, and in plain characters.
@@ -48,6 +52,8 @@ pub fn draw_both(alloc: Global, report: &Report) -> Result<Pictures, RenderError
         ≡ encode_utf8_all (report_text whole_drawing plain warning_tree unlisted)) }
     // and the coloured one is it too, without its colours
     ensures colours { IfOk result (λ p. erase (string_bytes p.coloured) ≡ string_bytes p.plain) }
+    // a row of it is the second line, with its number: by `lines`, `holds`, and laws of their rows
+    ensures row { IfOk result (λ p. StandsIn host_row (string_bytes p.plain)) }
     // its snippet shows the two lines, the label's mark is the column of the name, and its text
     // hangs from it
     ensures lines { IfOk result (λ p. ShowsBothLines plain) }
@@ -56,6 +62,8 @@ pub fn draw_both(alloc: Global, report: &Report) -> Result<Pictures, RenderError
 {
     themes_law();
     plain_law();
+    shown_lines_law();
+    number_rows_law();
     let mut coloured = String::new(alloc);
     let mut plain = String::new(alloc);
     let mut handler = GraphicalReportHandler::new_themed(GraphicalTheme::unicode(alloc)?);

@@ -6,7 +6,7 @@ use crate::stopping::{Reads, Red};
 use crate::themes::terminal;
 use crate::worked::report;
 use miette::handlers::{
-    BriefReportHandler, DebugReportHandler, GraphicalReportHandler, JSONReportHandler,
+    BriefReportHandler, DebugReportHandler, Form, GraphicalReportHandler, JSONReportHandler,
     NarratableReportHandler, ReportHandler,
 };
 use miette::options::MietteHandlerOpts;
@@ -37,7 +37,7 @@ pub static NAMES: [&str; 17] = [
 ];
 
 /// The handlers.
-pub static HANDLERS: [&str; 12] = [
+pub static HANDLERS: [&str; 13] = [
     "graphical",
     "nested",
     "highlighted",
@@ -48,6 +48,7 @@ pub static HANDLERS: [&str; 12] = [
     "chosen narrated",
     "narrated",
     "brief",
+    "github",
     "json",
     "debug",
 ];
@@ -118,6 +119,10 @@ fn render<W: Write>(
             render_behind(alloc, out, &mut telling, report)
         }
         "brief" => render_behind(alloc, out, &mut BriefReportHandler::new(), report),
+        "github" => {
+            let mut telling = BriefReportHandler::new().with_form(Form::Github);
+            render_behind(alloc, out, &mut telling, report)
+        }
         "json" => render_behind(alloc, out, &mut JSONReportHandler::new(), report),
         "debug" => render_behind(alloc, out, &mut DebugReportHandler::new(), report),
         _ => render_drawn(alloc, out, handler, &Asked { report, lines }),

@@ -23,13 +23,14 @@ static NAMES: [&str; 9] = [
     "a fix",
 ];
 
-static HANDLERS: [&str; 8] = [
+static HANDLERS: [&str; 9] = [
     "graphical",
     "nested",
     "chosen",
     "chosen narrated",
     "narrated",
     "brief",
+    "github",
     "json",
     "debug",
 ];

@@ -30,7 +30,7 @@ use Rattle.miette_brief.proofs.Noting.{true_accepted}
 
 -- ---- of labels, the first that is marked
 
-left_at : {X : Type 0} (label : X → Label) (xs : List X) (i : ℕ) (d : X) (here : Label) → i < length xs → here
+pub left_at : {X : Type 0} (label : X → Label) (xs : List X) (i : ℕ) (d : X) (here : Label) → i < length xs → here
     ≡ label (get_or xs i d) → map label (drop i xs) ≡ here ∷ map label (drop (suc i) xs)
 left_at label xs i d here lt is = ap (map label) (drop-cons xs i d lt)
     ∙ ap (λ l. l ∷ map label (drop (suc i) xs)) (sym is)

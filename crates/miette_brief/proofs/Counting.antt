@@ -26,6 +26,9 @@ use Rattle.miette_brief.specs.rules.Report.{BriefSettings, Answers, RelatedAnswe
 use Rattle.miette_brief.specs.rules.Report.{related_answers, first_answers, later_answers, note_rows_of, note_rows}
 use Rattle.miette_brief.specs.rules.Report.{cause_row, cause_rows, caused_rows, cause_rows_if, help_rows, own_rows}
 use Rattle.miette_brief.specs.rules.Report.{report_rows, related_rows, brief, further_notes, labelled_rows, advice_rows}
+use Rattle.miette_brief.specs.rules.Report.{text_in}
+use Rattle.miette_brief.specs.declared.form.Form.{Form}
+use Rattle.miette_brief.specs.declared.form.Form.TheVariants.{Gcc, Github}
 use Rattle.miette_brief.specs.rules.PossibleAnswers.{IsBrief}
 use Rattle.miette_brief.specs.laws.Parts.{texts_in, texts_further, told_causes, edit_parts, fix_parts, fixes_parts}
 use Rattle.miette_brief.specs.laws.Parts.{advice_parts, parts, parts_below, all_parts, text_of_rows, IsRows}
@@ -193,20 +196,26 @@ mutual
       ∙ ap₂ (λ x y. x + y) (report_counted chain inherited (first_answers more) t)
       (related_counted chain inherited (later_answers more) ts)
 
-pub one_for_each : (s : BriefSettings) (t : Tree) (a : Answers) → IsRows (parts s.chain t a) (brief s t a)
-one_for_each s t a =
-    let rows = report_rows s.chain None a t in
+rows_for_each : (f : Form) (chain : Bool) (t : Tree) (a : Answers) → f ≡ Gcc → IsRows (parts chain t a)
+    (text_in f chain None a t)
+rows_for_each Gcc chain t a is =
+    let rows = report_rows chain None a t in
     record {
       rows = map row_text rows;
       are = ended_rows rows;
-      many = length-map rows row_text
-          ∙ report_counted s.chain None a t;
+      many = length-map rows row_text ∙ report_counted chain None a t;
       each = each_row rows;
     }
+rows_for_each Github chain t a is = cc
 
-pub given_each : (s : BriefSettings) (t : Tree) (text : List ℕ) → IsBrief s t text → HasEachPart s.chain t text
-given_each s t text h = record {
+pub one_for_each : (s : BriefSettings) (t : Tree) (a : Answers) → s.form ≡ Gcc
+    → IsRows (parts s.chain t a) (brief s t a)
+one_for_each s t a is = rows_for_each s.form s.chain t a is
+
+pub given_each : (s : BriefSettings) (t : Tree) (text : List ℕ) → s.form ≡ Gcc → IsBrief s t text
+    → HasEachPart s.chain t text
+given_each s t text is h = record {
   answers = h.answers;
   possible = h.possible;
-  rows = subst (λ (bs : List ℕ). IsRows (parts s.chain t h.answers) bs) (sym h.is) (one_for_each s t h.answers);
+  rows = subst (λ (bs : List ℕ). IsRows (parts s.chain t h.answers) bs) (sym h.is) (one_for_each s t h.answers is);
 }

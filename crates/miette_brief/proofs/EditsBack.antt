@@ -95,16 +95,16 @@ quote_past (b ∷ bs) rest h =
 
 -- ---- numbers
 
-abbrev lacks : ℕ → List ℕ → Bool
+abbrev pub lacks : ℕ → List ℕ → Bool
 lacks end bs = list_all (λ b. not (b == end)) bs
 
-up_past : (end : ℕ) (xs ys : List ℕ) → lacks end xs ≡ true → up_to end (xs ++ end ∷ ys) ≡ xs
+pub up_past : (end : ℕ) (xs ys : List ℕ) → lacks end xs ≡ true → up_to end (xs ++ end ∷ ys) ≡ xs
 up_past end [] ys h = rw (eq-eqb end end refl) refl
 up_past end (x ∷ xs) ys h =
     let p = and_parts (not (x == end)) (lacks end xs) h in
     rw (not-true (x == end) p.0) (ap (λ l. x ∷ l) (up_past end xs ys p.1))
 
-behind_past : (end : ℕ) (xs ys : List ℕ) → lacks end xs ≡ true → behind end (xs ++ end ∷ ys) ≡ ys
+pub behind_past : (end : ℕ) (xs ys : List ℕ) → lacks end xs ≡ true → behind end (xs ++ end ∷ ys) ≡ ys
 behind_past end [] ys h = rw (eq-eqb end end refl) refl
 behind_past end (x ∷ xs) ys h =
     let p = and_parts (not (x == end)) (lacks end xs) h in

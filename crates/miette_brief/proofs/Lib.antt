@@ -11,3 +11,8 @@ pub mod Counting
 pub mod ReadingBack
 pub mod EditsBack
 pub mod Fixing
+pub mod Escaping
+pub mod Marking
+pub mod Wholes
+pub mod Commanding
+pub mod CommandsBack

@@ -21,7 +21,12 @@ use Rattle.miette_brief.specs.rules.Report.{BriefSettings, Answers, RelatedAnswe
 use Rattle.miette_brief.specs.rules.Report.{cause_answers, related_answers, first_answers, later_answers, finding_row}
 use Rattle.miette_brief.specs.rules.Report.{note_rows, cause_row, cause_rows, caused_rows, cause_rows_if, help_rows}
 use Rattle.miette_brief.specs.rules.Report.{rows_at, own_rows, report_rows, related_rows, brief, further_notes}
-use Rattle.miette_brief.specs.rules.Report.{labelled_rows, advice_rows, ReadAnswers, own_answer}
+use Rattle.miette_brief.specs.rules.Report.{labelled_rows, advice_rows, ReadAnswers, own_answer, text_in}
+use Rattle.miette_brief.specs.rules.Report.{own_command, report_commands, related_commands}
+use Rattle.miette_brief.specs.rules.Commands.{Command, command_text, commands_text}
+use Rattle.miette_brief.specs.rules.Github.{command}
+use Rattle.miette_brief.specs.declared.form.Form.{Form}
+use Rattle.miette_brief.specs.declared.form.Form.TheVariants.{Gcc, Github}
 use Rattle.miette_brief.specs.rules.Fixes.{fixed_source, fixes_rows}
 use Rattle.miette_brief.specs.rules.PossibleAnswers.{HasAccepted, FurtherAccepted, AreCauseAnswers, AreCausedAnswers}
 use Rattle.miette_brief.specs.rules.PossibleAnswers.{AreAnswers}
@@ -31,16 +36,16 @@ use Rattle.miette_brief.proofs.Choosing.{nothing_met, primary_reads, accepts_ord
 use Rattle.miette_brief.proofs.Putting.{rows_joined}
 use Rattle.miette_brief.proofs.SoFar.{ToldSoFar, one_so_far}
 use Rattle.miette_brief.specs.steps.AppendedParts.{AppendsCauses, AppendsLabelled, AppendsOwn, AppendsReport}
-use Rattle.miette_brief.specs.steps.AppendedParts.{AppendsRelated, AppendsFixes, AppendsAdvice}
+use Rattle.miette_brief.specs.steps.AppendedParts.{AppendsRelated, AppendsFixes, AppendsAdvice, own_text, related_text}
 
 -- ---- causes that aren't told
 
 mutual
-  none_met : (source : Option Source) (c : Cause) → AreCauseAnswers source unlisted c
+  pub none_met : (source : Option Source) (c : Cause) → AreCauseAnswers source unlisted c
   none_met source (diagnostic t) = none_met_in source t
   none_met source (texts ts) = tt
 
-  none_met_in : (source : Option Source) (t : Tree) → AreCausedAnswers source unlisted t
+  pub none_met_in : (source : Option Source) (t : Tree) → AreCausedAnswers source unlisted t
   none_met_in source (tree m own c r) = (
     nothing_met (source_of_spot (primary_spot (effective own source) (in_order (given_labels m.labels)) m.snippets)),
     none_met source c,
@@ -116,7 +121,7 @@ advised at source m given fixes old mid new eh ef e f =
 
 pub own_told : (chain : Bool) (source : Option Source) (m : Diagnosis) (c : Cause) (at : Place)
     (old mid caused new : List ℕ) → AppendsLabelled source m at old mid → AppendsCauses chain at source c mid caused
-    → AppendsAdvice at source m caused new → AppendsOwn chain source m c old new
+    → AppendsAdvice at source m caused new → AppendsOwn (record { chain = chain; form = Gcc }) source m c old new
 own_told chain source m c at old mid caused new head causes advice =
     let rows : List ReportRow = finding_row at m ∷ labelled_rows source m in
     let told : List ReportRow = cause_rows_if chain at source causes.answers c in
@@ -137,60 +142,103 @@ own_told chain source m c at old mid caused new head causes advice =
 
 -- ---- a report
 
-pub report_told : (chain : Bool) (inherited : Option Source) (t : Tree) (source : Option Source) (related : Trees)
+pub commands_joined : (cs more : List Command) → commands_text (cs ++ more) ≡ commands_text cs ++ commands_text more
+commands_joined [] more = refl
+commands_joined (c ∷ cs) more =
+    ap (λ x. command_text c ++ (10 ∷ x)) (commands_joined cs more)
+    ∙ sym (append_assoc (command_text c) (10 ∷ commands_text cs) (commands_text more))
+
+-- a report is told as its own part, and behind it those related to it
+report_joined : (f : Form) (chain : Bool) (inherited : Option Source) (a : Answers) (m : Diagnosis)
+    (s : Option Source) (c : Cause) (rs : Trees) → text_in f chain inherited a (tree m s c rs)
+    ≡ own_text f chain (effective s inherited) a m c ++ related_text f chain (effective s inherited) (related_answers a)
+    rs
+report_joined Gcc chain inherited a m s c rs =
+    let from = effective s inherited in
+    rows_joined (own_rows chain from a m c) (related_rows chain from (related_answers a) rs)
+report_joined Github chain inherited a m s c rs =
+    let from = effective s inherited in
+    commands_joined (own_command chain from a m c ∷ []) (related_commands chain from (related_answers a) rs)
+
+related_joined : (f : Form) (chain : Bool) (inherited : Option Source) (more : RelatedAnswers) (t : Tree) (ts : Trees)
+    → related_text f chain inherited more (more_trees t ts) ≡ text_in f chain inherited (first_answers more) t
+    ++ related_text f chain inherited (later_answers more) ts
+related_joined Gcc chain inherited more t ts =
+    rows_joined (report_rows chain inherited (first_answers more) t)
+    (related_rows chain inherited (later_answers more) ts)
+related_joined Github chain inherited more t ts =
+    commands_joined (report_commands chain inherited (first_answers more) t)
+    (related_commands chain inherited (later_answers more) ts)
+
+none_related : (f : Form) (chain : Bool) (inherited : Option Source) (more : RelatedAnswers)
+    → related_text f chain inherited more no_trees ≡ []
+none_related Gcc chain inherited more = refl
+none_related Github chain inherited more = refl
+
+-- of the answers for a report those for its own part are used there
+own_listed : (f : Form) (chain : Bool) (source : Option Source) (a : Answers) (more : RelatedAnswers) (m : Diagnosis)
+    (c : Cause) → own_text f chain source (listed (own_answer a) (cause_answers a) more) m c
+    ≡ own_text f chain source a m c
+own_listed Gcc chain source a more m c = refl
+own_listed Github chain source a more m c = refl
+
+pub report_told : (b : BriefSettings) (inherited : Option Source) (t : Tree) (source : Option Source) (related : Trees)
     (old mid new : List ℕ)
     → source ≡ effective (source_of t) inherited → related ≡ related_of t
-    → AppendsOwn chain source (head t) (cause_of t) old mid
-    → AppendsRelated chain source related mid new → AppendsReport chain inherited t old new
-report_told chain inherited (tree m s c rs) source related old mid new es er own others =
+    → AppendsOwn b source (head t) (cause_of t) old mid
+    → AppendsRelated b source related mid new → AppendsReport b inherited t old new
+report_told b inherited (tree m s c rs) source related old mid new es er own others =
     let from = effective s inherited in
-    let here : AppendsOwn chain from m c old mid = subst (λ (o : Option Source). AppendsOwn chain o m c old mid) es own
-    in
-    let there : AppendsRelated chain from rs mid new = subst (λ (ts : Trees). AppendsRelated chain from ts mid new) er
-    (subst (λ (o : Option Source). AppendsRelated chain o related mid new) es others) in
-    let rows : List ReportRow = own_rows chain from here.answers m c in
-    let more : List ReportRow = related_rows chain from there.answers rs in
+    let here : AppendsOwn b from m c old mid = subst (λ (o : Option Source). AppendsOwn b o m c old mid) es own in
+    let there : AppendsRelated b from rs mid new = subst (λ (ts : Trees). AppendsRelated b from ts mid new) er
+    (subst (λ (o : Option Source). AppendsRelated b o related mid new) es others) in
+    let answers : Answers = listed (own_answer here.answers) (cause_answers here.answers) there.answers in
+    let own : List ℕ = own_text b.form b.chain from here.answers m c in
+    let more : List ℕ = related_text b.form b.chain from there.answers rs in
     record {
-      answers = listed (own_answer here.answers) (cause_answers here.answers) there.answers;
+      answers = answers;
       possible = (here.accepted, here.possible, here.causes, there.possible, here.fixes);
-      appended = there.appended ∙ ap (λ l. l ++ rows_text more) here.appended
-          ∙ append_assoc old (rows_text rows) (rows_text more) ∙ ap (λ l. old ++ l) (sym (rows_joined rows more));
+      appended = there.appended ∙ ap (λ l. l ++ more) here.appended ∙ append_assoc old own more
+          ∙ ap (λ l. old ++ (l ++ more)) (sym (own_listed b.form b.chain from here.answers there.answers m c))
+          ∙ ap (λ l. old ++ l) (sym (report_joined b.form b.chain inherited answers m s c rs));
     }
 
 -- ---- related reports, one after the other
 
 -- some of these reports are told, up to this one
-abbrev pub RelatedSoFar : {R : Type 0} → (R → Tree) → Bool → Option Source → List R → ℕ → List ℕ → List ℕ → Type 0
-RelatedSoFar value chain inherited rs i old now =
-    ToldSoFar (λ more ts. AllAnswers inherited more ts) (λ more ts. rows_text (related_rows chain inherited more ts))
+abbrev pub RelatedSoFar : {R : Type 0} → (R → Tree) → BriefSettings → Option Source → List R → ℕ → List ℕ → List ℕ
+    → Type 0
+RelatedSoFar value b inherited rs i old now =
+    ToldSoFar (λ more ts. AllAnswers inherited more ts) (λ more ts. related_text b.form b.chain inherited more ts)
     (trees (map value rs)) (trees (map value (drop i rs))) old now
 
-pub one_more : {R : Type 0} (value : R → Tree) (chain : Bool) (inherited : Option Source) (rs : List R) (i : ℕ) (r : R)
-    (old now new : List ℕ)
-    → i < length rs → r ≡ get_or rs i r → RelatedSoFar value chain inherited rs i old now
-    → AppendsReport chain inherited (value r) now new → RelatedSoFar value chain inherited rs (i + 1) old new
-one_more value chain inherited rs i r old now new test is so_far a =
+pub one_more : {R : Type 0} (value : R → Tree) (b : BriefSettings) (inherited : Option Source) (rs : List R) (i : ℕ)
+    (r : R) (old now new : List ℕ)
+    → i < length rs → r ≡ get_or rs i r → RelatedSoFar value b inherited rs i old now
+    → AppendsReport b inherited (value r) now new → RelatedSoFar value b inherited rs (i + 1) old new
+one_more value b inherited rs i r old now new test is so_far a =
     let left = trees (map value (drop (i + 1) rs)) in
     one_so_far _ _ (trees (map value rs)) (more_trees (value r) left) left (and_more a.answers) old now new
-    (rows_text (report_rows chain inherited a.answers (value r)))
+    (text_in b.form b.chain inherited a.answers (value r))
     (subst (λ (ts : Trees). ToldSoFar (λ more ts. AllAnswers inherited more ts)
-    (λ more ts. rows_text (related_rows chain inherited more ts)) (trees (map value rs)) ts old now)
+    (λ more ts. related_text b.form b.chain inherited more ts) (trees (map value rs)) ts old now)
     (next_of value rs i r test is) so_far)
     (λ more p. (a.possible, p))
-    (λ more. rows_joined (report_rows chain inherited a.answers (value r)) (related_rows chain inherited more left))
+    (λ more. related_joined b.form b.chain inherited (and_more a.answers more) (value r) left)
     a.appended
 
-pub all_told : {R : Type 0} (value : R → Tree) (chain : Bool) (inherited : Option Source) (rs : List R) (i : ℕ)
-    (old now : List ℕ) → length rs ≤ i → RelatedSoFar value chain inherited rs i old now
-    → AppendsRelated chain inherited (trees (map value rs)) old now
-all_told value chain inherited rs i old now end so_far =
+pub all_told : {R : Type 0} (value : R → Tree) (b : BriefSettings) (inherited : Option Source) (rs : List R) (i : ℕ)
+    (old now : List ℕ) → length rs ≤ i → RelatedSoFar value b inherited rs i old now
+    → AppendsRelated b inherited (trees (map value rs)) old now
+all_told value b inherited rs i old now end so_far =
     let last : AllAnswers inherited no_more (trees (map value (drop i rs))) =
     subst (λ l. AllAnswers inherited no_more (trees (map value l))) (sym (drop_all i rs end)) tt in
     record {
       answers = so_far.with_rest no_more;
       possible = so_far.possible no_more last;
       appended = sym (append-nil now)
-          ∙ ap (λ l. now ++ rows_text (related_rows chain inherited no_more (trees (map value l))))
+          ∙ ap (λ l. now ++ l) (sym (none_related b.form b.chain inherited no_more))
+          ∙ ap (λ l. now ++ related_text b.form b.chain inherited no_more (trees (map value l)))
           (sym (drop_all i rs end))
           ∙ so_far.joined no_more;
     }
@@ -274,11 +322,33 @@ mutual
       ap₂ (λ x y. x ++ y) (same_report chain inherited (first_answers more) t p.0 i reads.0)
       (same_related chain inherited (later_answers more) ts p.1 i reads.1)
 
-pub is_brief : (chain : Bool) (t : Tree) (text : List ℕ) → AppendsReport chain None t [] text
-    → IsBrief (record { chain = chain }) t text
-is_brief chain t text a = record { answers = a.answers; possible = a.possible; is = a.appended }
+mutual
+  same_commands : (chain : Bool) (inherited : Option Source) (a : Answers) (t : Tree) → AreAnswers inherited a t
+      → Reads inherited → AlwaysReads t → report_commands chain inherited a t
+      ≡ report_commands chain inherited unlisted t
+  same_commands chain inherited a (tree m own c r) p i reads =
+      let from = effective own inherited in
+      let from_reads : Reads from = effective_reads own inherited reads.0 i in
+      ap₂ (λ b cs. command chain from b m c ∷ cs) (fault_free from (own_answer a).place p.1 from_reads)
+      (same_further chain from (related_answers a) r p.3 from_reads reads.2)
+
+  same_further : (chain : Bool) (inherited : Option Source) (more : RelatedAnswers) (ts : Trees)
+      → AllAnswers inherited more ts → Reads inherited → AllAlwaysRead ts → related_commands chain inherited more ts
+      ≡ related_commands chain inherited no_more ts
+  same_further chain inherited more no_trees p i reads = refl
+  same_further chain inherited more (more_trees t ts) p i reads =
+      ap₂ (λ x y. x ++ y) (same_commands chain inherited (first_answers more) t p.0 i reads.0)
+      (same_further chain inherited (later_answers more) ts p.1 i reads.1)
+
+same_text : (f : Form) (chain : Bool) (a : Answers) (t : Tree) → AreAnswers None a t → AlwaysReads t
+    → text_in f chain None a t ≡ text_in f chain None unlisted t
+same_text Gcc chain a t p reads = ap rows_text (same_report chain None a t p tt reads)
+same_text Github chain a t p reads = ap commands_text (same_commands chain None a t p tt reads)
+
+pub is_brief : (b : BriefSettings) (t : Tree) (text : List ℕ) → AppendsReport b None t [] text → IsBrief b t text
+is_brief b t text a = record { answers = a.answers; possible = a.possible; is = a.appended }
 
 pub only_brief : (s : BriefSettings) (t : Tree) (text old new : List ℕ) → IsBrief s t text → new ≡ old ++ text
     → AlwaysReads t → new ≡ old ++ brief s t unlisted
-only_brief s t text old new h e reads = e ∙ ap (λ x. old ++ x)
-    (h.is ∙ ap rows_text (same_report s.chain None h.answers t h.possible tt reads))
+only_brief s t text old new h e reads =
+    e ∙ ap (λ x. old ++ x) (h.is ∙ same_text s.form s.chain h.answers t h.possible reads)

@@ -2,3 +2,4 @@
 pub mod Parts
 pub mod ReadBack
 pub mod EditBack
+pub mod CommandBack

@@ -3,5 +3,8 @@ pub mod FixIts
 pub mod Rows
 pub mod Places
 pub mod Fixes
+pub mod Commands
+pub mod Marks
+pub mod Github
 pub mod Report
 pub mod PossibleAnswers

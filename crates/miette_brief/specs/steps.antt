@@ -2,3 +2,6 @@
 pub mod Reads
 pub mod Conversions
 pub mod AppendedParts
+pub mod CommandParts
+pub mod Marking
+pub mod Wholes

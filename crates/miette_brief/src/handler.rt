@@ -1,24 +1,31 @@
 //! The handler of brief reports.
 
-ghost use Rattle.std.specs.Prelude.{◌≡◌, ◌++◌, true, false, map, OnOk, OnErr, string_bytes};
+ghost use Rattle.std.specs.Prelude.{◌≡◌, ◌++◌, ◌&&◌, true, false, map, IfOk, OnOk, OnErr, string_bytes};
 ghost use Rattle.std.specs.Option.{option_map};
-ghost use Rattle.miette_tree.specs.rules.Tree.{trees};
+ghost use Rattle.miette_tree.specs.rules.DiagnosticParts.{given_labels};
+ghost use Rattle.miette_tree.specs.rules.Tree.{cause_of, head, source_of, trees};
 ghost use Rattle.miette_tree.specs.views.Owned.{shown_source};
 ghost use Rattle.miette_tree.specs.views.Report.{tree_of};
 ghost use Rattle.miette_tree.specs.views.Handler.{AppendsOne};
-ghost use Rattle.miette_tree.specs.rules.Reads.{AlwaysReads, accepts, holds_of, holds_of_all, report_accepted};
+ghost use Rattle.miette_tree.specs.rules.Reads.{AlwaysReads, accepts, holds_further, holds_of, holds_of_all};
+ghost use Rattle.miette_tree.specs.rules.Reads.{report_accepted};
+ghost use Rattle.miette_labels.specs.rules.Groups.{in_order};
 ghost use Rattle.miette_brief.specs.rules.Report.{default_settings, brief, unlisted};
 ghost use Rattle.miette_brief.specs.rules.PossibleAnswers.{IsBrief};
-ghost use Rattle.miette_brief.specs.steps.AppendedParts.{AppendsRelated, AppendsReport};
+ghost use Rattle.miette_brief.specs.steps.AppendedParts.{AppendsOwn, AppendsRelated, AppendsReport};
+ghost use Rattle.miette_brief.specs.steps.Wholes.{IsOwnIn, IsWholeIn};
 
+use crate::form::Form;
+use crate::github::push_command;
 use crate::report::push_own;
+use crate::whole::{Whole, own_whole, whole_or};
 use miette_protocol::error::RenderError;
 use miette_protocol::protocol::Diagnostic;
 use miette_protocol::source::SourceCode;
 use miette_tree::parts::own_or;
 use miette_tree::report::{Report, SourceRef};
 use miette_tree::text_handler::{TextHandler, append_text};
-use std::alloc::Global;
+use std::alloc::{AllocError, Global};
 use std::marker::Model;
 
 /// Tells a report in one row for each of its parts, as editors and build logs read it: `NAME:LINE:COLUMN: error: ..`.
@@ -27,6 +34,7 @@ use std::marker::Model;
 #[derive(Debug, Drop)]
 pub struct BriefReportHandler {
     cause_chain: bool,
+    form: Form,
 }
 
 impl Model for BriefReportHandler {
@@ -34,7 +42,7 @@ impl Model for BriefReportHandler {
 
     ghost Value = { BriefSettings };
 
-    ghost view = { λ it. record { chain = it.cause_chain } };
+    ghost view = { λ it. record { chain = it.cause_chain; form = it.form } };
 }
 
 /// As `new`.
@@ -50,11 +58,14 @@ impl Default for BriefReportHandler {
 }
 
 impl BriefReportHandler {
-    /// A handler that tells causes.
+    /// A handler that tells causes, in the rows of GCC.
     pub fn new() -> Self
         ensures { result ≡ default_settings }
     {
-        BriefReportHandler { cause_chain: true }
+        BriefReportHandler {
+            cause_chain: true,
+            form: Form::Gcc,
+        }
     }
 
     /// The causes of each report are told.
@@ -74,13 +85,32 @@ impl BriefReportHandler {
     fn telling_causes(self, cause_chain: bool) -> Self
         ensures { result ≡ record self { chain = cause_chain } }
     {
-        BriefReportHandler { cause_chain }
+        BriefReportHandler {
+            cause_chain,
+            form: self.form,
+        }
+    }
+
+    /// Reports are told in this form.
+    pub fn with_form(self, form: Form) -> Self
+        ensures { result ≡ record self { form = form } }
+    {
+        BriefReportHandler {
+            cause_chain: self.cause_chain,
+            form,
+        }
     }
 
     fn tells_causes(&self) -> bool
         ensures { result ≡ self.now.chain }
     {
         self.cause_chain
+    }
+
+    fn form(&self) -> Form
+        ensures { result ≡ self.now.form }
+    {
+        self.form
     }
 
     /// Appends the brief text of a report. After an error `out` is as before: `Memory` where memory was refused,
@@ -123,41 +153,86 @@ impl BriefReportHandler {
         append_text(self, report, out)
     }
 
-    // Appends the rows of a report, below one with this source.
+    // Appends a report over a source, or over none, without those related to it.
+    fn push_own<'a, D: Diagnostic, S: SourceCode>(
+        &self,
+        report: &'a Report<D, S>,
+        source: Option<SourceRef<'a, S>>,
+        whole: &Whole<'a>,
+        out: &mut String,
+    ) -> Result<(), RenderError>
+        requires { IsWholeIn self.now.form (option_map (shown_source S.source) source) whole.now }
+        ensures text { OnOk result (AppendsOwn self.now (option_map (shown_source S.source) source.entry)
+            (head (tree_of D.meaning S.source report.now)) (cause_of (tree_of D.meaning S.source report.now))
+            (string_bytes out.old) (string_bytes out.new)) }
+        ensures refused { (result ≡ Err RenderError.Refused) →
+            (accepts (option_map (shown_source S.source) source.entry)
+            (in_order (given_labels (head (tree_of D.meaning S.source report.now)).labels))
+            && holds_further accepts (head (tree_of D.meaning S.source report.now)).snippets) ≡ false }
+    {
+        let chain = self.tells_causes();
+        match self.form() {
+            Form::Gcc => push_own(chain, report, source, out),
+            Form::Github => push_command(chain, report, source, whole, out),
+        }
+    }
+
+    // The own source of a report as a whole, if it has one and the form asks for it.
+    fn own_whole<'a, D: Diagnostic, S: SourceCode>(
+        &self,
+        alloc: Global,
+        report: &'a Report<D, S>,
+    ) -> Result<Option<Whole<'a>>, AllocError>
+        ensures { IfOk result (λ own. IsOwnIn self.now.form
+            (source_of (tree_of D.meaning S.source report.now)) own) }
+    {
+        match self.form() {
+            Form::Gcc => Ok(None),
+            Form::Github => own_whole(alloc, report),
+        }
+    }
+
+    // Appends a report, below one with this source.
     #[cycle(report)]
     fn push_report<'a, D: Diagnostic, S: SourceCode>(
         &self,
         report: &'a Report<D, S>,
         inherited: Option<SourceRef<'a, S>>,
+        whole: &Whole<'a>,
         out: &mut String,
     ) -> Result<(), RenderError>
-        ensures text { OnOk result (AppendsReport self.now.chain (option_map (shown_source S.source) inherited.entry)
+        requires { IsWholeIn self.now.form (option_map (shown_source S.source) inherited) whole.now }
+        ensures text { OnOk result (AppendsReport self.now (option_map (shown_source S.source) inherited.entry)
             (tree_of D.meaning S.source report.now) (string_bytes out.old) (string_bytes out.new)) }
         ensures refused { (result ≡ Err RenderError.Refused) →
             holds_of accepts (option_map (shown_source S.source) inherited.entry)
             (tree_of D.meaning S.source report.now) ≡ false }
     {
         let source = own_or(report, inherited);
-        push_own(self.tells_causes(), report, source, out)?;
-        self.push_related(report.related(), source, out)
+        let own = self.own_whole(*out.allocator(), report)?;
+        let whole = whole_or(&own, &*whole);
+        self.push_own(report, source, whole, out)?;
+        self.push_related(report.related(), source, whole, out)
     }
 
-    // Appends those of related reports, below a report with this source.
+    // Appends related reports, below a report with this source.
     #[cycle(report)]
     fn push_related<'a, D: Diagnostic, S: SourceCode>(
         &self,
         reports: &'a [Report<D, S>],
         source: Option<SourceRef<'a, S>>,
+        whole: &Whole<'a>,
         out: &mut String,
     ) -> Result<(), RenderError>
-        ensures text { OnOk result (AppendsRelated self.now.chain (option_map (shown_source S.source) source.entry)
+        requires { IsWholeIn self.now.form (option_map (shown_source S.source) source) whole.now }
+        ensures text { OnOk result (AppendsRelated self.now (option_map (shown_source S.source) source.entry)
             (trees (map (tree_of D.meaning S.source) reports.now)) (string_bytes out.old) (string_bytes out.new)) }
         ensures refused { (result ≡ Err RenderError.Refused) →
             holds_of_all accepts (option_map (shown_source S.source) source.entry)
             (trees (map (tree_of D.meaning S.source) reports.now)) ≡ false }
     {
         for report in reports {
-            self.push_report(report, source, out)?;
+            self.push_report(report, source, &*whole, out)?;
         }
         Ok(())
     }
@@ -174,7 +249,7 @@ impl TextHandler for BriefReportHandler {
         report: &Report<D, S>,
     ) -> Result<String, RenderError> {
         let mut text = String::new(alloc);
-        self.push_report(report, None, &mut text)?;
+        self.push_report(report, None, &Whole::Nowhere, &mut text)?;
         Ok(text)
     }
 }

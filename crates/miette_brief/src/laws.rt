@@ -1,25 +1,39 @@
 //! What holds of every brief report. Each law is the contract of a function that does nothing; a caller cites it by
 //! calling it.
 
-ghost use Rattle.std.specs.Prelude.{◌≡◌, ◌<◌, ◌^◌, ◌++◌, ℕ, List, Some, None, IfSome, true};
+ghost use Rattle.std.specs.Prelude.{◌≡◌, ◌<◌, ◌^◌, ◌++◌, ℕ, Bool, List, length, Option, Some, None, IfSome, true};
+ghost use Rattle.miette_protocol.specs.rules.Reading.{Source};
 ghost use Rattle.std.specs.List.{All};
 ghost use Rattle.miette_tree.specs.rules.Tree.{Tree};
 ghost use Rattle.miette_tree.specs.rules.Reads.{AlwaysReads};
 ghost use Rattle.miette_tree.specs.views.Handler.{AppendsOne};
+ghost use Rattle.miette_brief.specs.declared.form.Form.TheVariants.{Gcc, Github};
 ghost use Rattle.miette_brief.specs.rules.Rows.{ToldRow, one_row, told_text};
 ghost use Rattle.miette_brief.specs.rules.FixIts.{FixIt, fix_it_text};
-ghost use Rattle.miette_brief.specs.rules.Report.{BriefSettings, Answers, brief, unlisted};
+ghost use Rattle.miette_brief.specs.rules.Report.{BriefSettings, Answers, brief, report_commands, unlisted};
 ghost use Rattle.miette_brief.specs.rules.PossibleAnswers.{IsBrief};
 ghost use Rattle.miette_brief.specs.laws.Parts.{parts, IsRows, HasEachPart};
+ghost use Rattle.miette_brief.specs.laws.CommandBack.{AreCommands, diagnostics_in};
 ghost use Rattle.miette_brief.specs.laws.EditBack.{ReadsEdit};
 ghost use Rattle.miette_brief.specs.laws.ReadBack.{has_no_colon, ReadsBack, position_first};
 
-/// A report has exactly one row for each of its parts: its message, its labels with a text, its causes where they are
-/// told, its help, its fixes, each with its edits or why these can't be applied, and the parts of each report related
-/// to it. None is empty, none holds a control character, and each ends in LF.
+/// In the rows of GCC a report has exactly one row for each of its parts: its message, its labels with a text, its
+/// causes where they are told, its help, its fixes, each with its edits or why these can't be applied, and the parts of
+/// each report related to it. None is empty, none holds a control character, and each ends in LF.
 pub fn each_part_has_one_row()
-    ensures rows { (s : BriefSettings) (t : Tree) (a : Answers) → IsRows (parts s.chain t a) (brief s t a) }
-    ensures given { (s : BriefSettings) (t : Tree) (text : List ℕ) → IsBrief s t text → HasEachPart s.chain t text }
+    ensures rows { (s : BriefSettings) (t : Tree) (a : Answers) → s.form ≡ Gcc →
+        IsRows (parts s.chain t a) (brief s t a) }
+    ensures given { (s : BriefSettings) (t : Tree) (text : List ℕ) → s.form ≡ Gcc → IsBrief s t text →
+        HasEachPart s.chain t text }
+{}
+
+/// In commands of GitHub a report has exactly one row for itself and one for each report related to it. Each row stands
+/// on one line, and its command reads back: its name, its properties, its message.
+pub fn each_diagnostic_has_one_command()
+    ensures read { (s : BriefSettings) (t : Tree) (a : Answers) → s.form ≡ Github →
+        AreCommands (report_commands s.chain None a t) (brief s t a) }
+    ensures many { (chain : Bool) (inherited : Option Source) (t : Tree) (a : Answers) →
+        length (report_commands chain inherited a t) ≡ diagnostics_in t }
 {}
 
 /// In a row with a name that has no colon the place reads back, but for an edit's: up to the first colon stands the

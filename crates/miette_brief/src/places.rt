@@ -82,7 +82,7 @@ fn name_place<'a, S: SourceCode>(source: SourceRef<'a, S>) -> Place<'a>
 }
 
 /// The name of a source alone, nowhere without one.
-fn source_place<'a, S: SourceCode>(source: Option<SourceRef<'a, S>>) -> Place<'a>
+pub(crate) fn source_place<'a, S: SourceCode>(source: Option<SourceRef<'a, S>>) -> Place<'a>
     ensures { IsSourcePlace (option_map (shown_source S.source) source.entry) (place_of result) }
 {
     match source {

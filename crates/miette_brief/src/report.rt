@@ -10,6 +10,7 @@ ghost use Rattle.miette_tree.specs.views.Owned.{shown_source};
 ghost use Rattle.miette_tree.specs.rules.Tree.{head, cause_of};
 ghost use Rattle.miette_tree.specs.rules.DiagnosticParts.{given_labels};
 ghost use Rattle.miette_tree.specs.rules.Reads.{accepts, holds_further};
+ghost use Rattle.miette_brief.specs.declared.form.Form.TheVariants.{Gcc};
 ghost use Rattle.miette_brief.specs.rules.Places.{label_place as place_of_label};
 ghost use Rattle.miette_brief.specs.rules.PossibleAnswers.{HasAccepted, FurtherAccepted};
 ghost use Rattle.miette_brief.specs.rules.Report.{finding_row, note_rows_of, note_rows, further_notes, cause_row};
@@ -215,7 +216,7 @@ pub(crate) fn push_own<'a, D: Diagnostic, S: SourceCode>(
     source: Option<SourceRef<'a, S>>,
     out: &mut String,
 ) -> Result<(), RenderError>
-    ensures text { OnOk result (AppendsOwn chain
+    ensures text { OnOk result (AppendsOwn (record { chain = chain; form = Gcc })
         (option_map (shown_source S.source) source.entry) (head (tree_of D.meaning S.source report.now))
         (cause_of (tree_of D.meaning S.source report.now)) (string_bytes out.old) (string_bytes out.new)) }
     ensures refused { (result ≡ Err RenderError.Refused) →

@@ -21,21 +21,29 @@ other_end (c ∷ []) (suc k) d lt e = absurd (omega (arith, lt))
 other_end (c ∷ n ∷ cs) (suc k) d lt e = ap (onto_seen c) (other_end (n ∷ cs) k d (omega (arith, lt)) e)
 
 -- a space at the end goes
-pub blank_off : (codes : List ℕ) (d len : ℕ) → 0 < len → len ≤ length codes → d ≡ get_or codes (len - 1) d → d ≡ 32
+pub blank_at : (codes : List ℕ) (d len : ℕ) → 0 < len → len ≤ length codes → get_or codes (len - 1) d ≡ 32
     → without_blanks (take (len - 1) codes) ≡ without_blanks (take len codes)
-blank_off codes d zero some le is e = absurd (omega (arith, some))
-blank_off codes d (suc k) some le is e =
+blank_at codes d zero some le e = absurd (omega (arith, some))
+blank_at codes d (suc k) some le e =
     let last : suc k - 1 ≡ k = omega arith in
     ap (λ j. without_blanks (take j codes)) last
-    ∙ blank_end codes k d le (sym (ap (λ j. get_or codes j d) last) ∙ sym is ∙ e)
+    ∙ blank_end codes k d le (sym (ap (λ j. get_or codes j d) last) ∙ e)
+
+pub blank_off : (codes : List ℕ) (d len : ℕ) → 0 < len → len ≤ length codes → d ≡ get_or codes (len - 1) d → d ≡ 32
+    → without_blanks (take (len - 1) codes) ≡ without_blanks (take len codes)
+blank_off codes d len some le is e = blank_at codes d len some le (sym is ∙ e)
 
 -- and another character stays
+pub other_at : (codes : List ℕ) (d len : ℕ) → 0 < len → len ≤ length codes → (get_or codes (len - 1) d ≡ 32 → ⊥)
+    → take len codes ≡ without_blanks (take len codes)
+other_at codes d zero some le e = absurd (omega (arith, some))
+other_at codes d (suc k) some le e =
+    let last : suc k - 1 ≡ k = omega arith in
+    other_end codes k d le (λ h. e (ap (λ j. get_or codes j d) last ∙ h))
+
 pub other_kept : (codes : List ℕ) (d len : ℕ) → 0 < len → len ≤ length codes → d ≡ get_or codes (len - 1) d
     → (d ≡ 32 → ⊥) → take len codes ≡ without_blanks (take len codes)
-other_kept codes d zero some le is e = absurd (omega (arith, some))
-other_kept codes d (suc k) some le is e =
-    let last : suc k - 1 ≡ k = omega arith in
-    other_end codes k d le (λ h. e (is ∙ ap (λ j. get_or codes j d) last ∙ h))
+other_kept codes d len some le is e = other_at codes d len some le (λ h. e (is ∙ h))
 
 pub none_left : (codes : List ℕ) (len : ℕ) → len ≤ 0 → take len codes ≡ without_blanks (take len codes)
 none_left codes zero le = refl

@@ -7,6 +7,8 @@ pub mod Apart
 pub mod Painting
 pub mod PaintedCells
 pub mod Blanks
+pub mod PlainLooks
+pub mod ChangedTexts
 pub mod Framing
 pub mod ShownLines
 pub mod FrameRows

@@ -19,7 +19,7 @@ AlikeFrom at left spans = (cell : Cell) → at ≤ cell.start
     → list_any (holds_byte cell) left ≡ list_any (holds_byte cell) spans
 
 -- paint the cells from there on alike
-painted_alike : (at low : ℕ) (left spans : List Span) (cells : List Cell) → AlikeFrom at left spans → at ≤ low
+pub painted_alike : (at low : ℕ) (left spans : List Span) (cells : List Cell) → AlikeFrom at left spans → at ≤ low
     → ComeFrom low cells → painted left cells ≡ painted spans cells
 painted_alike at low left spans [] alike le come = refl
 painted_alike at low left spans (cell ∷ cells) alike le come =

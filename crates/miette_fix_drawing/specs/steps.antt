@@ -4,6 +4,7 @@ pub mod Looks
 pub mod Passing
 pub mod Pieces
 pub mod Places
+pub mod Printable
 pub mod Rising
 pub mod Spans
 pub mod Starts

@@ -15,12 +15,11 @@ use crate::digits::{Outcome, push_digits};
 use crate::line_ends::line_ends;
 use crate::look::look_alike;
 use crate::marks_row::{edit_marks, push_marks_row};
-use crate::paint::pieces_of;
+use crate::printable::{changed_pieces, push_changed_text};
 use crate::spans::spans_from;
 use crate::texts::text_of;
 use miette_cuts::cutting::{cut_at_ends, marks_shown};
 use miette_cuts::line_text::LineText;
-use miette_cuts::printing::push_shown_text;
 use miette_cuts::stretch::Cut;
 use miette_frames::frame::Frame;
 use miette_page::canvas::Canvas;
@@ -81,9 +80,9 @@ fn push_text_row<O: Canvas>(
         bytes: text_of(line.text),
         tab: frame.settings.layout.tab_width,
     };
-    let pieces = pieces_of(frame.settings.alloc, line.style, line.spans, &text)?;
+    let pieces = changed_pieces(frame.settings.alloc, line.style, line.spans, &text)?;
     push_sign_start(page, frame, line)?;
-    push_shown_text(page, &text, &pieces, cut)?;
+    push_changed_text(page, &text, &pieces, cut)?;
     page.end_row()?;
     Ok(())
 }

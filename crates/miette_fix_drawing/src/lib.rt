@@ -16,6 +16,7 @@ pub mod look;
 mod marks_row;
 pub mod paint;
 mod places;
+mod printable;
 mod segments;
 pub mod spans;
 pub mod standing;

@@ -10,6 +10,7 @@ ghost use Rattle.miette_fix_drawing.specs.steps.Looks.{seen_of_cell};
 
 use crate::texts::text_of;
 use miette_cells::cells::{Cell, Walk};
+use miette_cells::plain::all_printable;
 use miette_snippet_rules::options::SnippetSettings;
 use std::alloc::{AllocError, Global};
 
@@ -84,6 +85,32 @@ fn same_characters(look: &[char], other: &[char]) -> bool
     look == other
 }
 
+// A text without spaces at its end.
+fn without_spaces(text: &[u8]) -> &[u8]
+    ensures { result.now ≡ without_blanks text.now }
+{
+    let mut len = text.len();
+    while len > 0 && text[len - 1] == b' ' {
+        len -= 1;
+    }
+    &text[..len]
+}
+
+// Whether the same is seen of two lines. Printable ASCII characters are seen as they are.
+fn are_seen_alike(settings: &SnippetSettings, line: &[u8], other: &[u8]) -> Result<bool, AllocError>
+    ensures { IfOk result (λ alike. alike
+        ≡ bytes_eq (look (settings_of settings.now) line.now) (look (settings_of settings.now) other.now)) }
+{
+    let text = text_of(line);
+    let other_text = text_of(other);
+    if all_printable(text) && all_printable(other_text) {
+        return Ok(same_bytes(without_spaces(text), without_spaces(other_text)));
+    }
+    let seen = seen_of_line(settings, line)?;
+    let other_seen = seen_of_line(settings, other)?;
+    Ok(same_characters(without_blanks(&seen), without_blanks(&other_seen)))
+}
+
 /// Whether a line and the one that goes with it differ and look alike. `AllocError` where memory is refused, or a
 /// column is past the largest `usize`.
 pub fn look_alike(
@@ -100,7 +127,6 @@ pub fn look_alike(
     if same_bytes(line, other) {
         return Ok(false);
     }
-    let seen = seen_of_line(settings, line)?;
-    let other_seen = seen_of_line(settings, other)?;
-    Ok(same_characters(without_blanks(&seen), without_blanks(&other_seen)))
+    let alike = are_seen_alike(settings, line, other)?;
+    Ok(alike)
 }

@@ -29,8 +29,8 @@ pub struct Painted {
     pub bytes: usize,
 }
 
-// The piece of some characters.
-fn piece_of(style: Style, painted: &Painted) -> (usize, Style)
+/// The piece of some characters.
+pub(crate) fn piece_of(style: Style, painted: &Painted) -> (usize, Style)
     ensures { highlight_of result ≡ piece style painted.now }
 {
     let style = if painted.changed { style } else { PLAIN };

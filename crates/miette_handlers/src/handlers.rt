@@ -1,5 +1,6 @@
 //! The handlers: each gives the text of a report in its own form.
 
+pub use miette_brief::form::Form;
 pub use miette_brief::handler::BriefReportHandler;
 pub use miette_debug::handler::DebugReportHandler;
 pub use miette_graphical::handler::GraphicalReportHandler;

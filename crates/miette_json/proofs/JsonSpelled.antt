@@ -244,21 +244,26 @@ no_such x y e h i = let same : escape_letter x ≡ escape_letter y = ap escape_l
 
 -- ---- what several writes add
 
--- \u00 and two digits in base 16 are written
-pub control_written : (out front mid new : List ℕ) (x h l : ℕ) → front ≡ out ++ 92 ∷ 117 ∷ 48 ∷ 48 ∷ [] → h
-    ≡ digit_char (x / 16) → h < 128 → mid ≡ front ++ encode_utf8 h → l ≡ digit_char (x % 16) → l < 128
-    → new ≡ mid ++ encode_utf8 l → new ≡ out ++ control_text x
-control_written out front mid new x h l e i k f j m g =
-    let high : encode_utf8 h ≡ h ∷ [] = encode_ascii h k in
-    let low : encode_utf8 l ≡ l ∷ [] = encode_ascii l m in
-    let whole : control_text x ≡ 92 ∷ 117 ∷ 48 ∷ 48 ∷ h ∷ l ∷ [] =
-    (ap (λ y. 92 ∷ 117 ∷ 48 ∷ 48 ∷ y ∷ digit_char (x % 16) ∷ []) (sym i)
-    ∙ ap (λ y. 92 ∷ 117 ∷ 48 ∷ 48 ∷ h ∷ y ∷ []) (sym j)) in
-    let seam : mid ≡ out ++ 92 ∷ 117 ∷ 48 ∷ 48 ∷ h ∷ [] = f
-    ∙ (ap (λ y. y ++ encode_utf8 h) e ∙ (append_assoc out (92 ∷ 117 ∷ 48 ∷ 48 ∷ []) (encode_utf8 h)
-    ∙ ap (λ y. out ++ 92 ∷ 117 ∷ 48 ∷ 48 ∷ y) high)) in
-    g ∙ (ap (λ y. y ++ encode_utf8 l) seam ∙ (append_assoc out (92 ∷ 117 ∷ 48 ∷ 48 ∷ h ∷ []) (encode_utf8 l)
-    ∙ ap (λ y. out ++ y) (ap (λ y. 92 ∷ 117 ∷ 48 ∷ 48 ∷ h ∷ y) low ∙ sym whole)))
+-- the front and the last digit are written
+pub control_written : (out front mid new : List ℕ) (x l : ℕ) → front ≡ 92 ∷ 117 ∷ 48 ∷ 48 ∷ digit_char (x / 16) ∷ []
+    → mid ≡ out ++ front → l ≡ digit_char (x % 16) → l < 128 → new ≡ mid ++ encode_utf8 l → new ≡ out ++ control_text x
+control_written out front mid new x l i f j m g =
+    let low : encode_utf8 l ≡ digit_char (x % 16) ∷ [] = encode_ascii l m ∙ ap (λ y. y ∷ []) j in
+    g ∙ (ap (λ y. y ++ encode_utf8 l) f ∙ (append_assoc out front (encode_utf8 l)
+    ∙ (ap (λ y. out ++ (y ++ encode_utf8 l)) i
+    ∙ ap (λ y. out ++ 92 ∷ 117 ∷ 48 ∷ 48 ∷ digit_char (x / 16) ∷ y) low)))
+
+-- the front of what stands for a control character, by its first digit
+pub front_low : (x : ℕ) → x < 16 → 92 ∷ 117 ∷ 48 ∷ 48 ∷ 48 ∷ [] ≡ 92 ∷ 117 ∷ 48 ∷ 48 ∷ digit_char (x / 16) ∷ []
+front_low x h = let zero_first : x / 16 ≡ 0 = omega arith in rw zero_first refl
+
+pub front_high : (x : ℕ) → 16 ≤ x → x < 32
+    → 92 ∷ 117 ∷ 48 ∷ 48 ∷ 49 ∷ [] ≡ 92 ∷ 117 ∷ 48 ∷ 48 ∷ digit_char (x / 16) ∷ []
+front_high x l h = let one_first : x / 16 ≡ 1 = omega arith in rw one_first refl
+
+-- a byte that is none of those with a short escape, but escaped, is a control character
+pub control_low : (x : ℕ) → x ≢ 34 → x ≢ 92 → is_escaped x ≡ true → x < 32
+control_low x a b e = grind (arith, nat_tests)
 
 -- ---- a string stands for its bytes
 

@@ -1,12 +1,18 @@
 //! Strings as JSON, appended to a text.
 
-ghost use Rattle.std.specs.Prelude.{◌≡◌, ◌<◌, ◌++◌, true, OnOk, position, string_bytes};
+ghost use Rattle.std.specs.Prelude.{◌≡◌, ◌<◌, ◌++◌, ◌/◌, ◌∷◌, [], true, OnOk, map, position, string_bytes};
 ghost use Rattle.std.specs.Char.{digit_char};
+ghost use Rattle.std.specs.List.{prefix_len};
+ghost use Rattle.std.specs.Simd.Lanes.{mask_l};
 ghost use Rattle.miette_json.specs.rules.Json.{escaped_text, quoted_text};
-ghost use Rattle.miette_json.specs.steps.EscapedBytes.{is_escaped, control_text};
+ghost use Rattle.miette_json.specs.steps.EscapedBytes.{is_escaped, is_plain, control_text};
 ghost use Rattle.json.specs.Print.{escape_byte};
 
 use std::alloc::AllocError;
+use std::simd::prelude::*;
+
+/// How many bytes are looked at together.
+const BLOCK: usize = 16;
 
 /// Appends a string in quotes, with its escapes.
 pub fn push_quoted(out: &mut String, text: &str) -> Result<(), AllocError>
@@ -34,7 +40,36 @@ fn push_escaped(out: &mut String, text: &str) -> Result<(), AllocError>
 fn first_escape(text: &str) -> Option<usize>
     ensures { result ≡ position is_escaped text.now }
 {
-    text.as_bytes().iter().position(|b| needs_escape(*b))
+    let len = plain_len(text.as_bytes());
+    if len < text.len() { Some(len) } else { None }
+}
+
+/// How many bytes that may stand for themselves these begin with.
+fn plain_len(bytes: &[u8]) -> usize
+    ensures { result ≡ prefix_len is_plain bytes.now }
+{
+    let mut len = 0;
+    while bytes.len() - len >= BLOCK {
+        let escapes = escapes_in(u8x16::from_slice(&bytes[len..]));
+        if escapes != 0 {
+            return len + escapes.trailing_zeros() as usize;
+        }
+        len += BLOCK;
+    }
+    while len < bytes.len() && !needs_escape(bytes[len]) {
+        len += 1;
+    }
+    len
+}
+
+/// A bit for each byte of a block, the lowest for its first: whether it may not stand for itself.
+#[inline(always)]
+fn escapes_in(block: u8x16) -> u64
+    ensures { result ≡ mask_l (map is_escaped block) }
+{
+    (block.simd_lt(u8x16::splat(b' '))
+        | block.simd_eq(u8x16::splat(b'"'))
+        | block.simd_eq(u8x16::splat(b'\\'))).to_bitmask()
 }
 
 /// Whether a byte may not stand for itself in a string.
@@ -64,11 +99,21 @@ fn push_escape(out: &mut String, byte: u8) -> Result<(), AllocError>
 
 /// `\u001b`
 fn push_control(out: &mut String, byte: u8) -> Result<(), AllocError>
+    requires { byte < 32 }
     ensures { OnOk result (string_bytes out.new ≡ string_bytes out.old ++ control_text byte) }
 {
-    out.push_str("\\u00")?;
-    out.push(hex_digit(byte / 16))?;
+    out.push_str(control_front(byte))?;
     out.push(hex_digit(byte % 16))
+}
+
+/// All but the last digit of what stands for a control character.
+#[inline(always)]
+#[tactic(auto, using(crate::proofs::JsonSpelled::front_low, crate::proofs::JsonSpelled::front_high))]
+fn control_front(byte: u8) -> &'static str
+    requires { byte < 32 }
+    ensures { result.now ≡ 92 ∷ 117 ∷ 48 ∷ 48 ∷ digit_char (byte / 16) ∷ [] }
+{
+    if byte < 16 { "\\u000" } else { "\\u001" }
 }
 
 /// The digit in base 16, in lower case.

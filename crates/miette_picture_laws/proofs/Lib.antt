@@ -6,4 +6,5 @@ pub mod NumberRows
 pub mod PlainLines
 pub mod NamedPaths
 pub mod PrintedAlike
+pub mod ShownLines
 pub mod Themes

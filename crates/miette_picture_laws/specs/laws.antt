@@ -3,3 +3,4 @@ pub mod FittingRows
 pub mod Arrows
 pub mod Levels
 pub mod NumberRows
+pub mod ShownLines

@@ -3,13 +3,14 @@
 
 ghost use Rattle.std.specs.Prelude.{◌≡◌, ℕ, Bool, List, [], ◌∷◌, Option, Some, encode_utf8_all, map, true};
 ghost use Rattle.miette_graphical.specs.rules.PossibleAnswers.{IsTextOf};
-ghost use Rattle.miette_graphical.specs.rules.Answers.{Answers, unlisted};
+ghost use Rattle.miette_graphical.specs.rules.Answers.{Answer, Answers, unlisted};
 ghost use Rattle.miette_graphical.specs.laws.Clean.{AreCleanCharacters, AreCleanSettings, IsCleanTree};
 ghost use Rattle.miette_graphical.specs.laws.Alike.{AreAnsweredAlike, AreDrawnAlike};
 ghost use Rattle.miette_graphical.specs.laws.Colourless.{AreDrawings};
 ghost use Rattle.miette_graphical.specs.laws.Colourless.{ArePlain, unhighlighted_answers};
 ghost use Rattle.std.specs.List.{AllByRecursion, Contains};
 ghost use Rattle.miette_graphical.specs.rules.DiagnosticText.{Drawing, rows_text};
+ghost use Rattle.miette_graphical.specs.laws.Headline.{ShowsRanges};
 ghost use Rattle.miette_graphical.specs.laws.Paths.{HasPath, Step, printed_at};
 ghost use Rattle.miette_graphical.specs.laws.Holding.{Arrow, HoldsSnippets, HoldsUnder};
 ghost use Rattle.miette_picture_laws.specs.laws.Arrows.{DrawnRowsStand, FirstStands, InnerRowsStand, RowsStand};
@@ -17,6 +18,9 @@ ghost use Rattle.miette_picture_laws.specs.laws.FittingRows.{fed_rows};
 ghost use Rattle.miette_picture_laws.specs.laws.Levels.{HasPlainBars, HaveRoom, HoldsLevels, LevelRowsStand};
 ghost use Rattle.miette_picture_laws.specs.laws.Levels.{StandBehindBars};
 ghost use Rattle.miette_picture_laws.specs.laws.NumberRows.{IsPlainLine, PrintsItself, PrintsNumber};
+ghost use Rattle.miette_picture_laws.specs.laws.ShownLines.{ShownLinesShow, ShownLinesStand, SourcesStand};
+ghost use Rattle.miette_protocol.specs.views.Meaning.{Label};
+ghost use Rattle.miette_protocol.specs.rules.Reading.{Source};
 ghost use Rattle.miette_snippet_rules.specs.rules.Settings.{SnippetSettings};
 ghost use Rattle.miette_snippet_rules.specs.rules.SnippetLayout.{SnippetContext};
 ghost use Rattle.miette_source_lines.specs.rules.Lines.{Line};
@@ -29,7 +33,7 @@ ghost use Rattle.miette_graphical.specs.rules.Settings.{Settings, default_settin
 ghost use Rattle.miette_graphical.specs.rules.Answers.{SourceAnswer, sources_listed};
 ghost use Rattle.miette_graphical.specs.rules.Snippets.{drawn_rows, drawn_without_fixes, own_rows, source_rows};
 ghost use Rattle.miette_graphical.specs.rules.Snippets.{whole_drawing};
-ghost use Rattle.miette_graphical.specs.rules.Sources.{LabelledSource};
+ghost use Rattle.miette_graphical.specs.rules.Sources.{LabelledSource, drawn_with, sources_of};
 ghost use Rattle.miette_tree.specs.rules.Diagnosis.{Diagnosis};
 ghost use Rattle.miette_tree.specs.rules.DiagnosticParts.{given_labels};
 ghost use Rattle.miette_graphical.specs.rules.Text.{report_text};
@@ -139,6 +143,20 @@ pub fn levels_law()
 pub fn number_rows_law()
     ensures rows { (c : SnippetContext) (line : Line) (number : ℕ) → IsPlainLine c line → PrintsNumber c line number }
     ensures text { (s : SnippetSettings) (bytes : List ℕ) (line : Line) → PrintsItself s bytes line }
+{}
+
+/// Where the snippets of some labels show lines as `lines` of a picture says, the rows of each such line that isn't
+/// left out stand, one after the other, among those of the labels (`rows`). They have the marks and the cuts of which
+/// the clauses of a picture speak, by the line's number; the text begins at one column, and texts hang from their marks
+/// (`texts`). The rows of the labels over each source stand among those of their diagnostic (`sources`), which the text
+/// holds.
+pub fn shown_lines_law()
+    ensures rows { (s : Settings) (source : Source) (labels : List Label) → ShowsRanges s source labels →
+        ShownLinesStand s source labels }
+    ensures texts { (s : Settings) (source : Source) (labels : List Label) → AreNarrow width_of s.theme.characters →
+        ShowsRanges s source labels → ShownLinesShow s source labels }
+    ensures sources { (s : Settings) (source : Option Source) (m : Diagnosis) (a : Answer) →
+        SourcesStand (drawn_with m.snippets s) (sources_of source m) a.sources (drawn_rows s source m a) }
 {}
 
 /// Of the characters of the shipped themes: those that frames, gutters and marks are drawn with are one column wide

@@ -5,10 +5,9 @@ use Rattle.std.proofs.Common.{sym, subst, not, ◌&&◌}
 use Rattle.miette_graphical.proofs.Only as one_text
 use Rattle.miette.specs.rules.Choice.{is_graphical}
 use Rattle.miette.specs.rules.Options.{Options}
+use Rattle.miette.specs.declared.options.handler.MietteHandler.{MietteHandler}
 use Rattle.miette.specs.declared.options.handler.MietteHandler.TheVariants as handler
 use Rattle.miette_style.specs.declared.theme.Terminal.{Terminal}
-use Rattle.miette_protocol.specs.declared.error.RenderError.{RenderError}
-use Rattle.miette_protocol.specs.declared.error.RenderError.TheVariants as errors
 use Rattle.miette_tree.specs.rules.Tree.{Tree}
 use Rattle.miette_brief.specs.rules.PossibleAnswers as briefly
 use Rattle.miette_brief.specs.rules.Report as brief
@@ -23,35 +22,50 @@ use Rattle.miette_graphical.specs.rules.PrintedDiagnostics.{diagnostics_of, labe
 use Rattle.miette_graphical.proofs.Lists.{labels_of_all}
 use Rattle.miette_json.specs.rules.Json.{json_text}
 use Rattle.miette_json.specs.rules.JsonReport.{value_of}
+use Rattle.miette_json.specs.rules.JsonText.{IsJsonOf}
 use Rattle.miette_graphical.specs.rules.PossibleAnswers as drawn
-use Rattle.miette_graphical.specs.views.Handling.{Handling, draws_plain}
+use Rattle.miette_graphical.specs.rules.Calls.{report_calls}
+use Rattle.miette_graphical.specs.views.Handling.{AreCallsOf, Handling, draws_plain}
+use Rattle.miette_highlight.specs.rules.HighlighterCalls.{Call}
+use Rattle.miette_snippet_rules.specs.rules.Highlighting.{follows}
 use Rattle.miette_graphical.specs.rules.Snippets.{whole_drawing}
 use Rattle.miette_graphical.specs.rules.Text.{report_text}
-use Rattle.miette_report.specs.steps.JobHandler.{IsAsked, IsGiven, MayRefuse, Stays}
+use Rattle.miette_report.specs.steps.JobHandler.{HappenLater, IsAsked, IsGiven, IsLed, MayRefuse, Stays}
 use Rattle.miette_description.specs.rules.Description.{tree_for}
 use Rattle.miette_report.specs.rules.Job.{IsBuiltText, IsJobText, IsTelling, IsRefused, Writes}
 use Rattle.miette_report.specs.declared.job_handler.JobHandler.{JobHandler}
 use Rattle.miette_report.specs.declared.job_handler.JobHandler.TheVariants as chosen
+use Rattle.miette_report.specs.declared.language.LanguageHighlighter.{LanguageHighlighter}
 use Rattle.miette_report.specs.declared.option_words.Choice.{Choice}
+use Rattle.miette_report.specs.rules.LanguageRules.{TokensFollow}
+use Rattle.miette_report.proofs.HighlighterSteps.{happen-behind, report-follows}
 use Rattle.miette_report.proofs.AlwaysRead.{printed-reads, told-accepted, brief-accepted, told-fixed}
 
 -- ---- what a handler of the library appends
 
-pub json-given : {A E H : Type 0} (is_blank : H → Bool) (h : JobHandler H) (t : Tree) (old new : List ℕ)
-    (r : Result A E) → h ≡ chosen.Json → AlwaysReads t
+pub json-given : {A E H : Type 0} (is_blank : H → Bool) (may_follow : H → List Call → Type 0) (h : JobHandler H)
+    (t : Tree) (old new : List ℕ) (r : Result A E) → h ≡ chosen.Json → AlwaysReads t
     → OnOk r (report_reads t ≡ true → new ≡ old ++ json_text (value_of t))
-    → OnOk r (AppendsOne (IsGiven is_blank h t) old new)
-json-given is_blank h t old new (Err e) is reads value = tt
-json-given is_blank h t old new (Ok x) is reads value =
-    let one : AppendsOne (IsGiven is_blank chosen.Json t) old new =
+    → OnOk r (AppendsOne (IsGiven is_blank may_follow h t) old new)
+json-given is_blank may_follow h t old new (Err e) is reads value = tt
+json-given is_blank may_follow h t old new (Ok x) is reads value =
+    let one : AppendsOne (IsGiven is_blank may_follow chosen.Json t) old new =
     record { text = json_text (value_of t); is_given = refl; appended = value (told_reads t reads) } in
-    subst (λ k. AppendsOne (IsGiven is_blank k t) old new) (sym is) one
+    subst (λ k. AppendsOne (IsGiven is_blank may_follow k t) old new) (sym is) one
 
-pub debug-given : {A E H : Type 0} (is_blank : H → Bool) (h : JobHandler H) (t : Tree) (old new : List ℕ)
-    (r : Result A E) → h ≡ chosen.Debug
-    → OnOk r (AppendsOne (IsDebugText t) old new) → OnOk r (AppendsOne (IsGiven is_blank h t) old new)
-debug-given is_blank h t old new (Err e) is text = tt
-debug-given is_blank h t old new (Ok x) is text = subst (λ k. AppendsOne (IsGiven is_blank k t) old new) (sym is) text
+-- the spelling of the one value that the report has, where its sources always read
+pub spelled-value : {A E : Type 0} (t : Tree) (old new : List ℕ) (r : Result A E)
+    → OnOk r (AppendsOne (IsJsonOf t) old new) → OnOk r (report_reads t ≡ true → new ≡ old ++ json_text (value_of t))
+spelled-value t old new (Err e) text = tt
+spelled-value t old new (Ok x) text =
+    λ reads. text.appended ∙ ap (λ x. old ++ x) (text.is_given.spelled ∙ ap json_text (text.is_given.always reads))
+
+pub debug-given : {A E H : Type 0} (is_blank : H → Bool) (may_follow : H → List Call → Type 0) (h : JobHandler H)
+    (t : Tree) (old new : List ℕ) (r : Result A E) → h ≡ chosen.Debug
+    → OnOk r (AppendsOne (IsDebugText t) old new) → OnOk r (AppendsOne (IsGiven is_blank may_follow h t) old new)
+debug-given is_blank may_follow h t old new (Err e) is text = tt
+debug-given is_blank may_follow h t old new (Ok x) is text =
+    subst (λ k. AppendsOne (IsGiven is_blank may_follow k t) old new) (sym is) text
 
 -- where lines are left plain, the text is the one under the answers that always come
 only-text : {H : Type 0} (is_blank : H → Bool) (it : Handling H) (t : Tree) (text : List ℕ) → AlwaysReads t
@@ -61,19 +75,26 @@ only-text is_blank it t text reads given plain =
     one_text.only-text it.settings t text
     (subst (λ b. drawn.IsTextOf whole_drawing it.settings b t text) plain given) (printed-reads it.settings t reads)
 
-pub graphical-given : {A E H : Type 0} (is_blank : H → Bool) (h : JobHandler H) (it : Handling H) (t : Tree)
-    (old new : List ℕ) (r : Result A E) → h ≡ chosen.Built (handler.Graphical it) → AlwaysReads t
-    → OnOk r (drawn.Appends whole_drawing it.settings (draws_plain is_blank it) t old new)
-    → OnOk r (AppendsOne (IsGiven is_blank h t) old new)
-graphical-given is_blank h it t old new (Err e) is reads ok = tt
-graphical-given is_blank h it t old new (Ok x) is reads ok =
-    let one : AppendsOne (IsGiven is_blank (chosen.Built (handler.Graphical it)) t) old new =
+pub graphical-given : {A E H : Type 0} (is_blank : H → Bool) (may_follow : H → List Call → Type 0) (h : JobHandler H)
+    (it after : Handling H) (t : Tree) (old new : List ℕ) (r : Result A E) → h ≡ chosen.Built (handler.Graphical it)
+    → AlwaysReads t → OnOk r
+    (AppendsOne (drawn.IsAskedText whole_drawing it.settings (draws_plain is_blank it) (AreCallsOf may_follow it after)
+    t) old new) → OnOk r (AppendsOne (IsGiven is_blank may_follow h t) old new)
+graphical-given is_blank may_follow h it after t old new (Err e) is reads ok = tt
+graphical-given is_blank may_follow h it after t old new (Ok x) is reads ok =
+    let asked = ok.is_given.1 in
+    let given : drawn.IsTextOf whole_drawing it.settings (draws_plain is_blank it) t ok.text =
+    (ok.is_given.0, (asked.0, asked.1, asked.3), ok.is_given.2) in
+    let one : AppendsOne (IsGiven is_blank may_follow (chosen.Built (handler.Graphical it)) t) old new =
     record {
       text = ok.text;
-      is_given = (ok.is_given, only-text is_blank it t ok.text reads ok.is_given);
+      is_given = (
+        (ok.is_given.0, (asked.0, asked.1, ([], after.highlighter, asked.2), asked.3), ok.is_given.2),
+        only-text is_blank it t ok.text reads given,
+      );
       appended = ok.appended;
     } in
-    subst (λ k. AppendsOne (IsGiven is_blank k t) old new) (sym is) one
+    subst (λ k. AppendsOne (IsGiven is_blank may_follow k t) old new) (sym is) one
 
 -- no label of such a report is refused
 pub graphical-accepts : {H : Type 0} (h : JobHandler H) (it : Handling H) (t : Tree) → AlwaysReads t
@@ -82,34 +103,37 @@ graphical-accepts h it t reads refused =
     let no : true ≡ false =
     sym (labels_of_all (diagnostics_of it.settings t) (printed-reads it.settings t reads)) ∙ refused in cc
 
-pub narrated-given : {A E H : Type 0} (is_blank : H → Bool) (h : JobHandler H) (s : narrated.NarrationSettings)
+pub narrated-given : {A E H : Type 0} (is_blank : H → Bool) (may_follow : H → List Call → Type 0) (h : JobHandler H)
+    (s : narrated.NarrationSettings)
     (t : Tree) (old new : List ℕ) (r : Result A E) → h ≡ chosen.Built (handler.Narrated s) → AlwaysReads t
     → OnOk r (AppendsOne (IsNarrated s t) old new) → OnOk r
     (report_reads t ≡ true → fixes_read t ≡ true → new ≡ old ++ narrated.narration s t narrated.unlisted)
-    → OnOk r (AppendsOne (IsGiven is_blank h t) old new)
-narrated-given is_blank h s t old new (Err e) is reads text only = tt
-narrated-given is_blank h s t old new (Ok x) is reads text only =
-    let one : AppendsOne (IsGiven is_blank (chosen.Built (handler.Narrated s)) t) old new =
+    → OnOk r (AppendsOne (IsGiven is_blank may_follow h t) old new)
+narrated-given is_blank may_follow h s t old new (Err e) is reads text only = tt
+narrated-given is_blank may_follow h s t old new (Ok x) is reads text only =
+    let one : AppendsOne (IsGiven is_blank may_follow (chosen.Built (handler.Narrated s)) t) old new =
     record {
       text = narrated.narration s t narrated.unlisted;
       is_given = (told-accepted t text.is_given.answers reads text.is_given.possible, refl);
       appended = only (told_reads t reads) (told-fixed t reads);
     } in
-    subst (λ k. AppendsOne (IsGiven is_blank k t) old new) (sym is) one
+    subst (λ k. AppendsOne (IsGiven is_blank may_follow k t) old new) (sym is) one
 
-pub brief-given : {A E H : Type 0} (is_blank : H → Bool) (h : JobHandler H) (s : brief.BriefSettings) (t : Tree)
-    (old new : List ℕ) (r : Result A E) → h ≡ chosen.Built (handler.Brief s) → AlwaysReads t
+pub brief-given : {A E H : Type 0} (is_blank : H → Bool) (may_follow : H → List Call → Type 0) (h : JobHandler H)
+    (s : brief.BriefSettings)
+    (t : Tree) (old new : List ℕ) (r : Result A E) → h ≡ chosen.Built (handler.Brief s) → AlwaysReads t
     → OnOk r (AppendsOne (briefly.IsBrief s t) old new) → OnOk r
-    (AlwaysReads t → new ≡ old ++ brief.brief s t brief.unlisted) → OnOk r (AppendsOne (IsGiven is_blank h t) old new)
-brief-given is_blank h s t old new (Err e) is reads text only = tt
-brief-given is_blank h s t old new (Ok x) is reads text only =
-    let one : AppendsOne (IsGiven is_blank (chosen.Built (handler.Brief s)) t) old new =
+    (AlwaysReads t → new ≡ old ++ brief.brief s t brief.unlisted)
+    → OnOk r (AppendsOne (IsGiven is_blank may_follow h t) old new)
+brief-given is_blank may_follow h s t old new (Err e) is reads text only = tt
+brief-given is_blank may_follow h s t old new (Ok x) is reads text only =
+    let one : AppendsOne (IsGiven is_blank may_follow (chosen.Built (handler.Brief s)) t) old new =
     record {
       text = brief.brief s t brief.unlisted;
       is_given = (brief-accepted t text.is_given.answers reads text.is_given.possible, refl);
       appended = only reads;
     } in
-    subst (λ k. AppendsOne (IsGiven is_blank k t) old new) (sym is) one
+    subst (λ k. AppendsOne (IsGiven is_blank may_follow k t) old new) (sym is) one
 
 pub brief-refuses : {H : Type 0} (h : JobHandler H) (s : brief.BriefSettings) (t : Tree) → h
     ≡ chosen.Built (handler.Brief s) → report_accepted t ≡ false → MayRefuse h t
@@ -122,12 +146,6 @@ pub narrated-refuses : {H : Type 0} (h : JobHandler H) (s : narrated.NarrationSe
 narrated-refuses {H} h s t is refused =
     let here : MayRefuse {H = H} (chosen.Built (handler.Narrated s)) t = refused in
     subst (λ (k : JobHandler H). MayRefuse k t) (sym is) here
-
--- one that fails only for want of memory refuses none
-pub never-refuses : {A X : Type 0} (r : Result A RenderError) → OnErr r (r ≡ Err errors.Memory) → r ≡ Err errors.Refused
-    → X
-never-refuses (Ok x) memory refused = cc
-never-refuses (Err e) memory refused = let same = sym memory ∙ refused in cc
 
 -- the text where it was appended to none
 pub text-given : {A E F Z : Type 0} (rendered : Result A E) (result : Result (String Z) F) (text : String Z)
@@ -150,16 +168,34 @@ handed-on given rendered result out text old P one is_given is_out ended none =
 
 -- ---- what was asked for
 
-asked-text : {H : Type 0} (is_blank : H → Bool) (c : Choice) (o : Options H) (l : Terminal) (h : JobHandler H)
-    (t : Tree) (text : List ℕ) → IsAsked c o l h → IsGiven is_blank h t text → IsJobText is_blank c o l t text
+-- of one picture after others the calls follow as of the first
+first-picture : (is_blank : LanguageHighlighter → Bool) (it : MietteHandler LanguageHighlighter) (t : Tree)
+    (text : List ℕ) → IsBuiltText is_blank (HappenLater TokensFollow) it t text
+    → IsBuiltText is_blank (follows TokensFollow) it t text
+first-picture is_blank (handler.Graphical it) t text given =
+    let asked = given.0.1 in (
+      (
+        given.0.0,
+        (asked.0, asked.1, report-follows it.highlighter it.settings t asked.0 asked.2, asked.3),
+        given.0.2,
+      ),
+      given.1,
+    )
+first-picture is_blank (handler.Narrated it) t text given = given
+first-picture is_blank (handler.Brief it) t text given = given
+
+pub asked-text : (is_blank : LanguageHighlighter → Bool) (c : Choice) (o : Options LanguageHighlighter) (l : Terminal)
+    (h : JobHandler LanguageHighlighter) (t : Tree) (text : List ℕ) → IsAsked c o l h
+    → IsGiven is_blank TokensFollow h t text → IsJobText is_blank c o l t text
 asked-text is_blank c o l chosen.Json t text is given = subst (λ k. IsJobText is_blank k o l t text) (sym is) given
 asked-text is_blank c o l chosen.Debug t text is given = subst (λ k. IsJobText is_blank k o l t text) (sym is) given
 asked-text is_blank c o l (chosen.Built it) t text is given =
-    subst (λ k. IsJobText is_blank k o l t text) (sym is.0) (it, is.1, given)
+    subst (λ k. IsJobText is_blank k o l t text) (sym is.0) (it, is.1, first-picture is_blank it t text given)
 
-pub render-writes : {E Z H : Type 0} (is_blank : H → Bool) (c : Choice) (o : Options H) (l : Terminal)
-    (h : JobHandler H) (bytes : List ℕ) (t : Tree) (r : Result (String Z) E) → IsAsked c o l h
-    → (IsUtf8 bytes × (tree_for bytes ≡ Some t)) → IfOk r (λ text. IsGiven is_blank h t (string_bytes text))
+pub render-writes : {E Z : Type 0} (is_blank : LanguageHighlighter → Bool) (c : Choice)
+    (o : Options LanguageHighlighter) (l : Terminal) (h : JobHandler LanguageHighlighter) (bytes : List ℕ) (t : Tree)
+    (r : Result (String Z) E) → IsAsked c o l h → (IsUtf8 bytes × (tree_for bytes ≡ Some t))
+    → IfOk r (λ text. IsGiven is_blank TokensFollow h t (string_bytes text))
     → IfOk r (λ text. Writes is_blank c o l bytes (λ given. string_bytes text ≡ given))
 render-writes is_blank c o l h bytes t (Err e) is read given = tt
 render-writes is_blank c o l h bytes t (Ok text) is read given =
@@ -168,8 +204,8 @@ render-writes is_blank c o l h bytes t (Ok text) is read given =
 no-picture : {H : Type 0} (o : Options H) (l : Terminal) → o.brief ≡ true → is_graphical o l ≡ false
 no-picture o l is = ap (λ b. not b && is_graphical (record o { brief = false }) l) is
 
-asked-refusal : {H : Type 0} (c : Choice) (o : Options H) (l : Terminal) (h : JobHandler H) (t : Tree) → IsAsked c o l h
-    → MayRefuse h t → IsTelling c o l × (report_accepted t ≡ false)
+pub asked-refusal : {H : Type 0} (c : Choice) (o : Options H) (l : Terminal) (h : JobHandler H) (t : Tree)
+    → IsAsked c o l h → MayRefuse h t → IsTelling c o l × (report_accepted t ≡ false)
 asked-refusal c o l chosen.Json t is refused = absurd refused
 asked-refusal c o l chosen.Debug t is refused = absurd refused
 asked-refusal c o l (chosen.Built (handler.Graphical it)) t is refused = absurd refused
@@ -227,40 +263,58 @@ stays-on is_blank (chosen.Built (handler.Brief h)) (chosen.Built (handler.Graphi
 stays-on is_blank (chosen.Built (handler.Brief h)) (chosen.Built (handler.Narrated k)) (chosen.Built m) p q = absurd p
 
 -- what it gives then, it might have given at first
-given-before : {H : Type 0} (is_blank : H → Bool) (h k : JobHandler H) (t : Tree) (text : List ℕ) → Stays is_blank h k
-    → IsGiven is_blank k t text → IsGiven is_blank h t text
-given-before is_blank chosen.Json k t text stays given = subst (λ x. IsGiven is_blank x t text) stays given
-given-before is_blank chosen.Debug k t text stays given = subst (λ x. IsGiven is_blank x t text) stays given
-given-before is_blank (chosen.Built h) chosen.Json t text stays given = absurd stays
-given-before is_blank (chosen.Built h) chosen.Debug t text stays given = absurd stays
-given-before is_blank (chosen.Built (handler.Graphical h)) (chosen.Built (handler.Graphical k)) t text stays given =
-    subst (λ b. drawn.IsTextOf whole_drawing h.settings b t text
+pub given-before : {H : Type 0} (is_blank : H → Bool) (may_follow : H → List Call → Type 0) (h k : JobHandler H) (t : Tree)
+    (text : List ℕ) → Stays is_blank h k → IsLed may_follow h k → IsGiven is_blank may_follow k t text
+    → IsGiven is_blank may_follow h t text
+given-before is_blank follow chosen.Json k t text stays led given =
+    subst (λ x. IsGiven is_blank follow x t text) stays given
+given-before is_blank follow chosen.Debug k t text stays led given =
+    subst (λ x. IsGiven is_blank follow x t text) stays given
+given-before is_blank follow (chosen.Built h) chosen.Json t text stays led given = absurd stays
+given-before is_blank follow (chosen.Built h) chosen.Debug t text stays led given = absurd stays
+given-before is_blank follow (chosen.Built (handler.Graphical h)) (chosen.Built (handler.Graphical k)) t text
+    stays led given =
+    let asked = given.0.1 in
+    let happen = HappenLater follow h.highlighter in
+    let behind : HappenLater follow h.highlighter (report_calls k.settings t asked.0) =
+    happen-behind follow (chosen.Built (handler.Graphical h)) (chosen.Built (handler.Graphical k))
+    (report_calls k.settings t asked.0) led asked.2 in
+    subst (λ b. drawn.IsAskedText whole_drawing h.settings b happen t text
     × (b ≡ true → text ≡ encode_utf8_all (report_text whole_drawing h.settings t unlisted))) stays.1
-    (subst (λ s. drawn.IsTextOf whole_drawing s (draws_plain is_blank k) t text
+    (subst (λ s. drawn.IsAskedText whole_drawing s (draws_plain is_blank k) happen t text
     × (draws_plain is_blank k ≡ true → text ≡ encode_utf8_all (report_text whole_drawing s t unlisted))) stays.0
-    given)
-given-before is_blank (chosen.Built (handler.Narrated h)) (chosen.Built (handler.Narrated k)) t text stays given =
-    subst (λ s. IsBuiltText is_blank (handler.Narrated s) t text) stays given
-given-before is_blank (chosen.Built (handler.Brief h)) (chosen.Built (handler.Brief k)) t text stays given =
-    subst (λ s. IsBuiltText is_blank (handler.Brief s) t text) stays given
-given-before is_blank (chosen.Built (handler.Graphical h)) (chosen.Built (handler.Narrated k)) t text stays given =
+    ((given.0.0, (asked.0, asked.1, behind, asked.3), given.0.2), given.1))
+given-before is_blank follow (chosen.Built (handler.Narrated h)) (chosen.Built (handler.Narrated k)) t text
+    stays led given =
+    subst (λ s. IsBuiltText is_blank (HappenLater follow) (handler.Narrated s) t text) stays given
+given-before is_blank follow (chosen.Built (handler.Brief h)) (chosen.Built (handler.Brief k)) t text stays led given =
+    subst (λ s. IsBuiltText is_blank (HappenLater follow) (handler.Brief s) t text) stays given
+given-before is_blank follow (chosen.Built (handler.Graphical h)) (chosen.Built (handler.Narrated k)) t text
+    stays led given =
     absurd stays
-given-before is_blank (chosen.Built (handler.Graphical h)) (chosen.Built (handler.Brief k)) t text stays given =
+given-before is_blank follow (chosen.Built (handler.Graphical h)) (chosen.Built (handler.Brief k)) t text
+    stays led given =
     absurd stays
-given-before is_blank (chosen.Built (handler.Narrated h)) (chosen.Built (handler.Graphical k)) t text stays given =
+given-before is_blank follow (chosen.Built (handler.Narrated h)) (chosen.Built (handler.Graphical k)) t text
+    stays led given =
     absurd stays
-given-before is_blank (chosen.Built (handler.Narrated h)) (chosen.Built (handler.Brief k)) t text stays given =
+given-before is_blank follow (chosen.Built (handler.Narrated h)) (chosen.Built (handler.Brief k)) t text
+    stays led given =
     absurd stays
-given-before is_blank (chosen.Built (handler.Brief h)) (chosen.Built (handler.Graphical k)) t text stays given =
+given-before is_blank follow (chosen.Built (handler.Brief h)) (chosen.Built (handler.Graphical k)) t text
+    stays led given =
     absurd stays
-given-before is_blank (chosen.Built (handler.Brief h)) (chosen.Built (handler.Narrated k)) t text stays given =
+given-before is_blank follow (chosen.Built (handler.Brief h)) (chosen.Built (handler.Narrated k)) t text
+    stays led given =
     absurd stays
 
-pub given-still : {Z E H : Type 0} (is_blank : H → Bool) (h k : JobHandler H) (t : Tree) (r : Result (String Z) E)
-    → Stays is_blank h k → IfOk r (λ text. IsGiven is_blank k t (string_bytes text))
-    → IfOk r (λ text. IsGiven is_blank h t (string_bytes text))
-given-still is_blank h k t (Ok text) stays given = given-before is_blank h k t (string_bytes text) stays given
-given-still is_blank h k t (Err e) stays given = tt
+pub given-still : {Z E H : Type 0} (is_blank : H → Bool) (may_follow : H → List Call → Type 0) (h k : JobHandler H)
+    (t : Tree) (r : Result (String Z) E) → Stays is_blank h k → IsLed may_follow h k
+    → IfOk r (λ text. IsGiven is_blank may_follow k t (string_bytes text))
+    → IfOk r (λ text. IsGiven is_blank may_follow h t (string_bytes text))
+given-still is_blank may_follow h k t (Ok text) stays led given =
+    given-before is_blank may_follow h k t (string_bytes text) stays led given
+given-still is_blank may_follow h k t (Err e) stays led given = tt
 
 pub refused-before : {H : Type 0} (is_blank : H → Bool) (h k : JobHandler H) (t : Tree) → Stays is_blank h k
     → MayRefuse k t → MayRefuse h t
@@ -281,17 +335,18 @@ refused-before is_blank (chosen.Built (handler.Narrated h)) (chosen.Built (handl
 refused-before is_blank (chosen.Built (handler.Brief h)) (chosen.Built (handler.Narrated k)) t stays refused =
     absurd stays
 
-pub length-written : {H : Type 0} (is_blank : H → Bool) (c : Choice) (o : Options H) (l : Terminal) (h : JobHandler H)
-    (bytes : List ℕ) (t : Tree) (text : List ℕ) (n : ℕ) → IsAsked c o l h
-    → (IsUtf8 bytes × (tree_for bytes ≡ Some t)) → IsGiven is_blank h t text → n ≡ length text
-    → Writes is_blank c o l bytes (λ given. n ≡ length given)
+pub length-written : (is_blank : LanguageHighlighter → Bool) (c : Choice) (o : Options LanguageHighlighter)
+    (l : Terminal) (h : JobHandler LanguageHighlighter) (bytes : List ℕ) (t : Tree) (text : List ℕ) (n : ℕ)
+    → IsAsked c o l h → (IsUtf8 bytes × (tree_for bytes ≡ Some t)) → IsGiven is_blank TokensFollow h t text
+    → n ≡ length text → Writes is_blank c o l bytes (λ given. n ≡ length given)
 length-written is_blank c o l h bytes t text n is read given same =
     (read.0, (t, read.1, (text, asked-text is_blank c o l h t text is given, same)))
 
 -- ---- what a writer took
 
-pub written : {H : Type 0} (is_blank : H → Bool) (c : Choice) (o : Options H) (l : Terminal) (told : Option (List ℕ))
-    (bytes slice text sent : List ℕ) (holds : List ℕ → Type 0) → IfSome told (λ b. bytes ≡ b) → slice ≡ bytes
+pub written : (is_blank : LanguageHighlighter → Bool) (c : Choice) (o : Options LanguageHighlighter) (l : Terminal)
+    (told : Option (List ℕ)) (bytes slice text sent : List ℕ) (holds : List ℕ → Type 0)
+    → IfSome told (λ b. bytes ≡ b) → slice ≡ bytes
     → Writes is_blank c o l slice (λ given. text ≡ given) → sent ≡ text → holds sent
     → IfSome told (λ b. Writes is_blank c o l b holds)
 written is_blank c o l None bytes slice text sent holds told same writes as_sent h = tt

@@ -4,6 +4,7 @@ pub mod FixSteps
 pub mod JobEnds
 pub mod PictureSteps
 pub mod AlwaysRead
+pub mod HighlighterSteps
 pub mod JobHandlerSteps
 pub mod AcceptedFindings
 pub mod LintDiffSteps

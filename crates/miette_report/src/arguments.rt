@@ -1,6 +1,6 @@
 //! What a job is asked for.
 
-ghost use Rattle.std.specs.Prelude.{◌≡◌, ◌⊎◌, IfOk, OnErr, Some, None, map, string_bytes};
+ghost use Rattle.std.specs.Prelude.{◌≡◌, ◌⊎◌, IfOk, OnErr, Some, None, map, string_bytes, true};
 ghost use Rattle.miette_report.specs.rules.OptionWords as table;
 ghost use Rattle.miette_report.specs.rules.OptionWords.{AreWanted, asked_by, chosen_by, nothing_asked};
 ghost use Rattle.miette_report.specs.steps.AskedWords.{AreGiven, asked_of, with_asked};
@@ -12,6 +12,7 @@ use crate::option_words::{
     separator_named, theme_named,
 };
 use crate::words::number;
+use miette::handlers::Form;
 use miette::options::MietteHandlerOpts;
 use miette::theme::Terminal;
 use miette::wrap::WordSplitter;
@@ -26,6 +27,16 @@ pub struct Arguments {
     pub options: MietteHandlerOpts<LanguageHighlighter>,
     /// What the text goes to. It has nothing that wasn't given.
     pub terminal: Terminal,
+}
+
+/// Options that ask for brief reports in a form.
+fn brief_options(
+    options: MietteHandlerOpts<LanguageHighlighter>,
+    form: Form,
+) -> MietteHandlerOpts<LanguageHighlighter>
+    ensures { result ≡ record options { brief = true; brief_form = form } }
+{
+    options.force_brief(true).brief_form(form)
 }
 
 impl Arguments {
@@ -92,7 +103,8 @@ impl Arguments {
         match asked {
             ReportAsked::Json => self.choice = Choice::Json,
             ReportAsked::Debug => self.choice = Choice::Debug,
-            ReportAsked::Brief => self.options = self.options.force_brief(true),
+            ReportAsked::Brief => self.options = brief_options(self.options, Form::Gcc),
+            ReportAsked::Github => self.options = brief_options(self.options, Form::Github),
             ReportAsked::Narrated => self.options = self.options.force_narrated(true),
             ReportAsked::Graphical => self.options = self.options.force_graphical(true),
         }

@@ -50,6 +50,8 @@ pub enum Program {
     Bench,
     /// Labels what is amiss in the lines of a source.
     Lint,
+    /// Draws what compilers write.
+    Show,
 }
 
 /// How a program ended.
@@ -101,15 +103,17 @@ impl Program {
                 "lint",
                 "[--brief | --fix | --diff | --sarif [--tool TOOL]] NAME WIDTH",
             ),
+            Program::Show => ("show", "[--from rustc] [--root DIR] [OPTIONS]"),
         }
     }
 
-    /// The status that it ends with: of `lint` always 2, since 1 says that something is found.
+    /// The status that it ends with: of `lint` and `show` always 2, since 1 says that something is found, or that an
+    /// error is among the messages.
     fn status(self, fault: Fault) -> u8
         ensures { result ≡ status_of self fault }
     {
         match (self, fault) {
-            (Program::Lint, _) | (_, Fault::Usage) => 2,
+            (Program::Lint | Program::Show, _) | (_, Fault::Usage) => 2,
             (_, Fault::Memory | Fault::Read | Fault::Write) => 1,
             (_, Fault::Description) => 3,
             (_, Fault::Refused) => 4,

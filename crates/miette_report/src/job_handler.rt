@@ -1,9 +1,9 @@
 //! The handler that a job is asked for.
 
-ghost use Rattle.std.specs.Prelude.{◌≡◌, ◌⊎◌, IfOk, OnErr, string_bytes};
+ghost use Rattle.std.specs.Prelude.{◌≡◌, ◌⊎◌, IfOk, OnErr, OnOk, string_bytes};
 ghost use Rattle.miette_tree.specs.views.Report.{tree_of};
 ghost use Rattle.miette_tree.specs.rules.Reads.{AlwaysReads};
-ghost use Rattle.miette_report.specs.steps.JobHandler.{IsAsked, IsGiven, MayRefuse, Stays};
+ghost use Rattle.miette_report.specs.steps.JobHandler.{IsAsked, IsGiven, IsLed, MayRefuse, Stays};
 
 use crate::arguments::Arguments;
 use crate::fault::Fault;
@@ -16,19 +16,26 @@ use miette::options::MietteHandler;
 use miette::protocol::Diagnostic;
 use miette::report::Report;
 use miette::source::SourceCode;
+use miette_tree::text_handler::append_text;
 use std::alloc::{AllocError, Global};
 
 /// The handler of a job.
 #[derive(Drop)]
-pub(crate) enum JobHandler<H> {
+pub enum JobHandler<H> {
+    /// Reports are JSON.
     Json,
+    /// Reports are debug texts.
     Debug,
+    /// Reports are what the options and the terminal choose.
     Built(MietteHandler<H>),
 }
 
 impl JobHandler<LanguageHighlighter> {
     /// The handler that the settings ask for.
-    pub(crate) fn new(alloc: Global, settings: Arguments) -> Result<Self, AllocError>
+    ///
+    /// # Errors
+    /// Where no memory is found for the theme.
+    pub fn new(alloc: Global, settings: Arguments) -> Result<Self, AllocError>
         ensures { IfOk result (IsAsked settings.choice settings.options settings.terminal) }
     {
         let Arguments {
@@ -59,31 +66,35 @@ fn text_or_fault(rendered: Result<(), RenderError>, text: String) -> Result<Stri
 
 impl<H: Highlighter> JobHandler<H> {
     /// The text of a report whose sources always read.
-    pub(crate) fn render(&mut self, alloc: Global, report: &Report) -> Result<String, Fault>
-        requires reads { AlwaysReads (tree_of ⟦<Box<dyn Diagnostic> as Diagnostic>⟧.meaning
-            ⟦<Box<dyn SourceCode> as SourceCode>⟧.source report.now) }
-        ensures ok { IfOk result (λ text. IsGiven H.is_blank self.old
-            (tree_of ⟦<Box<dyn Diagnostic> as Diagnostic>⟧.meaning ⟦<Box<dyn SourceCode> as SourceCode>⟧.source
-            report.now) (string_bytes text)) }
+    ///
+    /// # Errors
+    /// `Refused` only of a narrated or brief report, where a label that it tells isn't accepted. `Memory`.
+    pub fn render<D: Diagnostic, S: SourceCode>(
+        &mut self,
+        alloc: Global,
+        report: &Report<D, S>,
+    ) -> Result<String, Fault>
+        requires reads { AlwaysReads (tree_of D.meaning S.source report.now) }
+        ensures ok { IfOk result (λ text. IsGiven H.is_blank H.may_follow self.old
+            (tree_of D.meaning S.source report.now) (string_bytes text)) }
         ensures refused { (result ≡ Err Fault.Refused) →
-            MayRefuse self.old (tree_of ⟦<Box<dyn Diagnostic> as Diagnostic>⟧.meaning
-            ⟦<Box<dyn SourceCode> as SourceCode>⟧.source report.now) }
+            MayRefuse self.old (tree_of D.meaning S.source report.now) }
         ensures others { OnErr result ((result ≡ Err Fault.Refused) ⊎ (result ≡ Err Fault.Memory)) }
         ensures stays { Stays H.is_blank self.old self.new }
+        // By its own calls its highlighter is where it is, once it gave a text.
+        ensures led { OnOk result (IsLed H.may_follow self.old self.new) }
     {
         let mut text = String::new(alloc);
         let rendered = match self {
-            JobHandler::Json => JSONReportHandler::new().render_report(report, &mut text),
-            JobHandler::Debug => DebugReportHandler::new().render_report(report, &mut text),
+            JobHandler::Json => append_text(&JSONReportHandler::new(), report, &mut text),
+            JobHandler::Debug => append_text(&DebugReportHandler::new(), report, &mut text),
             JobHandler::Built(MietteHandler::Graphical(handler)) => {
                 handler.debug(report, &mut text)
             }
             JobHandler::Built(MietteHandler::Narrated(handler)) => {
-                handler.render_report(report, &mut text)
+                handler.render(report, &mut text)
             }
-            JobHandler::Built(MietteHandler::Brief(handler)) => {
-                handler.render_report(report, &mut text)
-            }
+            JobHandler::Built(MietteHandler::Brief(handler)) => handler.render(report, &mut text),
         };
         text_or_fault(rendered, text)
     }
@@ -97,7 +108,7 @@ impl<H: Highlighter> JobHandler<H> {
     ) -> Result<String, Fault>
         requires reads { AlwaysReads (tree_of ⟦<Box<dyn Diagnostic> as Diagnostic>⟧.meaning
             ⟦<Box<dyn SourceCode> as SourceCode>⟧.source report.now) }
-        ensures ok { IfOk result (λ text. IsGiven H.is_blank self.old
+        ensures ok { IfOk result (λ text. IsGiven H.is_blank H.may_follow self.old
             (tree_of ⟦<Box<dyn Diagnostic> as Diagnostic>⟧.meaning ⟦<Box<dyn SourceCode> as SourceCode>⟧.source
             report.now) (string_bytes text)) }
         ensures others { OnErr result ((result ≡ Err Fault.Refused) ⊎ (result ≡ Err Fault.Memory)) }

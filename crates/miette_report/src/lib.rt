@@ -9,7 +9,7 @@ pub mod fault;
 pub mod fix;
 mod fixing;
 pub mod job;
-mod job_handler;
+pub mod job_handler;
 pub mod language;
 pub mod laws;
 pub mod lint;

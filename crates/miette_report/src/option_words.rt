@@ -40,6 +40,7 @@ pub(crate) enum ReportAsked {
     Json,
     Debug,
     Brief,
+    Github,
     Narrated,
     Graphical,
 }
@@ -81,6 +82,7 @@ fn report_named(word: &str) -> Option<ReportAsked>
         "--json" => Some(ReportAsked::Json),
         "--debug" => Some(ReportAsked::Debug),
         "--brief" => Some(ReportAsked::Brief),
+        "--github" => Some(ReportAsked::Github),
         "--narrated" => Some(ReportAsked::Narrated),
         "--graphical" => Some(ReportAsked::Graphical),
         _ => None,

@@ -24,7 +24,7 @@ use Rattle.miette_row_laws.proofs.Apart.{marks_apart}
 use Rattle.miette_snippet_rules.proofs.CutColumns.{AreColumns, shown_apart}
 use Rattle.miette_row_laws.proofs.Columns.{columns_of-append, code_at-append}
 use Rattle.miette_row_laws.proofs.UnstyledRows.{mark_row, plain_below}
-use Rattle.miette_row_laws.proofs.HungTexts.{mark_row-at, plain_hang, all_beside, all_more}
+use Rattle.miette_row_laws.proofs.HungTexts.{mark_row-at, mark_row-columns, plain_hang, all_beside, all_more}
 use Rattle.miette_row_laws.proofs.Numerals.{AreDigits, are_digits}
 use Rattle.miette_row_laws.proofs.Flat.{glyphs_of-append, before_pieces, flat_marks, flat_below}
 use Rattle.miette_snippet_rules.specs.rules.SnippetLayout.{snippet_context}
@@ -106,6 +106,9 @@ marked s n prefix more ms apart =
       λ column lt. ap (λ r. code_at r (start + column)) (glyphs_of-append prefix (mark_runs s 0 ms))
           ∙ code_at-append (glyphs_of prefix) (glyphs_of (mark_runs s 0 ms)) column
           ∙ ap (λ r. code_at r column) flat ∙ mark_row-at s n ms column lt,
+      ap columns_of (glyphs_of-append prefix (mark_runs s 0 ms) ∙ ap (λ r. glyphs_of prefix ++ r) flat)
+          ∙ columns_of-append (glyphs_of prefix) (mark_row s ms)
+          ∙ ap (λ k. start + k) (mark_row-columns s n ms),
       subst (λ (rows : List (List Glyph)). AllByRecursion (Hangs s rows start) ms) (sym under)
           (all_more s start below (map glyphs_of more) ms
           (all_beside s (glyphs_of prefix) (plain_below s [] ms) ms (plain_hang s ms n apart))),

@@ -1,31 +1,35 @@
 -- Lines that are cut, in the rows of snippets: which are, how wide they are, and that lines which fit stay as they are.
 use Rattle.std.proofs.Common.{◌≡◌, ◌≢◌, ℕ, suc, ◌+◌, ◌<◌, ◌≤◌, Bool, false, cond, ltb, List, [], ◌∷◌, ◌++◌, length}
-use Rattle.std.proofs.Common.{refl, sym}
+use Rattle.std.proofs.Common.{refl, sym, option_map, ◌||◌}
 use Rattle.std.proofs.Common.{ap, ap₂, ◌∙◌, subst, Option, Some, None, drop}
 use Rattle.std.proofs.lemmas.Bool.{le-ltb, lt-ltb}
 use Rattle.std.specs.List.{AllByRecursion}
 use Rattle.miette_source_lines.specs.rules.Lines.{Line}
-use Rattle.miette_protocol.specs.rules.Reading.{Contents}
-use Rattle.miette_labels.specs.rules.Answers.{Highlight, first_of}
+use Rattle.miette_protocol.specs.views.Meaning.{Label}
+use Rattle.miette_protocol.specs.rules.Reading.{Contents, Source, Span}
+use Rattle.miette_labels.specs.rules.Answers.{Answers, Highlight, first_of}
 use Rattle.miette_cells.specs.rules.Cells.{Cell}
-use Rattle.miette_labels.specs.rules.Contexts.{lines_of_contents}
+use Rattle.miette_labels.specs.rules.Contexts.{contents, lines_of_contents}
+use Rattle.miette_labels.specs.rules.Groups.{groups_fail, groups_of, in_order, refusal, some_fails}
 use Rattle.miette_labels.specs.rules.Labels.{DrawnLabel, one_line, multi_line}
-use Rattle.miette_page.specs.rules.Rows.{columns_of, glyphs_of}
+use Rattle.miette_page.specs.rules.Rows.{Row, columns_of, glyphs_of}
 use Rattle.miette_basics.proofs.Cases.{by_cases}
 use Rattle.miette_snippet_rules.specs.rules.CutLines.{Stretch, cut_line, ends, is_near, shown_marks, shown_runs}
 use Rattle.miette_snippet_rules.specs.rules.CutLines.{stretches}
 use Rattle.miette_snippet_rules.specs.rules.Drawing.{marked_rows}
-use Rattle.miette_snippet_rules.specs.rules.Folds.{Spread}
-use Rattle.miette_snippet_rules.specs.rules.Frames.{number_start, other_start, number_width}
+use Rattle.miette_snippet_rules.specs.rules.Folds.{Spread, spreads_of}
+use Rattle.miette_snippet_rules.specs.rules.Frames.{bottom_row, number_start, other_start, number_width, refused_row}
+use Rattle.miette_snippet_rules.specs.rules.Frames.{top_row}
 use Rattle.miette_snippet_rules.specs.rules.Gutters.{closing_rows, gutter_columns, number_gutter, other_gutter}
 use Rattle.miette_snippet_rules.specs.rules.Marks.{Mark, Text, mark_until, marks_from}
 use Rattle.miette_snippet_rules.specs.rules.PrintedCells.{cells_width}
 use Rattle.miette_snippet_rules.specs.rules.SnippetLayout.{before_each, body_rows, break_row, cells_of, left_out}
 use Rattle.miette_snippet_rules.specs.rules.SnippetLayout.{line_cut, line_marks, line_or_break, line_rows}
-use Rattle.miette_snippet_rules.specs.rules.SnippetLayout.{rows_of_lines}
+use Rattle.miette_snippet_rules.specs.rules.SnippetLayout.{all_snippets, drawn_labels, place_of, rows_of_lines}
+use Rattle.miette_snippet_rules.specs.rules.SnippetLayout.{rows_unless, settings_around, snippet_rows}
 use Rattle.miette_snippet_rules.specs.rules.SnippetLayout.{text_of_cells}
 use Rattle.miette_labels.specs.rules.Labels.{closing_labels}
-use Rattle.miette_row_laws.specs.laws.Cuts.{AreAsWide, Fits, most_columns}
+use Rattle.miette_row_laws.specs.laws.Cuts.{AreAsWide, Fits, GroupsFit, most_columns, without_limit}
 use Rattle.miette_row_laws.specs.laws.Pictures.{text_of_line}
 use Rattle.miette_row_laws.proofs.CutWidth.{row_bound}
 use Rattle.miette_row_laws.proofs.Whole.{line_columns}
@@ -142,3 +146,35 @@ pub bodies_stay : (s : SnippetSettings) (spreads : List Spread) (labels : List D
 bodies_stay s spreads labels source read pieces h =
     lines_stay (left_out s read.line (lines_of_contents read) spreads) false s (number_width read)
     (gutter_columns labels (lines_of_contents read)) labels source (read.line + 1) pieces (lines_of_contents read) h
+
+-- the rows of a report's snippets
+groups_stay : (s : SnippetSettings) (spreads : List Spread) (source : Source) (labels : List Label)
+    (pieces : List (List (List Highlight))) (groups : List Span) → GroupsFit s source groups →
+    all_snippets s spreads source labels pieces groups
+    ≡ all_snippets (without_limit s) spreads source labels pieces groups
+groups_stay s spreads source labels pieces [] fit = refl
+groups_stay s spreads source labels pieces (group ∷ groups) fit =
+    let read : Contents = contents s.layout.context_lines source group in
+    ap₂ (λ body more. (top_row s read (place_of source group labels) ∷ body ++ bottom_row s (number_width read) ∷ [])
+    ++ more)
+    (bodies_stay s spreads (drawn_labels s (length source.bytes) labels) source.bytes read (first_of pieces) fit.0)
+    (groups_stay s spreads source labels (drop 1 pieces) groups fit.1)
+
+unless_stay : (s : SnippetSettings) (source : Source) (labels : List Label) (answers : Answers) (refused : Option Row)
+    → GroupsFit (settings_around s labels) source (groups_of s.layout.context_lines source answers.join_fails labels)
+    → rows_unless s source labels answers refused ≡ rows_unless (without_limit s) source labels answers refused
+unless_stay s source labels answers (Some row) fit = refl
+unless_stay s source labels answers None fit =
+    let groups : List Span = groups_of s.layout.context_lines source answers.join_fails labels in
+    ap (λ rows. cond (groups_fail s.layout.context_lines source answers.join_fails labels
+    || some_fails answers.place_fails groups) None (Some rows))
+    (groups_stay (settings_around s labels) (spreads_of s.layout.label_lines s.layout.context_lines source labels)
+    source labels answers.pieces groups fit)
+
+pub rows_stay : (s : SnippetSettings) (source : Source) (labels : List Label) (answers : Answers) →
+    GroupsFit (settings_around s (in_order labels)) source
+    (groups_of s.layout.context_lines source answers.join_fails (in_order labels)) →
+    snippet_rows s source labels answers ≡ snippet_rows (without_limit s) source labels answers
+rows_stay s source labels answers fit =
+    unless_stay s source (in_order labels) answers
+    (option_map (refused_row s) (refusal source.bytes answers.label_fails (in_order labels))) fit

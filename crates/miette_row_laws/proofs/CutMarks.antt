@@ -26,7 +26,7 @@ use Rattle.miette_row_laws.proofs.Whole.{line_columns}
 
 -- ---- what stands at the columns of two texts, one behind the other
 
-standing-front : (a b : List Glyph) (column : ℕ) → column < columns_of a
+pub standing-front : (a b : List Glyph) (column : ℕ) → column < columns_of a
     → standing_at (a ++ b) column ≡ standing_at a column
 standing-front [] b column lt = absurd (omega (arith, lt))
 standing-front (g ∷ a) b column lt =
@@ -34,7 +34,7 @@ standing-front (g ∷ a) b column lt =
     (λ y. rw y refl)
     (λ n. rw n (standing-front a b (column - g.columns) (omega (arith, lt, ltb-false column g.columns n))))
 
-standing-behind : (a b : List Glyph) (column : ℕ) → columns_of a ≤ column
+pub standing-behind : (a b : List Glyph) (column : ℕ) → columns_of a ≤ column
     → standing_at (a ++ b) column ≡ standing_at b (column - columns_of a)
 standing-behind [] b column le = ap (standing_at b) (omega arith)
 standing-behind (g ∷ a) b column le =

@@ -25,7 +25,7 @@ spaces-columns : (many : ℕ) → columns_of (replicate many (record { code = 32
 spaces-columns zero = refl
 spaces-columns (suc many) = omega (arith, spaces-columns many)
 
-printed-columns : (c : Cell) → columns_of (printed_glyphs c) ≡ c.until - c.from
+pub printed-columns : (c : Cell) → columns_of (printed_glyphs c) ≡ c.until - c.from
 printed-columns c =
     by_cases {C = columns_of (printed_glyphs c) ≡ c.until - c.from} (eqb c.code 9)
     (λ y. rw y (spaces-columns (c.until - c.from))) (λ n. rw n (omega arith))

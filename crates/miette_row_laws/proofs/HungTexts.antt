@@ -53,6 +53,10 @@ mark_row-at s n ms column lt =
     ∙ code_at-front (mark_at s ms) 0 (marks_end 0 ms) column [] (mark_at-narrow s n ms) lt
     ∙ ap (λ k. Some (mark_at s ms k).code) (omega arith)
 
+pub mark_row-columns : (s : SnippetSettings) (n : IsNarrow s.width s.theme.characters) (ms : List Mark)
+    → columns_of (mark_row s ms) ≡ marks_end 0 ms
+mark_row-columns s n ms = columns_of-map (mark_at s ms) 0 (marks_end 0 ms) (mark_at-narrow s n ms)
+
 -- earlier marks have their vbar
 
 abbrev has_anchor : ℕ → List Mark → Bool

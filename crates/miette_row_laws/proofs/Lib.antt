@@ -12,11 +12,14 @@ pub mod CutWidth
 pub mod EndLabels
 pub mod Flat
 pub mod HungTexts
+pub mod LabelMarks
 pub mod NearColumns
 pub mod Numerals
 pub mod PlainStyles
 pub mod PaleSnippets
 pub mod PlainSnippets
 pub mod Paling
+pub mod RowCounts
 pub mod UnstyledRows
 pub mod Whole
+pub mod WidestRows

@@ -11,12 +11,13 @@ use Rattle.miette_snippet_rules.specs.rules.Drawing.{IsNarrow}
 use Rattle.miette_snippet_rules.specs.rules.Gutters.{gutter_columns}
 use Rattle.miette_snippet_rules.specs.rules.Frames.{width_of_lines}
 use Rattle.miette_snippet_rules.specs.rules.SnippetLayout.{cells_of, line_marks, snippet_context, text_of_cells}
-use Rattle.miette_row_laws.specs.laws.Pictures.{LinesShow, BodyShows, marks_of_line}
+use Rattle.miette_row_laws.specs.laws.Pictures.{LineShows, LinesShow, BodyShows, marks_of_line}
 use Rattle.miette_snippet_rules.specs.rules.Marks.{AreApart}
 use Rattle.miette_row_laws.proofs.Apart.{marks_apart}
 use Rattle.miette_cells.specs.rules.Cells.{characters}
 use Rattle.miette_snippet_rules.proofs.CutColumns.{AreColumns, columns_from, shown_apart}
 use Rattle.miette_row_laws.proofs.Numerals.{decimal-mono}
+use Rattle.miette_row_laws.proofs.RowCounts.{line_count}
 use Rattle.miette_row_laws.proofs.Beneath.{HasRoom, line_shows, line_begins, all_room}
 use Rattle.miette_snippet_rules.specs.rules.Settings.{SnippetSettings}
 
@@ -31,6 +32,18 @@ row_apart s labels source line =
     (cells_of s source line) (line_columns s source line)
     (marks_apart (text_of_cells (cells_of s source line) line.text_end) (one_line line labels))
 
+-- the rows of one line
+pub line_shown : (s : SnippetSettings) (w columns : ℕ) (labels : List DrawnLabel) (source : List ℕ) (line : Line)
+    (number : ℕ) (pieces : List Highlight) → IsNarrow s.width s.theme.characters → HasRoom labels line columns →
+    length (decimal number) ≤ w →
+    LineShows (snippet_context s w columns labels (cells_of s source)) line number pieces
+line_shown s w columns labels source line number pieces n room fits = record {
+  text = line_begins s w columns labels line number (cells_of s source line) pieces n room fits;
+  marks = line_shows s w columns labels line number (cells_of s source line) pieces n room
+      (line_columns s source line);
+  count = line_count s w columns labels line number (cells_of s source line) pieces;
+}
+
 lines_show : (s : SnippetSettings) (w columns last : ℕ) (labels : List DrawnLabel) (source : List ℕ) (number : ℕ)
     (pieces : List (List Highlight)) (lines : List Line) → IsNarrow s.width s.theme.characters →
     number + length lines ≡ last + 1 → length (decimal last) ≤ w
@@ -40,9 +53,7 @@ lines_show s w columns last labels source number pieces [] n sum fits room = tt
 lines_show s w columns last labels source number pieces (line ∷ lines) n sum fits room =
     let below : number ≤ last = omega (arith, sum) in
     let own : length (decimal number) ≤ w = omega (arith, decimal-mono number last below, fits) in (
-      line_begins s w columns labels line number (cells_of s source line) (first_of pieces) n room.0 own,
-      line_shows s w columns labels line number (cells_of s source line) (first_of pieces) n room.0
-          (line_columns s source line),
+      line_shown s w columns labels source line number (first_of pieces) n room.0 own,
       lines_show s w columns last labels source (number + 1) (drop 1 pieces) lines n (omega (arith, sum)) fits room.1,
     )
 

@@ -3,4 +3,6 @@ pub mod Clean
 pub mod Cuts
 pub mod Ends
 pub mod Fading
+pub mod LabelMarks
 pub mod Pictures
+pub mod WidestRows

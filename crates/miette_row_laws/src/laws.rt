@@ -11,11 +11,14 @@ ghost use Rattle.miette_row_laws.specs.laws.Clean.{AreCleanDrawings, IsCleanLabe
 ghost use Rattle.miette_row_laws.specs.laws.Ends.{AreBehindShown, AreBehindText, EndsStandBehind, draws_ends};
 ghost use Rattle.miette_row_laws.specs.laws.Ends.{with_ends};
 ghost use Rattle.miette_row_laws.specs.laws.Cuts.{AreAsWide, AreStretches, Fits, IsWithin, by_nearness, by_stretch};
-ghost use Rattle.miette_row_laws.specs.laws.Cuts.{AreMoved, IsSameAt, is_shown_at, most_columns, pieces_shown};
+ghost use Rattle.miette_row_laws.specs.laws.Cuts.{AreMoved, GroupsFit, IsSameAt, is_shown_at, most_columns};
+ghost use Rattle.miette_row_laws.specs.laws.Cuts.{pieces_shown, without_limit};
+ghost use Rattle.miette_row_laws.specs.laws.LabelMarks.{StandAtColumns, StandUnder};
 ghost use Rattle.miette_row_laws.specs.laws.Fading.{ArePlain, IsPlainRow, restyled, unhighlighted_answer};
 ghost use Rattle.miette_style.specs.rules.Themes.{Styles};
 ghost use Rattle.miette_page.specs.rules.Rows.{columns_of, glyphs_of};
 ghost use Rattle.miette_labels.specs.rules.Answers.{Answers, Highlight};
+ghost use Rattle.miette_labels.specs.rules.Groups.{groups_of, in_order};
 ghost use Rattle.miette_labels.specs.rules.Labels.{DrawnLabel, some_shows_end, one_line};
 ghost use Rattle.miette_snippet_rules.specs.rules.Marks.{Text, marks, marks_at, AreApart};
 ghost use Rattle.miette_source_lines.specs.rules.Lines.{Line};
@@ -28,8 +31,9 @@ ghost use Rattle.miette_snippet_rules.specs.rules.Drawing.{IsNarrow};
 ghost use Rattle.miette_snippet_rules.specs.rules.Folds.{Spread};
 ghost use Rattle.miette_snippet_rules.specs.rules.Settings.{SnippetSettings};
 ghost use Rattle.miette_snippet_rules.specs.rules.SnippetLayout.{snippet_rows, body_rows, cells_of, line_cut};
-ghost use Rattle.miette_snippet_rules.specs.rules.SnippetLayout.{line_marks};
+ghost use Rattle.miette_snippet_rules.specs.rules.SnippetLayout.{line_marks, settings_around};
 ghost use Rattle.miette_row_laws.specs.laws.Pictures.{BodyShows, marks_of_line, text_of_line};
+ghost use Rattle.miette_row_laws.specs.laws.WidestRows.{IsWidest, cut_at_four, label_over};
 
 /// The marks of a line's labels are not empty, and each begins where the one before it ends, or later. So an anchor
 /// lies in its own mark and in no other. The same holds of the marks in a line's row, where it may be cut.
@@ -83,27 +87,44 @@ pub fn marks_stand_on_their_characters()
         (marks_of_line s labels line (cells_of s source line)) }
 {}
 
+/// The labels of a line's marks are those that lie on the line alone, in their order (`labels`). In the columns of the
+/// whole line, where the mark before it ends no later, a mark begins at the first column of the character that has the
+/// label's first byte, and ends behind the last column of the one that has its last byte (`under`). At each of these
+/// columns stands what is printed of that character (`characters`).
+pub fn marks_stand_under_their_labels()
+    ensures labels { (s : SnippetSettings) (labels : List DrawnLabel) (source : List ℕ) (line : Line) →
+        map (λ mark. mark.label) (marks_of_line s labels line (cells_of s source line)) ≡ one_line line labels }
+    ensures under { (s : SnippetSettings) (labels : List DrawnLabel) (source : List ℕ) (line : Line) →
+        StandUnder (cells_of s source line) 0 (line_marks line (cells_of s source line) (one_line line labels)) }
+    ensures characters { (s : SnippetSettings) (source : List ℕ) (line : Line) →
+        StandAtColumns (cells_of s source line) }
+{}
+
 /// Where there is a limit, the columns of a line's text in its row are bounded by it, the number of labels that lie on
-/// the line alone, and the widest cell of the line. The bound is reached: without labels by a line that has a widest
-/// cell in its last column within the limit, and more than three columns behind that; with labels by a line on which
-/// they are far from its ends and one another, and of so many columns that their anchors are far from their ends, where
-/// the limit is at least four, or the widest cell has one column: each end then has a widest cell on the first column
-/// of its reach, and one on the last, and dots stand between.
+/// the line alone, and the widest cell of the line (`bound`). The bound is reached: at a limit of four by eight letters
+/// without a label (`reached`), and by 25 with one from the 6th to the 20th (`reached_by_label`).
 pub fn cut_rows_are_narrow()
-    ensures { (s : SnippetSettings) (labels : List DrawnLabel) (source : List ℕ) (line : Line)
+    ensures bound { (s : SnippetSettings) (labels : List DrawnLabel) (source : List ℕ) (line : Line)
         (pieces : List Highlight) (limit widest : ℕ) → s.layout.line_columns ≡ Some limit →
         AreAsWide widest (cells_of s source line) →
         columns_of (glyphs_of (text_of_line s labels line (cells_of s source line) pieces))
         ≤ most_columns limit (length (one_line line labels)) widest }
+    ensures reached { (s : SnippetSettings) → IsWidest (cut_at_four s) 8 [] }
+    ensures reached_by_label { (s : SnippetSettings) → IsWidest (cut_at_four s) 25 (label_over 5 20 ∷ []) }
 {}
 
-/// Where no line of a snippet has more columns than the limit, its rows are those without a limit.
+/// Where no line of a snippet has more columns than the limit, its rows are those without a limit (`snippet`), and so
+/// are all rows, where no line of any snippet has (`rows`).
 pub fn lines_that_fit_stay()
-    ensures { (s : SnippetSettings) (spreads : List Spread) (labels : List DrawnLabel) (source : List ℕ)
+    ensures snippet { (s : SnippetSettings) (spreads : List Spread) (labels : List DrawnLabel) (source : List ℕ)
         (read : Contents) (pieces : List (List Highlight)) →
         AllByRecursion (λ line. Fits s.layout.line_columns (cells_of s source line)) (lines_of_contents read) →
         body_rows s spreads labels source read pieces
-        ≡ body_rows (record s { layout = record s.layout { line_columns = None } }) spreads labels source read pieces }
+        ≡ body_rows (without_limit s) spreads labels source read pieces }
+    ensures rows { (s : SnippetSettings) (source : Source) (labels : List Label) (answers : Answers) →
+        GroupsFit (settings_around s (in_order labels)) source
+        (groups_of s.layout.context_lines source answers.join_fails (in_order labels)) →
+        snippet_rows s source labels answers ≡ snippet_rows (without_limit s) source labels answers }
 {}
 
 /// Where the labels at the end of a source are drawn, and one of them has a line of context, just these labels stand
@@ -123,7 +144,8 @@ pub fn ends_are_drawn()
 {}
 
 /// In the rows of each line of a snippet the text begins at one column, the mark row has the marks in their columns
-/// counted from there, and each text hangs from its own mark's anchor.
+/// counted from there and ends where the last mark does, and each text hangs from its own mark's anchor. Each part of a
+/// text has one row; beside these, the line's own and that of its marks no row is there.
 pub fn texts_hang()
     ensures { (s : SnippetSettings) (labels : List DrawnLabel) (source : List ℕ) (read : Contents)
         (pieces : List (List Highlight)) →

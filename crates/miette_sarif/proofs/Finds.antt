@@ -10,7 +10,7 @@ use Rattle.miette_sarif.specs.rules.Gathered.{cause_marks, cause_proposals, caus
 use Rattle.miette_sarif.specs.rules.Marks.{Group, Picked, groups_of, marks_of, other_marks, others_in, primary_in}
 use Rattle.miette_sarif.specs.rules.Marks.{mark_or, primary_mark, seen_further}
 use Rattle.miette_sarif.specs.rules.Proposals.{listed_fix, proposal_over, proposals, refused, refused_fix}
-use Rattle.miette_sarif.specs.steps.Gathering.{AddsCauses, AddsOver, IsFound, Kept, Telling, told, with_fix}
+use Rattle.miette_sarif.specs.steps.Gathering.{AddsCauses, AddsMarks, AddsOver, IsFound, Kept, Telling, told, with_fix}
 use Rattle.miette_sarif.specs.steps.Gathering.{with_fixes}
 use Rattle.miette_sarif.specs.steps.Sees.{SeesFurther}
 
@@ -62,6 +62,25 @@ pub primary_taken : {X : Type 0} (f : X → Mark) (taken : Option X) (picked : O
 primary_taken f None picked gs os e h = (ap (option_map (λ it. it.mark)) e, ap (λ p. others_in p gs) e ∙ sym (h refl))
 primary_taken f (Some x) picked gs os e h = (ap (option_map (λ it. it.mark)) e, ap (λ p. others_in p gs) e)
 
+pub marks_added : {X : Type 0} (f : X → Mark) (taken : Option X) (over : Option SeenSource) (n : ℕ) (m : Diagnosis)
+    (sections : List Section) (its shown : List SeenSource) (groups lent others : List Group) (primary : Option Mark)
+    (old new : List Mark) → SeesFurther n sections its → sections ≡ m.snippets → shown ≡ its
+    → groups ≡ groups_of over shown m → lent ≡ groups
+    → primary_in lent ≡ option_map (λ x. record { mark = f x; others = others }) taken → (taken ≡ None → others ≡ lent)
+    → primary ≡ mark_or (option_map f taken) over → new ≡ old ++ marks_of others → AddsMarks over n m primary old new
+marks_added f taken over n m sections its shown groups lent others primary old new seen e es eg el p stays place put =
+    let here : SeesFurther n m.snippets its = subst (λ ss. SeesFurther n ss its) e seen in
+    let whole : lent ≡ groups_of over (seen_further here.faults n m.snippets) m =
+    el ∙ eg ∙ ap (λ l. groups_of over l m) (es ∙ here.are) in
+    let took = primary_taken f taken (primary_in lent) lent others p stays in
+    record {
+      faults = here.faults;
+      possible = here.possible;
+      first = place ∙ ap (λ o. mark_or o over) (sym took.0)
+          ∙ ap (λ gs. primary_mark (primary_in gs) over) whole;
+      others = put ∙ ap (λ gs. old ++ marks_of gs) (sym took.1 ∙ ap (λ gs. others_in (primary_in gs) gs) whole);
+    }
+
 -- ---- the finding
 
 abbrev pub made : Telling → Option Mark → List Mark → List Proposed → List (List ℕ) → Finding
@@ -78,68 +97,41 @@ made t primary marks fixes unapplied = record {
   unapplied = unapplied;
 }
 
-pub finding_found : (over : Option SeenSource) (n next : ℕ) (t : Tree) (its : List SeenSource)
-    (primary : Option Mark) (others : List Group) (telling : Telling) (before k : Kept) (it : Finding)
-    → SeesFurther n (head t).snippets its
-    → primary ≡ primary_mark (primary_in (groups_of over its (head t))) over
-    → others ≡ others_in (primary_in (groups_of over its (head t))) (groups_of over its (head t))
-    → telling ≡ told (head t) (cause_of t) → before.marks ≡ marks_of others
-    → before.fixes ≡ proposals over (head t).fixes → before.unapplied ≡ refused over (head t).fixes
+pub finding_found : (over : Option SeenSource) (n next : ℕ) (t : Tree) (primary : Option Mark) (telling : Telling)
+    (none own : List Mark) (fixes : List Proposal) (kept before k : Kept) (it : Finding) → none ≡ []
+    → AddsMarks over n (head t) primary none own → telling ≡ told (head t) (cause_of t) → kept.marks ≡ own
+    → kept.fixes ≡ [] → kept.unapplied ≡ [] → fixes ≡ (head t).fixes → before ≡ with_fixes over fixes kept
     → next ≡ n + length (head t).snippets → AddsCauses over next (cause_of t) before k
     → it ≡ made telling primary k.marks k.fixes k.unapplied → IsFound over n t it
-finding_found over n next (tree m s c r) its primary others telling before k it seen p o l a b d e below is =
-    let g : List Group = groups_of over its m in
-    let h : List Group = groups_of over (seen_further seen.faults n m.snippets) m in
-    let same : g ≡ h = ap (λ x. groups_of over x m) seen.are in
+finding_found over n next (tree m s c r) primary telling none own fixes kept before k it empty h l keeps fx un ef b e
+    below is =
+    let g : List Group = groups_of over (seen_further h.faults n m.snippets) m in
     let later : ℕ = n + length m.snippets in
-    let place : primary ≡ primary_mark (primary_in h) over =
-    p ∙ ap (λ gs. primary_mark (primary_in gs) over) same in
-    let marks : k.marks ≡ other_marks (primary_in h) h ++ cause_marks over below.faults later c =
-    below.marks ∙ ap (λ l. l ++ cause_marks over below.faults next c)
-    (a ∙ ap marks_of (o ∙ ap (λ gs. others_in (primary_in gs) gs) same))
-    ∙ ap (λ x. other_marks (primary_in h) h ++ cause_marks over below.faults x c) e in
-    let fixes : k.fixes ≡ proposals over m.fixes ++ cause_proposals over below.faults later c =
-    below.fixes ∙ ap (λ l. l ++ cause_proposals over below.faults next c) b
+    let done = fixes_kept over m.fixes kept in
+    let now : before ≡ with_fixes over m.fixes kept = b ∙ ap (λ fs. with_fixes over fs kept) ef in
+    let marks : k.marks ≡ other_marks (primary_in g) g ++ cause_marks over below.faults later c =
+    below.marks ∙ ap (λ l. l ++ cause_marks over below.faults next c) (ap (λ x. x.marks) now ∙ done.0 ∙ keeps
+    ∙ h.others ∙ ap (λ l. l ++ other_marks (primary_in g) g) empty)
+    ∙ ap (λ x. other_marks (primary_in g) g ++ cause_marks over below.faults x c) e in
+    let fixed : k.fixes ≡ proposals over m.fixes ++ cause_proposals over below.faults later c =
+    below.fixes ∙ ap (λ l. l ++ cause_proposals over below.faults next c)
+    (ap (λ x. x.fixes) now ∙ done.1 ∙ ap (λ l. l ++ proposals over m.fixes) fx)
     ∙ ap (λ x. proposals over m.fixes ++ cause_proposals over below.faults x c) e in
     let unapplied : k.unapplied ≡ refused over m.fixes ++ cause_refused over below.faults later c =
-    below.unapplied ∙ ap (λ l. l ++ cause_refused over below.faults next c) d
+    below.unapplied ∙ ap (λ l. l ++ cause_refused over below.faults next c)
+    (ap (λ x. x.unapplied) now ∙ done.2 ∙ ap (λ l. l ++ refused over m.fixes) un)
     ∙ ap (λ x. refused over m.fixes ++ cause_refused over below.faults x c) e in
     record {
-      further = seen.faults;
+      further = h.faults;
       causes = below.faults;
-      possible_further = seen.possible;
+      possible_further = h.possible;
       possible_causes = below.possible;
       is = is ∙ ap (λ x. made x primary k.marks k.fixes k.unapplied) l
-          ∙ ap (λ x. made (told m c) x k.marks k.fixes k.unapplied) place
-          ∙ ap (λ x. made (told m c) (primary_mark (primary_in h) over) x k.fixes k.unapplied) marks
-          ∙ ap (λ x. made (told m c) (primary_mark (primary_in h) over)
-          (other_marks (primary_in h) h ++ cause_marks over below.faults later c) x k.unapplied) fixes
-          ∙ ap (made (told m c) (primary_mark (primary_in h) over)
-          (other_marks (primary_in h) h ++ cause_marks over below.faults later c)
+          ∙ ap (λ x. made (told m c) x k.marks k.fixes k.unapplied) h.first
+          ∙ ap (λ x. made (told m c) (primary_mark (primary_in g) over) x k.fixes k.unapplied) marks
+          ∙ ap (λ x. made (told m c) (primary_mark (primary_in g) over)
+          (other_marks (primary_in g) g ++ cause_marks over below.faults later c) x k.unapplied) fixed
+          ∙ ap (made (told m c) (primary_mark (primary_in g) over)
+          (other_marks (primary_in g) g ++ cause_marks over below.faults later c)
           (proposals over m.fixes ++ cause_proposals over below.faults later c)) unapplied;
     }
-
--- from what each step of the code gives
-pub finding_made : {X : Type 0} (f : X → Mark) (taken : Option X) (over : Option SeenSource) (n next : ℕ) (t : Tree)
-    (sections : List Section) (its shown : List SeenSource) (groups lent others : List Group) (primary : Option Mark)
-    (telling : Telling) (fixes : List Proposal) (kept before k : Kept) (it : Finding)
-    → SeesFurther n sections its → sections ≡ (head t).snippets → shown ≡ its → groups ≡ groups_of over shown (head t)
-    → lent ≡ groups → primary_in lent ≡ option_map (λ x. record { mark = f x; others = others }) taken
-    → (taken ≡ None → others ≡ lent) → primary ≡ mark_or (option_map f taken) over
-    → telling ≡ told (head t) (cause_of t) → kept.marks ≡ marks_of others → kept.fixes ≡ [] → kept.unapplied ≡ []
-    → fixes ≡ (head t).fixes → before ≡ with_fixes over fixes kept → next ≡ n + length (head t).snippets
-    → AddsCauses over next (cause_of t) before k → it ≡ made telling primary k.marks k.fixes k.unapplied
-    → IsFound over n t it
-finding_made f taken over n next t sections its shown groups lent others primary telling fixes kept before k it
-    seen e es eg el p stays place said m fx un ef b place_next below is =
-    let whole : lent ≡ groups_of over its (head t) = el ∙ eg ∙ ap (λ l. groups_of over l (head t)) es in
-    let took = primary_taken f taken (primary_in lent) lent others p stays in
-    let done = fixes_kept over (head t).fixes kept in
-    let now : before ≡ with_fixes over (head t).fixes kept = b ∙ ap (λ fs. with_fixes over fs kept) ef in
-    finding_found over n next t its primary others telling before k it
-    (subst (λ ss. SeesFurther n ss its) e seen)
-    (place ∙ ap (λ o. mark_or o over) (sym took.0) ∙ ap (λ gs. primary_mark (primary_in gs) over) whole)
-    (sym took.1 ∙ ap (λ gs. others_in (primary_in gs) gs) whole) said
-    (ap (λ x. x.marks) now ∙ done.0 ∙ m)
-    (ap (λ x. x.fixes) now ∙ done.1 ∙ ap (λ l. l ++ proposals over (head t).fixes) fx)
-    (ap (λ x. x.unapplied) now ∙ done.2 ∙ ap (λ l. l ++ refused over (head t).fixes) un) place_next below is

@@ -72,6 +72,16 @@ position_codes q ks =
 
 -- ---- one more of several
 
+pub some_pushed : {A : Type 0} (old new more left rest all : List A) → new ≡ old ++ more → left ≡ more ++ rest
+    → old ++ left ≡ all → new ++ rest ≡ all
+some_pushed old new more left rest all e next h =
+    ap (λ l. l ++ rest) e ∙ append_assoc old more rest ∙ ap (λ l. old ++ l) (sym next) ∙ h
+
+pub one_pushed : {A : Type 0} (old new : List A) (v w : A) (left rest all : List A) → new ≡ old ++ v ∷ []
+    → v ≡ w → left ≡ w ∷ rest → old ++ left ≡ all → new ++ rest ≡ all
+one_pushed old new v w left rest all e is next h =
+    some_pushed old new (v ∷ []) left rest all e (next ∙ ap (λ x. x ∷ rest) (sym is)) h
+
 pub all_inserted : (before after : List (List ℕ)) (x y : List ℕ) (left rest all : List (List ℕ))
     → after ≡ insert_key bytes_eq before x → x ≡ y → left ≡ y ∷ rest → insert_all bytes_eq before left ≡ all
     → insert_all bytes_eq after rest ≡ all

@@ -74,13 +74,9 @@ inserted_some [] empty v e f g = cc
 inserted_some (c ∷ cs) empty v e f g = ap (pair (codes "insertedContent")) g
 
 -- a source by its uri and its index
-pub located_is : (whole v w : Json) (none one two : Pairs) (uri wanted : List ℕ) (uris : List (List ℕ)) (i : ℕ)
-    → whole ≡ object_of two → two ≡ one ++ pair (codes "index") w → one ≡ none ++ pair (codes "uri") v → none ≡ []
-    → v ≡ string uri → w ≡ number i → i ≡ index_of (bytes_eq uri) uris → uri ≡ wanted
-    → whole ≡ located_at uris wanted
-located_is whole v w none one two uri wanted uris i is second first empty text at index named =
-    is ∙ ap object_of (second ∙ ap (λ m. m ++ pair (codes "index") w) (first
-    ∙ ap (λ m. m ++ pair (codes "uri") v) empty))
-    ∙ ap (λ j. object_of (pair (codes "uri") j ++ pair (codes "index") w)) (text ∙ ap string named)
-    ∙ ap (λ j. object_of (pair (codes "uri") (string wanted) ++ pair (codes "index") j))
-    (at ∙ ap number (index ∙ ap (λ q. index_of (bytes_eq q) uris) named))
+pub located_is : (whole : Json) (uri wanted : List ℕ) (uris : List (List ℕ)) (i : ℕ)
+    → whole ≡ object_of (pair (codes "uri") (string uri) ++ pair (codes "index") (number i))
+    → i ≡ index_of (bytes_eq uri) uris → uri ≡ wanted → whole ≡ located_at uris wanted
+located_is whole uri wanted uris i is index named =
+    is ∙ ap (λ n. object_of (pair (codes "uri") (string uri) ++ pair (codes "index") (number n))) index
+    ∙ ap (located_at uris) named

@@ -5,7 +5,8 @@ use Rattle.std.proofs.lemmas.Map.Text.{hash_map_updates_str}
 use Rattle.std.proofs.lemmas.Slice.Eq.{bytes_eq-Decides}
 use Rattle.std.specs.Prelude.{not, ◌&&◌, ◌==◌, Option, Some, None, is_some}
 use Rattle.std.specs.Str.{bytes_eq}
-use Rattle.indexmap.specs.IndexMap.{IndexMap, UpdatesBy, get_by}
+use Rattle.indexmap.specs.IndexMap.{IndexMap, IsEmpty, UpdatesBy, get_by}
+use Rattle.std.specs.Map.{lookup}
 use Rattle.miette_basics.specs.rules.Lists.{is_nil}
 use Rattle.miette_sarif.specs.rules.Codes.{Rules, absolute_uri, first_or, has_code, help_uri}
 use Rattle.miette_sarif.specs.rules.Findings.{Finding}
@@ -62,6 +63,10 @@ noted_now m n code s uri updates some absent is other =
     ∙ puts (bytes_eq code other) o s uri (λ e. subst (λ c. is_some (get_by (λ k. bytes_eq c k.now) m) ≡ false)
     ((bytes_eq-Decides code other).0 e) absent) is
     ∙ ap (λ b. cond (not b && bytes_eq code other) (first_or (option_text o) uri) (option_text o)) (sym some)
+
+pub none_noted : {S : Type 0} (m : IndexMap (Bor (List ℕ)) (String Global) S) → IsEmpty m → (code : List ℕ)
+    → uri_at m code ≡ None
+none_noted m e code = ap (λ es. option_text (lookup (λ k. bytes_eq code k.now) es)) e
 
 -- ---- one finding after the other
 

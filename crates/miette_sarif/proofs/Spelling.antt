@@ -1,5 +1,5 @@
 -- The spelling of a log stands for it, and for no other value.
-use Rattle.std.proofs.Common.{◌≡◌, ℕ, List, [], ◌++◌, None, sym, ap, ◌∙◌, subst}
+use Rattle.std.proofs.Common.{◌≡◌, ℕ, List, ◌++◌, None, sym, ap, ◌∙◌, subst}
 use Rattle.std.specs.Prelude.{IsUtf8}
 use Rattle.miette_json.specs.rules.Denotes.{Denotes, HasTokensOf}
 use Rattle.miette_json.specs.rules.Json.{Json, json_text}
@@ -15,9 +15,9 @@ use Rattle.miette_sarif.proofs.Always.{trees_read}
 pub is_log : ((v : Json) → HasTokensOf (json_text v) v)
     → ((bytes : List ℕ) (v w : Json) → Denotes bytes v → Denotes bytes w → v ≡ w)
     → (t : ToolName) (ts : Trees) (fs : List Finding) → AreFindingsOf ts fs → (value : Json) → value ≡ log t fs
-    → (old text : List ℕ) → IsUtf8 text → old ≡ [] → text ≡ old ++ json_text value → IsLogOf t ts text
-is_log tokens one t ts fs found value is old text utf8 none e =
-    let spelled : text ≡ json_text (log t fs) = e ∙ ap (λ l. l ++ json_text value) none ∙ ap json_text is in
+    → (text : List ℕ) → IsUtf8 text → text ≡ json_text value → IsLogOf t ts text
+is_log tokens one t ts fs found value is text utf8 e =
+    let spelled : text ≡ json_text (log t fs) = e ∙ ap json_text is in
     let denotes : Denotes text (log t fs) =
     (utf8, subst (λ l. HasTokensOf l (log t fs)) (sym spelled) (tokens (log t fs))) in
     record {

@@ -1,10 +1,15 @@
 -- A number, a list and an object, written.
 use Rattle.std.proofs.Common.{◌≡◌, ℕ, ◌<◌, ◌^◌, List, [], ◌∷◌, ◌++◌, sym, ap, ◌∙◌, append_assoc}
 use Rattle.std.specs.Fmt.{decimal}
+use Rattle.std.specs.Prelude.{codes}
 use denote.Ref.{Bor}
 use Rattle.miette_json.specs.rules.Json.{Json, number, array, object, json_text, items_text, members_text}
 use Rattle.miette_json.proofs.JsonSpelled.{numeral_decimal}
 use Rattle.miette_sarif.specs.declared.value.Value.{Value}
+use Rattle.miette_sarif.specs.rules.Codes.{Rules}
+use Rattle.miette_sarif.specs.rules.Findings.{Finding}
+use Rattle.miette_sarif.specs.rules.Messages.{doubled, maybe_row, rows}
+use Rattle.miette_sarif.specs.rules.Results.{message_text, see_row}
 use Rattle.miette_sarif.specs.views.Values.{items_view, members_view}
 
 pub number_written : (v : Json) (n : ℕ) (old new : List ℕ) → n < 2 ^ 64 → v ≡ number n → new ≡ old ++ decimal n
@@ -26,3 +31,21 @@ object_written v slice members old mid new is begun same e =
     e ∙ ap (λ l. l ++ members_text (members_view slice)) begun
     ∙ append_assoc old (123 ∷ []) (members_text (members_view slice))
     ∙ ap (λ l. old ++ 123 ∷ members_text (members_view l)) same ∙ ap (λ l. old ++ json_text l) (sym is)
+
+-- a text, and then others behind it
+behind : (old mid new text more : List ℕ) → mid ≡ old ++ text → new ≡ mid ++ more → new ≡ old ++ (text ++ more)
+behind old mid new text more e f = f ∙ ap (λ l. l ++ more) e ∙ append_assoc old text more
+
+-- the rows of a message, one behind the other
+pub message_written : (r : Rules) (f : Finding) (old own caused helped fixed new : List ℕ)
+    → own ≡ old ++ doubled f.message → caused ≡ own ++ rows (codes "caused by: ") f.causes
+    → helped ≡ caused ++ maybe_row (codes "help: ") f.help → fixed ≡ helped ++ rows (codes "fix: ") f.unapplied
+    → new ≡ fixed ++ see_row (r.uri f.code) f.url → new ≡ old ++ message_text r f
+message_written r f old own caused helped fixed new a b c d e =
+    let causes : List ℕ = rows (codes "caused by: ") f.causes in
+    let help : List ℕ = maybe_row (codes "help: ") f.help in
+    let fixes : List ℕ = rows (codes "fix: ") f.unapplied in
+    let see : List ℕ = see_row (r.uri f.code) f.url in
+    behind old own new (doubled f.message) (causes ++ (help ++ (fixes ++ see))) a
+    (behind own caused new causes (help ++ (fixes ++ see)) b
+    (behind caused helped new help (fixes ++ see) c (behind helped fixed new fixes see d e)))

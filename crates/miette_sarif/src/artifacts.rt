@@ -1,19 +1,24 @@
 //! The sources that results name, each uri once, in the order in which they are named.
 
-ghost use Rattle.std.specs.Prelude.{◌≡◌, ◌++◌, ◌+◌, IfOk, OnOk, codes, decimal, map, string_bytes};
+ghost use Rattle.std.specs.Prelude.{◌≡◌, ◌++◌, ◌∷◌, [], ◌+◌, IfOk, OnOk, codes, decimal, map, string_bytes};
 ghost use Rattle.std.specs.Option.{option_map};
+ghost use Rattle.std.specs.Str.{bytes_eq};
+ghost use Rattle.indexmap.specs.IndexSet.{insert_all};
 ghost use Rattle.miette_sarif.specs.rules.Artifacts.{all_named, artifact, artifact_values, artifacts_in, located};
-ghost use Rattle.miette_sarif.specs.rules.Artifacts.{located_at, named_in, named_in_fixes, named_in_marks};
-ghost use Rattle.miette_sarif.specs.rules.Artifacts.{named_in_place, named_in_primary, untitled_in, uri_of, uris_in};
+ghost use Rattle.miette_sarif.specs.rules.Artifacts.{named_in, named_in_fixes, named_in_marks};
+ghost use Rattle.miette_sarif.specs.rules.Artifacts.{named_in_place, named_in_primary, untitled_after, uri_of};
+ghost use Rattle.miette_json.specs.rules.Json.{number, string};
+ghost use Rattle.miette_sarif.specs.rules.Objects.{object_of, pair};
 ghost use Rattle.miette_sarif.specs.views.Found.{finding_of, findings_of, mark_of, name_of, names_of, place_of};
 ghost use Rattle.miette_sarif.specs.views.Found.{proposed_of, texts_of};
 ghost use Rattle.miette_sarif.specs.views.Artifacts.{artifacts_view};
 ghost use Rattle.miette_sarif.specs.views.Values.{json_of, values_of};
 
 use crate::finding::{Finding, Mark, Named, Place, Proposal};
+use crate::texts::insert_text;
 use crate::uri::name_uri;
 use crate::value::{
-    Value, number_value, object_value, owned_value, single, text_value, with_member,
+    Value, number_value, object_value, owned_value, push_item, single, single_text, with_member,
 };
 use indexmap::IndexSet;
 use miette_basics::numbers::push_number;
@@ -27,13 +32,21 @@ pub(crate) struct Artifacts {
     uris: IndexSet<String>,
 }
 
+// Adds a source.
+fn push_source<'a>(names: &mut Vec<Named<'a>>, source: Named<'a>) -> Result<(), AllocError>
+    ensures { OnOk result (names_of names.new.items ≡ names_of names.old.items ++ name_of source.entry ∷ []) }
+{
+    names.push(source)?;
+    Ok(())
+}
+
 // Adds the source of a place.
 fn push_place<'a>(names: &mut Vec<Named<'a>>, place: &Option<Place<'a>>) -> Result<(), AllocError>
     ensures { OnOk result (names_of names.new.items
         ≡ names_of names.old.items ++ named_in_place (option_map place_of place.now)) }
 {
     match place {
-        Some(place) => Ok(names.push(place.source)?),
+        Some(place) => push_source(names, place.source),
         None => Ok(()),
     }
 }
@@ -69,7 +82,7 @@ fn push_fixes<'a>(names: &mut Vec<Named<'a>>, fixes: &[Proposal<'a>]) -> Result<
         ≡ names_of names.old.items ++ named_in_fixes (map proposed_of fixes.now)) }
 {
     for fix in fixes {
-        names.push(fix.source)?;
+        push_source(names, fix.source)?;
     }
     Ok(())
 }
@@ -84,28 +97,30 @@ fn push_named<'a>(names: &mut Vec<Named<'a>>, finding: &Finding<'a>) -> Result<(
     push_fixes(names, &finding.fixes)
 }
 
-// The sources that results name.
-fn all_named<'a>(alloc: Global, findings: &[Finding<'a>]) -> Result<Vec<Named<'a>>, AllocError>
-    ensures { IfOk result (λ names. names_of names.items ≡ all_named (findings_of findings.now)) }
+// Adds the sources that results name.
+fn push_all_named<'a>(
+    names: &mut Vec<Named<'a>>,
+    findings: &[Finding<'a>],
+) -> Result<(), AllocError>
+    ensures { OnOk result (names_of names.new.items
+        ≡ names_of names.old.items ++ all_named (findings_of findings.now)) }
 {
-    let mut names = Vec::new(alloc);
     for finding in findings {
-        push_named(&mut names, finding)?;
+        push_named(names, finding)?;
     }
-    Ok(names)
+    Ok(())
 }
 
-// The numbers of the sources without a name.
-fn untitled_in(alloc: Global, names: &[Named<'_>]) -> Result<IndexSet<usize>, AllocError>
-    ensures { IfOk result (λ untitled. untitled.keys ≡ untitled_in (names_of names.now)) }
+// Adds the numbers of the sources without a name.
+fn insert_untitled(untitled: &mut IndexSet<usize>, names: &[Named<'_>]) -> Result<(), AllocError>
+    ensures { OnOk result (untitled.new.keys ≡ untitled_after untitled.old.keys (names_of names.now)) }
 {
-    let mut untitled = IndexSet::new(alloc);
     for source in names {
         if source.name.is_empty() {
             untitled.insert(source.number)?;
         }
     }
-    Ok(untitled)
+    Ok(())
 }
 
 // `untitled:1`
@@ -132,49 +147,70 @@ fn uri_of(
     untitled_uri(alloc, sum(before, 1)?)
 }
 
-// The uris of sources.
-fn uris_in(
+// Adds the uris of sources.
+fn insert_uris(
     alloc: Global,
+    uris: &mut IndexSet<String>,
     untitled: &IndexSet<usize>,
     names: &[Named<'_>],
-) -> Result<IndexSet<String>, AllocError>
-    ensures { IfOk result (λ uris. texts_of uris.keys ≡ uris_in untitled.now.keys (names_of names.now)) }
+) -> Result<(), AllocError>
+    ensures { OnOk result (texts_of uris.new.keys
+        ≡ insert_all bytes_eq (texts_of uris.old.keys) (map (uri_of untitled.now.keys) (names_of names.now))) }
 {
-    let mut uris = IndexSet::new(alloc);
     for source in names {
         let uri = uri_of(alloc, untitled, source)?;
-        uris.insert(uri)?;
+        insert_text(uris, uri)?;
     }
-    Ok(uris)
+    Ok(())
+}
+
+// The artifacts of sources.
+fn artifacts_of(alloc: Global, names: &[Named<'_>]) -> Result<Artifacts, AllocError>
+    ensures { IfOk result (λ it. artifacts_view it ≡ artifacts_in (names_of names.now)) }
+{
+    let mut untitled = IndexSet::new(alloc);
+    insert_untitled(&mut untitled, names)?;
+    let mut uris = IndexSet::new(alloc);
+    insert_uris(alloc, &mut uris, &untitled, names)?;
+    Ok(Artifacts { untitled, uris })
 }
 
 /// The artifacts of findings.
 pub(crate) fn artifacts_in(alloc: Global, findings: &[Finding<'_>]) -> Result<Artifacts, AllocError>
     ensures { IfOk result (λ it. artifacts_view it ≡ artifacts_in (all_named (findings_of findings.now))) }
 {
-    let names = all_named(alloc, findings)?;
-    let untitled = untitled_in(alloc, &names)?;
-    let uris = uris_in(alloc, &untitled, &names)?;
-    Ok(Artifacts { untitled, uris })
+    let mut names = Vec::new(alloc);
+    push_all_named(&mut names, findings)?;
+    artifacts_of(alloc, &names)
 }
 
 // `{"location": {"uri": "a.rs"}}`
 fn artifact(alloc: Global, uri: &String) -> Result<Value, AllocError>
     ensures { IfOk result (λ value. json_of value ≡ artifact (string_bytes uri.now)) }
 {
-    let uri = text_value(alloc, uri.as_str())?;
-    single(alloc, "location", single(alloc, "uri", uri)?)
+    let uri = single_text(alloc, "uri", uri.as_str())?;
+    single(alloc, "location", uri)
 }
 
-// `[{"location": {"uri": "a.rs"}}]`
-fn artifact_list(alloc: Global, uris: &[String]) -> Result<Vec<Value>, AllocError>
-    ensures { IfOk result (λ list. values_of list.items ≡ map artifact (texts_of uris.now)) }
+// Appends `{"location": {"uri": "a.rs"}}` of each uri.
+fn push_artifacts(alloc: Global, list: &mut Vec<Value>, uris: &[String]) -> Result<(), AllocError>
+    ensures { OnOk result (values_of list.new.items ≡ values_of list.old.items ++ map artifact (texts_of uris.now)) }
 {
-    let mut list = Vec::with_capacity(alloc, uris.len())?;
     for uri in uris {
-        list.push(artifact(alloc, uri)?)?;
+        let value = artifact(alloc, uri)?;
+        push_item(list, value)?;
     }
-    Ok(list)
+    Ok(())
+}
+
+// `{"uri": "a.rs","index": 0}`
+fn located_at(alloc: Global, uri: String, index: usize) -> Result<Value, AllocError>
+    ensures { IfOk result (λ value. json_of value ≡ object_of (pair (codes "uri") (string (string_bytes uri))
+        ++ pair (codes "index") (number index))) }
+{
+    let members = with_member(Vec::new(alloc), "uri", owned_value(uri))?;
+    let members = with_member(members, "index", number_value(index))?;
+    Ok(object_value(members))
 }
 
 impl Artifacts {
@@ -184,15 +220,16 @@ impl Artifacts {
     {
         let uri = uri_of(alloc, &self.untitled, &source)?;
         let index = self.uris.get_index_of(uri.as_str()).unwrap_or(0);
-        let members = with_member(Vec::new(alloc), "uri", owned_value(uri))?;
-        let members = with_member(members, "index", number_value(index))?;
-        Ok(object_value(members))
+        located_at(alloc, uri, index)
     }
 
     /// `[{"location": {"uri": "a.rs"}}]`
     pub(crate) fn values(&self, alloc: Global) -> Result<Vec<Value>, AllocError>
         ensures { IfOk result (λ list. values_of list.items ≡ artifact_values (artifacts_view self.now)) }
     {
-        artifact_list(alloc, self.uris.as_slice())
+        let uris = self.uris.as_slice();
+        let mut list = Vec::with_capacity(alloc, uris.len())?;
+        push_artifacts(alloc, &mut list, uris)?;
+        Ok(list)
     }
 }

@@ -1,14 +1,15 @@
 //! The edits of a fix as replacements: widened to whole characters and terminators, and joined where they meet.
 
-ghost use Rattle.std.specs.Prelude.{◌≡◌, ◌++◌, ◌&&◌, None, Some, IfOk, OnOk, length, map, is_none};
+ghost use Rattle.std.specs.Prelude.{◌≡◌, ◌++◌, ◌∷◌, ◌&&◌, List, None, Some, IfOk, OnOk, length, map, is_none};
 ghost use Rattle.std.specs.Prelude.{if◌then◌else◌, slice_range};
 ghost use Rattle.std.specs.Option.{option_map};
 ghost use Rattle.std.specs.List.{list_all};
 ghost use Rattle.std.specs.Str.{is_utf8};
-ghost use Rattle.miette_fixes.specs.rules.Edits.{end_of};
+ghost use Rattle.miette_fixes.specs.rules.Edits.{Replacement as Edited, end_of};
 ghost use Rattle.miette_fixes.specs.views.Ordered.{edits_of};
 ghost use Rattle.miette_sarif.specs.rules.Proposals.{applicable, later_end, meets, proposal_over, widened};
-ghost use Rattle.miette_sarif.specs.steps.Drafts.{begun, drafts, finished, finished_one, made_of, with_edit};
+ghost use Rattle.miette_sarif.specs.steps.Drafts.{begun, drafts, drafts_from, finished, finished_one, made_of};
+ghost use Rattle.miette_sarif.specs.steps.Drafts.{with_edit};
 ghost use Rattle.miette_sarif.specs.views.Drafted.{draft_of};
 ghost use Rattle.miette_sarif.specs.views.Found.{proposed_of, replaced_of};
 ghost use Rattle.miette_sarif.specs.views.Sources.{over_of};
@@ -69,14 +70,22 @@ fn later_end(before: Stretch, stretch: Stretch) -> Stretch
     }
 }
 
+// Appends the source from an offset up to an edit, and what the edit puts there.
+fn push_edit(text: &mut Vec<u8>, bytes: &[u8], from: usize, edit: &Edit) -> Result<(), AllocError>
+    ensures { OnOk result (text.new.items
+        ≡ text.old.items ++ slice_range bytes.now from edit.now.span.offset ++ edit.now.text) }
+{
+    text.extend_from_slice(between(bytes, from, edit.offset()))?;
+    text.extend_from_slice(edit.text().as_bytes())
+}
+
 // A draft with one edit.
 fn begun(alloc: Global, bytes: &[u8], deleted: Stretch, edit: &Edit) -> Result<Draft, AllocError>
     ensures { IfOk result (λ it. draft_of it ≡ begun bytes.now deleted edit.now) }
 {
     let reached = end_of(edit)?;
     let mut text = Vec::new(alloc);
-    text.extend_from_slice(between(bytes, deleted.start.offset, edit.offset()))?;
-    text.extend_from_slice(edit.text().as_bytes())?;
+    push_edit(&mut text, bytes, deleted.start.offset, edit)?;
     Ok(Draft {
         deleted,
         text,
@@ -94,8 +103,7 @@ fn with_edit(draft: Draft, bytes: &[u8], stretch: Stretch, edit: &Edit) -> Resul
         mut text,
         reached,
     } = draft;
-    text.extend_from_slice(between(bytes, reached, edit.offset()))?;
-    text.extend_from_slice(edit.text().as_bytes())?;
+    push_edit(&mut text, bytes, reached, edit)?;
     Ok(Draft {
         deleted: later_end(deleted, stretch),
         text,
@@ -103,7 +111,46 @@ fn with_edit(draft: Draft, bytes: &[u8], stretch: Stretch, edit: &Edit) -> Resul
     })
 }
 
-// The drafts of edits by offset: those that meet are joined.
+// The draft before an edit with this edit, or, where they don't meet, the edit's own: the one before it is done.
+fn next_draft(
+    alloc: Global,
+    done: &mut Vec<Draft>,
+    text: &WholeText<'_>,
+    before: Draft,
+    edit: &Edit,
+) -> Result<Draft, AllocError>
+    ensures { IfOk result (λ it. (more : List Edited)
+        → map draft_of done.new.items ++ drafts_from text.now (draft_of it) more
+        ≡ map draft_of done.old.items ++ drafts_from text.now (draft_of before) (edit.now ∷ more)) }
+{
+    let stretch = widened(text, edit)?;
+    if meets(before.deleted, stretch) {
+        return with_edit(before, text.bytes(), stretch, edit);
+    }
+    done.push(before)?;
+    begun(alloc, text.bytes(), stretch, edit)
+}
+
+// Appends the drafts of edits by offset: those that meet are joined.
+fn push_drafts(
+    alloc: Global,
+    done: &mut Vec<Draft>,
+    text: &WholeText<'_>,
+    first: &Edit,
+    rest: &[&Edit],
+) -> Result<(), AllocError>
+    ensures { OnOk result (map draft_of done.new.items
+        ≡ map draft_of done.old.items ++ drafts text.now (first.now ∷ edits_of rest.now)) }
+{
+    let mut before = begun(alloc, text.bytes(), widened(text, first)?, first)?;
+    for edit in rest {
+        before = next_draft(alloc, done, text, before, edit)?;
+    }
+    done.push(before)?;
+    Ok(())
+}
+
+// The drafts of edits by offset.
 fn drafts(alloc: Global, text: &WholeText<'_>, edits: &[&Edit]) -> Result<Vec<Draft>, AllocError>
     ensures { IfOk result (λ list. map draft_of list.items ≡ drafts text.now (edits_of edits.now)) }
 {
@@ -111,18 +158,7 @@ fn drafts(alloc: Global, text: &WholeText<'_>, edits: &[&Edit]) -> Result<Vec<Dr
     let Some((first, rest)) = edits.split_first() else {
         return Ok(done);
     };
-    let mut before = begun(alloc, text.bytes(), widened(text, first)?, first)?;
-    for edit in rest {
-        let stretch = widened(text, edit)?;
-        if meets(before.deleted, stretch) {
-            before = with_edit(before, text.bytes(), stretch, edit)?;
-        } else {
-            let next = begun(alloc, text.bytes(), stretch, edit)?;
-            done.push(before)?;
-            before = next;
-        }
-    }
-    done.push(before)?;
+    push_drafts(alloc, &mut done, text, first, rest)?;
     Ok(done)
 }
 

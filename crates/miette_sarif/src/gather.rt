@@ -10,11 +10,11 @@ ghost use Rattle.miette_sarif.specs.rules.Gathered.{AreFindingsOf, level};
 ghost use Rattle.miette_sarif.specs.rules.Marks.{groups_of};
 ghost use Rattle.miette_sarif.specs.rules.Proposals.{proposal_over};
 ghost use Rattle.miette_sarif.specs.rules.Seen.{count_causes, count_own};
-ghost use Rattle.miette_sarif.specs.steps.Gathering.{Adds, AddsAll, AddsCause, AddsCauses, AddsOver, IsFound, told};
-ghost use Rattle.miette_sarif.specs.steps.Gathering.{with_fix, with_fixes};
+ghost use Rattle.miette_sarif.specs.steps.Gathering.{Adds, AddsAll, AddsCause, AddsCauses, AddsMarks, AddsOver};
+ghost use Rattle.miette_sarif.specs.steps.Gathering.{IsFound, told, with_fix, with_fixes};
 ghost use Rattle.miette_sarif.specs.steps.Sees.{Sees, SeesFurther, SeesOwn, seen_first};
 ghost use Rattle.miette_sarif.specs.views.Collected.{collected_of, gathered_of, told_of};
-ghost use Rattle.miette_sarif.specs.views.Found.{finding_of, findings_of};
+ghost use Rattle.miette_sarif.specs.views.Found.{finding_of, findings_of, mark_of};
 ghost use Rattle.miette_sarif.specs.views.Grouped.{groups_in, labels_in};
 ghost use Rattle.miette_sarif.specs.views.Sources.{over_of, seen_of};
 
@@ -122,6 +122,21 @@ fn listed<'a>(alloc: Global, labels: &'a [LabeledSpan]) -> Result<Vec<&'a Labele
     Ok(list)
 }
 
+// Appends a group of labels over a source, or over none.
+fn push_labels<'s, 'a>(
+    alloc: Global,
+    groups: &mut Vec<Group<'s, 'a>>,
+    seen: Option<&'s Seen<'a>>,
+    labels: &'a [LabeledSpan],
+) -> Result<(), AllocError>
+    ensures { OnOk result (groups_in groups.new.items ≡ groups_in groups.old.items
+        ++ record { over = over_of seen.entry; labels = labels.now } ∷ []) }
+{
+    let labels = listed(alloc, labels)?;
+    groups.push(Group { seen, labels })?;
+    Ok(())
+}
+
 // The labels of a report over a source, and over its further ones.
 fn groups_of<'s, 'a, D: Diagnostic, S: SourceCode>(
     alloc: Global,
@@ -134,18 +149,13 @@ fn groups_of<'s, 'a, D: Diagnostic, S: SourceCode>(
 {
     let sections = report.further_snippets();
     let mut groups = Vec::with_capacity(alloc, sections.len())?;
-    let labels = listed(alloc, labels_of(report))?;
-    groups.push(Group { seen, labels })?;
+    push_labels(alloc, &mut groups, seen, labels_of(report))?;
     let mut left = further;
     for section in sections {
         let [seen, rest @ ..] = left else {
             return Ok(groups);
         };
-        let labels = listed(alloc, section.labels())?;
-        groups.push(Group {
-            seen: Some(seen),
-            labels,
-        })?;
+        push_labels(alloc, &mut groups, Some(seen), section.labels())?;
         left = rest;
     }
     Ok(groups)
@@ -303,6 +313,27 @@ fn push_causes<'a, D: Diagnostic, S: SourceCode>(
     Ok(())
 }
 
+// Appends the marks of a report over a source, but for its primary one, which it gives.
+fn push_own_marks<'a, D: Diagnostic, S: SourceCode>(
+    alloc: Global,
+    report: &'a Report<D, S>,
+    seen: Option<&Seen<'a>>,
+    sources: &mut usize,
+    marks: &mut Vec<Mark<'a>>,
+) -> Result<Option<Mark<'a>>, AllocError>
+    ensures added { IfOk result (λ primary. AddsMarks (over_of seen.entry) sources.old
+        (head (tree_of D.meaning S.source report.now)) (option_map mark_of primary)
+        (map mark_of marks.old.items) (map mark_of marks.new.items)) }
+    ensures counted { OnOk result (sources.new
+        ≡ sources.old + length (head (tree_of D.meaning S.source report.now)).snippets) }
+{
+    let further = see_further(alloc, sources, report.further_snippets())?;
+    let mut groups = groups_of(alloc, report, seen, &further)?;
+    let primary = primary_or(take_primary(&mut groups), seen);
+    push_groups(marks, groups)?;
+    Ok(primary)
+}
+
 // The finding of a report over a source.
 fn finding_of<'a, D: Diagnostic, S: SourceCode>(
     alloc: Global,
@@ -316,18 +347,15 @@ fn finding_of<'a, D: Diagnostic, S: SourceCode>(
         ≡ sources.old + length (head (tree_of D.meaning S.source report.now)).snippets
         + count_causes (cause_of (tree_of D.meaning S.source report.now))) }
 {
-    let further = see_further(alloc, sources, report.further_snippets())?;
-    let mut groups = groups_of(alloc, report, seen, &further)?;
-    let primary = primary_or(take_primary(&mut groups), seen);
-    let told = told_of(alloc, report)?;
     let mut collected = Collected {
         marks: Vec::new(alloc),
         fixes: Vec::new(alloc),
         unapplied: Vec::new(alloc),
     };
-    push_groups(&mut collected.marks, groups)?;
+    let primary = push_own_marks(alloc, report, seen, sources, &mut collected.marks)?;
     push_fixes(alloc, &mut collected, report.fixes(), seen)?;
     push_causes(alloc, report, seen, sources, &mut collected)?;
+    let told = told_of(alloc, report)?;
     let Collected {
         marks,
         fixes,

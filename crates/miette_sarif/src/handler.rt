@@ -14,7 +14,7 @@ ghost use Rattle.miette_sarif.specs.views.Tool.{tool_view};
 use crate::finding::Finding;
 use crate::gather::{findings_in, findings_of};
 use crate::log::{Tool, log_value};
-use crate::write::push_value;
+use crate::write::text_of;
 use miette_json::laws;
 use miette_protocol::error::RenderError;
 use miette_protocol::protocol::Diagnostic;
@@ -173,7 +173,5 @@ fn spelled_log(
     laws::the_spelling_denotes_its_value();
     laws::a_text_denotes_one_value();
     let value = log_value(alloc, tool, &findings)?;
-    let mut text = String::new(alloc);
-    push_value(&mut text, &value)?;
-    Ok(text)
+    text_of(alloc, &value)
 }

@@ -13,6 +13,7 @@ mod places;
 mod results;
 mod rules;
 mod seen;
+mod texts;
 mod uri;
 mod value;
 mod whole;

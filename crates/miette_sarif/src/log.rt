@@ -1,7 +1,9 @@
 //! The log: one run of a tool, with its rules, artifacts and results.
 
-ghost use Rattle.std.specs.Prelude.{◌≡◌, ◌++◌, ◌∷◌, [], IfOk, codes};
+ghost use Rattle.std.specs.Prelude.{◌≡◌, ◌++◌, ◌∷◌, [], IfOk, OnOk, codes};
 ghost use Rattle.std.specs.Option.{option_copied, option_map};
+ghost use Rattle.miette_json.specs.rules.Json.{string};
+ghost use Rattle.miette_sarif.specs.rules.Artifacts.{all_named, artifacts_in};
 ghost use Rattle.miette_sarif.specs.rules.Log.{log, newlines, run, run_head, run_with, tool_of};
 ghost use Rattle.miette_sarif.specs.rules.Objects.{array_of, maybe_text};
 ghost use Rattle.miette_sarif.specs.rules.Uris.{address_uri};
@@ -9,7 +11,7 @@ ghost use Rattle.miette_sarif.specs.views.Artifacts.{artifacts_view};
 ghost use Rattle.miette_sarif.specs.views.Found.{findings_of};
 ghost use Rattle.miette_sarif.specs.views.Rules.{rules_view};
 ghost use Rattle.miette_sarif.specs.views.Tool.{tool_view};
-ghost use Rattle.miette_sarif.specs.views.Values.{json_of, pairs_of};
+ghost use Rattle.miette_sarif.specs.views.Values.{json_of, pairs_of, values_of};
 
 use crate::artifacts::{Artifacts, artifacts_in};
 use crate::finding::Finding;
@@ -17,8 +19,8 @@ use crate::results::result_values;
 use crate::rules::{Rules, rules_in};
 use crate::uri::address_uri;
 use crate::value::{
-    Members, Value, list_value, object_value, owned_value, single, text_value, with_list,
-    with_member,
+    Members, Value, list_of_one, list_value, object_value, owned_value, push_item, single,
+    text_value, with_list, with_member, with_text,
 };
 use std::alloc::{AllocError, Global};
 
@@ -44,7 +46,7 @@ fn with_version(
         ≡ pairs_of members.entry.items ++ maybe_text (codes "version") (option_copied version.entry)) }
 {
     match version {
-        Some(version) => with_member(members, "version", text_value(alloc, version)?),
+        Some(version) => with_text(alloc, members, "version", version),
         None => Ok(members),
     }
 }
@@ -59,11 +61,10 @@ fn with_information(
         ++ maybe_text (codes "informationUri") (option_map address_uri (option_copied address.entry))) }
 {
     match address {
-        Some(address) => with_member(
-            members,
-            "informationUri",
-            owned_value(address_uri(alloc, address)?),
-        ),
+        Some(address) => {
+            let uri = address_uri(alloc, address)?;
+            with_member(members, "informationUri", owned_value(uri))
+        }
         None => Ok(members),
     }
 }
@@ -72,21 +73,37 @@ fn with_information(
 fn tool_value(alloc: Global, tool: &Tool<'_>, rules: &Rules<'_>) -> Result<Value, AllocError>
     ensures { IfOk result (λ value. json_of value ≡ tool_of (tool_view tool.now) (rules_view rules.now)) }
 {
-    let members = with_member(Vec::new(alloc), "name", text_value(alloc, tool.name)?)?;
+    let members = with_text(alloc, Vec::new(alloc), "name", tool.name)?;
     let members = with_version(alloc, members, tool.version)?;
     let members = with_information(alloc, members, tool.information)?;
     let members = with_list(members, "rules", rules.values(alloc)?)?;
     single(alloc, "driver", object_value(members))
 }
 
-// `["\r\n","\n","\r"]`: the standard's default has no CR.
+// Appends a text to a list.
+fn push_text(alloc: Global, list: &mut Vec<Value>, text: &str) -> Result<(), AllocError>
+    ensures { OnOk result (values_of list.new.items ≡ values_of list.old.items ++ string text.now ∷ []) }
+{
+    let value = text_value(alloc, text)?;
+    push_item(list, value)
+}
+
+// `"\r\n","\n","\r"`: the standard's default has no CR.
+fn push_newlines(alloc: Global, list: &mut Vec<Value>) -> Result<(), AllocError>
+    ensures { OnOk result (values_of list.new.items ≡ values_of list.old.items
+        ++ string (13 ∷ 10 ∷ []) ∷ string (10 ∷ []) ∷ string (13 ∷ []) ∷ []) }
+{
+    push_text(alloc, list, "\r\n")?;
+    push_text(alloc, list, "\n")?;
+    push_text(alloc, list, "\r")
+}
+
+// `["\r\n","\n","\r"]`
 fn newlines(alloc: Global) -> Result<Value, AllocError>
     ensures { IfOk result (λ value. json_of value ≡ newlines) }
 {
     let mut list = Vec::new(alloc);
-    list.push(text_value(alloc, "\r\n")?)?;
-    list.push(text_value(alloc, "\n")?)?;
-    list.push(text_value(alloc, "\r")?)?;
+    push_newlines(alloc, &mut list)?;
     Ok(list_value(list))
 }
 
@@ -94,9 +111,9 @@ fn newlines(alloc: Global) -> Result<Value, AllocError>
 fn head_members(alloc: Global, tool: &Tool<'_>, rules: &Rules<'_>) -> Result<Members, AllocError>
     ensures { IfOk result (λ all. pairs_of all.items ≡ run_head (tool_view tool.now) (rules_view rules.now)) }
 {
-    let members = with_member(Vec::new(alloc), "tool", tool_value(alloc, tool, rules)?)?;
-    let kind = text_value(alloc, "utf16CodeUnits")?;
-    let members = with_member(members, "columnKind", kind)?;
+    let tool = tool_value(alloc, tool, rules)?;
+    let members = with_member(Vec::new(alloc), "tool", tool)?;
+    let members = with_text(alloc, members, "columnKind", "utf16CodeUnits")?;
     with_member(members, "newlineSequences", newlines(alloc)?)
 }
 
@@ -118,14 +135,26 @@ fn run_with(
     Ok(object_value(members))
 }
 
+// A run with rules, and the artifacts of findings.
+fn run_of(
+    alloc: Global,
+    tool: &Tool<'_>,
+    rules: &Rules<'_>,
+    findings: &[Finding<'_>],
+) -> Result<Value, AllocError>
+    ensures { IfOk result (λ value. json_of value ≡ run_with (tool_view tool.now) (rules_view rules.now)
+        (artifacts_in (all_named (findings_of findings.now))) (findings_of findings.now)) }
+{
+    let artifacts = artifacts_in(alloc, findings)?;
+    run_with(alloc, tool, rules, &artifacts, findings)
+}
+
 // The run of findings.
 fn run_value(alloc: Global, tool: &Tool<'_>, findings: &[Finding<'_>]) -> Result<Value, AllocError>
     ensures { IfOk result (λ value. json_of value ≡ run (tool_view tool.now) (findings_of findings.now)) }
 {
     let rules = rules_in(alloc, findings)?;
-    let artifacts = artifacts_in(alloc, findings)?;
-    let value = run_with(alloc, tool, &rules, &artifacts, findings)?;
-    Ok(value)
+    run_of(alloc, tool, &rules, findings)
 }
 
 // The runs of a log: one.
@@ -133,8 +162,8 @@ fn runs_value(alloc: Global, tool: &Tool<'_>, findings: &[Finding<'_>]) -> Resul
     ensures { IfOk result (λ value. json_of value
         ≡ array_of (run (tool_view tool.now) (findings_of findings.now) ∷ [])) }
 {
-    let mut runs = Vec::new(alloc);
-    runs.push(run_value(alloc, tool, findings)?)?;
+    let run = run_value(alloc, tool, findings)?;
+    let runs = list_of_one(alloc, run)?;
     Ok(list_value(runs))
 }
 
@@ -146,8 +175,8 @@ pub(crate) fn log_value(
 ) -> Result<Value, AllocError>
     ensures { IfOk result (λ value. json_of value ≡ log (tool_view tool.now) (findings_of findings.now)) }
 {
-    let members = with_member(Vec::new(alloc), "$schema", text_value(alloc, SCHEMA)?)?;
-    let members = with_member(members, "version", text_value(alloc, "2.1.0")?)?;
+    let members = with_text(alloc, Vec::new(alloc), "$schema", SCHEMA)?;
+    let members = with_text(alloc, members, "version", "2.1.0")?;
     let members = with_member(members, "runs", runs_value(alloc, tool, findings)?)?;
     Ok(object_value(members))
 }

@@ -6,7 +6,7 @@ ghost use Rattle.miette_sarif.specs.rules.Messages.{is_brace, double_byte, doubl
 ghost use Rattle.miette_sarif.specs.rules.Objects.{message_of};
 ghost use Rattle.miette_sarif.specs.views.Values.{json_of};
 
-use crate::value::{Value, owned_value, single, text_value};
+use crate::value::{Value, owned_value, single, single_text};
 use std::alloc::{AllocError, Global};
 
 // Whether a byte is doubled.
@@ -87,7 +87,7 @@ pub(crate) fn push_maybe(
 pub(crate) fn plain_message(alloc: Global, text: &str) -> Result<Value, AllocError>
     ensures { IfOk result (λ value. json_of value ≡ message_of text.now) }
 {
-    single(alloc, "text", text_value(alloc, text)?)
+    single_text(alloc, "text", text)
 }
 
 /// The message of a text, with its braces doubled.

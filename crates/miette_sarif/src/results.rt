@@ -1,15 +1,15 @@
 //! Results as values, one for each finding.
 
-ghost use Rattle.std.specs.Prelude.{◌≡◌, ◌++◌, ◌∷◌, [], IfOk, OnOk, codes, map, not, string_bytes};
-ghost use Rattle.std.specs.List.{list_any};
+ghost use Rattle.std.specs.Prelude.{◌≡◌, ◌++◌, ◌∷◌, [], IfOk, OnOk, codes, map, string_bytes};
 ghost use Rattle.std.specs.Option.{option_map};
 ghost use Rattle.std.specs.Str.{bytes_eq};
 ghost use Rattle.indexmap.specs.IndexSet.{insert_key};
 ghost use Rattle.miette_json.specs.rules.Json.{json_text, number};
-ghost use Rattle.miette_sarif.specs.rules.Objects.{array_of, pair};
+ghost use Rattle.miette_sarif.specs.rules.Objects.{array_of, message_of, pair};
 ghost use Rattle.miette_sarif.specs.rules.Places.{location, primary_locations, related_from};
-ghost use Rattle.miette_sarif.specs.rules.Results.{change, fix_value, fix_values, head_pairs, inserted, message_text};
-ghost use Rattle.miette_sarif.specs.rules.Results.{one_first, replacement, result_of, results, see_row, tail_pairs};
+ghost use Rattle.miette_sarif.specs.rules.Results.{change, first_values, fix_value, fix_values, head_pairs, inserted};
+ghost use Rattle.miette_sarif.specs.rules.Results.{message_text, one_first, replacement, result_of, results};
+ghost use Rattle.miette_sarif.specs.rules.Results.{see_row, tail_pairs};
 ghost use Rattle.miette_sarif.specs.views.Artifacts.{artifacts_view};
 ghost use Rattle.miette_sarif.specs.views.Found.{finding_of, findings_of, mark_of, proposed_of, replaced_of};
 ghost use Rattle.miette_sarif.specs.views.Found.{texts_of};
@@ -21,11 +21,12 @@ use crate::finding::{Finding, Mark, Proposal, Replacement};
 use crate::message::{message_value, plain_message, push_doubled, push_maybe, push_row, push_rows};
 use crate::places::{lines_value, location_value};
 use crate::rules::Rules;
+use crate::texts::insert_text;
 use crate::value::{
-    Members, Value, list_value, number_value, object_value, owned_value, single, text_value,
-    with_list, with_member,
+    Members, Value, list_of_one, list_value, number_value, object_value, owned_value, push_item,
+    single, with_list, with_member, with_text,
 };
-use crate::write::push_value;
+use crate::write::text_of;
 use indexmap::IndexSet;
 use miette_basics::sums::sum;
 use std::alloc::{AllocError, Global};
@@ -49,22 +50,35 @@ fn push_see<'a>(
     push_row(out, "see: ", url)
 }
 
-// The rows of a message: its text, causes, help, fixes that can't be applied, and the url that its rule hasn't.
-fn message_text<'a>(
+// Appends the rows of a message: its text, causes, help, fixes that can't be applied, and the url that its rule hasn't.
+fn push_message<'a>(
     alloc: Global,
     rules: &Rules<'a>,
     finding: &Finding<'a>,
-) -> Result<String, AllocError>
-    ensures { IfOk result (λ text. string_bytes text
-        ≡ message_text (rules_view rules.now) (finding_of finding.now)) }
+    out: &mut String,
+) -> Result<(), AllocError>
+    ensures { OnOk result (string_bytes out.new ≡ string_bytes out.old
+        ++ message_text (rules_view rules.now) (finding_of finding.now)) }
+{
+    push_doubled(out, finding.told.message)?;
+    push_rows(out, "caused by: ", &finding.told.causes)?;
+    push_maybe(out, "help: ", finding.told.help)?;
+    push_rows(out, "fix: ", &finding.unapplied)?;
+    push_see(alloc, rules, finding, out)
+}
+
+// `{"text": "oops"}`: the message of a result.
+fn message_of<'a>(
+    alloc: Global,
+    rules: &Rules<'a>,
+    finding: &Finding<'a>,
+) -> Result<Value, AllocError>
+    ensures { IfOk result (λ value. json_of value
+        ≡ message_of (message_text (rules_view rules.now) (finding_of finding.now))) }
 {
     let mut text = String::new(alloc);
-    push_doubled(&mut text, finding.told.message)?;
-    push_rows(&mut text, "caused by: ", &finding.told.causes)?;
-    push_maybe(&mut text, "help: ", finding.told.help)?;
-    push_rows(&mut text, "fix: ", &finding.unapplied)?;
-    push_see(alloc, rules, finding, &mut text)?;
-    Ok(text)
+    push_message(alloc, rules, finding, &mut text)?;
+    single(alloc, "text", owned_value(text))
 }
 
 // The location of the primary mark.
@@ -76,13 +90,11 @@ fn primary_values(
     ensures { IfOk result (λ list. values_of list.items
         ≡ primary_locations (artifacts_view artifacts.now) (option_map mark_of primary.now)) }
 {
-    let mut list = Vec::new(alloc);
     let Some(mark) = primary else {
-        return Ok(list);
+        return Ok(Vec::new(alloc));
     };
     let value = location_value(alloc, artifacts, Vec::new(alloc), mark)?;
-    list.push(value)?;
-    Ok(list)
+    list_of_one(alloc, value)
 }
 
 // A location with a number.
@@ -99,6 +111,25 @@ fn related_value(
     location_value(alloc, artifacts, members, mark)
 }
 
+// Appends locations with numbers from 1.
+fn push_related(
+    alloc: Global,
+    list: &mut Vec<Value>,
+    artifacts: &Artifacts,
+    marks: &[Mark<'_>],
+) -> Result<(), AllocError>
+    ensures { OnOk result (values_of list.new.items
+        ≡ values_of list.old.items ++ related_from (artifacts_view artifacts.now) 1 (map mark_of marks.now)) }
+{
+    let mut id = 1;
+    for mark in marks {
+        let value = related_value(alloc, artifacts, id, mark)?;
+        push_item(list, value)?;
+        id = sum(id, 1)?;
+    }
+    Ok(())
+}
+
 // Locations with numbers from 1.
 fn related_values(
     alloc: Global,
@@ -109,11 +140,7 @@ fn related_values(
         ≡ related_from (artifacts_view artifacts.now) 1 (map mark_of marks.now)) }
 {
     let mut list = Vec::with_capacity(alloc, marks.len())?;
-    let mut id = 1;
-    for mark in marks {
-        list.push(related_value(alloc, artifacts, id, mark)?)?;
-        id = sum(id, 1)?;
-    }
+    push_related(alloc, &mut list, artifacts, marks)?;
     Ok(list)
 }
 
@@ -137,14 +164,28 @@ fn replacement_value(alloc: Global, item: &Replacement) -> Result<Value, AllocEr
     Ok(object_value(members))
 }
 
+// Appends the replacements of a fix.
+fn push_replacements(
+    alloc: Global,
+    values: &mut Vec<Value>,
+    list: &[Replacement],
+) -> Result<(), AllocError>
+    ensures { OnOk result (values_of values.new.items
+        ≡ values_of values.old.items ++ map replacement (map replaced_of list.now)) }
+{
+    for item in list {
+        let value = replacement_value(alloc, item)?;
+        push_item(values, value)?;
+    }
+    Ok(())
+}
+
 // The replacements of a fix.
 fn replacement_values(alloc: Global, list: &[Replacement]) -> Result<Vec<Value>, AllocError>
     ensures { IfOk result (λ values. values_of values.items ≡ map replacement (map replaced_of list.now)) }
 {
     let mut values = Vec::with_capacity(alloc, list.len())?;
-    for item in list {
-        values.push(replacement_value(alloc, item)?)?;
-    }
+    push_replacements(alloc, &mut values, list)?;
     Ok(values)
 }
 
@@ -172,8 +213,8 @@ fn changes_value(
     ensures { IfOk result (λ value. json_of value
         ≡ array_of (change (artifacts_view artifacts.now) (proposed_of fix.now) ∷ [])) }
 {
-    let mut changes = Vec::new(alloc);
-    changes.push(change_value(alloc, artifacts, fix)?)?;
+    let change = change_value(alloc, artifacts, fix)?;
+    let changes = list_of_one(alloc, change)?;
     Ok(list_value(changes))
 }
 
@@ -189,27 +230,6 @@ fn fix_value(alloc: Global, artifacts: &Artifacts, fix: &Proposal<'_>) -> Result
     Ok(object_value(members))
 }
 
-// The text of a value.
-fn text_of(alloc: Global, value: &Value) -> Result<String, AllocError>
-    ensures { IfOk result (λ text. string_bytes text ≡ json_text (json_of value.now)) }
-{
-    let mut text = String::new(alloc);
-    push_value(&mut text, value)?;
-    Ok(text)
-}
-
-// Adds a text, and tells whether no equal one was before.
-#[tactic(auto, using(crate::proofs::Keys::first_texts))]
-fn is_first(spelled: &mut IndexSet<String>, text: String) -> Result<bool, AllocError>
-    ensures first { IfOk result (λ is. is
-        ≡ not (list_any (bytes_eq (string_bytes text)) (texts_of spelled.old.keys))) }
-    ensures texts { OnOk result (texts_of spelled.new.keys
-        ≡ insert_key bytes_eq (texts_of spelled.old.keys) (string_bytes text)) }
-{
-    let is_new = spelled.insert(text)?;
-    Ok(is_new)
-}
-
 // Adds a value, where no equal one was before.
 fn push_first(
     alloc: Global,
@@ -223,8 +243,27 @@ fn push_first(
         ≡ insert_key bytes_eq (texts_of spelled.old.keys) (json_text (json_of value))) }
 {
     let text = text_of(alloc, &value)?;
-    if is_first(spelled, text)? {
-        list.push(value)?;
+    if insert_text(spelled, text)? {
+        return push_item(list, value);
+    }
+    Ok(())
+}
+
+// Appends fixes, of equal ones the first.
+fn push_fixes(
+    alloc: Global,
+    list: &mut Vec<Value>,
+    spelled: &mut IndexSet<String>,
+    artifacts: &Artifacts,
+    fixes: &[Proposal<'_>],
+) -> Result<(), AllocError>
+    ensures { OnOk result (values_of list.new.items ≡ values_of list.old.items
+        ++ first_values (texts_of spelled.old.keys) (map (fix_value (artifacts_view artifacts.now))
+        (map proposed_of fixes.now))) }
+{
+    for fix in fixes {
+        let value = fix_value(alloc, artifacts, fix)?;
+        push_first(alloc, list, spelled, value)?;
     }
     Ok(())
 }
@@ -240,10 +279,7 @@ fn fix_values(
 {
     let mut list = Vec::new(alloc);
     let mut spelled = IndexSet::new(alloc);
-    for fix in fixes {
-        let value = fix_value(alloc, artifacts, fix)?;
-        push_first(alloc, &mut list, &mut spelled, value)?;
-    }
+    push_fixes(alloc, &mut list, &mut spelled, artifacts, fixes)?;
     Ok(list)
 }
 
@@ -256,9 +292,8 @@ fn head_members<'a>(
     ensures { IfOk result (λ all. pairs_of all.items ≡ head_pairs (rules_view rules.now) (finding_of finding.now)) }
 {
     let members = rules.members(alloc, finding.told.code)?;
-    let members = with_member(members, "level", text_value(alloc, finding.told.level)?)?;
-    let text = message_text(alloc, rules, finding)?;
-    let message = single(alloc, "text", owned_value(text))?;
+    let members = with_text(alloc, members, "level", finding.told.level)?;
+    let message = message_of(alloc, rules, finding)?;
     with_member(members, "message", message)
 }
 
@@ -295,6 +330,24 @@ fn result_value<'a>(
     Ok(object_value(members))
 }
 
+// Appends the results of findings.
+fn push_results<'a>(
+    alloc: Global,
+    list: &mut Vec<Value>,
+    rules: &Rules<'a>,
+    artifacts: &Artifacts,
+    findings: &[Finding<'a>],
+) -> Result<(), AllocError>
+    ensures { OnOk result (values_of list.new.items ≡ values_of list.old.items
+        ++ results (rules_view rules.now) (artifacts_view artifacts.now) (findings_of findings.now)) }
+{
+    for finding in findings {
+        let value = result_value(alloc, rules, artifacts, finding)?;
+        push_item(list, value)?;
+    }
+    Ok(())
+}
+
 /// The results of findings.
 pub(crate) fn result_values<'a>(
     alloc: Global,
@@ -306,8 +359,6 @@ pub(crate) fn result_values<'a>(
         ≡ results (rules_view rules.now) (artifacts_view artifacts.now) (findings_of findings.now)) }
 {
     let mut list = Vec::with_capacity(alloc, findings.len())?;
-    for finding in findings {
-        list.push(result_value(alloc, rules, artifacts, finding)?)?;
-    }
+    push_results(alloc, &mut list, rules, artifacts, findings)?;
     Ok(list)
 }

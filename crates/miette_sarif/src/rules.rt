@@ -1,12 +1,13 @@
 //! The rules of a log: one for each code, in the order of the first result with it.
 
-ghost use Rattle.std.specs.Prelude.{◌≡◌, ℕ, List, IfOk, OnOk, if◌then◌else◌};
+ghost use Rattle.std.specs.Prelude.{◌≡◌, ◌++◌, ℕ, List, IfOk, OnOk, codes, if◌then◌else◌};
 ghost use Rattle.std.specs.Option.{option_copied};
 ghost use Rattle.std.specs.Str.{bytes_eq};
 ghost use Rattle.indexmap.specs.IndexSet.{insert_key};
 ghost use Rattle.miette_basics.specs.rules.Lists.{is_nil};
-ghost use Rattle.miette_sarif.specs.rules.Codes.{absolute_uri, codes_of, first_or, has_code, help_uri};
+ghost use Rattle.miette_sarif.specs.rules.Codes.{absolute_uri, codes_after, first_or, has_code, help_uri};
 ghost use Rattle.miette_sarif.specs.rules.Codes.{is_uri_of_rule, rule_pairs};
+ghost use Rattle.miette_sarif.specs.rules.Objects.{maybe_text};
 ghost use Rattle.miette_sarif.specs.rules.Codes.{rule_value, rule_values, rule_values_of, rules_in};
 ghost use Rattle.miette_sarif.specs.views.Found.{finding_of, findings_of};
 ghost use Rattle.miette_sarif.specs.views.Rules.{codes_seen, option_text, rules_view, uri_at};
@@ -14,7 +15,7 @@ ghost use Rattle.miette_sarif.specs.views.Values.{json_of, pairs_of, values_of};
 
 use crate::finding::Finding;
 use crate::uri::{address_uri, is_absolute};
-use crate::value::{Members, Value, number_value, object_value, text_value, with_member};
+use crate::value::{Members, Value, number_value, object_value, push_item, with_member, with_text};
 use indexmap::{IndexMap, IndexSet};
 use std::alloc::{AllocError, Global};
 
@@ -51,15 +52,15 @@ fn note_code<'a>(codes: &mut IndexSet<&'a str>, code: &'a str) -> Result<(), All
     Ok(())
 }
 
-// The codes of findings.
-fn codes_of<'a>(alloc: Global, findings: &[Finding<'a>]) -> Result<IndexSet<&'a str>, AllocError>
-    ensures { IfOk result (λ codes. codes_seen codes.keys ≡ codes_of (findings_of findings.now)) }
+// Adds the codes of findings.
+fn note_codes<'a>(codes: &mut IndexSet<&'a str>, findings: &[Finding<'a>]) -> Result<(), AllocError>
+    ensures { OnOk result (codes_seen codes.new.keys
+        ≡ codes_after (codes_seen codes.old.keys) (findings_of findings.now)) }
 {
-    let mut codes = IndexSet::new(alloc);
     for finding in findings {
-        note_code(&mut codes, finding.told.code)?;
+        note_code(codes, finding.told.code)?;
     }
-    Ok(codes)
+    Ok(())
 }
 
 // Adds the url of a finding with a code, where it is the first absolute one.
@@ -85,27 +86,41 @@ fn note_uri<'a>(
     Ok(())
 }
 
-// The addresses of codes.
-fn uris_of<'a>(
+// Adds the urls of findings, of each code the first absolute one.
+fn note_uris<'a>(
     alloc: Global,
+    uris: &mut IndexMap<&'a str, String>,
     findings: &[Finding<'a>],
-) -> Result<IndexMap<&'a str, String>, AllocError>
-    ensures { IfOk result (λ uris. (code : List ℕ) → uri_at uris code ≡ help_uri code (findings_of findings.now)) }
+) -> Result<(), AllocError>
+    ensures { OnOk result ((code : List ℕ) → uri_at uris.new code
+        ≡ first_or (uri_at uris.old code) (help_uri code (findings_of findings.now))) }
 {
-    let mut uris = IndexMap::new(alloc);
     for finding in findings {
-        note_uri(alloc, &mut uris, finding.told.code, finding.told.url)?;
+        note_uri(alloc, uris, finding.told.code, finding.told.url)?;
     }
-    Ok(uris)
+    Ok(())
 }
 
 /// The rules of findings.
 pub(crate) fn rules_in<'a>(alloc: Global, findings: &[Finding<'a>]) -> Result<Rules<'a>, AllocError>
     ensures { IfOk result (λ rules. rules_view rules ≡ rules_in (findings_of findings.now)) }
 {
-    let codes = codes_of(alloc, findings)?;
-    let uris = uris_of(alloc, findings)?;
+    let mut codes = IndexSet::new(alloc);
+    note_codes(&mut codes, findings)?;
+    let mut uris = IndexMap::new(alloc);
+    note_uris(alloc, &mut uris, findings)?;
     Ok(Rules { codes, uris })
+}
+
+// `"helpUri": "https://x.org/oops"`, where there is one.
+fn with_uri(alloc: Global, members: Members, uri: Option<&String>) -> Result<Members, AllocError>
+    ensures { IfOk result (λ all. pairs_of all.items ≡ pairs_of members.entry.items
+        ++ maybe_text (codes "helpUri") (option_text (option_copied uri.entry))) }
+{
+    match uri {
+        Some(uri) => with_text(alloc, members, "helpUri", uri.as_str()),
+        None => Ok(members),
+    }
 }
 
 // `{"id": "oops","helpUri": "https://x.org/oops"}`
@@ -113,27 +128,26 @@ fn rule_value(alloc: Global, code: &str, uri: Option<&String>) -> Result<Value, 
     ensures { IfOk result (λ value. json_of value
         ≡ rule_value code.now (option_text (option_copied uri.entry))) }
 {
-    let members = with_member(Vec::new(alloc), "id", text_value(alloc, code)?)?;
-    let members = match uri {
-        Some(uri) => with_member(members, "helpUri", text_value(alloc, uri.as_str())?)?,
-        None => members,
-    };
+    let members = with_text(alloc, Vec::new(alloc), "id", code)?;
+    let members = with_uri(alloc, members, uri)?;
     Ok(object_value(members))
 }
 
-// `[{"id": "oops","helpUri": "https://x.org/oops"}]`
-fn rule_list(
+// Appends `{"id": "oops","helpUri": "https://x.org/oops"}` of each code.
+fn push_rules(
     alloc: Global,
+    list: &mut Vec<Value>,
     codes: &[&str],
     uris: &IndexMap<&str, String>,
-) -> Result<Vec<Value>, AllocError>
-    ensures { IfOk result (λ list. values_of list.items ≡ rule_values_of (codes_seen codes.now) (uri_at uris.now)) }
+) -> Result<(), AllocError>
+    ensures { OnOk result (values_of list.new.items
+        ≡ values_of list.old.items ++ rule_values_of (codes_seen codes.now) (uri_at uris.now)) }
 {
-    let mut list = Vec::with_capacity(alloc, codes.len())?;
     for code in codes {
-        list.push(rule_value(alloc, code, uris.get(*code))?)?;
+        let value = rule_value(alloc, code, uris.get(*code))?;
+        push_item(list, value)?;
     }
-    Ok(list)
+    Ok(())
 }
 
 impl<'a> Rules<'a> {
@@ -141,12 +155,11 @@ impl<'a> Rules<'a> {
     pub(crate) fn members(&self, alloc: Global, code: &str) -> Result<Members, AllocError>
         ensures { IfOk result (λ members. pairs_of members.items ≡ rule_pairs (rules_view self.now) code.now) }
     {
-        let members = Vec::new(alloc);
         if code.is_empty() {
-            return Ok(members);
+            return Ok(Vec::new(alloc));
         }
         let index = self.codes.get_index_of(code).unwrap_or(0);
-        let members = with_member(members, "ruleId", text_value(alloc, code)?)?;
+        let members = with_text(alloc, Vec::new(alloc), "ruleId", code)?;
         with_member(members, "ruleIndex", number_value(index))
     }
 
@@ -164,6 +177,9 @@ impl<'a> Rules<'a> {
     pub(crate) fn values(&self, alloc: Global) -> Result<Vec<Value>, AllocError>
         ensures { IfOk result (λ list. values_of list.items ≡ rule_values (rules_view self.now)) }
     {
-        rule_list(alloc, self.codes.as_slice(), &self.uris)
+        let codes = self.codes.as_slice();
+        let mut list = Vec::with_capacity(alloc, codes.len())?;
+        push_rules(alloc, &mut list, codes, &self.uris)?;
+        Ok(list)
     }
 }

@@ -1,8 +1,10 @@
 //! Names of sources, and addresses, as URIs (RFC 3986).
 
-ghost use Rattle.std.specs.Prelude.{◌≡◌, ◌==◌, ◌++◌, [], ◌∷◌, take, drop, IfOk, OnOk, string_bytes, position};
+ghost use Rattle.std.specs.Prelude.{◌≡◌, ◌==◌, ◌&&◌, ◌++◌, [], ◌∷◌, take, drop, IfOk, OnOk, string_bytes, position};
+ghost use Rattle.std.specs.Prelude.{if◌then◌else◌};
 ghost use Rattle.std.specs.Option.{option_copied};
 ghost use Rattle.percent_encoding.specs.Percent.{percent_encode};
+ghost use Rattle.miette_sarif.specs.declared.uri.TheConstants.{ADDRESS};
 ghost use Rattle.miette_sarif.specs.rules.Uris.{address_uri, after_scheme, begins_with_hex};
 ghost use Rattle.miette_sarif.specs.rules.Uris.{begins_with_slash, begins_with_slashes, has_authority, behind_scheme};
 ghost use Rattle.miette_sarif.specs.rules.Uris.{is_absolute, is_scheme_byte};
@@ -117,17 +119,24 @@ fn push_encoded(out: &mut String, bytes: &[u8], set: AsciiSet) -> Result<(), All
     percent_encode(bytes, set).append_to(out)
 }
 
+// Appends a byte of an address before others: it is escaped where it stands in no URI, and doesn't begin an escape.
+fn push_byte(out: &mut String, byte: u8, behind: &[u8]) -> Result<(), AllocError>
+    ensures { OnOk result (string_bytes out.new ≡ string_bytes out.old
+        ++ (if (byte == 37) && begins_with_hex behind.now then byte ∷ [] else percent_encode ADDRESS (byte ∷ []))) }
+{
+    if byte == b'%' && begins_with_hex(behind) {
+        return out.push_str("%");
+    }
+    push_encoded(out, &[byte], ADDRESS)
+}
+
 /// Appends an address as a URI: what stands in none is escaped, and escapes stay.
 pub(crate) fn push_address(out: &mut String, address: &str) -> Result<(), AllocError>
     ensures { OnOk result (string_bytes out.new ≡ string_bytes out.old ++ address_uri address.now) }
 {
     let mut rest = address.as_bytes();
     while let Some((first, more)) = rest.split_first() {
-        if *first == b'%' && begins_with_hex(more) {
-            out.push_str("%")?;
-        } else {
-            push_encoded(out, &[*first], ADDRESS)?;
-        }
+        push_byte(out, *first, more)?;
         rest = more;
     }
     Ok(())

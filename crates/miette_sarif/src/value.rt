@@ -1,6 +1,6 @@
 //! JSON values that are made before they are written.
 
-ghost use Rattle.std.specs.Prelude.{◌≡◌, ◌++◌, IfOk, string_bytes};
+ghost use Rattle.std.specs.Prelude.{◌≡◌, ◌++◌, ◌∷◌, [], IfOk, OnOk, string_bytes};
 ghost use Rattle.miette_json.specs.rules.Json.{number, string};
 ghost use Rattle.miette_sarif.specs.rules.Objects.{array_of, listed, object_of, pair};
 ghost use Rattle.miette_sarif.specs.views.Values.{json_of, pairs_of, values_of};
@@ -48,6 +48,23 @@ pub(crate) fn list_value(items: Vec<Value>) -> Value
     Value::List(items)
 }
 
+/// Appends a value to a list.
+pub(crate) fn push_item(list: &mut Vec<Value>, value: Value) -> Result<(), AllocError>
+    ensures { OnOk result (values_of list.new.items ≡ values_of list.old.items ++ json_of value ∷ []) }
+{
+    list.push(value)?;
+    Ok(())
+}
+
+/// A list with one item.
+pub(crate) fn list_of_one(alloc: Global, value: Value) -> Result<Vec<Value>, AllocError>
+    ensures { IfOk result (λ list. values_of list.items ≡ json_of value ∷ []) }
+{
+    let mut list = Vec::new(alloc);
+    push_item(&mut list, value)?;
+    Ok(list)
+}
+
 /// An object.
 pub(crate) fn object_value(members: Members) -> Value
     ensures { json_of result ≡ object_of (pairs_of members.entry.items) }
@@ -67,6 +84,19 @@ pub(crate) fn with_member(
     Ok(members)
 }
 
+/// A member with a text after those that were there.
+pub(crate) fn with_text(
+    alloc: Global,
+    members: Members,
+    key: &'static str,
+    text: &str,
+) -> Result<Members, AllocError>
+    ensures { IfOk result (λ all. pairs_of all.items ≡ pairs_of members.entry.items ++ pair key.now (string text.now)) }
+{
+    let value = text_value(alloc, text)?;
+    with_member(members, key, value)
+}
+
 /// A member with a list after those that were there, where the list has an item.
 pub(crate) fn with_list(
     members: Members,
@@ -80,6 +110,14 @@ pub(crate) fn with_list(
         return Ok(members);
     }
     with_member(members, key, list_value(items))
+}
+
+/// An object with a text as its one member.
+pub(crate) fn single_text(alloc: Global, key: &'static str, text: &str) -> Result<Value, AllocError>
+    ensures { IfOk result (λ whole. json_of whole ≡ object_of (pair key.now (string text.now))) }
+{
+    let members = with_text(alloc, Vec::new(alloc), key, text)?;
+    Ok(object_value(members))
 }
 
 /// An object with one member.

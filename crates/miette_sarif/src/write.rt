@@ -1,17 +1,26 @@
 //! Values written as text.
 
-ghost use Rattle.std.specs.Prelude.{◌≡◌, ◌∷◌, [], ◌++◌, if◌then◌else◌, OnOk, string_bytes};
+ghost use Rattle.std.specs.Prelude.{◌≡◌, ◌∷◌, [], ◌++◌, if◌then◌else◌, IfOk, OnOk, string_bytes};
 ghost use Rattle.miette_json.specs.rules.Json.{json_text, items_text, members_text, quoted_text};
 ghost use Rattle.miette_sarif.specs.views.Values.{json_of, items_view, members_view};
 
 use crate::value::Value;
 use miette_basics::numbers::push_number;
 use miette_json::text::push_quoted;
-use std::alloc::AllocError;
+use std::alloc::{AllocError, Global};
 
-/// Appends the spelling of a value.
+/// The spelling of a value.
+pub(crate) fn text_of(alloc: Global, value: &Value) -> Result<String, AllocError>
+    ensures { IfOk result (λ text. string_bytes text ≡ json_text (json_of value.now)) }
+{
+    let mut text = String::new(alloc);
+    push_value(&mut text, value)?;
+    Ok(text)
+}
+
+// Appends the spelling of a value.
 #[cycle(value)]
-pub(crate) fn push_value(out: &mut String, value: &Value) -> Result<(), AllocError>
+fn push_value(out: &mut String, value: &Value) -> Result<(), AllocError>
     ensures { OnOk result (string_bytes out.new ≡ string_bytes out.old ++ json_text (json_of value.now)) }
 {
     match value {

@@ -74,7 +74,7 @@ narration_settings o = record { chain = o.cause_chain; context = o.layout.contex
 
 -- how reports are told in brief
 abbrev pub brief_settings : {H : Type 0} → Options H → BriefSettings
-brief_settings o = record { chain = o.cause_chain }
+brief_settings o = record { chain = o.cause_chain; form = o.brief_form }
 
 -- the graphical handler that options and a terminal choose
 pub record IsDrawing {H : Type 0} (o : Options H) (t : Terminal) (it : Handling H) : Type 0 where

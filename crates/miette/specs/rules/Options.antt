@@ -2,6 +2,8 @@
 -- causes and related reports are as a handler has them where they weren't set. The parameter is the type of
 -- highlighters.
 use Rattle.std.specs.Prelude.{ℕ, Bool, true, false, List, Option, None}
+use Rattle.miette_brief.specs.declared.form.Form.{Form}
+use Rattle.miette_brief.specs.declared.form.Form.TheVariants.{Gcc}
 use Rattle.miette_snippet_rules.specs.rules.Defaults.{default_layout}
 use Rattle.miette_snippet_rules.specs.declared.options.LayoutOptions.{LayoutOptions}
 use Rattle.miette_style.specs.rules.Themes.{Theme}
@@ -12,6 +14,7 @@ use Rattle.miette.specs.declared.options.builder.RgbColors.TheVariants.{Never}
 
 pub record Options (H : Type 0) : Type 0 where
   pub brief : Bool
+  pub brief_form : Form
   pub narrated : Option Bool
   pub graphical : Option Bool
   pub theme : Option Theme
@@ -30,6 +33,7 @@ pub record Options (H : Type 0) : Type 0 where
 abbrev pub no_options : {H : Type 0} → Options H
 no_options = record {
   brief = false;
+  brief_form = Gcc;
   narrated = None;
   graphical = None;
   theme = None;

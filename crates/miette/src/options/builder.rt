@@ -7,6 +7,7 @@ ghost use Rattle.miette.specs.rules.Options.{no_options};
 mod choice;
 
 use miette_graphical::settings::Wrapping;
+use miette_handlers::handlers::Form;
 use miette_highlight::highlight::Highlighter;
 use miette_snippet_rules::options::LayoutOptions;
 use miette_style::theme::GraphicalTheme;
@@ -41,6 +42,7 @@ pub fn rgb_colors_law()
 #[derive(Drop)]
 pub struct MietteHandlerOpts<H = Box<dyn Highlighter>> {
     force_brief: bool,
+    brief_form: Form,
     force_narrated: Option<bool>,
     force_graphical: Option<bool>,
     theme: Option<GraphicalTheme>,
@@ -66,6 +68,7 @@ impl<H> Model for MietteHandlerOpts<H> {
 
     ghost view = { λ it. record {
       brief = it.force_brief;
+      brief_form = it.brief_form;
       narrated = it.force_narrated;
       graphical = it.force_graphical;
       theme = option_map theme_of it.theme;
@@ -94,6 +97,7 @@ impl<H> Default for MietteHandlerOpts<H> {
     fn default() -> Self {
         MietteHandlerOpts {
             force_brief: false,
+            brief_form: Form::Gcc,
             force_narrated: None,
             force_graphical: None,
             theme: None,
@@ -256,6 +260,14 @@ impl<H: Highlighter> MietteHandlerOpts<H> {
         ensures { result ≡ record self { graphical = Some force } }
     {
         self.force_graphical = Some(force);
+        self
+    }
+
+    /// In what form reports are told where they are brief; else in the rows of GCC.
+    pub fn brief_form(mut self, form: Form) -> Self
+        ensures { result ≡ record self { brief_form = form } }
+    {
+        self.brief_form = form;
         self
     }
 

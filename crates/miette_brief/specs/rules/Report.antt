@@ -9,16 +9,21 @@ pub use Rattle.miette_tree.specs.rules.Answers.{unlisted, listed, no_more, and_m
 pub use Rattle.miette_tree.specs.rules.Answers.{first_answers, later_answers}
 use Rattle.miette_tree.specs.rules.DiagnosticParts.{given_labels}
 use Rattle.miette_labels.specs.rules.Groups.{in_order}
+use Rattle.miette_brief.specs.declared.form.Form.{Form}
+use Rattle.miette_brief.specs.declared.form.Form.TheVariants.{Gcc, Github}
+use Rattle.miette_brief.specs.rules.Commands.{Command, commands_text}
 use Rattle.miette_brief.specs.rules.Fixes.{fixed_source, fixes_rows}
+use Rattle.miette_brief.specs.rules.Github.{command}
 use Rattle.miette_brief.specs.rules.Rows.{Place, ReportRow, told, Kind, finding, note, cause, help, rows_text}
 use Rattle.miette_brief.specs.rules.Places.{label_place, diagnostic_place, cause_place, primary_spot}
 
--- what a handler is set to: whether causes are told
+-- what a handler is set to: whether causes are told, and in what form a report is told
 pub record BriefSettings : Type 0 where
   pub chain : Bool
+  pub form : Form
 
 abbrev pub default_settings : BriefSettings
-default_settings = record { chain = true }
+default_settings = record { chain = true; form = Gcc }
 
 -- ---- answers
 
@@ -123,5 +128,28 @@ abbrev mutual
   related_rows chain inherited more (more_trees t ts) =
       report_rows chain inherited (first_answers more) t ++ related_rows chain inherited (later_answers more) ts
 
+-- ---- commands
+
+abbrev pub own_command : Bool → Option Source → Answers → Diagnosis → Cause → Command
+own_command chain source a m c = command chain source (own_answer a).place m c
+
+-- in the same order one command for each of these diagnostics
+abbrev mutual
+  pub report_commands : Bool → Option Source → Answers → Tree → List Command
+  report_commands chain inherited a (tree m own c r) =
+      own_command chain (effective own inherited) a m c
+      ∷ related_commands chain (effective own inherited) (related_answers a) r
+
+  pub related_commands : Bool → Option Source → RelatedAnswers → Trees → List Command
+  related_commands chain inherited more no_trees = []
+  related_commands chain inherited more (more_trees t ts) =
+      report_commands chain inherited (first_answers more) t ++ related_commands chain inherited (later_answers more) ts
+
+-- ---- the text
+
+abbrev pub text_in : Form → Bool → Option Source → Answers → Tree → List ℕ
+text_in Gcc chain inherited a t = rows_text (report_rows chain inherited a t)
+text_in Github chain inherited a t = commands_text (report_commands chain inherited a t)
+
 abbrev pub brief : BriefSettings → Tree → Answers → List ℕ
-brief s t a = rows_text (report_rows s.chain None a t)
+brief s t a = text_in s.form s.chain None a t

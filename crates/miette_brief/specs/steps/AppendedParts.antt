@@ -1,5 +1,5 @@
 -- What is appended for the parts of a report, under some answers.
-use Rattle.std.specs.Prelude.{◌≡◌, ℕ, Bool, List, ◌∷◌, ◌++◌, Option}
+use Rattle.std.specs.Prelude.{◌≡◌, ℕ, Bool, List, [], ◌∷◌, ◌++◌, Option}
 use Rattle.miette_fixes.specs.rules.Edits.{Proposal}
 use Rattle.miette_tree.specs.rules.Diagnosis.{Diagnosis}
 use Rattle.miette_protocol.specs.rules.Reading.{Source}
@@ -8,8 +8,12 @@ use Rattle.miette_tree.specs.rules.DiagnosticParts.{given_labels}
 use Rattle.miette_tree.specs.rules.Reads.{MayMeet}
 use Rattle.miette_labels.specs.rules.Groups.{in_order}
 use Rattle.miette_brief.specs.rules.Rows.{Place, rows_text}
-use Rattle.miette_brief.specs.rules.Report.{Answers, RelatedAnswers, cause_answers, cause_rows_if, finding_row}
-use Rattle.miette_brief.specs.rules.Report.{own_answer, own_rows, report_rows, related_rows, labelled_rows, advice_rows}
+use Rattle.miette_brief.specs.declared.form.Form.{Form}
+use Rattle.miette_brief.specs.declared.form.Form.TheVariants.{Gcc, Github}
+use Rattle.miette_brief.specs.rules.Commands.{commands_text}
+use Rattle.miette_brief.specs.rules.Report.{Answers, RelatedAnswers, BriefSettings, cause_answers, cause_rows_if}
+use Rattle.miette_brief.specs.rules.Report.{finding_row, own_answer, own_rows, related_rows, labelled_rows, advice_rows}
+use Rattle.miette_brief.specs.rules.Report.{own_command, related_commands, text_in}
 use Rattle.miette_brief.specs.rules.Fixes.{fixed_source, fixes_rows}
 use Rattle.miette_brief.specs.rules.PossibleAnswers.{HasAccepted, FurtherAccepted, AreCauseAnswers, AreAnswers}
 use Rattle.miette_brief.specs.rules.PossibleAnswers.{AllAnswers}
@@ -41,24 +45,35 @@ pub record AppendsAdvice (at : Place) (source : Option Source) (m : Diagnosis) (
   pub possible : MayMeet source fails
   pub appended : new ≡ old ++ rows_text (advice_rows at source fails m)
 
--- new is old and then the rows of a diagnostic with its cause, for some answers
-pub record AppendsOwn (chain : Bool) (source : Option Source) (m : Diagnosis) (c : Cause) (old new : List ℕ) : Type 0
-  where
-    pub answers : Answers
-    pub accepted : HasAccepted source (in_order (given_labels m.labels)) × FurtherAccepted m.snippets
-    pub possible : MayMeet source (own_answer answers).place
-    pub causes : AreCauseAnswers source (cause_answers answers) c
-    pub fixes : MayMeet source (own_answer answers).fixes
-    pub appended : new ≡ old ++ rows_text (own_rows chain source answers m c)
+-- a diagnostic with its cause, in a form
+abbrev pub own_text : Form → Bool → Option Source → Answers → Diagnosis → Cause → List ℕ
+own_text Gcc chain source a m c = rows_text (own_rows chain source a m c)
+own_text Github chain source a m c = commands_text (own_command chain source a m c ∷ [])
+
+-- related reports, in a form
+abbrev pub related_text : Form → Bool → Option Source → RelatedAnswers → Trees → List ℕ
+related_text Gcc chain inherited a ts = rows_text (related_rows chain inherited a ts)
+related_text Github chain inherited a ts = commands_text (related_commands chain inherited a ts)
+
+-- new is old and then a diagnostic with its cause, for some answers
+pub record AppendsOwn (s : BriefSettings) (source : Option Source) (m : Diagnosis) (c : Cause) (old new : List ℕ)
+    : Type 0 where
+  pub answers : Answers
+  pub accepted : HasAccepted source (in_order (given_labels m.labels)) × FurtherAccepted m.snippets
+  pub possible : MayMeet source (own_answer answers).place
+  pub causes : AreCauseAnswers source (cause_answers answers) c
+  pub fixes : MayMeet source (own_answer answers).fixes
+  pub appended : new ≡ old ++ own_text s.form s.chain source answers m c
 
 -- new is old and then a report, for some answers
-pub record AppendsReport (chain : Bool) (inherited : Option Source) (t : Tree) (old new : List ℕ) : Type 0 where
+pub record AppendsReport (s : BriefSettings) (inherited : Option Source) (t : Tree) (old new : List ℕ) : Type 0 where
   pub answers : Answers
   pub possible : AreAnswers inherited answers t
-  pub appended : new ≡ old ++ rows_text (report_rows chain inherited answers t)
+  pub appended : new ≡ old ++ text_in s.form s.chain inherited answers t
 
 -- new is old and then related reports, for some answers
-pub record AppendsRelated (chain : Bool) (inherited : Option Source) (ts : Trees) (old new : List ℕ) : Type 0 where
-  pub answers : RelatedAnswers
-  pub possible : AllAnswers inherited answers ts
-  pub appended : new ≡ old ++ rows_text (related_rows chain inherited answers ts)
+pub record AppendsRelated (s : BriefSettings) (inherited : Option Source) (ts : Trees) (old new : List ℕ) : Type 0
+  where
+    pub answers : RelatedAnswers
+    pub possible : AllAnswers inherited answers ts
+    pub appended : new ≡ old ++ related_text s.form s.chain inherited answers ts

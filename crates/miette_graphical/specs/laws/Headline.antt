@@ -21,7 +21,7 @@ use Rattle.miette_cells.specs.rules.Cells.{Cell}
 use Rattle.miette_cells.specs.rules.Widths.{width_of}
 use Rattle.miette_snippet_rules.specs.rules.CutLines.{Stretch, ends, is_near}
 use Rattle.miette_row_laws.specs.laws.Cuts.{AreAsWide, AreMoved, AreStretches, Fits, by_nearness, by_stretch}
-use Rattle.miette_row_laws.specs.laws.Cuts.{most_columns, pieces_shown}
+use Rattle.miette_row_laws.specs.laws.Cuts.{GroupsFit, most_columns, pieces_shown}
 use Rattle.miette_snippet_rules.specs.rules.Marks.{Mark, marks_at, AreApart}
 use Rattle.miette_snippet_rules.specs.rules.PrintedCells.{cells_width}
 use Rattle.miette_snippet_rules.specs.rules.Numbers.{ranges, IsRange, AreParted}
@@ -203,11 +203,20 @@ SnippetStays s source labels group =
     }) spreads (drawn_labels s source labels)
     source.bytes (contents (group_settings s labels).layout.context_lines source group) pieces
 
--- in each snippet of a diagnostic
+-- In all rows of some labels, in whatever pieces the lines are, nothing changes where no line of their snippets has.
+abbrev pub RowsStay : Settings → Source → List Label → Type 0
+RowsStay s source labels =
+    GroupsFit (group_settings s labels) source (groups_of s source labels) →
+    (pieces : List (List (List Highlight))) →
+    source_rows s (Some source) labels (pieces_listed pieces)
+    ≡ source_rows (record s { layout = record s.layout { line_columns = None } }) (Some source) labels
+    (pieces_listed pieces)
+
+-- in each snippet of a diagnostic, and in all its rows
 abbrev pub LinesThatFitStay : Settings → LabelledSource → Type 0
 LinesThatFitStay s p =
-    IfSome p.source (λ source. AllByRecursion (SnippetStays s source p.labels)
-    (groups_of s source p.labels))
+    IfSome p.source (λ source. AllByRecursion (SnippetStays s source p.labels) (groups_of s source p.labels)
+    × RowsStay s source p.labels)
 
 -- ---- the texts of labels
 

@@ -3,7 +3,7 @@ use Rattle.std.specs.Prelude.{ℕ, List, ◌++◌, Option, Some, None, Result, O
 use Rattle.miette_report.specs.declared.fault.Fault.{Fault}
 use Rattle.miette_report.specs.declared.fault.Fault.TheVariants.{Usage, Memory, Read, Write, Description, Refused}
 use Rattle.miette_report.specs.declared.fault.Program.{Program}
-use Rattle.miette_report.specs.declared.fault.Program.TheVariants.{Draw, Job, Bench, Lint}
+use Rattle.miette_report.specs.declared.fault.Program.TheVariants.{Draw, Job, Bench, Lint, Show}
 
 -- the status of each fault, in all programs but `lint`
 abbrev pub usual_status : Fault → ℕ
@@ -14,12 +14,13 @@ usual_status Write = 1
 usual_status Description = 3
 usual_status Refused = 4
 
--- that of a program; of `lint` it is always 2, since 1 says that something is found
+-- that of a program; of `lint` and `show` it is always 2, since 1 says what they found
 abbrev pub status_of : Program → Fault → ℕ
 status_of Draw fault = usual_status fault
 status_of Job fault = usual_status fault
 status_of Bench fault = usual_status fault
 status_of Lint fault = 2
+status_of Show fault = 2
 
 -- the status by how the work ended, with these of faults
 abbrev pub end_status : {T : Type 0} → (Fault → ℕ) → Result T Fault → ℕ
@@ -31,6 +32,7 @@ name_of Draw = codes "draw"
 name_of Job = codes "job"
 name_of Bench = codes "bench"
 name_of Lint = codes "lint"
+name_of Show = codes "show"
 
 -- the words that a program takes
 abbrev pub usage_of : Program → List ℕ
@@ -38,6 +40,7 @@ usage_of Draw = codes "NAME OFFSET LENGTH LABEL MESSAGE"
 usage_of Job = codes "[OPTIONS]"
 usage_of Bench = codes "N [OPTIONS]"
 usage_of Lint = codes "[--brief | --fix | --diff | --sarif [--tool TOOL]] NAME WIDTH"
+usage_of Show = codes "[--from rustc] [--root DIR] [OPTIONS]"
 
 -- what a fault is called, where it is none of the words
 abbrev pub reason_of : Fault → Option (List ℕ)

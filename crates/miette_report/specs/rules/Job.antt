@@ -1,5 +1,5 @@
 -- The text of a job: by the bytes that were read, and by what was asked for.
-use Rattle.std.specs.Prelude.{◌≡◌, ℕ, Bool, List, Some, None, true, false, IsUtf8, encode_utf8_all}
+use Rattle.std.specs.Prelude.{◌≡◌, ℕ, Bool, List, Option, Some, None, true, false, IsUtf8, encode_utf8_all}
 use Rattle.miette.specs.rules.Choice.{IsChosen, is_graphical}
 use Rattle.miette.specs.rules.Options.{Options}
 use Rattle.miette.specs.declared.options.handler.MietteHandler.{MietteHandler}
@@ -9,37 +9,46 @@ use Rattle.miette_tree.specs.rules.Tree.{Tree}
 use Rattle.miette_brief.specs.rules.Report as brief
 use Rattle.miette_tree.specs.rules.Reads.{report_accepted}
 use Rattle.miette_narrated.specs.rules.Report as narrated
-use Rattle.miette_graphical.specs.rules.PossibleAnswers.{IsTextOf}
+use Rattle.miette_graphical.specs.rules.PossibleAnswers.{IsAskedText}
 use Rattle.miette_graphical.specs.rules.Answers.{unlisted}
 use Rattle.miette_graphical.specs.views.Handling.{draws_plain}
+use Rattle.miette_highlight.specs.rules.HighlighterCalls.{Call}
 use Rattle.miette_json.specs.rules.Json.{json_text}
 use Rattle.miette_json.specs.rules.JsonReport.{value_of}
 use Rattle.miette_graphical.specs.rules.Snippets.{whole_drawing}
 use Rattle.miette_graphical.specs.rules.Text.{report_text}
 use Rattle.miette_debug.specs.rules.DebugText.{IsDebugText}
 use Rattle.miette_description.specs.rules.Description.{tree_for}
+use Rattle.miette_snippet_rules.specs.rules.Highlighting.{follows}
+use Rattle.miette_report.specs.declared.language.LanguageHighlighter.{LanguageHighlighter}
 use Rattle.miette_report.specs.declared.option_words.Choice.{Choice}
 use Rattle.miette_report.specs.declared.option_words.Choice.TheVariants.{Build, Json, Debug}
+use Rattle.miette_report.specs.rules.LanguageRules.{TokensFollow}
 
--- A text that a handler gives for a tree whose sources always read: a picture, one alone where no highlighter or a
--- blank one is set; a narrated or brief text only where every label that is told is accepted.
-abbrev pub IsBuiltText : {H : Type 0} → (H → Bool) → MietteHandler H → Tree → List ℕ → Type 0
-IsBuiltText is_blank (Graphical it) t text =
-    IsTextOf whole_drawing it.settings (draws_plain is_blank it) t text
+-- A text that a handler gives for a tree whose sources always read: a picture, by answers that its highlighter gave by
+-- calls that happen, one alone where no highlighter or a blank one is set; a narrated or brief text only where every
+-- label that is told is accepted.
+abbrev pub IsBuiltText : {H : Type 0} → (H → Bool) → (Option H → List Call → Type 0) → MietteHandler H → Tree → List ℕ
+    → Type 0
+IsBuiltText is_blank happen (Graphical it) t text =
+    IsAskedText whole_drawing it.settings (draws_plain is_blank it) (happen it.highlighter) t text
     × (draws_plain is_blank it ≡ true → text ≡ encode_utf8_all (report_text whole_drawing it.settings t unlisted))
-IsBuiltText is_blank (Narrated it) t text = (report_accepted t ≡ true)
+IsBuiltText is_blank happen (Narrated it) t text = (report_accepted t ≡ true)
     × (text ≡ narrated.narration it t narrated.unlisted)
-IsBuiltText is_blank (Brief it) t text = (report_accepted t ≡ true) × (text ≡ brief.brief it t brief.unlisted)
+IsBuiltText is_blank happen (Brief it) t text = (report_accepted t ≡ true) × (text ≡ brief.brief it t brief.unlisted)
 
--- the same by what was asked for
-abbrev pub IsJobText : {H : Type 0} → (H → Bool) → Choice → Options H → Terminal → Tree → List ℕ → Type 0
-IsJobText {H} is_blank Build options terminal t text =
-    (handler : MietteHandler H) × IsChosen options terminal handler × IsBuiltText is_blank handler t text
+-- The same by what was asked for. A highlighter cuts the lines of a picture into their tokens, by its rules.
+abbrev pub IsJobText : (LanguageHighlighter → Bool) → Choice → Options LanguageHighlighter → Terminal → Tree → List ℕ
+    → Type 0
+IsJobText is_blank Build options terminal t text =
+    (handler : MietteHandler LanguageHighlighter) × IsChosen options terminal handler
+    × IsBuiltText is_blank (follows TokensFollow) handler t text
 IsJobText is_blank Json options terminal t text = text ≡ json_text (value_of t)
 IsJobText is_blank Debug options terminal t text = IsDebugText t text
 
 -- the bytes are a description, and this holds of its text
-abbrev pub Writes : {H : Type 0} → (H → Bool) → Choice → Options H → Terminal → List ℕ → (List ℕ → Type 0) → Type 0
+abbrev pub Writes : (LanguageHighlighter → Bool) → Choice → Options LanguageHighlighter → Terminal → List ℕ
+    → (List ℕ → Type 0) → Type 0
 Writes is_blank choice options terminal bytes holds =
     IsUtf8 bytes × ((t : Tree) × (tree_for bytes ≡ Some t)
     × ((text : List ℕ) × IsJobText is_blank choice options terminal t text × holds text))

@@ -11,6 +11,7 @@ use Rattle.miette_text.specs.declared.wrap.WordSeparator.TheVariants.{AsciiSpace
 use Rattle.miette_text.specs.declared.wrap.WordSplitter.{WordSplitter}
 use Rattle.miette_text.specs.declared.wrap.WordSplitter.TheVariants.{HyphenSplitter, NoHyphenation}
 use Rattle.miette.specs.rules.Options.{Options, no_options}
+use Rattle.miette_brief.specs.declared.form.Form.TheVariants.{Gcc, Github}
 use Rattle.miette.specs.declared.options.builder.RgbColors.{RgbColors}
 use Rattle.miette.specs.declared.options.builder.RgbColors.TheVariants.{Always, Preferred, Never}
 use Rattle.miette_report.specs.declared.language.Language.{Language}
@@ -20,6 +21,7 @@ use Rattle.miette_report.specs.declared.option_words.Choice.{Choice}
 use Rattle.miette_report.specs.declared.option_words.Choice.TheVariants.{Build, Json, Debug}
 use Rattle.miette_report.specs.declared.option_words.ReportAsked.{ReportAsked}
 use Rattle.miette_report.specs.declared.option_words.ReportAsked.TheVariants as report
+use Rattle.miette_report.specs.rules.LanguageRules.{Highlighting, highlighting_of, language_highlighting}
 
 -- ---- what may be asked for
 
@@ -46,11 +48,11 @@ facts_of t = record {
   no_color = option_map string_bytes t.no_color;
 }
 
--- the handler, its options with the language of their highlighter beside them, and what the terminal is and has
+-- the handler, its options with what their highlighter is beside them, and what the terminal is and has
 pub record JobRequest : Type 0 where
   pub choice : Choice
   pub options : Options LanguageHighlighter
-  pub language : Option Language
+  pub highlighting : Option Highlighting
   pub facts : Facts
 
 -- where nothing is asked for
@@ -58,7 +60,7 @@ abbrev pub nothing_asked : JobRequest
 nothing_asked = record {
   choice = Build;
   options = no_options;
-  language = None;
+  highlighting = None;
   facts = record {
     width = None;
     color = None;
@@ -75,16 +77,16 @@ abbrev pub request_of : Choice → Options LanguageHighlighter → Terminal → 
 request_of choice options terminal = record {
   choice = choice;
   options = record options { highlighter = None };
-  language = option_map (λ it. it.language) options.highlighter;
+  highlighting = option_map highlighting_of options.highlighter;
   facts = facts_of terminal;
 }
 
--- with these options, or with this language or terminal, in place of those before
+-- with these options, or with the highlighter of this language or this terminal, in place of those before
 abbrev pub asks : JobRequest → Options LanguageHighlighter → Option JobRequest
 asks r options = Some (record r { options = options })
 
 abbrev pub highlights : JobRequest → Language → Option JobRequest
-highlights r it = Some (record r { language = Some it })
+highlights r it = Some (record r { highlighting = Some (language_highlighting it) })
 
 abbrev pub knows : JobRequest → Facts → Option JobRequest
 knows r facts = Some (record r { facts = facts })
@@ -97,13 +99,15 @@ report_named word =
     if bytes_eq word (codes "--json") then Some report.Json
     else (if bytes_eq word (codes "--debug") then Some report.Debug
     else (if bytes_eq word (codes "--brief") then Some report.Brief
+    else (if bytes_eq word (codes "--github") then Some report.Github
     else (if bytes_eq word (codes "--narrated") then Some report.Narrated
-    else (if bytes_eq word (codes "--graphical") then Some report.Graphical else None))))
+    else (if bytes_eq word (codes "--graphical") then Some report.Graphical else None)))))
 
 abbrev pub with_report : ReportAsked → JobRequest → JobRequest
 with_report report.Json r = record r { choice = Json }
 with_report report.Debug r = record r { choice = Debug }
-with_report report.Brief r = record r { options = record r.options { brief = true } }
+with_report report.Brief r = record r { options = record r.options { brief = true; brief_form = Gcc } }
+with_report report.Github r = record r { options = record r.options { brief = true; brief_form = Github } }
 with_report report.Narrated r = record r { options = record r.options { narrated = Some true } }
 with_report report.Graphical r = record r { options = record r.options { graphical = Some true } }
 

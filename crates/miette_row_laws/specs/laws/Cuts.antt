@@ -1,11 +1,16 @@
 -- What holds of lines that are cut: which cells are shown, where dots and marks stand, and how wide a row can be.
 use Rattle.std.specs.Prelude.{ℕ, ◌+◌, ◌*◌, ◌/◌, ◌<◌, ◌≤◌, ◌≡◌, ◌≢◌, List, [], ◌∷◌, ◌++◌, map, Bool, if◌then◌else◌}
 use Rattle.std.specs.Prelude.{Option, Some, None, ◌-◌, ◌==◌, nat_lt, true}
+use Rattle.std.specs.List.{AllByRecursion}
 use Rattle.miette_cells.specs.rules.Cells.{Cell}
+use Rattle.miette_labels.specs.rules.Contexts.{contents, lines_of_contents}
 use Rattle.miette_page.specs.rules.Rows.{Glyph}
 use Rattle.miette_snippet_rules.specs.rules.CutLines.{Stretch, columns_in, dots, is_kept, is_near_after}
 use Rattle.miette_snippet_rules.specs.rules.Marks.{Mark}
 use Rattle.miette_snippet_rules.specs.rules.PrintedCells.{printed_cells, cells_width}
+use Rattle.miette_snippet_rules.specs.rules.Settings.{SnippetSettings}
+use Rattle.miette_snippet_rules.specs.rules.SnippetLayout.{cells_of}
+use Rattle.miette_protocol.specs.rules.Reading.{Source, Span}
 
 -- cells, each with whether it is near, where it is told whether the cell before them is
 abbrev pub by_nearness : (Cell → Bool) → Bool → List Cell → List (Cell × Bool)
@@ -92,3 +97,13 @@ most_columns limit many widest =
 abbrev pub Fits : Option ℕ → List Cell → Type 0
 Fits None cells = Unit {0}
 Fits (Some limit) cells = cells_width 0 cells ≤ limit
+
+-- no line of the reads of groups has more columns than the limit
+abbrev pub GroupsFit : SnippetSettings → Source → List Span → Type 0
+GroupsFit s source groups = AllByRecursion (λ group. AllByRecursion
+    (λ line. Fits s.layout.line_columns (cells_of s source.bytes line))
+    (lines_of_contents (contents s.layout.context_lines source group))) groups
+
+-- the same settings without a limit
+abbrev pub without_limit : SnippetSettings → SnippetSettings
+without_limit s = record s { layout = record s.layout { line_columns = None } }

@@ -1,11 +1,11 @@
 -- What the rows of a line show at their columns, and what it means that a text hangs from its mark.
 use Rattle.std.specs.Prelude.{ℕ, ◌+◌, ◌<◌, ◌≡◌, ◌⊎◌, List, [], ◌∷◌, map, Some, ◌&&◌, if◌then◌else◌, nat_lt, nat_le}
-use Rattle.std.specs.Prelude.{drop}
+use Rattle.std.specs.Prelude.{drop, length}
 use Rattle.std.specs.List.{AllByRecursion}
-use Rattle.miette_page.specs.rules.Rows.{Glyph, Row, glyphs_of, glyph_of, code_at, Begins}
+use Rattle.miette_page.specs.rules.Rows.{Glyph, Row, glyphs_of, columns_of, glyph_of, code_at, Begins}
 use Rattle.miette_source_lines.specs.rules.Lines.{Line}
 use Rattle.miette_cells.specs.rules.Cells.{Cell}
-use Rattle.miette_labels.specs.rules.Labels.{DrawnLabel, one_line}
+use Rattle.miette_labels.specs.rules.Labels.{DrawnLabel, one_line, multi_line, closing_labels}
 use Rattle.miette_snippet_rules.specs.rules.CutLines.{shown_runs, shown_marks}
 use Rattle.miette_snippet_rules.specs.rules.Marks.{Mark}
 use Rattle.miette_snippet_rules.specs.rules.Drawing.{mark_code}
@@ -66,13 +66,14 @@ abbrev pub Below : (List Row → Type 0) → List Row → Type 0
 Below P [] = ⊥
 Below P (row ∷ rows) = P rows
 
--- The rows of a line with marks, under its number row: the mark row has each mark in its columns, and each text hangs
--- in the rows under that.
+-- The rows of a line with marks, under its number row: the mark row has each mark in its columns and ends where the
+-- last mark does, and each text hangs in the rows under that.
 abbrev pub AreMarked : SnippetSettings → ℕ → List Mark → List Row → Type 0
 AreMarked s start marks [] = ⊥
 AreMarked s start marks (row ∷ rows) =
     ((column : ℕ) → column < marks_end 0 marks →
     code_at (glyphs_of row) (start + column) ≡ Some (mark_at s marks column).code)
+    × (columns_of (glyphs_of row) ≡ start + marks_end 0 marks)
     × AllByRecursion (Hangs s (map glyphs_of rows) start) marks
 
 abbrev pub ShowMarks : SnippetSettings → ℕ → List Mark → List Row → Type 0
@@ -84,17 +85,36 @@ abbrev pub HasText : ℕ → Row → List Row → Type 0
 HasText start text [] = ⊥
 HasText start text (row ∷ rows) = Begins (glyphs_of row) start (glyphs_of text)
 
--- The rows of lines, numbered from here on: in each line's rows the text begins at one column, and the texts of the
--- labels that lie on it alone hang from their marks.
+-- how many rows the texts of labels take: one for each part
+abbrev pub text_rows : List DrawnLabel → ℕ
+text_rows [] = 0
+text_rows (label ∷ labels) = length label.parts + text_rows labels
+
+-- and with a row of marks above them, where there is a label
+abbrev pub rows_with_marks : List DrawnLabel → ℕ
+rows_with_marks [] = 0
+rows_with_marks (label ∷ labels) = 1 + text_rows (label ∷ labels)
+
+-- how many rows a line has: its own, those of the labels that lie on it alone, and those of the texts of labels of
+-- several lines that end there
+abbrev pub many_rows : Line → List DrawnLabel → ℕ
+many_rows line labels =
+    1 + rows_with_marks (one_line line labels) + text_rows (closing_labels line (multi_line line labels))
+
+-- The rows of a line with this number: the text begins at one column, and the texts of the labels that lie on it alone
+-- hang from their marks; each part of a text has one row, and no other rows are there.
+pub record LineShows (c : SnippetContext) (line : Line) (number : ℕ) (pieces : List Highlight) : Type 0 where
+  pub text : HasText (text_start c.number_width c.gutter) (text_of_line c.settings c.labels line (c.cells line) pieces)
+      (line_rows c line number pieces)
+  pub marks : ShowMarks c.settings (text_start c.number_width c.gutter)
+      (marks_of_line c.settings c.labels line (c.cells line)) (line_rows c line number pieces)
+  pub count : length (line_rows c line number pieces) ≡ many_rows line c.labels
+
+-- those of lines, numbered from here on
 abbrev pub LinesShow : SnippetContext → ℕ → List (List Highlight) → List Line → Type 0
 LinesShow c number pieces [] = Unit {0}
 LinesShow c number pieces (line ∷ lines) =
-    HasText (text_start c.number_width c.gutter)
-    (text_of_line c.settings c.labels line (c.cells line) (first_of pieces))
-    (line_rows c line number (first_of pieces))
-    × ShowMarks c.settings (text_start c.number_width c.gutter)
-    (marks_of_line c.settings c.labels line (c.cells line)) (line_rows c line number (first_of pieces))
-    × LinesShow c (number + 1) (drop 1 pieces) lines
+    LineShows c line number (first_of pieces) × LinesShow c (number + 1) (drop 1 pieces) lines
 
 -- that of a snippet's read
 abbrev pub BodyShows : SnippetSettings → List DrawnLabel → List ℕ → Contents → List (List Highlight) → Type 0

@@ -7,7 +7,7 @@ use Rattle.miette_tree.specs.rules.Tree.{Cause, Tree, Trees, cause_of, causes_of
 use Rattle.miette_sarif.specs.rules.Findings.{Finding, Mark, Proposed, SeenSource}
 use Rattle.miette_sarif.specs.rules.Gathered.{all_findings, cause_marks, cause_proposals, cause_refused, finding}
 use Rattle.miette_sarif.specs.rules.Gathered.{findings, level}
-use Rattle.miette_sarif.specs.rules.Marks.{groups_of, marks_of, seen_further}
+use Rattle.miette_sarif.specs.rules.Marks.{groups_of, marks_of, other_marks, primary_in, primary_mark, seen_further}
 use Rattle.miette_fixes.specs.rules.Edits.{Proposal}
 use Rattle.miette_sarif.specs.rules.Proposals.{proposal_over, proposals, refused}
 use Rattle.miette_sarif.specs.rules.Seen.{count_all, count_in, count_own, seen_or}
@@ -48,6 +48,15 @@ abbrev pub with_fixes : Option SeenSource → List Proposal → Kept → Kept
 with_fixes over [] kept = kept
 with_fixes over (fix ∷ fixes) kept =
     with_fixes over fixes (with_fix (proposal_over over fix) fix.message kept)
+
+-- the marks of a report over a source: its primary one, and all others behind those that were there
+pub record AddsMarks (over : Option SeenSource) (n : ℕ) (m : Diagnosis) (primary : Option Mark) (old new : List Mark)
+    : Type 0 where
+  pub faults : List Bool
+  pub possible : AreFurther faults m.snippets
+  pub first : primary ≡ primary_mark (primary_in (groups_of over (seen_further faults n m.snippets) m)) over
+  pub others : new ≡ old ++ other_marks (primary_in (groups_of over (seen_further faults n m.snippets) m))
+      (groups_of over (seen_further faults n m.snippets) m)
 
 -- those of a report that is a cause, over a source
 pub record AddsOver (over : Option SeenSource) (n : ℕ) (m : Diagnosis) (old new : Kept) : Type 0 where

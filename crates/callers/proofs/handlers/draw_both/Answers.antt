@@ -1,7 +1,9 @@
-use Rattle.std.proofs.Common.{refl, inl, sym, ◌∙◌}
+use Rattle.std.proofs.Common.{refl, inl, sym, ◌∙◌, ◌∷◌, []}
 use Rattle.miette_style.specs.rules.Themes.{ansi_styles, unicode_characters}
 use Rattle.callers.proofs.ClauseSteps.{bare_text, both_lines, coloured-one, own_mark, plain-one, plain_text}
 use Rattle.callers.proofs.ClauseSteps.{text_hangs}
+use Rattle.callers.proofs.RowSteps.{host_stands}
+use Rattle.callers.specs.Known.{ShowsBothLines, name_label, plain, settings_file}
 use Rattle.callers.proofs.handlers.draw_both.Goals as goal
 
 pub returns-clause-plain : goal.returns-clause-plain
@@ -36,3 +38,12 @@ returns-clause-texts g c =
     text_hangs c.new_themed-handler-2.result _
     (plain-one c.in_ok-unicode_nocolor.field-0 _ c.in_ok-unicode_nocolor.ensures c.new_themed-handler-2.ensures)
     c.requires (c.themes_law.ensures.narrow unicode_characters (inl refl)) c.in_ok-render_report-2.ensures.texts
+
+pub returns-clause-row : goal.returns-clause-row
+returns-clause-row g c =
+    let both : ShowsBothLines plain = returns-clause-lines g c in
+    host_stands _ c.new_themed-handler-2.result _ _ _
+    (plain-one c.in_ok-unicode_nocolor.field-0 _ c.in_ok-unicode_nocolor.ensures c.new_themed-handler-2.ensures)
+    c.requires c.new-plain.ensures.bytes c.in_ok-render_report-2.ensures.holds both
+    (c.shown_lines_law.ensures.rows plain settings_file (name_label ∷ []) both.shown)
+    c.number_rows_law.ensures.rows c.number_rows_law.ensures.text

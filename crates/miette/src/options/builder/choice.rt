@@ -117,10 +117,11 @@ impl<H: Highlighter> MietteHandlerOpts<H> {
     fn brief_handler(&self) -> BriefReportHandler
         ensures { result ≡ brief_settings self.now }
     {
+        let telling = BriefReportHandler::new().with_form(self.brief_form);
         if self.cause_chain {
-            BriefReportHandler::new().with_cause_chain()
+            telling.with_cause_chain()
         } else {
-            BriefReportHandler::new().without_cause_chain()
+            telling.without_cause_chain()
         }
     }
 

@@ -15,7 +15,7 @@ returns g c =
     (cells_from width_of tab false line.start 0 (characters c.text_of.result.now))
     (map highlight_of c.deref.result.now)
     (option_map (λ made. made.items) c.args.cut.now) c.args.page.now c.push_sign_start.new.page
-    c.push_shown_text.new.page c.end_row.new.self
+    c.push_changed_text.new.page c.end_row.new.self
     (ap (λ bytes. cells_from width_of tab false line.start 0 (characters bytes)) c.text_of.ensures.text)
     (ap (map highlight_of) c.deref.ensures.value ∙ c.in_ok-pieces.ensures) c.requires.cut
-    c.in_ok-push_sign_start.ensures c.in_ok-push_shown_text.ensures c.in_ok-end_row.ensures
+    c.in_ok-push_sign_start.ensures c.in_ok-push_changed_text.ensures c.in_ok-end_row.ensures

@@ -135,19 +135,22 @@ returns-clause-cuts c = λ s t. everywhere CutsAreExact (λ s p.
                 ∙ c.cut_lines_are_parted.ensures.printed pieces cut;
             marks = c.marks_stand_on_their_characters.ensures.marks lay drawn source.bytes line cut is;
           };
-      narrow = λ pieces widest wide. c.cut_rows_are_narrow.ensures lay drawn source.bytes line pieces limit widest some
-          wide;
+      narrow = λ pieces widest wide. c.cut_rows_are_narrow.ensures.bound lay drawn source.bytes line pieces limit
+          widest some wide;
     }) p.source) s (diagnostics_of s t)
 
 pub returns-clause-fits : goal.returns-clause-fits
 returns-clause-fits c = λ s t. everywhere LinesThatFitStay (λ s p.
     let labels = p.labels in
-    if_some _ (λ source. each (SnippetStays s source labels)
-    (λ group spreads pieces fit. c.lines_that_fit_stay.ensures (group_settings s labels) spreads
-    (drawn_labels s source labels) source.bytes (contents (group_settings s labels).layout.context_lines source group)
-    pieces
-    fit)
-    (groups_of s source labels)) p.source) s (diagnostics_of s t)
+    if_some _ (λ source. (
+      each (SnippetStays s source labels)
+          (λ group spreads pieces fit. c.lines_that_fit_stay.ensures.snippet (group_settings s labels) spreads
+          (drawn_labels s source labels) source.bytes
+          (contents (group_settings s labels).layout.context_lines source group) pieces fit)
+          (groups_of s source labels),
+      λ fit pieces. ap shown_rows (c.lines_that_fit_stay.ensures.rows (snippet_settings s) source labels
+          (pieces_listed pieces) fit),
+    )) p.source) s (diagnostics_of s t)
 
 pub returns-clause-texts : goal.returns-clause-texts
 returns-clause-texts c = λ s t. everywhere TextsHang (λ s p.

@@ -5,6 +5,6 @@ use Rattle.miette_json.proofs.text.push_control.Goals as goal
 
 pub returns : goal.returns
 returns c =
-    on_ok_weaker c.push-2.result (control_written _ _ _ _ c.args.byte _ _ c.in_ok-push_str.ensures.bytes
-    c.hex_digit.ensures.digit c.hex_digit.ensures.low c.in_ok-push.ensures.bytes
-    c.hex_digit-2.ensures.digit c.hex_digit-2.ensures.low) (where_written c.push-2.result _ _ _ c.push-2.ensures.bytes)
+    on_ok_weaker c.push.result (control_written _ _ _ _ c.args.byte _ c.control_front.ensures
+    c.in_ok-push_str.ensures.bytes c.hex_digit.ensures.digit c.hex_digit.ensures.low)
+    (where_written c.push.result _ _ _ c.push.ensures.bytes)

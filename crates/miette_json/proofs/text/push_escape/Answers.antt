@@ -1,9 +1,12 @@
 use Rattle.std.proofs.Common.{◌≡◌, ◌∙◌, ◌++◌, ap, sym, string_bytes, rules}
 use Rattle.std.proofs.lemmas.Result.{on_ok_weaker}
 use Rattle.miette_json.specs.steps.EscapedBytes.{control_text}
-use Rattle.miette_json.proofs.JsonSpelled.{byte_control}
+use Rattle.miette_json.proofs.JsonSpelled.{byte_control, control_low}
 use Rattle.miette_json.proofs.text.push_escape.Goals as goal
 use Rattle.json.specs.Print.{escape_byte}
+
+pub push_control-requires : goal.push_control-requires
+push_control-requires c = search (rules, control_low)
 
 pub returns-in_default : goal.returns-in_default
 returns-in_default c =

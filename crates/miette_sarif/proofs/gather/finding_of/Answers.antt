@@ -1,38 +1,22 @@
-use Rattle.std.proofs.Common.{◌+◌, ◌++◌, ◌∙◌, ap, length, map, refl, sym}
-use Rattle.std.proofs.lemmas.List.{length-map, with_items_is}
+use Rattle.std.proofs.Common.{◌+◌, ◌∙◌, ap, map, refl}
 use Rattle.miette_tree.specs.rules.Tree.{cause_of}
-use Rattle.miette_tree.specs.views.Attached.{section_of}
 use Rattle.miette_tree.specs.views.Report.{tree_of}
-use Rattle.miette_sarif.specs.rules.Marks.{marks_of}
 use Rattle.miette_sarif.specs.rules.Seen.{count_causes}
 use Rattle.miette_sarif.specs.views.Found.{mark_of, proposed_of}
-use Rattle.miette_sarif.specs.views.Grouped.{groups_in}
-use Rattle.miette_sarif.specs.views.Sources.{over_of, seen_of}
-use Rattle.miette_sarif.proofs.Finds.{finding_made}
+use Rattle.miette_sarif.specs.views.Sources.{over_of}
+use Rattle.miette_sarif.proofs.Finds.{finding_found}
 use Rattle.miette_sarif.proofs.gather.finding_of.Goals as goal
 
 pub returns-clause-found : goal.returns-clause-found
 returns-clause-found g c =
-    let counted = c.in_ok-further.ensures.counted ∙ ap (λ n. c.args.sources.now + n)
-    (sym (length-map c.further_snippets.result.now (section_of g.S.SourceCode.source))
-    ∙ ap length c.further_snippets.ensures) in
-    finding_made mark_of c.take_primary.result (over_of c.args.seen) c.args.sources.now c.see_further.new.sources
-    (tree_of g.D.Diagnostic.meaning g.S.SourceCode.source c.args.report.now) _ _ _
-    (groups_in c.in_ok-groups.groups.items) (groups_in c.deref_mut.result.now) (groups_in c.take_primary.new.groups)
-    _ _ _ _ _ _ _ c.in_ok-further.ensures.seen c.further_snippets.ensures (ap (map seen_of) c.deref.ensures.value)
-    c.in_ok-groups.ensures (ap groups_in c.deref_mut.ensures.value) c.take_primary.ensures.picked
-    (λ none. ap groups_in (c.take_primary.ensures.stays none)) c.primary_or-primary.ensures c.in_ok-told.ensures
-    (c.in_ok-push_groups.ensures
-    ∙ ap (λ gs. map mark_of c.new.result.items ++ marks_of (groups_in gs)) (with_items_is c.in_ok-groups.groups
-    c.take_primary.new.groups (c.take_primary.auto.groups ∙ c.deref_mut.ensures.len))
-    ∙ ap (λ l. map mark_of l ++ marks_of (groups_in c.take_primary.new.groups)) c.new.ensures.items)
+    finding_found (over_of c.args.seen) c.args.sources.now c.push_own_marks.new.sources
+    (tree_of g.D.Diagnostic.meaning g.S.SourceCode.source c.args.report.now) _ _ (map mark_of c.new.result.items) _ _ _
+    _ _ _ (ap (map mark_of) c.new.ensures.items) c.in_ok-primary.ensures.added c.in_ok-told.ensures refl
     (ap (map proposed_of) c.new-2.ensures.items) (ap (map (λ text. text.now)) c.new-3.ensures.items) c.fixes.ensures
-    c.in_ok-push_fixes.ensures counted c.in_ok-push_causes.ensures.added refl
+    c.in_ok-push_fixes.ensures c.in_ok-primary.ensures.counted c.in_ok-push_causes.ensures.added refl
 
 pub returns-clause-counted : goal.returns-clause-counted
 returns-clause-counted g c =
     let value = tree_of g.D.Diagnostic.meaning g.S.SourceCode.source c.args.report.now in
     c.in_ok-push_causes.ensures.counted
-    ∙ ap (λ n. n + count_causes (cause_of value)) (c.in_ok-further.ensures.counted
-    ∙ ap (λ n. c.args.sources.now + n) (sym (length-map c.further_snippets.result.now (section_of g.S.SourceCode.source))
-    ∙ ap length c.further_snippets.ensures))
+    ∙ ap (λ n. n + count_causes (cause_of value)) c.in_ok-primary.ensures.counted

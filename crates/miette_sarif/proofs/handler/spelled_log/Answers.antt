@@ -1,4 +1,5 @@
 use Rattle.std.proofs.Common.{ap, ◌∙◌}
+use Rattle.std.proofs.lemmas.Result.{IfOk-weaker}
 use Rattle.std.proofs.lemmas.Str.{IsUtf8-string_bytes}
 use Rattle.miette_sarif.specs.rules.Log.{log}
 use Rattle.miette_sarif.specs.views.Found.{findings_of}
@@ -7,9 +8,9 @@ use Rattle.miette_sarif.proofs.Spelling.{is_log}
 use Rattle.miette_sarif.proofs.handler.spelled_log.Goals as goal
 
 pub returns : goal.returns
-returns c = λ ts found.
+returns c =
     let tool = tool_view c.args.tool.now in
-    is_log c.the_spelling_denotes_its_value.ensures.tokens c.a_text_denotes_one_value.ensures tool ts _
-    found _
-    (c.in_ok-value.ensures ∙ ap (λ fs. log tool (findings_of fs)) c.deref.ensures.value) _ _
-    (IsUtf8-string_bytes c.push_value.new.out) c.new-text.ensures.bytes c.in_ok-push_value.ensures
+    IfOk-weaker c.text_of.result _ _ (λ text spelled ts found.
+    is_log c.the_spelling_denotes_its_value.ensures.tokens c.a_text_denotes_one_value.ensures tool ts _ found _
+    (c.in_ok-value.ensures ∙ ap (λ fs. log tool (findings_of fs)) c.deref.ensures.value) _ (IsUtf8-string_bytes text)
+    spelled) c.text_of.ensures

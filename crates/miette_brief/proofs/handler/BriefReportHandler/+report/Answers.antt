@@ -1,19 +1,19 @@
-use Rattle.std.proofs.Common.{Bool, rules, arith, map, string_bytes, subst}
+use Rattle.std.proofs.Common.{rules, arith, map}
 use Rattle.std.specs.Option.{option_map}
 use Rattle.std.proofs.lemmas.Result.{on_ok_weaker}
-use Rattle.miette_tree.specs.rules.Tree.{cause_of, head, trees}
+use Rattle.miette_tree.specs.rules.Tree.{source_of, trees}
 use Rattle.miette_tree.specs.views.Owned.{shown_source}
 use Rattle.miette_tree.specs.views.Report.{tree_of}
 use Rattle.miette_tree.proofs.TreeSizes.{item_falls}
 use Rattle.miette_tree.proofs.Readings.{refused_below, one_refused}
-use Rattle.miette_brief.specs.steps.AppendedParts.{AppendsOwn}
 use Rattle.miette_brief.proofs.SoFar.{none_so_far}
 use Rattle.miette_brief.proofs.Telling.{one_more, all_told, report_told, refused_here}
+use Rattle.miette_brief.proofs.Wholes.{related_falls, whole_in}
 use Rattle.miette_brief.proofs.handler.BriefReportHandler.+report.Goals as goal
 
 pub push_related-loop-report-preserved : goal.push_related-loop-report-preserved
 push_related-loop-report-preserved g t c =
-    one_more (tree_of g.D.Diagnostic.meaning g.S.SourceCode.source) c.args.self.now.chain _ c.args.reports.now
+    one_more (tree_of g.D.Diagnostic.meaning g.S.SourceCode.source) c.args.self.now _ c.args.reports.now
     c.loop-report.report-index c.report-item.result _ _ _ c.loop-report-test.true c.report-item.is
     c.loop-report.invariant c.in_ok-push_report.ensures.text
 
@@ -28,18 +28,34 @@ push_related-returns-in_err-push_report-clause-refused g t c = λ h.
 
 pub push_related-returns-clause-text : goal.push_related-returns-clause-text
 push_related-returns-clause-text g t c =
-    all_told (tree_of g.D.Diagnostic.meaning g.S.SourceCode.source) c.args.self.now.chain _ c.args.reports.now
+    all_told (tree_of g.D.Diagnostic.meaning g.S.SourceCode.source) c.args.self.now _ c.args.reports.now
     c.loop-report.report-index _ _ (omega arith) c.loop-report.invariant
+
+pub push_report-push_own-requires : goal.push_report-push_own-requires
+push_report-push_own-requires g t c =
+    whole_in c.args.self.now.form (source_of (tree_of g.D.Diagnostic.meaning g.S.SourceCode.source c.args.report.now))
+    (option_map (shown_source g.S.SourceCode.source) c.args.inherited)
+    (option_map (shown_source g.S.SourceCode.source) c.own_or-source.result) c.in_ok-own.own c.args.whole.now
+    c.whole_or-whole.result.now c.own_or-source.ensures c.whole_or-whole.ensures c.in_ok-own.ensures c.requires
+
+pub push_report-push_related-requires : goal.push_report-push_related-requires
+push_report-push_related-requires g t c =
+    let small = related_falls (tree_of g.D.Diagnostic.meaning g.S.SourceCode.source c.args.report.now)
+    (trees (map (tree_of g.D.Diagnostic.meaning g.S.SourceCode.source) c.related.result.now)) c.related.ensures.value in
+    let below =
+    whole_in c.args.self.now.form (source_of (tree_of g.D.Diagnostic.meaning g.S.SourceCode.source c.args.report.now))
+    (option_map (shown_source g.S.SourceCode.source) c.args.inherited)
+    (option_map (shown_source g.S.SourceCode.source) c.own_or-source.result) c.in_ok-own.own c.args.whole.now
+    c.whole_or-whole.result.now c.own_or-source.ensures c.whole_or-whole.ensures c.in_ok-own.ensures c.requires in
+    search rules
 
 pub push_report-returns-clause-text : goal.push_report-returns-clause-text
 push_report-returns-clause-text g t c =
     let value = tree_of g.D.Diagnostic.meaning g.S.SourceCode.source c.args.report.now in
-    let own = subst (λ (b : Bool). AppendsOwn b (option_map (shown_source g.S.SourceCode.source) c.own_or-source.result)
-    (head value) (cause_of value) (string_bytes c.args.out.now) (string_bytes c.push_own.new.out))
-    c.tells_causes.ensures c.in_ok-push_own.ensures.text in
-    on_ok_weaker c.push_related.result (λ h. report_told c.args.self.now.chain
+    on_ok_weaker c.push_related.result (λ h. report_told c.args.self.now
     (option_map (shown_source g.S.SourceCode.source) c.args.inherited)
-    value _ _ _ _ _ c.own_or-source.ensures c.related.ensures.value own h) c.push_related.ensures.text
+    value _ _ _ _ _ c.own_or-source.ensures c.related.ensures.value
+    c.in_ok-push_own.ensures.text h) c.push_related.ensures.text
 
 pub push_report-returns-in_err-push_own-clause-refused : goal.push_report-returns-in_err-push_own-clause-refused
 push_report-returns-in_err-push_own-clause-refused g t c = λ h.

@@ -9,7 +9,7 @@ use Rattle.miette_brief.proofs.handler.BriefReportHandler.+report.Given as goal
 
 abbrev pub invariant-push_related-loop-report : goal.invariant-push_related-loop-report
 invariant-push_related-loop-report g l =
-    RelatedSoFar (tree_of g.D.Diagnostic.meaning g.S.SourceCode.source) l.fn.self.chain
+    RelatedSoFar (tree_of g.D.Diagnostic.meaning g.S.SourceCode.source) l.fn.self
     (option_map (shown_source g.S.SourceCode.source) l.source) l.reports l.report-index (string_bytes l.fn.out)
     (string_bytes l.out)
 

@@ -1,4 +1,4 @@
-use Rattle.std.proofs.Common.{cond, [], ◌++◌, ap, sym, ◌∙◌}
+use Rattle.std.proofs.Common.{cond, [], ◌++◌, ap, refl, sym, ◌∙◌}
 use Rattle.std.specs.Prelude.{codes, unwrap_or}
 use Rattle.std.specs.Str.{bytes_eq}
 use Rattle.miette_json.specs.rules.Json.{number, string}
@@ -19,8 +19,8 @@ returns c =
     ∙ ap (λ o. unwrap_or o 0) (c.get_index_of.ensures.index ∙ position_codes code keys) in
     let whole = pair (codes "ruleId") (string code)
     ++ pair (codes "ruleIndex") (number (index_of (bytes_eq code) (codes_seen keys))) in
-    equal_pairs c.with_member-2.result (pairs_of c.new-members.result.items ++ whole) _
-    (two_more c.with_member-2.result _ _ _ _ _ _ _ _ c.in_ok-members.ensures c.in_ok-text_value.ensures
-    (c.number_value.ensures ∙ ap number index) c.with_member-2.ensures)
-    (ap (λ l. pairs_of l ++ whole) c.new-members.ensures.items
+    equal_pairs c.with_member.result (pairs_of c.new-2.result.items ++ whole) _
+    (two_more c.with_member.result _ _ _ _ _ _ _ _ c.in_ok-members.ensures refl
+    (c.number_value.ensures ∙ ap number index) c.with_member.ensures)
+    (ap (λ l. pairs_of l ++ whole) c.new-2.ensures.items
     ∙ ap (λ b. cond b [] whole) (sym (not_nil code c.is_empty.result c.is_empty.ensures c.if-is_empty.false)))

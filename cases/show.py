@@ -1,0 +1,238 @@
+#!/usr/bin/env python3
+"""show.py: runs the built program `show` on what rustc wrote (`rustc/`), and compares it with the model of
+readers_model.py, whose reports tree_model.py draws.
+
+The recorded rows are tried as they are, as cargo wraps them, cut at every 50th byte, with members removed or of other
+types, offsets that are off or behind the end, other files, files that are gone or shorter. Where rustc is installed, it
+is run anew. `--many` reads 100,000 messages, and looks at the memory. The last line is 'N passed, M failed', and the
+exit status is 0 only where nothing failed."""
+import copy
+import json
+import os
+import random
+import shutil
+import subprocess
+import sys
+import tempfile
+
+import size_runs
+from programs import HERE, counted, program, run
+from readers_model import shown_of
+from tree_model import Page, whole_picture
+
+FOLDER = os.path.join(HERE, "rustc")
+NAMES = ["borrow", "fixits", "life", "mine", "multi"]
+WORDS = ["--theme", "unicode_nocolor", "--links", "no", "--width", "120"]
+CHATTER = [b"   Compiling a v0.1.0\n", b"\n", b"{not json}\n", b"[1, 2]\n", b"\xff{\"\n", b" {\"message\":\"m\"}\n"]
+OTHER = [b'{"reason":"build-finished","success":true}\n', b'{"$message_type":"artifact","artifact":"a","emit":"b"}\n']
+BAD = [b'{"message":5}\n', b'{"\n', b'{"reason":"compiler-message"}\n', b'{"\xff":1}\n', b'{"message":"m"} x\n']
+# the members of a message that are changed
+READ = ("message", "code", "level", "spans", "children")
+# what a run over many messages may take
+MANY = size_runs.Limits(size_runs.WIDE_STACK_KB, size_runs.WIDE_SPACE, 60)
+SPAN = {"byte_start": 0, "byte_end": 3, "file_name": "borrow.rs", "is_primary": True, "label": "here"}
+
+
+def files_in(folder):
+    """The sources in a folder, by their names."""
+    files = {}
+    for name in os.listdir(folder):
+        if name.endswith(".rs"):
+            with open(os.path.join(folder, name), "rb") as file:
+                files[name] = file.read()
+    return files
+
+
+def recorded(name):
+    """What rustc wrote of a program."""
+    with open(os.path.join(FOLDER, f"{name}.jsonl"), "rb") as file:
+        return file.read()
+
+
+def rows_of(given):
+    """The rows, each with the LF that ends it."""
+    rows = given.split(b"\n")
+    return [it + b"\n" for it in rows[:-1]] + ([rows[-1]] if rows[-1] else [])
+
+
+def wanted(given, files):
+    """Status, standard output and standard error, row by row."""
+    page = Page(120)
+    shown, notes, unread, error = [], [], False, False
+    for number, row in enumerate(rows_of(given), 1):
+        text, bad, grave = shown_of(row, files, lambda report: whole_picture(report, page))
+        shown.append(text)
+        notes += [f"show: row {number}: no message that can be read\n".encode()] if bad else []
+        unread, error = unread or bad, error or grave
+    return 3 if unread else 1 if error else 0, b"".join(shown), b"".join(notes)
+
+
+# ---- rows that are changed
+
+
+def places(value, path=()):
+    """Where a value has members and items."""
+    keys = list(value) if isinstance(value, dict) else range(len(value)) if isinstance(value, list) else []
+    for key in keys:
+        yield path + (key,)
+        yield from places(value[key], path + (key,))
+
+
+def other_value(dice, key, old):
+    """A value in place of another one."""
+    if key in ("byte_start", "byte_end"):
+        near = [max(0, old - 3), old + 1, old + 40] if isinstance(old, int) else []
+        return dice.choice([0, 1, 5, 17, 10**6, 2**63, "7", -1, *near])
+    given = {
+        "file_name": ["mine.rs", "util.rs", "gone.rs", "other.rs", "short.rs", "/gone.rs", 7],
+        "label": ["", "here", "two\nrows", None, 5],
+        "is_primary": [True, False, None, "yes"],
+        "suggested_replacement": ["", "x", None, 3],
+        "suggestion_applicability": ["MaybeIncorrect", "MachineApplicable", "HasPlaceholders", None, 9],
+        "level": ["error", "warning", "note", "help", "failure-note", 3],
+        "message": ["m", "two\nrows", ""],
+        "span": [None, 5, "x", [], {}],
+        "expansion": [None, 5, "x", {}],
+        "spans": [[], None, "x", [5], {}],
+        "children": [[], None, "x", [None], {}],
+    }
+    return dice.choice(given.get(key, [None, 7, "s", [], {}]))
+
+
+def changed(dice, row):
+    """A row with a few members or items removed, or of other values and types."""
+    row = copy.deepcopy(row)
+    for _ in range(dice.choice([1, 1, 2, 3])):
+        every = [it for it in places(row) if it[0] in READ and "text" not in it]
+        if not every:
+            break
+        key = dice.choice(sorted({str(it[-1]) for it in every}))
+        *path, last = dice.choice([it for it in every if str(it[-1]) == key])
+        at = row
+        for step in path:
+            at = at[step]
+        if isinstance(last, str) and dice.random() < 0.75 or isinstance(last, int) and dice.random() < 0.5:
+            at[last] = other_value(dice, last, at[last])
+        else:
+            at.pop(last)
+    return row
+
+
+def hostile(dice, count):
+    """Rows that are changed by chance."""
+    rows = [json.loads(row) for name in NAMES for row in rows_of(recorded(name))]
+    for row in rows:
+        row["rendered"] = None
+        row["code"] = row["code"] and {"code": row["code"]["code"], "explanation": None}
+    return b"".join(json.dumps(changed(dice, dice.choice(rows))).encode() + b"\n" for _ in range(count))
+
+
+def cut_rows(name):
+    """Every row cut at every 50th byte."""
+    rows = [row[:end].rstrip(b"\n") for row in rows_of(recorded(name)) for end in range(1, len(row), 50)]
+    return b"".join(row + b"\n" for row in rows)
+
+
+def of_cargo(name):
+    """The rows as cargo hands them on, with its own in between."""
+    rows = rows_of(recorded(name))
+    held = [b'{"reason":"compiler-message","package_id":"p","message":' + row.rstrip(b"\n") + b"}\n" for row in rows]
+    return b"".join(held + OTHER + CHATTER)
+
+
+# ---- runs
+
+
+def inputs(folder):
+    """What is read, with the folder of its files."""
+    for name in NAMES:
+        given = recorded(name)
+        yield f"{name} as recorded", given, FOLDER
+        yield f"{name} as cargo hands it on", of_cargo(name), FOLDER
+        yield f"{name} cut at every 50th byte", cut_rows(name), FOLDER
+        yield f"{name} without its last bytes", given[: -len(given) // 7], FOLDER
+        yield f"{name} over files that are gone or shorter", given, folder
+    yield "rows that can't be read", b"".join(CHATTER + BAD + OTHER + [b'{"message":"m","level":"error"}']), FOLDER
+    yield "rows that are changed", hostile(random.Random(7), 1000), folder
+    yield "nothing", b"", FOLDER
+
+
+def tried(folder, what, given, root):
+    """Whether the program and the model agree, below a root and in its folder."""
+    want = wanted(given, files_in(root))
+    elsewhere = run(["show", "--root", root, "--from", "rustc", *WORDS], given, cwd=folder)
+    there = run(["show", *WORDS], given, cwd=root)
+    for got in (elsewhere, there):
+        if got != want:
+            print(f"{what}: status {got[0]}, wanted {want[0]}")
+            at = next((i for i, (a, b) in enumerate(zip(got[1], want[1])) if a != b), min(len(got[1]), len(want[1])))
+            near = slice(max(0, at - 300), at + 200)
+            print(f"  got    .. {got[1][near]!r}\n  wanted .. {want[1][near]!r}")
+            print(f"  standard error {got[2][-300:]!r}, wanted {want[2][-300:]!r}")
+    return elsewhere == want and there == want
+
+
+def words_tried():
+    """Wrong words end with status 2 and say which are right, before anything is read."""
+    usage = b"usage: show [--from rustc] [--root DIR] [OPTIONS]\n"
+    wrong = [["--from", "gcc"], ["--root"], ["--from"], ["--width"], ["x"], ["--brief", "--root", "."]]
+    return [run(["show", *words], b'{"message":"m"}\n') == (2, b"", usage) for words in wrong]
+
+
+def handlers_tried():
+    """The words of `job` choose what reports look like."""
+    given = json.dumps({"message": "m", "level": "warning", "code": {"code": "c"}, "spans": [SPAN]}).encode()
+    brief = run(["show", "--root", FOLDER, "--brief"], given)
+    told = run(["show", "--root", FOLDER, "--json"], given)
+    return [
+        brief == (0, b"borrow.rs:1:1: warning[c]: m\nborrow.rs:1:1: note: here\n\n", b""),
+        told[0] == 0 and json.loads(told[1])["filename"] == "borrow.rs",
+    ]
+
+
+def live_tried():
+    """What rustc writes now, where it is there."""
+    if shutil.which("rustc") is None:
+        return []
+    with tempfile.TemporaryDirectory() as folder:
+        for name in files_in(FOLDER):
+            shutil.copy(os.path.join(FOLDER, name), folder)
+        words = ["rustc", "--edition", "2021", "--error-format=json", "--emit=metadata", "multi.rs"]
+        given = subprocess.run(words, cwd=folder, capture_output=True, check=False).stderr
+        return [given != b"" and tried(folder, "rustc itself", given, folder)]
+
+
+def most_memory(count):
+    """How the program ends that reads so many messages, with the bytes of memory that it takes at most."""
+    rows = rows_of(recorded("borrow"))
+    with tempfile.TemporaryDirectory() as folder:
+        path = os.path.join(folder, "rows")
+        with open(path, "wb") as given:
+            for at in range(count):
+                given.write(rows[at % len(rows)])
+        return size_runs.run([program("show"), "--root", FOLDER, *WORDS], path, MANY)
+
+
+def memory_tried(count):
+    """So many messages take no more memory than a hundredth of them."""
+    size_runs.wait_for_all()
+    few, many = most_memory(count // 100), most_memory(count)
+    kb = size_runs.KB
+    print(f"{count} messages: {many.memory // kb} KB, {many.seconds:.1f} s; {count // 100}: {few.memory // kb} KB")
+    return [many.status == 1 and many.written == 100 * few.written and many.memory <= few.memory + 500 * kb]
+
+
+def main(words):
+    with tempfile.TemporaryDirectory() as folder:
+        for name in ("mine.rs", "multi.rs", "util.rs"):
+            shutil.copy(os.path.join(FOLDER, name), folder)
+        shutil.copy(os.path.join(FOLDER, "util.rs"), os.path.join(folder, "short.rs"))
+        with open(os.path.join(folder, "borrow.rs"), "wb") as file:
+            file.write(b"fn main() {\n    let")
+        done = [tried(folder, *it) for it in inputs(folder)]
+    done += words_tried() + handlers_tried() + live_tried() + memory_tried(100000 if "--many" in words else 10000)
+    return counted(sum(done), len(done) - sum(done))
+
+
+if __name__ == "__main__":
+    sys.exit(main(sys.argv[1:]))

@@ -1,0 +1,173 @@
+//! Workflow commands of GitHub, part by part.
+
+ghost use Rattle.std.specs.Prelude.{◌≡◌, ◌==◌, ◌++◌, codes, max, OnOk, string_bytes, option_copied, decimal};
+ghost use Rattle.std.specs.List.{flat_map};
+ghost use Rattle.std.specs.Option.{option_map};
+ghost use Rattle.miette_brief.specs.rules.Commands.{columns, command_name, further_property, line_columns};
+ghost use Rattle.miette_brief.specs.rules.Commands.{properties_text};
+ghost use Rattle.miette_brief.specs.rules.Commands.{region_properties, saying_text, site_properties, title_properties};
+ghost use Rattle.miette_brief.specs.steps.CommandParts.{site_of, title_text};
+
+use crate::escapes::{Part, push_escaped};
+use crate::words::push_number;
+use miette_basics::sums::sum;
+use miette_positions::place::Region;
+use miette_protocol::protocol::Severity;
+use std::alloc::AllocError;
+
+/// A file with a name, and a part of it, if one is told.
+#[derive(Clone, Copy)]
+pub(crate) struct Site<'a> {
+    pub(crate) file: &'a str,
+    pub(crate) region: Option<Region>,
+}
+
+/// `,line=2`
+fn push_keyed(out: &mut String, key: &str, number: usize) -> Result<(), AllocError>
+    ensures { OnOk result (string_bytes out.new
+        ≡ string_bytes out.old ++ (codes "," ++ (key.now ++ (codes "=" ++ decimal number)))) }
+{
+    out.push_str(",")?;
+    out.push_str(key)?;
+    out.push_str("=")?;
+    push_number(out, number)
+}
+
+/// A number as a property, behind others.
+fn push_numbered(out: &mut String, key: &str, number: usize) -> Result<(), AllocError>
+    ensures { OnOk result (string_bytes out.new
+        ≡ string_bytes out.old ++ further_property (record { key = key.now; value = decimal number })) }
+{
+    push_keyed(out, key, number)
+}
+
+/// The greater of two numbers.
+fn greater(first: usize, second: usize) -> usize
+    ensures { result ≡ max first second }
+{
+    first.max(second)
+}
+
+/// `,col=3,endColumn=6`
+fn push_line_columns(out: &mut String, region: Region) -> Result<(), AllocError>
+    ensures { OnOk result (string_bytes out.new
+        ≡ string_bytes out.old ++ flat_map further_property (line_columns region)) }
+{
+    let first = sum(region.start.column, 1)?;
+    let last = greater(first, region.end.column);
+    push_numbered(out, "col", first)?;
+    push_numbered(out, "endColumn", last)
+}
+
+/// Whether a region is on one line.
+fn is_on_one_line(region: Region) -> bool
+    ensures { result ≡ (region.start.line == region.end.line) }
+{
+    region.start.line == region.end.line
+}
+
+/// `,col=3,endColumn=6` where a region is on one line.
+fn push_columns(out: &mut String, region: Region) -> Result<(), AllocError>
+    ensures { OnOk result (string_bytes out.new
+        ≡ string_bytes out.old ++ flat_map further_property (columns region)) }
+{
+    if is_on_one_line(region) {
+        return push_line_columns(out, region);
+    }
+    Ok(())
+}
+
+/// `,line=2,endLine=2,col=3,endColumn=6`
+fn push_region(out: &mut String, region: Option<Region>) -> Result<(), AllocError>
+    ensures { OnOk result (string_bytes out.new
+        ≡ string_bytes out.old ++ flat_map further_property (region_properties region)) }
+{
+    let Some(region) = region else {
+        return Ok(());
+    };
+    push_numbered(out, "line", sum(region.start.line, 1)?)?;
+    push_numbered(out, "endLine", sum(region.end.line, 1)?)?;
+    push_columns(out, region)
+}
+
+/// ` file=bad_file.rs,line=2,endLine=2`
+fn push_site(out: &mut String, site: Option<Site<'_>>) -> Result<(), AllocError>
+    ensures { OnOk result (string_bytes out.new
+        ≡ string_bytes out.old ++ properties_text (site_properties (option_map site_of site.entry))) }
+{
+    let Some(site) = site else {
+        return Ok(());
+    };
+    out.push_str(" file=")?;
+    push_escaped(out, Part::Property, site.file)?;
+    push_region(out, site.region)
+}
+
+/// `,title=oops%3A%3Amy%3A%3Abad` behind a file, with a space before it without one.
+fn push_title(
+    out: &mut String,
+    site: Option<Site<'_>>,
+    title: Option<&str>,
+) -> Result<(), AllocError>
+    ensures { OnOk result (string_bytes out.new
+        ≡ string_bytes out.old ++ title_text (option_map site_of site.entry) (option_copied title.entry)) }
+{
+    let Some(title) = title else {
+        return Ok(());
+    };
+    out.push_str(if site.is_some() { ",title=" } else { " title=" })?;
+    push_escaped(out, Part::Property, title)
+}
+
+/// All properties.
+fn push_properties(
+    out: &mut String,
+    site: Option<Site<'_>>,
+    title: Option<&str>,
+) -> Result<(), AllocError>
+    ensures { OnOk result (string_bytes out.new
+        ≡ string_bytes out.old ++ properties_text (site_properties (option_map site_of site.entry)
+        ++ title_properties (option_copied title.entry))) }
+{
+    push_site(out, site)?;
+    push_title(out, site, title)
+}
+
+/// The name of a command.
+fn command_name(severity: Option<Severity>) -> &'static str
+    ensures { result.now ≡ command_name severity }
+{
+    match severity {
+        Some(Severity::Advice) => "notice",
+        Some(Severity::Warning) => "warning",
+        _ => "error",
+    }
+}
+
+/// `::error file=bad_file.rs,line=2,endLine=2::`
+pub(crate) fn push_head(
+    out: &mut String,
+    severity: Option<Severity>,
+    site: Option<Site<'_>>,
+    title: Option<&str>,
+) -> Result<(), AllocError>
+    ensures { OnOk result (string_bytes out.new ≡ string_bytes out.old
+        ++ (codes "::" ++ (command_name severity
+        ++ (properties_text (site_properties (option_map site_of site.entry)
+        ++ title_properties (option_copied title.entry)) ++ codes "::")))) }
+{
+    out.push_str("::")?;
+    out.push_str(command_name(severity))?;
+    push_properties(out, site, title)?;
+    out.push_str("::")
+}
+
+/// `%0Ahelp: try it`
+pub(crate) fn push_saying(out: &mut String, title: &str, text: &str) -> Result<(), AllocError>
+    ensures { OnOk result (string_bytes out.new
+        ≡ string_bytes out.old ++ saying_text (record { title = title.now; text = text.now })) }
+{
+    out.push_str("%0A")?;
+    push_escaped(out, Part::Message, title)?;
+    push_escaped(out, Part::Message, text)
+}

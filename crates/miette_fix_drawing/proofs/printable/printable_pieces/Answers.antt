@@ -1,0 +1,14 @@
+use Rattle.std.proofs.Common.{◌∙◌, ap, arith}
+use Rattle.miette_fix_drawing.specs.steps.Pieces.{told}
+use Rattle.miette_fix_drawing.proofs.ChangedTexts.{run_first}
+use Rattle.miette_fix_drawing.proofs.printable.printable_pieces.Goals as goal
+
+pub returns : goal.returns
+returns c =
+    let first = c.alike_from-first in
+    c.in_ok-made.ensures
+    ∙ ap (told c.args.style) (run_first c.args.text.now c.args.spans.now first.result c.requires.printable (record {
+      some = first.ensures.some;
+      within = omega (arith, first.ensures.within);
+      alike = first.ensures.alike;
+    }))

@@ -1,8 +1,0 @@
-use Rattle.std.proofs.Common.{◌≡◌, ◌++◌, drop}
-use Rattle.miette_sarif.specs.rules.Artifacts.{all_named}
-use Rattle.miette_sarif.specs.views.Found.{findings_of, names_of}
-use Rattle.miette_sarif.proofs.artifacts.all_named.Given as goal
-
-abbrev pub invariant-loop-finding : goal.invariant-loop-finding
-invariant-loop-finding l = names_of l.names.items ++ all_named (findings_of (drop l.finding-index l.findings))
-    ≡ all_named (findings_of l.findings)

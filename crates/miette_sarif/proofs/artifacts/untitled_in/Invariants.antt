@@ -1,8 +1,0 @@
-use Rattle.std.proofs.Common.{◌≡◌, drop}
-use Rattle.miette_sarif.specs.rules.Artifacts.{untitled_after, untitled_in}
-use Rattle.miette_sarif.specs.views.Found.{names_of}
-use Rattle.miette_sarif.proofs.artifacts.untitled_in.Given as goal
-
-abbrev pub invariant-loop-source : goal.invariant-loop-source
-invariant-loop-source l = untitled_after l.untitled.keys (names_of (drop l.source-index l.names))
-    ≡ untitled_in (names_of l.names)

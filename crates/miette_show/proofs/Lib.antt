@@ -1,0 +1,11 @@
+pub mod Beginnings
+pub mod Calls
+pub mod FolderSteps
+pub mod Going
+pub mod NoteEnds
+pub mod Progress
+pub mod RowEnds
+pub mod RowReading
+pub mod RowSteps
+pub mod TextSteps
+pub mod WordSteps

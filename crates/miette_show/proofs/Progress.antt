@@ -1,0 +1,163 @@
+-- Rows that were shown, one after another.
+use Rattle.std.proofs.Common.{◌≡◌, ℕ, ◌+◌, ◌<◌, List, [], ◌∷◌, ◌++◌, Bool, true, false, length, map, Option}
+use Rattle.std.proofs.Common.{Some, None, IfSome, All, refl, sym, ap, ap₂, ◌∙◌, arith, append_assoc, append-nil, subst}
+use Rattle.std.specs.Prelude.{◌||◌}
+use Rattle.std.specs.List.{list_any}
+use Rattle.std.specs.Io.KnownBytes.{Appends}
+use Rattle.std.proofs.KnownBytes.{Appends-nil, Appends-trans}
+use Rattle.std.proofs.lemmas.List.{map-append}
+use Rattle.std.proofs.lemmas.List.Concat.{flat_map-append}
+use Rattle.std.proofs.lemmas.List.Elements.{All-nil, All-cons, All-append}
+use Rattle.std.proofs.lemmas.List.Folds.{list_any-append}
+use Rattle.miette_protocol.specs.rules.Reading.{Source}
+use Rattle.miette_report.specs.views.Device.{TakesBeginning}
+use Rattle.miette_tree.specs.rules.Tree.{Tree}
+use Rattle.miette_show.specs.rules.Rows.{rows_of}
+use Rattle.miette_show.specs.rules.Shown.{ShowsFirst}
+use Rattle.miette_show.specs.rules.Shown.{IsShown, Shown, Shows, is_error, is_unread, kind_grave, kind_unread, note_of}
+use Rattle.miette_show.specs.rules.Shown.{notes_from, text_of, verdict_of}
+use Rattle.miette_show.specs.views.Reading.{IsNextRow}
+use Rattle.miette_show.specs.declared.verdict.RowKind.{RowKind}
+use Rattle.miette_show.specs.declared.verdict.Verdict.{Verdict}
+use Rattle.miette_show.proofs.Beginnings.{all_taken, taken_then}
+use Rattle.miette_show.proofs.RowSteps.{RowsLeft, first_rows, rows_begin, rows_end, rows_more}
+
+abbrev row_of : Shown → List ℕ
+row_of s = s.row
+
+notes_more : (n : ℕ) (ss : List Shown) (s : Shown) (m : ℕ) → m ≡ length ss + n
+    → notes_from n (ss ++ s ∷ []) ≡ notes_from n ss ++ note_of m (is_unread s)
+notes_more n [] s m e =
+    let same : n ≡ m = omega (arith, e) in
+    append-nil (note_of n (is_unread s)) ∙ ap (λ (k : ℕ). note_of k (is_unread s)) same
+notes_more n (x ∷ xs) s m e =
+    let same : m ≡ length xs + (n + 1) = omega (arith, e) in
+    ap (λ l. note_of n (is_unread x) ++ l) (notes_more (n + 1) xs s m same)
+    ∙ sym (append_assoc (note_of n (is_unread x)) (notes_from (n + 1) xs) (note_of m (is_unread s)))
+
+any_more : (p : Shown → Bool) (ss : List Shown) (s : Shown) (b : Bool) → p s ≡ b
+    → list_any p (ss ++ s ∷ []) ≡ (list_any p ss || b)
+any_more p ss s b e = list_any-append p ss (s ∷ []) ∙ ap (λ c. list_any p ss || c) (one (p s) ∙ e) where
+  one : (c : Bool) → (c || false) ≡ c
+  one true = refl
+  one false = refl
+
+length_more : (ss : List Shown) (s : Shown) → length (ss ++ s ∷ []) ≡ length ss + 1
+length_more [] s = refl
+length_more (x ∷ xs) s = let h : length (xs ++ s ∷ []) ≡ length xs + 1 = length_more xs s in omega (arith, h)
+
+abbrev verdict_by : Bool → Bool → Verdict
+verdict_by unread error = record { unread = unread; error = error }
+
+text_more : (ss : List Shown) (s : Shown) → text_of (ss ++ s ∷ []) ≡ text_of ss ++ s.text
+text_more ss s = flat_map-append (λ (x : Shown). x.text) ss (s ∷ []) ∙ ap (λ l. text_of ss ++ l) (append-nil s.text)
+
+-- These rows were shown, what is left is left, and the writers took their texts and notes.
+pub record Progress (gives : Tree → List ℕ → Type 0) (found : (List ℕ → Option Source) → List (List ℕ) → Type 0)
+    (first left old new before after : Option (List ℕ)) (number : ℕ) (verdict : Verdict) : Type 0 where
+  pub shown : List Shown
+  pub rows : RowsLeft first left (map row_of shown)
+  pub each : All (IsShown gives found) shown
+  pub text : Appends old new (text_of shown)
+  pub notes : Appends before after (notes_from 1 shown)
+  pub count : number ≡ length shown + 1
+  pub is : verdict ≡ verdict_of shown
+
+module _ (gives : Tree → List ℕ → Type 0) (found : (List ℕ → Option Source) → List (List ℕ) → Type 0) where
+  pub begin : (first old before : Option (List ℕ)) (number : ℕ) (verdict : Verdict) → number ≡ 1
+      → verdict ≡ record { unread = false; error = false }
+      → Progress gives found first first old old before before number verdict
+  begin first old before number verdict one none = record {
+    shown = [];
+    rows = rows_begin first;
+    each = All-nil (IsShown gives found);
+    text = Appends-nil old;
+    notes = Appends-nil before;
+    count = one;
+    is = none;
+  }
+
+  pub more : (first left next old new newer before after later : Option (List ℕ)) (number : ℕ) (verdict made : Verdict)
+      (row : List ℕ) (kind : RowKind) (text : List ℕ) → 0 < length row
+      → Progress gives found first left old new before after number verdict → IsNextRow left next row
+      → IsShown gives found (record { row = row; kind = kind; text = text }) → Appends new newer text
+      → Appends after later (note_of number (kind_unread kind))
+      → made ≡ record { unread = verdict.unread || kind_unread kind; error = verdict.error || kind_grave kind }
+      → Progress gives found first next old newer before later (number + 1) made
+  more first left next old new newer before after later number verdict made row kind text some p is_next is_shown took
+      said with_it =
+      let s : Shown = record { row = row; kind = kind; text = text } in
+      let was : verdict ≡ verdict_of p.shown = p.is in
+      let unread = ap (λ (v : Verdict). v.unread || kind_unread kind) was in
+      let error = ap (λ (v : Verdict). v.error || kind_grave kind) was in
+      let counted : number ≡ length p.shown + 1 = p.count in
+      record {
+        shown = p.shown ++ s ∷ [];
+        rows = subst (RowsLeft first next) (sym (map-append row_of p.shown (s ∷ [])))
+            (rows_more first left next (map row_of p.shown) row some p.rows is_next);
+        each = All-append (IsShown gives found) p.shown (s ∷ []) p.each
+            (All-cons (IsShown gives found) s [] is_shown (All-nil (IsShown gives found)));
+        text = subst (Appends old newer) (sym (text_more p.shown s))
+            (Appends-trans old new newer (text_of p.shown) text p.text took);
+        notes = subst (Appends before later) (sym (notes_more 1 p.shown s number counted))
+            (Appends-trans before after later (notes_from 1 p.shown) (note_of number (kind_unread kind)) p.notes said);
+        count = omega (arith, counted, length_more p.shown s);
+        is = with_it ∙ ap₂ verdict_by
+            (unread ∙ sym (any_more is_unread p.shown s (kind_unread kind) refl))
+            (error ∙ sym (any_more is_error p.shown s (kind_grave kind) refl));
+      }
+
+  pub end : (first left next old new before after : Option (List ℕ)) (number : ℕ) (verdict : Verdict) (row : List ℕ)
+      → row ≡ [] → Progress gives found first left old new before after number verdict → IsNextRow left next row
+      → IfSome first (λ bytes. Shows gives found bytes (λ text notes. Appends old new text × Appends before after notes)
+      verdict)
+  end first left next old new before after number verdict row none p is_next =
+      ended first (rows_end first left next (map row_of p.shown) row none p.rows is_next)
+    where
+      ended : (o : Option (List ℕ)) → IfSome o (λ bytes. map row_of p.shown ≡ rows_of bytes)
+          → IfSome o (λ bytes. Shows gives found bytes (λ text notes. Appends old new text × Appends before after notes)
+          verdict)
+      ended None e = tt
+      ended (Some bytes) e = (p.shown, e, p.each, (p.text, p.notes), p.is)
+
+  -- ---- after an error
+
+  so_far : (first : Option (List ℕ)) (shown : List Shown) (holds : List ℕ → List ℕ → Type 0)
+      → IfSome first (λ bytes. (others : List (List ℕ)) × (rows_of bytes ≡ map row_of shown ++ others))
+      → All (IsShown gives found) shown → holds (text_of shown) (notes_from 1 shown)
+      → IfSome first (λ bytes. ShowsFirst gives found bytes holds)
+  so_far None shown holds rows each h = tt
+  so_far (Some bytes) shown holds rows each h = (shown, rows.0, rows.1, each, h)
+
+  -- the rows before this one
+  pub begun : (first left old new before after : Option (List ℕ)) (number : ℕ) (verdict : Verdict)
+      → Progress gives found first left old new before after number verdict
+      → IfSome first (λ bytes. ShowsFirst gives found bytes
+      (λ text notes. TakesBeginning old new text × TakesBeginning before after notes))
+  begun first left old new before after number verdict p =
+      so_far first p.shown (λ text notes. TakesBeginning old new text × TakesBeginning before after notes)
+      (first_rows first left (map row_of p.shown) p.rows) p.each
+      (all_taken old new (text_of p.shown) p.text, all_taken before after (notes_from 1 p.shown) p.notes)
+
+  -- and a beginning of this one's text and note
+  pub begun_with : (first left next old new newer before after later : Option (List ℕ)) (number : ℕ) (verdict : Verdict)
+      (row : List ℕ) (kind : RowKind) (text : List ℕ) → 0 < length row
+      → Progress gives found first left old new before after number verdict → IsNextRow left next row
+      → IsShown gives found (record { row = row; kind = kind; text = text }) → TakesBeginning new newer text
+      → TakesBeginning after later (note_of number (kind_unread kind))
+      → IfSome first (λ bytes. ShowsFirst gives found bytes
+      (λ text notes. TakesBeginning old newer text × TakesBeginning before later notes))
+  begun_with first left next old new newer before after later number verdict row kind text some p is_next is_shown took
+      said =
+      let s : Shown = record { row = row; kind = kind; text = text } in
+      so_far first (p.shown ++ s ∷ []) (λ text notes. TakesBeginning old newer text × TakesBeginning before later notes)
+      (first_rows first next (map row_of (p.shown ++ s ∷ []))
+      (subst (RowsLeft first next) (sym (map-append row_of p.shown (s ∷ [])))
+      (rows_more first left next (map row_of p.shown) row some p.rows is_next)))
+      (All-append (IsShown gives found) p.shown (s ∷ []) p.each
+      (All-cons (IsShown gives found) s [] is_shown (All-nil (IsShown gives found)))) (
+        subst (TakesBeginning old newer) (sym (text_more p.shown s))
+            (taken_then old new newer (text_of p.shown) text p.text took),
+        subst (TakesBeginning before later) (sym (notes_more 1 p.shown s number p.count))
+            (taken_then before after later (notes_from 1 p.shown) (note_of number (kind_unread kind)) p.notes said),
+      )

@@ -1,0 +1,44 @@
+use Rattle.std.proofs.Common.{◌≡◌, map, string_bytes}
+use Rattle.std.specs.Io.KnownBytes.{Appends}
+use Rattle.miette_report.proofs.JobEnds.{not-wrong}
+use Rattle.miette_report.specs.views.Device.{TakesBeginning}
+use Rattle.miette_show.specs.rules.Looking.{IsFoundBy}
+use Rattle.miette_show.specs.views.Reading.{left_of}
+use Rattle.miette_show.proofs.Calls.{call_first, call_shows, call_tells}
+use Rattle.miette_show.proofs.NoteEnds.{on_ok_of}
+use Rattle.miette_show.proofs.show.show_on.Goals as goal
+
+pub returns-clause-ok : goal.returns-clause-ok
+returns-clause-ok g c =
+    let it = c.in_ok-settings.settings in
+    call_shows _ (map string_bytes c.args.words.now) it.choice it.options it.terminal c.in_ok-handler.handler
+    c.in_ok-settings.ensures.table c.in_ok-handler.ensures
+    (IsFoundBy g.F.Files.found g.F.Loader.knows c.args.files.now) (left_of g.R.Read.remaining c.args.streams.now.rows)
+    (λ text notes. Appends (g.W.Write.contents c.args.streams.now.writer.inner)
+    (g.W.Write.contents c.show_rows.new.streams.writer.inner) text
+    × Appends (g.E.Write.contents c.args.streams.now.faults.inner)
+    (g.E.Write.contents c.show_rows.new.streams.faults.inner) notes) c.show_rows.result c.show_rows.ensures.ok
+
+pub returns-clause-refused : goal.returns-clause-refused
+returns-clause-refused g c =
+    let it = c.in_ok-settings.settings in
+    λ e. call_tells (map string_bytes c.args.words.now) it.choice it.options it.terminal c.in_ok-handler.handler
+    c.in_ok-settings.ensures.table c.in_ok-handler.ensures (c.show_rows.ensures.refused e)
+
+pub returns-clause-beginning : goal.returns-clause-beginning
+returns-clause-beginning g c =
+    let it = c.in_ok-settings.settings in
+    call_first _ (map string_bytes c.args.words.now) it.choice it.options it.terminal c.in_ok-handler.handler
+    c.in_ok-settings.ensures.table c.in_ok-handler.ensures
+    (IsFoundBy g.F.Files.found g.F.Loader.knows c.args.files.now) (left_of g.R.Read.remaining c.args.streams.now.rows)
+    (λ text notes. TakesBeginning (g.W.Write.contents c.args.streams.now.writer.inner)
+    (g.W.Write.contents c.show_rows.new.streams.writer.inner) text
+    × TakesBeginning (g.E.Write.contents c.args.streams.now.faults.inner)
+    (g.E.Write.contents c.show_rows.new.streams.faults.inner) notes) c.show_rows.result
+    (c.show_rows.new.streams ≡ c.args.streams.now) c.show_rows.ensures.beginning
+
+pub returns-clause-right : goal.returns-clause-right
+returns-clause-right g c =
+    let it = c.in_ok-settings.settings in
+    on_ok_of c.show_rows.result _ (not-wrong (map string_bytes c.args.words.now) it.choice it.options it.terminal
+    c.in_ok-settings.ensures.table)

@@ -1,0 +1,62 @@
+use Rattle.std.proofs.Common.{◌≡◌, ◌∷◌, ◌∙◌, Some, true, false, ap, sym, map, string_bytes, bytes_eq, codes, length}
+use Rattle.std.proofs.Common.{rules, tests}
+use Rattle.std.specs.Option.{option_copied}
+use Rattle.std.proofs.lemmas.List.{nil_from_length}
+use Rattle.miette_show.specs.rules.ShowWords.{asked_from}
+use Rattle.miette_show.proofs.WordSteps.{from_passed, none_left, others, root_passed}
+use Rattle.miette_show.proofs.words.ShowWords.read.Goals.{in-Some+in_default-as_str, in_default}
+use Rattle.miette_show.proofs.words.ShowWords.read.Goals as goal
+
+pub loop-word-preserved-then-str_eq : goal.loop-word-preserved-then-str_eq
+loop-word-preserved-then-str_eq c =
+    let word = string_bytes c.in-Some.word.now in
+    let value = string_bytes c.in_ok-value-in-text.value.now in
+    let after = map string_bytes c.in_ok-value-in-text.after.now in
+    let rest : map string_bytes c.loop-word.rest.now ≡ word ∷ (value ∷ after) =
+    ap (map string_bytes) (c.in-Some.ensures.cases.0
+    ∙ ap (λ m. c.in-Some.word.now ∷ m) c.in_ok-value-in-text.ensures.cases.0)
+    in
+    let here : bytes_eq c.as_str.result.now (codes "--root") ≡ true = search (rules, tests) in
+    let is : bytes_eq word (codes "--root") ≡ true =
+    ap (λ w. bytes_eq w (codes "--root")) (sym c.as_str.ensures.value) ∙ here
+    in
+    ap (λ v. asked_from (Some v) after) c.as_str-in-text.ensures.value
+    ∙ root_passed (option_copied c.loop-word.root) (map string_bytes c.loop-word.rest.now) word value after rest is
+    ∙ c.loop-word.invariant
+
+pub loop-word-preserved : goal.loop-word-preserved
+loop-word-preserved c =
+    let word = string_bytes c.in-Some.word.now in
+    let value = string_bytes c.in_ok-value-in-text-2.value.now in
+    let after = map string_bytes c.in_ok-value-in-text-2.after.now in
+    let rest : map string_bytes c.loop-word.rest.now ≡ word ∷ (value ∷ after) =
+    ap (map string_bytes) (c.in-Some.ensures.cases.0
+    ∙ ap (λ m. c.in-Some.word.now ∷ m) c.in_ok-value-in-text-2.ensures.cases.0)
+    in
+    let no : bytes_eq c.as_str.result.now (codes "--root") ≡ false = search (rules, tests) in
+    let here : bytes_eq c.as_str.result.now (codes "--from") ≡ true = search (rules, tests) in
+    let named : bytes_eq c.as_str-in-text-2.result.now (codes "rustc") ≡ true = search (rules, tests) in
+    from_passed (option_copied c.loop-word.root) (map string_bytes c.loop-word.rest.now) word value after rest
+    (ap (λ w. bytes_eq w (codes "--root")) (sym c.as_str.ensures.value) ∙ no)
+    (ap (λ w. bytes_eq w (codes "--from")) (sym c.as_str.ensures.value) ∙ here)
+    (ap (λ w. bytes_eq w (codes "rustc")) (sym c.as_str-in-text-2.ensures.value) ∙ named) ∙ c.loop-word.invariant
+
+pub returns : goal.returns
+returns c =
+    elim c.match-split_first.branch [
+      | in-Some+in_default-as_str w ↦
+          (let word = string_bytes w.in-Some.word.now in
+          let rest : map string_bytes c.loop-word.rest.now ≡ word ∷ map string_bytes w.in-Some.more.now =
+          ap (map string_bytes) w.in-Some.ensures.cases.0
+          in
+          let no : bytes_eq w.as_str.result.now (codes "--root") ≡ false = search (rules, tests) in
+          let nor : bytes_eq w.as_str.result.now (codes "--from") ≡ false = search (rules, tests) in
+          others (option_copied c.loop-word.root) (map string_bytes c.loop-word.rest.now) word
+          (map string_bytes w.in-Some.more.now) rest
+          (ap (λ w. bytes_eq w (codes "--root")) (sym w.as_str.ensures.value) ∙ no)
+          (ap (λ w. bytes_eq w (codes "--from")) (sym w.as_str.ensures.value) ∙ nor) ∙ c.loop-word.invariant)
+      | in_default w ↦
+          (let none : length c.loop-word.rest.now ≡ 0 = search rules in
+          none_left (option_copied c.loop-word.root) (map string_bytes c.loop-word.rest.now)
+          (ap (map string_bytes) (nil_from_length c.loop-word.rest.now none)) ∙ c.loop-word.invariant)
+    ]

@@ -1,0 +1,20 @@
+-- Files that are looked for one after another.
+use Rattle.std.specs.Prelude.{◌≡◌, ℕ, List, ◌++◌, Option, Some, None, if◌then◌else◌, codes, nat_eq}
+use Rattle.std.specs.List.{All, starts_with}
+use Rattle.miette_protocol.specs.rules.Reading.{Source}
+
+-- What was known stays known, and is found as it was.
+abbrev pub Goes : (List ℕ → Option Source) → (List ℕ → Type 0) → (List ℕ → Option Source) → (List ℕ → Type 0) → Type 0
+Goes found knows found_later knows_later =
+    (name : List ℕ) → knows name → knows_later name × (found_later name ≡ found name)
+
+-- These files are those that are found after a while, when all of these names are known.
+abbrev pub IsFoundBy : {F : Type 0} → (F → List ℕ → Option Source) → (F → List ℕ → Type 0) → F
+    → (List ℕ → Option Source) → List (List ℕ) → Type 0
+IsFoundBy {F} found knows first files names = (later : F) × Goes (found first) (knows first) (found later) (knows later)
+    × All (knows later) names × (files ≡ found later)
+
+-- Where the file of a name lies: below a folder, where there is one, unless it begins with `/`.
+abbrev pub path_in : Option (List ℕ) → List ℕ → List ℕ
+path_in None name = name
+path_in (Some root) name = if starts_with nat_eq name (codes "/") then name else root ++ (codes "/" ++ name)

@@ -1,0 +1,24 @@
+-- The rows of what is read.
+use Rattle.std.specs.Prelude.{ℕ, List, [], ◌∷◌, ◌++◌, Bool, if◌then◌else◌, ◌==◌, nat_eq}
+use Rattle.std.specs.List.{list_any, starts_with}
+
+-- a row that no LF ends, where it has a byte
+abbrev pub last_row : List ℕ → List (List ℕ)
+last_row [] = []
+last_row (b ∷ bs) = (b ∷ bs) ∷ []
+
+-- the rows of bytes, behind what a row begins with
+abbrev pub rows_from : List ℕ → List ℕ → List (List ℕ)
+rows_from begun [] = last_row begun
+rows_from begun (b ∷ bs) = if b == 10 then (begun ++ b ∷ []) ∷ rows_from [] bs else rows_from (begun ++ b ∷ []) bs
+
+-- each with the LF that ends it
+abbrev pub rows_of : List ℕ → List (List ℕ)
+rows_of bytes = rows_from [] bytes
+
+abbrev pub has_end : List ℕ → Bool
+has_end bytes = list_any (λ b. b == 10) bytes
+
+-- rustc and cargo begin each message so
+abbrev pub begins_object : List ℕ → Bool
+begins_object row = starts_with nat_eq row (123 ∷ 34 ∷ [])

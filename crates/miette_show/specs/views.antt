@@ -1,0 +1,5 @@
+pub mod Asked
+pub mod Folder
+pub mod RowState
+pub mod Reading
+pub mod Texts

@@ -1,0 +1,10 @@
+//! What compilers write, drawn: the work of the program `show`, over any reader, writers and files.
+#![tactic(auto)]
+
+pub mod folder;
+pub mod loader;
+mod message;
+pub mod row_reader;
+pub mod show;
+pub mod verdict;
+pub mod words;

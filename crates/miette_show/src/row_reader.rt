@@ -1,0 +1,140 @@
+//! The rows of a reader, one after another.
+
+ghost use Rattle.std.specs.Prelude.{◌≡◌, ◌↔◌, ◌⊎◌, ◌≤◌, [], IsTrue, IfOk, IfSome, OnErr, OnOk, drop, false, length};
+ghost use Rattle.std.specs.Prelude.{true};
+ghost use Rattle.std.specs.Io.KnownBytes.{Consumes, IsAtEnd};
+ghost use Rattle.miette_show.specs.views.Reading.{IsNextRow, IsRowEnd, IsTaken, left_of};
+ghost use Rattle.miette_show.specs.views.RowState.{RowState};
+
+use memchr::memchr;
+use miette_report::device::Device;
+use miette_report::fault::Fault;
+use std::alloc::{AllocError, Global};
+use std::io::Read;
+use std::marker::Model;
+
+// How many bytes are asked for at a time.
+const CHUNK: usize = 16384;
+
+/// How many bytes the first row has with its end, where it has one.
+fn row_end(pending: &[u8]) -> Option<usize>
+    ensures end { IsRowEnd pending.now result }
+    ensures within { IfSome result (λ size. size ≤ length pending.now) }
+{
+    match memchr(b'\n', pending) {
+        Some(at) => Some(at + 1),
+        None => None,
+    }
+}
+
+/// The rows of a reader, each with the LF that ends it. It keeps no more of them than one chunk.
+#[derive(Drop)]
+pub struct RowReader<R> {
+    device: Device<R>,
+    chunk: Vec<u8>,
+    start: usize,
+}
+
+impl<R> Model for RowReader<R> {
+    ghost use Rattle.std.specs.Prelude.{◌≤◌, drop, length};
+    ghost use Rattle.miette_show.specs.views.RowState.{RowState};
+
+    ghost Value = { RowState R };
+
+    ghost view = { λ it. record {
+      inner = it.device.inner;
+      failed = it.device.failed;
+      pending = drop it.start it.chunk.items;
+    } };
+
+    ghost invariant = { λ it. it.start ≤ length it.chunk.items };
+}
+
+impl<R> RowReader<R> {
+    /// The rows of what the reader has left.
+    pub fn new(alloc: Global, reader: R) -> RowReader<R>
+        ensures { result ≡ record { inner = reader; failed = false; pending = [] } }
+    {
+        RowReader {
+            device: Device::new(reader),
+            chunk: Vec::new(alloc),
+            start: 0,
+        }
+    }
+
+    /// What was read that belongs to later rows.
+    fn pending(&self) -> &[u8]
+        ensures { result.now ≡ self.now.pending }
+    {
+        &self.chunk.as_slice()[self.start..]
+    }
+
+    /// Appends what is pending to a row, up to and with the end of that; whether there is one.
+    fn take(&mut self, row: &mut Vec<u8>) -> Result<bool, AllocError>
+        ensures taken { IfOk result (IsTaken self.old.pending self.new.pending row.old.items row.new.items) }
+        ensures inner { self.new.inner ≡ self.old.inner }
+        ensures failed { self.new.failed ≡ self.old.failed }
+    {
+        let pending = self.pending();
+        match row_end(pending) {
+            Some(size) => {
+                row.extend_from_slice(&pending[..size])?;
+                self.start += size;
+                Ok(true)
+            }
+            None => {
+                row.extend_from_slice(pending)?;
+                self.start = self.chunk.len();
+                Ok(false)
+            }
+        }
+    }
+}
+
+impl<R: Read> RowReader<R> {
+    /// Reads on, where nothing is pending; whether there was anything.
+    fn refill(&mut self) -> Result<bool, Fault>
+        requires sound { self.old.failed ≡ false }
+        requires empty { self.old.pending ≡ [] }
+        ensures left { OnOk result (Consumes (left_of R.remaining self.old) (left_of R.remaining self.new) []) }
+        ensures end { (result ≡ Ok false) → IsAtEnd (left_of R.remaining self.new) }
+        ensures failed { IsTrue self.new.failed ↔ (result ≡ Err Fault.Read) }
+        ensures others { OnErr result ((result ≡ Err Fault.Read) ⊎ (result ≡ Err Fault.Memory)) }
+    {
+        let mut chunk = [0u8; CHUNK];
+        match self.device.read(&mut chunk) {
+            Ok(0) => Ok(false),
+            Ok(n) => {
+                self.chunk.clear();
+                self.start = 0;
+                self.chunk.extend_from_slice(&chunk[..n])?;
+                Ok(true)
+            }
+            Err(_) => Err(Fault::Read),
+        }
+    }
+
+    /// Reads the next row, with its end, in place of what `row` holds; none is left where it is empty then. Only the
+    /// last row may have no end.
+    ///
+    /// # Errors
+    /// `Read` exactly where a call of the reader failed, and `Memory`.
+    pub fn next(&mut self, row: &mut Vec<u8>) -> Result<(), Fault>
+        requires sound { self.old.failed ≡ false }
+        ensures row { OnOk result
+            (IsNextRow (left_of R.remaining self.old) (left_of R.remaining self.new) row.new.items) }
+        ensures failed { IsTrue self.new.failed ↔ (result ≡ Err Fault.Read) }
+        ensures others { OnErr result ((result ≡ Err Fault.Read) ⊎ (result ≡ Err Fault.Memory)) }
+    {
+        row.clear();
+        for _ in 0..u64::MAX {
+            if self.take(row)? {
+                return Ok(());
+            }
+            if !self.refill()? {
+                return Ok(());
+            }
+        }
+        Err(Fault::Memory)
+    }
+}

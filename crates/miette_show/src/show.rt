@@ -1,0 +1,246 @@
+//! The program `show`, over any reader, writers and files.
+
+ghost use Rattle.std.specs.Prelude.{◌≡◌, ◌↔◌, ◌⊎◌, ◌<◌, ℕ, List, IfOk, IfSome, IsTrue, None, OnErr, OnOk};
+ghost use Rattle.std.specs.Prelude.{[], false, map, string_bytes, ⊤};
+ghost use Rattle.std.specs.Io.KnownBytes.{Appends};
+ghost use Rattle.miette_report.specs.rules.JobCalls.{CallTells};
+ghost use Rattle.miette_report.specs.rules.OptionWords.{asked_by};
+ghost use Rattle.miette_report.specs.steps.JobHandler.{IsGiven, IsLed, Stays};
+ghost use Rattle.miette_report.specs.views.Device.{TakesBeginning};
+ghost use Rattle.miette_show.specs.rules.Looking.{Goes, IsFoundBy};
+ghost use Rattle.miette_show.specs.rules.ShowCalls.{CallShows, CallShowsFirst};
+ghost use Rattle.miette_show.specs.rules.Shown.{IsShown, Shows, ShowsFirst, kind_unread, note_of, note_row};
+ghost use Rattle.miette_show.specs.rules.Statuses.{status_of};
+ghost use Rattle.miette_show.specs.declared.verdict.Verdict.{Verdict};
+ghost use Rattle.miette_show.specs.views.Reading.{left_of};
+ghost use Rattle.miette_show.specs.views.Texts.{IsRefusing, shown_text};
+
+use crate::loader::Loader;
+use crate::message::row_text;
+use crate::row_reader::RowReader;
+use crate::verdict::{RowKind, Verdict};
+use miette_highlight::highlight::Highlighter;
+use miette_report::device::Device;
+use miette_report::fault::{Fault, Program};
+use miette_report::job::Arguments;
+use miette_report::job_handler::JobHandler;
+use miette_report::language::LanguageHighlighter;
+use miette_report::whole::write_whole;
+use std::alloc::{AllocError, Global};
+use std::io::{Read, Write};
+
+/// What the program reads, where it writes what is shown, and where it says what it can't read.
+#[derive(Drop)]
+pub struct Streams<R, W, E> {
+    /// The rows of what is read.
+    pub rows: RowReader<R>,
+    /// What is shown.
+    pub writer: Device<W>,
+    /// What can't be read, and why the program fails.
+    pub faults: Device<E>,
+}
+
+impl<R, W, E> Streams<R, W, E> {
+    /// Over these, of which no call has failed.
+    pub fn new(alloc: Global, reader: R, writer: W, faults: E) -> Streams<R, W, E>
+        ensures rows { result.rows ≡ record { inner = reader; failed = false; pending = [] } }
+        ensures writer { result.writer ≡ record { inner = writer; failed = false } }
+        ensures faults { result.faults ≡ record { inner = faults; failed = false } }
+    {
+        Streams {
+            rows: RowReader::new(alloc, reader),
+            writer: Device::new(writer),
+            faults: Device::new(faults),
+        }
+    }
+}
+
+/// The bytes that are shown of a row.
+fn shown_bytes<'r>(kind: RowKind, row: &'r [u8], text: &'r String) -> &'r [u8]
+    ensures { result.now ≡ shown_text kind row.now (string_bytes text.now) }
+{
+    match kind {
+        RowKind::Passed | RowKind::Unread => row,
+        RowKind::Other | RowKind::Message(_) => text.as_bytes(),
+    }
+}
+
+/// Writes what is shown of a row; what the row is.
+fn show_row<H: Highlighter, F: Loader, W: Write>(
+    alloc: Global,
+    handler: &mut JobHandler<H>,
+    files: &mut F,
+    writer: &mut Device<W>,
+    row: &[u8],
+) -> Result<RowKind, Fault>
+    requires sound { writer.old.failed ≡ false }
+    ensures shown { IfOk result (λ kind. (text : List ℕ)
+        × IsShown (IsGiven H.is_blank H.may_follow handler.old) (IsFoundBy F.found F.knows files.old)
+        (record { row = row.now; kind = kind; text = text })
+        × Appends (W.contents writer.old.inner) (W.contents writer.new.inner) text) }
+    // After a write fault a beginning of what is shown was taken, after other errors nothing.
+    ensures beginning { (result ≡ Err Fault.Write) → (kind : RowKind) × (text : List ℕ)
+        × IsShown (IsGiven H.is_blank H.may_follow handler.old) (IsFoundBy F.found F.knows files.old)
+        (record { row = row.now; kind = kind; text = text })
+        × TakesBeginning (W.contents writer.old.inner) (W.contents writer.new.inner) text }
+    ensures untouched { OnErr result ((result ≡ Err Fault.Write) ⊎ (writer.new ≡ writer.old)) }
+    ensures refused { (result ≡ Err Fault.Refused) → IsRefusing handler.old }
+    ensures failed { IsTrue writer.new.failed ↔ (result ≡ Err Fault.Write) }
+    ensures others { OnErr result ((result ≡ Err Fault.Refused) ⊎ (result ≡ Err Fault.Memory)
+        ⊎ (result ≡ Err Fault.Write)) }
+    ensures stays { Stays H.is_blank handler.old handler.new }
+    ensures led { OnOk result (IsLed H.may_follow handler.old handler.new) }
+    ensures goes { Goes (F.found files.old) (F.knows files.old) (F.found files.new) (F.knows files.new) }
+{
+    let (kind, text) = row_text(alloc, handler, files, row)?;
+    write_whole(writer, shown_bytes(kind, row, &text))?;
+    Ok(kind)
+}
+
+/// What is said of a row that can't be read.
+fn note_text(alloc: Global, number: u64) -> Result<String, AllocError>
+    ensures { IfOk result (λ text. string_bytes text ≡ note_row number) }
+{
+    format!(in alloc; "show: row {number}: no message that can be read\n")
+}
+
+/// Says that a row can't be read, where it can't.
+fn note<E: Write>(
+    alloc: Global,
+    faults: &mut Device<E>,
+    number: u64,
+    kind: RowKind,
+) -> Result<(), Fault>
+    requires sound { faults.old.failed ≡ false }
+    ensures noted { OnOk result (Appends (E.contents faults.old.inner) (E.contents faults.new.inner)
+        (note_of number (kind_unread kind))) }
+    ensures beginning { (result ≡ Err Fault.Write) → TakesBeginning (E.contents faults.old.inner)
+        (E.contents faults.new.inner) (note_of number (kind_unread kind)) }
+    ensures untouched { OnErr result ((result ≡ Err Fault.Write) ⊎ (faults.new ≡ faults.old)) }
+    ensures failed { IsTrue faults.new.failed ↔ (result ≡ Err Fault.Write) }
+    ensures others { OnErr result ((result ≡ Err Fault.Memory) ⊎ (result ≡ Err Fault.Write)) }
+{
+    if !kind.is_unread() {
+        return Ok(());
+    }
+    let note = note_text(alloc, number)?;
+    write_whole(faults, note.as_bytes())
+}
+
+/// Shows all rows that are left.
+fn show_rows<H: Highlighter, F: Loader, R: Read, W: Write, E: Write>(
+    alloc: Global,
+    handler: &mut JobHandler<H>,
+    files: &mut F,
+    streams: &mut Streams<R, W, E>,
+) -> Result<Verdict, Fault>
+    requires rows_sound { streams.old.rows.failed ≡ false }
+    requires writer_sound { streams.old.writer.failed ≡ false }
+    requires faults_sound { streams.old.faults.failed ≡ false }
+    ensures ok { IfOk result (λ verdict. IfSome (left_of R.remaining streams.old.rows) (λ bytes.
+        Shows (IsGiven H.is_blank H.may_follow handler.old) (IsFoundBy F.found F.knows files.old) bytes
+        (λ text notes. Appends (W.contents streams.old.writer.inner) (W.contents streams.new.writer.inner) text
+        × Appends (E.contents streams.old.faults.inner) (E.contents streams.new.faults.inner) notes) verdict)) }
+    // After an error the first rows were shown, the last of them perhaps in part.
+    ensures beginning { OnErr result (IfSome (left_of R.remaining streams.old.rows) (λ bytes.
+        ShowsFirst (IsGiven H.is_blank H.may_follow handler.old) (IsFoundBy F.found F.knows files.old) bytes
+        (λ text notes. TakesBeginning (W.contents streams.old.writer.inner) (W.contents streams.new.writer.inner) text
+        × TakesBeginning (E.contents streams.old.faults.inner) (E.contents streams.new.faults.inner) notes))) }
+    ensures refused { (result ≡ Err Fault.Refused) → IsRefusing handler.old }
+    ensures read_failed { IsTrue streams.new.rows.failed ↔ (result ≡ Err Fault.Read) }
+    ensures write_failed { (IsTrue streams.new.writer.failed ⊎ IsTrue streams.new.faults.failed)
+        ↔ (result ≡ Err Fault.Write) }
+    ensures called { ¬ (result ≡ Err Fault.Usage) }
+{
+    let mut row = Vec::new(alloc);
+    let mut verdict = Verdict::none();
+    for number in 1..u64::MAX {
+        streams.rows.next(&mut row)?;
+        if row.is_empty() {
+            return Ok(verdict);
+        }
+        let kind = show_row(alloc, handler, files, &mut streams.writer, row.as_slice())?;
+        note(alloc, &mut streams.faults, number, kind)?;
+        verdict = verdict.with(kind);
+    }
+    Err(Fault::Memory)
+}
+
+/// Reads the words of `job`, and then shows all rows that are left as they ask.
+///
+/// # Errors
+/// `Usage` where the words are wrong, before anything is read. `Read` exactly where a call of the reader failed,
+/// `Write` exactly where one of the writers failed. `Refused` only of narrated and brief reports. `Memory`.
+pub fn show_on<F: Loader, R: Read, W: Write, E: Write>(
+    alloc: Global,
+    words: &[String],
+    files: &mut F,
+    streams: &mut Streams<R, W, E>,
+) -> Result<Verdict, Fault>
+    requires rows_sound { streams.old.rows.failed ≡ false }
+    requires writer_sound { streams.old.writer.failed ≡ false }
+    requires faults_sound { streams.old.faults.failed ≡ false }
+    // Row by row the writer took the text of the message's report, or the row, and the other one what can't be read.
+    ensures ok { IfOk result (λ verdict. IfSome (left_of R.remaining streams.old.rows) (λ bytes.
+        CallShows ⟦<LanguageHighlighter as Highlighter>⟧.is_blank (map string_bytes words.now)
+        (IsFoundBy F.found F.knows files.old) bytes
+        (λ text notes. Appends (W.contents streams.old.writer.inner) (W.contents streams.new.writer.inner) text
+        × Appends (E.contents streams.old.faults.inner) (E.contents streams.new.faults.inner) notes) verdict)) }
+    ensures usage { (result ≡ Err Fault.Usage) → asked_by (map string_bytes words.now) ≡ None }
+    ensures right { OnOk result (¬ (asked_by (map string_bytes words.now) ≡ None)) }
+    ensures unread { asked_by (map string_bytes words.now) ≡ None → streams.new ≡ streams.old }
+    // After any other error the first rows were shown, the last of them perhaps in part.
+    ensures beginning { OnErr result ((streams.new ≡ streams.old) ⊎ IfSome (left_of R.remaining streams.old.rows)
+        (λ bytes. CallShowsFirst ⟦<LanguageHighlighter as Highlighter>⟧.is_blank (map string_bytes words.now)
+        (IsFoundBy F.found F.knows files.old) bytes
+        (λ text notes. TakesBeginning (W.contents streams.old.writer.inner) (W.contents streams.new.writer.inner) text
+        × TakesBeginning (E.contents streams.old.faults.inner) (E.contents streams.new.faults.inner) notes))) }
+    ensures refused { (result ≡ Err Fault.Refused) → CallTells (map string_bytes words.now) }
+    ensures read_failed { IsTrue streams.new.rows.failed ↔ (result ≡ Err Fault.Read) }
+    ensures write_failed { (IsTrue streams.new.writer.failed ⊎ IsTrue streams.new.faults.failed)
+        ↔ (result ≡ Err Fault.Write) }
+{
+    let settings = Arguments::read(alloc, words)?;
+    let mut handler = JobHandler::new(alloc, settings)?;
+    show_rows(alloc, &mut handler, files, streams)
+}
+
+/// Shows all rows of a reader by the words of `job`, and gives the status: that of the verdict; 2 for every fault, of
+/// which a row goes to `faults`.
+pub fn show_with<F, R, W, E>(
+    alloc: Global,
+    words: &[String],
+    files: &mut F,
+    streams: Streams<R, W, E>,
+) -> u8
+where
+    F: Loader,
+    R: Read + Drop,
+    W: Write + Drop,
+    E: Write + Drop,
+    requires rows_sound { streams.rows.failed ≡ false }
+    requires writer_sound { streams.writer.failed ≡ false }
+    requires faults_sound { streams.faults.failed ≡ false }
+    // 2 for a fault; else by all rows, each of which is shown as the words ask.
+    ensures status { (result ≡ 2) ⊎ IfSome (left_of R.remaining streams.rows) (λ bytes. (verdict : Verdict)
+        × (result ≡ status_of verdict) × CallShows ⟦<LanguageHighlighter as Highlighter>⟧.is_blank
+        (map string_bytes words.now) (IsFoundBy F.found F.knows files.old) bytes (λ text notes. ⊤) verdict) }
+    ensures usage { asked_by (map string_bytes words.now) ≡ None → result ≡ 2 }
+{
+    let mut streams = streams;
+    match show_on(alloc, words, files, &mut streams) {
+        Ok(verdict) => verdict.status(),
+        Err(fault) => {
+            let mut faults = streams.faults.into_inner();
+            Program::Show.fail(fault, &mut faults).status
+        }
+    }
+}
+
+/// Ends the program where its words are wrong, or could not be had: prints why, and gives the status, 2.
+pub fn refuse_words<E: Write + Drop>(fault: Fault, faults: E) -> u8
+    ensures { result ≡ 2 }
+{
+    let mut faults = faults;
+    Program::Show.fail(fault, &mut faults).status
+}
