@@ -41,64 +41,71 @@ fn found(source: &[u8], span: (usize, usize), encoding: PositionEncoding) -> Opt
     }
 }
 
+/// Spans and their regions, in UTF-16.
+static IN_UTF16: [((usize, usize), Option<Numbers>); 18] = [
+    ((0, 1), Some((0, 0, 0, 1))),
+    ((2, 4), Some((0, 2, 0, 4))),
+    ((6, 1), Some((0, 4, 0, 5))),
+    // a part of the emoji is all of it
+    ((3, 1), Some((0, 2, 0, 4))),
+    // nothing inside the emoji is nothing before it
+    ((3, 0), Some((0, 2, 0, 2))),
+    ((7, 1), Some((0, 5, 1, 0))),
+    ((9, 2), Some((1, 1, 1, 2))),
+    // up to the CR, the CR alone, and the LF alone
+    ((8, 3), Some((1, 0, 1, 2))),
+    ((11, 1), Some((1, 2, 2, 0))),
+    ((12, 1), Some((1, 2, 2, 0))),
+    ((12, 0), Some((1, 2, 1, 2))),
+    ((13, 1), Some((2, 0, 2, 1))),
+    ((14, 1), Some((2, 1, 3, 0))),
+    ((16, 1), Some((3, 1, 3, 2))),
+    ((17, 1), Some((3, 2, 3, 3))),
+    ((18, 1), Some((3, 3, 3, 3))),
+    ((18, 2), None),
+    ((19, 0), None),
+];
+
 #[test]
 fn regions_in_utf16(rt: HostRuntime) {
-    let rows = [
-        ((0, 1), Some((0, 0, 0, 1))),
-        ((2, 4), Some((0, 2, 0, 4))),
-        ((6, 1), Some((0, 4, 0, 5))),
-        // a part of the emoji is all of it
-        ((3, 1), Some((0, 2, 0, 4))),
-        // nothing inside the emoji is nothing before it
-        ((3, 0), Some((0, 2, 0, 2))),
-        ((7, 1), Some((0, 5, 1, 0))),
-        ((9, 2), Some((1, 1, 1, 2))),
-        // up to the CR, the CR alone, and the LF alone
-        ((8, 3), Some((1, 0, 1, 2))),
-        ((11, 1), Some((1, 2, 2, 0))),
-        ((12, 1), Some((1, 2, 2, 0))),
-        ((12, 0), Some((1, 2, 1, 2))),
-        ((13, 1), Some((2, 0, 2, 1))),
-        ((14, 1), Some((2, 1, 3, 0))),
-        ((16, 1), Some((3, 1, 3, 2))),
-        ((17, 1), Some((3, 2, 3, 3))),
-        ((18, 1), Some((3, 3, 3, 3))),
-        ((18, 2), None),
-        ((19, 0), None),
-    ];
-    for (span, wanted) in rows {
-        same(&rt, found(MIXED, span, PositionEncoding::Utf16), wanted);
+    for (span, wanted) in &IN_UTF16 {
+        same(&rt, found(MIXED, *span, PositionEncoding::Utf16), *wanted);
     }
 }
+
+/// The same in other units.
+static IN_OTHER_UNITS: [(PositionEncoding, (usize, usize), Option<Numbers>); 5] = [
+    (PositionEncoding::Utf8, (2, 5), Some((0, 2, 0, 7))),
+    (PositionEncoding::Utf32, (2, 5), Some((0, 2, 0, 4))),
+    (PositionEncoding::Utf8, (9, 2), Some((1, 1, 1, 3))),
+    (PositionEncoding::Utf32, (9, 2), Some((1, 1, 1, 2))),
+    (PositionEncoding::Utf8, (15, 3), Some((3, 0, 3, 3))),
+];
 
 #[test]
 fn regions_in_other_units(rt: HostRuntime) {
-    let rows = [
-        (PositionEncoding::Utf8, (2, 5), Some((0, 2, 0, 7))),
-        (PositionEncoding::Utf32, (2, 5), Some((0, 2, 0, 4))),
-        (PositionEncoding::Utf8, (9, 2), Some((1, 1, 1, 3))),
-        (PositionEncoding::Utf32, (9, 2), Some((1, 1, 1, 2))),
-        (PositionEncoding::Utf8, (15, 3), Some((3, 0, 3, 3))),
-    ];
-    for (encoding, span, wanted) in rows {
-        same(&rt, found(MIXED, span, encoding), wanted);
+    for (encoding, span, wanted) in &IN_OTHER_UNITS {
+        same(&rt, found(MIXED, *span, *encoding), *wanted);
     }
 }
 
+/// Sources, and spans at their ends and behind.
+static ENDS: [(&[u8], (usize, usize), Option<Numbers>); 7] = [
+    (b"", (0, 0), Some((0, 0, 0, 0))),
+    (b"", (0, 1), Some((0, 0, 0, 0))),
+    (b"a\n", (2, 0), Some((1, 0, 1, 0))),
+    (b"a\r", (0, 3), Some((0, 0, 1, 0))),
+    (b"\r\n", (1, 1), Some((0, 0, 1, 0))),
+    (b"\n\r", (1, 1), Some((1, 0, 2, 0))),
+    // a byte order mark
+    (b"\xEF\xBB\xBFx", (3, 1), Some((0, 1, 0, 2))),
+];
+
 #[test]
 fn ends_of_sources(rt: HostRuntime) {
-    let encoding = PositionEncoding::Utf16;
-    same(&rt, found(b"", (0, 0), encoding), Some((0, 0, 0, 0)));
-    same(&rt, found(b"", (0, 1), encoding), Some((0, 0, 0, 0)));
-    same(&rt, found(b"a\n", (2, 0), encoding), Some((1, 0, 1, 0)));
-    same(&rt, found(b"a\r", (0, 3), encoding), Some((0, 0, 1, 0)));
-    same(&rt, found(b"\r\n", (1, 1), encoding), Some((0, 0, 1, 0)));
-    same(&rt, found(b"\n\r", (1, 1), encoding), Some((1, 0, 2, 0)));
-    same(
-        &rt,
-        found("\u{feff}x".as_bytes(), (3, 1), encoding),
-        Some((0, 1, 0, 2)),
-    );
+    for (source, span, wanted) in &ENDS {
+        same(&rt, found(*source, *span, PositionEncoding::Utf16), *wanted);
+    }
 }
 
 fn spanned(numbers: Numbers) -> Option<(usize, usize)> {
@@ -108,38 +115,45 @@ fn spanned(numbers: Numbers) -> Option<(usize, usize)> {
     }
 }
 
+/// Regions and their spans, in UTF-16.
+static REGIONS: [(Numbers, Option<(usize, usize)>); 8] = [
+    ((0, 2, 0, 4), Some((2, 4))),
+    ((0, 5, 1, 0), Some((7, 1))),
+    ((1, 2, 2, 0), Some((11, 2))),
+    ((3, 3, 3, 3), Some((18, 0))),
+    // inside the emoji, behind a line's text, on no line, and an end before the start
+    ((0, 3, 0, 4), None),
+    ((0, 2, 0, 6), None),
+    ((1, 0, 4, 0), None),
+    ((1, 1, 1, 0), None),
+];
+
 #[test]
 fn spans_of_regions(rt: HostRuntime) {
-    let rows = [
-        ((0, 2, 0, 4), Some((2, 4))),
-        ((0, 5, 1, 0), Some((7, 1))),
-        ((1, 2, 2, 0), Some((11, 2))),
-        ((3, 3, 3, 3), Some((18, 0))),
-        // inside the emoji, behind a line's text, on no line, and an end before the start
-        ((0, 3, 0, 4), None),
-        ((0, 2, 0, 6), None),
-        ((1, 0, 4, 0), None),
-        ((1, 1, 1, 0), None),
-    ];
-    for (numbers, wanted) in rows {
-        same(&rt, spanned(numbers), wanted);
+    for (numbers, wanted) in &REGIONS {
+        same(&rt, spanned(*numbers), *wanted);
     }
 }
 
+/// Lines and columns, and the offsets that they are brought to.
+static CLAMPED: [((usize, usize), usize); 6] = [
+    ((0, 3), 2),
+    ((0, 99), 7),
+    ((1, 99), 11),
+    ((2, 1), 14),
+    ((3, 99), 18),
+    ((9, 0), 18),
+];
+
 #[test]
 fn clamped(rt: HostRuntime) {
-    let rows = [
-        ((0, 3), 2),
-        ((0, 99), 7),
-        ((1, 99), 11),
-        ((2, 1), 14),
-        ((3, 99), 18),
-        ((9, 0), 18),
-    ];
-    for ((line, column), wanted) in rows {
-        let position = Position { line, column };
+    for ((line, column), wanted) in &CLAMPED {
+        let position = Position {
+            line: *line,
+            column: *column,
+        };
         let offset = clamped_offset(position, MIXED, PositionEncoding::Utf16);
-        same(&rt, offset, wanted);
+        same(&rt, offset, *wanted);
     }
 }
 
