@@ -56,10 +56,10 @@ const WHOLE_UNDER_SIGNS: WrapOptions<'static> = WrapOptions {
 };
 
 /// A text, the columns of a row, and the rows.
-pub(crate) type Row<'a> = (&'a str, usize, &'a str);
+type Row<'a> = (&'a str, usize, &'a str);
 
 /// Texts with sequences.
-pub(crate) static SEQUENCES: [Row<'static>; 5] = [
+static SEQUENCES: [Row<'static>; 5] = [
     ("aa \u{1B}[31m bb", 3, "aa\u{1B}[31m\nbb"),
     ("\u{1B}[31mred \u{1B}[0mx", 4, "\u{1B}[31mred\n\u{1B}[0mx"),
     ("a-\u{1B}[31mb\u{1B}[0m", 2, "a-\n\u{1B}[31mb\u{1B}[0m"),
@@ -67,14 +67,9 @@ pub(crate) static SEQUENCES: [Row<'static>; 5] = [
     ("\u{1B}[31mabcd\u{1B}[0m", 2, "\u{1B}[31mab\ncd\u{1B}[0m"),
 ];
 
-/// The text, filled behind what is there.
-fn fill_behind(
-    alloc: Global,
-    before: &str,
-    options: &WrapOptions<'_>,
-    text: &str,
-) -> Result<String, AllocError> {
-    let mut out = String::from_str(alloc, before)?;
+/// The text in rows.
+fn filled(alloc: Global, options: &WrapOptions<'_>, text: &str) -> Result<String, AllocError> {
+    let mut out = String::new(alloc);
     fill(text, options, &mut out)?;
     Ok(out)
 }
@@ -86,7 +81,7 @@ fn fills(rt: &impl Abort, alloc: Global, options: WrapOptions<'_>, rows: &[Row<'
             width: *width,
             ..options
         };
-        gives(rt, fill_behind(alloc, "", &options, text), *wanted);
+        gives(rt, filled(alloc, &options, text), *wanted);
     }
 }
 
@@ -174,29 +169,10 @@ fn texts_are_filled(rt: HostRuntime) {
     fills(&rt, rt.alloc(), PLAIN, &SEQUENCES);
 }
 
-#[test]
-fn a_text_is_filled_behind_another(rt: HostRuntime) {
-    let out = fill_behind(rt.alloc(), "x", &WHOLE, "a\n\n");
-    gives(&rt, out, "x> a\n.\n");
-}
-
-/// What is appended behind a red indent of two columns, and whether the text fits.
-fn fit(alloc: Global, wraps: bool, width: usize, text: &str) -> Result<(bool, String), AllocError> {
-    let first = read_text(alloc, "\u{1B}[31m>\u{1B}[0m ")?;
-    let mut out = Output::for_text(alloc);
-    let fits = push_fitting(wraps, width, &first, text, &mut out)?;
-    Ok((fits, out.into_text(alloc)?))
-}
-
-/// Whether it fits.
+/// Whether the text fits behind a red indent of two columns.
 fn fits(alloc: Global, wraps: bool, width: usize, text: &str) -> Result<bool, AllocError> {
-    Ok(fit(alloc, wraps, width, text)?.0)
-}
-
-/// Whether it fits, and then stands behind the indent.
-fn stands(alloc: Global, width: usize, text: &str) -> Result<bool, AllocError> {
-    let (fits, found) = fit(alloc, true, width, text)?;
-    Ok(fits && found.as_str().strip_prefix("\u{1B}[31m>\u{1B}[0m ") == Some(text))
+    let first = read_text(alloc, "\u{1B}[31m>\u{1B}[0m ")?;
+    push_fitting(wraps, width, &first, text, &mut Output::for_text(alloc))
 }
 
 /// A text, its columns with the indent's, and whether it fits these.
@@ -216,7 +192,6 @@ static FITTING: [(&str, usize, bool); 10] = [
 #[test]
 fn fitting(rt: HostRuntime) {
     for (text, width, wanted) in &FITTING {
-        same(&rt, stands(rt.alloc(), *width, text), Ok(*wanted));
         same(&rt, fits(rt.alloc(), true, *width, text), Ok(*wanted));
         let less = width.saturating_sub(1);
         same(&rt, fits(rt.alloc(), true, less, text), Ok(false));
