@@ -1,7 +1,6 @@
 //! A diagnostic written by hand, called through a box.
 
 use crate::comparing::same;
-use miette_protocol::diagnostic::MietteDiagnostic;
 use miette_protocol::protocol::{Diagnostic, LabeledSpan, Severity};
 use std::alloc::{AllocError, Global};
 use std::process::Abort;
@@ -75,15 +74,5 @@ fn tells_of_it<D: Diagnostic>(rt: &impl Abort, it: &D) {
 #[test]
 fn a_diagnostic_in_a_box(rt: HostRuntime) -> Result<(), Fail> {
     tells_of_it(&rt, &boxed_missing(rt.alloc())?);
-    Ok(())
-}
-
-fn copy_of_a_box(alloc: Global) -> Result<MietteDiagnostic, Fail> {
-    Ok(MietteDiagnostic::copied(alloc, &boxed_missing(alloc)?)?)
-}
-
-#[test]
-fn a_copy_of_a_diagnostic_in_a_box(rt: HostRuntime) -> Result<(), Fail> {
-    tells_of_it(&rt, &copy_of_a_box(rt.alloc())?);
     Ok(())
 }

@@ -1,4 +1,4 @@
-//! Tests of values: places in texts, sources and their reads, JSON, what is printed; highlighters, runs, wrapped texts.
+//! Tests of values: places in texts, sources and their reads, JSON, what is printed; highlighters and wrapped texts.
 //! What a clause says word for word isn't tried again: what spans, labels, diagnostics, errors, styles and themes are
 //! made of, and how they are compared, hashed and cloned (`miette_protocol::protocol::comparison_laws` and the others).
 #![tactic(auto)]
@@ -12,8 +12,6 @@ mod debug_forms;
 #[cfg(test)]
 mod errors;
 #[cfg(test)]
-mod highlighters;
-#[cfg(test)]
 mod json;
 #[cfg(test)]
 mod patterns;
@@ -21,8 +19,6 @@ mod patterns;
 mod positions;
 #[cfg(test)]
 mod reads;
-#[cfg(test)]
-mod runs;
 #[cfg(test)]
 mod spans;
 #[cfg(test)]

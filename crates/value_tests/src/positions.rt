@@ -1,11 +1,9 @@
 //! Positions of small sources, counted by hand.
 
 use crate::comparing::same;
-use miette_positions::index::PositionIndex;
 use miette_positions::place::{Position, PositionEncoding, Region};
 use miette_positions::spans::{clamped_offset, region_of, span_of};
 use miette_protocol::protocol::SourceSpan;
-use std::alloc::{AllocError, Global};
 
 /// Tabs, an emoji of four bytes, `é` of two, an LF, a CRLF, a lone CR and a byte that is no UTF-8; no LF at the end.
 const MIXED: &[u8] = b"\ta\xF0\x9F\x98\x80b\nc\xC3\xA9\r\nd\re\xFFf";
@@ -34,135 +32,114 @@ fn region(numbers: Numbers) -> Region {
     }
 }
 
-fn found(source: &[u8], span: (usize, usize), encoding: PositionEncoding) -> Option<Numbers> {
+fn found(source: &[u8], encoding: PositionEncoding, span: (usize, usize)) -> Option<Numbers> {
     match region_of(SourceSpan::from(span), source, encoding) {
         Some(region) => Some(numbers(region)),
         None => None,
     }
 }
 
-#[test]
-fn regions_in_utf16(rt: HostRuntime) {
-    let rows = [
-        ((0, 1), Some((0, 0, 0, 1))),
-        ((2, 4), Some((0, 2, 0, 4))),
-        ((6, 1), Some((0, 4, 0, 5))),
-        // a part of the emoji is all of it
-        ((3, 1), Some((0, 2, 0, 4))),
-        // nothing inside the emoji is nothing before it
-        ((3, 0), Some((0, 2, 0, 2))),
-        ((7, 1), Some((0, 5, 1, 0))),
-        ((9, 2), Some((1, 1, 1, 2))),
-        // up to the CR, the CR alone, and the LF alone
-        ((8, 3), Some((1, 0, 1, 2))),
-        ((11, 1), Some((1, 2, 2, 0))),
-        ((12, 1), Some((1, 2, 2, 0))),
-        ((12, 0), Some((1, 2, 1, 2))),
-        ((13, 1), Some((2, 0, 2, 1))),
-        ((14, 1), Some((2, 1, 3, 0))),
-        ((16, 1), Some((3, 1, 3, 2))),
-        ((17, 1), Some((3, 2, 3, 3))),
-        ((18, 1), Some((3, 3, 3, 3))),
-        ((18, 2), None),
-        ((19, 0), None),
-    ];
-    for (span, wanted) in rows {
-        same(&rt, found(MIXED, span, PositionEncoding::Utf16), wanted);
-    }
-}
+/// Positions as editors count them.
+const UTF16: PositionEncoding = PositionEncoding::Utf16;
+
+/// Sources, spans and their regions.
+type Row = (
+    &'static [u8],
+    PositionEncoding,
+    (usize, usize),
+    Option<Numbers>,
+);
+
+static ROWS: [Row; 30] = [
+    (MIXED, UTF16, (0, 1), Some((0, 0, 0, 1))),
+    (MIXED, UTF16, (2, 4), Some((0, 2, 0, 4))),
+    (MIXED, UTF16, (6, 1), Some((0, 4, 0, 5))),
+    // a part of the emoji is all of it
+    (MIXED, UTF16, (3, 1), Some((0, 2, 0, 4))),
+    // nothing inside the emoji is nothing before it
+    (MIXED, UTF16, (3, 0), Some((0, 2, 0, 2))),
+    (MIXED, UTF16, (7, 1), Some((0, 5, 1, 0))),
+    (MIXED, UTF16, (9, 2), Some((1, 1, 1, 2))),
+    // up to the CR, the CR alone, and the LF alone
+    (MIXED, UTF16, (8, 3), Some((1, 0, 1, 2))),
+    (MIXED, UTF16, (11, 1), Some((1, 2, 2, 0))),
+    (MIXED, UTF16, (12, 1), Some((1, 2, 2, 0))),
+    (MIXED, UTF16, (12, 0), Some((1, 2, 1, 2))),
+    (MIXED, UTF16, (13, 1), Some((2, 0, 2, 1))),
+    (MIXED, UTF16, (14, 1), Some((2, 1, 3, 0))),
+    (MIXED, UTF16, (16, 1), Some((3, 1, 3, 2))),
+    (MIXED, UTF16, (17, 1), Some((3, 2, 3, 3))),
+    (MIXED, UTF16, (18, 1), Some((3, 3, 3, 3))),
+    (MIXED, UTF16, (18, 2), None),
+    (MIXED, UTF16, (19, 0), None),
+    // in other units
+    (MIXED, PositionEncoding::Utf8, (2, 5), Some((0, 2, 0, 7))),
+    (MIXED, PositionEncoding::Utf32, (2, 5), Some((0, 2, 0, 4))),
+    (MIXED, PositionEncoding::Utf8, (9, 2), Some((1, 1, 1, 3))),
+    (MIXED, PositionEncoding::Utf32, (9, 2), Some((1, 1, 1, 2))),
+    (MIXED, PositionEncoding::Utf8, (15, 3), Some((3, 0, 3, 3))),
+    // ends of sources, and behind them
+    (b"", UTF16, (0, 0), Some((0, 0, 0, 0))),
+    (b"", UTF16, (0, 1), Some((0, 0, 0, 0))),
+    (b"a\n", UTF16, (2, 0), Some((1, 0, 1, 0))),
+    (b"a\r", UTF16, (0, 3), Some((0, 0, 1, 0))),
+    (b"\r\n", UTF16, (1, 1), Some((0, 0, 1, 0))),
+    (b"\n\r", UTF16, (1, 1), Some((1, 0, 2, 0))),
+    // a byte order mark
+    (b"\xEF\xBB\xBFx", UTF16, (3, 1), Some((0, 1, 0, 2))),
+];
 
 #[test]
-fn regions_in_other_units(rt: HostRuntime) {
-    let rows = [
-        (PositionEncoding::Utf8, (2, 5), Some((0, 2, 0, 7))),
-        (PositionEncoding::Utf32, (2, 5), Some((0, 2, 0, 4))),
-        (PositionEncoding::Utf8, (9, 2), Some((1, 1, 1, 3))),
-        (PositionEncoding::Utf32, (9, 2), Some((1, 1, 1, 2))),
-        (PositionEncoding::Utf8, (15, 3), Some((3, 0, 3, 3))),
-    ];
-    for (encoding, span, wanted) in rows {
-        same(&rt, found(MIXED, span, encoding), wanted);
+fn regions(rt: HostRuntime) {
+    for (source, encoding, span, wanted) in &ROWS {
+        same(&rt, found(*source, *encoding, *span), *wanted);
     }
-}
-
-#[test]
-fn ends_of_sources(rt: HostRuntime) {
-    let encoding = PositionEncoding::Utf16;
-    same(&rt, found(b"", (0, 0), encoding), Some((0, 0, 0, 0)));
-    same(&rt, found(b"", (0, 1), encoding), Some((0, 0, 0, 0)));
-    same(&rt, found(b"a\n", (2, 0), encoding), Some((1, 0, 1, 0)));
-    same(&rt, found(b"a\r", (0, 3), encoding), Some((0, 0, 1, 0)));
-    same(&rt, found(b"\r\n", (1, 1), encoding), Some((0, 0, 1, 0)));
-    same(&rt, found(b"\n\r", (1, 1), encoding), Some((1, 0, 2, 0)));
-    same(
-        &rt,
-        found("\u{feff}x".as_bytes(), (3, 1), encoding),
-        Some((0, 1, 0, 2)),
-    );
 }
 
 fn spanned(numbers: Numbers) -> Option<(usize, usize)> {
-    match span_of(region(numbers), MIXED, PositionEncoding::Utf16) {
+    match span_of(region(numbers), MIXED, UTF16) {
         Some(span) => Some((span.offset(), span.len())),
         None => None,
     }
 }
 
+/// Regions and their spans, in UTF-16.
+static REGIONS: [(Numbers, Option<(usize, usize)>); 8] = [
+    ((0, 2, 0, 4), Some((2, 4))),
+    ((0, 5, 1, 0), Some((7, 1))),
+    ((1, 2, 2, 0), Some((11, 2))),
+    ((3, 3, 3, 3), Some((18, 0))),
+    // inside the emoji, behind a line's text, on no line, and an end before the start
+    ((0, 3, 0, 4), None),
+    ((0, 2, 0, 6), None),
+    ((1, 0, 4, 0), None),
+    ((1, 1, 1, 0), None),
+];
+
 #[test]
 fn spans_of_regions(rt: HostRuntime) {
-    let rows = [
-        ((0, 2, 0, 4), Some((2, 4))),
-        ((0, 5, 1, 0), Some((7, 1))),
-        ((1, 2, 2, 0), Some((11, 2))),
-        ((3, 3, 3, 3), Some((18, 0))),
-        // inside the emoji, behind a line's text, on no line, and an end before the start
-        ((0, 3, 0, 4), None),
-        ((0, 2, 0, 6), None),
-        ((1, 0, 4, 0), None),
-        ((1, 1, 1, 0), None),
-    ];
-    for (numbers, wanted) in rows {
-        same(&rt, spanned(numbers), wanted);
+    for (numbers, wanted) in &REGIONS {
+        same(&rt, spanned(*numbers), *wanted);
     }
 }
+
+/// Lines and columns, and the offsets that they are brought to.
+static CLAMPED: [((usize, usize), usize); 6] = [
+    ((0, 3), 2),
+    ((0, 99), 7),
+    ((1, 99), 11),
+    ((2, 1), 14),
+    ((3, 99), 18),
+    ((9, 0), 18),
+];
 
 #[test]
 fn clamped(rt: HostRuntime) {
-    let rows = [
-        ((0, 3), 2),
-        ((0, 99), 7),
-        ((1, 99), 11),
-        ((2, 1), 14),
-        ((3, 99), 18),
-        ((9, 0), 18),
-    ];
-    for ((line, column), wanted) in rows {
-        let position = Position { line, column };
-        let offset = clamped_offset(position, MIXED, PositionEncoding::Utf16);
-        same(&rt, offset, wanted);
+    for ((line, column), wanted) in &CLAMPED {
+        let position = Position {
+            line: *line,
+            column: *column,
+        };
+        same(&rt, clamped_offset(position, MIXED, UTF16), *wanted);
     }
-}
-
-/// The region of an emoji in the middle of a line of 4,000 bytes, the offset of its start, and its rounded end.
-fn in_a_long_line(alloc: Global) -> Result<(Option<Region>, Option<usize>, usize), AllocError> {
-    let mut text = String::new(alloc);
-    for _ in 0..500 {
-        text.push_str("\u{1F600}abcd")?;
-    }
-    let index = PositionIndex::new(alloc, text.as_bytes(), PositionEncoding::Utf16)?;
-    let span = SourceSpan::from((2400, 1));
-    let start = Position {
-        line: 0,
-        column: 1800,
-    };
-    let region = index.region(span);
-    let offset = index.offset(start);
-    let after = index.stop_after(2401).offset;
-    Ok((region, offset, after))
-}
-
-#[test]
-fn by_an_index(rt: HostRuntime) {
-    let wanted = (Some(region((0, 1800, 0, 1802))), Some(2400), 2404);
-    same(&rt, in_a_long_line(rt.alloc()), Ok(wanted));
 }

@@ -8,44 +8,46 @@ fn locate(text: &str, line: usize, column: usize) -> usize {
     SourceOffset::from_location(text, line, column).offset()
 }
 
+const LINES: &str = "f\n\noo\r\nbar";
+
+const README: &str = "source\n  text\n    here";
+
+/// A text, a line and a column, and where they are.
+static LOCATIONS: [(&str, usize, usize, usize); 12] = [
+    (LINES, 1, 1, 0),
+    (LINES, 1, 2, 1),
+    (LINES, 2, 1, 2),
+    (LINES, 3, 1, 3),
+    (LINES, 3, 4, 6),
+    (LINES, 4, 1, 7),
+    (LINES, 4, 4, 10),
+    (LINES, 5, 1, 10),
+    (README, 2, 3, 9),
+    (README, 1, 8, 21),
+    (README, 9, 9, 22),
+    ("漢x", 1, 2, 3),
+];
+
 #[test]
 fn locations(rt: HostRuntime) {
-    let lines = "f\n\noo\r\nbar";
-    let readme = "source\n  text\n    here";
-    let rows = [
-        (lines, 1, 1, 0),
-        (lines, 1, 2, 1),
-        (lines, 2, 1, 2),
-        (lines, 3, 1, 3),
-        (lines, 3, 4, 6),
-        (lines, 4, 1, 7),
-        (lines, 4, 4, 10),
-        (lines, 5, 1, 10),
-        (readme, 2, 3, 9),
-        (readme, 1, 8, 21),
-        (readme, 9, 9, 22),
-        ("漢x", 1, 2, 3),
-    ];
-    for (text, line, column, offset) in rows {
-        same(
-            &rt,
-            (line, column, locate(text, line, column)),
-            (line, column, offset),
-        );
+    for (text, line, column, offset) in &LOCATIONS {
+        let found = locate(text, *line, *column);
+        same(&rt, (line, column, found), (line, column, *offset));
     }
 }
 
+/// A line, a column and a length, and the span.
+static SPANS: [((usize, usize, usize), (usize, usize)); 3] = [
+    ((2, 3, 3), (4, 3)),
+    ((2, 8, 1), (10, 1)),
+    ((9, 1, 2), (13, 2)),
+];
+
 #[test]
 fn spans_from_a_line_and_a_column(rt: HostRuntime) {
-    let text = "{\n  \"é\": x\n}";
-    let rows = [
-        ((2, 3, 3), (4, 3)),
-        ((2, 8, 1), (10, 1)),
-        ((9, 1, 2), (13, 2)),
-    ];
-    for ((line, column, length), wanted) in rows {
-        let span = SourceSpan::at_line_column(text, line, column, length);
-        same(&rt, parts(span), wanted);
+    for ((line, column, length), wanted) in &SPANS {
+        let span = SourceSpan::at_line_column("{\n  \"é\": x\n}", *line, *column, *length);
+        same(&rt, parts(span), *wanted);
     }
 }
 

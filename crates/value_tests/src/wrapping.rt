@@ -26,29 +26,29 @@ const INDENTED: WrapOptions<'static> = WrapOptions {
     ..PLAIN
 };
 
-static WITHOUT_HYPHENS: WrapOptions<'static> = WrapOptions {
+const WITHOUT_HYPHENS: WrapOptions<'static> = WrapOptions {
     splitter: WordSplitter::NoHyphenation,
     ..PLAIN
 };
 
-static WHOLE: WrapOptions<'static> = WrapOptions {
+const WHOLE: WrapOptions<'static> = WrapOptions {
     wrap_lines: false,
     ..INDENTED
 };
 
-static UNDER_SIGNS: WrapOptions<'static> = WrapOptions {
+const UNDER_SIGNS: WrapOptions<'static> = WrapOptions {
     first_indent: "  \u{1B}[31m×\u{1B}[0m ",
     further_indent: "  | ",
     ..PLAIN
 };
 
-static BY_UNICODE: WrapOptions<'static> = WrapOptions {
+const BY_UNICODE: WrapOptions<'static> = WrapOptions {
     break_words: false,
     separator: WordSeparator::UnicodeBreakProperties,
     ..PLAIN
 };
 
-static WHOLE_UNDER_SIGNS: WrapOptions<'static> = WrapOptions {
+const WHOLE_UNDER_SIGNS: WrapOptions<'static> = WrapOptions {
     first_indent: "|\u{1B}[31m \u{1B}[0m ",
     further_indent: ". ",
     wrap_lines: false,
@@ -56,14 +56,10 @@ static WHOLE_UNDER_SIGNS: WrapOptions<'static> = WrapOptions {
 };
 
 /// A text, the columns of a row, and the rows.
-pub(crate) type Row<'a> = (&'a str, usize, &'a str);
-
-static HYPHENS: [Row<'static>; 2] = [("ab-cd ef", 5, "ab-cd\nef"), ("ab-cd ef", 4, "ab-\ncd\nef")];
-
-static WHOLE_WORDS: [Row<'static>; 1] = [("ab-cd ef", 4, "ab-c\nd ef")];
+type Row<'a> = (&'a str, usize, &'a str);
 
 /// Texts with sequences.
-pub(crate) static SEQUENCES: [Row<'static>; 5] = [
+static SEQUENCES: [Row<'static>; 5] = [
     ("aa \u{1B}[31m bb", 3, "aa\u{1B}[31m\nbb"),
     ("\u{1B}[31mred \u{1B}[0mx", 4, "\u{1B}[31mred\n\u{1B}[0mx"),
     ("a-\u{1B}[31mb\u{1B}[0m", 2, "a-\n\u{1B}[31mb\u{1B}[0m"),
@@ -71,69 +67,9 @@ pub(crate) static SEQUENCES: [Row<'static>; 5] = [
     ("\u{1B}[31mabcd\u{1B}[0m", 2, "\u{1B}[31mab\ncd\u{1B}[0m"),
 ];
 
-/// What is white loses its indent's last spaces, and sequences behind the last line feed stay.
-static WHOLE_LINES: [Row<'static>; 2] = [
-    ("a\n\n", 80, "> a\n.\n"),
-    ("\u{A0}\t\na\n\u{1B}[0m", 80, ">\u{A0}\t\n. a\n\u{1B}[0m"),
-];
-
-static SIGNS: [Row<'static>; 1] = [(
-    "alpha 漢字 é\n",
-    10,
-    "  \u{1B}[31m×\u{1B}[0m alpha\n  | 漢字 é\n  | ",
-)];
-
-/// Wrapped, an indent keeps its spaces, also where nothing else is left in the row.
-static SPACES_OF_INDENTS: [Row<'static>; 5] = [
-    ("", 80, "> "),
-    ("a\n\nb", 80, "> a\n. \n. b"),
-    ("   a", 4, "> \n. a"),
-    ("ab c", 1, "> a\n. b\n. c"),
-    ("a b", usize::MAX, "> a b"),
-];
-
-static NARROW: [Row<'static>; 3] = [
-    ("漢a", 0, "漢\na"),
-    ("漢\u{301}", 1, "漢\n\u{301}"),
-    ("\u{301}漢", 1, "\u{301}漢"),
-];
-
-static WORDS_BY_UNICODE: [Row<'static>; 12] = [
-    // neither before a closing mark nor behind an opening one, also where spaces stand there
-    ("漢字。", 2, "漢\n字。"),
-    ("「漢字」", 2, "「漢\n字」"),
-    ("a ( b ) c", 1, "a\n( b )\nc"),
-    // neither before a mark nor inside a flag
-    ("漢か\u{3099}字", 2, "漢\nか\u{3099}\n字"),
-    ("🇩🇪🇫🇷", 1, "🇩🇪\n🇫🇷"),
-    // a number stays with its sign, and behind a hyphen there is no place
-    ("漢-5字", 1, "漢-5\n字"),
-    ("漢-字", 1, "漢-字"),
-    ("a- b", 1, "a-\nb"),
-    // a line separator is a place like others, and ends no row
-    ("a\u{2028}b", 80, "a\u{2028}b"),
-    ("a\u{2028}b", 1, "a\u{2028}\nb"),
-    // a sequence makes no place, and goes with the next word
-    ("ab\u{1B}[31mcd\u{1B}[0m", 2, "ab\u{1B}[31mcd\u{1B}[0m"),
-    ("漢\u{1B}[31m字\u{1B}[0m", 2, "漢\n\u{1B}[31m字\u{1B}[0m"),
-];
-
-/// Without wrapping: no text, sequences alone, white space under an indent with sequences among its spaces.
-static NOTHING_TO_INDENT: [Row<'static>; 4] = [
-    ("", 80, ""),
-    ("\u{1B}[31m\u{1B}[0m", 80, "\u{1B}[31m\u{1B}[0m"),
-    ("\t", 80, "|\u{1B}[31m\u{1B}[0m\t"),
-    ("a\n\t", 80, "|\u{1B}[31m \u{1B}[0m a\n.\t"),
-];
-
-/// The text, filled behind what is there.
-fn fill_behind(
-    alloc: Global,
-    before: &str,
-    options: &WrapOptions<'_>,
-    text: &str,
-) -> Result<String, AllocError> {
-    let mut out = String::from_str(alloc, before)?;
+/// The text in rows.
+fn filled(alloc: Global, options: &WrapOptions<'_>, text: &str) -> Result<String, AllocError> {
+    let mut out = String::new(alloc);
     fill(text, options, &mut out)?;
     Ok(out)
 }
@@ -145,86 +81,135 @@ fn fills(rt: &impl Abort, alloc: Global, options: WrapOptions<'_>, rows: &[Row<'
             width: *width,
             ..options
         };
-        gives(rt, fill_behind(alloc, "", &options, text), *wanted);
+        gives(rt, filled(alloc, &options, text), *wanted);
     }
 }
+
+/// Options, and rows that they make.
+static TABLES: [(WrapOptions<'static>, &[Row<'static>]); 8] = [
+    (
+        PLAIN,
+        &[("ab-cd ef", 5, "ab-cd\nef"), ("ab-cd ef", 4, "ab-\ncd\nef")],
+    ),
+    (WITHOUT_HYPHENS, &[("ab-cd ef", 4, "ab-c\nd ef")]),
+    // what is white loses its indent's last spaces, and sequences behind the last line feed stay
+    (
+        WHOLE,
+        &[
+            ("a\n\n", 80, "> a\n.\n"),
+            ("\u{A0}\t\na\n\u{1B}[0m", 80, ">\u{A0}\t\n. a\n\u{1B}[0m"),
+        ],
+    ),
+    (
+        UNDER_SIGNS,
+        &[(
+            "alpha 漢字 é\n",
+            10,
+            "  \u{1B}[31m×\u{1B}[0m alpha\n  | 漢字 é\n  | ",
+        )],
+    ),
+    // wrapped, an indent keeps its spaces, also where nothing else is left in the row
+    (
+        INDENTED,
+        &[
+            ("", 80, "> "),
+            ("a\n\nb", 80, "> a\n. \n. b"),
+            ("   a", 4, "> \n. a"),
+            ("ab c", 1, "> a\n. b\n. c"),
+            ("a b", usize::MAX, "> a b"),
+        ],
+    ),
+    (
+        PLAIN,
+        &[
+            ("漢a", 0, "漢\na"),
+            ("漢\u{301}", 1, "漢\n\u{301}"),
+            ("\u{301}漢", 1, "\u{301}漢"),
+        ],
+    ),
+    (
+        BY_UNICODE,
+        &[
+            // neither before a closing mark nor behind an opening one, also where spaces stand there
+            ("漢字。", 2, "漢\n字。"),
+            ("「漢字」", 2, "「漢\n字」"),
+            ("a ( b ) c", 1, "a\n( b )\nc"),
+            // neither before a mark nor inside a flag
+            ("漢か\u{3099}字", 2, "漢\nか\u{3099}\n字"),
+            ("🇩🇪🇫🇷", 1, "🇩🇪\n🇫🇷"),
+            // a number stays with its sign, and behind a hyphen there is no place
+            ("漢-5字", 1, "漢-5\n字"),
+            ("漢-字", 1, "漢-字"),
+            ("a- b", 1, "a-\nb"),
+            // a line separator is a place like others, and ends no row
+            ("a\u{2028}b", 80, "a\u{2028}b"),
+            ("a\u{2028}b", 1, "a\u{2028}\nb"),
+            // a sequence makes no place, and goes with the next word
+            ("ab\u{1B}[31mcd\u{1B}[0m", 2, "ab\u{1B}[31mcd\u{1B}[0m"),
+            ("漢\u{1B}[31m字\u{1B}[0m", 2, "漢\n\u{1B}[31m字\u{1B}[0m"),
+        ],
+    ),
+    // without wrapping: no text, sequences alone, white space under an indent with sequences among its spaces
+    (
+        WHOLE_UNDER_SIGNS,
+        &[
+            ("", 80, ""),
+            ("\u{1B}[31m\u{1B}[0m", 80, "\u{1B}[31m\u{1B}[0m"),
+            ("\t", 80, "|\u{1B}[31m\u{1B}[0m\t"),
+            ("a\n\t", 80, "|\u{1B}[31m \u{1B}[0m a\n.\t"),
+        ],
+    ),
+];
 
 #[test]
 fn texts_are_filled(rt: HostRuntime) {
-    let tables: [(WrapOptions<'_>, &[Row<'_>]); 9] = [
-        (PLAIN, &HYPHENS),
-        (WITHOUT_HYPHENS, &WHOLE_WORDS),
-        (PLAIN, &SEQUENCES),
-        (WHOLE, &WHOLE_LINES),
-        (UNDER_SIGNS, &SIGNS),
-        (INDENTED, &SPACES_OF_INDENTS),
-        (PLAIN, &NARROW),
-        (BY_UNICODE, &WORDS_BY_UNICODE),
-        (WHOLE_UNDER_SIGNS, &NOTHING_TO_INDENT),
-    ];
-    for (options, rows) in tables {
-        fills(&rt, rt.alloc(), options, rows);
+    for (options, rows) in &TABLES {
+        fills(&rt, rt.alloc(), *options, *rows);
     }
+    fills(&rt, rt.alloc(), PLAIN, &SEQUENCES);
 }
 
-#[test]
-fn a_text_is_filled_behind_another(rt: HostRuntime) {
-    let out = fill_behind(rt.alloc(), "x", &WHOLE, "a\n\n");
-    gives(&rt, out, "x> a\n.\n");
-}
-
-/// What is appended behind a red indent of two columns, and whether the text fits.
-fn fit(alloc: Global, wraps: bool, width: usize, text: &str) -> Result<(bool, String), AllocError> {
-    let first = read_text(alloc, "\u{1B}[31m>\u{1B}[0m ")?;
-    let mut out = Output::for_text(alloc);
-    let fits = push_fitting(wraps, width, &first, text, &mut out)?;
-    Ok((fits, out.into_text(alloc)?))
-}
-
-/// Whether it fits.
+/// Whether the text fits behind a red indent of two columns.
 fn fits(alloc: Global, wraps: bool, width: usize, text: &str) -> Result<bool, AllocError> {
-    Ok(fit(alloc, wraps, width, text)?.0)
+    let first = read_text(alloc, "\u{1B}[31m>\u{1B}[0m ")?;
+    push_fitting(wraps, width, &first, text, &mut Output::for_text(alloc))
 }
 
-/// Whether it fits, and then stands behind the indent.
-fn stands(alloc: Global, width: usize, text: &str) -> Result<bool, AllocError> {
-    let (fits, found) = fit(alloc, true, width, text)?;
-    Ok(fits && found.as_str().strip_prefix("\u{1B}[31m>\u{1B}[0m ") == Some(text))
-}
+/// A text, its columns with the indent's, and whether it fits these.
+static FITTING: [(&str, usize, bool); 10] = [
+    ("", 2, true),
+    ("one-two three", 15, true),
+    ("漢字 é", 8, true),
+    ("漢\u{301}", 4, true),
+    ("one ", 6, false),
+    ("漢 ", 5, false),
+    (" ", 3, false),
+    ("a\nb", 5, false),
+    ("漢\n", 5, false),
+    ("\u{1B}[31ma", 8, false),
+];
 
 #[test]
 fn fitting(rt: HostRuntime) {
-    // a text, its columns with the indent's, and whether it fits these
-    let rows = [
-        ("", 2, true),
-        ("one-two three", 15, true),
-        ("漢字 é", 8, true),
-        ("漢\u{301}", 4, true),
-        ("one ", 6, false),
-        ("漢 ", 5, false),
-        (" ", 3, false),
-        ("a\nb", 5, false),
-        ("漢\n", 5, false),
-        ("\u{1B}[31ma", 8, false),
-    ];
-    for (text, width, wanted) in rows {
-        same(&rt, stands(rt.alloc(), width, text), Ok(wanted));
-        same(&rt, fits(rt.alloc(), true, width, text), Ok(wanted));
+    for (text, width, wanted) in &FITTING {
+        same(&rt, fits(rt.alloc(), true, *width, text), Ok(*wanted));
         let less = width.saturating_sub(1);
         same(&rt, fits(rt.alloc(), true, less, text), Ok(false));
     }
 }
 
+/// Lines that stay whole have any width; those that are white have another indent.
+static FITTING_WHOLE: [(&str, bool); 5] = [
+    ("a ", true),
+    (" é", true),
+    ("", false),
+    (" ", false),
+    ("\u{A0}", false),
+];
+
 #[test]
 fn fitting_without_wrapping(rt: HostRuntime) {
-    // lines that stay whole have any width; those that are white have another indent
-    for (text, wanted) in [
-        ("a ", true),
-        (" é", true),
-        ("", false),
-        (" ", false),
-        ("\u{A0}", false),
-    ] {
-        same(&rt, fits(rt.alloc(), false, 0, text), Ok(wanted));
+    for (text, wanted) in &FITTING_WHOLE {
+        same(&rt, fits(rt.alloc(), false, 0, text), Ok(*wanted));
     }
 }
