@@ -16,6 +16,8 @@ mod highlighters;
 #[cfg(test)]
 mod json;
 #[cfg(test)]
+mod json_fixes;
+#[cfg(test)]
 mod patterns;
 #[cfg(test)]
 mod positions;
