@@ -14,6 +14,8 @@ mod errors;
 #[cfg(test)]
 mod json;
 #[cfg(test)]
+mod json_fixes;
+#[cfg(test)]
 mod patterns;
 #[cfg(test)]
 mod positions;
