@@ -186,6 +186,13 @@ def fixed(size, count, each):
     return {**report, "fixes": [{**sure, "edits": it} for it in lists]}
 
 
+def one_fixed(size, row):
+    """A fix of a word in one row of `size` bytes."""
+    edit = {"offset": row * ROW + 7, "length": 9, "text": "another"}
+    report = labelled("one edit", [], rows(4, size), "many.txt")
+    return {**report, "fixes": [{"message": "another word", "edits": [edit]}]}
+
+
 def near(count):
     """`count` labels on neighbouring lines in the middle of 1 MB."""
     places = ((5000 + i) * ROW + 7 for i in range(count))

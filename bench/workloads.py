@@ -150,27 +150,34 @@ def several_sources():
 
 
 def fixes():
-    """Edits to a big source, in one fix and in as many, that `job --fix` applies."""
+    """Edits to a big source, in one fix and in as many, that `job --fix` applies; a picture of one in 10 MB."""
     for size, count in ((10, 100), (10, 1000), (20, 1000), (20, 2000)):
         for kind, each in (("one", count), ("many", 1)):
             name, given = f"x_{kind}_{size}mb_{count}", (size * MB, count, each)
             made = lambda given=given: described(of.fixed(*given))
             bare = lambda size=size: described(of.fixed(size * MB, 0, 1))
             yield Workload(name, f"x_{kind}", ("--fix",), made, "job", beside=bare)
+    last = 10 * MB // of.ROW - 1
+    for place, row in (("first", 0), ("middle", last // 2), ("last", last)):
+        yield bench(f"x_drawn_{place}", "x_drawn", PLAIN, of.one_fixed, 10 * MB, row, is_new=True)
 
 
-def linted(count):
-    """So many lines, with a finding in each hundredth one."""
+def linted(count, found):
+    """So many lines, with findings in those of these numbers."""
     line = b"    let value = compute(that, other);"
-    return b"".join(line + (b" \n" if number % 100 == 0 else b"\n") for number in range(count))
+    return b"".join(line + (b" \n" if number in found else b"\n") for number in range(count))
 
 
 def lints():
-    """A source that is linted, and mended."""
+    """A source that is linted, and mended, with a finding in each hundredth line, or in the last one alone."""
+    kinds = {"find": (), "fix": ("--fix",), "diff": ("--diff",)}
     for count in (200_000, 400_000):
-        made = lambda count=count: linted(count)
-        for kind, words in (("find", ()), ("fix", ("--fix",)), ("diff", ("--diff",))):
+        made = lambda count=count: linted(count, range(0, count, 100))
+        for kind, words in kinds.items():
             yield Workload(f"y_{kind}_{count}", f"y_{kind}", (*words, "f", "80"), made, "lint")
+    made = lambda: linted(400_000, (399_999,))
+    for kind, words in kinds.items():
+        yield Workload(f"y_{kind}_one", f"y_{kind}_one", (*words, "f", "80"), made, "lint")
 
 
 def logs():

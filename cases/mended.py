@@ -1,12 +1,13 @@
 #!/usr/bin/env python3
-"""mended.py: ten files of C, Rust and TOML, to which blanks were added, through `lint --fix`.
+"""mended.py [FILE ..]: ten files of C, Rust and TOML, to which blanks were added, through `lint --fix`.
 
 The files of C are those of this repository and `stdio.h`, those of Rust are sources of this repository, those of TOML
 hold its cases. By chance, from a fixed seed, lines get blanks at their ends, and tabs after spaces in place of the
 spaces that they begin with; the last terminator is dropped; some files have CR LF. What `lint --fix` prints of that must
 be the file as it was, in which `lint` finds nothing; and what reads the language must read both alike: the assembly that
-`cc` makes, the rows that it reads of a header, the words of Rust, the value of TOML. The last line is 'N passed, M
-failed', and the exit status is 0 only where nothing failed."""
+`cc` makes, the rows that it reads of a header, the words of Rust, the value of TOML. With FILE .. these are tried in
+their place, each read as the end of its name says (`.c`, `.h`, `.rs`, `.toml`), and mended as it is before blanks are
+added. The last line is 'N passed, M failed', and the exit status is 0 only where nothing failed."""
 import json
 import os
 import random
@@ -81,6 +82,9 @@ def toml_value(text):
     return tomllib.loads(text.decode())
 
 
+READERS = {".c": assembly, ".h": header_words, ".rs": rust_words, ".toml": toml_value}
+
+
 def files():
     """Each file: its name, its text, and what reads it."""
     yield from ((path, file_in(path), assembly) for path in C)
@@ -130,15 +134,31 @@ def fault_of(number, name, text, reads):
     return None, found
 
 
-def main():
-    results = each(lambda it: fault_of(it[0], *it[1]), list(enumerate(files())))
-    for (name, _, _), (fault, _) in zip(files(), results):
+def fault_of_given(number, path):
+    """The same of a file that is given, mended first."""
+    with open(path, "rb") as file:
+        text = file.read()
+    reads = READERS[os.path.splitext(path)[1]]
+    status, mended, row = run(["lint", "--fix", path, WIDTH], text)
+    if status or row:
+        return f"status {status}, {row!r}", 0
+    if reads(mended) != reads(text):
+        return "as it is, it is read in another way", 0
+    return fault_of(number, path, mended, reads)
+
+
+def main(given):
+    if given:
+        names, results = given, each(lambda it: fault_of_given(*it), list(enumerate(given)))
+    else:
+        names, results = [it[0] for it in files()], each(lambda it: fault_of(it[0], *it[1]), list(enumerate(files())))
+    for name, (fault, _) in zip(names, results):
         if fault:
             print(f"{name}: {fault}")
-    print(f"findings in ten files: {sum(found for _, found in results)}")
+    print(f"findings in {len(names)} files: {sum(found for _, found in results)}")
     failed = sum(fault is not None for fault, _ in results)
     return counted(len(results) - failed, failed)
 
 
 if __name__ == "__main__":
-    sys.exit(main())
+    sys.exit(main(sys.argv[1:]))
