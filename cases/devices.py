@@ -49,6 +49,10 @@ NARRATED = (
     "漢\n    Diagnostic severity: error\nBegin snippet starting at line 1, column 1\n\nsnippet line 1: a\n"
     "snippet line 2: b\n    label at line 2, column 1: x\n"
 )
+LABELLED_DEBUG = (
+    'Diagnostic { message: "漢", labels: "[LabeledSpan { label: Some(\\"x\\"), span: SourceSpan { offset: '
+    'SourceOffset(2), length: 1 }, primary: false, context_lines: None }]" }\n'
+)
 LABELLED_JSON = (
     '{"message": "漢","severity": "error","causes": [],"filename": "","labels": [{"label": "x","span": '
     '{"offset": 2,"length": 1}}],"related": []}'
@@ -62,12 +66,12 @@ RUNS = [
     (["lint", "--sarif", "f", "80"], "a\n", 0, LOG % ("lint", "")),
     (["job", "--sarif"], SMALL, 0, LOG % ("job", '{"level": "error","message": {"text": "m"}}')),
     (["job", "--json"], SMALL, 0, SMALL_JSON),
-    (["job", "--debug"], SMALL, 0, 'Diagnostic { message: "m" }\n'),
     (["job", "--term-unicode", "yes"], LABELLED, 0, PICTURE),
     (["job", "--theme", "unicode"], LABELLED, 0, COLOURED),
     (["job", "--narrated"], LABELLED, 0, NARRATED),
     (["job", "--brief"], LABELLED, 0, "2:1: error: 漢\n2:1: note: x\n"),
     (["job", "--json"], LABELLED, 0, LABELLED_JSON),
+    (["job", "--debug"], LABELLED, 0, LABELLED_DEBUG),
     (["bench", "2", "--narrated"], SMALL, 0, "33\n"),
     (["show", "--theme", "unicode_nocolor"], '{"message":"漢","level":"error"}', 1, "  × 漢\n\n"),
     (["show"], "chatter", 0, "chatter"),

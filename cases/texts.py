@@ -3,8 +3,9 @@
 
 Each of 300 texts is a message, a help, a source and a label's text, by each handler at each width from 0 to 10:
 nothing is lost, and nothing comes twice. A linked cause is drawn in colours at each width from 0 to 40, which must be
-the plain picture once the colours are deleted. Labels, of `lint` too, are read back from their JSON text. The last
-line is 'N passed, M failed', and the exit status is 0 only where nothing failed."""
+the plain picture once the colours are deleted. Labels, of `lint` too, are read back from their JSON text. What `lint`
+finds in 20 sources, worked by hand, stands byte by byte in its log. The last line is 'N passed, M failed', and the exit
+status is 0 only where nothing failed."""
 import json
 import re
 import subprocess
@@ -22,24 +23,28 @@ COLOUR = re.compile(r"\x1b\[[0-9;]*m")
 SEQUENCES = "\x1b[38;2;1;2;3mm\x1b[0m[m \x1b]8;;u\x1b\\\x1b\x1b[m\x1b[2K\x1b[1;"
 WITHOUT_COLOURS = "m[m \x1b]8;;u\x1b\\\x1b\x1b[2K\x1b[1;"
 LINKED = {"message": "in-ner text here", "code": "c::d", "url": "http://a-b/ c", "help": "try it"}
-# the labels that lint gives to sources: text, offset, length
+# sources, the columns that their lines may have, and what lint finds: text, offset, length
 FOUND = [
-    [("trailing blanks", 5, 1), ("tab after space", 8, 1), ("no final terminator", 13, 1)],
-    [("wider than 2 columns", 3, 1)],
-    [("trailing blanks", 0, 2), ("tab after space", 1, 1)],
-    [],
-    [("trailing blanks", 5, 2)],
-    [("tab after space", 2, 1)],
-    [("wider than 4 columns", 1, 1)],
-    [("wider than 3 columns", 0, 2)],
-    [("wider than 2 columns", 2, 1), ("wider than 2 columns", 6, 1)],
-    [("wider than 1 columns", 3, 3)],
-    [("no final terminator", 2, 3)],
-    [("no final terminator", 1, 1)],
-    [("wider than 1 columns", 1, 2), ("no final terminator", 1, 2)],
-    [("trailing blanks", 1, 1), ("wider than 1 columns", 1, 1), ("no final terminator", 1, 1)],
-    [("wider than 1 columns", 6, 1)],
-    [("trailing blanks", 4, 1), ("no final terminator", 7, 1)],
+    (b"x = 1 \n \ty\nend", 80, [("trailing blanks", 5, 1), ("tab after space", 8, 1), ("no final terminator", 13, 1)]),
+    (b"\xe6\xbc\xa2a\n", 2, [("wider than 2 columns", 3, 1)]),
+    (b" \t\n", 80, [("trailing blanks", 0, 2), ("tab after space", 1, 1)]),
+    (b"", 0, []),
+    (b"\n\r\r\n", 0, []),
+    (b"a \t b\t \n", 80, [("trailing blanks", 5, 2)]),
+    (b"\t \ta\n", 80, [("tab after space", 2, 1)]),
+    (b"  \t\ta\n", 80, [("tab after space", 2, 1)]),
+    (b"\t a\tb\n", 80, []),
+    (b"x \tb\n", 80, []),
+    (b"\ta\n", 4, [("wider than 4 columns", 1, 1)]),
+    (b"\ta\n", 3, [("wider than 3 columns", 0, 2)]),
+    (b"abc\rdef\n", 2, [("wider than 2 columns", 2, 1), ("wider than 2 columns", 6, 1)]),
+    (b"e\xcc\x81e\xcc\x81\n", 1, [("wider than 1 columns", 3, 3)]),
+    (b"ab\xe6\xbc\xa2", 80, [("no final terminator", 2, 3)]),
+    (b"a\xff", 80, [("no final terminator", 1, 1)]),
+    (b"a\xe6\xbc", 1, [("wider than 1 columns", 1, 2), ("no final terminator", 1, 2)]),
+    (b"a ", 1, [("trailing blanks", 1, 1), ("wider than 1 columns", 1, 1), ("no final terminator", 1, 1)]),
+    (b"\x1b[31mab\n", 1, [("wider than 1 columns", 6, 1)]),
+    (b"a\r\nb \r\nc", 80, [("trailing blanks", 4, 1), ("no final terminator", 7, 1)]),
 ]
 
 
@@ -130,6 +135,16 @@ def message_reads_back(seed):
     return json.loads(written(["--json"], {"message": message}) or "{}").get("message") == message
 
 
+def are_found(source, width, found):
+    """These are the results of the log of `lint`, byte by byte."""
+    status, log, fault = run(["lint", "--sarif", "f", str(width)], source)
+    results = []
+    for it in json.loads(log)["runs"][0]["results"]:
+        region = it["locations"][0]["physicalLocation"]["region"]
+        results.append((it["message"]["text"], region["byteOffset"], region["byteLength"]))
+    return (status, fault, results) == (int(found != []), b"", found)
+
+
 def labels_read_back(found):
     """The JSON report's labels are these, as another reader reads them."""
     labels = [{"label": text, "offset": offset, "length": length} for text, offset, length in found]
@@ -162,7 +177,8 @@ OF_TEXTS = (keeps_its_texts, shows_its_lines, tells_its_texts, reads_back, is_on
 CHECKS = (
     [(it, text_of(seed), width) for it in OF_TEXTS for width in WIDTHS for seed in SEEDS]
     + [(message_reads_back, seed) for seed in SEEDS]
-    + [(labels_read_back, found) for found in FOUND]
+    + [(are_found, *row) for row in FOUND]
+    + [(labels_read_back, found) for _, _, found in FOUND]
     + [(fades, *look, width) for look in (UNICODE, ASCII, RGB) for width in range(41)]
     + [(deletes_colours, SEQUENCES, WITHOUT_COLOURS)]
 )

@@ -1,6 +1,7 @@
 //! Callers of the library, under contracts of their own and as programs write them. The pages for callers begin with
 //! them, each by the name of its crate, `miette`'s with `printing`. `handlers` says what the clauses of a picture give
-//! of one report, `load` is an error on its way up. `report_tests` runs some.
+//! of one report, `load` is an error on its way up. What `handlers` and `fix_pictures` draw stands in
+//! `cases/worked.jsonl`.
 #![tactic(auto)]
 
 pub mod brief;

@@ -1,7 +1,7 @@
 //! What a report keeps beside its diagnostic: labels over further sources, and fixes.
 
 use crate::fixes::with_colon;
-use crate::rows::{Done, write_refusal};
+use crate::rows::{Done, write_refusal, write_refused};
 use miette::diagnostic::MietteDiagnostic;
 use miette::protocol::{Diagnostic, LabeledSpan};
 use miette::report::{OwnedSource, Report, ReportKind, Snippets};
@@ -55,32 +55,54 @@ fn owned(alloc: Global) -> Result<OwnedSource, AllocError> {
 
 fn over_a_text(alloc: Global) -> Result<Plain, AllocError> {
     let text = String::from_str(alloc, "a\n")?;
-    oops(alloc)?.with_snippets(alloc, text, label_at(alloc, 0)?)
+    let labels = label_at(alloc, 0)?;
+    oops(alloc)?.with_snippets(alloc, text, labels)
 }
 
 fn over_two(alloc: Global) -> Result<Plain, AllocError> {
-    over_a_text(alloc)?.with_owned_snippets(alloc, owned(alloc)?, label_at(alloc, 1)?)
+    let source = owned(alloc)?;
+    let labels = label_at(alloc, 1)?;
+    over_a_text(alloc)?.with_owned_snippets(alloc, source, labels)
+}
+
+/// A label over another source.
+fn section<S: SourceCode + Drop>(
+    alloc: Global,
+    offset: usize,
+) -> Result<Vec<Snippets<S>>, AllocError> {
+    let labels = label_at(alloc, offset)?;
+    Ok(vec![in alloc; Snippets::over_owned(owned(alloc)?, labels)]?)
 }
 
 fn over_another(alloc: Global) -> Result<Plain, AllocError> {
-    let other = Snippets::over_owned(owned(alloc)?, label_at(alloc, 2)?);
-    over_a_text(alloc)?.with_all_snippets(alloc, vec![in alloc; other]?)
+    let others = section(alloc, 2)?;
+    over_a_text(alloc)?.with_all_snippets(alloc, others)
+}
+
+fn with_empty_fix(alloc: Global) -> Result<Plain, AllocError> {
+    let fix = Fix::new(alloc, "m")?;
+    oops(alloc)?.with_fix(alloc, fix)
 }
 
 fn with_two_fixes(alloc: Global) -> Result<Plain, AllocError> {
-    let first = oops(alloc)?.with_fix(alloc, Fix::new(alloc, "m")?)?;
-    first.with_fix(alloc, with_colon(alloc)?)
+    let fix = with_colon(alloc)?;
+    with_empty_fix(alloc)?.with_fix(alloc, fix)
+}
+
+/// A list of one fix.
+fn one_fix(alloc: Global) -> Result<Vec<Fix>, AllocError> {
+    let fix = with_colon(alloc)?;
+    Ok(vec![in alloc; fix]?)
 }
 
 fn with_other_fixes(alloc: Global) -> Result<Plain, AllocError> {
-    let first = oops(alloc)?.with_fix(alloc, Fix::new(alloc, "m")?)?;
-    first.with_fixes(alloc, vec![in alloc; with_colon(alloc)?]?)
+    let fixes = one_fix(alloc)?;
+    with_empty_fix(alloc)?.with_fixes(alloc, fixes)
 }
 
 fn by_macro(alloc: Global) -> Result<Report, AllocError> {
-    let section = Snippets::over_owned(owned(alloc)?, label_at(alloc, 1)?);
-    let snippets = vec![in alloc; section]?;
-    let fixes = vec![in alloc; with_colon(alloc)?]?;
+    let snippets = section(alloc, 1)?;
+    let fixes = one_fix(alloc)?;
     Ok(miette!(in alloc; snippets = snippets, code = "a::b", fixes = fixes, "{} is too much", 7))
 }
 
@@ -88,10 +110,7 @@ fn by_macro(alloc: Global) -> Result<Report, AllocError> {
 fn write_made<W: Write>(out: &mut W, answer: Result<Plain, AllocError>) -> Done {
     match answer {
         Ok(report) => write_attached(out, &report),
-        Err(AllocError) => {
-            write!(out, "\trefused")?;
-            Ok(())
-        }
+        Err(AllocError) => write_refused(out),
     }
 }
 

@@ -1,6 +1,6 @@
 //! Diagnostics.
 
-use crate::fixtures::labels_of;
+use crate::fixtures::{Label, M, Written, diagnostic_of, labels_of};
 use crate::rows::{Done, Stop, write_answer, write_clones_if_made, write_made};
 use miette::diagnostic::MietteDiagnostic;
 use miette::protocol::{LabeledSpan, Severity};
@@ -64,16 +64,12 @@ fn change(
     full: MietteDiagnostic,
 ) -> Result<Result<MietteDiagnostic, AllocError>, Stop> {
     match name {
-        "MietteDiagnostic::copied" => Ok(copy(alloc, full)),
+        "MietteDiagnostic::copied" => Ok(MietteDiagnostic::copied(alloc, &full)),
         "MietteDiagnostic::with_code"
         | "MietteDiagnostic::with_help"
         | "MietteDiagnostic::with_url" => Ok(with_text(alloc, name, full)),
         _ => with_labels(alloc, name, full),
     }
-}
-
-fn copy(alloc: Global, full: MietteDiagnostic) -> Result<MietteDiagnostic, AllocError> {
-    MietteDiagnostic::copied(alloc, &full)
 }
 
 fn with_text(
@@ -95,10 +91,15 @@ fn with_labels(
 ) -> Result<Result<MietteDiagnostic, AllocError>, Stop> {
     match name {
         "MietteDiagnostic::with_label" | "MietteDiagnostic::and_label" => {
-            with_label(alloc, name, full, and_this(alloc))
+            with_label(
+                alloc,
+                name,
+                full,
+                LabeledSpan::at(alloc, (0, 6), "and this"),
+            )
         }
-        "MietteDiagnostic::and_labels" => and_labels(alloc, full, two(alloc)),
-        _ => Ok(with_two_lines(alloc, full)),
+        "MietteDiagnostic::and_labels" => and_labels(alloc, full, labels_of(alloc, &TWO)),
+        _ => Ok(full.with_labels_from(alloc, [4, 7].into_iter().map(LabeledSpan::underline))),
     }
 }
 
@@ -125,25 +126,21 @@ fn and_labels(
     Ok(full.and_labels(alloc, labels))
 }
 
-fn with_two_lines(alloc: Global, full: MietteDiagnostic) -> Result<MietteDiagnostic, AllocError> {
-    full.with_labels_from(alloc, [4, 7].into_iter().map(LabeledSpan::underline))
-}
+/// Two labels.
+static TWO: [Label<'static>; 2] = [(0, 6, 0, "first"), (18, 4, 0, "second")];
 
-fn and_this(alloc: Global) -> Result<LabeledSpan, AllocError> {
-    LabeledSpan::at(alloc, (0, 6), "and this")
-}
+/// All parts.
+static FULL: Written<'static> = Written {
+    message: "oops!",
+    code: "a::b",
+    url: "http://x",
+    help: "try",
+    severity: Some(Severity::Warning),
+    labels: &[(9, 4, 0, "This bit here")],
+    ..M
+};
 
 /// A diagnostic with all parts.
 pub fn full_diagnostic(alloc: Global) -> Result<MietteDiagnostic, AllocError> {
-    let label = LabeledSpan::at(alloc, (9, 4), "This bit here")?;
-    MietteDiagnostic::new(alloc, "oops!")?
-        .with_severity(Severity::Warning)
-        .with_label(alloc, label)?
-        .with_code(alloc, "a::b")?
-        .with_help(alloc, "try")?
-        .with_url(alloc, "http://x")
-}
-
-fn two(alloc: Global) -> Result<Vec<LabeledSpan>, AllocError> {
-    labels_of(alloc, &[(0, 6, 0, "first"), (18, 4, 0, "second")])
+    diagnostic_of(alloc, &FULL)
 }

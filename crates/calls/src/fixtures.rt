@@ -119,10 +119,15 @@ pub fn report_over_texts<'a>(
 /// Where memory is refused.
 pub fn texts_of(alloc: Global, texts: &[&str]) -> Result<Vec<String>, AllocError> {
     let mut list = Vec::new(alloc);
-    for text in texts {
-        push_made(&mut list, String::from_str(alloc, text))?;
-    }
+    push_texts(alloc, &mut list, texts)?;
     Ok(list)
+}
+
+fn push_texts(alloc: Global, list: &mut Vec<String>, texts: &[&str]) -> Result<(), AllocError> {
+    for text in texts {
+        push_made(list, String::from_str(alloc, text))?;
+    }
+    Ok(())
 }
 
 /// A report with others beside it.
@@ -140,10 +145,19 @@ pub fn report_beside<'a>(
 
 fn reports_of<'a>(alloc: Global, others: &[Written<'_>]) -> Result<Vec<Made<'a>>, AllocError> {
     let mut list = Vec::new(alloc);
-    for written in others {
-        push_made(&mut list, report_of(alloc, written))?;
-    }
+    push_reports(alloc, &mut list, others)?;
     Ok(list)
+}
+
+fn push_reports<'a>(
+    alloc: Global,
+    list: &mut Vec<Made<'a>>,
+    others: &[Written<'_>],
+) -> Result<(), AllocError> {
+    for written in others {
+        push_made(list, report_of(alloc, written))?;
+    }
+    Ok(())
 }
 
 /// A report with another one beside it.
@@ -176,12 +190,26 @@ pub fn report_and_further<'a>(
     report: Result<Made<'a>, AllocError>,
     further: &Written<'_>,
 ) -> Result<Made<'a>, AllocError> {
-    let Some(bytes) = further.source else {
-        return report;
-    };
-    let labels = labels_of(alloc, further.labels)?;
-    let source = source_of(alloc, further.name, bytes)?;
-    report?.with_owned_snippets(alloc, source, labels)
+    match further.source {
+        Some(bytes) => over_further(
+            alloc,
+            report,
+            further,
+            source_of(alloc, further.name, bytes),
+        ),
+        None => report,
+    }
+}
+
+fn over_further<'a>(
+    alloc: Global,
+    report: Result<Made<'a>, AllocError>,
+    further: &Written<'_>,
+    source: Result<OwnedSource, AllocError>,
+) -> Result<Made<'a>, AllocError> {
+    let report = report?;
+    let source = source?;
+    report.with_owned_snippets(alloc, source, labels_of(alloc, further.labels)?)
 }
 
 /// A report with labels over a further source that stops.
@@ -201,6 +229,12 @@ pub fn report_and_stopping<'a>(
 /// A fix of one edit: its message, the offset and the length of what is replaced, and the text that takes its place.
 pub type Mended<'a> = (&'a str, usize, usize, &'a str);
 
+fn fix_of(alloc: Global, mended: &Mended<'_>) -> Result<Fix, AllocError> {
+    let (message, offset, length, text) = *mended;
+    let edit = Edit::replace((offset, length), String::from_str(alloc, text)?);
+    Fix::new(alloc, message)?.with_edit(edit)
+}
+
 /// A report with a fix too.
 ///
 /// # Errors
@@ -210,21 +244,32 @@ pub fn report_and_fix<'a>(
     report: Result<Made<'a>, AllocError>,
     mended: &Mended<'_>,
 ) -> Result<Made<'a>, AllocError> {
-    let (message, offset, length, text) = *mended;
-    let edit = Edit::replace((offset, length), String::from_str(alloc, text)?);
-    let fix = Fix::new(alloc, message)?.with_edit(edit)?;
+    let fix = fix_of(alloc, mended)?;
     report?.with_fix(alloc, fix)
 }
 
-fn diagnostic_of(alloc: Global, written: &Written<'_>) -> Result<MietteDiagnostic, AllocError> {
-    Ok(MietteDiagnostic {
-        message: String::from_str(alloc, written.message)?,
-        code: text_of(alloc, written.code)?,
-        severity: written.severity,
-        help: text_of(alloc, written.help)?,
-        url: text_of(alloc, written.url)?,
-        labels: Some(labels_of(alloc, written.labels)?),
-    })
+/// The diagnostic that is written, without a source.
+///
+/// # Errors
+/// Where memory is refused.
+pub fn diagnostic_of(alloc: Global, written: &Written<'_>) -> Result<MietteDiagnostic, AllocError> {
+    let mut made = MietteDiagnostic::new(alloc, written.message)?;
+    made.severity = written.severity;
+    give_parts(alloc, &mut made, written)?;
+    Ok(made)
+}
+
+/// All parts that take memory, but the message.
+fn give_parts(
+    alloc: Global,
+    made: &mut MietteDiagnostic,
+    written: &Written<'_>,
+) -> Result<(), AllocError> {
+    made.code = text_of(alloc, written.code)?;
+    made.help = text_of(alloc, written.help)?;
+    made.url = text_of(alloc, written.url)?;
+    made.labels = Some(labels_of(alloc, written.labels)?);
+    Ok(())
 }
 
 fn text_of(alloc: Global, text: &str) -> Result<Option<String>, AllocError> {
@@ -240,16 +285,31 @@ fn text_of(alloc: Global, text: &str) -> Result<Option<String>, AllocError> {
 /// Where memory is refused.
 pub fn labels_of(alloc: Global, labels: &[Label<'_>]) -> Result<Vec<LabeledSpan>, AllocError> {
     let mut list = Vec::new(alloc);
-    for label in labels {
-        let (offset, length, lines, text) = *label;
-        let made = LabeledSpan::new(text_of(alloc, text)?, offset, length);
-        if lines == 0 {
-            list.push(made)?;
-        } else {
-            list.push(made.with_context_lines(lines))?;
-        }
-    }
+    push_labels(alloc, &mut list, labels)?;
     Ok(list)
+}
+
+fn push_labels(
+    alloc: Global,
+    list: &mut Vec<LabeledSpan>,
+    labels: &[Label<'_>],
+) -> Result<(), AllocError> {
+    for label in labels {
+        push_made(list, label_of(alloc, *label))?;
+    }
+    Ok(())
+}
+
+fn label_of(
+    alloc: Global,
+    (offset, length, lines, text): Label<'_>,
+) -> Result<LabeledSpan, AllocError> {
+    let label = LabeledSpan::new(text_of(alloc, text)?, offset, length);
+    if lines == 0 {
+        Ok(label)
+    } else {
+        Ok(label.with_context_lines(lines))
+    }
 }
 
 fn source_of(alloc: Global, name: &str, bytes: &[u8]) -> Result<OwnedSource, AllocError> {

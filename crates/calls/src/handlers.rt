@@ -1,7 +1,7 @@
 //! Handlers: what makes them, and the texts that they append.
 
 use crate::reports::full_report;
-use crate::rows::{Done, Stop, write_answer, write_clones, write_given, write_text};
+use crate::rows::{Done, Stop, write_clones, write_given, write_refused, write_text};
 use crate::sources::README;
 use crate::themes::terminal;
 use miette::error::RenderError;
@@ -64,9 +64,19 @@ fn report_with_source(alloc: Global) -> Result<Report, AllocError> {
 /// The text `> ` and what the call of this name puts behind it.
 fn render_behind<W: Write>(alloc: Global, name: &str, out: &mut W, report: &Report) -> Done {
     let mut text = String::from_str(alloc, "> ")?;
-    write_given(out, &text)?;
-    let answer = render(alloc, name, report, &mut text)?;
-    write_text(out, answer, &text)
+    render_onto(alloc, name, out, report, &mut text)
+}
+
+fn render_onto<W: Write>(
+    alloc: Global,
+    name: &str,
+    out: &mut W,
+    report: &Report,
+    text: &mut String,
+) -> Done {
+    write_given(out, text)?;
+    let answer = render(alloc, name, report, text)?;
+    write_text(out, answer, text)
 }
 
 /// What the call of this name answers.
@@ -192,16 +202,16 @@ fn write_picture<H: ReportHandler + Drop, W: Write>(
     out: &mut W,
     answer: Result<H, AllocError>,
 ) -> Done {
-    let mut handler = match answer {
-        Ok(handler) => handler,
-        Err(AllocError) => {
-            write!(out, "\trefused")?;
-            return Ok(());
-        }
-    };
-    match picture(alloc, &mut handler) {
+    match answer {
+        Ok(mut handler) => write_rendering(out, picture(alloc, &mut handler)),
+        Err(AllocError) => write_refused(out),
+    }
+}
+
+fn write_rendering<W: Write>(out: &mut W, rendered: Result<String, RenderError>) -> Done {
+    match rendered {
         Ok(text) => write_given(out, &text),
-        Err(RenderError::Memory) => write_answer::<u8, W>(out, Err(AllocError)),
+        Err(RenderError::Memory) => write_refused(out),
         Err(RenderError::Refused) => {
             write!(out, "\tnot read")?;
             Ok(())

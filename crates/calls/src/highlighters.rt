@@ -1,6 +1,8 @@
 //! Highlighters made of rules.
 
-use crate::rows::{Done, write_answer, write_answer_and_value, write_clones_if_made, write_given};
+use crate::rows::{
+    Done, write_answer, write_answer_and_value, write_clones_if_made, write_given, write_refused,
+};
 use miette::highlight::Highlighter;
 use miette::style::{Color, Style};
 use miette_highlight::highlight::{Delimiters, Pattern, PatternHighlighter, Rule, by_char};
@@ -77,7 +79,7 @@ fn write_pieces<W: Write>(
     write_given(out, &line)?;
     match made {
         Ok(mut highlighter) => write_answer(out, highlighter.highlight_line(alloc, line)),
-        Err(AllocError) => write_answer::<u8, W>(out, Err(AllocError)),
+        Err(AllocError) => write_refused(out),
     }
 }
 

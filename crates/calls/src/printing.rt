@@ -1,7 +1,7 @@
 //! What a program is told of its terminal, and reports that are printed there.
 
 use crate::reports::full_report;
-use crate::rows::{Done, write_answer};
+use crate::rows::{Done, write_answer, write_given, write_kept};
 use miette::handlers::NarratableReportHandler;
 use miette::highlight::BlankHighlighter;
 use miette::options::MietteHandlerOpts;
@@ -172,9 +172,8 @@ fn narrate_by(
 fn write_room<W: Write>(out: &mut W, answer: Result<(), PrintError>, room: &Room) -> Done {
     let held = room.text();
     match answer {
-        Ok(()) => write!(out, "\t{held:?}")?,
-        Err(PrintError::Memory) => write!(out, "\trefused: {held:?}")?,
-        Err(error) => write!(out, "\t{error}: {held:?}")?,
+        Ok(()) => write_given(out, &held),
+        Err(PrintError::Memory) => write_kept(out, "refused", &held),
+        Err(error) => write_kept(out, error.text(), &held),
     }
-    Ok(())
 }

@@ -3,7 +3,8 @@
 use crate::diagnostics::{full_diagnostic, write_full_diagnostic};
 use crate::fixtures::texts_of;
 use crate::rows::{
-    Done, Stop, write_given, write_outcome, write_refusal, write_report, write_report_or_refusal,
+    Done, Stop, write_given, write_outcome, write_refusal, write_refused, write_report,
+    write_report_or_refusal,
 };
 use miette::error::MietteError;
 use miette::report::{IntoDiagnostic, Report, Result, WrapErr};
@@ -137,10 +138,15 @@ fn put_lazily_in_front(alloc: Global, name: &str, error: Result<u32>) -> Result<
 
 /// A report over another one; where memory is refused both come back.
 fn write_report_over<W: Write>(alloc: Global, out: &mut W) -> Done {
+    let cause = full_report(alloc)?;
     let report = Report::new(full_diagnostic(alloc)?);
-    write_report(out, &report)?;
-    let cause = write_full_report(alloc, out)?;
+    write_pair(out, &report, &cause)?;
     write_answer_over(out, report.with_diagnostic_cause(alloc, cause))
+}
+
+fn write_pair<W: Write>(out: &mut W, report: &Report, cause: &Report) -> Done {
+    write_report(out, report)?;
+    write_report(out, cause)
 }
 
 fn write_answer_over<W: Write>(out: &mut W, answer: Result<Report, (Report, Report)>) -> Done {
@@ -182,10 +188,7 @@ fn is_held(alloc: Global, number: u32) -> Result<u32> {
 fn write_made_report<W: Write>(out: &mut W, answer: Result<Report, AllocError>) -> Done {
     match answer {
         Ok(report) => write_report(out, &report),
-        Err(AllocError) => {
-            write!(out, "\trefused")?;
-            Ok(())
-        }
+        Err(AllocError) => write_refused(out),
     }
 }
 

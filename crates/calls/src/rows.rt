@@ -75,16 +75,33 @@ pub fn write_made<T: Debug + Drop, W: Write>(
     Ok(value)
 }
 
+/// That memory was refused.
+///
+/// # Errors
+/// `Write` where standard output took no more.
+pub fn write_refused<W: Write>(out: &mut W) -> Done {
+    write!(out, "\trefused")?;
+    Ok(())
+}
+
+/// Why a call gave nothing, and a value that is as before.
+///
+/// # Errors
+/// `Write` where standard output took no more.
+pub fn write_kept<T: Debug, W: Write>(out: &mut W, why: &str, value: &T) -> Done {
+    write!(out, "\t{why}: {value:?}")?;
+    Ok(())
+}
+
 /// The value that a call gave, or that memory was refused.
 ///
 /// # Errors
 /// `Write` where standard output took no more.
 pub fn write_answer<T: Debug + Drop, W: Write>(out: &mut W, answer: Result<T, AllocError>) -> Done {
     match answer {
-        Ok(value) => write!(out, "\t{value:?}")?,
-        Err(AllocError) => write!(out, "\trefused")?,
+        Ok(value) => write_given(out, &value),
+        Err(AllocError) => write_refused(out),
     }
-    Ok(())
 }
 
 /// What a text holds after a call that appends to it.
@@ -93,11 +110,10 @@ pub fn write_answer<T: Debug + Drop, W: Write>(out: &mut W, answer: Result<T, Al
 /// `Write` where standard output took no more.
 pub fn write_text<W: Write>(out: &mut W, answer: Result<(), RenderError>, text: &String) -> Done {
     match answer {
-        Ok(()) => write!(out, "\t{text:?}")?,
-        Err(RenderError::Memory) => write!(out, "\trefused: {text:?}")?,
-        Err(RenderError::Refused) => write!(out, "\tnot read: {text:?}")?,
+        Ok(()) => write_given(out, text),
+        Err(RenderError::Memory) => write_kept(out, "refused", text),
+        Err(RenderError::Refused) => write_kept(out, "not read", text),
     }
-    Ok(())
 }
 
 /// What a value is after a call that changes it in place; after a refusal that is open.
@@ -110,10 +126,9 @@ pub fn write_change<T: Debug, W: Write>(
     value: &T,
 ) -> Done {
     match answer {
-        Ok(()) => write!(out, "\t{value:?}")?,
-        Err(AllocError) => write!(out, "\trefused")?,
+        Ok(()) => write_given(out, value),
+        Err(AllocError) => write_refused(out),
     }
-    Ok(())
 }
 
 /// What a call gave, and the value that it may change; after a refusal that is as before.
@@ -126,10 +141,12 @@ pub fn write_answer_and_value<T: Debug + Drop, V: Debug, W: Write>(
     value: &V,
 ) -> Done {
     match answer {
-        Ok(made) => write!(out, "\t{made:?}\t{value:?}")?,
-        Err(AllocError) => write!(out, "\trefused: {value:?}")?,
+        Ok(made) => {
+            write_given(out, &made)?;
+            write_given(out, value)
+        }
+        Err(AllocError) => write_kept(out, "refused", value),
     }
-    Ok(())
 }
 
 /// A value, and two clones of it.

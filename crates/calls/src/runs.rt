@@ -58,27 +58,32 @@ pub fn make<W: Write>(alloc: Global, name: &str, out: &mut W) -> Done {
     }
 }
 
+static XY: [char; 2] = ['x', 'y'];
+
 fn red() -> Style {
     Style::new().color(Color::Red)
 }
 
 fn write_push<W: Write>(alloc: Global, name: &str, out: &mut W) -> Done {
-    let mut runs = Runs::new(alloc);
     let more = read_text(alloc, "\u{1b}[32mb\u{1b}[0mc")?;
-    write_given(out, &runs)?;
-    let answer = push(name, &mut runs, &more);
-    write_change(out, answer, &runs)
+    write_pushed(name, out, &mut Runs::new(alloc), &more)
+}
+
+fn write_pushed<W: Write>(name: &str, out: &mut W, runs: &mut Runs, more: &Runs) -> Done {
+    write_given(out, runs)?;
+    let answer = push(name, runs, more);
+    write_change(out, answer, runs)
 }
 
 fn push(name: &str, runs: &mut Runs, more: &Runs) -> Result<(), AllocError> {
     match name {
         "Runs::push" => runs.push('x'),
-        "Runs::push_chars" => runs.push_chars(&['x', 'y']),
+        "Runs::push_chars" => runs.push_chars(&XY),
         "Runs::push_str" => runs.push_str("xyz"),
         "Runs::begin" => runs.begin(red().bold()),
         "Runs::end" => runs.end(),
         "Runs::push_run" => runs.push_run(red(), "xyz"),
-        "Runs::push_run_chars" => runs.push_run_chars(red().dimmed(), &['x', 'y']),
+        "Runs::push_run_chars" => runs.push_run_chars(red().dimmed(), &XY),
         "Runs::push_link" => runs.push_link("http://x"),
         "Runs::push_link_end" => runs.push_link_end(),
         "Runs::append" => runs.append(more),
@@ -96,7 +101,7 @@ fn push_to(name: &str, output: &mut Output) -> Result<(), AllocError> {
     match name {
         "Output::reserve" => output.reserve('x', 3),
         "Output::push" => output.push('x'),
-        "Output::push_chars" => output.push_chars(&['x', 'y']),
+        "Output::push_chars" => output.push_chars(&XY),
         "Output::push_str" => output.push_str("xyz"),
         "Output::begin" => output.begin(red()),
         "Output::end" => output.end(),

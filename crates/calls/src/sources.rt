@@ -1,6 +1,6 @@
 //! Sources.
 
-use crate::rows::{Done, write_given};
+use crate::rows::{Done, write_given, write_refused};
 use miette::protocol::{SourceOffset, SourceSpan};
 use miette::report::OwnedSource;
 use miette::source::{IndexedSource, NamedSource, SourceCode};
@@ -62,9 +62,8 @@ fn write_read<S: SourceCode, W: Write>(out: &mut W, answer: Result<S, AllocError
         Ok(source) => {
             let span = SourceSpan::new(SourceOffset::from(9), 4);
             let contents = source.read_span(&span, 1, 1);
-            write!(out, "\t{contents:?}")?;
+            write_given(out, &contents)
         }
-        Err(AllocError) => write!(out, "\trefused")?,
+        Err(AllocError) => write_refused(out),
     }
-    Ok(())
 }

@@ -70,19 +70,20 @@ fn write_cut<W: Write>(alloc: Global, name: &str, out: &mut W, runs: Runs) -> Do
     }
 }
 
+static OPTIONS: WrapOptions<'static> = WrapOptions {
+    width: 12,
+    first_indent: "* ",
+    further_indent: "| ",
+    break_words: true,
+    wrap_lines: true,
+    separator: WordSeparator::AsciiSpace,
+    splitter: WordSplitter::HyphenSplitter,
+};
+
 fn write_fill<W: Write>(alloc: Global, out: &mut W) -> Done {
-    let options = WrapOptions {
-        width: 12,
-        first_indent: "* ",
-        further_indent: "| ",
-        break_words: true,
-        wrap_lines: true,
-        separator: WordSeparator::AsciiSpace,
-        splitter: WordSplitter::HyphenSplitter,
-    };
     let mut text = String::from_str(alloc, "> ")?;
     write_given(out, &text)?;
-    let answer = fill(TEXT, &options, &mut text);
+    let answer = fill(TEXT, &OPTIONS, &mut text);
     write_text(out, answer.map_err(|it| RenderError::from(it)), &text)
 }
 

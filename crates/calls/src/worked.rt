@@ -1,16 +1,13 @@
 //! Worked reports, each by its name.
 
 use crate::fixtures::{
-    Label, M, Made, Mended, Written, report_and_fix, report_and_further, report_beside,
-    report_beside_one, report_of, report_over, report_over_texts, stopping_report,
+    M, Made, Mended, Written, report_and_fix, report_and_further, report_beside, report_beside_one,
+    report_of, report_over, report_over_texts, stopping_report,
 };
 use crate::sources::README;
 use crate::stopping::{Reads, Stopping};
 use miette::protocol::Severity;
 use std::alloc::{AllocError, Global};
-
-/// Labels, and the bytes of the source below them.
-type Labelled = (&'static [Label<'static>], &'static [u8]);
 
 const OOPS: Written<'static> = Written {
     message: "oops!",
@@ -52,30 +49,37 @@ static BESIDE: [Written<'static>; 2] = [
     OOPS,
 ];
 
-static ON_ONE_LINE: Labelled = (&[(1, 3, 0, "a"), (2, 3, 0, "b")], b"abcdef");
+static ON_ONE_LINE: Written<'static> = Written {
+    labels: &[(1, 3, 0, "a"), (2, 3, 0, "b")],
+    source: Some(b"abcdef"),
+    ..M
+};
 
-static WIDE: Labelled = (
-    &[
+static WIDE: Written<'static> = Written {
+    labels: &[
         (4, 4, 0, "wider than 4 columns"),
         (7, 1, 0, "no final terminator"),
     ],
-    b"a\xe6\xbc\xa2\xe6\xbc\xa2b",
-);
+    source: Some(b"a\xe6\xbc\xa2\xe6\xbc\xa2b"),
+    ..M
+};
 
-static TABS: Labelled = (
-    &[(5, 1, 0, "blank"), (8, 1, 0, "tab")],
-    b"x = 1 \n \ty\nend",
-);
+static TABS: Written<'static> = Written {
+    labels: &[(5, 1, 0, "blank"), (8, 1, 0, "tab")],
+    source: Some(b"x = 1 \n \ty\nend"),
+    ..M
+};
 
 const NINE_LINES: &[u8] = b"1\n2\n3\n4\n5\n6\n7\n8\n9\n";
 
-static OWN: Labelled = (
-    &[(0, 1, 1, ""), (8, 1, 0, "here"), (16, 1, 2, "")],
-    NINE_LINES,
-);
+static OWN: Written<'static> = Written {
+    labels: &[(0, 1, 1, ""), (8, 1, 0, "here"), (16, 1, 2, "")],
+    source: Some(NINE_LINES),
+    ..M
+};
 
-static MANY: Labelled = (
-    &[
+static MANY: Written<'static> = Written {
+    labels: &[
         (0, 1, 0, "a"),
         (1, 1, 0, ""),
         (2, 3, 0, "c"),
@@ -87,13 +91,18 @@ static MANY: Labelled = (
         (12, 4, 0, "i"),
         (16, 1, 0, "j"),
     ],
-    NINE_LINES,
-);
+    source: Some(NINE_LINES),
+    ..M
+};
 
 /// A fix of a word, and one that ends behind the source.
 static MENDED: [Mended<'static>; 2] = [("a longer word", 9, 4, "a text"), ("far off", 99, 1, "")];
 
-static REFUSED: Labelled = (&[(9, 1, 0, "far off"), (0, 1, 0, "here")], b"a");
+static REFUSED: Written<'static> = Written {
+    labels: &[(9, 1, 0, "far off"), (0, 1, 0, "here")],
+    source: Some(b"a"),
+    ..M
+};
 
 /// The report of this name. Of the source that stops the first read fails.
 ///
@@ -101,36 +110,22 @@ static REFUSED: Labelled = (&[(9, 1, 0, "far off"), (0, 1, 0, "here")], b"a");
 /// Where memory is refused.
 pub fn report<'a>(alloc: Global, name: &str, reads: &'a Reads) -> Result<Made<'a>, AllocError> {
     match lone_report(name) {
-        Some(written) => report_of(alloc, &written),
+        Some(written) => report_of(alloc, written),
         None => with_others(alloc, name, reads),
     }
 }
 
 /// What is written of a report that has nothing beside it or below it.
-fn lone_report(name: &str) -> Option<Written<'static>> {
+fn lone_report(name: &str) -> Option<&'static Written<'static>> {
     match name {
-        "one label" => Some(ONE_LABEL),
-        "lines that cross" => Some(CROSSING),
-        _ => match labels_and_source(name) {
-            Some((labels, source)) => Some(Written {
-                labels,
-                source: Some(source),
-                ..M
-            }),
-            None => None,
-        },
-    }
-}
-
-/// The labels and the source of a report that has no more.
-fn labels_and_source(name: &str) -> Option<Labelled> {
-    match name {
-        "labels on one line" => Some(ON_ONE_LINE),
-        "wide characters" => Some(WIDE),
-        "tabs" => Some(TABS),
-        "own context" => Some(OWN),
-        "many labels" => Some(MANY),
-        "a refused label" => Some(REFUSED),
+        "one label" => Some(&ONE_LABEL),
+        "lines that cross" => Some(&CROSSING),
+        "labels on one line" => Some(&ON_ONE_LINE),
+        "wide characters" => Some(&WIDE),
+        "tabs" => Some(&TABS),
+        "own context" => Some(&OWN),
+        "many labels" => Some(&MANY),
+        "a refused label" => Some(&REFUSED),
         _ => None,
     }
 }

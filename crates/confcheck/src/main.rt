@@ -24,8 +24,10 @@ fn main(rt: HostRuntime) -> ExitCode {
 
 fn run<R: Host>(rt: &R) -> Result<()> {
     let alloc = rt.alloc();
-    let mut words = env::args(rt).into_diagnostic(alloc)?;
-    let name = words.nth(1).wrap_err(alloc, "usage: confcheck FILE")?;
+    let name = env::args(rt)
+        .into_diagnostic(alloc)?
+        .nth(1)
+        .wrap_err(alloc, "usage: confcheck FILE")?;
     let text = fs::read_to_string(rt, name.as_str())
         .into_diagnostic(alloc)
         .wrap_err_with(alloc, || format!(in alloc; "could not read {name}"))?;
@@ -73,13 +75,18 @@ fn bad_port(alloc: Global, text: &str, table: &Table) -> Result<Report> {
         fixes = vec![in alloc; port_fix(alloc, text)?]?,
         "the port is missing or wrong"
     );
+    Ok(fault.with_related(unread_keys(alloc, text, table)?))
+}
+
+/// A warning for each key that nothing reads.
+fn unread_keys(alloc: Global, text: &str, table: &Table) -> Result<Vec<Report>> {
     let mut warnings = Vec::new(alloc);
     for key in table.keys() {
         if !is_known(key.as_str()) {
             warnings.push(unread_key(alloc, text, key.as_str())?)?;
         }
     }
-    Ok(fault.with_related(warnings))
+    Ok(warnings)
 }
 
 /// A warning that nothing reads this key.

@@ -81,8 +81,7 @@ fn ends(
     end: usize,
     missing: &str,
 ) -> Result<Vec<LabeledSpan>, AllocError> {
-    Ok(vec![in alloc;
-        LabeledSpan::at(alloc, (at, 1), "this is never closed")?,
-        LabeledSpan::at_offset(alloc, end, missing)?,
-    ]?)
+    let mut labels = vec![in alloc; LabeledSpan::at(alloc, (at, 1), "this is never closed")?]?;
+    labels.push(LabeledSpan::at_offset(alloc, end, missing)?)?;
+    Ok(labels)
 }

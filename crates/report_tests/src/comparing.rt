@@ -1,7 +1,6 @@
 //! What tests compare. A test is proved too, and a comparison in its own body, beside reports that are let go, is dear:
 //! so it calls one of these.
 
-use miette::error::RenderError;
 use std::fmt::Debug;
 use std::process::Abort;
 
@@ -11,6 +10,10 @@ pub(crate) fn same<T: PartialEq + Debug + Copy>(rt: &impl Abort, found: T, wante
 }
 
 /// The text was made, and is this one.
-pub(crate) fn gives(rt: &impl Abort, made: Result<String, RenderError>, wanted: &str) {
+pub(crate) fn gives<E: PartialEq + Debug + Drop>(
+    rt: &impl Abort,
+    made: Result<String, E>,
+    wanted: &str,
+) {
     same(rt, made.as_deref(), Ok(wanted));
 }

@@ -7,7 +7,7 @@ use std::alloc::{AllocError, Global};
 use std::rc::Rc;
 
 /// The report with this one as its cause.
-pub(crate) fn report_over(
+fn report_over(
     alloc: Global,
     report: Result<Report, AllocError>,
     cause: Result<Report, AllocError>,
@@ -86,7 +86,7 @@ fn new_owner(alloc: Global, message: &str, token: &Rc<u8>) -> Result<Owner, Allo
 }
 
 /// A boxed owner.
-pub(crate) fn boxed_owner(
+fn boxed_owner(
     alloc: Global,
     message: &str,
     token: &Rc<u8>,

@@ -2,7 +2,6 @@
 //! narrated, stands first in `cases/gallery.jsonl`.
 
 use crate::comparing::gives;
-use callers::handlers::{draw_both, warning};
 use miette::diagnostic::MietteDiagnostic;
 use miette::error::RenderError;
 use miette::handlers::GraphicalReportHandler;
@@ -36,31 +35,30 @@ fn first_report(alloc: Global) -> Result<Report, AllocError> {
     Ok(Report::new(first_diagnostic(alloc)?).with_owned_source(source))
 }
 
+/// The handler of that chapter.
+fn plain_handler(alloc: Global) -> Result<GraphicalReportHandler, AllocError> {
+    let theme = GraphicalTheme::unicode_nocolor(alloc)?;
+    Ok(GraphicalReportHandler::new_themed(theme).with_width(80))
+}
+
+/// What the handler draws of the report.
+fn draw(
+    alloc: Global,
+    handler: &mut GraphicalReportHandler,
+    report: &Report,
+) -> Result<String, RenderError> {
+    let mut text = String::new(alloc);
+    handler.render_report(report, &mut text)?;
+    Ok(text)
+}
+
 /// The picture of that chapter.
 fn first_picture(alloc: Global) -> Result<String, RenderError> {
     let report = first_report(alloc)?;
-    let theme = GraphicalTheme::unicode_nocolor(alloc)?;
-    let mut handler = GraphicalReportHandler::new_themed(theme).with_width(80);
-    let mut text = String::new(alloc);
-    handler.render_report(&report, &mut text)?;
-    Ok(text)
+    draw(alloc, &mut plain_handler(alloc)?, &report)
 }
 
 #[test]
 fn one_label(rt: HostRuntime) {
     gives(&rt, first_picture(rt.alloc()), ONE_LABEL);
-}
-
-const WARNING: &str =
-    "  × no such host\n   ╭─[app.toml:2:8]\n 1 │ port = 80\n 2 │ host = x\n   ·        ┬\n   \
-    ·        ╰── this name\n   ╰────\n";
-
-/// The plain picture of that warning.
-fn warning_picture(alloc: Global) -> Result<String, RenderError> {
-    Ok(draw_both(alloc, &warning(alloc)?)?.plain)
-}
-
-#[test]
-fn a_warning_whose_clauses_are_used(rt: HostRuntime) {
-    gives(&rt, warning_picture(rt.alloc()), WARNING);
 }

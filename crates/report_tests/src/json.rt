@@ -1,55 +1,16 @@
-//! JSON texts of sources that stop, and short forms. More JSON texts, by `job`, stand in `cases/worked.jsonl`.
+//! JSON texts of sources that stop. More JSON texts, by `job`, stand in `cases/worked.jsonl`.
 ghost use Rattle.std.specs.Prelude.{None, false};
 
 use crate::comparing::gives;
-use crate::drops::report_over;
 use miette::diagnostic::MietteDiagnostic;
 use miette::error::{MietteError, RenderError};
-use miette::handlers::{JSONReportHandler, ReportHandler};
+use miette::handlers::JSONReportHandler;
 use miette::protocol::{LabeledSpan, SourceSpan};
 use miette::report::Report;
 use miette::source::{MietteSpanContents, NamedSource, SourceCode};
 use std::alloc::{AllocError, Global};
 use std::io;
 use std::io::ErrorKind;
-
-/// The short form, or the chain, behind what was there.
-fn display(
-    alloc: Global,
-    chain: bool,
-    report: Result<Report, AllocError>,
-) -> Result<String, RenderError> {
-    let report = report?;
-    let mut out = String::from_str(alloc, "> ")?;
-    JSONReportHandler::new().display(&report, chain, &mut out)?;
-    Ok(out)
-}
-
-/// The message `inner`, and `outer` put in front.
-fn outer(alloc: Global) -> Result<Report, AllocError> {
-    match Report::msg(alloc, "inner")?.wrap_err(alloc, "outer") {
-        Ok(report) => Ok(report),
-        Err(_) => Err(AllocError),
-    }
-}
-
-/// The message `top`, caused by the wrapped one.
-fn top(alloc: Global) -> Result<Report, AllocError> {
-    report_over(alloc, Report::msg(alloc, "top"), outer(alloc))
-}
-
-#[test]
-fn short_forms(rt: HostRuntime) {
-    let alloc = rt.alloc();
-    let rows = [
-        (true, "> outer: inner", "> top: outer: inner"),
-        (false, "> outer", "> top"),
-    ];
-    for (chain, one, two) in rows {
-        gives(&rt, display(alloc, chain, outer(alloc)), one);
-        gives(&rt, display(alloc, chain, top(alloc)), two);
-    }
-}
 
 /// Bytes, of which no more than four are read at once.
 #[derive(Drop)]

@@ -1,25 +1,27 @@
-//! Tests of reports and handlers as callers write them: chains, causes, sources, highlighters, options. The expected
-//! texts were written by hand from the rules. What a description can say stands in `cases/`, and so does what the
-//! program `calls` prints of each call, with refused memory and over sources that stop.
+//! Tests of reports and handlers as callers write them: chains, causes, sources, highlighters. The expected texts were
+//! written by hand from the rules. What a description can say stands in `cases/`, and so does what the program `calls`
+//! prints of each call, with refused memory and over sources that stop; and what programs write, with devices that fail
+//! and words that could not be had.
 //!
-//! And tests of what no run of a program shows: devices in memory, what `lint` finds byte by byte, words that could not
-//! be had, JSON reports as another reader reads them. All else that programs write stands in `cases/`.
+//! And tests of values: places in texts, reads of sources, JSON, what is printed; highlighters and wrapped texts. What a
+//! clause says word for word isn't tried again: what spans, labels, diagnostics, errors, styles and themes are made of,
+//! and how they are compared, hashed and cloned (`miette_protocol::protocol::comparison_laws` and the others).
 #![tactic(auto)]
 
+#[cfg(test)]
+mod by_hand;
 #[cfg(test)]
 mod comparing;
 #[cfg(test)]
 mod contexts;
 #[cfg(test)]
-mod devices;
-#[cfg(test)]
-mod drawn_fixes;
+mod debug_forms;
 #[cfg(test)]
 mod drops;
 #[cfg(test)]
 mod edges;
 #[cfg(test)]
-mod findings;
+mod errors;
 #[cfg(test)]
 mod first_chapter;
 #[cfg(test)]
@@ -27,18 +29,22 @@ mod highlighting;
 #[cfg(test)]
 mod json;
 #[cfg(test)]
-mod json_reports;
+mod json_fixes;
 #[cfg(test)]
 mod narrated;
 #[cfg(test)]
-mod options;
+mod patterns;
+#[cfg(test)]
+mod positions;
 #[cfg(test)]
 mod printing;
 #[cfg(test)]
+mod reads;
+#[cfg(test)]
 mod renderings;
 #[cfg(test)]
-mod snippets;
+mod spans;
 #[cfg(test)]
-mod trees;
+mod values_as_json;
 #[cfg(test)]
-mod words;
+mod wrapping;

@@ -20,9 +20,9 @@ pub(crate) fn render<H: ReportHandler>(
 }
 
 /// What the handler draws of the report, where both were made.
-fn draw(
+pub(crate) fn draw<H: ReportHandler + Drop>(
     alloc: Global,
-    handler: Result<GraphicalReportHandler, AllocError>,
+    handler: Result<H, AllocError>,
     report: Result<Report, AllocError>,
 ) -> Result<String, RenderError> {
     render(alloc, &mut handler?, report)

@@ -17,11 +17,7 @@ pub fn differences(
     let mut start = 0usize;
     for line in actual.split_inclusive('\n') {
         let found = line.strip_suffix('\n').unwrap_or(line);
-        let why = match wanted.next() {
-            Some(same) if same == found => None,
-            Some(other) => Some(format!(in alloc; "expected: {other}")?),
-            None => Some(String::from_str(alloc, "nothing more was expected")?),
-        };
+        let why = told_of(alloc, wanted.next(), found)?;
         if why.is_some() {
             labels.push(LabeledSpan::new(why, start, found.len()))?;
         }
@@ -32,4 +28,13 @@ pub fn differences(
         labels.push(LabeledSpan::new(Some(why), actual.len().saturating_sub(1), 1))?;
     }
     Ok(labels)
+}
+
+/// What a line is told of; nothing where it is the expected one.
+fn told_of(alloc: Global, wanted: Option<&str>, found: &str) -> Result<Option<String>, AllocError> {
+    match wanted {
+        Some(same) if same == found => Ok(None),
+        Some(other) => Ok(Some(format!(in alloc; "expected: {other}")?)),
+        None => Ok(Some(String::from_str(alloc, "nothing more was expected")?)),
+    }
 }

@@ -27,19 +27,28 @@ fn main(rt: HostRuntime) -> ExitCode {
 }
 
 fn run<R: Host>(rt: &R) -> Result<()> {
+    let (is_fixing, name) = words_of(rt)?;
+    let text = text_of(rt, name.as_str())?;
+    check(rt, name.as_str(), text, is_fixing)
+}
+
+/// Whether the file is to be mended, and its name.
+fn words_of<R: Host>(rt: &R) -> Result<(bool, String)> {
     let alloc = rt.alloc();
     let mut words = env::args(rt).into_diagnostic(alloc)?.skip(1);
     let first = words.next().wrap_err(alloc, USAGE)?;
-    let is_fixing = first.as_str() == "--fix";
-    let name = if is_fixing {
-        words.next().wrap_err(alloc, USAGE)?
+    if first.as_str() == "--fix" {
+        Ok((true, words.next().wrap_err(alloc, USAGE)?))
     } else {
-        first
-    };
-    let text = fs::read_to_string(rt, name.as_str())
+        Ok((false, first))
+    }
+}
+
+fn text_of<R: Host>(rt: &R, name: &str) -> Result<String> {
+    let alloc = rt.alloc();
+    fs::read_to_string(rt, name)
         .into_diagnostic(alloc)
-        .wrap_err_with(alloc, || format!(in alloc; "could not read {name}"))?;
-    check(rt, name.as_str(), text, is_fixing)
+        .wrap_err_with(alloc, || format!(in alloc; "could not read {name}"))
 }
 
 /// Prints a text with its misspelt words mended, or fails with a report of them.

@@ -1,14 +1,11 @@
-//! Reads of sources, as values, through each type that is a source. What values of the module `source` are made of and
-//! say is what their clauses say.
+//! Reads of bytes, and of a source that is broken. All other sources read alike, by the clause of `SourceCode::read_span`.
 
 use crate::comparing::same;
 use miette_protocol::error::MietteError;
 use miette_protocol::protocol::{SourceOffset, SourceSpan};
-use miette_protocol::source::{IndexedSource, MietteSpanContents, NamedSource, SourceCode};
+use miette_protocol::source::{MietteSpanContents, SourceCode};
 use std::alloc::{AllocError, Global};
 use std::io;
-use std::process::Abort;
-use std::test::Fail;
 
 const README: &[u8] = b"source\n  text\n    here";
 
@@ -28,20 +25,6 @@ fn parts_of<'a>(contents: &MietteSpanContents<'a>) -> ReadParts<'a> {
         contents.column(),
         contents.line_count(),
     )
-}
-
-/// Reads through the bound, as a generic caller does. Nothing is seen of a refusal but that it is one.
-fn read<S: SourceCode>(
-    code: &S,
-    offset: usize,
-    len: usize,
-    before: usize,
-    after: usize,
-) -> Option<ReadParts<'_>> {
-    match code.read_span(&span(offset, len), before, after) {
-        Ok(contents) => Some(parts_of(&contents)),
-        Err(_) => None,
-    }
 }
 
 /// A source, the offset and the length that are asked for, the lines of context before and behind, and what is read: its
@@ -81,30 +64,20 @@ fn wanted<'a>(row: &Row<'a>) -> Option<ReadParts<'a>> {
     Some((data, place, line, column, count))
 }
 
-/// The source gives what the row says.
-fn reads<S: SourceCode>(rt: &impl Abort, code: &S, row: &Row<'_>) {
+/// What is read for it; nothing where that is refused.
+fn read<'a>(row: &'a Row<'_>) -> Option<ReadParts<'a>> {
     let (offset, len) = row.1;
-    same(rt, read(code, offset, len, row.2, row.2), wanted(row));
-}
-
-fn indexed_source(alloc: Global, bytes: &[u8]) -> Result<IndexedSource, AllocError> {
-    IndexedSource::new(alloc, bytes.to_vec(alloc)?)
-}
-
-#[test]
-fn bytes_are_read(rt: HostRuntime) -> Result<(), AllocError> {
-    for row in &ROWS {
-        reads(&rt, &row.0, row);
-        reads(&rt, &row.0.to_vec(rt.alloc())?, row);
-        reads(&rt, &indexed_source(rt.alloc(), row.0)?, row);
+    match row.0.read_span(&span(offset, len), row.2, row.2) {
+        Ok(contents) => Some(parts_of(&contents)),
+        Err(_) => None,
     }
-    Ok(())
 }
 
 #[test]
-fn a_refusal_says_that_it_lies_outside(rt: HostRuntime) {
-    let outside = README.read_span(&span(23, 0), 0, 0);
-    assert!(rt; matches!(outside, Err(MietteError::OutOfBounds)));
+fn bytes_are_read(rt: HostRuntime) {
+    for row in &ROWS {
+        same(&rt, read(row), wanted(row));
+    }
 }
 
 /// A source that may fail, and does.
@@ -126,48 +99,19 @@ impl SourceCode for Broken {
     }
 }
 
-fn named_readme(alloc: Global) -> Result<NamedSource<Vec<u8>>, AllocError> {
-    let bytes = README.to_vec(alloc)?;
-    NamedSource::new(alloc, "bad_file.rs", bytes)?.with_language(alloc, "Rust")
-}
-
-/// The contents are the word `text` of a file of Rust.
-fn are_the_word(rt: &impl Abort, contents: &MietteSpanContents<'_>) {
-    same(
-        rt,
-        parts_of(contents),
-        (b"text".as_slice(), (9, 4), 1, 2, 0),
-    );
-    let names = (contents.name(), contents.language());
-    same(rt, names, (Some("bad_file.rs"), Some("Rust")));
-}
-
-fn boxed_source(alloc: Global) -> Result<Box<dyn SourceCode>, Fail> {
-    let code: Box<dyn SourceCode> = Box::new(alloc, named_readme(alloc)?)?;
-    Ok(code)
-}
-
-#[test]
-fn reads_through_a_box(rt: HostRuntime) -> Result<(), Fail> {
-    let source = boxed_source(rt.alloc())?;
-    are_the_word(&rt, &source.read_span(&span(9, 4), 0, 0)?);
-    Ok(())
-}
-
-/// The source, which is broken, says so.
-fn breaks<S: SourceCode>(rt: &impl Abort, code: &S) {
-    let found = code.read_span(&span(9, 4), 0, 0);
-    assert!(rt; matches!(found, Err(MietteError::IoError(_))));
-}
-
-fn boxed_broken(alloc: Global) -> Result<Box<dyn SourceCode>, Fail> {
+fn boxed_broken(alloc: Global) -> Result<Box<dyn SourceCode>, AllocError> {
     let boxed: Box<dyn SourceCode> = Box::new(alloc, Broken)?;
     Ok(boxed)
 }
 
+/// Whether it says that it is broken.
+fn breaks(code: &Box<dyn SourceCode>) -> bool {
+    let found = code.read_span(&span(9, 4), 0, 0);
+    matches!(found, Err(MietteError::IoError(_)))
+}
+
 #[test]
-fn broken_sources(rt: HostRuntime) -> Result<(), Fail> {
-    breaks(&rt, &boxed_broken(rt.alloc())?);
-    breaks(&rt, &NamedSource::new(rt.alloc(), "f", Broken)?);
+fn a_broken_source(rt: HostRuntime) -> Result<(), AllocError> {
+    same(&rt, breaks(&boxed_broken(rt.alloc())?), true);
     Ok(())
 }

@@ -75,10 +75,13 @@ fn json_ends(alloc: Global, text: &str) -> Result<Option<usize>, AllocError> {
     }
 }
 
+/// Texts that are no JSON, and where their labels begin.
+static NO_JSON: [(&str, usize); 3] = [("{\n  \"é\": x\n}", 10), ("{\n  \"a\": ", 8), ("[1,\n", 4)];
+
 #[test]
 fn a_label_where_json_ends(rt: HostRuntime) {
-    for (text, offset) in [("{\n  \"é\": x\n}", 10), ("{\n  \"a\": ", 8), ("[1,\n", 4)] {
-        same(&rt, json_ends(rt.alloc(), text), Ok(Some(offset)));
+    for (text, offset) in &NO_JSON {
+        same(&rt, json_ends(rt.alloc(), text), Ok(Some(*offset)));
     }
 }
 
