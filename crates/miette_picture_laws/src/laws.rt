@@ -1,7 +1,7 @@
 //! What holds of the definition of a report's text, beside what each picture is proved to keep: which diagnostics are
 //! printed, how their rows stand under arrows, and what the shipped themes keep.
 
-ghost use Rattle.std.specs.Prelude.{◌≡◌, ℕ, Bool, List, [], ◌∷◌, Option, Some, encode_utf8_all, map, true};
+ghost use Rattle.std.specs.Prelude.{◌≡◌, ℕ, Bool, List, [], ◌∷◌, Option, Some, encode_utf8_all, false, map, true};
 ghost use Rattle.miette_graphical.specs.rules.PossibleAnswers.{IsTextOf};
 ghost use Rattle.miette_graphical.specs.rules.Answers.{Answer, Answers, unlisted};
 ghost use Rattle.miette_graphical.specs.laws.Clean.{AreCleanCharacters, AreCleanSettings, IsCleanTree};
@@ -33,7 +33,7 @@ ghost use Rattle.miette_graphical.specs.rules.Settings.{Settings, default_settin
 ghost use Rattle.miette_graphical.specs.rules.Answers.{SourceAnswer, sources_listed};
 ghost use Rattle.miette_graphical.specs.rules.Snippets.{drawn_rows, drawn_without_fixes, own_rows, source_rows};
 ghost use Rattle.miette_graphical.specs.rules.Snippets.{whole_drawing};
-ghost use Rattle.miette_graphical.specs.rules.Sources.{LabelledSource, drawn_with, sources_of};
+ghost use Rattle.miette_graphical.specs.rules.Sources.{LabelledSource, drawn_with, some_further, sources_of};
 ghost use Rattle.miette_tree.specs.rules.Diagnosis.{Diagnosis};
 ghost use Rattle.miette_tree.specs.rules.DiagnosticParts.{given_labels};
 ghost use Rattle.miette_graphical.specs.rules.Text.{report_text};
@@ -91,7 +91,7 @@ pub fn printed_law()
     ensures answers { (drawing : Drawing) (s : Settings) (t : Tree) (a b : Answers) → AreAnsweredAlike s t a b →
         report_text drawing s t a ≡ report_text drawing s t b }
     ensures without_snippets { (s : Settings) (t : Tree) (a : Answers) →
-        AllByRecursion (λ p. p.meaning.snippets ≡ []) (diagnostics_of s t) →
+        AllByRecursion (λ p. some_further p.meaning.snippets ≡ false) (diagnostics_of s t) →
         report_text whole_drawing s t a ≡ report_text (record whole_drawing { rows = own_rows }) s t a }
     ensures without_fixes { (s : Settings) (t : Tree) (a : Answers) →
         AllByRecursion (λ p. p.meaning.fixes ≡ []) (diagnostics_of s t) →

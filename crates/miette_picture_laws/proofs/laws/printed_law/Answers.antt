@@ -1,12 +1,15 @@
-use Rattle.std.proofs.Common.{◌≡◌, [], ◌∷◌, map, refl, sym, ap, ◌∙◌, append-nil, Option}
+use Rattle.std.proofs.Common.{◌≡◌, false, ◌||◌, List, [], ◌∷◌, ◌++◌, map, drop, length, refl, sym, ap, ap₂, ◌∙◌}
+use Rattle.std.proofs.Common.{append-nil, Option, Some}
+use Rattle.std.proofs.lemmas.Bool.{or_parts}
+use Rattle.miette_protocol.specs.views.Meaning.{Label}
 use Rattle.miette_protocol.specs.rules.Reading.{Source}
-use Rattle.miette_tree.specs.rules.Diagnosis.{Diagnosis}
+use Rattle.miette_tree.specs.rules.Diagnosis.{Diagnosis, Section}
 use Rattle.miette_tree.specs.rules.DiagnosticParts.{given_labels}
-use Rattle.miette_graphical.specs.rules.Answers.{Answer, sources_listed}
+use Rattle.miette_graphical.specs.rules.Answers.{Answer, SourceAnswer, SourceAnswers, first_source, sources_listed}
 use Rattle.miette_graphical.specs.rules.Settings.{Settings}
 use Rattle.miette_graphical.specs.rules.Snippets.{drawn_fix, drawn_rows, drawn_without_fixes, own_rows, rows_over}
 use Rattle.miette_graphical.specs.rules.Snippets.{source_rows, whole_drawing}
-use Rattle.miette_graphical.specs.rules.Sources.{drawn_with, further_sources, labelled}
+use Rattle.miette_graphical.specs.rules.Sources.{after_labels, further_sources, is_labelled, some_further, sources_of}
 use Rattle.miette_graphical.specs.laws.Alike.{answer_at}
 use Rattle.miette_graphical.specs.laws.Alike.{AreDrawnAlike}
 use Rattle.miette_graphical.specs.rules.PrintedDiagnostics.{diagnostics_of}
@@ -25,18 +28,37 @@ returns-clause-rows c = λ drawing other s t a alike.
 pub returns-clause-answers : goal.returns-clause-answers
 returns-clause-answers c = λ drawing s t a b alike. answered_alike drawing s t a b alike
 
+-- no labels have no rows
+bare : (u : Settings) (source : Source) (labels : List Label) (a : SourceAnswer)
+    → is_labelled (record { source = source; labels = labels }) ≡ false → source_rows u (Some source) labels a ≡ []
+bare u source [] a h = refl
+bare u source (label ∷ labels) a h = absurd (cc)
+
+-- nor have further sources without labels
+bare_further : (u : Settings) (sections : List Section) (a : SourceAnswers) → some_further sections ≡ false
+    → rows_over u (further_sources sections) a ≡ []
+bare_further u [] a h = refl
+bare_further u (section ∷ sections) a h =
+    let both = or_parts (is_labelled section) (some_further sections) h in
+    ap₂ (λ rows more. rows ++ more) (bare u section.source section.labels (first_source a) both.0)
+    (bare_further (after_labels (length section.labels) u) sections (drop 1 a) both.1)
+
 -- a diagnostic without labels over further sources has the rows of its own labels
-alone : (u : Settings) (source : Option Source) (m : Diagnosis) (a : Answer) → m.snippets ≡ []
+alone : (u : Settings) (source : Option Source) (m : Diagnosis) (a : Answer) → some_further m.snippets ≡ false
     → drawn_rows u source m a ≡ own_rows u source m a
 alone u source m a none =
-    ap (λ it. rows_over (drawn_with it u) (labelled source (given_labels m.labels) ∷ further_sources it) a.sources) none
+    ap (λ it. rows_over (record u { layout = record u.layout { one_line_start = it || u.layout.one_line_start } })
+    (sources_of source m) a.sources) none
+    ∙ ap (λ rows. own_rows u source m a ++ rows)
+    (bare_further (after_labels (length (given_labels m.labels)) u) m.snippets (drop 1 a.sources) none)
     ∙ append-nil (own_rows u source m a)
 
 pub returns-clause-without_snippets : goal.returns-clause-without_snippets
 returns-clause-without_snippets c = λ s t a none.
     report_alike whole_drawing (record whole_drawing { rows = own_rows }) s t a a (λ path p found u. (
       alone u p.source p.meaning (answer_at a path)
-          (holds_there (λ q. q.meaning.snippets ≡ []) (diagnostics_of s t) p none (printed_there s t path p found)),
+          (holds_there (λ q. some_further q.meaning.snippets ≡ false) (diagnostics_of s t) p none
+          (printed_there s t path p found)),
       refl,
     ))
 
@@ -50,4 +72,5 @@ returns-clause-without_fixes c = λ s t a none.
 
 pub returns-clause-sources : goal.returns-clause-sources
 returns-clause-sources c = λ s it m a labels none.
-    ap (λ ls. source_rows s it.source ls a) (sym labels) ∙ sym (alone s it.source m (sources_listed (a ∷ [])) none)
+    ap (λ ls. source_rows s it.source ls a) (sym labels)
+    ∙ sym (alone s it.source m (sources_listed (a ∷ [])) (ap some_further none))
