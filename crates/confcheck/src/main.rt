@@ -1,12 +1,12 @@
-//! Checks a file of settings in TOML: `confcheck FILE`.
+//! Checks a file of settings in TOML, and that another one gives none of them: `confcheck FILE [FILE]`.
 #![tactic(auto)]
 
 mod settings;
 
-use crate::settings::{is_known, key_in, line_of, nearest, port_of};
+use crate::settings::{is_known, key_in, line_of, nearest, port_of, set_twice};
 use miette::prelude::{
     Applicability, Edit, Fix, Host, IntoDiagnostic, LabeledSpan, MietteDiagnostic, OwnedSource,
-    Report, Result, Severity, WrapErr, print_report,
+    Report, Result, Severity, Snippets, WrapErr, print_report,
 };
 use miette_tree::miette;
 use std::alloc::{AllocError, Global};
@@ -24,20 +24,65 @@ fn main(rt: HostRuntime) -> ExitCode {
 
 fn run<R: Host>(rt: &R) -> Result<()> {
     let alloc = rt.alloc();
-    let name = env::args(rt)
-        .into_diagnostic(alloc)?
+    let mut words = env::args(rt).into_diagnostic(alloc)?;
+    let name = words
         .nth(1)
-        .wrap_err(alloc, "usage: confcheck FILE")?;
-    let text = fs::read_to_string(rt, name.as_str())
-        .into_diagnostic(alloc)
-        .wrap_err_with(alloc, || format!(in alloc; "could not read {name}"))?;
-    match check(alloc, text.as_str()) {
+        .wrap_err(alloc, "usage: confcheck FILE [FILE]")?;
+    let text = text_of(rt, name.as_str())?;
+    match check_with(rt, text.as_str(), words.next()) {
         Ok(port) => println!(rt; "{name}: port {port}").into_diagnostic(alloc),
         Err(report) => {
             let source = OwnedSource::named(alloc, name.as_str(), Some("toml"), text.into_bytes())?;
             Err(report.with_owned_source(source))
         }
     }
+}
+
+/// The text of a file.
+fn text_of<R: Host>(rt: &R, name: &str) -> Result<String> {
+    let alloc = rt.alloc();
+    fs::read_to_string(rt, name)
+        .into_diagnostic(alloc)
+        .wrap_err_with(alloc, || format!(in alloc; "could not read {name}"))
+}
+
+/// The port, or what is wrong with the settings, of which another file may give none.
+fn check_with<R: Host>(rt: &R, text: &str, other: Option<String>) -> Result<i64> {
+    if let Some(name) = other {
+        check_other(rt, text, name.as_str())?;
+    }
+    check(rt.alloc(), text)
+}
+
+/// Fails where another file gives one of the settings too.
+fn check_other<R: Host>(rt: &R, text: &str, name: &str) -> Result<()> {
+    let alloc = rt.alloc();
+    let other = text_of(rt, name)?;
+    match set_twice(text, other.as_str()) {
+        Some((key, line, again)) => {
+            let labels = label_on(alloc, Some(again), "and here")?;
+            let source = OwnedSource::named(alloc, name, Some("toml"), other.into_bytes())?;
+            let elsewhere = Snippets::over_owned(source, labels);
+            Err(given_twice(alloc, key, line, elsewhere)?)
+        }
+        None => Ok(()),
+    }
+}
+
+/// A fault that two files give a key: on a line of the first one, and elsewhere.
+fn given_twice(
+    alloc: Global,
+    key: &str,
+    line: (usize, usize),
+    elsewhere: Snippets,
+) -> Result<Report> {
+    let labels = label_on(alloc, Some(line), "given here")?;
+    Ok(miette!(
+        in alloc;
+        labels = labels,
+        snippets = vec![in alloc; elsewhere]?,
+        "two files give `{key}`"
+    ))
 }
 
 /// The port, or what is wrong with the settings.

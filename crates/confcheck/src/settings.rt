@@ -23,6 +23,19 @@ pub fn port_of(table: &Table) -> Option<i64> {
     }
 }
 
+/// The first known key that both texts set, with the line in each that sets it.
+pub fn set_twice(
+    text: &str,
+    other: &str,
+) -> Option<(&'static str, (usize, usize), (usize, usize))> {
+    for key in KEYS {
+        if let (Some(line), Some(again)) = (line_of(text, key), line_of(other, key)) {
+            return Some((key, line, again));
+        }
+    }
+    None
+}
+
 /// The known key that the fewest edits of characters make of this one, where `EDITS` are enough.
 pub fn nearest(alloc: Global, key: &str) -> Result<Option<&'static str>, AllocError> {
     let mut found = None;
