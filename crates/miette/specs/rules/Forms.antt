@@ -59,6 +59,11 @@ summary form is_begun c = front form is_begun ++ (counts_text c ++ codes "\n")
 abbrev pub IsNext : Form → Bool → (List ℕ → Type 0) → List ℕ → Type 0
 IsNext form is_begun given text = (own : List ℕ) × given own × (text ≡ (front form is_begun ++ own) ++ behind form)
 
+-- one report, by what its call makes of the text in front of it
+abbrev pub IsNextBy : Form → Bool → (List ℕ → List ℕ → Type 0) → List ℕ → Type 0
+IsNextBy form is_begun appends text =
+    (grown : List ℕ) × appends (front form is_begun) grown × (text ≡ grown ++ behind form)
+
 -- the end of a run, with a summary where it is asked for
 abbrev pub ending : Form → Bool → Bool → Counts → List ℕ
 ending form is_begun is_summed c =

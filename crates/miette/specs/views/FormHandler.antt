@@ -1,11 +1,12 @@
--- What the handler of a form may give, refuse and keep.
+-- What the handler of a form may give, refuse, keep and ask of a highlighter.
 use Rattle.std.specs.Prelude.{◌≡◌, ℕ, Bool, true, false, List, Some}
+use Rattle.miette_highlight.specs.rules.HighlighterCalls.{Call}
 use Rattle.miette_json.specs.rules.JsonText.{IsJsonOf}
 use Rattle.miette_style.specs.declared.theme.Terminal.{Terminal}
 use Rattle.miette_tree.specs.rules.Tree.{Tree}
 use Rattle.miette.specs.rules.Choice.{IsChosen}
 use Rattle.miette.specs.rules.Options.{Options}
-use Rattle.miette.specs.views.Handler.{Gives, Keeps, Refuses}
+use Rattle.miette.specs.views.Handler.{Asks, Gives, Keeps, Refuses}
 use Rattle.miette.specs.declared.reporter.form.Form.{Form}
 use Rattle.miette.specs.declared.reporter.form.Form.TheVariants.{Pictures, Narrated, Brief, JsonArray, JsonRows}
 use Rattle.miette.specs.declared.reporter.handler.FormHandler.{FormHandler}
@@ -25,6 +26,14 @@ KeepsInForm is_blank (Chosen old) (Chosen new) = Keeps is_blank old new
 KeepsInForm is_blank (Chosen old) (Json new) = ⊥
 KeepsInForm is_blank (Json old) (Chosen new) = ⊥
 KeepsInForm is_blank (Json old) (Json new) = new ≡ old
+
+-- One of the texts, by answers that the highlighter gave by such calls: JSON asks for none.
+abbrev pub AsksInForm : {H : Type 0} → (H → Bool) → (H → List Call → Type 0) → FormHandler H → FormHandler H → Tree
+    → List ℕ → Type 0
+AsksInForm is_blank may_follow (Chosen old) (Chosen new) t text = Asks is_blank may_follow old new t text
+AsksInForm is_blank may_follow (Chosen old) (Json new) t text = ⊥
+AsksInForm is_blank may_follow (Json old) (Chosen new) t text = ⊥
+AsksInForm is_blank may_follow (Json old) (Json new) t text = IsJsonOf t text
 
 -- what a form asks for, whatever else the options say of it
 abbrev pub options_in : {H : Type 0} → Form → Options H → Options H

@@ -53,13 +53,16 @@ impl<H: Highlighter> FormHandler<H> {
 }
 
 impl<H: Highlighter> ReportHandler for FormHandler<H> {
-    ghost use Rattle.miette.specs.views.FormHandler.{GivesInForm, KeepsInForm, RefusesInForm};
+    ghost use Rattle.miette.specs.views.FormHandler.{AsksInForm, GivesInForm, KeepsInForm, RefusesInForm};
+    ghost use Rattle.miette_tree.specs.views.Handler.{AppendsOne};
 
     ghost gives = { GivesInForm H.is_blank };
 
     ghost refuses = { RefusesInForm };
 
     ghost keeps = { KeepsInForm H.is_blank };
+
+    ghost asks = { λ old new t before after. AppendsOne (AsksInForm H.is_blank H.may_follow old new t) before after };
 
     fn debug<D: Diagnostic, S: SourceCode>(
         &mut self,

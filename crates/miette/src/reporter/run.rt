@@ -10,7 +10,7 @@ ghost use Rattle.miette_tree.specs.rules.Tree.{head};
 ghost use Rattle.miette_tree.specs.views.Report.{tree_of};
 ghost use Rattle.miette.specs.declared.print.PrintError.TheVariants.{Write, Refused};
 ghost use Rattle.miette.specs.rules.Counting.{with_one};
-ghost use Rattle.miette.specs.rules.Forms.{IsNext, ending};
+ghost use Rattle.miette.specs.rules.Forms.{IsNext, IsNextBy, ending};
 ghost use Rattle.miette.specs.rules.Printing.{WritesOne, unprinted_row};
 ghost use Rattle.miette.specs.rules.Run.{new_run, run_status};
 
@@ -129,6 +129,9 @@ impl<T: ReportHandler, W: Write, F: Write> Reporter<T, W, F> {
         ensures written { OnOk result (WritesOne (IsNext self.old.form self.old.is_begun
             (T.gives self.old.handler (tree_of D.meaning S.source report.now)))
             (W.contents self.old.outputs.writer) (W.contents self.new.outputs.writer)) }
+        ensures asks { OnOk result (WritesOne (IsNextBy self.old.form self.old.is_begun
+            (T.asks self.old.handler self.new.handler (tree_of D.meaning S.source report.now)))
+            (W.contents self.old.outputs.writer) (W.contents self.new.outputs.writer)) }
         ensures unwritten { OnErr result ((result ≡ Err Write) ⊎ (self.new.outputs ≡ self.old.outputs)) }
         ensures stopped { (self.old.failure ≡ Some Write) →
             (result ≡ Err Write) × (self.new.outputs ≡ self.old.outputs) }
@@ -165,6 +168,9 @@ impl<T: ReportHandler, W: Write, F: Write> Reporter<T, W, F> {
         ensures written { OnOk result (WritesOne (IsNext self.old.form self.old.is_begun
             (T.gives self.old.handler (tree_of D.meaning S.source report.now)))
             (W.contents self.old.outputs.writer) (W.contents self.new.outputs.writer)) }
+        ensures asks { OnOk result (WritesOne (IsNextBy self.old.form self.old.is_begun
+            (T.asks self.old.handler self.new.handler (tree_of D.meaning S.source report.now)))
+            (W.contents self.old.outputs.writer) (W.contents self.new.outputs.writer)) }
         ensures unwritten { OnErr result ((result ≡ Err Write) ⊎ (self.new.outputs ≡ self.old.outputs)) }
         ensures stopped { (self.old.failure ≡ Some Write) →
             (result ≡ Err Write) × (self.new.outputs ≡ self.old.outputs) }
@@ -188,6 +194,8 @@ impl<T: ReportHandler, W: Write, F: Write> Reporter<T, W, F> {
     ) -> Result<String, PrintError>
         ensures text { IfOk result (λ text. IsNext self.old.form self.old.is_begun
             (T.gives self.old.handler (tree_of D.meaning S.source report.now)) (string_bytes text)) }
+        ensures asks { IfOk result (λ text. IsNextBy self.old.form self.old.is_begun
+            (T.asks self.old.handler self.new.handler (tree_of D.meaning S.source report.now)) (string_bytes text)) }
         ensures write { (result ≡ Err Write) → ⊥ }
         ensures refused { (result ≡ Err Refused) →
             T.refuses self.old.handler (tree_of D.meaning S.source report.now) }

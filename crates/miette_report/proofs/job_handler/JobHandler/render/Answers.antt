@@ -74,9 +74,9 @@ returns-clause-led g c =
       | in-Built-Narrated w ↦
           on-any c.text_or_fault.result _ (led-without follow _ _
           (simp (w.in-Built-Narrated.is, w.in-Built-Narrated.field-0-is))
-          (simp w.self-is))
+          (simp (w.self-is, w.in-Built-Narrated.is, w.in-Built-Narrated.field-0-is)))
       | in-Built-Brief w ↦
           on-any c.text_or_fault.result _ (led-without follow _ _
           (simp (w.in-Built-Brief.is, w.in-Built-Brief.field-0-is))
-          (simp w.self-is))
+          (simp (w.self-is, w.in-Built-Brief.is, w.in-Built-Brief.field-0-is)))
     ]
