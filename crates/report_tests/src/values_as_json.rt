@@ -82,8 +82,8 @@ static LABELS: [(&str, Option<usize>, &str); 6] = [
 fn label_with(lines: Option<usize>) -> LabeledSpan {
     let label = LabeledSpan::underline(1..3);
     match lines {
-        Some(lines) => label.with_context_lines(lines),
-        None => label,
+        Some(lines) if 0 < lines => label.with_context_lines(lines),
+        _ => label,
     }
 }
 

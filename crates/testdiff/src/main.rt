@@ -69,35 +69,21 @@ fn report_of(
 }
 
 fn read_words<R: Host>(rt: &R) -> Result<Words> {
-    let mut words = env::args(rt).into_diagnostic(rt.alloc())?.skip(1);
-    let first = next_of(rt.alloc(), &mut words)?;
-    if first.as_str() == "--json" {
-        let expected = next_of(rt.alloc(), &mut words)?;
-        with_actual(rt.alloc(), Form::JsonRows, expected, &mut words)
+    let alloc = rt.alloc();
+    let usage = "usage: testdiff [--json] EXPECTED ACTUAL";
+    let mut words = env::args(rt).into_diagnostic(alloc)?.skip(1);
+    let first = words.next().wrap_err(alloc, usage)?;
+    let (form, expected) = if first.as_str() == "--json" {
+        (Form::JsonRows, words.next().wrap_err(alloc, usage)?)
     } else {
-        with_actual(rt.alloc(), Form::Pictures, first, &mut words)
-    }
-}
-
-fn with_actual<I: Iterator<Item = String>>(
-    alloc: Global,
-    form: Form,
-    expected: String,
-    words: &mut I,
-) -> Result<Words> {
-    let actual = next_of(alloc, words)?;
+        (Form::Pictures, first)
+    };
+    let actual = words.next().wrap_err(alloc, usage)?;
     Ok(Words {
         form,
         expected,
         actual,
     })
-}
-
-/// The next of the words that the program wants.
-fn next_of<I: Iterator<Item = String>>(alloc: Global, words: &mut I) -> Result<String> {
-    words
-        .next()
-        .wrap_err(alloc, "usage: testdiff [--json] EXPECTED ACTUAL")
 }
 
 fn log<R: Host>(rt: &R, name: &str) -> Result<String> {
