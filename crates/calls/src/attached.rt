@@ -65,17 +65,9 @@ fn over_two(alloc: Global) -> Result<Plain, AllocError> {
     over_a_text(alloc)?.with_owned_snippets(alloc, source, labels)
 }
 
-/// A label over another source.
-fn section<S: SourceCode + Drop>(
-    alloc: Global,
-    offset: usize,
-) -> Result<Vec<Snippets<S>>, AllocError> {
-    let labels = label_at(alloc, offset)?;
-    Ok(vec![in alloc; Snippets::over_owned(owned(alloc)?, labels)]?)
-}
-
 fn over_another(alloc: Global) -> Result<Plain, AllocError> {
-    let others = section(alloc, 2)?;
+    let other = Snippets::over_owned(owned(alloc)?, label_at(alloc, 2)?);
+    let others = vec![in alloc; other]?;
     over_a_text(alloc)?.with_all_snippets(alloc, others)
 }
 
@@ -101,7 +93,8 @@ fn with_other_fixes(alloc: Global) -> Result<Plain, AllocError> {
 }
 
 fn by_macro(alloc: Global) -> Result<Report, AllocError> {
-    let snippets = section(alloc, 1)?;
+    let section = Snippets::over_owned(owned(alloc)?, label_at(alloc, 1)?);
+    let snippets = vec![in alloc; section]?;
     let fixes = one_fix(alloc)?;
     Ok(miette!(in alloc; snippets = snippets, code = "a::b", fixes = fixes, "{} is too much", 7))
 }
