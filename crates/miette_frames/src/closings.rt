@@ -51,7 +51,8 @@ fn push_part_row<O: Canvas>(
 {
     push_other_start(page, context)?;
     push_gutter(page, context, part.columns, part.end)?;
-    push_part(page, label.style, part.bar, part.text)
+    push_part(page, label.style, part.bar, part.text)?;
+    Ok(())
 }
 
 // The rows of a text's parts after the first.
@@ -106,7 +107,8 @@ fn push_closing<O: Canvas>(
             bar: characters.hbar,
             text: first,
         };
-        return push_part_row(page, context, label, &part);
+        push_part_row(page, context, label, &part)?;
+        return Ok(());
     };
     let columns = context.gutter.saturating_sub(1);
     let part = ClosingPart {
@@ -116,7 +118,8 @@ fn push_closing<O: Canvas>(
         text: first,
     };
     push_part_row(page, context, label, &part)?;
-    push_open_rows(page, context, columns, label, rest)
+    push_open_rows(page, context, columns, label, rest)?;
+    Ok(())
 }
 
 /// The rows of the texts of the labels of several lines that end on the context's line, in order. `AllocError` where

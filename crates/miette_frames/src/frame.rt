@@ -52,7 +52,8 @@ fn push_ascii<O: Canvas>(page: &mut Page<O>, style: Style, text: &str) -> Outcom
     ensures { OnOk result (page.new ≡ page.old ⊕ styled_tokens style text.now) }
 {
     page.begin(style)?;
-    page.push_str(text)
+    page.push_str(text)?;
+    Ok(())
 }
 
 // A run of a text.
@@ -60,7 +61,8 @@ fn push_styled<O: Canvas>(page: &mut Page<O>, style: Style, text: &str) -> Outco
     ensures { OnOk result (page.new ≡ page.old ⊕ styled_tokens style (chars text.now)) }
 {
     page.begin(style)?;
-    page.push_str(text)
+    page.push_str(text)?;
+    Ok(())
 }
 
 // A run of a number.
@@ -68,7 +70,8 @@ fn push_count<O: Canvas>(page: &mut Page<O>, style: Style, number: usize) -> Out
     ensures { OnOk result (page.new ≡ page.old ⊕ styled_tokens style (decimal number)) }
 {
     page.begin(style)?;
-    page.push_number(number)
+    page.push_number(number)?;
+    Ok(())
 }
 
 // The spaces before a corner, the corner, and what follows it: `   ╭─`.
@@ -81,7 +84,8 @@ fn push_corner<O: Canvas>(page: &mut Page<O>, frame: &Frame, corner: char, many:
         return Err(AllocError);
     };
     page.push_blank(columns)?;
-    page.push_line(PLAIN, corner, frame.settings.theme.characters.hbar, many)
+    page.push_line(PLAIN, corner, frame.settings.theme.characters.hbar, many)?;
+    Ok(())
 }
 
 // A line's and a column's number, counted from 1 where they are given from 0: `2:3`.
@@ -92,7 +96,8 @@ fn push_place<O: Canvas>(page: &mut Page<O>, place: Place) -> Outcome
     let column = sum(place.1, 1)?;
     page.push_number(line)?;
     page.push(':')?;
-    page.push_number(column)
+    page.push_number(column)?;
+    Ok(())
 }
 
 // What a place is called in a source with a name: `name:2:3`, or `name`.
@@ -106,7 +111,8 @@ fn push_link<O: Canvas>(page: &mut Page<O>, frame: &Frame, name: &str, place: Pl
         return Ok(());
     }
     page.push(':')?;
-    push_place(page, place)
+    push_place(page, place)?;
+    Ok(())
 }
 
 // A place in a source with a name: `[name:2:3]`, or `[name]` where the place isn't asked for.
@@ -122,7 +128,8 @@ fn push_named_place<O: Canvas>(
 {
     push_ascii(page, PLAIN, "[")?;
     push_link(page, frame, name, place)?;
-    push_ascii(page, PLAIN, "]")
+    push_ascii(page, PLAIN, "]")?;
+    Ok(())
 }
 
 // Whether a frame in a source without a name shows its place: where that is asked for, over several lines or over one
@@ -146,10 +153,12 @@ fn push_bare_place<O: Canvas>(
     if shows_bare_place(frame.settings.layout, several) {
         page.push_line(PLAIN, '[', ' ', 0)?;
         push_place(page, place)?;
-        return page.push(']');
+        page.push(']')?;
+        return Ok(());
     }
     let line = frame.settings.theme.characters.hbar;
-    page.push_line(PLAIN, line, line, 2)
+    page.push_line(PLAIN, line, line, 2)?;
+    Ok(())
 }
 
 // Where a snippet's primary label begins, if it has one.
@@ -162,8 +171,14 @@ fn push_location<O: Canvas>(page: &mut Page<O>, frame: &Frame, heading: &Heading
         return Ok(());
     };
     match heading.name {
-        Some(name) => push_named_place(page, frame, name, place),
-        None => push_bare_place(page, frame, heading.several, place),
+        Some(name) => {
+            push_named_place(page, frame, name, place)?;
+            Ok(())
+        }
+        None => {
+            push_bare_place(page, frame, heading.several, place)?;
+            Ok(())
+        }
     }
 }
 
@@ -176,7 +191,8 @@ pub fn push_top_row<O: Canvas>(page: &mut Page<O>, frame: &Frame, heading: &Head
 {
     push_corner(page, frame, frame.settings.theme.characters.ltop, 1)?;
     push_location(page, frame, heading)?;
-    page.end_row()
+    page.end_row()?;
+    Ok(())
 }
 
 /// The row under a snippet's lines: `   ╰────`. `AllocError` where memory is refused, or `number_width + 2` is past
@@ -186,7 +202,8 @@ pub fn push_bottom_row<O: Canvas>(page: &mut Page<O>, frame: &Frame) -> Outcome
         ⊕ rows_tokens (bottom_row (settings_of frame.now.settings) frame.now.number_width ∷ [])) }
 {
     push_corner(page, frame, frame.settings.theme.characters.lbot, 4)?;
-    page.end_row()
+    page.end_row()?;
+    Ok(())
 }
 
 // A label's text, or that it has none.
@@ -194,8 +211,14 @@ fn push_label_text<O: Canvas>(page: &mut Page<O>, style: Style, label: &LabeledS
     ensures { OnOk result (page.new ≡ page.old ⊕ styled_tokens style (text_or_none label.now.text)) }
 {
     match label.label() {
-        Some(text) => push_styled(page, style, text),
-        None => push_ascii(page, style, "<none>"),
+        Some(text) => {
+            push_styled(page, style, text)?;
+            Ok(())
+        }
+        None => {
+            push_ascii(page, style, "<none>")?;
+            Ok(())
+        }
     }
 }
 
@@ -209,7 +232,8 @@ fn push_refused_text<O: Canvas>(page: &mut Page<O>, frame: &Frame, label: &Label
     push_ascii(page, styles.error, "Failed to read contents for label")?;
     push_ascii(page, PLAIN, " `")?;
     push_label_text(page, styles.link, label)?;
-    push_ascii(page, PLAIN, "` (offset: ")
+    push_ascii(page, PLAIN, "` (offset: ")?;
+    Ok(())
 }
 
 /// The row in place of snippets where a label is refused, with the refusal's name: "  [Failed to read contents for
@@ -232,5 +256,6 @@ pub fn push_refused_row<O: Canvas>(
     push_ascii(page, PLAIN, "): ")?;
     push_styled(page, styles.warning, name)?;
     push_ascii(page, PLAIN, "]")?;
-    page.end_row()
+    page.end_row()?;
+    Ok(())
 }

@@ -87,7 +87,8 @@ fn push_arrow<O: Canvas>(
     let characters = &context.frame.settings.theme.characters;
     page.push_line(style, corner, characters.hbar, left.saturating_sub(3))?;
     page.push(characters.rarrow)?;
-    page.push_blank(1)
+    page.push_blank(1)?;
+    Ok(())
 }
 
 // What stands from the label on at which the bars stop, in the columns that are left.
@@ -104,14 +105,19 @@ fn push_gutter_end<O: Canvas>(
     match end {
         GutterEnd::Arrow => {
             let corner = arrow_corner(context, label);
-            push_arrow(page, context, label.style, corner, left)
+            push_arrow(page, context, label.style, corner, left)?;
+            Ok(())
         }
         GutterEnd::Corner => {
             let characters = &context.frame.settings.theme.characters;
             let bars = left.saturating_sub(1);
-            page.push_line(label.style, characters.lbot, characters.hbar, bars)
+            page.push_line(label.style, characters.lbot, characters.hbar, bars)?;
+            Ok(())
         }
-        GutterEnd::Open => page.push_blank(left),
+        GutterEnd::Open => {
+            page.push_blank(left)?;
+            Ok(())
+        }
     }
 }
 
@@ -130,12 +136,14 @@ pub fn push_gutter<O: Canvas>(
     let mut left = columns;
     for label in context.multi {
         if stops(&context.line, label, end) {
-            return push_gutter_end(page, context, label, left, end);
+            push_gutter_end(page, context, label, left, end)?;
+            return Ok(());
         }
         page.push_line(label.style, bar, bar, 0)?;
         left = left.saturating_sub(1);
     }
-    page.push_blank(left)
+    page.push_blank(left)?;
+    Ok(())
 }
 
 // A bar for each label.
@@ -160,5 +168,6 @@ pub fn push_break_gutter<O: Canvas>(page: &mut Page<O>, context: &LineContext) -
         return Ok(());
     }
     page.push_blank(1)?;
-    push_bars(page, context)
+    push_bars(page, context)?;
+    Ok(())
 }

@@ -32,5 +32,6 @@ pub(crate) fn push_part<O: Canvas>(
 {
     page.push_line(style, bar, ' ', 1)?;
     page.push_str(part)?;
-    page.end_row()
+    page.end_row()?;
+    Ok(())
 }

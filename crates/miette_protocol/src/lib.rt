@@ -4,6 +4,7 @@
 
 mod contents;
 mod context_lines;
+mod debug_field;
 pub mod diagnostic;
 pub mod error;
 mod find;

@@ -117,9 +117,8 @@ impl<H: Highlighter> GraphicalReportHandler<H> {
             OnOk result (all_read (diagnostics_of self.old.settings tree) ≡ true → AreCleanSettings self.old.settings →
             IsCleanTree tree → (others : List ℕ) → IsRestyledText whole_drawing self.old.settings tree others →
             AppendsErasing (string_bytes out.old) (string_bytes out.new) (erase others)) }
-        // It holds the snippets and the fixes of each printed diagnostic: where no arrow leads there, each row of its
-        // snippets, and each below the message of a fix, on a line of its own; else in the text that is wrapped under
-        // each arrow.
+        // It holds the snippets and the fixes of each printed diagnostic: their rows as they are, those of snippets
+        // each on a line of its own, where no arrow leads there, and else in the text that is wrapped under each arrow.
         ensures holds { OnOk result (AppendsOne (IsHoldingText whole_drawing self.old.settings
             (draws_plain H.is_blank self.old) (tree_of D.meaning S.source report.now))
             (string_bytes out.old) (string_bytes out.new)) }
@@ -141,8 +140,8 @@ impl<H: Highlighter> GraphicalReportHandler<H> {
         // those of the labels that run through it, and short labels change nothing
         ensures folds { OnOk result (EachPrinted LabelsAreFolded self.old (tree_of D.meaning S.source report.now)) }
         // of each of its fixes that can be applied, over a source that always reads: its rows are the frames of what it
-        // changes, in order, truly numbered, with exactly the unchanged lines left out that are in no change's context;
-        // the removed and unchanged lines are exactly the source's, the added and unchanged ones the applied text's
+        // changes, in order, truly numbered, with nothing left out but unchanged lines; the removed and unchanged lines
+        // are exactly the source's, the added and unchanged ones the applied text's
         ensures fixes { OnOk result (AllByRecursion (FixesAreTold self.old.settings)
             (diagnostics_of self.old.settings (tree_of D.meaning S.source report.now))) }
         ensures refused { (result ≡ Err RenderError.Refused) →
