@@ -1,6 +1,6 @@
 //! Diagnostics.
 
-use crate::fixtures::{Label, M, Written, diagnostic_of, labels_of};
+use crate::fixtures::{Label, labels_of};
 use crate::rows::{Done, Stop, write_answer, write_clones_if_made, write_made};
 use miette::diagnostic::MietteDiagnostic;
 use miette::protocol::{LabeledSpan, Severity};
@@ -129,18 +129,13 @@ fn and_labels(
 /// Two labels.
 static TWO: [Label<'static>; 2] = [(0, 6, 0, "first"), (18, 4, 0, "second")];
 
-/// All parts.
-static FULL: Written<'static> = Written {
-    message: "oops!",
-    code: "a::b",
-    url: "http://x",
-    help: "try",
-    severity: Some(Severity::Warning),
-    labels: &[(9, 4, 0, "This bit here")],
-    ..M
-};
-
 /// A diagnostic with all parts.
 pub fn full_diagnostic(alloc: Global) -> Result<MietteDiagnostic, AllocError> {
-    diagnostic_of(alloc, &FULL)
+    let label = LabeledSpan::at(alloc, (9, 4), "This bit here")?;
+    MietteDiagnostic::new(alloc, "oops!")?
+        .with_severity(Severity::Warning)
+        .with_label(alloc, label)?
+        .with_code(alloc, "a::b")?
+        .with_help(alloc, "try")?
+        .with_url(alloc, "http://x")
 }
