@@ -217,18 +217,38 @@ def word_of(text):
     return re.sub(r"<.*", "", text.strip()).split("::")[-1].split()[-1].lstrip("&")
 
 
+def module_of(file):
+    """The path of the module that a file of src holds."""
+    return file.removeprefix("src/").removesuffix(".rt").replace("/", "::")
+
+
+def owner_of(text, function):
+    """Whether a method's block is an `impl` or a `trait`, and its head without generic parameters and bounds."""
+    owner = [it for it in OWNER.finditer(text) if it.start() < function.start][-1]
+    return owner[1], without_first_brackets(owner[2].strip()).split("{")[0].split(" where ")[0]
+
+
 def name_of(file, text, number):
     """The end of the name of a function of a file, as a check prints it: `module::name`, `Type::name`, `TypeTrait::name`."""
     its = functions(text)[number]
     if not its.indent:
-        module = file.removeprefix("src/").removesuffix(".rt").replace("/", "::")
+        module = module_of(file)
         return its.name if module in ("lib", "main") else f"{module}::{its.name}"
-    owner = [it for it in OWNER.finditer(text) if it.start() < its.start][-1]
-    head = without_first_brackets(owner[2].strip()).split("{")[0].split(" where ")[0]
-    if owner[1] == "trait":
+    kind, head = owner_of(text, its)
+    if kind == "trait":
         return f"{word_of(head.split(':')[0])}::{its.name}"
     first, _, last = head.partition(" for ")
     return f"{word_of(last)}{word_of(first)}::{its.name}" if last else f"{word_of(head)}::{its.name}"
+
+
+def path_of(file, text, number):
+    """What names a function of a file to a check: its name, or its module where the name has types of `impl From<Type> for ..`."""
+    its = functions(text)[number]
+    if its.indent:
+        first, _, last = owner_of(text, its)[1].partition(" for ")
+        if last and ("<" in first or re.match(r"(?:Box|Vec|Option|Result)<|[&(\[]", last.strip())):
+            return module_of(file)
+    return name_of(file, text, number)
 
 
 # ---- the toolchain
