@@ -80,9 +80,9 @@ pub fn draw_sum(alloc: Global, report: &Report) -> Result<String, RenderError>
         ⟦<Box<dyn SourceCode> as SourceCode>⟧.source report.now ≡ sum_tree }
     // each row of its snippet stands in the text, on a line of its own: by `holds`
     ensures rows { IfOk result (λ text. RowsStand (string_bytes text)) }
-    // so do those of its cause, under the arrow: by `holds` and `levels_law`
+    // so do those of its cause that have room, below the first, under the arrow: by `levels_law`
     ensures under { IfOk result (λ text. CauseStands (string_bytes text)) }
-    // its long line is cut, and no other: by `cuts`
+    // its long line is cut, the first line of the call isn't: by `cuts`
     ensures cut { IfOk result (λ text. IsCut) }
     // its cause is drawn as without a limit: by `fits`
     ensures cause { IfOk result (λ text. CauseStays) }
