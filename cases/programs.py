@@ -46,8 +46,8 @@ def passed_on(terminal):
     return shown
 
 
-def run_in_terminal(words, given=b"", variables=None, **named):
-    """As `run`, but standard output is a terminal, which passes on what it gets as it is."""
+def run_in_terminal(stream, words, given=b"", variables=None, **named):
+    """As `run`, but this stream, `stdout` or `stderr`, is a terminal, which passes on what it gets as it is."""
     name, *rest = words
     command, named = [program(name), *rest], {"timeout": 60, **named}
     mine, its = os.openpty()
@@ -55,12 +55,13 @@ def run_in_terminal(words, given=b"", variables=None, **named):
     with ThreadPoolExecutor(1) as pool:
         shown = pool.submit(passed_on, mine)
         try:
-            done = subprocess.run(command, input=given, stdout=its, stderr=subprocess.PIPE, env=variables, **named)
+            streams = {"stdout": subprocess.PIPE, "stderr": subprocess.PIPE, stream: its}
+            done = subprocess.run(command, input=given, env=variables, **streams, **named)
         finally:
             os.close(its)
         text = shown.result()
     os.close(mine)
-    return done.returncode, text, done.stderr
+    return (done.returncode, text, done.stderr) if stream == "stdout" else (done.returncode, done.stdout, text)
 
 
 def library_in(folder, name):

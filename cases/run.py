@@ -4,13 +4,15 @@
 Each line of the file is a JSON object: `argv` (the program's name and its words), `stdin` and `stdout` (base64), or
 in their place `stdin_text` and `stdout_text` (plain) or `report` (the description that is the input), `status` and
 `stderr`. `what` says what a case shows. `folder` is where the program runs, `variables` are all that it is told of its
-surroundings. With `terminal` standard output is a terminal. With `beginnings` a case is one for each beginning of its input but the whole. The first mismatches are
-shown in full. The last line is 'N passed, M failed', and the exit status is 0 only where nothing failed."""
+surroundings. `terminal` is the stream that is a terminal, `stdout` or `stderr`. With `beginnings` a case is one for
+each beginning of its input but the whole. The first mismatches are shown in full. The last line is 'N passed, M
+failed', and the exit status is 0 only where nothing failed."""
 import base64
 import json
 import os
 import subprocess
 import sys
+from functools import partial
 
 from programs import ROOT, SHOWN, counted, each, run, run_in_terminal
 
@@ -35,7 +37,7 @@ def read(line):
 def answer(case):
     """What the program of a case answers: status, standard output, standard error."""
     folder = os.path.join(ROOT, case.get("folder", "."))
-    runs = run_in_terminal if case.get("terminal") else run
+    runs = partial(run_in_terminal, case["terminal"]) if "terminal" in case else run
     try:
         return runs(case["argv"], case["given"], case.get("variables"), cwd=folder)
     except (OSError, subprocess.TimeoutExpired) as fault:
