@@ -23,6 +23,8 @@ mod edges;
 #[cfg(test)]
 mod errors;
 #[cfg(test)]
+mod findings;
+#[cfg(test)]
 mod first_chapter;
 #[cfg(test)]
 mod highlighting;
@@ -38,6 +40,8 @@ mod patterns;
 mod positions;
 #[cfg(test)]
 mod printing;
+#[cfg(test)]
+mod read_back;
 #[cfg(test)]
 mod reads;
 #[cfg(test)]
