@@ -1,11 +1,11 @@
 //! Tests of reports and handlers as callers write them: what is let go, themes, highlighters, sources that stop. The
 //! expected texts were written by hand from the rules. What a description can say stands in `cases/`, and so does what
-//! the program `calls` prints of each call, with refused memory and over sources that stop; and what programs write, with
-//! devices that fail and words that could not be had.
+//! the program `calls` prints of each call, with refused memory and over sources that stop; and what programs write,
+//! with devices that fail and words that could not be had.
 //!
-//! And tests of values: places in texts, reads of sources, JSON, what is printed; highlighters and wrapped texts. What a
-//! clause says word for word isn't tried again: what spans, labels, diagnostics, errors, styles and themes are made of,
-//! and how they are compared, hashed and cloned (`miette_protocol::protocol::comparison_laws` and the others).
+//! And tests of values: places in texts, reads of sources, JSON, what is printed; highlighters and wrapped texts. What
+//! a clause says word for word isn't tried again: what spans, labels, diagnostics, errors, styles and themes are made
+//! of, and how they are compared, hashed and cloned (`miette_protocol::protocol::comparison_laws` and the others).
 #![tactic(auto)]
 
 #[cfg(test)]
