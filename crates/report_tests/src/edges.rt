@@ -1,7 +1,7 @@
 //! Themes of a user's own: a bar that is a space, above line feeds at the end of an inner report, and no style for
 //! labels.
 
-use crate::highlighting::label_ab;
+use crate::highlighting::over_ab;
 use crate::renderings::draws;
 use miette::handlers::GraphicalReportHandler;
 use miette::report::Report;
@@ -59,7 +59,7 @@ fn no_style_for_labels(rt: HostRuntime) {
         &rt,
         alloc,
         without_highlights(alloc),
-        label_ab(alloc),
+        over_ab(alloc, 0),
         wanted,
     );
 }

@@ -1,9 +1,8 @@
 //! The report of the first chapter of docs/GUIDE.md, by the calls that it shows. The same report by `job`, drawn and
 //! narrated, stands first in `cases/gallery.jsonl`.
 
-use crate::comparing::gives;
+use crate::renderings::draws;
 use miette::diagnostic::MietteDiagnostic;
-use miette::error::RenderError;
 use miette::handlers::GraphicalReportHandler;
 use miette::protocol::LabeledSpan;
 use miette::report::{OwnedSource, Report};
@@ -41,24 +40,14 @@ fn plain_handler(alloc: Global) -> Result<GraphicalReportHandler, AllocError> {
     Ok(GraphicalReportHandler::new_themed(theme).with_width(80))
 }
 
-/// What the handler draws of the report.
-fn draw(
-    alloc: Global,
-    handler: &mut GraphicalReportHandler,
-    report: &Report,
-) -> Result<String, RenderError> {
-    let mut text = String::new(alloc);
-    handler.render_report(report, &mut text)?;
-    Ok(text)
-}
-
-/// The picture of that chapter.
-fn first_picture(alloc: Global) -> Result<String, RenderError> {
-    let report = first_report(alloc)?;
-    draw(alloc, &mut plain_handler(alloc)?, &report)
-}
-
 #[test]
 fn one_label(rt: HostRuntime) {
-    gives(&rt, first_picture(rt.alloc()), ONE_LABEL);
+    let alloc = rt.alloc();
+    draws(
+        &rt,
+        alloc,
+        plain_handler(alloc),
+        first_report(alloc),
+        ONE_LABEL,
+    );
 }

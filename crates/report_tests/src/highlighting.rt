@@ -3,7 +3,7 @@
 use crate::renderings::draws;
 use miette::diagnostic::MietteDiagnostic;
 use miette::handlers::GraphicalReportHandler;
-use miette::highlight::{BlankHighlighter, Highlighter};
+use miette::highlight::Highlighter;
 use miette::protocol::LabeledSpan;
 use miette::report::{OwnedSource, Report};
 use miette::source::MietteSpanContents;
@@ -32,24 +32,20 @@ impl Highlighter for FirstRed {
     fn restart(&mut self, _contents: &MietteSpanContents<'_>) {}
 }
 
-/// The message `m` with this label.
-fn labelled(alloc: Global, label: LabeledSpan) -> Result<MietteDiagnostic, AllocError> {
-    MietteDiagnostic::new(alloc, "m")?.with_label(alloc, label)
+/// The message `m` with a label of one byte there.
+fn labelled(alloc: Global, offset: usize) -> Result<MietteDiagnostic, AllocError> {
+    MietteDiagnostic::new(alloc, "m")?.with_label(alloc, LabeledSpan::new(None, offset, 1))
+}
+
+fn source_ab(alloc: Global) -> Result<OwnedSource, AllocError> {
+    OwnedSource::new(alloc, b"ab".to_vec(alloc)?)
 }
 
 /// The same over the source `ab`.
-pub(crate) fn over_ab(alloc: Global, label: LabeledSpan) -> Result<Report, AllocError> {
-    let diagnostic = labelled(alloc, label)?;
-    let source = OwnedSource::new(alloc, b"ab".to_vec(alloc)?)?;
-    Ok(Report::new(diagnostic).with_owned_source(source))
+pub(crate) fn over_ab(alloc: Global, offset: usize) -> Result<Report, AllocError> {
+    let source = source_ab(alloc)?;
+    Ok(Report::new(labelled(alloc, offset)?).with_owned_source(source))
 }
-
-/// A label on its first byte.
-pub(crate) fn label_ab(alloc: Global) -> Result<Report, AllocError> {
-    over_ab(alloc, LabeledSpan::new(None, 0, 1))
-}
-
-const PLAIN: &str = "  × m\n   ╭────\n 1 │ ab\n   · ─\n   ╰────\n";
 
 /// A plain handler whose source lines this highlighter styles.
 fn handler_with_highlighter(
@@ -64,14 +60,9 @@ fn with_red(alloc: Global) -> Result<GraphicalReportHandler, AllocError> {
     handler_with_highlighter(alloc, Box::new(alloc, FirstRed)?)
 }
 
-fn with_blank(alloc: Global) -> Result<GraphicalReportHandler, AllocError> {
-    handler_with_highlighter(alloc, Box::new(alloc, BlankHighlighter)?)
-}
-
 #[test]
 fn pieces_are_styled(rt: HostRuntime) {
     let alloc = rt.alloc();
     let styled = "  × m\n   ╭────\n 1 │ \u{1b}[31ma\u{1b}[0mb\n   · ─\n   ╰────\n";
-    draws(&rt, alloc, with_red(alloc), label_ab(alloc), styled);
-    draws(&rt, alloc, with_blank(alloc), label_ab(alloc), PLAIN);
+    draws(&rt, alloc, with_red(alloc), over_ab(alloc, 0), styled);
 }

@@ -48,17 +48,23 @@ fn boxed_stopping_source(alloc: Global) -> Result<Box<dyn SourceCode>, AllocErro
 
 /// The message `m` with a label of this length over them.
 fn stopping_report(alloc: Global, length: usize) -> Result<Report, AllocError> {
-    let label = LabeledSpan::new(None, 0, length);
-    let diagnostic = MietteDiagnostic::new(alloc, "m")?.with_label(alloc, label)?;
-    Ok(Report::new(diagnostic).with_source_code(boxed_stopping_source(alloc)?))
+    let source = boxed_stopping_source(alloc)?;
+    Ok(Report::new(labelled(alloc, length)?).with_source_code(source))
+}
+
+fn labelled(alloc: Global, length: usize) -> Result<MietteDiagnostic, AllocError> {
+    MietteDiagnostic::new(alloc, "m")?.with_label(alloc, LabeledSpan::new(None, 0, length))
+}
+
+fn text_of(alloc: Global, report: &Report) -> Result<String, RenderError> {
+    let mut out = String::new(alloc);
+    JSONReportHandler::default().render_report(report, &mut out)?;
+    Ok(out)
 }
 
 /// Its JSON text.
 fn json_text(alloc: Global, length: usize) -> Result<String, RenderError> {
-    let report = stopping_report(alloc, length)?;
-    let mut out = String::new(alloc);
-    JSONReportHandler::default().render_report(&report, &mut out)?;
-    Ok(out)
+    text_of(alloc, &stopping_report(alloc, length)?)
 }
 
 #[test]

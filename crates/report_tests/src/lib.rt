@@ -1,19 +1,19 @@
-//! Tests of reports and handlers as callers write them: chains, causes, sources, highlighters. The expected texts were
-//! written by hand from the rules. What a description can say stands in `cases/`, and so does what the program `calls`
-//! prints of each call, with refused memory and over sources that stop; and what programs write, with devices that fail
-//! and words that could not be had.
+//! Tests of reports and handlers as callers write them: what is let go, themes, highlighters, sources that stop. The
+//! expected texts were written by hand from the rules. What a description can say stands in `cases/`, and so does what
+//! the program `calls` prints of each call, with refused memory and over sources that stop; and what programs write,
+//! with devices that fail and words that could not be had.
 //!
-//! And tests of values: places in texts, reads of sources, JSON, what is printed; highlighters and wrapped texts. What a
-//! clause says word for word isn't tried again: what spans, labels, diagnostics, errors, styles and themes are made of,
-//! and how they are compared, hashed and cloned (`miette_protocol::protocol::comparison_laws` and the others).
+//! And tests of values: places in texts, reads of sources, JSON, what is printed; highlighters and wrapped texts. What
+//! a clause says word for word isn't tried again: what spans, labels, diagnostics, errors, styles and themes are made
+//! of, and how they are compared, hashed and cloned (`miette_protocol::protocol::comparison_laws` and the others).
 #![tactic(auto)]
 
 #[cfg(test)]
 mod by_hand;
 #[cfg(test)]
-mod comparing;
+mod by_macro;
 #[cfg(test)]
-mod contexts;
+mod comparing;
 #[cfg(test)]
 mod debug_forms;
 #[cfg(test)]
@@ -22,6 +22,8 @@ mod drops;
 mod edges;
 #[cfg(test)]
 mod errors;
+#[cfg(test)]
+mod findings;
 #[cfg(test)]
 mod first_chapter;
 #[cfg(test)]
@@ -38,6 +40,8 @@ mod patterns;
 mod positions;
 #[cfg(test)]
 mod printing;
+#[cfg(test)]
+mod read_back;
 #[cfg(test)]
 mod reads;
 #[cfg(test)]

@@ -6,7 +6,6 @@ use miette::error::RenderError;
 use miette::highlight::BlankHighlighter;
 use miette::options::MietteHandlerOpts;
 use miette::print::{Outputs, print_on};
-use miette::protocol::LabeledSpan;
 use miette::report::Report;
 use miette::terminal::{Stream, Streams};
 use std::alloc::{AllocError, Global};
@@ -63,7 +62,7 @@ fn end_of(status: io::Result<ExitCode>) -> &'static str {
 
 /// A message with a label past the end of its source, which narrating refuses.
 fn refused_report(alloc: Global) -> Result<Report, AllocError> {
-    over_ab(alloc, LabeledSpan::new(None, 7, 1))
+    over_ab(alloc, 7)
 }
 
 #[test]

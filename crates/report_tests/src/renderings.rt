@@ -1,31 +1,30 @@
-//! What handlers give of reports.
+//! What pictures of reports are.
 
 use crate::comparing::gives;
 use miette::error::RenderError;
-use miette::handlers::{GraphicalReportHandler, ReportHandler};
+use miette::handlers::GraphicalReportHandler;
 use miette::report::Report;
 use std::alloc::{AllocError, Global};
 use std::process::Abort;
 
-/// What the handler, as any handler, gives of the report.
-pub(crate) fn render<H: ReportHandler>(
+fn picture(
     alloc: Global,
-    handler: &mut H,
-    report: Result<Report, AllocError>,
+    handler: &mut GraphicalReportHandler,
+    report: &Report,
 ) -> Result<String, RenderError> {
-    let report = report?;
-    let mut out = String::new(alloc);
-    handler.debug(&report, &mut out)?;
-    Ok(out)
+    let mut text = String::new(alloc);
+    handler.render_report(report, &mut text)?;
+    Ok(text)
 }
 
 /// What the handler draws of the report, where both were made.
-pub(crate) fn draw<H: ReportHandler + Drop>(
+fn draw(
     alloc: Global,
-    handler: Result<H, AllocError>,
+    handler: Result<GraphicalReportHandler, AllocError>,
     report: Result<Report, AllocError>,
 ) -> Result<String, RenderError> {
-    render(alloc, &mut handler?, report)
+    let report = report?;
+    picture(alloc, &mut handler?, &report)
 }
 
 /// The handler draws the report so.
