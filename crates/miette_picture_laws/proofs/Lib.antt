@@ -8,3 +8,5 @@ pub mod NamedPaths
 pub mod PrintedAlike
 pub mod ShownLines
 pub mod Themes
+pub mod Determined
+pub mod DeterminedTokens

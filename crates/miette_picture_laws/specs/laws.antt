@@ -4,3 +4,4 @@ pub mod Arrows
 pub mod Levels
 pub mod NumberRows
 pub mod ShownLines
+pub mod Determined

@@ -2,7 +2,7 @@
 //! printed, how their rows stand under arrows, and what the shipped themes keep.
 
 ghost use Rattle.std.specs.Prelude.{◌≡◌, ℕ, Bool, List, [], ◌∷◌, Option, Some, encode_utf8_all, false, map, true};
-ghost use Rattle.miette_graphical.specs.rules.PossibleAnswers.{IsTextOf};
+ghost use Rattle.miette_graphical.specs.rules.PossibleAnswers.{IsAskedText, IsTextOf};
 ghost use Rattle.miette_graphical.specs.rules.Answers.{Answer, Answers, unlisted};
 ghost use Rattle.miette_graphical.specs.laws.Clean.{AreCleanCharacters, AreCleanSettings, IsCleanTree};
 ghost use Rattle.miette_graphical.specs.laws.Alike.{AreAnsweredAlike, AreDrawnAlike};
@@ -19,6 +19,10 @@ ghost use Rattle.miette_picture_laws.specs.laws.Levels.{HasPlainBars, HaveRoom, 
 ghost use Rattle.miette_picture_laws.specs.laws.Levels.{StandBehindBars};
 ghost use Rattle.miette_picture_laws.specs.laws.NumberRows.{IsPlainLine, PrintsItself, PrintsNumber};
 ghost use Rattle.miette_picture_laws.specs.laws.ShownLines.{ShownLinesShow, ShownLinesStand, SourcesStand};
+ghost use Rattle.miette_picture_laws.specs.laws.Determined.{IsDetermined};
+ghost use Rattle.miette_graphical.specs.views.Handling.{AreCallsOf, Handling, draws_plain, follows_of};
+ghost use Rattle.miette_highlight.specs.rules.FollowingCalls.{FollowTokens};
+ghost use Rattle.miette_highlight.specs.declared.rule.Rule.{Rule};
 ghost use Rattle.miette_protocol.specs.views.Meaning.{Label};
 ghost use Rattle.miette_protocol.specs.rules.Reading.{Source};
 ghost use Rattle.miette_snippet_rules.specs.rules.Settings.{SnippetSettings};
@@ -44,6 +48,7 @@ ghost use Rattle.miette_runs.specs.rules.Sequences.{erase};
 ghost use Rattle.miette_cells.specs.rules.Widths.{width_of};
 
 use miette_graphical::laws::{colours_law, drawn_rows_law};
+use miette_highlight::highlight::Highlighter;
 use miette_text::wrap::laws::encoding_law;
 
 /// A text in plain styles is its own without colours: by the definition, where no line has a highlighter's pieces
@@ -67,6 +72,19 @@ pub fn plain_law()
 pub fn only_law()
     ensures { (s : Settings) (t : Tree) (bytes : List ℕ) → IsTextOf whole_drawing s true t bytes →
         all_read (diagnostics_of s t) ≡ true → bytes ≡ encode_utf8_all (report_text whole_drawing s t unlisted) }
+{}
+
+/// Where the calls before determine what a highlighter answers for a line, and every source always reads, one text may
+/// be printed of a report by its calls, whatever state they end in, if nothing need follow there (`text`). The calls on
+/// a highlighter made of rules determine it (`rules`): a line is cut into its tokens in one way.
+pub fn determined_law<H: Highlighter>()
+    ensures text { (it after other : Handling H) (t : Tree) (some others : List ℕ) →
+        IsDetermined (follows_of H.may_follow it) → follows_of H.may_follow after [] →
+        follows_of H.may_follow other [] → all_read (diagnostics_of it.settings t) ≡ true →
+        IsAskedText whole_drawing it.settings (draws_plain H.is_blank it) (AreCallsOf H.may_follow it after) t some →
+        IsAskedText whole_drawing it.settings (draws_plain H.is_blank it) (AreCallsOf H.may_follow it other) t others →
+        some ≡ others }
+    ensures rules { (rules : List Rule) (left_open : Option ℕ) → IsDetermined (FollowTokens rules left_open) }
 {}
 
 /// The printed diagnostics are those that stand at a path from the outermost one: by steps to a cause where causes
