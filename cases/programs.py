@@ -12,6 +12,8 @@ PROCESSORS = os.cpu_count() or 2
 SHOWN = 5
 # the programs that read a report or a source, and the status of each where memory or a device fails
 STATUS = {"draw": 1, "job": 1, "bench": 1, "lint": 2, "show": 2}
+# those that are one program, `examples`, whose first word names one of them
+EXAMPLES = ("confcheck", "calc", "testdiff", "minilisp", "breaks")
 # no run meets more growths of memory than these
 MOST_GROWTHS = 20000
 
@@ -26,12 +28,17 @@ def program(name):
     return os.path.join(built(name), name)
 
 
+def command(words):
+    """The command of a run of the program that the first word names."""
+    name, *rest = words
+    return [program("examples"), *words] if name in EXAMPLES else [program(name), *rest]
+
+
 def run(words, given=b"", variables=None, **named):
     """Status, standard output and standard error of a run of the program that the first word names. `given` is its
     input, `variables` are all that it is told of its surroundings, which else are those of this process."""
-    name, *rest = words
-    command, named = [program(name), *rest], {"timeout": 60, **named}
-    done = subprocess.run(command, input=given, capture_output=True, env=variables, **named)
+    named = {"timeout": 60, **named}
+    done = subprocess.run(command(words), input=given, capture_output=True, env=variables, **named)
     return done.returncode, done.stdout, done.stderr
 
 
@@ -48,15 +55,14 @@ def passed_on(terminal):
 
 def run_in_terminal(stream, words, given=b"", variables=None, **named):
     """As `run`, but this stream, `stdout` or `stderr`, is a terminal, which passes on what it gets as it is."""
-    name, *rest = words
-    command, named = [program(name), *rest], {"timeout": 60, **named}
+    named = {"timeout": 60, **named}
     mine, its = os.openpty()
     tty.setraw(its)
     with ThreadPoolExecutor(1) as pool:
         shown = pool.submit(passed_on, mine)
         try:
             streams = {"stdout": subprocess.PIPE, "stderr": subprocess.PIPE, stream: its}
-            done = subprocess.run(command, input=given, env=variables, **streams, **named)
+            done = subprocess.run(command(words), input=given, env=variables, **streams, **named)
         finally:
             os.close(its)
         text = shown.result()

@@ -2,7 +2,7 @@
 
 use miette::prelude::*;
 use std::alloc::Global;
-use std::env;
+use std::env::Args;
 use thiserror::Error;
 
 /// What the program was called with.
@@ -41,12 +41,11 @@ impl From<Bad> for Report {
 /// The program's words.
 ///
 /// # Errors
-/// Where they can't be read or used.
-pub fn words_of<R: Host>(rt: &R) -> Result<Words> {
-    let alloc = rt.alloc();
+/// Where they can't be used.
+pub fn words_of(alloc: Global, words: Args) -> Result<Words> {
     let mut form = Form::Pictures;
     let mut names = Vec::new(alloc);
-    for word in env::args(rt).into_diagnostic(alloc)?.skip(1) {
+    for word in words {
         match word.as_str().strip_prefix("--") {
             Some(name) => form = Form::named(name).ok_or(Bad(alloc, Reason::NoForm))?,
             None => names.push(word)?,

@@ -1,32 +1,32 @@
 //! Checks a file of settings in TOML, and that another one gives none of them: `confcheck FILE [FILE]`.
-#![tactic(auto)]
 
 mod settings;
 
-use crate::settings::{is_known, key_in, line_of, nearest, port_of, set_twice};
+use crate::confcheck::settings::{is_known, key_in, line_of, nearest, port_of, set_twice};
 use miette::prelude::{
     Applicability, Edit, Fix, Host, IntoDiagnostic, LabeledSpan, MietteDiagnostic, OwnedSource,
     Report, Result, Severity, Snippets, WrapErr, print_report,
 };
 use miette_tree::miette;
 use std::alloc::{AllocError, Global};
+use std::env::Args;
+use std::fs;
 use std::process::ExitCode;
-use std::{env, fs};
 use toml::Table;
 use toml::de::Error;
 
-fn main(rt: HostRuntime) -> ExitCode {
-    match run(&rt) {
+/// Runs the example with the words behind its name.
+pub fn main<R: Host>(rt: &R, words: Args) -> ExitCode {
+    match run(rt, words) {
         Ok(()) => ExitCode::SUCCESS,
-        Err(report) => print_report(&rt, &report),
+        Err(report) => print_report(rt, &report),
     }
 }
 
-fn run<R: Host>(rt: &R) -> Result<()> {
+fn run<R: Host>(rt: &R, mut words: Args) -> Result<()> {
     let alloc = rt.alloc();
-    let mut words = env::args(rt).into_diagnostic(alloc)?;
     let name = words
-        .nth(1)
+        .next()
         .wrap_err(alloc, "usage: confcheck FILE [FILE]")?;
     let text = text_of(rt, name.as_str())?;
     match check_with(rt, text.as_str(), words.next()) {
@@ -76,13 +76,9 @@ fn given_twice(
     line: (usize, usize),
     elsewhere: Snippets,
 ) -> Result<Report> {
+    let snippets = vec![in alloc; elsewhere]?;
     let labels = label_on(alloc, Some(line), "given here")?;
-    Ok(miette!(
-        in alloc;
-        labels = labels,
-        snippets = vec![in alloc; elsewhere]?,
-        "two files give `{key}`"
-    ))
+    Ok(miette!(in alloc; labels = labels, snippets = snippets, "two files give `{key}`"))
 }
 
 /// The port, or what is wrong with the settings.
@@ -111,16 +107,18 @@ fn no_toml(alloc: Global, error: &Error) -> Result<Report, AllocError> {
 /// A fault, and beside it a warning for each key that nothing reads.
 fn bad_port(alloc: Global, text: &str, table: &Table) -> Result<Report> {
     let labels = label_on(alloc, line_of(text, "port"), "from 1 to 65535")?;
+    let fixes = vec![in alloc; port_fix(alloc, text)?]?;
+    let warnings = unread_keys(alloc, text, table)?;
     let fault = miette!(
         in alloc;
         code = "settings::port",
         help = "write a number, as in `port = 8080`",
         url = "https://toml.io/en/v1.0.0#integer",
         labels = labels,
-        fixes = vec![in alloc; port_fix(alloc, text)?]?,
+        fixes = fixes,
         "the port is missing or wrong"
     );
-    Ok(fault.with_related(unread_keys(alloc, text, table)?))
+    Ok(fault.with_related(warnings))
 }
 
 /// A warning for each key that nothing reads.
@@ -137,14 +135,14 @@ fn unread_keys(alloc: Global, text: &str, table: &Table) -> Result<Vec<Report>> 
 /// A warning that nothing reads this key.
 fn unread_key(alloc: Global, text: &str, key: &str) -> Result<Report> {
     let labels = label_on(alloc, line_of(text, key), "this key isn't known")?;
-    let warning = miette!(
+    let fixes = key_fixes(alloc, text, key)?;
+    Ok(miette!(
         in alloc;
         severity = Severity::Warning,
         labels = labels,
-        fixes = key_fixes(alloc, text, key)?,
+        fixes = fixes,
         "nothing reads `{key}`"
-    );
-    Ok(warning)
+    ))
 }
 
 /// A port that is right: in place of the line that sets one, or in front.
@@ -159,13 +157,12 @@ fn port_fix(alloc: Global, text: &str) -> Result<Fix, AllocError> {
 
 /// The known key that is nearest to this one, in its place, where there is one.
 fn key_fixes(alloc: Global, text: &str, key: &str) -> Result<Vec<Fix>, AllocError> {
-    let mut fixes = Vec::new(alloc);
-    if let (Some(known), Some(place)) = (nearest(alloc, key)?, key_in(text, key)) {
-        let edit = Edit::replace(place, String::from_str(alloc, known)?);
-        let fix = Fix::new(alloc, "a known key has a similar name")?.with_edit(edit)?;
-        fixes.push(fix.with_applicability(Applicability::MaybeIncorrect))?;
-    }
-    Ok(fixes)
+    let (Some(known), Some(place)) = (nearest(alloc, key)?, key_in(text, key)) else {
+        return Ok(Vec::new(alloc));
+    };
+    let edit = Edit::replace(place, String::from_str(alloc, known)?);
+    let fix = Fix::new(alloc, "a known key has a similar name")?.with_edit(edit)?;
+    Ok(vec![in alloc; fix.with_applicability(Applicability::MaybeIncorrect)]?)
 }
 
 /// A label on a line, where there is one.

@@ -1,18 +1,17 @@
 //! Where lines may end: `breaks FILE` prints each text of a file, which NUL parts, as the places of its opportunities,
-//! in bytes, with `!` where a line must end. Its faults are rows of text: with `miette` for them it would take twice as
-//! long to prove and to compile.
-#![tactic(auto)]
+//! in bytes, with `!` where a line must end. It names no crate of reports: its faults are rows of text.
 
 use miette_line_breaks::breaks::{BreakOpportunity, line_breaks};
 use std::alloc::{AllocError, Global};
-use std::env::Env;
+use std::env::Args;
 use std::fs::Files;
-use std::io::Print;
+use std::io::{Eprint, Print};
 use std::process::ExitCode;
-use std::{env, fs, io};
+use std::{fs, io};
 
-fn main(rt: HostRuntime) -> ExitCode {
-    match run(&rt) {
+/// Runs the example with the words behind its name.
+pub fn main<R: Files + Print + Eprint + AllocGlobal>(rt: &R, words: Args) -> ExitCode {
+    match run(rt, words) {
         Ok(()) => ExitCode::SUCCESS,
         Err(fault) => {
             let _ = eprintln!(rt; "breaks: {fault}");
@@ -21,9 +20,8 @@ fn main(rt: HostRuntime) -> ExitCode {
     }
 }
 
-fn run<R: Env + Files + Print + AllocGlobal>(rt: &R) -> io::Result<()> {
-    let mut words = env::args(rt)?;
-    let Some(name) = words.nth(1) else {
+fn run<R: Files + Print + AllocGlobal>(rt: &R, mut words: Args) -> io::Result<()> {
+    let Some(name) = words.next() else {
         return Err(io::Error::other("usage: breaks FILE"));
     };
     let text = fs::read_to_string(rt, name.as_str())?;

@@ -1,17 +1,17 @@
 //! Compares two logs of tests line by line: `testdiff [--json] EXPECTED ACTUAL`.
-#![tactic(auto)]
 
 mod lines;
 
-use crate::lines::differences;
+use crate::testdiff::lines::differences;
 use miette::prelude::{
     Form, Host, IntoDiagnostic, LabeledSpan, MietteHandlerOpts, OwnedSource, Report, Reporter,
     Result, WrapErr, eprint_report,
 };
 use miette_tree::miette;
 use std::alloc::Global;
+use std::env::Args;
+use std::fs;
 use std::process::ExitCode;
-use std::{env, fs};
 
 /// What the program was called with.
 #[derive(Drop)]
@@ -21,15 +21,16 @@ struct Words {
     actual: String,
 }
 
-fn main(rt: HostRuntime) -> ExitCode {
-    match run(&rt) {
+/// Runs the example with the words behind its name.
+pub fn main<R: Host>(rt: &R, words: Args) -> ExitCode {
+    match run(rt, words) {
         Ok(status) => status,
-        Err(report) => eprint_report(&rt, &report),
+        Err(report) => eprint_report(rt, &report),
     }
 }
 
-fn run<R: Host>(rt: &R) -> Result<ExitCode> {
-    let words = read_words(rt)?;
+fn run<R: Host>(rt: &R, words: Args) -> Result<ExitCode> {
+    let words = read_words(rt.alloc(), words)?;
     let wanted = log(rt, words.expected.as_str())?;
     let found = log(rt, words.actual.as_str())?;
     compare(rt, &words, wanted.as_str(), found)
@@ -68,10 +69,8 @@ fn report_of(
     Ok(report.with_owned_source(source))
 }
 
-fn read_words<R: Host>(rt: &R) -> Result<Words> {
-    let alloc = rt.alloc();
+fn read_words(alloc: Global, mut words: Args) -> Result<Words> {
     let usage = "usage: testdiff [--json] EXPECTED ACTUAL";
-    let mut words = env::args(rt).into_diagnostic(alloc)?.skip(1);
     let first = words.next().wrap_err(alloc, usage)?;
     let (form, expected) = if first.as_str() == "--json" {
         (Form::JsonRows, words.next().wrap_err(alloc, usage)?)

@@ -1,30 +1,31 @@
 //! Checks files of a small Lisp: `minilisp [--FORM] FILE..`, where `-` is standard input. The status is 0 where no file
 //! has an error, 1 where one has, 2 where the words aren't these.
-#![tactic(auto)]
 
 mod files;
 mod syntax;
 mod words;
 
-use crate::files::read;
-use crate::syntax::{Slip, slips_of};
-use crate::words::{Words, words_of};
+use crate::minilisp::files::read;
+use crate::minilisp::syntax::{Slip, slips_of};
+use crate::minilisp::words::{Words, words_of};
 use miette::prelude::*;
 use miette_tree::miette;
-use std::alloc::{AllocError, Global};
+use std::alloc::Global;
+use std::env::Args;
 use std::process::ExitCode;
 
-fn main(rt: HostRuntime) -> ExitCode {
-    let done = match words_of(&rt) {
-        Ok(words) => check_all(&rt, &words),
+/// Runs the example with the words behind its name.
+pub fn main<R: Host>(rt: &R, words: Args) -> ExitCode {
+    let done = match words_of(rt.alloc(), words) {
+        Ok(words) => check_all(rt, &words),
         Err(report) => {
-            let _ = eprint_report(&rt, &report);
+            let _ = eprint_report(rt, &report);
             return ExitCode::from(2);
         }
     };
     match done {
         Ok(status) => status,
-        Err(report) => eprint_report(&rt, &report),
+        Err(report) => eprint_report(rt, &report),
     }
 }
 
@@ -50,14 +51,8 @@ fn check_all<R: Host>(rt: &R, words: &Words) -> Result<ExitCode> {
 /// The report of a slip in a text of this length.
 fn report_of(alloc: Global, slip: Slip, end: usize) -> Result<Report> {
     match slip {
-        Slip::Unclosed(at) => {
-            let labels = ends(alloc, at, end, "a `)` is missing here")?;
-            Ok(miette!(in alloc; code = "minilisp::unclosed", labels = labels, "unclosed `(`"))
-        }
-        Slip::UnclosedText(at) => {
-            let labels = ends(alloc, at, end, "a `\"` is missing here")?;
-            Ok(miette!(in alloc; code = "minilisp::unclosed", labels = labels, "unclosed text"))
-        }
+        Slip::Unclosed(at) => unclosed(alloc, at, end, "`(`", "a `)` is missing here"),
+        Slip::UnclosedText(at) => unclosed(alloc, at, end, "text", "a `\"` is missing here"),
         Slip::Stray(at) => {
             let labels = vec![in alloc; LabeledSpan::at(alloc, (at, 1), "nothing is open here")?]?;
             Ok(miette!(in alloc; code = "minilisp::stray", labels = labels, "stray `)`"))
@@ -74,14 +69,9 @@ fn report_of(alloc: Global, slip: Slip, end: usize) -> Result<Report> {
     }
 }
 
-/// Labels where something begins, and at the end of the text, where its end is missing.
-fn ends(
-    alloc: Global,
-    at: usize,
-    end: usize,
-    missing: &str,
-) -> Result<Vec<LabeledSpan>, AllocError> {
+/// The report of what begins and doesn't end, with labels where it begins and at the end of the text.
+fn unclosed(alloc: Global, at: usize, end: usize, what: &str, missing: &str) -> Result<Report> {
     let mut labels = vec![in alloc; LabeledSpan::at(alloc, (at, 1), "this is never closed")?]?;
     labels.push(LabeledSpan::at_offset(alloc, end, missing)?)?;
-    Ok(labels)
+    Ok(miette!(in alloc; code = "minilisp::unclosed", labels = labels, "unclosed {what}"))
 }

@@ -1,9 +1,8 @@
 //! The value of a sum of products of whole numbers: `calc "2 + 3 * -4"`.
-#![tactic(auto)]
 
 mod sums;
 
-use crate::sums::{Fault, value_of};
+use crate::calc::sums::{Fault, value_of};
 use miette::highlight::Highlighter;
 use miette::options::RgbColors;
 use miette::prelude::{
@@ -14,23 +13,23 @@ use miette::source::MietteSpanContents;
 use miette::style::{Color, Style};
 use miette_tree::diagnostic;
 use std::alloc::{AllocError, Global};
-use std::env;
+use std::env::Args;
 use std::process::ExitCode;
 
-fn main(rt: HostRuntime) -> ExitCode {
-    match run(&rt) {
+/// Runs the example with the words behind its name.
+pub fn main<R: Host>(rt: &R, words: Args) -> ExitCode {
+    match run(rt, words) {
         Ok(()) => ExitCode::SUCCESS,
         Err(report) => {
             let options = MietteHandlerOpts::default().with_syntax_highlighting(Cyan);
-            print_report_with(&rt, options.rgb_colors(RgbColors::Preferred), &report)
+            print_report_with(rt, options.rgb_colors(RgbColors::Preferred), &report)
         }
     }
 }
 
-fn run<R: Host>(rt: &R) -> Result<()> {
+fn run<R: Host>(rt: &R, mut words: Args) -> Result<()> {
     let alloc = rt.alloc();
-    let mut words = env::args(rt).into_diagnostic(alloc)?;
-    let text = words.nth(1).wrap_err(alloc, "usage: calc EXPRESSION")?;
+    let text = words.next().wrap_err(alloc, "usage: calc EXPRESSION")?;
     match value_of(text.as_str()) {
         Ok(value) => println!(rt; "{value}").into_diagnostic(alloc),
         Err(fault) => Err(report_of(alloc, text.as_str(), fault)?).wrap_err(
