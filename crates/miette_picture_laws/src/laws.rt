@@ -74,6 +74,14 @@ pub fn only_law()
         all_read (diagnostics_of s t) ≡ true → bytes ≡ encode_utf8_all (report_text whole_drawing s t unlisted) }
 {}
 
+/// A text of a report by the calls that bring a highlighter from one state to another, as of what is printed, is a text
+/// of the report: what is said of these holds of it.
+pub fn asked_law<H: Highlighter>()
+    ensures { (it after : Handling H) (t : Tree) (bytes : List ℕ) →
+        IsAskedText whole_drawing it.settings (draws_plain H.is_blank it) (AreCallsOf H.may_follow it after) t bytes →
+        IsTextOf whole_drawing it.settings (draws_plain H.is_blank it) t bytes }
+{}
+
 /// Where the calls before determine what a highlighter answers for a line, and every source always reads, one text may
 /// be printed of a report by its calls, whatever state they end in, if nothing need follow there (`text`). The calls on
 /// a highlighter made of rules determine it (`rules`): a line is cut into its tokens in one way.

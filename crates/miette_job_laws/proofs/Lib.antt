@@ -1,0 +1,2 @@
+mod RuleTexts
+mod OneJobText

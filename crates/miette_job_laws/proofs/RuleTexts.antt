@@ -1,0 +1,165 @@
+-- Rules of the same texts cut a line into the same tokens.
+use Rattle.std.proofs.Common.{◌≡◌, ℕ, ◌+◌, Bool, true, false, List, [], ◌∷◌, length, drop, map, zero, suc}
+use Rattle.std.proofs.Common.{refl, ap, ap₂, subst, ◌∙◌, Option, Some, None, if◌then◌else◌}
+use Rattle.std.specs.Prelude.{nat_eq, not, ◌&&◌, String, string_bytes, unwrap_or, slice_get}
+use Rattle.std.specs.List.{starts_with}
+use Rattle.std.specs.Str.{bytes_eq}
+use Rattle.std.specs.declared.alloc.Global.{Global}
+use Rattle.miette_style.specs.declared.style.Style.{Style}
+use Rattle.miette_highlight.specs.rules.FollowingCalls.{FollowTokens}
+use Rattle.miette_highlight.specs.rules.HighlighterCalls.{Call, asked, restarted}
+use Rattle.miette_highlight.specs.rules.Languages.{pattern_text, rule_text, rule_texts}
+use Rattle.miette_highlight.specs.rules.Patterns.{begins_within, close_end, closed_at, escapes_next, inside, is_among}
+use Rattle.miette_highlight.specs.rules.Patterns.{match_of, word_end}
+use Rattle.miette_highlight.specs.rules.Pieces.{Piece}
+use Rattle.miette_highlight.specs.rules.Tokens.{AreTokens, IsToken, first_match, found_or, plain_token, running_in}
+use Rattle.miette_highlight.specs.rules.Tokens.{running_rule, running_token, token_at, token_of}
+use Rattle.miette_highlight.specs.declared.rule.Delimiters.{Delimiters}
+use Rattle.miette_highlight.specs.declared.rule.Pattern.{Pattern}
+use Rattle.miette_highlight.specs.declared.rule.Pattern.TheVariants.{Words, From, Between}
+use Rattle.miette_highlight.specs.declared.rule.Rule.{Rule}
+
+-- ---- what patterns find
+
+among : (ws us : List (String Global)) (word : List ℕ)
+    → map (λ (w : String Global). string_bytes w) ws ≡ map (λ (w : String Global). string_bytes w) us
+    → is_among ws word ≡ is_among us word
+among [] [] word e = refl
+among [] (u ∷ us) word e = absurd (cc)
+among (w ∷ ws) [] word e = absurd (cc)
+among (w ∷ ws) (u ∷ us) word e =
+    let first : string_bytes w ≡ string_bytes u = cc in
+    let others : map (λ (w : String Global). string_bytes w) ws ≡ map (λ (w : String Global). string_bytes w) us
+    = cc in
+    ap₂ (λ bytes more. if bytes_eq bytes word then true else more) first (among ws us word others)
+
+closes : (d f : Delimiters) → string_bytes d.closes ≡ string_bytes f.closes → d.escape ≡ f.escape → (escaped : Bool)
+    (at : ℕ) (text : List ℕ) → close_end d escaped at text ≡ close_end f escaped at text
+closes d f same escape escaped at [] = refl
+closes d f same escape escaped at (b ∷ bs) =
+    ap (λ bytes. if not escaped && starts_with nat_eq (b ∷ bs) bytes then Some (at + length bytes)
+    else close_end d (not escaped && escapes_next d.escape b) (at + 1) bs) same
+    ∙ ap (λ end. if not escaped && starts_with nat_eq (b ∷ bs) (string_bytes f.closes)
+    then Some (at + length (string_bytes f.closes)) else end)
+    (closes d f same escape (not escaped && escapes_next d.escape b) (at + 1) bs
+    ∙ ap (λ it. close_end f (not escaped && escapes_next it b) (at + 1) bs) escape)
+
+insides : (d f : Delimiters) → string_bytes d.closes ≡ string_bytes f.closes → d.escape ≡ f.escape
+    → d.over_lines ≡ f.over_lines → (at : ℕ) (text : List ℕ) → inside d at text ≡ inside f at text
+insides d f same escape over at text =
+    ap₂ (λ end lines. closed_at end (at + length text) lines) (closes d f same escape false at text) over
+
+matches : (p q : Pattern) (style other : Style) (text : List ℕ) → pattern_text p style ≡ pattern_text q other
+    → match_of p text ≡ match_of q text
+matches (Words words) (Words others) style other text e =
+    let same : map (λ (w : String Global). string_bytes w) words.items
+    ≡ map (λ (w : String Global). string_bytes w) others.items = cc in
+    ap (λ it. if it then Some (word_end 0 text, false) else None) (among words.items others.items _ same)
+matches (Words words) (From first last) style other text e = absurd (cc)
+matches (Words words) (Between f) style other text e = absurd (cc)
+matches (From first last) (Words others) style other text e = absurd (cc)
+matches (From first last) (From from to) style other text e =
+    let low : first ≡ from = cc in
+    let high : last ≡ to = cc in
+    ap₂ (λ a b. if begins_within a b text then Some (word_end 0 text, false) else None) low high
+matches (From first last) (Between f) style other text e = absurd (cc)
+matches (Between d) (Words others) style other text e = absurd (cc)
+matches (Between d) (From from to) style other text e = absurd (cc)
+matches (Between d) (Between f) style other text e =
+    let opens : string_bytes d.opens ≡ string_bytes f.opens = cc in
+    let same : string_bytes d.closes ≡ string_bytes f.closes = cc in
+    let escape : d.escape ≡ f.escape = cc in
+    let over : d.over_lines ≡ f.over_lines = cc in
+    ap (λ bytes. if starts_with nat_eq text bytes
+    then Some (inside d (length bytes) (drop (length bytes) text)) else None) opens
+    ∙ ap (λ it. if starts_with nat_eq text (string_bytes f.opens) then Some it else None)
+    (insides d f same escape over (length (string_bytes f.opens)) (drop (length (string_bytes f.opens)) text))
+
+goes-on : (at : ℕ) (p q : Pattern) (style other : Style) (text : List ℕ)
+    → pattern_text p style ≡ pattern_text q other → running_in at style p text ≡ running_in at other q text
+goes-on at (Words words) (Words others) style other text e = refl
+goes-on at (Words words) (From first last) style other text e = absurd (cc)
+goes-on at (Words words) (Between f) style other text e = absurd (cc)
+goes-on at (From first last) (Words others) style other text e = absurd (cc)
+goes-on at (From first last) (From from to) style other text e = refl
+goes-on at (From first last) (Between f) style other text e = absurd (cc)
+goes-on at (Between d) (Words others) style other text e = absurd (cc)
+goes-on at (Between d) (From from to) style other text e = absurd (cc)
+goes-on at (Between d) (Between f) style other text e =
+    let same : string_bytes d.closes ≡ string_bytes f.closes = cc in
+    let escape : d.escape ≡ f.escape = cc in
+    let over : d.over_lines ≡ f.over_lines = cc in
+    let styled : style ≡ other = cc in
+    ap₂ (λ it found. Some (token_of at it found)) styled (insides d f same escape over 0 text)
+
+styled-alike : (p q : Pattern) (style other : Style) → pattern_text p style ≡ pattern_text q other → style ≡ other
+styled-alike (Words words) (Words others) style other e = cc
+styled-alike (Words words) (From first last) style other e = absurd (cc)
+styled-alike (Words words) (Between f) style other e = absurd (cc)
+styled-alike (From first last) (Words others) style other e = absurd (cc)
+styled-alike (From first last) (From from to) style other e = cc
+styled-alike (From first last) (Between f) style other e = absurd (cc)
+styled-alike (Between d) (Words others) style other e = absurd (cc)
+styled-alike (Between d) (From from to) style other e = absurd (cc)
+styled-alike (Between d) (Between f) style other e = cc
+
+-- ---- what rules find
+
+firsts : (at : ℕ) (rs us : List Rule) (text : List ℕ) → rule_texts rs ≡ rule_texts us
+    → first_match at rs text ≡ first_match at us text
+firsts at [] [] text e = refl
+firsts at [] (u ∷ us) text e = absurd (cc)
+firsts at (r ∷ rs) [] text e = absurd (cc)
+firsts at (r ∷ rs) (u ∷ us) text e =
+    let first : rule_text r ≡ rule_text u = cc in
+    let others : rule_texts rs ≡ rule_texts us = cc in
+    ap₂ (λ style more. found_or at style (match_of r.pattern text) more)
+    (styled-alike r.pattern u.pattern r.style u.style first) (firsts (at + 1) rs us text others)
+    ∙ ap (λ found. found_or at u.style found (first_match (at + 1) us text))
+    (matches r.pattern u.pattern r.style u.style text first)
+
+runs : (at n : ℕ) (rs us : List Rule) (text : List ℕ) → rule_texts rs ≡ rule_texts us
+    → running_rule n (slice_get rs at) text ≡ running_rule n (slice_get us at) text
+runs at n [] [] text e = refl
+runs at n [] (u ∷ us) text e = absurd (cc)
+runs at n (r ∷ rs) [] text e = absurd (cc)
+runs zero n (r ∷ rs) (u ∷ us) text e =
+    let first : rule_text r ≡ rule_text u = cc in goes-on n r.pattern u.pattern r.style u.style text first
+runs (suc at) n (r ∷ rs) (u ∷ us) text e =
+    let others : rule_texts rs ≡ rule_texts us = cc in runs at n rs us text others
+
+running : (rs us : List Rule) (left_open : Option ℕ) (text : List ℕ) → rule_texts rs ≡ rule_texts us
+    → running_token rs left_open text ≡ running_token us left_open text
+running rs us None text e = refl
+running rs us (Some at) text e = runs at at rs us text e
+
+at-start : (rs us : List Rule) (left_open : Option ℕ) (text : List ℕ) → rule_texts rs ≡ rule_texts us
+    → token_at rs left_open text ≡ token_at us left_open text
+unfolding token_at
+at-start rs us left_open text e =
+    ap₂ (λ first others. unwrap_or first (unwrap_or others (plain_token text))) (running rs us left_open text e)
+    (firsts 0 rs us text e)
+
+-- ---- tokens and calls
+
+tokens-by : (rs us : List Rule) (left_open : Option ℕ) (text : List ℕ) (ps : List Piece) (after : Option ℕ)
+    → rule_texts rs ≡ rule_texts us → AreTokens rs left_open text ps after → AreTokens us left_open text ps after
+tokens-by rs us left_open text [] after e h = h
+tokens-by rs us left_open text (p ∷ ps) after e h =
+    let same = at-start rs us left_open text e in (
+      subst (λ token. IsToken token text p) same h.0,
+      tokens-by rs us (token_at us left_open text).left_open (drop p.0 text) ps after e
+          (subst (λ token. AreTokens rs token.left_open (drop p.0 text) ps after) same h.1),
+    )
+
+pub follow-by : (rs us : List Rule) (left_open : Option ℕ) (calls : List Call) → rule_texts rs ≡ rule_texts us
+    → FollowTokens rs left_open calls → FollowTokens us left_open calls
+follow-by rs us left_open [] e h = tt
+follow-by rs us left_open (restarted read ∷ calls) e h = follow-by rs us None calls e h
+follow-by rs us left_open (asked line listed ∷ calls) e h = (
+  h.0,
+  h.1,
+  tokens-by rs us left_open line h.0 h.1 e h.2,
+  h.3,
+  follow-by rs us h.1 calls e h.4,
+)

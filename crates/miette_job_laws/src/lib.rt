@@ -1,0 +1,4 @@
+//! What holds of what `job` writes, beside `miette_report`.
+#![tactic(auto)]
+
+pub mod laws;
