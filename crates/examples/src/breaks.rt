@@ -10,8 +10,8 @@ use std::process::ExitCode;
 use std::{fs, io};
 
 /// Runs the example with the words behind its name.
-pub fn main<R: Files + Print + Eprint + AllocGlobal>(rt: &R, words: Args) -> ExitCode {
-    match run(rt, words) {
+pub fn main<R: Files + Print + Eprint + AllocGlobal>(rt: &R, mut words: Args) -> ExitCode {
+    match run(rt, words.next()) {
         Ok(()) => ExitCode::SUCCESS,
         Err(fault) => {
             let _ = eprintln!(rt; "breaks: {fault}");
@@ -20,8 +20,8 @@ pub fn main<R: Files + Print + Eprint + AllocGlobal>(rt: &R, words: Args) -> Exi
     }
 }
 
-fn run<R: Files + Print + AllocGlobal>(rt: &R, mut words: Args) -> io::Result<()> {
-    let Some(name) = words.next() else {
+fn run<R: Files + Print + AllocGlobal>(rt: &R, name: Option<String>) -> io::Result<()> {
+    let Some(name) = name else {
         return Err(io::Error::other("usage: breaks FILE"));
     };
     let text = fs::read_to_string(rt, name.as_str())?;

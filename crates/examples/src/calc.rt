@@ -17,8 +17,8 @@ use std::env::Args;
 use std::process::ExitCode;
 
 /// Runs the example with the words behind its name.
-pub fn main<R: Host>(rt: &R, words: Args) -> ExitCode {
-    match run(rt, words) {
+pub fn main<R: Host>(rt: &R, mut words: Args) -> ExitCode {
+    match run(rt, words.next()) {
         Ok(()) => ExitCode::SUCCESS,
         Err(report) => {
             let options = MietteHandlerOpts::default().with_syntax_highlighting(Cyan);
@@ -27,9 +27,9 @@ pub fn main<R: Host>(rt: &R, words: Args) -> ExitCode {
     }
 }
 
-fn run<R: Host>(rt: &R, mut words: Args) -> Result<()> {
+fn run<R: Host>(rt: &R, text: Option<String>) -> Result<()> {
     let alloc = rt.alloc();
-    let text = words.next().wrap_err(alloc, "usage: calc EXPRESSION")?;
+    let text = text.wrap_err(alloc, "usage: calc EXPRESSION")?;
     match value_of(text.as_str()) {
         Ok(value) => println!(rt; "{value}").into_diagnostic(alloc),
         Err(fault) => Err(report_of(alloc, text.as_str(), fault)?).wrap_err(

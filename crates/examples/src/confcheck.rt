@@ -16,20 +16,18 @@ use toml::Table;
 use toml::de::Error;
 
 /// Runs the example with the words behind its name.
-pub fn main<R: Host>(rt: &R, words: Args) -> ExitCode {
-    match run(rt, words) {
+pub fn main<R: Host>(rt: &R, mut words: Args) -> ExitCode {
+    match run(rt, words.next(), words.next()) {
         Ok(()) => ExitCode::SUCCESS,
         Err(report) => print_report(rt, &report),
     }
 }
 
-fn run<R: Host>(rt: &R, mut words: Args) -> Result<()> {
+fn run<R: Host>(rt: &R, name: Option<String>, other: Option<String>) -> Result<()> {
     let alloc = rt.alloc();
-    let name = words
-        .next()
-        .wrap_err(alloc, "usage: confcheck FILE [FILE]")?;
+    let name = name.wrap_err(alloc, "usage: confcheck FILE [FILE]")?;
     let text = text_of(rt, name.as_str())?;
-    match check_with(rt, text.as_str(), words.next()) {
+    match check_with(rt, text.as_str(), other) {
         Ok(port) => println!(rt; "{name}: port {port}").into_diagnostic(alloc),
         Err(report) => {
             let source = OwnedSource::named(alloc, name.as_str(), Some("toml"), text.into_bytes())?;

@@ -5,13 +5,14 @@ mod files;
 mod syntax;
 mod words;
 
-use crate::minilisp::files::read;
+use crate::minilisp::files::{File, read};
 use crate::minilisp::syntax::{Slip, slips_of};
 use crate::minilisp::words::{Words, words_of};
 use miette::prelude::*;
 use miette_tree::miette;
 use std::alloc::Global;
 use std::env::Args;
+use std::io::Write;
 use std::process::ExitCode;
 
 /// Runs the example with the words behind its name.
@@ -36,16 +37,24 @@ fn check_all<R: Host>(rt: &R, words: &Words) -> Result<ExitCode> {
     let mut run = Reporter::new(rt, words.form, options)?.with_summary();
     for name in words.names.iter() {
         match read(rt, name.as_str()) {
-            Ok(file) => {
-                for slip in slips_of(alloc, file.text.as_str())?.iter() {
-                    let report = file.under(alloc, report_of(alloc, *slip, file.text.len())?)?;
-                    run.report(&report).into_diagnostic(alloc)?;
-                }
-            }
+            Ok(file) => check(alloc, &file, &mut run)?,
             Err(report) => run.report(&report).into_diagnostic(alloc)?,
         }
     }
     Ok(run.finish())
+}
+
+/// Reports what is found in a file.
+fn check<T: ReportHandler, W: Write, F: Write>(
+    alloc: Global,
+    file: &File,
+    run: &mut Reporter<T, W, F>,
+) -> Result<()> {
+    for slip in slips_of(alloc, file.text.as_str())?.iter() {
+        let report = file.under(alloc, report_of(alloc, *slip, file.text.len())?)?;
+        run.report(&report).into_diagnostic(alloc)?;
+    }
+    Ok(())
 }
 
 /// The report of a slip in a text of this length.

@@ -46,8 +46,13 @@ fn compare<R: Host>(rt: &R, words: &Words, wanted: &str, found: String) -> Resul
         return Ok(ExitCode::SUCCESS);
     }
     let report = report_of(alloc, actual, found, labels)?;
-    let mut run = Reporter::new(rt, words.form, MietteHandlerOpts::new())?;
-    run.report(&report).into_diagnostic(alloc)?;
+    tell(rt, words.form, &report)
+}
+
+/// Writes a report in a form.
+fn tell<R: Host>(rt: &R, form: Form, report: &Report) -> Result<ExitCode> {
+    let mut run = Reporter::new(rt, form, MietteHandlerOpts::new())?;
+    run.report(report).into_diagnostic(rt.alloc())?;
     Ok(run.finish())
 }
 

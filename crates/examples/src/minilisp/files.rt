@@ -44,12 +44,17 @@ pub fn read<R: Host>(rt: &R, name: &str) -> Result<File> {
         }),
         Err(error) => {
             let at = error.utf8_error().valid_up_to();
-            let label = LabeledSpan::at(alloc, (at, 1), "no character begins with this byte")?;
-            let source = OwnedSource::named(alloc, shown, None, error.into_bytes())?;
-            let labels = vec![in alloc; label]?;
-            Err(miette!(in alloc; labels = labels, "{shown} isn't UTF-8").with_owned_source(source))
+            Err(not_text(alloc, shown, at, error.into_bytes())?)
         }
     }
+}
+
+/// The report of a file that isn't UTF-8, with a label where it stops being text.
+fn not_text(alloc: Global, name: &str, at: usize, bytes: Vec<u8>) -> Result<Report> {
+    let label = LabeledSpan::at(alloc, (at, 1), "no character begins with this byte")?;
+    let labels = vec![in alloc; label]?;
+    let source = OwnedSource::named(alloc, name, None, bytes)?;
+    Ok(miette!(in alloc; labels = labels, "{name} isn't UTF-8").with_owned_source(source))
 }
 
 fn bytes_of<R: Host>(rt: &R, name: &str) -> io::Result<Vec<u8>> {
