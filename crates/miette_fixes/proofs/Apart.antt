@@ -1,5 +1,5 @@
 -- No two of the fixes that count conflict, and two that are taken are one, or don't conflict.
-use Rattle.std.proofs.Common.{ℕ, zero, suc, ◌<◌, ◌≡◌, ◌⊎◌, inl, inr, Bool, true, false, eqb, not, ◌&&◌, ◌||◌, List, []}
+use Rattle.std.proofs.Common.{ℕ, zero, suc, ◌<◌, ◌≡◌, ◌⊎◌, inl, inr, true, false, eqb, not, ◌&&◌, ◌||◌, List, []}
 use Rattle.std.proofs.Common.{◌∷◌, ◌++◌, refl, sym, ap, ◌∙◌, arith, get_or, length, subst}
 use Rattle.std.specs.Prelude.{Some, is_none, slice_get}
 use Rattle.std.specs.List.{AllByRecursion, list_any}

@@ -1,4 +1,4 @@
--- Of edits in their order, of which no two overlap, only those beside an edit's place tell whether one conflicts with it.
+-- Of edits in their order, of which no two overlap, those beside an edit's place tell whether one conflicts with it.
 use Rattle.std.proofs.Common.{ℕ, zero, suc, ◌+◌, ◌<◌, ◌≤◌, ◌≡◌, Bool, true, false, ltb, eqb, ◌&&◌, ◌||◌, List, [], ◌∷◌}
 use Rattle.std.proofs.Common.{refl, sym, ap, ◌-◌, ◌∙◌, arith, drop, get_or, length, take}
 use Rattle.std.specs.List.{list_any}

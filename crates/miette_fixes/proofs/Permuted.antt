@@ -1,5 +1,5 @@
 -- Fixes of which no two conflict give one text, in whatever order they stand.
-use Rattle.std.proofs.Common.{ℕ, zero, suc, ◌+◌, ◌<◌, ◌≤◌, ◌≡◌, Bool, true, false, cond, ltb, List, [], ◌∷◌, ◌++◌}
+use Rattle.std.proofs.Common.{ℕ, suc, ◌+◌, ◌<◌, ◌≤◌, ◌≡◌, Bool, true, false, cond, ltb, List, [], ◌∷◌, ◌++◌}
 use Rattle.std.proofs.Common.{refl, sym, ap, ◌∙◌, arith, get_or, length}
 use Rattle.std.specs.List.{AllByRecursion, filter, list_any, sum_by}
 use Rattle.std.specs.List.Sorted.{IsPermutation, ties}

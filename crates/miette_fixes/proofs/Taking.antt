@@ -1,6 +1,7 @@
 -- Edits that conflict with none of those that count are applied beside them, in any order of their fixes.
-use Rattle.std.proofs.Common.{ℕ, zero, suc, ◌≡◌, Bool, true, false, eqb, inl, inr, take, ◌⊎◌, ◌&&◌, ◌||◌, not, List, [], ◌∷◌, ◌++◌}
-use Rattle.std.proofs.Common.{refl, sym, ap, ◌∙◌, ◌+◌, ◌<◌, ◌≤◌, arith, append_assoc, drop, get_or, length, subst}
+use Rattle.std.proofs.Common.{ℕ, zero, suc, ◌≡◌, Bool, true, false, eqb, inl, inr, take, ◌⊎◌, ◌&&◌, ◌||◌, not}
+use Rattle.std.proofs.Common.{List, [], ◌∷◌, ◌++◌, refl, sym, ap, ◌∙◌, ◌+◌, ◌<◌, ◌≤◌, arith, append_assoc, drop, get_or}
+use Rattle.std.proofs.Common.{length, subst}
 use Rattle.std.specs.Prelude.{◌≢◌, Option, None, Some, is_none, slice_get}
 use denote.Ref.{Bor}
 use Rattle.std.specs.List.{filter, list_any}
@@ -156,7 +157,8 @@ chosen_not n given rest after before edits fix flags h is not_so =
 
 pub chosen_then : (n : ℕ) (given rest after before more : List (List Replacement)) (edits fix edits' : List Replacement)
     (flags flags' : List Bool) → AreChosen n given rest before edits flags → rest ≡ fix ∷ after
-    → counts n edits fix ≡ true → more ≡ before ++ fix ∷ [] → edits' ≡ by_offset (edits ++ fix) → flags' ≡ flags ++ true ∷ []
+    → counts n edits fix ≡ true → more ≡ before ++ fix ∷ [] → edits' ≡ by_offset (edits ++ fix)
+    → flags' ≡ flags ++ true ∷ []
     → AreChosen n given after more edits' flags'
 chosen_then n given rest after before more edits fix edits' flags flags' h is may b e f =
     subst (λ (x : List (List Replacement)). AreChosen n given after x edits' flags') (sym b)
