@@ -186,6 +186,12 @@ def fixed(size, count, each):
     return {**report, "fixes": [{**sure, "edits": it} for it in lists]}
 
 
+def fixed_backwards(size, count):
+    """`count` fixes of one edit each spread over `size` bytes, the last one first."""
+    report = fixed(size, count, 1)
+    return {**report, "fixes": report["fixes"][::-1]}
+
+
 def one_fixed(size, row):
     """A fix of a word in one row of `size` bytes."""
     edit = {"offset": row * ROW + 7, "length": 9, "text": "another"}

@@ -157,6 +157,10 @@ def fixes():
             made = lambda given=given: described(of.fixed(*given))
             bare = lambda size=size: described(of.fixed(size * MB, 0, 1))
             yield Workload(name, f"x_{kind}", ("--fix",), made, "job", beside=bare)
+    for count in (1000, 2000, 4000):
+        made = lambda count=count: described(of.fixed_backwards(10 * MB, count))
+        bare = lambda: described(of.fixed(10 * MB, 0, 1))
+        yield Workload(f"x_backwards_{count}", "x_backwards", ("--fix",), made, "job", beside=bare)
     last = 10 * MB // of.ROW - 1
     for place, row in (("first", 0), ("middle", last // 2), ("last", last)):
         yield bench(f"x_drawn_{place}", "x_drawn", PLAIN, of.one_fixed, 10 * MB, row, is_new=True)

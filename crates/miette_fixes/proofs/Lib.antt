@@ -1,5 +1,8 @@
+pub mod Apart
 pub mod Moving
+pub mod Neighbours
 pub mod Overlaps
-pub mod Reaching
+pub mod Permuted
+pub mod Placing
 pub mod Sorting
 pub mod Taking

@@ -1,6 +1,7 @@
 -- Edits that conflict with none of those that count are applied beside them, in any order of their fixes.
-use Rattle.std.proofs.Common.{ℕ, zero, suc, ◌≡◌, Bool, true, false, eqb, inl, inr, take, ◌⊎◌, not, List, [], ◌∷◌, ◌++◌}
-use Rattle.std.proofs.Common.{refl, sym, ap, ◌∙◌, ◌+◌, ◌<◌, ◌≤◌, arith, append_assoc, drop, get_or, length, subst}
+use Rattle.std.proofs.Common.{ℕ, zero, suc, ◌≡◌, Bool, true, false, eqb, inl, inr, take, ◌⊎◌, ◌&&◌, ◌||◌, not}
+use Rattle.std.proofs.Common.{List, [], ◌∷◌, ◌++◌, refl, sym, ap, ◌∙◌, ◌+◌, ◌<◌, ◌≤◌, arith, append_assoc, drop, get_or}
+use Rattle.std.proofs.Common.{length, subst}
 use Rattle.std.specs.Prelude.{◌≢◌, Option, None, Some, is_none, slice_get}
 use denote.Ref.{Bor}
 use Rattle.std.specs.List.{filter, list_any}
@@ -16,8 +17,9 @@ use Rattle.miette_fixes.specs.rules.ApplyingAll.{all_of, conflict, counted, coun
 use Rattle.miette_fixes.specs.rules.ApplyingAll.{is_taken, lists_of, some_conflict, taken}
 use Rattle.miette_fixes.specs.declared.error.FixError.{FixError}
 use Rattle.miette_fixes.specs.rules.Edits.{Proposal, Replacement, ends_behind, overlap, some_overlap}
-use Rattle.miette_fixes.proofs.Overlaps.{none_refused, overlap_turned, unrefused}
-use Rattle.miette_fixes.proofs.Sorting.{less, not_behind, same_order}
+use Rattle.miette_fixes.specs.steps.Sweeping.{AreApart, ascends, crosses_from}
+use Rattle.miette_fixes.proofs.Overlaps.{any_by_offset, crosses_is, none_refused, overlap_turned, unrefused}
+use Rattle.miette_fixes.proofs.Sorting.{by_offset_ascends, less, not_behind, same_order, sorted_front}
 
 -- ---- what can be applied
 
@@ -34,7 +36,7 @@ head_free x xs (y ∷ ys) h =
     or_parts (eqb y.span.offset x.span.offset) (overlap y x) first.0 in
     or_from (overlap x y) (list_any (overlap x) ys) (overlap_turned x y ∙ apart.1) (head_free x xs ys parts.1)
 
-rest_free : (x : Replacement) (xs ys : List Replacement) → some_conflict ys (x ∷ xs) ≡ false
+pub rest_free : (x : Replacement) (xs ys : List Replacement) → some_conflict ys (x ∷ xs) ≡ false
     → some_conflict ys xs ≡ false
 rest_free x xs [] h = refl
 rest_free x xs (y ∷ ys) h =
@@ -80,24 +82,55 @@ counted_fit n others edits h may =
     ∙ or_from (list_any (ends_behind n) others) (list_any (ends_behind n) edits) before.0 own.0)
     (joined others edits before.1 own.1 (not-true (some_conflict edits others) parts.1))
 
--- After some fixes: the edits that count, which can be applied together, and what comes of the fixes that are left.
+-- the order of those that count doesn't matter to whether a fix's edits do
+conflict_by_offset : (edits others : List Replacement)
+    → some_conflict edits (by_offset others) ≡ some_conflict edits others
+conflict_by_offset [] others = refl
+conflict_by_offset (edit ∷ edits) others =
+    ap (λ b. b || some_conflict edits (by_offset others)) (any_by_offset (conflict edit) others)
+    ∙ ap (λ b. list_any (conflict edit) others || b) (conflict_by_offset edits others)
+
+counts_by_offset : (n : ℕ) (others edits : List Replacement)
+    → counts n (by_offset others) edits ≡ counts n others edits
+counts_by_offset n others edits = ap (λ b. is_none (refusal n edits) && not b) (conflict_by_offset edits others)
+
+-- After some fixes: the edits that count, in their order, which can be applied together, and what comes of the fixes
+-- that are left.
 pub record AreChosen (n : ℕ) (given rest before : List (List Replacement)) (edits : List Replacement)
     (flags : List Bool) : Type 0 where
-  pub all : edits ≡ all_of before
-  pub fit : refusal n edits ≡ None
+  pub all : edits ≡ by_offset (all_of before)
+  pub fit : refusal n (all_of before) ≡ None
   pub lists : counted n before rest ≡ counted n [] given
   pub answers : flags ++ taken n before rest ≡ taken n [] given
 
+pub chosen_ascends : (n : ℕ) (given rest before : List (List Replacement)) (edits : List Replacement)
+    (flags : List Bool) → AreChosen n given rest before edits flags → ascends edits ≡ true
+chosen_ascends n given rest before edits flags h = ap ascends h.all ∙ by_offset_ascends (all_of before)
+
+pub chosen_apart : (n : ℕ) (given rest before : List (List Replacement)) (edits : List Replacement)
+    (flags : List Bool) → AreChosen n given rest before edits flags → AreApart edits
+chosen_apart n given rest before edits flags h = (
+  chosen_ascends n given rest before edits flags h,
+  ap (crosses_from 0) h.all ∙ crosses_is (all_of before) ∙ (none_refused n (all_of before) h.fit).1,
+)
+
+-- whether a fix's edits count beside those in order
+asked : (n : ℕ) (before : List (List Replacement)) (edits fix : List Replacement) (b : Bool)
+    → edits ≡ by_offset (all_of before) → counts n edits fix ≡ b → counts n (all_of before) fix ≡ b
+asked n before edits fix b all h =
+    sym (counts_by_offset n (all_of before) fix) ∙ ap (λ es. counts n es fix) (sym all) ∙ h
+
 pub chosen_more : (n : ℕ) (given rest after before : List (List Replacement)) (edits fix : List Replacement)
     (flags : List Bool) → AreChosen n given rest before edits flags → rest ≡ fix ∷ after → counts n edits fix ≡ true
-    → AreChosen n given after (before ++ fix ∷ []) (edits ++ fix) (flags ++ true ∷ [])
+    → AreChosen n given after (before ++ fix ∷ []) (by_offset (edits ++ fix)) (flags ++ true ∷ [])
 chosen_more n given rest after before edits fix flags h is may =
-    let met : counts n (all_of before) fix ≡ true = ap (λ es. counts n es fix) (sym h.all) ∙ may in
+    let met : counts n (all_of before) fix ≡ true = asked n before edits fix true h.all may in
     let next : counted_with n before fix ≡ before ++ fix ∷ [] = rw met refl in
     let flag : is_taken n before fix ≡ true = rw met refl in
     record {
-      all = ap (λ es. es ++ fix) h.all ∙ sym (all_of_more before fix);
-      fit = counted_fit n edits fix h.fit may;
+      all = ap (λ es. by_offset (es ++ fix)) h.all ∙ sorted_front (all_of before) fix
+          ∙ ap by_offset (sym (all_of_more before fix));
+      fit = ap (refusal n) (all_of_more before fix) ∙ counted_fit n (all_of before) fix h.fit met;
       lists = ap (λ b. counted n b after) (sym next) ∙ ap (counted n before) (sym is) ∙ h.lists;
       answers = append_assoc flags (true ∷ []) (taken n (before ++ fix ∷ []) after)
           ∙ ap (λ r. flags ++ r) (ap (λ b. true ∷ taken n b after) (sym next)
@@ -109,7 +142,7 @@ pub chosen_not : (n : ℕ) (given rest after before : List (List Replacement)) (
     (flags : List Bool) → AreChosen n given rest before edits flags → rest ≡ fix ∷ after → counts n edits fix ≡ false
     → AreChosen n given after before edits (flags ++ is_among fix before ∷ [])
 chosen_not n given rest after before edits fix flags h is not_so =
-    let met : counts n (all_of before) fix ≡ false = ap (λ es. counts n es fix) (sym h.all) ∙ not_so in
+    let met : counts n (all_of before) fix ≡ false = asked n before edits fix false h.all not_so in
     let next : counted_with n before fix ≡ before = rw met refl in
     let flag : is_taken n before fix ≡ is_among fix before = rw met refl in
     record {
@@ -124,12 +157,13 @@ chosen_not n given rest after before edits fix flags h is not_so =
 
 pub chosen_then : (n : ℕ) (given rest after before more : List (List Replacement)) (edits fix edits' : List Replacement)
     (flags flags' : List Bool) → AreChosen n given rest before edits flags → rest ≡ fix ∷ after
-    → counts n edits fix ≡ true → more ≡ before ++ fix ∷ [] → edits' ≡ edits ++ fix → flags' ≡ flags ++ true ∷ []
+    → counts n edits fix ≡ true → more ≡ before ++ fix ∷ [] → edits' ≡ by_offset (edits ++ fix)
+    → flags' ≡ flags ++ true ∷ []
     → AreChosen n given after more edits' flags'
 chosen_then n given rest after before more edits fix edits' flags flags' h is may b e f =
     subst (λ (x : List (List Replacement)). AreChosen n given after x edits' flags') (sym b)
     (subst (λ (x : List Replacement). AreChosen n given after (before ++ fix ∷ []) x flags') (sym e)
-    (subst (λ (x : List Bool). AreChosen n given after (before ++ fix ∷ []) (edits ++ fix) x) (sym f)
+    (subst (λ (x : List Bool). AreChosen n given after (before ++ fix ∷ []) (by_offset (edits ++ fix)) x) (sym f)
     (chosen_more n given rest after before edits fix flags h is may)))
 
 pub chosen_else : (n : ℕ) (given rest after before more : List (List Replacement)) (edits fix edits' : List Replacement)
@@ -141,15 +175,6 @@ chosen_else n given rest after before more edits fix edits' flags flags' h is no
     (subst (λ (x : List Replacement). AreChosen n given after before x flags') (sym e)
     (subst (λ (x : List Bool). AreChosen n given after before edits x) (sym f)
     (chosen_not n given rest after before edits fix flags h is not_so)))
-
--- none of the edits that count ends behind the source's end
-pub counts_inside : (n : ℕ) (others edits : List Replacement) → counts n others edits ≡ true
-    → list_any (ends_behind n) edits ≡ false
-counts_inside n others edits may =
-    let parts : (is_none (refusal n edits) ≡ true) × (not (some_conflict edits others) ≡ true) =
-    and_parts (is_none (refusal n edits)) (not (some_conflict edits others)) may in
-    let own : (list_any (ends_behind n) edits ≡ false) × (some_overlap edits ≡ false) =
-    none_refused n edits (some_none (refusal n edits) parts.0) in own.0
 
 -- the edits of fixes from one on
 pub lists_more : (fixes : List (Bor Proposal)) (i : ℕ) (fix : Bor Proposal) → i < length fixes
@@ -172,7 +197,7 @@ tied_offset z x h =
     let b0 : z.span.offset ≤ x.span.offset = b.0 in
     omega (arith, a0, b0)
 
-filter_none : (p : Replacement → Bool) (xs : List Replacement) → list_any p xs ≡ false → filter p xs ≡ []
+pub filter_none : (p : Replacement → Bool) (xs : List Replacement) → list_any p xs ≡ false → filter p xs ≡ []
 filter_none p [] h = refl
 filter_none p (x ∷ xs) h =
     let parts : (p x ≡ false) × (list_any p xs ≡ false) = or_parts (p x) (list_any p xs) h in
@@ -189,7 +214,7 @@ one_meets z x (y ∷ ys) h k =
     (or_left (eqb x.span.offset y.span.offset) (overlap x y) same))
     (λ f. or_right (conflict x y) (list_any (conflict x) ys) (one_meets z x ys h (rw f at k)))
 
-meet : (z : Replacement) (xs ys : List Replacement) → list_any (ties less z) xs ≡ true
+pub meet : (z : Replacement) (xs ys : List Replacement) → list_any (ties less z) xs ≡ true
     → list_any (ties less z) ys ≡ true → some_conflict xs ys ≡ true
 meet z [] ys h k = h
 meet z (x ∷ xs) ys h k =

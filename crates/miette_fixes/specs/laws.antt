@@ -1,2 +1,3 @@
 -- What holds of the rules.
+pub mod Conflicts
 pub mod Places

@@ -1,16 +1,18 @@
 //! Several fixes of one source.
 
-ghost use Rattle.std.specs.Prelude.{◌≡◌, ◌≤◌, ◌++◌, [], false, length, IfOk};
+ghost use Rattle.std.specs.Prelude.{◌≡◌, ◌++◌, [], true, length, IfOk};
 ghost use Rattle.std.specs.List.{list_any};
 ghost use Rattle.miette_fixes.specs.rules.ApplyingAll.{all_applied, conflict, counts, is_among, lists_of};
 ghost use Rattle.miette_fixes.specs.rules.ApplyingAll.{some_conflict, taken};
-ghost use Rattle.miette_fixes.specs.rules.Edits.{ends_behind, overlap};
+ghost use Rattle.miette_fixes.specs.rules.Applying.{by_offset};
+ghost use Rattle.miette_fixes.specs.rules.Edits.{overlap};
+ghost use Rattle.miette_fixes.specs.steps.Sweeping.{AreApart, ascends};
 ghost use Rattle.miette_fixes.specs.views.Ordered.{edits_of};
 
 use crate::apply::{checked, spliced};
 use crate::edit::Edit;
 use crate::error::FixError;
-use crate::order::{comes_behind, sort};
+use crate::order::{comes_behind, place_of};
 use crate::proposal::Fix;
 use std::alloc::{AllocError, Global};
 
@@ -33,15 +35,25 @@ fn overlap(edit: &Edit, next: &Edit) -> bool
     next.offset() - edit.offset() < edit.len()
 }
 
-// Whether an edit conflicts with one of these, which end at a place or before.
-fn conflicts(edit: &Edit, others: &[&Edit], reach: usize) -> bool
-    requires { list_any (ends_behind reach) (edits_of others.now) ≡ false }
+// Of edits in their order, of which no two overlap, the one before an edit's place and the one behind it: where it
+// conflicts with one of all these, it conflicts with one of the two.
+fn neighbours<'s, 'a>(edit: &Edit, others: &'s [&'a Edit]) -> &'s [&'a Edit]
+    requires { AreApart (edits_of others.now) }
+    ensures { list_any (conflict edit.now) (edits_of result.now) ≡ list_any (conflict edit.now) (edits_of others.now) }
+{
+    let at = place_of(others, edit);
+    let from = at.saturating_sub(1);
+    let to = others.len().min(at + 1);
+    &others[from..to]
+}
+
+// Whether an edit conflicts with one of these, which are in their order, and of which no two overlap.
+fn conflicts(edit: &Edit, others: &[&Edit]) -> bool
+    requires { AreApart (edits_of others.now) }
     ensures { result ≡ list_any (conflict edit.now) (edits_of others.now) }
 {
-    if reach < edit.offset() {
-        return false;
-    }
-    for other in others {
+    let near = neighbours(edit, others);
+    for other in near {
         if edit.offset() == other.offset() || overlap(edit, other) {
             return true;
         }
@@ -49,13 +61,13 @@ fn conflicts(edit: &Edit, others: &[&Edit], reach: usize) -> bool
     false
 }
 
-// Whether one of these edits conflicts with one of those, which end at a place or before.
-fn some_conflict(edits: &[Edit], others: &[&Edit], reach: usize) -> bool
-    requires { list_any (ends_behind reach) (edits_of others.now) ≡ false }
+// Whether one of these edits conflicts with one of those, which are in their order, and of which no two overlap.
+fn some_conflict(edits: &[Edit], others: &[&Edit]) -> bool
+    requires { AreApart (edits_of others.now) }
     ensures { result ≡ some_conflict edits.now (edits_of others.now) }
 {
     for edit in edits {
-        if conflicts(edit, others, reach) {
+        if conflicts(edit, others) {
             return true;
         }
     }
@@ -74,44 +86,32 @@ fn is_among(edits: &[Edit], fixes: &[&Fix]) -> bool
     false
 }
 
-// Whether a fix's edits count, beside others that do, which end at a place or before.
+// Whether a fix's edits count, beside others that do, which are in their order.
 fn counts(
     alloc: Global,
     length: usize,
     others: &[&Edit],
-    reach: usize,
     edits: &[Edit],
 ) -> Result<bool, AllocError>
-    requires { list_any (ends_behind reach) (edits_of others.now) ≡ false }
+    requires { AreApart (edits_of others.now) }
     ensures { IfOk result (λ it. it ≡ counts length (edits_of others.now) edits.now) }
 {
     match checked(alloc, length, edits) {
-        Ok(_) => Ok(!some_conflict(edits, others, reach)),
+        Ok(_) => Ok(!some_conflict(edits, others)),
         Err(FixError::Memory) => Err(AllocError),
         Err(FixError::OutOfBounds) => Ok(false),
         Err(FixError::Overlap) => Ok(false),
     }
 }
 
-// The last one of a place and where these edits end, none of them behind so many bytes.
-fn reach_of(length: usize, reach: usize, edits: &[Edit]) -> usize
-    requires { list_any (ends_behind length) edits.now ≡ false }
-    ensures place { reach ≤ result }
-    ensures ends { list_any (ends_behind result) edits.now ≡ false }
-{
-    let mut last = reach;
-    for edit in edits {
-        last = last.max(edit.offset() + edit.len());
-    }
-    last
-}
-
-// With these edits behind those that were there.
+// With these edits at their places in a list that is in order, each behind those that tie with it.
 fn with_edits<'a>(mut list: Vec<&'a Edit>, edits: &'a [Edit]) -> Result<Vec<&'a Edit>, AllocError>
-    ensures { IfOk result (λ it. edits_of it.items ≡ edits_of list.entry.items ++ edits.now) }
+    requires { ascends (edits_of list.items) ≡ true }
+    ensures { IfOk result (λ it. edits_of it.items ≡ by_offset (edits_of list.entry.items ++ edits.now)) }
 {
     for edit in edits {
-        list.push(edit)?;
+        let at = place_of(&list, edit);
+        list.insert(at, edit)?;
     }
     Ok(list)
 }
@@ -119,8 +119,9 @@ fn with_edits<'a>(mut list: Vec<&'a Edit>, edits: &'a [Edit]) -> Result<Vec<&'a 
 /// Takes fixes of a source in the order given, each whole or not at all, and applies all edits of those that it took.
 /// A fix is taken where it can be applied by itself and none of its edits conflicts with one taken before: they
 /// overlap, or begin at the same offset. One with the same edits as one taken is taken with it, and these count once.
-/// Of fixes that come by offset each takes as long as it has edits; one that begins before an end of those taken is
-/// compared with all of them.
+/// In whatever order they come, an edit is compared with about as many of those that count as their number has binary
+/// digits. One of a fix that counts is put among these, which moves the 8 bytes that refer to each edit behind it; a
+/// fix that doesn't count is compared with those that do, up to one with its edits.
 ///
 /// # Errors
 /// `AllocError` where memory is refused.
@@ -130,20 +131,17 @@ pub fn apply_all(alloc: Global, source: &[u8], fixes: &[&Fix]) -> Result<Applied
 {
     let mut counted = Vec::new(alloc);
     let mut edits = Vec::new(alloc);
-    let mut reach = 0;
     let mut taken = Vec::with_capacity(alloc, fixes.len())?;
     for fix in fixes {
         let proposed = fix.edits();
-        if counts(alloc, source.len(), &edits, reach, proposed)? {
+        if counts(alloc, source.len(), &edits, proposed)? {
             counted.push(*fix)?;
             edits = with_edits(edits, proposed)?;
-            reach = reach_of(source.len(), reach, proposed);
             taken.push(true)?;
         } else {
             taken.push(is_among(proposed, &counted))?;
         }
     }
-    sort(&mut edits)?;
     let text = spliced(alloc, source, 0, &edits)?;
     Ok(Applied { text, taken })
 }

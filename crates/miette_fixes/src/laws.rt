@@ -2,9 +2,11 @@
 
 ghost use Rattle.std.specs.Prelude.{◌≡◌, ◌≢◌, ◌⊎◌, ℕ, ◌+◌, ◌<◌, List, [], ◌∷◌, ◌++◌, length, slice_get, slice_index_or};
 ghost use Rattle.std.specs.Prelude.{take, None, Some, false, true};
+ghost use Rattle.std.specs.List.Sorted.{IsPermutation};
+ghost use Rattle.miette_fixes.specs.laws.Conflicts.{NoTwoConflict};
 ghost use Rattle.miette_fixes.specs.laws.Places.{deleted, inserted, is_covered, moved};
 ghost use Rattle.miette_fixes.specs.rules.Applying.{applied, refusal};
-ghost use Rattle.miette_fixes.specs.rules.ApplyingAll.{all_of, counted, some_conflict, taken};
+ghost use Rattle.miette_fixes.specs.rules.ApplyingAll.{all_applied, all_of, counted, some_conflict, taken};
 ghost use Rattle.miette_fixes.specs.rules.Edits.{Replacement};
 
 /// Of edits that can be applied: the text has the source's length, less what is deleted and more what is inserted. A
@@ -36,4 +38,20 @@ pub fn all_applied_laws()
         some_conflict edits next ≡ false →
         applied source (all_of (before ++ edits ∷ next ∷ after))
         ≡ applied source (all_of (before ++ next ∷ edits ∷ after)) }
+{}
+
+/// Of several fixes, each as its edits: two that are taken have the same edits in the same order, or no edit of the one
+/// conflicts with one of the other. No two of those that count conflict, and they give one text in whatever order they
+/// stand, as all fixes do of which no two conflict.
+pub fn any_order_laws()
+    ensures taken { (n : ℕ) (fixes : List (List Replacement)) (i j : ℕ) → i < j → j < length fixes →
+        slice_get (taken n [] fixes) i ≡ Some true → slice_get (taken n [] fixes) j ≡ Some true →
+        (slice_index_or fixes i [] ≡ slice_index_or fixes j [])
+        ⊎ (some_conflict (slice_index_or fixes i []) (slice_index_or fixes j []) ≡ false) }
+    ensures counted { (n : ℕ) (fixes : List (List Replacement)) → NoTwoConflict (counted n [] fixes) }
+    ensures order { (source : List ℕ) (fixes others : List (List Replacement)) → NoTwoConflict fixes →
+        IsPermutation fixes others → applied source (all_of others) ≡ applied source (all_of fixes) }
+    ensures text { (source : List ℕ) (fixes others : List (List Replacement)) →
+        IsPermutation (counted (length source) [] fixes) others →
+        applied source (all_of others) ≡ all_applied source fixes }
 {}

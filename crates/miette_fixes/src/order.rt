@@ -1,6 +1,7 @@
 //! Edits by offset.
 
-ghost use Rattle.std.specs.Prelude.{◌≡◌, IfOk, OnOk};
+ghost use Rattle.std.specs.Prelude.{◌≡◌, ◌≤◌, false, true, length, IfOk, OnOk};
+ghost use Rattle.std.specs.List.Sorted.{IsPartitionPoint};
 ghost use Rattle.miette_fixes.specs.rules.Applying.{by_offset};
 ghost use Rattle.miette_fixes.specs.rules.Edits.{is_behind};
 ghost use Rattle.miette_fixes.specs.steps.Sweeping.{ascends};
@@ -42,6 +43,21 @@ fn ascend(edits: &[&Edit]) -> bool
         before = edit;
     }
     true
+}
+
+/// How many of these edits, which are in their order, don't come behind an edit: found by halving, at once where none
+/// does.
+pub(crate) fn place_of(edits: &[&Edit], edit: &Edit) -> usize
+    requires { ascends (edits_of edits.now) ≡ true }
+    ensures bound { result ≤ length edits.now }
+    ensures place { IsPartitionPoint (λ other. is_behind other.now edit.now ≡ false)
+        (λ other. is_behind other.now edit.now ≡ true) edits.now result }
+{
+    let many = edits.len();
+    if many > 0 && !comes_behind(edits[many - 1], edit) {
+        return many;
+    }
+    edits.partition_point(|other| !comes_behind(other, edit))
 }
 
 /// Sorts edits by offset, then by length, ties as given. Edits that come so already stay without a sort.

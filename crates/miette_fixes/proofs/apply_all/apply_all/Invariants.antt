@@ -1,7 +1,4 @@
-use Rattle.std.proofs.Common.{◌≡◌, drop, length}
-use Rattle.std.specs.Prelude.{false}
-use Rattle.std.specs.List.{list_any}
-use Rattle.miette_fixes.specs.rules.Edits.{ends_behind}
+use Rattle.std.proofs.Common.{drop, length}
 use Rattle.miette_fixes.specs.rules.ApplyingAll.{lists_of}
 use Rattle.miette_fixes.specs.views.Ordered.{edits_of}
 use Rattle.miette_fixes.proofs.Taking.{AreChosen}
@@ -9,8 +6,5 @@ use Rattle.miette_fixes.proofs.apply_all.apply_all.Given as goal
 
 abbrev pub invariant-loop-fix : goal.invariant-loop-fix
 invariant-loop-fix l =
-    record {
-      chosen : AreChosen (length l.source) (lists_of l.fixes) (lists_of (drop l.fix-index l.fixes))
-          (lists_of l.counted.items) (edits_of l.edits.items) l.taken.items;
-      reached : list_any (ends_behind l.reach) (edits_of l.edits.items) ≡ false;
-    }
+    AreChosen (length l.source) (lists_of l.fixes) (lists_of (drop l.fix-index l.fixes)) (lists_of l.counted.items)
+    (edits_of l.edits.items) l.taken.items

@@ -6,4 +6,4 @@ use Rattle.miette_fixes.proofs.apply_all.conflicts.Given as goal
 
 abbrev pub invariant-loop-other : goal.invariant-loop-other
 invariant-loop-other l =
-    list_any (conflict l.edit) (edits_of (drop l.other-index l.others)) ≡ list_any (conflict l.edit) (edits_of l.others)
+    list_any (conflict l.edit) (edits_of (drop l.other-index l.near)) ≡ list_any (conflict l.edit) (edits_of l.others)
