@@ -5,6 +5,7 @@ ghost use Rattle.serde_json.specs.View.{items_view, members_view, view};
 ghost use Rattle.miette_readers.specs.rules.Names.{named_by, names_among, names_in, names_of};
 ghost use Rattle.miette_readers.specs.views.Values.{texts};
 
+use crate::lists::push_item;
 use serde_json::{Map, Value};
 use std::alloc::{AllocError, Global};
 
@@ -14,7 +15,7 @@ fn push_name<'v>(list: &mut Vec<&'v str>, key: &str, member: &'v Value) -> Resul
 {
     if key == "file_name" {
         if let Some(name) = member.as_str() {
-            list.push(name)?;
+            return push_item(list, name);
         }
     }
     Ok(())

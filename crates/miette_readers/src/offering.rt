@@ -5,10 +5,11 @@ ghost use Rattle.std.specs.List.{flat_map, list_any};
 ghost use Rattle.std.specs.Option.{option_copied};
 ghost use Rattle.miette_tree.specs.views.Report.{tree_of};
 ghost use Rattle.miette_readers.specs.rules.Proposing.{is_in};
-ghost use Rattle.miette_readers.specs.rules.RustcReport.{advice, advice_of, is_main, main_fixes, others};
+ghost use Rattle.miette_readers.specs.rules.Reports.{advice, advice_of, is_main, main_fixes, offered_tree, others};
 ghost use Rattle.miette_readers.specs.views.Edits.{edits_behind};
 
 use crate::files::LentFile;
+use crate::lists::push_item;
 use crate::offers::{FileEdit, Offer};
 use miette_fixes::fix::Fix;
 use miette_protocol::diagnostic::MietteDiagnostic;
@@ -27,13 +28,13 @@ fn push_main_fixes(
     ensures { OnOk result (list.new.items ≡ list.old.items ++ main_fixes (option_copied main.entry) offer.now) }
 {
     match main {
-        Some(name) => offer.push_fixes(list, alloc, name, offer.message),
+        Some(name) => offer.push_fixes(list, alloc, name, offer.message.as_str()),
         None => Ok(()),
     }
 }
 
 /// The fixes over the main file.
-pub(crate) fn fixes_of(
+fn fixes_of(
     alloc: Global,
     offers: &[Offer<'_, '_>],
     main: Option<&str>,
@@ -56,7 +57,7 @@ fn advice<'f, D: Diagnostic>(
     ensures { IfOk result (λ r. tree_of D.meaning ⟦<LentFile<'f> as SourceCode>⟧.source r
         ≡ advice offer.now edit.now) }
 {
-    let diagnostic = MietteDiagnostic::new(alloc, offer.message)?.with_severity(Severity::Advice);
+    let diagnostic = MietteDiagnostic::new(alloc, offer.message.as_str())?.with_severity(Severity::Advice);
     let mut text = String::from_str(alloc, "in ")?;
     text.push_str(edit.name)?;
     let mut fixes = Vec::new(alloc);
@@ -102,7 +103,7 @@ fn others<'o, 'f, 'v>(
     let mut list = Vec::new(alloc);
     for edit in edits {
         if !edit.is_main(main) && !any_in(list.as_slice(), edit.name) {
-            list.push(edit)?;
+            push_item(&mut list, edit)?;
         }
     }
     Ok(list)
@@ -123,13 +124,13 @@ fn push_advice<'f, D: Diagnostic>(
     for edit in edits.as_slice() {
         let edit = *edit;
         let report = advice(alloc, offer, edit)?;
-        list.push(report)?;
+        push_item(list, report)?;
     }
     Ok(())
 }
 
 /// The advice to edit other files than the main one.
-pub(crate) fn related_of<'f, D: Diagnostic>(
+fn related_of<'f, D: Diagnostic>(
     alloc: Global,
     offers: &[Offer<'f, '_>],
     main: Option<&str>,
@@ -142,4 +143,20 @@ pub(crate) fn related_of<'f, D: Diagnostic>(
         push_advice(&mut list, alloc, offer, main)?;
     }
     Ok(list)
+}
+
+/// The report with what a message proposes: fixes over the main file, and the advice to edit other files.
+pub(crate) fn proposing<'f, D: Diagnostic>(
+    alloc: Global,
+    report: Report<D, LentFile<'f>>,
+    offers: &[Offer<'f, '_>],
+    main: Option<&str>,
+) -> Result<Report<D, LentFile<'f>>, AllocError>
+    ensures { IfOk result (λ r. tree_of D.meaning ⟦<LentFile<'f> as SourceCode>⟧.source r
+        ≡ offered_tree (option_copied main.entry) offers.now
+        (tree_of D.meaning ⟦<LentFile<'f> as SourceCode>⟧.source report.entry)) }
+{
+    let fixes = fixes_of(alloc, offers, main)?;
+    let related = related_of(alloc, offers, main)?;
+    Ok(report.with_fixes(alloc, fixes)?.with_related(related))
 }

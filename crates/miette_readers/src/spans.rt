@@ -10,6 +10,7 @@ ghost use Rattle.miette_readers.specs.rules.Rustc.{spans_of, standing, standing_
 ghost use Rattle.miette_readers.specs.views.Values.{seen};
 
 use crate::files::Files;
+use crate::lists::push_item;
 use crate::members::{flag_at, object_at, objects_at, said_at, text_at, whole_at};
 use crate::place::{Place, Stretch};
 use serde_json::Value;
@@ -77,7 +78,7 @@ fn push_primary<'v>(list: &mut Vec<&'v Value>, spans: &[&'v Value]) -> Result<()
     for span in spans {
         let span = *span;
         if is_primary(span) {
-            list.push(span)?;
+            push_item(list, span)?;
         }
     }
     Ok(())
@@ -90,7 +91,7 @@ fn push_secondary<'v>(list: &mut Vec<&'v Value>, spans: &[&'v Value]) -> Result<
     for span in spans {
         let span = *span;
         if !is_primary(span) {
-            list.push(span)?;
+            push_item(list, span)?;
         }
     }
     Ok(())
@@ -115,7 +116,7 @@ pub(crate) fn telling<'v>(alloc: Global, spans: &[&'v Value]) -> Result<Vec<&'v 
     for span in spans {
         let span = *span;
         if tells(span) {
-            list.push(span)?;
+            push_item(&mut list, span)?;
         }
     }
     Ok(list)
@@ -128,7 +129,7 @@ fn push_edits<'v>(list: &mut Vec<&'v Value>, spans: &[&'v Value]) -> Result<(), 
     for span in spans {
         let span = *span;
         if proposes(span) {
-            list.push(span)?;
+            push_item(list, span)?;
         }
     }
     Ok(())
