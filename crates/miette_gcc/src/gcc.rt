@@ -41,7 +41,13 @@ fn report_by<'f, D: Diagnostic, F: Files>(
     let told = told_of(alloc, ground, diagnostic)?;
     let offers = offers_of(alloc, ground, diagnostic)?;
     let said = said_of(alloc, ground, diagnostic)?;
-    report_of(alloc, ground.files, said, told.as_slice(), offers.as_slice())
+    report_of(
+        alloc,
+        ground.files,
+        said,
+        told.as_slice(),
+        offers.as_slice(),
+    )
 }
 
 /// The report of a diagnostic.

@@ -146,7 +146,13 @@ fn push_note<'v, F: Files>(
         let told = row_told(alloc, message_of(note), None)?;
         return push_item(list, told);
     }
-    push_locations(list, alloc, ground, Some(message_of(note)), locations.as_slice())
+    push_locations(
+        list,
+        alloc,
+        ground,
+        Some(message_of(note)),
+        locations.as_slice(),
+    )
 }
 
 /// Appends what notes tell.

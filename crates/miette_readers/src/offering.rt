@@ -1,10 +1,10 @@
 //! What a message proposes, in its report.
 
-ghost use Rattle.std.specs.Prelude.{◌≡◌, ◌++◌, IfOk, OnOk, map};
+ghost use Rattle.std.specs.Prelude.{◌≡◌, ◌++◌, IfOk, OnOk, codes, map, string_bytes};
 ghost use Rattle.std.specs.List.{flat_map, list_any};
 ghost use Rattle.std.specs.Option.{option_copied};
 ghost use Rattle.miette_tree.specs.views.Report.{tree_of};
-ghost use Rattle.miette_readers.specs.rules.Proposing.{is_in};
+ghost use Rattle.miette_readers.specs.rules.Proposing.{fixes_in, is_in};
 ghost use Rattle.miette_readers.specs.rules.Reports.{advice, advice_of, is_main, main_fixes, offered_tree, others};
 ghost use Rattle.miette_readers.specs.views.Edits.{edits_behind};
 
@@ -48,6 +48,25 @@ fn fixes_of(
     Ok(list)
 }
 
+/// What is said of fixes over another file than the main one.
+fn words_in(alloc: Global, name: &str) -> Result<String, AllocError>
+    ensures { IfOk result (λ text. string_bytes text ≡ codes "in " ++ name.now) }
+{
+    let mut text = String::from_str(alloc, "in ")?;
+    text.push_str(name)?;
+    Ok(text)
+}
+
+/// An offer's fixes over another file than the main one.
+fn fixes_of_other(alloc: Global, offer: &Offer<'_, '_>, name: &str) -> Result<Vec<Fix>, AllocError>
+    ensures { IfOk result (λ list. list.items ≡ fixes_in name.now (codes "in " ++ name.now) offer.now) }
+{
+    let words = words_in(alloc, name)?;
+    let mut list = Vec::new(alloc);
+    offer.push_fixes(&mut list, alloc, name, words.as_str())?;
+    Ok(list)
+}
+
 /// The advice to edit the file of an edit.
 fn advice<'f, D: Diagnostic>(
     alloc: Global,
@@ -57,11 +76,10 @@ fn advice<'f, D: Diagnostic>(
     ensures { IfOk result (λ r. tree_of D.meaning ⟦<LentFile<'f> as SourceCode>⟧.source r
         ≡ advice offer.now edit.now) }
 {
-    let diagnostic = MietteDiagnostic::new(alloc, offer.message.as_str())?.with_severity(Severity::Advice);
-    let mut text = String::from_str(alloc, "in ")?;
-    text.push_str(edit.name)?;
-    let mut fixes = Vec::new(alloc);
-    offer.push_fixes(&mut fixes, alloc, edit.name, text.as_str())?;
+    let fixes = fixes_of_other(alloc, offer, edit.name)?;
+    let diagnostic = MietteDiagnostic::new(alloc, offer.message.as_str())?.with_severity(
+        Severity::Advice,
+    );
     let report = Report::built(diagnostic).with_source_code(edit.file.again());
     report.with_fixes(alloc, fixes)
 }
@@ -157,6 +175,7 @@ pub(crate) fn proposing<'f, D: Diagnostic>(
         (tree_of D.meaning ⟦<LentFile<'f> as SourceCode>⟧.source report.entry)) }
 {
     let fixes = fixes_of(alloc, offers, main)?;
+    let report = report.with_fixes(alloc, fixes)?;
     let related = related_of(alloc, offers, main)?;
-    Ok(report.with_fixes(alloc, fixes)?.with_related(related))
+    Ok(report.with_related(related))
 }

@@ -3,7 +3,7 @@
 ghost use Rattle.std.specs.Prelude.{◌≡◌, ◌++◌, IfOk, OnOk, option_map};
 ghost use Rattle.std.specs.List.{list_any};
 ghost use Rattle.miette_fixes.specs.rules.ApplyingAll.{conflict};
-ghost use Rattle.miette_readers.specs.rules.Proposing.{all_parts, begun, edit_found, fixes_in, with_edit, with_item};
+ghost use Rattle.miette_readers.specs.rules.Proposing.{edit_found, fix_by, fixes_in, with_edit};
 ghost use Rattle.miette_readers.specs.rules.Settling.{found_place};
 
 use crate::files::{Files, LentFile};
@@ -86,7 +86,11 @@ fn conflicts_with_any(edit: &Edit, others: &[Edit]) -> bool
 
 impl<'f, 'v> FileEdit<'f, 'v> {
     /// That this text stands at a place, where the place is in its file.
-    pub fn found<F: Files>(files: &'f F, place: &Place<'v>, text: &'v str) -> Option<FileEdit<'f, 'v>>
+    pub fn found<F: Files>(
+        files: &'f F,
+        place: &Place<'v>,
+        text: &'v str,
+    ) -> Option<FileEdit<'f, 'v>>
         ensures { result ≡ option_map (edit_found place.now.name text.now) (found_place (F.found files.now) place.now) }
     {
         let found = found_place(files, place)?;
@@ -108,6 +112,31 @@ impl<'f, 'v> FileEdit<'f, 'v> {
     }
 }
 
+/// Appends a fix, unless it has no edits.
+fn push_fix(list: &mut Vec<Fix>, fix: Fix) -> Result<(), AllocError>
+    ensures { OnOk result (list.new.items ≡ list.old.items ++ fix_by fix fix.edits) }
+{
+    if fix.edits().is_empty() {
+        Ok(())
+    } else {
+        push_item(list, fix)
+    }
+}
+
+/// The fix at hand with an edit. An edit that conflicts with one of it begins a further fix, and the one at hand is
+/// appended.
+fn with_edit(list: &mut Vec<Fix>, alloc: Global, fix: Fix, edit: Edit) -> Result<Fix, AllocError>
+    ensures { IfOk result (λ it. with_edit (record { done = list.old.items; fix = fix }) edit
+        ≡ record { done = list.new.items; fix = it }) }
+{
+    if !conflicts_with_any(&edit, fix.edits()) {
+        return fix.with_edit(edit);
+    }
+    let next = Fix::new(alloc, fix.message())?.with_applicability(fix.applicability());
+    push_item(list, fix)?;
+    next.with_edit(edit)
+}
+
 impl<'f, 'v> Offer<'f, 'v> {
     /// Appends fixes of its edits over a file: one that conflicts with one of a fix begins a further fix.
     pub(crate) fn push_fixes(
@@ -119,88 +148,13 @@ impl<'f, 'v> Offer<'f, 'v> {
     ) -> Result<(), AllocError>
         ensures { OnOk result (list.new.items ≡ list.old.items ++ fixes_in name.now message.now self.now) }
     {
-        let mut parting = Parting::new(alloc, message, self.applicability)?;
+        let mut fix = Fix::new(alloc, message)?.with_applicability(self.applicability);
         for item in self.edits.as_slice() {
-            parting = parting.with_item(alloc, item, name)?;
+            if item.name == name {
+                let edit = item.edit(alloc)?;
+                fix = with_edit(list, alloc, fix, edit)?;
+            }
         }
-        parting.push_all(list)
-    }
-}
-
-/// Fixes that are whole, and the one at hand.
-#[derive(Drop)]
-struct Parting {
-    done: Vec<Fix>,
-    fix: Fix,
-}
-
-impl Model for Parting {
-    ghost use Rattle.miette_readers.specs.rules.Proposing as proposing;
-
-    ghost Value = { proposing.Parting };
-
-    ghost view = { λ it. record { done = it.done.items; fix = it.fix } };
-}
-
-impl Parting {
-    /// A fix of this message, without edits.
-    fn new(
-        alloc: Global,
-        message: &str,
-        applicability: Applicability,
-    ) -> Result<Parting, AllocError>
-        ensures { IfOk result (λ it. it ≡ begun message.now applicability) }
-    {
-        let fix = Fix::new(alloc, message)?.with_applicability(applicability);
-        Ok(Parting {
-            done: Vec::new(alloc),
-            fix,
-        })
-    }
-
-    /// With an edit, which begins a further fix where it conflicts with one of the fix at hand.
-    fn with_edit(self, alloc: Global, edit: Edit) -> Result<Parting, AllocError>
-        ensures { IfOk result (λ it. it ≡ with_edit self edit) }
-    {
-        let Parting { done, fix } = self;
-        if !conflicts_with_any(&edit, fix.edits()) {
-            let fix = fix.with_edit(edit)?;
-            return Ok(Parting { done, fix });
-        }
-        let next = Fix::new(alloc, fix.message())?.with_applicability(fix.applicability());
-        let next = next.with_edit(edit)?;
-        let mut done = done;
-        push_item(&mut done, fix)?;
-        Ok(Parting { done, fix: next })
-    }
-
-    /// With an item's edit, where that is over the file of this name.
-    fn with_item(
-        self,
-        alloc: Global,
-        item: &FileEdit<'_, '_>,
-        name: &str,
-    ) -> Result<Parting, AllocError>
-        ensures { IfOk result (λ it. it ≡ with_item name.now self item.now) }
-    {
-        if item.name == name {
-            let edit = item.edit(alloc)?;
-            self.with_edit(alloc, edit)
-        } else {
-            Ok(self)
-        }
-    }
-
-    /// Appends all of them; a fix without edits is none.
-    fn push_all(self, list: &mut Vec<Fix>) -> Result<(), AllocError>
-        ensures { OnOk result (list.new.items ≡ list.old.items ++ all_parts self) }
-    {
-        let Parting { done, fix } = self;
-        let mut done = done;
-        list.append(&mut done)?;
-        if !fix.edits().is_empty() {
-            push_item(list, fix)?;
-        }
-        Ok(())
+        push_fix(list, fix)
     }
 }

@@ -20,15 +20,11 @@ use std::alloc::{AllocError, Global};
 fn sureness_of(span: &Value) -> Applicability
     ensures { result ≡ sureness_of (view span.now) }
 {
-    let word = text_at(span, "suggestion_applicability").unwrap_or("");
-    if word == "MachineApplicable" {
-        Applicability::MachineApplicable
-    } else if word == "MaybeIncorrect" {
-        Applicability::MaybeIncorrect
-    } else if word == "HasPlaceholders" {
-        Applicability::HasPlaceholders
-    } else {
-        Applicability::Unspecified
+    match text_at(span, "suggestion_applicability").unwrap_or("") {
+        "MachineApplicable" => Applicability::MachineApplicable,
+        "MaybeIncorrect" => Applicability::MaybeIncorrect,
+        "HasPlaceholders" => Applicability::HasPlaceholders,
+        _ => Applicability::Unspecified,
     }
 }
 

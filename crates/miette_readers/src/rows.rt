@@ -49,11 +49,7 @@ pub fn push_row(rows: &mut Vec<String>, alloc: Global, row: &str) -> Result<(), 
 ///
 /// # Errors
 /// `AllocError` where memory is refused.
-pub fn push_rows(
-    rows: &mut Vec<String>,
-    alloc: Global,
-    more: &[String],
-) -> Result<(), AllocError>
+pub fn push_rows(rows: &mut Vec<String>, alloc: Global, more: &[String]) -> Result<(), AllocError>
     ensures { OnOk result (map string_bytes rows.new.items
         ≡ with_rows (map string_bytes rows.old.items) (map string_bytes more.now)) }
 {

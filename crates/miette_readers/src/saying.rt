@@ -22,13 +22,10 @@ use std::alloc::{AllocError, Global};
 fn severity_of(message: &Value) -> Severity
     ensures { result ≡ severity_of (view message.now) }
 {
-    let level = text_at(message, "level").unwrap_or("");
-    if level == "error" || level == "error: internal compiler error" {
-        Severity::Error
-    } else if level == "warning" {
-        Severity::Warning
-    } else {
-        Severity::Advice
+    match text_at(message, "level").unwrap_or("") {
+        "error" | "error: internal compiler error" => Severity::Error,
+        "warning" => Severity::Warning,
+        _ => Severity::Advice,
     }
 }
 

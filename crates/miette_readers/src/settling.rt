@@ -118,13 +118,13 @@ pub(crate) fn first_name<'v>(marks: &[Mark<'v>]) -> Option<&'v str>
 
 /// Adds what is told at a place over the bytes of one of these labels.
 pub(crate) fn tell_all_again(
-    marks: &mut Vec<Mark<'_>>,
+    marks: &mut [Mark<'_>],
     alloc: Global,
     name: &str,
     stretch: Stretch,
     told: &Told<'_>,
 ) -> Result<(), AllocError>
-    ensures { OnOk result (marks.new.items ≡ map (told_again name.now stretch told.now) marks.old.items) }
+    ensures { OnOk result (marks.new ≡ map (told_again name.now stretch told.now) marks.old) }
 {
     for mark in marks.iter_mut() {
         mark.tell_again(alloc, name, stretch, told)?;

@@ -7,7 +7,7 @@ abbrev pub is_feed : ℕ → Bool
 is_feed b = b == 10
 
 -- where a line begins, of which so many stand in front
-unfoldable pub line_start : ℕ → List ℕ → Option ℕ
+abbrev pub line_start : ℕ → List ℕ → Option ℕ
 line_start zero bytes = Some 0
 line_start (suc n) bytes =
     option_and_then (λ end. option_map (λ start. (end + 1) + start) (line_start n (drop (end + 1) bytes)))
