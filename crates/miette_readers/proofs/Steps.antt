@@ -1,6 +1,6 @@
 -- One item more of a list that a loop goes over, and one of several items, by what is seen of it.
-use Rattle.std.proofs.Common.{◌≡◌, ℕ, zero, suc, ◌+◌, ◌<◌, ◌≤◌, List, [], ◌∷◌, ◌++◌, Bool, true, false, length, get_or}
-use Rattle.std.proofs.Common.{take, drop, map, set, Option, Some, None, arith, refl, sym, ap, ap₂, ◌∙◌, append_assoc}
+use Rattle.std.proofs.Common.{◌≡◌, ℕ, zero, suc, ◌+◌, ◌<◌, List, [], ◌∷◌, ◌++◌, Bool, true, false, length, get_or}
+use Rattle.std.proofs.Common.{take, map, Option, Some, None, arith, refl, sym, ap, ap₂, ◌∙◌, append_assoc}
 use Rattle.std.specs.Prelude.{◌||◌, ◌&&◌}
 use Rattle.std.specs.List.{list_any, list_all, filter_map, cons_option}
 use Rattle.std.proofs.lemmas.List.{append-nil, map-append, take_more}
@@ -57,27 +57,3 @@ module _ {V W : Type 0} (look : V → W) (xs : List V) (i : ℕ) (x : V) (h : i 
       let before = filter_map g (map look (take i xs)) in
       inv ∙ ap (λ l. initial ++ l) (sym (append-nil before))
       ∙ ap (λ o. initial ++ (before ++ cons_option o [])) (sym e) ∙ ap (λ l. initial ++ l) (sym (next_found g))
-
--- an item of a list whose items a loop changes one after another
-written : {V : Type 0} (f : V → V) (xs : List V) (i : ℕ) (x : V) → i < length xs
-    → x ≡ get_or (map f (take i xs) ++ drop i xs) i x
-    → set (map f (take i xs) ++ drop i xs) i (f x) ≡ map f (take (suc i) xs) ++ drop (suc i) xs
-written f [] i x h is = absurd (omega (arith, h))
-written f (y ∷ ys) zero x h is = ap (λ z. f z ∷ ys) is
-written f (y ∷ ys) (suc i) x h is = ap (λ l. f y ∷ l) (written f ys i x (omega (arith, h)) is)
-
-pub next_written : {V : Type 0} (f : V → V) (xs now : List V) (i : ℕ) (x y : V)
-    → now ≡ map f (take i xs) ++ drop i xs → i < length xs → x ≡ get_or now i x → y ≡ f x
-    → set now i y ≡ map f (take (i + 1) xs) ++ drop (i + 1) xs
-next_written f xs now i x y inv h is made =
-    let next : suc i ≡ i + 1 = omega arith in
-    ap₂ (λ l z. set l i z) inv made
-    ∙ written f xs i x h (is ∙ ap (λ l. get_or l i x) inv)
-    ∙ ap (λ k. map f (take k xs) ++ drop k xs) next
-
-pub all_written : {V : Type 0} (f : V → V) (xs : List V) (i : ℕ) → length xs ≤ i
-    → map f (take i xs) ++ drop i xs ≡ map f xs
-all_written f [] zero h = refl
-all_written f [] (suc i) h = refl
-all_written f (y ∷ ys) zero h = absurd (omega (arith, h))
-all_written f (y ∷ ys) (suc i) h = ap (λ l. f y ∷ l) (all_written f ys i (omega (arith, h)))

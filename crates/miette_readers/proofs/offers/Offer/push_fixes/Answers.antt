@@ -8,4 +8,4 @@ returns c =
     let self = c.args.self.now in
     subst (λ (l : List Proposal). OnOk c.push_fix.result (c.push_fix.new.list.items ≡ l))
     (all_parted c.args.name.now c.args.message.now self.applicability c.args.list.now.items c.loop-item.list.items
-    c.loop-item.fix self.edits c.loop-item.invariant) c.push_fix.ensures
+    c.loop-item.fix self.edits c.loop-item.item-index c.loop-item-test.false c.loop-item.invariant) c.push_fix.ensures
