@@ -1,8 +1,8 @@
 //! All that a message tells, as labels in lists over files, and as texts.
 
 ghost use Rattle.std.specs.Prelude.{◌≡◌, IfOk, OnOk, [], length, map, option_map, string_bytes};
-ghost use Rattle.miette_readers.specs.rules.Places.{joined};
 ghost use Rattle.std.specs.List.{list_any};
+ghost use Rattle.miette_readers.specs.rules.Places.{joined};
 ghost use Rattle.miette_readers.specs.rules.Settling.{clashes_in, first_open, found_place, is_around, is_at, is_open};
 ghost use Rattle.miette_readers.specs.rules.Settling.{marked, maybe_text, meets, new_mark, newly_marked, settled};
 ghost use Rattle.miette_readers.specs.rules.Settling.{nothing_settled, settled_at, settled_one, with_mark, with_rows};
