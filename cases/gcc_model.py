@@ -1,5 +1,7 @@
 """gcc_model.py: a model of how an array of GCC's diagnostics becomes reports (docs/RULES.md, 'What is read of GCC'),
 made without the programs: each diagnostic is put in rustc's form, of which readers_model.py makes the report."""
+import re
+
 from readers_model import member, objects, report_of, text
 
 ERRORS = ["error", "fatal error", "internal compiler error", "sorry, unimplemented", "permerror"]
@@ -11,13 +13,14 @@ class NoReports(Exception):
 
 
 def offset(data, line, before):
-    """The byte of a line (from 1) with so many bytes in front of it, at most the end of the line's text."""
-    rows = data.split(b"\n")
-    if not 1 <= line <= len(rows):
+    """The byte of a line (from 1) with so many bytes in front of it, at most the end of the line's text. Lines end with
+    LF, CR LF or a lone CR, as GCC counts them."""
+    ends = list(re.finditer(rb"\r\n|\n|\r", data))
+    starts = [0, *(it.end() for it in ends)]
+    if not 1 <= line <= len(starts):
         return None
-    start = sum(len(it) + 1 for it in rows[: line - 1])
-    row = rows[line - 1]
-    return start + min(before, len(row) - (line < len(rows) and row.endswith(b"\r")))
+    text_ends = [*(it.start() for it in ends), len(data)]
+    return min(starts[line - 1] + before, text_ends[line - 1])
 
 
 def at(point, origin, files, further=0):

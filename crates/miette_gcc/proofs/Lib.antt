@@ -1,3 +1,2 @@
 pub mod Events
 pub mod Laws
-pub mod Lines

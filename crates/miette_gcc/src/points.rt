@@ -1,6 +1,6 @@
 //! Points and places of GCC's diagnostics.
 
-ghost use Rattle.std.specs.Prelude.{◌≡◌, ◌≤◌, option_map};
+ghost use Rattle.std.specs.Prelude.{◌≡◌, option_map};
 ghost use Rattle.serde_json.specs.View.{view};
 ghost use Rattle.miette_protocol.specs.rules.Reading.{Source};
 ghost use Rattle.miette_gcc.specs.rules.Gcc.{before_column, end_at, event_place, location_place, offset_of};
@@ -9,6 +9,7 @@ ghost use Rattle.miette_gcc.specs.rules.GccReport.{fixit_place};
 ghost use Rattle.miette_gcc.specs.views.Grounds.{ground_in};
 
 use crate::lines::offset_at;
+use miette_protocol::source::IndexedSource;
 use miette_readers::files::{Files, LentFile};
 use miette_readers::members::{object_at, text_at, whole_at};
 use miette_readers::place::{Place, Stretch};
@@ -95,11 +96,10 @@ fn end_at<'v>(origin: u64, key: &str, location: &'v Value) -> Point<'v>
 
 impl<'v> Point<'v> {
     /// The offset of what stands so many bytes behind it, on its line.
-    fn offset(&self, bytes: &[u8], further: u64) -> Option<usize>
-        requires { further ≤ 1 }
-        ensures { result ≡ offset_of bytes.now further self.now }
+    fn offset(&self, source: &IndexedSource, further: u64) -> Option<usize>
+        ensures { result ≡ offset_of source.now further self.now }
     {
-        offset_at(bytes, self.line?, self.before?.saturating_add(further))
+        offset_at(source, self.line?, self.before?, further)
     }
 }
 
@@ -112,8 +112,8 @@ fn stretch_in(
 ) -> Option<Stretch>
     ensures { result ≡ stretch_in further start.now end.now file.now }
 {
-    let start = start.offset(file.bytes(), 0)?;
-    let end = end.offset(file.bytes(), further)?;
+    let start = start.offset(file.indexed(), 0)?;
+    let end = end.offset(file.indexed(), further)?;
     Some(Stretch { start, end })
 }
 

@@ -1,26 +1,26 @@
--- Lines and columns as GCC counts them. Lines end with LF and CR LF.
-use Rattle.std.specs.Prelude.{ℕ, zero, suc, ◌+◌, ◌-◌, ◌*◌, List, Option, Some, None, Bool, ◌&&◌, ◌==◌, if◌then◌else◌, length, min}
-use Rattle.std.specs.Prelude.{drop, nat_lt, option_and_then, option_map, position, slice_index}
-use Rattle.std.specs.List.{position_or_len}
+-- Lines and columns as GCC counts them. Lines end as those of pictures do.
+use Rattle.std.specs.Prelude.{ℕ, zero, suc, ◌+◌, List, [], ◌∷◌, Option, Some, None, if◌then◌else◌, length, min, drop, nat_le}
+use Rattle.miette_source_lines.specs.rules.Lines.{Line, line_of, line_start, lines_from}
 
-abbrev pub is_feed : ℕ → Bool
-is_feed b = b == 10
+-- the number of the last line, the first with 0: it is empty where a terminator ends the bytes
+abbrev pub last_line : List ℕ → ℕ
+last_line bytes = line_of bytes (length bytes)
 
--- where a line begins, of which so many stand in front
-abbrev pub line_start : ℕ → List ℕ → Option ℕ
-line_start zero bytes = Some 0
-line_start (suc n) bytes =
-    option_and_then (λ end. option_map (λ start. (end + 1) + start) (line_start n (drop (end + 1) bytes)))
-    (position is_feed bytes)
+-- where the text of the first of these lines ends, which begin at an offset
+abbrev pub first_text_end : ℕ → List Line → ℕ
+first_text_end at [] = at
+first_text_end at (l ∷ ls) = l.text_end
 
--- how many bytes the text of the first line has: without the CR of a CR LF
-abbrev pub text_length : List ℕ → ℕ
-text_length bytes =
-    let end = position_or_len is_feed bytes in
-    if nat_lt end (length bytes) && (nat_lt 0 end && (slice_index bytes (end - 1) == 13)) then end - 1 else end
+-- where the text of the line ends that begins at an offset
+abbrev pub text_end_from : List ℕ → ℕ → ℕ
+text_end_from bytes at = first_text_end at (lines_from at (drop at bytes))
 
--- the offset of a line, the first with 1, and of a column in bytes, from 0: at most the end of the line's text
+-- so many bytes behind the beginning of a line, but at most at the end of its text
+abbrev pub within_line : List ℕ → ℕ → ℕ → ℕ
+within_line bytes start before = min (start + before) (text_end_from bytes start)
+
+-- the offset of what has so many bytes in front of it on a line, the first with 1
 abbrev pub offset_at : List ℕ → ℕ → ℕ → Option ℕ
-offset_at bytes zero column = None
-offset_at bytes (suc n) column =
-    option_map (λ start. start + min column (text_length (drop start bytes))) (line_start n bytes)
+offset_at bytes zero before = None
+offset_at bytes (suc k) before =
+    if nat_le k (last_line bytes) then Some (within_line bytes (line_start bytes k) before) else None
