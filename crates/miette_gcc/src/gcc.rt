@@ -1,6 +1,7 @@
 //! Reports from what GCC writes.
 
-ghost use Rattle.std.specs.Prelude.{◌≡◌, Err, None, Some, IfOk, OnOk, map};
+ghost use Rattle.std.specs.Prelude.{◌≡◌, ◌++◌, Err, None, Some, IfOk, OnOk, map};
+ghost use Rattle.std.specs.List.{list_all};
 ghost use Rattle.serde_json.specs.View.{view};
 ghost use Rattle.miette_readers.specs.views.Values.{viewed};
 ghost use Rattle.miette_tree.specs.views.Report.{tree_of};
@@ -27,6 +28,13 @@ fn has_message(diagnostic: &Value) -> bool
     ensures { result ≡ has_message (view diagnostic.now) }
 {
     text_at(diagnostic, "message").is_some()
+}
+
+/// Whether each of these says something.
+fn all_say(diagnostics: &[Value]) -> bool
+    ensures { result ≡ list_all has_message (viewed diagnostics.now) }
+{
+    diagnostics.iter().all(|it| has_message(it))
 }
 
 /// The report of a diagnostic, by what its places are found by.
@@ -96,7 +104,7 @@ pub fn gcc_reports<'f, D: Diagnostic, F: Files>(
     ensures message { (result ≡ Err ReadError.NoMessage) → gcc_trees (F.found files.now) (view value.now) ≡ None }
 {
     let diagnostics = value.as_array().ok_or(ReadError::NoMessage)?;
-    if !diagnostics.iter().all(|it| has_message(it)) {
+    if !all_say(diagnostics.as_slice()) {
         return Err(ReadError::NoMessage);
     }
     let mut list = Vec::new(alloc);

@@ -1,0 +1,10 @@
+use Rattle.std.proofs.Common.{◌≡◌, ◌-◌, ap, arith, ◌∙◌}
+use Rattle.miette_source_lines.specs.rules.Lines.{line_start}
+use Rattle.miette_gcc.specs.rules.Lines.{last_line}
+use Rattle.miette_gcc.proofs.lines.line_start.Goals as goal
+
+pub returns-clause-start : goal.returns-clause-start
+returns-clause-start c =
+    let bytes = c.args.source.now in
+    let back : last_line bytes - (last_line bytes - c.args.line) ≡ c.args.line = omega (arith, c.requires) in
+    c.start_before.ensures.start ∙ ap (line_start bytes) back
