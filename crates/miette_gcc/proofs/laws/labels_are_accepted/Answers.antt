@@ -1,4 +1,4 @@
-use Rattle.miette_gcc.proofs.Laws.{gcc_accepts}
+use Rattle.miette_gcc.proofs.Reports.{gcc_accepts}
 use Rattle.miette_gcc.proofs.laws.labels_are_accepted.Goals as goal
 
 pub returns : goal.returns
