@@ -19,19 +19,20 @@ use Rattle.miette_readers.specs.rules.Members.{text_at}
 use Rattle.miette_readers.specs.rules.Places.{Place, Stretch, Told, is_within, joined}
 use Rattle.miette_readers.specs.rules.Proposing.{FileEdit, Offer}
 use Rattle.miette_readers.specs.rules.Rustc.{told_of}
-use Rattle.miette_readers.specs.rules.RustcReport.{advice, advice_of, further_files, held_in, help_of, is_listed}
-use Rattle.miette_readers.specs.rules.RustcReport.{is_other_reason, is_other_type, label_of, labels_in, main_fixes}
-use Rattle.miette_readers.specs.rules.RustcReport.{maybe_source, meaning_with, message_tree, offers_of, others}
-use Rattle.miette_readers.specs.rules.RustcReport.{row_tree, rustc_tree, sections_from, some_labels}
+use Rattle.miette_readers.specs.rules.Reports.{Said, advice, advice_of, further_files, is_listed, label_of, labels_in}
+use Rattle.miette_readers.specs.rules.Reports.{main_fixes, maybe_source, meaning_with, others, report_tree}
+use Rattle.miette_readers.specs.rules.Reports.{sections_from, some_labels}
+use Rattle.miette_readers.specs.rules.RustcReport.{held_in, is_other_reason, is_other_type, message_tree, offers_of}
+use Rattle.miette_readers.specs.rules.RustcReport.{row_tree, rustc_tree, said_of}
 use Rattle.miette_readers.specs.rules.Settling.{Mark, Settled, first_open, found_place, has_no_rows, is_around, is_at}
 use Rattle.miette_readers.specs.rules.Settling.{is_open, main_of, marked, maybe_text, meets, new_mark, newly_marked}
 use Rattle.miette_readers.specs.rules.Settling.{nothing_settled, settled, settled_at, settled_one, settled_with}
 use Rattle.miette_readers.specs.rules.Settling.{told_again, within_of}
-use Rattle.miette_readers.proofs.AlwaysRead.{EachReads, FilesRead, either, settled_reads}
+use Rattle.miette_readers.proofs.ReportsRead.{EachReads, FilesRead, either, settled_reads}
 
 -- ---- the files of lists by their numbers
 
-abbrev nth : List Source → ℕ → Option Source
+abbrev pub nth : List Source → ℕ → Option Source
 nth [] n = None
 nth (s ∷ ss) zero = Some s
 nth (s ∷ ss) (suc n) = nth ss n
@@ -47,11 +48,11 @@ nth_before (x ∷ xs) s new (suc n) is = nth_before xs s new n is
 
 -- ---- a label is within the file of its list
 
-abbrev Fits : (List ℕ → Option Source) → List Source → Mark → Type 0
+abbrev pub Fits : (List ℕ → Option Source) → List Source → Mark → Type 0
 Fits files ss m = (s : Source) × (files m.name ≡ Some s) × (nth ss m.list ≡ Some s)
     × (is_within s.bytes m.stretch ≡ true)
 
-abbrev AllFit : (List ℕ → Option Source) → List Source → List Mark → Type 0
+abbrev pub AllFit : (List ℕ → Option Source) → List Source → List Mark → Type 0
 AllFit files ss [] = ⊤
 AllFit files ss (m ∷ ms) = Fits files ss m × AllFit files ss ms
 
@@ -178,7 +179,7 @@ with_fits files done t None h = text_fits files done (joined t.rows) h
 with_fits files done t (Some p) h =
     at_fits files done t p (found_place files p) h (within_fits (files p.name) p.stretch)
 
-settled_fits : (files : List ℕ → Option Source) (ts : List Told) (done : Settled) → SettledFits files done
+pub settled_fits : (files : List ℕ → Option Source) (ts : List Told) (done : Settled) → SettledFits files done
     → SettledFits files (fold (settled_one files) done ts)
 settled_fits files [] done h = h
 settled_fits files (t ∷ ts) done h =
@@ -235,7 +236,7 @@ sections_accept files all ms h n (s ∷ ss) at r =
 
 -- ---- the report
 
-given_some : (ls : List Label) → given_labels (some_labels ls) ≡ ls
+pub given_some : (ls : List Label) → given_labels (some_labels ls) ≡ ls
 given_some [] = refl
 given_some (l ∷ ls) = refl
 
@@ -243,13 +244,13 @@ abbrev AllAccept : Trees → Type 0
 AllAccept more = (inherited : Option Source) → holds_of_all accepts inherited more ≡ true
 
 told_accepts : (files : List ℕ → Option Source) (marks : List Mark) (ss : List Source) (ts : List (List ℕ))
-    (help : Option (List ℕ)) (d : Data) (more : Trees) (fixes : List Proposal) → AllFit files ss marks → EachReads ss
+    (said : Said) (more : Trees) (fixes : List Proposal) → AllFit files ss marks → EachReads ss
     → AllAccept more
     → report_accepted (with_related more (with_fixes fixes (with_all_snippets
     (sections_from marks 1 (further_files ss))
-    (with_cause (texts ts) (maybe_source ss (alone (plain_diagnosis (meaning_with help d marks)))))))) ≡ true
-told_accepts files marks [] ts help d more fixes h r all = and_from _ _ (and_from true _ refl (all None)) refl
-told_accepts files marks (s ∷ ss) ts help d more fixes h r all =
+    (with_cause (texts ts) (maybe_source ss (alone (plain_diagnosis (meaning_with said marks)))))))) ≡ true
+told_accepts files marks [] ts said more fixes h r all = and_from _ _ (and_from true _ refl (all None)) refl
+told_accepts files marks (s ∷ ss) ts said more fixes h r all =
     let own : accepts (Some s) (given_labels (some_labels (labels_in marks 0))) ≡ true =
     subst (λ (ls : List Label). accepts (Some s) ls ≡ true) (sym (given_some (labels_in marks 0)))
     (source_accepts s (labels_in marks 0) (labels_accepted files (s ∷ ss) s 0 refl marks h) r.0)
@@ -270,16 +271,20 @@ advices_accept main (o ∷ os) =
     λ inherited. advice_accepts inherited o (others main o.edits) (flat_map (advice_of main) os)
     (advices_accept main os inherited)
 
+pub report_accepts : (files : List ℕ → Option Source) → FilesRead files → (said : Said) (ts : List Told)
+    (offers : List Offer) → report_accepted (report_tree said (settled files ts) offers) ≡ true
+report_accepts files h said ts offers =
+    let done = settled files ts in
+    told_accepts files done.marks done.files done.texts said
+    (trees (flat_map (advice_of (main_of done.marks)) offers)) (flat_map (main_fixes (main_of done.marks)) offers)
+    (settled_fits files ts nothing_settled tt) (settled_reads files h ts nothing_settled tt)
+    (advices_accept (main_of done.marks) offers)
+
+-- ---- rustc's
+
 message_accepts : (files : List ℕ → Option Source) → FilesRead files → (d : Data)
     → report_accepted (message_tree files d) ≡ true
-message_accepts files h d =
-    let done = settled files (told_of files d) in
-    told_accepts files done.marks done.files done.texts (help_of files d) d
-    (trees (flat_map (advice_of (main_of done.marks)) (offers_of files d)))
-    (flat_map (main_fixes (main_of done.marks)) (offers_of files d))
-    (settled_fits files (told_of files d) nothing_settled tt)
-    (settled_reads files h (told_of files d) nothing_settled tt)
-    (advices_accept (main_of done.marks) (offers_of files d))
+message_accepts files h d = report_accepts files h (said_of files d) (told_of files d) (offers_of files d)
 
 abbrev MaybeAccepts : Option (Option Tree) → Type 0
 MaybeAccepts o = IfSome o (λ t. IfSome t (λ tree. report_accepted tree ≡ true))

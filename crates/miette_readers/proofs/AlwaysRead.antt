@@ -1,144 +1,36 @@
--- The reports of messages always read, over files that do.
-use Rattle.std.proofs.Common.{◌≡◌, ℕ, ◌+◌, List, [], ◌∷◌, ◌++◌, Option, Some, None, option_map, Bool, true, false}
-use Rattle.std.proofs.Common.{All, IfSome, codes, length, map}
-use Rattle.std.specs.Prelude.{⊤, ◌==◌, ◌&&◌, ◌||◌, if◌then◌else◌, option_and_then}
-use Rattle.std.specs.List.{cons_option, filter_map, flat_map, fold, list_all, list_any}
-use Rattle.std.proofs.lemmas.List.Elements.{All-nil, All-cons}
+-- The reports of rustc's messages always read, over files that do.
+use Rattle.std.proofs.Common.{ℕ, List, [], ◌∷◌, Option, Some, None, option_map, IfSome, codes}
+use Rattle.std.specs.Prelude.{option_and_then}
+use Rattle.std.specs.List.{filter_map, list_all}
 use Rattle.serde_json.specs.Data.{Data}
-use Rattle.miette_fixes.specs.rules.Edits.{Proposal}
 use Rattle.miette_protocol.specs.rules.Reading.{Source}
-use Rattle.miette_tree.specs.rules.Diagnosis.{Diagnosis, Section}
-use Rattle.miette_tree.specs.rules.Reads.{AllAlwaysRead, AlwaysReads}
-use Rattle.miette_tree.specs.rules.Tree.{Tree, tree, Trees, no_trees, alone, texts, trees, with_all_snippets}
-use Rattle.miette_tree.specs.rules.Tree.{with_cause, with_fixes, with_related}
+use Rattle.miette_tree.specs.rules.Reads.{AlwaysReads}
+use Rattle.miette_tree.specs.rules.Tree.{Tree}
 use Rattle.miette_readers.specs.rules.Members.{objects_at, text_at}
-use Rattle.miette_readers.specs.rules.Places.{Place, Stretch, Told, is_within, joined}
-use Rattle.miette_readers.specs.rules.Proposing.{FileEdit, Offer, is_in}
-use Rattle.miette_readers.specs.rules.Rustc.{edits_of, place_of, told_of}
-use Rattle.miette_readers.specs.rules.RustcReport.{advice, advice_of, all_found, edit_at, edit_found, further_files}
-use Rattle.miette_readers.specs.rules.RustcReport.{held_in, help_of, is_found, is_main, is_other_reason, is_other_type}
-use Rattle.miette_readers.specs.rules.RustcReport.{main_fixes, maybe_source, meaning_with, message_tree, offer_by}
-use Rattle.miette_readers.specs.rules.RustcReport.{offer_of, offer_with, offered_tree, offers_of, others, row_tree}
-use Rattle.miette_readers.specs.rules.RustcReport.{rustc_tree, sections_from, told_tree, with_other}
-use Rattle.miette_readers.specs.rules.Settling.{Mark, Settled, found_place, has_no_rows, is_around, is_at, main_of}
-use Rattle.miette_readers.specs.rules.Settling.{marked, maybe_text, newly_marked, nothing_settled, settled, settled_at}
-use Rattle.miette_readers.specs.rules.Settling.{settled_one, settled_with, within_of}
-
-abbrev Reads : Source → Type 0
-Reads s = s.always_reads ≡ true
-
--- each file that is found always reads
-abbrev pub FilesRead : (List ℕ → Option Source) → Type 0
-FilesRead files = (name : List ℕ) → IfSome (files name) Reads
-
-pub either : {A : Type 0} (P : A → Type 0) (b : Bool) (x y : A) → P x → P y → P (if b then x else y)
-either P true x y p q = p
-either P false x y p q = q
-
--- ---- places
-
-within_reads : (o : Option Source) (s : Option Stretch) → IfSome o Reads
-    → IfSome (option_and_then (λ source. within_of source s) o) (λ f. Reads f.0)
-within_reads None s h = tt
-within_reads (Some x) None h = tt
-within_reads (Some x) (Some s) h =
-    either (λ o. IfSome o (λ f. Reads f.0)) (is_within x.bytes s) (Some (x, s)) None h tt
-
-place_reads : (files : List ℕ → Option Source) → FilesRead files → (p : Place)
-    → IfSome (found_place files p) (λ f. Reads f.0)
-place_reads files h p = within_reads (files p.name) p.stretch (h p.name)
-
--- ---- the files of lists
-
-abbrev pub EachReads : List Source → Type 0
-EachReads [] = ⊤
-EachReads (s ∷ ss) = Reads s × EachReads ss
-
-each_more : (ss : List Source) (s : Source) → EachReads ss → Reads s → EachReads (ss ++ s ∷ [])
-each_more [] s h r = (r, tt)
-each_more (x ∷ xs) s h r = (h.0, each_more xs s h.1 r)
-
-abbrev pub SettledReads : Settled → Type 0
-SettledReads done = EachReads done.files
-
-newly_reads : (done : Settled) (name : List ℕ) (source : Source) (s : Stretch) (t : Told) → SettledReads done
-    → Reads source → SettledReads (newly_marked done name source s t)
-newly_reads done name source s t h r = either EachReads _ _ _ (each_more done.files source h r) h
-
-marked_reads : (done : Settled) (name : List ℕ) (source : Source) (s : Stretch) (t : Told) → SettledReads done
-    → Reads source → SettledReads (marked done name source s t)
-marked_reads done name source s t h r =
-    either SettledReads (list_any (is_at name s) done.marks) _ _ h
-    (either SettledReads (has_no_rows t.rows && list_any (is_around name s) done.marks) done
-    (newly_marked done name source s t) h (newly_reads done name source s t h r))
-
-text_reads : (done : Settled) (o : Option (List ℕ)) → SettledReads done → SettledReads (maybe_text done o)
-text_reads done None h = h
-text_reads done (Some text) h = h
-
-at_reads : (done : Settled) (t : Told) (p : Place) (f : Option (Source × Stretch)) → SettledReads done
-    → IfSome f (λ f. Reads f.0) → SettledReads (settled_at done t p f)
-at_reads done t p None h r = h
-at_reads done t p (Some f) h r = marked_reads done p.name f.0 f.1 t h r
-
-with_reads : (files : List ℕ → Option Source) → FilesRead files → (done : Settled) (t : Told) (p : Option Place)
-    → SettledReads done → SettledReads (settled_with files done t p)
-with_reads files h done t None d = text_reads done (joined t.rows) d
-with_reads files h done t (Some p) d = at_reads done t p (found_place files p) d (place_reads files h p)
-
-pub settled_reads : (files : List ℕ → Option Source) → FilesRead files → (ts : List Told) (done : Settled)
-    → SettledReads done → SettledReads (fold (settled_one files) done ts)
-settled_reads files h [] done d = d
-settled_reads files h (t ∷ ts) done d =
-    settled_reads files h ts (settled_one files done t) (with_reads files h done t t.place d)
-
--- ---- the report without what it proposes
-
-sections_read : (marks : List Mark) (n : ℕ) (ss : List Source) → EachReads ss
-    → All (λ section. section.source.always_reads ≡ true) (sections_from marks n ss)
-sections_read marks n [] h = All-nil (λ (section : Section). section.source.always_reads ≡ true)
-sections_read marks n (s ∷ ss) h =
-    All-cons (λ (section : Section). section.source.always_reads ≡ true) _ (sections_from marks (n + 1) ss) h.0
-    (sections_read marks (n + 1) ss h.1)
-
-over_reads : (marks : List Mark) (ss : List Source) (ts : List (List ℕ)) (m : Diagnosis) → EachReads ss
-    → AlwaysReads (with_all_snippets (sections_from marks 1 (further_files ss))
-    (with_cause (texts ts) (maybe_source ss (alone m))))
-over_reads marks [] ts m h = (tt, tt, tt, sections_read marks 1 [] tt)
-over_reads marks (s ∷ ss) ts m h = (h.0, tt, tt, sections_read marks 1 ss h.1)
-
-told_reads : (help : Option (List ℕ)) (d : Data) (done : Settled) → SettledReads done
-    → AlwaysReads (told_tree help d done)
-told_reads help d done h = over_reads done.marks done.files done.texts _ h
+use Rattle.miette_readers.specs.rules.Places.{Stretch}
+use Rattle.miette_readers.specs.rules.Proposing.{FileEdit, edit_found}
+use Rattle.miette_readers.specs.rules.Rustc.{edits_of, file_name, place_of, told_of}
+use Rattle.miette_readers.specs.rules.RustcReport.{all_found, edit_at, held_in, is_found, is_other_reason, is_other_type}
+use Rattle.miette_readers.specs.rules.RustcReport.{message_tree, offer_by, offer_of, offer_with, offers_of, row_tree}
+use Rattle.miette_readers.specs.rules.RustcReport.{rustc_tree, said_of}
+use Rattle.miette_readers.specs.rules.Settling.{found_place}
+use Rattle.miette_readers.proofs.ReportsRead.{EditsRead, FilesRead, OffersRead, Reads, either, found_reads, more_edits}
+use Rattle.miette_readers.proofs.ReportsRead.{more_offers, place_reads, report_reads}
 
 -- ---- proposals
 
-abbrev EditsRead : List FileEdit → Type 0
-EditsRead [] = ⊤
-EditsRead (e ∷ es) = Reads e.source × EditsRead es
-
-edit_with : (d : Data) (o : Option (List ℕ)) (f : Option (Source × Stretch)) → IfSome f (λ f. Reads f.0)
-    → IfSome (option_and_then (λ text. option_map (edit_found d text) f) o) (λ e. Reads e.source)
-edit_with d None f r = tt
-edit_with d (Some text) None r = tt
-edit_with d (Some text) (Some f) r = r
-
-more_edits : (o : Option FileEdit) (es : List FileEdit) → IfSome o (λ e. Reads e.source) → EditsRead es
-    → EditsRead (cons_option o es)
-more_edits None es r h = h
-more_edits (Some e) es r h = (r, h)
+edit_with : (name : List ℕ) (o : Option (List ℕ)) (f : Option (Source × Stretch)) → IfSome f (λ f. Reads f.0)
+    → IfSome (option_and_then (λ text. option_map (edit_found name text) f) o) (λ e. Reads e.source)
+edit_with name None f r = tt
+edit_with name (Some text) f r = found_reads name text f r
 
 edits_read : (files : List ℕ → Option Source) → FilesRead files → (ds : List Data)
     → EditsRead (filter_map (edit_at files) ds)
 edits_read files h [] = tt
 edits_read files h (d ∷ ds) =
     more_edits (edit_at files d) _
-    (edit_with d (text_at (codes "suggested_replacement") d) (found_place files (place_of d))
+    (edit_with (file_name d) (text_at (codes "suggested_replacement") d) (found_place files (place_of d))
     (place_reads files h (place_of d))) (edits_read files h ds)
-
-abbrev OffersRead : List Offer → Type 0
-OffersRead [] = ⊤
-OffersRead (o ∷ os) = EditsRead o.edits × OffersRead os
 
 offer_from : (c first : Data) (o : Option (List FileEdit)) → IfSome o EditsRead
     → IfSome (option_map (offer_by c first) o) (λ offer. EditsRead offer.edits)
@@ -152,60 +44,18 @@ offer_reads files h c (d ∷ ds) =
     offer_from c d (all_found files (d ∷ ds)) (either (λ o. IfSome o EditsRead) (list_all (is_found files) (d ∷ ds))
     (Some (filter_map (edit_at files) (d ∷ ds))) None (edits_read files h (d ∷ ds)) tt)
 
-more_offers : (o : Option Offer) (os : List Offer) → IfSome o (λ offer. EditsRead offer.edits) → OffersRead os
-    → OffersRead (cons_option o os)
-more_offers None os r h = h
-more_offers (Some o) os r h = (r, h)
-
 offers_read : (files : List ℕ → Option Source) → FilesRead files → (cs : List Data)
     → OffersRead (filter_map (offer_of files) cs)
 offers_read files h [] = tt
 offers_read files h (c ∷ cs) =
     more_offers (offer_of files c) _ (offer_reads files h c (edits_of c)) (offers_read files h cs)
 
-edits_with : (es : List FileEdit) (e : FileEdit) → EditsRead es → Reads e.source → EditsRead (es ++ e ∷ [])
-edits_with [] e h r = (r, tt)
-edits_with (x ∷ xs) e h r = (h.0, edits_with xs e h.1 r)
-
-others_read : (main : Option (List ℕ)) (es found : List FileEdit) → EditsRead found → EditsRead es
-    → EditsRead (fold (with_other main) found es)
-others_read main [] found h k = h
-others_read main (e ∷ es) found h k =
-    others_read main es (with_other main found e)
-    (either EditsRead (is_main main e || list_any (is_in e.name) found) found (found ++ e ∷ []) h
-    (edits_with found e h k.0)) k.1
-
--- ---- what is related
-
-advice_reads : (offer : Offer) (es : List FileEdit) → EditsRead es → AllAlwaysRead (trees (map (advice offer) es))
-advice_reads offer [] h = tt
-advice_reads offer (e ∷ es) h =
-    ((h.0, tt, tt, All-nil (λ (section : Section). section.source.always_reads ≡ true)), advice_reads offer es h.1)
-
-all_with : (a b : List Tree) → AllAlwaysRead (trees a) → AllAlwaysRead (trees b) → AllAlwaysRead (trees (a ++ b))
-all_with [] b p q = q
-all_with (t ∷ ts) b p q = (p.0, all_with ts b p.1 q)
-
-advices_read : (main : Option (List ℕ)) (os : List Offer) → OffersRead os
-    → AllAlwaysRead (trees (flat_map (advice_of main) os))
-advices_read main [] h = tt
-advices_read main (o ∷ os) h =
-    all_with (advice_of main o) (flat_map (advice_of main) os)
-    (advice_reads o (others main o.edits) (others_read main o.edits [] tt h.0)) (advices_read main os h.1)
-
-offered_reads : (more : Trees) (fixes : List Proposal) (t : Tree) → AlwaysReads t → AllAlwaysRead more
-    → AlwaysReads (with_related more (with_fixes fixes t))
-offered_reads more fixes (tree m s c r) p q = (p.0, p.1, q, p.3)
-
 -- ---- the whole
 
 message_reads : (files : List ℕ → Option Source) → FilesRead files → (d : Data) → AlwaysReads (message_tree files d)
 message_reads files h d =
-    let done = settled files (told_of files d) in
-    offered_reads (trees (flat_map (advice_of (main_of done.marks)) (offers_of files d)))
-    (flat_map (main_fixes (main_of done.marks)) (offers_of files d)) (told_tree (help_of files d) d done)
-    (told_reads (help_of files d) d done (settled_reads files h (told_of files d) nothing_settled tt))
-    (advices_read (main_of done.marks) (offers_of files d) (offers_read files h (objects_at (codes "children") d)))
+    report_reads files h (said_of files d) (told_of files d) (offers_of files d)
+    (offers_read files h (objects_at (codes "children") d))
 
 abbrev MaybeReads : Option (Option Tree) → Type 0
 MaybeReads o = IfSome o (λ t. IfSome t AlwaysReads)

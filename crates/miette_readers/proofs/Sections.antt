@@ -6,7 +6,7 @@ use Rattle.std.proofs.lemmas.Grind.{common_steps}
 use Rattle.miette_protocol.specs.rules.Reading.{Source}
 use Rattle.miette_tree.specs.rules.Diagnosis.{Section}
 use Rattle.miette_readers.proofs.Steps.{next_taken}
-use Rattle.miette_readers.specs.rules.RustcReport.{labels_in, sections_from}
+use Rattle.miette_readers.specs.rules.Reports.{labels_in, sections_from}
 use Rattle.miette_readers.specs.rules.Settling.{Mark}
 
 abbrev pub section : List Mark → ℕ → Source → Section

@@ -4,5 +4,7 @@ pub mod Names
 pub mod Places
 pub mod Settling
 pub mod Proposing
+pub mod Reports
+pub mod Kept
 pub mod Rustc
 pub mod RustcReport

@@ -1,3 +1,4 @@
 pub mod Edits
 pub mod Files
+pub mod Spans
 pub mod Values

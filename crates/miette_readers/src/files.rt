@@ -40,6 +40,13 @@ impl<'f> LentFile<'f> {
         LentFile { file: self.file }
     }
 
+    /// What finds its lines.
+    pub fn indexed(&self) -> &'f IndexedSource
+        ensures { result.now ≡ self.now.bytes }
+    {
+        self.file.inner()
+    }
+
     /// Its bytes.
     pub fn bytes(&self) -> &'f [u8]
         ensures { result.now ≡ self.now.bytes }

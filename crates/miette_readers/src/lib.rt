@@ -3,15 +3,19 @@
 
 pub mod files;
 pub mod laws;
-mod members;
+pub mod lists;
+pub mod members;
 pub mod names;
 mod offering;
-mod offers;
-mod place;
+pub mod offers;
+pub mod place;
+mod proposals;
+pub mod reports;
+pub mod rows;
 pub mod rustc;
+mod saying;
 mod settle;
 mod settling;
 mod spans;
 pub mod table;
 mod telling;
-mod tree;

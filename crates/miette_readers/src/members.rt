@@ -8,25 +8,26 @@ ghost use Rattle.miette_readers.specs.rules.Members.{flag_at, items_at, items_in
 ghost use Rattle.miette_readers.specs.rules.Members.{said, text_at, whole_at};
 ghost use Rattle.miette_readers.specs.views.Values.{seen, viewed};
 
+use crate::lists::push_item;
 use serde_json::Value;
 use std::alloc::{AllocError, Global};
 
 /// What stands at a key.
-pub(crate) fn found_at<'v>(value: &'v Value, key: &str) -> Option<&'v Value>
+pub fn found_at<'v>(value: &'v Value, key: &str) -> Option<&'v Value>
     ensures { option_map (λ v. view v.now) result ≡ get key.now (view value.now) }
 {
     value.get(key)
 }
 
 /// The text at a key.
-pub(crate) fn text_at<'v>(value: &'v Value, key: &str) -> Option<&'v str>
+pub fn text_at<'v>(value: &'v Value, key: &str) -> Option<&'v str>
     ensures { option_copied result ≡ text_at key.now (view value.now) }
 {
     found_at(value, key)?.as_str()
 }
 
 /// The text at a key, where it says something.
-pub(crate) fn said_at<'v>(value: &'v Value, key: &str) -> Option<&'v str>
+pub fn said_at<'v>(value: &'v Value, key: &str) -> Option<&'v str>
     ensures { option_copied result ≡ said (text_at key.now (view value.now)) }
 {
     let text = text_at(value, key)?;
@@ -34,14 +35,14 @@ pub(crate) fn said_at<'v>(value: &'v Value, key: &str) -> Option<&'v str>
 }
 
 /// The number at a key.
-pub(crate) fn whole_at(value: &Value, key: &str) -> Option<u64>
+pub fn whole_at(value: &Value, key: &str) -> Option<u64>
     ensures { result ≡ whole_at key.now (view value.now) }
 {
     found_at(value, key)?.as_u64()
 }
 
 /// Whether the flag at a key is there and set.
-pub(crate) fn flag_at(value: &Value, key: &str) -> bool
+pub fn flag_at(value: &Value, key: &str) -> bool
     ensures { result ≡ flag_at key.now (view value.now) }
 {
     match found_at(value, key) {
@@ -51,7 +52,7 @@ pub(crate) fn flag_at(value: &Value, key: &str) -> bool
 }
 
 /// The object at a key.
-pub(crate) fn object_at<'v>(value: &'v Value, key: &str) -> Option<&'v Value>
+pub fn object_at<'v>(value: &'v Value, key: &str) -> Option<&'v Value>
     ensures { option_map (λ v. view v.now) result ≡ object_at key.now (view value.now) }
 {
     let found = found_at(value, key)?;
@@ -69,7 +70,7 @@ fn items_in(value: &Value) -> &[Value]
 }
 
 /// The items of the list at a key.
-fn items_at<'v>(value: &'v Value, key: &str) -> &'v [Value]
+pub(crate) fn items_at<'v>(value: &'v Value, key: &str) -> &'v [Value]
     ensures { viewed result.now ≡ items_at key.now (view value.now) }
 {
     match found_at(value, key) {
@@ -79,7 +80,10 @@ fn items_at<'v>(value: &'v Value, key: &str) -> &'v [Value]
 }
 
 /// The objects of the list at a key.
-pub(crate) fn objects_at<'v>(
+///
+/// # Errors
+/// `AllocError` where memory is refused.
+pub fn objects_at<'v>(
     alloc: Global,
     value: &'v Value,
     key: &str,
@@ -89,7 +93,7 @@ pub(crate) fn objects_at<'v>(
     let mut list = Vec::new(alloc);
     for item in items_at(value, key) {
         if item.is_object() {
-            list.push(item)?;
+            push_item(&mut list, item)?;
         }
     }
     Ok(list)

@@ -5,6 +5,7 @@ ghost use Rattle.serde_json.specs.View.{items_view, members_view, view};
 ghost use Rattle.miette_readers.specs.rules.Names.{named_by, names_among, names_in, names_of};
 ghost use Rattle.miette_readers.specs.views.Values.{texts};
 
+use crate::lists::push_item;
 use serde_json::{Map, Value};
 use std::alloc::{AllocError, Global};
 
@@ -12,9 +13,9 @@ use std::alloc::{AllocError, Global};
 fn push_name<'v>(list: &mut Vec<&'v str>, key: &str, member: &'v Value) -> Result<(), AllocError>
     ensures { OnOk result (texts list.new.items ≡ texts list.old.items ++ named_by key.now (view member.now)) }
 {
-    if key == "file_name" {
+    if key == "file_name" || key == "file" {
         if let Some(name) = member.as_str() {
-            list.push(name)?;
+            return push_item(list, name);
         }
     }
     Ok(())
@@ -57,8 +58,8 @@ fn push_names_among<'v>(
     Ok(())
 }
 
-/// The names of the files that a row speaks of: the texts that are members `file_name` of its objects, at any depth,
-/// each as often as it is there.
+/// The names of the files that a row speaks of: the texts that are members `file_name` or `file` of its objects, at
+/// any depth, each as often as it is there.
 ///
 /// # Errors
 /// `AllocError` where memory is refused.

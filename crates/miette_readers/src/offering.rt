@@ -1,14 +1,15 @@
 //! What a message proposes, in its report.
 
-ghost use Rattle.std.specs.Prelude.{◌≡◌, ◌++◌, IfOk, OnOk, map};
+ghost use Rattle.std.specs.Prelude.{◌≡◌, ◌++◌, IfOk, OnOk, codes, map, string_bytes};
 ghost use Rattle.std.specs.List.{flat_map, list_any};
 ghost use Rattle.std.specs.Option.{option_copied};
 ghost use Rattle.miette_tree.specs.views.Report.{tree_of};
-ghost use Rattle.miette_readers.specs.rules.Proposing.{is_in};
-ghost use Rattle.miette_readers.specs.rules.RustcReport.{advice, advice_of, is_main, main_fixes, others};
+ghost use Rattle.miette_readers.specs.rules.Proposing.{fixes_in, is_in};
+ghost use Rattle.miette_readers.specs.rules.Reports.{advice, advice_of, is_main, main_fixes, offered_tree, others};
 ghost use Rattle.miette_readers.specs.views.Edits.{edits_behind};
 
 use crate::files::LentFile;
+use crate::lists::push_item;
 use crate::offers::{FileEdit, Offer};
 use miette_fixes::fix::Fix;
 use miette_protocol::diagnostic::MietteDiagnostic;
@@ -27,13 +28,13 @@ fn push_main_fixes(
     ensures { OnOk result (list.new.items ≡ list.old.items ++ main_fixes (option_copied main.entry) offer.now) }
 {
     match main {
-        Some(name) => offer.push_fixes(list, alloc, name, offer.message),
+        Some(name) => offer.push_fixes(list, alloc, name, offer.message.as_str()),
         None => Ok(()),
     }
 }
 
 /// The fixes over the main file.
-pub(crate) fn fixes_of(
+fn fixes_of(
     alloc: Global,
     offers: &[Offer<'_, '_>],
     main: Option<&str>,
@@ -47,6 +48,25 @@ pub(crate) fn fixes_of(
     Ok(list)
 }
 
+/// What is said of fixes over another file than the main one.
+fn words_in(alloc: Global, name: &str) -> Result<String, AllocError>
+    ensures { IfOk result (λ text. string_bytes text ≡ codes "in " ++ name.now) }
+{
+    let mut text = String::from_str(alloc, "in ")?;
+    text.push_str(name)?;
+    Ok(text)
+}
+
+/// An offer's fixes over another file than the main one.
+fn fixes_of_other(alloc: Global, offer: &Offer<'_, '_>, name: &str) -> Result<Vec<Fix>, AllocError>
+    ensures { IfOk result (λ list. list.items ≡ fixes_in name.now (codes "in " ++ name.now) offer.now) }
+{
+    let words = words_in(alloc, name)?;
+    let mut list = Vec::new(alloc);
+    offer.push_fixes(&mut list, alloc, name, words.as_str())?;
+    Ok(list)
+}
+
 /// The advice to edit the file of an edit.
 fn advice<'f, D: Diagnostic>(
     alloc: Global,
@@ -56,11 +76,10 @@ fn advice<'f, D: Diagnostic>(
     ensures { IfOk result (λ r. tree_of D.meaning ⟦<LentFile<'f> as SourceCode>⟧.source r
         ≡ advice offer.now edit.now) }
 {
-    let diagnostic = MietteDiagnostic::new(alloc, offer.message)?.with_severity(Severity::Advice);
-    let mut text = String::from_str(alloc, "in ")?;
-    text.push_str(edit.name)?;
-    let mut fixes = Vec::new(alloc);
-    offer.push_fixes(&mut fixes, alloc, edit.name, text.as_str())?;
+    let fixes = fixes_of_other(alloc, offer, edit.name)?;
+    let diagnostic = MietteDiagnostic::new(alloc, offer.message.as_str())?.with_severity(
+        Severity::Advice,
+    );
     let report = Report::built(diagnostic).with_source_code(edit.file.again());
     report.with_fixes(alloc, fixes)
 }
@@ -102,7 +121,7 @@ fn others<'o, 'f, 'v>(
     let mut list = Vec::new(alloc);
     for edit in edits {
         if !edit.is_main(main) && !any_in(list.as_slice(), edit.name) {
-            list.push(edit)?;
+            push_item(&mut list, edit)?;
         }
     }
     Ok(list)
@@ -123,13 +142,13 @@ fn push_advice<'f, D: Diagnostic>(
     for edit in edits.as_slice() {
         let edit = *edit;
         let report = advice(alloc, offer, edit)?;
-        list.push(report)?;
+        push_item(list, report)?;
     }
     Ok(())
 }
 
 /// The advice to edit other files than the main one.
-pub(crate) fn related_of<'f, D: Diagnostic>(
+fn related_of<'f, D: Diagnostic>(
     alloc: Global,
     offers: &[Offer<'f, '_>],
     main: Option<&str>,
@@ -142,4 +161,21 @@ pub(crate) fn related_of<'f, D: Diagnostic>(
         push_advice(&mut list, alloc, offer, main)?;
     }
     Ok(list)
+}
+
+/// The report with what a message proposes: fixes over the main file, and the advice to edit other files.
+pub(crate) fn proposing<'f, D: Diagnostic>(
+    alloc: Global,
+    report: Report<D, LentFile<'f>>,
+    offers: &[Offer<'f, '_>],
+    main: Option<&str>,
+) -> Result<Report<D, LentFile<'f>>, AllocError>
+    ensures { IfOk result (λ r. tree_of D.meaning ⟦<LentFile<'f> as SourceCode>⟧.source r
+        ≡ offered_tree (option_copied main.entry) offers.now
+        (tree_of D.meaning ⟦<LentFile<'f> as SourceCode>⟧.source report.entry)) }
+{
+    let fixes = fixes_of(alloc, offers, main)?;
+    let report = report.with_fixes(alloc, fixes)?;
+    let related = related_of(alloc, offers, main)?;
+    Ok(report.with_related(related))
 }

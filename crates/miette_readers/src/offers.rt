@@ -1,27 +1,22 @@
 //! Proposals of a message as fixes.
 
 ghost use Rattle.std.specs.Prelude.{◌≡◌, ◌++◌, IfOk, OnOk, option_map};
-ghost use Rattle.std.specs.List.{filter_map, list_any};
-ghost use Rattle.serde_json.specs.View.{view};
+ghost use Rattle.std.specs.List.{list_any};
 ghost use Rattle.miette_fixes.specs.rules.ApplyingAll.{conflict};
-ghost use Rattle.miette_readers.specs.rules.Proposing.{all_parts, begun, fixes_in, with_edit, with_item};
-ghost use Rattle.miette_readers.specs.rules.RustcReport.{all_found, edit_at, offer_of, offers_of, sureness_of};
-ghost use Rattle.miette_readers.specs.views.Values.{seen};
+ghost use Rattle.miette_readers.specs.rules.Proposing.{edit_found, fix_by, fixes_in, with_edit};
+ghost use Rattle.miette_readers.specs.rules.Settling.{found_place};
 
 use crate::files::{Files, LentFile};
-use crate::members::{objects_at, text_at};
-use crate::place::Stretch;
+use crate::lists::push_item;
+use crate::place::{Place, Stretch};
 use crate::settle::found_place;
-use crate::spans::{edits_of, file_name, place_of};
-use crate::telling::message_of;
 use miette_fixes::fix::{Applicability, Edit, Fix};
-use serde_json::Value;
 use std::alloc::{AllocError, Global};
 use std::marker::Model;
 
-/// An edit of a file.
+/// An edit of a file, at a place that is in it.
 #[derive(Drop)]
-pub(crate) struct FileEdit<'f, 'v> {
+pub struct FileEdit<'f, 'v> {
     pub(crate) name: &'v str,
     pub(crate) file: LentFile<'f>,
     stretch: Stretch,
@@ -30,10 +25,13 @@ pub(crate) struct FileEdit<'f, 'v> {
 
 /// A proposal whose places are all found.
 #[derive(Drop)]
-pub(crate) struct Offer<'f, 'v> {
-    pub(crate) message: &'v str,
-    applicability: Applicability,
-    pub(crate) edits: Vec<FileEdit<'f, 'v>>,
+pub struct Offer<'f, 'v> {
+    /// What it says.
+    pub message: String,
+    /// How sure it is.
+    pub applicability: Applicability,
+    /// Its edits, in any files.
+    pub edits: Vec<FileEdit<'f, 'v>>,
 }
 
 impl<'f, 'v> Model for FileEdit<'f, 'v> {
@@ -53,121 +51,16 @@ impl<'f, 'v> Model for FileEdit<'f, 'v> {
 }
 
 impl<'f, 'v> Model for Offer<'f, 'v> {
+    ghost use Rattle.std.specs.Prelude.{string_bytes};
     ghost use Rattle.miette_readers.specs.rules.Proposing as proposing;
 
     ghost Value = { proposing.Offer };
 
     ghost view = { λ it. record {
-      message = it.message.now;
+      message = string_bytes it.message;
       applicability = it.applicability;
       edits = it.edits.items;
     } };
-}
-
-/// How sure rustc is, by the word that it has for it.
-fn sureness_of(span: &Value) -> Applicability
-    ensures { result ≡ sureness_of (view span.now) }
-{
-    let word = text_at(span, "suggestion_applicability").unwrap_or("");
-    if word == "MachineApplicable" {
-        Applicability::MachineApplicable
-    } else if word == "MaybeIncorrect" {
-        Applicability::MaybeIncorrect
-    } else if word == "HasPlaceholders" {
-        Applicability::HasPlaceholders
-    } else {
-        Applicability::Unspecified
-    }
-}
-
-/// An edit whose place is found.
-fn edit_at<'f, 'v, F: Files>(files: &'f F, span: &'v Value) -> Option<FileEdit<'f, 'v>>
-    ensures { result ≡ edit_at (F.found files.now) (view span.now) }
-{
-    let text = text_at(span, "suggested_replacement")?;
-    let place = place_of(span);
-    let found = found_place(files, &place)?;
-    Some(FileEdit {
-        name: file_name(span),
-        file: found.file,
-        stretch: found.stretch,
-        text,
-    })
-}
-
-/// Edits, each of whose places is found; none where one isn't.
-fn edits_at<'f, 'v, F: Files>(
-    alloc: Global,
-    files: &'f F,
-    spans: &[&'v Value],
-) -> Result<Option<Vec<FileEdit<'f, 'v>>>, AllocError>
-    ensures { IfOk result (λ o. option_map (λ v. v.items) o ≡ all_found (F.found files.now) (seen spans.now)) }
-{
-    let mut edits = Vec::new(alloc);
-    for span in spans {
-        let span = *span;
-        match edit_at(files, span) {
-            Some(edit) => edits.push(edit)?,
-            None => return Ok(None),
-        }
-    }
-    Ok(Some(edits))
-}
-
-/// What a note or a help proposes; none where it proposes nothing, or a place can't be found.
-pub(crate) fn offer_of<'f, 'v, F: Files>(
-    alloc: Global,
-    files: &'f F,
-    child: &'v Value,
-) -> Result<Option<Offer<'f, 'v>>, AllocError>
-    ensures { IfOk result (λ o. o ≡ offer_of (F.found files.now) (view child.now)) }
-{
-    let spans = edits_of(alloc, child)?;
-    let Some(first) = spans.as_slice().first() else {
-        return Ok(None);
-    };
-    let applicability = sureness_of(*first);
-    match edits_at(alloc, files, spans.as_slice())? {
-        Some(edits) => Ok(Some(Offer {
-            message: message_of(child),
-            applicability,
-            edits,
-        })),
-        None => Ok(None),
-    }
-}
-
-/// Appends what these notes and helps propose.
-fn push_offers<'f, 'v, F: Files>(
-    list: &mut Vec<Offer<'f, 'v>>,
-    alloc: Global,
-    files: &'f F,
-    children: &[&'v Value],
-) -> Result<(), AllocError>
-    ensures { OnOk result (list.new.items
-        ≡ list.old.items ++ filter_map (offer_of (F.found files.now)) (seen children.now)) }
-{
-    for child in children {
-        let child = *child;
-        if let Some(offer) = offer_of(alloc, files, child)? {
-            list.push(offer)?;
-        }
-    }
-    Ok(())
-}
-
-/// What a message proposes.
-pub(crate) fn offers_of<'f, 'v, F: Files>(
-    alloc: Global,
-    files: &'f F,
-    message: &'v Value,
-) -> Result<Vec<Offer<'f, 'v>>, AllocError>
-    ensures { IfOk result (λ list. list.items ≡ offers_of (F.found files.now) (view message.now)) }
-{
-    let children = objects_at(alloc, message, "children")?;
-    let mut list = Vec::new(alloc);
-    push_offers(&mut list, alloc, files, children.as_slice())?;
-    Ok(list)
 }
 
 /// Whether two edits overlap or begin at one offset.
@@ -192,6 +85,23 @@ fn conflicts_with_any(edit: &Edit, others: &[Edit]) -> bool
 }
 
 impl<'f, 'v> FileEdit<'f, 'v> {
+    /// That this text stands at a place, where the place is in its file.
+    pub fn found<F: Files>(
+        files: &'f F,
+        place: &Place<'v>,
+        text: &'v str,
+    ) -> Option<FileEdit<'f, 'v>>
+        ensures { result ≡ option_map (edit_found place.now.name text.now) (found_place (F.found files.now) place.now) }
+    {
+        let found = found_place(files, place)?;
+        Some(FileEdit {
+            name: place.name,
+            file: found.file,
+            stretch: found.stretch,
+            text,
+        })
+    }
+
     /// The edit itself.
     fn edit(&self, alloc: Global) -> Result<Edit, AllocError>
         ensures { IfOk result (λ edit. edit ≡ self.now.edit) }
@@ -200,6 +110,31 @@ impl<'f, 'v> FileEdit<'f, 'v> {
         let text = String::from_str(alloc, self.text)?;
         Ok(Edit::replace((start, end.saturating_sub(start)), text))
     }
+}
+
+/// Appends a fix, unless it has no edits.
+fn push_fix(list: &mut Vec<Fix>, fix: Fix) -> Result<(), AllocError>
+    ensures { OnOk result (list.new.items ≡ list.old.items ++ fix_by fix fix.edits) }
+{
+    if fix.edits().is_empty() {
+        Ok(())
+    } else {
+        push_item(list, fix)
+    }
+}
+
+/// The fix at hand with an edit. An edit that conflicts with one of it begins a further fix, and the one at hand is
+/// appended.
+fn with_edit(list: &mut Vec<Fix>, alloc: Global, fix: Fix, edit: Edit) -> Result<Fix, AllocError>
+    ensures { IfOk result (λ it. with_edit (record { done = list.old.items; fix = fix }) edit
+        ≡ record { done = list.new.items; fix = it }) }
+{
+    if !conflicts_with_any(&edit, fix.edits()) {
+        return fix.with_edit(edit);
+    }
+    let next = Fix::new(alloc, fix.message())?.with_applicability(fix.applicability());
+    push_item(list, fix)?;
+    next.with_edit(edit)
 }
 
 impl<'f, 'v> Offer<'f, 'v> {
@@ -213,88 +148,13 @@ impl<'f, 'v> Offer<'f, 'v> {
     ) -> Result<(), AllocError>
         ensures { OnOk result (list.new.items ≡ list.old.items ++ fixes_in name.now message.now self.now) }
     {
-        let mut parting = Parting::new(alloc, message, self.applicability)?;
+        let mut fix = Fix::new(alloc, message)?.with_applicability(self.applicability);
         for item in self.edits.as_slice() {
-            parting = parting.with_item(alloc, item, name)?;
+            if item.name == name {
+                let edit = item.edit(alloc)?;
+                fix = with_edit(list, alloc, fix, edit)?;
+            }
         }
-        parting.push_all(list)
-    }
-}
-
-/// Fixes that are whole, and the one at hand.
-#[derive(Drop)]
-struct Parting {
-    done: Vec<Fix>,
-    fix: Fix,
-}
-
-impl Model for Parting {
-    ghost use Rattle.miette_readers.specs.rules.Proposing as proposing;
-
-    ghost Value = { proposing.Parting };
-
-    ghost view = { λ it. record { done = it.done.items; fix = it.fix } };
-}
-
-impl Parting {
-    /// A fix of this message, without edits.
-    fn new(
-        alloc: Global,
-        message: &str,
-        applicability: Applicability,
-    ) -> Result<Parting, AllocError>
-        ensures { IfOk result (λ it. it ≡ begun message.now applicability) }
-    {
-        let fix = Fix::new(alloc, message)?.with_applicability(applicability);
-        Ok(Parting {
-            done: Vec::new(alloc),
-            fix,
-        })
-    }
-
-    /// With an edit, which begins a further fix where it conflicts with one of the fix at hand.
-    fn with_edit(self, alloc: Global, edit: Edit) -> Result<Parting, AllocError>
-        ensures { IfOk result (λ it. it ≡ with_edit self edit) }
-    {
-        let Parting { done, fix } = self;
-        if !conflicts_with_any(&edit, fix.edits()) {
-            let fix = fix.with_edit(edit)?;
-            return Ok(Parting { done, fix });
-        }
-        let next = Fix::new(alloc, fix.message())?.with_applicability(fix.applicability());
-        let next = next.with_edit(edit)?;
-        let mut done = done;
-        done.push(fix)?;
-        Ok(Parting { done, fix: next })
-    }
-
-    /// With an item's edit, where that is over the file of this name.
-    fn with_item(
-        self,
-        alloc: Global,
-        item: &FileEdit<'_, '_>,
-        name: &str,
-    ) -> Result<Parting, AllocError>
-        ensures { IfOk result (λ it. it ≡ with_item name.now self item.now) }
-    {
-        if item.name == name {
-            let edit = item.edit(alloc)?;
-            self.with_edit(alloc, edit)
-        } else {
-            Ok(self)
-        }
-    }
-
-    /// Appends all of them; a fix without edits is none.
-    fn push_all(self, list: &mut Vec<Fix>) -> Result<(), AllocError>
-        ensures { OnOk result (list.new.items ≡ list.old.items ++ all_parts self) }
-    {
-        let Parting { done, fix } = self;
-        let mut done = done;
-        list.append(&mut done)?;
-        if !fix.edits().is_empty() {
-            list.push(fix)?;
-        }
-        Ok(())
+        push_fix(list, fix)
     }
 }

@@ -11,27 +11,37 @@ use std::marker::Model;
 
 /// From an offset up to another one, in bytes.
 #[derive(Clone, Copy)]
-pub(crate) struct Stretch {
-    pub(crate) start: usize,
-    pub(crate) end: usize,
+pub struct Stretch {
+    /// The offset of its first byte.
+    pub start: usize,
+    /// The offset behind its last byte.
+    pub end: usize,
 }
 
 /// A place as a tool tells it: the name of its file, its bytes where they are told, its line and column.
 #[derive(Drop)]
-pub(crate) struct Place<'v> {
-    pub(crate) name: &'v str,
-    pub(crate) stretch: Option<Stretch>,
-    pub(crate) line: u64,
-    pub(crate) column: u64,
+pub struct Place<'v> {
+    /// The name of its file.
+    pub name: &'v str,
+    /// Its bytes, where they are told.
+    pub stretch: Option<Stretch>,
+    /// Its line, as the tool counts.
+    pub line: u64,
+    /// Its column, as the tool counts.
+    pub column: u64,
 }
 
 /// What a message tells: rows of a text, at a place where it has one.
 #[derive(Drop)]
-pub(crate) struct Told<'v> {
-    pub(crate) rows: Vec<String>,
-    pub(crate) place: Option<Place<'v>>,
-    pub(crate) primary: bool,
-    pub(crate) own: bool,
+pub struct Told<'v> {
+    /// Its text, in rows.
+    pub rows: Vec<String>,
+    /// Where it stands.
+    pub place: Option<Place<'v>>,
+    /// Whether it is about what is wrong itself.
+    pub primary: bool,
+    /// Whether it is one of the message's own places.
+    pub own: bool,
 }
 
 impl Stretch {
@@ -106,7 +116,10 @@ fn ends_between(bytes: &[u8], from: usize, to: usize) -> usize
 }
 
 /// The rows as one text, where there are any.
-pub(crate) fn joined(alloc: Global, rows: &[String]) -> Result<Option<String>, AllocError>
+///
+/// # Errors
+/// `AllocError` where memory is refused.
+pub fn joined(alloc: Global, rows: &[String]) -> Result<Option<String>, AllocError>
     ensures { IfOk result (λ o. option_map string_bytes o ≡ joined (map string_bytes rows.now)) }
 {
     let Some((first, rest)) = rows.split_first() else {

@@ -9,12 +9,10 @@ ghost use Rattle.miette_readers.specs.rules.RustcReport.{rustc_tree};
 
 use crate::files::{Files, LentFile};
 use crate::members::{object_at, text_at};
-use crate::offering::{fixes_of, related_of};
-use crate::offers::offers_of;
-use crate::settle::settled;
-use crate::settling::first_name;
+use crate::proposals::offers_of;
+use crate::reports::report_of;
+use crate::saying::said_of;
 use crate::telling::told_of;
-use crate::tree::{helps_of, told_report};
 use miette_protocol::protocol::Diagnostic;
 use miette_protocol::source::SourceCode;
 use miette_tree::report::Report;
@@ -73,7 +71,7 @@ fn held_in(value: &Value) -> Option<&Value>
 }
 
 /// The report of a message of rustc.
-fn report_of<'f, D: Diagnostic, F: Files>(
+fn message_report<'f, D: Diagnostic, F: Files>(
     alloc: Global,
     files: &'f F,
     message: &Value,
@@ -82,14 +80,9 @@ fn report_of<'f, D: Diagnostic, F: Files>(
         ≡ message_tree (F.found files.now) (view message.now)) }
 {
     let told = told_of(alloc, files, message)?;
-    let done = settled(alloc, files, told.as_slice())?;
-    let main = first_name(done.marks.as_slice());
     let offers = offers_of(alloc, files, message)?;
-    let fixes = fixes_of(alloc, offers.as_slice(), main)?;
-    let related = related_of(alloc, offers.as_slice(), main)?;
-    let help = helps_of(alloc, files, message)?;
-    let report = told_report(alloc, message, help, done)?;
-    Ok(report.with_fixes(alloc, fixes)?.with_related(related))
+    let said = said_of(alloc, files, message)?;
+    report_of(alloc, files, said, told.as_slice(), offers.as_slice())
 }
 
 /// The report of a row of rustc (`--error-format=json`) or cargo (`--message-format=json`), over files that are looked
@@ -116,6 +109,6 @@ pub fn rustc_report<'f, D: Diagnostic, F: Files>(
     if text_at(message, "message").is_none() {
         return Err(ReadError::NoMessage);
     }
-    let report = report_of(alloc, files, message)?;
+    let report = message_report(alloc, files, message)?;
     Ok(Some(report))
 }

@@ -1,15 +1,18 @@
 //! All that a message tells, as labels in lists over files, and as texts.
 
-ghost use Rattle.std.specs.Prelude.{◌≡◌, IfOk, [], length, map, option_map, string_bytes};
+ghost use Rattle.std.specs.Prelude.{◌≡◌, IfOk, OnOk, [], length, map, option_map, string_bytes};
 ghost use Rattle.std.specs.List.{list_any};
+ghost use Rattle.miette_readers.specs.rules.Places.{joined};
 ghost use Rattle.miette_readers.specs.rules.Settling.{clashes_in, first_open, found_place, is_around, is_at, is_open};
 ghost use Rattle.miette_readers.specs.rules.Settling.{marked, maybe_text, meets, new_mark, newly_marked, settled};
 ghost use Rattle.miette_readers.specs.rules.Settling.{nothing_settled, settled_at, settled_one, with_mark, with_rows};
 ghost use Rattle.miette_readers.specs.rules.Settling.{with_text};
 
 use crate::files::{Files, LentFile};
+use crate::lists::push_item;
 use crate::place::{Place, Stretch, Told, joined};
-use crate::settling::{Found, Mark, Settled, all_told_again, push_row, push_rows};
+use crate::rows::{push_row, push_rows};
+use crate::settling::{Found, Mark, Settled, tell_all_again};
 use std::alloc::{AllocError, Global};
 
 /// A place's file and bytes, where it is in that file.
@@ -115,56 +118,33 @@ impl<'f, 'v> Settled<'f, 'v> {
         }
     }
 
-    /// With a text that stands at no place, unless it is there already.
-    fn with_text(self, alloc: Global, text: &str) -> Result<Settled<'f, 'v>, AllocError>
-        ensures { IfOk result (λ it. it ≡ with_text self.entry text.now) }
+    /// Adds a text that stands at no place, unless it is there already.
+    fn push_text(&mut self, alloc: Global, text: &str) -> Result<(), AllocError>
+        ensures { OnOk result (self.new ≡ with_text self.old text.now) }
     {
-        let Settled {
-            marks,
-            files,
-            texts,
-        } = self;
-        let mut texts = texts;
-        push_row(&mut texts, alloc, text)?;
-        Ok(Settled {
-            marks,
-            files,
-            texts,
-        })
+        push_row(&mut self.texts, alloc, text)
     }
 
-    /// With a new label over a file.
-    fn with_mark(self, file: LentFile<'f>, mark: Mark<'v>) -> Result<Settled<'f, 'v>, AllocError>
-        ensures { IfOk result (λ it. it ≡ with_mark self.entry file.entry mark.entry) }
+    /// Adds a new label over a file.
+    fn push_mark(&mut self, file: LentFile<'f>, mark: Mark<'v>) -> Result<(), AllocError>
+        ensures { OnOk result (self.new ≡ with_mark self.old file.entry mark.entry) }
     {
-        let Settled {
-            marks,
-            files,
-            texts,
-        } = self;
-        let mut marks = marks;
-        let mut files = files;
-        if mark.list == files.len() {
-            files.push(file)?;
+        if mark.list == self.files.len() {
+            push_item(&mut self.files, file)?;
         }
-        marks.push(mark)?;
-        Ok(Settled {
-            marks,
-            files,
-            texts,
-        })
+        push_item(&mut self.marks, mark)
     }
 
-    /// With a label of its own for a place.
-    fn newly_marked(
-        self,
+    /// Adds a label of its own for a place.
+    fn mark_newly(
+        &mut self,
         alloc: Global,
         name: &'v str,
         found: Found<'f>,
         told: &Told<'v>,
-    ) -> Result<Settled<'f, 'v>, AllocError>
-        ensures { IfOk result (λ it. it
-            ≡ newly_marked self.entry name.now found.entry.0 found.entry.1 told.now) }
+    ) -> Result<(), AllocError>
+        ensures { OnOk result (self.new
+            ≡ newly_marked self.old name.now found.entry.0 found.entry.1 told.now) }
     {
         let Found { file, stretch } = found;
         let count = self.files.len();
@@ -184,58 +164,55 @@ impl<'f, 'v> Settled<'f, 'v> {
             rows,
             list,
         };
-        self.with_mark(file, mark)
+        self.push_mark(file, mark)
     }
 
-    /// With what is told at a place that is in its file.
-    fn marked(
-        self,
+    /// Adds what is told at a place that is in its file.
+    fn mark(
+        &mut self,
         alloc: Global,
         name: &'v str,
         found: Found<'f>,
         told: &Told<'v>,
-    ) -> Result<Settled<'f, 'v>, AllocError>
-        ensures { IfOk result (λ it. it ≡ marked self.entry name.now found.entry.0 found.entry.1 told.now) }
+    ) -> Result<(), AllocError>
+        ensures { OnOk result (self.new ≡ marked self.old name.now found.entry.0 found.entry.1 told.now) }
     {
         if any_at(self.marks.as_slice(), name, found.stretch) {
-            let Settled {
-                marks,
-                files,
-                texts,
-            } = self;
-            let marks = all_told_again(alloc, marks, name, found.stretch, told)?;
-            return Ok(Settled {
-                marks,
-                files,
-                texts,
-            });
+            return tell_all_again(&mut self.marks, alloc, name, found.stretch, told);
         }
         if told.rows.is_empty() && any_around(self.marks.as_slice(), name, found.stretch) {
-            return Ok(self);
+            return Ok(());
         }
-        self.newly_marked(alloc, name, found, told)
+        self.mark_newly(alloc, name, found, told)
     }
 
-    /// With one thing more that is told.
-    fn with_told<F: Files>(
-        self,
+    /// Adds a text of these rows, where there are any.
+    fn push_joined(&mut self, alloc: Global, rows: &[String]) -> Result<(), AllocError>
+        ensures { OnOk result (self.new ≡ maybe_text self.old (joined (map string_bytes rows.now))) }
+    {
+        match joined(alloc, rows)? {
+            Some(text) => self.push_text(alloc, text.as_str()),
+            None => Ok(()),
+        }
+    }
+
+    /// Adds one thing more that is told.
+    fn tell<F: Files>(
+        &mut self,
         alloc: Global,
         files: &'f F,
         told: &Told<'v>,
-    ) -> Result<Settled<'f, 'v>, AllocError>
-        ensures { IfOk result (λ it. it ≡ settled_one (F.found files.now) self.entry told.now) }
+    ) -> Result<(), AllocError>
+        ensures { OnOk result (self.new ≡ settled_one (F.found files.now) self.old told.now) }
     {
         let Some(place) = &told.place else {
-            return match joined(alloc, told.rows.as_slice())? {
-                Some(text) => self.with_text(alloc, text.as_str()),
-                None => Ok(self),
-            };
+            return self.push_joined(alloc, told.rows.as_slice());
         };
         match found_place(files, place) {
-            Some(found) => self.marked(alloc, place.name, found, told),
+            Some(found) => self.mark(alloc, place.name, found, told),
             None => {
                 let text = place.text(alloc, told.rows.as_slice())?;
-                self.with_text(alloc, text.as_str())
+                self.push_text(alloc, text.as_str())
             }
         }
     }
@@ -251,7 +228,7 @@ pub(crate) fn settled<'f, 'v, F: Files>(
 {
     let mut done = Settled::new(alloc);
     for one in told {
-        done = done.with_told(alloc, files, one)?;
+        done.tell(alloc, files, one)?;
     }
     Ok(done)
 }

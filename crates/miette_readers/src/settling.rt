@@ -1,12 +1,12 @@
 //! Which label of which list a told place becomes.
 
-ghost use Rattle.std.specs.Prelude.{◌≡◌, IfOk, OnOk, map, string_bytes, bytes_eq};
-ghost use Rattle.std.specs.List.{list_any};
+ghost use Rattle.std.specs.Prelude.{◌≡◌, OnOk, map};
 ghost use Rattle.std.specs.Option.{option_copied};
-ghost use Rattle.miette_readers.specs.rules.Settling.{is_around, is_at, main_of, told_again, with_row, with_rows};
+ghost use Rattle.miette_readers.specs.rules.Settling.{is_around, is_at, main_of, told_again};
 
 use crate::files::LentFile;
 use crate::place::{Stretch, Told};
+use crate::rows::push_rows;
 use std::alloc::{AllocError, Global};
 use std::marker::Model;
 
@@ -72,46 +72,6 @@ impl<'f> Model for Found<'f> {
     ghost view = { λ it. (it.file, it.stretch) };
 }
 
-/// Whether a row is this one.
-fn is_row(row: &str, other: &String) -> bool
-    ensures { result ≡ bytes_eq row.now (string_bytes other.now) }
-{
-    row == other.as_str()
-}
-
-/// Whether a row is among these.
-fn has_row(rows: &[String], row: &str) -> bool
-    ensures { result ≡ list_any (bytes_eq row.now) (map string_bytes rows.now) }
-{
-    rows.iter().any(|other| is_row(row, other))
-}
-
-/// Appends a copy of a row, unless it is there already.
-pub(crate) fn push_row(rows: &mut Vec<String>, alloc: Global, row: &str) -> Result<(), AllocError>
-    ensures { OnOk result (map string_bytes rows.new.items ≡ with_row (map string_bytes rows.old.items) row.now) }
-{
-    if has_row(rows, row) {
-        return Ok(());
-    }
-    rows.push(String::from_str(alloc, row)?)?;
-    Ok(())
-}
-
-/// Appends copies of the rows that aren't there yet.
-pub(crate) fn push_rows(
-    rows: &mut Vec<String>,
-    alloc: Global,
-    more: &[String],
-) -> Result<(), AllocError>
-    ensures { OnOk result (map string_bytes rows.new.items
-        ≡ with_rows (map string_bytes rows.old.items) (map string_bytes more.now)) }
-{
-    for row in more {
-        push_row(rows, alloc, row.as_str())?;
-    }
-    Ok(())
-}
-
 impl<'v> Mark<'v> {
     /// Whether it is over these bytes of the file of this name.
     pub(crate) fn is_at(&self, name: &str, stretch: Stretch) -> bool
@@ -127,36 +87,22 @@ impl<'v> Mark<'v> {
         self.name == name && self.stretch.holds(stretch)
     }
 
-    /// The label after what is told at a place of the file of this name.
-    fn told_again(
-        self,
+    /// Adds what is told at a place of the file of this name, where it is over the same bytes.
+    fn tell_again(
+        &mut self,
         alloc: Global,
         name: &str,
         stretch: Stretch,
         told: &Told<'_>,
-    ) -> Result<Mark<'v>, AllocError>
-        ensures { IfOk result (λ it. it ≡ told_again name.now stretch told.now self.entry) }
+    ) -> Result<(), AllocError>
+        ensures { OnOk result (self.new ≡ told_again name.now stretch told.now self.old) }
     {
         if !self.is_at(name, stretch) {
-            return Ok(self);
+            return Ok(());
         }
-        let Mark {
-            name,
-            stretch,
-            primary,
-            rows,
-            list,
-        } = self;
-        let mut rows = rows;
-        push_rows(&mut rows, alloc, told.rows.as_slice())?;
-        let primary = primary || (told.primary && told.own);
-        Ok(Mark {
-            name,
-            stretch,
-            primary,
-            rows,
-            list,
-        })
+        push_rows(&mut self.rows, alloc, told.rows.as_slice())?;
+        self.primary = self.primary || (told.primary && told.own);
+        Ok(())
     }
 }
 
@@ -170,20 +116,18 @@ pub(crate) fn first_name<'v>(marks: &[Mark<'v>]) -> Option<&'v str>
     }
 }
 
-/// The labels after what is told at a place over the bytes of one.
-pub(crate) fn all_told_again<'v>(
+/// Adds what is told at a place over the bytes of one of these labels.
+pub(crate) fn tell_all_again(
+    marks: &mut [Mark<'_>],
     alloc: Global,
-    marks: Vec<Mark<'v>>,
     name: &str,
     stretch: Stretch,
     told: &Told<'_>,
-) -> Result<Vec<Mark<'v>>, AllocError>
-    ensures { IfOk result (λ it. it.items ≡ map (told_again name.now stretch told.now) marks.entry.items) }
+) -> Result<(), AllocError>
+    ensures { OnOk result (marks.new ≡ map (told_again name.now stretch told.now) marks.old) }
 {
-    let mut list = Vec::new(alloc);
-    for mark in marks {
-        let mark = mark.told_again(alloc, name, stretch, told)?;
-        list.push(mark)?;
+    for mark in marks.iter_mut() {
+        mark.tell_again(alloc, name, stretch, told)?;
     }
-    Ok(list)
+    Ok(())
 }

@@ -1,16 +1,19 @@
 //! Spans of rustc's messages.
 
-ghost use Rattle.std.specs.Prelude.{◌≡◌, ◌++◌, IfOk, OnOk, filter, not, option_map};
+ghost use Rattle.std.specs.Prelude.{◌≡◌, ◌++◌, IfOk, OnOk, codes, filter, option_map};
 ghost use Rattle.std.specs.Option.{option_copied};
 ghost use Rattle.serde_json.specs.View.{view};
 ghost use Rattle.miette_readers.specs.rules.Rustc.{call_of, call_text, edits_of, expansion_of, file_name, holds_span};
 ghost use Rattle.miette_readers.specs.rules.Rustc.{is_attribute, is_derive, is_invocation};
-ghost use Rattle.miette_readers.specs.rules.Rustc.{is_primary, is_secondary, outermost_from, place_of, proposes};
+ghost use Rattle.miette_readers.specs.rules.Members.{objects_at};
+ghost use Rattle.miette_readers.specs.rules.Rustc.{is_primary, outermost_from, place_of, proposes};
 ghost use Rattle.miette_readers.specs.rules.Rustc.{spans_of, standing, standing_from, stretch_of, tells};
+ghost use Rattle.miette_readers.specs.views.Spans.{takes};
 ghost use Rattle.miette_readers.specs.views.Values.{seen};
 
 use crate::files::Files;
-use crate::members::{flag_at, object_at, objects_at, said_at, text_at, whole_at};
+use crate::lists::push_item;
+use crate::members::{flag_at, items_at, object_at, said_at, text_at, whole_at};
 use crate::place::{Place, Stretch};
 use serde_json::Value;
 use std::alloc::{AllocError, Global};
@@ -70,27 +73,39 @@ fn tells(span: &Value) -> bool
     !proposes(span) || said_at(span, "label").is_some()
 }
 
-/// Appends those of spans that are primary.
-fn push_primary<'v>(list: &mut Vec<&'v Value>, spans: &[&'v Value]) -> Result<(), AllocError>
-    ensures { OnOk result (seen list.new.items ≡ seen list.old.items ++ filter is_primary (seen spans.now)) }
-{
-    for span in spans {
-        let span = *span;
-        if is_primary(span) {
-            list.push(span)?;
-        }
-    }
-    Ok(())
+/// Which spans of a message, a note or a help are wanted.
+#[derive(Clone, Copy)]
+enum Wanted {
+    Primary,
+    Secondary,
+    Edits,
 }
 
-/// Appends those of spans that aren't primary.
-fn push_secondary<'v>(list: &mut Vec<&'v Value>, spans: &[&'v Value]) -> Result<(), AllocError>
-    ensures { OnOk result (seen list.new.items ≡ seen list.old.items ++ filter is_secondary (seen spans.now)) }
+impl Wanted {
+    /// Whether a span is wanted.
+    fn takes(self, span: &Value) -> bool
+        ensures { result ≡ takes self (view span.now) }
+    {
+        match self {
+            Wanted::Primary => is_primary(span),
+            Wanted::Secondary => !is_primary(span),
+            Wanted::Edits => proposes(span),
+        }
+    }
+}
+
+/// Appends those of a message's spans that are wanted.
+fn push_spans<'v>(
+    list: &mut Vec<&'v Value>,
+    message: &'v Value,
+    wanted: Wanted,
+) -> Result<(), AllocError>
+    ensures { OnOk result (seen list.new.items ≡ seen list.old.items
+        ++ filter (takes wanted) (objects_at (codes "spans") (view message.now))) }
 {
-    for span in spans {
-        let span = *span;
-        if !is_primary(span) {
-            list.push(span)?;
+    for span in items_at(message, "spans") {
+        if span.is_object() && wanted.takes(span) {
+            push_item(list, span)?;
         }
     }
     Ok(())
@@ -100,10 +115,18 @@ fn push_secondary<'v>(list: &mut Vec<&'v Value>, spans: &[&'v Value]) -> Result<
 pub(crate) fn spans_of<'v>(alloc: Global, message: &'v Value) -> Result<Vec<&'v Value>, AllocError>
     ensures { IfOk result (λ list. seen list.items ≡ spans_of (view message.now)) }
 {
-    let spans = objects_at(alloc, message, "spans")?;
     let mut list = Vec::new(alloc);
-    push_primary(&mut list, spans.as_slice())?;
-    push_secondary(&mut list, spans.as_slice())?;
+    push_spans(&mut list, message, Wanted::Primary)?;
+    push_spans(&mut list, message, Wanted::Secondary)?;
+    Ok(list)
+}
+
+/// The edits that a note or a help proposes.
+pub(crate) fn edits_of<'v>(alloc: Global, child: &'v Value) -> Result<Vec<&'v Value>, AllocError>
+    ensures { IfOk result (λ list. seen list.items ≡ edits_of (view child.now)) }
+{
+    let mut list = Vec::new(alloc);
+    push_spans(&mut list, child, Wanted::Edits)?;
     Ok(list)
 }
 
@@ -115,32 +138,9 @@ pub(crate) fn telling<'v>(alloc: Global, spans: &[&'v Value]) -> Result<Vec<&'v 
     for span in spans {
         let span = *span;
         if tells(span) {
-            list.push(span)?;
+            push_item(&mut list, span)?;
         }
     }
-    Ok(list)
-}
-
-/// Appends those of spans that are edits.
-fn push_edits<'v>(list: &mut Vec<&'v Value>, spans: &[&'v Value]) -> Result<(), AllocError>
-    ensures { OnOk result (seen list.new.items ≡ seen list.old.items ++ filter proposes (seen spans.now)) }
-{
-    for span in spans {
-        let span = *span;
-        if proposes(span) {
-            list.push(span)?;
-        }
-    }
-    Ok(())
-}
-
-/// The edits that a note or a help proposes.
-pub(crate) fn edits_of<'v>(alloc: Global, child: &'v Value) -> Result<Vec<&'v Value>, AllocError>
-    ensures { IfOk result (λ list. seen list.items ≡ edits_of (view child.now)) }
-{
-    let spans = objects_at(alloc, child, "spans")?;
-    let mut list = Vec::new(alloc);
-    push_edits(&mut list, spans.as_slice())?;
     Ok(list)
 }
 

@@ -3,6 +3,7 @@
 ghost use Rattle.std.specs.Prelude.{◌≡◌, ◌++◌, ◌∷◌, [], OnOk};
 
 use crate::files::{Files, LentFile, SourceFile};
+use crate::lists::push_item;
 use std::alloc::{AllocError, Global};
 use std::marker::Model;
 
@@ -38,8 +39,7 @@ impl FileTable {
     pub fn push(&mut self, file: SourceFile) -> Result<(), AllocError>
         ensures { OnOk result (self.new ≡ self.old ++ file ∷ []) }
     {
-        self.files.push(file)?;
-        Ok(())
+        push_item(&mut self.files, file)
     }
 }
 

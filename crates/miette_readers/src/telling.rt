@@ -11,8 +11,10 @@ ghost use Rattle.miette_readers.specs.rules.Rustc.{tells, told_of};
 ghost use Rattle.miette_readers.specs.views.Values.{seen};
 
 use crate::files::Files;
+use crate::lists::push_item;
 use crate::members::{object_at, objects_at, said_at, text_at};
 use crate::place::Told;
+use crate::rows::push_copy;
 use crate::spans::{
     call_text, edits_of, expansion_of, holds_span, is_primary, outermost_from, place_of, spans_of,
     standing, telling,
@@ -44,10 +46,10 @@ fn rows_at(alloc: Global, row: Option<&str>, span: &Value) -> Result<Vec<String>
 {
     let mut rows = Vec::new(alloc);
     if let Some(row) = row {
-        rows.push(String::from_str(alloc, row)?)?;
+        push_copy(&mut rows, alloc, row)?;
     }
     if let Some(label) = said_at(span, "label") {
-        rows.push(String::from_str(alloc, label)?)?;
+        push_copy(&mut rows, alloc, label)?;
     }
     Ok(rows)
 }
@@ -77,7 +79,7 @@ fn text_told<'v>(alloc: Global, text: &str) -> Result<Told<'v>, AllocError>
     ensures { IfOk result (λ told. told ≡ text_told text.now) }
 {
     let mut rows = Vec::new(alloc);
-    rows.push(String::from_str(alloc, text)?)?;
+    push_copy(&mut rows, alloc, text)?;
     Ok(Told {
         rows,
         place: None,
@@ -91,7 +93,7 @@ fn call_told<'v>(alloc: Global, text: &str, call: &'v Value) -> Result<Told<'v>,
     ensures { IfOk result (λ told. told ≡ call_told text.now (view call.now)) }
 {
     let mut rows = Vec::new(alloc);
-    rows.push(String::from_str(alloc, text)?)?;
+    push_copy(&mut rows, alloc, text)?;
     Ok(Told {
         rows,
         place: Some(place_of(call)),
@@ -151,11 +153,11 @@ fn push_leading<'v, F: Files>(
     };
     let first = *first;
     let told = told_at(alloc, files, row, false, first)?;
-    list.push(told)?;
+    push_item(list, told)?;
     for span in rest {
         let span = *span;
         let told = told_at(alloc, files, None, false, span)?;
-        list.push(told)?;
+        push_item(list, told)?;
     }
     Ok(())
 }
@@ -207,8 +209,7 @@ fn push_child<'v, F: Files>(
         return Ok(());
     }
     let told = text_told(alloc, message_of(child))?;
-    list.push(told)?;
-    Ok(())
+    push_item(list, told)
 }
 
 /// Appends what the message's own spans tell.
@@ -223,7 +224,7 @@ fn push_own<'v, F: Files>(
     for span in spans {
         let span = *span;
         let told = told_at(alloc, files, None, true, span)?;
-        list.push(told)?;
+        push_item(list, told)?;
     }
     Ok(())
 }
@@ -241,7 +242,7 @@ fn push_calls<'v, F: Files>(
     for span in spans {
         let span = *span;
         if let Some(told) = macro_told(alloc, files, span)? {
-            list.push(told)?;
+            push_item(list, told)?;
         }
     }
     Ok(())

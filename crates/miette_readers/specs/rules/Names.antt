@@ -1,5 +1,5 @@
 -- The names of the files that a row speaks of.
-use Rattle.std.specs.Prelude.{ℕ, List, [], ◌∷◌, ◌++◌, Option, Some, None, if◌then◌else◌, bytes_eq, codes}
+use Rattle.std.specs.Prelude.{ℕ, List, [], ◌∷◌, ◌++◌, Option, Some, None, if◌then◌else◌, bytes_eq, codes, Bool, ◌||◌}
 use Rattle.serde_json.specs.Data.{Data, null, boolean, number, string, array, object, Items, no_items, item}
 use Rattle.serde_json.specs.Data.{Members, no_members, member}
 use Rattle.serde_json.specs.Find.{as_str}
@@ -8,10 +8,14 @@ abbrev pub maybe_name : Option (List ℕ) → List (List ℕ)
 maybe_name None = []
 maybe_name (Some name) = name ∷ []
 
-abbrev pub named_by : List ℕ → Data → List (List ℕ)
-named_by key d = if bytes_eq key (codes "file_name") then maybe_name (as_str d) else []
+-- rustc's key for them, and GCC's
+abbrev pub is_name_key : List ℕ → Bool
+is_name_key key = bytes_eq key (codes "file_name") || bytes_eq key (codes "file")
 
--- the texts that are members `file_name` of its objects, at any depth
+abbrev pub named_by : List ℕ → Data → List (List ℕ)
+named_by key d = if is_name_key key then maybe_name (as_str d) else []
+
+-- the texts that are members `file_name` or `file` of its objects, at any depth
 abbrev mutual
   pub names_of : Data → List (List ℕ)
   names_of null = []

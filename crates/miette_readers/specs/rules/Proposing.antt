@@ -1,10 +1,11 @@
 -- Proposals of a message as fixes.
-use Rattle.std.specs.Prelude.{ℕ, List, [], ◌∷◌, ◌++◌, if◌then◌else◌, bytes_eq, Bool}
+use Rattle.std.specs.Prelude.{ℕ, ◌-◌, List, [], ◌∷◌, ◌++◌, if◌then◌else◌, bytes_eq, Bool}
 use Rattle.std.specs.List.{fold, list_any}
 use Rattle.miette_fixes.specs.declared.applicability.Applicability.{Applicability}
 use Rattle.miette_fixes.specs.rules.ApplyingAll.{conflict}
 use Rattle.miette_fixes.specs.rules.Edits.{Proposal, Replacement}
 use Rattle.miette_protocol.specs.rules.Reading.{Source}
+use Rattle.miette_readers.specs.rules.Places.{Stretch}
 
 -- an edit, with the name of its file and that file
 pub record FileEdit : Type 0 where
@@ -17,6 +18,17 @@ pub record Offer : Type 0 where
   pub message : List ℕ
   pub applicability : Applicability
   pub edits : List FileEdit
+
+-- an edit at a place that is in its file
+abbrev pub edit_found : List ℕ → List ℕ → Source × Stretch → FileEdit
+edit_found name text found = record {
+  name = name;
+  source = found.0;
+  edit = record {
+    span = record { offset = found.1.start; len = found.1.end - found.1.start };
+    text = text;
+  };
+}
 
 abbrev pub is_in : List ℕ → FileEdit → Bool
 is_in name e = bytes_eq e.name name

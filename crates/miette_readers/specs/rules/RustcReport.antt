@@ -1,26 +1,22 @@
 -- The report of a message of rustc or cargo.
-use Rattle.std.specs.Prelude.{ℕ, ◌+◌, ◌-◌, List, [], ◌∷◌, ◌++◌, Option, Some, None, Bool, false, ◌&&◌, ◌||◌}
-use Rattle.std.specs.Prelude.{if◌then◌else◌, ◌==◌, option_and_then, option_map, is_none, is_some, unwrap_or, map}
-use Rattle.std.specs.Prelude.{filter, bytes_eq, codes, not}
-use Rattle.std.specs.List.{filter_map, flat_map, fold, list_all, list_any}
+use Rattle.std.specs.Prelude.{ℕ, List, [], ◌∷◌, Option, Some, None, Bool, false, ◌&&◌, ◌||◌, if◌then◌else◌}
+use Rattle.std.specs.Prelude.{option_and_then, option_map, is_none, is_some, unwrap_or, map, filter, bytes_eq, codes, not}
+use Rattle.std.specs.List.{filter_map, list_all}
 use Rattle.serde_json.specs.Data.{Data}
 use Rattle.serde_json.specs.Find.{get}
 use Rattle.miette_fixes.specs.declared.applicability.Applicability.{Applicability}
 use Rattle.miette_fixes.specs.declared.applicability.Applicability.TheVariants.{MachineApplicable, MaybeIncorrect}
 use Rattle.miette_fixes.specs.declared.applicability.Applicability.TheVariants.{HasPlaceholders, Unspecified}
-use Rattle.miette_fixes.specs.rules.Edits.{Proposal}
 use Rattle.miette_protocol.specs.declared.protocol.Severity.{Severity}
 use Rattle.miette_protocol.specs.declared.protocol.Severity.TheVariants.{Advice, Warning, Error}
 use Rattle.miette_protocol.specs.rules.Reading.{Source}
-use Rattle.miette_protocol.specs.views.Meaning.{Label, Meaning}
-use Rattle.miette_tree.specs.rules.Diagnosis.{Section, plain_diagnosis}
-use Rattle.miette_tree.specs.rules.Tree.{Tree, alone, texts, trees, with_source, with_cause, with_related}
-use Rattle.miette_tree.specs.rules.Tree.{with_all_snippets, with_fixes}
+use Rattle.miette_tree.specs.rules.Tree.{Tree}
 use Rattle.miette_readers.specs.rules.Members.{object_at, objects_at, text_at}
-use Rattle.miette_readers.specs.rules.Places.{Stretch, joined}
-use Rattle.miette_readers.specs.rules.Proposing.{FileEdit, Offer, fixes_in, is_in}
+use Rattle.miette_readers.specs.rules.Places.{joined}
+use Rattle.miette_readers.specs.rules.Proposing.{FileEdit, Offer, edit_found}
+use Rattle.miette_readers.specs.rules.Reports.{Said, report_tree}
 use Rattle.miette_readers.specs.rules.Rustc.{edits_of, file_name, is_empty, is_help, message_of, place_of, told_of}
-use Rattle.miette_readers.specs.rules.Settling.{Mark, Settled, found_place, main_of, settled, with_rows}
+use Rattle.miette_readers.specs.rules.Settling.{found_place, settled, with_rows}
 
 -- ---- which row is a message
 
@@ -53,41 +49,6 @@ severity_of d = severity_named (unwrap_or (text_at (codes "level") d) [])
 abbrev pub code_of : Data → Option (List ℕ)
 code_of d = option_and_then (text_at (codes "code")) (get (codes "code") d)
 
--- ---- labels
-
-abbrev pub label_of : Mark → Label
-label_of m = record {
-  text = joined m.rows;
-  span = record { offset = m.stretch.start; len = m.stretch.end - m.stretch.start };
-  primary = m.primary;
-  context = None;
-}
-
-abbrev pub is_listed : ℕ → Mark → Bool
-is_listed n m = m.list == n
-
-abbrev pub labels_in : List Mark → ℕ → List Label
-labels_in marks n = map label_of (filter (is_listed n) marks)
-
--- no labels where there are none
-abbrev pub some_labels : List Label → Option (List Label)
-some_labels [] = None
-some_labels (l ∷ ls) = Some (l ∷ ls)
-
--- the labels of further lists, whose numbers begin with this one
-abbrev pub sections_from : List Mark → ℕ → List Source → List Section
-sections_from marks n [] = []
-sections_from marks n (s ∷ ss) = record { source = s; labels = labels_in marks n } ∷ sections_from marks (n + 1) ss
-
--- the files of all lists but the first
-abbrev pub further_files : List Source → List Source
-further_files [] = []
-further_files (s ∷ ss) = ss
-
-abbrev pub maybe_source : List Source → Tree → Tree
-maybe_source [] t = t
-maybe_source (s ∷ ss) t = with_source s t
-
 -- ---- proposals
 
 abbrev pub sureness : List ℕ → Applicability
@@ -99,19 +60,9 @@ sureness word =
 abbrev pub sureness_of : Data → Applicability
 sureness_of d = sureness (unwrap_or (text_at (codes "suggestion_applicability") d) [])
 
-abbrev pub edit_found : Data → List ℕ → Source × Stretch → FileEdit
-edit_found d text found = record {
-  name = file_name d;
-  source = found.0;
-  edit = record {
-    span = record { offset = found.1.start; len = found.1.end - found.1.start };
-    text = text;
-  };
-}
-
 abbrev pub edit_at : (List ℕ → Option Source) → Data → Option FileEdit
 edit_at files d =
-    option_and_then (λ text. option_map (edit_found d text) (found_place files (place_of d)))
+    option_and_then (λ text. option_map (edit_found (file_name d) text) (found_place files (place_of d)))
     (text_at (codes "suggested_replacement") d)
 
 abbrev pub is_found : (List ℕ → Option Source) → Data → Bool
@@ -136,38 +87,6 @@ offer_of files c = offer_with files c (edits_of c)
 abbrev pub offers_of : (List ℕ → Option Source) → Data → List Offer
 offers_of files d = filter_map (offer_of files) (objects_at (codes "children") d)
 
--- an offer's fixes over the main file
-abbrev pub main_fixes : Option (List ℕ) → Offer → List Proposal
-main_fixes None offer = []
-main_fixes (Some main) offer = fixes_in main offer.message offer
-
--- the advice to edit the file of an edit
-abbrev pub advice : Offer → FileEdit → Tree
-advice offer e =
-    with_fixes (fixes_in e.name (codes "in " ++ e.name) offer)
-    (with_source e.source (alone (plain_diagnosis (record {
-      message = offer.message;
-      code = None;
-      severity = Some Advice;
-      help = None;
-      url = None;
-      labels = None;
-    }))))
-
-abbrev pub is_main : Option (List ℕ) → FileEdit → Bool
-is_main None e = false
-is_main (Some main) e = bytes_eq main e.name
-
--- Of edits, the first one of each file but the main one.
-abbrev pub with_other : Option (List ℕ) → List FileEdit → FileEdit → List FileEdit
-with_other main found e = if is_main main e || list_any (is_in e.name) found then found else found ++ e ∷ []
-
-abbrev pub others : Option (List ℕ) → List FileEdit → List FileEdit
-others main es = fold (with_other main) [] es
-
-abbrev pub advice_of : Option (List ℕ) → Offer → List Tree
-advice_of main offer = map (advice offer) (others main offer.edits)
-
 -- a help without places, and a proposal that can't be found
 abbrev pub helps : (List ℕ → Option Source) → Data → Bool
 helps files c =
@@ -181,33 +100,17 @@ help_of files d = joined (help_rows files (objects_at (codes "children") d))
 
 -- ---- the report
 
-abbrev pub meaning_with : Option (List ℕ) → Data → List Mark → Meaning
-meaning_with help d marks = record {
+abbrev pub said_of : (List ℕ → Option Source) → Data → Said
+said_of files d = record {
   message = message_of d;
   code = code_of d;
-  severity = Some (severity_of d);
-  help = help;
+  severity = severity_of d;
+  help = help_of files d;
   url = None;
-  labels = some_labels (labels_in marks 0);
 }
 
--- the report without what it proposes
-abbrev pub told_tree : Option (List ℕ) → Data → Settled → Tree
-told_tree help d done =
-    with_all_snippets (sections_from done.marks 1 (further_files done.files))
-    (with_cause (texts done.texts)
-    (maybe_source done.files (alone (plain_diagnosis (meaning_with help d done.marks)))))
-
-abbrev pub offered_tree : Option (List ℕ) → List Offer → Tree → Tree
-offered_tree main offers t =
-    with_related (trees (flat_map (advice_of main) offers)) (with_fixes (flat_map (main_fixes main) offers) t)
-
-abbrev pub message_tree_with : (List ℕ → Option Source) → Data → Settled → Tree
-message_tree_with files d done =
-    offered_tree (main_of done.marks) (offers_of files d) (told_tree (help_of files d) d done)
-
 abbrev pub message_tree : (List ℕ → Option Source) → Data → Tree
-message_tree files d = message_tree_with files d (settled files (told_of files d))
+message_tree files d = report_tree (said_of files d) (settled files (told_of files d)) (offers_of files d)
 
 -- the report of a diagnostic that has a message; none of another row of rustc
 abbrev pub row_tree : (List ℕ → Option Source) → Data → Option (Option Tree)

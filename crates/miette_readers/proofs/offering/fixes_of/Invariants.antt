@@ -1,7 +1,7 @@
 use Rattle.std.proofs.Common.{◌≡◌, take}
 use Rattle.std.specs.List.{flat_map}
 use Rattle.std.specs.Option.{option_copied}
-use Rattle.miette_readers.specs.rules.RustcReport.{main_fixes}
+use Rattle.miette_readers.specs.rules.Reports.{main_fixes}
 use Rattle.miette_readers.proofs.offering.fixes_of.Given as goal
 
 abbrev pub invariant-loop-offer : goal.invariant-loop-offer

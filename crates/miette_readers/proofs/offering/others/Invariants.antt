@@ -1,6 +1,6 @@
 use Rattle.std.proofs.Common.{◌≡◌, take}
 use Rattle.std.specs.Option.{option_copied}
-use Rattle.miette_readers.specs.rules.RustcReport.{others}
+use Rattle.miette_readers.specs.rules.Reports.{others}
 use Rattle.miette_readers.specs.views.Edits.{edits_behind}
 use Rattle.miette_readers.proofs.offering.others.Given as goal
 

@@ -1,6 +1,6 @@
 use Rattle.std.proofs.Common.{◌≡◌, ◌++◌, take, map}
 use Rattle.miette_tree.specs.views.Report.{tree_of}
-use Rattle.miette_readers.specs.rules.RustcReport.{advice}
+use Rattle.miette_readers.specs.rules.Reports.{advice}
 use Rattle.miette_readers.specs.views.Edits.{edits_behind}
 use Rattle.miette_readers.proofs.offering.push_advice.Given as goal
 

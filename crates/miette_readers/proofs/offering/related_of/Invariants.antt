@@ -2,7 +2,7 @@ use Rattle.std.proofs.Common.{◌≡◌, take, map}
 use Rattle.std.specs.List.{flat_map}
 use Rattle.std.specs.Option.{option_copied}
 use Rattle.miette_tree.specs.views.Report.{tree_of}
-use Rattle.miette_readers.specs.rules.RustcReport.{advice_of}
+use Rattle.miette_readers.specs.rules.Reports.{advice_of}
 use Rattle.miette_readers.proofs.offering.related_of.Given as goal
 
 abbrev pub invariant-loop-offer : goal.invariant-loop-offer

@@ -1,0 +1,53 @@
+-- The fixes of an offer behind those that a list has already.
+use Rattle.std.proofs.Common.{◌≡◌, ℕ, ◌≤◌, List, [], ◌∷◌, ◌++◌, Bool, true, false, length, take, refl, sym, ap, ◌∙◌}
+use Rattle.std.proofs.Common.{append_assoc, append-nil}
+use Rattle.std.specs.Prelude.{if◌then◌else◌}
+use Rattle.std.specs.List.{fold, list_any}
+use Rattle.std.proofs.lemmas.List.{take_all}
+use Rattle.miette_fixes.specs.declared.applicability.Applicability.{Applicability}
+use Rattle.miette_fixes.specs.rules.ApplyingAll.{conflict}
+use Rattle.miette_fixes.specs.rules.Edits.{Proposal, Replacement}
+use Rattle.miette_readers.specs.rules.Proposing.{FileEdit, Parting, all_parts, begun, fix_by, is_in, with_edit, with_item}
+use Rattle.miette_readers.specs.rules.Proposing.{without_edits}
+
+abbrev behind : List Proposal → Parting → Parting
+behind before p = record { done = before ++ p.done; fix = p.fix }
+
+either_behind : (before : List Proposal) (b : Bool) (p q r s : Parting) → p ≡ behind before r → q ≡ behind before s
+    → (if b then p else q) ≡ behind before (if b then r else s)
+either_behind before true p q r s e f = e
+either_behind before false p q r s e f = f
+
+edit_behind : (before : List Proposal) (p : Parting) (e : Replacement)
+    → with_edit (behind before p) e ≡ behind before (with_edit p e)
+edit_behind before p e =
+    let next : List Proposal → Parting = λ d. record { done = d; fix = record p.fix { edits = e ∷ [] } } in
+    either_behind before (list_any (conflict e) p.fix.edits) _ _ _ _
+    (ap next (append_assoc before p.done (p.fix ∷ []))) refl
+
+item_behind : (name : List ℕ) (before : List Proposal) (p : Parting) (item : FileEdit)
+    → with_item name (behind before p) item ≡ behind before (with_item name p item)
+item_behind name before p item = either_behind before (is_in name item) _ _ _ _ (edit_behind before p item.edit) refl
+
+items_behind : (name : List ℕ) (before : List Proposal) (p : Parting) (es : List FileEdit)
+    → fold (with_item name) (behind before p) es ≡ behind before (fold (with_item name) p es)
+items_behind name before p [] = refl
+items_behind name before p (e ∷ es) =
+    ap (λ (q : Parting). fold (with_item name) q es) (item_behind name before p e)
+    ∙ items_behind name before (with_item name p e) es
+
+pub all_parted : (name message : List ℕ) (sure : Applicability) (before now : List Proposal) (fix : Proposal)
+    (es : List FileEdit) (i : ℕ) → length es ≤ i
+    → fold (with_item name) (record { done = before; fix = without_edits message sure }) (take i es)
+    ≡ record { done = now; fix = fix }
+    → now ++ fix_by fix fix.edits ≡ before ++ all_parts (fold (with_item name) (begun message sure) es)
+all_parted name message sure before now fix es i full is =
+    let begin : List Proposal → Parting = λ d. record { done = d; fix = without_edits message sure } in
+    let parts = fold (with_item name) (begun message sure) es in
+    let here : Parting = record { done = now; fix = fix } in
+    let all : here ≡ behind before parts =
+    sym is ∙ ap (λ (l : List FileEdit). fold (with_item name) (begin before) l) (take_all i es full)
+    ∙ ap (λ d. fold (with_item name) (begin d) es) (sym (append-nil before))
+    ∙ items_behind name before (begun message sure) es
+    in
+    ap all_parts all ∙ append_assoc before parts.done (fix_by parts.fix parts.fix.edits)
