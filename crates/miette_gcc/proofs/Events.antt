@@ -1,0 +1,36 @@
+-- One event more of a path.
+use Rattle.std.proofs.Common.{◌≡◌, ℕ, ◌+◌, ◌<◌, List, [], ◌∷◌, ◌++◌, length, get_or, take, map, sym, ap, ◌∙◌}
+use Rattle.std.proofs.Common.{arith, append_assoc}
+use Rattle.std.proofs.lemmas.List.{map-append}
+use Rattle.std.proofs.lemmas.Grind.{common_steps}
+use Rattle.serde_json.specs.Data.{Data}
+use Rattle.miette_readers.specs.rules.Places.{Told}
+use Rattle.miette_readers.proofs.Steps.{next_taken}
+use Rattle.miette_gcc.specs.rules.Gcc.{Ground, event_told, events_told}
+
+events_push : (g : Ground) (k n : ℕ) (es : List Data) (e : Data) → n ≡ k + length es
+    → events_told g k (es ++ e ∷ []) ≡ events_told g k es ++ event_told g n e ∷ []
+events_push g k n [] e is = let same : k ≡ n = omega (arith, is) in ap (λ (m : ℕ). event_told g m e ∷ []) same
+events_push g k n (x ∷ xs) e is =
+    let same : n ≡ (k + 1) + length xs = omega (arith, is) in
+    ap (λ l. event_told g k x ∷ l) (events_push g (k + 1) n xs e same)
+
+length_taken : {V : Type 0} (look : V → Data) (xs : List V) (i : ℕ) → i < length xs → length (map look (take i xs)) ≡ i
+length_taken look xs i h = grind (arith, common_steps)
+
+module _ {V : Type 0} (look : V → Data) (xs : List V) (i : ℕ) (x : V) (h : i < length xs) (is : x ≡ get_or xs i x) where
+  pub more_events : (g : Ground) (initial old new : List Told) (n : ℕ) (made : Told) → n ≡ i + 1
+      → made ≡ event_told g n (look x) → new ≡ old ++ made ∷ []
+      → old ≡ initial ++ events_told g 1 (map look (take i xs))
+      → new ≡ initial ++ events_told g 1 (map look (take (i + 1) xs))
+  more_events g initial old new n made number e pushed inv =
+      let before = events_told g 1 (map look (take i xs)) in
+      let len = length_taken look xs i h in
+      let next : n ≡ 1 + length (map look (take i xs)) = omega (arith, number, len) in
+      let all : events_told g 1 (map look (take (i + 1) xs)) ≡ before ++ event_told g n (look x) ∷ [] =
+      ap (λ l. events_told g 1 (map look l)) (next_taken xs i x h is)
+      ∙ ap (events_told g 1) (map-append look (take i xs) (x ∷ []))
+      ∙ events_push g 1 n (map look (take i xs)) (look x) next
+      in
+      pushed ∙ ap (λ l. l ++ made ∷ []) inv ∙ append_assoc initial before (made ∷ [])
+      ∙ ap (λ t. initial ++ (before ++ t ∷ [])) e ∙ ap (λ l. initial ++ l) (sym all)

@@ -1,0 +1,5 @@
+pub mod Arrays
+pub mod Endings
+pub mod Events
+pub mod Reports
+pub mod Steps

@@ -1,0 +1,26 @@
+-- Lines and columns as GCC counts them. Lines end as those of pictures do.
+use Rattle.std.specs.Prelude.{ℕ, zero, suc, ◌+◌, List, [], ◌∷◌, Option, Some, None, if◌then◌else◌, length, min, drop, nat_le}
+use Rattle.miette_source_lines.specs.rules.Lines.{Line, line_of, line_start, lines_from}
+
+-- the number of the last line, the first with 0: it is empty where a terminator ends the bytes
+abbrev pub last_line : List ℕ → ℕ
+last_line bytes = line_of bytes (length bytes)
+
+-- where the text of the first of these lines ends, which begin at an offset
+abbrev pub first_text_end : ℕ → List Line → ℕ
+first_text_end at [] = at
+first_text_end at (l ∷ ls) = l.text_end
+
+-- where the text of the line ends that begins at an offset
+abbrev pub text_end_from : List ℕ → ℕ → ℕ
+text_end_from bytes at = first_text_end at (lines_from at (drop at bytes))
+
+-- so many bytes behind the beginning of a line, but at most at the end of its text
+abbrev pub within_line : List ℕ → ℕ → ℕ → ℕ
+within_line bytes start before = min (start + before) (text_end_from bytes start)
+
+-- the offset of what has so many bytes in front of it on a line, the first with 1
+abbrev pub offset_at : List ℕ → ℕ → ℕ → Option ℕ
+offset_at bytes zero before = None
+offset_at bytes (suc k) before =
+    if nat_le k (last_line bytes) then Some (within_line bytes (line_start bytes k) before) else None

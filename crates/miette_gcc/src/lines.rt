@@ -1,0 +1,63 @@
+//! Lines and columns as GCC counts them.
+
+ghost use Rattle.std.specs.Prelude.{◌≡◌, ◌≤◌, ◌+◌, length};
+ghost use Rattle.miette_gcc.specs.rules.Lines.{last_line, offset_at, text_end_from, within_line};
+ghost use Rattle.miette_source_lines.specs.rules.Lines.{line_start};
+
+use miette_protocol::source::IndexedSource;
+use miette_source_lines::find::FindLines;
+use miette_source_lines::lines::first_line;
+
+/// Where a line begins, the first with 0.
+fn line_start(source: &IndexedSource, line: usize) -> usize
+    requires { line ≤ last_line source.now }
+    ensures start { result ≡ line_start source.now line }
+    ensures within { result ≤ length source.now }
+{
+    let size = source.bytes().len();
+    let last = source.line_of(size).0;
+    source.start_before(size, last - line).0
+}
+
+/// Where the text of the line ends that begins at an offset.
+fn text_end_from(bytes: &[u8], start: usize) -> usize
+    requires { start ≤ length bytes.now }
+    ensures end { result ≡ text_end_from bytes.now start }
+    ensures within { result ≤ length bytes.now }
+{
+    if start == bytes.len() {
+        return start;
+    }
+    first_line(&bytes[start..], start).text_end
+}
+
+/// So many bytes, and further ones, behind the beginning of a line, but at most at the end of its text.
+fn within_line(bytes: &[u8], start: usize, before: u64, further: u64) -> usize
+    requires { start ≤ length bytes.now }
+    ensures { result ≡ within_line bytes.now start (before + further) }
+{
+    let offset = start.saturating_add(before as usize);
+    offset
+        .saturating_add(further as usize)
+        .min(text_end_from(bytes, start))
+}
+
+/// The offset of what stands so many bytes, and further ones, behind the beginning of a line, the first with 1.
+pub(crate) fn offset_at(
+    source: &IndexedSource,
+    line: u64,
+    before: u64,
+    further: u64,
+) -> Option<usize>
+    ensures { result ≡ offset_at source.now line (before + further) }
+{
+    if line == 0 {
+        return None;
+    }
+    let line = (line - 1) as usize;
+    if source.line_of(source.bytes().len()).0 < line {
+        return None;
+    }
+    let start = line_start(source, line);
+    Some(within_line(source.bytes(), start, before, further))
+}
