@@ -1,5 +1,5 @@
-"""sarif_reader_model.py: a model of how a SARIF 2.1.0 log becomes reports (docs/RULES.md, 'What is read of SARIF'), made
-without the programs: what a result tells is put in the words of readers_model.py, which places it."""
+"""sarif_reader_model.py: a model of how a SARIF 2.1.0 log becomes reports (docs/RULES.md, 'What is read of SARIF'),
+made without the programs: what a result tells is put in the words of readers_model.py, which places it."""
 import re
 from urllib.parse import unquote_to_bytes
 

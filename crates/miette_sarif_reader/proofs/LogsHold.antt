@@ -32,7 +32,8 @@ module _ (holds : Tree → Type 0) (files : List ℕ → Option Source)
   log_holds : (d : Data) → IfSome (sarif_trees files d) (All holds)
   log_holds d =
       either (λ o. IfSome o (All holds)) (has_runs d)
-      (Some (flat_map (run_trees files) (objects_at (codes "runs") d))) None (runs_hold (objects_at (codes "runs") d)) tt
+      (Some (flat_map (run_trees files) (objects_at (codes "runs") d))) None
+      (runs_hold (objects_at (codes "runs") d)) tt
 
 pub sarif_reads : (files : List ℕ → Option Source) → FilesRead files → (d : Data)
     → IfSome (sarif_trees files d) (All AlwaysReads)

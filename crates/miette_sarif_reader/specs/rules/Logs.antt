@@ -1,5 +1,6 @@
 -- The reports of a SARIF log.
-use Rattle.std.specs.Prelude.{ℕ, List, [], Option, Some, None, Bool, if◌then◌else◌, codes, is_some, map, option_and_then}
+use Rattle.std.specs.Prelude.{ℕ, List, [], Option, Some, None, Bool, if◌then◌else◌, codes, is_some, map}
+use Rattle.std.specs.Prelude.{option_and_then}
 use Rattle.std.specs.List.{flat_map}
 use Rattle.serde_json.specs.Data.{Data}
 use Rattle.serde_json.specs.Find.{as_array, get}

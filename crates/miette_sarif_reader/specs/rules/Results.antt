@@ -1,6 +1,6 @@
 -- What a result of a SARIF log says, and what it tells at places.
-use Rattle.std.specs.Prelude.{ℕ, List, [], ◌∷◌, ◌++◌, Option, Some, None, Bool, true, false, if◌then◌else◌, bytes_eq, codes}
-use Rattle.std.specs.Prelude.{find, is_some, map, option_and_then, slice_get, unwrap_or}
+use Rattle.std.specs.Prelude.{ℕ, List, [], ◌∷◌, ◌++◌, Option, Some, None, Bool, true, false, if◌then◌else◌, codes}
+use Rattle.std.specs.Prelude.{bytes_eq, find, is_some, map, option_and_then, slice_get, unwrap_or}
 use Rattle.std.specs.Option.{option_or}
 use Rattle.serde_json.specs.Data.{Data}
 use Rattle.miette_positions.specs.declared.place.PositionEncoding.{PositionEncoding}
