@@ -72,7 +72,7 @@ TERMINAL = ["--term-unicode", "yes", "--term-color", "rgb", "--rgb", "always", "
 PLAIN = ["--term-unicode", "yes"]
 REPORTS = (LABELLED, LINKED, RELATED, MANY, APART, OWN, MENDED, REFUSED)
 NESTED = ["--nested", "yes", "--footer", "bye"]
-KINDS = (PLAIN, TERMINAL, NESTED, ["--narrated"], ["--brief"], ["--json"], ["--debug"], ["--sarif"])
+KINDS = (PLAIN, TERMINAL, NESTED, ["--narrated"], ["--brief"], ["--json"], ["--debug"], ["--sarif"], ["--lsp"])
 
 RUNS = [
     (["draw", "bad_file.rs", "9", "4", "This bit here", "oops!"], README),

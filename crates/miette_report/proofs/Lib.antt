@@ -12,6 +12,7 @@ pub mod LintFixSteps
 pub mod LintSteps
 pub mod CommandSteps
 pub mod LogSteps
+pub mod EditorSteps
 pub mod OptionWordSteps
 pub mod WriteResults
 pub mod FaultRows

@@ -4,6 +4,7 @@ pub mod LanguageRules
 pub mod OptionWords
 pub mod Job
 pub mod Logs
+pub mod Editors
 pub mod JobCalls
 pub mod Usage
 pub mod Faults

@@ -18,6 +18,7 @@ pub mod lint_fix;
 mod lint_reports;
 pub mod lint_sarif;
 mod lint_words;
+pub mod lsp;
 mod option_words;
 mod picture;
 mod pipeline;
