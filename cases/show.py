@@ -1,11 +1,11 @@
 #!/usr/bin/env python3
-"""show.py: runs the built program `show` on what rustc wrote (`rustc/`), and compares it with the model of
-readers_model.py, whose reports tree_model.py draws.
+"""show.py: runs the built program `show` on what rustc and GCC wrote (`rustc/`, `gcc/`), and compares it with the model
+of show_model.py, whose reports tree_model.py draws.
 
 The recorded rows are tried as they are, as cargo wraps them, cut at every 50th byte, with members removed or of other
-types, offsets that are off or behind the end, other files, files that are gone or shorter. Where rustc is installed, it
-is run anew. `--many` reads 100,000 messages, and looks at the memory. The last line is 'N passed, M failed', and the
-exit status is 0 only where nothing failed."""
+types, offsets, lines and columns that are off or behind the end, other files, files that are gone or shorter. Where
+rustc and gcc are installed, they are run anew. `--many` reads 100,000 messages, and looks at the memory. The last line
+is 'N passed, M failed', and the exit status is 0 only where nothing failed."""
 import copy
 import json
 import os
@@ -17,17 +17,21 @@ import tempfile
 
 import size_runs
 from programs import HERE, counted, program, run
-from readers_model import shown_of
+from show_model import shown_of
 from tree_model import Page, whole_picture
 
 FOLDER = os.path.join(HERE, "rustc")
 NAMES = ["borrow", "fixits", "life", "mine", "multi"]
+GCC_FOLDER = os.path.join(HERE, "gcc")
+GCC_NAMES = ["broken", "leak"]
 WORDS = ["--theme", "unicode_nocolor", "--links", "no", "--width", "120"]
 CHATTER = [b"   Compiling a v0.1.0\n", b"\n", b"{not json}\n", b"[1, 2]\n", b"\xff{\"\n", b" {\"message\":\"m\"}\n"]
 OTHER = [b'{"reason":"build-finished","success":true}\n', b'{"$message_type":"artifact","artifact":"a","emit":"b"}\n']
 BAD = [b'{"message":5}\n', b'{"\n', b'{"reason":"compiler-message"}\n', b'{"\xff":1}\n', b'{"message":"m"} x\n']
+BAD_ARRAYS = [b'[{"message":5}]\n', b'[{"message":"m"}, {}]\n', b'[{"}\n', b"[]]\n", b'[{"message":"m"}]']
 # the members of a message that are changed
 READ = ("message", "code", "level", "spans", "children")
+GCC_READ = ("message", "kind", "option", "option_url", "column-origin", "locations", "path", "children", "fixits")
 # what a run over many messages may take
 MANY = size_runs.Limits(size_runs.WIDE_STACK_KB, size_runs.WIDE_SPACE, 60)
 SPAN = {"byte_start": 0, "byte_end": 3, "file_name": "borrow.rs", "is_primary": True, "label": "here"}
@@ -37,15 +41,16 @@ def files_in(folder):
     """The sources in a folder, by their names."""
     files = {}
     for name in os.listdir(folder):
-        if name.endswith(".rs"):
+        if name.endswith((".rs", ".c")):
             with open(os.path.join(folder, name), "rb") as file:
                 files[name] = file.read()
     return files
 
 
 def recorded(name):
-    """What rustc wrote of a program."""
-    with open(os.path.join(FOLDER, f"{name}.jsonl"), "rb") as file:
+    """What a compiler wrote of a program."""
+    path = f"gcc/{name}.json" if name in GCC_NAMES else f"rustc/{name}.jsonl"
+    with open(os.path.join(HERE, path), "rb") as file:
         return file.read()
 
 
@@ -55,12 +60,12 @@ def rows_of(given):
     return [it + b"\n" for it in rows[:-1]] + ([rows[-1]] if rows[-1] else [])
 
 
-def wanted(given, files):
-    """Status, standard output and standard error, row by row."""
+def wanted(given, files, form):
+    """Status, standard output and standard error, row by row, of what is read in a format."""
     page = Page(120)
     shown, notes, unread, error = [], [], False, False
     for number, row in enumerate(rows_of(given), 1):
-        text, bad, grave = shown_of(row, files, lambda report: whole_picture(report, page))
+        text, bad, grave = shown_of(row, files, lambda report: whole_picture(report, page), form)
         shown.append(text)
         notes += [f"show: row {number}: no message that can be read\n".encode()] if bad else []
         unread, error = unread or bad, error or grave
@@ -95,15 +100,33 @@ def other_value(dice, key, old):
         "expansion": [None, 5, "x", {}],
         "spans": [[], None, "x", [5], {}],
         "children": [[], None, "x", [None], {}],
+        "kind": ["fatal error", "sorry, unimplemented", "permerror", "pedwarn", "note", None, 3],
+        "option": ["", None, 7],
+        "column-origin": [0, 1, 2, 10**6, None, "x"],
+        "line": [0, 1, 3, 7, 10**6, 2**63, -1, "7", None],
+        "byte-column": [0, 1, 2, 9, 10**6, 2**63, -1, "7", None],
+        "file": ["broken.c", "leak.c", "gone.c", "short.c", "/gone.c", 7],
+        "string": ["", "x", None, 3],
+        "caret": [None, 5, {}],
+        "start": [None, 5, {}],
+        "finish": [None, 5, {}],
+        "next": [None, 5, {}],
+        "location": [None, 5, {}],
+        "locations": [[], None, "x", [5], {}, [{}]],
+        "path": [[], None, "x", [5], {}, [{}]],
+        "fixits": [[], None, "x", [5], {}, [{}]],
     }
     return dice.choice(given.get(key, [None, 7, "s", [], {}]))
 
 
 def changed(dice, row):
-    """A row with a few members or items removed, or of other values and types."""
+    """A row with a few members or items removed, or of other values and types: of an array in each of its items."""
+    if isinstance(row, list):
+        return [changed(dice, it) for it in row]
     row = copy.deepcopy(row)
+    read = GCC_READ if "kind" in row else READ
     for _ in range(dice.choice([1, 1, 2, 3])):
-        every = [it for it in places(row) if it[0] in READ and "text" not in it]
+        every = [it for it in places(row) if it[0] in read and "text" not in it]
         if not every:
             break
         key = dice.choice(sorted({str(it[-1]) for it in every}))
@@ -118,10 +141,12 @@ def changed(dice, row):
     return row
 
 
-def hostile(dice, count):
-    """Rows that are changed by chance."""
-    rows = [json.loads(row) for name in NAMES for row in rows_of(recorded(name))]
+def hostile(dice, names, count):
+    """Rows of these programs that are changed by chance."""
+    rows = [json.loads(row) for name in names for row in rows_of(recorded(name))]
     for row in rows:
+        if isinstance(row, list):
+            continue
         row["rendered"] = None
         row["code"] = row["code"] and {"code": row["code"]["code"], "explanation": None}
     return b"".join(json.dumps(changed(dice, dice.choice(rows))).encode() + b"\n" for _ in range(count))
@@ -143,8 +168,20 @@ def of_cargo(name):
 # ---- runs
 
 
+def gcc_inputs(folder):
+    """What is read of GCC, with the folder of its files."""
+    for name in GCC_NAMES:
+        given = recorded(name)
+        yield f"{name} as recorded, and a build's own rows", given + b"".join(CHATTER) + b"[]\n" + given, GCC_FOLDER
+        yield f"{name} cut at every 50th byte", cut_rows(name), GCC_FOLDER
+        yield f"{name} over files that are gone or shorter", given, folder
+    yield "arrays that can't be read", b"".join(BAD_ARRAYS), GCC_FOLDER
+    yield "arrays that are changed", hostile(random.Random(8), GCC_NAMES, 300), folder
+    yield "both compilers", recorded("multi") + recorded("leak"), GCC_FOLDER
+
+
 def inputs(folder):
-    """What is read, with the folder of its files."""
+    """What is read of rustc and cargo, with the folder of its files."""
     for name in NAMES:
         given = recorded(name)
         yield f"{name} as recorded", given, FOLDER
@@ -153,29 +190,33 @@ def inputs(folder):
         yield f"{name} without its last bytes", given[: -len(given) // 7], FOLDER
         yield f"{name} over files that are gone or shorter", given, folder
     yield "rows that can't be read", b"".join(CHATTER + BAD + OTHER + [b'{"message":"m","level":"error"}']), FOLDER
-    yield "rows that are changed", hostile(random.Random(7), 1000), folder
+    yield "rows that are changed", hostile(random.Random(7), NAMES, 1000), folder
     yield "nothing", b"", FOLDER
 
 
-def tried(folder, what, given, root):
-    """Whether the program and the model agree, below a root and in its folder."""
-    want = wanted(given, files_in(root))
-    elsewhere = run(["show", "--root", root, "--from", "rustc", *WORDS], given, cwd=folder)
-    there = run(["show", *WORDS], given, cwd=root)
-    for got in (elsewhere, there):
-        if got != want:
-            print(f"{what}: status {got[0]}, wanted {want[0]}")
-            at = next((i for i, (a, b) in enumerate(zip(got[1], want[1])) if a != b), min(len(got[1]), len(want[1])))
-            near = slice(max(0, at - 300), at + 200)
-            print(f"  got    .. {got[1][near]!r}\n  wanted .. {want[1][near]!r}")
-            print(f"  standard error {got[2][-300:]!r}, wanted {want[2][-300:]!r}")
-    return elsewhere == want and there == want
+def told_apart(what, form, got, want):
+    """Whether a run is as the model says; where it isn't, what differs is printed."""
+    if got != want:
+        print(f"{what}, as {form}: status {got[0]}, wanted {want[0]}")
+        at = next((i for i, (a, b) in enumerate(zip(got[1], want[1])) if a != b), min(len(got[1]), len(want[1])))
+        near = slice(max(0, at - 300), at + 200)
+        print(f"  got    .. {got[1][near]!r}\n  wanted .. {want[1][near]!r}")
+        print(f"  standard error {got[2][-300:]!r}, wanted {want[2][-300:]!r}")
+    return got == want
+
+
+def tried(folder, what, given, root, form="rustc"):
+    """Whether the program and the model agree, in a format below a root, and told apart in its folder."""
+    named = ["show", "--root", root, "--from", form, *WORDS]
+    elsewhere = told_apart(what, form, run(named, given, cwd=folder), wanted(given, files_in(root), form))
+    there = told_apart(what, "auto", run(["show", *WORDS], given, cwd=root), wanted(given, files_in(root), "auto"))
+    return elsewhere and there
 
 
 def words_tried():
     """Wrong words end with status 2 and say which are right, before anything is read."""
-    usage = b"usage: show [--from rustc] [--root DIR] [OPTIONS]\n"
-    wrong = [["--from", "gcc"], ["--root"], ["--from"], ["--width"], ["x"], ["--brief", "--root", "."]]
+    usage = b"usage: show [--from auto|rustc|gcc] [--root DIR] [OPTIONS]\n"
+    wrong = [["--from", "clang"], ["--root"], ["--from"], ["--width"], ["x"], ["--brief", "--root", "."]]
     return [run(["show", *words], b'{"message":"m"}\n') == (2, b"", usage) for words in wrong]
 
 
@@ -191,15 +232,21 @@ def handlers_tried():
 
 
 def live_tried():
-    """What rustc writes now, where it is there."""
-    if shutil.which("rustc") is None:
-        return []
-    with tempfile.TemporaryDirectory() as folder:
-        for name in files_in(FOLDER):
-            shutil.copy(os.path.join(FOLDER, name), folder)
-        words = ["rustc", "--edition", "2021", "--error-format=json", "--emit=metadata", "multi.rs"]
-        given = subprocess.run(words, cwd=folder, capture_output=True, check=False).stderr
-        return [given != b"" and tried(folder, "rustc itself", given, folder)]
+    """What rustc and gcc write now, where they are there."""
+    runs = [
+        ("rustc", FOLDER, ["--edition", "2021", "--error-format=json", "--emit=metadata", "multi.rs"]),
+        ("gcc", GCC_FOLDER, ["-Wall", "-fanalyzer", "-fdiagnostics-format=json", "-c", "broken.c", "leak.c"]),
+    ]
+    done = []
+    for compiler, sources, words in runs:
+        if shutil.which(compiler) is None:
+            continue
+        with tempfile.TemporaryDirectory() as folder:
+            for name in files_in(sources):
+                shutil.copy(os.path.join(sources, name), folder)
+            given = subprocess.run([compiler, *words], cwd=folder, capture_output=True, check=False).stderr
+            done.append(given != b"" and tried(folder, f"{compiler} itself", given, folder, compiler))
+    return done
 
 
 def most_memory(count):
@@ -229,7 +276,12 @@ def main(words):
         shutil.copy(os.path.join(FOLDER, "util.rs"), os.path.join(folder, "short.rs"))
         with open(os.path.join(folder, "borrow.rs"), "wb") as file:
             file.write(b"fn main() {\n    let")
-        done = [tried(folder, *it) for it in inputs(folder)]
+        for name in ("broken.c", "leak.c"):
+            shutil.copy(os.path.join(GCC_FOLDER, name), folder)
+        with open(os.path.join(folder, "broken.c"), "wb") as file:
+            file.write(b"#include <stdio.h>\r\nstruct point {\rint x;\n  ")
+        shutil.copy(os.path.join(GCC_FOLDER, "leak.c"), os.path.join(folder, "short.c"))
+        done = [tried(folder, *it) for it in inputs(folder)] + [tried(folder, *it, "gcc") for it in gcc_inputs(folder)]
     done += words_tried() + handlers_tried() + live_tried() + memory_tried(100000 if "--many" in words else 10000)
     return counted(sum(done), len(done) - sum(done))
 
