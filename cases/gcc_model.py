@@ -43,7 +43,8 @@ def span(start, end, origin, files, further):
 
 def location(value, origin, files, primary):
     caret = member(value, "caret", dict) or {}
-    start, finish = (member(value, key, dict) or caret for key in ("start", "finish"))
+    told = [member(value, key, dict) for key in ("start", "finish")]
+    start, finish = (caret if it is None else it for it in told)
     return {**span(start, finish, origin, files, 1), "is_primary": primary, "label": text(value, "label")}
 
 
@@ -55,7 +56,7 @@ def said(edits):
     """GCC has no words for a proposal."""
     if len(edits) > 1:
         return "make these changes"
-    return f"write `{edits[0]}`" if edits[0] else "delete this"
+    return f"write `{edits[0].removesuffix(chr(10))}`" if edits[0] else "delete this"
 
 
 def proposal(value, origin, files):

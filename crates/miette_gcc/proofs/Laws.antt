@@ -1,17 +1,20 @@
--- The reports of what GCC writes always read, over files that do, and their labels are accepted.
+-- The reports of what GCC writes always read, over files that do, their labels are accepted, and what is told is kept.
 use Rattle.std.proofs.Common.{◌≡◌, ℕ, List, [], ◌∷◌, Option, Some, None, option_map, All, IfSome, true, map}
 use Rattle.std.specs.Prelude.{⊤, if◌then◌else◌, option_and_then}
-use Rattle.std.specs.List.{filter_map, list_all}
+use Rattle.std.specs.List.{Contains, filter_map, list_all}
 use Rattle.std.proofs.lemmas.List.Elements.{All-nil, All-cons}
 use Rattle.serde_json.specs.Data.{Data, Items}
 use Rattle.serde_json.specs.Find.{as_array}
 use Rattle.miette_protocol.specs.rules.Reading.{Source}
 use Rattle.miette_tree.specs.rules.Reads.{AlwaysReads, report_accepted}
 use Rattle.miette_tree.specs.rules.Tree.{Tree}
+use Rattle.miette_readers.specs.rules.Kept.{IsKept}
 use Rattle.miette_readers.specs.rules.Members.{listed}
+use Rattle.miette_readers.specs.rules.Places.{Told}
 use Rattle.miette_readers.specs.rules.Proposing.{FileEdit}
 use Rattle.miette_readers.specs.rules.Settling.{found_place}
 use Rattle.miette_readers.proofs.Accepted.{report_accepts}
+use Rattle.miette_readers.proofs.Kept.{report_keeps}
 use Rattle.miette_readers.proofs.ReportsRead.{EditsRead, FilesRead, OffersRead, Reads, either, found_reads, more_edits}
 use Rattle.miette_readers.proofs.ReportsRead.{more_offers, place_reads, report_reads}
 use Rattle.miette_gcc.specs.rules.Gcc.{Ground, told_of}
@@ -75,3 +78,8 @@ gcc_accepts files h d =
     items_hold (λ tree. report_accepted tree ≡ true) files
     (λ it. (let g = ground_of files it in report_accepts files h (said_of g it) (told_of g it) (offers_of g it)))
     (as_array d)
+
+pub gcc_keeps : (files : List ℕ → Option Source) (d : Data) (t : Told) (row : List ℕ)
+    → Contains (told_of (ground_of files d) d) t → Contains t.rows row → IsKept (diagnostic_tree files d) row
+gcc_keeps files d t row =
+    let g = ground_of files d in report_keeps files (said_of g d) (told_of g d) (offers_of g d) t row

@@ -1,10 +1,11 @@
 //! What GCC proposes, as edits.
 
-ghost use Rattle.std.specs.Prelude.{◌≡◌, ◌++◌, ◌∷◌, IfOk, OnOk, option_map, string_bytes};
-ghost use Rattle.std.specs.List.{filter_map};
+ghost use Rattle.std.specs.Prelude.{◌≡◌, ◌++◌, [], IfOk, OnOk, option_map, string_bytes};
+ghost use Rattle.std.specs.List.{cons_option, filter_map};
 ghost use Rattle.serde_json.specs.View.{view};
 ghost use Rattle.miette_readers.specs.views.Values.{seen};
-ghost use Rattle.miette_gcc.specs.rules.GccReport.{all_found, edit_at, edit_words, new_text, offer_of, offers_of, words_of};
+ghost use Rattle.miette_gcc.specs.rules.GccReport.{all_found, edit_at, edit_words, new_text, offer_of, offers_of};
+ghost use Rattle.miette_gcc.specs.rules.GccReport.{without_end, words_of};
 ghost use Rattle.miette_gcc.specs.views.Grounds.{ground_in};
 
 use crate::points::Ground;
@@ -31,6 +32,16 @@ fn edit_at<'f, 'v, F: Files>(ground: &Ground<'f, F>, fixit: &'v Value) -> Option
     FileEdit::found(ground.files, &place, new_text(fixit))
 }
 
+/// A text without the line feed that ends it.
+fn without_end(text: &str) -> &str
+    ensures { result.now ≡ without_end text.now }
+{
+    match text.strip_suffix('\n') {
+        Some(front) => front,
+        None => text,
+    }
+}
+
 /// What to do, where one edit is proposed.
 fn edit_words(alloc: Global, text: &str) -> Result<String, AllocError>
     ensures { IfOk result (λ words. string_bytes words ≡ edit_words text.now) }
@@ -39,7 +50,7 @@ fn edit_words(alloc: Global, text: &str) -> Result<String, AllocError>
         return String::from_str(alloc, "delete this");
     }
     let mut words = String::from_str(alloc, "write `")?;
-    words.push_str(text)?;
+    words.push_str(without_end(text))?;
     words.push_str("`")?;
     Ok(words)
 }

@@ -32,7 +32,7 @@ use Rattle.miette_readers.proofs.ReportsRead.{EachReads, FilesRead, either, sett
 
 -- ---- the files of lists by their numbers
 
-abbrev nth : List Source → ℕ → Option Source
+abbrev pub nth : List Source → ℕ → Option Source
 nth [] n = None
 nth (s ∷ ss) zero = Some s
 nth (s ∷ ss) (suc n) = nth ss n
@@ -48,11 +48,11 @@ nth_before (x ∷ xs) s new (suc n) is = nth_before xs s new n is
 
 -- ---- a label is within the file of its list
 
-abbrev Fits : (List ℕ → Option Source) → List Source → Mark → Type 0
+abbrev pub Fits : (List ℕ → Option Source) → List Source → Mark → Type 0
 Fits files ss m = (s : Source) × (files m.name ≡ Some s) × (nth ss m.list ≡ Some s)
     × (is_within s.bytes m.stretch ≡ true)
 
-abbrev AllFit : (List ℕ → Option Source) → List Source → List Mark → Type 0
+abbrev pub AllFit : (List ℕ → Option Source) → List Source → List Mark → Type 0
 AllFit files ss [] = ⊤
 AllFit files ss (m ∷ ms) = Fits files ss m × AllFit files ss ms
 
@@ -179,7 +179,7 @@ with_fits files done t None h = text_fits files done (joined t.rows) h
 with_fits files done t (Some p) h =
     at_fits files done t p (found_place files p) h (within_fits (files p.name) p.stretch)
 
-settled_fits : (files : List ℕ → Option Source) (ts : List Told) (done : Settled) → SettledFits files done
+pub settled_fits : (files : List ℕ → Option Source) (ts : List Told) (done : Settled) → SettledFits files done
     → SettledFits files (fold (settled_one files) done ts)
 settled_fits files [] done h = h
 settled_fits files (t ∷ ts) done h =
@@ -236,7 +236,7 @@ sections_accept files all ms h n (s ∷ ss) at r =
 
 -- ---- the report
 
-given_some : (ls : List Label) → given_labels (some_labels ls) ≡ ls
+pub given_some : (ls : List Label) → given_labels (some_labels ls) ≡ ls
 given_some [] = refl
 given_some (l ∷ ls) = refl
 

@@ -5,5 +5,6 @@ pub mod Places
 pub mod Settling
 pub mod Proposing
 pub mod Reports
+pub mod Kept
 pub mod Rustc
 pub mod RustcReport

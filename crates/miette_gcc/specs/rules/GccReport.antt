@@ -1,6 +1,6 @@
 -- The reports of GCC's diagnostics.
-use Rattle.std.specs.Prelude.{ℕ, List, [], ◌∷◌, ◌++◌, Option, Some, None, Bool, true, false, ◌||◌, if◌then◌else◌}
-use Rattle.std.specs.Prelude.{option_and_then, option_map, is_none, is_some, unwrap_or, map, bytes_eq, codes}
+use Rattle.std.specs.Prelude.{ℕ, List, [], ◌∷◌, ◌++◌, Option, Some, None, Bool, ◌==◌, if◌then◌else◌, bytes_eq, codes}
+use Rattle.std.specs.Prelude.{option_and_then, option_map, is_none, is_some, unwrap_or, map}
 use Rattle.std.specs.List.{filter_map, fold, list_all, list_any}
 use Rattle.serde_json.specs.Data.{Data, Items}
 use Rattle.serde_json.specs.Find.{as_array}
@@ -8,7 +8,7 @@ use Rattle.miette_fixes.specs.declared.applicability.Applicability.TheVariants.{
 use Rattle.miette_protocol.specs.declared.protocol.Severity.{Severity}
 use Rattle.miette_protocol.specs.declared.protocol.Severity.TheVariants.{Advice, Warning, Error}
 use Rattle.miette_protocol.specs.rules.Reading.{Source}
-use Rattle.miette_readers.specs.rules.Members.{listed, object_at, objects_at, text_at, whole_at}
+use Rattle.miette_readers.specs.rules.Members.{listed, objects_at, text_at, whole_at}
 use Rattle.miette_readers.specs.rules.Places.{Place, joined}
 use Rattle.miette_readers.specs.rules.Proposing.{FileEdit, Offer, edit_found}
 use Rattle.miette_readers.specs.rules.Reports.{Said, report_tree}
@@ -35,10 +35,16 @@ edit_at g x = edit_by g.files (fixit_place g x) (new_text x)
 abbrev pub is_found : Ground → Data → Bool
 is_found g x = is_some (edit_at g x)
 
+-- without the line feed that ends it, as a text of whole lines has one
+abbrev pub without_end : List ℕ → List ℕ
+without_end [] = []
+without_end (b ∷ []) = if b == 10 then [] else b ∷ []
+without_end (b ∷ (c ∷ cs)) = b ∷ without_end (c ∷ cs)
+
 -- GCC has no words for a proposal.
 abbrev pub edit_words : List ℕ → List ℕ
 edit_words [] = codes "delete this"
-edit_words (b ∷ bs) = codes "write `" ++ ((b ∷ bs) ++ codes "`")
+edit_words (b ∷ bs) = codes "write `" ++ (without_end (b ∷ bs) ++ codes "`")
 
 abbrev pub words_of : List Data → List ℕ
 words_of [] = []

@@ -1,0 +1,96 @@
+"""gcc_cases.py: what GCC 12.2 wrote of a few programs (`gcc/`, by `-fdiagnostics-format=json`, with `-Wall -Wextra` or
+`-fanalyzer`), as it is and changed: what show.py runs the program `show` on."""
+import copy
+import json
+import os
+import random
+
+from programs import HERE
+
+FOLDER = os.path.join(HERE, "gcc")
+NAMES = ["broken", "ends", "fatal", "hidden", "leak", "notes", "paths"]
+# the members of a diagnostic that are read
+READ = ("kind", "message", "option", "option_url", "column-origin", "locations", "children", "fixits", "path")
+KINDS = ["error", "fatal error", "sorry, unimplemented", "permerror", "warning", "pedwarn", "note", "debug", 3]
+BAD = [b'[{"kind":"error"}]\n', b'[{"message":"m"},{"message":7}]\n', b'[{"message":"m"}\n', b'[{"message":"m"}] x\n']
+OTHER = [b"[]\n", b'[{"message":"m"}]\n', b"[ {}]\n", b"[1]\n", b"compilation terminated.\n"]
+
+
+def recorded(name):
+    """What GCC wrote of a program: an array in one row, and maybe rows behind it."""
+    with open(os.path.join(FOLDER, f"{name}.json"), "rb") as file:
+        return file.read()
+
+
+def array_of(name):
+    return json.loads(recorded(name).split(b"\n", 1)[0])
+
+
+def cut(name):
+    """The array cut at every 50th byte."""
+    row = recorded(name).split(b"\n", 1)[0]
+    return b"".join(row[:end] + b"\n" for end in range(1, len(row), 50))
+
+
+def places(value, path=()):
+    """Where a value has members and items."""
+    keys = list(value) if isinstance(value, dict) else range(len(value)) if isinstance(value, list) else []
+    for key in keys:
+        yield path + (key,)
+        yield from places(value[key], path + (key,))
+
+
+def other_value(dice, key, old):
+    """A value in place of another one."""
+    near = [max(0, old - 2), old + 1, old + 30] if isinstance(old, int) else []
+    given = {
+        **dict.fromkeys(("line", "byte-column", "column"), [0, 1, 3, 10**6, 2**63, 2**64 - 1, "7", -1, 1.5, *near]),
+        "column-origin": [0, 1, 2, 60, 2**64 - 1, None],
+        "file": ["notes.c", "near.h", "gone.h", "short.c", "ends.c", "/gone.h", "", 7],
+        "label": ["", "here", "two\nrows", None, 5],
+        "string": ["", "x", ";\n", "\n", "two\nrows\n", None, 3],
+        "kind": KINDS,
+        "message": ["m", "two\nrows", ""],
+        "description": ["", "two\nrows", None],
+        **dict.fromkeys(("start", "finish", "caret", "next", "location"), [None, 5, "x", [], {}]),
+        **dict.fromkeys(("locations", "children", "fixits", "path"), [[], None, "x", [5], [{}], {}]),
+    }
+    return dice.choice(given.get(key, [None, 7, "s", [], {}]))
+
+
+def changed(dice, diagnostic):
+    """A diagnostic with a few members or items removed, or of other values and types."""
+    diagnostic = copy.deepcopy(diagnostic)
+    for _ in range(dice.choice([1, 1, 2, 3])):
+        every = [it for it in places(diagnostic) if it[0] in READ]
+        if not every:
+            break
+        key = dice.choice(sorted({str(it[-1]) for it in every}))
+        *path, last = dice.choice([it for it in every if str(it[-1]) == key])
+        at = diagnostic
+        for step in path:
+            at = at[step]
+        if isinstance(last, str) and dice.random() < 0.75 or isinstance(last, int) and dice.random() < 0.5:
+            at[last] = other_value(dice, last, at[last])
+        else:
+            at.pop(last)
+    return diagnostic
+
+
+def hostile(dice, count):
+    """Arrays of diagnostics that are changed by chance."""
+    found = [it for name in NAMES for it in array_of(name)]
+    rows = ([changed(dice, dice.choice(found)) for _ in range(dice.choice([1, 1, 2, 5]))] for _ in range(count))
+    return b"".join(json.dumps(row).encode() + b"\n" for row in rows)
+
+
+def inputs(folder):
+    """What is read, with the folder of its files; in `folder` some are gone or shorter."""
+    for name in NAMES:
+        given = recorded(name)
+        yield f"GCC's {name} as recorded", given, FOLDER
+        yield f"GCC's {name} cut at every 50th byte", cut(name), FOLDER
+        yield f"GCC's {name} without its last bytes", given[: -len(given) // 7], FOLDER
+        yield f"GCC's {name} over files that are gone or shorter", given, folder
+    yield "rows of GCC that can't be read", b"".join(OTHER + BAD), FOLDER
+    yield "GCC's diagnostics that are changed", hostile(random.Random(11), 600), folder

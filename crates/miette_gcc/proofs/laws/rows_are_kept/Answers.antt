@@ -1,0 +1,5 @@
+use Rattle.miette_gcc.proofs.Laws.{gcc_keeps}
+use Rattle.miette_gcc.proofs.laws.rows_are_kept.Goals as goal
+
+pub returns : goal.returns
+returns c = gcc_keeps
