@@ -10,11 +10,13 @@ import copy
 import json
 import os
 import random
+import re
 import shutil
 import subprocess
 import sys
 import tempfile
 
+import gcc_cases
 import size_runs
 from programs import HERE, counted, program, run
 from show_model import shown_of
@@ -22,16 +24,12 @@ from tree_model import Page, whole_picture
 
 FOLDER = os.path.join(HERE, "rustc")
 NAMES = ["borrow", "fixits", "life", "mine", "multi"]
-GCC_FOLDER = os.path.join(HERE, "gcc")
-GCC_NAMES = ["broken", "leak"]
 WORDS = ["--theme", "unicode_nocolor", "--links", "no", "--width", "120"]
 CHATTER = [b"   Compiling a v0.1.0\n", b"\n", b"{not json}\n", b"[1, 2]\n", b"\xff{\"\n", b" {\"message\":\"m\"}\n"]
 OTHER = [b'{"reason":"build-finished","success":true}\n', b'{"$message_type":"artifact","artifact":"a","emit":"b"}\n']
 BAD = [b'{"message":5}\n', b'{"\n', b'{"reason":"compiler-message"}\n', b'{"\xff":1}\n', b'{"message":"m"} x\n']
-BAD_ARRAYS = [b'[{"message":5}]\n', b'[{"message":"m"}, {}]\n', b'[{"}\n', b"[]]\n", b'[{"message":"m"}]']
 # the members of a message that are changed
 READ = ("message", "code", "level", "spans", "children")
-GCC_READ = ("message", "kind", "option", "option_url", "column-origin", "locations", "path", "children", "fixits")
 # what a run over many messages may take
 MANY = size_runs.Limits(size_runs.WIDE_STACK_KB, size_runs.WIDE_SPACE, 60)
 SPAN = {"byte_start": 0, "byte_end": 3, "file_name": "borrow.rs", "is_primary": True, "label": "here"}
@@ -41,16 +39,25 @@ def files_in(folder):
     """The sources in a folder, by their names."""
     files = {}
     for name in os.listdir(folder):
-        if name.endswith((".rs", ".c")):
+        if name.endswith((".rs", ".c", ".h")):
             with open(os.path.join(folder, name), "rb") as file:
                 files[name] = file.read()
     return files
 
 
+def named_in(given):
+    """The files whose names begin with `/` in what is read."""
+    files = {}
+    for name in re.findall(rb'"file(?:_name)?": ?"(/[^"\\]*)"', given):
+        if os.path.isfile(name):
+            with open(name, "rb") as file:
+                files[name.decode()] = file.read()
+    return files
+
+
 def recorded(name):
-    """What a compiler wrote of a program."""
-    path = f"gcc/{name}.json" if name in GCC_NAMES else f"rustc/{name}.jsonl"
-    with open(os.path.join(HERE, path), "rb") as file:
+    """What rustc wrote of a program."""
+    with open(os.path.join(FOLDER, f"{name}.jsonl"), "rb") as file:
         return file.read()
 
 
@@ -62,7 +69,7 @@ def rows_of(given):
 
 def wanted(given, files, form):
     """Status, standard output and standard error, row by row, of what is read in a format."""
-    page = Page(120)
+    page, files = Page(120), {**files, **named_in(given)}
     shown, notes, unread, error = [], [], False, False
     for number, row in enumerate(rows_of(given), 1):
         text, bad, grave = shown_of(row, files, lambda report: whole_picture(report, page), form)
@@ -100,33 +107,15 @@ def other_value(dice, key, old):
         "expansion": [None, 5, "x", {}],
         "spans": [[], None, "x", [5], {}],
         "children": [[], None, "x", [None], {}],
-        "kind": ["fatal error", "sorry, unimplemented", "permerror", "pedwarn", "note", None, 3],
-        "option": ["", None, 7],
-        "column-origin": [0, 1, 2, 10**6, None, "x"],
-        "line": [0, 1, 3, 7, 10**6, 2**63, -1, "7", None],
-        "byte-column": [0, 1, 2, 9, 10**6, 2**63, -1, "7", None],
-        "file": ["broken.c", "leak.c", "gone.c", "short.c", "/gone.c", 7],
-        "string": ["", "x", None, 3],
-        "caret": [None, 5, {}],
-        "start": [None, 5, {}],
-        "finish": [None, 5, {}],
-        "next": [None, 5, {}],
-        "location": [None, 5, {}],
-        "locations": [[], None, "x", [5], {}, [{}]],
-        "path": [[], None, "x", [5], {}, [{}]],
-        "fixits": [[], None, "x", [5], {}, [{}]],
     }
     return dice.choice(given.get(key, [None, 7, "s", [], {}]))
 
 
 def changed(dice, row):
-    """A row with a few members or items removed, or of other values and types: of an array in each of its items."""
-    if isinstance(row, list):
-        return [changed(dice, it) for it in row]
+    """A row with a few members or items removed, or of other values and types."""
     row = copy.deepcopy(row)
-    read = GCC_READ if "kind" in row else READ
     for _ in range(dice.choice([1, 1, 2, 3])):
-        every = [it for it in places(row) if it[0] in read and "text" not in it]
+        every = [it for it in places(row) if it[0] in READ and "text" not in it]
         if not every:
             break
         key = dice.choice(sorted({str(it[-1]) for it in every}))
@@ -141,12 +130,10 @@ def changed(dice, row):
     return row
 
 
-def hostile(dice, names, count):
-    """Rows of these programs that are changed by chance."""
-    rows = [json.loads(row) for name in names for row in rows_of(recorded(name))]
+def hostile(dice, count):
+    """Rows that are changed by chance."""
+    rows = [json.loads(row) for name in NAMES for row in rows_of(recorded(name))]
     for row in rows:
-        if isinstance(row, list):
-            continue
         row["rendered"] = None
         row["code"] = row["code"] and {"code": row["code"]["code"], "explanation": None}
     return b"".join(json.dumps(changed(dice, dice.choice(rows))).encode() + b"\n" for _ in range(count))
@@ -168,18 +155,6 @@ def of_cargo(name):
 # ---- runs
 
 
-def gcc_inputs(folder):
-    """What is read of GCC, with the folder of its files."""
-    for name in GCC_NAMES:
-        given = recorded(name)
-        yield f"{name} as recorded, and a build's own rows", given + b"".join(CHATTER) + b"[]\n" + given, GCC_FOLDER
-        yield f"{name} cut at every 50th byte", cut_rows(name), GCC_FOLDER
-        yield f"{name} over files that are gone or shorter", given, folder
-    yield "arrays that can't be read", b"".join(BAD_ARRAYS), GCC_FOLDER
-    yield "arrays that are changed", hostile(random.Random(8), GCC_NAMES, 300), folder
-    yield "both compilers", recorded("multi") + recorded("leak"), GCC_FOLDER
-
-
 def inputs(folder):
     """What is read of rustc and cargo, with the folder of its files."""
     for name in NAMES:
@@ -190,7 +165,8 @@ def inputs(folder):
         yield f"{name} without its last bytes", given[: -len(given) // 7], FOLDER
         yield f"{name} over files that are gone or shorter", given, folder
     yield "rows that can't be read", b"".join(CHATTER + BAD + OTHER + [b'{"message":"m","level":"error"}']), FOLDER
-    yield "rows that are changed", hostile(random.Random(7), NAMES, 1000), folder
+    yield "rows that are changed", hostile(random.Random(7), 1000), folder
+    yield "both compilers, and a build's own rows", of_cargo("multi") + gcc_cases.recorded("leak"), FOLDER
     yield "nothing", b"", FOLDER
 
 
@@ -235,7 +211,7 @@ def live_tried():
     """What rustc and gcc write now, where they are there."""
     runs = [
         ("rustc", FOLDER, ["--edition", "2021", "--error-format=json", "--emit=metadata", "multi.rs"]),
-        ("gcc", GCC_FOLDER, ["-Wall", "-fanalyzer", "-fdiagnostics-format=json", "-c", "broken.c", "leak.c"]),
+        ("gcc", gcc_cases.FOLDER, ["-Wall", "-fanalyzer", "-fdiagnostics-format=json", "-c", "broken.c", "leak.c"]),
     ]
     done = []
     for compiler, sources, words in runs:
@@ -276,12 +252,13 @@ def main(words):
         shutil.copy(os.path.join(FOLDER, "util.rs"), os.path.join(folder, "short.rs"))
         with open(os.path.join(folder, "borrow.rs"), "wb") as file:
             file.write(b"fn main() {\n    let")
-        for name in ("broken.c", "leak.c"):
-            shutil.copy(os.path.join(GCC_FOLDER, name), folder)
+        for name in ("notes.c", "near.h", "ends.c"):
+            shutil.copy(os.path.join(gcc_cases.FOLDER, name), folder)
+        shutil.copy(os.path.join(gcc_cases.FOLDER, "leak.c"), os.path.join(folder, "short.c"))
         with open(os.path.join(folder, "broken.c"), "wb") as file:
             file.write(b"#include <stdio.h>\r\nstruct point {\rint x;\n  ")
-        shutil.copy(os.path.join(GCC_FOLDER, "leak.c"), os.path.join(folder, "short.c"))
-        done = [tried(folder, *it) for it in inputs(folder)] + [tried(folder, *it, "gcc") for it in gcc_inputs(folder)]
+        done = [tried(folder, *it) for it in inputs(folder)]
+        done += [tried(folder, *it, "gcc") for it in gcc_cases.inputs(folder)]
     done += words_tried() + handlers_tried() + live_tried() + memory_tried(100000 if "--many" in words else 10000)
     return counted(sum(done), len(done) - sum(done))
 
