@@ -51,7 +51,7 @@ fn check<T: ReportHandler, W: Write, F: Write>(
     run: &mut Reporter<T, W, F>,
 ) -> Result<()> {
     for slip in slips_of(alloc, file.text.as_str())?.iter() {
-        let report = file.under(alloc, report_of(alloc, *slip, file.text.len())?)?;
+        let report = file.under(report_of(alloc, *slip, file.text.len())?)?;
         run.report(&report).into_diagnostic(alloc)?;
     }
     Ok(())

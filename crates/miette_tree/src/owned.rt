@@ -7,6 +7,7 @@ ghost use Rattle.miette_protocol.specs.rules.Outcome.{Answers};
 use miette_protocol::protocol::SourceSpan;
 use miette_protocol::source::{IndexedSource, NamedSource, ReadResult, SourceCode};
 use std::alloc::{AllocError, Global};
+use std::rc::Rc;
 
 /// The bytes, with a name or without one.
 #[derive(Drop)]
@@ -16,10 +17,10 @@ enum Bytes {
 }
 
 /// A source that owns its bytes and keeps an index of their lines. What it keeps lies in a place of its own, so that a
-/// report that holds it, or none, is small. It always reads.
+/// report that holds it, or none, is small, and that reports over one file can share it. It always reads.
 #[derive(Drop)]
 pub struct OwnedSource {
-    bytes: Box<Bytes>,
+    bytes: Rc<Bytes>,
 }
 
 impl OwnedSource {
@@ -29,7 +30,7 @@ impl OwnedSource {
     fn of_bytes(alloc: Global, bytes: Bytes) -> Result<OwnedSource, AllocError>
         ensures { IfOk result (λ it. owned_source it ≡ bytes_source bytes) }
     {
-        match Box::new(alloc, bytes) {
+        match Rc::new(alloc, bytes) {
             Ok(bytes) => Ok(OwnedSource { bytes }),
             Err(_) => Err(AllocError),
         }
@@ -60,6 +61,15 @@ impl OwnedSource {
             None => source,
         };
         OwnedSource::of_bytes(alloc, Bytes::Named(source))
+    }
+
+    /// The same source once more. Bytes and index are shared, and stay as long as one of the sources does. It takes no
+    /// memory: `AllocError` comes only where the largest `usize` is too small to count the sources.
+    pub fn share(&self) -> Result<OwnedSource, AllocError>
+        ensures { IfOk result (λ it. owned_source it ≡ owned_source self.now) }
+    {
+        let bytes = self.bytes.clone()?;
+        Ok(OwnedSource { bytes })
     }
 }
 

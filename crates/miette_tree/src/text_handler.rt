@@ -65,5 +65,9 @@ pub fn append_text<H: TextHandler, D: Diagnostic, S: SourceCode>(
     ensures err { OnErr result (string_bytes out.new ≡ string_bytes out.old) }
 {
     let text = handler.text_of(*out.allocator(), report)?;
+    if out.is_empty() {
+        *out = text;
+        return Ok(());
+    }
     append_whole(text.as_str(), out)
 }

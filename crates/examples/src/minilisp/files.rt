@@ -9,21 +9,23 @@ use std::{fs, io};
 /// A file that was read.
 #[derive(Drop)]
 pub struct File {
-    /// Its name, as reports show it.
-    pub name: String,
     /// Its text.
     pub text: String,
+    /// The same as the source of its reports, which share it.
+    source: OwnedSource,
 }
 
 impl File {
+    /// A file of this name, as reports show it, and text.
+    fn named(alloc: Global, name: &str, text: String) -> Result<File> {
+        let bytes = text.as_bytes().to_vec(alloc)?;
+        let source = OwnedSource::named(alloc, name, Some("lisp"), bytes)?;
+        Ok(File { text, source })
+    }
+
     /// The report with this file as its source.
-    ///
-    /// # Errors
-    /// Where no memory is found for a copy of the text.
-    pub fn under(&self, alloc: Global, report: Report) -> Result<Report> {
-        let bytes = self.text.as_bytes().to_vec(alloc)?;
-        let source = OwnedSource::named(alloc, self.name.as_str(), Some("lisp"), bytes)?;
-        Ok(report.with_owned_source(source))
+    pub fn under(&self, report: Report) -> Result<Report> {
+        Ok(report.with_owned_source(self.source.share()?))
     }
 }
 
@@ -38,10 +40,7 @@ pub fn read<R: Host>(rt: &R, name: &str) -> Result<File> {
         .into_diagnostic(alloc)
         .wrap_err_with(alloc, || format!(in alloc; "could not read {shown}"))?;
     match String::from_utf8(bytes) {
-        Ok(text) => Ok(File {
-            name: String::from_str(alloc, shown)?,
-            text,
-        }),
+        Ok(text) => File::named(alloc, shown, text),
         Err(error) => {
             let at = error.utf8_error().valid_up_to();
             Err(not_text(alloc, shown, at, error.into_bytes())?)
