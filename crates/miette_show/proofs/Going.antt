@@ -51,7 +51,8 @@ row_by from p q h files row Unread text r = r
 row_by from p q h files row (Messages grave) text (begins, utf8, (ts, is, error, drawn)) =
     (begins, utf8, (ts, is, error, drawn_by p q h ts text drawn))
 
-pub shown_by : (from : Format) (p q : Tree → List ℕ → Type 0) (f g : (List ℕ → Option Source) → List (List ℕ) → Type 0) (s : Shown)
+pub shown_by : (from : Format) (p q : Tree → List ℕ → Type 0)
+    (f g : (List ℕ → Option Source) → List (List ℕ) → Type 0) (s : Shown)
     → ((t : Tree) (x : List ℕ) → p t x → q t x)
     → ((files : List ℕ → Option Source) (names : List (List ℕ)) → f files names → g files names)
     → IsShown from p f s → IsShown from q g s

@@ -54,8 +54,8 @@ text_more : (ss : List Shown) (s : Shown) → text_of (ss ++ s ∷ []) ≡ text_
 text_more ss s = flat_map-append (λ (x : Shown). x.text) ss (s ∷ []) ∙ ap (λ l. text_of ss ++ l) (append-nil s.text)
 
 -- These rows were shown, what is left is left, and the writers took their texts and notes.
-pub record Progress (from : Format) (gives : Tree → List ℕ → Type 0) (found : (List ℕ → Option Source) → List (List ℕ) → Type 0)
-    (first left old new before after : Option (List ℕ)) (number : ℕ) (verdict : Verdict) : Type 0 where
+pub record Progress (from : Format) (gives : Tree → List ℕ → Type 0)
+    (found : (List ℕ → Option Source) → List (List ℕ) → Type 0) (first left old new before after : Option (List ℕ)) (number : ℕ) (verdict : Verdict) : Type 0 where
   pub shown : List Shown
   pub rows : RowsLeft first left (map row_of shown)
   pub each : All (IsShown from gives found) shown
@@ -64,7 +64,8 @@ pub record Progress (from : Format) (gives : Tree → List ℕ → Type 0) (foun
   pub count : number ≡ length shown + 1
   pub is : verdict ≡ verdict_of shown
 
-module _ (from : Format) (gives : Tree → List ℕ → Type 0) (found : (List ℕ → Option Source) → List (List ℕ) → Type 0) where
+module _ (from : Format) (gives : Tree → List ℕ → Type 0)
+    (found : (List ℕ → Option Source) → List (List ℕ) → Type 0) where
   pub begin : (first old before : Option (List ℕ)) (number : ℕ) (verdict : Verdict) → number ≡ 1
       → verdict ≡ record { unread = false; error = false }
       → Progress from gives found first first old old before before number verdict
@@ -110,14 +111,14 @@ module _ (from : Format) (gives : Tree → List ℕ → Type 0) (found : (List �
 
   pub end : (first left next old new before after : Option (List ℕ)) (number : ℕ) (verdict : Verdict) (row : List ℕ)
       → row ≡ [] → Progress from gives found first left old new before after number verdict → IsNextRow left next row
-      → IfSome first (λ bytes. Shows from gives found bytes (λ text notes. Appends old new text × Appends before after notes)
-      verdict)
+      → IfSome first (λ bytes. Shows from gives found bytes
+      (λ text notes. Appends old new text × Appends before after notes) verdict)
   end first left next old new before after number verdict row none p is_next =
       ended first (rows_end first left next (map row_of p.shown) row none p.rows is_next)
     where
       ended : (o : Option (List ℕ)) → IfSome o (λ bytes. map row_of p.shown ≡ rows_of bytes)
-          → IfSome o (λ bytes. Shows from gives found bytes (λ text notes. Appends old new text × Appends before after notes)
-          verdict)
+          → IfSome o (λ bytes. Shows from gives found bytes
+          (λ text notes. Appends old new text × Appends before after notes) verdict)
       ended None e = tt
       ended (Some bytes) e = (p.shown, e, p.each, (p.text, p.notes), p.is)
 

@@ -1,7 +1,7 @@
 -- Reports of a value, and their texts, one after another.
 use Rattle.std.proofs.Common.{◌≡◌, ℕ, zero, suc, ◌+◌, ◌<◌, ◌≤◌, List, [], ◌∷◌, ◌++◌, Option, Some, None, Bool, true}
-use Rattle.std.proofs.Common.{false, length, get_or, take, map, All, IfOk, IfSome, Ok, Err, Result, arith, refl, sym, ap}
-use Rattle.std.proofs.Common.{subst, ◌∙◌}
+use Rattle.std.proofs.Common.{false, length, get_or, take, map, All, IfOk, IfSome, Ok, Err, Result, arith, refl, sym}
+use Rattle.std.proofs.Common.{ap, subst, ◌∙◌}
 use Rattle.std.specs.Prelude.{◌||◌, if◌then◌else◌, is_some, option_map}
 use Rattle.std.proofs.lemmas.List.{map-append, take_all}
 use Rattle.std.proofs.lemmas.List.Elements.{All-nil, All-cons}
@@ -53,7 +53,8 @@ module _ (P : Tree → Type 0) (files : List ℕ → Option Source) (d : Data)
       → IfOk r (λ it. value_trees from files d ≡ Some (map tree (list it)))
       → IfOk r (λ it. All P (map tree (list it)))
   reports_hold from list tree (Err e) ok = tt
-  reports_hold from list tree (Ok it) ok = some_hold (value_trees from files d) (map tree (list it)) (trees_hold from) ok
+  reports_hold from list tree (Ok it) ok =
+      some_hold (value_trees from files d) (map tree (list it)) (trees_hold from) ok
 
 -- ---- their texts
 

@@ -183,7 +183,11 @@ pub(crate) fn row_text<H: Highlighter, F: Loader>(
 ) -> Result<(RowKind, String), Fault>
     ensures shown { IfOk result (λ it. IsShown row.entry.from (IsGiven H.is_blank H.may_follow handler.old)
         (IsFoundBy F.found F.knows files.old)
-        (record { row = row.entry.bytes.now; kind = it.0; text = shown_text it.0 row.entry.bytes.now (string_bytes it.1) })) }
+        (record {
+          row = row.entry.bytes.now;
+          kind = it.0;
+          text = shown_text it.0 row.entry.bytes.now (string_bytes it.1);
+        })) }
     ensures others { OnErr result (result ≡ Err Fault.Memory) }
     ensures stays { Stays H.is_blank handler.old handler.new }
     ensures led { OnOk result (IsLed H.may_follow handler.old handler.new) }

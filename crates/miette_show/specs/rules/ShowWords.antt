@@ -19,8 +19,7 @@ format_named name =
     else if bytes_eq name (codes "rustc") then Some Rustc
     else if bytes_eq name (codes "gcc") then Some Gcc else None
 
--- Behind these words stand a folder and a format, each as often as one likes, of which the last one counts; then those of
--- `job`.
+-- In front stand a folder and a format, each as often as one likes, of which the last one counts; then those of `job`.
 abbrev pub asked_from : Option (List ℕ) → Format → List (List ℕ) → Option ShowRequest
 asked_from root from [] = Some (record { root = root; from = from; options = [] })
 asked_from root from (word ∷ []) =

@@ -57,8 +57,8 @@ AreDrawn gives [] text = text ≡ []
 AreDrawn gives (t ∷ ts) text = (drawn : List ℕ) × (rest : List ℕ) × gives t drawn × AreDrawn gives ts rest
     × (text ≡ drawn ++ 10 ∷ rest)
 
--- A row that begins as no message does, and one that can't be read, is passed on as it is. Of one with messages the texts
--- of their reports are shown; of a row of rustc or cargo that is no message, nothing.
+-- A row that begins as no message does, and one that can't be read, is passed on as it is. Of one with messages the
+-- texts of their reports are shown; of a row of rustc or cargo that is no message, nothing.
 abbrev pub IsRowText : Format → (Tree → List ℕ → Type 0) → (List ℕ → Option Source) → List ℕ → RowKind → List ℕ
     → Type 0
 IsRowText from gives files row Passed text = (begins_message from row ≡ false) × (text ≡ row)

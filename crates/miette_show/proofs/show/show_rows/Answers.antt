@@ -70,7 +70,8 @@ loop-number-preserved g c =
     let row = c.next.new.row.items in
     let shown = c.in_ok-kind.ensures.shown in
     let some : 0 < length row = search rules in
-    let is_shown = shown_before c.args.from blank follow c.args.handler.now l.handler g.F.Files.found g.F.Loader.knows first l.files
+    let is_shown = shown_before c.args.from blank follow c.args.handler.now l.handler g.F.Files.found g.F.Loader.knows
+    first l.files
     c.as_slice.result.now row kind shown.0 l.invariant.stays l.invariant.led l.invariant.goes
     c.as_slice.ensures.value shown.1
     in
@@ -85,8 +86,8 @@ loop-number-preserved g c =
           c.show_row.ensures.stays;
       led = led-on follow c.args.handler.now l.handler c.show_row.new.handler l.invariant.led
           c.in_ok-kind.ensures.led;
-      progress = progress.more c.args.from gives found _ _ _ _ _ _ _ _ _ l.number l.verdict c.with-verdict.result row kind shown.0
-          some l.invariant.progress c.in_ok-next.ensures.row is_shown shown.2 c.in_ok-note.ensures.noted
+      progress = progress.more c.args.from gives found _ _ _ _ _ _ _ _ _ l.number l.verdict c.with-verdict.result row
+          kind shown.0 some l.invariant.progress c.in_ok-next.ensures.row is_shown shown.2 c.in_ok-note.ensures.noted
           c.with-verdict.ensures;
     }
 
@@ -132,7 +133,8 @@ returns-in_err-note-clause-beginning g c =
     let row = c.next.new.row.items in
     let shown = c.in_ok-kind.ensures.shown in
     let some : 0 < length row = search rules in
-    let is_shown = shown_before c.args.from g.H.Highlighter.is_blank g.H.Highlighter.may_follow c.args.handler.now l.handler
+    let is_shown = shown_before c.args.from g.H.Highlighter.is_blank g.H.Highlighter.may_follow c.args.handler.now
+    l.handler
     g.F.Files.found g.F.Loader.knows first l.files c.as_slice.result.now row kind shown.0 l.invariant.stays
     l.invariant.led l.invariant.goes c.as_slice.ensures.value shown.1
     in

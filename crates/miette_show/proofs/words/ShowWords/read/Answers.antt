@@ -21,7 +21,8 @@ loop-word-preserved-then-str_eq c =
     ap (λ w. bytes_eq w (codes "--root")) (sym c.as_str.ensures.value) ∙ here
     in
     ap (λ v. asked_from (Some v) c.loop-word.from after) c.as_str-in-text.ensures.value
-    ∙ root_passed (option_copied c.loop-word.root) c.loop-word.from (map string_bytes c.loop-word.rest.now) word value after rest is
+    ∙ root_passed (option_copied c.loop-word.root) c.loop-word.from (map string_bytes c.loop-word.rest.now) word value
+    after rest is
     ∙ c.loop-word.invariant
 
 pub loop-word-preserved : goal.loop-word-preserved
