@@ -55,7 +55,8 @@ text_more ss s = flat_map-append (λ (x : Shown). x.text) ss (s ∷ []) ∙ ap (
 
 -- These rows were shown, what is left is left, and the writers took their texts and notes.
 pub record Progress (from : Format) (gives : Tree → List ℕ → Type 0)
-    (found : (List ℕ → Option Source) → List (List ℕ) → Type 0) (first left old new before after : Option (List ℕ)) (number : ℕ) (verdict : Verdict) : Type 0 where
+    (found : (List ℕ → Option Source) → List (List ℕ) → Type 0) (first left old new before after : Option (List ℕ))
+    (number : ℕ) (verdict : Verdict) : Type 0 where
   pub shown : List Shown
   pub rows : RowsLeft first left (map row_of shown)
   pub each : All (IsShown from gives found) shown
