@@ -58,8 +58,8 @@ text_of : (from : Format) (gives : Given) (files : List ℕ → Option Source) (
 text_of from gives files row d Passed text begins utf8 is said = absurd said
 text_of from gives files row d Unread text begins utf8 is said =
     (begins, (λ u. says_of from files row d is ∙ said), refl)
-text_of from gives files row d (Messages grave) text begins utf8 is (ts, says, error, drawn) =
-    (begins, utf8, (ts, says_of from files row d is ∙ says, error, drawn))
+text_of from gives files row d (Messages grave) text begins utf8 is (ts, says, texts) =
+    (begins, utf8, (ts, says_of from files row d is ∙ says, texts.0, texts.1))
 
 -- one that is a value, when all names in it are known
 pub told : (from : Format) (gives : Given) (found : Finding) (files : List ℕ → Option Source) (row : List ℕ) (d : Data)

@@ -37,10 +37,10 @@ loop-word-preserved c =
     let no : bytes_eq c.as_str.result.now (codes "--root") ≡ false = search (rules, tests) in
     let here : bytes_eq c.as_str.result.now (codes "--from") ≡ true = search (rules, tests) in
     from_passed (option_copied c.loop-word.root) c.loop-word.from (map string_bytes c.loop-word.rest.now) word value
-    after c.in_ok-from.from rest
+    after c.in_ok-from-in-text-2.from rest
     (ap (λ w. bytes_eq w (codes "--root")) (sym c.as_str.ensures.value) ∙ no)
     (ap (λ w. bytes_eq w (codes "--from")) (sym c.as_str.ensures.value) ∙ here)
-    (ap format_named (sym c.as_str-in-text-2.ensures.value) ∙ c.in_ok-from.ensures) ∙ c.loop-word.invariant
+    (ap format_named (sym c.as_str-in-text-2.ensures.value) ∙ c.in_ok-from-in-text-2.ensures) ∙ c.loop-word.invariant
 
 pub returns : goal.returns
 returns c =
