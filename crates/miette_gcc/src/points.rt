@@ -17,7 +17,7 @@ use serde_json::Value;
 use std::marker::Model;
 
 /// By what places are found: the files, and the number of a line's first column.
-#[derive(Drop)]
+#[derive_where(Clone, Copy)]
 pub(crate) struct Ground<'f, F> {
     pub(crate) files: &'f F,
     pub(crate) origin: u64,

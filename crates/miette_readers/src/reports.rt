@@ -97,7 +97,7 @@ fn diagnostic_of(
     said: Said,
     marks: &[Mark<'_>],
 ) -> Result<MietteDiagnostic, AllocError>
-    ensures { IfOk result (λ d. meaning_of d ≡ meaning_with said.entry marks.now) }
+    ensures { IfOk result (λ d. meaning_of d ≡ meaning_with said marks.now) }
 {
     let labels = labels_in(alloc, marks, 0)?;
     let Said {
@@ -143,7 +143,7 @@ fn sections_over<'f>(
     let mut list = Vec::new(alloc);
     for file in files {
         let section = section_at(alloc, marks, list.len() + 1, file)?;
-        push_item(&mut list, section)?;
+        list.push(section)?;
     }
     Ok(list)
 }
@@ -183,7 +183,7 @@ fn told_report<'f, D: Diagnostic>(
     done: Settled<'f, '_>,
 ) -> Result<Report<D, LentFile<'f>>, AllocError>
     ensures { IfOk result (λ r. tree_of D.meaning ⟦<LentFile<'f> as SourceCode>⟧.source r
-        ≡ told_tree said.entry done.entry) }
+        ≡ told_tree said done.entry) }
 {
     let diagnostic = diagnostic_of(alloc, said, done.marks.as_slice())?;
     let snippets = further(alloc, &done)?;
@@ -211,7 +211,7 @@ pub fn report_of<'f, D: Diagnostic, F: Files>(
     offers: &[Offer<'f, '_>],
 ) -> Result<Report<D, LentFile<'f>>, AllocError>
     ensures { IfOk result (λ r. tree_of D.meaning ⟦<LentFile<'f> as SourceCode>⟧.source r
-        ≡ report_tree said.entry (settled (F.found files.now) told.now) offers.now) }
+        ≡ report_tree said (settled (F.found files.now) told.now) offers.now) }
 {
     let done = settled(alloc, files, told)?;
     let main = first_name(done.marks.as_slice());

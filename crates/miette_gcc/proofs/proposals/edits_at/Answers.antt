@@ -24,7 +24,7 @@ loop-fixit-preserved g c =
     let l = c.loop-fixit in
     let look = λ (v : Bor Value). view v.now in
     let found : edit_at ground (view c.fixit-item.result.now) ≡ Some c.in-Some.edit = search rules in
-    let pushed = c.in_ok-push_item.ensures in
+    let pushed = c.in_ok-push_item-in-Some.ensures in
     record {
       all = all_more look c.args.fixits.now l.fixit-index c.fixit-item.result c.loop-fixit-test.true c.fixit-item.is
           (is_found ground) l.invariant.all (search rules);

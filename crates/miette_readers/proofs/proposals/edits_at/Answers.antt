@@ -23,7 +23,7 @@ loop-span-preserved g c =
     let l = c.loop-span in
     let look = λ (v : Bor Value). view v.now in
     let found : edit_at files (view c.span-item.result.now) ≡ Some c.in-Some.edit = search rules in
-    let pushed = c.in_ok-push_item.ensures in
+    let pushed = c.in_ok-push_item-in-Some.ensures in
     record {
       all = all_more look c.args.spans.now l.span-index c.span-item.result c.loop-span-test.true c.span-item.is
           (is_found files) l.invariant.all (search rules);

@@ -1,4 +1,4 @@
-use Rattle.std.proofs.Common.{ap, ap₂, map, set, ◌++◌, ◌∙◌, append-nil}
+use Rattle.std.proofs.Common.{ap, ap₂, map, set, sym, ◌++◌, ◌∙◌, append-nil}
 use Rattle.std.proofs.lemmas.List.{drop_all, take_all}
 use Rattle.std.proofs.lemmas.List.Edits.{map_over_more}
 use Rattle.miette_readers.specs.rules.Settling.{told_again}
@@ -9,6 +9,7 @@ loop-mark-preserved c =
     let l = c.loop-mark in
     let again = told_again c.args.name.now c.args.stretch c.args.told.now in
     ap (λ m. set l.marks l.mark-index m) c.in_ok-tell_again.ensures
+    ∙ ap (λ m. set l.marks l.mark-index (again m)) (sym c.mark-item.is)
     ∙ map_over_more again c.args.marks.now l.marks l.mark-index c.mark-item.result c.loop-mark-test.true l.invariant
     c.mark-item.is
 
