@@ -1,6 +1,6 @@
 //! The reports of what a value says.
 
-ghost use Rattle.std.specs.Prelude.{◌≡◌, Err, IfOk, None, Some, map, true};
+ghost use Rattle.std.specs.Prelude.{◌≡◌, ◌∷◌, [], Err, IfOk, None, Some, map, true};
 ghost use Rattle.std.specs.List.{All};
 ghost use Rattle.serde_json.specs.View.{view};
 ghost use Rattle.miette_tree.specs.rules.Reads.{AlwaysReads, report_accepted};
@@ -19,7 +19,7 @@ use miette_readers::lists::push_item;
 use miette_readers::rustc::{ReadError, rustc_report};
 use miette_tree::report::Report;
 use serde_json::Value;
-use std::alloc::Global;
+use std::alloc::{AllocError, Global};
 
 /// Whether a value is read as GCC's.
 fn is_gcc(from: Format, value: &Value) -> bool
@@ -30,6 +30,15 @@ fn is_gcc(from: Format, value: &Value) -> bool
         Format::Rustc => false,
         Format::Gcc => true,
     }
+}
+
+/// A list of one item.
+fn alone<T: Drop>(alloc: Global, item: T) -> Result<Vec<T>, AllocError>
+    ensures { IfOk result (λ list. list.items ≡ item ∷ []) }
+{
+    let mut list = Vec::new(alloc);
+    push_item(&mut list, item)?;
+    Ok(list)
 }
 
 /// The report of a message of rustc, as a list; none of another row of rustc or cargo.
@@ -43,13 +52,11 @@ fn rustc_reports<'f, F: Files>(
         list.items)) }
     ensures message { (result ≡ Err ReadError.NoMessage) → rustc_trees (F.found files.now) (view value.now) ≡ None }
 {
-    let mut list = Vec::new(alloc);
     match rustc_report(alloc, files, value) {
-        Ok(Some(report)) => push_item(&mut list, report)?,
-        Ok(None) => {}
-        Err(error) => return Err(error),
+        Ok(Some(report)) => Ok(alone(alloc, report)?),
+        Ok(None) => Ok(Vec::new(alloc)),
+        Err(error) => Err(error),
     }
-    Ok(list)
 }
 
 /// The reports of what a value says over files that were looked for.
