@@ -1,3 +1,4 @@
+pub mod Arrays
 pub mod Endings
 pub mod Events
 pub mod Laws

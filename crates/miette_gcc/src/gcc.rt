@@ -5,7 +5,7 @@ ghost use Rattle.std.specs.List.{list_all};
 ghost use Rattle.serde_json.specs.View.{view};
 ghost use Rattle.miette_readers.specs.views.Values.{viewed};
 ghost use Rattle.miette_tree.specs.views.Report.{tree_of};
-ghost use Rattle.miette_gcc.specs.rules.GccReport.{diagnostic_tree, gcc_trees, has_message, report_by};
+ghost use Rattle.miette_gcc.specs.rules.GccReport.{all_trees, diagnostic_tree, gcc_trees, has_message, report_by};
 ghost use Rattle.miette_gcc.specs.views.Grounds.{ground_in};
 
 use crate::points::Ground;
@@ -89,6 +89,25 @@ fn push_reports<'f, D: Diagnostic, F: Files>(
     Ok(())
 }
 
+/// The reports of diagnostics, where each says something.
+fn all_reports<'f, D: Diagnostic, F: Files>(
+    alloc: Global,
+    files: &'f F,
+    diagnostics: &[Value],
+) -> Result<Vec<Report<D, LentFile<'f>>>, ReadError>
+    ensures ok { IfOk result (λ list. all_trees (F.found files.now) (viewed diagnostics.now)
+        ≡ Some (map (tree_of D.meaning ⟦<LentFile<'f> as SourceCode>⟧.source) list.items)) }
+    ensures message { (result ≡ Err ReadError.NoMessage)
+        → all_trees (F.found files.now) (viewed diagnostics.now) ≡ None }
+{
+    if !all_say(diagnostics) {
+        return Err(ReadError::NoMessage);
+    }
+    let mut list = Vec::new(alloc);
+    push_reports(&mut list, alloc, files, diagnostics)?;
+    Ok(list)
+}
+
 /// The reports of what GCC writes (`-fdiagnostics-format=json`): one of each diagnostic of the array, over files that
 /// are looked up by the names that it gives them.
 ///
@@ -103,11 +122,8 @@ pub fn gcc_reports<'f, D: Diagnostic, F: Files>(
         ≡ Some (map (tree_of D.meaning ⟦<LentFile<'f> as SourceCode>⟧.source) list.items)) }
     ensures message { (result ≡ Err ReadError.NoMessage) → gcc_trees (F.found files.now) (view value.now) ≡ None }
 {
-    let diagnostics = value.as_array().ok_or(ReadError::NoMessage)?;
-    if !all_say(diagnostics.as_slice()) {
-        return Err(ReadError::NoMessage);
+    match value.as_array() {
+        Some(diagnostics) => all_reports(alloc, files, diagnostics.as_slice()),
+        None => Err(ReadError::NoMessage),
     }
-    let mut list = Vec::new(alloc);
-    push_reports(&mut list, alloc, files, diagnostics.as_slice())?;
-    Ok(list)
 }
