@@ -1,6 +1,6 @@
 -- The reports of rustc's messages always read, over files that do.
-use Rattle.std.proofs.Common.{◌≡◌, ℕ, List, [], ◌∷◌, Option, Some, None, option_map, IfSome, codes}
-use Rattle.std.specs.Prelude.{⊤, if◌then◌else◌, option_and_then}
+use Rattle.std.proofs.Common.{ℕ, List, [], ◌∷◌, Option, Some, None, option_map, IfSome, codes}
+use Rattle.std.specs.Prelude.{option_and_then}
 use Rattle.std.specs.List.{filter_map, list_all}
 use Rattle.serde_json.specs.Data.{Data}
 use Rattle.miette_protocol.specs.rules.Reading.{Source}

@@ -2,7 +2,7 @@
 use Rattle.std.proofs.Common.{◌≡◌, ◌⊎◌, ℕ, zero, suc, ◌+◌, ◌<◌, List, [], ◌∷◌, ◌++◌, Option, Some, None, Bool, true}
 use Rattle.std.proofs.Common.{false, arith, length, map, filter, codes, get_or, refl, sym, ap, subst, ◌∙◌, inl, inr}
 use Rattle.std.proofs.Common.{append_assoc, append-nil}
-use Rattle.std.specs.Prelude.{◌==◌, ◌&&◌, ◌||◌, if◌then◌else◌, bytes_eq, decimal}
+use Rattle.std.specs.Prelude.{◌&&◌, ◌||◌, if◌then◌else◌, bytes_eq, decimal}
 use Rattle.std.specs.List.{Any, Contains, flat_map, fold, list_any}
 use Rattle.std.proofs.lemmas.Bool.{eq-eqb, or_cases}
 use Rattle.std.proofs.lemmas.Slice.Eq.{bytes_eq-Decides}
@@ -54,7 +54,7 @@ has_each P Q each (x ∷ xs) (inr h) = inr (has_each P Q each xs h)
 has_by : {X : Type 0} (p : X → Bool) (xs : List X) → list_any p xs ≡ true → Has (λ x. p x ≡ true) xs
 has_by p [] e = cc
 has_by p (x ∷ xs) e =
-    elim (or_cases (p x) (list_any p xs) e) [ | inl here ↦ inl here | inr there ↦ inr (has_by p xs there) ]
+    elim (or_cases (p x) (list_any p xs) e) [ inl here ↦ inl here | inr there ↦ inr (has_by p xs there) ]
 
 has_any : {X : Type 0} (P : X → Type 0) (xs : List X) → Has P xs → Any P xs
 has_any P [] h = absurd h
@@ -83,9 +83,11 @@ part_self : (row : List ℕ) → IsPart row row
 part_self row = ([], [], sym (append-nil row))
 
 part_before : (row text more : List ℕ) → IsPart row text → IsPart row (text ++ more)
-part_before row text more h =
-    (h.0, h.1 ++ more,
-    ap (λ t. t ++ more) h.2 ∙ append_assoc h.0 (row ++ h.1) more ∙ ap (λ t. h.0 ++ t) (append_assoc row h.1 more))
+part_before row text more h = (
+  h.0,
+  h.1 ++ more,
+  ap (λ t. t ++ more) h.2 ∙ append_assoc h.0 (row ++ h.1) more ∙ ap (λ t. h.0 ++ t) (append_assoc row h.1 more),
+)
 
 part_behind : (row front text : List ℕ) → IsPart row text → IsPart row (front ++ text)
 part_behind row front text h =

@@ -1,4 +1,4 @@
-use Rattle.std.proofs.Common.{◌≡◌, List, ◌++◌, take, String, Global}
+use Rattle.std.proofs.Common.{◌≡◌, ◌++◌, take}
 use Rattle.serde_json.specs.View.{items_view, members_view}
 use Rattle.miette_readers.specs.rules.Names.{names_among, names_in}
 use Rattle.miette_readers.specs.views.Values.{texts}
