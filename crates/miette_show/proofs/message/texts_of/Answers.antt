@@ -1,4 +1,5 @@
-use Rattle.std.proofs.Common.{map, string_bytes, take, refl, arith}
+use Rattle.std.proofs.Common.{◌≡◌, true, refl, arith, rules}
+use Rattle.miette_tree.specs.rules.Reads.{AlwaysReads, report_accepted}
 use Rattle.miette_tree.specs.views.Report.{tree_of}
 use Rattle.miette_report.proofs.HighlighterSteps.{led-nowhere, led-on}
 use Rattle.miette_report.proofs.JobHandlerSteps.{stays-itself, stays-on}
@@ -17,10 +18,10 @@ push_text-requires g c =
     let l = c.loop-report in
     let tree = tree_of g.D.Diagnostic.meaning g.S.SourceCode.source in
     record {
-      reads = item_holds _ tree c.args.reports.now l.report-index c.report-item.result c.loop-report-test.true
+      reads = item_holds AlwaysReads tree c.args.reports.now l.report-index c.report-item.result c.loop-report-test.true
           c.report-item.is c.requires.reads;
-      accepted = item_holds _ tree c.args.reports.now l.report-index c.report-item.result c.loop-report-test.true
-          c.report-item.is c.requires.accepted;
+      accepted = item_holds (λ t. report_accepted t ≡ true) tree c.args.reports.now l.report-index c.report-item.result
+          c.loop-report-test.true c.report-item.is c.requires.accepted;
     }
 
 pub loop-report-preserved : goal.loop-report-preserved
