@@ -1,5 +1,5 @@
 pub mod Arrays
 pub mod Endings
 pub mod Events
-pub mod Laws
+pub mod Reports
 pub mod Steps

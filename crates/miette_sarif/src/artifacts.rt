@@ -27,7 +27,7 @@ use std::alloc::{AllocError, Global};
 
 /// The sources without a name, by their numbers, and the uris.
 #[derive(Drop)]
-pub(crate) struct Artifacts {
+pub struct Artifacts {
     untitled: IndexSet<usize>,
     uris: IndexSet<String>,
 }
@@ -176,7 +176,7 @@ fn artifacts_of(alloc: Global, names: &[Named<'_>]) -> Result<Artifacts, AllocEr
 }
 
 /// The artifacts of findings.
-pub(crate) fn artifacts_in(alloc: Global, findings: &[Finding<'_>]) -> Result<Artifacts, AllocError>
+pub fn artifacts_in(alloc: Global, findings: &[Finding<'_>]) -> Result<Artifacts, AllocError>
     ensures { IfOk result (λ it. artifacts_view it ≡ artifacts_in (all_named (findings_of findings.now))) }
 {
     let mut names = Vec::new(alloc);
@@ -214,6 +214,14 @@ fn located_at(alloc: Global, uri: String, index: usize) -> Result<Value, AllocEr
 }
 
 impl Artifacts {
+    /// The uri of a source.
+    pub fn uri(&self, alloc: Global, source: Named<'_>) -> Result<String, AllocError>
+        ensures { IfOk result (λ uri. string_bytes uri ≡ uri_of (artifacts_view self.now).untitled
+            (name_of source.entry)) }
+    {
+        uri_of(alloc, &self.untitled, &source)
+    }
+
     /// `{"uri": "a.rs","index": 0}`: a source by its uri, and by the index of the artifact that has it.
     pub(crate) fn located(&self, alloc: Global, source: Named<'_>) -> Result<Value, AllocError>
         ensures { IfOk result (λ value. json_of value ≡ located (artifacts_view self.now) (name_of source.entry)) }

@@ -237,6 +237,7 @@ pub(crate) fn proposal_over<'a>(
     };
     Ok(Some(Proposal {
         message: fix.message(),
+        applicability: fix.applicability(),
         source: seen.source,
         replacements,
     }))

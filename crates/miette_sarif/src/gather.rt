@@ -407,7 +407,7 @@ fn gather_all<'a, D: Diagnostic, S: SourceCode>(
 }
 
 /// The findings of reports.
-pub(crate) fn findings_of<'a, D: Diagnostic, S: SourceCode>(
+pub fn findings_of<'a, D: Diagnostic, S: SourceCode>(
     alloc: Global,
     reports: &'a [Report<D, S>],
 ) -> Result<Vec<Finding<'a>>, AllocError>
@@ -423,7 +423,7 @@ pub(crate) fn findings_of<'a, D: Diagnostic, S: SourceCode>(
 }
 
 /// The findings of one report.
-pub(crate) fn findings_in<'a, D: Diagnostic, S: SourceCode>(
+pub fn findings_in<'a, D: Diagnostic, S: SourceCode>(
     alloc: Global,
     report: &'a Report<D, S>,
 ) -> Result<Vec<Finding<'a>>, AllocError>

@@ -1,21 +1,21 @@
 //! The SARIF report: a log of static analysis (OASIS, version 2.1.0), its text and the value that it denotes.
 #![tactic(auto)]
 
-mod artifacts;
+pub mod artifacts;
 mod edits;
-mod finding;
-mod gather;
+pub mod finding;
+pub mod gather;
 pub mod handler;
 mod labels;
 mod log;
 mod message;
 mod places;
-mod results;
+pub mod results;
 mod rules;
 mod seen;
 mod texts;
-mod uri;
-mod value;
+pub mod uri;
+pub mod value;
 mod whole;
 pub mod worked;
-mod write;
+pub mod write;

@@ -230,8 +230,8 @@ fn fix_value(alloc: Global, artifacts: &Artifacts, fix: &Proposal<'_>) -> Result
     Ok(object_value(members))
 }
 
-// Adds a value, where no equal one was before.
-fn push_first(
+/// Adds a value, where no equal one was before: `spelled` has the texts of those that were.
+pub fn push_first(
     alloc: Global,
     list: &mut Vec<Value>,
     spelled: &mut IndexSet<String>,

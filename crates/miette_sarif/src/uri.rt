@@ -76,7 +76,7 @@ fn after_scheme(bytes: &[u8]) -> Option<&[u8]>
 }
 
 /// Whether a text is an absolute address: a scheme, and `:`.
-pub(crate) fn is_absolute(text: &str) -> bool
+pub fn is_absolute(text: &str) -> bool
     ensures { result ≡ is_absolute text.now }
 {
     after_scheme(text.as_bytes()).is_some()
@@ -193,7 +193,7 @@ pub(crate) fn name_uri(alloc: Global, name: &str) -> Result<String, AllocError>
 }
 
 /// An address as a URI.
-pub(crate) fn address_uri(alloc: Global, address: &str) -> Result<String, AllocError>
+pub fn address_uri(alloc: Global, address: &str) -> Result<String, AllocError>
     ensures { IfOk result (λ uri. string_bytes uri ≡ address_uri address.now) }
 {
     let mut uri = String::new(alloc);

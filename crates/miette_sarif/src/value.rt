@@ -9,7 +9,7 @@ use std::alloc::{AllocError, Global};
 
 /// A value over whole numbers, texts, lists and objects.
 #[derive(Drop)]
-pub(crate) enum Value {
+pub enum Value {
     Number(usize),
     Text(String),
     List(Vec<Value>),
@@ -17,24 +17,24 @@ pub(crate) enum Value {
 }
 
 /// The members of an object, in order.
-pub(crate) type Members = Vec<(&'static str, Value)>;
+pub type Members = Vec<(&'static str, Value)>;
 
 /// A number.
-pub(crate) fn number_value(n: usize) -> Value
+pub fn number_value(n: usize) -> Value
     ensures { json_of result ≡ number n }
 {
     Value::Number(n)
 }
 
 /// A text that is owned.
-pub(crate) fn owned_value(text: String) -> Value
+pub fn owned_value(text: String) -> Value
     ensures { json_of result ≡ string (string_bytes text) }
 {
     Value::Text(text)
 }
 
 /// A text.
-pub(crate) fn text_value(alloc: Global, text: &str) -> Result<Value, AllocError>
+pub fn text_value(alloc: Global, text: &str) -> Result<Value, AllocError>
     ensures { IfOk result (λ value. json_of value ≡ string text.now) }
 {
     let text = String::from_str(alloc, text)?;
@@ -42,14 +42,14 @@ pub(crate) fn text_value(alloc: Global, text: &str) -> Result<Value, AllocError>
 }
 
 /// A list.
-pub(crate) fn list_value(items: Vec<Value>) -> Value
+pub fn list_value(items: Vec<Value>) -> Value
     ensures { json_of result ≡ array_of (values_of items.items) }
 {
     Value::List(items)
 }
 
 /// Appends a value to a list.
-pub(crate) fn push_item(list: &mut Vec<Value>, value: Value) -> Result<(), AllocError>
+pub fn push_item(list: &mut Vec<Value>, value: Value) -> Result<(), AllocError>
     ensures { OnOk result (values_of list.new.items ≡ values_of list.old.items ++ json_of value ∷ []) }
 {
     list.push(value)?;
@@ -57,7 +57,7 @@ pub(crate) fn push_item(list: &mut Vec<Value>, value: Value) -> Result<(), Alloc
 }
 
 /// A list with one item.
-pub(crate) fn list_of_one(alloc: Global, value: Value) -> Result<Vec<Value>, AllocError>
+pub fn list_of_one(alloc: Global, value: Value) -> Result<Vec<Value>, AllocError>
     ensures { IfOk result (λ list. values_of list.items ≡ json_of value ∷ []) }
 {
     let mut list = Vec::new(alloc);
@@ -66,14 +66,14 @@ pub(crate) fn list_of_one(alloc: Global, value: Value) -> Result<Vec<Value>, All
 }
 
 /// An object.
-pub(crate) fn object_value(members: Members) -> Value
+pub fn object_value(members: Members) -> Value
     ensures { json_of result ≡ object_of (pairs_of members.entry.items) }
 {
     Value::Object(members)
 }
 
 /// A member after those that were there.
-pub(crate) fn with_member(
+pub fn with_member(
     mut members: Members,
     key: &'static str,
     value: Value,
@@ -85,7 +85,7 @@ pub(crate) fn with_member(
 }
 
 /// A member with a text after those that were there.
-pub(crate) fn with_text(
+pub fn with_text(
     alloc: Global,
     members: Members,
     key: &'static str,
@@ -98,7 +98,7 @@ pub(crate) fn with_text(
 }
 
 /// A member with a list after those that were there, where the list has an item.
-pub(crate) fn with_list(
+pub fn with_list(
     members: Members,
     key: &'static str,
     items: Vec<Value>,
@@ -113,7 +113,7 @@ pub(crate) fn with_list(
 }
 
 /// An object with a text as its one member.
-pub(crate) fn single_text(alloc: Global, key: &'static str, text: &str) -> Result<Value, AllocError>
+pub fn single_text(alloc: Global, key: &'static str, text: &str) -> Result<Value, AllocError>
     ensures { IfOk result (λ whole. json_of whole ≡ object_of (pair key.now (string text.now))) }
 {
     let members = with_text(alloc, Vec::new(alloc), key, text)?;
@@ -121,7 +121,7 @@ pub(crate) fn single_text(alloc: Global, key: &'static str, text: &str) -> Resul
 }
 
 /// An object with one member.
-pub(crate) fn single(alloc: Global, key: &'static str, value: Value) -> Result<Value, AllocError>
+pub fn single(alloc: Global, key: &'static str, value: Value) -> Result<Value, AllocError>
     ensures { IfOk result (λ whole. json_of whole ≡ object_of (pair key.now (json_of value))) }
 {
     let members = with_member(Vec::new(alloc), key, value)?;

@@ -10,7 +10,7 @@ use miette_json::text::push_quoted;
 use std::alloc::{AllocError, Global};
 
 /// The spelling of a value.
-pub(crate) fn text_of(alloc: Global, value: &Value) -> Result<String, AllocError>
+pub fn text_of(alloc: Global, value: &Value) -> Result<String, AllocError>
     ensures { IfOk result (λ text. string_bytes text ≡ json_text (json_of value.now)) }
 {
     let mut text = String::new(alloc);

@@ -1,5 +1,6 @@
 -- What a log tells of a report, before sources and rules have their numbers.
 use Rattle.std.specs.Prelude.{ℕ, List, Option}
+use Rattle.miette_fixes.specs.declared.applicability.Applicability.{Applicability}
 use Rattle.miette_positions.specs.declared.place.Stretch.{Stretch}
 
 -- which source: its name, empty where it has none, and how many sources were read before it
@@ -35,6 +36,7 @@ pub record Replaced : Type 0 where
 -- a fix that can be applied
 pub record Proposed : Type 0 where
   pub message : List ℕ
+  pub applicability : Applicability
   pub source : SourceName
   pub replacements : List Replaced
 

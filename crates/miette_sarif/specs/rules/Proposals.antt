@@ -66,7 +66,12 @@ abbrev pub proposed : SourceName → Proposal → Option (List Replaced) → Opt
 proposed name fix None = None
 proposed name fix (Some replaced) =
     if is_nil fix.edits then None
-    else Some (record { message = fix.message; source = name; replacements = replaced })
+    else Some (record {
+      message = fix.message;
+      applicability = fix.applicability;
+      source = name;
+      replacements = replaced;
+    })
 
 abbrev pub proposal_in : SourceName → Option (List ℕ) → Proposal → Option Proposed
 proposal_in name None fix = None

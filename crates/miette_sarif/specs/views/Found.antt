@@ -30,6 +30,7 @@ replaced_of it = record { deleted = it.deleted; text = string_bytes it.text }
 abbrev pub proposed_of : Proposal → Proposed
 proposed_of it = record {
   message = it.message.now;
+  applicability = it.applicability;
   source = name_of it.source;
   replacements = map replaced_of it.replacements.items;
 }

@@ -1,4 +1,4 @@
-use Rattle.miette_gcc.proofs.Laws.{gcc_keeps}
+use Rattle.miette_gcc.proofs.Reports.{gcc_keeps}
 use Rattle.miette_gcc.proofs.laws.rows_are_kept.Goals as goal
 
 pub returns : goal.returns

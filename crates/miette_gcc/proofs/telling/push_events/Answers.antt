@@ -1,4 +1,4 @@
-use Rattle.std.proofs.Common.{◌≡◌, Bor, arith, rules}
+use Rattle.std.proofs.Common.{◌≡◌, Bor, rules}
 use Rattle.serde_json.specs.View.{view}
 use Rattle.serde_json.specs.declared.value.Value.{Value}
 use Rattle.miette_gcc.specs.rules.Gcc.{event_told}

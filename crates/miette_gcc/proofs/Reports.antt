@@ -1,6 +1,6 @@
 -- The reports of what GCC writes always read, over files that do, their labels are accepted, and what is told is kept.
 use Rattle.std.proofs.Common.{◌≡◌, ℕ, List, [], ◌∷◌, Option, Some, None, option_map, All, IfSome, true, map}
-use Rattle.std.specs.Prelude.{⊤, if◌then◌else◌, option_and_then}
+use Rattle.std.specs.Prelude.{option_and_then}
 use Rattle.std.specs.List.{Contains, filter_map, list_all}
 use Rattle.std.proofs.lemmas.List.Elements.{All-nil, All-cons}
 use Rattle.serde_json.specs.Data.{Data, Items}
@@ -15,7 +15,7 @@ use Rattle.miette_readers.specs.rules.Proposing.{FileEdit}
 use Rattle.miette_readers.specs.rules.Settling.{found_place}
 use Rattle.miette_readers.proofs.Accepted.{report_accepts}
 use Rattle.miette_readers.proofs.Kept.{report_keeps}
-use Rattle.miette_readers.proofs.ReportsRead.{EditsRead, FilesRead, OffersRead, Reads, either, found_reads, more_edits}
+use Rattle.miette_readers.proofs.ReportsRead.{EditsRead, FilesRead, OffersRead, either, found_reads, more_edits}
 use Rattle.miette_readers.proofs.ReportsRead.{more_offers, place_reads, report_reads}
 use Rattle.miette_gcc.specs.rules.Gcc.{Ground, told_of}
 use Rattle.miette_gcc.specs.rules.GccReport.{all_found, all_trees, diagnostic_tree, edit_at, fixit_place, fixits_of}
