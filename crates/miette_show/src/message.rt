@@ -1,6 +1,7 @@
 //! What is shown of a row.
 
-ghost use Rattle.std.specs.Prelude.{◌≡◌, IfOk, IfSome, IsUtf8, None, OnErr, OnOk, Some, map, string_bytes, true};
+ghost use Rattle.std.specs.Prelude.{◌≡◌, ◌||◌, IfOk, IfSome, IsUtf8, None, OnErr, OnOk, Some, map, string_bytes};
+ghost use Rattle.std.specs.Prelude.{true};
 ghost use Rattle.std.specs.List.{All};
 ghost use Rattle.serde_json.specs.Read.{read};
 ghost use Rattle.serde_json.specs.View.{view};
@@ -116,6 +117,13 @@ fn push_text<H: Highlighter, D: Diagnostic, S: SourceCode>(
     Ok(error)
 }
 
+/// Whether one of the two holds.
+fn either(one: bool, other: bool) -> bool
+    ensures { result ≡ (one || other) }
+{
+    one || other
+}
+
 /// The texts of reports whose labels are accepted, with an empty row behind each; whether one is an error.
 fn texts_of<H: Highlighter, D: Diagnostic, S: SourceCode>(
     alloc: Global,
@@ -134,7 +142,7 @@ fn texts_of<H: Highlighter, D: Diagnostic, S: SourceCode>(
     let mut error = false;
     for report in reports {
         let grave = push_text(&mut text, alloc, handler, report)?;
-        error = error || grave;
+        error = either(error, grave);
     }
     Ok((error, text))
 }
