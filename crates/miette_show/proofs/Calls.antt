@@ -4,7 +4,7 @@ use Rattle.std.specs.Prelude.{⊤}
 use Rattle.miette.specs.rules.Options.{Options}
 use Rattle.miette_protocol.specs.rules.Reading.{Source}
 use Rattle.miette_style.specs.declared.theme.Terminal.{Terminal}
-use Rattle.miette_report.proofs.JobHandlerSteps.{asked-refusal, asked-text}
+use Rattle.miette_report.proofs.JobHandlerSteps.{asked-text}
 use Rattle.miette_report.specs.rules.Job.{IsJobText}
 use Rattle.miette_report.specs.rules.OptionWords.{AreWanted}
 use Rattle.miette_report.specs.rules.LanguageRules.{TokensFollow}

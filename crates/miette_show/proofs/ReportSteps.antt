@@ -1,8 +1,8 @@
 -- Reports of a value, and their texts, one after another.
-use Rattle.std.proofs.Common.{◌≡◌, ℕ, zero, suc, ◌+◌, ◌<◌, ◌≤◌, List, [], ◌∷◌, ◌++◌, Option, Some, None, Bool, true}
-use Rattle.std.proofs.Common.{false, length, get_or, take, map, All, IfOk, IfSome, Ok, Err, Result, arith, refl, sym}
+use Rattle.std.proofs.Common.{◌≡◌, ℕ, zero, suc, ◌+◌, ◌<◌, ◌≤◌, List, [], ◌∷◌, Option, Some, None, Bool, true}
+use Rattle.std.proofs.Common.{false, length, get_or, take, map, All, IfOk, IfSome, Ok, Err, Result, arith, sym}
 use Rattle.std.proofs.Common.{ap, subst, ◌∙◌}
-use Rattle.std.specs.Prelude.{◌||◌, if◌then◌else◌, is_some, option_map}
+use Rattle.std.specs.Prelude.{◌||◌, if◌then◌else◌, option_map}
 use Rattle.std.proofs.lemmas.List.{map-append, take_all}
 use Rattle.std.proofs.lemmas.List.Elements.{All-nil, All-cons}
 use Rattle.serde_json.specs.Data.{Data}

@@ -1,5 +1,4 @@
 use Rattle.serde_json.specs.View.{view}
-use Rattle.miette_tree.specs.views.Report.{tree_of}
 use Rattle.miette_show.proofs.ReportSteps.{reports_hold}
 use Rattle.miette_show.proofs.reports.reports_of.Goals as goal
 
