@@ -2,8 +2,7 @@
 made without the programs.
 
 `report_of` gives the report as `job` reads one (docs/RULES.md, 'Programs', 'Descriptions'), by the row as it was parsed
-and the texts of files by their names. tree_model.py draws it. `shown_of` says what `show` makes of a row of bytes."""
-import json
+and the texts of files by their names. tree_model.py draws it."""
 from typing import NamedTuple, Optional
 
 CALLS = {"#[derive(": "in this derive macro expansion", "#[": "in this attribute macro expansion"}
@@ -293,23 +292,3 @@ def report_of(row, files):
     report["causes"] = settled.texts
     rows = helps(message, settled)
     return {**report, **({"help": "\n".join(rows)} if rows else {})}
-
-
-# ---- rows of bytes
-
-
-def refused(name):
-    raise ValueError(name)
-
-
-def shown_of(row, files, draw):
-    """What is shown of a row, as `draw` draws reports; whether it can't be read, and whether it is an error."""
-    if not row.startswith(b'{"'):
-        return row, False, False
-    try:
-        report = report_of(json.loads(row.decode(), parse_constant=refused), files)
-    except (ValueError, RecursionError, NoMessage):
-        return row, True, False
-    if report is None:
-        return b"", False, False
-    return draw(report).encode() + b"\n", False, report["severity"] == "error"

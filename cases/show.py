@@ -1,23 +1,25 @@
 #!/usr/bin/env python3
-"""show.py: runs the built program `show` on what rustc wrote (`rustc/`), and compares it with the model of
-readers_model.py, whose reports tree_model.py draws.
+"""show.py: runs the built program `show` on what rustc and GCC wrote (`rustc/`, `gcc/`), and compares it with the model
+of show_model.py, whose reports tree_model.py draws.
 
 The recorded rows are tried as they are, as cargo wraps them, cut at every 50th byte, with members removed or of other
-types, offsets that are off or behind the end, other files, files that are gone or shorter. Where rustc is installed, it
-is run anew. `--many` reads 100,000 messages, and looks at the memory. The last line is 'N passed, M failed', and the
-exit status is 0 only where nothing failed."""
+types, offsets, lines and columns that are off or behind the end, other files, files that are gone or shorter. Where
+rustc and gcc are installed, they are run anew. `--many` reads 100,000 messages, and looks at the memory. The last line
+is 'N passed, M failed', and the exit status is 0 only where nothing failed."""
 import copy
 import json
 import os
 import random
+import re
 import shutil
 import subprocess
 import sys
 import tempfile
 
+import gcc_cases
 import size_runs
 from programs import HERE, counted, program, run
-from readers_model import shown_of
+from show_model import shown_of
 from tree_model import Page, whole_picture
 
 FOLDER = os.path.join(HERE, "rustc")
@@ -37,9 +39,19 @@ def files_in(folder):
     """The sources in a folder, by their names."""
     files = {}
     for name in os.listdir(folder):
-        if name.endswith(".rs"):
+        if name.endswith((".rs", ".c", ".h")):
             with open(os.path.join(folder, name), "rb") as file:
                 files[name] = file.read()
+    return files
+
+
+def named_in(given):
+    """The files whose names begin with `/` in what is read."""
+    files = {}
+    for name in re.findall(rb'"file(?:_name)?": ?"(/[^"\\]*)"', given):
+        if os.path.isfile(name):
+            with open(name, "rb") as file:
+                files[name.decode()] = file.read()
     return files
 
 
@@ -55,12 +67,12 @@ def rows_of(given):
     return [it + b"\n" for it in rows[:-1]] + ([rows[-1]] if rows[-1] else [])
 
 
-def wanted(given, files):
-    """Status, standard output and standard error, row by row."""
-    page = Page(120)
+def wanted(given, files, form):
+    """Status, standard output and standard error, row by row, of what is read in a format."""
+    page, files = Page(120), {**files, **named_in(given)}
     shown, notes, unread, error = [], [], False, False
     for number, row in enumerate(rows_of(given), 1):
-        text, bad, grave = shown_of(row, files, lambda report: whole_picture(report, page))
+        text, bad, grave = shown_of(row, files, lambda report: whole_picture(report, page), form)
         shown.append(text)
         notes += [f"show: row {number}: no message that can be read\n".encode()] if bad else []
         unread, error = unread or bad, error or grave
@@ -144,7 +156,7 @@ def of_cargo(name):
 
 
 def inputs(folder):
-    """What is read, with the folder of its files."""
+    """What is read of rustc and cargo, with the folder of its files."""
     for name in NAMES:
         given = recorded(name)
         yield f"{name} as recorded", given, FOLDER
@@ -154,28 +166,33 @@ def inputs(folder):
         yield f"{name} over files that are gone or shorter", given, folder
     yield "rows that can't be read", b"".join(CHATTER + BAD + OTHER + [b'{"message":"m","level":"error"}']), FOLDER
     yield "rows that are changed", hostile(random.Random(7), 1000), folder
+    yield "both compilers, and a build's own rows", of_cargo("multi") + gcc_cases.recorded("leak"), FOLDER
     yield "nothing", b"", FOLDER
 
 
-def tried(folder, what, given, root):
-    """Whether the program and the model agree, below a root and in its folder."""
-    want = wanted(given, files_in(root))
-    elsewhere = run(["show", "--root", root, "--from", "rustc", *WORDS], given, cwd=folder)
-    there = run(["show", *WORDS], given, cwd=root)
-    for got in (elsewhere, there):
-        if got != want:
-            print(f"{what}: status {got[0]}, wanted {want[0]}")
-            at = next((i for i, (a, b) in enumerate(zip(got[1], want[1])) if a != b), min(len(got[1]), len(want[1])))
-            near = slice(max(0, at - 300), at + 200)
-            print(f"  got    .. {got[1][near]!r}\n  wanted .. {want[1][near]!r}")
-            print(f"  standard error {got[2][-300:]!r}, wanted {want[2][-300:]!r}")
-    return elsewhere == want and there == want
+def told_apart(what, form, got, want):
+    """Whether a run is as the model says; where it isn't, what differs is printed."""
+    if got != want:
+        print(f"{what}, as {form}: status {got[0]}, wanted {want[0]}")
+        at = next((i for i, (a, b) in enumerate(zip(got[1], want[1])) if a != b), min(len(got[1]), len(want[1])))
+        near = slice(max(0, at - 300), at + 200)
+        print(f"  got    .. {got[1][near]!r}\n  wanted .. {want[1][near]!r}")
+        print(f"  standard error {got[2][-300:]!r}, wanted {want[2][-300:]!r}")
+    return got == want
+
+
+def tried(folder, what, given, root, form="rustc"):
+    """Whether the program and the model agree, in a format below a root, and told apart in its folder."""
+    named = ["show", "--root", root, "--from", form, *WORDS]
+    elsewhere = told_apart(what, form, run(named, given, cwd=folder), wanted(given, files_in(root), form))
+    there = told_apart(what, "auto", run(["show", *WORDS], given, cwd=root), wanted(given, files_in(root), "auto"))
+    return elsewhere and there
 
 
 def words_tried():
     """Wrong words end with status 2 and say which are right, before anything is read."""
     usage = b"usage: show [--from rustc] [--root DIR] [OPTIONS]\n"
-    wrong = [["--from", "gcc"], ["--root"], ["--from"], ["--width"], ["x"], ["--brief", "--root", "."]]
+    wrong = [["--from", "clang"], ["--root"], ["--from"], ["--width"], ["x"], ["--brief", "--root", "."]]
     return [run(["show", *words], b'{"message":"m"}\n') == (2, b"", usage) for words in wrong]
 
 
@@ -191,15 +208,21 @@ def handlers_tried():
 
 
 def live_tried():
-    """What rustc writes now, where it is there."""
-    if shutil.which("rustc") is None:
-        return []
-    with tempfile.TemporaryDirectory() as folder:
-        for name in files_in(FOLDER):
-            shutil.copy(os.path.join(FOLDER, name), folder)
-        words = ["rustc", "--edition", "2021", "--error-format=json", "--emit=metadata", "multi.rs"]
-        given = subprocess.run(words, cwd=folder, capture_output=True, check=False).stderr
-        return [given != b"" and tried(folder, "rustc itself", given, folder)]
+    """What rustc and gcc write now, where they are there."""
+    runs = [
+        ("rustc", FOLDER, ["--edition", "2021", "--error-format=json", "--emit=metadata", "multi.rs"]),
+        ("gcc", gcc_cases.FOLDER, ["-Wall", "-fanalyzer", "-fdiagnostics-format=json", "-c", "broken.c", "leak.c"]),
+    ]
+    done = []
+    for compiler, sources, words in runs:
+        if shutil.which(compiler) is None:
+            continue
+        with tempfile.TemporaryDirectory() as folder:
+            for name in files_in(sources):
+                shutil.copy(os.path.join(sources, name), folder)
+            given = subprocess.run([compiler, *words], cwd=folder, capture_output=True, check=False).stderr
+            done.append(given != b"" and tried(folder, f"{compiler} itself", given, folder, compiler))
+    return done
 
 
 def most_memory(count):
@@ -229,7 +252,13 @@ def main(words):
         shutil.copy(os.path.join(FOLDER, "util.rs"), os.path.join(folder, "short.rs"))
         with open(os.path.join(folder, "borrow.rs"), "wb") as file:
             file.write(b"fn main() {\n    let")
+        for name in ("notes.c", "near.h", "ends.c"):
+            shutil.copy(os.path.join(gcc_cases.FOLDER, name), folder)
+        shutil.copy(os.path.join(gcc_cases.FOLDER, "leak.c"), os.path.join(folder, "short.c"))
+        with open(os.path.join(folder, "broken.c"), "wb") as file:
+            file.write(b"#include <stdio.h>\r\nstruct point {\rint x;\n  ")
         done = [tried(folder, *it) for it in inputs(folder)]
+        done += [tried(folder, *it, "gcc") for it in gcc_cases.inputs(folder)]
     done += words_tried() + handlers_tried() + live_tried() + memory_tried(100000 if "--many" in words else 10000)
     return counted(sum(done), len(done) - sum(done))
 

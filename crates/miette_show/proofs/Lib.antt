@@ -4,6 +4,7 @@ pub mod FolderSteps
 pub mod Going
 pub mod NoteEnds
 pub mod Progress
+pub mod ReportSteps
 pub mod RowEnds
 pub mod RowReading
 pub mod RowSteps

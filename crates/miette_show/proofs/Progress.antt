@@ -19,6 +19,7 @@ use Rattle.miette_show.specs.rules.Shown.{notes_from, text_of, verdict_of}
 use Rattle.miette_show.specs.views.Reading.{IsNextRow}
 use Rattle.miette_show.specs.declared.verdict.RowKind.{RowKind}
 use Rattle.miette_show.specs.declared.verdict.Verdict.{Verdict}
+use Rattle.miette_show.specs.declared.words.Format.{Format}
 use Rattle.miette_show.proofs.Beginnings.{all_taken, taken_then}
 use Rattle.miette_show.proofs.RowSteps.{RowsLeft, first_rows, rows_begin, rows_end, rows_more}
 
@@ -53,24 +54,26 @@ text_more : (ss : List Shown) (s : Shown) → text_of (ss ++ s ∷ []) ≡ text_
 text_more ss s = flat_map-append (λ (x : Shown). x.text) ss (s ∷ []) ∙ ap (λ l. text_of ss ++ l) (append-nil s.text)
 
 -- These rows were shown, what is left is left, and the writers took their texts and notes.
-pub record Progress (gives : Tree → List ℕ → Type 0) (found : (List ℕ → Option Source) → List (List ℕ) → Type 0)
-    (first left old new before after : Option (List ℕ)) (number : ℕ) (verdict : Verdict) : Type 0 where
+pub record Progress (from : Format) (gives : Tree → List ℕ → Type 0)
+    (found : (List ℕ → Option Source) → List (List ℕ) → Type 0) (first left old new before after : Option (List ℕ))
+    (number : ℕ) (verdict : Verdict) : Type 0 where
   pub shown : List Shown
   pub rows : RowsLeft first left (map row_of shown)
-  pub each : All (IsShown gives found) shown
+  pub each : All (IsShown from gives found) shown
   pub text : Appends old new (text_of shown)
   pub notes : Appends before after (notes_from 1 shown)
   pub count : number ≡ length shown + 1
   pub is : verdict ≡ verdict_of shown
 
-module _ (gives : Tree → List ℕ → Type 0) (found : (List ℕ → Option Source) → List (List ℕ) → Type 0) where
+module _ (from : Format) (gives : Tree → List ℕ → Type 0)
+    (found : (List ℕ → Option Source) → List (List ℕ) → Type 0) where
   pub begin : (first old before : Option (List ℕ)) (number : ℕ) (verdict : Verdict) → number ≡ 1
       → verdict ≡ record { unread = false; error = false }
-      → Progress gives found first first old old before before number verdict
+      → Progress from gives found first first old old before before number verdict
   begin first old before number verdict one none = record {
     shown = [];
     rows = rows_begin first;
-    each = All-nil (IsShown gives found);
+    each = All-nil (IsShown from gives found);
     text = Appends-nil old;
     notes = Appends-nil before;
     count = one;
@@ -79,11 +82,11 @@ module _ (gives : Tree → List ℕ → Type 0) (found : (List ℕ → Option So
 
   pub more : (first left next old new newer before after later : Option (List ℕ)) (number : ℕ) (verdict made : Verdict)
       (row : List ℕ) (kind : RowKind) (text : List ℕ) → 0 < length row
-      → Progress gives found first left old new before after number verdict → IsNextRow left next row
-      → IsShown gives found (record { row = row; kind = kind; text = text }) → Appends new newer text
+      → Progress from gives found first left old new before after number verdict → IsNextRow left next row
+      → IsShown from gives found (record { row = row; kind = kind; text = text }) → Appends new newer text
       → Appends after later (note_of number (kind_unread kind))
       → made ≡ record { unread = verdict.unread || kind_unread kind; error = verdict.error || kind_grave kind }
-      → Progress gives found first next old newer before later (number + 1) made
+      → Progress from gives found first next old newer before later (number + 1) made
   more first left next old new newer before after later number verdict made row kind text some p is_next is_shown took
       said with_it =
       let s : Shown = record { row = row; kind = kind; text = text } in
@@ -95,8 +98,8 @@ module _ (gives : Tree → List ℕ → Type 0) (found : (List ℕ → Option So
         shown = p.shown ++ s ∷ [];
         rows = subst (RowsLeft first next) (sym (map-append row_of p.shown (s ∷ [])))
             (rows_more first left next (map row_of p.shown) row some p.rows is_next);
-        each = All-append (IsShown gives found) p.shown (s ∷ []) p.each
-            (All-cons (IsShown gives found) s [] is_shown (All-nil (IsShown gives found)));
+        each = All-append (IsShown from gives found) p.shown (s ∷ []) p.each
+            (All-cons (IsShown from gives found) s [] is_shown (All-nil (IsShown from gives found)));
         text = subst (Appends old newer) (sym (text_more p.shown s))
             (Appends-trans old new newer (text_of p.shown) text p.text took);
         notes = subst (Appends before later) (sym (notes_more 1 p.shown s number counted))
@@ -108,15 +111,15 @@ module _ (gives : Tree → List ℕ → Type 0) (found : (List ℕ → Option So
       }
 
   pub end : (first left next old new before after : Option (List ℕ)) (number : ℕ) (verdict : Verdict) (row : List ℕ)
-      → row ≡ [] → Progress gives found first left old new before after number verdict → IsNextRow left next row
-      → IfSome first (λ bytes. Shows gives found bytes (λ text notes. Appends old new text × Appends before after notes)
-      verdict)
+      → row ≡ [] → Progress from gives found first left old new before after number verdict → IsNextRow left next row
+      → IfSome first (λ bytes. Shows from gives found bytes
+      (λ text notes. Appends old new text × Appends before after notes) verdict)
   end first left next old new before after number verdict row none p is_next =
       ended first (rows_end first left next (map row_of p.shown) row none p.rows is_next)
     where
       ended : (o : Option (List ℕ)) → IfSome o (λ bytes. map row_of p.shown ≡ rows_of bytes)
-          → IfSome o (λ bytes. Shows gives found bytes (λ text notes. Appends old new text × Appends before after notes)
-          verdict)
+          → IfSome o (λ bytes. Shows from gives found bytes
+          (λ text notes. Appends old new text × Appends before after notes) verdict)
       ended None e = tt
       ended (Some bytes) e = (p.shown, e, p.each, (p.text, p.notes), p.is)
 
@@ -124,15 +127,15 @@ module _ (gives : Tree → List ℕ → Type 0) (found : (List ℕ → Option So
 
   so_far : (first : Option (List ℕ)) (shown : List Shown) (holds : List ℕ → List ℕ → Type 0)
       → IfSome first (λ bytes. (others : List (List ℕ)) × (rows_of bytes ≡ map row_of shown ++ others))
-      → All (IsShown gives found) shown → holds (text_of shown) (notes_from 1 shown)
-      → IfSome first (λ bytes. ShowsFirst gives found bytes holds)
+      → All (IsShown from gives found) shown → holds (text_of shown) (notes_from 1 shown)
+      → IfSome first (λ bytes. ShowsFirst from gives found bytes holds)
   so_far None shown holds rows each h = tt
   so_far (Some bytes) shown holds rows each h = (shown, rows.0, rows.1, each, h)
 
   -- the rows before this one
   pub begun : (first left old new before after : Option (List ℕ)) (number : ℕ) (verdict : Verdict)
-      → Progress gives found first left old new before after number verdict
-      → IfSome first (λ bytes. ShowsFirst gives found bytes
+      → Progress from gives found first left old new before after number verdict
+      → IfSome first (λ bytes. ShowsFirst from gives found bytes
       (λ text notes. TakesBeginning old new text × TakesBeginning before after notes))
   begun first left old new before after number verdict p =
       so_far first p.shown (λ text notes. TakesBeginning old new text × TakesBeginning before after notes)
@@ -142,10 +145,10 @@ module _ (gives : Tree → List ℕ → Type 0) (found : (List ℕ → Option So
   -- and a beginning of this one's text and note
   pub begun_with : (first left next old new newer before after later : Option (List ℕ)) (number : ℕ) (verdict : Verdict)
       (row : List ℕ) (kind : RowKind) (text : List ℕ) → 0 < length row
-      → Progress gives found first left old new before after number verdict → IsNextRow left next row
-      → IsShown gives found (record { row = row; kind = kind; text = text }) → TakesBeginning new newer text
+      → Progress from gives found first left old new before after number verdict → IsNextRow left next row
+      → IsShown from gives found (record { row = row; kind = kind; text = text }) → TakesBeginning new newer text
       → TakesBeginning after later (note_of number (kind_unread kind))
-      → IfSome first (λ bytes. ShowsFirst gives found bytes
+      → IfSome first (λ bytes. ShowsFirst from gives found bytes
       (λ text notes. TakesBeginning old newer text × TakesBeginning before later notes))
   begun_with first left next old new newer before after later number verdict row kind text some p is_next is_shown took
       said =
@@ -154,8 +157,8 @@ module _ (gives : Tree → List ℕ → Type 0) (found : (List ℕ → Option So
       (first_rows first next (map row_of (p.shown ++ s ∷ []))
       (subst (RowsLeft first next) (sym (map-append row_of p.shown (s ∷ [])))
       (rows_more first left next (map row_of p.shown) row some p.rows is_next)))
-      (All-append (IsShown gives found) p.shown (s ∷ []) p.each
-      (All-cons (IsShown gives found) s [] is_shown (All-nil (IsShown gives found)))) (
+      (All-append (IsShown from gives found) p.shown (s ∷ []) p.each
+      (All-cons (IsShown from gives found) s [] is_shown (All-nil (IsShown from gives found)))) (
         subst (TakesBeginning old newer) (sym (text_more p.shown s))
             (taken_then old new newer (text_of p.shown) text p.text took),
         subst (TakesBeginning before later) (sym (notes_more 1 p.shown s number p.count))

@@ -1,7 +1,10 @@
 -- Texts of rows, as they are made.
-use Rattle.std.proofs.Common.{◌≡◌, ℕ, List, Option, Some, None, true, false, refl, sym, ap, subst, ◌∙◌}
+use Rattle.std.proofs.Common.{◌≡◌, ℕ, List, [], ◌∷◌, ◌++◌, Option, Some, None, Bool, true, false, refl, sym, ap, ap₂}
+use Rattle.std.proofs.Common.{subst, ◌∙◌, append_assoc}
 use Rattle.std.proofs.Common.{◌⊎◌, IfOk, OnErr, Ok, Err, Result, String, inl, inr, string_bytes}
-use Rattle.std.specs.Prelude.{IsUtf8, option_and_then}
+use Rattle.std.specs.Prelude.{IsUtf8, ◌||◌, option_and_then}
+use Rattle.std.specs.List.{list_any}
+use Rattle.std.proofs.lemmas.List.Folds.{list_any-append}
 use Rattle.serde_json.specs.Data.{Data}
 use Rattle.serde_json.specs.Read.{read}
 use Rattle.miette_protocol.specs.rules.Reading.{Source}
@@ -14,12 +17,12 @@ use Rattle.miette_report.specs.declared.job_handler.JobHandler.{JobHandler}
 use Rattle.miette_report.specs.declared.job_handler.JobHandler.TheVariants as chosen
 use Rattle.miette_report.specs.steps.JobHandler.{MayRefuse}
 use Rattle.miette_readers.specs.rules.Names.{names_of}
-use Rattle.miette_readers.specs.rules.RustcReport.{rustc_tree}
-use Rattle.miette_show.specs.rules.Rows.{begins_object}
-use Rattle.miette_show.specs.rules.Shown.{IsRowText, IsShown, row_tree}
-use Rattle.miette_show.specs.views.Texts.{IsValueText, shown_text}
+use Rattle.miette_show.specs.rules.Rows.{begins_message}
+use Rattle.miette_show.specs.rules.Shown.{AreDrawn, IsRowText, IsShown, row_trees, tree_grave, value_trees}
+use Rattle.miette_show.specs.views.Texts.{AreTexts, IsPushed, IsValueText, shown_text}
 use Rattle.miette_show.specs.declared.verdict.RowKind.{RowKind}
-use Rattle.miette_show.specs.declared.verdict.RowKind.TheVariants.{Passed, Unread, Other, Message}
+use Rattle.miette_show.specs.declared.verdict.RowKind.TheVariants.{Passed, Unread, Messages}
+use Rattle.miette_show.specs.declared.words.Format.{Format}
 
 abbrev Given : Type 1
 Given = Tree → List ℕ → Type 0
@@ -27,60 +30,95 @@ Given = Tree → List ℕ → Type 0
 abbrev Finding : Type 1
 Finding = (List ℕ → Option Source) → List (List ℕ) → Type 0
 
--- a row that begins no object, over any files
-pub passed : (gives : Given) (found : Finding) (files : List ℕ → Option Source) (row text : List ℕ)
-    → begins_object row ≡ false
-    → IsShown gives found (record { row = row; kind = Passed; text = shown_text Passed row text })
-passed gives found files row text not =
+-- a row that begins as no message does, over any files
+pub passed : (from : Format) (gives : Given) (found : Finding) (files : List ℕ → Option Source) (row text : List ℕ)
+    → begins_message from row ≡ false
+    → IsShown from gives found (record { row = row; kind = Passed; text = shown_text Passed row text })
+passed from gives found files row text not =
     (files, (λ d utf8 begins is. (let no : false ≡ true = sym not ∙ begins in cc)), (not, refl))
 
 -- one that is no value
-pub unread : (gives : Given) (found : Finding) (files : List ℕ → Option Source) (row text : List ℕ)
-    → begins_object row ≡ true → (IsUtf8 row → read row ≡ None)
-    → IsShown gives found (record { row = row; kind = Unread; text = shown_text Unread row text })
-unread gives found files row text begins none = (
+pub unread : (from : Format) (gives : Given) (found : Finding) (files : List ℕ → Option Source) (row text : List ℕ)
+    → begins_message from row ≡ true → (IsUtf8 row → read row ≡ None)
+    → IsShown from gives found (record { row = row; kind = Unread; text = shown_text Unread row text })
+unread from gives found files row text begins none = (
   files,
   (λ d utf8 b is. (let no : None ≡ Some d = sym (none utf8) ∙ is in cc)),
-  (begins, (λ utf8. ap (option_and_then (rustc_tree files)) (none utf8)), refl),
+  (begins, (λ utf8. ap (option_and_then (value_trees from files)) (none utf8)), refl),
 )
 
-says_of : (files : List ℕ → Option Source) (row : List ℕ) (d : Data) → read row ≡ Some d
-    → row_tree files row ≡ rustc_tree files d
-says_of files row d is = ap (option_and_then (rustc_tree files)) is
+says_of : (from : Format) (files : List ℕ → Option Source) (row : List ℕ) (d : Data) → read row ≡ Some d
+    → row_trees from files row ≡ value_trees from files d
+says_of from files row d is = ap (option_and_then (value_trees from files)) is
 
-text_of : (gives : Given) (files : List ℕ → Option Source) (row : List ℕ) (d : Data) (kind : RowKind) (text : List ℕ)
-    → begins_object row ≡ true → IsUtf8 row → read row ≡ Some d → IsValueText gives (rustc_tree files d) kind text
-    → IsRowText gives files row kind (shown_text kind row text)
-text_of gives files row d Passed text begins utf8 is said = absurd said
-text_of gives files row d Unread text begins utf8 is said = (begins, (λ u. says_of files row d is ∙ said), refl)
-text_of gives files row d Other text begins utf8 is said = (begins, utf8, says_of files row d is ∙ said.0, said.1)
-text_of gives files row d (Message grave) text begins utf8 is (t, says, error, drawn) =
-    (begins, utf8, (t, says_of files row d is ∙ says, error, drawn))
+text_of : (from : Format) (gives : Given) (files : List ℕ → Option Source) (row : List ℕ) (d : Data) (kind : RowKind)
+    (text : List ℕ) → begins_message from row ≡ true → IsUtf8 row → read row ≡ Some d
+    → IsValueText gives (value_trees from files d) kind text
+    → IsRowText from gives files row kind (shown_text kind row text)
+text_of from gives files row d Passed text begins utf8 is said = absurd said
+text_of from gives files row d Unread text begins utf8 is said =
+    (begins, (λ u. says_of from files row d is ∙ said), refl)
+text_of from gives files row d (Messages grave) text begins utf8 is (ts, says, texts) =
+    (begins, utf8, (ts, says_of from files row d is ∙ says, texts.0, texts.1))
 
 -- one that is a value, when all names in it are known
-pub told : (gives : Given) (found : Finding) (files : List ℕ → Option Source) (row : List ℕ) (d : Data) (kind : RowKind)
-    (text : List ℕ) → begins_object row ≡ true → IsUtf8 row → read row ≡ Some d → found files (names_of d)
-    → IsValueText gives (rustc_tree files d) kind text
-    → IsShown gives found (record { row = row; kind = kind; text = shown_text kind row text })
-told gives found files row d kind text begins utf8 is known said = (
+pub told : (from : Format) (gives : Given) (found : Finding) (files : List ℕ → Option Source) (row : List ℕ) (d : Data)
+    (kind : RowKind) (text : List ℕ) → begins_message from row ≡ true → IsUtf8 row → read row ≡ Some d
+    → found files (names_of d) → IsValueText gives (value_trees from files d) kind text
+    → IsShown from gives found (record { row = row; kind = kind; text = shown_text kind row text })
+told from gives found files row d kind text begins utf8 is known said = (
   files,
   (λ e u b same. subst (λ x. found files (names_of x)) (some_same d e (sym is ∙ same)) known),
-  text_of gives files row d kind text begins utf8 is said,
+  text_of from gives files row d kind text begins utf8 is said,
 )
   where
     some_same : (a b : Data) → Some a ≡ Some b → a ≡ b
     some_same a b e = cc
 
-pub told_ok : {E Z : Type 0} (gives : Given) (found : Finding) (files : List ℕ → Option Source) (row : List ℕ)
-    (d : Data)
-    (r : Result (RowKind × String Z) E) → begins_object row ≡ true → IsUtf8 row → read row ≡ Some d
-    → found files (names_of d)
-    → IfOk r (λ it. IsValueText gives (rustc_tree files d) it.0 (string_bytes it.1))
-    → IfOk r (λ it. IsShown gives found
+pub told_ok : {E Z : Type 0} (from : Format) (gives : Given) (found : Finding) (files : List ℕ → Option Source)
+    (row : List ℕ) (d : Data) (r : Result (RowKind × String Z) E) → begins_message from row ≡ true → IsUtf8 row
+    → read row ≡ Some d → found files (names_of d)
+    → IfOk r (λ it. IsValueText gives (value_trees from files d) it.0 (string_bytes it.1))
+    → IfOk r (λ it. IsShown from gives found
     (record { row = row; kind = it.0; text = shown_text it.0 row (string_bytes it.1) }))
-told_ok gives found files row d (Err e) begins utf8 is known said = tt
-told_ok gives found files row d (Ok it) begins utf8 is known said =
-    told gives found files row d it.0 (string_bytes it.1) begins utf8 is known said
+told_ok from gives found files row d (Err e) begins utf8 is known said = tt
+told_ok from gives found files row d (Ok it) begins utf8 is known said =
+    told from gives found files row d it.0 (string_bytes it.1) begins utf8 is known said
+
+-- ---- texts of several reports
+
+-- the text of one more, behind those of these
+pub drawn_more : (gives : Given) (ts : List Tree) (t : Tree) (text drawn : List ℕ) → AreDrawn gives ts text
+    → gives t drawn → AreDrawn gives (ts ++ t ∷ []) (text ++ (drawn ++ 10 ∷ []))
+drawn_more gives [] t text drawn none given =
+    (drawn, [], given, refl, ap (λ x. x ++ (drawn ++ 10 ∷ [])) none)
+drawn_more gives (u ∷ us) t text drawn (first, rest, is, others, all) given = (
+  first,
+  rest ++ (drawn ++ 10 ∷ []),
+  is,
+  drawn_more gives us t rest drawn others given,
+  ap (λ x. x ++ (drawn ++ 10 ∷ [])) all ∙ append_assoc first (10 ∷ rest) (drawn ++ 10 ∷ []),
+)
+
+grave_more : (ts : List Tree) (t : Tree) → list_any tree_grave (ts ++ t ∷ []) ≡ (list_any tree_grave ts || tree_grave t)
+grave_more ts t =
+    list_any-append tree_grave ts (t ∷ []) ∙ ap (λ c. list_any tree_grave ts || c) (one (tree_grave t))
+  where
+    one : (c : Bool) → (c || false) ≡ c
+    one true = refl
+    one false = refl
+
+pub texts_more : (gives : Given) (ts : List Tree) (t : Tree) (grave error both : Bool) (old new : List ℕ)
+    → AreTexts gives ts grave old → IsPushed gives t error old new → both ≡ (grave || error)
+    → AreTexts gives (ts ++ t ∷ []) both new
+texts_more gives ts t grave error both old new (are, drawn) (is, (added, given, all)) either = (
+  either ∙ ap₂ (λ a b. a || b) are is ∙ sym (grave_more ts t),
+  subst (AreDrawn gives (ts ++ t ∷ [])) (sym all) (drawn_more gives ts t old added drawn given),
+)
+
+pub pushed_by : (p q : Given) → ((t : Tree) (x : List ℕ) → p t x → q t x) → (t : Tree) (error : Bool)
+    (old new : List ℕ) → IsPushed p t error old new → IsPushed q t error old new
+pushed_by p q h t error old new (is, (drawn, given, all)) = (is, (drawn, h t drawn given, all))
 
 -- ---- reports that aren't refused
 

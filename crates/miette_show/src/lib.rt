@@ -4,6 +4,7 @@
 pub mod folder;
 pub mod loader;
 mod message;
+mod reports;
 pub mod row_reader;
 pub mod show;
 pub mod verdict;

@@ -1,37 +1,65 @@
 //! What is shown of a row.
 
-ghost use Rattle.std.specs.Prelude.{◌≡◌, IfOk, IfSome, IsUtf8, None, OnErr, OnOk, Some, string_bytes, true};
+ghost use Rattle.std.specs.Prelude.{◌≡◌, ◌||◌, IfOk, IfSome, IsUtf8, None, OnErr, OnOk, Some, map, string_bytes};
+ghost use Rattle.std.specs.Prelude.{true};
+ghost use Rattle.std.specs.List.{All};
 ghost use Rattle.serde_json.specs.Read.{read};
 ghost use Rattle.serde_json.specs.View.{view};
 ghost use Rattle.miette_tree.specs.rules.Reads.{AlwaysReads, report_accepted};
 ghost use Rattle.miette_tree.specs.views.Report.{tree_of};
-ghost use Rattle.miette_readers.specs.rules.RustcReport.{rustc_tree};
 ghost use Rattle.miette_report.specs.steps.JobHandler.{IsGiven, IsLed, Stays};
 ghost use Rattle.miette_show.specs.rules.Looking.{Goes, IsFoundBy};
-ghost use Rattle.miette_show.specs.rules.Rows.{begins_object};
-ghost use Rattle.miette_show.specs.rules.Shown.{IsShown, is_grave};
-ghost use Rattle.miette_show.specs.views.Texts.{IsValueText, shown_text};
+ghost use Rattle.miette_show.specs.rules.Rows.{begins_array, begins_message, begins_object};
+ghost use Rattle.miette_show.specs.rules.Shown.{IsShown, is_grave, value_trees};
+ghost use Rattle.miette_show.specs.views.Texts.{AreTexts, IsPushed, IsValueText, shown_text};
 
 use crate::loader::{Loader, load_all};
+use crate::reports::reports_of;
 use crate::verdict::RowKind;
+use crate::words::Format;
 use miette_highlight::highlight::Highlighter;
-use miette_protocol::diagnostic::MietteDiagnostic;
 use miette_protocol::protocol::{Diagnostic, Severity};
 use miette_protocol::source::SourceCode;
-use miette_readers::files::{Files, LentFile};
-use miette_readers::laws::{labels_are_accepted, messages_always_read};
-use miette_readers::rustc::{ReadError, rustc_report};
+use miette_readers::files::Files;
+use miette_readers::rustc::ReadError;
 use miette_report::fault::Fault;
 use miette_report::job_handler::JobHandler;
 use miette_tree::report::Report;
 use serde_json::Value;
 use std::alloc::Global;
 
+/// A row, and the format that it is read in.
+#[derive(Clone, Copy)]
+pub(crate) struct Row<'r> {
+    /// The format.
+    pub from: Format,
+    /// The bytes of the row, with its end.
+    pub bytes: &'r [u8],
+}
+
 /// Whether a row begins as each message of rustc and cargo does.
 fn begins_object(row: &[u8]) -> bool
     ensures { result ≡ begins_object row.now }
 {
     row.starts_with(b"{\"")
+}
+
+/// Whether a row begins as each array of GCC does.
+fn begins_array(row: &[u8]) -> bool
+    ensures { result ≡ begins_array row.now }
+{
+    row.starts_with(b"[{\"") || row.starts_with(b"[]")
+}
+
+/// Whether a row begins as messages do.
+fn begins_message(from: Format, row: &[u8]) -> bool
+    ensures { result ≡ begins_message from row.now }
+{
+    match from {
+        Format::Auto => begins_object(row) || begins_array(row),
+        Format::Rustc => begins_object(row),
+        Format::Gcc => begins_array(row),
+    }
 }
 
 /// The value that a row is, if it is one.
@@ -67,32 +95,80 @@ fn accepted_text<H: Highlighter, D: Diagnostic, S: SourceCode>(
     handler.render(alloc, report)
 }
 
+/// Appends the text of a report whose labels are accepted, and an empty row; whether it is an error.
+fn push_text<H: Highlighter, D: Diagnostic, S: SourceCode>(
+    text: &mut String,
+    alloc: Global,
+    handler: &mut JobHandler<H>,
+    report: &Report<D, S>,
+) -> Result<bool, Fault>
+    requires reads { AlwaysReads (tree_of D.meaning S.source report.now) }
+    requires accepted { report_accepted (tree_of D.meaning S.source report.now) ≡ true }
+    ensures text { IfOk result (λ error. IsPushed (IsGiven H.is_blank H.may_follow handler.old)
+        (tree_of D.meaning S.source report.now) error (string_bytes text.old) (string_bytes text.new)) }
+    ensures others { OnErr result (result ≡ Err Fault.Memory) }
+    ensures stays { Stays H.is_blank handler.old handler.new }
+    ensures led { OnOk result (IsLed H.may_follow handler.old handler.new) }
+{
+    let error = is_error(report.severity());
+    let mut drawn = accepted_text(alloc, handler, report)?;
+    drawn.push('\n')?;
+    text.push_str(drawn.as_str())?;
+    Ok(error)
+}
+
+/// Whether one of the two holds.
+fn either(one: bool, other: bool) -> bool
+    ensures { result ≡ (one || other) }
+{
+    one || other
+}
+
+/// The texts of reports whose labels are accepted, with an empty row behind each; whether one is an error.
+fn texts_of<H: Highlighter, D: Diagnostic, S: SourceCode>(
+    alloc: Global,
+    handler: &mut JobHandler<H>,
+    reports: &[Report<D, S>],
+) -> Result<(bool, String), Fault>
+    requires reads { All AlwaysReads (map (tree_of D.meaning S.source) reports.now) }
+    requires accepted { All (λ t. report_accepted t ≡ true) (map (tree_of D.meaning S.source) reports.now) }
+    ensures texts { IfOk result (λ it. AreTexts (IsGiven H.is_blank H.may_follow handler.old)
+        (map (tree_of D.meaning S.source) reports.now) it.0 (string_bytes it.1)) }
+    ensures others { OnErr result (result ≡ Err Fault.Memory) }
+    ensures stays { Stays H.is_blank handler.old handler.new }
+    ensures led { OnOk result (IsLed H.may_follow handler.old handler.new) }
+{
+    let mut text = String::new(alloc);
+    let mut error = false;
+    for report in reports {
+        let grave = push_text(&mut text, alloc, handler, report)?;
+        error = either(error, grave);
+    }
+    Ok((error, text))
+}
+
 /// What a value says over files that were looked for, and the text that is shown of it.
 #[tactic(auto, using(crate::proofs::Going::led_still))]
 fn value_text<H: Highlighter, F: Files>(
     alloc: Global,
     handler: &mut JobHandler<H>,
+    from: Format,
     files: &F,
     value: &Value,
 ) -> Result<(RowKind, String), Fault>
     ensures text { IfOk result (λ it. IsValueText (IsGiven H.is_blank H.may_follow handler.old)
-        (rustc_tree (F.found files.now) (view value.now)) it.0 (string_bytes it.1)) }
+        (value_trees from (F.found files.now) (view value.now)) it.0 (string_bytes it.1)) }
     ensures others { OnErr result (result ≡ Err Fault.Memory) }
     ensures stays { Stays H.is_blank handler.old handler.new }
     ensures led { OnOk result (IsLed H.may_follow handler.old handler.new) }
 {
-    messages_always_read();
-    labels_are_accepted();
-    let report: Report<MietteDiagnostic, LentFile<'_>> = match rustc_report(alloc, files, value) {
-        Ok(Some(report)) => report,
-        Ok(None) => return Ok((RowKind::Other, String::new(alloc))),
+    let reports = match reports_of(alloc, from, files, value) {
+        Ok(reports) => reports,
         Err(ReadError::NoMessage) => return Ok((RowKind::Unread, String::new(alloc))),
         Err(ReadError::Memory) => return Err(Fault::Memory),
     };
-    let error = is_error(report.severity());
-    let mut text = accepted_text(alloc, handler, &report)?;
-    text.push('\n')?;
-    Ok((RowKind::Message(error), text))
+    let (error, text) = texts_of(alloc, handler, reports.as_slice())?;
+    Ok((RowKind::Messages(error), text))
 }
 
 /// Whether it is the severity of an error.
@@ -111,22 +187,26 @@ pub(crate) fn row_text<H: Highlighter, F: Loader>(
     alloc: Global,
     handler: &mut JobHandler<H>,
     files: &mut F,
-    row: &[u8],
+    row: Row<'_>,
 ) -> Result<(RowKind, String), Fault>
-    ensures shown { IfOk result (λ it. IsShown (IsGiven H.is_blank H.may_follow handler.old)
+    ensures shown { IfOk result (λ it. IsShown row.entry.from (IsGiven H.is_blank H.may_follow handler.old)
         (IsFoundBy F.found F.knows files.old)
-        (record { row = row.now; kind = it.0; text = shown_text it.0 row.now (string_bytes it.1) })) }
+        (record {
+          row = row.entry.bytes.now;
+          kind = it.0;
+          text = shown_text it.0 row.entry.bytes.now (string_bytes it.1);
+        })) }
     ensures others { OnErr result (result ≡ Err Fault.Memory) }
     ensures stays { Stays H.is_blank handler.old handler.new }
     ensures led { OnOk result (IsLed H.may_follow handler.old handler.new) }
     ensures goes { Goes (F.found files.old) (F.knows files.old) (F.found files.new) (F.knows files.new) }
 {
-    if !begins_object(row) {
+    if !begins_message(row.from, row.bytes) {
         return Ok((RowKind::Passed, String::new(alloc)));
     }
-    let Some(value) = value_in(alloc, row)? else {
+    let Some(value) = value_in(alloc, row.bytes)? else {
         return Ok((RowKind::Unread, String::new(alloc)));
     };
     load_all(alloc, files, &value)?;
-    value_text(alloc, handler, files, &value)
+    value_text(alloc, handler, row.from, files, &value)
 }

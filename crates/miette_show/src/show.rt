@@ -1,7 +1,7 @@
 //! The program `show`, over any reader, writers and files.
 
 ghost use Rattle.std.specs.Prelude.{◌≡◌, ◌↔◌, ◌⊎◌, ◌<◌, ℕ, List, IfOk, IfSome, IsTrue, None, OnErr, OnOk};
-ghost use Rattle.std.specs.Prelude.{[], false, map, string_bytes, ⊤};
+ghost use Rattle.std.specs.Prelude.{[], false, string_bytes, ⊤};
 ghost use Rattle.std.specs.Io.KnownBytes.{Appends};
 ghost use Rattle.miette_report.specs.rules.OptionWords.{asked_by};
 ghost use Rattle.miette_report.specs.steps.JobHandler.{IsGiven, IsLed, Stays};
@@ -11,13 +11,15 @@ ghost use Rattle.miette_show.specs.rules.ShowCalls.{CallShows, CallShowsFirst};
 ghost use Rattle.miette_show.specs.rules.Shown.{IsShown, Shows, ShowsFirst, kind_unread, note_of, note_row};
 ghost use Rattle.miette_show.specs.rules.Statuses.{status_of};
 ghost use Rattle.miette_show.specs.declared.verdict.Verdict.{Verdict};
+ghost use Rattle.miette_show.specs.views.Asked.{request_of, words_of};
 ghost use Rattle.miette_show.specs.views.Reading.{left_of};
 ghost use Rattle.miette_show.specs.views.Texts.{shown_text};
 
 use crate::loader::Loader;
-use crate::message::row_text;
+use crate::message::{Row, row_text};
 use crate::row_reader::RowReader;
 use crate::verdict::{RowKind, Verdict};
+use crate::words::{Format, ShowWords};
 use miette_highlight::highlight::Highlighter;
 use miette_report::device::Device;
 use miette_report::fault::{Fault, Program};
@@ -60,7 +62,7 @@ fn shown_bytes<'r>(kind: RowKind, row: &'r [u8], text: &'r String) -> &'r [u8]
 {
     match kind {
         RowKind::Passed | RowKind::Unread => row,
-        RowKind::Other | RowKind::Message(_) => text.as_bytes(),
+        RowKind::Messages(_) => text.as_bytes(),
     }
 }
 
@@ -70,17 +72,17 @@ fn show_row<H: Highlighter, F: Loader, W: Write>(
     handler: &mut JobHandler<H>,
     files: &mut F,
     writer: &mut Device<W>,
-    row: &[u8],
+    row: Row<'_>,
 ) -> Result<RowKind, Fault>
     requires sound { writer.old.failed ≡ false }
     ensures shown { IfOk result (λ kind. (text : List ℕ)
-        × IsShown (IsGiven H.is_blank H.may_follow handler.old) (IsFoundBy F.found F.knows files.old)
-        (record { row = row.now; kind = kind; text = text })
+        × IsShown row.entry.from (IsGiven H.is_blank H.may_follow handler.old) (IsFoundBy F.found F.knows files.old)
+        (record { row = row.entry.bytes.now; kind = kind; text = text })
         × Appends (W.contents writer.old.inner) (W.contents writer.new.inner) text) }
     // After a write fault a beginning of what is shown was taken, after other errors nothing.
     ensures beginning { (result ≡ Err Fault.Write) → (kind : RowKind) × (text : List ℕ)
-        × IsShown (IsGiven H.is_blank H.may_follow handler.old) (IsFoundBy F.found F.knows files.old)
-        (record { row = row.now; kind = kind; text = text })
+        × IsShown row.entry.from (IsGiven H.is_blank H.may_follow handler.old) (IsFoundBy F.found F.knows files.old)
+        (record { row = row.entry.bytes.now; kind = kind; text = text })
         × TakesBeginning (W.contents writer.old.inner) (W.contents writer.new.inner) text }
     ensures untouched { OnErr result ((result ≡ Err Fault.Write) ⊎ (writer.new ≡ writer.old)) }
     ensures failed { IsTrue writer.new.failed ↔ (result ≡ Err Fault.Write) }
@@ -90,7 +92,7 @@ fn show_row<H: Highlighter, F: Loader, W: Write>(
     ensures goes { Goes (F.found files.old) (F.knows files.old) (F.found files.new) (F.knows files.new) }
 {
     let (kind, text) = row_text(alloc, handler, files, row)?;
-    write_whole(writer, shown_bytes(kind, row, &text))?;
+    write_whole(writer, shown_bytes(kind, row.bytes, &text))?;
     Ok(kind)
 }
 
@@ -127,6 +129,7 @@ fn note<E: Write>(
 /// Shows all rows that are left.
 fn show_rows<H: Highlighter, F: Loader, R: Read, W: Write, E: Write>(
     alloc: Global,
+    from: Format,
     handler: &mut JobHandler<H>,
     files: &mut F,
     streams: &mut Streams<R, W, E>,
@@ -135,12 +138,12 @@ fn show_rows<H: Highlighter, F: Loader, R: Read, W: Write, E: Write>(
     requires writer_sound { streams.old.writer.failed ≡ false }
     requires faults_sound { streams.old.faults.failed ≡ false }
     ensures ok { IfOk result (λ verdict. IfSome (left_of R.remaining streams.old.rows) (λ bytes.
-        Shows (IsGiven H.is_blank H.may_follow handler.old) (IsFoundBy F.found F.knows files.old) bytes
+        Shows from (IsGiven H.is_blank H.may_follow handler.old) (IsFoundBy F.found F.knows files.old) bytes
         (λ text notes. Appends (W.contents streams.old.writer.inner) (W.contents streams.new.writer.inner) text
         × Appends (E.contents streams.old.faults.inner) (E.contents streams.new.faults.inner) notes) verdict)) }
     // After an error the first rows were shown, the last of them perhaps in part.
     ensures beginning { OnErr result (IfSome (left_of R.remaining streams.old.rows) (λ bytes.
-        ShowsFirst (IsGiven H.is_blank H.may_follow handler.old) (IsFoundBy F.found F.knows files.old) bytes
+        ShowsFirst from (IsGiven H.is_blank H.may_follow handler.old) (IsFoundBy F.found F.knows files.old) bytes
         (λ text notes. TakesBeginning (W.contents streams.old.writer.inner) (W.contents streams.new.writer.inner) text
         × TakesBeginning (E.contents streams.old.faults.inner) (E.contents streams.new.faults.inner) notes))) }
     ensures accepted { ¬ (result ≡ Err Fault.Refused) }
@@ -156,21 +159,25 @@ fn show_rows<H: Highlighter, F: Loader, R: Read, W: Write, E: Write>(
         if row.is_empty() {
             return Ok(verdict);
         }
-        let kind = show_row(alloc, handler, files, &mut streams.writer, row.as_slice())?;
+        let read = Row {
+            from,
+            bytes: row.as_slice(),
+        };
+        let kind = show_row(alloc, handler, files, &mut streams.writer, read)?;
         note(alloc, &mut streams.faults, number, kind)?;
         verdict = verdict.with(kind);
     }
     Err(Fault::Memory)
 }
 
-/// Reads the words of `job`, and then shows all rows that are left as they ask.
+/// Reads the words of `job`, and then shows all rows that are left as they and those in front ask.
 ///
 /// # Errors
 /// `Usage` where the words are wrong, before anything is read. `Read` exactly where a call of the reader failed,
 /// `Write` exactly where one of the writers failed. `Memory`. No report is refused.
 pub fn show_on<F: Loader, R: Read, W: Write, E: Write>(
     alloc: Global,
-    words: &[String],
+    asked: &ShowWords<'_>,
     files: &mut F,
     streams: &mut Streams<R, W, E>,
 ) -> Result<Verdict, Fault>
@@ -179,16 +186,16 @@ pub fn show_on<F: Loader, R: Read, W: Write, E: Write>(
     requires faults_sound { streams.old.faults.failed ≡ false }
     // Row by row the writer took the text of the message's report, or the row, and the other one what can't be read.
     ensures ok { IfOk result (λ verdict. IfSome (left_of R.remaining streams.old.rows) (λ bytes.
-        CallShows ⟦<LanguageHighlighter as Highlighter>⟧.is_blank (map string_bytes words.now)
+        CallShows ⟦<LanguageHighlighter as Highlighter>⟧.is_blank (request_of asked.now)
         (IsFoundBy F.found F.knows files.old) bytes
         (λ text notes. Appends (W.contents streams.old.writer.inner) (W.contents streams.new.writer.inner) text
         × Appends (E.contents streams.old.faults.inner) (E.contents streams.new.faults.inner) notes) verdict)) }
-    ensures usage { (result ≡ Err Fault.Usage) → asked_by (map string_bytes words.now) ≡ None }
-    ensures right { OnOk result (¬ (asked_by (map string_bytes words.now) ≡ None)) }
-    ensures unread { asked_by (map string_bytes words.now) ≡ None → streams.new ≡ streams.old }
+    ensures usage { (result ≡ Err Fault.Usage) → asked_by (words_of asked.now.options) ≡ None }
+    ensures right { OnOk result (¬ (asked_by (words_of asked.now.options) ≡ None)) }
+    ensures unread { asked_by (words_of asked.now.options) ≡ None → streams.new ≡ streams.old }
     // After any other error the first rows were shown, the last of them perhaps in part.
     ensures beginning { OnErr result ((streams.new ≡ streams.old) ⊎ IfSome (left_of R.remaining streams.old.rows)
-        (λ bytes. CallShowsFirst ⟦<LanguageHighlighter as Highlighter>⟧.is_blank (map string_bytes words.now)
+        (λ bytes. CallShowsFirst ⟦<LanguageHighlighter as Highlighter>⟧.is_blank (request_of asked.now)
         (IsFoundBy F.found F.knows files.old) bytes
         (λ text notes. TakesBeginning (W.contents streams.old.writer.inner) (W.contents streams.new.writer.inner) text
         × TakesBeginning (E.contents streams.old.faults.inner) (E.contents streams.new.faults.inner) notes))) }
@@ -198,16 +205,16 @@ pub fn show_on<F: Loader, R: Read, W: Write, E: Write>(
     ensures write_failed { (IsTrue streams.new.writer.failed ⊎ IsTrue streams.new.faults.failed)
         ↔ (result ≡ Err Fault.Write) }
 {
-    let settings = Arguments::read(alloc, words)?;
+    let settings = Arguments::read(alloc, asked.options)?;
     let mut handler = JobHandler::new(alloc, settings)?;
-    show_rows(alloc, &mut handler, files, streams)
+    show_rows(alloc, asked.from, &mut handler, files, streams)
 }
 
-/// Shows all rows of a reader by the words of `job`, and gives the status: that of the verdict; 2 for every fault, of
+/// Shows all rows of a reader as the words ask, and gives the status: that of the verdict; 2 for every fault, of
 /// which a row goes to `faults`.
 pub fn show_with<F, R, W, E>(
     alloc: Global,
-    words: &[String],
+    asked: &ShowWords<'_>,
     files: &mut F,
     streams: Streams<R, W, E>,
 ) -> u8
@@ -222,11 +229,11 @@ where
     // 2 for a fault; else by all rows, each of which is shown as the words ask.
     ensures status { (result ≡ 2) ⊎ IfSome (left_of R.remaining streams.rows) (λ bytes. (verdict : Verdict)
         × (result ≡ status_of verdict) × CallShows ⟦<LanguageHighlighter as Highlighter>⟧.is_blank
-        (map string_bytes words.now) (IsFoundBy F.found F.knows files.old) bytes (λ text notes. ⊤) verdict) }
-    ensures usage { asked_by (map string_bytes words.now) ≡ None → result ≡ 2 }
+        (request_of asked.now) (IsFoundBy F.found F.knows files.old) bytes (λ text notes. ⊤) verdict) }
+    ensures usage { asked_by (words_of asked.now.options) ≡ None → result ≡ 2 }
 {
     let mut streams = streams;
-    match show_on(alloc, words, files, &mut streams) {
+    match show_on(alloc, asked, files, &mut streams) {
         Ok(verdict) => verdict.status(),
         Err(fault) => {
             let mut faults = streams.faults.into_inner();

@@ -7,14 +7,12 @@ ghost use Rattle.miette_show.specs.rules.Statuses.{status_of};
 /// What a row is.
 #[derive(Clone, Copy, Debug, PartialEq, Eq)]
 pub enum RowKind {
-    /// It begins no object, and is passed on as it is.
+    /// It begins as no message does, and is passed on as it is.
     Passed,
-    /// It begins an object, but no message of it can be read: it is passed on too.
+    /// It begins as messages do, but none of it can be read: it is passed on too.
     Unread,
-    /// A row of rustc or cargo that is no message: nothing is shown of it.
-    Other,
-    /// A message, and whether it is an error.
-    Message(bool),
+    /// It has messages, of rustc or cargo one or none, and whether one of them is an error.
+    Messages(bool),
 }
 
 impl RowKind {
@@ -24,17 +22,17 @@ impl RowKind {
     {
         match self {
             RowKind::Unread => true,
-            RowKind::Passed | RowKind::Other | RowKind::Message(_) => false,
+            RowKind::Passed | RowKind::Messages(_) => false,
         }
     }
 
-    /// Whether it is an error.
+    /// Whether it has an error.
     pub fn is_error(self) -> bool
         ensures { result ≡ kind_grave self }
     {
         match self {
-            RowKind::Message(error) => error,
-            RowKind::Passed | RowKind::Unread | RowKind::Other => false,
+            RowKind::Messages(error) => error,
+            RowKind::Passed | RowKind::Unread => false,
         }
     }
 }

@@ -2,14 +2,41 @@
 
 ghost use Rattle.std.specs.Prelude.{◌≡◌};
 ghost use Rattle.std.specs.Option.{option_map};
-ghost use Rattle.miette_show.specs.rules.ShowWords.{asked_for};
+ghost use Rattle.miette_show.specs.rules.ShowWords.{asked_for, format_named};
 ghost use Rattle.miette_show.specs.views.Asked.{request_of, words_of};
+
+/// What is read.
+#[derive(Clone, Copy, Debug, PartialEq, Eq)]
+pub enum Format {
+    /// Each of the others, told apart by the row.
+    Auto,
+    /// What rustc and cargo write.
+    Rustc,
+    /// What GCC writes.
+    Gcc,
+}
+
+impl Format {
+    /// The format of this name; nothing where there is none.
+    fn named(name: &str) -> Option<Format>
+        ensures { result ≡ format_named name.now }
+    {
+        match name {
+            "auto" => Some(Format::Auto),
+            "rustc" => Some(Format::Rustc),
+            "gcc" => Some(Format::Gcc),
+            _ => None,
+        }
+    }
+}
 
 /// What the words ask for.
 #[derive(Clone, Copy)]
 pub struct ShowWords<'w> {
     /// The folder that names of files are taken from; the one that the program runs in where none is given.
     pub root: Option<&'w str>,
+    /// What is read.
+    pub from: Format,
     /// The words of `job`.
     pub options: &'w [String],
 }
@@ -20,6 +47,7 @@ impl<'w> ShowWords<'w> {
         ensures { option_map request_of result ≡ asked_for (words_of words.entry) }
     {
         let mut root = None;
+        let mut from = Format::Auto;
         let mut rest = words;
         while let Some((word, more)) = rest.split_first() {
             match word.as_str() {
@@ -30,9 +58,7 @@ impl<'w> ShowWords<'w> {
                 }
                 "--from" => {
                     let (value, after) = more.split_first()?;
-                    if value.as_str() != "rustc" {
-                        return None;
-                    }
+                    from = Format::named(value.as_str())?;
                     rest = after;
                 }
                 _ => break,
@@ -40,6 +66,7 @@ impl<'w> ShowWords<'w> {
         }
         Some(ShowWords {
             root,
+            from,
             options: rest,
         })
     }

@@ -1,4 +1,4 @@
-//! Reads what rustc and cargo write for machines from standard input, and draws it.
+//! Reads what rustc, cargo and GCC write for machines from standard input, and draws it.
 #![tactic(auto)]
 
 use miette_report::fault::Fault;
@@ -18,5 +18,5 @@ fn main(rt: HostRuntime) -> ExitCode {
     };
     let streams = Streams::new(rt.alloc(), rt.stdin(), rt.stdout(), rt.stderr());
     let mut files = Folder::new(&rt, asked.root);
-    ExitCode::from(show_with(rt.alloc(), asked.options, &mut files, streams))
+    ExitCode::from(show_with(rt.alloc(), &asked, &mut files, streams))
 }

@@ -1,6 +1,8 @@
 -- The rows of what is read.
-use Rattle.std.specs.Prelude.{ℕ, List, [], ◌∷◌, ◌++◌, Bool, if◌then◌else◌, ◌==◌, nat_eq}
+use Rattle.std.specs.Prelude.{ℕ, List, [], ◌∷◌, ◌++◌, Bool, if◌then◌else◌, ◌==◌, ◌||◌, nat_eq}
 use Rattle.std.specs.List.{list_any, starts_with}
+use Rattle.miette_show.specs.declared.words.Format.{Format}
+use Rattle.miette_show.specs.declared.words.Format.TheVariants.{Auto, Rustc, Gcc}
 
 -- a row that no LF ends, where it has a byte
 abbrev pub last_row : List ℕ → List (List ℕ)
@@ -22,3 +24,13 @@ has_end bytes = list_any (λ b. b == 10) bytes
 -- rustc and cargo begin each message so
 abbrev pub begins_object : List ℕ → Bool
 begins_object row = starts_with nat_eq row (123 ∷ 34 ∷ [])
+
+-- GCC begins so what it writes, `[{"`; where it has nothing to say, it writes `[]`
+abbrev pub begins_array : List ℕ → Bool
+begins_array row = starts_with nat_eq row (91 ∷ 123 ∷ 34 ∷ []) || starts_with nat_eq row (91 ∷ 93 ∷ [])
+
+-- a row begins so that may say something, in a format
+abbrev pub begins_message : Format → List ℕ → Bool
+begins_message Auto row = begins_object row || begins_array row
+begins_message Rustc row = begins_object row
+begins_message Gcc row = begins_array row

@@ -5,16 +5,18 @@ use Rattle.miette_report.specs.rules.Job.{IsJobText}
 use Rattle.miette_report.specs.rules.JobCalls.{ForAsked}
 use Rattle.miette_report.specs.declared.language.LanguageHighlighter.{LanguageHighlighter}
 use Rattle.miette_show.specs.rules.Shown.{Shows, ShowsFirst}
+use Rattle.miette_show.specs.rules.ShowWords.{ShowRequest}
 use Rattle.miette_show.specs.declared.verdict.Verdict.{Verdict}
 
--- The rows of these bytes are shown by the handler that the words ask for, and this holds of text and notes.
-abbrev pub CallShows : (LanguageHighlighter → Bool) → List (List ℕ)
+-- The rows of these bytes are shown in the format and by the handler that are asked for, and this holds of text and
+-- notes.
+abbrev pub CallShows : (LanguageHighlighter → Bool) → ShowRequest
     → ((List ℕ → Option Source) → List (List ℕ) → Type 0) → List ℕ → (List ℕ → List ℕ → Type 0) → Verdict → Type 0
-CallShows is_blank words found bytes holds verdict = ForAsked words (λ choice options terminal.
-    Shows (IsJobText is_blank choice options terminal) found bytes holds verdict)
+CallShows is_blank asked found bytes holds verdict = ForAsked asked.options (λ choice options terminal.
+    Shows asked.from (IsJobText is_blank choice options terminal) found bytes holds verdict)
 
 -- The first of these rows are shown so.
-abbrev pub CallShowsFirst : (LanguageHighlighter → Bool) → List (List ℕ)
+abbrev pub CallShowsFirst : (LanguageHighlighter → Bool) → ShowRequest
     → ((List ℕ → Option Source) → List (List ℕ) → Type 0) → List ℕ → (List ℕ → List ℕ → Type 0) → Type 0
-CallShowsFirst is_blank words found bytes holds = ForAsked words (λ choice options terminal.
-    ShowsFirst (IsJobText is_blank choice options terminal) found bytes holds)
+CallShowsFirst is_blank asked found bytes holds = ForAsked asked.options (λ choice options terminal.
+    ShowsFirst asked.from (IsJobText is_blank choice options terminal) found bytes holds)

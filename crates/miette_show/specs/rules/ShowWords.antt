@@ -1,25 +1,35 @@
 -- The words of `show`.
 use Rattle.std.specs.Prelude.{ℕ, List, [], ◌∷◌, Option, Some, None, Bool, ◌||◌, if◌then◌else◌, bytes_eq, codes}
+use Rattle.std.specs.Prelude.{option_and_then}
+use Rattle.miette_show.specs.declared.words.Format.{Format}
+use Rattle.miette_show.specs.declared.words.Format.TheVariants.{Auto, Rustc, Gcc}
 
--- the folder that names of files are taken from, where one is given, and the words of `job`
+-- the folder that names of files are taken from, where one is given, the format that is read, and the words of `job`
 pub record ShowRequest : Type 0 where
   pub root : Option (List ℕ)
+  pub from : Format
   pub options : List (List ℕ)
 
 abbrev pub is_front : List ℕ → Bool
 is_front word = bytes_eq word (codes "--root") || bytes_eq word (codes "--from")
 
--- In front stand a folder and a format, each as often as one likes, of which the last folder counts; then those of
--- `job`.
-abbrev pub asked_from : Option (List ℕ) → List (List ℕ) → Option ShowRequest
-asked_from root [] = Some (record { root = root; options = [] })
-asked_from root (word ∷ []) =
-    if is_front word then None else Some (record { root = root; options = word ∷ [] })
-asked_from root (word ∷ (value ∷ words)) =
-    if bytes_eq word (codes "--root") then asked_from (Some value) words
-    else if bytes_eq word (codes "--from")
-    then (if bytes_eq value (codes "rustc") then asked_from root words else None)
-    else Some (record { root = root; options = word ∷ (value ∷ words) })
+abbrev pub format_named : List ℕ → Option Format
+format_named name =
+    if bytes_eq name (codes "auto") then Some Auto
+    else if bytes_eq name (codes "rustc") then Some Rustc
+    else if bytes_eq name (codes "gcc") then Some Gcc else None
 
+-- In front stand a folder and a format, each as often as one likes, of which the last one counts; then those of `job`.
+abbrev pub asked_from : Option (List ℕ) → Format → List (List ℕ) → Option ShowRequest
+asked_from root from [] = Some (record { root = root; from = from; options = [] })
+asked_from root from (word ∷ []) =
+    if is_front word then None else Some (record { root = root; from = from; options = word ∷ [] })
+asked_from root from (word ∷ (value ∷ words)) =
+    if bytes_eq word (codes "--root") then asked_from (Some value) from words
+    else if bytes_eq word (codes "--from")
+    then option_and_then (λ format. asked_from root format words) (format_named value)
+    else Some (record { root = root; from = from; options = word ∷ (value ∷ words) })
+
+-- without a word in front the format is told apart by the row
 abbrev pub asked_for : List (List ℕ) → Option ShowRequest
-asked_for words = asked_from None words
+asked_for words = asked_from None Auto words

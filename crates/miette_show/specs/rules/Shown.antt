@@ -1,8 +1,9 @@
 -- What is shown of rows.
 use Rattle.std.specs.Prelude.{◌≡◌, ℕ, ◌+◌, List, [], ◌∷◌, ◌++◌, Option, Some, None, Bool, true, false, IsUtf8}
-use Rattle.std.specs.Prelude.{option_and_then, codes, decimal, map}
+use Rattle.std.specs.Prelude.{option_and_then, option_map, is_some, if◌then◌else◌, codes, decimal, map}
 use Rattle.std.specs.List.{All, flat_map, list_any}
 use Rattle.serde_json.specs.Data.{Data}
+use Rattle.serde_json.specs.Find.{as_array}
 use Rattle.serde_json.specs.Read.{read}
 use Rattle.miette_protocol.specs.declared.protocol.Severity.{Severity}
 use Rattle.miette_protocol.specs.declared.protocol.Severity.TheVariants.{Advice, Warning, Error}
@@ -10,16 +11,36 @@ use Rattle.miette_protocol.specs.rules.Reading.{Source}
 use Rattle.miette_tree.specs.rules.Tree.{Tree, head}
 use Rattle.miette_readers.specs.rules.Names.{names_of}
 use Rattle.miette_readers.specs.rules.RustcReport.{rustc_tree}
-use Rattle.miette_show.specs.rules.Rows.{begins_object, rows_of}
+use Rattle.miette_gcc.specs.rules.GccReport.{gcc_trees}
+use Rattle.miette_show.specs.rules.Rows.{begins_message, rows_of}
 use Rattle.miette_show.specs.declared.verdict.RowKind.{RowKind}
-use Rattle.miette_show.specs.declared.verdict.RowKind.TheVariants.{Passed, Unread, Other, Message}
+use Rattle.miette_show.specs.declared.words.Format.{Format}
+use Rattle.miette_show.specs.declared.words.Format.TheVariants.{Auto, Rustc, Gcc}
+use Rattle.miette_show.specs.declared.verdict.RowKind.TheVariants.{Passed, Unread, Messages}
 use Rattle.miette_show.specs.declared.verdict.Verdict.{Verdict}
 
 -- ---- one row
 
--- what the value in a row says over these files
-abbrev pub row_tree : (List ℕ → Option Source) → List ℕ → Option (Option Tree)
-row_tree files row = option_and_then (rustc_tree files) (read row)
+abbrev pub maybe_tree : Option Tree → List Tree
+maybe_tree None = []
+maybe_tree (Some t) = t ∷ []
+
+-- of a row of rustc or cargo that is no message there is no report
+abbrev pub rustc_trees : (List ℕ → Option Source) → Data → Option (List Tree)
+rustc_trees files d = option_map maybe_tree (rustc_tree files d)
+
+-- an array is GCC's, where no format is asked for
+abbrev pub is_gcc : Format → Data → Bool
+is_gcc Auto d = is_some (as_array d)
+is_gcc Rustc d = false
+is_gcc Gcc d = true
+
+-- the reports of what a value says over these files
+abbrev pub value_trees : Format → (List ℕ → Option Source) → Data → Option (List Tree)
+value_trees from files d = if is_gcc from d then gcc_trees files d else rustc_trees files d
+
+abbrev pub row_trees : Format → (List ℕ → Option Source) → List ℕ → Option (List Tree)
+row_trees from files row = option_and_then (value_trees from files) (read row)
 
 abbrev pub is_grave : Option Severity → Bool
 is_grave None = false
@@ -27,17 +48,25 @@ is_grave (Some Advice) = false
 is_grave (Some Warning) = false
 is_grave (Some Error) = true
 
--- A row that begins no object, and one that can't be read, is passed on as it is. Nothing is shown of a row of rustc or
--- cargo that is no message; of a message the text of its report, and an empty row.
-abbrev pub IsRowText : (Tree → List ℕ → Type 0) → (List ℕ → Option Source) → List ℕ → RowKind → List ℕ → Type 0
-IsRowText gives files row Passed text = (begins_object row ≡ false) × (text ≡ row)
-IsRowText gives files row Unread text =
-    (begins_object row ≡ true) × (IsUtf8 row → row_tree files row ≡ None) × (text ≡ row)
-IsRowText gives files row Other text =
-    (begins_object row ≡ true) × IsUtf8 row × (row_tree files row ≡ Some None) × (text ≡ [])
-IsRowText gives files row (Message grave) text =
-    (begins_object row ≡ true) × IsUtf8 row × ((t : Tree) × (row_tree files row ≡ Some (Some t))
-    × (grave ≡ is_grave (head t).severity) × ((drawn : List ℕ) × gives t drawn × (text ≡ drawn ++ 10 ∷ [])))
+abbrev pub tree_grave : Tree → Bool
+tree_grave t = is_grave (head t).severity
+
+-- the texts of reports, in their order, with an empty row behind each
+abbrev pub AreDrawn : (Tree → List ℕ → Type 0) → List Tree → List ℕ → Type 0
+AreDrawn gives [] text = text ≡ []
+AreDrawn gives (t ∷ ts) text = (drawn : List ℕ) × (rest : List ℕ) × gives t drawn × AreDrawn gives ts rest
+    × (text ≡ drawn ++ 10 ∷ rest)
+
+-- A row that begins as no message does, and one that can't be read, is passed on as it is. Of one with messages the
+-- texts of their reports are shown; of a row of rustc or cargo that is no message, nothing.
+abbrev pub IsRowText : Format → (Tree → List ℕ → Type 0) → (List ℕ → Option Source) → List ℕ → RowKind → List ℕ
+    → Type 0
+IsRowText from gives files row Passed text = (begins_message from row ≡ false) × (text ≡ row)
+IsRowText from gives files row Unread text =
+    (begins_message from row ≡ true) × (IsUtf8 row → row_trees from files row ≡ None) × (text ≡ row)
+IsRowText from gives files row (Messages grave) text =
+    (begins_message from row ≡ true) × IsUtf8 row × ((ts : List Tree) × (row_trees from files row ≡ Some ts)
+    × (grave ≡ list_any tree_grave ts) × AreDrawn gives ts text)
 
 -- a row, what it is, and the text that is shown of it
 pub record Shown : Type 0 where
@@ -46,24 +75,23 @@ pub record Shown : Type 0 where
   pub text : List ℕ
 
 -- The files are found when all that the row names are known.
-abbrev pub IsShown : (Tree → List ℕ → Type 0) → ((List ℕ → Option Source) → List (List ℕ) → Type 0) → Shown → Type 0
-IsShown gives found s = (files : List ℕ → Option Source)
-    × ((d : Data) → IsUtf8 s.row → begins_object s.row ≡ true → read s.row ≡ Some d → found files (names_of d))
-    × IsRowText gives files s.row s.kind s.text
+abbrev pub IsShown : Format → (Tree → List ℕ → Type 0) → ((List ℕ → Option Source) → List (List ℕ) → Type 0) → Shown
+    → Type 0
+IsShown from gives found s = (files : List ℕ → Option Source)
+    × ((d : Data) → IsUtf8 s.row → begins_message from s.row ≡ true → read s.row ≡ Some d → found files (names_of d))
+    × IsRowText from gives files s.row s.kind s.text
 
 -- ---- all rows
 
 abbrev pub kind_unread : RowKind → Bool
 kind_unread Passed = false
 kind_unread Unread = true
-kind_unread Other = false
-kind_unread (Message grave) = false
+kind_unread (Messages grave) = false
 
 abbrev pub kind_grave : RowKind → Bool
 kind_grave Passed = false
 kind_grave Unread = false
-kind_grave Other = false
-kind_grave (Message grave) = grave
+kind_grave (Messages grave) = grave
 
 abbrev pub is_unread : Shown → Bool
 is_unread s = kind_unread s.kind
@@ -91,14 +119,14 @@ abbrev pub text_of : List Shown → List ℕ
 text_of shown = flat_map (λ s. s.text) shown
 
 -- The rows of these bytes are shown, one after the other, as this text, with these notes and this verdict.
-abbrev pub Shows : (Tree → List ℕ → Type 0) → ((List ℕ → Option Source) → List (List ℕ) → Type 0) → List ℕ
+abbrev pub Shows : Format → (Tree → List ℕ → Type 0) → ((List ℕ → Option Source) → List (List ℕ) → Type 0) → List ℕ
     → (List ℕ → List ℕ → Type 0) → Verdict → Type 0
-Shows gives found bytes holds verdict = (shown : List Shown) × (map (λ s. s.row) shown ≡ rows_of bytes)
-    × All (IsShown gives found) shown × holds (text_of shown) (notes_from 1 shown) × (verdict ≡ verdict_of shown)
+Shows from gives found bytes holds verdict = (shown : List Shown) × (map (λ s. s.row) shown ≡ rows_of bytes)
+    × All (IsShown from gives found) shown × holds (text_of shown) (notes_from 1 shown) × (verdict ≡ verdict_of shown)
 
 -- The first rows of these bytes are shown so, and this holds of their text and notes.
-abbrev pub ShowsFirst : (Tree → List ℕ → Type 0) → ((List ℕ → Option Source) → List (List ℕ) → Type 0) → List ℕ
-    → (List ℕ → List ℕ → Type 0) → Type 0
-ShowsFirst gives found bytes holds = (shown : List Shown) × (others : List (List ℕ))
-    × (rows_of bytes ≡ map (λ s. s.row) shown ++ others) × All (IsShown gives found) shown
+abbrev pub ShowsFirst : Format → (Tree → List ℕ → Type 0) → ((List ℕ → Option Source) → List (List ℕ) → Type 0)
+    → List ℕ → (List ℕ → List ℕ → Type 0) → Type 0
+ShowsFirst from gives found bytes holds = (shown : List Shown) × (others : List (List ℕ))
+    × (rows_of bytes ≡ map (λ s. s.row) shown ++ others) × All (IsShown from gives found) shown
     × holds (text_of shown) (notes_from 1 shown)

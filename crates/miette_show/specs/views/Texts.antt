@@ -1,21 +1,28 @@
 -- Texts of rows, as they are made.
-use Rattle.std.specs.Prelude.{◌≡◌, ℕ, List, [], ◌∷◌, ◌++◌, Option, Some, None}
-use Rattle.miette_tree.specs.rules.Tree.{Tree, head}
-use Rattle.miette_show.specs.rules.Shown.{is_grave}
+use Rattle.std.specs.Prelude.{◌≡◌, ℕ, List, [], ◌∷◌, ◌++◌, Bool, Option, Some, None}
+use Rattle.std.specs.List.{list_any}
+use Rattle.miette_tree.specs.rules.Tree.{Tree}
+use Rattle.miette_show.specs.rules.Shown.{AreDrawn, tree_grave}
 use Rattle.miette_show.specs.declared.verdict.RowKind.{RowKind}
-use Rattle.miette_show.specs.declared.verdict.RowKind.TheVariants.{Passed, Unread, Other, Message}
+use Rattle.miette_show.specs.declared.verdict.RowKind.TheVariants.{Passed, Unread, Messages}
+
+-- the texts of these reports, and whether an error is among them
+abbrev pub AreTexts : (Tree → List ℕ → Type 0) → List Tree → Bool → List ℕ → Type 0
+AreTexts gives ts grave text = (grave ≡ list_any tree_grave ts) × AreDrawn gives ts text
+
+-- A report's text is put behind one, with an empty row; and whether it is an error.
+abbrev pub IsPushed : (Tree → List ℕ → Type 0) → Tree → Bool → List ℕ → List ℕ → Type 0
+IsPushed gives t error old new = (error ≡ tree_grave t)
+    × ((drawn : List ℕ) × gives t drawn × (new ≡ old ++ (drawn ++ 10 ∷ [])))
 
 -- a text in place of a row, by what the row says; none where the row itself is shown
-abbrev pub IsValueText : (Tree → List ℕ → Type 0) → Option (Option Tree) → RowKind → List ℕ → Type 0
+abbrev pub IsValueText : (Tree → List ℕ → Type 0) → Option (List Tree) → RowKind → List ℕ → Type 0
 IsValueText gives says Passed text = ⊥
 IsValueText gives says Unread text = says ≡ None
-IsValueText gives says Other text = (says ≡ Some None) × (text ≡ [])
-IsValueText gives says (Message grave) text = (t : Tree) × (says ≡ Some (Some t))
-    × (grave ≡ is_grave (head t).severity) × ((drawn : List ℕ) × gives t drawn × (text ≡ drawn ++ 10 ∷ []))
+IsValueText gives says (Messages grave) text = (ts : List Tree) × (says ≡ Some ts) × AreTexts gives ts grave text
 
 -- what is shown: the row itself, or that text
 abbrev pub shown_text : RowKind → List ℕ → List ℕ → List ℕ
 shown_text Passed row text = row
 shown_text Unread row text = row
-shown_text Other row text = text
-shown_text (Message grave) row text = text
+shown_text (Messages grave) row text = text

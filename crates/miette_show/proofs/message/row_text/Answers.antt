@@ -3,35 +3,35 @@ use Rattle.serde_json.specs.Read.{read}
 use Rattle.serde_json.specs.View.{view}
 use Rattle.miette_report.specs.steps.JobHandler.{IsGiven}
 use Rattle.miette_show.specs.rules.Looking.{IsFoundBy}
-use Rattle.miette_show.specs.rules.Rows.{begins_object}
+use Rattle.miette_show.specs.rules.Rows.{begins_message}
 use Rattle.miette_show.proofs.TextSteps.{passed, told_ok, unread}
 use Rattle.miette_show.proofs.message.row_text.Goals as goal
 
-pub returns-then-not-begins_object-clause-shown : goal.returns-then-not-begins_object-clause-shown
-returns-then-not-begins_object-clause-shown g c =
+pub returns-then-not-begins_message-clause-shown : goal.returns-then-not-begins_message-clause-shown
+returns-then-not-begins_message-clause-shown g c =
     let files = c.args.files.now in
-    let not : begins_object c.args.row.now ≡ false = search rules in
-    passed (IsGiven g.H.Highlighter.is_blank g.H.Highlighter.may_follow c.args.handler.now)
+    let not : begins_message c.args.row.from c.args.row.bytes.now ≡ false = search rules in
+    passed c.args.row.from (IsGiven g.H.Highlighter.is_blank g.H.Highlighter.may_follow c.args.handler.now)
     (IsFoundBy g.F.Files.found g.F.Loader.knows files)
-    (g.F.Files.found files) c.args.row.now [] not
+    (g.F.Files.found files) c.args.row.bytes.now [] not
 
 pub returns-in_default-clause-shown : goal.returns-in_default-clause-shown
 returns-in_default-clause-shown g c =
     let files = c.args.files.now in
-    let begins : begins_object c.args.row.now ≡ true = search rules in
-    unread (IsGiven g.H.Highlighter.is_blank g.H.Highlighter.may_follow c.args.handler.now)
+    let begins : begins_message c.args.row.from c.args.row.bytes.now ≡ true = search rules in
+    unread c.args.row.from (IsGiven g.H.Highlighter.is_blank g.H.Highlighter.may_follow c.args.handler.now)
     (IsFoundBy g.F.Files.found g.F.Loader.knows files)
-    (g.F.Files.found files) c.args.row.now [] begins (c.in_ok-value.ensures.none (search rules))
+    (g.F.Files.found files) c.args.row.bytes.now [] begins (c.in_ok-value.ensures.none (search rules))
 
 pub returns-clause-shown : goal.returns-clause-shown
 returns-clause-shown g c =
     let files = c.args.files.now in
-    let row = c.args.row.now in
-    let begins : begins_object row ≡ true = search rules in
+    let row = c.args.row.bytes.now in
+    let begins : begins_message c.args.row.from row ≡ true = search rules in
     let some : IfSome (Some c.in-Some.value) (λ v. IsUtf8 row × (read row ≡ Some (view v))) =
     subst (λ o. IfSome o (λ v. IsUtf8 row × (read row ≡ Some (view v)))) c.in-Some.is c.in_ok-value.ensures.some
     in
-    told_ok (IsGiven g.H.Highlighter.is_blank g.H.Highlighter.may_follow c.args.handler.now)
+    told_ok c.args.row.from (IsGiven g.H.Highlighter.is_blank g.H.Highlighter.may_follow c.args.handler.now)
     (IsFoundBy g.F.Files.found g.F.Loader.knows files)
     (g.F.Files.found c.load_all.new.files) row (view c.in-Some.value) c.value_text.result begins some.0 some.1
     (c.load_all.new.files, c.in_ok-load_all.ensures.goes, c.in_ok-load_all.ensures.known, refl)

@@ -1,8 +1,9 @@
-use Rattle.std.proofs.Common.{◌≡◌, map, string_bytes}
+use Rattle.std.proofs.Common.{◌≡◌}
 use Rattle.std.specs.Io.KnownBytes.{Appends}
 use Rattle.miette_report.proofs.JobEnds.{not-wrong}
 use Rattle.miette_report.specs.views.Device.{TakesBeginning}
 use Rattle.miette_show.specs.rules.Looking.{IsFoundBy}
+use Rattle.miette_show.specs.views.Asked.{request_of, words_of}
 use Rattle.miette_show.specs.views.Reading.{left_of}
 use Rattle.miette_show.proofs.Calls.{call_first, call_shows}
 use Rattle.miette_show.proofs.NoteEnds.{on_ok_of}
@@ -11,7 +12,7 @@ use Rattle.miette_show.proofs.show.show_on.Goals as goal
 pub returns-clause-ok : goal.returns-clause-ok
 returns-clause-ok g c =
     let it = c.in_ok-settings.settings in
-    call_shows _ (map string_bytes c.args.words.now) it.choice it.options it.terminal c.in_ok-handler.handler
+    call_shows _ (request_of c.args.asked.now) it.choice it.options it.terminal c.in_ok-handler.handler
     c.in_ok-settings.ensures.table c.in_ok-handler.ensures
     (IsFoundBy g.F.Files.found g.F.Loader.knows c.args.files.now) (left_of g.R.Read.remaining c.args.streams.now.rows)
     (λ text notes. Appends (g.W.Write.contents c.args.streams.now.writer.inner)
@@ -22,7 +23,7 @@ returns-clause-ok g c =
 pub returns-clause-beginning : goal.returns-clause-beginning
 returns-clause-beginning g c =
     let it = c.in_ok-settings.settings in
-    call_first _ (map string_bytes c.args.words.now) it.choice it.options it.terminal c.in_ok-handler.handler
+    call_first _ (request_of c.args.asked.now) it.choice it.options it.terminal c.in_ok-handler.handler
     c.in_ok-settings.ensures.table c.in_ok-handler.ensures
     (IsFoundBy g.F.Files.found g.F.Loader.knows c.args.files.now) (left_of g.R.Read.remaining c.args.streams.now.rows)
     (λ text notes. TakesBeginning (g.W.Write.contents c.args.streams.now.writer.inner)
@@ -34,5 +35,5 @@ returns-clause-beginning g c =
 pub returns-clause-right : goal.returns-clause-right
 returns-clause-right g c =
     let it = c.in_ok-settings.settings in
-    on_ok_of c.show_rows.result _ (not-wrong (map string_bytes c.args.words.now) it.choice it.options it.terminal
+    on_ok_of c.show_rows.result _ (not-wrong (words_of c.args.asked.now.options) it.choice it.options it.terminal
     c.in_ok-settings.ensures.table)

@@ -22,13 +22,13 @@ loop-number-init g c = record {
   goes = goes_still _ _;
   stays = stays-itself g.H.Highlighter.is_blank _;
   led = led-nowhere g.H.Highlighter.may_follow _;
-  progress = progress.begin _ _ _ _ _ 1 c.none-verdict.result refl c.none-verdict.ensures;
+  progress = progress.begin _ _ _ _ _ _ 1 c.none-verdict.result refl c.none-verdict.ensures;
 }
 
 pub returns-then-is_empty-clause-ok : goal.returns-then-is_empty-clause-ok
 returns-then-is_empty-clause-ok g c =
     let none : length c.next.new.row.items ≡ 0 = search rules in
-    progress.end _ _ _ _ _ _ _ _ _ c.loop-number.number c.loop-number.verdict c.next.new.row.items
+    progress.end _ _ _ _ _ _ _ _ _ _ c.loop-number.number c.loop-number.verdict c.next.new.row.items
     (nil_from_length c.next.new.row.items none) c.loop-number.invariant.progress c.in_ok-next.ensures.row
 
 pub returns-in_err-note-clause-accepted : goal.returns-in_err-note-clause-accepted
@@ -70,7 +70,8 @@ loop-number-preserved g c =
     let row = c.next.new.row.items in
     let shown = c.in_ok-kind.ensures.shown in
     let some : 0 < length row = search rules in
-    let is_shown = shown_before blank follow c.args.handler.now l.handler g.F.Files.found g.F.Loader.knows first l.files
+    let is_shown = shown_before c.args.from blank follow c.args.handler.now l.handler g.F.Files.found g.F.Loader.knows
+    first l.files
     c.as_slice.result.now row kind shown.0 l.invariant.stays l.invariant.led l.invariant.goes
     c.as_slice.ensures.value shown.1
     in
@@ -85,14 +86,14 @@ loop-number-preserved g c =
           c.show_row.ensures.stays;
       led = led-on follow c.args.handler.now l.handler c.show_row.new.handler l.invariant.led
           c.in_ok-kind.ensures.led;
-      progress = progress.more gives found _ _ _ _ _ _ _ _ _ l.number l.verdict c.with-verdict.result row kind shown.0
-          some l.invariant.progress c.in_ok-next.ensures.row is_shown shown.2 c.in_ok-note.ensures.noted
+      progress = progress.more c.args.from gives found _ _ _ _ _ _ _ _ _ l.number l.verdict c.with-verdict.result row
+          kind shown.0 some l.invariant.progress c.in_ok-next.ensures.row is_shown shown.2 c.in_ok-note.ensures.noted
           c.with-verdict.ensures;
     }
 
 pub returns-in_err-next-clause-beginning : goal.returns-in_err-next-clause-beginning
 returns-in_err-next-clause-beginning g c = on_err_of _ _
-    (progress.begun _ _ _ _ _ _ _ _ c.loop-number.number c.loop-number.verdict c.loop-number.invariant.progress)
+    (progress.begun _ _ _ _ _ _ _ _ _ c.loop-number.number c.loop-number.verdict c.loop-number.invariant.progress)
 
 pub returns-in_err-kind-clause-beginning : goal.returns-in_err-kind-clause-beginning
 returns-in_err-kind-clause-beginning g c =
@@ -106,19 +107,19 @@ returns-in_err-kind-clause-beginning g c =
     on_err_of _ _ (elim c.in_err-kind.ensures.untouched [
       | inl failed ↦
           (let cut = c.in_err-kind.ensures.beginning failed in
-          let is_shown = shown_before g.H.Highlighter.is_blank g.H.Highlighter.may_follow c.args.handler.now
+          let is_shown = shown_before c.args.from g.H.Highlighter.is_blank g.H.Highlighter.may_follow c.args.handler.now
           l.handler g.F.Files.found g.F.Loader.knows first l.files c.as_slice.result.now row cut.0 cut.1
           l.invariant.stays l.invariant.led l.invariant.goes c.as_slice.ensures.value cut.2
           in
-          progress.begun_with gives found left _ _ _ _ _ _ _ _ l.number l.verdict row cut.0 cut.1 some
+          progress.begun_with c.args.from gives found left _ _ _ _ _ _ _ _ l.number l.verdict row cut.0 cut.1 some
           l.invariant.progress c.in_ok-next.ensures.row is_shown cut.3
           (none_taken _ _))
       | inr same ↦
-          subst (λ d. IfSome left (λ bytes. ShowsFirst gives found bytes
+          subst (λ d. IfSome left (λ bytes. ShowsFirst c.args.from gives found bytes
           (λ text notes. TakesBeginning (g.W.Write.contents c.args.streams.now.writer.inner)
           (g.W.Write.contents d.inner) text × TakesBeginning (g.E.Write.contents c.args.streams.now.faults.inner)
           (g.E.Write.contents l.streams.faults.inner) notes))) (sym same)
-          (progress.begun gives found left _ _ _ _ _ l.number l.verdict l.invariant.progress)
+          (progress.begun c.args.from gives found left _ _ _ _ _ l.number l.verdict l.invariant.progress)
     ])
 
 pub returns-in_err-note-clause-beginning : goal.returns-in_err-note-clause-beginning
@@ -132,7 +133,8 @@ returns-in_err-note-clause-beginning g c =
     let row = c.next.new.row.items in
     let shown = c.in_ok-kind.ensures.shown in
     let some : 0 < length row = search rules in
-    let is_shown = shown_before g.H.Highlighter.is_blank g.H.Highlighter.may_follow c.args.handler.now l.handler
+    let is_shown = shown_before c.args.from g.H.Highlighter.is_blank g.H.Highlighter.may_follow c.args.handler.now
+    l.handler
     g.F.Files.found g.F.Loader.knows first l.files c.as_slice.result.now row kind shown.0 l.invariant.stays
     l.invariant.led l.invariant.goes c.as_slice.ensures.value shown.1
     in
@@ -146,9 +148,9 @@ returns-in_err-note-clause-beginning g c =
     ]
     in
     on_err_of _ _
-    (progress.begun_with gives found left _ _ _ _ _ _ _ _ l.number l.verdict row kind shown.0 some
+    (progress.begun_with c.args.from gives found left _ _ _ _ _ _ _ _ l.number l.verdict row kind shown.0 some
     l.invariant.progress c.in_ok-next.ensures.row is_shown (all_taken _ _ _ shown.2) taken)
 
 pub returns-clause-beginning : goal.returns-clause-beginning
 returns-clause-beginning g c =
-    progress.begun _ _ _ _ _ _ _ _ c.loop-number.number c.loop-number.verdict c.loop-number.invariant.progress
+    progress.begun _ _ _ _ _ _ _ _ _ c.loop-number.number c.loop-number.verdict c.loop-number.invariant.progress

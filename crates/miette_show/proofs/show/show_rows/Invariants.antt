@@ -15,7 +15,7 @@ invariant-loop-number g l = record {
       (g.F.Loader.knows l.files);
   stays : Stays g.H.Highlighter.is_blank l.initial.handler l.handler;
   led : IsLed g.H.Highlighter.may_follow l.initial.handler l.handler;
-  progress : Progress (IsGiven g.H.Highlighter.is_blank g.H.Highlighter.may_follow l.initial.handler)
+  progress : Progress l.initial.from (IsGiven g.H.Highlighter.is_blank g.H.Highlighter.may_follow l.initial.handler)
       (IsFoundBy g.F.Files.found g.F.Loader.knows l.initial.files) (left_of g.R.Read.remaining l.initial.streams.rows)
       (left_of g.R.Read.remaining l.streams.rows) (g.W.Write.contents l.initial.streams.writer.inner)
       (g.W.Write.contents l.streams.writer.inner) (g.E.Write.contents l.initial.streams.faults.inner)

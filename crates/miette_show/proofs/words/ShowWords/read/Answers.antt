@@ -2,7 +2,7 @@ use Rattle.std.proofs.Common.{◌≡◌, ◌∷◌, ◌∙◌, Some, true, false
 use Rattle.std.proofs.Common.{rules, tests}
 use Rattle.std.specs.Option.{option_copied}
 use Rattle.std.proofs.lemmas.List.{nil_from_length}
-use Rattle.miette_show.specs.rules.ShowWords.{asked_from}
+use Rattle.miette_show.specs.rules.ShowWords.{asked_from, format_named}
 use Rattle.miette_show.proofs.WordSteps.{from_passed, none_left, others, root_passed}
 use Rattle.miette_show.proofs.words.ShowWords.read.Goals.{in-Some+in_default-as_str, in_default}
 use Rattle.miette_show.proofs.words.ShowWords.read.Goals as goal
@@ -20,8 +20,9 @@ loop-word-preserved-then-str_eq c =
     let is : bytes_eq word (codes "--root") ≡ true =
     ap (λ w. bytes_eq w (codes "--root")) (sym c.as_str.ensures.value) ∙ here
     in
-    ap (λ v. asked_from (Some v) after) c.as_str-in-text.ensures.value
-    ∙ root_passed (option_copied c.loop-word.root) (map string_bytes c.loop-word.rest.now) word value after rest is
+    ap (λ v. asked_from (Some v) c.loop-word.from after) c.as_str-in-text.ensures.value
+    ∙ root_passed (option_copied c.loop-word.root) c.loop-word.from (map string_bytes c.loop-word.rest.now) word value
+    after rest is
     ∙ c.loop-word.invariant
 
 pub loop-word-preserved : goal.loop-word-preserved
@@ -35,11 +36,11 @@ loop-word-preserved c =
     in
     let no : bytes_eq c.as_str.result.now (codes "--root") ≡ false = search (rules, tests) in
     let here : bytes_eq c.as_str.result.now (codes "--from") ≡ true = search (rules, tests) in
-    let named : bytes_eq c.as_str-in-text-2.result.now (codes "rustc") ≡ true = search (rules, tests) in
-    from_passed (option_copied c.loop-word.root) (map string_bytes c.loop-word.rest.now) word value after rest
+    from_passed (option_copied c.loop-word.root) c.loop-word.from (map string_bytes c.loop-word.rest.now) word value
+    after c.in_ok-from-in-text-2.from rest
     (ap (λ w. bytes_eq w (codes "--root")) (sym c.as_str.ensures.value) ∙ no)
     (ap (λ w. bytes_eq w (codes "--from")) (sym c.as_str.ensures.value) ∙ here)
-    (ap (λ w. bytes_eq w (codes "rustc")) (sym c.as_str-in-text-2.ensures.value) ∙ named) ∙ c.loop-word.invariant
+    (ap format_named (sym c.as_str-in-text-2.ensures.value) ∙ sym c.in_ok-from-in-text-2.ensures) ∙ c.loop-word.invariant
 
 pub returns : goal.returns
 returns c =
@@ -51,12 +52,12 @@ returns c =
           in
           let no : bytes_eq w.as_str.result.now (codes "--root") ≡ false = search (rules, tests) in
           let nor : bytes_eq w.as_str.result.now (codes "--from") ≡ false = search (rules, tests) in
-          others (option_copied c.loop-word.root) (map string_bytes c.loop-word.rest.now) word
+          others (option_copied c.loop-word.root) c.loop-word.from (map string_bytes c.loop-word.rest.now) word
           (map string_bytes w.in-Some.more.now) rest
           (ap (λ w. bytes_eq w (codes "--root")) (sym w.as_str.ensures.value) ∙ no)
           (ap (λ w. bytes_eq w (codes "--from")) (sym w.as_str.ensures.value) ∙ nor) ∙ c.loop-word.invariant)
       | in_default w ↦
           (let none : length c.loop-word.rest.now ≡ 0 = search rules in
-          none_left (option_copied c.loop-word.root) (map string_bytes c.loop-word.rest.now)
+          none_left (option_copied c.loop-word.root) c.loop-word.from (map string_bytes c.loop-word.rest.now)
           (ap (map string_bytes) (nil_from_length c.loop-word.rest.now none)) ∙ c.loop-word.invariant)
     ]
