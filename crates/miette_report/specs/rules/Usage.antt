@@ -35,7 +35,7 @@ usage_of Draw = codes "NAME OFFSET LENGTH LABEL MESSAGE"
 usage_of Job = bracketed job_words ++ codes "| --fix[=all] | --sarif [--tool TOOL] | --lsp [--tool TOOL]"
 usage_of Bench = codes "N [OPTIONS]"
 usage_of Lint = codes "[--brief | --github | --fix | --diff | --sarif [--tool TOOL]] NAME WIDTH"
-usage_of Show = codes "[--from rustc] [--root DIR] [OPTIONS]"
+usage_of Show = codes "[--from auto|rustc|gcc] [--root DIR] [OPTIONS]"
 
 -- whether the usage of `job` names a word
 abbrev pub is_named : List ℕ → Bool
