@@ -87,13 +87,19 @@ fn render(
 ) -> Result<Result<(), RenderError>, AllocError> {
     match name {
         "GraphicalReportHandler::render_report" => {
-            Ok(drawing(alloc)?.render_report(report, text))
+            let theme = GraphicalTheme::unicode(alloc)?;
+            let drawing: GraphicalReportHandler = GraphicalReportHandler::new_themed(theme);
+            Ok(drawing.with_width(40).render_report(report, text))
         }
         "ReportHandler::debug for GraphicalReportHandler" => {
-            Ok(debug_by(drawing(alloc)?, report, text))
+            let theme = GraphicalTheme::unicode(alloc)?;
+            let drawing: GraphicalReportHandler = GraphicalReportHandler::new_themed(theme);
+            Ok(debug_by(drawing.with_width(40), report, text))
         }
         "ReportHandler::debug for MietteHandler" => {
-            let chosen: MietteHandler = MietteHandler::Graphical(drawing(alloc)?);
+            let theme = GraphicalTheme::unicode(alloc)?;
+            let drawing = GraphicalReportHandler::new_themed(theme).with_width(40);
+            let chosen: MietteHandler = MietteHandler::Graphical(drawing);
             Ok(debug_by(chosen, report, text))
         }
         _ => Ok(if name.starts_with("ReportHandler::") {
@@ -102,11 +108,6 @@ fn render(
             render_by_method(name, report, text)
         }),
     }
-}
-
-fn drawing(alloc: Global) -> Result<GraphicalReportHandler, AllocError> {
-    let theme = GraphicalTheme::unicode(alloc)?;
-    Ok(GraphicalReportHandler::new_themed(theme).with_width(40))
 }
 
 /// What a handler's own method of this name answers.
