@@ -1,7 +1,7 @@
 //! What a report keeps beside its diagnostic: labels over further sources, and fixes.
 
 use crate::fixes::with_colon;
-use crate::rows::{Done, write_refusal, write_refused};
+use crate::rows::{Called, REFUSED, Rows, VALUE};
 use miette::diagnostic::MietteDiagnostic;
 use miette::protocol::{Diagnostic, LabeledSpan};
 use miette::report::{OwnedSource, Report, ReportKind, Snippets};
@@ -27,16 +27,17 @@ type Plain = Report<MietteDiagnostic, String>;
 /// Makes the call of this name.
 ///
 /// # Errors
-/// `Memory` where what it needs can't be made, `Write` where standard output took no more.
-pub fn make<W: Write>(alloc: Global, name: &str, out: &mut W) -> Done {
+/// Where memory is refused for what it is given.
+pub fn make<W: Write + Drop>(alloc: Global, name: &str, row: &mut Rows<W>) -> Called {
     match name {
-        "Report::with_snippets" => write_made(out, over_a_text(alloc)),
-        "Report::with_owned_snippets" => write_made(out, over_two(alloc)),
-        "Report::with_all_snippets" => write_made(out, over_another(alloc)),
-        "Report::with_fix" => write_made(out, with_two_fixes(alloc)),
-        "Report::with_fixes" => write_made(out, with_other_fixes(alloc)),
-        _ => write_by_macro(out, &by_macro(alloc)?),
+        "Report::with_snippets" => made(row, over_a_text(alloc)),
+        "Report::with_owned_snippets" => made(row, over_two(alloc)),
+        "Report::with_all_snippets" => made(row, over_another(alloc)),
+        "Report::with_fix" => made(row, with_two_fixes(alloc)),
+        "Report::with_fixes" => made(row, with_other_fixes(alloc)),
+        _ => made_by_macro(row, &by_macro(alloc)?),
     }
+    Ok(())
 }
 
 /// `oops!`, and nothing else.
@@ -100,29 +101,30 @@ fn by_macro(alloc: Global) -> Result<Report, AllocError> {
 }
 
 /// The report that a call gave, or that memory was refused.
-fn write_made<W: Write>(out: &mut W, answer: Result<Plain, AllocError>) -> Done {
+fn made<W: Write + Drop>(row: &mut Rows<W>, answer: Result<Plain, AllocError>) {
     match answer {
-        Ok(report) => write_attached(out, &report),
-        Err(AllocError) => write_refused(out),
+        Ok(report) => attached(row, &report),
+        Err(AllocError) => row.refused(),
     }
 }
 
-fn write_by_macro<W: Write>(out: &mut W, report: &Report) -> Done {
+fn made_by_macro<W: Write + Drop>(row: &mut Rows<W>, report: &Report) {
     match report.kind() {
-        ReportKind::OutOfMemory => write_refusal(out, report),
-        _ => write_attached(out, report),
+        ReportKind::OutOfMemory => row.report(REFUSED, report),
+        _ => attached(row, report),
     }
 }
 
 /// A report's message and code, its labels over further sources, and its fixes.
-fn write_attached<D: Diagnostic, S: SourceCode, W: Write>(
-    out: &mut W,
+fn attached<D: Diagnostic, S: SourceCode, W: Write + Drop>(
+    row: &mut Rows<W>,
     report: &Report<D, S>,
-) -> Done {
-    write!(out, "\t{report}, code {:?}", report.code())?;
+) {
+    row.text(VALUE);
+    row.text(report.message());
+    row.part(", code ", &report.code());
     for section in report.further_snippets() {
-        write!(out, ", over another {:?}", section.labels())?;
+        row.part(", over another ", &section.labels());
     }
-    write!(out, ", fixes {:?}", report.fixes())?;
-    Ok(())
+    row.part(", fixes ", &report.fixes());
 }

@@ -1,7 +1,7 @@
 //! Diagnostics.
 
 use crate::fixtures::{Label, labels_of};
-use crate::rows::{Done, Stop, write_answer, write_clones_if_made, write_made};
+use crate::rows::{Called, Rows};
 use miette::diagnostic::MietteDiagnostic;
 use miette::protocol::{LabeledSpan, Severity};
 use miette_tree::diagnostic;
@@ -26,17 +26,22 @@ pub static NAMES: [&str; 11] = [
 /// Makes the call of this name.
 ///
 /// # Errors
-/// `Memory` where what it needs can't be made, `Write` where standard output took no more.
-pub fn make<W: Write>(alloc: Global, name: &str, out: &mut W) -> Done {
+/// Where memory is refused for what it is given.
+pub fn make<W: Write + Drop>(alloc: Global, name: &str, row: &mut Rows<W>) -> Called {
     match name {
-        "MietteDiagnostic::new" => write_answer(out, MietteDiagnostic::new(alloc, "oops!")),
-        "diagnostic!" => write_answer(out, by_macro(alloc)),
-        "MietteDiagnostic::clone" => write_clones_if_made(out, full_diagnostic(alloc)),
+        "MietteDiagnostic::new" => row.answer(MietteDiagnostic::new(alloc, "oops!")),
+        "diagnostic!" => row.answer(by_macro(alloc)),
+        "MietteDiagnostic::clone" => row.clones(full_diagnostic(alloc)?),
+        "MietteDiagnostic::with_label" | "MietteDiagnostic::and_label" => {
+            return with_label(alloc, name, row);
+        }
+        "MietteDiagnostic::and_labels" => return and_labels(alloc, row),
         _ => {
-            let full = write_full_diagnostic(alloc, out)?;
-            write_answer(out, change(alloc, name, full)?)
+            let full = given_diagnostic(alloc, row)?;
+            row.answer(changed(alloc, name, full));
         }
     }
+    Ok(())
 }
 
 fn by_macro(alloc: Global) -> Result<MietteDiagnostic, AllocError> {
@@ -49,87 +54,56 @@ fn by_macro(alloc: Global) -> Result<MietteDiagnostic, AllocError> {
 /// The diagnostic that a call is given, which the row shows.
 ///
 /// # Errors
-/// `Memory` where it can't be made, `Write` where standard output took no more.
-pub fn write_full_diagnostic<W: Write>(
+/// Where memory is refused.
+pub fn given_diagnostic<W: Write + Drop>(
     alloc: Global,
-    out: &mut W,
-) -> Result<MietteDiagnostic, Stop> {
-    write_made(out, full_diagnostic(alloc))
+    row: &mut Rows<W>,
+) -> Result<MietteDiagnostic, AllocError> {
+    let full = full_diagnostic(alloc)?;
+    row.value(&full);
+    Ok(full)
 }
 
-/// What the call of this name makes of a diagnostic; an error where what it needs can't be made.
-fn change(
-    alloc: Global,
-    name: &str,
-    full: MietteDiagnostic,
-) -> Result<Result<MietteDiagnostic, AllocError>, Stop> {
-    match name {
-        "MietteDiagnostic::copied" => Ok(MietteDiagnostic::copied(alloc, &full)),
-        "MietteDiagnostic::with_code"
-        | "MietteDiagnostic::with_help"
-        | "MietteDiagnostic::with_url" => Ok(with_text(alloc, name, full)),
-        _ => with_labels(alloc, name, full),
-    }
-}
-
-fn with_text(
+/// What the call of this name makes of a diagnostic.
+fn changed(
     alloc: Global,
     name: &str,
     full: MietteDiagnostic,
 ) -> Result<MietteDiagnostic, AllocError> {
     match name {
+        "MietteDiagnostic::copied" => MietteDiagnostic::copied(alloc, &full),
         "MietteDiagnostic::with_code" => full.with_code(alloc, "c::d"),
         "MietteDiagnostic::with_help" => full.with_help(alloc, "try again"),
-        _ => full.with_url(alloc, "http://y"),
+        "MietteDiagnostic::with_url" => full.with_url(alloc, "http://y"),
+        _ => full.with_labels_from(alloc, [4, 7].into_iter().map(LabeledSpan::underline)),
     }
 }
 
-fn with_labels(
-    alloc: Global,
-    name: &str,
-    full: MietteDiagnostic,
-) -> Result<Result<MietteDiagnostic, AllocError>, Stop> {
-    match name {
-        "MietteDiagnostic::with_label" | "MietteDiagnostic::and_label" => {
-            with_label(
-                alloc,
-                name,
-                full,
-                LabeledSpan::at(alloc, (0, 6), "and this"),
-            )
-        }
-        "MietteDiagnostic::and_labels" => and_labels(alloc, full, labels_of(alloc, &TWO)),
-        _ => Ok(full.with_labels_from(alloc, [4, 7].into_iter().map(LabeledSpan::underline))),
-    }
-}
-
-fn with_label(
-    alloc: Global,
-    name: &str,
-    full: MietteDiagnostic,
-    label: Result<LabeledSpan, AllocError>,
-) -> Result<Result<MietteDiagnostic, AllocError>, Stop> {
-    let label = label?;
-    if name == "MietteDiagnostic::with_label" {
-        Ok(full.with_label(alloc, label))
+fn with_label<W: Write + Drop>(alloc: Global, name: &str, row: &mut Rows<W>) -> Called {
+    let label = LabeledSpan::at(alloc, (0, 6), "and this")?;
+    let full = given_diagnostic(alloc, row)?;
+    row.answer(if name == "MietteDiagnostic::with_label" {
+        full.with_label(alloc, label)
     } else {
-        Ok(full.and_label(alloc, label))
-    }
+        full.and_label(alloc, label)
+    });
+    Ok(())
 }
 
-fn and_labels(
-    alloc: Global,
-    full: MietteDiagnostic,
-    labels: Result<Vec<LabeledSpan>, AllocError>,
-) -> Result<Result<MietteDiagnostic, AllocError>, Stop> {
-    let labels = labels?;
-    Ok(full.and_labels(alloc, labels))
+fn and_labels<W: Write + Drop>(alloc: Global, row: &mut Rows<W>) -> Called {
+    let labels = labels_of(alloc, &TWO)?;
+    let full = given_diagnostic(alloc, row)?;
+    row.answer(full.and_labels(alloc, labels));
+    Ok(())
 }
 
 /// Two labels.
 static TWO: [Label<'static>; 2] = [(0, 6, 0, "first"), (18, 4, 0, "second")];
 
 /// A diagnostic with all parts.
+///
+/// # Errors
+/// Where memory is refused.
 pub fn full_diagnostic(alloc: Global) -> Result<MietteDiagnostic, AllocError> {
     let label = LabeledSpan::at(alloc, (9, 4), "This bit here")?;
     MietteDiagnostic::new(alloc, "oops!")?

@@ -1,7 +1,7 @@
 //! Worked reports, by each handler: `calls report`, or `calls report NAME HANDLER` for one row.
 
 use crate::fixtures::Made;
-use crate::rows::{Done, end_row, write_given, write_text};
+use crate::rows::{Called, Done, Rows};
 use crate::stopping::{Reads, Red};
 use crate::themes::terminal;
 use crate::worked::report;
@@ -56,89 +56,91 @@ pub static HANDLERS: [&str; 13] = [
 /// The rows that are asked for: those of a report, of a handler, or all.
 ///
 /// # Errors
-/// `Write` where standard output took no more, `Memory` where it was refused before any row.
-pub fn rows_of<W: Write>(alloc: Global, out: &mut W, name: &str, handler: &str) -> Done {
+/// `Write` where standard output took no more.
+pub fn rows_of<W: Write + Drop>(
+    alloc: Global,
+    rows: &mut Rows<W>,
+    name: &str,
+    handler: &str,
+) -> Done {
     for one in &NAMES {
         if name.is_empty() || name == *one {
-            rows_by(alloc, out, one, handler)?;
+            rows_by(alloc, rows, one, handler)?;
         }
     }
     Ok(())
 }
 
 /// The rows of a report that are asked for.
-fn rows_by<W: Write>(alloc: Global, out: &mut W, name: &str, handler: &str) -> Done {
+fn rows_by<W: Write + Drop>(alloc: Global, rows: &mut Rows<W>, name: &str, handler: &str) -> Done {
     for by in &HANDLERS {
         if handler.is_empty() || handler == *by {
-            row_by(alloc, out, name, by)?;
+            row_by(alloc, rows, name, by)?;
         }
     }
     Ok(())
 }
 
 /// The row of a report by a handler.
-fn row_by<W: Write>(alloc: Global, out: &mut W, name: &str, handler: &str) -> Done {
-    write!(out, "{name}, {handler}")?;
-    let done = row(alloc, out, name, handler);
-    end_row(out, done)
-}
-
-fn row<W: Write>(alloc: Global, out: &mut W, name: &str, handler: &str) -> Done {
+fn row_by<W: Write + Drop>(alloc: Global, row: &mut Rows<W>, name: &str, handler: &str) -> Done {
     let reads = Reads {
         count: Cell::new(0),
         fails_at: 1,
         stays: false,
     };
-    render_made(alloc, out, report(alloc, name, &reads), handler, 1)
+    row.text(name);
+    row.text(", ");
+    row.text(handler);
+    let called = render_made(alloc, row, report(alloc, name, &reads), handler, 1);
+    row.end(called)
 }
 
 /// The text `> ` and what the handler of this name puts behind it, of a report that was made.
-/// `Write` where standard output took no more, `Memory` where the report or the handler wasn't made.
-pub fn render_made<W: Write>(
+///
+/// # Errors
+/// Where memory is refused for the handler, or was for the report.
+pub fn render_made<W: Write + Drop>(
     alloc: Global,
-    out: &mut W,
+    row: &mut Rows<W>,
     report: Result<Made<'_>, AllocError>,
     handler: &str,
     lines: usize,
-) -> Done {
+) -> Called {
     let report = report?;
-    render(alloc, out, &report, handler, lines)
-}
-
-/// The same of a report that is there.
-fn render<W: Write>(
-    alloc: Global,
-    out: &mut W,
-    report: &Made<'_>,
-    handler: &str,
-    lines: usize,
-) -> Done {
     match handler {
         "narrated" => {
             let mut telling = NarratableReportHandler::new().with_context_lines(lines);
-            render_behind(alloc, out, &mut telling, report)
+            render(alloc, row, &mut telling, &report)
         }
-        "brief" => render_behind(alloc, out, &mut BriefReportHandler::new(), report),
+        "brief" => render(alloc, row, &mut BriefReportHandler::new(), &report),
         "github" => {
             let mut telling = BriefReportHandler::new().with_form(Form::Github);
-            render_behind(alloc, out, &mut telling, report)
+            render(alloc, row, &mut telling, &report)
         }
-        "json" => render_behind(alloc, out, &mut JSONReportHandler::new(), report),
-        "debug" => render_behind(alloc, out, &mut DebugReportHandler::new(), report),
-        _ => render_drawn(alloc, out, handler, &Asked { report, lines }),
+        "json" => render(alloc, row, &mut JSONReportHandler::new(), &report),
+        "debug" => render(alloc, row, &mut DebugReportHandler::new(), &report),
+        _ => draw(alloc, row, handler, &report, lines),
     }
 }
 
 /// The same for handlers that draw, and for those that options choose.
-fn render_drawn<W: Write>(alloc: Global, out: &mut W, handler: &str, it: &Asked<'_, '_>) -> Done {
+fn draw<W: Write + Drop>(
+    alloc: Global,
+    row: &mut Rows<W>,
+    handler: &str,
+    report: &Made<'_>,
+    lines: usize,
+) -> Called {
+    let red = red_of(handler);
     if handler == "graphical" {
-        draw_plainly(alloc, out, it)
+        render_by(alloc, row, plain_drawing(alloc, lines), report)
     } else if handler.starts_with("chosen") {
-        let told = handler.ends_with("narrated");
-        render_by_choice(alloc, out, red_of(handler), told, it)
+        let terminal = terminal(alloc)?;
+        let chosen = options(red, handler.ends_with("narrated"), lines).build(alloc, &terminal);
+        render_by(alloc, row, chosen, report)
     } else {
         let nested = handler.starts_with("nested");
-        draw(alloc, out, red_of(handler), nested, it)
+        render_by(alloc, row, drawing(alloc, red, nested, lines), report)
     }
 }
 
@@ -151,25 +153,10 @@ fn red_of(handler: &str) -> Red {
     }
 }
 
-/// A report, and how many lines are shown around its labels.
-#[derive(Clone, Copy)]
-struct Asked<'a, 'b> {
-    report: &'a Made<'b>,
-    lines: usize,
-}
-
-fn draw_plainly<W: Write>(alloc: Global, out: &mut W, it: &Asked<'_, '_>) -> Done {
-    render_by(alloc, out, plain_drawing(alloc, it.lines), it.report)
-}
-
 fn plain_drawing(alloc: Global, lines: usize) -> Result<GraphicalReportHandler<Red>, AllocError> {
     let theme = GraphicalTheme::unicode(alloc)?;
     let drawing: GraphicalReportHandler<Red> = GraphicalReportHandler::themed(theme);
     Ok(drawing.with_width(40).with_context_lines(lines))
-}
-
-fn draw<W: Write>(alloc: Global, out: &mut W, red: Red, nested: bool, it: &Asked<'_, '_>) -> Done {
-    render_by(alloc, out, drawing(alloc, red, nested, it.lines), it.report)
 }
 
 fn drawing(
@@ -188,19 +175,6 @@ fn drawing(
     )
 }
 
-/// By the handler that options choose for a terminal.
-fn render_by_choice<W: Write>(
-    alloc: Global,
-    out: &mut W,
-    red: Red,
-    told: bool,
-    it: &Asked<'_, '_>,
-) -> Done {
-    let terminal = terminal(alloc)?;
-    let handler = options(red, told, it.lines).build(alloc, &terminal);
-    render_by(alloc, out, handler, it.report)
-}
-
 fn options(red: Red, told: bool, lines: usize) -> MietteHandlerOpts<Red> {
     let options: MietteHandlerOpts<Red> = MietteHandlerOpts::default();
     options
@@ -211,32 +185,24 @@ fn options(red: Red, told: bool, lines: usize) -> MietteHandlerOpts<Red> {
 }
 
 /// The same by a handler, where it was made.
-fn render_by<H: ReportHandler + Drop, W: Write>(
+fn render_by<H: ReportHandler + Drop, W: Write + Drop>(
     alloc: Global,
-    out: &mut W,
+    row: &mut Rows<W>,
     handler: Result<H, AllocError>,
     report: &Made<'_>,
-) -> Done {
-    render_behind(alloc, out, &mut handler?, report)
+) -> Called {
+    render(alloc, row, &mut handler?, report)
 }
 
-fn render_behind<H: ReportHandler, W: Write>(
+fn render<H: ReportHandler, W: Write + Drop>(
     alloc: Global,
-    out: &mut W,
+    row: &mut Rows<W>,
     handler: &mut H,
     report: &Made<'_>,
-) -> Done {
+) -> Called {
     let mut text = String::from_str(alloc, "> ")?;
-    render_onto(out, handler, report, &mut text)
-}
-
-fn render_onto<H: ReportHandler, W: Write>(
-    out: &mut W,
-    handler: &mut H,
-    report: &Made<'_>,
-    text: &mut String,
-) -> Done {
-    write_given(out, text)?;
-    let answer = handler.debug(report, text);
-    write_text(out, answer, text)
+    row.value(&text);
+    let answer = handler.debug(report, &mut text);
+    row.appended(answer, &text);
+    Ok(())
 }

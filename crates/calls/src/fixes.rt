@@ -1,6 +1,6 @@
 //! Fixes: edits of a source, and the text after them.
 
-use crate::rows::{Done, write_answer, write_clones_if_made, write_given};
+use crate::rows::{Called, Rows};
 use miette_fixes::fix::{Edit, Fix, apply_all};
 use std::alloc::{AllocError, Global};
 use std::io::Write;
@@ -19,17 +19,18 @@ pub static NAMES: [&str; 7] = [
 /// Makes the call of this name.
 ///
 /// # Errors
-/// `Memory` where what it needs can't be made, `Write` where standard output took no more.
-pub fn make<W: Write>(alloc: Global, name: &str, out: &mut W) -> Done {
+/// Where memory is refused for what it is given.
+pub fn make<W: Write + Drop>(alloc: Global, name: &str, row: &mut Rows<W>) -> Called {
     match name {
-        "Edit::delete" => write_given(out, &Edit::delete(alloc, (0, 1))),
-        "Edit::clone" => write_clones_if_made(out, colon(alloc)),
-        "Fix::new" => write_answer(out, Fix::new(alloc, "m")),
-        "Fix::with_edit" => write_answer(out, with_colon(alloc)),
-        "Fix::with_edits_from" => write_answer(out, with_edits(alloc)),
-        "Fix::apply" => write_answer(out, fixed(alloc)),
-        _ => write_answer(out, apply_all(alloc, b"if x", &[&with_edits(alloc)?])),
+        "Edit::delete" => row.value(&Edit::delete(alloc, (0, 1))),
+        "Edit::clone" => row.clones(colon(alloc)?),
+        "Fix::new" => row.answer(Fix::new(alloc, "m")),
+        "Fix::with_edit" => row.answer(with_colon(alloc)),
+        "Fix::with_edits_from" => row.answer(with_edits(alloc)),
+        "Fix::apply" => row.answer(fixed(alloc)),
+        _ => row.answer(apply_all(alloc, b"if x", &[&with_edits(alloc)?])),
     }
+    Ok(())
 }
 
 fn colon(alloc: Global) -> Result<Edit, AllocError> {

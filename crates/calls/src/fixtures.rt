@@ -53,23 +53,17 @@ pub const M: Written<'static> = Written {
 pub fn report_of<'a>(alloc: Global, written: &Written<'_>) -> Result<Made<'a>, AllocError> {
     let report = Report::built(diagnostic_of(alloc, written)?);
     match written.source {
-        Some(bytes) => over_source(report, source_of(alloc, written.name, bytes)),
+        Some(bytes) => Ok(report.with_owned_source(source_of(alloc, written.name, bytes)?)),
         None => Ok(report),
     }
 }
 
-fn over_source<'a>(
-    report: Made<'a>,
-    source: Result<OwnedSource, AllocError>,
-) -> Result<Made<'a>, AllocError> {
-    let source = source?;
-    Ok(report.with_owned_source(source))
-}
-
 /// Appends what was made to a list.
 fn push_made<T: Drop>(list: &mut Vec<T>, made: Result<T, AllocError>) -> Result<(), AllocError> {
-    list.push(made?)?;
-    Ok(())
+    match list.push(made?) {
+        Ok(()) => Ok(()),
+        Err(_) => Err(AllocError),
+    }
 }
 
 /// The same over a source that stops, in place of the one that is written.
@@ -119,15 +113,10 @@ pub fn report_over_texts<'a>(
 /// Where memory is refused.
 pub fn texts_of(alloc: Global, texts: &[&str]) -> Result<Vec<String>, AllocError> {
     let mut list = Vec::new(alloc);
-    push_texts(alloc, &mut list, texts)?;
-    Ok(list)
-}
-
-fn push_texts(alloc: Global, list: &mut Vec<String>, texts: &[&str]) -> Result<(), AllocError> {
     for text in texts {
-        push_made(list, String::from_str(alloc, text))?;
+        push_made(&mut list, String::from_str(alloc, text))?;
     }
-    Ok(())
+    Ok(list)
 }
 
 /// A report with others beside it.
@@ -145,19 +134,10 @@ pub fn report_beside<'a>(
 
 fn reports_of<'a>(alloc: Global, others: &[Written<'_>]) -> Result<Vec<Made<'a>>, AllocError> {
     let mut list = Vec::new(alloc);
-    push_reports(alloc, &mut list, others)?;
-    Ok(list)
-}
-
-fn push_reports<'a>(
-    alloc: Global,
-    list: &mut Vec<Made<'a>>,
-    others: &[Written<'_>],
-) -> Result<(), AllocError> {
     for written in others {
-        push_made(list, report_of(alloc, written))?;
+        push_made(&mut list, report_of(alloc, written))?;
     }
-    Ok(())
+    Ok(list)
 }
 
 /// A report with another one beside it.
@@ -190,26 +170,12 @@ pub fn report_and_further<'a>(
     report: Result<Made<'a>, AllocError>,
     further: &Written<'_>,
 ) -> Result<Made<'a>, AllocError> {
-    match further.source {
-        Some(bytes) => over_further(
-            alloc,
-            report,
-            further,
-            source_of(alloc, further.name, bytes),
-        ),
-        None => report,
-    }
-}
-
-fn over_further<'a>(
-    alloc: Global,
-    report: Result<Made<'a>, AllocError>,
-    further: &Written<'_>,
-    source: Result<OwnedSource, AllocError>,
-) -> Result<Made<'a>, AllocError> {
-    let report = report?;
-    let source = source?;
-    report.with_owned_snippets(alloc, source, labels_of(alloc, further.labels)?)
+    let Some(bytes) = further.source else {
+        return report;
+    };
+    let source = source_of(alloc, further.name, bytes)?;
+    let labels = labels_of(alloc, further.labels)?;
+    report?.with_owned_snippets(alloc, source, labels)
 }
 
 /// A report with labels over a further source that stops.
@@ -285,19 +251,10 @@ fn text_of(alloc: Global, text: &str) -> Result<Option<String>, AllocError> {
 /// Where memory is refused.
 pub fn labels_of(alloc: Global, labels: &[Label<'_>]) -> Result<Vec<LabeledSpan>, AllocError> {
     let mut list = Vec::new(alloc);
-    push_labels(alloc, &mut list, labels)?;
-    Ok(list)
-}
-
-fn push_labels(
-    alloc: Global,
-    list: &mut Vec<LabeledSpan>,
-    labels: &[Label<'_>],
-) -> Result<(), AllocError> {
     for label in labels {
-        push_made(list, label_of(alloc, *label))?;
+        push_made(&mut list, label_of(alloc, *label))?;
     }
-    Ok(())
+    Ok(list)
 }
 
 fn label_of(

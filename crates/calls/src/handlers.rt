@@ -1,7 +1,7 @@
 //! Handlers: what makes them, and the texts that they append.
 
 use crate::reports::full_report;
-use crate::rows::{Done, Stop, write_clones, write_given, write_refused, write_text};
+use crate::rows::{Called, Rows};
 use crate::sources::README;
 use crate::themes::terminal;
 use miette::error::RenderError;
@@ -41,18 +41,21 @@ pub static NAMES: [&str; 18] = [
 /// Makes the call of this name.
 ///
 /// # Errors
-/// `Memory` where what it needs can't be made, `Write` where standard output took no more.
-pub fn make<W: Write>(alloc: Global, name: &str, out: &mut W) -> Done {
+/// Where memory is refused for what it is given.
+pub fn make<W: Write + Drop>(alloc: Global, name: &str, row: &mut Rows<W>) -> Called {
     match name {
         "NarratableReportHandler::clone" => {
             let footer = String::from_str(alloc, "bye")?;
-            write_clones(out, &NarratableReportHandler::new().with_footer(footer))
+            row.clones(NarratableReportHandler::new().with_footer(footer));
         }
         "GraphicalReportHandler::new" | "MietteHandlerOpts::build" | "MietteHandler::new" => {
-            write_handler(alloc, name, out)
+            let terminal = terminal(alloc)?;
+            row.value(&terminal);
+            choose(alloc, name, row, &terminal);
         }
-        _ => render_behind(alloc, name, out, &report_with_source(alloc)?),
+        _ => return render_behind(alloc, name, row, &report_with_source(alloc)?),
     }
+    Ok(())
 }
 
 /// The report that is rendered.
@@ -62,41 +65,48 @@ fn report_with_source(alloc: Global) -> Result<Report, AllocError> {
 }
 
 /// The text `> ` and what the call of this name puts behind it.
-fn render_behind<W: Write>(alloc: Global, name: &str, out: &mut W, report: &Report) -> Done {
-    let mut text = String::from_str(alloc, "> ")?;
-    render_onto(alloc, name, out, report, &mut text)
-}
-
-fn render_onto<W: Write>(
+fn render_behind<W: Write + Drop>(
     alloc: Global,
     name: &str,
-    out: &mut W,
+    row: &mut Rows<W>,
     report: &Report,
-    text: &mut String,
-) -> Done {
-    write_given(out, text)?;
-    let answer = render(alloc, name, report, text)?;
-    write_text(out, answer, text)
+) -> Called {
+    let mut text = String::from_str(alloc, "> ")?;
+    row.value(&text);
+    let answer = render(alloc, name, report, &mut text)?;
+    row.appended(answer, &text);
+    Ok(())
 }
 
-/// What the call of this name answers.
+/// What the call of this name answers; an error where the handler can't be made.
 fn render(
     alloc: Global,
     name: &str,
     report: &Report,
     text: &mut String,
-) -> Result<Result<(), RenderError>, Stop> {
+) -> Result<Result<(), RenderError>, AllocError> {
     match name {
-        "ReportHandler::debug for MietteHandler" => draw_by_choice(alloc, report, text),
-        "GraphicalReportHandler::render_report"
-        | "ReportHandler::debug for GraphicalReportHandler" => draw(alloc, name, report, text),
-        _ => {
-            if name.starts_with("ReportHandler::") {
-                Ok(render_by_trait(name, report, text))
-            } else {
-                Ok(render_by_method(name, report, text))
-            }
+        "GraphicalReportHandler::render_report" => {
+            let theme = GraphicalTheme::unicode(alloc)?;
+            let drawing: GraphicalReportHandler = GraphicalReportHandler::new_themed(theme);
+            Ok(drawing.with_width(40).render_report(report, text))
         }
+        "ReportHandler::debug for GraphicalReportHandler" => {
+            let theme = GraphicalTheme::unicode(alloc)?;
+            let drawing: GraphicalReportHandler = GraphicalReportHandler::new_themed(theme);
+            Ok(debug_by(drawing.with_width(40), report, text))
+        }
+        "ReportHandler::debug for MietteHandler" => {
+            let theme = GraphicalTheme::unicode(alloc)?;
+            let drawing = GraphicalReportHandler::new_themed(theme).with_width(40);
+            let chosen: MietteHandler = MietteHandler::Graphical(drawing);
+            Ok(debug_by(chosen, report, text))
+        }
+        _ => Ok(if name.starts_with("ReportHandler::") {
+            render_by_trait(name, report, text)
+        } else {
+            render_by_method(name, report, text)
+        }),
     }
 }
 
@@ -143,94 +153,38 @@ fn debug_by<H: ReportHandler + Drop>(
     handler.debug(report, text)
 }
 
-fn draw(
-    alloc: Global,
-    name: &str,
-    report: &Report,
-    text: &mut String,
-) -> Result<Result<(), RenderError>, Stop> {
-    let theme = GraphicalTheme::unicode(alloc)?;
-    let drawing = GraphicalReportHandler::new_themed(theme).with_width(40);
-    if name == "GraphicalReportHandler::render_report" {
-        Ok(draw_by(drawing, report, text))
-    } else {
-        Ok(debug_by(drawing, report, text))
-    }
-}
-
-fn draw_by(
-    mut drawing: GraphicalReportHandler,
-    report: &Report,
-    text: &mut String,
-) -> Result<(), RenderError> {
-    drawing.render_report(report, text)
-}
-
-fn draw_by_choice(
-    alloc: Global,
-    report: &Report,
-    text: &mut String,
-) -> Result<Result<(), RenderError>, Stop> {
-    let theme = GraphicalTheme::unicode(alloc)?;
-    let drawing = GraphicalReportHandler::new_themed(theme).with_width(40);
-    let chosen: MietteHandler = MietteHandler::Graphical(drawing);
-    Ok(debug_by(chosen, report, text))
-}
-
-/// A handler that a terminal chooses, and what it makes of a report.
-fn write_handler<W: Write>(alloc: Global, name: &str, out: &mut W) -> Done {
-    let terminal = terminal(alloc)?;
-    write_given(out, &terminal)?;
-    write_choice(alloc, name, out, &terminal)
-}
-
-fn write_choice<W: Write>(alloc: Global, name: &str, out: &mut W, terminal: &Terminal) -> Done {
+/// A handler that a terminal chooses, and what it makes of a message alone.
+fn choose<W: Write + Drop>(alloc: Global, name: &str, row: &mut Rows<W>, terminal: &Terminal) {
     match name {
         "GraphicalReportHandler::new" => {
-            write_picture(alloc, out, GraphicalReportHandler::new(alloc, terminal))
+            picture(alloc, row, GraphicalReportHandler::new(alloc, terminal))
         }
-        "MietteHandler::new" => write_picture(alloc, out, MietteHandler::new(alloc, terminal)),
+        "MietteHandler::new" => picture(alloc, row, MietteHandler::new(alloc, terminal)),
         _ => {
             let options: MietteHandlerOpts<BlankHighlighter> = MietteHandlerOpts::default();
-            write_picture(alloc, out, options.width(20).build(alloc, terminal))
+            picture(alloc, row, options.width(20).build(alloc, terminal))
         }
     }
 }
 
-fn write_picture<H: ReportHandler + Drop, W: Write>(
+fn picture<H: ReportHandler + Drop, W: Write + Drop>(
     alloc: Global,
-    out: &mut W,
+    row: &mut Rows<W>,
     answer: Result<H, AllocError>,
-) -> Done {
+) {
     match answer {
-        Ok(mut handler) => write_rendering(out, picture(alloc, &mut handler)),
-        Err(AllocError) => write_refused(out),
-    }
-}
-
-fn write_rendering<W: Write>(out: &mut W, rendered: Result<String, RenderError>) -> Done {
-    match rendered {
-        Ok(text) => write_given(out, &text),
-        Err(RenderError::Memory) => write_refused(out),
-        Err(RenderError::Refused) => {
-            write!(out, "\tnot read")?;
-            Ok(())
-        }
+        Ok(mut handler) => match text_by(alloc, &mut handler) {
+            Ok(text) => row.value(&text),
+            Err(RenderError::Memory) => row.refused(),
+            Err(RenderError::Refused) => row.text("\tnot read"),
+        },
+        Err(AllocError) => row.refused(),
     }
 }
 
 /// What a handler makes of a message alone.
-fn picture<H: ReportHandler>(alloc: Global, handler: &mut H) -> Result<String, RenderError> {
-    let report = Report::msg(alloc, "one two three four five")?;
-    text_by(alloc, handler, &report)
-}
-
-fn text_by<H: ReportHandler>(
-    alloc: Global,
-    handler: &mut H,
-    report: &Report,
-) -> Result<String, RenderError> {
+fn text_by<H: ReportHandler>(alloc: Global, handler: &mut H) -> Result<String, RenderError> {
     let mut text = String::new(alloc);
-    handler.debug(report, &mut text)?;
+    handler.debug(&Report::msg(alloc, "one two three four five")?, &mut text)?;
     Ok(text)
 }

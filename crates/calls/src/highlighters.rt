@@ -1,8 +1,6 @@
 //! Highlighters made of rules.
 
-use crate::rows::{
-    Done, write_answer, write_answer_and_value, write_clones_if_made, write_given, write_refused,
-};
+use crate::rows::{Called, REFUSED, Rows};
 use miette::highlight::Highlighter;
 use miette::style::{Color, Style};
 use miette_highlight::highlight::{Delimiters, Pattern, PatternHighlighter, Rule, by_char};
@@ -27,59 +25,60 @@ pub static NAMES: [&str; 11] = [
 /// Makes the call of this name.
 ///
 /// # Errors
-/// `Memory` where what it needs can't be made, `Write` where standard output took no more.
-pub fn make<W: Write>(alloc: Global, name: &str, out: &mut W) -> Done {
+/// Where memory is refused for what it is given.
+pub fn make<W: Write + Drop>(alloc: Global, name: &str, row: &mut Rows<W>) -> Called {
     match name {
-        "by_char" => write_digits(alloc, out),
-        "Delimiters::new" => write_answer(out, Delimiters::new(alloc, "/*", "*/")),
-        "Delimiters::clone" => write_clones_if_made(out, Delimiters::new(alloc, "/*", "*/")),
-        "Pattern::words" => write_answer(out, Pattern::words(alloc, &["let", "in"])),
-        "Pattern::clone" => write_clones_if_made(out, Pattern::words(alloc, &["let", "in"])),
-        _ => make_by_language(alloc, name, out),
-    }
-}
-
-fn make_by_language<W: Write>(alloc: Global, name: &str, out: &mut W) -> Done {
-    match name {
+        "by_char" => row.answer(by_char(alloc, "a1", digits_in_cyan)),
+        "Delimiters::new" => row.answer(Delimiters::new(alloc, "/*", "*/")),
+        "Delimiters::clone" => row.clones(Delimiters::new(alloc, "/*", "*/")?),
+        "Pattern::words" => row.answer(Pattern::words(alloc, &["let", "in"])),
+        "Pattern::clone" => row.clones(Pattern::words(alloc, &["let", "in"])?),
+        "Rule::clone" => row.clones(rule(alloc)?),
         "PatternHighlighter::json" => {
-            let made = PatternHighlighter::json(alloc);
-            write_pieces(alloc, out, "{\"a\": [1, true]}", made)
+            pieces(
+                alloc,
+                row,
+                "{\"a\": [1, true]}",
+                PatternHighlighter::json(alloc),
+            )
         }
         "PatternHighlighter::toml" => {
-            let made = PatternHighlighter::toml(alloc);
-            write_pieces(alloc, out, "a = 'x' # c", made)
+            pieces(alloc, row, "a = 'x' # c", PatternHighlighter::toml(alloc))
         }
         "PatternHighlighter::rust" => {
-            let made = PatternHighlighter::rust(alloc);
-            write_pieces(alloc, out, "let s = \"x\"; // c", made)
+            pieces(
+                alloc,
+                row,
+                "let s = \"x\"; // c",
+                PatternHighlighter::rust(alloc),
+            )
         }
-        _ => make_by_rule(alloc, name, out),
+        "PatternHighlighter::clone" => row.clones(highlighter_by_rule(alloc)?),
+        _ => open_comment(alloc, row, highlighter_by_rule(alloc)?),
     }
+    Ok(())
 }
 
-fn write_digits<W: Write>(alloc: Global, out: &mut W) -> Done {
-    let cyan = Style::new().color(Color::Cyan);
-    let answer = by_char(alloc, "a1", |c| {
-        if c.is_ascii_digit() {
-            cyan
-        } else {
-            Style::new()
-        }
-    });
-    write_answer(out, answer)
+/// Cyan digits, and all else plain.
+fn digits_in_cyan(c: char) -> Style {
+    if c.is_ascii_digit() {
+        Style::new().color(Color::Cyan)
+    } else {
+        Style::new()
+    }
 }
 
 /// The pieces of a line by the highlighter that a call gave.
-fn write_pieces<W: Write>(
+fn pieces<W: Write + Drop>(
     alloc: Global,
-    out: &mut W,
+    row: &mut Rows<W>,
     line: &str,
     made: Result<PatternHighlighter, AllocError>,
-) -> Done {
-    write_given(out, &line)?;
+) {
+    row.value(&line);
     match made {
-        Ok(mut highlighter) => write_answer(out, highlighter.highlight_line(alloc, line)),
-        Err(AllocError) => write_refused(out),
+        Ok(mut highlighter) => row.answer(highlighter.highlight_line(alloc, line)),
+        Err(AllocError) => row.refused(),
     }
 }
 
@@ -96,22 +95,18 @@ fn highlighter_by_rule(alloc: Global) -> Result<PatternHighlighter, AllocError> 
     Ok(PatternHighlighter::new(vec![in alloc; rule(alloc)?]?))
 }
 
-fn make_by_rule<W: Write>(alloc: Global, name: &str, out: &mut W) -> Done {
-    match name {
-        "Rule::clone" => write_clones_if_made(out, rule(alloc)),
-        "PatternHighlighter::clone" => write_clones_if_made(out, highlighter_by_rule(alloc)),
-        _ => write_open_comment(alloc, out, highlighter_by_rule(alloc)?),
-    }
-}
-
-/// The pieces of a line that leaves a comment open.
-fn write_open_comment<W: Write>(
+/// The pieces of a line that leaves a comment open, and the highlighter behind it; after a refusal that is as before.
+fn open_comment<W: Write + Drop>(
     alloc: Global,
-    out: &mut W,
-    highlighter: PatternHighlighter,
-) -> Done {
-    let mut highlighter = highlighter;
-    write_given(out, &highlighter)?;
-    let answer = highlighter.highlight_line(alloc, "a /*b");
-    write_answer_and_value(out, answer, &highlighter)
+    row: &mut Rows<W>,
+    mut highlighter: PatternHighlighter,
+) {
+    row.value(&highlighter);
+    match highlighter.highlight_line(alloc, "a /*b") {
+        Ok(pieces) => {
+            row.value(&pieces);
+            row.value(&highlighter);
+        }
+        Err(AllocError) => row.part(REFUSED, &highlighter),
+    }
 }

@@ -1,6 +1,6 @@
 //! Labels.
 
-use crate::rows::{Done, write_answer, write_clones};
+use crate::rows::{Called, Rows};
 use miette::protocol::LabeledSpan;
 use std::alloc::Global;
 use std::io::Write;
@@ -15,15 +15,15 @@ pub static NAMES: [&str; 3] = [
 /// Makes the call of this name.
 ///
 /// # Errors
-/// `Memory` where what it needs can't be made, `Write` where standard output took no more.
-pub fn make<W: Write>(alloc: Global, name: &str, out: &mut W) -> Done {
+/// Where memory is refused for what it is given.
+pub fn make<W: Write + Drop>(alloc: Global, name: &str, row: &mut Rows<W>) -> Called {
     match name {
-        "LabeledSpan::at" => write_answer(out, LabeledSpan::at(alloc, (9, 4), "This bit here")),
-        "LabeledSpan::at_offset" => write_answer(out, LabeledSpan::at_offset(alloc, 9, "here")),
-        "LabeledSpan::clone" => {
+        "LabeledSpan::at" => row.answer(LabeledSpan::at(alloc, (9, 4), "This bit here")),
+        "LabeledSpan::at_offset" => row.answer(LabeledSpan::at_offset(alloc, 9, "here")),
+        _ => {
             let label = LabeledSpan::at(alloc, (9, 4), "This bit here")?;
-            write_clones(out, &label.with_context_lines(2))
+            row.clones(label.with_context_lines(2));
         }
-        _ => Ok(()),
     }
+    Ok(())
 }

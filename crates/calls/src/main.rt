@@ -25,7 +25,7 @@ mod texts;
 mod themes;
 mod worked;
 
-use crate::rows::{Done, Stop, end_row};
+use crate::rows::{Called, Done, Rows, Stop};
 use miette::terminal::Streams;
 use std::env;
 use std::env::Env;
@@ -66,7 +66,7 @@ fn run<R: Env + AllocGlobal + Streams>(rt: &R) -> Done {
 fn rows_of_word<R: Env + AllocGlobal + Streams>(rt: &R, name: &str) -> Done {
     match name {
         "report" => worked_rows(rt, name, "", ""),
-        "stops" => stops::rows(rt.alloc(), &mut rt.output()),
+        "stops" => stops::rows(rt.alloc(), &mut Rows::on(rt.output())),
         _ => rows_of(rt, Some(name)),
     }
 }
@@ -76,7 +76,7 @@ fn worked_rows<R: AllocGlobal + Streams>(rt: &R, kind: &str, name: &str, handler
     if kind != "report" {
         return Err(Stop::Usage);
     }
-    examples::rows_of(rt.alloc(), &mut rt.output(), name, handler)
+    examples::rows_of(rt.alloc(), &mut Rows::on(rt.output()), name, handler)
 }
 
 /// What the calls of a module are about.
@@ -152,31 +152,31 @@ fn rows_of<R: Env + AllocGlobal + Streams>(rt: &R, wanted: Option<&str>) -> Done
 
 /// The row of a call.
 fn row<R: Env + AllocGlobal + Streams>(rt: &R, subject: Subject, name: &str) -> Done {
-    let mut out = rt.output();
-    write!(out, "{name}")?;
-    let done = make(rt, subject, name, &mut out);
-    end_row(&mut out, done)
+    let mut row = Rows::on(rt.output());
+    row.text(name);
+    let called = make(rt, subject, name, &mut row);
+    row.end(called)
 }
 
-fn make<R: Env + AllocGlobal + Streams, W: Write>(
+fn make<R: Env + AllocGlobal + Streams, W: Write + Drop>(
     rt: &R,
     subject: Subject,
     name: &str,
-    out: &mut W,
-) -> Done {
+    row: &mut Rows<W>,
+) -> Called {
     let alloc = rt.alloc();
     match subject {
-        Subject::Labels => labels::make(alloc, name, out),
-        Subject::Diagnostics => diagnostics::make(alloc, name, out),
-        Subject::Sources => sources::make(alloc, name, out),
-        Subject::Themes => themes::make(alloc, name, out),
-        Subject::Highlighters => highlighters::make(alloc, name, out),
-        Subject::Reports => reports::make(alloc, name, out),
-        Subject::Attached => attached::make(alloc, name, out),
-        Subject::Texts => texts::make(alloc, name, out),
-        Subject::Runs => runs::make(alloc, name, out),
-        Subject::Handlers => handlers::make(alloc, name, out),
-        Subject::Fixes => fixes::make(alloc, name, out),
-        Subject::Printing => printing::make(rt, name, out),
+        Subject::Labels => labels::make(alloc, name, row),
+        Subject::Diagnostics => diagnostics::make(alloc, name, row),
+        Subject::Sources => sources::make(alloc, name, row),
+        Subject::Themes => themes::make(alloc, name, row),
+        Subject::Highlighters => highlighters::make(alloc, name, row),
+        Subject::Reports => reports::make(alloc, name, row),
+        Subject::Attached => attached::make(alloc, name, row),
+        Subject::Texts => texts::make(alloc, name, row),
+        Subject::Runs => runs::make(alloc, name, row),
+        Subject::Handlers => handlers::make(alloc, name, row),
+        Subject::Fixes => fixes::make(alloc, name, row),
+        Subject::Printing => printing::make(rt, name, row),
     }
 }

@@ -1,7 +1,7 @@
 //! What a program is told of its terminal, and reports that are printed there.
 
 use crate::reports::full_report;
-use crate::rows::{Done, write_answer, write_given, write_kept};
+use crate::rows::{Called, REFUSED, Rows, VALUE};
 use miette::handlers::NarratableReportHandler;
 use miette::highlight::BlankHighlighter;
 use miette::options::MietteHandlerOpts;
@@ -32,35 +32,27 @@ pub static NAMES: [&str; 9] = [
 /// Makes the call of this name. What the printing ones print stands in rows of its own.
 ///
 /// # Errors
-/// `Memory` where what it needs can't be made, `Write` where standard output took no more.
-pub fn make<R: Env + AllocGlobal + Streams, W: Write>(rt: &R, name: &str, out: &mut W) -> Done {
+/// Where memory is refused for what it is given.
+pub fn make<R: Env + AllocGlobal + Streams, W: Write + Drop>(
+    rt: &R,
+    name: &str,
+    row: &mut Rows<W>,
+) -> Called {
     match name {
-        "Variables::read" => write_answer(out, Variables::read(rt, true, true).map(|_| "read")),
-        "detect" => write_answer(out, detect(rt, Stream::Stdout).map(|_| "detected")),
-        "write_report" | "print_to" => write_narration(rt, name, out),
-        "print_on" => write_outputs(rt, out),
-        _ => write_printing(rt, name, out),
+        "Variables::read" => row.after(Variables::read(rt, true, true), &"read"),
+        "detect" => row.after(detect(rt, Stream::Stdout), &"detected"),
+        "write_report" | "print_to" => {
+            return narrated(rt, name, row, &full_report(rt.alloc())?);
+        }
+        "print_on" => return outputs(rt, row, &full_report(rt.alloc())?),
+        _ => {
+            let report = Report::msg(rt.alloc(), "oops!")?;
+            row.text("\tprints:\n");
+            print(rt, name, &report);
+            row.text(name);
+            row.text("\tprinted");
+        }
     }
-}
-
-fn write_printing<R: Env + AllocGlobal + Streams, W: Write>(
-    rt: &R,
-    name: &str,
-    out: &mut W,
-) -> Done {
-    let report = Report::msg(rt.alloc(), "oops!")?;
-    write_printed(rt, name, out, &report)
-}
-
-fn write_printed<R: Env + AllocGlobal + Streams, W: Write>(
-    rt: &R,
-    name: &str,
-    out: &mut W,
-    report: &Report,
-) -> Done {
-    writeln!(out, "\tprints:")?;
-    print(rt, name, report);
-    write!(out, "{name}\tprinted")?;
     Ok(())
 }
 
@@ -78,7 +70,7 @@ fn in_colours() -> MietteHandlerOpts<BlankHighlighter> {
     MietteHandlerOpts::default().color(true)
 }
 
-fn narrated() -> MietteHandlerOpts<BlankHighlighter> {
+fn in_words() -> MietteHandlerOpts<BlankHighlighter> {
     MietteHandlerOpts::default().force_narrated(true)
 }
 
@@ -110,20 +102,25 @@ impl Write for Room {
     }
 }
 
-fn write_narration<R: Env + AllocGlobal + Streams, W: Write>(
+fn narrated<R: Env + AllocGlobal + Streams, W: Write + Drop>(
     rt: &R,
     name: &str,
-    out: &mut W,
-) -> Done {
-    let report = full_report(rt.alloc())?;
+    row: &mut Rows<W>,
+    report: &Report,
+) -> Called {
     let mut room = Room::new(rt.alloc())?;
-    let answer = narrate(rt, name, &report, &mut room);
-    write_room(out, answer, &room)
-}
-
-fn write_outputs<R: Env + AllocGlobal + Streams, W: Write>(rt: &R, out: &mut W) -> Done {
-    let report = full_report(rt.alloc())?;
-    write_outputs_of(rt, out, &report)
+    let answer = if name == "print_to" {
+        print_to(rt, Stream::Stdout, in_words(), report, &mut room)
+    } else {
+        write_report(
+            rt.alloc(),
+            &mut NarratableReportHandler::new(),
+            report,
+            &mut room,
+        )
+    };
+    held(row, answer, &room);
+    Ok(())
 }
 
 fn two_rooms(alloc: Global) -> Result<Outputs<Room, Room>, AllocError> {
@@ -132,48 +129,32 @@ fn two_rooms(alloc: Global) -> Result<Outputs<Room, Room>, AllocError> {
     Ok(Outputs::new(writer, faults))
 }
 
-fn write_outputs_of<R: Env + AllocGlobal + Streams, W: Write>(
+fn outputs<R: Env + AllocGlobal + Streams, W: Write + Drop>(
     rt: &R,
-    out: &mut W,
+    row: &mut Rows<W>,
     report: &Report,
-) -> Done {
+) -> Called {
     let mut outputs = two_rooms(rt.alloc())?;
-    let _ = print_on(rt, Stream::Stdout, narrated(), report, &mut outputs);
+    let _ = print_on(rt, Stream::Stdout, in_words(), report, &mut outputs);
     let answer = match outputs.faults.text() {
         "" => Ok(()),
         "a report could not be printed: out of memory\n" => Err(PrintError::Memory),
         _ => Err(PrintError::Write),
     };
-    write_room(out, answer, &outputs.writer)
+    held(row, answer, &outputs.writer);
+    Ok(())
 }
 
-fn narrate<R: Env + AllocGlobal + Streams>(
-    rt: &R,
-    name: &str,
-    report: &Report,
-    room: &mut Room,
-) -> Result<(), PrintError> {
-    if name == "print_to" {
-        print_to(rt, Stream::Stdout, narrated(), report, room)
-    } else {
-        narrate_by(rt.alloc(), NarratableReportHandler::new(), report, room)
-    }
-}
-
-fn narrate_by(
-    alloc: Global,
-    mut handler: NarratableReportHandler,
-    report: &Report,
-    room: &mut Room,
-) -> Result<(), PrintError> {
-    write_report(alloc, &mut handler, report, room)
-}
-
-fn write_room<W: Write>(out: &mut W, answer: Result<(), PrintError>, room: &Room) -> Done {
-    let held = room.text();
+/// What a writer holds after a call that prints a report there.
+fn held<W: Write + Drop>(row: &mut Rows<W>, answer: Result<(), PrintError>, room: &Room) {
     match answer {
-        Ok(()) => write_given(out, &held),
-        Err(PrintError::Memory) => write_kept(out, "refused", &held),
-        Err(error) => write_kept(out, error.text(), &held),
+        Ok(()) => row.text(VALUE),
+        Err(PrintError::Memory) => row.text(REFUSED),
+        Err(error) => {
+            row.text("\t");
+            row.text(error.text());
+            row.text(": ");
+        }
     }
+    row.part("", &room.text());
 }

@@ -1,11 +1,8 @@
 //! Reports: what makes them, and what is put in front of them and below them.
 
-use crate::diagnostics::{full_diagnostic, write_full_diagnostic};
+use crate::diagnostics::{full_diagnostic, given_diagnostic};
 use crate::fixtures::texts_of;
-use crate::rows::{
-    Done, Stop, write_given, write_outcome, write_refusal, write_refused, write_report,
-    write_report_or_refusal,
-};
+use crate::rows::{Called, REFUSED, Rows, VALUE};
 use miette::error::MietteError;
 use miette::report::{IntoDiagnostic, Report, Result, WrapErr};
 use miette_tree::{bail, ensure, miette};
@@ -37,46 +34,30 @@ pub static NAMES: [&str; 18] = [
 /// Makes the call of this name.
 ///
 /// # Errors
-/// `Memory` where what it needs can't be made, `Write` where standard output took no more.
-pub fn make<W: Write>(alloc: Global, name: &str, out: &mut W) -> Done {
+/// Where memory is refused for what it is given.
+pub fn make<W: Write + Drop>(alloc: Global, name: &str, row: &mut Rows<W>) -> Called {
     match name {
-        "Report::copied" => write_copy(alloc, out),
-        "Report::msg" => write_made_report(out, Report::msg(alloc, "oops!")),
-        "Report::from_err" => write_made_report(
-            out,
-            Report::from_err(alloc, MietteError::OutOfBounds),
-        ),
-        "Report::with_diagnostic_cause" => write_report_over(alloc, out),
-        "Report::wrap_err" | "Report::context" => write_put_before(alloc, name, out),
-        _ => by_macros(alloc, name, out),
+        "Report::copied" => {
+            let full = given_diagnostic(alloc, row)?;
+            made(row, Report::copied(alloc, &full));
+        }
+        "Report::msg" => made(row, Report::msg(alloc, "oops!")),
+        "Report::from_err" => made(row, Report::from_err(alloc, MietteError::OutOfBounds)),
+        "Report::with_diagnostic_cause" => return over_another(alloc, row),
+        "Report::wrap_err" => {
+            let report = given_report(alloc, row)?;
+            put_before(row, report.wrap_err(alloc, "in front"));
+        }
+        "Report::context" => {
+            let report = given_report(alloc, row)?;
+            put_before(row, report.context(alloc, "in front"));
+        }
+        "miette!" => row.report_or_refusal(&by_macro(alloc)),
+        "bail!" => failed(row, is_refused(alloc, 7)),
+        "ensure!" => failed(row, is_held(alloc, 7)),
+        _ => return in_front(alloc, name, row),
     }
-}
-
-fn write_put_before<W: Write>(alloc: Global, name: &str, out: &mut W) -> Done {
-    let report = write_full_report(alloc, out)?;
-    write_outcome(out, put_before(alloc, name, report))
-}
-
-fn by_macros<W: Write>(alloc: Global, name: &str, out: &mut W) -> Done {
-    match name {
-        "miette!" => write_report_or_refusal(out, &by_macro(alloc)),
-        "bail!" => write_failure(out, is_refused(alloc, 7)),
-        "ensure!" => write_failure(out, is_held(alloc, 7)),
-        _ => in_front(alloc, name, out),
-    }
-}
-
-fn write_copy<W: Write>(alloc: Global, out: &mut W) -> Done {
-    let full = write_full_diagnostic(alloc, out)?;
-    write_made_report(out, Report::copied(alloc, &full))
-}
-
-fn put_before(alloc: Global, name: &str, report: Report) -> Result<Report, Report> {
-    if name == "Report::wrap_err" {
-        report.wrap_err(alloc, "in front")
-    } else {
-        report.context(alloc, "in front")
-    }
+    Ok(())
 }
 
 fn by_macro(alloc: Global) -> Report {
@@ -84,88 +65,68 @@ fn by_macro(alloc: Global) -> Report {
 }
 
 /// A message in front of what is missing or has failed.
-fn in_front<W: Write>(alloc: Global, name: &str, out: &mut W) -> Done {
+fn in_front<W: Write + Drop>(alloc: Global, name: &str, row: &mut Rows<W>) -> Called {
     match name {
-        "WrapErr::wrap_err for Option" => write_failure(
-            out,
-            None.wrap_err(alloc, "nothing is there"),
-        ),
-        "WrapErr::context for Option" => write_failure(
-            out,
-            None.context(alloc, "nothing is there"),
-        ),
-        "WrapErr::wrap_err_with for Option" => {
-            write_failure(
-                out,
-                None.wrap_err_with(alloc, || format!(in alloc; "item {} is missing", 7)),
-            )
-        }
-        "WrapErr::with_context for Option" => {
-            write_failure(
-                out,
-                None.with_context(alloc, || format!(in alloc; "item {} is missing", 7)),
+        "WrapErr::wrap_err for Option" => failed(row, None.wrap_err(alloc, "nothing is there")),
+        "WrapErr::context for Option" => failed(row, None.context(alloc, "nothing is there")),
+        "WrapErr::wrap_err_with for Option" | "WrapErr::with_context for Option" => {
+            failed(
+                row,
+                missing(alloc, name == "WrapErr::wrap_err_with for Option"),
             )
         }
         "IntoDiagnostic::into_diagnostic for Result" => {
             let error: std::result::Result<u32, MietteError> = Err(MietteError::OutOfBounds);
-            write_failure(out, error.into_diagnostic(alloc))
+            failed(row, error.into_diagnostic(alloc))
         }
-        _ => in_front_of_error(alloc, name, out),
+        _ => {
+            let report = given_report(alloc, row)?;
+            failed(row, put_in_front(alloc, name, Err(report)));
+        }
     }
+    Ok(())
 }
 
-fn in_front_of_error<W: Write>(alloc: Global, name: &str, out: &mut W) -> Done {
-    let report = write_full_report(alloc, out)?;
-    write_failure(out, put_in_front(alloc, name, Err(report)))
+/// A message that is made where it is needed, in front of what is missing.
+fn missing(alloc: Global, wraps: bool) -> Result<u32> {
+    let why = || format!(in alloc; "item {} is missing", 7);
+    if wraps {
+        None.wrap_err_with(alloc, why)
+    } else {
+        None.with_context(alloc, why)
+    }
 }
 
 fn put_in_front(alloc: Global, name: &str, error: Result<u32>) -> Result<u32> {
+    let why = || format!(in alloc; "{} in front", 7);
     match name {
         "WrapErr::wrap_err for Result" => error.wrap_err(alloc, "in front"),
         "WrapErr::context for Result" => error.context(alloc, "in front"),
-        _ => put_lazily_in_front(alloc, name, error),
-    }
-}
-
-fn put_lazily_in_front(alloc: Global, name: &str, error: Result<u32>) -> Result<u32> {
-    match name {
-        "WrapErr::wrap_err_with for Result" => {
-            error.wrap_err_with(alloc, || format!(in alloc; "{} in front", 7))
-        }
-        _ => error.with_context(alloc, || format!(in alloc; "{} in front", 7)),
+        "WrapErr::wrap_err_with for Result" => error.wrap_err_with(alloc, why),
+        _ => error.with_context(alloc, why),
     }
 }
 
 /// A report over another one; where memory is refused both come back.
-fn write_report_over<W: Write>(alloc: Global, out: &mut W) -> Done {
+fn over_another<W: Write + Drop>(alloc: Global, row: &mut Rows<W>) -> Called {
     let cause = full_report(alloc)?;
     let report = Report::new(full_diagnostic(alloc)?);
-    write_pair(out, &report, &cause)?;
-    write_answer_over(out, report.with_diagnostic_cause(alloc, cause))
-}
-
-fn write_pair<W: Write>(out: &mut W, report: &Report, cause: &Report) -> Done {
-    write_report(out, report)?;
-    write_report(out, cause)
-}
-
-fn write_answer_over<W: Write>(out: &mut W, answer: Result<Report, (Report, Report)>) -> Done {
-    match answer {
-        Ok(made) => write_report(out, &made),
-        Err((report, cause)) => write_both(out, &report, &cause),
+    row.report(VALUE, &report);
+    row.report(VALUE, &cause);
+    match report.with_diagnostic_cause(alloc, cause) {
+        Ok(made) => row.report(VALUE, &made),
+        Err((report, cause)) => {
+            row.report(REFUSED, &report);
+            row.report(VALUE, &cause);
+        }
     }
-}
-
-/// Two reports that came back.
-fn write_both<W: Write>(out: &mut W, report: &Report, cause: &Report) -> Done {
-    write_refusal(out, report)?;
-    write_report(out, cause)
+    Ok(())
 }
 
 /// The report that a call is given, which the row shows.
-fn write_full_report<W: Write>(alloc: Global, out: &mut W) -> Result<Report, Stop> {
+fn given_report<W: Write + Drop>(alloc: Global, row: &mut Rows<W>) -> Result<Report, AllocError> {
     let report = full_report(alloc)?;
-    write_report(out, &report)?;
+    row.report(VALUE, &report);
     Ok(report)
 }
 
@@ -185,17 +146,25 @@ fn is_held(alloc: Global, number: u32) -> Result<u32> {
 }
 
 /// The report that a call gave, or that memory was refused.
-fn write_made_report<W: Write>(out: &mut W, answer: Result<Report, AllocError>) -> Done {
+fn made<W: Write + Drop>(row: &mut Rows<W>, answer: Result<Report, AllocError>) {
     match answer {
-        Ok(report) => write_report(out, &report),
-        Err(AllocError) => write_refused(out),
+        Ok(report) => row.report(VALUE, &report),
+        Err(AllocError) => row.refused(),
+    }
+}
+
+/// A report with a message in front, or as it came back.
+fn put_before<W: Write + Drop>(row: &mut Rows<W>, answer: Result<Report, Report>) {
+    match answer {
+        Ok(report) => row.report(VALUE, &report),
+        Err(report) => row.report(REFUSED, &report),
     }
 }
 
 /// The report of what is missing or has failed.
-fn write_failure<W: Write>(out: &mut W, answer: Result<u32>) -> Done {
+fn failed<W: Write + Drop>(row: &mut Rows<W>, answer: Result<u32>) {
     match answer {
-        Ok(value) => write_given(out, &value),
-        Err(report) => write_report_or_refusal(out, &report),
+        Ok(value) => row.value(&value),
+        Err(report) => row.report_or_refusal(&report),
     }
 }

@@ -2,15 +2,14 @@
 
 use miette::error::RenderError;
 use miette::report::{Report, ReportKind};
-use std::alloc::{AllocError, AllocFailed};
+use std::alloc::AllocError;
 use std::fmt::Debug;
-use std::io;
 use std::io::Write;
 
-/// Why a call isn't made, or the program ends.
-#[derive(Clone, Copy, Debug, PartialEq, Eq)]
+/// Why the program ends.
+#[derive(Clone, Copy)]
 pub enum Stop {
-    /// Memory was refused before the call.
+    /// Memory was refused before any row.
     Memory,
     /// Standard output took no more.
     Write,
@@ -24,214 +23,125 @@ impl From<AllocError> for Stop {
     }
 }
 
-impl<T: Drop> From<AllocFailed<T>> for Stop {
-    fn from(_refused: AllocFailed<T>) -> Stop {
-        Stop::Memory
-    }
-}
-
-impl From<io::Error> for Stop {
-    fn from(_failed: io::Error) -> Stop {
-        Stop::Write
-    }
-}
-
-/// What writing a row gives.
+/// What writing rows gives.
 pub type Done = Result<(), Stop>;
 
-/// The rest of a row, behind what its call wrote.
-///
-/// # Errors
-/// `Write` where standard output took no more.
-pub fn end_row<W: Write>(out: &mut W, done: Done) -> Done {
-    if let Err(Stop::Memory) = done {
-        writeln!(out, "\tno memory before the call")?;
-        return Ok(());
-    }
-    done?;
-    writeln!(out)?;
-    Ok(())
+/// What making a call gives: an error where memory was refused for what it is given.
+pub type Called = Result<(), AllocError>;
+
+/// What stands in front of a value that a call is given, or gave.
+pub const VALUE: &str = "\t";
+
+/// What stands in front of a value that is as before, since memory was refused.
+pub const REFUSED: &str = "\trefused: ";
+
+/// Rows on an output. Once that takes no more, nothing else is written; the end of a row says so.
+#[derive(Drop)]
+pub struct Rows<W: Write + Drop> {
+    out: W,
+    is_full: bool,
 }
 
-/// A value that a call is given.
-///
-/// # Errors
-/// `Write` where standard output took no more.
-pub fn write_given<T: Debug, W: Write>(out: &mut W, value: &T) -> Done {
-    write!(out, "\t{value:?}")?;
-    Ok(())
-}
-
-/// A value that a call is given, where it was made; the row shows it.
-///
-/// # Errors
-/// `Memory` where it wasn't made, `Write` where standard output took no more.
-pub fn write_made<T: Debug + Drop, W: Write>(
-    out: &mut W,
-    made: Result<T, AllocError>,
-) -> Result<T, Stop> {
-    let value = made?;
-    write_given(out, &value)?;
-    Ok(value)
-}
-
-/// That memory was refused.
-///
-/// # Errors
-/// `Write` where standard output took no more.
-pub fn write_refused<W: Write>(out: &mut W) -> Done {
-    write!(out, "\trefused")?;
-    Ok(())
-}
-
-/// Why a call gave nothing, and a value that is as before.
-///
-/// # Errors
-/// `Write` where standard output took no more.
-pub fn write_kept<T: Debug, W: Write>(out: &mut W, why: &str, value: &T) -> Done {
-    write!(out, "\t{why}: {value:?}")?;
-    Ok(())
-}
-
-/// The value that a call gave, or that memory was refused.
-///
-/// # Errors
-/// `Write` where standard output took no more.
-pub fn write_answer<T: Debug + Drop, W: Write>(out: &mut W, answer: Result<T, AllocError>) -> Done {
-    match answer {
-        Ok(value) => write_given(out, &value),
-        Err(AllocError) => write_refused(out),
-    }
-}
-
-/// What a text holds after a call that appends to it.
-///
-/// # Errors
-/// `Write` where standard output took no more.
-pub fn write_text<W: Write>(out: &mut W, answer: Result<(), RenderError>, text: &String) -> Done {
-    match answer {
-        Ok(()) => write_given(out, text),
-        Err(RenderError::Memory) => write_kept(out, "refused", text),
-        Err(RenderError::Refused) => write_kept(out, "not read", text),
-    }
-}
-
-/// What a value is after a call that changes it in place; after a refusal that is open.
-///
-/// # Errors
-/// `Write` where standard output took no more.
-pub fn write_change<T: Debug, W: Write>(
-    out: &mut W,
-    answer: Result<(), AllocError>,
-    value: &T,
-) -> Done {
-    match answer {
-        Ok(()) => write_given(out, value),
-        Err(AllocError) => write_refused(out),
-    }
-}
-
-/// What a call gave, and the value that it may change; after a refusal that is as before.
-///
-/// # Errors
-/// `Write` where standard output took no more.
-pub fn write_answer_and_value<T: Debug + Drop, V: Debug, W: Write>(
-    out: &mut W,
-    answer: Result<T, AllocError>,
-    value: &V,
-) -> Done {
-    match answer {
-        Ok(made) => {
-            write_given(out, &made)?;
-            write_given(out, value)
+impl<W: Write + Drop> Rows<W> {
+    /// Rows on this output.
+    pub fn on(out: W) -> Rows<W> {
+        Rows {
+            out,
+            is_full: false,
         }
-        Err(AllocError) => write_kept(out, "refused", value),
     }
-}
 
-/// A value, and two clones of it.
-///
-/// # Errors
-/// `Write` where standard output took no more.
-pub fn write_clones<T: Clone + Debug + Drop, W: Write>(out: &mut W, value: &T) -> Done {
-    write_given(out, value)?;
-    write_answer(out, value.clone())?;
-    write_answer(out, value.clone())
-}
-
-/// A value that a call is given, and two clones of it.
-///
-/// # Errors
-/// `Memory` where the value can't be made, `Write` where standard output took no more.
-pub fn write_clones_if_made<T: Clone + Debug + Drop, W: Write>(
-    out: &mut W,
-    made: Result<T, AllocError>,
-) -> Done {
-    match made {
-        Ok(value) => write_clones(out, &value),
-        Err(AllocError) => Err(Stop::Memory),
+    /// A text, as it is.
+    pub fn text(&mut self, text: &str) {
+        self.is_full = self.is_full || self.out.write_all(text.as_bytes()).is_err();
     }
-}
 
-/// The parts of a report.
-///
-/// # Errors
-/// `Write` where standard output took no more.
-pub fn write_parts<W: Write>(out: &mut W, report: &Report) -> Done {
-    write!(out, "{report:?}")?;
-    write_text_parts(out, report)?;
-    write_part(out, "labels", &report.labels())
-}
-
-fn write_text_parts<W: Write>(out: &mut W, report: &Report) -> Done {
-    write_part(out, "code", &report.code())?;
-    write_part(out, "severity", &report.severity())?;
-    write_part(out, "help", &report.help())?;
-    write_part(out, "url", &report.url())
-}
-
-/// A part of a report, behind its name.
-fn write_part<T: Debug, W: Write>(out: &mut W, name: &str, value: &T) -> Done {
-    write!(out, ", {name} {value:?}")?;
-    Ok(())
-}
-
-/// A report that a call is given.
-///
-/// # Errors
-/// `Write` where standard output took no more.
-pub fn write_report<W: Write>(out: &mut W, report: &Report) -> Done {
-    write!(out, "\t")?;
-    write_parts(out, report)
-}
-
-/// A report that says that memory was refused, or that came back.
-///
-/// # Errors
-/// `Write` where standard output took no more.
-pub fn write_refusal<W: Write>(out: &mut W, report: &Report) -> Done {
-    write!(out, "\trefused: ")?;
-    write_parts(out, report)
-}
-
-/// A report that a call gave; in front of that of refused memory stands that it was refused.
-///
-/// # Errors
-/// `Write` where standard output took no more.
-pub fn write_report_or_refusal<W: Write>(out: &mut W, report: &Report) -> Done {
-    match report.kind() {
-        ReportKind::OutOfMemory => write_refusal(out, report),
-        _ => write_report(out, report),
+    /// A value, behind its name.
+    pub fn part<T: Debug>(&mut self, name: &str, value: &T) {
+        self.is_full = self.is_full || write!(self.out, "{name}{value:?}").is_err();
     }
-}
 
-/// A report with more in front of it or below it, or as it came back.
-///
-/// # Errors
-/// `Write` where standard output took no more.
-pub fn write_outcome<W: Write>(out: &mut W, answer: Result<Report, Report>) -> Done {
-    match answer {
-        Ok(report) => write_report(out, &report),
-        Err(report) => write_refusal(out, &report),
+    /// A value that a call is given, or gave.
+    pub fn value<T: Debug>(&mut self, value: &T) {
+        self.part(VALUE, value);
+    }
+
+    /// That memory was refused.
+    pub fn refused(&mut self) {
+        self.text("\trefused");
+    }
+
+    /// The value that a call gave, or that memory was refused.
+    pub fn answer<T: Debug + Drop>(&mut self, answer: Result<T, AllocError>) {
+        match answer {
+            Ok(value) => self.value(&value),
+            Err(AllocError) => self.refused(),
+        }
+    }
+
+    /// What a text holds after a call that appends to it.
+    pub fn appended(&mut self, answer: Result<(), RenderError>, text: &String) {
+        let before = match answer {
+            Ok(()) => VALUE,
+            Err(RenderError::Memory) => REFUSED,
+            Err(RenderError::Refused) => "\tnot read: ",
+        };
+        self.part(before, text);
+    }
+
+    /// A value, where a call gave something, or that memory was refused: what a call changes in place, or a word for
+    /// what it gave.
+    pub fn after<A: Drop, T: Debug>(&mut self, answer: Result<A, AllocError>, value: &T) {
+        match answer {
+            Ok(_) => self.value(value),
+            Err(AllocError) => self.refused(),
+        }
+    }
+
+    /// A value, and two clones of it.
+    pub fn clones<T: Clone + Debug + Drop>(&mut self, value: T) {
+        self.value(&value);
+        self.answer(value.clone());
+        self.answer(value.clone());
+    }
+
+    /// The parts of a report, behind a text.
+    pub fn report(&mut self, before: &str, report: &Report) {
+        self.is_full = self.is_full
+            || write!(
+                self.out,
+                "{before}{report:?}, code {:?}, severity {:?}, help {:?}, url {:?}, labels {:?}",
+                report.code(),
+                report.severity(),
+                report.help(),
+                report.url(),
+                report.labels()
+            )
+            .is_err();
+    }
+
+    /// A report that a call gave; in front of that of refused memory stands that it was refused.
+    pub fn report_or_refusal(&mut self, report: &Report) {
+        let before = match report.kind() {
+            ReportKind::OutOfMemory => REFUSED,
+            _ => VALUE,
+        };
+        self.report(before, report);
+    }
+
+    /// Ends a row, and says where its call wasn't made.
+    ///
+    /// # Errors
+    /// `Write` where the output took no more.
+    pub fn end(&mut self, called: Called) -> Done {
+        if called.is_err() {
+            self.text("\tno memory before the call");
+        }
+        self.text("\n");
+        if self.is_full {
+            Err(Stop::Write)
+        } else {
+            Ok(())
+        }
     }
 }

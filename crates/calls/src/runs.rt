@@ -1,6 +1,6 @@
 //! Runs of characters and signs, and outputs that print or collect them.
 
-use crate::rows::{Done, write_answer, write_change, write_given};
+use crate::rows::{Called, Rows};
 use miette::style::{Color, Style};
 use miette_text::runs::Runs;
 use miette_text::runs::output::Output;
@@ -39,23 +39,29 @@ pub static NAMES: [&str; 24] = [
 /// Makes the call of this name.
 ///
 /// # Errors
-/// `Memory` where what it needs can't be made, `Write` where standard output took no more.
-pub fn make<W: Write>(alloc: Global, name: &str, out: &mut W) -> Done {
+/// Where memory is refused for what it is given.
+pub fn make<W: Write + Drop>(alloc: Global, name: &str, row: &mut Rows<W>) -> Called {
     match name {
-        "Runs::new" => write_given(out, &Runs::new(alloc)),
-        "Output::for_text" => write_given(out, &Output::for_text(alloc)),
-        "Output::for_runs" => write_given(out, &Output::for_runs(alloc)),
-        "Output::into_text" => write_ends(alloc, out, true),
-        "Output::into_runs" => write_ends(alloc, out, false),
+        "Runs::new" => row.value(&Runs::new(alloc)),
+        "Output::for_text" => row.value(&Output::for_text(alloc)),
+        "Output::for_runs" => row.value(&Output::for_runs(alloc)),
+        "Output::into_text" => {
+            row.answer(filled(Output::for_text(alloc))?.into_text(alloc));
+            row.answer(filled(Output::for_runs(alloc))?.into_text(alloc));
+        }
+        "Output::into_runs" => {
+            row.answer(filled(Output::for_text(alloc))?.into_runs(alloc));
+            row.answer(filled(Output::for_runs(alloc))?.into_runs(alloc));
+        }
         _ => {
             if name.starts_with("Runs::") {
-                write_push(alloc, name, out)
-            } else {
-                write_put(name, out, Output::for_text(alloc))?;
-                write_put(name, out, Output::for_runs(alloc))
+                return pushed(alloc, name, row);
             }
+            put(name, row, Output::for_text(alloc));
+            put(name, row, Output::for_runs(alloc));
         }
     }
+    Ok(())
 }
 
 static XY: [char; 2] = ['x', 'y'];
@@ -64,15 +70,13 @@ fn red() -> Style {
     Style::new().color(Color::Red)
 }
 
-fn write_push<W: Write>(alloc: Global, name: &str, out: &mut W) -> Done {
+fn pushed<W: Write + Drop>(alloc: Global, name: &str, row: &mut Rows<W>) -> Called {
     let more = read_text(alloc, "\u{1b}[32mb\u{1b}[0mc")?;
-    write_pushed(name, out, &mut Runs::new(alloc), &more)
-}
-
-fn write_pushed<W: Write>(name: &str, out: &mut W, runs: &mut Runs, more: &Runs) -> Done {
-    write_given(out, runs)?;
-    let answer = push(name, runs, more);
-    write_change(out, answer, runs)
+    let mut runs = Runs::new(alloc);
+    row.value(&runs);
+    let answer = push(name, &mut runs, &more);
+    row.after(answer, &runs);
+    Ok(())
 }
 
 fn push(name: &str, runs: &mut Runs, more: &Runs) -> Result<(), AllocError> {
@@ -91,10 +95,9 @@ fn push(name: &str, runs: &mut Runs, more: &Runs) -> Result<(), AllocError> {
     }
 }
 
-fn write_put<W: Write>(name: &str, out: &mut W, output: Output) -> Done {
-    let mut output = output;
+fn put<W: Write + Drop>(name: &str, row: &mut Rows<W>, mut output: Output) {
     let answer = push_to(name, &mut output);
-    write_change(out, answer, &output)
+    row.after(answer, &output);
 }
 
 fn push_to(name: &str, output: &mut Output) -> Result<(), AllocError> {
@@ -112,26 +115,8 @@ fn push_to(name: &str, output: &mut Output) -> Result<(), AllocError> {
     }
 }
 
-/// An output with a red text, which prints or collects.
-fn filled_output(alloc: Global, prints: bool) -> Result<Output, AllocError> {
-    let mut output = if prints {
-        Output::for_text(alloc)
-    } else {
-        Output::for_runs(alloc)
-    };
+/// An output with a red text.
+fn filled(mut output: Output) -> Result<Output, AllocError> {
     output.push_run(red(), "xyz")?;
     Ok(output)
-}
-
-fn write_ends<W: Write>(alloc: Global, out: &mut W, as_text: bool) -> Done {
-    write_end(alloc, out, filled_output(alloc, true)?, as_text)?;
-    write_end(alloc, out, filled_output(alloc, false)?, as_text)
-}
-
-fn write_end<W: Write>(alloc: Global, out: &mut W, output: Output, as_text: bool) -> Done {
-    if as_text {
-        write_answer(out, output.into_text(alloc))
-    } else {
-        write_answer(out, output.into_runs(alloc))
-    }
 }

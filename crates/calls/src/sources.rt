@@ -1,6 +1,6 @@
 //! Sources.
 
-use crate::rows::{Done, write_given, write_refused};
+use crate::rows::{Called, Rows};
 use miette::protocol::{SourceOffset, SourceSpan};
 use miette::report::OwnedSource;
 use miette::source::{IndexedSource, NamedSource, SourceCode};
@@ -23,47 +23,46 @@ pub const README: &[u8] = b"source\n  text\n    here";
 /// Makes the call of this name.
 ///
 /// # Errors
-/// `Memory` where what it needs can't be made, `Write` where standard output took no more.
-pub fn make<W: Write>(alloc: Global, name: &str, out: &mut W) -> Done {
-    of_bytes(alloc, name, out, README.to_vec(alloc)?)
-}
-
-fn of_bytes<W: Write>(alloc: Global, name: &str, out: &mut W, bytes: Vec<u8>) -> Done {
+/// Where memory is refused for what it is given.
+pub fn make<W: Write + Drop>(alloc: Global, name: &str, row: &mut Rows<W>) -> Called {
+    let bytes = README.to_vec(alloc)?;
     match name {
-        "IndexedSource::new" => write_read(out, IndexedSource::new(alloc, bytes)),
-        "NamedSource::new" => write_read(out, NamedSource::new(alloc, "bad_file.rs", bytes)),
-        "OwnedSource::new" => write_read(out, OwnedSource::new(alloc, bytes)),
-        "OwnedSource::named" => write_read(
-            out,
+        "IndexedSource::new" => read(row, IndexedSource::new(alloc, bytes)),
+        "NamedSource::new" => read(row, NamedSource::new(alloc, "bad_file.rs", bytes)),
+        "OwnedSource::new" => read(row, OwnedSource::new(alloc, bytes)),
+        "OwnedSource::named" => read(
+            row,
             OwnedSource::named(alloc, "bad_file.rs", Some("rust"), bytes),
         ),
-        _ => of_named(alloc, name, out),
+        _ => return of_named(alloc, name, row),
     }
+    Ok(())
 }
 
-fn of_named<W: Write>(alloc: Global, name: &str, out: &mut W) -> Done {
+fn of_named<W: Write + Drop>(alloc: Global, name: &str, row: &mut Rows<W>) -> Called {
     let named = NamedSource::new(alloc, "bad_file.rs", README.to_vec(alloc)?)?;
     if name == "NamedSource::clone" {
-        return write_clones(out, &named.with_language(alloc, "rust")?);
+        clones(row, &named.with_language(alloc, "rust")?);
+    } else {
+        row.value(&named);
+        read(row, named.with_language(alloc, "rust"));
     }
-    write_given(out, &named)?;
-    write_read(out, named.with_language(alloc, "rust"))
+    Ok(())
 }
 
-fn write_clones<W: Write>(out: &mut W, named: &NamedSource<Vec<u8>>) -> Done {
-    write_given(out, named)?;
-    write_read(out, named.clone())?;
-    write_read(out, named.clone())
+fn clones<W: Write + Drop>(row: &mut Rows<W>, named: &NamedSource<Vec<u8>>) {
+    row.value(named);
+    read(row, named.clone());
+    read(row, named.clone());
 }
 
 /// A read of the source that a call gave, with a line of context.
-fn write_read<S: SourceCode, W: Write>(out: &mut W, answer: Result<S, AllocError>) -> Done {
+fn read<S: SourceCode, W: Write + Drop>(row: &mut Rows<W>, answer: Result<S, AllocError>) {
     match answer {
         Ok(source) => {
             let span = SourceSpan::new(SourceOffset::from(9), 4);
-            let contents = source.read_span(&span, 1, 1);
-            write_given(out, &contents)
+            row.value(&source.read_span(&span, 1, 1));
         }
-        Err(AllocError) => write_refused(out),
+        Err(AllocError) => row.refused(),
     }
 }

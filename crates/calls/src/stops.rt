@@ -5,7 +5,7 @@ use crate::fixtures::{
     M, Made, Mended, Written, report_and_fix, report_and_stopping, report_beside_one, report_of,
     report_over, stopping_report,
 };
-use crate::rows::{Done, Stop, end_row};
+use crate::rows::{Called, Done, Rows, Stop};
 use crate::stopping::{Reads, Stopping};
 use std::alloc::{AllocError, Global};
 use std::cell::Cell;
@@ -76,50 +76,54 @@ static FAR_DOWN: Mended<'static> = ("five", 1150, 0, "five");
 /// last row of each is that in which no read fails.
 ///
 /// # Errors
-/// `Write` where standard output took no more, `Memory` where it was refused.
-pub fn rows<W: Write>(alloc: Global, out: &mut W) -> Done {
+/// `Write` where standard output took no more.
+pub fn rows<W: Write + Drop>(alloc: Global, rows: &mut Rows<W>) -> Done {
     for name in &NAMES {
         for handler in &HANDLERS {
             for lines in [0usize, 1, 2] {
-                until_none_fails(alloc, out, (name, handler, lines), false)?;
-                until_none_fails(alloc, out, (name, handler, lines), true)?;
+                until_none_fails(alloc, rows, (name, handler, lines), false)?;
+                until_none_fails(alloc, rows, (name, handler, lines), true)?;
             }
         }
     }
     Ok(())
 }
 
-fn until_none_fails<W: Write>(
+fn until_none_fails<W: Write + Drop>(
     alloc: Global,
-    out: &mut W,
+    rows: &mut Rows<W>,
     (name, handler, lines): (&str, &str, usize),
     stays: bool,
 ) -> Done {
-    let how = if stays { "from" } else { "at" };
+    let how = if stays { ", from" } else { ", at" };
     for fails_at in 1..MOST {
         let reads = Reads {
             count: Cell::new(0),
             fails_at,
             stays,
         };
-        write!(out, "{name}, {handler}, {lines}, {how} {fails_at}")?;
-        let done = row(alloc, out, (name, handler, lines), &reads);
-        let none_fails = reads.count.get() < fails_at;
-        end_row(out, done)?;
-        if none_fails {
+        rows.text(name);
+        rows.text(", ");
+        rows.text(handler);
+        rows.part(", ", &lines);
+        rows.text(how);
+        rows.part(" ", &fails_at);
+        let called = row(alloc, rows, (name, handler, lines), &reads);
+        rows.end(called)?;
+        if reads.count.get() < fails_at {
             return Ok(());
         }
     }
     Err(Stop::Usage)
 }
 
-fn row<W: Write>(
+fn row<W: Write + Drop>(
     alloc: Global,
-    out: &mut W,
+    row: &mut Rows<W>,
     (name, handler, lines): (&str, &str, usize),
     reads: &Reads,
-) -> Done {
-    render_made(alloc, out, report(alloc, name, reads), handler, lines)
+) -> Called {
+    render_made(alloc, row, report(alloc, name, reads), handler, lines)
 }
 
 fn report<'a>(alloc: Global, name: &str, reads: &'a Reads) -> Result<Made<'a>, AllocError> {

@@ -1,6 +1,6 @@
 //! Texts that are wrapped, read as runs, and printed.
 
-use crate::rows::{Done, write_answer, write_change, write_given, write_text};
+use crate::rows::{Called, Rows};
 use miette::error::RenderError;
 use miette::wrap::{Plan, WordSeparator, WordSplitter, WrapOptions, fill, wrap};
 use miette_text::runs::Runs;
@@ -33,40 +33,36 @@ const TEXT: &str =
 /// Makes the call of this name.
 ///
 /// # Errors
-/// `Memory` where what it needs can't be made, `Write` where standard output took no more.
-pub fn make<W: Write>(alloc: Global, name: &str, out: &mut W) -> Done {
+/// Where memory is refused for what it is given.
+pub fn make<W: Write + Drop>(alloc: Global, name: &str, row: &mut Rows<W>) -> Called {
     match name {
-        "fill" => write_fill(alloc, out),
-        "wrap" => write_wrap(alloc, out),
-        "push_fitting" => write_fitting(alloc, out),
-        "append_whole" => {
-            let mut text = String::from_str(alloc, "> ")?;
-            write_given(out, &text)?;
-            let answer = append_whole("a text that is longer than what is there", &mut text);
-            write_text(out, answer, &text)
-        }
+        "fill" | "append_whole" => appended(alloc, name, row),
+        "wrap" => wrapped(alloc, row),
+        "push_fitting" => fitted(alloc, row),
         "read" => {
             let codes: Vec<char> = TEXT.chars().collect(alloc)?;
-            write_answer(out, read(alloc, codes))
+            row.answer(read(alloc, codes));
+            Ok(())
         }
-        "read_text" => write_answer(out, read_text(alloc, TEXT)),
-        _ => of_runs(alloc, name, out),
+        "read_text" => {
+            row.answer(read_text(alloc, TEXT));
+            Ok(())
+        }
+        _ => {
+            let runs = read_text(alloc, "\n\u{1b}[31m\nred\u{1b}[0m\n")?;
+            row.value(&runs);
+            of_runs(alloc, name, row, runs);
+            Ok(())
+        }
     }
 }
 
-fn of_runs<W: Write>(alloc: Global, name: &str, out: &mut W) -> Done {
-    let runs = read_text(alloc, "\n\u{1b}[31m\nred\u{1b}[0m\n")?;
-    write_given(out, &runs)?;
-    write_cut(alloc, name, out, runs)
-}
-
-fn write_cut<W: Write>(alloc: Global, name: &str, out: &mut W, runs: Runs) -> Done {
+fn of_runs<W: Write + Drop>(alloc: Global, name: &str, row: &mut Rows<W>, runs: Runs) {
     match name {
-        "without_leading" => write_answer(out, without_leading(alloc, runs)),
-        "without_trailing" => write_answer(out, without_trailing(alloc, runs)),
-        "print" => write_answer(out, print(alloc, &runs)),
-        "columns_of" => write_answer(out, columns_of(alloc, &runs)),
-        _ => Ok(()),
+        "without_leading" => row.answer(without_leading(alloc, runs)),
+        "without_trailing" => row.answer(without_trailing(alloc, runs)),
+        "print" => row.answer(print(alloc, &runs)),
+        _ => row.answer(columns_of(alloc, &runs)),
     }
 }
 
@@ -80,18 +76,28 @@ static OPTIONS: WrapOptions<'static> = WrapOptions {
     splitter: WordSplitter::HyphenSplitter,
 };
 
-fn write_fill<W: Write>(alloc: Global, out: &mut W) -> Done {
+/// The text `> `, and what the call of this name puts behind it.
+fn appended<W: Write + Drop>(alloc: Global, name: &str, row: &mut Rows<W>) -> Called {
     let mut text = String::from_str(alloc, "> ")?;
-    write_given(out, &text)?;
-    let answer = fill(TEXT, &OPTIONS, &mut text);
-    write_text(out, answer.map_err(|it| RenderError::from(it)), &text)
+    row.value(&text);
+    let answer = if name == "fill" {
+        match fill(TEXT, &OPTIONS, &mut text) {
+            Ok(()) => Ok(()),
+            Err(AllocError) => Err(RenderError::Memory),
+        }
+    } else {
+        append_whole("a text that is longer than what is there", &mut text)
+    };
+    row.appended(answer, &text);
+    Ok(())
 }
 
-fn write_wrap<W: Write>(alloc: Global, out: &mut W) -> Done {
+fn wrapped<W: Write + Drop>(alloc: Global, row: &mut Rows<W>) -> Called {
     let mut output = Output::for_runs(alloc);
-    write_given(out, &output)?;
+    row.value(&output);
     let answer = wrap_text(alloc, &mut output)?;
-    write_change(out, answer, &output)
+    row.after(answer, &output);
+    Ok(())
 }
 
 /// What the call answers; an error where what it is given can't be made.
@@ -111,10 +117,11 @@ fn wrap_text(alloc: Global, output: &mut Output) -> Result<Result<(), AllocError
     Ok(wrap(alloc, plan, &text, output))
 }
 
-fn write_fitting<W: Write>(alloc: Global, out: &mut W) -> Done {
+fn fitted<W: Write + Drop>(alloc: Global, row: &mut Rows<W>) -> Called {
     let first = read_text(alloc, "* ")?;
     let mut output = Output::for_runs(alloc);
-    write_given(out, &output)?;
+    row.value(&output);
     let answer = push_fitting(true, 13, &first, "word-and-\u{6f22}", &mut output);
-    write_change(out, answer.map(|_fits| ()), &output)
+    row.after(answer, &output);
+    Ok(())
 }

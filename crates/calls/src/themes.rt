@@ -1,6 +1,6 @@
 //! Themes and highlighters.
 
-use crate::rows::{Done, write_answer, write_clones_if_made, write_given};
+use crate::rows::{Called, Rows};
 use miette::highlight::{BlankHighlighter, Highlighter};
 use miette::theme::{GraphicalTheme, Terminal, ThemeCharacters, ThemeStyles};
 use std::alloc::{AllocError, Global};
@@ -29,58 +29,49 @@ pub static NAMES: [&str; 16] = [
 /// Makes the call of this name.
 ///
 /// # Errors
-/// `Memory` where what it needs can't be made, `Write` where standard output took no more.
-pub fn make<W: Write>(alloc: Global, name: &str, out: &mut W) -> Done {
+/// Where memory is refused for what it is given.
+pub fn make<W: Write + Drop>(alloc: Global, name: &str, row: &mut Rows<W>) -> Called {
     match name {
-        "ThemeCharacters::unicode" => write_answer(out, ThemeCharacters::unicode(alloc)),
-        "ThemeCharacters::emoji" => write_answer(out, ThemeCharacters::emoji(alloc)),
-        "ThemeCharacters::ascii" => write_answer(out, ThemeCharacters::ascii(alloc)),
-        "ThemeCharacters::clone" => write_clones_if_made(out, ThemeCharacters::emoji(alloc)),
-        "ThemeStyles::rgb" => write_answer(out, ThemeStyles::rgb(alloc)),
-        "ThemeStyles::ansi" => write_answer(out, ThemeStyles::ansi(alloc)),
-        "ThemeStyles::none" => write_answer(out, ThemeStyles::none(alloc)),
-        "ThemeStyles::clone" => write_clones_if_made(out, ThemeStyles::rgb(alloc)),
-        _ => theme(alloc, name, out),
+        "ThemeCharacters::unicode" => row.answer(ThemeCharacters::unicode(alloc)),
+        "ThemeCharacters::emoji" => row.answer(ThemeCharacters::emoji(alloc)),
+        "ThemeCharacters::ascii" => row.answer(ThemeCharacters::ascii(alloc)),
+        "ThemeCharacters::clone" => row.clones(ThemeCharacters::emoji(alloc)?),
+        "ThemeStyles::rgb" => row.answer(ThemeStyles::rgb(alloc)),
+        "ThemeStyles::ansi" => row.answer(ThemeStyles::ansi(alloc)),
+        "ThemeStyles::none" => row.answer(ThemeStyles::none(alloc)),
+        "ThemeStyles::clone" => row.clones(ThemeStyles::rgb(alloc)?),
+        "GraphicalTheme::clone" => row.clones(GraphicalTheme::unicode(alloc)?),
+        "GraphicalTheme::for_terminal" => {
+            let terminal = terminal(alloc)?;
+            row.value(&terminal);
+            row.answer(GraphicalTheme::for_terminal(alloc, &terminal));
+        }
+        "Highlighter::highlight_line for BlankHighlighter" => {
+            let mut highlighter = BlankHighlighter;
+            row.answer(highlighter.highlight_line(alloc, "let x = 1;"));
+        }
+        "Highlighter::highlight_line for Box" => {
+            let mut highlighter: Box<dyn Highlighter> = Box::new(alloc, BlankHighlighter)?;
+            row.answer(highlighter.highlight_line(alloc, "let x = 1;"));
+        }
+        _ => row.answer(theme(alloc, name)),
     }
+    Ok(())
 }
 
-fn theme<W: Write>(alloc: Global, name: &str, out: &mut W) -> Done {
-    if name == "GraphicalTheme::clone" {
-        return write_clones_if_made(out, GraphicalTheme::unicode(alloc));
-    }
-    let made = match name {
+fn theme(alloc: Global, name: &str) -> Result<GraphicalTheme, AllocError> {
+    match name {
         "GraphicalTheme::ascii" => GraphicalTheme::ascii(alloc),
         "GraphicalTheme::unicode" => GraphicalTheme::unicode(alloc),
         "GraphicalTheme::unicode_nocolor" => GraphicalTheme::unicode_nocolor(alloc),
-        "GraphicalTheme::none" => GraphicalTheme::none(alloc),
-        _ => return others(alloc, name, out),
-    };
-    write_answer(out, made)
-}
-
-fn others<W: Write>(alloc: Global, name: &str, out: &mut W) -> Done {
-    match name {
-        "GraphicalTheme::for_terminal" => { for_terminal(alloc, out, &terminal(alloc)?) }
-        "Highlighter::highlight_line for BlankHighlighter" => {
-            let mut highlighter = BlankHighlighter;
-            write_answer(out, highlighter.highlight_line(alloc, "let x = 1;"))
-        }
-        "Highlighter::highlight_line for Box" => { write_by_box(alloc, out) }
-        _ => Ok(()),
+        _ => GraphicalTheme::none(alloc),
     }
 }
 
-fn for_terminal<W: Write>(alloc: Global, out: &mut W, terminal: &Terminal) -> Done {
-    write_given(out, terminal)?;
-    write_answer(out, GraphicalTheme::for_terminal(alloc, terminal))
-}
-
-fn write_by_box<W: Write>(alloc: Global, out: &mut W) -> Done {
-    let mut highlighter: Box<dyn Highlighter> = Box::new(alloc, BlankHighlighter)?;
-    write_answer(out, highlighter.highlight_line(alloc, "let x = 1;"))
-}
-
 /// Colours that its user doesn't want.
+///
+/// # Errors
+/// Where memory is refused.
 pub fn terminal(alloc: Global) -> Result<Terminal, AllocError> {
     Ok(Terminal {
         width: Some(40),
