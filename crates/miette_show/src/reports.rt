@@ -48,9 +48,10 @@ fn rustc_reports<'f, F: Files>(
     value: &Value,
 ) -> Result<Vec<Report<MietteDiagnostic, LentFile<'f>>>, ReadError>
     ensures ok { IfOk result (λ list. rustc_trees (F.found files.now) (view value.now)
-        ≡ Some (map (tree_of ⟦<MietteDiagnostic as Diagnostic>⟧.meaning ⟦<LentFile<'f> as SourceCode>⟧.source)
-        list.items)) }
-    ensures message { (result ≡ Err ReadError.NoMessage) → rustc_trees (F.found files.now) (view value.now) ≡ None }
+        ≡ Some (map (tree_of ⟦<MietteDiagnostic as Diagnostic>⟧.meaning
+        ⟦<LentFile<'f> as SourceCode>⟧.source) list.items)) }
+    ensures message { (result ≡ Err ReadError.NoMessage)
+        → rustc_trees (F.found files.now) (view value.now) ≡ None }
 {
     match rustc_report(alloc, files, value) {
         Ok(Some(report)) => Ok(alone(alloc, report)?),
@@ -67,8 +68,8 @@ fn value_reports<'f, F: Files>(
     value: &Value,
 ) -> Result<Vec<Report<MietteDiagnostic, LentFile<'f>>>, ReadError>
     ensures ok { IfOk result (λ list. value_trees from (F.found files.now) (view value.now)
-        ≡ Some (map (tree_of ⟦<MietteDiagnostic as Diagnostic>⟧.meaning ⟦<LentFile<'f> as SourceCode>⟧.source)
-        list.items)) }
+        ≡ Some (map (tree_of ⟦<MietteDiagnostic as Diagnostic>⟧.meaning
+        ⟦<LentFile<'f> as SourceCode>⟧.source) list.items)) }
     ensures message { (result ≡ Err ReadError.NoMessage)
         → value_trees from (F.found files.now) (view value.now) ≡ None }
 {
@@ -87,8 +88,8 @@ pub(crate) fn reports_of<'f, F: Files>(
     value: &Value,
 ) -> Result<Vec<Report<MietteDiagnostic, LentFile<'f>>>, ReadError>
     ensures ok { IfOk result (λ list. value_trees from (F.found files.now) (view value.now)
-        ≡ Some (map (tree_of ⟦<MietteDiagnostic as Diagnostic>⟧.meaning ⟦<LentFile<'f> as SourceCode>⟧.source)
-        list.items)) }
+        ≡ Some (map (tree_of ⟦<MietteDiagnostic as Diagnostic>⟧.meaning
+        ⟦<LentFile<'f> as SourceCode>⟧.source) list.items)) }
     ensures reads { IfOk result (λ list. All AlwaysReads
         (map (tree_of ⟦<MietteDiagnostic as Diagnostic>⟧.meaning ⟦<LentFile<'f> as SourceCode>⟧.source) list.items)) }
     ensures accepted { IfOk result (λ list. All (λ t. report_accepted t ≡ true)
