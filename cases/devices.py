@@ -83,7 +83,7 @@ JOB_WORDS = (
     "[--color yes|no] [--links yes|no] [--wrap yes|no] [--break yes|no] [--end-labels yes|no] [--chain "
     "yes|no] [--hyphens yes|no] [--nested yes|no] [--rgb always|preferred|never] [--separator ascii|unicode] "
     "[--footer TEXT] [--highlight toml|json|rust] [--term-width N] [--no-graphics TEXT] [--term-color "
-    "none|ansi|rgb] [--term-unicode yes|no] [--term-links yes|no] | --fix[=all] | --sarif [--tool TOOL] | --lsp [--tool TOOL]"
+    "none|ansi|rgb] [--term-unicode yes|no] [--term-links yes|no] | --fix[=all] | --sarif [--tool TOOL]"
 )
 # words that are refused, status, row
 REFUSED = [

@@ -97,7 +97,7 @@ const JOB_WORDS: &str =
     [--chain yes|no] [--hyphens yes|no] [--nested yes|no] [--rgb always|preferred|never] \
     [--separator ascii|unicode] [--footer TEXT] [--highlight toml|json|rust] [--term-width N] \
     [--no-graphics TEXT] [--term-color none|ansi|rgb] [--term-unicode yes|no] [--term-links yes|no] \
-    | --fix[=all] | --sarif [--tool TOOL] | --lsp [--tool TOOL]";
+    | --fix[=all] | --sarif [--tool TOOL]";
 
 impl Program {
     /// Its name, and the words that it takes.

@@ -32,7 +32,7 @@ bracketed (w ∷ ws) = codes "[" ++ (w.0 ++ (w.1 ++ (codes "] " ++ bracketed ws)
 -- the words that a program takes
 abbrev pub usage_of : Program → List ℕ
 usage_of Draw = codes "NAME OFFSET LENGTH LABEL MESSAGE"
-usage_of Job = bracketed job_words ++ codes "| --fix[=all] | --sarif [--tool TOOL] | --lsp [--tool TOOL]"
+usage_of Job = bracketed job_words ++ codes "| --fix[=all] | --sarif [--tool TOOL]"
 usage_of Bench = codes "N [OPTIONS]"
 usage_of Lint = codes "[--brief | --github | --fix | --diff | --sarif [--tool TOOL]] NAME WIDTH"
 usage_of Show = codes "[--from auto|rustc|gcc] [--root DIR] [OPTIONS]"
