@@ -16,5 +16,4 @@ pub mod EditorSteps
 pub mod OptionWordSteps
 pub mod WriteResults
 pub mod FaultRows
-pub mod UsageWords
 pub mod WholeTexts

@@ -6,6 +6,5 @@ pub mod Job
 pub mod Logs
 pub mod Editors
 pub mod JobCalls
-pub mod Usage
 pub mod Faults
 pub mod Fixing
