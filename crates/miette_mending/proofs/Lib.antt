@@ -1,3 +1,0 @@
-pub mod RowStarts
-pub mod Holds
-pub mod Lists

@@ -1,2 +1,0 @@
--- Values as they are held.
-pub mod Holding
