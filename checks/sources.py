@@ -228,6 +228,12 @@ def owner_of(text, function):
     return owner[1], without_first_brackets(owner[2].strip()).split("{")[0].split(" where ")[0]
 
 
+def has_parameters(text, function):
+    """Whether a method's block has generic parameters."""
+    owner = [it for it in OWNER.finditer(text) if it.start() < function.start][-1]
+    return owner[2].strip().startswith("<")
+
+
 def name_of(file, text, number):
     """The end of the name of a function of a file, as a check prints it: `module::name`, `Type::name`, `TypeTrait::name`."""
     its = functions(text)[number]
@@ -247,6 +253,9 @@ def path_of(file, text, number):
     if its.indent:
         first, _, last = owner_of(text, its)[1].partition(" for ")
         if last and ("<" in first or re.match(r"(?:Box|Vec|Option|Result)<|[&(\[]", last.strip())):
+            return module_of(file)
+        # the name of a method of a type at types of its own, as in `impl Cell<u8>`, has these types
+        if not last and "<" in first and not has_parameters(text, its):
             return module_of(file)
     return name_of(file, text, number)
 
