@@ -3,14 +3,11 @@
 ghost use Rattle.std.specs.Prelude.{◌≡◌, ◌⊎◌, IfOk, OnErr, Some, None, map, string_bytes, true};
 ghost use Rattle.miette_report.specs.rules.OptionWords as table;
 ghost use Rattle.miette_report.specs.rules.OptionWords.{AreWanted, asked_by, chosen_by, nothing_asked};
-ghost use Rattle.miette_report.specs.steps.AskedWords.{AreGiven, asked_of, with_asked};
+ghost use Rattle.miette_report.specs.steps.AskedWords.{AreGiven, asked_of, with_asked, with_named};
 
 use crate::fault::Fault;
 use crate::language::LanguageHighlighter;
-use crate::option_words::{
-    Asked, Choice, ReportAsked, color_named, first_asked, language_named, rgb_named,
-    separator_named, theme_named,
-};
+use crate::option_words::{Asked, Choice, Named, ReportAsked, first_asked, named};
 use crate::words::number;
 use miette::handlers::Form;
 use miette::options::MietteHandlerOpts;
@@ -204,30 +201,26 @@ impl Arguments {
     }
 
     /// With a word whose value is a name.
-    fn with_name(mut self, alloc: Global, word: &str, name: &str) -> Result<Arguments, Fault>
+    fn with_name(self, alloc: Global, word: &str, name: &str) -> Result<Arguments, Fault>
         ensures { AreGiven (table.with_name word.now name.now (asked_of self)) result }
     {
-        match word {
-            "--theme" => {
-                let theme = theme_named(alloc, name)?;
-                self.options = self.options.graphical_theme(theme);
+        let named = named(alloc, word, name)?;
+        Ok(self.with_named(named))
+    }
+
+    /// With what such a word asks for.
+    fn with_named(mut self, named: Named) -> Arguments
+        ensures { asked_of result ≡ with_named named (asked_of self) }
+    {
+        match named {
+            Named::Theme(theme) => self.options = self.options.graphical_theme(theme),
+            Named::Rgb(colors) => self.options = self.options.rgb_colors(colors),
+            Named::Separator(separator) => self.options = self.options.word_separator(separator),
+            Named::Highlighter(highlighter) => {
+                self.options = self.options.with_syntax_highlighting(highlighter)
             }
-            "--rgb" => {
-                let colors = rgb_named(name).ok_or(Fault::Usage)?;
-                self.options = self.options.rgb_colors(colors);
-            }
-            "--separator" => {
-                let separator = separator_named(name).ok_or(Fault::Usage)?;
-                self.options = self.options.word_separator(separator);
-            }
-            "--highlight" => {
-                let language = language_named(name).ok_or(Fault::Usage)?;
-                let highlighter = LanguageHighlighter::new(alloc, language)?;
-                self.options = self.options.with_syntax_highlighting(highlighter);
-            }
-            "--term-color" => self.terminal.color = color_named(name).ok_or(Fault::Usage)?,
-            _ => return Err(Fault::Usage),
+            Named::Color(color) => self.terminal.color = color,
         }
-        Ok(self)
+        self
     }
 }

@@ -5,10 +5,10 @@ ghost use Rattle.std.specs.Option.{option_and_then};
 ghost use Rattle.miette_style.specs.rules.Themes.{theme_of};
 ghost use Rattle.miette_report.specs.rules.OptionWords as table;
 ghost use Rattle.miette_report.specs.rules.OptionWords.{JobRequest, with_words, with_words_after};
-ghost use Rattle.miette_report.specs.steps.AskedWords.{IsGiven, with_asked};
+ghost use Rattle.miette_report.specs.steps.AskedWords.{IsGiven, with_asked, with_named};
 
 use crate::fault::Fault;
-use crate::language::Language;
+use crate::language::{Language, LanguageHighlighter};
 use miette::options::RgbColors;
 use miette::theme::GraphicalTheme;
 use miette::wrap::WordSeparator;
@@ -86,6 +86,38 @@ fn report_named(word: &str) -> Option<ReportAsked>
         "--narrated" => Some(ReportAsked::Narrated),
         "--graphical" => Some(ReportAsked::Graphical),
         _ => None,
+    }
+}
+
+/// What a word asks for whose value is a name.
+#[derive(Drop)]
+pub(crate) enum Named {
+    Theme(GraphicalTheme),
+    Rgb(RgbColors),
+    Separator(WordSeparator),
+    Highlighter(LanguageHighlighter),
+    Color(Option<bool>),
+}
+
+/// What a word asks for with a name as its value.
+///
+/// # Errors
+/// `Usage` where there is no such word or it takes no such name, and `Memory` where none is found for a theme or a
+/// highlighter.
+pub(crate) fn named(alloc: Global, word: &str, name: &str) -> Result<Named, Fault>
+    ensures { (r : JobRequest) →
+        IsGiven (λ it. with_named it r) (table.with_name word.now name.now r) result }
+{
+    match word {
+        "--theme" => Ok(Named::Theme(theme_named(alloc, name)?)),
+        "--rgb" => Ok(Named::Rgb(rgb_named(name).ok_or(Fault::Usage)?)),
+        "--separator" => Ok(Named::Separator(separator_named(name).ok_or(Fault::Usage)?)),
+        "--highlight" => {
+            let language = language_named(name).ok_or(Fault::Usage)?;
+            Ok(Named::Highlighter(LanguageHighlighter::new(alloc, language)?))
+        }
+        "--term-color" => Ok(Named::Color(color_named(name).ok_or(Fault::Usage)?)),
+        _ => Err(Fault::Usage),
     }
 }
 

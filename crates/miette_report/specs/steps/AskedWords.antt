@@ -5,6 +5,10 @@ use Rattle.miette_report.specs.declared.fault.Fault.{Fault}
 use Rattle.miette_report.specs.declared.fault.Fault.TheVariants.{Usage, Memory, Read, Write, Description, Refused}
 use Rattle.miette_report.specs.declared.option_words.Asked.{Asked}
 use Rattle.miette_report.specs.declared.option_words.Asked.TheVariants.{Report, Value}
+use Rattle.miette_style.specs.rules.Themes.{theme_of}
+use Rattle.miette_report.specs.declared.option_words.Named.{Named}
+use Rattle.miette_report.specs.declared.option_words.Named.TheVariants.{Theme, Rgb, Separator, Highlighter, Color}
+use Rattle.miette_report.specs.rules.LanguageRules.{highlighting_of}
 use Rattle.miette_report.specs.rules.OptionWords.{JobRequest, request_of, with_report, with_value}
 
 abbrev pub asked_of : Arguments → JobRequest
@@ -14,6 +18,15 @@ asked_of it = request_of it.choice it.options it.terminal
 abbrev pub with_asked : Asked → JobRequest → Option JobRequest
 with_asked (Report asked) r = Some (with_report asked r)
 with_asked (Value word value) r = with_value word.now value.now r
+
+-- with what a word asks for whose value is a name
+abbrev pub with_named : Named → JobRequest → JobRequest
+with_named (Theme theme) r = record r { options = record r.options { theme = Some (theme_of theme) } }
+with_named (Rgb colors) r = record r { options = record r.options { rgb = colors } }
+with_named (Separator separator) r =
+    record r { options = record r.options { wrapping = record r.options.wrapping { word_separator = separator } } }
+with_named (Highlighter it) r = record r { highlighting = Some (highlighting_of it) }
+with_named (Color color) r = record r { facts = record r.facts { color = color } }
 
 -- the value that the table gives; the usage fault where it gives none; or the fault of memory
 abbrev pub IsGiven : {A B : Type 0} → (A → B) → Option B → Result A Fault → Type 0
