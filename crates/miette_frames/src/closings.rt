@@ -51,8 +51,7 @@ fn push_part_row<O: Canvas>(
 {
     push_other_start(page, context)?;
     push_gutter(page, context, part.columns, part.end)?;
-    push_part(page, label.style, part.bar, part.text)?;
-    Ok(())
+    push_part(page, label.style, part.bar, part.text)
 }
 
 // The rows of a text's parts after the first.
@@ -107,8 +106,7 @@ fn push_closing<O: Canvas>(
             bar: characters.hbar,
             text: first,
         };
-        push_part_row(page, context, label, &part)?;
-        return Ok(());
+        return push_part_row(page, context, label, &part);
     };
     let columns = context.gutter.saturating_sub(1);
     let part = ClosingPart {
@@ -118,8 +116,7 @@ fn push_closing<O: Canvas>(
         text: first,
     };
     push_part_row(page, context, label, &part)?;
-    push_open_rows(page, context, columns, label, rest)?;
-    Ok(())
+    push_open_rows(page, context, columns, label, rest)
 }
 
 /// The rows of the texts of the labels of several lines that end on the context's line, in order. `AllocError` where

@@ -52,8 +52,7 @@ fn push_ascii<O: Canvas>(page: &mut Page<O>, style: Style, text: &str) -> Outcom
     ensures { OnOk result (page.new ≡ page.old ⊕ styled_tokens style text.now) }
 {
     page.begin(style)?;
-    page.push_str(text)?;
-    Ok(())
+    page.push_str(text)
 }
 
 // A run of a text.
@@ -61,8 +60,7 @@ fn push_styled<O: Canvas>(page: &mut Page<O>, style: Style, text: &str) -> Outco
     ensures { OnOk result (page.new ≡ page.old ⊕ styled_tokens style (chars text.now)) }
 {
     page.begin(style)?;
-    page.push_str(text)?;
-    Ok(())
+    page.push_str(text)
 }
 
 // A run of a number.
@@ -70,8 +68,7 @@ fn push_count<O: Canvas>(page: &mut Page<O>, style: Style, number: usize) -> Out
     ensures { OnOk result (page.new ≡ page.old ⊕ styled_tokens style (decimal number)) }
 {
     page.begin(style)?;
-    page.push_number(number)?;
-    Ok(())
+    page.push_number(number)
 }
 
 // The spaces before a corner, the corner, and what follows it: `   ╭─`.
@@ -84,8 +81,7 @@ fn push_corner<O: Canvas>(page: &mut Page<O>, frame: &Frame, corner: char, many:
         return Err(AllocError);
     };
     page.push_blank(columns)?;
-    page.push_line(PLAIN, corner, frame.settings.theme.characters.hbar, many)?;
-    Ok(())
+    page.push_line(PLAIN, corner, frame.settings.theme.characters.hbar, many)
 }
 
 // A line's and a column's number, counted from 1 where they are given from 0: `2:3`.
@@ -96,8 +92,7 @@ fn push_place<O: Canvas>(page: &mut Page<O>, place: Place) -> Outcome
     let column = sum(place.1, 1)?;
     page.push_number(line)?;
     page.push(':')?;
-    page.push_number(column)?;
-    Ok(())
+    page.push_number(column)
 }
 
 // What a place is called in a source with a name: `name:2:3`, or `name`.
@@ -111,8 +106,7 @@ fn push_link<O: Canvas>(page: &mut Page<O>, frame: &Frame, name: &str, place: Pl
         return Ok(());
     }
     page.push(':')?;
-    push_place(page, place)?;
-    Ok(())
+    push_place(page, place)
 }
 
 // A place in a source with a name: `[name:2:3]`, or `[name]` where the place isn't asked for.
@@ -128,8 +122,7 @@ fn push_named_place<O: Canvas>(
 {
     push_ascii(page, PLAIN, "[")?;
     push_link(page, frame, name, place)?;
-    push_ascii(page, PLAIN, "]")?;
-    Ok(())
+    push_ascii(page, PLAIN, "]")
 }
 
 // Whether a frame in a source without a name shows its place: where that is asked for, over several lines or over one
@@ -153,12 +146,10 @@ fn push_bare_place<O: Canvas>(
     if shows_bare_place(frame.settings.layout, several) {
         page.push_line(PLAIN, '[', ' ', 0)?;
         push_place(page, place)?;
-        page.push(']')?;
-        return Ok(());
+        return page.push(']');
     }
     let line = frame.settings.theme.characters.hbar;
-    page.push_line(PLAIN, line, line, 2)?;
-    Ok(())
+    page.push_line(PLAIN, line, line, 2)
 }
 
 // Where a snippet's primary label begins, if it has one.
@@ -171,14 +162,8 @@ fn push_location<O: Canvas>(page: &mut Page<O>, frame: &Frame, heading: &Heading
         return Ok(());
     };
     match heading.name {
-        Some(name) => {
-            push_named_place(page, frame, name, place)?;
-            Ok(())
-        }
-        None => {
-            push_bare_place(page, frame, heading.several, place)?;
-            Ok(())
-        }
+        Some(name) => push_named_place(page, frame, name, place),
+        None => push_bare_place(page, frame, heading.several, place),
     }
 }
 
@@ -191,8 +176,7 @@ pub fn push_top_row<O: Canvas>(page: &mut Page<O>, frame: &Frame, heading: &Head
 {
     push_corner(page, frame, frame.settings.theme.characters.ltop, 1)?;
     push_location(page, frame, heading)?;
-    page.end_row()?;
-    Ok(())
+    page.end_row()
 }
 
 /// The row under a snippet's lines: `   ╰────`. `AllocError` where memory is refused, or `number_width + 2` is past
@@ -202,8 +186,7 @@ pub fn push_bottom_row<O: Canvas>(page: &mut Page<O>, frame: &Frame) -> Outcome
         ⊕ rows_tokens (bottom_row (settings_of frame.now.settings) frame.now.number_width ∷ [])) }
 {
     push_corner(page, frame, frame.settings.theme.characters.lbot, 4)?;
-    page.end_row()?;
-    Ok(())
+    page.end_row()
 }
 
 // A label's text, or that it has none.
@@ -211,14 +194,8 @@ fn push_label_text<O: Canvas>(page: &mut Page<O>, style: Style, label: &LabeledS
     ensures { OnOk result (page.new ≡ page.old ⊕ styled_tokens style (text_or_none label.now.text)) }
 {
     match label.label() {
-        Some(text) => {
-            push_styled(page, style, text)?;
-            Ok(())
-        }
-        None => {
-            push_ascii(page, style, "<none>")?;
-            Ok(())
-        }
+        Some(text) => push_styled(page, style, text),
+        None => push_ascii(page, style, "<none>"),
     }
 }
 
@@ -232,8 +209,7 @@ fn push_refused_text<O: Canvas>(page: &mut Page<O>, frame: &Frame, label: &Label
     push_ascii(page, styles.error, "Failed to read contents for label")?;
     push_ascii(page, PLAIN, " `")?;
     push_label_text(page, styles.link, label)?;
-    push_ascii(page, PLAIN, "` (offset: ")?;
-    Ok(())
+    push_ascii(page, PLAIN, "` (offset: ")
 }
 
 /// The row in place of snippets where a label is refused, with the refusal's name: "  [Failed to read contents for
@@ -256,6 +232,5 @@ pub fn push_refused_row<O: Canvas>(
     push_ascii(page, PLAIN, "): ")?;
     push_styled(page, styles.warning, name)?;
     push_ascii(page, PLAIN, "]")?;
-    page.end_row()?;
-    Ok(())
+    page.end_row()
 }

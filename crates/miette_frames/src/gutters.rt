@@ -87,8 +87,7 @@ fn push_arrow<O: Canvas>(
     let characters = &context.frame.settings.theme.characters;
     page.push_line(style, corner, characters.hbar, left.saturating_sub(3))?;
     page.push(characters.rarrow)?;
-    page.push_blank(1)?;
-    Ok(())
+    page.push_blank(1)
 }
 
 // What stands from the label on at which the bars stop, in the columns that are left.
@@ -105,19 +104,14 @@ fn push_gutter_end<O: Canvas>(
     match end {
         GutterEnd::Arrow => {
             let corner = arrow_corner(context, label);
-            push_arrow(page, context, label.style, corner, left)?;
-            Ok(())
+            push_arrow(page, context, label.style, corner, left)
         }
         GutterEnd::Corner => {
             let characters = &context.frame.settings.theme.characters;
             let bars = left.saturating_sub(1);
-            page.push_line(label.style, characters.lbot, characters.hbar, bars)?;
-            Ok(())
+            page.push_line(label.style, characters.lbot, characters.hbar, bars)
         }
-        GutterEnd::Open => {
-            page.push_blank(left)?;
-            Ok(())
-        }
+        GutterEnd::Open => page.push_blank(left),
     }
 }
 
@@ -136,14 +130,12 @@ pub fn push_gutter<O: Canvas>(
     let mut left = columns;
     for label in context.multi {
         if stops(&context.line, label, end) {
-            push_gutter_end(page, context, label, left, end)?;
-            return Ok(());
+            return push_gutter_end(page, context, label, left, end);
         }
         page.push_line(label.style, bar, bar, 0)?;
         left = left.saturating_sub(1);
     }
-    page.push_blank(left)?;
-    Ok(())
+    page.push_blank(left)
 }
 
 // A bar for each label.
@@ -168,6 +160,5 @@ pub fn push_break_gutter<O: Canvas>(page: &mut Page<O>, context: &LineContext) -
         return Ok(());
     }
     page.push_blank(1)?;
-    push_bars(page, context)?;
-    Ok(())
+    push_bars(page, context)
 }

@@ -32,6 +32,5 @@ pub(crate) fn push_part<O: Canvas>(
 {
     page.push_line(style, bar, ' ', 1)?;
     page.push_str(part)?;
-    page.end_row()?;
-    Ok(())
+    page.end_row()
 }

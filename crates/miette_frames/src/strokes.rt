@@ -43,8 +43,7 @@ fn push_mark<O: Canvas>(page: &mut Page<O>, context: &LineContext, mark: &Mark) 
     page.begin(mark.label.style)?;
     page.push_copies(line, mark.anchor - mark.from)?;
     page.push(middle_of(context, mark))?;
-    page.push_copies(line, mark.until - mark.anchor - 1)?;
-    Ok(())
+    page.push_copies(line, mark.until - mark.anchor - 1)
 }
 
 /// The marks, each behind the spaces before it: `  ──┬── ▲ ─┬─`. `AllocError` where memory is refused.

@@ -36,8 +36,7 @@ pub(crate) fn push_other_start<O: Canvas>(page: &mut Page<O>, context: &LineCont
         context.frame.settings.theme.characters.vbar_break,
         ' ',
         1,
-    )?;
-    Ok(())
+    )
 }
 
 /// What stands before the marks and the texts under a line: `   · │╰──`. It fails as `push_other_start` does.
@@ -45,8 +44,7 @@ pub fn push_before_marks<O: Canvas>(page: &mut Page<O>, context: &LineContext) -
     ensures { OnOk result (page.new ≡ page.old ⊕ row_tokens (before_marks context.now)) }
 {
     push_other_start(page, context)?;
-    push_gutter(page, context, context.gutter, GutterEnd::Corner)?;
-    Ok(())
+    push_gutter(page, context, context.gutter, GutterEnd::Corner)
 }
 
 // The column behind the one from which a mark's text hangs.
@@ -77,8 +75,7 @@ fn push_leads<O: Canvas>(
         page.push_line(mark.label.style, bar, bar, 0)?;
         reached = behind_anchor(mark);
     }
-    page.push_blank(column.saturating_sub(reached))?;
-    Ok(())
+    page.push_blank(column.saturating_sub(reached))
 }
 
 // The text that hangs from a mark: the line of the mark, the marks before it, and the mark.
@@ -116,8 +113,7 @@ fn push_text_row<O: Canvas>(
     page.push(leader.end)?;
     page.push(' ')?;
     page.push_str(part)?;
-    page.end_row()?;
-    Ok(())
+    page.end_row()
 }
 
 // The rows of a text's parts after the first: `   ·   │   │ a label's text`.
@@ -166,8 +162,7 @@ fn push_text<O: Canvas>(page: &mut Page<O>, hung: &HungText) -> Outcome
             line: characters.hbar,
             end: characters.hbar,
         };
-        push_text_row(page, hung, leader, first)?;
-        return Ok(());
+        return push_text_row(page, hung, leader, first);
     };
     let leader = Leader {
         corner: characters.lbot,
@@ -175,8 +170,7 @@ fn push_text<O: Canvas>(page: &mut Page<O>, hung: &HungText) -> Outcome
         end: characters.rcross,
     };
     push_text_row(page, hung, leader, first)?;
-    push_more_parts(page, hung, rest)?;
-    Ok(())
+    push_more_parts(page, hung, rest)
 }
 
 /// The rows of the texts of all marks, the last one's first. It fails as `push_other_start` does.

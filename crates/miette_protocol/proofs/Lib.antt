@@ -1,4 +1,3 @@
 pub mod LineFacts
 pub mod Wholes
 pub mod Locations
-pub mod DebugFields

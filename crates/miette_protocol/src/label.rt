@@ -3,7 +3,6 @@
 ghost use Rattle.std.specs.Prelude.{◌≡◌, ◌==◌, ◌≤◌, Some, None, IfOk, true, false, string_bytes};
 ghost use Rattle.std.specs.Option.{option_map, option_copied, ForSome};
 
-use crate::debug_field::write_field;
 use crate::span::{ByteOffset, SourceSpan};
 use serde::{Deserialize, Serialize};
 use std::alloc::{AllocError, Global};
@@ -107,11 +106,11 @@ impl fmt::Debug for LabeledSpan {
                 .field("context_lines", &self.context_lines)
                 .finish();
         }
-        write_field(f, "LabeledSpan { label: ", &self.label)?;
-        write_field(f, ", span: ", &self.span)?;
-        write_field(f, ", primary: ", &self.primary)?;
-        write_field(f, ", context_lines: ", &self.context_lines)?;
-        f.write_str(" }")
+        write!(
+            f,
+            "LabeledSpan {{ label: {:?}, span: {:?}, primary: {:?}, context_lines: {:?} }}",
+            self.label, self.span, self.primary, self.context_lines
+        )
     }
 }
 

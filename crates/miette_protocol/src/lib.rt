@@ -4,7 +4,6 @@
 
 mod contents;
 mod context_lines;
-mod debug_field;
 pub mod diagnostic;
 pub mod error;
 mod find;

@@ -7,7 +7,6 @@ ghost use Rattle.std.specs.Cmp.Lexicographic.{slice_cmp};
 ghost use Rattle.std.specs.Option.{option_cmp};
 ghost use Rattle.miette_protocol.specs.views.Named.{inner_of, name_of, given_language};
 
-use crate::debug_field::write_field;
 use crate::named::NamedSource;
 use std::alloc::AllocError;
 use std::fmt;
@@ -75,8 +74,10 @@ impl<S> fmt::Debug for NamedSource<S> {
                 .field("language", &self.language)
                 .finish();
         }
-        write_field(f, "NamedSource { name: ", &self.name)?;
-        write_field(f, ", source: \"<redacted>\", language: ", &self.language)?;
-        f.write_str(" }")
+        write!(
+            f,
+            "NamedSource {{ name: {:?}, source: \"<redacted>\", language: {:?} }}",
+            self.name, self.language
+        )
     }
 }

@@ -4,7 +4,6 @@ ghost use Rattle.std.specs.Prelude.{◌≡◌, ◌==◌, ℕ, ◌+◌, ◌-◌, 
 ghost use Rattle.miette_protocol.specs.rules.Location.{IsLocation};
 ghost use Rattle.std.specs.Range.{range_inclusive_start, range_inclusive_end};
 
-use crate::debug_field::write_field;
 use serde::{Deserialize, Serialize};
 use std::error::Error;
 use std::fmt;
@@ -73,8 +72,7 @@ impl fmt::Debug for SourceOffset {
         if f.alternate() {
             return f.debug_tuple("SourceOffset").field(&self.0).finish();
         }
-        write_field(f, "SourceOffset(", &self.0)?;
-        f.write_str(")")
+        write!(f, "SourceOffset({:?})", self.0)
     }
 }
 
@@ -168,9 +166,11 @@ impl fmt::Debug for SourceSpan {
                 .field("length", &self.length)
                 .finish();
         }
-        write_field(f, "SourceSpan { offset: ", &self.offset)?;
-        write_field(f, ", length: ", &self.length)?;
-        f.write_str(" }")
+        write!(
+            f,
+            "SourceSpan {{ offset: {:?}, length: {:?} }}",
+            self.offset, self.length
+        )
     }
 }
 

@@ -1,4 +1,5 @@
 use Rattle.std.specs.Prelude.{chars}
+use Rattle.std.proofs.lemmas.Result.{on_ok_weaker}
 use Rattle.miette_snippet_rules.specs.rules.Frames.{other_start}
 use Rattle.miette_labels.specs.views.GivenLabels.{drawn_of}
 use Rattle.miette_frames.specs.views.GutterEnds.{gutter_with}
@@ -11,8 +12,9 @@ pub returns : goal.returns
 returns g c =
     let context = c.args.context.now in
     let part = c.args.part.now in
+    on_ok_weaker c.push_part.result (λ h.
     part_row_put (settings context) (other_start (settings context) context.frame.number_width)
     (gutter_with part.end (settings context) (line_of_text context.line) part.columns (multi_labels context))
     (drawn_of c.args.label.now) part.bar (chars part.text.now)
     c.args.page.now c.push_other_start.new.page c.push_gutter.new.page c.push_part.new.page
-    c.in_ok-push_other_start.ensures c.in_ok-push_gutter.ensures c.in_ok-push_part.ensures
+    c.in_ok-push_other_start.ensures c.in_ok-push_gutter.ensures h) c.push_part.ensures

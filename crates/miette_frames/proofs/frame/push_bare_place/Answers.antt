@@ -1,6 +1,7 @@
 use Rattle.miette_page.specs.views.Printouts.{◌⊕◌}
 use Rattle.std.proofs.Common.{[], ◌∷◌, ◌++◌, ◌≡◌, ◌∙◌, cond, true, ap, sym, replicate, rules}
 use Rattle.std.specs.Prelude.{codes, ◌&&◌, ◌||◌}
+use Rattle.std.proofs.lemmas.Result.{on_ok_weaker}
 use Rattle.miette_page.specs.rules.Rows.{styled_run}
 use Rattle.miette_style.specs.rules.Styles.{plain}
 use Rattle.miette_snippet_rules.specs.rules.Frames.{place_text}
@@ -14,9 +15,11 @@ pub returns-then-shows_bare_place : goal.returns-then-shows_bare_place
 returns-then-shows_bare_place g c =
     let layout = c.args.frame.now.settings.layout.now in
     let shown : ((c.args.several || layout.one_line_start) && layout.primary_start) ≡ true = search rules in
+    on_ok_weaker c.push.result (λ h.
     bare_put width_of (place_text (place_at c.args.place)) c.args.page.now c.push_line.new.self c.push_place.new.page
     c.push.new.self
-    c.in_ok-push_line.ensures c.in_ok-push_place.ensures c.in_ok-push.ensures
+    c.in_ok-push_line.ensures c.in_ok-push_place.ensures h
     ∙ ap (λ b. c.args.page.now ⊕ row_tokens (cond b (styled_run width_of plain
     (codes "[" ++ place_text (place_at c.args.place) ++ codes "]") ∷ [])
-    (styled_run width_of plain (replicate 3 c.args.frame.now.settings.theme.now.characters.hbar) ∷ []))) (sym shown)
+    (styled_run width_of plain (replicate 3 c.args.frame.now.settings.theme.now.characters.hbar) ∷ []))) (sym shown))
+    c.push.ensures

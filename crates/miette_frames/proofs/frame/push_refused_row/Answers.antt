@@ -1,6 +1,7 @@
 use Rattle.miette_page.specs.views.Printouts.{◌⊕◌}
 use Rattle.std.proofs.Common.{[], ◌∷◌, ◌++◌, ◌∙◌, ap}
 use Rattle.std.specs.Prelude.{codes, chars, decimal}
+use Rattle.std.proofs.lemmas.Result.{on_ok_weaker}
 use Rattle.miette_page.specs.rules.Rows.{Row, styled_run}
 use Rattle.miette_style.specs.rules.Styles.{plain}
 use Rattle.miette_snippet_rules.specs.rules.Frames.{refused_front}
@@ -21,6 +22,7 @@ returns g c =
     let many : Row = styled_run width_of link (decimal c.args.label.now.span.len) ∷ close in
     let length : Row = styled_run width_of plain (codes ", length: ") ∷ many in
     let offset : Row = styled_run width_of link (decimal c.args.label.now.span.offset) ∷ length in
+    on_ok_weaker c.end_row.result (λ h.
     row_done (refused_front (settings_of c.args.frame.now.settings) c.args.label.now
     ++ offset) c.args.page.now c.push_ascii-3.new.page c.end_row.new.self
     (parts_then (refused_front (settings_of c.args.frame.now.settings) c.args.label.now)
@@ -41,4 +43,4 @@ returns g c =
     c.push_styled.new.page c.push_ascii-3.new.page c.in_ok-push_styled.ensures
     (run_last width_of plain (codes "]") c.push_styled.new.page c.push_ascii-3.new.page
     c.in_ok-push_ascii-3.ensures)))))))
-    c.in_ok-end_row.ensures
+    h) c.end_row.ensures

@@ -1,5 +1,6 @@
 use Rattle.std.proofs.Common.{[], ◌∷◌}
 use Rattle.std.specs.Prelude.{codes}
+use Rattle.std.proofs.lemmas.Result.{on_ok_weaker}
 use Rattle.miette_page.specs.rules.Rows.{Row, styled_run}
 use Rattle.miette_style.specs.rules.Styles.{plain}
 use Rattle.miette_snippet_rules.specs.rules.Frames.{text_or_none}
@@ -16,6 +17,7 @@ returns g c =
     let tick : Row = styled_run width_of plain (codes " `") ∷ text in
     let failed : Row = styled_run width_of c.args.frame.now.settings.theme.now.styles.error
     (codes "Failed to read contents for label") ∷ tick in
+    on_ok_weaker c.push_ascii-4.result (λ h.
     run_then width_of plain (codes "  [") failed c.args.page.now c.push_ascii.new.page c.push_ascii-4.new.page
     c.in_ok-push_ascii.ensures
     (run_then width_of c.args.frame.now.settings.theme.now.styles.error (codes "Failed to read contents for label") tick
@@ -25,4 +27,4 @@ returns g c =
     (run_then width_of c.args.frame.now.settings.theme.now.styles.link (text_or_none c.args.label.now.text) last
     c.push_ascii-3.new.page c.push_label_text.new.page c.push_ascii-4.new.page c.in_ok-push_label_text.ensures
     (run_last width_of plain (codes "` (offset: ") c.push_label_text.new.page c.push_ascii-4.new.page
-    c.in_ok-push_ascii-4.ensures))))
+    h))))) c.push_ascii-4.ensures

@@ -1,5 +1,6 @@
 use Rattle.std.proofs.Common.{◌++◌}
 use Rattle.std.specs.Option.{option_copied, option_map}
+use Rattle.std.proofs.lemmas.Result.{on_ok_weaker}
 use Rattle.miette_snippet_rules.specs.rules.Frames.{location_of}
 use Rattle.miette_frames.specs.steps.FrameParts.{corner_row}
 use Rattle.miette_frames.specs.views.Places.{place_at}
@@ -13,7 +14,8 @@ returns g c =
     let corner = corner_row s c.args.frame.now.number_width c.args.frame.now.settings.theme.now.characters.ltop 1 in
     let heading = c.args.heading.now in
     let location = location_of s (option_copied heading.name) heading.several (option_map place_at heading.place) in
+    on_ok_weaker c.end_row.result (λ h.
     row_done (corner ++ location) c.args.page.now c.push_location.new.page c.end_row.new.self
     (parts_then corner location c.args.page.now c.push_corner.new.page c.push_location.new.page
     c.in_ok-push_corner.ensures c.in_ok-push_location.ensures)
-    c.in_ok-end_row.ensures
+    h) c.end_row.ensures

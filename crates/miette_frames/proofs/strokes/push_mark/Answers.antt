@@ -1,4 +1,5 @@
 use Rattle.std.proofs.Common.{rules, refl, ◌-◌}
+use Rattle.std.proofs.lemmas.Result.{on_ok_weaker}
 use Rattle.miette_snippet_rules.specs.views.MadeMarks.{mark_of}
 use Rattle.miette_frames.proofs.MarkRows.{mark_put}
 use Rattle.miette_frames.proofs.strokes.push_mark.Goals as goal
@@ -6,10 +7,10 @@ use Rattle.miette_frames.specs.views.LineContexts.{settings}
 
 pub returns : goal.returns
 returns g c =
-    mark_put (settings c.args.context.now)
+    on_ok_weaker c.push_copies-2.result (λ h. mark_put (settings c.args.context.now)
     (mark_of c.args.mark.now) c.args.mark.now.anchor
     (c.args.mark.now.anchor - c.args.mark.now.from) (c.args.mark.now.until - c.args.mark.now.anchor - 1)
     c.middle_of.result
     c.args.page.now c.begin.new.self c.push_copies.new.self c.push.new.self c.push_copies-2.new.self
     refl c.requires.0 c.requires.1 (search rules) (search rules) c.middle_of.ensures
-    c.in_ok-begin.ensures c.in_ok-push_copies.ensures c.in_ok-push.ensures c.in_ok-push_copies-2.ensures
+    c.in_ok-begin.ensures c.in_ok-push_copies.ensures c.in_ok-push.ensures h) c.push_copies-2.ensures

@@ -1,4 +1,5 @@
 use Rattle.std.proofs.Common.{refl, ap, map, drop, ◌+◌, ◌∙◌}
+use Rattle.std.proofs.lemmas.Result.{on_ok_weaker}
 use Rattle.miette_page.specs.views.Printouts.{◌⊕◌}
 use Rattle.miette_page.specs.views.Tokens.{row_tokens}
 use Rattle.miette_snippet_rules.specs.rules.Drawing.{lead_runs}
@@ -20,7 +21,7 @@ loop-mark-preserved g c =
 
 pub returns : goal.returns
 returns g c =
-    lead_end (settings c.args.context.now)
+    on_ok_weaker c.push_blank-2.result (λ h. lead_end (settings c.args.context.now)
     c.args.earlier.now c.loop-mark.mark-index c.loop-mark.reached c.saturating_sub-2.result c.args.column
     c.loop-mark.page c.push_blank-2.new.self _ c.loop-mark-test.false c.saturating_sub-2.ensures
-    c.in_ok-push_blank-2.ensures c.loop-mark.invariant
+    h c.loop-mark.invariant) c.push_blank-2.ensures

@@ -1,10 +1,11 @@
 use Rattle.std.proofs.Common.{rules, ◌+◌}
+use Rattle.std.proofs.lemmas.Result.{on_ok_weaker}
 use Rattle.miette_frames.proofs.TextRows.{start_put}
 use Rattle.miette_frames.proofs.texts.push_other_start.Goals as goal
 use Rattle.miette_frames.specs.views.LineContexts.{settings}
 
 pub returns : goal.returns
 returns g c =
-    start_put (settings c.args.context.now) c.in-Some.columns
+    on_ok_weaker c.push_line.result (λ h. start_put (settings c.args.context.now) c.in-Some.columns
     (c.args.context.now.frame.number_width + 2) c.args.page.now c.push_blank.new.self c.push_line.new.self
-    (search rules) c.in_ok-push_blank.ensures c.in_ok-push_line.ensures
+    (search rules) c.in_ok-push_blank.ensures h) c.push_line.ensures

@@ -1,5 +1,6 @@
 use Rattle.std.proofs.Common.{◌∙◌, ◌∷◌, ap, map}
 use Rattle.std.specs.Prelude.{chars, option_copied}
+use Rattle.std.proofs.lemmas.Result.{on_ok_weaker}
 use Rattle.miette_labels.specs.rules.Labels.{parts_of}
 use Rattle.miette_snippet_rules.specs.views.MadeMarks.{mark_of}
 use Rattle.miette_frames.specs.views.LineContexts.{before_marks}
@@ -9,6 +10,7 @@ use Rattle.miette_frames.specs.views.LineContexts.{settings}
 
 pub returns : goal.returns
 returns g c =
+    on_ok_weaker c.push_more_parts.result (λ h.
     several_parts (settings c.args.hung.now.context.now) (before_marks c.args.hung.now.context.now)
     (map mark_of c.args.hung.now.earlier.now)
     (mark_of c.args.hung.now.mark.now)
@@ -16,4 +18,4 @@ returns g c =
     c.push_more_parts.new.page
     (ap (λ o. parts_of (option_copied o)) c.in-Some.is ∙ c.first_part.ensures.cut
     ∙ ap (λ o. chars c.first_part.result.0.now ∷ parts_of (option_copied o)) c.in-Some-rest.is)
-    c.in_ok-push_text_row-2.ensures c.in_ok-push_more_parts.ensures
+    c.in_ok-push_text_row.ensures h) c.push_more_parts.ensures
