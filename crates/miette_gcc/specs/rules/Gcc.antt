@@ -4,7 +4,7 @@ use Rattle.std.specs.Prelude.{option_and_then, is_none, unwrap_or, map, nat_le, 
 use Rattle.std.specs.List.{flat_map}
 use Rattle.serde_json.specs.Data.{Data}
 use Rattle.miette_protocol.specs.rules.Reading.{Source}
-use Rattle.miette_readers.specs.rules.Members.{object_at, objects_at, said, text_at, whole_at}
+use Rattle.miette_readers.specs.rules.Members.{object_at, objects_at, text_at, whole_at}
 use Rattle.miette_readers.specs.rules.Places.{Stretch, Place, Told}
 use Rattle.miette_readers.specs.rules.Rustc.{maybe_row, label_rows, stretch_from}
 use Rattle.miette_gcc.specs.rules.Lines.{offset_at}
@@ -90,16 +90,16 @@ location_place g l =
 
 -- What a location tells. A note's message is the row of its first location; the diagnostic's own have none.
 abbrev pub location_told : Ground → Option (List ℕ) → Bool → Data → Told
-location_told g note first l = record {
-  rows = (if first then maybe_row note else []) ++ label_rows l;
+location_told g row first l = record {
+  rows = (if first then maybe_row row else []) ++ label_rows l;
   place = Some (location_place g l);
   primary = first;
-  own = is_none note;
+  own = is_none row;
 }
 
 abbrev pub locations_told : Ground → Option (List ℕ) → List Data → List Told
-locations_told g note [] = []
-locations_told g note (l ∷ ls) = location_told g note true l ∷ map (location_told g note false) ls
+locations_told g row [] = []
+locations_told g row (l ∷ ls) = location_told g row true l ∷ map (location_told g row false) ls
 
 abbrev pub event_row : ℕ → Data → List ℕ
 event_row n e = (codes "(" ++ decimal n) ++ (codes ") " ++ unwrap_or (text_at (codes "description") e) [])
