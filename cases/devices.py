@@ -76,11 +76,20 @@ RUNS = [
     (["show", "--theme", "unicode_nocolor"], '{"message":"漢","level":"error"}', 1, "  × 漢\n\n"),
     (["show"], "chatter", 0, "chatter"),
 ]
+# the words that `job` takes
+JOB_WORDS = (
+    "[--json] [--debug] [--brief] [--github] [--narrated] [--graphical] [--width N] [--context N] [--tab N] "
+    "[--line-columns N] [--label-lines N] [--theme ascii|unicode|unicode_nocolor|none] [--unicode yes|no] "
+    "[--color yes|no] [--links yes|no] [--wrap yes|no] [--break yes|no] [--end-labels yes|no] [--chain "
+    "yes|no] [--hyphens yes|no] [--nested yes|no] [--rgb always|preferred|never] [--separator ascii|unicode] "
+    "[--footer TEXT] [--highlight toml|json|rust] [--term-width N] [--no-graphics TEXT] [--term-color "
+    "none|ansi|rgb] [--term-unicode yes|no] [--term-links yes|no] | --fix[=all] | --sarif [--tool TOOL]"
+)
 # words that are refused, status, row
 REFUSED = [
     (["draw"], "usage: draw NAME OFFSET LENGTH LABEL MESSAGE\n"),
     (["draw", "f", "9", "+4", "l", "m"], "usage: draw NAME OFFSET LENGTH LABEL MESSAGE\n"),
-    (["job", "--jsonx"], "usage: job [OPTIONS]\n"),
+    (["job", "--jsonx"], f"usage: job {JOB_WORDS}\n"),
     (["bench", "x"], "usage: bench N [OPTIONS]\n"),
     (["lint", "f"], "usage: lint [--brief | --github | --fix | --diff | --sarif [--tool TOOL]] NAME WIDTH\n"),
     (["show", "--from", "gcc"], "usage: show [--from rustc] [--root DIR] [OPTIONS]\n"),

@@ -4,6 +4,7 @@ It draws the picture of one report in plain Unicode characters: groups of labels
 several, lines that are cut, folded labels, and labels at the source's end. cut_cases.py and fold_cases.py make reports
 by chance, and write them as cases with the picture that the rules ask for."""
 import re
+from bisect import bisect_right
 from typing import NamedTuple, Optional
 
 TERMINATOR = re.compile(rb"\r\n|\r|\n")
@@ -104,15 +105,16 @@ class Source:
 
     def __init__(self, data, tab):
         self.data, self.tab, self.lines = data, tab, lines_of(data, tab)
+        self.ends = [it.end for it in self.lines if it.text_end < it.end]
 
     def line_of(self, offset):
         """The number of an offset's line, from 0."""
-        return sum(1 for it in self.lines if it.text_end < it.end <= offset)
+        return bisect_right(self.ends, offset)
 
     def column_of(self, offset):
         """The bytes from the line's start to an offset, without terminators."""
-        ends = [it.end for it in self.lines if it.text_end < it.end <= offset]
-        return len(self.data[ends[-1] if ends else 0 : offset].translate(None, b"\r\n"))
+        line = self.line_of(offset)
+        return len(self.data[self.ends[line - 1] if line else 0 : offset].translate(None, b"\r\n"))
 
     def reading_end(self, offset, length):
         """Where a read of a span ends: not between a carriage return and its line feed."""
@@ -128,8 +130,7 @@ class Source:
             begin = self.lines[line].start if line < len(self.lines) else len(self.data)
             last = self.line_of(self.reading_end(offset, length)) + context
             end = self.lines[last].end if last < len(self.lines) else len(self.data)
-        ended = sum(1 for it in self.lines if it.text_end < it.end and begin < it.end <= end)
-        return Read(line, begin, max(begin, end), ended)
+        return Read(line, begin, max(begin, end), max(self.line_of(end) - self.line_of(begin), 0))
 
 
 # ---- labels and their groups
@@ -219,9 +220,8 @@ class Labels:
 def shown_lines(source, label, limit):
     """The numbers of the lines in the context of a label, folded where it has more lines than the limit."""
     first, last = source.line_of(label.offset), source.line_of(label.reach - 1)
-    low = first - label.context
-    high = source.line_of(source.reading_end(label.offset, label.length)) + label.context
-    numbers = set(range(max(low, 0), min(high + 1, len(source.lines))))
+    below = source.line_of(max(label.read.begin, label.read.end - 1)) + 1
+    numbers = set(range(source.line_of(label.read.begin), min(below, len(source.lines))))
     if limit is not None and last - first + 1 > limit:
         numbers -= {it for it in numbers if first + label.context < it < last - label.context}
     return numbers

@@ -1,7 +1,8 @@
 -- The row that says why a program fails.
 use Rattle.std.proofs.Common.{◌≡◌, ℕ, List, ◌++◌, Some, None, codes, Result, OnOk, ap, ap₂, subst, ◌∙◌}
 use Rattle.std.proofs.lemmas.Result.{on_ok_weaker}
-use Rattle.miette_report.specs.rules.Faults.{fault_row, name_of, reason_of, reason_row, usage_of}
+use Rattle.miette_report.specs.rules.Faults.{fault_row, name_of, reason_of, reason_row}
+use Rattle.miette_report.specs.rules.Usage.{usage_of}
 use Rattle.miette_report.specs.declared.fault.Fault.{Fault}
 use Rattle.miette_report.specs.declared.fault.Program.{Program}
 

@@ -15,4 +15,5 @@ pub mod LogSteps
 pub mod OptionWordSteps
 pub mod WriteResults
 pub mod FaultRows
+pub mod UsageWords
 pub mod WholeTexts

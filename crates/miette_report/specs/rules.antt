@@ -5,5 +5,6 @@ pub mod OptionWords
 pub mod Job
 pub mod Logs
 pub mod JobCalls
+pub mod Usage
 pub mod Faults
 pub mod Fixing

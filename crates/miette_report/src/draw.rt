@@ -4,6 +4,7 @@ ghost use Rattle.std.specs.Prelude.{◌≡◌, ◌↔◌, ◌⊎◌, ◌<◌, fa
 ghost use Rattle.std.specs.Prelude.{string_bytes};
 ghost use Rattle.std.specs.Io.KnownBytes.{Appends};
 ghost use Rattle.miette.specs.Diagnostic.{meaning_of};
+ghost use Rattle.miette.specs.Report.{tree_of};
 ghost use Rattle.miette_report.specs.views.Device.{TakesBeginning};
 ghost use Rattle.miette_report.specs.views.DrawReports.{CallPictures, IsPicture, Pictures};
 ghost use Rattle.miette_report.specs.views.DrawReports.{draw_request, drawn_label, drawn_meaning, drawn_tree};
@@ -14,12 +15,14 @@ use crate::device::Device;
 /// An earlier name of `Fault`.
 pub use crate::fault::Fault as DrawError;
 use crate::fault::{Fault, Program};
-use crate::picture::picture_over;
+use crate::picture::draw;
 use crate::whole::{read_whole, write_whole};
 use crate::words::number;
 use miette::diagnostic::MietteDiagnostic;
 use miette::error::RenderError;
-use miette::protocol::LabeledSpan;
+use miette::protocol::{Diagnostic, LabeledSpan};
+use miette::report::Report;
+use miette::source::{NamedSource, SourceCode};
 use std::alloc::{AllocError, Global};
 use std::io::{Read, Write};
 
@@ -78,17 +81,31 @@ fn diagnostic(alloc: Global, words: &DrawWords<'_>) -> Result<MietteDiagnostic, 
     Ok(diagnostic)
 }
 
+// A report over a named source without an index of its lines.
+type Drawn = Report<MietteDiagnostic, NamedSource<Vec<u8>>>;
+
+// The report of the words over the input. An index would cost more than the reads for one label, which look for their
+// lines themselves.
+fn report(alloc: Global, words: &DrawWords<'_>, input: Vec<u8>) -> Result<Drawn, AllocError>
+    ensures { IfOk result (λ it. tree_of ⟦<MietteDiagnostic as Diagnostic>⟧.meaning
+        ⟦<NamedSource<Vec<u8>> as SourceCode>⟧.source it ≡ drawn_tree (draw_request words.now) input.items) }
+{
+    let source = NamedSource::new(alloc, words.name, input)?;
+    let diagnostic = diagnostic(alloc, words)?;
+    Ok(Report::built(diagnostic).with_source_code(source))
+}
+
 // The text for the words and the input. It is refused only where no memory is found.
 fn picture(alloc: Global, words: &DrawWords<'_>, input: Vec<u8>) -> Result<String, RenderError>
     ensures ok { IfOk result (λ text. IsPicture None (drawn_tree (draw_request words.now) input.items)
         (string_bytes text)) }
     ensures accepted { ¬ (result ≡ Err RenderError.Refused) }
 {
-    let diagnostic = match diagnostic(alloc, words) {
-        Ok(diagnostic) => diagnostic,
+    let report = match report(alloc, words, input) {
+        Ok(report) => report,
         Err(_) => return Err(RenderError::Memory),
     };
-    picture_over(alloc, words.name, diagnostic, input, None)
+    draw(alloc, &report, None)
 }
 
 /// Reads all, and writes the picture of the words' label on it, and nothing else.

@@ -4,7 +4,7 @@ ghost use Rattle.std.specs.Prelude.{◌≡◌, OnOk};
 ghost use Rattle.std.specs.Option.{option_map};
 ghost use Rattle.std.specs.Io.KnownBytes.{Appends};
 ghost use Rattle.miette_report.specs.rules.Faults.{end_status, fault_row, name_of, reason_of, status_of};
-ghost use Rattle.miette_report.specs.rules.Faults.{usage_of};
+ghost use Rattle.miette_report.specs.rules.Usage.{usage_of};
 ghost use Rattle.miette_report.specs.views.Endings.{IsFailure};
 
 use std::alloc::AllocError;
@@ -89,6 +89,16 @@ fn reason(fault: Fault) -> Option<&'static str>
     }
 }
 
+/// The words that `job` takes.
+const JOB_WORDS: &str =
+    "[--json] [--debug] [--brief] [--github] [--narrated] [--graphical] [--width N] [--context N] [--tab N] \
+    [--line-columns N] [--label-lines N] [--theme ascii|unicode|unicode_nocolor|none] [--unicode yes|no] \
+    [--color yes|no] [--links yes|no] [--wrap yes|no] [--break yes|no] [--end-labels yes|no] \
+    [--chain yes|no] [--hyphens yes|no] [--nested yes|no] [--rgb always|preferred|never] \
+    [--separator ascii|unicode] [--footer TEXT] [--highlight toml|json|rust] [--term-width N] \
+    [--no-graphics TEXT] [--term-color none|ansi|rgb] [--term-unicode yes|no] [--term-links yes|no] \
+    | --fix[=all] | --sarif [--tool TOOL]";
+
 impl Program {
     /// Its name, and the words that it takes.
     fn name_and_usage(self) -> (&'static str, &'static str)
@@ -97,7 +107,7 @@ impl Program {
     {
         match self {
             Program::Draw => ("draw", "NAME OFFSET LENGTH LABEL MESSAGE"),
-            Program::Job => ("job", "[OPTIONS]"),
+            Program::Job => ("job", JOB_WORDS),
             Program::Bench => ("bench", "N [OPTIONS]"),
             Program::Lint => (
                 "lint",

@@ -1,8 +1,11 @@
-//! Laws of comparing and cloning small values, and of what `job --fix` sees. The functions do nothing; what they ensure
-//! is proved.
-ghost use Rattle.std.specs.Prelude.{◌≡◌, ◌<◌, ◌^◌, ◌↔◌, IsTrue, length};
+//! Laws of comparing and cloning small values, of the usage of `job`, and of what `job --fix` sees. The functions do
+//! nothing; what they ensure is proved.
+ghost use Rattle.std.specs.Prelude.{◌≡◌, ℕ, ◌<◌, ◌^◌, ◌↔◌, IsTrue, List, Some, length, true};
 ghost use Rattle.miette_protocol.specs.rules.Reading.{Source};
+ghost use Rattle.miette_report.specs.declared.option_words.ReportAsked.{ReportAsked};
 ghost use Rattle.miette_report.specs.rules.Fixing.{whole_text};
+ghost use Rattle.miette_report.specs.rules.OptionWords.{JobRequest, report_named, with_value};
+ghost use Rattle.miette_report.specs.rules.Usage.{is_named};
 
 use crate::fault::{Fault, Program};
 use crate::job::Choice;
@@ -26,6 +29,14 @@ pub fn clones_take_no_memory()
     ensures programs { (it : Program) → ⟦<Program as Clone>⟧.is_infallible it }
     ensures languages { (it : Language) → ⟦<Language as Clone>⟧.is_infallible it }
     ensures choices { (it : Choice) → ⟦<Choice as Clone>⟧.is_infallible it }
+{}
+
+/// The usage of `job` names each word that its table has.
+pub fn usage_names_each_word()
+    ensures reports { (word : List ℕ) → (asked : ReportAsked) → report_named word ≡ Some asked →
+        is_named word ≡ true }
+    ensures values { (word value : List ℕ) → (r s : JobRequest) → with_value word value r ≡ Some s →
+        is_named word ≡ true }
 {}
 
 /// What `job --fix` sees of a source is all of it, unless it has more bytes than a `usize` counts.

@@ -24,7 +24,7 @@ use std::alloc::{AllocError, Global};
 // How many columns a row may have.
 const WIDTH: usize = 80;
 
-/// The report of a diagnostic over the input under its name.
+/// The report of a diagnostic over the input under its name, with an index of the lines.
 pub(crate) fn report<D: Diagnostic, S: SourceCode>(
     alloc: Global,
     name: &str,
@@ -50,16 +50,13 @@ fn drawing(theme: GraphicalTheme, limit: Option<usize>) -> GraphicalReportHandle
 }
 
 /// The picture of a report, in plain characters, with lines cut at a limit, if there is one.
-pub(crate) fn draw(
+pub(crate) fn draw<D: Diagnostic, S: SourceCode>(
     alloc: Global,
-    report: &Report,
+    report: &Report<D, S>,
     limit: Option<usize>,
 ) -> Result<String, RenderError>
-    requires reads { IsReadWhole limit (tree_of ⟦<Box<dyn Diagnostic> as Diagnostic>⟧.meaning
-        ⟦<Box<dyn SourceCode> as SourceCode>⟧.source report.now) }
-    ensures ok { IfOk result (λ text. IsPicture limit
-        (tree_of ⟦<Box<dyn Diagnostic> as Diagnostic>⟧.meaning ⟦<Box<dyn SourceCode> as SourceCode>⟧.source report.now)
-        (string_bytes text)) }
+    requires reads { IsReadWhole limit (tree_of D.meaning S.source report.now) }
+    ensures ok { IfOk result (λ text. IsPicture limit (tree_of D.meaning S.source report.now) (string_bytes text)) }
     ensures accepted { ¬ (result ≡ Err RenderError.Refused) }
 {
     let theme = match GraphicalTheme::unicode_nocolor(alloc) {
@@ -73,7 +70,7 @@ pub(crate) fn draw(
 }
 
 /// The picture of a diagnostic over the input under its name, in plain characters, with lines cut at a limit, if there
-/// is one: what the programs `draw` and `lint` write.
+/// is one: what the program `lint` writes.
 ///
 /// # Errors
 /// Where no memory is found. The source always reads, so nothing else is refused.

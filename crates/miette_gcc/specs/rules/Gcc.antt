@@ -90,16 +90,16 @@ location_place g l =
 
 -- What a location tells. A note's message is the row of its first location; the diagnostic's own have none.
 abbrev pub location_told : Ground → Option (List ℕ) → Bool → Data → Told
-location_told g row first l = record {
-  rows = (if first then maybe_row row else []) ++ label_rows l;
+location_told g words first l = record {
+  rows = (if first then maybe_row words else []) ++ label_rows l;
   place = Some (location_place g l);
   primary = first;
-  own = is_none row;
+  own = is_none words;
 }
 
 abbrev pub locations_told : Ground → Option (List ℕ) → List Data → List Told
-locations_told g row [] = []
-locations_told g row (l ∷ ls) = location_told g row true l ∷ map (location_told g row false) ls
+locations_told g words [] = []
+locations_told g words (l ∷ ls) = location_told g words true l ∷ map (location_told g words false) ls
 
 abbrev pub event_row : ℕ → Data → List ℕ
 event_row n e = (codes "(" ++ decimal n) ++ (codes ") " ++ unwrap_or (text_at (codes "description") e) [])

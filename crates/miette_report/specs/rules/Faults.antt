@@ -4,6 +4,7 @@ use Rattle.miette_report.specs.declared.fault.Fault.{Fault}
 use Rattle.miette_report.specs.declared.fault.Fault.TheVariants.{Usage, Memory, Read, Write, Description, Refused}
 use Rattle.miette_report.specs.declared.fault.Program.{Program}
 use Rattle.miette_report.specs.declared.fault.Program.TheVariants.{Draw, Job, Bench, Lint, Show}
+use Rattle.miette_report.specs.rules.Usage.{usage_of}
 
 -- the status of each fault, in all programs but `lint`
 abbrev pub usual_status : Fault → ℕ
@@ -33,14 +34,6 @@ name_of Job = codes "job"
 name_of Bench = codes "bench"
 name_of Lint = codes "lint"
 name_of Show = codes "show"
-
--- the words that a program takes
-abbrev pub usage_of : Program → List ℕ
-usage_of Draw = codes "NAME OFFSET LENGTH LABEL MESSAGE"
-usage_of Job = codes "[OPTIONS]"
-usage_of Bench = codes "N [OPTIONS]"
-usage_of Lint = codes "[--brief | --github | --fix | --diff | --sarif [--tool TOOL]] NAME WIDTH"
-usage_of Show = codes "[--from rustc] [--root DIR] [OPTIONS]"
 
 -- what a fault is called, where it is none of the words
 abbrev pub reason_of : Fault → Option (List ℕ)

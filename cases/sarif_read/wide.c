@@ -1,0 +1,4 @@
+int main(void) {
+    char *s = "😀 é"; int unused;
+    return s;
+}

@@ -1,0 +1,147 @@
+"""sarif_reader_model.py: a model of how a SARIF 2.1.0 log becomes reports (docs/RULES.md, 'What is read of SARIF'), made
+without the programs: what a result tells is put in the words of readers_model.py, which places it."""
+import re
+from urllib.parse import unquote_to_bytes
+
+from readers_model import Settled, Told, labels, member, objects, source, text
+
+
+class NoReports(Exception):
+    """It has no list of runs."""
+
+
+def name_of(uri):
+    """The name of the file that a URI stands for."""
+    path = re.sub(r"\Afile:(//)?", "", uri)
+    return unquote_to_bytes(path).decode(errors="replace")
+
+
+def first(*found):
+    return next((it for it in found if it is not None), None)
+
+
+# ---- regions
+
+
+def columns_behind(data, start, end, columns, units):
+    """The byte behind so many columns of a line's text, at most its end; inside a character its start."""
+    at = start
+    for it in data[start:end].decode(errors="surrogateescape"):
+        size = len(it.encode(errors="surrogateescape"))
+        columns -= units(it)
+        if columns < 0:
+            break
+        at += size
+    return at
+
+
+def offset(data, line, columns, units):
+    """The byte of so many columns on a line (from 1); lines end with LF, CR LF or a lone CR."""
+    ends = list(re.finditer(rb"\r\n|\n|\r", data))
+    starts = [0, *(it.end() for it in ends)]
+    if not 1 <= line <= len(starts):
+        return None
+    return columns_behind(data, starts[line - 1], [*(it.start() for it in ends), len(data)][line - 1], columns, units)
+
+
+def span(name, region, units, files):
+    """A region in rustc's form."""
+    line, column = member(region, "startLine", int), first(member(region, "startColumn", int), 1)
+    it = {"file_name": name, "line_start": line, "column_start": column}
+    if name in files:
+        data, last = files[name], member(region, "endColumn", int)
+        begin = offset(data, line, max(column - 1, 0), units)
+        behind = len(data) if last is None else max(last - 1, 0)
+        end = offset(data, first(member(region, "endLine", int), line), behind, units)
+        it.update({"byte_start": begin, "byte_end": end} if None not in (begin, end) else {})
+    return it
+
+
+# ---- runs
+
+
+class Run:
+    def __init__(self, run, files):
+        driver = member(member(run, "tool", dict) or {}, "driver", dict) or {}
+        self.files, self.rules, self.artifacts = files, objects(driver, "rules"), objects(run, "artifacts")
+        wide = text(run, "columnKind") == "utf16CodeUnits"
+        self.units = (lambda it: 1 + (ord(it) > 0xFFFF)) if wide else (lambda it: 1)
+
+    def rule(self, result):
+        named = member(result, "rule", dict) or {}
+        index = first(member(result, "ruleIndex", int), member(named, "index", int))
+        if index is not None and member(named, "toolComponent", dict) is None and index < len(self.rules):
+            return self.rules[index]
+        wanted = rule_id(result)
+        return next((it for it in self.rules if text(it, "id") == wanted), None)
+
+    def level(self, result):
+        said = member(result, "level", str)
+        if said is not None:
+            return said
+        if first(member(result, "kind", str), "fail") != "fail":
+            return "none"
+        default = member(self.rule(result) or {}, "defaultConfiguration", dict) or {}
+        return first(member(default, "level", str), "warning")
+
+    def uri(self, physical):
+        artifact = member(physical, "artifactLocation", dict)
+        if artifact is None:
+            return None
+        index = member(artifact, "index", int)
+        listed = self.artifacts[index] if index is not None and index < len(self.artifacts) else {}
+        return first(member(artifact, "uri", str), member(member(listed, "location", dict) or {}, "uri", str))
+
+    def told(self, location, primary, own):
+        physical = member(location, "physicalLocation", dict) or {}
+        said, uri, region = message(location) or "", self.uri(physical), member(physical, "region", dict) or {}
+        rows = [said] if said else []
+        if uri is None:
+            return Told(rows, None, own=own)
+        if member(region, "startLine", int) is None:
+            return Told([": ".join([name_of(uri), *rows])], None, own=own)
+        return Told(rows, span(name_of(uri), region, self.units, self.files), primary, own)
+
+    def all_told(self, result):
+        own = [self.told(it, number == 0, True) for number, it in enumerate(objects(result, "locations"))]
+        return own + [self.told(it, True, False) for it in objects(result, "relatedLocations")]
+
+
+def rule_id(result):
+    return first(member(result, "ruleId", str), member(member(result, "rule", dict) or {}, "id", str))
+
+
+def message(value):
+    said = member(value, "message", dict) or {}
+    return first(member(said, "text", str), member(said, "id", str))
+
+
+# ---- reports
+
+
+def severity(level):
+    return level if level in ("error", "warning") else "advice"
+
+
+def report(run, result, files):
+    settled = Settled(files)
+    for told in run.all_told(result):
+        if told.rows or told.span is not None:
+            settled.add(told)
+    rule = run.rule(result) or {}
+    code, url = first(rule_id(result), member(rule, "id", str)), member(rule, "helpUri", str)
+    made = {"message": message(result) or "", "severity": severity(run.level(result))}
+    made.update({key: it for key, it in (("code", code), ("url", url)) if it is not None})
+    if settled.lists:
+        made.update(source=source(settled.lists[0], files), labels=labels(settled, 0))
+    further = list(enumerate(settled.lists))[1:]
+    made["snippets"] = [{"source": source(name, files), "labels": labels(settled, at)} for at, name in further]
+    return {**made, "fixes": [], "related": [], "causes": settled.texts}
+
+
+def reports_of(value, files):
+    """The reports of a log over these files."""
+    if member(value, "runs", list) is None:
+        raise NoReports
+    runs = [(Run(it, files), objects(it, "results")) for it in objects(value, "runs")]
+    return [report(run, it, files) for run, results in runs for it in results]

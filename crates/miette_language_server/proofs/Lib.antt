@@ -1,0 +1,9 @@
+pub mod Bodied
+pub mod Bodies
+pub mod Floatless
+pub mod Headers
+pub mod Lists
+pub mod Places
+pub mod ReadBack
+pub mod Rests
+pub mod Turns

@@ -1,0 +1,36 @@
+use Rattle.std.proofs.Common.{Option, Some, None, subst, ℕ}
+use Rattle.miette_language_server.specs.views.Served.{IsTurn, Moment}
+use Rattle.miette_language_server.proofs.Turns.{served_whole}
+use Rattle.miette_language_server.proofs.serve.serve.Goals as goal
+
+pub loop-preserved : goal.loop-preserved
+loop-preserved g c =
+    let a : Moment = record {
+      state = c.loop.session;
+      input = g.R.Read.remaining c.loop.reader;
+      output = g.W.Write.contents c.loop.writer;
+    } in
+    let b : Moment = record {
+      state = c.turn.new.session;
+      input = g.R.Read.remaining c.turn.new.reader;
+      output = g.W.Write.contents c.turn.new.writer;
+    } in
+    let more : IsTurn a b None = subst (IsTurn a b) c.in-None.is c.in_ok-told.ensures in
+    λ v status h. c.loop.invariant v status (more v status h)
+
+pub returns-in-Some : goal.returns-in-Some
+returns-in-Some g c =
+    let a : Moment = record {
+      state = c.loop.session;
+      input = g.R.Read.remaining c.loop.reader;
+      output = g.W.Write.contents c.loop.writer;
+    } in
+    let b : Moment = record {
+      state = c.turn.new.session;
+      input = g.R.Read.remaining c.turn.new.reader;
+      output = g.W.Write.contents c.turn.new.writer;
+    } in
+    let status = c.in-Some.status in
+    let done : IsTurn a b (Some status) = subst (IsTurn a b) c.in-Some.is c.in_ok-told.ensures in
+    served_whole c.args.width (g.R.Read.remaining c.args.reader.now) (g.W.Write.contents c.args.writer.now)
+    (g.W.Write.contents c.turn.new.writer) status (c.loop.invariant (g.W.Write.contents c.turn.new.writer) status done)

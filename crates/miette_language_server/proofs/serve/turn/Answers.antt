@@ -1,0 +1,72 @@
+use Rattle.std.proofs.Common.{◌≡◌, List, Option, Some, None, subst, ℕ}
+use Rattle.miette_language_server.specs.declared.session.Outcome.{Outcome}
+use Rattle.miette_language_server.specs.declared.session.Outcome.TheVariants.{Ended, Nothing, Written}
+use Rattle.miette_language_server.specs.rules.Session.{step}
+use Rattle.miette_language_server.specs.views.Answered.{IsFirstFrame, IsStep}
+use Rattle.miette_language_server.proofs.Floatless.{written_floatless}
+use Rattle.miette_language_server.proofs.Turns.{served_ended, served_more, served_none, served_on}
+use Rattle.miette_language_server.proofs.serve.turn.Goals as goal
+
+pub returns-in-None : goal.returns-in-None
+returns-in-None g c =
+    let old = g.R.Read.remaining c.args.reader.now in
+    let new = g.R.Read.remaining c.read_frame.new.reader in
+    served_none c.args.session.now old new (g.W.Write.contents c.args.writer.now)
+    (subst (IsFirstFrame old new) c.in-None.is c.in_ok-frame.ensures)
+
+pub returns-in-Nothing : goal.returns-in-Nothing
+returns-in-Nothing g c =
+    let old = g.R.Read.remaining c.args.reader.now in
+    let new = g.R.Read.remaining c.read_frame.new.reader in
+    let s = c.args.session.now in
+    let t = c.step.new.self in
+    let body = c.in-Some.body in
+    let first : IsFirstFrame old new (Some body) = subst (IsFirstFrame old new) c.in-Some.is c.in_ok-frame.ensures in
+    let done : IsStep (step s body.items) t c.in_ok-outcome.outcome =
+    subst (λ bs. IsStep (step s bs) t c.in_ok-outcome.outcome) c.as_slice.ensures.value c.in_ok-outcome.ensures
+    in
+    let is : IsStep (step s body.items) t Nothing =
+    subst (λ (o : Outcome). IsStep (step s body.items) t o) c.in-Nothing.is done
+    in
+    λ v status h. served_on s t old new (g.W.Write.contents c.args.writer.now) v body status first is h
+
+pub returns-in-Ended : goal.returns-in-Ended
+returns-in-Ended g c =
+    let old = g.R.Read.remaining c.args.reader.now in
+    let new = g.R.Read.remaining c.read_frame.new.reader in
+    let s = c.args.session.now in
+    let t = c.step.new.self in
+    let body = c.in-Some.body in
+    let first : IsFirstFrame old new (Some body) = subst (IsFirstFrame old new) c.in-Some.is c.in_ok-frame.ensures in
+    let done : IsStep (step s body.items) t c.in_ok-outcome.outcome =
+    subst (λ bs. IsStep (step s bs) t c.in_ok-outcome.outcome) c.as_slice.ensures.value c.in_ok-outcome.ensures
+    in
+    let is : IsStep (step s body.items) t (Ended c.in-Ended.status) =
+    subst (λ (o : Outcome). IsStep (step s body.items) t o) c.in-Ended.is done
+    in
+    served_ended s t old new (g.W.Write.contents c.args.writer.now) body c.in-Ended.status first is
+
+pub write_message-requires : goal.write_message-requires
+write_message-requires g c =
+    let s = c.args.session.now in
+    let t = c.step.new.self in
+    written_floatless s t c.as_slice.result.now c.in_ok-outcome.outcome c.in-Written.message c.in_ok-outcome.ensures
+    c.in-Written.is
+
+pub returns : goal.returns
+returns g c =
+    let old = g.R.Read.remaining c.args.reader.now in
+    let new = g.R.Read.remaining c.read_frame.new.reader in
+    let s = c.args.session.now in
+    let t = c.step.new.self in
+    let body = c.in-Some.body in
+    let first : IsFirstFrame old new (Some body) = subst (IsFirstFrame old new) c.in-Some.is c.in_ok-frame.ensures in
+    let done : IsStep (step s body.items) t c.in_ok-outcome.outcome =
+    subst (λ bs. IsStep (step s bs) t c.in_ok-outcome.outcome) c.as_slice.ensures.value c.in_ok-outcome.ensures
+    in
+    let is : IsStep (step s body.items) t (Written c.in-Written.message) =
+    subst (λ (o : Outcome). IsStep (step s body.items) t o) c.in-Written.is done
+    in
+    λ v status h. served_more s t old new (g.W.Write.contents c.args.writer.now)
+    (g.W.Write.contents c.write_message.new.writer) v body c.in-Written.message status first is
+    c.in_ok-write_message-in-Written.ensures h

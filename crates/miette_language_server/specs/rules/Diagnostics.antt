@@ -1,0 +1,67 @@
+-- What `lint` finds in a document, as diagnostics of the Language Server Protocol (3.17).
+use Rattle.std.specs.Prelude.{ℕ, ℤ, List, [], ◌∷◌, Option, Some, None, codes, map}
+use Rattle.std.specs.Option.{unwrap_or}
+use Rattle.serde_json.specs.Data.{Data, Members, member, no_members, number, object, string, unsigned}
+use Rattle.serde_json.specs.Find.{of_integer}
+use Rattle.miette_fixes.specs.rules.Edits.{Proposal}
+use Rattle.miette_lint.specs.rules.Coded.{Coded, coded_findings}
+use Rattle.miette_positions.specs.declared.place.PositionEncoding.TheVariants.{Utf16}
+use Rattle.miette_positions.specs.rules.Regions.{Placed}
+use Rattle.miette_language_server.specs.rules.Documents.{OpenDocument}
+use Rattle.miette_language_server.specs.rules.Values.{fix_value, list_value, part, range_value}
+
+-- a text whose columns are counted in units of UTF-16
+abbrev pub placed : List ℕ → Placed
+placed text = record { source = text; encoding = Utf16 }
+
+-- what is proposed for a finding
+abbrev pub fixes_value : List ℕ → Placed → List Proposal → Data
+fixes_value uri source fixes =
+    object (member (codes "fixes") (list_value (map (fix_value uri source) fixes)) no_members)
+
+-- what all diagnostics have, from their message on
+abbrev pub told : Placed → Coded → Members
+told source c = member (codes "message") (string (unwrap_or c.label.text []))
+    (member (codes "range") (range_value (part source c.label.span))
+    (member (codes "severity") (number (unsigned 2))
+    (member (codes "source") (string (codes "lint")) no_members)))
+
+abbrev pub coded_value : List ℕ → Members → Data
+coded_value code rest = object (member (codes "code") (string code) rest)
+
+-- of a finding for which nothing is proposed
+abbrev pub plain_value : Placed → Coded → Data
+plain_value source c = coded_value c.code (told source c)
+
+-- of one for which something is
+abbrev pub fixable_value : List ℕ → Placed → Coded → Data
+fixable_value uri source c =
+    coded_value c.code (member (codes "data") (fixes_value uri source c.fixes) (told source c))
+
+-- the first where nothing is proposed, else the second
+abbrev pub by_fixes : List Proposal → Data → Data → Data
+by_fixes [] plain fixable = plain
+by_fixes (fix ∷ fixes) plain fixable = fixable
+
+-- a finding is a warning
+abbrev pub diagnostic_value : List ℕ → Placed → Coded → Data
+diagnostic_value uri source c = by_fixes c.fixes (plain_value source c) (fixable_value uri source c)
+
+-- all that is found in a text of lines that may have so many columns
+abbrev pub diagnostics : ℕ → List ℕ → List ℕ → List Data
+diagnostics width uri text = map (diagnostic_value uri (placed text)) (coded_findings text width)
+
+-- ---- as the client is told
+
+abbrev pub version_members : Option ℤ → Members
+version_members None = no_members
+version_members (Some version) = member (codes "version") (number (of_integer version)) no_members
+
+-- the diagnostics of the document with this uri, and the version that they are of
+abbrev pub published_value : List ℕ → Option ℤ → List Data → Data
+published_value uri version list = object (member (codes "diagnostics") (list_value list)
+    (member (codes "uri") (string uri) (version_members version)))
+
+abbrev pub diagnostics_of : ℕ → OpenDocument → Data
+diagnostics_of width document =
+    published_value document.uri document.version (diagnostics width document.uri document.text)

@@ -1,0 +1,26 @@
+-- What a server has done so far, for contracts.
+use Rattle.std.specs.Prelude.{◌≡◌, ℕ, ◌<◌, List, Option, Some, None, length}
+use Rattle.std.specs.Io.KnownBytes.{Appends}
+use Rattle.miette_language_server.specs.rules.Serving.{Service, served_from}
+use Rattle.miette_language_server.specs.rules.Session.{State}
+
+-- a service goes from what the writer has to this, with this status
+abbrev pub Gives : Option (List ℕ) → Option (List ℕ) → ℕ → Service → Type 0
+Gives w v status it = Appends w v it.output × (status ≡ it.status)
+
+-- the service of what the reader has, in a state, does
+abbrev pub IsServed : State → Option (List ℕ) → Option (List ℕ) → Option (List ℕ) → ℕ → Type 0
+IsServed s None w v status = Unit {0}
+IsServed s (Some bytes) w v status = (n : ℕ) → length bytes < n → Gives w v status (served_from n s bytes)
+
+-- a state, what the reader has, and what the writer has
+pub record Moment : Type 0 where
+  pub state : State
+  pub input : Option (List ℕ)
+  pub output : Option (List ℕ)
+
+-- From one moment to another: the service from the first on is that from the second on. With a status it is done.
+abbrev pub IsTurn : Moment → Moment → Option ℕ → Type 0
+IsTurn a b None = (v : Option (List ℕ)) (status : ℕ) → IsServed b.state b.input b.output v status
+    → IsServed a.state a.input a.output v status
+IsTurn a b (Some status) = IsServed a.state a.input a.output b.output status

@@ -1,0 +1,230 @@
+//! What a client may do at a place of a document: quick fixes.
+
+ghost use Rattle.std.specs.Prelude.{◌≡◌, ◌++◌, IfOk, OnOk, codes, flat_map, map, string_bytes};
+ghost use Rattle.std.specs.Option.{option_copied};
+ghost use Rattle.serde_json.specs.View.{view};
+ghost use Rattle.miette_lint.specs.views.Found.{coded_of};
+ghost use Rattle.miette_positions.specs.rules.Stops.{is_until};
+ghost use Rattle.miette_language_server.specs.rules.Actions.{action_value, actions, actions_at, actions_in};
+ghost use Rattle.miette_language_server.specs.rules.Actions.{changes_value, is_sure, joint_of, joint_value, touches, with_joint};
+ghost use Rattle.miette_language_server.specs.rules.Diagnostics.{diagnostic_value};
+
+use crate::diagnostics::{diagnostic_value, placed};
+use crate::documents::Document;
+use crate::values::{edits_value, part};
+use miette_fixes::fix::{Applicability, Fix};
+use miette_lint::coded::{CodedFinding, coded_findings};
+use miette_lint::joint::joint_proposal;
+use miette_positions::index::PositionIndex;
+use miette_positions::place::{Position, Region};
+use serde_json::{Value, json};
+use std::alloc::{AllocError, Global};
+
+// Whether a position is another one or stands before it.
+fn is_until(position: Position, other: Position) -> bool
+    ensures { result ≡ is_until position other }
+{
+    position.line < other.line || position.line == other.line && position.column <= other.column
+}
+
+// Whether two parts of a document share a position.
+fn touches(part: Region, other: Region) -> bool
+    ensures { result ≡ touches part other }
+{
+    is_until(part.start, other.end) && is_until(other.start, part.end)
+}
+
+// Whether a fix may be applied without a look.
+fn is_sure(applicability: Applicability) -> bool
+    ensures { result ≡ is_sure applicability }
+{
+    match applicability {
+        Applicability::MachineApplicable => true,
+        Applicability::MaybeIncorrect
+        | Applicability::HasPlaceholders
+        | Applicability::Unspecified => false,
+    }
+}
+
+// The edits of one document.
+fn changes_value(alloc: Global, uri: &str, edits: Value) -> Result<Value, AllocError>
+    ensures { IfOk result (λ value. view value ≡ changes_value uri.now (view edits)) }
+{
+    json!(in alloc; {"changes": {(uri): edits}})
+}
+
+// A fix of what a diagnostic tells.
+fn action_value(
+    alloc: Global,
+    uri: &str,
+    source: &PositionIndex<'_>,
+    diagnostic: &Value,
+    fix: &Fix,
+) -> Result<Value, AllocError>
+    ensures { IfOk result (λ value. view value ≡ action_value uri.now source.now (view diagnostic.now) fix.now) }
+{
+    let edits = edits_value(alloc, source, fix.edits())?;
+    let edit = changes_value(alloc, uri, edits)?;
+    json!(in alloc; {
+        "title": fix.message(),
+        "kind": "quickfix",
+        "diagnostics": [diagnostic],
+        "isPreferred": is_sure(fix.applicability()),
+        "edit": edit
+    })
+}
+
+// What all fixes of a document are called.
+fn joint_title(alloc: Global, fix: &Fix) -> Result<String, AllocError>
+    ensures { IfOk result (λ text. string_bytes text ≡ codes "fix " ++ fix.now.message) }
+{
+    let mut text = String::from_str(alloc, "fix ")?;
+    text.push_str(fix.message())?;
+    Ok(text)
+}
+
+// All fixes of a document.
+fn joint_value(
+    alloc: Global,
+    uri: &str,
+    source: &PositionIndex<'_>,
+    fix: &Fix,
+) -> Result<Value, AllocError>
+    ensures { IfOk result (λ value. view value ≡ joint_value uri.now source.now fix.now) }
+{
+    let edits = edits_value(alloc, source, fix.edits())?;
+    let edit = changes_value(alloc, uri, edits)?;
+    let title = joint_title(alloc, fix)?;
+    json!(in alloc; {"title": title, "kind": "quickfix", "edit": edit})
+}
+
+// These fixes of what a diagnostic tells.
+fn fix_actions(
+    alloc: Global,
+    uri: &str,
+    source: &PositionIndex<'_>,
+    diagnostic: &Value,
+    fixes: &[Fix],
+) -> Result<Vec<Value>, AllocError>
+    ensures { IfOk result (λ list. map view list.items
+        ≡ map (action_value uri.now source.now (view diagnostic.now)) fixes.now) }
+{
+    let mut list = Vec::with_capacity(alloc, fixes.len())?;
+    for fix in fixes {
+        list.push(action_value(alloc, uri, source, diagnostic, fix)?)?;
+    }
+    Ok(list)
+}
+
+// Values behind those of a list.
+fn append(list: &mut Vec<Value>, more: Vec<Value>) -> Result<(), AllocError>
+    ensures { OnOk result (map view list.new.items ≡ map view list.old.items ++ map view more.items) }
+{
+    let mut more = more;
+    list.append(&mut more)
+}
+
+// The fixes of a finding.
+fn push_fixes(
+    alloc: Global,
+    uri: &str,
+    source: &PositionIndex<'_>,
+    found: &CodedFinding,
+    list: &mut Vec<Value>,
+) -> Result<(), AllocError>
+    ensures { OnOk result (map view list.new.items ≡ map view list.old.items
+        ++ map (action_value uri.now source.now (diagnostic_value uri.now source.now (coded_of found.now)))
+        found.now.fixes.items) }
+{
+    let diagnostic = diagnostic_value(alloc, uri, source, found)?;
+    let actions = fix_actions(alloc, uri, source, &diagnostic, found.fixes.as_slice())?;
+    append(list, actions)
+}
+
+// The fixes of all findings that a part touches.
+fn own_actions(
+    alloc: Global,
+    uri: &str,
+    source: &PositionIndex<'_>,
+    region: Region,
+    found: &[CodedFinding],
+) -> Result<Vec<Value>, AllocError>
+    ensures { IfOk result (λ list. map view list.items
+        ≡ flat_map (actions_at uri.now source.now region) (map coded_of found.now)) }
+{
+    let mut list = Vec::new(alloc);
+    for it in found {
+        if touches(part(source, *it.label.inner()), region) {
+            push_fixes(alloc, uri, source, it, &mut list)?;
+        }
+    }
+    Ok(list)
+}
+
+// All fixes of a document in which so much is found.
+fn joint_of(
+    alloc: Global,
+    uri: &str,
+    source: &PositionIndex<'_>,
+    found: usize,
+) -> Result<Value, AllocError>
+    ensures { IfOk result (λ value. view value ≡ joint_of uri.now source.now found) }
+{
+    let joint = joint_proposal(alloc, source.source(), found)?;
+    joint_value(alloc, uri, source, &joint)
+}
+
+// These, and behind them, if there are any, one for all findings.
+fn with_joint(
+    alloc: Global,
+    uri: &str,
+    source: &PositionIndex<'_>,
+    found: usize,
+    list: Vec<Value>,
+) -> Result<Vec<Value>, AllocError>
+    ensures { IfOk result (λ made. map view made.items
+        ≡ with_joint uri.now source.now found (map view list.items)) }
+{
+    if list.is_empty() {
+        return Ok(list);
+    }
+    let joint = joint_of(alloc, uri, source, found)?;
+    let mut made = list;
+    made.push(joint)?;
+    Ok(made)
+}
+
+// The fixes at a part of a document, and one for all of it.
+fn actions(
+    alloc: Global,
+    width: usize,
+    document: &Document,
+    region: Region,
+) -> Result<Vec<Value>, AllocError>
+    ensures { IfOk result (λ list. map view list.items
+        ≡ actions width document.now.uri document.now.text region) }
+{
+    let source = placed(alloc, document.text())?;
+    let found = coded_findings(alloc, document.text(), width)?;
+    let own = own_actions(alloc, document.uri(), &source, region, found.as_slice())?;
+    with_joint(alloc, document.uri(), &source, found.len(), own)
+}
+
+/// The quick fixes at a part of a document that is open.
+///
+/// # Errors
+/// `AllocError` where memory is refused.
+pub(crate) fn actions_in(
+    alloc: Global,
+    width: usize,
+    document: Option<&Document>,
+    region: Option<Region>,
+) -> Result<Vec<Value>, AllocError>
+    ensures { IfOk result (λ list. map view list.items
+        ≡ actions_in width (option_copied document.entry) region) }
+{
+    match (document, region) {
+        (Some(document), Some(region)) => actions(alloc, width, document, region),
+        _ => Ok(Vec::new(alloc)),
+    }
+}

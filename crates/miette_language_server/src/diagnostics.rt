@@ -1,0 +1,177 @@
+//! What `lint` finds in a document, as diagnostics of the protocol.
+
+ghost use Rattle.std.specs.Prelude.{◌≡◌, [], IfOk, map, unwrap_or};
+ghost use Rattle.serde_json.specs.View.{view};
+ghost use Rattle.miette_lint.specs.rules.Coded.{coded_findings};
+ghost use Rattle.miette_lint.specs.views.Found.{coded_of};
+ghost use Rattle.miette_language_server.specs.rules.Diagnostics.{diagnostic_value, diagnostics, diagnostics_of};
+ghost use Rattle.miette_language_server.specs.rules.Diagnostics.{fixable_value, fixes_value, placed, plain_value, published_value};
+
+use crate::documents::Document;
+use crate::values::{fix_value, part, range_value};
+use miette_fixes::fix::Fix;
+use miette_lint::coded::{CodedFinding, coded_findings};
+use miette_positions::index::PositionIndex;
+use miette_positions::place::PositionEncoding;
+use miette_protocol::protocol::LabeledSpan;
+use serde_json::{Value, json};
+use std::alloc::{AllocError, Global};
+
+/// A text with an index of its positions in units of UTF-16.
+pub(crate) fn placed(alloc: Global, text: &[u8]) -> Result<PositionIndex<'_>, AllocError>
+    ensures { IfOk result (λ it. it ≡ placed text.now) }
+{
+    PositionIndex::new(alloc, text, PositionEncoding::Utf16)
+}
+
+// What is proposed for a finding.
+fn fixes_value(
+    alloc: Global,
+    uri: &str,
+    source: &PositionIndex<'_>,
+    fixes: &[Fix],
+) -> Result<Value, AllocError>
+    ensures { IfOk result (λ value. view value ≡ fixes_value uri.now source.now fixes.now) }
+{
+    let mut values = Vec::with_capacity(alloc, fixes.len())?;
+    for fix in fixes {
+        values.push(fix_value(alloc, uri, source, fix)?)?;
+    }
+    json!(in alloc; {"fixes": values})
+}
+
+// What is said of a place.
+fn message(label: &LabeledSpan) -> &str
+    ensures { result.now ≡ unwrap_or label.now.text [] }
+{
+    match label.label() {
+        Some(text) => text,
+        None => "",
+    }
+}
+
+// A diagnostic of a finding for which nothing is proposed.
+fn plain_value(
+    alloc: Global,
+    source: &PositionIndex<'_>,
+    found: &CodedFinding,
+) -> Result<Value, AllocError>
+    ensures { IfOk result (λ value. view value ≡ plain_value source.now (coded_of found.now)) }
+{
+    let range = range_value(alloc, part(source, *found.label.inner()))?;
+    json!(in alloc; {
+        "range": range,
+        "severity": 2u8,
+        "code": found.code,
+        "source": "lint",
+        "message": message(&found.label)
+    })
+}
+
+// A diagnostic of a finding for which something is.
+fn fixable_value(
+    alloc: Global,
+    uri: &str,
+    source: &PositionIndex<'_>,
+    found: &CodedFinding,
+) -> Result<Value, AllocError>
+    ensures { IfOk result (λ value. view value ≡ fixable_value uri.now source.now (coded_of found.now)) }
+{
+    let range = range_value(alloc, part(source, *found.label.inner()))?;
+    let fixes = fixes_value(alloc, uri, source, found.fixes.as_slice())?;
+    json!(in alloc; {
+        "range": range,
+        "severity": 2u8,
+        "code": found.code,
+        "source": "lint",
+        "message": message(&found.label),
+        "data": fixes
+    })
+}
+
+/// A diagnostic of a document with a uri.
+pub(crate) fn diagnostic_value(
+    alloc: Global,
+    uri: &str,
+    source: &PositionIndex<'_>,
+    found: &CodedFinding,
+) -> Result<Value, AllocError>
+    ensures { IfOk result (λ value. view value ≡ diagnostic_value uri.now source.now (coded_of found.now)) }
+{
+    if found.fixes.is_empty() {
+        plain_value(alloc, source, found)
+    } else {
+        fixable_value(alloc, uri, source, found)
+    }
+}
+
+// The diagnostics of these findings.
+fn diagnostic_values(
+    alloc: Global,
+    uri: &str,
+    source: &PositionIndex<'_>,
+    found: &[CodedFinding],
+) -> Result<Vec<Value>, AllocError>
+    ensures { IfOk result (λ list. map view list.items
+        ≡ map (λ it. diagnostic_value uri.now source.now (coded_of it)) found.now) }
+{
+    let mut values = Vec::with_capacity(alloc, found.len())?;
+    for it in found {
+        values.push(diagnostic_value(alloc, uri, source, it)?)?;
+    }
+    Ok(values)
+}
+
+// All diagnostics of a text with an index.
+fn placed_diagnostics(
+    alloc: Global,
+    width: usize,
+    uri: &str,
+    source: &PositionIndex<'_>,
+) -> Result<Vec<Value>, AllocError>
+    ensures { IfOk result (λ list. map view list.items
+        ≡ map (diagnostic_value uri.now source.now) (coded_findings source.now.source width)) }
+{
+    let found = coded_findings(alloc, source.source(), width)?;
+    diagnostic_values(alloc, uri, source, found.as_slice())
+}
+
+// All diagnostics of a text.
+fn diagnostics(
+    alloc: Global,
+    width: usize,
+    uri: &str,
+    text: &[u8],
+) -> Result<Vec<Value>, AllocError>
+    ensures { IfOk result (λ list. map view list.items ≡ diagnostics width uri.now text.now) }
+{
+    let source = placed(alloc, text)?;
+    placed_diagnostics(alloc, width, uri, &source)
+}
+
+/// What the client is told of a document: its diagnostics, and the version that they are of.
+pub(crate) fn published_value(
+    alloc: Global,
+    uri: &str,
+    version: Option<i64>,
+    list: Vec<Value>,
+) -> Result<Value, AllocError>
+    ensures { IfOk result (λ value. view value ≡ published_value uri.now version (map view list.items)) }
+{
+    match version {
+        Some(version) => json!(in alloc; {"uri": uri, "version": version, "diagnostics": list}),
+        None => json!(in alloc; {"uri": uri, "diagnostics": list}),
+    }
+}
+
+/// What the client is told of an open document.
+pub(crate) fn diagnostics_of(
+    alloc: Global,
+    width: usize,
+    document: &Document,
+) -> Result<Value, AllocError>
+    ensures { IfOk result (λ value. view value ≡ diagnostics_of width document.now) }
+{
+    let list = diagnostics(alloc, width, document.uri(), document.text())?;
+    published_value(alloc, document.uri(), document.version(), list)
+}

@@ -1,0 +1,17 @@
+//! A language server that tells an editor what `lint` finds, over any reader and any writer.
+#![tactic(auto)]
+
+mod actions;
+mod changes;
+mod diagnostics;
+pub mod documents;
+pub mod fault;
+mod fields;
+pub mod frames;
+pub mod laws;
+mod members;
+mod messages;
+mod names;
+pub mod serve;
+pub mod session;
+mod values;

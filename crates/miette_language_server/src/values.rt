@@ -1,0 +1,88 @@
+//! Places, edits and fixes as values of the protocol.
+
+ghost use Rattle.std.specs.Prelude.{◌≡◌, IfOk, map};
+ghost use Rattle.serde_json.specs.View.{view};
+ghost use Rattle.miette_language_server.specs.rules.Values.{edit_value, edits_value, fix_value, origin, part};
+ghost use Rattle.miette_language_server.specs.rules.Values.{position_value, range_value};
+
+use miette_fixes::fix::{Edit, Fix};
+use miette_positions::index::PositionIndex;
+use miette_positions::place::{Position, Region};
+use miette_protocol::protocol::SourceSpan;
+use serde_json::{Value, json};
+use std::alloc::{AllocError, Global};
+
+// A position.
+fn position_value(alloc: Global, position: Position) -> Result<Value, AllocError>
+    ensures { IfOk result (λ value. view value ≡ position_value position) }
+{
+    json!(in alloc; {"line": position.line, "character": position.column})
+}
+
+/// A range.
+pub(crate) fn range_value(alloc: Global, region: Region) -> Result<Value, AllocError>
+    ensures { IfOk result (λ value. view value ≡ range_value region) }
+{
+    let start = position_value(alloc, region.start)?;
+    let end = position_value(alloc, region.end)?;
+    json!(in alloc; {"start": start, "end": end})
+}
+
+// The empty part at the beginning of a source.
+fn origin() -> Region
+    ensures { result ≡ origin }
+{
+    let start = Position { line: 0, column: 0 };
+    Region { start, end: start }
+}
+
+/// The part of a source that a span is.
+pub(crate) fn part(source: &PositionIndex<'_>, span: SourceSpan) -> Region
+    ensures { result ≡ part source.now span }
+{
+    match source.region(span) {
+        Some(region) => region,
+        None => origin(),
+    }
+}
+
+// An edit.
+fn edit_value(alloc: Global, source: &PositionIndex<'_>, edit: &Edit) -> Result<Value, AllocError>
+    ensures { IfOk result (λ value. view value ≡ edit_value source.now edit.now) }
+{
+    let range = range_value(alloc, part(source, *edit.span()))?;
+    json!(in alloc; {"range": range, "newText": edit.text()})
+}
+
+/// A list of edits.
+pub(crate) fn edits_value(
+    alloc: Global,
+    source: &PositionIndex<'_>,
+    edits: &[Edit],
+) -> Result<Value, AllocError>
+    ensures { IfOk result (λ value. view value ≡ edits_value source.now edits.now) }
+{
+    let mut values = Vec::with_capacity(alloc, edits.len())?;
+    for edit in edits {
+        values.push(edit_value(alloc, source, edit)?)?;
+    }
+    Ok(Value::Array(values))
+}
+
+/// A fix of the document with a uri.
+pub(crate) fn fix_value(
+    alloc: Global,
+    uri: &str,
+    source: &PositionIndex<'_>,
+    fix: &Fix,
+) -> Result<Value, AllocError>
+    ensures { IfOk result (λ value. view value ≡ fix_value uri.now source.now fix.now) }
+{
+    let edits = edits_value(alloc, source, fix.edits())?;
+    json!(in alloc; {
+        "title": fix.message(),
+        "applicability": fix.applicability().name(),
+        "uri": uri,
+        "edits": edits
+    })
+}

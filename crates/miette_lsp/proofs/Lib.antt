@@ -1,0 +1,4 @@
+pub mod Grouping
+pub mod Parts
+pub mod Putting
+pub mod Spelling

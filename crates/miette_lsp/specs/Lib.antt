@@ -1,0 +1,4 @@
+pub mod laws
+pub mod rules
+pub mod steps
+pub mod views

@@ -1,0 +1,3 @@
+-- What values of the code stand for.
+pub mod Grouped
+pub mod Handled

@@ -1,0 +1,6 @@
+-- What users rely on, in the words of docs/RULES.md.
+pub mod Uris
+pub mod Regions
+pub mod Results
+pub mod Logs
+pub mod Names

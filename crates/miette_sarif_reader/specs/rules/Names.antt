@@ -1,0 +1,31 @@
+-- The names of the files that a log speaks of.
+use Rattle.std.specs.Prelude.{ℕ, List, [], ◌∷◌, ◌++◌, Option, Some, None, if◌then◌else◌, bytes_eq, codes}
+use Rattle.serde_json.specs.Data.{Data, null, boolean, number, string, array, object, Items, no_items, item}
+use Rattle.serde_json.specs.Data.{Members, no_members, member}
+use Rattle.serde_json.specs.Find.{as_str}
+use Rattle.miette_sarif_reader.specs.rules.Uris.{name_of}
+
+abbrev pub maybe_name : Option (List ℕ) → List (List ℕ)
+maybe_name None = []
+maybe_name (Some uri) = name_of uri ∷ []
+
+abbrev pub named_by : List ℕ → Data → List (List ℕ)
+named_by key d = if bytes_eq key (codes "uri") then maybe_name (as_str d) else []
+
+-- what the texts name that are members `uri` of its objects, at any depth
+abbrev mutual
+  pub names_of : Data → List (List ℕ)
+  names_of null = []
+  names_of (boolean b) = []
+  names_of (number n) = []
+  names_of (string s) = []
+  names_of (array ds) = names_in ds
+  names_of (object ms) = names_among ms
+
+  pub names_in : Items → List (List ℕ)
+  names_in no_items = []
+  names_in (item d ds) = names_of d ++ names_in ds
+
+  pub names_among : Members → List (List ℕ)
+  names_among no_members = []
+  names_among (member key d ms) = named_by key d ++ (names_of d ++ names_among ms)

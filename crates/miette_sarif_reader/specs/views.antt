@@ -1,0 +1,2 @@
+-- What values mean.
+pub mod Grounds

@@ -1,0 +1,14 @@
+-- By what a run's results are read, as its files are seen.
+use Rattle.std.specs.Prelude.{ℕ, List, Option}
+use Rattle.miette_protocol.specs.rules.Reading.{Source}
+use Rattle.miette_readers.specs.views.Values.{seen}
+use Rattle.miette_sarif_reader.specs.rules.Results as results
+use Rattle.miette_sarif_reader.specs.declared.ground.Ground.{Ground}
+
+abbrev pub ground_in : {F : Type 0} → (F → List ℕ → Option Source) → Ground F → results.Ground
+ground_in found it = record {
+  files = found it.files.now;
+  encoding = it.encoding;
+  rules = seen it.rules.items;
+  artifacts = seen it.artifacts.items;
+}

@@ -1,0 +1,34 @@
+//! What holds of the reports of all logs. Each law is the contract of a function that does nothing; a caller cites it by
+//! calling it.
+
+ghost use Rattle.std.specs.Prelude.{◌≡◌, ℕ, List, Option, All, IfSome, true};
+ghost use Rattle.std.specs.List.{Contains};
+ghost use Rattle.serde_json.specs.Data.{Data};
+ghost use Rattle.miette_protocol.specs.rules.Reading.{Source};
+ghost use Rattle.miette_tree.specs.rules.Reads.{AlwaysReads, report_accepted};
+ghost use Rattle.miette_readers.specs.rules.Kept.{IsKept};
+ghost use Rattle.miette_readers.specs.rules.Places.{Told};
+ghost use Rattle.miette_sarif_reader.specs.rules.Logs.{result_tree, sarif_trees};
+ghost use Rattle.miette_sarif_reader.specs.rules.Results.{Ground, told_of};
+
+/// The sources of the reports always read, where the files that are found do.
+pub fn reports_always_read()
+    ensures { (files : List ℕ → Option Source) (d : Data)
+        → ((name : List ℕ) → IfSome (files name) (λ s. s.always_reads ≡ true))
+        → IfSome (sarif_trees files d) (All AlwaysReads) }
+{}
+
+/// The labels of the reports are accepted by their sources, where the files that are found always read: so narrated and
+/// brief reports are never refused.
+pub fn labels_are_accepted()
+    ensures { (files : List ℕ → Option Source) (d : Data)
+        → ((name : List ℕ) → IfSome (files name) (λ s. s.always_reads ≡ true))
+        → IfSome (sarif_trees files d) (All (λ tree. report_accepted tree ≡ true)) }
+{}
+
+/// Nothing is lost of what a result tells at places, whatever files are found: each row of its locations and of the
+/// related ones is a part of a label's text or of a cause text of its report.
+pub fn rows_are_kept()
+    ensures { (ground : Ground) (r : Data) (t : Told) (row : List ℕ)
+        → Contains (told_of ground r) t → Contains t.rows row → IsKept (result_tree ground r) row }
+{}

@@ -1,0 +1,12 @@
+//! Reports from SARIF 2.1.0 logs.
+#![tactic(auto)]
+
+mod ground;
+pub mod laws;
+mod locations;
+pub mod names;
+mod regions;
+pub mod sarif;
+mod saying;
+mod telling;
+mod uris;

@@ -1,0 +1,133 @@
+//! What a result says itself.
+
+ghost use Rattle.std.specs.Prelude.{◌≡◌, IfOk, option_and_then, option_map, string_bytes};
+ghost use Rattle.std.specs.Option.{option_copied};
+ghost use Rattle.serde_json.specs.View.{view};
+ghost use Rattle.miette_sarif_reader.specs.rules.Results.{code_of, default_level, has_failed, level_by, level_of};
+ghost use Rattle.miette_sarif_reader.specs.rules.Results.{message_in, message_text, rule_of, said_of, severity_by};
+ghost use Rattle.miette_sarif_reader.specs.rules.Results.{url_of};
+ghost use Rattle.miette_sarif_reader.specs.views.Grounds.{ground_in};
+
+use crate::ground::{Ground, rule_id};
+use miette_protocol::protocol::Severity;
+use miette_readers::files::Files;
+use miette_readers::members::{object_at, text_at};
+use miette_readers::reports::Said;
+use serde_json::Value;
+use std::alloc::{AllocError, Global};
+
+/// What a message says; the id of its text where there is none.
+fn message_text(message: &Value) -> Option<&str>
+    ensures { option_copied result ≡ message_text (view message.now) }
+{
+    match text_at(message, "text") {
+        Some(text) => Some(text),
+        None => text_at(message, "id"),
+    }
+}
+
+/// What the message of a result or a location says.
+pub(crate) fn message_in(value: &Value) -> Option<&str>
+    ensures { option_copied result ≡ message_in (view value.now) }
+{
+    message_text(object_at(value, "message")?)
+}
+
+/// Whether a result is one of a rule that failed.
+fn has_failed(finding: &Value) -> bool
+    ensures { result ≡ has_failed (view finding.now) }
+{
+    text_at(finding, "kind").unwrap_or("fail") == "fail"
+}
+
+/// The level that a rule says.
+fn level_by(rule: &Value) -> Option<&str>
+    ensures { option_copied result ≡ level_by (view rule.now) }
+{
+    text_at(object_at(rule, "defaultConfiguration")?, "level")
+}
+
+/// How grave what has this level is.
+fn severity_by(level: &str) -> Severity
+    ensures { result ≡ severity_by level.now }
+{
+    match level {
+        "error" => Severity::Error,
+        "warning" => Severity::Warning,
+        _ => Severity::Advice,
+    }
+}
+
+/// A copy of a text, where there is one.
+pub(crate) fn copy_of(alloc: Global, text: Option<&str>) -> Result<Option<String>, AllocError>
+    ensures { IfOk result (λ o. option_map string_bytes o ≡ option_copied text.entry) }
+{
+    match text {
+        Some(text) => Ok(Some(String::from_str(alloc, text)?)),
+        None => Ok(None),
+    }
+}
+
+impl<'f, 'v, F: Files> Ground<'f, 'v, F> {
+    /// The code of a result: the id of its rule.
+    fn code_of(&self, finding: &'v Value) -> Option<&'v str>
+        ensures { option_copied result ≡ code_of (ground_in F.found self.now) (view finding.now) }
+    {
+        match rule_id(finding) {
+            Some(id) => Some(id),
+            None => text_at(self.rule_of(finding)?, "id"),
+        }
+    }
+
+    /// Where more is said of its rule.
+    fn url_of(&self, finding: &Value) -> Option<&'v str>
+        ensures { option_copied result ≡ url_of (ground_in F.found self.now) (view finding.now) }
+    {
+        text_at(self.rule_of(finding)?, "helpUri")
+    }
+
+    /// The level that its rule says.
+    fn rule_level(&self, finding: &Value) -> Option<&'v str>
+        ensures { option_copied result
+            ≡ option_and_then level_by (rule_of (ground_in F.found self.now) (view finding.now)) }
+    {
+        level_by(self.rule_of(finding)?)
+    }
+
+    /// The level of a result that says none.
+    fn default_level(&self, finding: &Value) -> &'v str
+        ensures { result.now ≡ default_level (ground_in F.found self.now) (view finding.now) }
+    {
+        if has_failed(finding) {
+            self.rule_level(finding).unwrap_or("warning")
+        } else {
+            "none"
+        }
+    }
+
+    /// Its level.
+    fn level_of(&self, finding: &'v Value) -> &'v str
+        ensures { result.now ≡ level_of (ground_in F.found self.now) (view finding.now) }
+    {
+        match text_at(finding, "level") {
+            Some(level) => level,
+            None => self.default_level(finding),
+        }
+    }
+
+    /// What a result says itself.
+    pub(crate) fn said_of(&self, alloc: Global, finding: &'v Value) -> Result<Said, AllocError>
+        ensures { IfOk result (λ it. it ≡ said_of (ground_in F.found self.now) (view finding.now)) }
+    {
+        let message = String::from_str(alloc, message_in(finding).unwrap_or(""))?;
+        let code = copy_of(alloc, self.code_of(finding))?;
+        let url = copy_of(alloc, self.url_of(finding))?;
+        Ok(Said {
+            message,
+            code,
+            severity: severity_by(self.level_of(finding)),
+            help: None,
+            url,
+        })
+    }
+}
