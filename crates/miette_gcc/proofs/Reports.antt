@@ -57,7 +57,8 @@ module _ (holds : Tree → Type 0) (files : List ℕ → Option Source)
     (each : (d : Data) → holds (diagnostic_tree files d)) where
   trees_hold : (ds : List Data) → All holds (map (diagnostic_tree files) ds)
   trees_hold [] = All-nil holds
-  trees_hold (d ∷ ds) = All-cons holds (diagnostic_tree files d) (map (diagnostic_tree files) ds) (each d) (trees_hold ds)
+  trees_hold (d ∷ ds) =
+      All-cons holds (diagnostic_tree files d) (map (diagnostic_tree files) ds) (each d) (trees_hold ds)
 
   items_hold : (o : Option Items) → Holding holds (option_and_then (λ items. all_trees files (listed items)) o)
   items_hold None = tt

@@ -23,5 +23,6 @@ module _ {V W : Type 0} (look : V → W) (xs : List V) (i : ℕ) (x : V) (h : i 
       ∙ ap (filter_map g) (map-append look (take i xs) (x ∷ []))
       ∙ filter_map-append g (map look (take i xs)) (look x ∷ [])
       in
-      pushed ∙ ap (λ l. l ++ cons_option (g (look x)) []) inv ∙ append_assoc initial before (cons_option (g (look x)) [])
+      pushed ∙ ap (λ l. l ++ cons_option (g (look x)) []) inv
+      ∙ append_assoc initial before (cons_option (g (look x)) [])
       ∙ ap (λ l. initial ++ l) (sym all)

@@ -10,7 +10,8 @@ use Rattle.miette_readers.specs.rules.Members.{objects_at, text_at}
 use Rattle.miette_readers.specs.rules.Places.{Stretch}
 use Rattle.miette_readers.specs.rules.Proposing.{FileEdit, edit_found}
 use Rattle.miette_readers.specs.rules.Rustc.{edits_of, file_name, place_of, told_of}
-use Rattle.miette_readers.specs.rules.RustcReport.{all_found, edit_at, held_in, is_found, is_other_reason, is_other_type}
+use Rattle.miette_readers.specs.rules.RustcReport.{all_found, edit_at, held_in, is_found, is_other_reason}
+use Rattle.miette_readers.specs.rules.RustcReport.{is_other_type}
 use Rattle.miette_readers.specs.rules.RustcReport.{message_tree, offer_by, offer_of, offer_with, offers_of, row_tree}
 use Rattle.miette_readers.specs.rules.RustcReport.{rustc_tree, said_of}
 use Rattle.miette_readers.specs.rules.Settling.{found_place}

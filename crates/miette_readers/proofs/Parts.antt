@@ -7,7 +7,8 @@ use Rattle.std.proofs.lemmas.List.{take_all}
 use Rattle.miette_fixes.specs.declared.applicability.Applicability.{Applicability}
 use Rattle.miette_fixes.specs.rules.ApplyingAll.{conflict}
 use Rattle.miette_fixes.specs.rules.Edits.{Proposal, Replacement}
-use Rattle.miette_readers.specs.rules.Proposing.{FileEdit, Parting, all_parts, begun, fix_by, is_in, with_edit, with_item}
+use Rattle.miette_readers.specs.rules.Proposing.{FileEdit, Parting, all_parts, begun, fix_by, is_in, with_edit}
+use Rattle.miette_readers.specs.rules.Proposing.{with_item}
 use Rattle.miette_readers.specs.rules.Proposing.{without_edits}
 
 abbrev behind : List Proposal → Parting → Parting

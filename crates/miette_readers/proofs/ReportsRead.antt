@@ -1,5 +1,6 @@
 -- Reports of what is told always read, over files that do.
-use Rattle.std.proofs.Common.{◌≡◌, ℕ, ◌+◌, List, [], ◌∷◌, ◌++◌, Option, Some, None, Bool, true, false, All, IfSome, map, option_map}
+use Rattle.std.proofs.Common.{◌≡◌, ℕ, ◌+◌, List, [], ◌∷◌, ◌++◌, Option, Some, None, Bool, true, false, All, IfSome, map}
+use Rattle.std.proofs.Common.{option_map}
 use Rattle.std.specs.Prelude.{⊤, ◌&&◌, ◌||◌, if◌then◌else◌, option_and_then}
 use Rattle.std.specs.List.{cons_option, flat_map, fold, list_any}
 use Rattle.std.proofs.lemmas.List.Elements.{All-nil, All-cons}
@@ -11,7 +12,8 @@ use Rattle.miette_tree.specs.rules.Tree.{Tree, tree, Trees, alone, texts, trees,
 use Rattle.miette_tree.specs.rules.Tree.{with_cause, with_fixes, with_related}
 use Rattle.miette_readers.specs.rules.Places.{Place, Stretch, Told, is_within, joined}
 use Rattle.miette_readers.specs.rules.Proposing.{FileEdit, Offer, edit_found, is_in}
-use Rattle.miette_readers.specs.rules.Reports.{Said, advice, advice_of, further_files, is_main, main_fixes, maybe_source}
+use Rattle.miette_readers.specs.rules.Reports.{Said, advice, advice_of, further_files, is_main, main_fixes}
+use Rattle.miette_readers.specs.rules.Reports.{maybe_source}
 use Rattle.miette_readers.specs.rules.Reports.{others, report_tree, sections_from, told_tree, with_other}
 use Rattle.miette_readers.specs.rules.Settling.{Mark, Settled, found_place, has_no_rows, is_around, is_at, main_of}
 use Rattle.miette_readers.specs.rules.Settling.{marked, maybe_text, newly_marked, nothing_settled, settled, settled_at}

@@ -4,7 +4,7 @@ use Rattle.std.specs.Prelude.{option_and_then, is_none, unwrap_or, map, nat_le, 
 use Rattle.std.specs.List.{flat_map}
 use Rattle.serde_json.specs.Data.{Data}
 use Rattle.miette_protocol.specs.rules.Reading.{Source}
-use Rattle.miette_readers.specs.rules.Members.{object_at, objects_at, said, text_at, whole_at}
+use Rattle.miette_readers.specs.rules.Members.{object_at, objects_at, text_at, whole_at}
 use Rattle.miette_readers.specs.rules.Places.{Stretch, Place, Told}
 use Rattle.miette_readers.specs.rules.Rustc.{maybe_row, label_rows, stretch_from}
 use Rattle.miette_gcc.specs.rules.Lines.{offset_at}

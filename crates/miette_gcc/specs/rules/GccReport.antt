@@ -2,7 +2,7 @@
 use Rattle.std.specs.Prelude.{ℕ, List, [], ◌∷◌, ◌++◌, Option, Some, None, Bool, ◌==◌, if◌then◌else◌, bytes_eq, codes}
 use Rattle.std.specs.Prelude.{option_and_then, option_map, is_none, is_some, unwrap_or, map}
 use Rattle.std.specs.List.{filter_map, fold, list_all, list_any}
-use Rattle.serde_json.specs.Data.{Data, Items}
+use Rattle.serde_json.specs.Data.{Data}
 use Rattle.serde_json.specs.Find.{as_array}
 use Rattle.miette_fixes.specs.declared.applicability.Applicability.TheVariants.{Unspecified}
 use Rattle.miette_protocol.specs.declared.protocol.Severity.{Severity}

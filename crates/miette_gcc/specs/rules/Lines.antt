@@ -1,5 +1,6 @@
 -- Lines and columns as GCC counts them. Lines end as those of pictures do.
-use Rattle.std.specs.Prelude.{ℕ, zero, suc, ◌+◌, List, [], ◌∷◌, Option, Some, None, if◌then◌else◌, length, min, drop, nat_le}
+use Rattle.std.specs.Prelude.{ℕ, zero, suc, ◌+◌, List, [], ◌∷◌, Option, Some, None, if◌then◌else◌, length, min, drop}
+use Rattle.std.specs.Prelude.{nat_le}
 use Rattle.miette_source_lines.specs.rules.Lines.{Line, line_of, line_start, lines_from}
 
 -- the number of the last line, the first with 0: it is empty where a terminator ends the bytes

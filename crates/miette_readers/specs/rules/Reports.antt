@@ -1,5 +1,6 @@
 -- The report of what a message says, tells at places, and proposes.
-use Rattle.std.specs.Prelude.{ℕ, ◌+◌, ◌-◌, List, [], ◌∷◌, ◌++◌, Option, Some, None, Bool, false, ◌||◌, ◌==◌, map, filter}
+use Rattle.std.specs.Prelude.{ℕ, ◌+◌, ◌-◌, List, [], ◌∷◌, ◌++◌, Option, Some, None, Bool, false, ◌||◌, ◌==◌, map}
+use Rattle.std.specs.Prelude.{filter}
 use Rattle.std.specs.Prelude.{if◌then◌else◌, bytes_eq, codes}
 use Rattle.std.specs.List.{flat_map, fold, list_any}
 use Rattle.miette_fixes.specs.rules.Edits.{Proposal}

@@ -1,6 +1,7 @@
 -- The report of a message of rustc or cargo.
 use Rattle.std.specs.Prelude.{ℕ, List, [], ◌∷◌, Option, Some, None, Bool, false, ◌&&◌, ◌||◌, if◌then◌else◌}
-use Rattle.std.specs.Prelude.{option_and_then, option_map, is_none, is_some, unwrap_or, map, filter, bytes_eq, codes, not}
+use Rattle.std.specs.Prelude.{option_and_then, option_map, is_none, is_some, unwrap_or, map, filter, bytes_eq, codes}
+use Rattle.std.specs.Prelude.{not}
 use Rattle.std.specs.List.{filter_map, list_all}
 use Rattle.serde_json.specs.Data.{Data}
 use Rattle.serde_json.specs.Find.{get}

@@ -9,5 +9,6 @@ use Rattle.miette_gcc.proofs.proposals.edits_at.Given as goal
 abbrev pub invariant-loop-fixit : goal.invariant-loop-fixit
 invariant-loop-fixit g l = record {
   all : list_all (is_found (ground_in g.F.Files.found l.ground)) (seen (take l.fixit-index l.fixits)) ≡ true;
-  edits : l.edits.items ≡ filter_map (edit_at (ground_in g.F.Files.found l.ground)) (seen (take l.fixit-index l.fixits));
+  edits : l.edits.items
+      ≡ filter_map (edit_at (ground_in g.F.Files.found l.ground)) (seen (take l.fixit-index l.fixits));
 }

@@ -28,5 +28,6 @@ loop-span-preserved g c =
       all = all_more look c.args.spans.now l.span-index c.span-item.result c.loop-span-test.true c.span-item.is
           (is_found files) l.invariant.all (search rules);
       edits = found_more look c.args.spans.now l.span-index c.span-item.result c.loop-span-test.true c.span-item.is
-          (edit_at files) [] l.edits.items c.push_item.new.list.items c.in-Some.edit found (search rules) l.invariant.edits;
+          (edit_at files) [] l.edits.items c.push_item.new.list.items c.in-Some.edit found (search rules)
+          l.invariant.edits;
     }
