@@ -17,7 +17,7 @@ use crate::job_handler::JobHandler;
 use crate::language::LanguageHighlighter;
 use crate::whole::{read_whole, write_whole};
 use miette::highlight::Highlighter;
-use miette_description::error::BuildError;
+use miette_description::error::DescriptionError;
 use miette_protocol::protocol::Diagnostic;
 use miette_protocol::source::SourceCode;
 use miette_tree::report::Report;
@@ -36,8 +36,8 @@ pub(crate) fn report_of(alloc: Global, bytes: &[u8]) -> Result<Report, Fault>
 {
     match miette_description::report::report_of(alloc, bytes) {
         Ok(report) => Ok(report),
-        Err(BuildError::Memory) => Err(Fault::Memory),
-        Err(BuildError::Description) => Err(Fault::Description),
+        Err(DescriptionError::Memory) => Err(Fault::Memory),
+        Err(DescriptionError::NoJson | DescriptionError::NoReport) => Err(Fault::Description),
     }
 }
 
