@@ -17,3 +17,4 @@ pub mod OptionWordSteps
 pub mod WriteResults
 pub mod FaultRows
 pub mod WholeTexts
+pub mod Descriptions
