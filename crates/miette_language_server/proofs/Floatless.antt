@@ -1,5 +1,5 @@
 -- What the server writes has no fractions, so its text is known byte by byte.
-use Rattle.std.proofs.Common.{◌≡◌, ℕ, ℤ, pos, negsuc, List, [], ◌∷◌, ◌++◌, Bool, true, false, ◌||◌, Option, Some}
+use Rattle.std.proofs.Common.{◌≡◌, ℕ, ℤ, pos, negsuc, List, [], ◌∷◌, ◌++◌, true, false, ◌||◌, Option, Some}
 use Rattle.std.proofs.Common.{None, refl}
 use Rattle.std.proofs.Common.{sym, ap, ◌∙◌, length, map, subst}
 use Rattle.std.specs.Option.{option_and_then, option_map_or}
@@ -7,8 +7,7 @@ use Rattle.std.specs.List.{flat_map}
 use Rattle.std.specs.Prelude.{codes}
 use Rattle.std.proofs.lemmas.Bool.{or_from}
 use Rattle.miette_basics.proofs.Cases.{by_cases}
-use Rattle.serde_json.specs.Data.{Data, Num, array, boolean, float, negative, null, number, object, string, unsigned}
-use Rattle.serde_json.specs.Data.{Items, Members, item, member, no_items, no_members}
+use Rattle.serde_json.specs.Data.{Data, array, boolean, float, negative, null, number, object, string, unsigned}
 use Rattle.serde_json.specs.View.{items_of}
 use Rattle.serde_json.specs.Find.{pointer}
 use Rattle.serde_json.specs.Written.{has_float, items_have_float, members_have_float}
@@ -33,7 +32,7 @@ use Rattle.miette_language_server.specs.rules.Diagnostics.{diagnostic_value, dia
 use Rattle.miette_language_server.specs.rules.Diagnostics.{by_fixes, fixable_value, placed, plain_value}
 use Rattle.miette_language_server.specs.rules.Diagnostics.{published_value, version_members}
 use Rattle.miette_language_server.specs.rules.Documents.{OpenDocument, changed_in, document_in, opened_in, uri_in}
-use Rattle.miette_language_server.specs.rules.Members.{id_alone, id_of, is_id, region_at, text_at}
+use Rattle.miette_language_server.specs.rules.Members.{id_alone, is_id, region_at, text_at}
 use Rattle.miette_language_server.specs.rules.Messages.{answer, error_value, publication, refused, server_value}
 use Rattle.miette_language_server.specs.rules.Session.{Effect, State, actions_value, asked_first, asked_in}
 use Rattle.miette_language_server.specs.rules.Session.{asked_then, called}

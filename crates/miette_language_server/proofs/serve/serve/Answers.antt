@@ -1,4 +1,4 @@
-use Rattle.std.proofs.Common.{Option, Some, None, subst, ℕ}
+use Rattle.std.proofs.Common.{Some, None, subst}
 use Rattle.miette_language_server.specs.views.Served.{IsTurn, Moment}
 use Rattle.miette_language_server.proofs.Turns.{served_whole}
 use Rattle.miette_language_server.proofs.serve.serve.Goals as goal

@@ -1,4 +1,4 @@
-use Rattle.std.proofs.Common.{◌≡◌, List, Option, Some, None, subst, ℕ}
+use Rattle.std.proofs.Common.{Some, subst}
 use Rattle.miette_language_server.specs.declared.session.Outcome.{Outcome}
 use Rattle.miette_language_server.specs.declared.session.Outcome.TheVariants.{Ended, Nothing, Written}
 use Rattle.miette_language_server.specs.rules.Session.{step}
