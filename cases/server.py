@@ -6,6 +6,7 @@
   status are those of a model that was made without the program (server_model.py), message for message.
 - Frames that are broken: without a length, with one that lies, cut off anywhere.
 - Bodies of many bytes, and lengths that no body has: how much memory that takes.
+- A writer and a reader that fail, and each growth of memory refused in turn: what was written before is whole frames.
 - Changes of a document of 1 MB: the time of each, by the processor's clock.
 - Debian's `nvim` without a screen, where it is there: it opens a file, is told what is found, and applies the quick fix
   of all of it; its text is then what `lint --fix` prints.
@@ -20,7 +21,7 @@ import subprocess
 import sys
 import tempfile
 
-from programs import SHOWN, built, counted, program, run
+from programs import SHOWN, built, counted, library_in, program, refusals, run, run_refusing
 from server_model import frame, served
 
 SESSIONS = 400
@@ -57,7 +58,7 @@ def change(dice):
 
 
 def params_of(dice, name):
-    document = {"uri": dice.choice(URIS), "version": dice.choice([1, 2, -3, 2**40])}
+    document = {"uri": dice.choice(URIS), "version": dice.choice([1, 2, -3, 2**40, -(2**63), 2**63])}
     params = {"textDocument": document}
     if name == "textDocument/didOpen":
         document["text"] = text_of(dice, 40)
@@ -72,8 +73,13 @@ def params_of(dice, name):
 
 NOTICES = ["textDocument/didOpen"] * 3 + ["textDocument/didChange"] * 6 + ["textDocument/didSave", "textDocument/didClose"]
 STRANGE = ["$/cancelRequest", "initialized", "workspace/didChangeConfiguration", "textDocument/hover"]
-BAD = [b"", b"{", b"\xff", b"[1,]", b"{\"a\":1}x", b"nul", b"\"\\ud800\"", b"[" * 200 + b"]" * 200, b"1e999"]
-ODD = [b"[]", b"5", b"null", b"{}", b"\"exit\"", b"{\"id\":1,\"result\":null}", b"{\"method\":5,\"id\":2}"]
+# bodies that are no JSON: lone surrogates, numbers that no float holds, and too many levels among them
+BAD = [b"", b"{", b"\xff", b"[1,]", b'{"a":1}x', b"nul", b'"\\ud800"', b"[" * 200 + b"]" * 200, b"1e999", b"\xef\xbb\xbf{}"]
+BAD += [b'{"method":"exit","params":"\\udc00\\ud83d"}', b'{"method":"exit","params":[-1e999]}', b'{"method":"exit",}']
+BAD += [b'{"method":"exit","id":01}', b'{"method":"exit"\x00}', b'{"method":"exit","x":"\n"}', b"[" * 128 + b"]" * 128]
+# bodies that are, but no messages, or odd ones
+ODD = [b"[]", b"5", b"null", b"{}", b'"exit"', b'{"id":1,"result":null}', b'{"method":5,"id":2}', b"[" * 127 + b"]" * 127]
+ODD += [b'{"method":"shut","method":"x","id":-0}', b'{"id":"\\ud83d\\ude00\\u0000","method":"\\u0065xit"}', b" {} \n"]
 
 
 def body(dice, number):
@@ -85,7 +91,8 @@ def body(dice, number):
         return dice.choice(ODD)
     if chance < 0.12:
         name = dice.choice(STRANGE + NOTICES)
-        ident = {"id": dice.choice([number, str(number), 1.5, None, [], -number])} if dice.random() < 0.5 else {}
+        idents = [number, str(number), 1.5, None, [], -number, 2**64 - 1, 2**64, -(2**63), -(2**63) - 1]
+        ident = {"id": dice.choice(idents)} if dice.random() < 0.5 else {}
         return message(name, {}, ident)
     if chance < 0.3:
         name = dice.choice(["textDocument/codeAction"] * 8 + ["initialize", "shutdown"])
@@ -169,6 +176,38 @@ def frames():
     whole = frame(HELLO) + frame(message("shutdown", None, {"id": 1}))
     for cut in range(len(whole)):
         yield f"cut at {cut}", *tried([HELLO] if cut >= len(frame(HELLO)) else [], 80, whole[:cut])
+
+
+def devices():
+    """A writer and a reader that fail."""
+    words = [program("lint"), "--lsp", "80"]
+    with open("/dev/full", "wb") as full:
+        done = subprocess.run(words, input=frame(HELLO), stdout=full, stderr=subprocess.PIPE, timeout=60, check=False)
+    found = done.returncode, done.stderr
+    yield "a writer that fails", found == (2, b"lint: write fault\n"), found
+    reader = os.open("/", os.O_RDONLY)
+    done = subprocess.run(words, stdin=reader, capture_output=True, timeout=60, check=False)
+    os.close(reader)
+    found = done.returncode, done.stdout, done.stderr
+    yield "a reader that fails", found == (2, b"", b"lint: read fault\n"), found
+
+
+def growths():
+    """Each growth of memory refused in turn."""
+    document = {"uri": "file:///a", "version": 1, "text": "a \n"}
+    ranged = {"start": {"line": 0, "character": 0}, "end": {"line": 0, "character": 2}}
+    params = {"textDocument": document, "contentChanges": [{"text": " \tb", "range": ranged}], "range": ranged}
+    names = ("didOpen", "didChange", "codeAction")
+    bodies = [message(f"textDocument/{it}", params, {"id": 1} if it == "codeAction" else {}) for it in names]
+    given = b"".join(map(frame, [HELLO, *bodies, message("shutdown", None, {"id": 2}), message("exit", None, {})]))
+    words = ["lint", "--lsp", "20"]
+    with tempfile.TemporaryDirectory(dir=built("lint")) as folder:
+        library = library_in(folder, "refuse")
+        whole, _ = run_refusing(0, words, given, library)
+        for growth, got, was_refused in refusals(words, given, library):
+            is_begun = whole[1].startswith(got[1]) and read_back(got[1])[1]
+            is_answered = was_refused and is_begun and (got[0], got[2]) == (2, b"lint: out of memory\n")
+            yield f"growth {growth} refused", got == whole or is_answered, got
 
 
 def most_memory(given):
@@ -273,7 +312,7 @@ def editor():
     """A real client."""
     found = shutil.which("nvim")
     if not found:
-        print("skipped: no nvim")
+        print("skipped: the trial with an editor, since there is no nvim")
         return
     with tempfile.TemporaryDirectory(dir=built("lint")) as folder:
         paths = {name: os.path.join(folder, name) for name in ("a.txt", "found", "fixed", "script.lua")}
@@ -298,7 +337,7 @@ def editor():
 
 def main():
     wrong, count = [], 0
-    for part in (sessions, frames, sizes, changes, editor):
+    for part in (sessions, frames, devices, growths, sizes, changes, editor):
         for name, is_well, told in part():
             count += 1
             if not is_well:

@@ -146,9 +146,15 @@ def depth(value):
     return 0 if inner is None else 1 + max(map(depth, inner), default=0)
 
 
+def number_of(text):
+    """An integer of 64 bits, with a sign or without; any other is a fraction."""
+    value = int(text)
+    return float(text) if text == "-0" or not -(2**63) <= value < 2**64 else value
+
+
 def message_of(body):
     """The value that a body is. Lone surrogates, numbers that no float holds, and more than 127 levels are refused."""
-    value = json.loads(body.decode())
+    value = json.loads(body.decode(), parse_int=number_of)
     json.dumps(value, ensure_ascii=False, allow_nan=False).encode()
     if depth(value) > 127:
         raise ValueError("too deep")
@@ -194,7 +200,8 @@ class Server:
     def notice(self, name, params):
         document = at(params, "textDocument")
         uri, version = at(document, "uri"), at(document, "version")
-        version = version if isinstance(version, int) and not isinstance(version, bool) else None
+        is_version = isinstance(version, int) and not isinstance(version, bool) and version < 2**63
+        version = version if is_version else None
         if self.phase != "running" or not isinstance(uri, str):
             return None
         if name == "textDocument/didOpen" and isinstance(at(document, "text"), str):

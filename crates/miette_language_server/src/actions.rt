@@ -66,11 +66,11 @@ fn action_value(
     let edits = edits_value(alloc, source, fix.edits())?;
     let edit = changes_value(alloc, uri, edits)?;
     json!(in alloc; {
+        "edit": edit,
         "title": fix.message(),
         "kind": "quickfix",
         "diagnostics": [diagnostic],
-        "isPreferred": is_sure(fix.applicability()),
-        "edit": edit
+        "isPreferred": is_sure(fix.applicability())
     })
 }
 
@@ -95,7 +95,7 @@ fn joint_value(
     let edits = edits_value(alloc, source, fix.edits())?;
     let edit = changes_value(alloc, uri, edits)?;
     let title = joint_title(alloc, fix)?;
-    json!(in alloc; {"title": title, "kind": "quickfix", "edit": edit})
+    json!(in alloc; {"edit": edit, "title": title, "kind": "quickfix"})
 }
 
 // These fixes of what a diagnostic tells.

@@ -81,11 +81,11 @@ fn fixable_value(
     let fixes = fixes_value(alloc, uri, source, found.fixes.as_slice())?;
     json!(in alloc; {
         "range": range,
+        "data": fixes,
         "severity": 2u8,
         "code": found.code,
         "source": "lint",
-        "message": message(&found.label),
-        "data": fixes
+        "message": message(&found.label)
     })
 }
 
@@ -159,8 +159,8 @@ pub(crate) fn published_value(
     ensures { IfOk result (λ value. view value ≡ published_value uri.now version (map view list.items)) }
 {
     match version {
-        Some(version) => json!(in alloc; {"uri": uri, "version": version, "diagnostics": list}),
-        None => json!(in alloc; {"uri": uri, "diagnostics": list}),
+        Some(version) => json!(in alloc; {"diagnostics": list, "uri": uri, "version": version}),
+        None => json!(in alloc; {"diagnostics": list, "uri": uri}),
     }
 }
 

@@ -53,7 +53,7 @@ impl Refusal {
 pub(crate) fn answer(alloc: Global, id: &Value, given: Value) -> Result<Value, AllocError>
     ensures { IfOk result (λ value. view value ≡ answer (view id.now) (view given)) }
 {
-    json!(in alloc; {"jsonrpc": "2.0", "id": id, "result": given})
+    json!(in alloc; {"result": given, "jsonrpc": "2.0", "id": id})
 }
 
 // What an error is.
@@ -68,7 +68,7 @@ pub(crate) fn refused(alloc: Global, id: &Value, why: Refusal) -> Result<Value, 
     ensures { IfOk result (λ value. view value ≡ refused (view id.now) why) }
 {
     let error = error_value(alloc, why)?;
-    json!(in alloc; {"jsonrpc": "2.0", "id": id, "error": error})
+    json!(in alloc; {"error": error, "jsonrpc": "2.0", "id": id})
 }
 
 /// A notification of diagnostics.
@@ -76,9 +76,9 @@ pub(crate) fn publication(alloc: Global, params: Value) -> Result<Value, AllocEr
     ensures { IfOk result (λ value. view value ≡ publication (view params)) }
 {
     json!(in alloc; {
+        "params": params,
         "jsonrpc": "2.0",
-        "method": "textDocument/publishDiagnostics",
-        "params": params
+        "method": "textDocument/publishDiagnostics"
     })
 }
 
@@ -103,9 +103,9 @@ fn capabilities(alloc: Global) -> Result<Value, AllocError>
     let sync = sync_value(alloc)?;
     let actions = actions_kinds(alloc)?;
     json!(in alloc; {
-        "positionEncoding": "utf-16",
         "textDocumentSync": sync,
-        "codeActionProvider": actions
+        "codeActionProvider": actions,
+        "positionEncoding": "utf-16"
     })
 }
 

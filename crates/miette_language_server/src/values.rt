@@ -80,9 +80,9 @@ pub(crate) fn fix_value(
 {
     let edits = edits_value(alloc, source, fix.edits())?;
     json!(in alloc; {
+        "edits": edits,
         "title": fix.message(),
         "applicability": fix.applicability().name(),
-        "uri": uri,
-        "edits": edits
+        "uri": uri
     })
 }
