@@ -103,7 +103,10 @@ impl Program {
                 "lint",
                 "[--brief | --github | --fix | --diff | --sarif [--tool TOOL]] NAME WIDTH | --lsp WIDTH",
             ),
-            Program::Show => ("show", "[--from auto|rustc|gcc|sarif] [--root DIR] [OPTIONS]"),
+            Program::Show => (
+                "show",
+                "[--from auto|rustc|gcc|sarif] [--root DIR] [OPTIONS]",
+            ),
         }
     }
 
