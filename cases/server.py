@@ -25,7 +25,7 @@ from programs import SHOWN, built, counted, library_in, program, refusals, run, 
 from server_model import frame, served
 
 SESSIONS = 400
-CHANGES, ROUND = 120, 20
+CHANGES, ROUND = 120, 10
 # how much processor time a change of 1 MB may take, and how much memory a body that isn't there, in bytes
 MOST_SECONDS, MOST_MEMORY = 0.05, 64_000_000
 PIECES = ["a", "be", " ", "\t", "  \t", "é", "漢字", "😀", "e\u0301", "\n", "\r\n", "\r", "\ufeff", "=1;", " \n", "x" * 30]
