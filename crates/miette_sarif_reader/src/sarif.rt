@@ -23,7 +23,7 @@ use serde_json::Value;
 use std::alloc::{AllocError, Global};
 
 /// Whether a value has a list of runs.
-fn has_runs(value: &Value) -> bool
+pub fn has_runs(value: &Value) -> bool
     ensures { result ≡ has_runs (view value.now) }
 {
     match found_at(value, "runs") {
