@@ -5,8 +5,8 @@ ghost use Rattle.std.specs.Option.{option_copied};
 ghost use Rattle.serde_json.specs.View.{view};
 ghost use Rattle.miette_readers.specs.views.Values.{seen};
 ghost use Rattle.miette_sarif_reader.specs.rules.Logs.{driver_of, ground_of, rules_by};
-ghost use Rattle.miette_sarif_reader.specs.rules.Results.{has_id, index_told, is_extended, item_at, rule_id, rule_index};
-ghost use Rattle.miette_sarif_reader.specs.rules.Results.{rule_named, rule_of, rule_told};
+ghost use Rattle.miette_sarif_reader.specs.rules.Results.{has_id, index_told, is_extended, item_at, rule_id};
+ghost use Rattle.miette_sarif_reader.specs.rules.Results.{rule_index, rule_named, rule_of, rule_told};
 ghost use Rattle.miette_sarif_reader.specs.views.Grounds.{ground_in};
 
 use crate::regions::encoding_of;

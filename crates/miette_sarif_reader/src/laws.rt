@@ -1,5 +1,5 @@
-//! What holds of the reports of all logs. Each law is the contract of a function that does nothing; a caller cites it by
-//! calling it.
+//! What holds of the reports of all logs. Each law is the contract of a function that does nothing; a caller cites it
+//! by calling it.
 
 ghost use Rattle.std.specs.Prelude.{◌≡◌, ℕ, List, Option, All, IfSome, true};
 ghost use Rattle.std.specs.List.{Contains};

@@ -8,7 +8,8 @@ pub returns-clause-start : goal.returns-clause-start
 returns-clause-start c =
     let bytes = c.args.source.now in
     let size = length c.bytes-size.result.now in
-    let whole : line_of bytes size ≡ last_line bytes = ap (λ (b : List ℕ). line_of bytes (length b)) c.bytes-size.ensures in
+    let whole : line_of bytes size ≡ last_line bytes =
+    ap (λ (b : List ℕ). line_of bytes (length b)) c.bytes-size.ensures in
     let back : line_of bytes size - (c.line_of-last.result.0 - c.args.line) ≡ c.args.line =
     omega (arith, whole, c.line_of-last.ensures.line, c.requires) in
     c.start_before.ensures.start ∙ ap (line_start bytes) back

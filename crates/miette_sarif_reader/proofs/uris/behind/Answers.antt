@@ -1,5 +1,5 @@
-use Rattle.std.proofs.Common.{◌≡◌, ℕ, List, Bor, Option, Some, None, MatchOption, eqb, drop, length, sym, subst, ap, ◌∙◌}
-use Rattle.std.proofs.Common.{IsCharBoundary, false, true}
+use Rattle.std.proofs.Common.{◌≡◌, ℕ, List, Bor, Option, Some, None, MatchOption, eqb, drop, length, sym, subst, ap}
+use Rattle.std.proofs.Common.{◌∙◌, IsCharBoundary, false, true}
 use Rattle.std.specs.Prelude.{if◌then◌else◌}
 use Rattle.std.specs.List.{starts_with}
 use Rattle.std.specs.Option.{option_copied}
