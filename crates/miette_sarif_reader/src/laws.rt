@@ -29,6 +29,6 @@ pub fn labels_are_accepted()
 /// Nothing is lost of what a result tells at places, whatever files are found: each row of its locations and of the
 /// related ones is a part of a label's text or of a cause text of its report.
 pub fn rows_are_kept()
-    ensures { (ground : Ground) (r : Data) (t : Told) (row : List ℕ)
-        → Contains (told_of ground r) t → Contains t.rows row → IsKept (result_tree ground r) row }
+    ensures { (g : Ground) (r : Data) (t : Told) (row : List ℕ)
+        → Contains (told_of g r) t → Contains t.rows row → IsKept (result_tree g r) row }
 {}
