@@ -106,7 +106,6 @@ class Run:
         own = [self.told(it, number == 0, True) for number, it in enumerate(objects(result, "locations"))]
         return own + [self.told(it, True, False) for it in objects(result, "relatedLocations")]
 
-
     def edits(self, fix):
         """The edits of a proposal, as spans and texts."""
         for change in objects(fix, "artifactChanges"):
@@ -137,7 +136,7 @@ def words(texts):
     """What a proposal says that isn't described."""
     if len(texts) != 1:
         return "make these changes" if texts else ""
-    return f"write `{texts[0]}`" if texts[0] else "delete this"
+    return "write `" + texts[0].removesuffix("\n") + "`" if texts[0] else "delete this"
 
 
 # ---- reports

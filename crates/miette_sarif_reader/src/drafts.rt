@@ -6,9 +6,8 @@ ghost use Rattle.std.specs.Option.{option_copied};
 ghost use Rattle.serde_json.specs.View.{view};
 ghost use Rattle.miette_readers.specs.views.Values.{seen};
 ghost use Rattle.miette_sarif_reader.specs.rules.Proposals.{change_edits, change_name, description, draft_of};
-ghost use Rattle.miette_sarif_reader.specs.rules.Proposals.{drafts_of, edit_words, edits_of, new_text, place_by};
-ghost use Rattle.miette_sarif_reader.specs.rules.Proposals.{replaced_in};
-ghost use Rattle.miette_sarif_reader.specs.rules.Proposals.{words_by};
+ghost use Rattle.miette_sarif_reader.specs.rules.Proposals.{drafts_of, edits_of, new_text, place_by};
+ghost use Rattle.miette_sarif_reader.specs.rules.Proposals.{replaced_in, words_by};
 ghost use Rattle.miette_sarif_reader.specs.views.Grounds.{ground_in};
 
 use crate::ground::Ground;
@@ -18,6 +17,7 @@ use crate::uris::name_of;
 use miette_readers::files::Files;
 use miette_readers::lists::push_item;
 use miette_readers::members::{object_at, objects_at, text_at};
+use miette_readers::wording::edit_words;
 use serde_json::Value;
 use std::alloc::{AllocError, Global};
 use std::marker::Model;
@@ -62,19 +62,6 @@ fn new_text(replacement: &Value) -> &str
         Some(content) => text_at(content, "text").unwrap_or(""),
         None => "",
     }
-}
-
-/// What to do, where one edit is proposed.
-fn edit_words(alloc: Global, text: &str) -> Result<String, AllocError>
-    ensures { IfOk result (λ words. string_bytes words ≡ edit_words text.now) }
-{
-    if text.is_empty() {
-        return String::from_str(alloc, "delete this");
-    }
-    let mut words = String::from_str(alloc, "write `")?;
-    words.push_str(text)?;
-    words.push_str("`")?;
-    Ok(words)
 }
 
 /// What to do, by these edits.

@@ -1,5 +1,5 @@
 -- What a result of a SARIF log proposes.
-use Rattle.std.specs.Prelude.{ℕ, List, [], ◌∷◌, ◌++◌, Option, Some, None, Bool, if◌then◌else◌, codes, is_none}
+use Rattle.std.specs.Prelude.{ℕ, List, [], ◌∷◌, Option, Some, None, Bool, if◌then◌else◌, codes, is_none}
 use Rattle.std.specs.Prelude.{is_some, map, option_and_then, option_map, unwrap_or}
 use Rattle.std.specs.List.{filter_map, flat_map, fold, list_all}
 use Rattle.serde_json.specs.Data.{Data}
@@ -9,6 +9,7 @@ use Rattle.miette_readers.specs.rules.Members.{object_at, objects_at, said, text
 use Rattle.miette_readers.specs.rules.Places.{Place, joined}
 use Rattle.miette_readers.specs.rules.Proposing.{FileEdit, Offer, edit_found}
 use Rattle.miette_readers.specs.rules.Settling.{found_place, with_row}
+use Rattle.miette_readers.specs.rules.Wording.{edit_words}
 use Rattle.miette_sarif_reader.specs.rules.Results.{Ground, message_text, place_in, uri_at}
 use Rattle.miette_sarif_reader.specs.rules.Uris.{name_of}
 
@@ -46,10 +47,6 @@ abbrev pub edits_of : Ground → Data → List (Place × List ℕ)
 edits_of g f = flat_map (change_edits g) (objects_at (codes "artifactChanges") f)
 
 -- ---- its words
-
-abbrev pub edit_words : List ℕ → List ℕ
-edit_words [] = codes "delete this"
-edit_words (b ∷ bs) = codes "write `" ++ ((b ∷ bs) ++ codes "`")
 
 -- what it says where it isn't described
 abbrev pub words_by : List (Place × List ℕ) → List ℕ
