@@ -73,7 +73,7 @@ class Run:
         if index is not None and member(named, "toolComponent", dict) is None and index < len(self.rules):
             return self.rules[index]
         wanted = rule_id(result)
-        return next((it for it in self.rules if wanted is not None and member(it, "id", str) == wanted), None)
+        return next((it for it in self.rules if text(it, "id") == wanted), None)
 
     def level(self, result):
         said = member(result, "level", str)
