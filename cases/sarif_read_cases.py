@@ -56,9 +56,9 @@ def sources_in(value):
 
 
 def write(folder, name, text):
-    """Writes a file below a folder, unless its name leads out of it."""
+    """Writes a file below a folder, unless its name leads out of it or isn't that of its path."""
     path = os.path.join(folder, name)
-    if name.startswith("/"):
+    if os.path.normpath(name) != name or name.startswith("/"):
         return
     with contextlib.suppress(FileExistsError, NotADirectoryError, IsADirectoryError):
         os.makedirs(os.path.dirname(path), exist_ok=True)
