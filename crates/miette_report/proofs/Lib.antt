@@ -9,6 +9,7 @@ pub mod JobHandlerSteps
 pub mod AcceptedFindings
 pub mod LintDiffSteps
 pub mod LintFixSteps
+pub mod LintServerSteps
 pub mod LintSteps
 pub mod CommandSteps
 pub mod LogSteps
@@ -17,3 +18,4 @@ pub mod OptionWordSteps
 pub mod WriteResults
 pub mod FaultRows
 pub mod WholeTexts
+pub mod Descriptions

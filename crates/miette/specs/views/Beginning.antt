@@ -16,3 +16,9 @@ abbrev pub IsBegunFor : {H W F : Type 0} → (Variables → Type 0) → Stream �
 IsBegunFor {H} is_told stream form o outputs it =
     (v : Variables) × (terminal : Terminal) × is_told v × IsDetected v stream terminal
     × IsChosenInForm form o terminal it.handler × (it ≡ new_run it.handler outputs form)
+
+-- the same of a run over some streams
+abbrev pub IsBegun : {H W F : Type 0} → (Variables → Type 0) → Stream → Form → Options H → Run (FormHandler H) W F
+    → Type 0
+IsBegun {W = W} {F = F} is_told stream form o it =
+    (outputs : Outputs W F) × IsBegunFor is_told stream form o outputs it

@@ -2,7 +2,7 @@
 
 ghost use Rattle.std.specs.Prelude.{IfOk};
 ghost use Rattle.miette.specs.rules.Detection.{IsToldBy};
-ghost use Rattle.miette.specs.views.Beginning.{IsBegunFor};
+ghost use Rattle.miette.specs.views.Beginning.{IsBegun, IsBegunFor};
 
 use crate::options::MietteHandlerOpts;
 use crate::print::Outputs;
@@ -22,7 +22,10 @@ impl<H: Highlighter, W: Drop, F: Drop> Reporter<FormHandler<H>, W, F> {
         rt: &R,
         form: Form,
         options: MietteHandlerOpts<H>,
-    ) -> Result<Self, AllocError> {
+    ) -> Result<Self, AllocError>
+        ensures { IfOk result (λ it. IsBegun (IsToldBy (R.variable_may_be rt.now) (R.terminal_may_be rt.now))
+            Stream.Stdout form options it) }
+    {
         let outputs = Outputs::new(rt.output(), rt.faults());
         Reporter::begun_on(rt, Stream::Stdout, form, options, outputs)
     }
@@ -56,7 +59,10 @@ impl<H: Highlighter, F: Drop> Reporter<FormHandler<H>, F, F> {
         rt: &R,
         form: Form,
         options: MietteHandlerOpts<H>,
-    ) -> Result<Self, AllocError> {
+    ) -> Result<Self, AllocError>
+        ensures { IfOk result (λ it. IsBegun (IsToldBy (R.variable_may_be rt.now) (R.terminal_may_be rt.now))
+            Stream.Stderr form options it) }
+    {
         let outputs = Outputs::new(rt.faults(), rt.faults());
         Reporter::begun_on(rt, Stream::Stderr, form, options, outputs)
     }
