@@ -6,23 +6,12 @@ ghost use Rattle.miette_description.specs.declared.error.BuildError.TheVariants.
 use json::Invalid;
 use std::alloc::AllocError;
 
-/// Why bytes give no report.
+/// Why no report was built.
 #[derive(Clone, Copy, Debug, PartialEq, Eq)]
-pub enum DescriptionError {
+pub enum BuildError {
     /// Memory was refused.
     Memory,
-    /// The bytes are no text in UTF-8, or none from which a JSON value is read.
-    NoJson,
-    /// They are JSON, and describe no report.
-    NoReport,
-}
-
-/// Why a part of the work isn't done.
-#[derive(Clone, Copy, Debug, PartialEq, Eq)]
-pub(crate) enum BuildError {
-    /// Memory was refused.
-    Memory,
-    /// What was read isn't what this part asks for.
+    /// What was read describes no report.
     Description,
 }
 

@@ -1,9 +1,10 @@
 //! The report that a description asks for.
 
-ghost use Rattle.std.specs.Prelude.{◌≡◌, [], Option, Some, None, IfOk, IsSome, IsUtf8, option_map, unwrap_or, map};
-ghost use Rattle.std.specs.Prelude.{string_bytes, codes};
+ghost use Rattle.std.specs.Prelude.{◌≡◌, [], Option, Some, None, IfOk, OnOk, IfSome, IsSome, IsUtf8, false};
+ghost use Rattle.std.specs.Prelude.{option_and_then, option_map, unwrap_or, map, string_bytes, codes};
+ghost use Rattle.json.specs.Value.{value_view};
 ghost use Rattle.serde_json.specs.Find.{as_str};
-ghost use Rattle.serde_json.specs.Read.{read};
+ghost use Rattle.serde_json.specs.Read.{read, of_json};
 ghost use Rattle.serde_json.specs.Written.{has_float};
 ghost use Rattle.miette_description.specs.steps.ParsedValues.{value_data, list_data};
 ghost use Rattle.miette_tree.specs.rules.Tree.{Tree, Trees, cause_of, texts, trees, with_cause};
@@ -14,82 +15,94 @@ ghost use Rattle.miette_description.specs.rules.Members.{diagnosis_in};
 ghost use Rattle.miette_tree.specs.views.Owned.{owned_source};
 ghost use Rattle.miette_description.specs.rules.Description.{one_cause, wrapped_in, tree_of_parts, report_in};
 ghost use Rattle.miette_description.specs.rules.Description.{described_tree, report_from, reports_in, tree_for};
-ghost use Rattle.miette_description.specs.rules.Description.{IsNoJson, IsNoReport};
 ghost use Rattle.miette_description.specs.steps.OptionalParts.{said_of, maybe_sourced, maybe_related};
 
-use crate::error::{BuildError, Built, DescriptionError};
+use crate::error::{BuildError, Built};
 use crate::further::{Said, report_saying, said_from};
 use crate::json_values::{list_in, member_at};
+use crate::numbers::{is_whole, value_has_float};
 use crate::parts::{push_texts, source_at, texts_at};
-use crate::reading::json_of;
-use json::{Scratch, Value};
+use crate::reading::read_value;
+use json::{Reader, Scratch, Value};
 use miette_protocol::protocol::Diagnostic;
 use miette_protocol::source::SourceCode;
 use miette_tree::parts::cause_texts;
 use miette_tree::report::{OwnedSource, Report};
 use std::alloc::Global;
 
-/// The report that a parsed text describes, by whether its value has a number that is neither a `u64` nor an `i64`:
-/// then there is none.
-fn described<D: Diagnostic, S: SourceCode>(
-    alloc: Global,
-    value: &Value<'_>,
-    other: bool,
-) -> Built<Report<D, S>>
-    requires { has_float (value_data value.now) ≡ other }
-    ensures ok { IfOk result (λ r. described_tree (value_data value.now) ≡ Some (tree_of D.meaning S.source r)) }
-    ensures sources { IfOk result (λ r. AlwaysReads (tree_of D.meaning S.source r)) }
-    ensures description { (result ≡ Err BuildError.Description) → described_tree (value_data value.now) ≡ None }
+// How deep a text may nest.
+const DEPTH: usize = 127;
+
+/// The parsed text, at most 127 deep.
+fn value_of<'a>(alloc: Global, text: &'a str, scratch: &'a mut Scratch) -> Built<Value<'a>>
+    ensures ok { IfOk result (λ v. read text.now ≡ of_json (value_view v)) }
+    ensures description { (result ≡ Err BuildError.Description) → read text.now ≡ None }
 {
-    if other {
-        return Err(BuildError::Description);
+    let mut reader = Reader::new(text, scratch)?;
+    let value = read_value(alloc, &mut reader, DEPTH)?;
+    match reader.next() {
+        None => Ok(value),
+        Some(_) => Err(BuildError::Description),
     }
-    let report = report_from(alloc, value)?;
-    Ok(Box::into_inner(report))
 }
 
-/// The report that a text describes.
-fn report_in_text<D: Diagnostic, S: SourceCode>(
-    alloc: Global,
-    text: &str,
-) -> Result<Report<D, S>, DescriptionError>
-    ensures ok { IfOk result (λ r. tree_for text.now ≡ Some (tree_of D.meaning S.source r)) }
-    ensures sources { IfOk result (λ r. AlwaysReads (tree_of D.meaning S.source r)) }
-    ensures no_json { (result ≡ Err DescriptionError.NoJson) → read text.now ≡ None }
-    ensures no_report { (result ≡ Err DescriptionError.NoReport) →
-        IsSome (read text.now) × (tree_for text.now ≡ None) }
+/// Whether the JSON value of a text has a number that is neither a `u64` nor an `i64`.
+fn text_has_float(alloc: Global, text: &str) -> Built<bool>
+    ensures ok { IfOk result (λ b. IfSome (read text.now) (λ d. b ≡ has_float d)) }
+    ensures some { OnOk result (IsSome (read text.now)) }
+    ensures description { (result ≡ Err BuildError.Description) → read text.now ≡ None }
 {
-    let mut scratch = Scratch::new(alloc);
-    let (value, other) = match json_of(alloc, text, &mut scratch) {
-        Ok(json) => json,
-        Err(BuildError::Memory) => return Err(DescriptionError::Memory),
-        Err(BuildError::Description) => return Err(DescriptionError::NoJson),
-    };
-    match described(alloc, &value, other) {
-        Ok(report) => Ok(report),
-        Err(BuildError::Memory) => Err(DescriptionError::Memory),
-        Err(BuildError::Description) => Err(DescriptionError::NoReport),
+    match serde_json::Value::from_str(alloc, text) {
+        Ok(value) => Ok(value_has_float(&value)),
+        Err(e) => {
+            if e.is_memory() {
+                Err(BuildError::Memory)
+            } else {
+                Err(BuildError::Description)
+            }
+        }
     }
+}
+
+/// Refuses a text whose value has a number that is neither a `u64` nor an `i64`, and one with a number that is too
+/// large for any. Where each number is a `u64` the parsed text shows it. Otherwise the whole value is made: in the
+/// parsed text there may be numbers that a later value of their key hides.
+fn refuse_float(alloc: Global, text: &str, value: &Value<'_>) -> Built<()>
+    requires { read text.now ≡ of_json (value_view value.now) }
+    ensures ok { OnOk result ((read text.now ≡ Some (value_data value.now))
+        × (has_float (value_data value.now) ≡ false)) }
+    ensures description { (result ≡ Err BuildError.Description) →
+        option_and_then described_tree (read text.now) ≡ None }
+{
+    if is_whole(value) {
+        return Ok(());
+    }
+    if text_has_float(alloc, text)? {
+        return Err(BuildError::Description);
+    }
+    Ok(())
 }
 
 /// The report that a text describes, for boxes of any kind. Its sources always read.
 ///
 /// # Errors
-/// `NoJson` where the bytes are no text in UTF-8, or none from which a JSON value is read; `NoReport` where that value
-/// describes no report; `Memory` where none is found.
+/// `Description` where the bytes are no text in UTF-8 or describe no report, and `Memory` where none is found.
 pub fn report_of<D: Diagnostic, S: SourceCode>(
     alloc: Global,
     bytes: &[u8],
-) -> Result<Report<D, S>, DescriptionError>
+) -> Result<Report<D, S>, BuildError>
     ensures ok { IfOk result (λ r. IsUtf8 bytes.now × (tree_for bytes.now ≡ Some (tree_of D.meaning S.source r))) }
     ensures sources { IfOk result (λ r. AlwaysReads (tree_of D.meaning S.source r)) }
-    ensures no_json { (result ≡ Err DescriptionError.NoJson) → IsNoJson bytes.now }
-    ensures no_report { (result ≡ Err DescriptionError.NoReport) → IsNoReport bytes.now }
+    ensures description { (result ≡ Err BuildError.Description) → IsUtf8 bytes.now → tree_for bytes.now ≡ None }
 {
-    match str::from_utf8(bytes) {
-        Ok(text) => report_in_text(alloc, text),
-        Err(_) => Err(DescriptionError::NoJson),
-    }
+    let Ok(text) = str::from_utf8(bytes) else {
+        return Err(BuildError::Description);
+    };
+    let mut scratch = Scratch::new(alloc);
+    let value = value_of(alloc, text, &mut scratch)?;
+    refuse_float(alloc, text, &value)?;
+    let report = report_from(alloc, &value)?;
+    Ok(Box::into_inner(report))
 }
 
 /// What a description says of the cause: a description of its own, texts, or both, which is refused.

@@ -18,4 +18,3 @@ pub mod OptionWordSteps
 pub mod WriteResults
 pub mod FaultRows
 pub mod WholeTexts
-pub mod Descriptions

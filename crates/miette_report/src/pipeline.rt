@@ -17,15 +17,14 @@ use crate::job_handler::JobHandler;
 use crate::language::LanguageHighlighter;
 use crate::whole::{read_whole, write_whole};
 use miette::highlight::Highlighter;
-use miette_description::error::DescriptionError;
+use miette_description::error::BuildError;
 use miette_protocol::protocol::Diagnostic;
 use miette_protocol::source::SourceCode;
 use miette_tree::report::Report;
 use std::alloc::Global;
 use std::io::{Read, Write};
 
-/// The report that the bytes describe. Why they describe none isn't told further.
-#[tactic(auto, using(crate::proofs::Descriptions::no_json, crate::proofs::Descriptions::no_report))]
+/// The report that the bytes describe.
 pub(crate) fn report_of(alloc: Global, bytes: &[u8]) -> Result<Report, Fault>
     ensures ok { IfOk result (λ r. IsUtf8 bytes.now
         × (tree_for bytes.now ≡ Some (tree_of ⟦<Box<dyn Diagnostic> as Diagnostic>⟧.meaning
@@ -37,9 +36,8 @@ pub(crate) fn report_of(alloc: Global, bytes: &[u8]) -> Result<Report, Fault>
 {
     match miette_description::report::report_of(alloc, bytes) {
         Ok(report) => Ok(report),
-        Err(DescriptionError::Memory) => Err(Fault::Memory),
-        Err(DescriptionError::NoJson) => Err(Fault::Description),
-        Err(DescriptionError::NoReport) => Err(Fault::Description),
+        Err(BuildError::Memory) => Err(Fault::Memory),
+        Err(BuildError::Description) => Err(Fault::Description),
     }
 }
 

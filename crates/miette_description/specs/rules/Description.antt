@@ -1,7 +1,7 @@
 -- The tree of reports that a JSON value describes, where it describes one. Other keys than those that are looked up
 -- are ignored.
-use Rattle.std.specs.Prelude.{◌≡◌, ℕ, List, [], ◌∷◌, Option, Some, None, IsSome, IsUtf8, option_and_then, option_map}
-use Rattle.std.specs.Prelude.{is_some, unwrap_or, if◌then◌else◌, codes}
+use Rattle.std.specs.Prelude.{ℕ, List, [], ◌∷◌, Option, Some, None, option_and_then, option_map, is_some, unwrap_or}
+use Rattle.std.specs.Prelude.{if◌then◌else◌, codes}
 use Rattle.std.specs.Ordering.{nat_cmp, match_ordering}
 use Rattle.std.specs.Cmp.Lexicographic.{slice_cmp}
 use Rattle.serde_json.specs.Data.{Data, null, boolean, number, string, array, object, Items, no_items, item, Members}
@@ -87,11 +87,3 @@ described_tree d = if has_float d then None else report_in d
 -- the tree that the bytes describe, by the JSON value that is read from them (at most 127 deep)
 abbrev pub tree_for : List ℕ → Option Tree
 tree_for bytes = option_and_then described_tree (read bytes)
-
--- why bytes describe nothing: they are no text in UTF-8, or one from which no value is read; or else that value isn't a
--- description
-abbrev pub IsNoJson : List ℕ → Type 0
-IsNoJson bytes = IsUtf8 bytes → read bytes ≡ None
-
-abbrev pub IsNoReport : List ℕ → Type 0
-IsNoReport bytes = IsUtf8 bytes × IsSome (read bytes) × (tree_for bytes ≡ None)
