@@ -3,19 +3,21 @@
 
 pub mod files;
 pub mod laws;
+pub mod line_starts;
 pub mod lists;
 pub mod members;
 pub mod names;
-mod offering;
+pub mod offering;
 pub mod offers;
 pub mod place;
-mod proposals;
+pub mod proposals;
 pub mod reports;
 pub mod rows;
 pub mod rustc;
 mod saying;
 mod settle;
 mod settling;
-mod spans;
+pub mod spans;
 pub mod table;
 mod telling;
+pub mod wording;

@@ -1,14 +1,15 @@
 //! Files that are looked for as rows name them.
 
-ghost use Rattle.std.specs.Prelude.{◌≡◌, ℕ, List, OnOk};
+ghost use Rattle.std.specs.Prelude.{◌≡◌, ℕ, List, OnOk, map, string_bytes};
 ghost use Rattle.std.specs.List.{All};
 ghost use Rattle.serde_json.specs.View.{view};
-ghost use Rattle.miette_readers.specs.rules.Names.{names_of};
 ghost use Rattle.miette_readers.specs.views.Values.{texts};
 ghost use Rattle.miette_show.specs.rules.Looking.{Goes};
+ghost use Rattle.miette_show.specs.rules.Shown.{all_names};
 
 use miette_readers::files::Files;
 use miette_readers::names::file_names;
+use miette_sarif_reader::names::file_names as names_in_log;
 use serde_json::Value;
 use std::alloc::{AllocError, Global};
 
@@ -41,15 +42,28 @@ fn load_names<F: Loader>(alloc: Global, files: &mut F, names: &[&str]) -> Result
     Ok(())
 }
 
+/// Looks for the files of these names, which are held.
+fn load_held<F: Loader>(alloc: Global, files: &mut F, names: &[String]) -> Result<(), AllocError>
+    ensures known { OnOk result (All (F.knows files.new) (map string_bytes names.now)) }
+    ensures goes { Goes (F.found files.old) (F.knows files.old) (F.found files.new) (F.knows files.new) }
+{
+    for name in names {
+        files.load(alloc, name.as_str())?;
+    }
+    Ok(())
+}
+
 /// Looks for all files that a row speaks of.
 pub(crate) fn load_all<F: Loader>(
     alloc: Global,
     files: &mut F,
     row: &Value,
 ) -> Result<(), AllocError>
-    ensures known { OnOk result (All (F.knows files.new) (names_of (view row.now))) }
+    ensures known { OnOk result (All (F.knows files.new) (all_names (view row.now))) }
     ensures goes { Goes (F.found files.old) (F.knows files.old) (F.found files.new) (F.knows files.new) }
 {
     let names = file_names(alloc, row)?;
-    load_names(alloc, files, names.as_slice())
+    load_names(alloc, files, names.as_slice())?;
+    let held = names_in_log(alloc, row)?;
+    load_held(alloc, files, held.as_slice())
 }
