@@ -254,8 +254,9 @@ def path_of(file, text, number):
         first, _, last = owner_of(text, its)[1].partition(" for ")
         if last and ("<" in first or re.match(r"(?:Box|Vec|Option|Result)<|[&(\[]", last.strip())):
             return module_of(file)
-        # the name of a method of a type at types of its own, as in `impl Cell<u8>`, has these types
-        if not last and "<" in first and not has_parameters(text, its):
+        # the name of a method of a type at types of its own, as in `impl Cell<u8>` or `impl<T> Run<Cell<T>>`, has these
+        _, _, types = first.partition("<")
+        if not last and types and ("<" in types or not has_parameters(text, its)):
             return module_of(file)
     return name_of(file, text, number)
 
