@@ -1,10 +1,11 @@
 """gcc_cases.py: what GCC 12.2 wrote of a few programs (`gcc/`, by `-fdiagnostics-format=json`, with `-Wall -Wextra` or
 `-fanalyzer`), as it is and changed: what show.py runs the program `show` on."""
-import copy
 import json
 import os
 import random
+from functools import partial
 
+from json_changes import changed
 from programs import HERE
 
 FOLDER = os.path.join(HERE, "gcc")
@@ -32,14 +33,6 @@ def cut(name):
     return b"".join(row[:end] + b"\n" for end in range(1, len(row), 50))
 
 
-def places(value, path=()):
-    """Where a value has members and items."""
-    keys = list(value) if isinstance(value, dict) else range(len(value)) if isinstance(value, list) else []
-    for key in keys:
-        yield path + (key,)
-        yield from places(value[key], path + (key,))
-
-
 def other_value(dice, key, old):
     """A value in place of another one."""
     near = [max(0, old - 2), old + 1, old + 30] if isinstance(old, int) else []
@@ -58,29 +51,16 @@ def other_value(dice, key, old):
     return dice.choice(given.get(key, [None, 7, "s", [], {}]))
 
 
-def changed(dice, diagnostic):
-    """A diagnostic with a few members or items removed, or of other values and types."""
-    diagnostic = copy.deepcopy(diagnostic)
-    for _ in range(dice.choice([1, 1, 2, 3])):
-        every = [it for it in places(diagnostic) if it[0] in READ]
-        if not every:
-            break
-        key = dice.choice(sorted({str(it[-1]) for it in every}))
-        *path, last = dice.choice([it for it in every if str(it[-1]) == key])
-        at = diagnostic
-        for step in path:
-            at = at[step]
-        if isinstance(last, str) and dice.random() < 0.75 or isinstance(last, int) and dice.random() < 0.5:
-            at[last] = other_value(dice, last, at[last])
-        else:
-            at.pop(last)
-    return diagnostic
+def is_read(path):
+    """Whether what stands there is read."""
+    return path[0] in READ
 
 
 def hostile(dice, count):
     """Arrays of diagnostics that are changed by chance."""
     found = [it for name in NAMES for it in array_of(name)]
-    rows = ([changed(dice, dice.choice(found)) for _ in range(dice.choice([1, 1, 2, 5]))] for _ in range(count))
+    one = partial(changed, dice, is_read=is_read, other_value=other_value)
+    rows = ([one(dice.choice(found)) for _ in range(dice.choice([1, 1, 2, 5]))] for _ in range(count))
     return b"".join(json.dumps(row).encode() + b"\n" for row in rows)
 
 

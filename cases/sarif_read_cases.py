@@ -2,13 +2,13 @@
 over the files beside it), the same changed by chance, what `job --sarif` and `lint --sarif` write (`job-sarif.jsonl`,
 `lint-sarif.jsonl`), and one worded as clang's."""
 import contextlib
-import copy
 import json
 import os
 import random
 import re
+from functools import partial
 
-from gcc_cases import places
+from json_changes import changed
 from programs import HERE
 from sarif_model import uri_of_name
 from sarif_reader_model import name_of
@@ -126,29 +126,16 @@ def other_value(dice, key, old):
     return dice.choice(given.get(key, [None, 7, "s", [], {}]))
 
 
-def changed(dice, value):
-    """A run with a few members or items removed, or of other values and types."""
-    value = copy.deepcopy(value)
-    for _ in range(dice.choice([1, 1, 2, 3])):
-        every = [it for it in places(value) if it[0] in READ]
-        if not every:
-            break
-        key = dice.choice(sorted({str(it[-1]) for it in every}))
-        *path, last = dice.choice([it for it in every if str(it[-1]) == key])
-        at = value
-        for step in path:
-            at = at[step]
-        if isinstance(last, str) and dice.random() < 0.75 or isinstance(last, int) and dice.random() < 0.5:
-            at[last] = other_value(dice, last, at[last])
-        else:
-            at.pop(last)
-    return value
+def is_read(path):
+    """Whether what stands there is read."""
+    return path[0] in READ
 
 
 def hostile(dice, count):
     """Logs of runs with one result, that are changed by chance."""
     found = [{**run, "results": [it]} for run in log()["runs"] for it in run["results"]]
-    logs = ([changed(dice, dice.choice(found)) for _ in range(dice.choice([1, 1, 2, 4]))] for _ in range(count))
+    one = partial(changed, dice, is_read=is_read, other_value=other_value)
+    logs = ([one(dice.choice(found)) for _ in range(dice.choice([1, 1, 2, 4]))] for _ in range(count))
     return b"".join(row_of({"runs": runs}) for runs in logs)
 
 

@@ -6,7 +6,6 @@ The recorded rows are tried as they are, as cargo wraps them, cut at every 50th 
 types, offsets, lines and columns that are off or behind the end, other files, files that are gone or shorter. Where
 rustc and gcc are installed, they are run anew. `--many` reads 100,000 messages, and looks at the memory. The last line
 is 'N passed, M failed', and the exit status is 0 only where nothing failed."""
-import copy
 import json
 import os
 import random
@@ -15,10 +14,12 @@ import shutil
 import subprocess
 import sys
 import tempfile
+from functools import partial
 
 import gcc_cases
 import sarif_read_cases
 import size_runs
+from json_changes import changed
 from programs import HERE, counted, program, run
 from show_model import shown_of
 from tree_model import Page, whole_picture
@@ -85,14 +86,6 @@ def wanted(given, files, form):
 # ---- rows that are changed
 
 
-def places(value, path=()):
-    """Where a value has members and items."""
-    keys = list(value) if isinstance(value, dict) else range(len(value)) if isinstance(value, list) else []
-    for key in keys:
-        yield path + (key,)
-        yield from places(value[key], path + (key,))
-
-
 def other_value(dice, key, old):
     """A value in place of another one."""
     if key in ("byte_start", "byte_end"):
@@ -114,23 +107,9 @@ def other_value(dice, key, old):
     return dice.choice(given.get(key, [None, 7, "s", [], {}]))
 
 
-def changed(dice, row):
-    """A row with a few members or items removed, or of other values and types."""
-    row = copy.deepcopy(row)
-    for _ in range(dice.choice([1, 1, 2, 3])):
-        every = [it for it in places(row) if it[0] in READ and "text" not in it]
-        if not every:
-            break
-        key = dice.choice(sorted({str(it[-1]) for it in every}))
-        *path, last = dice.choice([it for it in every if str(it[-1]) == key])
-        at = row
-        for step in path:
-            at = at[step]
-        if isinstance(last, str) and dice.random() < 0.75 or isinstance(last, int) and dice.random() < 0.5:
-            at[last] = other_value(dice, last, at[last])
-        else:
-            at.pop(last)
-    return row
+def is_read(path):
+    """Whether what stands there is read."""
+    return path[0] in READ and "text" not in path
 
 
 def hostile(dice, count):
@@ -139,7 +118,8 @@ def hostile(dice, count):
     for row in rows:
         row["rendered"] = None
         row["code"] = row["code"] and {"code": row["code"]["code"], "explanation": None}
-    return b"".join(json.dumps(changed(dice, dice.choice(rows))).encode() + b"\n" for _ in range(count))
+    one = partial(changed, dice, is_read=is_read, other_value=other_value)
+    return b"".join(json.dumps(one(dice.choice(rows))).encode() + b"\n" for _ in range(count))
 
 
 def cut_rows(name):
