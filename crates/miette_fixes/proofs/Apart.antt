@@ -59,8 +59,8 @@ free_split (e ∷ edits) xs ys h =
       or_from (list_any (conflict e) ys) (some_conflict edits ys) own.1 rest.1,
     )
 
-each_free : (edits : List Replacement) (lists : List (List Replacement)) → some_conflict edits (all_of lists) ≡ false
-    → AllByRecursion (λ xs. some_conflict xs edits ≡ false) lists
+pub each_free : (edits : List Replacement) (lists : List (List Replacement))
+    → some_conflict edits (all_of lists) ≡ false → AllByRecursion (λ xs. some_conflict xs edits ≡ false) lists
 each_free edits [] h = tt
 each_free edits (xs ∷ lists) h =
     let parts : (some_conflict edits xs ≡ false) × (some_conflict edits (all_of lists) ≡ false) =
@@ -69,7 +69,7 @@ each_free edits (xs ∷ lists) h =
 
 -- ---- those that count
 
-abbrev AreFree : List (List Replacement) → Type 0
+abbrev pub AreFree : List (List Replacement) → Type 0
 AreFree [] = Unit {0}
 AreFree (xs ∷ lists) = AllByRecursion (λ ys. some_conflict xs ys ≡ false) lists × AreFree lists
 
@@ -78,13 +78,13 @@ each_more : (P : List Replacement → Type 0) (lists : List (List Replacement)) 
 each_more P [] edits h p = (p, tt)
 each_more P (xs ∷ lists) edits h p = (h.0, each_more P lists edits h.1 p)
 
-free_more : (lists : List (List Replacement)) (edits : List Replacement) → AreFree lists
+pub free_more : (lists : List (List Replacement)) (edits : List Replacement) → AreFree lists
     → AllByRecursion (λ xs. some_conflict xs edits ≡ false) lists → AreFree (lists ++ edits ∷ [])
 free_more [] edits h each = (tt, tt)
 free_more (xs ∷ lists) edits h each =
     (each_more (λ ys. some_conflict xs ys ≡ false) lists edits h.0 each.0, free_more lists edits h.1 each.1)
 
-count_free : (n : ℕ) (before : List (List Replacement)) (edits : List Replacement)
+pub count_free : (n : ℕ) (before : List (List Replacement)) (edits : List Replacement)
     → counts n (all_of before) edits ≡ true → some_conflict edits (all_of before) ≡ false
 count_free n before edits h =
     let parts : (is_none (refusal n edits) ≡ true) × (not (some_conflict edits (all_of before)) ≡ true) =
@@ -108,7 +108,7 @@ list_at P [] j h lt = absurd (omega (arith, lt))
 list_at P (xs ∷ lists) zero h lt = h.0
 list_at P (xs ∷ lists) (suc j) h lt = list_at P lists j h.1 (omega (arith, lt))
 
-no_two : (lists : List (List Replacement)) (i j : ℕ) → AreFree lists → i < j → j < length lists
+pub no_two : (lists : List (List Replacement)) (i j : ℕ) → AreFree lists → i < j → j < length lists
     → some_conflict (get_or lists i []) (get_or lists j []) ≡ false
 no_two [] i j h lt within = absurd (omega (arith, within))
 no_two (xs ∷ lists) i zero h lt within = absurd (omega (arith, lt))
@@ -138,7 +138,7 @@ edit_is x y h =
     let r : Replacement = record { span = s; text = x.text } in r) l
     ∙ ap (λ (a : List ℕ). let r : Replacement = record { span = y.span; text = a } in r) t
 
-edits_are : (xs ys : List Replacement) → pointwise same_edit xs ys ≡ true → xs ≡ ys
+pub edits_are : (xs ys : List Replacement) → pointwise same_edit xs ys ≡ true → xs ≡ ys
 edits_are [] [] h = refl
 edits_are [] (y ∷ ys) h = let bad : false ≡ true = h in cc
 edits_are (x ∷ xs) [] h = let bad : false ≡ true = h in cc
@@ -152,7 +152,7 @@ text_itself : (xs : List ℕ) → pointwise eqb xs xs ≡ true
 text_itself [] = refl
 text_itself (x ∷ xs) = let same : eqb x x ≡ true = eq-eqb x x refl in rw same (text_itself xs)
 
-edits_themselves : (xs : List Replacement) → pointwise same_edit xs xs ≡ true
+pub edits_themselves : (xs : List Replacement) → pointwise same_edit xs xs ≡ true
 edits_themselves [] = refl
 edits_themselves (x ∷ xs) =
     let o : eqb x.span.offset x.span.offset ≡ true = eq-eqb x.span.offset x.span.offset refl in

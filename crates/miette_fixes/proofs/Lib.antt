@@ -1,8 +1,10 @@
+pub mod Among
 pub mod Apart
+pub mod Begins
+pub mod Begun
+pub mod Choosing
 pub mod Moving
-pub mod Neighbours
 pub mod Overlaps
 pub mod Permuted
-pub mod Placing
 pub mod Sorting
 pub mod Taking

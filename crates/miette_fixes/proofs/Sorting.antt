@@ -233,16 +233,6 @@ same_order xs ys same = sym (sorted_is xs)
     (λ z. sorted_ties less less_order z xs ∙ same z ∙ sym (sorted_ties less less_order z ys))
     ∙ sorted_is ys
 
-by_offset_ties : (z : Replacement) (xs : List Replacement)
-    → filter (ties less z) (by_offset xs) ≡ filter (ties less z) xs
-by_offset_ties z xs = ap (filter (ties less z)) (sym (sorted_is xs)) ∙ sorted_ties less less_order z xs
-
--- what is sorted already, and more behind it
-pub sorted_front : (xs ys : List Replacement) → by_offset (by_offset xs ++ ys) ≡ by_offset (xs ++ ys)
-sorted_front xs ys = same_order (by_offset xs ++ ys) (xs ++ ys)
-    (λ z. filter-append (ties less z) (by_offset xs) ys
-    ∙ ap (λ r. r ++ filter (ties less z) ys) (by_offset_ties z xs) ∙ sym (filter-append (ties less z) xs ys))
-
 -- ---- the sort of a program
 
 abbrev span_cmp : Span → Span → Ordering
@@ -292,22 +282,3 @@ stays_after edit (next ∷ edits) h =
 pub in_order_stays : (edits : List Replacement) → ascends edits ≡ true → by_offset edits ≡ edits
 in_order_stays [] h = refl
 in_order_stays (edit ∷ edits) h = stays_after edit edits h
-
--- edits that ascend are those in order
-
-climbs_after : (edit : Replacement) (edits : List Replacement) → Climbs less (edit ∷ edits)
-    → ascends_after edit edits ≡ true
-climbs_after edit [] h = refl
-climbs_after edit (next ∷ edits) h =
-    let first : is_behind edit next ≡ false = h.0.0 in rw first (climbs_after next edits h.1)
-
-climbs_ascends : (edits : List Replacement) → Climbs less edits → ascends edits ≡ true
-climbs_ascends [] h = refl
-climbs_ascends (edit ∷ edits) h = climbs_after edit edits h
-
-pub by_offset_ascends : (edits : List Replacement) → ascends (by_offset edits) ≡ true
-by_offset_ascends edits = climbs_ascends (by_offset edits) (by_offset_climbs edits)
-
-pub ascends_climbs : (edits : List Replacement) → ascends edits ≡ true → Climbs less edits
-ascends_climbs edits h =
-    subst (λ (es : List Replacement). Climbs less es) (in_order_stays edits h) (by_offset_climbs edits)

@@ -8,7 +8,7 @@ use Rattle.std.specs.List.{filter, list_any}
 use Rattle.std.specs.List.Sorted.{ties}
 use Rattle.std.proofs.lemmas.Bool.{and_parts, eq-eqb, not-true, or_from, or_left, or_parts, or_right, true≢false}
 use Rattle.std.proofs.lemmas.Option.{same_Some}
-use Rattle.std.proofs.lemmas.List.{append-nil, drop_more}
+use Rattle.std.proofs.lemmas.List.{append-nil, drop_more, map-append, take_more}
 use Rattle.std.proofs.lemmas.List.Elements.{filter-append}
 use Rattle.std.proofs.lemmas.List.Folds.{list_any-append}
 use Rattle.miette_basics.proofs.Cases.{by_cases}
@@ -17,9 +17,8 @@ use Rattle.miette_fixes.specs.rules.ApplyingAll.{all_of, conflict, counted, coun
 use Rattle.miette_fixes.specs.rules.ApplyingAll.{is_taken, lists_of, some_conflict, taken}
 use Rattle.miette_fixes.specs.declared.error.FixError.{FixError}
 use Rattle.miette_fixes.specs.rules.Edits.{Proposal, Replacement, ends_behind, overlap, some_overlap}
-use Rattle.miette_fixes.specs.steps.Sweeping.{AreApart, ascends, crosses_from}
-use Rattle.miette_fixes.proofs.Overlaps.{any_by_offset, crosses_is, none_refused, overlap_turned, unrefused}
-use Rattle.miette_fixes.proofs.Sorting.{by_offset_ascends, less, not_behind, same_order, sorted_front}
+use Rattle.miette_fixes.proofs.Overlaps.{none_refused, overlap_turned, unrefused}
+use Rattle.miette_fixes.proofs.Sorting.{less, not_behind, same_order}
 
 -- ---- what can be applied
 
@@ -69,7 +68,7 @@ some_none None h = refl
 some_none (Some e) h = let bad = h in cc
 
 -- what counts is applied beside what counts already
-counted_fit : (n : ℕ) (others edits : List Replacement) → refusal n others ≡ None → counts n others edits ≡ true
+pub counted_fit : (n : ℕ) (others edits : List Replacement) → refusal n others ≡ None → counts n others edits ≡ true
     → refusal n (others ++ edits) ≡ None
 counted_fit n others edits h may =
     let parts : (is_none (refusal n edits) ≡ true) × (not (some_conflict edits others) ≡ true) =
@@ -82,106 +81,22 @@ counted_fit n others edits h may =
     ∙ or_from (list_any (ends_behind n) others) (list_any (ends_behind n) edits) before.0 own.0)
     (joined others edits before.1 own.1 (not-true (some_conflict edits others) parts.1))
 
--- the order of those that count doesn't matter to whether a fix's edits do
-conflict_by_offset : (edits others : List Replacement)
-    → some_conflict edits (by_offset others) ≡ some_conflict edits others
-conflict_by_offset [] others = refl
-conflict_by_offset (edit ∷ edits) others =
-    ap (λ b. b || some_conflict edits (by_offset others)) (any_by_offset (conflict edit) others)
-    ∙ ap (λ b. list_any (conflict edit) others || b) (conflict_by_offset edits others)
-
-counts_by_offset : (n : ℕ) (others edits : List Replacement)
-    → counts n (by_offset others) edits ≡ counts n others edits
-counts_by_offset n others edits = ap (λ b. is_none (refusal n edits) && not b) (conflict_by_offset edits others)
-
--- After some fixes: the edits that count, in their order, which can be applied together, and what comes of the fixes
--- that are left.
-pub record AreChosen (n : ℕ) (given rest before : List (List Replacement)) (edits : List Replacement)
-    (flags : List Bool) : Type 0 where
-  pub all : edits ≡ by_offset (all_of before)
-  pub fit : refusal n (all_of before) ≡ None
-  pub lists : counted n before rest ≡ counted n [] given
-  pub answers : flags ++ taken n before rest ≡ taken n [] given
-
-pub chosen_ascends : (n : ℕ) (given rest before : List (List Replacement)) (edits : List Replacement)
-    (flags : List Bool) → AreChosen n given rest before edits flags → ascends edits ≡ true
-chosen_ascends n given rest before edits flags h = ap ascends h.all ∙ by_offset_ascends (all_of before)
-
-pub chosen_apart : (n : ℕ) (given rest before : List (List Replacement)) (edits : List Replacement)
-    (flags : List Bool) → AreChosen n given rest before edits flags → AreApart edits
-chosen_apart n given rest before edits flags h = (
-  chosen_ascends n given rest before edits flags h,
-  ap (crosses_from 0) h.all ∙ crosses_is (all_of before) ∙ (none_refused n (all_of before) h.fit).1,
-)
-
--- whether a fix's edits count beside those in order
-asked : (n : ℕ) (before : List (List Replacement)) (edits fix : List Replacement) (b : Bool)
-    → edits ≡ by_offset (all_of before) → counts n edits fix ≡ b → counts n (all_of before) fix ≡ b
-asked n before edits fix b all h =
-    sym (counts_by_offset n (all_of before) fix) ∙ ap (λ es. counts n es fix) (sym all) ∙ h
-
-pub chosen_more : (n : ℕ) (given rest after before : List (List Replacement)) (edits fix : List Replacement)
-    (flags : List Bool) → AreChosen n given rest before edits flags → rest ≡ fix ∷ after → counts n edits fix ≡ true
-    → AreChosen n given after (before ++ fix ∷ []) (by_offset (edits ++ fix)) (flags ++ true ∷ [])
-chosen_more n given rest after before edits fix flags h is may =
-    let met : counts n (all_of before) fix ≡ true = asked n before edits fix true h.all may in
-    let next : counted_with n before fix ≡ before ++ fix ∷ [] = rw met refl in
-    let flag : is_taken n before fix ≡ true = rw met refl in
-    record {
-      all = ap (λ es. by_offset (es ++ fix)) h.all ∙ sorted_front (all_of before) fix
-          ∙ ap by_offset (sym (all_of_more before fix));
-      fit = ap (refusal n) (all_of_more before fix) ∙ counted_fit n (all_of before) fix h.fit met;
-      lists = ap (λ b. counted n b after) (sym next) ∙ ap (counted n before) (sym is) ∙ h.lists;
-      answers = append_assoc flags (true ∷ []) (taken n (before ++ fix ∷ []) after)
-          ∙ ap (λ r. flags ++ r) (ap (λ b. true ∷ taken n b after) (sym next)
-          ∙ ap (λ x. x ∷ taken n (counted_with n before fix) after) (sym flag) ∙ ap (taken n before) (sym is))
-          ∙ h.answers;
-    }
-
-pub chosen_not : (n : ℕ) (given rest after before : List (List Replacement)) (edits fix : List Replacement)
-    (flags : List Bool) → AreChosen n given rest before edits flags → rest ≡ fix ∷ after → counts n edits fix ≡ false
-    → AreChosen n given after before edits (flags ++ is_among fix before ∷ [])
-chosen_not n given rest after before edits fix flags h is not_so =
-    let met : counts n (all_of before) fix ≡ false = asked n before edits fix false h.all not_so in
-    let next : counted_with n before fix ≡ before = rw met refl in
-    let flag : is_taken n before fix ≡ is_among fix before = rw met refl in
-    record {
-      all = h.all;
-      fit = h.fit;
-      lists = ap (λ b. counted n b after) (sym next) ∙ ap (counted n before) (sym is) ∙ h.lists;
-      answers = append_assoc flags (is_among fix before ∷ []) (taken n before after)
-          ∙ ap (λ r. flags ++ r) (ap (λ b. is_among fix before ∷ taken n b after) (sym next)
-          ∙ ap (λ x. x ∷ taken n (counted_with n before fix) after) (sym flag) ∙ ap (taken n before) (sym is))
-          ∙ h.answers;
-    }
-
-pub chosen_then : (n : ℕ) (given rest after before more : List (List Replacement)) (edits fix edits' : List Replacement)
-    (flags flags' : List Bool) → AreChosen n given rest before edits flags → rest ≡ fix ∷ after
-    → counts n edits fix ≡ true → more ≡ before ++ fix ∷ [] → edits' ≡ by_offset (edits ++ fix)
-    → flags' ≡ flags ++ true ∷ []
-    → AreChosen n given after more edits' flags'
-chosen_then n given rest after before more edits fix edits' flags flags' h is may b e f =
-    subst (λ (x : List (List Replacement)). AreChosen n given after x edits' flags') (sym b)
-    (subst (λ (x : List Replacement). AreChosen n given after (before ++ fix ∷ []) x flags') (sym e)
-    (subst (λ (x : List Bool). AreChosen n given after (before ++ fix ∷ []) (by_offset (edits ++ fix)) x) (sym f)
-    (chosen_more n given rest after before edits fix flags h is may)))
-
-pub chosen_else : (n : ℕ) (given rest after before more : List (List Replacement)) (edits fix edits' : List Replacement)
-    (flags flags' : List Bool) → AreChosen n given rest before edits flags → rest ≡ fix ∷ after
-    → counts n edits fix ≡ false → more ≡ before → edits' ≡ edits → flags' ≡ flags ++ is_among fix before ∷ []
-    → AreChosen n given after more edits' flags'
-chosen_else n given rest after before more edits fix edits' flags flags' h is not_so b e f =
-    subst (λ (x : List (List Replacement)). AreChosen n given after x edits' flags') (sym b)
-    (subst (λ (x : List Replacement). AreChosen n given after before x flags') (sym e)
-    (subst (λ (x : List Bool). AreChosen n given after before edits x) (sym f)
-    (chosen_not n given rest after before edits fix flags h is not_so)))
-
 -- the edits of fixes from one on
 pub lists_more : (fixes : List (Bor Proposal)) (i : ℕ) (fix : Bor Proposal) → i < length fixes
     → fix ≡ get_or fixes i fix → lists_of (drop i fixes) ≡ fix.now.edits ∷ lists_of (drop (i + 1) fixes)
 lists_more fixes i fix lt is =
     ap lists_of (drop_more fixes i fix lt)
     ∙ ap (λ (f : Bor Proposal). f.now.edits ∷ lists_of (drop (i + 1) fixes)) (sym is)
+
+-- all edits of fixes up to one, and it
+pub taken_more : (fixes : List (Bor Proposal)) (i : ℕ) (fix : Bor Proposal) → i < length fixes
+    → fix ≡ get_or fixes i fix
+    → all_of (lists_of (take (i + 1) fixes)) ≡ all_of (lists_of (take i fixes)) ++ fix.now.edits
+taken_more fixes i fix lt is =
+    ap (λ (fs : List (Bor Proposal)). all_of (lists_of fs))
+    (take_more fixes i fix lt ∙ ap (λ (f : Bor Proposal). take i fixes ++ f ∷ []) (sym is))
+    ∙ ap all_of (map-append (λ (f : Bor Proposal). f.now.edits) (take i fixes) (fix ∷ []))
+    ∙ all_of_more (lists_of (take i fixes)) fix.now.edits
 
 -- ---- in any order
 

@@ -4,6 +4,7 @@
 mod applicability;
 pub mod apply;
 mod apply_all;
+mod beginnings;
 mod edit;
 mod error;
 pub mod fix;

@@ -1,5 +1,5 @@
 -- Edits as the code goes through them, one behind another.
-use Rattle.std.specs.Prelude.{ℕ, ◌≡◌, List, [], ◌∷◌, Bool, true, false, ◌&&◌, ◌||◌, not, nat_lt}
+use Rattle.std.specs.Prelude.{ℕ, List, [], ◌∷◌, Bool, true, false, ◌&&◌, ◌||◌, not, nat_lt}
 use Rattle.miette_fixes.specs.rules.Edits.{Replacement, end_of, is_behind}
 
 -- no edit comes behind the next one
@@ -15,7 +15,3 @@ ascends (edit ∷ edits) = ascends_after edit edits
 abbrev pub crosses_from : ℕ → List Replacement → Bool
 crosses_from at [] = false
 crosses_from at (edit ∷ edits) = nat_lt edit.span.offset at || crosses_from (end_of edit) edits
-
--- edits in their order, of which no two overlap
-abbrev pub AreApart : List Replacement → Type 0
-AreApart edits = (ascends edits ≡ true) × (crosses_from 0 edits ≡ false)
