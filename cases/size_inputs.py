@@ -46,6 +46,9 @@ NESTED = Way("nested", "job", (*PLAIN.words, "--nested", "yes"), draws=True)
 NESTED_COLOUR = Way("nested colour", "job", (*COLOUR.words, "--nested", "yes"), draws=True)
 ALL = (*HANDLERS, NESTED, NESTED_COLOUR)
 FOLDED = Way("folded", "job", (*PLAIN.words, "--label-lines", "5"), draws=True)
+CUT = Way("cut", "job", (*PLAIN.words, "--line-columns", "80"), draws=True)
+HIGHLIGHT = ("--theme", "unicode", "--highlight", "json", "--line-columns", "80")
+HIGHLIGHTED = Way("highlighted", "job", HIGHLIGHT, draws=True)
 WHOLE = Way("whole", "job", (*PLAIN.words, "--context", "100000000"), draws=True)
 BENCH = Way("bench", "bench", ("2", *PLAIN.words), draws=True)
 DRAW = Way("draw", "draw", ("f", MIDDLE, "1", "here", "m"), draws=True)
@@ -165,6 +168,22 @@ def labels_on(unit, head=b""):
         return labelled((head + unit * 10 * size).decode(), spans)
 
     return make
+
+
+def far_labels(lines, over):
+    """n labels, one behind the other, each over so many of the lines that it has."""
+    return lambda size: labelled("ab\n" * lines * size, far_spans(size, 3 * lines, 3 * over - 1), "x")
+
+
+def far_spans(size, step, length):
+    """n spans of this length, so many bytes one behind the other."""
+    return ((step * i, length) for i in range(size))
+
+
+def long_line(unit, times, end=""):
+    """A line of n times so many units, with a label on one unit of all these, and an end."""
+    length = len(unit.encode())
+    return lambda size: labelled(unit * times * size + end, far_spans(size, times * length, length))
 
 
 def within(member, inner, depth, wrap):
@@ -288,6 +307,20 @@ def pictures():
     yield Family("lint of 9.6 MB", lint_lines("let it = that + other;"), sizes, (), (LINT,))
 
 
+def fitted():
+    """Pictures with labels that are folded, and lines that are cut."""
+    folded = (FOLDED,)
+    yield Family("labels far apart, folded", far_labels(8, 1), SQUARES, (1_000,), folded)
+    yield Family("labels of 20 lines, folded", far_labels(20, 20), SQUARES, (), folded)
+    letters = "abcdefghij"
+    yield Family("labels on a cut line", long_line(letters, 10), SQUARES, (1_000,), (CUT,))
+    yield Family("labels on a cut line, an accent", long_line(letters, 10, "é"), SQUARES, (), (CUT,))
+    accents = "äbcdéfghij"
+    yield Family("labels on a cut line of accents", long_line(accents, 10), SQUARES, (), (CUT,))
+    marks = '["a",1],'
+    yield Family("labels on a cut line, highlighted", long_line(marks, 12), SQUARES, (), (HIGHLIGHTED,))
+
+
 def long_texts():
     """Texts of many bytes."""
     for member in ("message", "help", "url", "code"):
@@ -317,4 +350,4 @@ def long_lines():
     yield Family("up to 100 MB of FF", repeated(b"\xff"), sizes, (), (DRAW, LINT))
 
 
-FAMILIES = [*small(), *lists(), *pictures(), *long_texts(), *long_lines()]
+FAMILIES = [*small(), *lists(), *pictures(), *fitted(), *long_texts(), *long_lines()]

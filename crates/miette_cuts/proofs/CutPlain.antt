@@ -1,15 +1,14 @@
 -- Lines of printable ASCII that are cut: their stretches by the ends alone, and what they print.
 use Rattle.miette_page.specs.views.Printouts.{Printout, ◌⊕◌}
-use Rattle.std.proofs.Common.{ℕ, zero, suc, ◌+◌, ◌-◌, ◌<◌, ◌≤◌, ◌≡◌, ◌/◌, min, Bool, true, false, cond, ltb, leb, eqb}
-use Rattle.std.proofs.Common.{List, [], ◌∷◌, ◌++◌, map, length, take, drop, get_or, replicate, refl, sym, ap, ap₂, ◌∙◌}
-use Rattle.std.proofs.Common.{append-nil, arith}
-use Rattle.std.specs.List.{list_all, list_any}
+use Rattle.std.proofs.Common.{ℕ, zero, suc, ◌+◌, ◌-◌, ◌<◌, ◌≤◌, ◌≡◌, min, Bool, true, false, cond, ltb, eqb}
+use Rattle.std.proofs.Common.{List, [], ◌∷◌, ◌++◌, map, length, take, drop, get_or, replicate, refl, sym, ap, ap₂}
+use Rattle.std.proofs.Common.{subst, ◌∙◌, append-nil, arith}
+use Rattle.std.specs.List.{list_all}
 use Rattle.std.specs.Str.{IsAscii}
-use Rattle.std.proofs.lemmas.Bool.{and_parts, lt-ltb, le-ltb, le-leb, lt-leb}
+use Rattle.std.proofs.lemmas.Bool.{and_parts, lt-ltb}
 use Rattle.std.proofs.lemmas.Bool.Decides.{nat_tests}
 use Rattle.std.proofs.lemmas.List.{at_drop_more, at_drop_all, drop-drop, length-drop, map-append}
 use Rattle.std.proofs.lemmas.List.{nil_from_length}
-use Rattle.std.proofs.Math.Bool.{and-false}
 use Rattle.miette_style.specs.rules.Styles.{plain}
 use Rattle.miette_page.specs.rules.Rows.{Glyph, Run}
 use Rattle.miette_page.specs.views.Tokens.{begins, row_tokens, styled_tokens, text_tokens}
@@ -22,14 +21,14 @@ use Rattle.miette_cells.specs.views.Printable.{is_printable, plain_cells}
 use Rattle.miette_basics.proofs.Cases.{by_cases}
 use Rattle.miette_cells.proofs.Plaining.{plain_byte, printable_taken}
 use Rattle.miette_snippet_rules.specs.rules.PrintedCells.{line_runs, printed_glyphs, printed_cells, text_bytes}
-use Rattle.miette_snippet_rules.specs.rules.CutLines.{agree, dots, is_near, is_near_after, is_within}
+use Rattle.miette_snippet_rules.specs.rules.CutLines.{agree, dots, is_near, is_near_after}
 use Rattle.miette_snippet_rules.specs.rules.CutLines.{stretches}
 use Rattle.miette_snippet_rules.proofs.RowTokens.{then, told-append}
 use Rattle.miette_cuts.specs.declared.stretch.Stretch.{Stretch as MadeStretch}
 use Rattle.miette_cuts.specs.views.Cuts.{measure, is_kept, cut_cells}
 use Rattle.miette_cuts.specs.steps.Cut.{lone, onto_made, even, cell_at, plain_run, plain_told}
-use Rattle.miette_cuts.proofs.CutStretches.{first_stretch, near_found, near_later, near_nowhere}
-use Rattle.miette_cuts.proofs.CutStretches.{onto-same}
+use Rattle.miette_cuts.specs.steps.Nearness.{LineEnds}
+use Rattle.miette_cuts.proofs.CutStretches.{first_stretch, onto-same}
 use Rattle.miette_cuts.proofs.PlainText.{printable_cells}
 use Rattle.miette_snippet_rules.specs.rules.Highlighting.{highlight_of}
 use Rattle.miette_style.specs.declared.style.Style.{Style}
@@ -156,47 +155,6 @@ plain_shown o c before (s ∷ later) bs h =
     (λ n. rw n refl) in
     ap₂ (λ a b. a ++ b) here below ∙ sym (told-append own rest)
 
--- ---- where a column is near
-
-column_near : (limit e x : ℕ) → e - limit / 4 ≤ x → x ≤ e + limit / 4 → is_within (limit / 4) (cell_at x) e ≡ true
-column_near limit e x lo hi = rw (le-leb x (e + limit / 4) hi, lt-ltb e (x + 1 + limit / 4) (omega (arith, lo))) refl
-
-column_before : (limit e x : ℕ) → x < e - limit / 4 → is_within (limit / 4) (cell_at x) e ≡ false
-column_before limit e x lt = rw (le-ltb e (x + 1 + limit / 4) (omega (arith, lt))) (and-false (leb x (e + limit / 4)))
-
-column_past : (limit e x : ℕ) → e + limit / 4 < x → is_within (limit / 4) (cell_at x) e ≡ false
-column_past limit e x lt = rw (lt-leb x (e + limit / 4) lt) refl
-
--- no end that was looked at is near these columns
-abbrev pub NoneYet : ℕ → List ℕ → ℕ → ℕ → ℕ → Type 0
-NoneYet limit es i column until = (x : ℕ) → column ≤ x → x < until
-    → list_any (is_within (limit / 4) (cell_at x)) (drop i es) ≡ list_any (is_within (limit / 4) (cell_at x)) es
-
-pub end_behind : (limit : ℕ) (es : List ℕ) (i d column until less : ℕ) → i < length es → less ≤ until → less
-    ≤ get_or es i d - limit / 4 → NoneYet limit es i column until → NoneYet limit es (i + 1) column less
-end_behind limit es i d column until less lt a b none =
-    λ x lo hi. near_later limit es (cell_at x) i d lt (column_before limit (get_or es i d) x (omega (arith, hi, b)))
-    (none x lo (omega (arith, hi, a)))
-
-pub end_before : (limit : ℕ) (es : List ℕ) (i d column until less : ℕ) → i < length es → less ≤ until → get_or es i d
-    + limit / 4 < column → NoneYet limit es i column until → NoneYet limit es (i + 1) column less
-end_before limit es i d column until less lt a b none =
-    λ x lo hi. near_later limit es (cell_at x) i d lt (column_past limit (get_or es i d) x (omega (arith, lo, b)))
-    (none x lo (omega (arith, hi, a)))
-
-pub end_near : (limit : ℕ) (es : List ℕ) (i d column until less : ℕ) → (length es ≡ 0 → ⊥) → i < length es → less
-    ≤ until → get_or es i d - limit / 4 ≤ column → less ≤ get_or es i d + limit / 4 + 1
-    → NoneYet limit es i column until →
-    (x : ℕ) → column ≤ x → x < less → is_near limit es (cell_at x) ≡ true
-end_near limit es i d column until less some lt a b h none x lo hi =
-    sym (near_found limit es (cell_at x) i d some lt (column_near limit (get_or es i d) x (omega (arith, lo, b))
-    (omega (arith, hi, h))) (none x lo (omega (arith, hi, a))))
-
-pub ends_passed : (limit : ℕ) (es : List ℕ) (i column until : ℕ) → (length es ≡ 0 → ⊥) → length es ≤ i
-    → NoneYet limit es i column until → (x : ℕ) → column ≤ x → x < until → is_near limit es (cell_at x) ≡ false
-ends_passed limit es i column until some le none x lo hi =
-    sym (near_nowhere limit es (cell_at x) i some le (none x lo hi))
-
 -- ---- stretch by stretch
 
 -- what a stretch is found to be
@@ -239,6 +197,20 @@ even_more limit es first bs cs column made new whole reached next later h from i
     ∙ put (behind limit es next.near first bs cs (column + next.cells))
     ∙ ap (λ r. made ++ onto_made reached r) (sym (found_even limit es reached.near first bs cs column next h from is))
     ∙ inv
+
+-- what is put behind the last stretch that was reached
+abbrev pub PutsPlain : LineEnds → PlainCells → List MadeStretch → List MadeStretch → MadeStretch → MadeStretch → Type 0
+PutsPlain ends first made new reached later = (bytes : List ℕ) (rest : List Cell) → list_all is_printable bytes ≡ true
+    → length bytes ≡ first.many → new ++ onto_made later (map measure
+    (stretches (is_near ends.limit ends.ends) later.near rest)) ≡ made ++ onto_made reached
+    (map measure (stretches (is_near ends.limit ends.ends) reached.near (plain_cells first.start first.from bytes
+    ++ rest)))
+
+pub puts_plain : (ends whole : LineEnds) (first : PlainCells) (made new : List MadeStretch)
+    (reached later : MadeStretch) → ends ≡ whole → PutsPlain ends first made new reached later →
+    PutsPlain whole first made new reached later
+puts_plain ends whole first made new reached later e h =
+    subst (λ (v : LineEnds). PutsPlain v first made new reached later) e h
 
 -- a line's stretches behind those of these cells
 pub plain_put : (limit : ℕ) (es : List ℕ) (first : PlainCells) (walk left : List Cell)

@@ -1,6 +1,6 @@
 -- The stretches of a line that is cut, by their counts, and its columns in the row.
 use Rattle.std.proofs.Common.{ℕ, ◌+◌, ◌-◌, ◌<◌, ◌≤◌, ◌≡◌, Bool, true, false, cond, ltb, List, [], ◌∷◌, ◌++◌, map}
-use Rattle.std.proofs.Common.{length, drop, get_or, refl, sym, ap, subst, ◌∙◌, ◌||◌, ◌/◌, append_assoc, append-nil}
+use Rattle.std.proofs.Common.{length, drop, get_or, refl, sym, ap, subst, ◌∙◌, ◌/◌, append_assoc, append-nil}
 use Rattle.std.proofs.Common.{length-append, Option, Some, None, option_map, arith}
 use Rattle.std.proofs.Math.Bool.{beq}
 use Rattle.std.proofs.lemmas.Bool.{lt-ltb, le-ltb}
@@ -269,33 +269,10 @@ pub near_first_columns : (limit : ℕ) (es : List ℕ) (cell : Cell) → length 
 near_first_columns limit [] cell h = refl
 near_first_columns limit (e ∷ es) cell h = absurd (omega (arith, h))
 
-near_listed : (limit : ℕ) (es : List ℕ) (cell : Cell) → (length es ≡ 0 → ⊥) → list_any (is_within (limit / 4) cell) es
-    ≡ is_near limit es cell
+pub near_listed : (limit : ℕ) (es : List ℕ) (cell : Cell) → (length es ≡ 0 → ⊥)
+    → list_any (is_within (limit / 4) cell) es ≡ is_near limit es cell
 near_listed limit [] cell some = absurd (some refl)
 near_listed limit (e ∷ es) cell some = refl
-
-pub near_found : (limit : ℕ) (es : List ℕ) (cell : Cell) (i d : ℕ) → (length es ≡ 0 → ⊥) → i < length es
-    → is_within (limit / 4) cell (get_or es i d) ≡ true →
-    list_any (is_within (limit / 4) cell) (drop i es) ≡ list_any (is_within (limit / 4) cell) es → true
-    ≡ is_near limit es cell
-near_found limit es cell i d some lt here inv =
-    let p : ℕ → Bool = is_within (limit / 4) cell in
-    sym (ap (λ b. b || list_any p (drop (i + 1) es)) here) ∙ sym (at_drop_more (list_any p) es i d lt) ∙ inv
-    ∙ near_listed limit es cell some
-
-pub near_later : (limit : ℕ) (es : List ℕ) (cell : Cell) (i d : ℕ) → i < length es
-    → is_within (limit / 4) cell (get_or es i d) ≡ false →
-    list_any (is_within (limit / 4) cell) (drop i es) ≡ list_any (is_within (limit / 4) cell) es
-    → list_any (is_within (limit / 4) cell) (drop (i + 1) es) ≡ list_any (is_within (limit / 4) cell) es
-near_later limit es cell i d lt other inv =
-    let p : ℕ → Bool = is_within (limit / 4) cell in
-    sym (ap (λ b. b || list_any p (drop (i + 1) es)) other) ∙ sym (at_drop_more (list_any p) es i d lt) ∙ inv
-
-pub near_nowhere : (limit : ℕ) (es : List ℕ) (cell : Cell) (i : ℕ) → (length es ≡ 0 → ⊥) → length es ≤ i
-    → list_any (is_within (limit / 4) cell) (drop i es) ≡ list_any (is_within (limit / 4) cell) es → false
-    ≡ is_near limit es cell
-near_nowhere limit es cell i some le inv = sym (at_drop_all (list_any (is_within (limit / 4) cell)) es i le) ∙ inv
-    ∙ near_listed limit es cell some
 
 -- ---- marks with their anchors
 

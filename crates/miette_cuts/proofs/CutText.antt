@@ -115,14 +115,11 @@ piece_cut pieces i before bytes behind own d cells later p q r whole next less l
     ∙ ap (λ xs. p ⊕ row_tokens (line_runs (pieces_within before bytes xs) cells))
     (sym (at_drop_more (map highlight_of) pieces i d lt)) ∙ inv
 
-pub pieces_end : (pieces : List (ℕ × Style)) (i before bytes : ℕ) (cells : List Cell) (p q r whole : Printout)
-    → length pieces ≤ i → q ≡ p ⊕ begins plain ∷ [] → r ≡ q ⊕ cells_tokens cells →
-    p ⊕ row_tokens (line_runs (pieces_within before bytes (map highlight_of (drop i pieces))) cells) ≡ whole → r ≡ whole
-pieces_end pieces i before bytes cells p q r whole le hq hr inv =
+pub pieces_end : (cells : List Cell) (p q r whole : Printout) → q ≡ p ⊕ begins plain ∷ [] → r ≡ q
+    ⊕ cells_tokens cells → p ⊕ row_tokens (line_runs [] cells) ≡ whole → r ≡ whole
+pieces_end cells p q r whole hq hr inv =
     then p (begins plain ∷ []) (cells_tokens cells) hq hr
-    ∙ ap (λ x. p ⊕ x) (sym (append-nil (begins plain ∷ cells_tokens cells)))
-    ∙ ap (λ xs. p ⊕ row_tokens (line_runs (pieces_within before bytes xs) cells))
-    (sym (at_drop_all (map highlight_of) pieces i le)) ∙ inv
+    ∙ ap (λ x. p ⊕ x) (sym (append-nil (begins plain ∷ cells_tokens cells))) ∙ inv
 
 -- ---- a stretch, or its dots
 

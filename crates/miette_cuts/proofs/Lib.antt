@@ -1,8 +1,11 @@
 pub mod CellPrints
+pub mod CutPieces
 pub mod CutPlain
 pub mod CutStretches
 pub mod CutText
+pub mod NearEnds
 pub mod OffsetColumns
+pub mod PassedStretches
 pub mod PlainText
 pub mod StopColumns
 pub mod TabbedText

@@ -1,11 +1,13 @@
 //! The text of a line that is cut: the stretches of it that are shown, and dots for the others.
 
-ghost use Rattle.std.specs.Prelude.{◌≡◌, ◌∷◌, [], map, take, drop, if◌then◌else◌, IfOk, OnOk};
-ghost use Rattle.miette_page.specs.views.Printouts.{◌⊕◌};
+ghost use Rattle.std.specs.Prelude.{◌≡◌, ◌∷◌, [], List, map, take, drop, if◌then◌else◌, IfOk, OnOk};
+ghost use Rattle.miette_cells.specs.rules.Cells.{Cell};
+ghost use Rattle.miette_page.specs.views.Printouts.{◌⊕◌, Printout};
 ghost use Rattle.miette_page.specs.views.Tokens.{row_tokens};
 ghost use Rattle.miette_snippet_rules.specs.rules.CutLines.{dots, pieces_within};
 ghost use Rattle.miette_snippet_rules.specs.rules.Highlighting.{highlight_of};
 ghost use Rattle.miette_snippet_rules.specs.rules.PrintedCells.{cells_within, cells_beyond, line_runs};
+ghost use Rattle.miette_cuts.specs.declared.stretch.Stretch.{Stretch as MadeStretch};
 ghost use Rattle.miette_cuts.specs.views.Cuts.{cut_cells, is_kept};
 ghost use Rattle.miette_cuts.specs.steps.CellTokens.{cells_tokens};
 
@@ -79,6 +81,54 @@ fn skip(walk: &mut Walk, many: usize) -> Result<(), AllocError>
     Ok(())
 }
 
+// The pieces of which some byte stands behind the first so many, and how many bytes of the first of them don't.
+fn pieces_behind<'a>(pieces: &'a [(usize, Style)], before: usize) -> (&'a [(usize, Style)], usize)
+    ensures { (cut : List MadeStretch) → (cells : List Cell) → (page : Printout) →
+        page ⊕ row_tokens (cut_cells (map highlight_of result.0.now) result.1 cut cells)
+        ≡ page ⊕ row_tokens (cut_cells (map highlight_of pieces.now) before cut cells) }
+{
+    let mut rest = pieces;
+    let mut before = before;
+    while let Some((piece, later)) = rest.split_first() {
+        if before < piece.0 {
+            return (rest, before);
+        }
+        before -= piece.0;
+        rest = later;
+    }
+    (rest, before)
+}
+
+// What a highlighter's pieces say of a stretch, where so many bytes of the line stand before it; gives how many of its
+// cells are left behind them.
+fn push_pieces<O: Canvas>(
+    page: &mut Page<O>,
+    walk: &mut Walk,
+    pieces: &[(usize, Style)],
+    before: usize,
+    stretch: &Stretch,
+) -> Result<usize, AllocError>
+    ensures told { IfOk result (λ left. page.new ⊕ row_tokens (line_runs [] (take left walk.new)) ≡ page.old
+        ⊕ row_tokens (line_runs (pieces_within before stretch.now.bytes (map highlight_of pieces.now))
+        (take stretch.now.cells walk.old))) }
+    ensures later { IfOk result (λ left. drop left walk.new ≡ drop stretch.now.cells walk.old) }
+{
+    let mut before = before;
+    let mut bytes = stretch.bytes;
+    let mut many = stretch.cells;
+    for piece in pieces {
+        if bytes == 0 {
+            return Ok(many);
+        }
+        let behind = piece.0.saturating_sub(before);
+        page.begin(piece.1)?;
+        many = push_some(page, walk, many, behind.min(bytes))?;
+        before = before.saturating_sub(piece.0);
+        bytes = bytes.saturating_sub(behind);
+    }
+    Ok(many)
+}
+
 // A stretch in what a highlighter's pieces say of it, where so many bytes of the line stand before it; or its dots.
 fn push_stretch<O: Canvas>(
     page: &mut Page<O>,
@@ -98,16 +148,7 @@ fn push_stretch<O: Canvas>(
         skip(walk, stretch.cells)?;
         return Ok(());
     }
-    let mut before = before;
-    let mut bytes = stretch.bytes;
-    let mut many = stretch.cells;
-    for piece in pieces {
-        let behind = piece.0.saturating_sub(before);
-        page.begin(piece.1)?;
-        many = push_some(page, walk, many, behind.min(bytes))?;
-        before = before.saturating_sub(piece.0);
-        bytes = bytes.saturating_sub(behind);
-    }
+    let many = push_pieces(page, walk, pieces, before, stretch)?;
     page.begin(PLAIN)?;
     push_all(page, walk, many)?;
     Ok(())
@@ -125,10 +166,13 @@ pub(crate) fn push_cut<O: Canvas>(
     ensures { OnOk result (page.new ≡ page.old
         ⊕ row_tokens (cut_cells (map highlight_of pieces.now) 0 cut.now walk.old)) }
 {
+    let mut rest = pieces;
     let mut before: usize = 0;
     for stretch in cut {
-        push_stretch(page, walk, pieces, before, stretch)?;
-        before = sum(before, stretch.bytes)?;
+        let (later, inside) = pieces_behind(rest, before);
+        push_stretch(page, walk, later, inside, stretch)?;
+        rest = later;
+        before = sum(inside, stretch.bytes)?;
     }
     Ok(())
 }

@@ -6,6 +6,8 @@ mod cut_text;
 pub mod cutting;
 pub mod line_text;
 pub mod marks;
+mod moving;
+mod nearness;
 mod passing;
 mod plain_cut;
 pub mod printing;

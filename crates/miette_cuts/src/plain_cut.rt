@@ -1,7 +1,7 @@
 //! Printable ASCII in lines that are cut: its stretches by the ends of marks, and what is printed of lines that are all
 //! printable ASCII, with no walk over the characters.
 
-ghost use Rattle.std.specs.Prelude.{◌≡◌, ◌<◌, ◌≤◌, ◌+◌, ◌++◌, ℕ, List, true, map, take, length, nat_lt, OnOk};
+ghost use Rattle.std.specs.Prelude.{◌≡◌, ◌<◌, ◌≤◌, ◌+◌, ◌++◌, ℕ, List, true, map, take, length, OnOk};
 ghost use Rattle.std.specs.List.{list_all};
 ghost use Rattle.miette_page.specs.views.Printouts.{◌⊕◌};
 ghost use Rattle.miette_cells.specs.rules.Cells.{Cell};
@@ -10,6 +10,7 @@ ghost use Rattle.miette_snippet_rules.specs.rules.CutLines.{is_near, stretches};
 ghost use Rattle.miette_cuts.specs.views.Cuts.{measure};
 ghost use Rattle.miette_cuts.specs.steps.Cut.{cell_at, even, onto_made, plain_run, plain_told};
 
+use crate::nearness::Nearness;
 use crate::stretch::{Stretch, is_shown, put_stretch};
 use crate::tabs::push_ascii;
 use miette_basics::sums::sum;
@@ -18,55 +19,17 @@ use miette_page::canvas::Canvas;
 use miette_page::page::{PLAIN, Page};
 use std::alloc::AllocError;
 
-// Whether a column is near where there is no end, as those before the limit are, and the column, at most `len`, up to
-// which those behind it are near where it is.
-fn turn_at(limit: usize, column: usize, len: usize) -> (bool, usize)
-    requires { column < len }
-    ensures more { column < result.1 }
-    ensures within { result.1 ≤ len }
-    ensures alike { (x : ℕ) → column ≤ x → x < result.1 → nat_lt x limit ≡ result.0 }
-{
-    if column < limit {
-        return (true, limit.min(len));
-    }
-    (false, len)
-}
-
-// Whether the cell of one column that stands at a column is near, and the column, at most `len`, up to which those
-// behind it are near where it is.
-fn turn_behind(limit: usize, ends: &[usize], column: usize, len: usize) -> (bool, usize)
-    requires { column < len }
-    ensures more { column < result.1 }
-    ensures within { result.1 ≤ len }
-    ensures alike { (x : ℕ) → column ≤ x → x < result.1 → is_near limit ends.now (cell_at x) ≡ result.0 }
-{
-    if ends.is_empty() {
-        return turn_at(limit, column, len);
-    }
-    let reach = limit / 4;
-    let mut until = len;
-    for end in ends {
-        let from = end.saturating_sub(reach);
-        let behind = end.saturating_add(reach).saturating_add(1);
-        if column < from {
-            until = until.min(from);
-        } else if column < behind {
-            return (true, until.min(behind));
-        }
-    }
-    (false, until)
-}
-
 // The stretch of cells of one column each from a column on, as far as they are as near as the first.
-fn even_stretch(limit: usize, ends: &[usize], column: usize, len: usize) -> Stretch
+fn even_stretch(nearness: &mut Nearness<'_>, column: usize, len: usize) -> Stretch
     requires { column < len }
     ensures even { result ≡ even result.near result.cells }
     ensures some { 0 < result.cells }
     ensures within { column + result.cells ≤ len }
     ensures alike { (x : ℕ) → column ≤ x → x < column + result.cells →
-        is_near limit ends.now (cell_at x) ≡ result.near }
+        is_near nearness.old.limit nearness.old.ends (cell_at x) ≡ result.near }
+    ensures same { nearness.new ≡ nearness.old }
 {
-    let (near, until) = turn_behind(limit, ends, column, len);
+    let (near, until) = nearness.turn_behind(column, len);
     let cells = until - column;
     Stretch {
         near,
@@ -81,20 +44,21 @@ fn even_stretch(limit: usize, ends: &[usize], column: usize, len: usize) -> Stre
 pub(crate) fn put_plain(
     made: &mut Vec<Stretch>,
     reached: &mut Stretch,
-    limit: usize,
-    ends: &[usize],
+    nearness: &mut Nearness<'_>,
     plain: &PlainCells,
 ) -> Result<(), AllocError>
-    ensures { OnOk result ((bytes : List ℕ) → (rest : List Cell) → list_all is_printable bytes ≡ true →
+    ensures put { OnOk result ((bytes : List ℕ) → (rest : List Cell) → list_all is_printable bytes ≡ true →
         length bytes ≡ plain.now.many → made.new.items
-        ++ onto_made reached.new (map measure (stretches (is_near limit ends.now) reached.new.near rest))
-        ≡ made.old.items ++ onto_made reached.old (map measure (stretches (is_near limit ends.now) reached.old.near
-        (plain_cells plain.now.start plain.now.from bytes ++ rest)))) }
+        ++ onto_made reached.new (map measure (stretches (is_near nearness.old.limit nearness.old.ends)
+        reached.new.near rest))
+        ≡ made.old.items ++ onto_made reached.old (map measure (stretches (is_near nearness.old.limit nearness.old.ends)
+        reached.old.near (plain_cells plain.now.start plain.now.from bytes ++ rest)))) }
+    ensures same { OnOk result (nearness.new ≡ nearness.old) }
 {
     let end = sum(plain.from, plain.many)?;
     let mut column = plain.from;
     while column < end {
-        let next = even_stretch(limit, ends, column, end);
+        let next = even_stretch(nearness, column, end);
         column += next.cells;
         put_stretch(made, reached, next)?;
     }

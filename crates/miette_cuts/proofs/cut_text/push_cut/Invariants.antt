@@ -7,5 +7,5 @@ use Rattle.miette_cuts.proofs.cut_text.push_cut.Given as goal
 
 abbrev pub invariant-loop-stretch : goal.invariant-loop-stretch
 invariant-loop-stretch g l =
-    l.page ⊕ row_tokens (cut_cells (map highlight_of l.fn.pieces) l.before (drop l.stretch-index l.cut) l.walk)
+    l.page ⊕ row_tokens (cut_cells (map highlight_of l.rest) l.before (drop l.stretch-index l.cut) l.walk)
     ≡ l.fn.page ⊕ row_tokens (cut_cells (map highlight_of l.fn.pieces) 0 l.cut l.fn.walk)

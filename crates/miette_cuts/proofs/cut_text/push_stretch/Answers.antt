@@ -3,7 +3,7 @@ use Rattle.miette_snippet_rules.specs.rules.CutLines.{pieces_within}
 use Rattle.miette_snippet_rules.specs.rules.Highlighting.{highlight_of}
 use Rattle.miette_snippet_rules.specs.rules.PrintedCells.{line_runs}
 use Rattle.miette_cuts.specs.views.Cuts.{is_kept}
-use Rattle.miette_cuts.proofs.CutText.{piece_cut, pieces_end, stretch_dots, stretch_shown}
+use Rattle.miette_cuts.proofs.CutText.{pieces_end, stretch_dots, stretch_shown}
 use Rattle.miette_cuts.proofs.cut_text.push_stretch.Goals as goal
 
 pub returns-then-not-is_shown-clause-told : goal.returns-then-not-is_shown-clause-told
@@ -13,24 +13,11 @@ returns-then-not-is_shown-clause-told g c =
     c.begin.new.self c.push_copies.new.self
     (sym c.is_shown.ensures ∙ c.if-not-is_shown.true) c.in_ok-begin.ensures c.in_ok-push_copies.ensures
 
-pub loop-piece-preserved : goal.loop-piece-preserved
-loop-piece-preserved g c = record {
-  told = piece_cut c.args.pieces.now c.loop-piece.piece-index c.loop-piece.before c.loop-piece.bytes
-      c.saturating_sub-behind.result c.min.result _ (take c.loop-piece.many c.loop-piece.walk)
-      (take c.in_ok-many.many c.push_some.new.walk)
-      c.loop-piece.page c.begin-in-loop-piece.new.self c.push_some.new.page _ c.saturating_sub-before.result
-      c.saturating_sub-bytes.result c.loop-piece-test.true c.saturating_sub-behind.ensures c.min.ensures
-      c.saturating_sub-before.ensures c.saturating_sub-bytes.ensures
-      c.in_ok-begin-2.ensures c.in_ok-many.ensures.within c.in_ok-many.ensures.beyond c.loop-piece.invariant.told;
-  later = c.in_ok-many.ensures.later ∙ c.loop-piece.invariant.later;
-}
-
 pub returns-clause-told : goal.returns-clause-told
 returns-clause-told g c =
     stretch_shown (is_kept c.args.stretch.now) (line_runs
     (pieces_within c.args.before c.args.stretch.now.bytes (map highlight_of c.args.pieces.now))
     (take c.args.stretch.now.cells c.args.walk.now)) c.args.page.now c.push_all.new.page
     (sym c.is_shown.ensures ∙ c.if-not-is_shown.false)
-    (pieces_end c.args.pieces.now c.loop-piece.piece-index c.loop-piece.before c.loop-piece.bytes
-    (take c.loop-piece.many c.loop-piece.walk) c.loop-piece.page c.begin-2.new.self c.push_all.new.page _
-    c.loop-piece-test.false c.in_ok-begin-3.ensures c.in_ok-push_all.ensures.told c.loop-piece.invariant.told)
+    (pieces_end (take c.in_ok-many.many c.push_pieces.new.walk) c.push_pieces.new.page c.begin-2.new.self
+    c.push_all.new.page _ c.in_ok-begin-2.ensures c.in_ok-push_all.ensures.told c.in_ok-many.ensures.told)

@@ -10,11 +10,14 @@ use Rattle.miette_cuts.proofs.plain_cut.put_plain.Given as goal
 
 abbrev pub invariant-loop-column : goal.invariant-loop-column
 invariant-loop-column l = record {
+  nearness : l.nearness ≡ l.fn.nearness;
   within : l.column ≤ l.end;
   from : l.plain.from ≤ l.column;
   told : (bytes : List ℕ) (rest : List Cell) → list_all is_printable bytes ≡ true → length bytes ≡ l.plain.many →
-      l.made.items ++ onto_made l.reached (behind l.limit l.ends l.reached.near l.plain bytes rest l.column)
-      ≡ l.fn.made.items ++ onto_made l.fn.reached (map measure (stretches (is_near l.limit l.ends) l.fn.reached.near
+      l.made.items ++ onto_made l.reached (behind l.fn.nearness.limit l.fn.nearness.ends l.reached.near l.plain bytes
+      rest l.column)
+      ≡ l.fn.made.items ++ onto_made l.fn.reached (map measure (stretches
+      (is_near l.fn.nearness.limit l.fn.nearness.ends) l.fn.reached.near
       (plain_cells l.plain.start l.plain.from bytes ++ rest)));
 }
 

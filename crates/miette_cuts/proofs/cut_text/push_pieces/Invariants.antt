@@ -4,7 +4,7 @@ use Rattle.miette_page.specs.views.Tokens.{row_tokens}
 use Rattle.miette_snippet_rules.specs.rules.CutLines.{pieces_within}
 use Rattle.miette_snippet_rules.specs.rules.Highlighting.{highlight_of}
 use Rattle.miette_snippet_rules.specs.rules.PrintedCells.{line_runs}
-use Rattle.miette_cuts.proofs.cut_text.push_stretch.Given as goal
+use Rattle.miette_cuts.proofs.cut_text.push_pieces.Given as goal
 
 abbrev pub invariant-loop-piece : goal.invariant-loop-piece
 invariant-loop-piece g l = record {

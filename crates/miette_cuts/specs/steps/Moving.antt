@@ -1,0 +1,10 @@
+-- How far a program has gone through the stretches of a line.
+use Rattle.std.specs.Prelude.{ℕ, ◌≡◌, ◌+◌, ◌-◌, ◌≤◌, List, drop}
+use Rattle.miette_cuts.specs.declared.stretch.Stretch.{Stretch}
+use Rattle.miette_cuts.specs.declared.moving.Place.{Place}
+use Rattle.miette_cuts.specs.steps.Cut.{made_column}
+
+-- columns from the place's own on stand in the row as the stretches that aren't passed say
+pub record IsPlace (cut : List Stretch) (place : Place) : Type 0 where
+  pub stand : (column : ℕ) → place.before ≤ column →
+      made_column cut column ≡ place.row + made_column (drop place.passed cut) (column - place.before)

@@ -1,0 +1,158 @@
+//! Which cells of a line are near an end of a mark, by one walk over the ends.
+
+ghost use Rattle.std.specs.Prelude.{◌≡◌, ◌<◌, ◌≤◌, ◌+◌, ◌/◌, ℕ, nat_lt};
+ghost use Rattle.std.specs.List.Sorted.{IsNonDecreasing};
+ghost use Rattle.miette_cells.specs.views.Walking.{cell_of};
+ghost use Rattle.miette_snippet_rules.specs.rules.CutLines.{is_near, is_within};
+ghost use Rattle.miette_cuts.specs.steps.Cut.{cell_at};
+ghost use Rattle.miette_cuts.specs.steps.Nearness.{ArePassed, end_ahead, LineEnds};
+
+use miette_cells::cells::Cell;
+use std::marker::Model;
+
+/// The ends of a line, which ascend, and how many columns it may have. As far as columns ascend that are asked for,
+/// each end is passed once: the first `passed` ends are too far in front of `column`.
+#[derive(Drop)]
+pub(crate) struct Nearness<'a> {
+    limit: usize,
+    ends: &'a [usize],
+    passed: usize,
+    column: usize,
+}
+
+impl<'a> Model for Nearness<'a> {
+    ghost use Rattle.miette_cuts.specs.steps.Nearness.{IsSearched, LineEnds};
+
+    ghost Value = { LineEnds };
+
+    ghost view = { λ n. record { limit = n.limit; ends = n.ends.now } };
+
+    ghost invariant = { λ n. IsSearched n.limit n.ends.now n.passed n.column };
+}
+
+// Whether some column of a cell is at most so many columns away from this one.
+fn is_within_of(reach: usize, cell: &Cell, column: usize) -> bool
+    ensures { result ≡ is_within reach (cell_of cell.now) column }
+{
+    cell.from.saturating_sub(column) <= reach
+        && (column < cell.until || column - cell.until < reach)
+}
+
+// Whether a column is near where there is no end, as those before the limit are, and the column, at most `len`, up to
+// which those behind it are near where it is.
+fn turn_at(limit: usize, column: usize, len: usize) -> (bool, usize)
+    requires { column < len }
+    ensures more { column < result.1 }
+    ensures within { result.1 ≤ len }
+    ensures alike { (x : ℕ) → column ≤ x → x < result.1 → nat_lt x limit ≡ result.0 }
+{
+    if column < limit {
+        return (true, limit.min(len));
+    }
+    (false, len)
+}
+
+// The same by an end that isn't too far in front of the column.
+fn turn_by(reach: usize, end: usize, column: usize, len: usize) -> (bool, usize)
+    requires some { column < len }
+    requires ahead { column ≤ end + reach }
+    ensures more { column < result.1 }
+    ensures within { result.1 ≤ len }
+    ensures reached { result.1 ≤ end + reach + 1 }
+    ensures alike { (x : ℕ) → column ≤ x → x < result.1 → is_within reach (cell_at x) end ≡ result.0 }
+{
+    let from = end.saturating_sub(reach);
+    if column < from {
+        return (false, from.min(len));
+    }
+    let behind = end.saturating_add(reach).saturating_add(1);
+    (true, behind.min(len))
+}
+
+// How many ends are passed before any more is looked at: those that are at another column, unless that stands behind.
+fn start_at(column: usize, reached: usize, passed: usize) -> usize
+    ensures anew { column < reached → result ≡ 0 }
+    ensures on { reached ≤ column → result ≡ passed }
+{
+    if column < reached { 0 } else { passed }
+}
+
+// How many ends are too far in front of a column, where the first so many are, and the first one that isn't.
+fn passed_at(ends: &[usize], reach: usize, column: usize, start: usize) -> (usize, Option<usize>)
+    requires { ArePassed reach ends.now start column }
+    ensures passed { ArePassed reach ends.now result.0 column }
+    ensures found { result.1 ≡ end_ahead reach column ends.now }
+{
+    let mut at = start;
+    while at < ends.len() {
+        let end = ends[at];
+        let away = column.saturating_sub(end);
+        if away <= reach {
+            return (at, Some(end));
+        }
+        at += 1;
+    }
+    (at, None)
+}
+
+impl<'a> Nearness<'a> {
+    /// The ends of a line, which ascend, and how many columns it may have.
+    pub(crate) fn new(limit: usize, ends: &'a [usize]) -> Self
+        requires { IsNonDecreasing ends.now }
+        ensures { result ≡ record { limit = limit; ends = ends.now } }
+    {
+        Nearness {
+            limit,
+            ends,
+            passed: 0,
+            column: 0,
+        }
+    }
+
+    // The first end that isn't too far in front of a column.
+    fn end_ahead(&mut self, column: usize) -> Option<usize>
+        ensures found { result ≡ end_ahead (self.old.limit / 4) column self.old.ends }
+        ensures same { self.new ≡ self.old }
+    {
+        let start = start_at(column, self.column, self.passed);
+        let (passed, found) = passed_at(self.ends, self.limit / 4, column, start);
+        self.passed = passed;
+        self.column = column;
+        found
+    }
+
+    /// Whether a cell that has columns is near.
+    pub(crate) fn is_near(&mut self, cell: &Cell) -> bool
+        ensures near { result ≡ is_near self.old.limit self.old.ends (cell_of cell.now) }
+        ensures same { self.new ≡ self.old }
+    {
+        if self.ends.is_empty() {
+            return cell.from < self.limit;
+        }
+        let reach = self.limit / 4;
+        match self.end_ahead(cell.from) {
+            Some(end) => is_within_of(reach, cell, end),
+            None => false,
+        }
+    }
+
+    /// Whether the cell of one column that stands at a column is near, and the column, at most `len`, up to which those
+    /// behind it are near where it is.
+    pub(crate) fn turn_behind(&mut self, column: usize, len: usize) -> (bool, usize)
+        requires { column < len }
+        ensures more { column < result.1 }
+        ensures within { result.1 ≤ len }
+        ensures alike { (x : ℕ) → column ≤ x → x < result.1 →
+            is_near self.old.limit self.old.ends (cell_at x) ≡ result.0 }
+        ensures same { self.new ≡ self.old }
+    {
+        if self.ends.is_empty() {
+            return turn_at(self.limit, column, len);
+        }
+        let reach = self.limit / 4;
+        match self.end_ahead(column) {
+            Some(end) => turn_by(reach, end, column, len),
+            None => (false, len),
+        }
+    }
+}
