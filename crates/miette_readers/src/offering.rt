@@ -111,7 +111,7 @@ fn any_in(edits: &[&FileEdit<'_, '_>], name: &str) -> bool
 }
 
 /// The first edit of each file but the main one.
-fn others<'o, 'f, 'v>(
+pub fn others<'o, 'f, 'v>(
     alloc: Global,
     edits: &'o [FileEdit<'f, 'v>],
     main: Option<&str>,

@@ -17,7 +17,8 @@ use std::marker::Model;
 /// An edit of a file, at a place that is in it.
 #[derive(Drop)]
 pub struct FileEdit<'f, 'v> {
-    pub(crate) name: &'v str,
+    /// The name of the file.
+    pub name: &'v str,
     pub(crate) file: LentFile<'f>,
     stretch: Stretch,
     text: &'v str,
@@ -139,7 +140,7 @@ fn with_edit(list: &mut Vec<Fix>, alloc: Global, fix: Fix, edit: Edit) -> Result
 
 impl<'f, 'v> Offer<'f, 'v> {
     /// Appends fixes of its edits over a file: one that conflicts with one of a fix begins a further fix.
-    pub(crate) fn push_fixes(
+    pub fn push_fixes(
         &self,
         list: &mut Vec<Fix>,
         alloc: Global,

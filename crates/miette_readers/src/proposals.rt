@@ -56,7 +56,7 @@ fn edits_at<'f, 'v, F: Files>(
 }
 
 /// What a note or a help proposes; none where it proposes nothing, or a place can't be found.
-pub(crate) fn offer_of<'f, 'v, F: Files>(
+pub fn offer_of<'f, 'v, F: Files>(
     alloc: Global,
     files: &'f F,
     child: &'v Value,

@@ -40,7 +40,7 @@ impl From<AllocError> for ReadError {
 }
 
 /// Whether it holds no message of rustc, as cargo says.
-fn is_other_reason(value: &Value) -> bool
+pub fn is_other_reason(value: &Value) -> bool
     ensures { result ≡ is_other_reason (view value.now) }
 {
     match text_at(value, "reason") {
@@ -50,7 +50,7 @@ fn is_other_reason(value: &Value) -> bool
 }
 
 /// Whether it is no diagnostic, as rustc says.
-fn is_other_type(message: &Value) -> bool
+pub fn is_other_type(message: &Value) -> bool
     ensures { result ≡ is_other_type (view message.now) }
 {
     match text_at(message, "$message_type") {
@@ -60,7 +60,7 @@ fn is_other_type(message: &Value) -> bool
 }
 
 /// What a row of cargo holds for rustc's, the row itself where it is rustc's own.
-fn held_in(value: &Value) -> Option<&Value>
+pub fn held_in(value: &Value) -> Option<&Value>
     ensures { option_map (λ v. view v.now) result
         ≡ held_in (view value.now) (text_at (codes "reason") (view value.now)) }
 {

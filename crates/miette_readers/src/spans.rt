@@ -122,7 +122,7 @@ pub(crate) fn spans_of<'v>(alloc: Global, message: &'v Value) -> Result<Vec<&'v 
 }
 
 /// The edits that a note or a help proposes.
-pub(crate) fn edits_of<'v>(alloc: Global, child: &'v Value) -> Result<Vec<&'v Value>, AllocError>
+pub fn edits_of<'v>(alloc: Global, child: &'v Value) -> Result<Vec<&'v Value>, AllocError>
     ensures { IfOk result (λ list. seen list.items ≡ edits_of (view child.now)) }
 {
     let mut list = Vec::new(alloc);

@@ -2,6 +2,7 @@ pub mod Beginnings
 pub mod Calls
 pub mod FolderSteps
 pub mod Going
+pub mod MendSteps
 pub mod NoteEnds
 pub mod Progress
 pub mod ReportSteps

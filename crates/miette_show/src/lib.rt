@@ -3,9 +3,11 @@
 
 pub mod folder;
 pub mod loader;
+pub mod mend;
 mod message;
 mod reports;
 pub mod row_reader;
 pub mod show;
+pub mod store;
 pub mod verdict;
 pub mod words;

@@ -37,6 +37,8 @@ pub struct ShowWords<'w> {
     pub root: Option<&'w str>,
     /// What is read.
     pub from: Format,
+    /// Whether files are fixed; then there are no words of `job`.
+    pub fix: bool,
     /// The words of `job`.
     pub options: &'w [String],
 }
@@ -48,9 +50,14 @@ impl<'w> ShowWords<'w> {
     {
         let mut root = None;
         let mut from = Format::Auto;
+        let mut fix = false;
         let mut rest = words;
         while let Some((word, more)) = rest.split_first() {
             match word.as_str() {
+                "--fix" => {
+                    fix = true;
+                    rest = more;
+                }
                 "--root" => {
                     let (value, after) = more.split_first()?;
                     root = Some(value.as_str());
@@ -64,9 +71,13 @@ impl<'w> ShowWords<'w> {
                 _ => break,
             }
         }
+        if fix && !rest.is_empty() {
+            return None;
+        }
         Some(ShowWords {
             root,
             from,
+            fix,
             options: rest,
         })
     }

@@ -40,7 +40,8 @@ loop-word-preserved c =
     after c.in_ok-from-in-text-2.from rest
     (ap (λ w. bytes_eq w (codes "--root")) (sym c.as_str.ensures.value) ∙ no)
     (ap (λ w. bytes_eq w (codes "--from")) (sym c.as_str.ensures.value) ∙ here)
-    (ap format_named (sym c.as_str-in-text-2.ensures.value) ∙ sym c.in_ok-from-in-text-2.ensures) ∙ c.loop-word.invariant
+    (ap format_named (sym c.as_str-in-text-2.ensures.value) ∙ sym c.in_ok-from-in-text-2.ensures)
+    ∙ c.loop-word.invariant
 
 pub returns : goal.returns
 returns c =
