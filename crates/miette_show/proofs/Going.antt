@@ -1,6 +1,6 @@
 -- Files that are looked for, and handlers that are called, one after another.
 use Rattle.std.proofs.Common.{zero, suc, arith}
-use Rattle.std.proofs.Common.{◌≡◌, ℕ, ◌+◌, ◌<◌, List, [], ◌∷◌, Option, All, Bool, Bor, length, get_or, take, refl}
+use Rattle.std.proofs.Common.{◌≡◌, ℕ, ◌+◌, ◌<◌, List, [], ◌∷◌, Option, All, Bool, Bor, length, get_or, map, take, refl}
 use Rattle.std.proofs.Common.{sym, ap, subst, ◌∙◌}
 use Rattle.std.proofs.lemmas.List.{map-append}
 use Rattle.std.proofs.lemmas.List.Elements.{All-nil, All-cons, All-append}
@@ -115,3 +115,10 @@ pub first_by : (from : Format) (p q : Tree → List ℕ → Type 0)
     → ((t : Tree) (x : List ℕ) → p t x → q t x) → ShowsFirst from p f bytes holds → ShowsFirst from q f bytes holds
 first_by from p q f bytes holds h s =
     (s.0, s.1, s.2, (λ i d k. shown_by from p q f f _ h (λ files names x. x) (s.3 i d k)), s.4)
+
+pub held_more : {X : Type 0} (look : X → List ℕ) (l : List ℕ → Type 0) (names : List X) (i : ℕ) (x : X)
+    → i < length names → x ≡ get_or names i x → All l (map look (take i names)) → l (look x)
+    → All l (map look (take (i + 1) names))
+held_more look l names i x h is known here =
+    subst (All l) (sym (ap (map look) (next_taken names i x h is) ∙ map-append look (take i names) (x ∷ [])))
+    (All-append l (map look (take i names)) (look x ∷ []) known (All-cons l (look x) [] here (All-nil l)))

@@ -1,7 +1,9 @@
 pub mod Beginnings
 pub mod Calls
+pub mod ChangeSteps
 pub mod FolderSteps
 pub mod Going
+pub mod MendEnds
 pub mod MendSteps
 pub mod NoteEnds
 pub mod Progress

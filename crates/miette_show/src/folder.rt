@@ -5,13 +5,12 @@ ghost use Rattle.std.specs.Option.{option_copied};
 ghost use Rattle.miette_show.specs.rules.Looking.{path_in};
 
 use crate::loader::Loader;
-use crate::store::Store;
 use miette_protocol::source::{IndexedSource, NamedSource};
 use miette_readers::files::{Files, LentFile, SourceFile};
 use std::alloc::{AllocError, Global};
 use std::collections::HashMap;
-use std::io::{ErrorKind, Write};
-use std::{fs, io, rt};
+use std::io::ErrorKind;
+use std::{fs, rt};
 
 /// The files below a folder, by the names that rows give them. Each is read once, when it is first looked for.
 #[derive(Drop)]
@@ -22,7 +21,7 @@ pub struct Folder<'r, H> {
 }
 
 /// Where the file of this name lies: below the folder, unless its name begins with `/`.
-fn path_in(alloc: Global, root: Option<&str>, name: &str) -> Result<String, AllocError>
+pub(crate) fn path_in(alloc: Global, root: Option<&str>, name: &str) -> Result<String, AllocError>
     ensures { IfOk result (λ path. string_bytes path ≡ path_in (option_copied root.entry) name.now) }
 {
     let mut path = String::new(alloc);
@@ -101,64 +100,5 @@ impl<'r, H: rt::Files + AllocGlobal> Loader for Folder<'r, H> {
         let file = self.read(alloc, name)?;
         self.files.insert(key, file)?;
         Ok(())
-    }
-}
-
-// What a file is called while it is written.
-const BESIDE: &str = ".show-fix";
-
-/// The name of a file beside another one.
-fn path_beside(alloc: Global, path: &str) -> Result<String, AllocError> {
-    let mut beside = String::from_str(alloc, path)?;
-    beside.push_str(BESIDE)?;
-    Ok(beside)
-}
-
-/// Writes a file that isn't there yet, with the permissions of another one.
-fn write_like<H: rt::Files>(host: &H, path: &str, like: &str, text: &[u8]) -> io::Result<()> {
-    let found = fs::metadata(host, like)?;
-    let mut file = fs::OpenOptions::new()
-        .write(true)
-        .create_new(true)
-        .open(host, path)?;
-    file.write_all(text)?;
-    file.sync_all()?;
-    fs::set_permissions(host, path, found.permissions())
-}
-
-/// Writes a file whole beside the one of this path, and renames it over that one, or leaves all as it was; whether it
-/// was written.
-fn write_over<H: rt::Files>(
-    alloc: Global,
-    host: &H,
-    path: &str,
-    text: &[u8],
-) -> Result<bool, AllocError> {
-    let beside = path_beside(alloc, path)?;
-    match write_like(host, beside.as_str(), path, text) {
-        Ok(()) => {}
-        Err(error) if error.kind() == ErrorKind::AlreadyExists => return Ok(false),
-        Err(_) => {
-            let _ = fs::remove_file(host, beside.as_str());
-            return Ok(false);
-        }
-    }
-    match fs::rename(host, beside.as_str(), path) {
-        Ok(()) => Ok(true),
-        Err(_) => {
-            let _ = fs::remove_file(host, beside.as_str());
-            Ok(false)
-        }
-    }
-}
-
-impl<'r, H: rt::Files + AllocGlobal> Store for Folder<'r, H> {
-    ghost use Rattle.std.specs.Prelude.{None};
-
-    ghost written = { λ it. None };
-
-    fn write(&mut self, alloc: Global, name: &str, text: &[u8]) -> Result<bool, AllocError> {
-        let path = path_in(alloc, self.root, name)?;
-        write_over(alloc, self.host, path.as_str(), text)
     }
 }

@@ -1,6 +1,6 @@
 //! Files that are looked for as rows name them.
 
-ghost use Rattle.std.specs.Prelude.{◌≡◌, ℕ, List, OnOk};
+ghost use Rattle.std.specs.Prelude.{◌≡◌, ℕ, List, OnOk, map, string_bytes};
 ghost use Rattle.std.specs.List.{All};
 ghost use Rattle.serde_json.specs.View.{view};
 ghost use Rattle.miette_readers.specs.rules.Names.{names_of};
@@ -37,6 +37,21 @@ fn load_names<F: Loader>(alloc: Global, files: &mut F, names: &[&str]) -> Result
     for name in names {
         let name = *name;
         files.load(alloc, name)?;
+    }
+    Ok(())
+}
+
+/// Looks for the files of these names, which are held.
+pub(crate) fn load_held<F: Loader>(
+    alloc: Global,
+    files: &mut F,
+    names: &[String],
+) -> Result<(), AllocError>
+    ensures known { OnOk result (All (F.knows files.new) (map string_bytes names.now)) }
+    ensures goes { Goes (F.found files.old) (F.knows files.old) (F.found files.new) (F.knows files.new) }
+{
+    for name in names {
+        files.load(alloc, name.as_str())?;
     }
     Ok(())
 }

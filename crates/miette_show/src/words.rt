@@ -2,7 +2,7 @@
 
 ghost use Rattle.std.specs.Prelude.{◌≡◌};
 ghost use Rattle.std.specs.Option.{option_map};
-ghost use Rattle.miette_show.specs.rules.ShowWords.{asked_for, format_named};
+ghost use Rattle.miette_show.specs.rules.ShowWords.{asked_for, asked_in_front, format_named};
 ghost use Rattle.miette_show.specs.views.Asked.{request_of, words_of};
 
 /// What is read.
@@ -44,9 +44,9 @@ pub struct ShowWords<'w> {
 }
 
 impl<'w> ShowWords<'w> {
-    /// What the words ask for; nothing where those in front are wrong.
-    pub fn read(words: &'w [String]) -> Option<ShowWords<'w>>
-        ensures { option_map request_of result ≡ asked_for (words_of words.entry) }
+    /// What the words ask for by those in front; nothing where these are wrong.
+    fn front(words: &'w [String]) -> Option<ShowWords<'w>>
+        ensures { option_map request_of result ≡ asked_in_front (words_of words.entry) }
     {
         let mut root = None;
         let mut from = Format::Auto;
@@ -71,14 +71,23 @@ impl<'w> ShowWords<'w> {
                 _ => break,
             }
         }
-        if fix && !rest.is_empty() {
-            return None;
-        }
         Some(ShowWords {
             root,
             from,
             fix,
             options: rest,
         })
+    }
+
+    /// What the words ask for; nothing where those in front are wrong, or others stand behind `--fix`.
+    pub fn read(words: &'w [String]) -> Option<ShowWords<'w>>
+        ensures { option_map request_of result ≡ asked_for (words_of words.entry) }
+    {
+        let asked = ShowWords::front(words)?;
+        if asked.fix && !asked.options.is_empty() {
+            None
+        } else {
+            Some(asked)
+        }
     }
 }

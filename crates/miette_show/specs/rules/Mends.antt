@@ -1,6 +1,6 @@
 -- What `show --fix` does: which fixes rows give, and what is written of files.
-use Rattle.std.specs.Prelude.{◌≡◌, ◌×◌, ℕ, ◌+◌, List, [], ◌∷◌, ◌++◌, Option, Some, None, Bool, true, false, IsUtf8}
-use Rattle.std.specs.Prelude.{⊤, option_and_then, if◌then◌else◌, codes, decimal, length, map}
+use Rattle.std.specs.Prelude.{◌≡◌, ◌⊎◌, ℕ, ◌+◌, List, [], ◌∷◌, ◌++◌, Option, Some, None, Bool, true, false, IsUtf8}
+use Rattle.std.specs.Prelude.{option_and_then, is_some, codes, decimal, length, map}
 use Rattle.std.specs.List.{All, count_by, flat_map, list_any}
 use Rattle.serde_json.specs.Data.{Data}
 use Rattle.serde_json.specs.Read.{read}
@@ -52,34 +52,60 @@ unread_notes n (s ∷ ss) = note_of n (kind_unread s.kind) ++ unread_notes (n + 
 
 -- ---- files
 
--- what is done to a file: its text after the fixes, which of them are taken, and whether it could be written
+-- what is done to a file: its text after the fixes, and which of them are taken, where it is written
 pub record Change : Type 0 where
   pub name : List ℕ
   pub text : List ℕ
-  pub taken : List Bool
-  pub done : Bool
+  pub taken : Option (List Bool)
 
--- by what is found of files, and by the fixes of each
-abbrev pub IsChange : (List ℕ → Option Source) → (List ℕ → List Proposal) → Change → Type 0
-IsChange files fixes c = c.done ≡ true → (file : Source) × (files c.name ≡ Some file)
-    × (c.text ≡ mended file.bytes (fixes c.name))
-    × (c.taken ≡ taken (length file.bytes) [] (map (λ fix. fix.edits) (fixes c.name)))
+-- a file that is there has this text after the fixes that count, which are taken
+abbrev pub IsMended : Option Source → List Proposal → List ℕ → List Bool → Type 0
+IsMended None fixes text which = ⊥
+IsMended (Some file) fixes text which =
+    (text ≡ mended file.bytes fixes) × (which ≡ taken (length file.bytes) [] (map (λ fix. fix.edits) fixes))
 
--- what is written where it can be
+-- one that isn't written isn't there, or may be refused
+abbrev pub IsOutcome : Option Source → Type 0 → List Proposal → List ℕ → Option (List Bool) → Type 0
+IsOutcome file may_refuse fixes text None = (file ≡ None) ⊎ may_refuse
+IsOutcome file may_refuse fixes text (Some which) = IsMended file fixes text which
+
+-- by what is found of files, what may be refused, and the fixes of each file
+abbrev pub IsChange : (List ℕ → Option Source) → (List ℕ → Type 0) → (List ℕ → List Proposal) → Change → Type 0
+IsChange files refuses fixes c = IsOutcome (files c.name) (refuses c.name) (fixes c.name) c.text c.taken
+
+-- what is written of a file
+abbrev pub written_as : List ℕ → List ℕ → Option (List Bool) → List (List ℕ × List ℕ)
+written_as name text None = []
+written_as name text (Some which) = (name, text) ∷ []
+
+abbrev pub done_row : List ℕ → List Bool → List ℕ
+done_row name which =
+    codes "fixed " ++ (name ++ (codes ": " ++ (decimal (count_by (λ b. b) which) ++ (codes " of "
+    ++ (decimal (length which) ++ codes " fixes\n")))))
+
+abbrev pub fault_row : List ℕ → List ℕ
+fault_row name = codes "show: " ++ (name ++ codes ": can't be written\n")
+
+-- what is said of a file that is written, and of one that isn't
+abbrev pub said_as : List ℕ → Option (List Bool) → List ℕ
+said_as name None = []
+said_as name (Some which) = done_row name which
+
+abbrev pub fault_as : List ℕ → Option (List Bool) → List ℕ
+fault_as name None = fault_row name
+fault_as name (Some which) = []
+
+abbrev pub is_done : Change → Bool
+is_done c = is_some c.taken
+
 abbrev pub written_of : Change → List (List ℕ × List ℕ)
-written_of c = if c.done then (c.name, c.text) ∷ [] else []
+written_of c = written_as c.name c.text c.taken
 
-abbrev pub done_row : Change → List ℕ
-done_row c =
-    codes "fixed " ++ (c.name ++ (codes ": " ++ (decimal (count_by (λ b. b) c.taken) ++ (codes " of "
-    ++ (decimal (length c.taken) ++ codes " fixes\n")))))
-
--- what is said of a file that was written, and of one that can't be
 abbrev pub said_of : Change → List ℕ
-said_of c = if c.done then done_row c else []
+said_of c = said_as c.name c.taken
 
 abbrev pub fault_of : Change → List ℕ
-fault_of c = if c.done then [] else codes "show: " ++ (c.name ++ codes ": can't be written\n")
+fault_of c = fault_as c.name c.taken
 
 -- ---- a run
 
@@ -91,14 +117,15 @@ Gives found bytes holds verdict = (all : List Giving) × (map (λ s. s.row) all 
     × (verdict ≡ record { unread = list_any (λ s. kind_unread s.kind) all; error = false })
 
 -- Each file of these names is changed, by what is found of it and its fixes, and this holds of the changes.
-abbrev pub Changes : (List ℕ → Option Source) → (List ℕ → List Proposal) → List (List ℕ) → (List Change → Type 0)
-    → Type 0
-Changes files fixes names holds = (changes : List Change) × (map (λ c. c.name) changes ≡ names)
-    × All (IsChange files fixes) changes × holds changes
+abbrev pub Changes : (List ℕ → Option Source) → (List ℕ → Type 0) → (List ℕ → List Proposal) → List (List ℕ)
+    → (List Change → Type 0) → Type 0
+Changes files refuses fixes names holds = (changes : List Change) × (map (λ c. c.name) changes ≡ names)
+    × All (IsChange files refuses fixes) changes × holds changes
 
 -- The rows of these bytes give fixes, each file that has some is changed by them, and this holds of the changes and of
 -- the notes on rows that can't be read.
-abbrev pub Mends : ((List ℕ → Option Source) → List (List ℕ) → Type 0) → List ℕ
+abbrev pub Mends : ((List ℕ → Option Source) → List (List ℕ) → Type 0) → (List ℕ → Type 0) → List ℕ
     → (List Change → List ℕ → Type 0) → Verdict → Type 0
-Mends found bytes holds verdict = Gives found bytes (λ all notes. (files : List ℕ → Option Source)
-    × Changes files (λ name. fixes_for name all) (names_in all) (λ changes. holds changes notes)) verdict
+Mends found refuses bytes holds verdict = Gives found bytes (λ all notes. (files : List ℕ → Option Source)
+    × found files (names_in all)
+    × Changes files refuses (λ name. fixes_for name all) (names_in all) (λ changes. holds changes notes)) verdict

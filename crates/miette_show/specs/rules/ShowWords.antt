@@ -1,7 +1,6 @@
 -- The words of `show`.
 use Rattle.std.specs.Prelude.{ℕ, List, [], ◌∷◌, Option, Some, None, Bool, ◌||◌, if◌then◌else◌, bytes_eq, codes}
-use Rattle.std.specs.Prelude.{option_and_then, true, false, ◌&&◌, not}
-use Rattle.miette_basics.specs.rules.Lists.{is_nil}
+use Rattle.std.specs.Prelude.{option_and_then, true, false, ◌&&◌, ◌==◌, not, length}
 use Rattle.miette_show.specs.declared.words.Format.{Format}
 use Rattle.miette_show.specs.declared.words.Format.TheVariants.{Auto, Rustc, Gcc}
 
@@ -36,10 +35,13 @@ asked_from root from fix (word ∷ (value ∷ words)) =
     then option_and_then (λ format. asked_from root format fix words) (format_named value)
     else Some (record { root = root; from = from; fix = fix; options = word ∷ (value ∷ words) })
 
+-- without a word in front the format is told apart by the row
+abbrev pub asked_in_front : List (List ℕ) → Option ShowRequest
+asked_in_front words = asked_from None Auto false words
+
 -- what is fixed isn't drawn: no word of `job` stands behind
 abbrev pub fixes_alone : ShowRequest → Option ShowRequest
-fixes_alone asked = if asked.fix && not (is_nil asked.options) then None else Some asked
+fixes_alone asked = if asked.fix && not (length asked.options == 0) then None else Some asked
 
--- without a word in front the format is told apart by the row
 abbrev pub asked_for : List (List ℕ) → Option ShowRequest
-asked_for words = option_and_then fixes_alone (asked_from None Auto false words)
+asked_for words = option_and_then fixes_alone (asked_in_front words)

@@ -1,5 +1,5 @@
 -- What a store of files tells of what was written.
-use Rattle.std.specs.Prelude.{◌≡◌, ◌×◌, ℕ, List, [], ◌∷◌, ◌++◌, Option, Some, None, Bool, ⊤, if◌then◌else◌}
+use Rattle.std.specs.Prelude.{◌≡◌, ℕ, List, [], ◌∷◌, ◌++◌, Option, Some, None, Bool, true, false, ⊤}
 
 -- these texts were written under these names, behind the others, where it tells
 abbrev pub Writes : Option (List (List ℕ × List ℕ)) → Option (List (List ℕ × List ℕ)) → List (List ℕ × List ℕ) → Type 0
@@ -9,4 +9,5 @@ Writes (Some old) (Some new) more = new ≡ old ++ more
 
 abbrev pub IsWritten : Option (List (List ℕ × List ℕ)) → Option (List (List ℕ × List ℕ)) → Bool → List ℕ → List ℕ
     → Type 0
-IsWritten old new done name text = Writes old new (if done then (name, text) ∷ [] else [])
+IsWritten old new true name text = Writes old new ((name, text) ∷ [])
+IsWritten old new false name text = Writes old new []

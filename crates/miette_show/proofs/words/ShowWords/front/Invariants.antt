@@ -2,7 +2,7 @@ use Rattle.std.proofs.Common.{◌≡◌, map, string_bytes, length, None, false}
 use Rattle.std.specs.Option.{option_copied}
 use Rattle.miette_show.specs.rules.ShowWords.{asked_from}
 use Rattle.miette_show.specs.declared.words.Format.TheVariants.{Auto}
-use Rattle.miette_show.proofs.words.ShowWords.read.Given as goal
+use Rattle.miette_show.proofs.words.ShowWords.front.Given as goal
 
 -- the words that are left ask for what all do
 abbrev pub invariant-loop-word : goal.invariant-loop-word

@@ -4,8 +4,8 @@ use Rattle.std.specs.Option.{option_copied}
 use Rattle.std.proofs.lemmas.List.{nil_from_length}
 use Rattle.miette_show.specs.rules.ShowWords.{asked_from, format_named}
 use Rattle.miette_show.proofs.WordSteps.{from_passed, none_left, others, root_passed}
-use Rattle.miette_show.proofs.words.ShowWords.read.Goals.{in-Some+in_default-as_str, in_default}
-use Rattle.miette_show.proofs.words.ShowWords.read.Goals as goal
+use Rattle.miette_show.proofs.words.ShowWords.front.Goals.{in-Some+in_default-as_str, in_default}
+use Rattle.miette_show.proofs.words.ShowWords.front.Goals as goal
 
 pub loop-word-preserved-then-str_eq : goal.loop-word-preserved-then-str_eq
 loop-word-preserved-then-str_eq c =
