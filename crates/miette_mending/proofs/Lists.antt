@@ -3,10 +3,9 @@ use Rattle.std.proofs.Common.{◌≡◌, ℕ, zero, suc, ◌+◌, ◌<◌, ◌�
 use Rattle.std.proofs.Common.{Bor, Bool}
 use Rattle.std.proofs.Common.{length, get_or, take, drop, map, refl, sym, ap, ◌∙◌, arith, append-nil}
 use Rattle.std.specs.Prelude.{option_map, unwrap_or}
-use Rattle.std.specs.List.{cons_option, filter_map, flat_map}
+use Rattle.std.specs.List.{flat_map}
 use Rattle.std.proofs.lemmas.List.{drop_all, map-append}
 use Rattle.std.proofs.lemmas.List.Concat.{flat_map-append}
-use Rattle.std.proofs.lemmas.List.Elements.{filter_map-append}
 use Rattle.serde_json.specs.View.{view}
 use Rattle.serde_json.specs.declared.value.Value.{Value}
 use Rattle.miette_readers.proofs.Steps.{next_taken}
@@ -45,18 +44,16 @@ begins_all rows i rest h = sym (ap (λ ds. begin_with (seen ds) rest) (drop_all 
 
 -- ---- one item more
 
-module _ {V W X : Type 0} (look : V → W) (xs : List V) (i : ℕ) (x : V) (h : i < length xs)
-    (is : x ≡ get_or xs i x) where
+module _ {V W : Type 0} (look : V → W) (xs : List V) (i : ℕ) (x : V) (h : i < length xs) (is : x ≡ get_or xs i x) where
   next_seen : map look (take (i + 1) xs) ≡ map look (take i xs) ++ look x ∷ []
   next_seen = ap (map look) (next_taken xs i x h is) ∙ map-append look (take i xs) (x ∷ [])
 
-  pub next_mapped : (f : W → X) → map f (map look (take (i + 1) xs)) ≡ map f (map look (take i xs)) ++ f (look x) ∷ []
+  pub next_mapped : {X : Type 0} (f : W → X)
+      → map f (map look (take (i + 1) xs)) ≡ map f (map look (take i xs)) ++ f (look x) ∷ []
   next_mapped f = ap (map f) next_seen ∙ map-append f (map look (take i xs)) (look x ∷ [])
 
-  pub next_flat : {Y : Type 0} (f : X → List Y) (g : W → Option X)
-      → flat_map f (filter_map g (map look (take (i + 1) xs)))
-      ≡ flat_map f (filter_map g (map look (take i xs))) ++ flat_map f (cons_option (g (look x)) [])
-  next_flat f g =
-      ap (λ ys. flat_map f (filter_map g ys)) next_seen
-      ∙ ap (flat_map f) (filter_map-append g (map look (take i xs)) (look x ∷ []))
-      ∙ flat_map-append f (filter_map g (map look (take i xs))) (cons_option (g (look x)) [])
+  pub next_flat : {X : Type 0} (f : W → List X)
+      → flat_map f (map look (take (i + 1) xs)) ≡ flat_map f (map look (take i xs)) ++ f (look x)
+  next_flat f =
+      ap (flat_map f) next_seen ∙ flat_map-append f (map look (take i xs)) (look x ∷ [])
+      ∙ ap (λ l. flat_map f (map look (take i xs)) ++ l) (append-nil (f (look x)))

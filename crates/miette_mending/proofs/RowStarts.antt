@@ -1,13 +1,14 @@
 -- Where rows begin.
 use Rattle.std.proofs.Common.{◌≡◌, ℕ, zero, suc, ◌+◌, ◌-◌, ◌<◌, ◌≤◌, List, [], ◌∷◌, Bool, true, false, length, take}
-use Rattle.std.proofs.Common.{drop}
-use Rattle.std.proofs.Common.{Some, None, Option, refl, sym, ap, ap₂, subst, ◌∙◌, arith}
-use Rattle.std.specs.Prelude.{◌==◌, ◌||◌, if◌then◌else◌}
+use Rattle.std.proofs.Common.{drop, refl, sym, ap, ap₂, ◌∙◌, arith, eq-eqb}
+use Rattle.std.specs.Prelude.{◌==◌, ◌||◌, ◌&&◌, if◌then◌else◌, nat_le, slice_range}
 use Rattle.std.specs.List.{list_any}
 use Rattle.std.proofs.lemmas.Bool.{false_from_ne_true}
+use Rattle.std.proofs.lemmas.Bool.Decides.{nat_tests}
 use Rattle.std.proofs.lemmas.List.{length-drop, length-take-le}
 use Rattle.memchr.specs.Find.{IsLastByte, NoneAfter, Nowhere, Passes, is_byte}
-use Rattle.miette_mending.specs.rules.Fresh.{last_row, row_start}
+use Rattle.serde_json.specs.Data.{Data}
+use Rattle.miette_mending.specs.rules.Fresh.{begin_with, column_behind, last_row, row_start, stand_in}
 
 abbrev Ends : List ℕ → ℕ → Type 0
 Ends bytes = Passes (is_byte 10) bytes
@@ -83,3 +84,21 @@ start_found bytes offset at h after is =
     ap length (last_behind (before bytes offset) at high is after.after) ∙ length-drop (at + 1) (before bytes offset)
     in
     omega (arith, many, high, left)
+
+-- ---- rows from there on
+
+module _ (bytes : List ℕ) (at column start n : ℕ) (rows : List Data) (within : at ≤ length bytes)
+    (is : start ≡ row_start bytes at) (counted : n ≡ column_behind (slice_range bytes start at)) where
+  by_parts : ((n == column) && begin_with rows (drop start bytes)) ≡ stand_in bytes at column rows
+  by_parts =
+      let inside : nat_le at (length bytes) ≡ true = grind (arith, nat_tests) in
+      ap (λ (m : ℕ). (m == column) && begin_with rows (drop start bytes)) counted
+      ∙ ap (λ (s : ℕ). (column_behind (slice_range bytes s at) == column) && begin_with rows (drop s bytes)) is
+      ∙ sym (pick (nat_le at (length bytes)) _ false inside)
+
+  pub stands : (b : Bool) → n ≡ column → b ≡ begin_with rows (drop start bytes) → b ≡ stand_in bytes at column rows
+  stands b same e =
+      e ∙ sym (ap (λ t. t && begin_with rows (drop start bytes)) (eq-eqb n column same)) ∙ by_parts
+
+  pub stands_not : (n == column) ≡ false → (n == column) ≡ stand_in bytes at column rows
+  stands_not e = e ∙ sym (ap (λ t. t && begin_with rows (drop start bytes)) e) ∙ by_parts

@@ -1,11 +1,11 @@
 //! Proposals that rustc is sure of.
 
 ghost use Rattle.std.specs.Prelude.{◌≡◌, List, Err, IfOk, None, OnErr, OnOk, Some, option_map};
-ghost use Rattle.std.specs.List.{filter_map, flat_map};
+ghost use Rattle.std.specs.List.{flat_map};
 ghost use Rattle.serde_json.specs.View.{view};
 ghost use Rattle.miette_readers.specs.views.Values.{seen};
-ghost use Rattle.miette_mending.specs.rules.Sure.{FileFixes, diagnostic_in, diagnostic_of, is_sure, offer_fixes};
-ghost use Rattle.miette_mending.specs.rules.Sure.{sure_offer, value_fixes};
+ghost use Rattle.miette_mending.specs.rules.Sure.{FileFixes, child_fixes, diagnostic_in, diagnostic_of, is_sure};
+ghost use Rattle.miette_mending.specs.rules.Sure.{offer_fixes, sure_offer, value_fixes};
 ghost use Rattle.miette_mending.specs.views.Holding.{Adds};
 
 use crate::fresh::all_fresh;
@@ -99,6 +99,21 @@ fn add_offer(
     Ok(())
 }
 
+/// Adds the fixes of what a note or a help proposes that is machine-applicable.
+fn add_child<F: Files>(
+    gathered: &mut Gathered,
+    alloc: Global,
+    files: &F,
+    child: &Value,
+) -> Result<(), AllocError>
+    ensures { OnOk result (Adds gathered.old gathered.new (child_fixes (F.found files.now) (view child.now))) }
+{
+    match sure_offer(alloc, files, child)? {
+        Some(offer) => add_offer(gathered, alloc, &offer),
+        None => Ok(()),
+    }
+}
+
 /// Adds the fixes of what these notes and helps propose that is machine-applicable.
 fn add_children<F: Files>(
     gathered: &mut Gathered,
@@ -107,13 +122,11 @@ fn add_children<F: Files>(
     children: &[&Value],
 ) -> Result<(), AllocError>
     ensures { OnOk result (Adds gathered.old gathered.new
-        (flat_map offer_fixes (filter_map (sure_offer (F.found files.now)) (seen children.now)))) }
+        (flat_map (child_fixes (F.found files.now)) (seen children.now))) }
 {
     for child in children {
         let child = *child;
-        if let Some(offer) = sure_offer(alloc, files, child)? {
-            add_offer(gathered, alloc, &offer)?;
-        }
+        add_child(gathered, alloc, files, child)?;
     }
     Ok(())
 }

@@ -1,6 +1,6 @@
 -- Files that are changed, one after another.
 use Rattle.std.proofs.Common.{◌≡◌, ℕ, List, [], ◌∷◌, ◌++◌, Bool, true, false, map, Option, Some, None, IfSome, All, refl}
-use Rattle.std.proofs.Common.{sym, ap, ap₂, subst, ◌∙◌, append_assoc, append-nil}
+use Rattle.std.proofs.Common.{sym, ap, ap₂, subst, ◌∙◌, append_assoc, append-nil, ◌⊎◌, ◌↔◌, inl, inr, IsTrue, Ok, Err}
 use Rattle.std.specs.Prelude.{◌&&◌, is_some}
 use Rattle.std.specs.List.{flat_map, list_all}
 use Rattle.std.specs.Io.KnownBytes.{Appends}
@@ -11,6 +11,7 @@ use Rattle.std.proofs.lemmas.List.Elements.{All-nil, All-push, All-weaker}
 use Rattle.std.proofs.lemmas.List.Folds.{list_all-append}
 use Rattle.miette_fixes.specs.rules.Edits.{Proposal}
 use Rattle.miette_protocol.specs.rules.Reading.{Source}
+use Rattle.miette_report.specs.declared.fault.Fault.{Fault}
 use Rattle.miette_show.specs.rules.Mends.{Change, Changes, IsChange, IsOutcome, fault_as, fault_of, is_done, said_as}
 use Rattle.miette_show.specs.rules.Mends.{said_of, written_as, written_of}
 use Rattle.miette_show.specs.views.Writing.{Writes}
@@ -34,6 +35,13 @@ flat_more f xs x = flat_map-append f xs (x ∷ []) ∙ ap (λ l. flat_map f xs +
 and_true : (b : Bool) → (b && true) ≡ b
 and_true true = refl
 and_true false = refl
+
+-- after what was done neither writer has failed
+pub neither_failed : {A : Type 0} (a b : Bool) (x : A) (f : Fault) → ((IsTrue a ⊎ IsTrue b) ↔ (Ok x ≡ Err f))
+    → (a ≡ false) × (b ≡ false)
+neither_failed false false x f h = (refl, refl)
+neither_failed true b x f h = let e : Ok x ≡ Err f = h.0 (inl refl) in cc
+neither_failed false true x f h = let e : Ok x ≡ Err f = h.0 (inr refl) in cc
 
 abbrev name_of : Change → List ℕ
 name_of c = c.name

@@ -11,6 +11,7 @@ use Rattle.miette_mending.specs.rules.Sure.{FileFixes}
 use Rattle.miette_mending.specs.views.Holding.{Adds, HoldsAll, fixes_at}
 use Rattle.miette_mending.specs.declared.gathered.Gathered.{Gathered}
 use Rattle.miette_show.specs.rules.Mends.{Change, Changes, Gives, IsChange, IsOutcome, Mends, fault_of, given}
+use Rattle.miette_show.specs.rules.Statuses.{status_of}
 use Rattle.miette_show.specs.declared.verdict.Verdict.{Verdict}
 
 change_by : (files : List ℕ → Option Source) (refuses : List ℕ → Type 0) (p q : List ℕ → List Proposal)
@@ -41,9 +42,9 @@ module _ (found : (List ℕ → Option Source) → List (List ℕ) → Type 0) (
             changes,
             named ∙ held.named,
             All-weaker (IsChange files refuses (fixes_at new.fixes))
-            (IsChange files refuses (λ name. fixes_for name (given gives.0)))
-            (change_by files refuses (fixes_at new.fixes) (λ name. fixes_for name (given gives.0)) held.each) changes
-            each,
+                (IsChange files refuses (λ name. fixes_for name (given gives.0)))
+                (change_by files refuses (fixes_at new.fixes) (λ name. fixes_for name (given gives.0)) held.each) changes
+                each,
             (
               holds.0,
               holds.1,
@@ -64,3 +65,13 @@ pub mends_weaker : (found : (List ℕ → Option Source) → List (List ℕ) →
 mends_weaker found refuses p q verdict None h mends = tt
 mends_weaker found refuses p q verdict (Some bytes) h (all, rows, each, (files, known, changed), is) =
     (all, rows, each, (files, known, (changed.0, changed.1, changed.2, h changed.0 _ changed.3)), is)
+
+-- and the status is that of the verdict
+pub mends_status : (found : (List ℕ → Option Source) → List (List ℕ) → Type 0) (refuses : List ℕ → Type 0)
+    (p q : List Change → List ℕ → Type 0) (verdict : Verdict) (first : Option (List ℕ)) (n : ℕ) → n ≡ status_of verdict
+    → ((changes : List Change) (notes : List ℕ) → p changes notes → q changes notes)
+    → IfSome first (λ bytes. Mends found refuses bytes p verdict)
+    → IfSome first (λ bytes. (v : Verdict) × (n ≡ status_of v) × Mends found refuses bytes q v)
+mends_status found refuses p q verdict None n is h mends = tt
+mends_status found refuses p q verdict (Some bytes) n is h mends =
+    (verdict, is, mends_weaker found refuses p q verdict (Some bytes) h mends)

@@ -48,7 +48,7 @@ fn fault_row(alloc: Global, name: &str) -> Result<String, AllocError>
     format!(in alloc; "show: {name}: can't be written\n")
 }
 
-/// The text of a file after its fixes, and which of them are taken; nothing where the file isn't there.
+/// The text of a file after its fixes, and which are taken; nothing where it isn't there.
 fn mended_file<F: Files>(
     alloc: Global,
     files: &F,

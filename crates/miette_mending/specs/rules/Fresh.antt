@@ -1,7 +1,7 @@
 -- Spans whose rows are still those of their files.
 use Rattle.std.specs.Prelude.{ℕ, ◌+◌, ◌-◌, List, [], ◌∷◌, Option, Some, None, Bool, true, false, ◌==◌, ◌&&◌, ◌||◌}
 use Rattle.std.specs.Prelude.{nat_eq, nat_le, nat_lt}
-use Rattle.std.specs.Prelude.{if◌then◌else◌, option_map, unwrap_or, length, take, drop, codes}
+use Rattle.std.specs.Prelude.{if◌then◌else◌, option_map, unwrap_or, length, take, drop, codes, slice_range}
 use Rattle.std.specs.List.{count_by, list_any, starts_with}
 use Rattle.memchr.specs.Find.{is_byte}
 use Rattle.serde_json.specs.Data.{Data}
@@ -50,7 +50,7 @@ column_behind bytes = count_by is_first bytes + 1
 abbrev pub stand_in : List ℕ → ℕ → ℕ → List Data → Bool
 stand_in bytes at column rows =
     if nat_le at (length bytes)
-    then (column_behind (drop (row_start bytes at) (take at bytes)) == column)
+    then (column_behind (slice_range bytes (row_start bytes at) at) == column)
     && begin_with rows (drop (row_start bytes at) bytes)
     else false
 

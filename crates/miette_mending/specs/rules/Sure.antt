@@ -1,7 +1,7 @@
 -- The proposals of a row of rustc that are applied without being asked about.
 use Rattle.std.specs.Prelude.{ℕ, List, [], ◌∷◌, Option, Some, None, Bool, true, false, if◌then◌else◌, map, codes}
 use Rattle.std.specs.Prelude.{option_and_then, option_map, is_some}
-use Rattle.std.specs.List.{filter_map, flat_map, list_all}
+use Rattle.std.specs.List.{flat_map, list_all}
 use Rattle.serde_json.specs.Data.{Data}
 use Rattle.miette_fixes.specs.declared.applicability.Applicability.{Applicability}
 use Rattle.miette_fixes.specs.declared.applicability.Applicability.TheVariants.{MachineApplicable, MaybeIncorrect}
@@ -42,9 +42,6 @@ abbrev pub sure_offer : (List ℕ → Option Source) → Data → Option Offer
 sure_offer files c =
     if list_all (is_fresh files) (edits_of c) then option_and_then sure_alone (offer_of files c) else None
 
-abbrev pub sure_offers : (List ℕ → Option Source) → Data → List Offer
-sure_offers files m = filter_map (sure_offer files) (objects_at (codes "children") m)
-
 -- ---- its fixes, file by file
 
 -- fixes of a file
@@ -59,9 +56,16 @@ fixes_over offer e = record { name = e.name; fixes = fixes_in e.name offer.messa
 abbrev pub offer_fixes : Offer → List FileFixes
 offer_fixes offer = map (fixes_over offer) (others None offer.edits)
 
+abbrev pub fixes_if_any : Option Offer → List FileFixes
+fixes_if_any None = []
+fixes_if_any (Some offer) = offer_fixes offer
+
+abbrev pub child_fixes : (List ℕ → Option Source) → Data → List FileFixes
+child_fixes files c = fixes_if_any (sure_offer files c)
+
 abbrev pub message_fixes : (List ℕ → Option Source) → Option Data → List FileFixes
 message_fixes files None = []
-message_fixes files (Some m) = flat_map offer_fixes (sure_offers files m)
+message_fixes files (Some m) = flat_map (child_fixes files) (objects_at (codes "children") m)
 
 -- the fixes of a row; nothing of one that can't be read
 abbrev pub value_fixes : (List ℕ → Option Source) → Data → Option (List FileFixes)

@@ -26,7 +26,11 @@ returns-clause-ok g c =
     (flat_map written_of changes))
     (λ changes. Appends (g.W.Write.contents c.args.streams.now.writer.inner)
     (g.W.Write.contents c.mend_files.new.streams.writer.inner) (flat_map said_of changes))
-    c.in_ok-verdict.ensures.ok c.new-gathered.ensures
-    (last, goes_on (found first) (found mid) (found last) (knows first) (knows mid) (knows last)
-    c.gather_rows.ensures.goes c.load_held.ensures.goes, known, refl)
+    c.in_ok-verdict.ensures.ok c.new-gathered.ensures (
+      last,
+      goes_on (found first) (found mid) (found last) (knows first) (knows mid) (knows last)
+          c.gather_rows.ensures.goes c.load_held.ensures.goes,
+      known,
+      refl,
+    )
     c.in_ok-all.ensures.ok
