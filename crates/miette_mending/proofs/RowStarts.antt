@@ -5,7 +5,7 @@ use Rattle.std.specs.Prelude.{◌==◌, ◌||◌, ◌&&◌, if◌then◌else◌,
 use Rattle.std.specs.List.{list_any}
 use Rattle.std.proofs.lemmas.Bool.{false_from_ne_true}
 use Rattle.std.proofs.lemmas.Bool.Decides.{nat_tests}
-use Rattle.std.proofs.lemmas.List.{length-drop, length-take-le}
+use Rattle.std.proofs.lemmas.List.{length-drop, length-take-le, take_all}
 use Rattle.memchr.specs.Find.{IsLastByte, NoneAfter, Nowhere, Passes, is_byte}
 use Rattle.serde_json.specs.Data.{Data}
 use Rattle.miette_mending.specs.rules.Fresh.{begin_with, column_behind, last_row, row_start, stand_in}
@@ -86,6 +86,9 @@ start_found bytes offset at h after is =
     omega (arith, many, high, left)
 
 -- ---- rows from there on
+
+pub left_of : (bytes : List ℕ) (start : ℕ) → take (length bytes - start) (drop start bytes) ≡ drop start bytes
+left_of bytes start = take_all (length bytes - start) (drop start bytes) (omega (arith, length-drop start bytes))
 
 module _ (bytes : List ℕ) (at column start n : ℕ) (rows : List Data) (within : at ≤ length bytes)
     (is : start ≡ row_start bytes at) (counted : n ≡ column_behind (slice_range bytes start at)) where

@@ -17,7 +17,7 @@ loop-edit-preserved c =
     let items = c.as_slice-edit-items.result.now in
     let look = λ (e : Bor FileEdit). e.now in
     let over = fixes_over c.args.offer.now in
-    let one : record { name = c.edit-item.result.now.name; fixes = c.push_fixes.new.list.items }
+    let one : record { name = c.edit.inside.name.now; fixes = c.push_fixes.new.list.items }
     ≡ over c.edit-item.result.now = search rules in
     subst (Adds c.args.gathered.now c.add.new.self)
     (sym (next_mapped look items l.edit-index c.edit-item.result c.loop-edit-test.true c.edit-item.is over))
