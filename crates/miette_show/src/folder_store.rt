@@ -3,6 +3,7 @@
 use crate::folder::path_in;
 use crate::store::Store;
 use std::alloc::{AllocError, Global};
+use std::fs::OpenFile;
 use std::io::{ErrorKind, Write};
 use std::{fs, io, rt};
 
