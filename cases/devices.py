@@ -83,7 +83,7 @@ REFUSED = [
     (["job", "--jsonx"], "usage: job [OPTIONS]\n"),
     (["bench", "x"], "usage: bench N [OPTIONS]\n"),
     (["lint", "f"], "usage: lint [--brief | --github | --fix | --diff | --sarif [--tool TOOL]] NAME WIDTH\n"),
-    (["show", "--from", "clang"], "usage: show [--fix] [--from auto|rustc|gcc] [--root DIR] [OPTIONS]\n"),
+    (["show", "--from", "clang"], "usage: show [--from auto|rustc|gcc|sarif] [--root DIR] [OPTIONS]\n"),
 ]
 # words and an input of which nothing is written, status, row
 SILENT = [

@@ -9,7 +9,7 @@ from typing import NamedTuple, Optional
 
 TERMINATOR = re.compile(rb"\r\n|\r|\n")
 # the columns of characters that have not one, but for those below U+0020
-WIDTHS = {"\u0301": 0, "\u200b": 0, "漢": 2, "字": 2, "\u3000": 2}
+WIDTHS = {"\u0301": 0, "\u200b": 0, "\ufeff": 0, "漢": 2, "字": 2, "\u3000": 2, "😀": 2}
 
 
 class Settings(NamedTuple):

@@ -3,7 +3,7 @@ made without the programs: what a result tells is put in the words of readers_mo
 import re
 from urllib.parse import unquote_to_bytes
 
-from readers_model import Settled, Told, labels, member, objects, source, text
+from readers_model import Settled, Told, advice, fixes, labels, member, objects, source, text
 
 
 class NoReports(Exception):
@@ -46,7 +46,7 @@ def offset(data, line, columns, units):
 
 def span(name, region, units, files):
     """A region in rustc's form."""
-    line, column = member(region, "startLine", int), first(member(region, "startColumn", int), 1)
+    line, column = member(region, "startLine", int) or 0, first(member(region, "startColumn", int), 1)
     it = {"file_name": name, "line_start": line, "column_start": column}
     if name in files:
         data, last = files[name], member(region, "endColumn", int)
@@ -106,6 +106,22 @@ class Run:
         own = [self.told(it, number == 0, True) for number, it in enumerate(objects(result, "locations"))]
         return own + [self.told(it, True, False) for it in objects(result, "relatedLocations")]
 
+    def edits(self, fix):
+        """The edits of a proposal, as spans and texts."""
+        for change in objects(fix, "artifactChanges"):
+            uri = self.uri({"artifactLocation": member(change, "artifactLocation", dict)})
+            name = "" if uri is None else name_of(uri)
+            for it in objects(change, "replacements"):
+                region, new = member(it, "deletedRegion", dict), member(it, "insertedContent", dict) or {}
+                yield span(name, region or {}, self.units, self.files), text(new, "text")
+
+    def proposals(self, result):
+        """What is said of each proposal, and its edits."""
+        for fix in objects(result, "fixes"):
+            edits = list(self.edits(fix))
+            described = message({"message": member(fix, "description", dict)})
+            yield described or words([new for _, new in edits]), edits
+
 
 def rule_id(result):
     return first(member(result, "ruleId", str), member(member(result, "rule", dict) or {}, "id", str))
@@ -114,6 +130,13 @@ def rule_id(result):
 def message(value):
     said = member(value, "message", dict) or {}
     return first(member(said, "text", str), member(said, "id", str))
+
+
+def words(texts):
+    """What a proposal says that isn't described."""
+    if len(texts) != 1:
+        return "make these changes" if texts else ""
+    return "write `" + texts[0].removesuffix("\n") + "`" if texts[0] else "delete this"
 
 
 # ---- reports
@@ -136,7 +159,16 @@ def report(run, result, files):
         made.update(source=source(settled.lists[0], files), labels=labels(settled, 0))
     further = list(enumerate(settled.lists))[1:]
     made["snippets"] = [{"source": source(name, files), "labels": labels(settled, at)} for at, name in further]
-    return {**made, "fixes": [], "related": [], "causes": settled.texts}
+    offers, lost = [], []
+    for said, edits in run.proposals(result):
+        if not all(settled.found(it) for it, _ in edits):
+            lost += [said] if said not in lost else []
+        elif edits:
+            offers.append((said, None, [(*settled.found(it), new) for it, new in edits]))
+    main = settled.lists[0] if settled.lists else None
+    made["fixes"] = [fix for it in offers if main is not None for fix in fixes(it, main, it[0])]
+    made["related"] = [more for it in offers for more in advice(it, main, files)]
+    return {**made, "causes": settled.texts, **({"help": "\n".join(lost)} if lost else {})}
 
 
 def reports_of(value, files):

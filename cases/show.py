@@ -1,6 +1,6 @@
 #!/usr/bin/env python3
-"""show.py: runs the built program `show` on what rustc and GCC wrote (`rustc/`, `gcc/`), and compares it with the model
-of show_model.py, whose reports tree_model.py draws.
+"""show.py: runs the built program `show` on what rustc and GCC wrote (`rustc/`, `gcc/`) and on SARIF logs
+(`sarif_read/`), and compares it with the model of show_model.py, whose reports tree_model.py draws.
 
 The recorded rows are tried as they are, as cargo wraps them, cut at every 50th byte, with members removed or of other
 types, offsets, lines and columns that are off or behind the end, other files, files that are gone or shorter. Where
@@ -17,6 +17,7 @@ import sys
 import tempfile
 
 import gcc_cases
+import sarif_read_cases
 import size_runs
 from programs import HERE, counted, program, run
 from show_model import shown_of
@@ -36,12 +37,14 @@ SPAN = {"byte_start": 0, "byte_end": 3, "file_name": "borrow.rs", "is_primary": 
 
 
 def files_in(folder):
-    """The sources in a folder, by their names."""
+    """The sources below a folder, by their names."""
     files = {}
-    for name in os.listdir(folder):
-        if name.endswith((".rs", ".c", ".h")):
-            with open(os.path.join(folder, name), "rb") as file:
-                files[name] = file.read()
+    for parent, _, names in os.walk(folder):
+        for name in names:
+            path = os.path.join(parent, name)
+            if not name.endswith((".json", ".jsonl", ".sarif")):
+                with open(path, "rb") as file:
+                    files[os.path.relpath(path, folder)] = file.read()
     return files
 
 
@@ -191,7 +194,7 @@ def tried(folder, what, given, root, form="rustc"):
 
 def words_tried():
     """Wrong words end with status 2 and say which are right, before anything is read."""
-    usage = b"usage: show [--fix] [--from auto|rustc|gcc] [--root DIR] [OPTIONS]\n"
+    usage = b"usage: show [--from auto|rustc|gcc|sarif] [--root DIR] [OPTIONS]\n"
     wrong = [["--from", "clang"], ["--root"], ["--from"], ["--width"], ["x"], ["--brief", "--root", "."], ["--fix", "--brief"]]
     return [run(["show", *words], b'{"message":"m"}\n') == (2, b"", usage) for words in wrong]
 
@@ -259,6 +262,8 @@ def main(words):
             file.write(b"#include <stdio.h>\r\nstruct point {\rint x;\n  ")
         done = [tried(folder, *it) for it in inputs(folder)]
         done += [tried(folder, *it, "gcc") for it in gcc_cases.inputs(folder)]
+        shutil.copy(os.path.join(sarif_read_cases.FOLDER, "line ends.txt"), os.path.join(folder, "wide.c"))
+        done += [tried(folder, *it, "sarif") for it in sarif_read_cases.inputs(folder)]
     done += words_tried() + handlers_tried() + live_tried() + memory_tried(100000 if "--many" in words else 10000)
     return counted(sum(done), len(done) - sum(done))
 

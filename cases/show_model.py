@@ -1,12 +1,14 @@
 """show_model.py: what `show` makes of a row of bytes (docs/RULES.md, 'Programs'), made without the programs: whose
-reports readers_model.py and gcc_model.py make."""
+reports readers_model.py, gcc_model.py and sarif_reader_model.py make."""
 import json
 
-from gcc_model import NoReports, reports_of
-from readers_model import NoMessage, report_of
+import gcc_model
+import sarif_reader_model
+from readers_model import NoMessage, member, report_of
 
 # what rows of messages begin with
 BEGINNINGS = {"rustc": (b'{"',), "gcc": (b'[{"', b"[]")}
+BEGINNINGS["sarif"] = BEGINNINGS["rustc"]
 BEGINNINGS["auto"] = BEGINNINGS["rustc"] + BEGINNINGS["gcc"]
 
 
@@ -17,7 +19,9 @@ def refused(name):
 def reports_in(value, files, form):
     """The reports of what a value says that is read in a format."""
     if form == "gcc" or (form == "auto" and isinstance(value, list)):
-        return reports_of(value, files)
+        return gcc_model.reports_of(value, files)
+    if form == "sarif" or (form == "auto" and member(value, "runs", list) is not None):
+        return sarif_reader_model.reports_of(value, files)
     report = report_of(value, files)
     return [] if report is None else [report]
 
@@ -28,7 +32,7 @@ def shown_of(row, files, draw, form="auto"):
         return row, False, False
     try:
         reports = reports_in(json.loads(row.decode(), parse_constant=refused), files, form)
-    except (ValueError, RecursionError, NoMessage, NoReports):
+    except (ValueError, RecursionError, NoMessage, gcc_model.NoReports, sarif_reader_model.NoReports):
         return row, True, False
     shown = b"".join(draw(it).encode() + b"\n" for it in reports)
     return shown, False, any(it["severity"] == "error" for it in reports)

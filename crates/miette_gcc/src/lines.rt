@@ -1,23 +1,12 @@
 //! Lines and columns as GCC counts them.
 
 ghost use Rattle.std.specs.Prelude.{◌≡◌, ◌≤◌, ◌+◌, length};
-ghost use Rattle.miette_gcc.specs.rules.Lines.{last_line, offset_at, text_end_from, within_line};
-ghost use Rattle.miette_source_lines.specs.rules.Lines.{line_start};
+ghost use Rattle.miette_gcc.specs.rules.Lines.{offset_at, text_end_from, within_line};
 
 use miette_protocol::source::IndexedSource;
+use miette_readers::line_starts::line_start;
 use miette_source_lines::find::FindLines;
 use miette_source_lines::lines::first_line;
-
-/// Where a line begins, the first with 0.
-fn line_start(source: &IndexedSource, line: usize) -> usize
-    requires { line ≤ last_line source.now }
-    ensures start { result ≡ line_start source.now line }
-    ensures within { result ≤ length source.now }
-{
-    let size = source.bytes().len();
-    let last = source.line_of(size).0;
-    source.start_before(size, last - line).0
-}
 
 /// Where the text of the line ends that begins at an offset.
 fn text_end_from(bytes: &[u8], start: usize) -> usize

@@ -4,8 +4,8 @@ ghost use Rattle.std.specs.Prelude.{◌≡◌, ◌++◌, [], IfOk, OnOk, option_
 ghost use Rattle.std.specs.List.{cons_option, filter_map};
 ghost use Rattle.serde_json.specs.View.{view};
 ghost use Rattle.miette_readers.specs.views.Values.{seen};
-ghost use Rattle.miette_gcc.specs.rules.GccReport.{all_found, edit_at, edit_words, new_text, offer_of, offers_of};
-ghost use Rattle.miette_gcc.specs.rules.GccReport.{without_end, words_of};
+ghost use Rattle.miette_gcc.specs.rules.GccReport.{all_found, edit_at, new_text, offer_of, offers_of};
+ghost use Rattle.miette_gcc.specs.rules.GccReport.{words_of};
 ghost use Rattle.miette_gcc.specs.views.Grounds.{ground_in};
 
 use crate::points::Ground;
@@ -14,6 +14,7 @@ use miette_readers::files::Files;
 use miette_readers::lists::push_item;
 use miette_readers::members::{objects_at, text_at};
 use miette_readers::offers::{FileEdit, Offer};
+use miette_readers::wording::edit_words;
 use serde_json::Value;
 use std::alloc::{AllocError, Global};
 
@@ -30,29 +31,6 @@ fn edit_at<'f, 'v, F: Files>(ground: &Ground<'f, F>, fixit: &'v Value) -> Option
 {
     let place = ground.fixit_place(fixit);
     FileEdit::found(ground.files, &place, new_text(fixit))
-}
-
-/// A text without the line feed that ends it.
-fn without_end(text: &str) -> &str
-    ensures { result.now ≡ without_end text.now }
-{
-    match text.strip_suffix('\n') {
-        Some(front) => front,
-        None => text,
-    }
-}
-
-/// What to do, where one edit is proposed.
-fn edit_words(alloc: Global, text: &str) -> Result<String, AllocError>
-    ensures { IfOk result (λ words. string_bytes words ≡ edit_words text.now) }
-{
-    if text.is_empty() {
-        return String::from_str(alloc, "delete this");
-    }
-    let mut words = String::from_str(alloc, "write `")?;
-    words.push_str(without_end(text))?;
-    words.push_str("`")?;
-    Ok(words)
 }
 
 /// What to do, by these fix-its: GCC has no words for it.

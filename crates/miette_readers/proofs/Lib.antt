@@ -1,5 +1,6 @@
 pub mod Accepted
 pub mod AlwaysRead
+pub mod Endings
 pub mod Kept
 pub mod NameSteps
 pub mod Parts

@@ -3,6 +3,7 @@
 
 pub mod files;
 pub mod laws;
+pub mod line_starts;
 pub mod lists;
 pub mod members;
 pub mod names;
@@ -19,3 +20,4 @@ mod settling;
 pub mod spans;
 pub mod table;
 mod telling;
+pub mod wording;

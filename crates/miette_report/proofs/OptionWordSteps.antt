@@ -1,6 +1,6 @@
 -- Steps of reading what words ask for.
 use Rattle.std.proofs.Common.{◌≡◌, ◌<◌, ◌^◌, ℕ, Bool, true, false, ◌&&◌, if◌then◌else◌, List, [], ◌∷◌, length, Option}
-use Rattle.std.proofs.Common.{Some, None, Result, map, String, string_bytes, codes, bytes_eq, ◌==◌, refl, sym, ap, ◌∙◌}
+use Rattle.std.proofs.Common.{Some, None, Result, Err, map, String, string_bytes, codes, bytes_eq, ◌==◌, refl, sym, ap, ◌∙◌}
 use Rattle.std.proofs.Common.{subst, arith}
 use Rattle.std.specs.Option.{option_and_then, option_map_or}
 use Rattle.std.specs.Str.{all_ascii_digits}
@@ -12,9 +12,10 @@ use Rattle.miette_report.specs.rules.OptionWords.{JobRequest, read_number, with_
 use Rattle.miette_report.specs.rules.OptionWords.{with_read}
 use Rattle.miette_report.specs.rules.OptionWords.{with_value, with_words, with_words_after}
 use Rattle.miette_report.specs.rules.Words.{IsReadAs}
-use Rattle.miette_report.specs.steps.AskedWords.{AreGiven}
+use Rattle.miette_report.specs.steps.AskedWords.{AreGiven, IsGiven}
 use Rattle.miette_report.specs.declared.arguments.Arguments.{Arguments}
 use Rattle.miette_report.specs.declared.fault.Fault.{Fault}
+use Rattle.miette_report.specs.declared.fault.Fault.TheVariants.{Usage, Memory, Read, Write, Description, Refused}
 
 -- ---- numbers
 
@@ -105,3 +106,15 @@ pub all_done : {Z : Type 0} (rest : List (String Z)) (r : JobRequest) → true �
     → with_words (map string_bytes rest) r ≡ Some r
 all_done [] r h = refl
 all_done (x ∷ xs) r h = absurd (omega (arith, eqb-true (length (x ∷ xs)) 0 (sym h)))
+
+-- ---- faults
+
+-- a fault says the same of what is given, whatever the value would be
+pub same_fault : {A B C : Type 0} (f : A → B) (g : C → B) (given : Option B) (fault : Fault)
+    → IsGiven f given (Err fault) → IsGiven g given (Err fault)
+same_fault f g given Usage h = h
+same_fault f g given Memory h = h
+same_fault f g given Read h = h
+same_fault f g given Write h = h
+same_fault f g given Description h = h
+same_fault f g given Refused h = h

@@ -7,7 +7,7 @@ ghost use Rattle.miette_report.specs.steps.AskedWords.{AreGiven, asked_of, with_
 
 use crate::fault::Fault;
 use crate::language::LanguageHighlighter;
-use crate::option_words::{Asked, Choice, Named, ReportAsked, first_asked, named};
+use crate::option_words::{Asked, Choice, Named, ReportAsked, first_asked, read_named};
 use crate::words::number;
 use miette::handlers::Form;
 use miette::options::MietteHandlerOpts;
@@ -204,7 +204,7 @@ impl Arguments {
     fn with_name(self, alloc: Global, word: &str, name: &str) -> Result<Arguments, Fault>
         ensures { AreGiven (table.with_name word.now name.now (asked_of self)) result }
     {
-        let named = named(alloc, word, name)?;
+        let named = read_named(alloc, word, name)?;
         Ok(self.with_named(named))
     }
 

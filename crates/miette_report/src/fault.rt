@@ -103,7 +103,7 @@ impl Program {
                 "lint",
                 "[--brief | --github | --fix | --diff | --sarif [--tool TOOL]] NAME WIDTH",
             ),
-            Program::Show => ("show", "[--fix] [--from auto|rustc|gcc] [--root DIR] [OPTIONS]"),
+            Program::Show => ("show", "[--from auto|rustc|gcc|sarif] [--root DIR] [OPTIONS]"),
         }
     }
 

@@ -104,7 +104,7 @@ pub(crate) enum Named {
 /// # Errors
 /// `Usage` where there is no such word or it takes no such name, and `Memory` where none is found for a theme or a
 /// highlighter.
-pub(crate) fn named(alloc: Global, word: &str, name: &str) -> Result<Named, Fault>
+pub(crate) fn read_named(alloc: Global, word: &str, name: &str) -> Result<Named, Fault>
     ensures { (r : JobRequest) →
         IsGiven (λ it. with_named it r) (table.with_name word.now name.now r) result }
 {

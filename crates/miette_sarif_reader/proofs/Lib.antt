@@ -1,3 +1,4 @@
 pub mod Finding
+pub mod Kept
 pub mod LogsHold
 pub mod NameSteps

@@ -2,5 +2,6 @@
 pub mod Uris
 pub mod Regions
 pub mod Results
+pub mod Proposals
 pub mod Logs
 pub mod Names

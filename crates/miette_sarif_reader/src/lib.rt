@@ -1,10 +1,12 @@
 //! Reports from SARIF 2.1.0 logs.
 #![tactic(auto)]
 
+mod drafts;
 mod ground;
 pub mod laws;
 mod locations;
 pub mod names;
+mod proposals;
 mod regions;
 pub mod sarif;
 mod saying;

@@ -5,7 +5,7 @@ ghost use Rattle.std.specs.Option.{option_copied};
 ghost use Rattle.serde_json.specs.View.{view};
 ghost use Rattle.miette_readers.specs.rules.Rustc.{maybe_row};
 ghost use Rattle.miette_sarif_reader.specs.rules.Results.{artifact_uri, physical, place_in, region_of, uri_by, uri_of};
-ghost use Rattle.miette_sarif_reader.specs.rules.Results.{with_line};
+ghost use Rattle.miette_sarif_reader.specs.rules.Results.{uri_at, with_line};
 ghost use Rattle.miette_sarif_reader.specs.views.Grounds.{ground_in};
 
 use crate::ground::{Ground, item_at};
@@ -21,10 +21,10 @@ use std::marker::Model;
 /// A place with the name of its file, which is a URI's.
 #[derive(Drop)]
 pub(crate) struct Located {
-    name: String,
-    stretch: Option<Stretch>,
-    line: u64,
-    column: u64,
+    pub(crate) name: String,
+    pub(crate) stretch: Option<Stretch>,
+    pub(crate) line: u64,
+    pub(crate) column: u64,
 }
 
 /// What a location tells: at most one row, at a place where it has one.
@@ -67,7 +67,7 @@ impl Model for Spot {
 
 impl Located {
     /// It, with its name lent.
-    fn lent(&self) -> Place<'_>
+    pub(crate) fn lent(&self) -> Place<'_>
         ensures { result ≡ self.now }
     {
         Place {
@@ -152,11 +152,18 @@ impl<'f, 'v, F: Files> Ground<'f, 'v, F> {
         }
     }
 
+    /// The URI of the file that a place or a change is in.
+    pub(crate) fn uri_at(&self, value: &'v Value) -> Option<&'v str>
+        ensures { option_copied result ≡ uri_at (ground_in F.found self.now) (view value.now) }
+    {
+        self.uri_by(object_at(value, "artifactLocation")?)
+    }
+
     /// The URI of a location's file.
     pub(crate) fn uri_of(&self, location: &'v Value) -> Option<&'v str>
         ensures { option_copied result ≡ uri_of (ground_in F.found self.now) (view location.now) }
     {
-        self.uri_by(object_at(physical(location)?, "artifactLocation")?)
+        self.uri_at(physical(location)?)
     }
 
     /// A region in the file of this name.

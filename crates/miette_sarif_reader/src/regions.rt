@@ -2,13 +2,13 @@
 
 ghost use Rattle.std.specs.Prelude.{◌≡◌, ◌≤◌, length};
 ghost use Rattle.serde_json.specs.View.{view};
-ghost use Rattle.miette_sarif_reader.specs.rules.Regions.{column_at, encoding_of, end_columns, end_line, last_line};
+ghost use Rattle.miette_sarif_reader.specs.rules.Regions.{column_at, encoding_of, end_columns, end_line};
 ghost use Rattle.miette_sarif_reader.specs.rules.Regions.{offset_at, start_column, start_line, stretch_in};
-ghost use Rattle.miette_source_lines.specs.rules.Lines.{line_start};
 
 use miette_positions::place::{Position, PositionEncoding};
 use miette_positions::spans::clamped_offset;
 use miette_protocol::source::IndexedSource;
+use miette_readers::line_starts::line_start;
 use miette_readers::members::{text_at, whole_at};
 use miette_readers::place::Stretch;
 use miette_source_lines::find::FindLines;
@@ -23,17 +23,6 @@ pub(crate) fn encoding_of(run: &Value) -> PositionEncoding
     } else {
         PositionEncoding::Utf32
     }
-}
-
-/// Where a line begins, the first with 0.
-fn line_start(source: &IndexedSource, line: usize) -> usize
-    requires { line ≤ last_line source.now }
-    ensures start { result ≡ line_start source.now line }
-    ensures within { result ≤ length source.now }
-{
-    let size = source.bytes().len();
-    let last = source.line_of(size).0;
-    source.start_before(size, last - line).0
 }
 
 /// So many columns behind the beginning of a line: behind the line's text its end, inside a character its start.

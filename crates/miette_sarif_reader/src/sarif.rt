@@ -10,6 +10,7 @@ ghost use Rattle.miette_sarif_reader.specs.rules.Logs.{has_runs, result_tree, ru
 ghost use Rattle.miette_sarif_reader.specs.views.Grounds.{ground_in};
 
 use crate::ground::{Ground, ground_of};
+use crate::proposals::{help_of, offers_of};
 use crate::telling::lent;
 use miette_protocol::protocol::Diagnostic;
 use miette_protocol::source::SourceCode;
@@ -23,7 +24,7 @@ use serde_json::Value;
 use std::alloc::{AllocError, Global};
 
 /// Whether a value has a list of runs.
-fn has_runs(value: &Value) -> bool
+pub fn has_runs(value: &Value) -> bool
     ensures { result ≡ has_runs (view value.now) }
 {
     match found_at(value, "runs") {
@@ -43,8 +44,17 @@ fn result_report<'f, D: Diagnostic, F: Files>(
 {
     let spots = ground.told_of(alloc, finding)?;
     let told = lent(alloc, spots.as_slice())?;
-    let said = ground.said_of(alloc, finding)?;
-    report_of(alloc, ground.files, said, told.as_slice(), &[])
+    let drafts = ground.drafts_of(alloc, finding)?;
+    let offers = offers_of(alloc, ground.files, drafts.as_slice())?;
+    let help = help_of(alloc, ground.files, drafts.as_slice())?;
+    let said = ground.said_of(alloc, help, finding)?;
+    report_of(
+        alloc,
+        ground.files,
+        said,
+        told.as_slice(),
+        offers.as_slice(),
+    )
 }
 
 /// Appends the reports of results.

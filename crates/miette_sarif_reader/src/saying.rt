@@ -17,7 +17,7 @@ use serde_json::Value;
 use std::alloc::{AllocError, Global};
 
 /// What a message says; the id of its text where there is none.
-fn message_text(message: &Value) -> Option<&str>
+pub(crate) fn message_text(message: &Value) -> Option<&str>
     ensures { option_copied result ≡ message_text (view message.now) }
 {
     match text_at(message, "text") {
@@ -115,9 +115,15 @@ impl<'f, 'v, F: Files> Ground<'f, 'v, F> {
         }
     }
 
-    /// What a result says itself.
-    pub(crate) fn said_of(&self, alloc: Global, finding: &'v Value) -> Result<Said, AllocError>
-        ensures { IfOk result (λ it. it ≡ said_of (ground_in F.found self.now) (view finding.now)) }
+    /// What a result says itself, with what helps.
+    pub(crate) fn said_of(
+        &self,
+        alloc: Global,
+        help: Option<String>,
+        finding: &'v Value,
+    ) -> Result<Said, AllocError>
+        ensures { IfOk result (λ it. it ≡ said_of (ground_in F.found self.now)
+            (option_map string_bytes help) (view finding.now)) }
     {
         let message = String::from_str(alloc, message_in(finding).unwrap_or(""))?;
         let code = copy_of(alloc, self.code_of(finding))?;
@@ -126,7 +132,7 @@ impl<'f, 'v, F: Files> Ground<'f, 'v, F> {
             message,
             code,
             severity: severity_by(self.level_of(finding)),
-            help: None,
+            help,
             url,
         })
     }

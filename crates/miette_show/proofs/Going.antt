@@ -1,7 +1,7 @@
 -- Files that are looked for, and handlers that are called, one after another.
 use Rattle.std.proofs.Common.{zero, suc, arith}
 use Rattle.std.proofs.Common.{◌≡◌, ℕ, ◌+◌, ◌<◌, List, [], ◌∷◌, Option, All, Bool, Bor, length, get_or, map, take, refl}
-use Rattle.std.proofs.Common.{sym, ap, subst, ◌∙◌}
+use Rattle.std.proofs.Common.{◌++◌, OnOk, Ok, Err, Result, sym, ap, subst, ◌∙◌}
 use Rattle.std.proofs.lemmas.List.{map-append}
 use Rattle.std.proofs.lemmas.List.Elements.{All-nil, All-cons, All-append}
 use Rattle.miette_protocol.specs.rules.Reading.{Source}
@@ -81,6 +81,20 @@ pub one_more_at : (l : List ℕ → Type 0) (names : List (Bor (List ℕ))) (i :
 one_more_at l names i d h known here =
     one_more_known l names i (get_or names i d) h (same_entry names i d (get_or names i d) h) known here
 
+pub held_more : {X : Type 0} (look : X → List ℕ) (l : List ℕ → Type 0) (names : List X) (i : ℕ) (x : X)
+    → i < length names → x ≡ get_or names i x → All l (map look (take i names)) → l (look x)
+    → All l (map look (take (i + 1) names))
+held_more look l names i x h is known here =
+    subst (All l) (sym (ap (map look) (next_taken names i x h is) ∙ map-append look (take i names) (x ∷ [])))
+    (All-append l (map look (take i names)) (look x ∷ []) known (All-cons l (look x) [] here (All-nil l)))
+
+-- the first names stay known, and the second ones are known then
+pub both_known : {A E : Type 0} (f g : List ℕ → Option Source) (k l : List ℕ → Type 0) (first second : List (List ℕ))
+    (r : Result A E) → Goes f k g l → All k first → OnOk r (All l second) → OnOk r (All l (first ++ second))
+both_known f g k l first second (Err e) goes known here = tt
+both_known f g k l first second (Ok x) goes known here =
+    All-append l first second (all_stay f g k l first goes known) here
+
 pub shows_by : (from : Format) (p q : Tree → List ℕ → Type 0)
     (f : (List ℕ → Option Source) → List (List ℕ) → Type 0) (bytes : List ℕ) (holds : List ℕ → List ℕ → Type 0)
     (verdict : Verdict) → ((t : Tree) (x : List ℕ) → p t x → q t x) → Shows from p f bytes holds verdict
@@ -115,10 +129,3 @@ pub first_by : (from : Format) (p q : Tree → List ℕ → Type 0)
     → ((t : Tree) (x : List ℕ) → p t x → q t x) → ShowsFirst from p f bytes holds → ShowsFirst from q f bytes holds
 first_by from p q f bytes holds h s =
     (s.0, s.1, s.2, (λ i d k. shown_by from p q f f _ h (λ files names x. x) (s.3 i d k)), s.4)
-
-pub held_more : {X : Type 0} (look : X → List ℕ) (l : List ℕ → Type 0) (names : List X) (i : ℕ) (x : X)
-    → i < length names → x ≡ get_or names i x → All l (map look (take i names)) → l (look x)
-    → All l (map look (take (i + 1) names))
-held_more look l names i x h is known here =
-    subst (All l) (sym (ap (map look) (next_taken names i x h is) ∙ map-append look (take i names) (x ∷ [])))
-    (All-append l (map look (take i names)) (look x ∷ []) known (All-cons l (look x) [] here (All-nil l)))

@@ -13,11 +13,10 @@ use Rattle.serde_json.specs.Data.{Data}
 use Rattle.serde_json.specs.Read.{read}
 use Rattle.miette_protocol.specs.rules.Reading.{Source}
 use Rattle.miette_mending.specs.rules.Sure.{FileFixes, value_fixes}
-use Rattle.miette_readers.specs.rules.Names.{names_of}
 use Rattle.miette_show.specs.rules.Looking.{Goes, IsFoundBy}
 use Rattle.miette_show.specs.rules.Mends.{Giving, Gives, IsGiving, IsRowFixes, given, row_fixes, unread_notes}
 use Rattle.miette_show.specs.rules.Rows.{begins_object, rows_of}
-use Rattle.miette_show.specs.rules.Shown.{kind_grave, kind_unread, note_of}
+use Rattle.miette_show.specs.rules.Shown.{all_names, kind_grave, kind_unread, note_of}
 use Rattle.miette_show.specs.views.Reading.{IsNextRow}
 use Rattle.miette_show.specs.declared.verdict.RowKind.{RowKind}
 use Rattle.miette_show.specs.declared.verdict.RowKind.TheVariants.{Passed, Unread, Messages}
@@ -48,12 +47,12 @@ unread_giving found files row begins none = (
 
 module _ (found : Finding) (files : List ℕ → Option Source) (row : List ℕ) (d : Data)
     (begins : begins_object row ≡ true) (utf8 : IsUtf8 row) (is : read row ≡ Some d)
-    (known : found files (names_of d)) where
+    (known : found files (all_names d)) where
   says : row_fixes files row ≡ value_fixes files d
   says = ap (option_and_then (value_fixes files)) is
 
-  same : (e : Data) → read row ≡ Some e → found files (names_of e)
-  same e there = subst (λ x. found files (names_of x)) (some_same d e (sym is ∙ there)) known
+  same : (e : Data) → read row ≡ Some e → found files (all_names e)
+  same e there = subst (λ x. found files (all_names x)) (some_same d e (sym is ∙ there)) known
     where
       some_same : (a b : Data) → Some a ≡ Some b → a ≡ b
       some_same a b e = cc
@@ -73,7 +72,7 @@ pub giving_before : {F : Type 0} (find : F → List ℕ → Option Source) (know
 giving_before find knows first second slice row kind fixes goes same (files, named, gives) =
     subst (λ (r : List ℕ). IsGiving (IsFoundBy find knows first) (giving r kind fixes)) same (
       files,
-      (λ d utf8 begins is. found_before find knows first second files (names_of d) goes (named d utf8 begins is)),
+      (λ d utf8 begins is. found_before find knows first second files (all_names d) goes (named d utf8 begins is)),
       gives,
     )
 

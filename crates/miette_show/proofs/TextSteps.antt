@@ -16,9 +16,8 @@ use Rattle.miette_report.specs.declared.fault.Fault.TheVariants.{Memory, Refused
 use Rattle.miette_report.specs.declared.job_handler.JobHandler.{JobHandler}
 use Rattle.miette_report.specs.declared.job_handler.JobHandler.TheVariants as chosen
 use Rattle.miette_report.specs.steps.JobHandler.{MayRefuse}
-use Rattle.miette_readers.specs.rules.Names.{names_of}
 use Rattle.miette_show.specs.rules.Rows.{begins_message}
-use Rattle.miette_show.specs.rules.Shown.{AreDrawn, IsRowText, IsShown, row_trees, tree_grave, value_trees}
+use Rattle.miette_show.specs.rules.Shown.{AreDrawn, IsRowText, all_names, IsShown, row_trees, tree_grave, value_trees}
 use Rattle.miette_show.specs.views.Texts.{AreTexts, IsPushed, IsValueText, shown_text}
 use Rattle.miette_show.specs.declared.verdict.RowKind.{RowKind}
 use Rattle.miette_show.specs.declared.verdict.RowKind.TheVariants.{Passed, Unread, Messages}
@@ -64,11 +63,11 @@ text_of from gives files row d (Messages grave) text begins utf8 is (ts, says, t
 -- one that is a value, when all names in it are known
 pub told : (from : Format) (gives : Given) (found : Finding) (files : List ℕ → Option Source) (row : List ℕ) (d : Data)
     (kind : RowKind) (text : List ℕ) → begins_message from row ≡ true → IsUtf8 row → read row ≡ Some d
-    → found files (names_of d) → IsValueText gives (value_trees from files d) kind text
+    → found files (all_names d) → IsValueText gives (value_trees from files d) kind text
     → IsShown from gives found (record { row = row; kind = kind; text = shown_text kind row text })
 told from gives found files row d kind text begins utf8 is known said = (
   files,
-  (λ e u b same. subst (λ x. found files (names_of x)) (some_same d e (sym is ∙ same)) known),
+  (λ e u b same. subst (λ x. found files (all_names x)) (some_same d e (sym is ∙ same)) known),
   text_of from gives files row d kind text begins utf8 is said,
 )
   where
@@ -77,7 +76,7 @@ told from gives found files row d kind text begins utf8 is known said = (
 
 pub told_ok : {E Z : Type 0} (from : Format) (gives : Given) (found : Finding) (files : List ℕ → Option Source)
     (row : List ℕ) (d : Data) (r : Result (RowKind × String Z) E) → begins_message from row ≡ true → IsUtf8 row
-    → read row ≡ Some d → found files (names_of d)
+    → read row ≡ Some d → found files (all_names d)
     → IfOk r (λ it. IsValueText gives (value_trees from files d) it.0 (string_bytes it.1))
     → IfOk r (λ it. IsShown from gives found
     (record { row = row; kind = it.0; text = shown_text it.0 row (string_bytes it.1) }))

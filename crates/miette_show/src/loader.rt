@@ -3,12 +3,13 @@
 ghost use Rattle.std.specs.Prelude.{◌≡◌, ℕ, List, OnOk, map, string_bytes};
 ghost use Rattle.std.specs.List.{All};
 ghost use Rattle.serde_json.specs.View.{view};
-ghost use Rattle.miette_readers.specs.rules.Names.{names_of};
 ghost use Rattle.miette_readers.specs.views.Values.{texts};
 ghost use Rattle.miette_show.specs.rules.Looking.{Goes};
+ghost use Rattle.miette_show.specs.rules.Shown.{all_names};
 
 use miette_readers::files::Files;
 use miette_readers::names::file_names;
+use miette_sarif_reader::names::file_names as names_in_log;
 use serde_json::Value;
 use std::alloc::{AllocError, Global};
 
@@ -62,9 +63,11 @@ pub(crate) fn load_all<F: Loader>(
     files: &mut F,
     row: &Value,
 ) -> Result<(), AllocError>
-    ensures known { OnOk result (All (F.knows files.new) (names_of (view row.now))) }
+    ensures known { OnOk result (All (F.knows files.new) (all_names (view row.now))) }
     ensures goes { Goes (F.found files.old) (F.knows files.old) (F.found files.new) (F.knows files.new) }
 {
     let names = file_names(alloc, row)?;
-    load_names(alloc, files, names.as_slice())
+    load_names(alloc, files, names.as_slice())?;
+    let held = names_in_log(alloc, row)?;
+    load_held(alloc, files, held.as_slice())
 }

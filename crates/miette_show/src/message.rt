@@ -37,7 +37,7 @@ pub(crate) struct Row<'r> {
     pub bytes: &'r [u8],
 }
 
-/// Whether a row begins as each message of rustc and cargo does.
+/// Whether a row begins as each message of rustc and cargo does, and each SARIF log in a row.
 pub(crate) fn begins_object(row: &[u8]) -> bool
     ensures { result ≡ begins_object row.now }
 {
@@ -57,7 +57,7 @@ fn begins_message(from: Format, row: &[u8]) -> bool
 {
     match from {
         Format::Auto => begins_object(row) || begins_array(row),
-        Format::Rustc => begins_object(row),
+        Format::Rustc | Format::Sarif => begins_object(row),
         Format::Gcc => begins_array(row),
     }
 }

@@ -5,7 +5,7 @@ ghost use Rattle.std.specs.List.{All};
 ghost use Rattle.serde_json.specs.View.{view};
 ghost use Rattle.miette_tree.specs.rules.Reads.{AlwaysReads, report_accepted};
 ghost use Rattle.miette_tree.specs.views.Report.{tree_of};
-ghost use Rattle.miette_show.specs.rules.Shown.{is_gcc, rustc_trees, value_trees};
+ghost use Rattle.miette_show.specs.rules.Shown.{is_gcc, is_sarif, rustc_trees, value_trees};
 
 use crate::words::Format;
 use miette_gcc::gcc::gcc_reports;
@@ -17,6 +17,10 @@ use miette_readers::files::{Files, LentFile};
 use miette_readers::laws::{labels_are_accepted, messages_always_read};
 use miette_readers::lists::push_item;
 use miette_readers::rustc::{ReadError, rustc_report};
+use miette_sarif_reader::laws::{
+    labels_are_accepted as logs_are_accepted, reports_always_read as logs_always_read,
+};
+use miette_sarif_reader::sarif::{has_runs, sarif_reports};
 use miette_tree::report::Report;
 use serde_json::Value;
 use std::alloc::{AllocError, Global};
@@ -27,8 +31,19 @@ fn is_gcc(from: Format, value: &Value) -> bool
 {
     match from {
         Format::Auto => value.is_array(),
-        Format::Rustc => false,
+        Format::Rustc | Format::Sarif => false,
         Format::Gcc => true,
+    }
+}
+
+/// Whether a value is read as a SARIF log.
+fn is_sarif(from: Format, value: &Value) -> bool
+    ensures { result ≡ is_sarif from (view value.now) }
+{
+    match from {
+        Format::Auto => has_runs(value),
+        Format::Rustc | Format::Gcc => false,
+        Format::Sarif => true,
     }
 }
 
@@ -75,6 +90,8 @@ fn value_reports<'f, F: Files>(
 {
     if is_gcc(from, value) {
         gcc_reports(alloc, files, value)
+    } else if is_sarif(from, value) {
+        sarif_reports(alloc, files, value)
     } else {
         rustc_reports(alloc, files, value)
     }
@@ -101,5 +118,7 @@ pub(crate) fn reports_of<'f, F: Files>(
     labels_are_accepted();
     reports_always_read();
     reports_are_accepted();
+    logs_always_read();
+    logs_are_accepted();
     value_reports(alloc, from, files, value)
 }

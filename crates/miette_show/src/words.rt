@@ -14,6 +14,8 @@ pub enum Format {
     Rustc,
     /// What GCC writes.
     Gcc,
+    /// A SARIF log.
+    Sarif,
 }
 
 impl Format {
@@ -25,6 +27,7 @@ impl Format {
             "auto" => Some(Format::Auto),
             "rustc" => Some(Format::Rustc),
             "gcc" => Some(Format::Gcc),
+            "sarif" => Some(Format::Sarif),
             _ => None,
         }
     }

@@ -1,5 +1,5 @@
 -- The reports of GCC's diagnostics.
-use Rattle.std.specs.Prelude.{ℕ, List, [], ◌∷◌, ◌++◌, Option, Some, None, Bool, ◌==◌, if◌then◌else◌, bytes_eq, codes}
+use Rattle.std.specs.Prelude.{ℕ, List, [], ◌∷◌, Option, Some, None, Bool, if◌then◌else◌, bytes_eq, codes}
 use Rattle.std.specs.Prelude.{option_and_then, option_map, is_none, is_some, unwrap_or, map}
 use Rattle.std.specs.List.{filter_map, fold, list_all, list_any}
 use Rattle.serde_json.specs.Data.{Data}
@@ -13,6 +13,7 @@ use Rattle.miette_readers.specs.rules.Places.{Place, joined}
 use Rattle.miette_readers.specs.rules.Proposing.{FileEdit, Offer, edit_found}
 use Rattle.miette_readers.specs.rules.Reports.{Said, report_tree}
 use Rattle.miette_readers.specs.rules.Settling.{found_place, settled, with_row}
+use Rattle.miette_readers.specs.rules.Wording.{edit_words}
 use Rattle.miette_tree.specs.rules.Tree.{Tree}
 use Rattle.miette_gcc.specs.rules.Gcc.{Ground, message_of, place_between, point_at, told_of}
 
@@ -35,17 +36,7 @@ edit_at g x = edit_by g.files (fixit_place g x) (new_text x)
 abbrev pub is_found : Ground → Data → Bool
 is_found g x = is_some (edit_at g x)
 
--- without the line feed that ends it, as a text of whole lines has one
-abbrev pub without_end : List ℕ → List ℕ
-without_end [] = []
-without_end (b ∷ []) = if b == 10 then [] else b ∷ []
-without_end (b ∷ (c ∷ cs)) = b ∷ without_end (c ∷ cs)
-
 -- GCC has no words for a proposal.
-abbrev pub edit_words : List ℕ → List ℕ
-edit_words [] = codes "delete this"
-edit_words (b ∷ bs) = codes "write `" ++ (without_end (b ∷ bs) ++ codes "`")
-
 abbrev pub words_of : List Data → List ℕ
 words_of [] = []
 words_of (x ∷ []) = edit_words (new_text x)

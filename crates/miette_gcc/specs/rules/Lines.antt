@@ -1,11 +1,7 @@
 -- Lines and columns as GCC counts them. Lines end as those of pictures do.
-use Rattle.std.specs.Prelude.{ℕ, zero, suc, ◌+◌, List, [], ◌∷◌, Option, Some, None, if◌then◌else◌, length, min, drop}
-use Rattle.std.specs.Prelude.{nat_le}
-use Rattle.miette_source_lines.specs.rules.Lines.{Line, line_of, line_start, lines_from}
-
--- the number of the last line, the first with 0: it is empty where a terminator ends the bytes
-abbrev pub last_line : List ℕ → ℕ
-last_line bytes = line_of bytes (length bytes)
+use Rattle.std.specs.Prelude.{ℕ, zero, suc, ◌+◌, List, [], ◌∷◌, Option, Some, None, if◌then◌else◌, min, drop, nat_le}
+use Rattle.miette_readers.specs.rules.LineStarts.{last_line}
+use Rattle.miette_source_lines.specs.rules.Lines.{Line, line_start, lines_from}
 
 -- where the text of the first of these lines ends, which begin at an offset
 abbrev pub first_text_end : ℕ → List Line → ℕ

@@ -9,6 +9,7 @@ use Rattle.miette_readers.specs.rules.Members.{object_at, objects_at}
 use Rattle.miette_readers.specs.rules.Reports.{report_tree}
 use Rattle.miette_readers.specs.rules.Settling.{settled}
 use Rattle.miette_tree.specs.rules.Tree.{Tree}
+use Rattle.miette_sarif_reader.specs.rules.Proposals.{drafts_of, help_of, offers_of}
 use Rattle.miette_sarif_reader.specs.rules.Regions.{encoding_of}
 use Rattle.miette_sarif_reader.specs.rules.Results.{Ground, said_of, told_of}
 
@@ -29,7 +30,9 @@ ground_of files run = record {
 }
 
 abbrev pub result_tree : Ground → Data → Tree
-result_tree g r = report_tree (said_of g r) (settled g.files (told_of g r)) []
+result_tree g r =
+    report_tree (said_of g (help_of g.files (drafts_of g r)) r) (settled g.files (told_of g r))
+    (offers_of g.files (drafts_of g r))
 
 -- a report of each result of a run
 abbrev pub run_trees : (List ℕ → Option Source) → Data → List Tree

@@ -5,19 +5,16 @@ use Rattle.serde_json.specs.Data.{Data}
 use Rattle.miette_positions.specs.declared.place.PositionEncoding.{PositionEncoding}
 use Rattle.miette_positions.specs.declared.place.PositionEncoding.TheVariants.{Utf16, Utf32}
 use Rattle.miette_positions.specs.rules.Regions.{stop_at}
+use Rattle.miette_readers.specs.rules.LineStarts.{last_line}
 use Rattle.miette_readers.specs.rules.Members.{text_at, whole_at}
 use Rattle.miette_readers.specs.rules.Places.{Stretch}
 use Rattle.miette_readers.specs.rules.Rustc.{stretch_from}
-use Rattle.miette_source_lines.specs.rules.Lines.{line_of, line_start}
+use Rattle.miette_source_lines.specs.rules.Lines.{line_start}
 
 -- in which units a run counts columns: in characters where it doesn't say
 abbrev pub encoding_of : Data → PositionEncoding
 encoding_of run =
     if bytes_eq (unwrap_or (text_at (codes "columnKind") run) []) (codes "utf16CodeUnits") then Utf16 else Utf32
-
--- the number of the last line, the first with 0: it is empty where a terminator ends the bytes
-abbrev pub last_line : List ℕ → ℕ
-last_line bytes = line_of bytes (length bytes)
 
 -- So many columns behind the beginning of a line: behind the line's text its end, inside a character its start.
 abbrev pub column_at : PositionEncoding → List ℕ → ℕ → ℕ → ℕ

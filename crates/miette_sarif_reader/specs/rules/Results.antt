@@ -88,12 +88,12 @@ abbrev pub severity_by : List ℕ → Severity
 severity_by level =
     if bytes_eq level (codes "error") then Error else if bytes_eq level (codes "warning") then Warning else Advice
 
-abbrev pub said_of : Ground → Data → Said
-said_of g r = record {
+abbrev pub said_of : Ground → Option (List ℕ) → Data → Said
+said_of g help r = record {
   message = unwrap_or (message_in r) [];
   code = code_of g r;
   severity = severity_by (level_of g r);
-  help = None;
+  help = help;
   url = url_of g r;
 }
 
@@ -112,8 +112,12 @@ uri_by g a =
 abbrev pub physical : Data → Option Data
 physical l = object_at (codes "physicalLocation") l
 
+-- that of the file that a place or a change is in
+abbrev pub uri_at : Ground → Data → Option (List ℕ)
+uri_at g d = option_and_then (uri_by g) (object_at (codes "artifactLocation") d)
+
 abbrev pub uri_of : Ground → Data → Option (List ℕ)
-uri_of g l = option_and_then (uri_by g) (option_and_then (object_at (codes "artifactLocation")) (physical l))
+uri_of g l = option_and_then (uri_at g) (physical l)
 
 -- a region that begins on a line
 abbrev pub with_line : Data → Option Data

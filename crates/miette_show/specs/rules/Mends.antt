@@ -9,9 +9,8 @@ use Rattle.miette_fixes.specs.rules.Edits.{Proposal}
 use Rattle.miette_protocol.specs.rules.Reading.{Source}
 use Rattle.miette_mending.specs.rules.Gathered.{fixes_for, mended, names_in}
 use Rattle.miette_mending.specs.rules.Sure.{FileFixes, value_fixes}
-use Rattle.miette_readers.specs.rules.Names.{names_of}
 use Rattle.miette_show.specs.rules.Rows.{begins_object, rows_of}
-use Rattle.miette_show.specs.rules.Shown.{kind_unread, note_of}
+use Rattle.miette_show.specs.rules.Shown.{all_names, kind_unread, note_of}
 use Rattle.miette_show.specs.declared.verdict.Verdict.{Verdict}
 use Rattle.miette_show.specs.declared.verdict.RowKind.{RowKind}
 use Rattle.miette_show.specs.declared.verdict.RowKind.TheVariants.{Passed, Unread, Messages}
@@ -38,7 +37,7 @@ pub record Giving : Type 0 where
 -- The files are found when all that the row names are known.
 abbrev pub IsGiving : ((List ℕ → Option Source) → List (List ℕ) → Type 0) → Giving → Type 0
 IsGiving found s = (files : List ℕ → Option Source)
-    × ((d : Data) → IsUtf8 s.row → begins_object s.row ≡ true → read s.row ≡ Some d → found files (names_of d))
+    × ((d : Data) → IsUtf8 s.row → begins_object s.row ≡ true → read s.row ≡ Some d → found files (all_names d))
     × IsRowFixes files s.row s.kind s.fixes
 
 -- ---- all rows

@@ -2,7 +2,7 @@
 use Rattle.std.specs.Prelude.{ℕ, List, [], ◌∷◌, ◌++◌, Bool, if◌then◌else◌, ◌==◌, ◌||◌, nat_eq}
 use Rattle.std.specs.List.{list_any, starts_with}
 use Rattle.miette_show.specs.declared.words.Format.{Format}
-use Rattle.miette_show.specs.declared.words.Format.TheVariants.{Auto, Rustc, Gcc}
+use Rattle.miette_show.specs.declared.words.Format.TheVariants.{Auto, Rustc, Gcc, Sarif}
 
 -- a row that no LF ends, where it has a byte
 abbrev pub last_row : List ℕ → List (List ℕ)
@@ -21,7 +21,7 @@ rows_of bytes = rows_from [] bytes
 abbrev pub has_end : List ℕ → Bool
 has_end bytes = list_any (λ b. b == 10) bytes
 
--- rustc and cargo begin each message so
+-- rustc and cargo begin each message so, and a tool its log
 abbrev pub begins_object : List ℕ → Bool
 begins_object row = starts_with nat_eq row (123 ∷ 34 ∷ [])
 
@@ -34,3 +34,4 @@ abbrev pub begins_message : Format → List ℕ → Bool
 begins_message Auto row = begins_object row || begins_array row
 begins_message Rustc row = begins_object row
 begins_message Gcc row = begins_array row
+begins_message Sarif row = begins_object row

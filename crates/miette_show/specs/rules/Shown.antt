@@ -12,10 +12,12 @@ use Rattle.miette_tree.specs.rules.Tree.{Tree, head}
 use Rattle.miette_readers.specs.rules.Names.{names_of}
 use Rattle.miette_readers.specs.rules.RustcReport.{rustc_tree}
 use Rattle.miette_gcc.specs.rules.GccReport.{gcc_trees}
+use Rattle.miette_sarif_reader.specs.rules.Logs.{has_runs, sarif_trees}
+use Rattle.miette_sarif_reader.specs.rules.Names as log
 use Rattle.miette_show.specs.rules.Rows.{begins_message, rows_of}
 use Rattle.miette_show.specs.declared.verdict.RowKind.{RowKind}
 use Rattle.miette_show.specs.declared.words.Format.{Format}
-use Rattle.miette_show.specs.declared.words.Format.TheVariants.{Auto, Rustc, Gcc}
+use Rattle.miette_show.specs.declared.words.Format.TheVariants.{Auto, Rustc, Gcc, Sarif}
 use Rattle.miette_show.specs.declared.verdict.RowKind.TheVariants.{Passed, Unread, Messages}
 use Rattle.miette_show.specs.declared.verdict.Verdict.{Verdict}
 
@@ -34,10 +36,24 @@ abbrev pub is_gcc : Format → Data → Bool
 is_gcc Auto d = is_some (as_array d)
 is_gcc Rustc d = false
 is_gcc Gcc d = true
+is_gcc Sarif d = false
+
+-- an object with a list of runs is a SARIF log, where no format is asked for
+abbrev pub is_sarif : Format → Data → Bool
+is_sarif Auto d = has_runs d
+is_sarif Rustc d = false
+is_sarif Gcc d = false
+is_sarif Sarif d = true
 
 -- the reports of what a value says over these files
 abbrev pub value_trees : Format → (List ℕ → Option Source) → Data → Option (List Tree)
-value_trees from files d = if is_gcc from d then gcc_trees files d else rustc_trees files d
+value_trees from files d =
+    if is_gcc from d then gcc_trees files d
+    else if is_sarif from d then sarif_trees files d else rustc_trees files d
+
+-- the names of the files that a value speaks of: those of rustc and GCC, and those that the URIs of a log stand for
+abbrev pub all_names : Data → List (List ℕ)
+all_names d = names_of d ++ log.names_of d
 
 abbrev pub row_trees : Format → (List ℕ → Option Source) → List ℕ → Option (List Tree)
 row_trees from files row = option_and_then (value_trees from files) (read row)
@@ -78,7 +94,7 @@ pub record Shown : Type 0 where
 abbrev pub IsShown : Format → (Tree → List ℕ → Type 0) → ((List ℕ → Option Source) → List (List ℕ) → Type 0) → Shown
     → Type 0
 IsShown from gives found s = (files : List ℕ → Option Source)
-    × ((d : Data) → IsUtf8 s.row → begins_message from s.row ≡ true → read s.row ≡ Some d → found files (names_of d))
+    × ((d : Data) → IsUtf8 s.row → begins_message from s.row ≡ true → read s.row ≡ Some d → found files (all_names d))
     × IsRowText from gives files s.row s.kind s.text
 
 -- ---- all rows

@@ -8,6 +8,7 @@ returns-clause-reads g c =
     reports_hold _ (g.F.Files.found files) (view c.args.value.now)
     (c.messages_always_read.ensures (g.F.Files.found files) (view c.args.value.now) (g.met.F.Files.reads files))
     (c.reports_always_read.ensures (g.F.Files.found files) (view c.args.value.now) (g.met.F.Files.reads files))
+    (c.reports_always_read-2.ensures (g.F.Files.found files) (view c.args.value.now) (g.met.F.Files.reads files))
     c.args.from (λ list. list.items) _ c.value_reports.result c.value_reports.ensures.ok
 
 pub returns-clause-accepted : goal.returns-clause-accepted
@@ -16,4 +17,5 @@ returns-clause-accepted g c =
     reports_hold _ (g.F.Files.found files) (view c.args.value.now)
     (c.labels_are_accepted.ensures (g.F.Files.found files) (view c.args.value.now) (g.met.F.Files.reads files))
     (c.labels_are_accepted-2.ensures (g.F.Files.found files) (view c.args.value.now) (g.met.F.Files.reads files))
+    (c.labels_are_accepted-3.ensures (g.F.Files.found files) (view c.args.value.now) (g.met.F.Files.reads files))
     c.args.from (λ list. list.items) _ c.value_reports.result c.value_reports.ensures.ok

@@ -1,8 +1,8 @@
 use Rattle.std.proofs.Common.{◌≡◌, ℕ, ◌-◌, ◌≤◌, List, length, ap, arith, subst, sym, ◌∙◌}
 use Rattle.miette_source_lines.specs.rules.Lines.{line_of, line_start}
 use Rattle.miette_source_lines.proofs.Places.{line_start_le}
-use Rattle.miette_gcc.specs.rules.Lines.{last_line}
-use Rattle.miette_gcc.proofs.lines.line_start.Goals as goal
+use Rattle.miette_readers.specs.rules.LineStarts.{last_line}
+use Rattle.miette_readers.proofs.line_starts.line_start.Goals as goal
 
 pub returns-clause-start : goal.returns-clause-start
 returns-clause-start c =

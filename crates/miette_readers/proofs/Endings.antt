@@ -2,7 +2,7 @@
 use Rattle.std.proofs.Common.{◌≡◌, ◌≢◌, ℕ, List, [], ◌∷◌, ◌++◌, Bool, true, false, refl, ap}
 use Rattle.std.specs.Prelude.{◌==◌, if◌then◌else◌}
 use Rattle.std.proofs.lemmas.Bool.{eqb-true}
-use Rattle.miette_gcc.specs.rules.GccReport.{without_end}
+use Rattle.miette_readers.specs.rules.Wording.{without_end}
 
 pub ending_left : (front : List ℕ) → without_end (front ++ 10 ∷ []) ≡ front
 ending_left [] = refl

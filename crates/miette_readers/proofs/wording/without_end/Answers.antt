@@ -1,8 +1,8 @@
 use Rattle.std.proofs.Common.{Some, None, ap, sym, ◌∙◌, arith}
 use Rattle.std.proofs.lemmas.Str.Pattern.{strip_suffix_char}
-use Rattle.miette_gcc.specs.rules.GccReport.{without_end}
-use Rattle.miette_gcc.proofs.Endings.{ending_left, no_ending}
-use Rattle.miette_gcc.proofs.proposals.without_end.Goals as goal
+use Rattle.miette_readers.specs.rules.Wording.{without_end}
+use Rattle.miette_readers.proofs.Endings.{ending_left, no_ending}
+use Rattle.miette_readers.proofs.wording.without_end.Goals as goal
 
 pub returns-in-Some : goal.returns-in-Some
 returns-in-Some c =

@@ -1,0 +1,167 @@
+"""sarif_read_cases.py: SARIF logs that show.py runs the program `show` on: one made by hand (`sarif_read/places.sarif`,
+over the files beside it), the same changed by chance, what `job --sarif` and `lint --sarif` write (`job-sarif.jsonl`,
+`lint-sarif.jsonl`), and one worded as clang's."""
+import contextlib
+import copy
+import json
+import os
+import random
+import re
+
+from gcc_cases import places
+from programs import HERE
+from sarif_model import uri_of_name
+from sarif_reader_model import name_of
+
+FOLDER = os.path.join(HERE, "sarif_read")
+# the members of a run and of a result that are read
+READ = ("tool", "columnKind", "artifacts", "results")
+URIS = ["wide.c", "line%20ends.txt", "file:wide.c", "file:///gone.c", "gone%2", "%e6%bc%a2", "short.c", "", "x://y", 7]
+BAD = [b'{"runs":{}}\n', b'{"version":"2.1.0"}\n', b'{"runs":[]\n', b'{"runs":[],}\n', b'{"runs":[]} x\n']
+OTHER = [b'{"runs":[]}\n', b'{"runs":[5,{"results":{}}]}\n', b' {"runs":[]}\n', b'{ "runs": []}\n', b"2 warnings.\n"]
+
+
+def log():
+    """The log made by hand."""
+    with open(os.path.join(FOLDER, "places.sarif"), encoding="utf-8") as file:
+        return json.load(file)
+
+
+def row_of(value):
+    return json.dumps(value, ensure_ascii=False).encode() + b"\n"
+
+
+def cut(value):
+    """The log cut at every 50th byte."""
+    row = row_of(value).rstrip(b"\n")
+    return b"".join(row[:end] + b"\n" for end in range(1, len(row), 50))
+
+
+# ---- logs of ours
+
+
+def cases_of(name):
+    with open(os.path.join(HERE, name), encoding="utf-8") as file:
+        return [json.loads(row) for row in file]
+
+
+def sources_in(value):
+    """The sources of a description, with those of the reports in it."""
+    if isinstance(value, list):
+        return [it for item in value for it in sources_in(item)]
+    if not isinstance(value, dict):
+        return []
+    own = [(value.get("name", ""), value["text"])] if isinstance(value.get("text"), str) else []
+    return own + [it for key, item in value.items() if key != "fixes" for it in sources_in(item)]
+
+
+def write(folder, name, text):
+    """Writes a file below a folder, unless its name leads out of it or isn't that of its path."""
+    path = os.path.join(folder, name)
+    if os.path.normpath(name) != name or name.startswith("/"):
+        return
+    with contextlib.suppress(FileExistsError, NotADirectoryError, IsADirectoryError):
+        os.makedirs(os.path.dirname(path), exist_ok=True)
+        with open(path, "x", encoding="utf-8", newline="") as file:
+            file.write(text)
+
+
+def below(number, row):
+    """A log whose relative URIs lie below a folder of this number."""
+    return re.sub(rb'("uri": ")(?!file:)', rb"\g<1>%d/" % number, row)
+
+
+def ours(folder, name):
+    """The logs of these cases, each in a row, over the files of its own folder, which are written."""
+    rows = []
+    for number, case in enumerate(it for it in cases_of(name) if it["stdout_text"].startswith("{")):
+        sources = sources_in(case["report"]) if "report" in case else [(case["argv"][-2], case.get("stdin_text"))]
+        for at, (named, text) in enumerate(it for it in sources if it[1] is not None):
+            write(os.path.join(folder, str(number)), name_of(uri_of_name(named)) or f"untitled:{at + 1}", text)
+        rows.append(below(number, case["stdout_text"].encode()))
+    return b"".join(row.rstrip(b"\n") + b"\n" for row in rows)
+
+
+# ---- logs of others
+
+
+def located(line, column, end):
+    region = {"endColumn": end, "startColumn": column, "startLine": line}
+    return {"physicalLocation": {"artifactLocation": {"index": 0, "uri": "wide.c"}, "region": region}}
+
+
+def of_clang():
+    """A log worded as clang 16 words its own, between the rows that it writes beside it."""
+    rules = [{"defaultConfiguration": {"enabled": True, "level": level, "rank": -1}, "id": id_, "name": ""}
+             for level, id_ in (("warning", "6602"), ("note", "4712"), ("warning", "6602"))]
+    said = [("warning", "6602", 0, 2, 26, 32, "unused variable 'unused'"), ("note", "4712", 1, 1, 5, 9, "here: 'main'")]
+    results = [{"level": level, "locations": [located(*at)], "message": {"text": text}, "ruleId": id_, "ruleIndex": index}
+               for level, id_, index, *at, text in said]
+    driver = {"fullName": "", "informationUri": "https://clang.llvm.org/", "name": "clang", "rules": rules}
+    run = {"artifacts": [{"location": {"index": 0, "uri": "wide.c"}, "mimeType": "text/plain"}], "results": results}
+    value = {"runs": [{**run, "columnKind": "unicodeCodePoints", "tool": {"driver": driver}}], "version": "2.1.0"}
+    return b"clang: warning: argument unused\n" + row_of(value) + b"2 warnings generated.\n"
+
+
+# ---- logs that are changed
+
+
+def other_value(dice, key, old):
+    """A value in place of another one."""
+    whole = isinstance(old, int) and not isinstance(old, bool)
+    near = [max(0, old - 2), old + 1, old + 30] if whole else []
+    given = {
+        **dict.fromkeys(("startLine", "endLine", "startColumn", "endColumn", "index", "ruleIndex"),
+                        [0, 1, 2, 3, 5, 10**6, 2**63, 2**64 - 1, "7", -1, 1.5, None, *near]),
+        "uri": URIS,
+        "helpUri": ["", "https://x/y", 5],
+        **dict.fromkeys(("id", "ruleId"), ["W1", "W2", "none", "", 5]),
+        "text": ["", "here", "two\nrows", None, 5],
+        "level": ["error", "warning", "note", "none", "loud", 3],
+        "kind": ["fail", "pass", "open", "", 3],
+        "columnKind": ["utf16CodeUnits", "unicodeCodePoints", "", 3],
+        **dict.fromkeys(("locations", "relatedLocations", "rules", "artifacts", "results", "fixes", "artifactChanges",
+                         "replacements"), [[], None, "x", [5], [{}], {}]),
+    }
+    return dice.choice(given.get(key, [None, 7, "s", [], {}]))
+
+
+def changed(dice, value):
+    """A run with a few members or items removed, or of other values and types."""
+    value = copy.deepcopy(value)
+    for _ in range(dice.choice([1, 1, 2, 3])):
+        every = [it for it in places(value) if it[0] in READ]
+        if not every:
+            break
+        key = dice.choice(sorted({str(it[-1]) for it in every}))
+        *path, last = dice.choice([it for it in every if str(it[-1]) == key])
+        at = value
+        for step in path:
+            at = at[step]
+        if isinstance(last, str) and dice.random() < 0.75 or isinstance(last, int) and dice.random() < 0.5:
+            at[last] = other_value(dice, last, at[last])
+        else:
+            at.pop(last)
+    return value
+
+
+def hostile(dice, count):
+    """Logs of runs with one result, that are changed by chance."""
+    found = [{**run, "results": [it]} for run in log()["runs"] for it in run["results"]]
+    logs = ([changed(dice, dice.choice(found)) for _ in range(dice.choice([1, 1, 2, 4]))] for _ in range(count))
+    return b"".join(row_of({"runs": runs}) for runs in logs)
+
+
+def inputs(folder):
+    """What is read, with the folder of its files; in `folder` some are gone or shorter, and ours are written there."""
+    value = log()
+    yield "a log as made by hand", row_of(value), FOLDER
+    yield "the log cut at every 50th byte", cut(value), FOLDER
+    yield "the log over files that are gone or shorter", row_of(value), folder
+    yield "a log worded as clang's", of_clang(), FOLDER
+    yield "rows of logs that can't be read", b"".join(OTHER + BAD), FOLDER
+    yield "logs that are changed", hostile(random.Random(13), 600), FOLDER
+    for name in ("job-sarif.jsonl", "lint-sarif.jsonl"):
+        sources = os.path.join(folder, name)
+        os.makedirs(sources)
+        yield f"the logs of {name}", ours(sources, name), sources
