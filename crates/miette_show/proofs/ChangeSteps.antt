@@ -40,8 +40,8 @@ and_true false = refl
 pub neither_failed : {A : Type 0} (a b : Bool) (x : A) (f : Fault) → ((IsTrue a ⊎ IsTrue b) ↔ (Ok x ≡ Err f))
     → (a ≡ false) × (b ≡ false)
 neither_failed false false x f h = (refl, refl)
-neither_failed true b x f h = let e : Ok x ≡ Err f = h.0 (inl refl) in cc
-neither_failed false true x f h = let e : Ok x ≡ Err f = h.0 (inr refl) in cc
+neither_failed true b x f h = absurd (let e : Ok x ≡ Err f = h.0 (inl refl) in cc)
+neither_failed false true x f h = absurd (let e : Ok x ≡ Err f = h.0 (inr refl) in cc)
 
 abbrev name_of : Change → List ℕ
 name_of c = c.name

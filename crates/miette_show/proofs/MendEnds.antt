@@ -11,6 +11,7 @@ use Rattle.miette_mending.specs.rules.Sure.{FileFixes}
 use Rattle.miette_mending.specs.views.Holding.{Adds, HoldsAll, fixes_at}
 use Rattle.miette_mending.specs.declared.gathered.Gathered.{Gathered}
 use Rattle.miette_show.specs.rules.Mends.{Change, Changes, Gives, IsChange, IsOutcome, Mends, fault_of, given}
+use Rattle.miette_show.specs.rules.Mends.{unread_notes}
 use Rattle.miette_show.specs.rules.Statuses.{status_of}
 use Rattle.miette_show.specs.declared.verdict.Verdict.{Verdict}
 
@@ -49,7 +50,7 @@ module _ (found : (List ℕ → Option Source) → List (List ℕ) → Type 0) (
               holds.0,
               holds.1,
               holds.2,
-              Appends-trans before after last _ (flat_map fault_of changes) gives.3.1 holds.3,
+              Appends-trans before after last (unread_notes 1 gives.0) (flat_map fault_of changes) gives.3.1 holds.3,
             ),
           ),
         ),
@@ -64,7 +65,7 @@ pub mends_weaker : (found : (List ℕ → Option Source) → List (List ℕ) →
     → IfSome first (λ bytes. Mends found refuses bytes q verdict)
 mends_weaker found refuses p q verdict None h mends = tt
 mends_weaker found refuses p q verdict (Some bytes) h (all, rows, each, (files, known, changed), is) =
-    (all, rows, each, (files, known, (changed.0, changed.1, changed.2, h changed.0 _ changed.3)), is)
+    (all, rows, each, (files, known, (changed.0, changed.1, changed.2, h changed.0 (unread_notes 1 all) changed.3)), is)
 
 -- and the status is that of the verdict
 pub mends_status : (found : (List ℕ → Option Source) → List (List ℕ) → Type 0) (refuses : List ℕ → Type 0)

@@ -151,8 +151,7 @@ where
 {
     let mut streams = streams;
     match mend_on(alloc, files, store, &mut streams) {
-        Ok((_, false)) => 2,
-        Ok((verdict, true)) => verdict.status(),
+        Ok((verdict, all)) => { if all { verdict.status() } else { 2 } }
         Err(fault) => {
             let mut faults = streams.faults.into_inner();
             Program::Show.fail(fault, &mut faults).status

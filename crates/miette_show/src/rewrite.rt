@@ -151,8 +151,8 @@ pub(crate) fn mend_files<F: Files, S: Store, R, W: Write, E: Write>(
     ensures others { OnErr result ((result ≡ Err Fault.Memory) ⊎ (result ≡ Err Fault.Write)) }
 {
     let mut all = true;
-    for name in gathered.names() {
-        let name = name.as_str();
+    for entry in gathered.names() {
+        let name = entry.as_str();
         let taken = write_mended(alloc, files, store, gathered, name)?;
         let done = say(alloc, name, &taken, streams)?;
         all = both(all, done);
