@@ -2,7 +2,7 @@
 
 ghost use Rattle.std.specs.Prelude.{◌≡◌};
 ghost use Rattle.std.specs.Option.{option_map};
-ghost use Rattle.miette_show.specs.rules.ShowWords.{asked_for, asked_in_front, format_named};
+ghost use Rattle.miette_show.specs.rules.ShowWords.{asked_for, asked_in_front, format_named, is_alone};
 ghost use Rattle.miette_show.specs.views.Asked.{request_of, words_of};
 
 /// What is read.
@@ -82,15 +82,18 @@ impl<'w> ShowWords<'w> {
         })
     }
 
+    /// Whether no word of `job` stands behind `--fix`.
+    fn is_alone(&self) -> bool
+        ensures { result ≡ is_alone (request_of self.now) }
+    {
+        !self.fix || self.options.is_empty()
+    }
+
     /// What the words ask for; nothing where those in front are wrong, or others stand behind `--fix`.
     pub fn read(words: &'w [String]) -> Option<ShowWords<'w>>
         ensures { option_map request_of result ≡ asked_for (words_of words.entry) }
     {
         let asked = ShowWords::front(words)?;
-        if asked.fix && !asked.options.is_empty() {
-            None
-        } else {
-            Some(asked)
-        }
+        if asked.is_alone() { Some(asked) } else { None }
     }
 }

@@ -1,6 +1,6 @@
 -- The words of `show`.
 use Rattle.std.specs.Prelude.{ℕ, List, [], ◌∷◌, Option, Some, None, Bool, ◌||◌, if◌then◌else◌, bytes_eq, codes}
-use Rattle.std.specs.Prelude.{option_and_then, true, false, ◌&&◌, ◌==◌, not, length}
+use Rattle.std.specs.Prelude.{option_and_then, true, false, ◌==◌, not, length}
 use Rattle.miette_show.specs.declared.words.Format.{Format}
 use Rattle.miette_show.specs.declared.words.Format.TheVariants.{Auto, Rustc, Gcc, Sarif}
 
@@ -41,8 +41,11 @@ abbrev pub asked_in_front : List (List ℕ) → Option ShowRequest
 asked_in_front words = asked_from None Auto false words
 
 -- what is fixed isn't drawn: no word of `job` stands behind
+abbrev pub is_alone : ShowRequest → Bool
+is_alone asked = not asked.fix || (length asked.options == 0)
+
 abbrev pub fixes_alone : ShowRequest → Option ShowRequest
-fixes_alone asked = if asked.fix && not (length asked.options == 0) then None else Some asked
+fixes_alone asked = if is_alone asked then Some asked else None
 
 abbrev pub asked_for : List (List ℕ) → Option ShowRequest
 asked_for words = option_and_then fixes_alone (asked_in_front words)
