@@ -1,8 +1,9 @@
 #!/usr/bin/env python3
-"""cut_cases.py: writes the cases of `job --line-columns` (job-cut.jsonl) to standard output.
+"""cut_cases.py: writes the cases of `job --line-columns` and `--fit-lines` (job-cut.jsonl) to standard output.
 
-Sources and labels are drawn by chance from a fixed seed, with the picture that the rules ask for (model.py). In the
-last 40 labels at the end of the source are drawn. What a line holds: run.py."""
+Sources and labels are drawn by chance from a fixed seed, with the picture that the rules ask for (model.py). Behind 400
+there are 40 in which labels at the end of the source are drawn, and 40 whose lines fit the width. What a line holds:
+run.py."""
 import json
 import random
 
@@ -10,6 +11,7 @@ from model import Settings, picture
 
 COUNT = 400
 WITH_ENDS = 40
+FITTING = 40
 PIECES = ["a", "be", "fn x(y) ", "é", "漢字", "e\u0301", "\t", "  ", "=1;", "\x1b[31mr\x1b[0m", "_" * 9, "漢\u0301"]
 TEXTS = ["here", "", "two\nrows", "漢", "this one\nand\nmore"]
 
@@ -49,9 +51,25 @@ def at_end(dice, data):
     return label
 
 
+def fitting(dice):
+    """Words by which lines are cut at a width, or aren't, and from how many columns on that is."""
+    width, other = (str(dice.choice([24, 40, 60, 80, 100, dice.randint(20, 160)])) for _ in range(2))
+    return dice.choice(
+        [
+            (["--fit-lines", "yes", "--width", width], int(width)),
+            (["--term-width", width, "--fit-lines", "yes"], int(width)),
+            (["--term-width", other, "--width", width, "--fit-lines", "yes"], int(width)),
+            (["--fit-lines", "yes"], 80),
+            (["--line-columns", width, "--width", other, "--fit-lines", "yes"], int(width)),
+            (["--fit-lines", "no", "--line-columns", width, "--term-width", other], int(width)),
+            (["--fit-lines", "yes", "--fit-lines", "no", "--width", other], None),
+        ]
+    )
+
+
 def case(number):
     dice = random.Random(number)
-    ends = number >= COUNT
+    ends = COUNT <= number < COUNT + WITH_ENDS
     source = source_of(dice)
     data = source["text"].encode()
     labels = [label_of(dice, data) for _ in range(dice.choice([1, 1, 2, 2, 3, 5]))]
@@ -60,7 +78,10 @@ def case(number):
     report = {"message": "m", "source": source, "labels": labels}
     limit = dice.choice([1, 3, 4, 7, 8, 12, 16, 20, 40, 60, dice.randint(1, 200)])
     tab, context = dice.choice([4, 4, 8, 3]), dice.choice([1, 1, 2])
-    words = ["--theme", "unicode_nocolor", "--tab", str(tab), "--context", str(context), "--line-columns", str(limit)]
+    cutting = ["--line-columns", str(limit)]
+    if number >= COUNT + WITH_ENDS:
+        cutting, limit = fitting(dice)
+    words = ["--theme", "unicode_nocolor", "--tab", str(tab), "--context", str(context), *cutting]
     words += ["--end-labels", "yes"] if ends else []
     text = picture(report, Settings(context, tab, line_columns=limit, end_labels=ends))
     wanted = {"what": "a cut line", "argv": ["job", *words], "report": report}
@@ -68,5 +89,5 @@ def case(number):
 
 
 if __name__ == "__main__":
-    for number in range(COUNT + WITH_ENDS):
+    for number in range(COUNT + WITH_ENDS + FITTING):
         print(json.dumps(case(number), ensure_ascii=True))

@@ -76,13 +76,14 @@ RUNS = [
     (["show", "--theme", "unicode_nocolor"], '{"message":"漢","level":"error"}', 1, "  × 漢\n\n"),
     (["show"], "chatter", 0, "chatter"),
 ]
+LINT_USAGE = "usage: lint [--brief | --github | --fix | --diff | --sarif [--tool TOOL]] NAME WIDTH | --lsp WIDTH\n"
 # words that are refused, status, row
 REFUSED = [
     (["draw"], "usage: draw NAME OFFSET LENGTH LABEL MESSAGE\n"),
     (["draw", "f", "9", "+4", "l", "m"], "usage: draw NAME OFFSET LENGTH LABEL MESSAGE\n"),
     (["job", "--jsonx"], "usage: job [OPTIONS]\n"),
     (["bench", "x"], "usage: bench N [OPTIONS]\n"),
-    (["lint", "f"], "usage: lint [--brief | --github | --fix | --diff | --sarif [--tool TOOL]] NAME WIDTH\n"),
+    (["lint", "--lsp"], LINT_USAGE),
     (["show", "--from", "clang"], "usage: show [--from auto|rustc|gcc|sarif] [--root DIR] [OPTIONS]\n"),
 ]
 # words and an input of which nothing is written, status, row

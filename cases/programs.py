@@ -28,6 +28,11 @@ def program(name):
     return os.path.join(built(name), name)
 
 
+def crate_of(name):
+    """The crate of the program of this name."""
+    return "examples" if name in EXAMPLES else name
+
+
 def command(words):
     """The command of a run of the program that the first word names."""
     name, *rest = words

@@ -19,7 +19,7 @@ CODES = {
     "tab after space": ("tab-after-space", "indent by spaces"),
     "no final terminator": ("final-terminator", "end the last line"),
 }
-USAGE = "usage: lint [--brief | --github | --fix | --diff | --sarif [--tool TOOL]] NAME WIDTH\n"
+USAGE = "usage: lint [--brief | --github | --fix | --diff | --sarif [--tool TOOL]] NAME WIDTH | --lsp WIDTH\n"
 WRONG = [["f", "x"], ["f"], ["--tool", "t", "f"], ["--tool", "t", "f", "80", "x"], ["--tools", "t", "f", "80"], []]
 
 

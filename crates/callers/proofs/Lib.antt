@@ -4,3 +4,4 @@ pub mod ColourSteps
 pub mod Wrapping
 pub mod FixSteps
 pub mod RowSteps
+pub mod NamedRows

@@ -111,6 +111,15 @@ pub record IsLeftOut : Type 0 where
 abbrev pub EndStandsBehind : Type 0
 EndStandsBehind = EndsBehind narrow sum_file sum_labels
 
+-- Rows that stand in a text, by their bytes: of the long line what is shown, and the row below it with the mark of the
+-- sum and, behind what is shown, that of the label at the end; the break in the call, with the call's bar; the first
+-- row of the cause's source, under the arrow.
+pub record NamesRows (text : List ℕ) : Type 0 where
+  pub cut : StandsIn (encode_utf8_all (codes " 6 │     let total = ...e +\n")) text
+  pub end : StandsIn (encode_utf8_all (codes "   ·         ──┬──         ▲\n")) text
+  pub folded : StandsIn (encode_utf8_all (codes "...│ │\n")) text
+  pub cause : StandsIn (encode_utf8_all (codes "       1 │ depth = 1\n")) text
+
 -- the outermost diagnostic, and that of the cause
 abbrev pub printed_sum : PrintedDiagnostic
 printed_sum = over (Some sum_file) (head sum_tree)

@@ -12,7 +12,7 @@ ghost use Rattle.miette_graphical.specs.rules.Text.{report_text};
 ghost use Rattle.miette_graphical.specs.views.Handling.{draws_plain, without_highlighter};
 ghost use Rattle.miette_tree.specs.views.Report.{tree_of};
 ghost use Rattle.callers.specs.Sums.{CauseStands, CauseStays, EndStandsBehind, IsCut, IsLeftOut, RowsStand};
-ghost use Rattle.callers.specs.Sums.{depth_tree, narrow};
+ghost use Rattle.callers.specs.Sums.{NamesRows, depth_tree, narrow};
 ghost use Rattle.callers.specs.Sums.{printed_cause, printed_sum, sum_tree};
 
 use miette::diagnostic::MietteDiagnostic;
@@ -90,6 +90,8 @@ pub fn draw_sum(alloc: Global, report: &Report) -> Result<String, RenderError>
     ensures end { IfOk result (λ text. EndStandsBehind) }
     // the third line is left out, inside the call: by `folds`
     ensures folded { IfOk result (λ text. IsLeftOut) }
+    // a row of each of these by its bytes: by `holds`, `levels_law`, and definitions, which compute
+    ensures named { IfOk result (λ text. NamesRows (string_bytes text)) }
 {
     levels_law();
     let mut handler: GraphicalReportHandler<BlankHighlighter> = narrow_handler(alloc)?;

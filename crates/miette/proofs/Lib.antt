@@ -1,1 +1,2 @@
 pub mod Footers
+pub mod Inputs

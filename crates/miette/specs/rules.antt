@@ -6,3 +6,4 @@ pub mod Printing
 pub mod Counting
 pub mod Forms
 pub mod Run
+pub mod Inputs

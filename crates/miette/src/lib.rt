@@ -3,6 +3,7 @@
 #![tactic(auto)]
 
 pub mod host;
+pub mod input;
 pub mod laws;
 pub mod options;
 pub mod prelude;

@@ -1,6 +1,7 @@
 //! The names that most programs use: `use miette::prelude::*;`.
 
 pub use crate::host::Host;
+pub use crate::input::{input_name, read_text};
 pub use crate::options::{MietteHandlerOpts, Terminal};
 pub use crate::print::{eprint_report, eprint_report_with, print_report, print_report_with};
 pub use crate::reporter::{Form, Reporter};

@@ -16,3 +16,4 @@ pub mod Marking
 pub mod Wholes
 pub mod Commanding
 pub mod CommandsBack
+pub mod ToldSources

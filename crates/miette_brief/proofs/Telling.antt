@@ -10,9 +10,9 @@ use Rattle.miette_tree.specs.rules.Diagnosis.{Diagnosis, Section}
 use Rattle.miette_tree.specs.rules.Tree.{Tree, tree, Cause, diagnostic, texts, Trees, no_trees, more_trees, trees}
 use Rattle.miette_tree.specs.rules.Tree.{effective, head, source_of, cause_of, related_of}
 use Rattle.miette_tree.specs.rules.DiagnosticParts.{given_labels}
-use Rattle.miette_tree.specs.rules.Reads.{AlwaysReads, CauseAlwaysReads, AllAlwaysRead, holds_of, holds_of_all, accepts}
+use Rattle.miette_tree.specs.rules.Reads.{AlwaysReads, holds_of, holds_of_all, accepts}
 use Rattle.miette_tree.specs.rules.Reads.{holds_further}
-use Rattle.miette_tree.proofs.Nesting.{Reads, effective_reads, next_of}
+use Rattle.miette_tree.proofs.Nesting.{next_of}
 use Rattle.miette_tree.proofs.Readings.{fault_free}
 use Rattle.miette_labels.specs.rules.Groups.{in_order}
 use Rattle.miette_brief.specs.rules.Rows.{Place, ReportRow, rows_text}
@@ -31,10 +31,12 @@ use Rattle.miette_brief.specs.rules.Fixes.{fixed_source, fixes_rows}
 use Rattle.miette_brief.specs.rules.PossibleAnswers.{HasAccepted, FurtherAccepted, AreCauseAnswers, AreCausedAnswers}
 use Rattle.miette_brief.specs.rules.PossibleAnswers.{AreAnswers}
 use Rattle.miette_brief.specs.rules.PossibleAnswers.{AllAnswers, IsBrief}
+use Rattle.miette_brief.specs.rules.ToldSources.{ToldReads, ToldAllRead, ToldCausesRead, ToldCauseReads}
 use Rattle.miette_brief.specs.steps.Reads.{IsDiagnosticPlace}
-use Rattle.miette_brief.proofs.Choosing.{nothing_met, primary_reads, accepts_order}
+use Rattle.miette_brief.proofs.Choosing.{nothing_met, accepts_order}
 use Rattle.miette_brief.proofs.Putting.{rows_joined}
 use Rattle.miette_brief.proofs.SoFar.{ToldSoFar, one_so_far}
+use Rattle.miette_brief.proofs.ToldSources.{told_reads}
 use Rattle.miette_brief.specs.steps.AppendedParts.{AppendsCauses, AppendsLabelled, AppendsOwn, AppendsReport}
 use Rattle.miette_brief.specs.steps.AppendedParts.{AppendsRelated, AppendsFixes, AppendsAdvice, own_text, related_text}
 
@@ -269,86 +271,84 @@ order_refused label source labels given order e ordered further sections ef refu
     (subst (λ (ls : List Label). (accepts source ls && holds_further accepts further) ≡ false)
     (ap (λ (ls : List Label). map (label ls) order) e ∙ ordered) refused)
 
--- ---- where every source always reads
+-- ---- where every source that is read always reads
 
 mutual
   same_causes : (at : Place) (inherited : Option Source) (a : Answers) (c : Cause) → AreCauseAnswers inherited a c
-      → Reads inherited → CauseAlwaysReads c → cause_rows at inherited a c ≡ cause_rows at inherited unlisted c
-  same_causes at inherited a (diagnostic t) p i reads = same_caused at inherited a t p i reads
-  same_causes at inherited a (texts ts) p i reads = refl
+      → ToldCausesRead inherited c → cause_rows at inherited a c ≡ cause_rows at inherited unlisted c
+  same_causes at inherited a (diagnostic t) p reads = same_caused at inherited a t p reads
+  same_causes at inherited a (texts ts) p reads = refl
 
   same_caused : (at : Place) (inherited : Option Source) (a : Answers) (t : Tree) → AreCausedAnswers inherited a t
-      → Reads inherited → AlwaysReads t → caused_rows at inherited a t ≡ caused_rows at inherited unlisted t
-  same_caused at inherited a (tree m own c r) p i reads =
+      → ToldCauseReads inherited t → caused_rows at inherited a t ≡ caused_rows at inherited unlisted t
+  same_caused at inherited a (tree m own c r) p reads =
       let from = effective own inherited in
-      let from_reads : Reads from = effective_reads own inherited reads.0 i in
       let primary = primary_spot from (in_order (given_labels m.labels)) m.snippets in
-      let spot_reads : Reads (source_of_spot primary) =
-      primary_reads from (in_order (given_labels m.labels)) m.snippets from_reads reads.3 in
       ap₂ (λ b rows. cause_row (cause_place at b primary) m.message ∷ rows)
-      (fault_free (source_of_spot primary) (own_answer a).place p.0 spot_reads)
-      (same_causes at inherited (cause_answers a) c p.1 i reads.1)
+      (fault_free (source_of_spot primary) (own_answer a).place p.0 reads.0)
+      (same_causes at inherited (cause_answers a) c p.1 reads.1)
 
 same_if : (chain : Bool) (at : Place) (inherited : Option Source) (a : Answers) (c : Cause)
-    → AreCauseAnswers inherited a c → Reads inherited → CauseAlwaysReads c → cause_rows_if chain at inherited a c
+    → AreCauseAnswers inherited a c → ToldCausesRead inherited c → cause_rows_if chain at inherited a c
     ≡ cause_rows_if chain at inherited unlisted c
-same_if true at inherited a c p i reads = same_causes at inherited a c p i reads
-same_if false at inherited a c p i reads = refl
+same_if true at inherited a c p reads = same_causes at inherited a c p reads
+same_if false at inherited a c p reads = refl
 
 mutual
   same_report : (chain : Bool) (inherited : Option Source) (a : Answers) (t : Tree) → AreAnswers inherited a t
-      → Reads inherited → AlwaysReads t → report_rows chain inherited a t ≡ report_rows chain inherited unlisted t
-  same_report chain inherited a (tree m own c r) p i reads =
+      → ToldReads inherited t → report_rows chain inherited a t ≡ report_rows chain inherited unlisted t
+  same_report chain inherited a (tree m own c r) p reads =
       let from = effective own inherited in
-      let from_reads : Reads from = effective_reads own inherited reads.0 i in
       let ls : List Label = in_order (given_labels m.labels) in
       let at : Place = diagnostic_place from false ls m.snippets in
       let placed : diagnostic_place from (own_answer a).place ls m.snippets ≡ at =
-      ap (λ b. diagnostic_place from b ls m.snippets) (fault_free from (own_answer a).place p.1 from_reads) in
+      ap (λ b. diagnostic_place from b ls m.snippets) (fault_free from (own_answer a).place p.1 reads.0) in
       let others = related_rows chain from (related_answers a) r in
       let causes = cause_rows_if chain at from (cause_answers a) c in
       ap (λ q. rows_at chain q from a m c ++ others) placed
       ∙ ap (λ b. (finding_row at m ∷ (labelled_rows from m ++ (causes ++ advice_rows at from b m))) ++ others)
-      (fault_free from (own_answer a).fixes p.4 from_reads)
+      (fault_free from (own_answer a).fixes p.4 reads.0)
       ∙ ap₂ (λ x y. (finding_row at m ∷ (labelled_rows from m ++ (x ++ advice_rows at from false m))) ++ y)
-      (same_if chain at from (cause_answers a) c p.2 from_reads reads.1)
-      (same_related chain from (related_answers a) r p.3 from_reads reads.2)
+      (same_if chain at from (cause_answers a) c p.2 reads.1)
+      (same_related chain from (related_answers a) r p.3 reads.2)
 
   same_related : (chain : Bool) (inherited : Option Source) (more : RelatedAnswers) (ts : Trees)
-      → AllAnswers inherited more ts → Reads inherited → AllAlwaysRead ts → related_rows chain inherited more ts
+      → AllAnswers inherited more ts → ToldAllRead inherited ts → related_rows chain inherited more ts
       ≡ related_rows chain inherited no_more ts
-  same_related chain inherited more no_trees p i reads = refl
-  same_related chain inherited more (more_trees t ts) p i reads =
-      ap₂ (λ x y. x ++ y) (same_report chain inherited (first_answers more) t p.0 i reads.0)
-      (same_related chain inherited (later_answers more) ts p.1 i reads.1)
+  same_related chain inherited more no_trees p reads = refl
+  same_related chain inherited more (more_trees t ts) p reads =
+      ap₂ (λ x y. x ++ y) (same_report chain inherited (first_answers more) t p.0 reads.0)
+      (same_related chain inherited (later_answers more) ts p.1 reads.1)
 
 mutual
   same_commands : (chain : Bool) (inherited : Option Source) (a : Answers) (t : Tree) → AreAnswers inherited a t
-      → Reads inherited → AlwaysReads t → report_commands chain inherited a t
-      ≡ report_commands chain inherited unlisted t
-  same_commands chain inherited a (tree m own c r) p i reads =
+      → ToldReads inherited t → report_commands chain inherited a t ≡ report_commands chain inherited unlisted t
+  same_commands chain inherited a (tree m own c r) p reads =
       let from = effective own inherited in
-      let from_reads : Reads from = effective_reads own inherited reads.0 i in
-      ap₂ (λ b cs. command chain from b m c ∷ cs) (fault_free from (own_answer a).place p.1 from_reads)
-      (same_further chain from (related_answers a) r p.3 from_reads reads.2)
+      ap₂ (λ b cs. command chain from b m c ∷ cs) (fault_free from (own_answer a).place p.1 reads.0)
+      (same_further chain from (related_answers a) r p.3 reads.2)
 
   same_further : (chain : Bool) (inherited : Option Source) (more : RelatedAnswers) (ts : Trees)
-      → AllAnswers inherited more ts → Reads inherited → AllAlwaysRead ts → related_commands chain inherited more ts
+      → AllAnswers inherited more ts → ToldAllRead inherited ts → related_commands chain inherited more ts
       ≡ related_commands chain inherited no_more ts
-  same_further chain inherited more no_trees p i reads = refl
-  same_further chain inherited more (more_trees t ts) p i reads =
-      ap₂ (λ x y. x ++ y) (same_commands chain inherited (first_answers more) t p.0 i reads.0)
-      (same_further chain inherited (later_answers more) ts p.1 i reads.1)
+  same_further chain inherited more no_trees p reads = refl
+  same_further chain inherited more (more_trees t ts) p reads =
+      ap₂ (λ x y. x ++ y) (same_commands chain inherited (first_answers more) t p.0 reads.0)
+      (same_further chain inherited (later_answers more) ts p.1 reads.1)
 
-same_text : (f : Form) (chain : Bool) (a : Answers) (t : Tree) → AreAnswers None a t → AlwaysReads t
+same_text : (f : Form) (chain : Bool) (a : Answers) (t : Tree) → AreAnswers None a t → ToldReads None t
     → text_in f chain None a t ≡ text_in f chain None unlisted t
-same_text Gcc chain a t p reads = ap rows_text (same_report chain None a t p tt reads)
-same_text Github chain a t p reads = ap commands_text (same_commands chain None a t p tt reads)
+same_text Gcc chain a t p reads = ap rows_text (same_report chain None a t p reads)
+same_text Github chain a t p reads = ap commands_text (same_commands chain None a t p reads)
 
 pub is_brief : (b : BriefSettings) (t : Tree) (text : List ℕ) → AppendsReport b None t [] text → IsBrief b t text
 is_brief b t text a = record { answers = a.answers; possible = a.possible; is = a.appended }
 
+pub told_brief : (s : BriefSettings) (t : Tree) (text old new : List ℕ) → IsBrief s t text → new ≡ old ++ text
+    → ToldReads None t → new ≡ old ++ brief s t unlisted
+told_brief s t text old new h e reads =
+    e ∙ ap (λ x. old ++ x) (h.is ∙ same_text s.form s.chain h.answers t h.possible reads)
+
 pub only_brief : (s : BriefSettings) (t : Tree) (text old new : List ℕ) → IsBrief s t text → new ≡ old ++ text
     → AlwaysReads t → new ≡ old ++ brief s t unlisted
-only_brief s t text old new h e reads =
-    e ∙ ap (λ x. old ++ x) (h.is ∙ same_text s.form s.chain h.answers t h.possible reads)
+only_brief s t text old new h e reads = told_brief s t text old new h e (told_reads None t tt reads)

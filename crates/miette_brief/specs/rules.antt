@@ -8,3 +8,4 @@ pub mod Marks
 pub mod Github
 pub mod Report
 pub mod PossibleAnswers
+pub mod ToldSources

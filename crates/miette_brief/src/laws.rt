@@ -12,6 +12,7 @@ ghost use Rattle.miette_brief.specs.rules.Rows.{ToldRow, one_row, told_text};
 ghost use Rattle.miette_brief.specs.rules.FixIts.{FixIt, fix_it_text};
 ghost use Rattle.miette_brief.specs.rules.Report.{BriefSettings, Answers, brief, report_commands, unlisted};
 ghost use Rattle.miette_brief.specs.rules.PossibleAnswers.{IsBrief};
+ghost use Rattle.miette_brief.specs.rules.ToldSources.{ToldReads};
 ghost use Rattle.miette_brief.specs.laws.Parts.{parts, IsRows, HasEachPart};
 ghost use Rattle.miette_brief.specs.laws.CommandBack.{AreCommands, diagnostics_in};
 ghost use Rattle.miette_brief.specs.laws.EditBack.{ReadsEdit};
@@ -62,10 +63,14 @@ pub fn an_edit_reads_back()
 {}
 
 /// Where every source of a report always reads, it has one brief text: `ReportHandler::debug`, and what stands on it,
-/// then appends this one.
+/// then appends this one. So it does where those sources always read that are read for the text (`ToldReads`): of
+/// causes those of their primary labels alone, and none of the reports related to them.
 pub fn a_read_report_has_one_text()
     ensures text { (s : BriefSettings) (t : Tree) (text : List ℕ) → IsBrief s t text → AlwaysReads t →
         text ≡ brief s t unlisted }
     ensures appended { (s : BriefSettings) (t : Tree) (old new : List ℕ) → AppendsOne (IsBrief s t) old new →
         AlwaysReads t → new ≡ old ++ brief s t unlisted }
+    ensures told { (s : BriefSettings) (t : Tree) (old new : List ℕ) → AppendsOne (IsBrief s t) old new →
+        ToldReads None t → new ≡ old ++ brief s t unlisted }
+    ensures fewer { (t : Tree) → AlwaysReads t → ToldReads None t }
 {}

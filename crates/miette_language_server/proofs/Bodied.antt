@@ -1,5 +1,5 @@
 -- The message that a body is.
-use Rattle.std.proofs.Common.{◌≡◌, ℕ, List, Option, Some, None, refl, sym, true}
+use Rattle.std.proofs.Common.{◌≡◌, ℕ, List, Some, None, refl, sym, true}
 use Rattle.std.specs.Str.{IsUtf8, is_utf8}
 use Rattle.std.proofs.lemmas.Str.{IsUtf8-from_is_utf8, is_utf8-from_IsUtf8}
 use Rattle.miette_basics.proofs.Cases.{by_cases}

@@ -1,5 +1,5 @@
 -- The body of a frame.
-use Rattle.std.proofs.Common.{◌≡◌, ℕ, ◌+◌, ◌<◌, ◌≤◌, List, [], ◌∷◌, ◌++◌, true, false, Option, Some, None, refl, sym}
+use Rattle.std.proofs.Common.{◌≡◌, ℕ, ◌<◌, List, [], ◌++◌, true, false, Option, Some, None, refl, sym}
 use Rattle.std.proofs.Common.{ap}
 use Rattle.std.proofs.Common.{◌∙◌, arith, append-nil, drop, leb, length, length-append, subst, take, Vec}
 use Rattle.std.specs.Option.{option_and_then}
@@ -9,7 +9,7 @@ use Rattle.std.specs.declared.alloc.Global.{Global}
 use Rattle.std.specs.Io.KnownBytes.{Appends, Consumes, IsAtEnd}
 use Rattle.std.proofs.Common.{Result, Ok, Err, OnOk}
 use Rattle.std.proofs.KnownBytes.{Appends-trans}
-use Rattle.miette_language_server.specs.rules.Frames.{Frame, cut, first_frame, length_from}
+use Rattle.miette_language_server.specs.rules.Frames.{Frame, cut}
 use Rattle.miette_language_server.specs.views.Answered.{IsCut, IsFirstFrame, IsHeader}
 
 -- what is there ends early

@@ -1,5 +1,5 @@
 -- What the server writes has no fractions, so its text is known byte by byte.
-use Rattle.std.proofs.Common.{◌≡◌, ℕ, ℤ, pos, negsuc, List, [], ◌∷◌, ◌++◌, Bool, true, false, ◌||◌, Option, Some}
+use Rattle.std.proofs.Common.{◌≡◌, ℕ, ℤ, ◌<◌, arith, pos, negsuc, List, [], ◌∷◌, ◌++◌, true, false, ◌||◌, Option, Some}
 use Rattle.std.proofs.Common.{None, refl}
 use Rattle.std.proofs.Common.{sym, ap, ◌∙◌, length, map, subst}
 use Rattle.std.specs.Option.{option_and_then, option_map_or}
@@ -7,8 +7,7 @@ use Rattle.std.specs.List.{flat_map}
 use Rattle.std.specs.Prelude.{codes}
 use Rattle.std.proofs.lemmas.Bool.{or_from}
 use Rattle.miette_basics.proofs.Cases.{by_cases}
-use Rattle.serde_json.specs.Data.{Data, Num, array, boolean, float, negative, null, number, object, string, unsigned}
-use Rattle.serde_json.specs.Data.{Items, Members, item, member, no_items, no_members}
+use Rattle.serde_json.specs.Data.{Data, array, boolean, float, negative, null, number, object, string, unsigned}
 use Rattle.serde_json.specs.View.{items_of}
 use Rattle.serde_json.specs.Find.{pointer}
 use Rattle.serde_json.specs.Written.{has_float, items_have_float, members_have_float}
@@ -33,7 +32,7 @@ use Rattle.miette_language_server.specs.rules.Diagnostics.{diagnostic_value, dia
 use Rattle.miette_language_server.specs.rules.Diagnostics.{by_fixes, fixable_value, placed, plain_value}
 use Rattle.miette_language_server.specs.rules.Diagnostics.{published_value, version_members}
 use Rattle.miette_language_server.specs.rules.Documents.{OpenDocument, changed_in, document_in, opened_in, uri_in}
-use Rattle.miette_language_server.specs.rules.Members.{id_alone, id_of, is_id, region_at, text_at}
+use Rattle.miette_language_server.specs.rules.Members.{id_alone, is_id, region_at, text_at}
 use Rattle.miette_language_server.specs.rules.Messages.{answer, error_value, publication, refused, server_value}
 use Rattle.miette_language_server.specs.rules.Session.{Effect, State, actions_value, asked_first, asked_in}
 use Rattle.miette_language_server.specs.rules.Session.{asked_then, called}
@@ -43,7 +42,7 @@ use Rattle.miette_language_server.specs.rules.Session.{told, written}
 use Rattle.serde_json.specs.View.{view}
 use Rattle.serde_json.specs.declared.value.Value.{Value}
 use Rattle.miette_language_server.specs.declared.session.Outcome.{Outcome}
-use Rattle.miette_language_server.specs.declared.session.Outcome.TheVariants.{Written}
+use Rattle.miette_language_server.specs.declared.session.Outcome.TheVariants.{Ended, Written}
 use Rattle.miette_language_server.specs.views.Answered.{IsStep, outcome_of}
 use Rattle.miette_language_server.specs.rules.Values.{edit_value, edits_value, fix_value, list_value, part}
 
@@ -184,10 +183,11 @@ id_floatless (object ms) h = let bad : false ≡ true = h in cc
 
 -- ---- steps
 
+-- a message has no fraction, and a status is 0, 1 or 2
 abbrev pub IsFloatless : Effect → Type 0
 IsFloatless nothing = Unit {0}
 IsFloatless (written d) = has_float d ≡ false
-IsFloatless (ended status) = Unit {0}
+IsFloatless (ended status) = status < 3
 
 first_floatless : (s : State) (id : Data) (request : Request) → has_float id ≡ false
     → IsFloatless (asked_first s id request).outcome
@@ -239,22 +239,22 @@ noticed_floatless s d Opened = opened_floatless s (opened_in d)
 noticed_floatless s d Changed = changed_floatless s d (document_in s.documents d)
 noticed_floatless s d Saved = saved_floatless s (document_in s.documents d)
 noticed_floatless s d Closed = closed_floatless s (uri_in d)
-noticed_floatless s d Exit = tt
+noticed_floatless s d Exit = omega arith
 noticed_floatless s d Ignored = tt
 
-alone_floatless : (status : ℕ) (notice : Notice) → IsFloatless (alone status notice)
-alone_floatless status Opened = tt
-alone_floatless status Changed = tt
-alone_floatless status Saved = tt
-alone_floatless status Closed = tt
-alone_floatless status Exit = tt
-alone_floatless status Ignored = tt
+alone_floatless : (status : ℕ) (notice : Notice) → status < 3 → IsFloatless (alone status notice)
+alone_floatless status Opened lt = tt
+alone_floatless status Changed lt = tt
+alone_floatless status Saved lt = tt
+alone_floatless status Closed lt = tt
+alone_floatless status Exit lt = lt
+alone_floatless status Ignored lt = tt
 
 notice_floatless : (phase : Phase) (s : State) (d : Data) (notice : Notice)
     → IsFloatless (noticed_in phase s d notice).outcome
-notice_floatless Waiting s d notice = alone_floatless 1 notice
+notice_floatless Waiting s d notice = alone_floatless 1 notice (omega arith)
 notice_floatless Running s d notice = noticed_floatless s d notice
-notice_floatless Stopping s d notice = alone_floatless 0 notice
+notice_floatless Stopping s d notice = alone_floatless 0 notice (omega arith)
 
 -- of what stands at a request's id
 called_by : (s : State) (d : Data) (method : List ℕ) (o : Option Data)
@@ -284,4 +284,10 @@ step_floatless s body = message_floatless s (message_of body)
 pub written_floatless : (s t : State) (body : List ℕ) (outcome : Outcome) (value : Value)
     → IsStep (step s body) t outcome → outcome ≡ Written value → has_float (view value) ≡ false
 written_floatless s t body outcome value is same =
+    subst IsFloatless (sym is.1 ∙ ap outcome_of same) (step_floatless s body)
+
+-- the status that a step ends with
+pub ended_below : (s t : State) (body : List ℕ) (outcome : Outcome) (status : ℕ)
+    → IsStep (step s body) t outcome → outcome ≡ Ended status → status < 3
+ended_below s t body outcome status is same =
     subst IsFloatless (sym is.1 ∙ ap outcome_of same) (step_floatless s body)

@@ -1,18 +1,17 @@
 -- What is written in a frame is read back.
-use Rattle.std.proofs.Common.{◌≡◌, ◌≢◌, ℕ, ◌+◌, ◌-◌, ◌*◌, ◌/◌, ◌%◌, ◌^◌, ◌<◌, ◌≤◌, List, [], ◌∷◌, ◌++◌, Bool, true}
+use Rattle.std.proofs.Common.{◌≡◌, ℕ, ◌+◌, ◌-◌, ◌*◌, ◌/◌, ◌%◌, ◌^◌, ◌<◌, ◌≤◌, List, [], ◌∷◌, ◌++◌, Bool, true}
 use Rattle.std.proofs.Common.{false}
 use Rattle.std.proofs.Common.{◌&&◌, eqb, leb, ltb, Option, Some, None, refl, sym, ap, ◌∙◌, arith, append_assoc}
-use Rattle.std.proofs.Common.{append-nil, cond}
-use Rattle.std.proofs.Common.{drop, length, length-append, map, reverse, subst, take}
+use Rattle.std.proofs.Common.{append-nil}
+use Rattle.std.proofs.Common.{length, length-append, reverse, take}
 use Rattle.std.specs.Prelude.{codes, decimal, not, position, take_while}
 use Rattle.std.specs.Option.{option_and_then, option_or}
-use Rattle.std.specs.List.{prefix_len}
 use Rattle.std.proofs.lemmas.Bool.{and_parts, ne_eqb, not-true}
 use Rattle.std.proofs.lemmas.List.{reverse-append}
 use lib.Seq.{take-append_seam}
 use Rattle.std.proofs.lemmas.Bool.Decides.{nat_tests}
 use Rattle.std.proofs.lemmas.Fmt.{decimal_by_steps}
-use Rattle.miette_language_server.specs.rules.Frames.{Frame, cut, first_frame, framed, header_text, is_blank, is_digit}
+use Rattle.miette_language_server.specs.rules.Frames.{first_frame, framed, header_text, is_blank}
 use Rattle.miette_language_server.specs.rules.Frames.{is_empty_row, length_from, number, number_from, row_length}
 use Rattle.miette_language_server.specs.rules.Frames.{trimmed}
 use Rattle.miette_language_server.specs.rules.Frames.{with_digit, without_leading, without_trailing}

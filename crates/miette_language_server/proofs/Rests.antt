@@ -1,7 +1,7 @@
 -- What is behind a frame is shorter.
-use Rattle.std.proofs.Common.{◌≡◌, ℕ, ◌+◌, ◌<◌, ◌≤◌, List, [], ◌∷◌, ◌++◌, Bool, true, false, eqb, leb, Option, Some}
+use Rattle.std.proofs.Common.{◌≡◌, ℕ, ◌<◌, List, [], ◌∷◌, ◌++◌, eqb, leb, Option, Some}
 use Rattle.std.proofs.Common.{None}
-use Rattle.std.proofs.Common.{refl, sym, ap, ◌∙◌, arith, drop, length, length-drop, subst, take}
+use Rattle.std.proofs.Common.{sym, arith, length, length-drop, subst}
 use Rattle.std.specs.Option.{option_and_then, option_or}
 use Rattle.miette_basics.proofs.Cases.{by_cases}
 use Rattle.miette_language_server.specs.rules.Frames.{Frame, cut, first_frame, is_empty_row, known_length, length_from}

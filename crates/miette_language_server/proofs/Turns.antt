@@ -1,11 +1,10 @@
 -- What is written for what is left, message by message.
-use Rattle.std.proofs.Common.{◌≡◌, ℕ, zero, suc, ◌+◌, ◌<◌, List, [], ◌++◌, Option, Some, None, IfSome, refl, sym, ap, ◌∙◌, arith}
+use Rattle.std.proofs.Common.{◌≡◌, ℕ, zero, suc, ◌+◌, ◌<◌, List, Option, Some, None, IfSome, refl, sym, ap, ◌∙◌, arith}
 use Rattle.std.proofs.Common.{length, subst, Vec}
 use Rattle.std.specs.declared.alloc.Global.{Global}
 use Rattle.std.specs.Option.{option_map_or}
 use Rattle.std.specs.Io.KnownBytes.{Appends}
 use Rattle.std.proofs.KnownBytes.{Appends-nil, Appends-trans}
-use Rattle.serde_json.specs.Data.{Data}
 use Rattle.serde_json.specs.View.{view}
 use Rattle.serde_json.specs.Written.{compact_text}
 use Rattle.serde_json.specs.declared.value.Value.{Value}
@@ -13,7 +12,7 @@ use Rattle.miette_language_server.specs.declared.session.Outcome.{Outcome}
 use Rattle.miette_language_server.specs.declared.session.Outcome.TheVariants.{Ended, Nothing, Written}
 use Rattle.miette_language_server.specs.rules.Frames.{Frame, first_frame, framed}
 use Rattle.miette_language_server.specs.rules.Serving.{Service, broken_off, served, served_from, served_with}
-use Rattle.miette_language_server.specs.rules.Session.{Effect, State, ended, first_state, nothing, step, written}
+use Rattle.miette_language_server.specs.rules.Session.{Effect, State, first_state, step}
 use Rattle.miette_language_server.specs.views.Answered.{IsFirstFrame, IsStep, outcome_of}
 use Rattle.miette_language_server.specs.views.Served.{Gives, IsServed}
 use Rattle.miette_language_server.proofs.Rests.{shorter}

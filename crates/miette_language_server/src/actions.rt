@@ -1,6 +1,6 @@
 //! What a client may do at a place of a document: quick fixes.
 
-ghost use Rattle.std.specs.Prelude.{◌≡◌, ◌++◌, IfOk, OnOk, codes, flat_map, map, string_bytes};
+ghost use Rattle.std.specs.Prelude.{◌≡◌, ◌++◌, ◌∷◌, [], IfOk, OnOk, codes, flat_map, map, string_bytes};
 ghost use Rattle.std.specs.Option.{option_copied};
 ghost use Rattle.serde_json.specs.View.{view};
 ghost use Rattle.miette_lint.specs.views.Found.{coded_of};
@@ -8,16 +8,18 @@ ghost use Rattle.miette_positions.specs.rules.Stops.{is_until};
 ghost use Rattle.miette_language_server.specs.rules.Actions.{action_value, actions, actions_at, actions_in};
 ghost use Rattle.miette_language_server.specs.rules.Actions.{changes_value, is_sure, joint_of, joint_value, touches, with_joint};
 ghost use Rattle.miette_language_server.specs.rules.Diagnostics.{diagnostic_value};
+ghost use Rattle.miette_language_server.specs.rules.Values.{list_value};
 
 use crate::diagnostics::{diagnostic_value, placed};
 use crate::documents::Document;
+use crate::objects::{with_text, with_value};
 use crate::values::{edits_value, part};
 use miette_fixes::fix::{Applicability, Fix};
 use miette_lint::coded::{CodedFinding, coded_findings};
 use miette_lint::joint::joint_proposal;
 use miette_positions::index::PositionIndex;
 use miette_positions::place::{Position, Region};
-use serde_json::{Value, json};
+use serde_json::{Map, Value, json};
 use std::alloc::{AllocError, Global};
 
 // Whether a position is another one or stands before it.
@@ -53,6 +55,13 @@ fn changes_value(alloc: Global, uri: &str, edits: Value) -> Result<Value, AllocE
     json!(in alloc; {"changes": {(uri): edits}})
 }
 
+// A list of one value.
+fn list_of_one(alloc: Global, value: &Value) -> Result<Value, AllocError>
+    ensures { IfOk result (λ list. view list ≡ list_value (view value.now ∷ [])) }
+{
+    json!(in alloc; [value])
+}
+
 // A fix of what a diagnostic tells.
 fn action_value(
     alloc: Global,
@@ -65,13 +74,18 @@ fn action_value(
 {
     let edits = edits_value(alloc, source, fix.edits())?;
     let edit = changes_value(alloc, uri, edits)?;
-    json!(in alloc; {
-        "title": fix.message(),
-        "kind": "quickfix",
-        "diagnostics": [diagnostic],
-        "isPreferred": is_sure(fix.applicability()),
-        "edit": edit
-    })
+    let it = with_value(alloc, Map::new(alloc), "edit", edit)?;
+    let it = with_text(alloc, it, "title", fix.message())?;
+    let it = with_text(alloc, it, "kind", "quickfix")?;
+    let it = with_value(
+        alloc,
+        it,
+        "isPreferred",
+        Value::Bool(is_sure(fix.applicability())),
+    )?;
+    let diagnostics = list_of_one(alloc, diagnostic)?;
+    let it = with_value(alloc, it, "diagnostics", diagnostics)?;
+    Ok(Value::Object(it))
 }
 
 // What all fixes of a document are called.
@@ -92,10 +106,13 @@ fn joint_value(
 ) -> Result<Value, AllocError>
     ensures { IfOk result (λ value. view value ≡ joint_value uri.now source.now fix.now) }
 {
+    let title = joint_title(alloc, fix)?;
+    let it = with_value(alloc, Map::new(alloc), "title", Value::String(title))?;
     let edits = edits_value(alloc, source, fix.edits())?;
     let edit = changes_value(alloc, uri, edits)?;
-    let title = joint_title(alloc, fix)?;
-    json!(in alloc; {"title": title, "kind": "quickfix", "edit": edit})
+    let it = with_value(alloc, it, "edit", edit)?;
+    let it = with_text(alloc, it, "kind", "quickfix")?;
+    Ok(Value::Object(it))
 }
 
 // These fixes of what a diagnostic tells.

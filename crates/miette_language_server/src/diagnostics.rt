@@ -1,20 +1,23 @@
 //! What `lint` finds in a document, as diagnostics of the protocol.
 
-ghost use Rattle.std.specs.Prelude.{◌≡◌, [], IfOk, map, unwrap_or};
-ghost use Rattle.serde_json.specs.View.{view};
+ghost use Rattle.std.specs.Prelude.{◌≡◌, [], IfOk, codes, map, unwrap_or};
+ghost use Rattle.serde_json.specs.Data.{member, string};
+ghost use Rattle.serde_json.specs.View.{members_view, view};
 ghost use Rattle.miette_lint.specs.rules.Coded.{coded_findings};
 ghost use Rattle.miette_lint.specs.views.Found.{coded_of};
 ghost use Rattle.miette_language_server.specs.rules.Diagnostics.{diagnostic_value, diagnostics, diagnostics_of};
 ghost use Rattle.miette_language_server.specs.rules.Diagnostics.{fixable_value, fixes_value, placed, plain_value, published_value};
+ghost use Rattle.miette_language_server.specs.rules.Diagnostics.{told};
 
 use crate::documents::Document;
+use crate::objects::{with_text, with_value};
 use crate::values::{fix_value, part, range_value};
 use miette_fixes::fix::Fix;
 use miette_lint::coded::{CodedFinding, coded_findings};
 use miette_positions::index::PositionIndex;
 use miette_positions::place::PositionEncoding;
 use miette_protocol::protocol::LabeledSpan;
-use serde_json::{Value, json};
+use serde_json::{Map, Value, json};
 use std::alloc::{AllocError, Global};
 
 /// A text with an index of its positions in units of UTF-16.
@@ -50,6 +53,23 @@ fn message(label: &LabeledSpan) -> &str
     }
 }
 
+// What all diagnostics have.
+fn told(
+    alloc: Global,
+    source: &PositionIndex<'_>,
+    found: &CodedFinding,
+) -> Result<Map<String, Value>, AllocError>
+    ensures { IfOk result (λ it. members_view it.entries
+        ≡ member (codes "code") (string (coded_of found.now).code) (told source.now (coded_of found.now))) }
+{
+    let range = range_value(alloc, part(source, *found.label.inner()))?;
+    let it = with_value(alloc, Map::new(alloc), "range", range)?;
+    let it = with_value(alloc, it, "severity", Value::from(2u8))?;
+    let it = with_text(alloc, it, "code", found.code)?;
+    let it = with_text(alloc, it, "source", "lint")?;
+    with_text(alloc, it, "message", message(&found.label))
+}
+
 // A diagnostic of a finding for which nothing is proposed.
 fn plain_value(
     alloc: Global,
@@ -58,14 +78,8 @@ fn plain_value(
 ) -> Result<Value, AllocError>
     ensures { IfOk result (λ value. view value ≡ plain_value source.now (coded_of found.now)) }
 {
-    let range = range_value(alloc, part(source, *found.label.inner()))?;
-    json!(in alloc; {
-        "range": range,
-        "severity": 2u8,
-        "code": found.code,
-        "source": "lint",
-        "message": message(&found.label)
-    })
+    let it = told(alloc, source, found)?;
+    Ok(Value::Object(it))
 }
 
 // A diagnostic of a finding for which something is.
@@ -77,16 +91,10 @@ fn fixable_value(
 ) -> Result<Value, AllocError>
     ensures { IfOk result (λ value. view value ≡ fixable_value uri.now source.now (coded_of found.now)) }
 {
-    let range = range_value(alloc, part(source, *found.label.inner()))?;
     let fixes = fixes_value(alloc, uri, source, found.fixes.as_slice())?;
-    json!(in alloc; {
-        "range": range,
-        "severity": 2u8,
-        "code": found.code,
-        "source": "lint",
-        "message": message(&found.label),
-        "data": fixes
-    })
+    let it = told(alloc, source, found)?;
+    let it = with_value(alloc, it, "data", fixes)?;
+    Ok(Value::Object(it))
 }
 
 /// A diagnostic of a document with a uri.
@@ -158,9 +166,14 @@ pub(crate) fn published_value(
 ) -> Result<Value, AllocError>
     ensures { IfOk result (λ value. view value ≡ published_value uri.now version (map view list.items)) }
 {
+    let it = with_value(alloc, Map::new(alloc), "diagnostics", Value::Array(list))?;
+    let it = with_text(alloc, it, "uri", uri)?;
     match version {
-        Some(version) => json!(in alloc; {"uri": uri, "version": version, "diagnostics": list}),
-        None => json!(in alloc; {"uri": uri, "diagnostics": list}),
+        Some(version) => {
+            let it = with_value(alloc, it, "version", Value::from(version))?;
+            Ok(Value::Object(it))
+        }
+        None => Ok(Value::Object(it)),
     }
 }
 

@@ -12,6 +12,7 @@ pub mod laws;
 mod members;
 mod messages;
 mod names;
+mod objects;
 pub mod serve;
 pub mod session;
 mod values;

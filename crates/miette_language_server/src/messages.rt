@@ -1,13 +1,15 @@
 //! What a server writes: answers, refusals and notifications of JSON-RPC 2.0.
 
-ghost use Rattle.std.specs.Prelude.{◌≡◌, IfOk};
-ghost use Rattle.serde_json.specs.View.{view};
+ghost use Rattle.std.specs.Prelude.{◌≡◌, IfOk, codes};
+ghost use Rattle.serde_json.specs.Data.{object, put as with_member, string};
+ghost use Rattle.serde_json.specs.View.{members_view, view};
 ghost use Rattle.miette_language_server.specs.rules.Messages.{actions_kinds, answer, capabilities, code_of};
 ghost use Rattle.miette_language_server.specs.rules.Messages.{error_value};
 ghost use Rattle.miette_language_server.specs.rules.Messages.{publication, reason_of, refused, server_value};
 ghost use Rattle.miette_language_server.specs.rules.Messages.{sync_value};
 
-use serde_json::{Value, json};
+use crate::objects::{with_text, with_value};
+use serde_json::{Map, Value, json};
 use std::alloc::{AllocError, Global};
 
 /// Why a request is refused.
@@ -49,18 +51,32 @@ impl Refusal {
     }
 }
 
+// What is told of the request with this id.
+fn with_id(alloc: Global, members: Map<String, Value>, id: &Value) -> Result<Value, AllocError>
+    ensures { IfOk result (λ value. view value ≡ object (with_member (codes "id") (view id.now)
+        (with_member (codes "jsonrpc") (string (codes "2.0")) (members_view members.entries)))) }
+{
+    let it = with_text(alloc, members, "jsonrpc", "2.0")?;
+    let id = id.clone()?;
+    let it = with_value(alloc, it, "id", id)?;
+    Ok(Value::Object(it))
+}
+
 /// What a request with this id is answered by.
 pub(crate) fn answer(alloc: Global, id: &Value, given: Value) -> Result<Value, AllocError>
     ensures { IfOk result (λ value. view value ≡ answer (view id.now) (view given)) }
 {
-    json!(in alloc; {"jsonrpc": "2.0", "id": id, "result": given})
+    let it = with_value(alloc, Map::new(alloc), "result", given)?;
+    with_id(alloc, it, id)
 }
 
 // What an error is.
 fn error_value(alloc: Global, why: Refusal) -> Result<Value, AllocError>
     ensures { IfOk result (λ value. view value ≡ error_value why) }
 {
-    json!(in alloc; {"code": why.code(), "message": why.reason()})
+    let it = with_value(alloc, Map::new(alloc), "code", Value::from(why.code()))?;
+    let it = with_text(alloc, it, "message", why.reason())?;
+    Ok(Value::Object(it))
 }
 
 /// What refuses a request with this id.
@@ -68,25 +84,28 @@ pub(crate) fn refused(alloc: Global, id: &Value, why: Refusal) -> Result<Value, 
     ensures { IfOk result (λ value. view value ≡ refused (view id.now) why) }
 {
     let error = error_value(alloc, why)?;
-    json!(in alloc; {"jsonrpc": "2.0", "id": id, "error": error})
+    let it = with_value(alloc, Map::new(alloc), "error", error)?;
+    with_id(alloc, it, id)
 }
 
 /// A notification of diagnostics.
 pub(crate) fn publication(alloc: Global, params: Value) -> Result<Value, AllocError>
     ensures { IfOk result (λ value. view value ≡ publication (view params)) }
 {
-    json!(in alloc; {
-        "jsonrpc": "2.0",
-        "method": "textDocument/publishDiagnostics",
-        "params": params
-    })
+    let it = with_value(alloc, Map::new(alloc), "params", params)?;
+    let it = with_text(alloc, it, "jsonrpc", "2.0")?;
+    let it = with_text(alloc, it, "method", "textDocument/publishDiagnostics")?;
+    Ok(Value::Object(it))
 }
 
 // Documents are opened, closed, saved, and told as a whole where they change.
 fn sync_value(alloc: Global) -> Result<Value, AllocError>
     ensures { IfOk result (λ value. view value ≡ sync_value) }
 {
-    json!(in alloc; {"openClose": true, "change": 1u8, "save": true})
+    let it = with_value(alloc, Map::new(alloc), "openClose", Value::Bool(true))?;
+    let it = with_value(alloc, it, "change", Value::from(1u8))?;
+    let it = with_value(alloc, it, "save", Value::Bool(true))?;
+    Ok(Value::Object(it))
 }
 
 // Quick fixes.
@@ -101,18 +120,20 @@ fn capabilities(alloc: Global) -> Result<Value, AllocError>
     ensures { IfOk result (λ value. view value ≡ capabilities) }
 {
     let sync = sync_value(alloc)?;
+    let it = with_value(alloc, Map::new(alloc), "textDocumentSync", sync)?;
     let actions = actions_kinds(alloc)?;
-    json!(in alloc; {
-        "positionEncoding": "utf-16",
-        "textDocumentSync": sync,
-        "codeActionProvider": actions
-    })
+    let it = with_value(alloc, it, "codeActionProvider", actions)?;
+    let it = with_text(alloc, it, "positionEncoding", "utf-16")?;
+    Ok(Value::Object(it))
 }
 
 /// The answer to `initialize`.
 pub(crate) fn server_value(alloc: Global) -> Result<Value, AllocError>
     ensures { IfOk result (λ value. view value ≡ server_value) }
 {
+    let info = with_text(alloc, Map::new(alloc), "name", "lint")?;
+    let it = with_value(alloc, Map::new(alloc), "serverInfo", Value::Object(info))?;
     let capabilities = capabilities(alloc)?;
-    json!(in alloc; {"capabilities": capabilities, "serverInfo": {"name": "lint"}})
+    let it = with_value(alloc, it, "capabilities", capabilities)?;
+    Ok(Value::Object(it))
 }

@@ -1,6 +1,6 @@
 //! The server over any reader and any writer.
 
-ghost use Rattle.std.specs.Prelude.{◌≡◌, IfOk, IfSome, OnOk, false};
+ghost use Rattle.std.specs.Prelude.{◌≡◌, ◌<◌, IfOk, IfSome, OnOk, false};
 ghost use Rattle.std.specs.Io.KnownBytes.{Appends};
 ghost use Rattle.serde_json.specs.View.{view};
 ghost use Rattle.serde_json.specs.Written.{compact_text, has_float};
@@ -32,9 +32,10 @@ fn turn<R: Read, W: Write>(
     reader: &mut R,
     writer: &mut W,
 ) -> Result<Option<u8>, Fault>
-    ensures { IfOk result (IsTurn
+    ensures served { IfOk result (IsTurn
         (record { state = session.old; input = R.remaining reader.old; output = W.contents writer.old })
         (record { state = session.new; input = R.remaining reader.new; output = W.contents writer.new })) }
+    ensures status { IfOk result (λ it. IfSome it (λ status. status < 3)) }
 {
     let frame = read_frame(alloc, reader)?;
     let body = match frame {
@@ -52,7 +53,8 @@ fn turn<R: Read, W: Write>(
     }
 }
 
-/// Serves a client, whose lines may have so many columns, until it ends the server or its frames end: the status.
+/// Serves a client, whose lines may have so many columns, until it ends the server or its frames end: the status, which
+/// is 0, 1 or 2.
 ///
 /// What is written for what the reader has is a function of its bytes: `served`.
 ///
@@ -64,9 +66,10 @@ pub fn serve<R: Read, W: Write>(
     reader: &mut R,
     writer: &mut W,
 ) -> Result<u8, Fault>
-    ensures { IfOk result (λ status. IfSome (R.remaining reader.old) (λ bytes.
+    ensures served { IfOk result (λ status. IfSome (R.remaining reader.old) (λ bytes.
         Appends (W.contents writer.old) (W.contents writer.new) (served width bytes).output
         × (status ≡ (served width bytes).status))) }
+    ensures status { IfOk result (λ status. status < 3) }
 {
     let mut session = Session::new(alloc, width);
     for _ in 0..u64::MAX {

@@ -5,18 +5,21 @@ ghost use Rattle.serde_json.specs.View.{view};
 ghost use Rattle.miette_language_server.specs.rules.Values.{edit_value, edits_value, fix_value, origin, part};
 ghost use Rattle.miette_language_server.specs.rules.Values.{position_value, range_value};
 
+use crate::objects::{with_text, with_value};
 use miette_fixes::fix::{Edit, Fix};
 use miette_positions::index::PositionIndex;
 use miette_positions::place::{Position, Region};
 use miette_protocol::protocol::SourceSpan;
-use serde_json::{Value, json};
+use serde_json::{Map, Value};
 use std::alloc::{AllocError, Global};
 
 // A position.
 fn position_value(alloc: Global, position: Position) -> Result<Value, AllocError>
     ensures { IfOk result (λ value. view value ≡ position_value position) }
 {
-    json!(in alloc; {"line": position.line, "character": position.column})
+    let it = with_value(alloc, Map::new(alloc), "line", Value::from(position.line))?;
+    let it = with_value(alloc, it, "character", Value::from(position.column))?;
+    Ok(Value::Object(it))
 }
 
 /// A range.
@@ -24,8 +27,10 @@ pub(crate) fn range_value(alloc: Global, region: Region) -> Result<Value, AllocE
     ensures { IfOk result (λ value. view value ≡ range_value region) }
 {
     let start = position_value(alloc, region.start)?;
+    let it = with_value(alloc, Map::new(alloc), "start", start)?;
     let end = position_value(alloc, region.end)?;
-    json!(in alloc; {"start": start, "end": end})
+    let it = with_value(alloc, it, "end", end)?;
+    Ok(Value::Object(it))
 }
 
 // The empty part at the beginning of a source.
@@ -51,7 +56,9 @@ fn edit_value(alloc: Global, source: &PositionIndex<'_>, edit: &Edit) -> Result<
     ensures { IfOk result (λ value. view value ≡ edit_value source.now edit.now) }
 {
     let range = range_value(alloc, part(source, *edit.span()))?;
-    json!(in alloc; {"range": range, "newText": edit.text()})
+    let it = with_value(alloc, Map::new(alloc), "range", range)?;
+    let it = with_text(alloc, it, "newText", edit.text())?;
+    Ok(Value::Object(it))
 }
 
 /// A list of edits.
@@ -79,10 +86,9 @@ pub(crate) fn fix_value(
     ensures { IfOk result (λ value. view value ≡ fix_value uri.now source.now fix.now) }
 {
     let edits = edits_value(alloc, source, fix.edits())?;
-    json!(in alloc; {
-        "title": fix.message(),
-        "applicability": fix.applicability().name(),
-        "uri": uri,
-        "edits": edits
-    })
+    let it = with_value(alloc, Map::new(alloc), "edits", edits)?;
+    let it = with_text(alloc, it, "title", fix.message())?;
+    let it = with_text(alloc, it, "applicability", fix.applicability().name())?;
+    let it = with_text(alloc, it, "uri", uri)?;
+    Ok(Value::Object(it))
 }

@@ -9,6 +9,7 @@ pub mod JobHandlerSteps
 pub mod AcceptedFindings
 pub mod LintDiffSteps
 pub mod LintFixSteps
+pub mod LintServerSteps
 pub mod LintSteps
 pub mod CommandSteps
 pub mod LogSteps

@@ -4,3 +4,4 @@ pub mod Device
 pub mod Endings
 pub mod DrawReports
 pub mod LintReports
+pub mod Service

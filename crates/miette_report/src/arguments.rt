@@ -183,6 +183,7 @@ impl Arguments {
             "--hyphens" if yes => self.options.word_splitter(WordSplitter::HyphenSplitter),
             "--hyphens" => self.options.word_splitter(WordSplitter::NoHyphenation),
             "--end-labels" => self.options.end_labels(yes),
+            "--fit-lines" => self.options.fit_lines(yes),
             _ => return self.with_terminal(word, yes),
         };
         Ok(self)

@@ -101,9 +101,12 @@ impl Program {
             Program::Bench => ("bench", "N [OPTIONS]"),
             Program::Lint => (
                 "lint",
-                "[--brief | --github | --fix | --diff | --sarif [--tool TOOL]] NAME WIDTH",
+                "[--brief | --github | --fix | --diff | --sarif [--tool TOOL]] NAME WIDTH | --lsp WIDTH",
             ),
-            Program::Show => ("show", "[--from auto|rustc|gcc|sarif] [--root DIR] [OPTIONS]"),
+            Program::Show => (
+                "show",
+                "[--from auto|rustc|gcc|sarif] [--root DIR] [OPTIONS]",
+            ),
         }
     }
 

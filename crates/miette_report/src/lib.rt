@@ -17,6 +17,7 @@ pub mod lint_diff;
 pub mod lint_fix;
 mod lint_reports;
 pub mod lint_sarif;
+pub mod lint_server;
 mod lint_words;
 pub mod lsp;
 mod option_words;

@@ -1,6 +1,6 @@
 -- Which handler options and a terminal choose, and how it is set. Of several places that may say it, the first that
 -- does counts.
-use Rattle.std.specs.Prelude.{◌≡◌, ℕ, Bool, true, false, not, ◌&&◌, List, Option, None, is_some, if◌then◌else◌}
+use Rattle.std.specs.Prelude.{◌≡◌, ℕ, Bool, true, false, not, ◌&&◌, List, Option, Some, None, is_some, if◌then◌else◌}
 use Rattle.std.specs.Prelude.{unwrap_or, option_map, chars, codes, string_bytes}
 use Rattle.std.specs.Str.{bytes_eq}
 use Rattle.miette_style.specs.rules.Themes.{Styles, Theme, ansi_styles, ascii_characters, no_styles}
@@ -29,6 +29,11 @@ is_graphical o t =
 
 abbrev pub chosen_width : {H : Type 0} → Options H → Terminal → ℕ
 chosen_width o t = unwrap_or o.width (unwrap_or t.width 80)
+
+-- how many columns a line's text may have before it is cut: as was set, else the width where lines are to fit
+abbrev pub chosen_line_columns : {H : Type 0} → Options H → Terminal → Option ℕ
+chosen_line_columns o t =
+    if o.fit_lines then Some (unwrap_or o.layout.line_columns (chosen_width o t)) else o.layout.line_columns
 
 abbrev pub chosen_urls : {H : Type 0} → Options H → Terminal → UrlMode
 chosen_urls o t = links_shown (unwrap_or o.links t.hyperlinks)
@@ -59,7 +64,7 @@ chosen_highlighter o t = if takes_colours o t then o.highlighter else None
 abbrev pub picture_settings : {H : Type 0} → Options H → Terminal → Settings
 picture_settings o t =
     record (default_settings (chosen_theme o t)) {
-      layout = o.layout;
+      layout = record o.layout { line_columns = chosen_line_columns o t };
       wrapping = o.wrapping;
       width = chosen_width o t;
       urls = chosen_urls o t;

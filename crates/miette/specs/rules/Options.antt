@@ -22,6 +22,7 @@ pub record Options (H : Type 0) : Type 0 where
   pub color : Option Bool
   pub rgb : RgbColors
   pub layout : LayoutOptions
+  pub fit_lines : Bool
   pub wrapping : Wrapping
   pub width : Option ℕ
   pub links : Option Bool
@@ -41,6 +42,7 @@ no_options = record {
   color = None;
   rgb = Never;
   layout = default_layout;
+  fit_lines = false;
   wrapping = default_wrapping;
   width = None;
   links = None;

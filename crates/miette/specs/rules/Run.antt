@@ -1,10 +1,11 @@
 -- A run: reports that a program writes one after another in one form.
-use Rattle.std.specs.Prelude.{ℕ, ◌&&◌, Bool, false, Option, None, if◌then◌else◌, is_none, nat_eq}
+use Rattle.std.specs.Prelude.{ℕ, ◌&&◌, ◌⊎◌, Bool, false, Option, None, Some, if◌then◌else◌, is_none, nat_eq}
 use Rattle.miette.specs.rules.Counting.{no_counts}
 use Rattle.miette.specs.declared.reporter.counts.Counts.{Counts}
 use Rattle.miette.specs.declared.reporter.form.Form.{Form}
 use Rattle.miette.specs.declared.print.Outputs.{Outputs}
 use Rattle.miette.specs.declared.print.PrintError.{PrintError}
+use Rattle.miette.specs.declared.print.PrintError.TheVariants.{Memory, Refused, Write}
 
 -- The handler that makes the texts, where they go, what was counted, whether a report was written, whether the end
 -- tells the counts, and the last failure.
@@ -32,3 +33,11 @@ new_run handler outputs form = record {
 -- the status of a run: 0 where no error was reported, and nothing failed
 abbrev pub run_status : Counts → Option PrintError → ℕ
 run_status c failure = if nat_eq c.errors 0 && is_none failure then 0 else 1
+
+-- How a run ends, by its last failure: without one, and where a read was refused, the end was appended. Where memory
+-- was, the end was appended or nothing; where the writer failed, nothing is said.
+abbrev pub EndsBy : Option PrintError → Type 0 → Type 0 → Type 0
+EndsBy None appended nothing = appended
+EndsBy (Some Refused) appended nothing = appended
+EndsBy (Some Memory) appended nothing = appended ⊎ nothing
+EndsBy (Some Write) appended nothing = Unit {0}

@@ -5,14 +5,13 @@ use Rattle.miette.specs.rules.Detection.{IsDetected}
 use Rattle.miette.specs.rules.Options.{Options}
 use Rattle.miette.specs.rules.Run.{Run, new_run}
 use Rattle.miette.specs.views.FormHandler.{IsChosenInForm}
-use Rattle.miette.specs.declared.print.Outputs.{Outputs}
 use Rattle.miette.specs.declared.reporter.form.Form.{Form}
 use Rattle.miette.specs.declared.reporter.handler.FormHandler.{FormHandler}
 use Rattle.miette.specs.declared.terminal.Stream.{Stream}
 use Rattle.miette.specs.declared.terminal.Variables.{Variables}
 
-abbrev pub IsBegunFor : {H W F : Type 0} → (Variables → Type 0) → Stream → Form → Options H → Outputs W F
-    → Run (FormHandler H) W F → Type 0
-IsBegunFor {H} is_told stream form o outputs it =
+abbrev pub IsBegun : {H W F : Type 0} → (Variables → Type 0) → Stream → Form → Options H → Run (FormHandler H) W F
+    → Type 0
+IsBegun is_told stream form o it =
     (v : Variables) × (terminal : Terminal) × is_told v × IsDetected v stream terminal
-    × IsChosenInForm form o terminal it.handler × (it ≡ new_run it.handler outputs form)
+    × IsChosenInForm form o terminal it.handler × (it ≡ new_run it.handler it.outputs form)

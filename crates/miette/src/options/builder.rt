@@ -50,6 +50,7 @@ pub struct MietteHandlerOpts<H = Box<dyn Highlighter>> {
     color: Option<bool>,
     rgb_colors: RgbColors,
     layout: LayoutOptions,
+    fit_lines: bool,
     wrapping: Wrapping,
     width: Option<usize>,
     links: Option<bool>,
@@ -76,6 +77,7 @@ impl<H> Model for MietteHandlerOpts<H> {
       color = it.color;
       rgb = it.rgb_colors;
       layout = it.layout;
+      fit_lines = it.fit_lines;
       wrapping = it.wrapping;
       width = it.width;
       links = it.links;
@@ -105,6 +107,7 @@ impl<H> Default for MietteHandlerOpts<H> {
             color: None,
             rgb_colors: RgbColors::Never,
             layout: LayoutOptions::default(),
+            fit_lines: false,
             wrapping: Wrapping::default(),
             width: None,
             links: None,
@@ -340,6 +343,15 @@ impl<H: Highlighter> MietteHandlerOpts<H> {
         ensures { result ≡ record self { layout = record self.layout { line_columns = Some columns } } }
     {
         self.layout.line_columns = Some(columns);
+        self
+    }
+
+    /// Whether lines of sources are cut at the width: where no `line_columns` is set, a line whose text has more columns
+    /// than the width is cut in pictures.
+    pub fn fit_lines(mut self, fit: bool) -> Self
+        ensures { result ≡ record self { fit_lines = fit } }
+    {
+        self.fit_lines = fit;
         self
     }
 }

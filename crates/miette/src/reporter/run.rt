@@ -8,11 +8,11 @@ ghost use Rattle.std.specs.Process.{exit_status};
 ghost use Rattle.std.specs.Result.{result_err};
 ghost use Rattle.miette_tree.specs.rules.Tree.{head};
 ghost use Rattle.miette_tree.specs.views.Report.{tree_of};
-ghost use Rattle.miette.specs.declared.print.PrintError.TheVariants.{Write, Refused};
+ghost use Rattle.miette.specs.declared.print.PrintError.TheVariants.{Memory, Refused, Write};
 ghost use Rattle.miette.specs.rules.Counting.{with_one};
 ghost use Rattle.miette.specs.rules.Forms.{IsNext, IsNextBy, ending};
 ghost use Rattle.miette.specs.rules.Printing.{WritesOne, unprinted_row};
-ghost use Rattle.miette.specs.rules.Run.{new_run, run_status};
+ghost use Rattle.miette.specs.rules.Run.{EndsBy, new_run, run_status};
 
 use crate::print::{Outputs, PrintError, tell};
 use crate::reporter::counts::Counts;
@@ -222,13 +222,14 @@ impl<T: ReportHandler, W: Write, F: Write> Reporter<T, W, F> {
         }
     }
 
-    /// Ends the run: the array's bracket and the summary are written, where there are some. The status is 0 where no
-    /// error was reported and all was written, else 1. Where a report or the end wasn't written, `faults` is told why,
-    /// by the row of `print_on`. A run is ended once.
+    /// Ends the run: the array's bracket and the summary are written, where there are some, also where a report was
+    /// left out. The status is 0 where no error was reported and all was written, else 1. Where a report or the end
+    /// wasn't written, `faults` is told why, by the row of `print_on`. A run is ended once.
     pub fn finish(&mut self) -> ExitCode
-        ensures ended { (self.new.failure ≡ None) → Appends (W.contents self.old.outputs.writer)
+        ensures ended { EndsBy self.new.failure (Appends (W.contents self.old.outputs.writer)
             (W.contents self.new.outputs.writer)
-            (ending self.old.form self.old.is_begun self.old.is_summed self.old.counts) }
+            (ending self.old.form self.old.is_begun self.old.is_summed self.old.counts))
+            (self.new.outputs.writer ≡ self.old.outputs.writer) }
         ensures silent { (self.new.failure ≡ None) → self.new.outputs.faults ≡ self.old.outputs.faults }
         ensures stopped { (self.old.failure ≡ Some Write) →
             self.new.outputs.writer ≡ self.old.outputs.writer }
@@ -247,9 +248,10 @@ impl<T: ReportHandler, W: Write, F: Write> Reporter<T, W, F> {
     /// # Errors
     /// That of `faults`, where it was told and did not take the row.
     pub fn try_finish(&mut self) -> io::Result<ExitCode>
-        ensures ended { (self.new.failure ≡ None) → Appends (W.contents self.old.outputs.writer)
+        ensures ended { EndsBy self.new.failure (Appends (W.contents self.old.outputs.writer)
             (W.contents self.new.outputs.writer)
-            (ending self.old.form self.old.is_begun self.old.is_summed self.old.counts) }
+            (ending self.old.form self.old.is_begun self.old.is_summed self.old.counts))
+            (self.new.outputs.writer ≡ self.old.outputs.writer) }
         ensures silent { (self.new.failure ≡ None) → self.new.outputs.faults ≡ self.old.outputs.faults }
         ensures told { IfOk result (λ _. (why : PrintError) → (self.new.failure ≡ Some why) →
             Appends (F.contents self.old.outputs.faults) (F.contents self.new.outputs.faults) (unprinted_row why)) }
@@ -267,9 +269,10 @@ impl<T: ReportHandler, W: Write, F: Write> Reporter<T, W, F> {
 
     // Writes the end, and remembers where that fails.
     fn end(&mut self)
-        ensures ended { (self.new.failure ≡ None) → Appends (W.contents self.old.outputs.writer)
+        ensures ended { EndsBy self.new.failure (Appends (W.contents self.old.outputs.writer)
             (W.contents self.new.outputs.writer)
-            (ending self.old.form self.old.is_begun self.old.is_summed self.old.counts) }
+            (ending self.old.form self.old.is_begun self.old.is_summed self.old.counts))
+            (self.new.outputs.writer ≡ self.old.outputs.writer) }
         ensures silent { self.new.outputs.faults ≡ self.old.outputs.faults }
         ensures stopped { (self.old.failure ≡ Some Write) → self.new.outputs ≡ self.old.outputs }
         ensures kept { (self.new.failure ≡ None) → (self.old.failure ≡ None) }
@@ -285,6 +288,8 @@ impl<T: ReportHandler, W: Write, F: Write> Reporter<T, W, F> {
         ensures ended { OnOk result (Appends (W.contents self.old.outputs.writer)
             (W.contents self.new.outputs.writer)
             (ending self.old.form self.old.is_begun self.old.is_summed self.old.counts)) }
+        ensures memory { (result ≡ Err Memory) → self.new.outputs.writer ≡ self.old.outputs.writer }
+        ensures refused { (result ≡ Err Refused) → ⊥ }
         ensures silent { self.new.outputs.faults ≡ self.old.outputs.faults }
         ensures stopped { (self.old.failure ≡ Some Write) →
             (result ≡ Err Write) × (self.new.outputs ≡ self.old.outputs) }

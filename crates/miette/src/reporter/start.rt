@@ -1,8 +1,8 @@
 //! The beginning of a run: the handler is chosen by its form, options and the terminal at hand.
 
-ghost use Rattle.std.specs.Prelude.{IfOk};
+ghost use Rattle.std.specs.Prelude.{◌≡◌, IfOk};
 ghost use Rattle.miette.specs.rules.Detection.{IsToldBy};
-ghost use Rattle.miette.specs.views.Beginning.{IsBegunFor};
+ghost use Rattle.miette.specs.views.Beginning.{IsBegun};
 
 use crate::options::MietteHandlerOpts;
 use crate::print::Outputs;
@@ -22,7 +22,10 @@ impl<H: Highlighter, W: Drop, F: Drop> Reporter<FormHandler<H>, W, F> {
         rt: &R,
         form: Form,
         options: MietteHandlerOpts<H>,
-    ) -> Result<Self, AllocError> {
+    ) -> Result<Self, AllocError>
+        ensures { IfOk result (IsBegun (IsToldBy (R.variable_may_be rt.now) (R.terminal_may_be rt.now)) Stream.Stdout
+            form options) }
+    {
         let outputs = Outputs::new(rt.output(), rt.faults());
         Reporter::begun_on(rt, Stream::Stdout, form, options, outputs)
     }
@@ -38,8 +41,9 @@ impl<H: Highlighter, W: Drop, F: Drop> Reporter<FormHandler<H>, W, F> {
         options: MietteHandlerOpts<H>,
         outputs: Outputs<W, F>,
     ) -> Result<Self, AllocError>
-        ensures { IfOk result (IsBegunFor (IsToldBy (R.variable_may_be rt.now) (R.terminal_may_be rt.now)) stream form
-            options outputs) }
+        ensures begun { IfOk result (IsBegun (IsToldBy (R.variable_may_be rt.now) (R.terminal_may_be rt.now)) stream
+            form options) }
+        ensures outputs { IfOk result (λ it. it.outputs ≡ outputs) }
     {
         let terminal = detect(rt, stream)?;
         let handler = FormHandler::build(rt.alloc(), form, options, &terminal)?;
@@ -56,7 +60,10 @@ impl<H: Highlighter, F: Drop> Reporter<FormHandler<H>, F, F> {
         rt: &R,
         form: Form,
         options: MietteHandlerOpts<H>,
-    ) -> Result<Self, AllocError> {
+    ) -> Result<Self, AllocError>
+        ensures { IfOk result (IsBegun (IsToldBy (R.variable_may_be rt.now) (R.terminal_may_be rt.now)) Stream.Stderr
+            form options) }
+    {
         let outputs = Outputs::new(rt.faults(), rt.faults());
         Reporter::begun_on(rt, Stream::Stderr, form, options, outputs)
     }

@@ -5,7 +5,7 @@ use Rattle.serde_json.specs.Data.{Data, boolean, member, no_members, object, str
 use Rattle.miette_fixes.specs.declared.applicability.Applicability.{Applicability}
 use Rattle.miette_fixes.specs.declared.applicability.Applicability.TheVariants.{MachineApplicable, MaybeIncorrect}
 use Rattle.miette_fixes.specs.declared.applicability.Applicability.TheVariants.{HasPlaceholders, Unspecified}
-use Rattle.miette_fixes.specs.rules.Edits.{Proposal, Replacement}
+use Rattle.miette_fixes.specs.rules.Edits.{Proposal}
 use Rattle.miette_lint.specs.rules.Coded.{Coded, coded_findings}
 use Rattle.miette_lint.specs.rules.Joint.{joint_proposal}
 use Rattle.miette_positions.specs.declared.place.Region.{Region}

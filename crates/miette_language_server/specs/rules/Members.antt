@@ -1,7 +1,6 @@
 -- The members of a message, by their paths. One that is of another type than its protocol says is as if it weren't
 -- there.
 use Rattle.std.specs.Prelude.{ℕ, ℤ, List, [], ◌∷◌, Option, Some, None, codes, if◌then◌else◌, option_and_then}
-use Rattle.std.specs.Prelude.{option_map}
 use Rattle.std.specs.Prelude.{Bool, ◌||◌, is_some}
 use Rattle.serde_json.specs.Data.{Data, Items, no_items, item}
 use Rattle.serde_json.specs.Find.{as_array, as_i64, as_number, as_str, as_u64, pointer}

@@ -1,5 +1,5 @@
 -- What a server writes: answers, refusals and notifications of JSON-RPC 2.0.
-use Rattle.std.specs.Prelude.{ℕ, ℤ, negsuc, List, [], ◌∷◌, Bool, true, codes}
+use Rattle.std.specs.Prelude.{ℕ, ℤ, negsuc, List, true, codes}
 use Rattle.serde_json.specs.Data.{Data, Members, array, boolean, item, member, no_items, no_members, number, object}
 use Rattle.serde_json.specs.Data.{string, unsigned}
 use Rattle.serde_json.specs.Find.{of_integer}

@@ -1,7 +1,7 @@
 -- Places, edits and fixes as values of the Language Server Protocol (3.17).
-use Rattle.std.specs.Prelude.{ℕ, List, [], ◌∷◌, Bool, true, false, codes, map}
+use Rattle.std.specs.Prelude.{ℕ, List, codes, map}
 use Rattle.std.specs.Option.{option_map_or}
-use Rattle.serde_json.specs.Data.{Data, array, boolean, member, no_members, number, object, string, unsigned}
+use Rattle.serde_json.specs.Data.{Data, array, member, no_members, number, object, string, unsigned}
 use Rattle.serde_json.specs.View.{items_of}
 use Rattle.miette_protocol.specs.rules.Reading.{Span}
 use Rattle.miette_fixes.specs.rules.Edits.{Proposal, Replacement}

@@ -6,7 +6,7 @@ use Rattle.std.specs.Io.KnownBytes.{Consumes, IsAtEnd}
 use Rattle.serde_json.specs.View.{view}
 use Rattle.miette_language_server.specs.declared.session.Outcome.{Outcome}
 use Rattle.miette_language_server.specs.declared.session.Outcome.TheVariants.{Ended, Nothing, Written}
-use Rattle.miette_language_server.specs.rules.Frames.{Frame, cut, first_frame, length_from}
+use Rattle.miette_language_server.specs.rules.Frames.{first_frame, length_from}
 use Rattle.miette_language_server.specs.rules.Session.{Effect, State, Reaction, ended, nothing, written}
 
 -- of a reader that had `old` and has `new`: the byte that was read, none where it had none

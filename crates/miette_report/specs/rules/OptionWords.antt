@@ -157,7 +157,9 @@ with_answer word on r =
     else (if bytes_eq word (codes "--hyphens")
     then asks r (record o { wrapping = record o.wrapping { word_splitter = splitter on } })
     else (if bytes_eq word (codes "--end-labels")
-    then asks r (record o { layout = record o.layout { end_labels = on } }) else with_terminal word on r))))))))
+    then asks r (record o { layout = record o.layout { end_labels = on } })
+    else (if bytes_eq word (codes "--fit-lines") then asks r (record o { fit_lines = on })
+    else with_terminal word on r)))))))))
 
 abbrev pub theme_named : List ℕ → Option Theme
 theme_named name =

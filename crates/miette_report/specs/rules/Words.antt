@@ -74,3 +74,13 @@ pub record AreDiffWords (words : List (List ℕ)) (name : List ℕ) (width : ℕ
 -- no reading of the words is one of `lint --diff`
 abbrev pub IsNoDiffCall : List (List ℕ) → Type 0
 IsNoDiffCall words = (name : List ℕ) (width : ℕ) → ¬ (AreDiffWords words name width)
+
+-- two words: `--lsp` and a number
+pub record AreServerWords (words : List (List ℕ)) (width : ℕ) : Type 0 where
+  pub width_word : List ℕ
+  pub are : words ≡ codes "--lsp" ∷ width_word ∷ []
+  pub width_is : IsReadAs width_word (Some width)
+
+-- no reading of the words is one of `lint --lsp`
+abbrev pub IsNoServerCall : List (List ℕ) → Type 0
+IsNoServerCall words = (width : ℕ) → ¬ (AreServerWords words width)

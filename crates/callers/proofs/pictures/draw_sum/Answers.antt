@@ -1,3 +1,4 @@
+use Rattle.callers.proofs.NamedRows.{named}
 use Rattle.callers.proofs.SumSteps.{cause_stands, cause_stays, end_stands, is_cut, known, left_out, rows_stand}
 use Rattle.miette_graphical.specs.laws.Headline.{CutsAreExact, EndsAreDrawn, LabelsAreFolded, LinesThatFitStay}
 use Rattle.std.proofs.Common.{refl, inl, ◌∷◌, []}
@@ -36,3 +37,6 @@ pub returns-clause-folded : goal.returns-clause-folded
 returns-clause-folded g c =
     left_out (known LabelsAreFolded _ _ c.in_ok-handler.ensures c.requires
     c.in_ok-render_report.ensures.folds)
+
+pub returns-clause-named : goal.returns-clause-named
+returns-clause-named g c = named _ (returns-clause-rows g c) (returns-clause-under g c)

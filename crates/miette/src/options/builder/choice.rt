@@ -4,8 +4,9 @@ ghost use Rattle.std.specs.Prelude.{◌≡◌, IfOk, None};
 ghost use Rattle.miette_graphical.specs.views.SettingsView.{handler_settings};
 ghost use Rattle.miette_style.specs.rules.Themes.{characters_of, styles_of, theme_of};
 ghost use Rattle.miette.specs.rules.Choice.{IsChosen, IsDrawing, brief_settings, chosen_highlighter, chosen_theme};
-ghost use Rattle.miette.specs.rules.Choice.{chosen_urls, chosen_width, coloured_styles, fitting_theme, is_graphical};
-ghost use Rattle.miette.specs.rules.Choice.{narration_settings, picture_settings, takes_colours};
+ghost use Rattle.miette.specs.rules.Choice.{chosen_line_columns, chosen_urls, chosen_width, coloured_styles};
+ghost use Rattle.miette.specs.rules.Choice.{fitting_theme, is_graphical, narration_settings, picture_settings};
+ghost use Rattle.miette.specs.rules.Choice.{takes_colours};
 
 use crate::options::builder::{MietteHandlerOpts, RgbColors};
 use crate::options::handler::MietteHandler;
@@ -14,6 +15,7 @@ use miette_handlers::handlers::{
     BriefReportHandler, GraphicalReportHandler, NarratableReportHandler,
 };
 use miette_highlight::highlight::Highlighter;
+use miette_snippet_rules::options::LayoutOptions;
 use miette_style::theme::{GraphicalTheme, Terminal, ThemeCharacters, ThemeStyles};
 use std::alloc::{AllocError, Global};
 
@@ -51,10 +53,11 @@ impl<H: Highlighter> MietteHandlerOpts<H> {
     fn picture_settings(self, theme: GraphicalTheme, terminal: &Terminal) -> Settings
         ensures settings { handler_settings result
             ≡ record (picture_settings self terminal.now) { theme = theme_of theme } }
-        ensures layout { result.layout ≡ self.layout }
+        ensures tabs { result.layout.tab_width ≡ self.layout.tab_width }
     {
         let width = self.chosen_width(terminal);
         let urls = self.chosen_urls(terminal);
+        let line_columns = self.chosen_line_columns(terminal);
         let MietteHandlerOpts {
             layout,
             wrapping,
@@ -65,7 +68,10 @@ impl<H: Highlighter> MietteHandlerOpts<H> {
         } = self;
         Settings {
             theme,
-            layout,
+            layout: LayoutOptions {
+                line_columns,
+                ..layout
+            },
             wrapping,
             width,
             urls,
@@ -184,6 +190,17 @@ impl<H: Highlighter> MietteHandlerOpts<H> {
             (None, Some(width)) => width,
             (None, None) => 80,
         }
+    }
+
+    /// How many columns the text of a line may have before it is cut, if lines are cut.
+    fn chosen_line_columns(&self, terminal: &Terminal) -> Option<usize>
+        ensures { result ≡ chosen_line_columns self.now terminal.now }
+    {
+        let set = self.layout.line_columns;
+        if !self.fit_lines {
+            return set;
+        }
+        Some(set.unwrap_or(self.chosen_width(terminal)))
     }
 
     fn chosen_urls(&self, terminal: &Terminal) -> UrlMode

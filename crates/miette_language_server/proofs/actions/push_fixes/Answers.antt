@@ -1,4 +1,4 @@
-use Rattle.std.proofs.Common.{◌≡◌, ◌++◌, ◌∙◌, OnOk, ap, map, subst, rules}
+use Rattle.std.proofs.Common.{◌≡◌, ◌++◌, ◌∙◌, OnOk, ap, map, subst}
 use Rattle.serde_json.specs.View.{view}
 use Rattle.miette_lint.specs.views.Found.{coded_of}
 use Rattle.miette_language_server.specs.rules.Actions.{action_value}

@@ -1,7 +1,6 @@
 use Rattle.std.proofs.Common.{◌≡◌, ◌++◌, ◌∷◌, [], ◌∙◌, ap, eqb, length, map, true, false, rules}
 use Rattle.std.proofs.lemmas.List.{map-append}
 use Rattle.serde_json.specs.View.{view}
-use Rattle.miette_language_server.specs.rules.Actions.{joint_of}
 use Rattle.miette_language_server.proofs.Lists.{joint_none, joint_some}
 use Rattle.miette_language_server.proofs.actions.with_joint.Goals as goal
 

@@ -1,4 +1,4 @@
-use Rattle.std.proofs.Common.{◌≡◌, ◌++◌, ◌∷◌, [], ◌∙◌, None, Some, ap, sym, rules}
+use Rattle.std.proofs.Common.{◌≡◌, ◌++◌, ◌∷◌, [], ◌∙◌, ap, sym, rules}
 use Rattle.std.specs.Prelude.{position}
 use Rattle.miette_language_server.proofs.Places.{is_named, put_behind, put_found}
 use Rattle.miette_language_server.proofs.documents.put.Goals as goal

@@ -1,4 +1,4 @@
-use Rattle.std.proofs.Common.{◌≡◌, ◌∙◌, None, Some, ap, sym}
+use Rattle.std.proofs.Common.{◌∙◌, ap, sym}
 use Rattle.std.specs.Prelude.{position}
 use Rattle.miette_language_server.proofs.Places.{found_out, is_named, none_out}
 use Rattle.miette_language_server.proofs.documents.take_out.Goals as goal

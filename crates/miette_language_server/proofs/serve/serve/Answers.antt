@@ -1,4 +1,4 @@
-use Rattle.std.proofs.Common.{Option, Some, None, subst, ℕ}
+use Rattle.std.proofs.Common.{Some, None, subst}
 use Rattle.miette_language_server.specs.views.Served.{IsTurn, Moment}
 use Rattle.miette_language_server.proofs.Turns.{served_whole}
 use Rattle.miette_language_server.proofs.serve.serve.Goals as goal
@@ -15,11 +15,11 @@ loop-preserved g c =
       input = g.R.Read.remaining c.turn.new.reader;
       output = g.W.Write.contents c.turn.new.writer;
     } in
-    let more : IsTurn a b None = subst (IsTurn a b) c.in-None.is c.in_ok-told.ensures in
+    let more : IsTurn a b None = subst (IsTurn a b) c.in-None.is c.in_ok-told.ensures.served in
     λ v status h. c.loop.invariant v status (more v status h)
 
-pub returns-in-Some : goal.returns-in-Some
-returns-in-Some g c =
+pub returns-in-Some-clause-served : goal.returns-in-Some-clause-served
+returns-in-Some-clause-served g c =
     let a : Moment = record {
       state = c.loop.session;
       input = g.R.Read.remaining c.loop.reader;
@@ -31,6 +31,6 @@ returns-in-Some g c =
       output = g.W.Write.contents c.turn.new.writer;
     } in
     let status = c.in-Some.status in
-    let done : IsTurn a b (Some status) = subst (IsTurn a b) c.in-Some.is c.in_ok-told.ensures in
+    let done : IsTurn a b (Some status) = subst (IsTurn a b) c.in-Some.is c.in_ok-told.ensures.served in
     served_whole c.args.width (g.R.Read.remaining c.args.reader.now) (g.W.Write.contents c.args.writer.now)
     (g.W.Write.contents c.turn.new.writer) status (c.loop.invariant (g.W.Write.contents c.turn.new.writer) status done)

@@ -1,21 +1,21 @@
-use Rattle.std.proofs.Common.{◌≡◌, List, Option, Some, None, subst, ℕ}
+use Rattle.std.proofs.Common.{Some, subst}
 use Rattle.miette_language_server.specs.declared.session.Outcome.{Outcome}
 use Rattle.miette_language_server.specs.declared.session.Outcome.TheVariants.{Ended, Nothing, Written}
 use Rattle.miette_language_server.specs.rules.Session.{step}
 use Rattle.miette_language_server.specs.views.Answered.{IsFirstFrame, IsStep}
-use Rattle.miette_language_server.proofs.Floatless.{written_floatless}
+use Rattle.miette_language_server.proofs.Floatless.{ended_below, written_floatless}
 use Rattle.miette_language_server.proofs.Turns.{served_ended, served_more, served_none, served_on}
 use Rattle.miette_language_server.proofs.serve.turn.Goals as goal
 
-pub returns-in-None : goal.returns-in-None
-returns-in-None g c =
+pub returns-in-None-clause-served : goal.returns-in-None-clause-served
+returns-in-None-clause-served g c =
     let old = g.R.Read.remaining c.args.reader.now in
     let new = g.R.Read.remaining c.read_frame.new.reader in
     served_none c.args.session.now old new (g.W.Write.contents c.args.writer.now)
     (subst (IsFirstFrame old new) c.in-None.is c.in_ok-frame.ensures)
 
-pub returns-in-Nothing : goal.returns-in-Nothing
-returns-in-Nothing g c =
+pub returns-in-Nothing-clause-served : goal.returns-in-Nothing-clause-served
+returns-in-Nothing-clause-served g c =
     let old = g.R.Read.remaining c.args.reader.now in
     let new = g.R.Read.remaining c.read_frame.new.reader in
     let s = c.args.session.now in
@@ -30,8 +30,8 @@ returns-in-Nothing g c =
     in
     λ v status h. served_on s t old new (g.W.Write.contents c.args.writer.now) v body status first is h
 
-pub returns-in-Ended : goal.returns-in-Ended
-returns-in-Ended g c =
+pub returns-in-Ended-clause-served : goal.returns-in-Ended-clause-served
+returns-in-Ended-clause-served g c =
     let old = g.R.Read.remaining c.args.reader.now in
     let new = g.R.Read.remaining c.read_frame.new.reader in
     let s = c.args.session.now in
@@ -53,8 +53,8 @@ write_message-requires g c =
     written_floatless s t c.as_slice.result.now c.in_ok-outcome.outcome c.in-Written.message c.in_ok-outcome.ensures
     c.in-Written.is
 
-pub returns : goal.returns
-returns g c =
+pub returns-clause-served : goal.returns-clause-served
+returns-clause-served g c =
     let old = g.R.Read.remaining c.args.reader.now in
     let new = g.R.Read.remaining c.read_frame.new.reader in
     let s = c.args.session.now in
@@ -70,3 +70,8 @@ returns g c =
     λ v status h. served_more s t old new (g.W.Write.contents c.args.writer.now)
     (g.W.Write.contents c.write_message.new.writer) v body c.in-Written.message status first is
     c.in_ok-write_message-in-Written.ensures h
+
+pub returns-in-Ended-clause-status : goal.returns-in-Ended-clause-status
+returns-in-Ended-clause-status g c =
+    ended_below c.args.session.now c.step.new.self c.as_slice.result.now c.in_ok-outcome.outcome c.in-Ended.status
+    c.in_ok-outcome.ensures c.in-Ended.is

@@ -1,0 +1,114 @@
+//! What a program reads as text: files, and standard input.
+
+ghost use Rattle.std.specs.Prelude.{◌≡◌, IsUtf8, IsOk, IfOk, IfErr, string_bytes};
+ghost use Rattle.std.specs.Str.Lossy.{utf8_valid_len};
+ghost use Rattle.miette_protocol.specs.views.Diagnostic.{meaning_of};
+ghost use Rattle.miette_tree.specs.views.Report.{tree_of};
+ghost use Rattle.miette.specs.rules.Inputs.{GivesNoText, IsNoText, IsUnread, no_text, shown_name};
+ghost use Rattle.miette.specs.rules.Inputs.{stop_label, stop_meaning};
+
+use crate::host::Host;
+use miette_protocol::diagnostic::MietteDiagnostic;
+use miette_protocol::protocol::{Diagnostic, LabeledSpan};
+use miette_protocol::source::SourceCode;
+use miette_tree::report::{OwnedSource, Report, Result};
+use std::alloc::{AllocError, Global};
+use std::io::Read;
+use std::{fs, io};
+
+/// How reports call the input that a word names: `<stdin>` where it is `-`, which stands for standard input; else by
+/// that word.
+pub fn input_name(word: &str) -> &str
+    ensures { result.now ≡ shown_name word.now }
+{
+    if word == "-" { "<stdin>" } else { word }
+}
+
+/// The text of the file that a word names, or of standard input where it is `-`.
+///
+/// # Errors
+/// A report: `could not read NAME` with the reason as its cause, that of `text_of` where the input isn't UTF-8, or that
+/// of refused memory. The name is that of `input_name`.
+pub fn read_text<R: Host>(rt: &R, word: &str) -> Result<String>
+    ensures { IfErr result (λ r. GivesNoText (shown_name word.now)
+        (tree_of ⟦<Box<dyn Diagnostic> as Diagnostic>⟧.meaning ⟦<Box<dyn SourceCode> as SourceCode>⟧.source r)) }
+{
+    let alloc = rt.alloc();
+    let name = input_name(word);
+    match bytes_of(rt, word) {
+        Ok(bytes) => text_of(alloc, name, bytes),
+        Err(fault) => Err(unread(alloc, name, fault)?),
+    }
+}
+
+/// An input of this name as text. Where it is UTF-8 that takes no memory.
+///
+/// # Errors
+/// A report over the input, `NAME isn't UTF-8`, with a label on the byte behind the longest beginning that is text; or
+/// that of refused memory.
+pub fn text_of(alloc: Global, name: &str, bytes: Vec<u8>) -> Result<String>
+    ensures ok { IfOk result (λ text. string_bytes text ≡ bytes.items) }
+    ensures utf8 { IsUtf8 bytes.items → IsOk result }
+    ensures err { IfErr result (λ r. IsNoText name.now bytes.items
+        (tree_of ⟦<Box<dyn Diagnostic> as Diagnostic>⟧.meaning ⟦<Box<dyn SourceCode> as SourceCode>⟧.source r)) }
+{
+    match String::from_utf8(bytes) {
+        Ok(text) => Ok(text),
+        Err(error) => {
+            let stop = error.utf8_error().valid_up_to();
+            Err(not_text(alloc, name, stop, error.into_bytes())?)
+        }
+    }
+}
+
+// On the byte at which an input stops being text.
+fn stop_label(alloc: Global, stop: usize) -> Result<LabeledSpan, AllocError>
+    ensures { IfOk result (λ it. it ≡ stop_label stop) }
+{
+    let text = String::from_str(alloc, "no character begins with this byte")?;
+    Ok(LabeledSpan::new(Some(text), stop, 1))
+}
+
+// What is said of an input that stops being text there.
+fn stop_diagnostic(alloc: Global, name: &str, stop: usize) -> Result<MietteDiagnostic, AllocError>
+    ensures { IfOk result (λ it. meaning_of it ≡ stop_meaning name.now stop) }
+{
+    let message = format!(in alloc; "{name} isn't UTF-8")?;
+    let label = stop_label(alloc, stop)?;
+    MietteDiagnostic::new(alloc, message.as_str())?.with_label(alloc, label)
+}
+
+// The report of an input that stops being text there.
+fn not_text(alloc: Global, name: &str, stop: usize, bytes: Vec<u8>) -> Result<Report, AllocError>
+    requires { stop ≡ utf8_valid_len bytes.items }
+    ensures { IfOk result (λ r.
+        tree_of ⟦<Box<dyn Diagnostic> as Diagnostic>⟧.meaning ⟦<Box<dyn SourceCode> as SourceCode>⟧.source r
+        ≡ no_text name.now bytes.items) }
+{
+    let diagnostic = stop_diagnostic(alloc, name, stop)?;
+    let source = OwnedSource::named(alloc, name, None, bytes)?;
+    Ok(Report::new(diagnostic).with_owned_source(source))
+}
+
+// The report of an input that couldn't be read for this reason.
+fn unread(alloc: Global, name: &str, reason: io::Error) -> Result<Report, AllocError>
+    ensures { IfOk result (λ r. IsUnread name.now
+        (tree_of ⟦<Box<dyn Diagnostic> as Diagnostic>⟧.meaning ⟦<Box<dyn SourceCode> as SourceCode>⟧.source r)) }
+{
+    let reason: Report = Report::from_err(alloc, reason)?;
+    let message = format!(in alloc; "could not read {name}")?;
+    match reason.wrap_err(alloc, message.as_str()) {
+        Ok(report) => Ok(report),
+        Err(_) => Err(AllocError),
+    }
+}
+
+// All of an input. No clause can say what a file holds.
+fn bytes_of<R: Host>(rt: &R, word: &str) -> io::Result<Vec<u8>> {
+    if word != "-" {
+        return fs::read(rt, word);
+    }
+    let mut bytes = Vec::new(rt.alloc());
+    rt.reader().read_to_end(&mut bytes)?;
+    Ok(bytes)
+}
