@@ -1,7 +1,10 @@
 pub mod Beginnings
 pub mod Calls
+pub mod ChangeSteps
 pub mod FolderSteps
 pub mod Going
+pub mod MendEnds
+pub mod MendSteps
 pub mod NoteEnds
 pub mod Progress
 pub mod ReportSteps

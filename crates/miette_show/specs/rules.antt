@@ -5,3 +5,4 @@ pub mod Shown
 pub mod Statuses
 pub mod ShowWords
 pub mod ShowCalls
+pub mod Mends

@@ -3,3 +3,4 @@ pub mod Folder
 pub mod RowState
 pub mod Reading
 pub mod Texts
+pub mod Writing

@@ -21,7 +21,7 @@ pub struct Folder<'r, H> {
 }
 
 /// Where the file of this name lies: below the folder, unless its name begins with `/`.
-fn path_in(alloc: Global, root: Option<&str>, name: &str) -> Result<String, AllocError>
+pub(crate) fn path_in(alloc: Global, root: Option<&str>, name: &str) -> Result<String, AllocError>
     ensures { IfOk result (λ path. string_bytes path ≡ path_in (option_copied root.entry) name.now) }
 {
     let mut path = String::new(alloc);

@@ -2,10 +2,14 @@
 #![tactic(auto)]
 
 pub mod folder;
+pub mod folder_store;
 pub mod loader;
+pub mod mend;
 mod message;
 mod reports;
+mod rewrite;
 pub mod row_reader;
 pub mod show;
+pub mod store;
 pub mod verdict;
 pub mod words;

@@ -43,7 +43,11 @@ fn load_names<F: Loader>(alloc: Global, files: &mut F, names: &[&str]) -> Result
 }
 
 /// Looks for the files of these names, which are held.
-fn load_held<F: Loader>(alloc: Global, files: &mut F, names: &[String]) -> Result<(), AllocError>
+pub(crate) fn load_held<F: Loader>(
+    alloc: Global,
+    files: &mut F,
+    names: &[String],
+) -> Result<(), AllocError>
     ensures known { OnOk result (All (F.knows files.new) (map string_bytes names.now)) }
     ensures goes { Goes (F.found files.old) (F.knows files.old) (F.found files.new) (F.knows files.new) }
 {

@@ -38,7 +38,7 @@ pub(crate) struct Row<'r> {
 }
 
 /// Whether a row begins as each message of rustc and cargo does, and each SARIF log in a row.
-fn begins_object(row: &[u8]) -> bool
+pub(crate) fn begins_object(row: &[u8]) -> bool
     ensures { result ≡ begins_object row.now }
 {
     row.starts_with(b"{\"")
@@ -63,7 +63,7 @@ fn begins_message(from: Format, row: &[u8]) -> bool
 }
 
 /// The value that a row is, if it is one.
-fn value_in(alloc: Global, row: &[u8]) -> Result<Option<Value>, Fault>
+pub(crate) fn value_in(alloc: Global, row: &[u8]) -> Result<Option<Value>, Fault>
     ensures some { IfOk result (λ o. IfSome o (λ v. IsUtf8 row.now × (read row.now ≡ Some (view v)))) }
     ensures none { (result ≡ Ok None) → IsUtf8 row.now → read row.now ≡ None }
     ensures others { OnErr result (result ≡ Err Fault.Memory) }

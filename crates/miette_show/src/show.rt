@@ -104,7 +104,7 @@ fn note_text(alloc: Global, number: u64) -> Result<String, AllocError>
 }
 
 /// Says that a row can't be read, where it can't.
-fn note<E: Write>(
+pub(crate) fn note<E: Write>(
     alloc: Global,
     faults: &mut Device<E>,
     number: u64,

@@ -2,7 +2,7 @@
 
 ghost use Rattle.std.specs.Prelude.{◌≡◌};
 ghost use Rattle.std.specs.Option.{option_map};
-ghost use Rattle.miette_show.specs.rules.ShowWords.{asked_for, format_named};
+ghost use Rattle.miette_show.specs.rules.ShowWords.{asked_for, asked_in_front, format_named, is_alone};
 ghost use Rattle.miette_show.specs.views.Asked.{request_of, words_of};
 
 /// What is read.
@@ -40,20 +40,27 @@ pub struct ShowWords<'w> {
     pub root: Option<&'w str>,
     /// What is read.
     pub from: Format,
+    /// Whether files are fixed; then there are no words of `job`.
+    pub fix: bool,
     /// The words of `job`.
     pub options: &'w [String],
 }
 
 impl<'w> ShowWords<'w> {
-    /// What the words ask for; nothing where those in front are wrong.
-    pub fn read(words: &'w [String]) -> Option<ShowWords<'w>>
-        ensures { option_map request_of result ≡ asked_for (words_of words.entry) }
+    /// What the words ask for by those in front; nothing where these are wrong.
+    fn front(words: &'w [String]) -> Option<ShowWords<'w>>
+        ensures { option_map request_of result ≡ asked_in_front (words_of words.entry) }
     {
         let mut root = None;
         let mut from = Format::Auto;
+        let mut fix = false;
         let mut rest = words;
         while let Some((word, more)) = rest.split_first() {
             match word.as_str() {
+                "--fix" => {
+                    fix = true;
+                    rest = more;
+                }
                 "--root" => {
                     let (value, after) = more.split_first()?;
                     root = Some(value.as_str());
@@ -70,7 +77,23 @@ impl<'w> ShowWords<'w> {
         Some(ShowWords {
             root,
             from,
+            fix,
             options: rest,
         })
+    }
+
+    /// Whether no word of `job` stands behind `--fix`.
+    fn is_alone(&self) -> bool
+        ensures { result ≡ is_alone (request_of self.now) }
+    {
+        !self.fix || self.options.is_empty()
+    }
+
+    /// What the words ask for; nothing where those in front are wrong, or others stand behind `--fix`.
+    pub fn read(words: &'w [String]) -> Option<ShowWords<'w>>
+        ensures { option_map request_of result ≡ asked_for (words_of words.entry) }
+    {
+        let asked = ShowWords::front(words)?;
+        if asked.is_alone() { Some(asked) } else { None }
     }
 }

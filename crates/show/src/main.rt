@@ -1,9 +1,11 @@
-//! Reads what rustc, cargo and GCC write for machines from standard input, and draws it.
+//! Reads what rustc, cargo and GCC write for machines from standard input, and draws it, or fixes what rustc is sure of.
 #![tactic(auto)]
 
 use miette_report::fault::Fault;
 use miette_report::words::program_words;
 use miette_show::folder::Folder;
+use miette_show::folder_store::FolderStore;
+use miette_show::mend::mend_with;
 use miette_show::show::{Streams, refuse_words, show_with};
 use miette_show::words::ShowWords;
 use std::process::ExitCode;
@@ -18,5 +20,10 @@ fn main(rt: HostRuntime) -> ExitCode {
     };
     let streams = Streams::new(rt.alloc(), rt.stdin(), rt.stdout(), rt.stderr());
     let mut files = Folder::new(&rt, asked.root);
-    ExitCode::from(show_with(rt.alloc(), &asked, &mut files, streams))
+    ExitCode::from(if asked.fix {
+        let mut store = FolderStore::new(&rt, asked.root);
+        mend_with(rt.alloc(), &mut files, &mut store, streams)
+    } else {
+        show_with(rt.alloc(), &asked, &mut files, streams)
+    })
 }

@@ -1,0 +1,3 @@
+pub mod RowStarts
+pub mod Holds
+pub mod Lists

@@ -1,0 +1,27 @@
+-- Fixes that were gathered, file by file.
+use Rattle.std.specs.Prelude.{ℕ, List, [], ◌∷◌, ◌++◌, Bool, if◌then◌else◌, bytes_eq, map}
+use Rattle.std.specs.List.{flat_map, fold, list_any}
+use Rattle.miette_fixes.specs.rules.ApplyingAll.{all_applied}
+use Rattle.miette_fixes.specs.rules.Edits.{Proposal}
+use Rattle.miette_mending.specs.rules.Sure.{FileFixes}
+
+abbrev pub fixes_if : List ℕ → FileFixes → List Proposal
+fixes_if name it = if bytes_eq it.name name then it.fixes else []
+
+-- those of one file, in the order in which they come
+abbrev pub fixes_for : List ℕ → List FileFixes → List Proposal
+fixes_for name all = flat_map (fixes_if name) all
+
+abbrev pub has_name : List ℕ → List (List ℕ) → Bool
+has_name name names = list_any (λ other. bytes_eq other name) names
+
+abbrev pub with_name : List (List ℕ) → FileFixes → List (List ℕ)
+with_name names it = if has_name it.name names then names else names ++ it.name ∷ []
+
+-- the names of the files, each once, in the order in which they come
+abbrev pub names_in : List FileFixes → List (List ℕ)
+names_in all = fold with_name [] all
+
+-- The text of a file after all of these fixes that count.
+abbrev pub mended : List ℕ → List Proposal → List ℕ
+mended source fixes = all_applied source (map (λ fix. fix.edits) fixes)

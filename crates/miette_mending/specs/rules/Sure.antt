@@ -1,0 +1,72 @@
+-- The proposals of a row of rustc that are applied without being asked about.
+use Rattle.std.specs.Prelude.{ℕ, List, [], ◌∷◌, Option, Some, None, Bool, true, false, if◌then◌else◌, map, codes}
+use Rattle.std.specs.Prelude.{option_and_then, option_map, is_some}
+use Rattle.std.specs.List.{flat_map, list_all}
+use Rattle.serde_json.specs.Data.{Data}
+use Rattle.miette_fixes.specs.declared.applicability.Applicability.{Applicability}
+use Rattle.miette_fixes.specs.declared.applicability.Applicability.TheVariants.{MachineApplicable, MaybeIncorrect}
+use Rattle.miette_fixes.specs.declared.applicability.Applicability.TheVariants.{HasPlaceholders, Unspecified}
+use Rattle.miette_fixes.specs.rules.Edits.{Proposal}
+use Rattle.miette_protocol.specs.rules.Reading.{Source}
+use Rattle.miette_readers.specs.rules.Members.{objects_at, text_at}
+use Rattle.miette_readers.specs.rules.Proposing.{FileEdit, Offer, fixes_in}
+use Rattle.miette_readers.specs.rules.Reports.{others}
+use Rattle.miette_readers.specs.rules.Rustc.{edits_of}
+use Rattle.miette_readers.specs.rules.RustcReport.{held_in, is_other_reason, is_other_type, offer_of}
+use Rattle.miette_mending.specs.rules.Fresh.{is_fresh}
+
+-- ---- the diagnostic in a row
+
+abbrev pub diagnostic_of : Data → Option (Option Data)
+diagnostic_of m =
+    if is_other_type m then Some None else if is_some (text_at (codes "message") m) then Some (Some m) else None
+
+-- Nothing of what has no message; no diagnostic of another row of rustc or cargo.
+abbrev pub diagnostic_in : Data → Option (Option Data)
+diagnostic_in d =
+    if is_other_reason d then Some None else option_and_then diagnostic_of (held_in d (text_at (codes "reason") d))
+
+-- ---- what it proposes
+
+abbrev pub is_sure : Applicability → Bool
+is_sure MachineApplicable = true
+is_sure MaybeIncorrect = false
+is_sure HasPlaceholders = false
+is_sure Unspecified = false
+
+abbrev pub sure_alone : Offer → Option Offer
+sure_alone offer = if is_sure offer.applicability then Some offer else None
+
+-- What a note or a help proposes that is machine-applicable, where no file has changed since.
+abbrev pub sure_offer : (List ℕ → Option Source) → Data → Option Offer
+sure_offer files c =
+    if list_all (is_fresh files) (edits_of c) then option_and_then sure_alone (offer_of files c) else None
+
+-- ---- its fixes, file by file
+
+-- fixes of a file
+pub record FileFixes : Type 0 where
+  pub name : List ℕ
+  pub fixes : List Proposal
+
+abbrev pub fixes_over : Offer → FileEdit → FileFixes
+fixes_over offer e = record { name = e.name; fixes = fixes_in e.name offer.message offer }
+
+-- of each file that it edits, in the order in which they come
+abbrev pub offer_fixes : Offer → List FileFixes
+offer_fixes offer = map (fixes_over offer) (others None offer.edits)
+
+abbrev pub fixes_if_any : Option Offer → List FileFixes
+fixes_if_any None = []
+fixes_if_any (Some offer) = offer_fixes offer
+
+abbrev pub child_fixes : (List ℕ → Option Source) → Data → List FileFixes
+child_fixes files c = fixes_if_any (sure_offer files c)
+
+abbrev pub message_fixes : (List ℕ → Option Source) → Option Data → List FileFixes
+message_fixes files None = []
+message_fixes files (Some m) = flat_map (child_fixes files) (objects_at (codes "children") m)
+
+-- the fixes of a row; nothing of one that can't be read
+abbrev pub value_fixes : (List ℕ → Option Source) → Data → Option (List FileFixes)
+value_fixes files d = option_map (message_fixes files) (diagnostic_in d)

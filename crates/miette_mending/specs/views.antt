@@ -1,0 +1,2 @@
+-- Values as they are held.
+pub mod Holding

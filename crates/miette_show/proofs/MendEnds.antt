@@ -1,0 +1,78 @@
+-- What a run of `show --fix` comes to.
+use Rattle.std.proofs.Common.{◌≡◌, ℕ, List, [], ◌++◌, Bool, true, map, Option, Some, None, IfSome, subst, ◌∙◌, string_bytes}
+use Rattle.std.specs.List.{flat_map, list_all}
+use Rattle.std.specs.Io.KnownBytes.{Appends}
+use Rattle.std.proofs.KnownBytes.{Appends-trans}
+use Rattle.std.proofs.lemmas.List.Elements.{All-weaker}
+use Rattle.miette_fixes.specs.rules.Edits.{Proposal}
+use Rattle.miette_protocol.specs.rules.Reading.{Source}
+use Rattle.miette_mending.specs.rules.Gathered.{fixes_for, names_in}
+use Rattle.miette_mending.specs.rules.Sure.{FileFixes}
+use Rattle.miette_mending.specs.views.Holding.{Adds, HoldsAll, fixes_at}
+use Rattle.miette_mending.specs.declared.gathered.Gathered.{Gathered}
+use Rattle.miette_show.specs.rules.Mends.{Change, Changes, Gives, IsChange, IsOutcome, Mends, fault_of, given}
+use Rattle.miette_show.specs.rules.Mends.{unread_notes}
+use Rattle.miette_show.specs.rules.Statuses.{status_of}
+use Rattle.miette_show.specs.declared.verdict.Verdict.{Verdict}
+
+change_by : (files : List ℕ → Option Source) (refuses : List ℕ → Type 0) (p q : List ℕ → List Proposal)
+    → ((name : List ℕ) → p name ≡ q name) → (c : Change) → IsChange files refuses p c → IsChange files refuses q c
+change_by files refuses p q same c is =
+    subst (λ (f : List Proposal). IsOutcome (files c.name) (refuses c.name) f c.text c.taken) (same c.name) is
+
+module _ (found : (List ℕ → Option Source) → List (List ℕ) → Type 0) (refuses : List ℕ → Type 0)
+    (files : List ℕ → Option Source) (verdict : Verdict) (old new : Gathered) where
+  -- what is done with the fixes that are held is done with those that rows give
+  pub mends_of : (first before after last : Option (List ℕ)) (done wrote said : List Change → Type 0)
+      → IfSome first (λ bytes. Gives found bytes (λ all notes. Adds old new all × Appends before after notes) verdict)
+      → HoldsAll old [] → found files (map string_bytes new.names.items)
+      → Changes files refuses (fixes_at new.fixes) (map string_bytes new.names.items) (λ changes. done changes
+      × wrote changes × said changes × Appends after last (flat_map fault_of changes))
+      → IfSome first (λ bytes. Mends found refuses bytes (λ changes notes. done changes
+      × wrote changes × said changes × Appends before last (notes ++ flat_map fault_of changes)) verdict)
+  mends_of None before after last done wrote said gives none known changed = tt
+  mends_of (Some bytes) before after last done wrote said gives none known (changes, named, each, holds) =
+      let held : HoldsAll new (given gives.0) = gives.3.0 [] none in (
+        gives.0,
+        gives.1,
+        gives.2,
+        (
+          files,
+          subst (found files) held.named known,
+          (
+            changes,
+            named ∙ held.named,
+            All-weaker (IsChange files refuses (fixes_at new.fixes))
+                (IsChange files refuses (λ name. fixes_for name (given gives.0)))
+                (change_by files refuses (fixes_at new.fixes) (λ name. fixes_for name (given gives.0)) held.each) changes
+                each,
+            (
+              holds.0,
+              holds.1,
+              holds.2,
+              Appends-trans before after last (unread_notes 1 gives.0) (flat_map fault_of changes) gives.3.1 holds.3,
+            ),
+          ),
+        ),
+        gives.4,
+      )
+
+-- of which only this is told
+pub mends_weaker : (found : (List ℕ → Option Source) → List (List ℕ) → Type 0) (refuses : List ℕ → Type 0)
+    (p q : List Change → List ℕ → Type 0) (verdict : Verdict) (first : Option (List ℕ))
+    → ((changes : List Change) (notes : List ℕ) → p changes notes → q changes notes)
+    → IfSome first (λ bytes. Mends found refuses bytes p verdict)
+    → IfSome first (λ bytes. Mends found refuses bytes q verdict)
+mends_weaker found refuses p q verdict None h mends = tt
+mends_weaker found refuses p q verdict (Some bytes) h (all, rows, each, (files, known, changed), is) =
+    (all, rows, each, (files, known, (changed.0, changed.1, changed.2, h changed.0 (unread_notes 1 all) changed.3)), is)
+
+-- and the status is that of the verdict
+pub mends_status : (found : (List ℕ → Option Source) → List (List ℕ) → Type 0) (refuses : List ℕ → Type 0)
+    (p q : List Change → List ℕ → Type 0) (verdict : Verdict) (first : Option (List ℕ)) (n : ℕ) → n ≡ status_of verdict
+    → ((changes : List Change) (notes : List ℕ) → p changes notes → q changes notes)
+    → IfSome first (λ bytes. Mends found refuses bytes p verdict)
+    → IfSome first (λ bytes. (v : Verdict) × (n ≡ status_of v) × Mends found refuses bytes q v)
+mends_status found refuses p q verdict None n is h mends = tt
+mends_status found refuses p q verdict (Some bytes) n is h mends =
+    (verdict, is, mends_weaker found refuses p q verdict (Some bytes) h mends)

@@ -1,0 +1,189 @@
+-- Rows that give fixes, one after another.
+use Rattle.std.proofs.Common.{◌≡◌, ℕ, ◌+◌, ◌<◌, List, [], ◌∷◌, ◌++◌, Bool, true, false, length, map, Option, Some, None}
+use Rattle.std.proofs.Common.{IfSome, All, refl, sym, ap, ap₂, subst, ◌∙◌, arith, append_assoc, append-nil}
+use Rattle.std.specs.Prelude.{◌||◌, IsUtf8, option_and_then}
+use Rattle.std.specs.List.{list_any}
+use Rattle.std.specs.Io.KnownBytes.{Appends}
+use Rattle.std.proofs.KnownBytes.{Appends-nil, Appends-trans}
+use Rattle.std.proofs.lemmas.List.{map-append}
+use Rattle.std.proofs.lemmas.List.Concat.{flat_map-append}
+use Rattle.std.proofs.lemmas.List.Elements.{All-nil, All-cons, All-append}
+use Rattle.std.proofs.lemmas.List.Folds.{list_any-append}
+use Rattle.serde_json.specs.Data.{Data}
+use Rattle.serde_json.specs.Read.{read}
+use Rattle.miette_protocol.specs.rules.Reading.{Source}
+use Rattle.miette_mending.specs.rules.Sure.{FileFixes, value_fixes}
+use Rattle.miette_show.specs.rules.Looking.{Goes, IsFoundBy}
+use Rattle.miette_show.specs.rules.Mends.{Giving, Gives, IsGiving, IsRowFixes, given, row_fixes, unread_notes}
+use Rattle.miette_show.specs.rules.Rows.{begins_object, rows_of}
+use Rattle.miette_show.specs.rules.Shown.{all_names, kind_grave, kind_unread, note_of}
+use Rattle.miette_show.specs.views.Reading.{IsNextRow}
+use Rattle.miette_show.specs.declared.verdict.RowKind.{RowKind}
+use Rattle.miette_show.specs.declared.verdict.RowKind.TheVariants.{Passed, Unread, Messages}
+use Rattle.miette_show.specs.declared.verdict.Verdict.{Verdict}
+use Rattle.miette_show.proofs.Going.{found_before}
+use Rattle.miette_show.proofs.RowSteps.{RowsLeft, rows_begin, rows_end, rows_more}
+
+abbrev Finding : Type 1
+Finding = (List ℕ → Option Source) → List (List ℕ) → Type 0
+
+abbrev giving : List ℕ → RowKind → List FileFixes → Giving
+giving row kind fixes = record { row = row; kind = kind; fixes = fixes }
+
+-- ---- one row
+
+pub passed_giving : (found : Finding) (files : List ℕ → Option Source) (row : List ℕ) → begins_object row ≡ false
+    → IsGiving found (giving row Passed [])
+passed_giving found files row not =
+    (files, (λ d utf8 begins is. (let no : false ≡ true = sym not ∙ begins in cc)), (not, refl))
+
+pub unread_giving : (found : Finding) (files : List ℕ → Option Source) (row : List ℕ) → begins_object row ≡ true
+    → (IsUtf8 row → read row ≡ None) → IsGiving found (giving row Unread [])
+unread_giving found files row begins none = (
+  files,
+  (λ d utf8 b is. (let no : None ≡ Some d = sym (none utf8) ∙ is in cc)),
+  (begins, (λ utf8. ap (option_and_then (value_fixes files)) (none utf8)), refl),
+)
+
+module _ (found : Finding) (files : List ℕ → Option Source) (row : List ℕ) (d : Data)
+    (begins : begins_object row ≡ true) (utf8 : IsUtf8 row) (is : read row ≡ Some d)
+    (known : found files (all_names d)) where
+  says : row_fixes files row ≡ value_fixes files d
+  says = ap (option_and_then (value_fixes files)) is
+
+  same : (e : Data) → read row ≡ Some e → found files (all_names e)
+  same e there = subst (λ x. found files (all_names x)) (some_same d e (sym is ∙ there)) known
+    where
+      some_same : (a b : Data) → Some a ≡ Some b → a ≡ b
+      some_same a b e = cc
+
+  pub none_giving : value_fixes files d ≡ None → IsGiving found (giving row Unread [])
+  none_giving none = (files, (λ e u b there. same e there), (begins, (λ u. says ∙ none), refl))
+
+  pub some_giving : (fixes : List FileFixes) → value_fixes files d ≡ Some fixes
+      → IsGiving found (giving row (Messages false) fixes)
+  some_giving fixes some = (files, (λ e u b there. same e there), (begins, utf8, says ∙ some, refl))
+
+pub giving_before : {F : Type 0} (find : F → List ℕ → Option Source) (knows : F → List ℕ → Type 0) (first second : F)
+    (slice row : List ℕ) (kind : RowKind) (fixes : List FileFixes)
+    → Goes (find first) (knows first) (find second) (knows second) → slice ≡ row
+    → IsGiving (IsFoundBy find knows second) (giving slice kind fixes)
+    → IsGiving (IsFoundBy find knows first) (giving row kind fixes)
+giving_before find knows first second slice row kind fixes goes same (files, named, gives) =
+    subst (λ (r : List ℕ). IsGiving (IsFoundBy find knows first) (giving r kind fixes)) same (
+      files,
+      (λ d utf8 begins is. found_before find knows first second files (all_names d) goes (named d utf8 begins is)),
+      gives,
+    )
+
+-- ---- all rows
+
+abbrev row_of : Giving → List ℕ
+row_of s = s.row
+
+abbrev is_unread : Giving → Bool
+is_unread s = kind_unread s.kind
+
+notes_more : (n : ℕ) (ss : List Giving) (s : Giving) (m : ℕ) → m ≡ length ss + n
+    → unread_notes n (ss ++ s ∷ []) ≡ unread_notes n ss ++ note_of m (is_unread s)
+notes_more n [] s m e =
+    let same : n ≡ m = omega (arith, e) in
+    append-nil (note_of n (is_unread s)) ∙ ap (λ (k : ℕ). note_of k (is_unread s)) same
+notes_more n (x ∷ xs) s m e =
+    let same : m ≡ length xs + (n + 1) = omega (arith, e) in
+    ap (λ l. note_of n (is_unread x) ++ l) (notes_more (n + 1) xs s m same)
+    ∙ sym (append_assoc (note_of n (is_unread x)) (unread_notes (n + 1) xs) (note_of m (is_unread s)))
+
+length_more : (ss : List Giving) (s : Giving) → length (ss ++ s ∷ []) ≡ length ss + 1
+length_more [] s = refl
+length_more (x ∷ xs) s = let h : length (xs ++ s ∷ []) ≡ length xs + 1 = length_more xs s in omega (arith, h)
+
+or_false : (b : Bool) → (b || false) ≡ b
+or_false true = refl
+or_false false = refl
+
+abbrev verdict_by : Bool → Bool → Verdict
+verdict_by unread error = record { unread = unread; error = error }
+
+-- no row that gives fixes is an error
+never_grave : (found : Finding) (s : Giving) → IsGiving found s → kind_grave s.kind ≡ false
+never_grave found s h = by s.kind h.2
+  where
+    by : (kind : RowKind) → IsRowFixes h.0 s.row kind s.fixes → kind_grave kind ≡ false
+    by Passed e = refl
+    by Unread e = refl
+    by (Messages grave) e = e.3
+
+-- These rows gave fixes, which are added; what is left is left, and the writer took their notes.
+pub record Passing (adds : List FileFixes → Type 0) (found : Finding)
+    (first left before after : Option (List ℕ)) (number : ℕ) (verdict : Verdict) : Type 0 where
+  pub all : List Giving
+  pub rows : RowsLeft first left (map row_of all)
+  pub each : All (IsGiving found) all
+  pub added : adds (given all)
+  pub notes : Appends before after (unread_notes 1 all)
+  pub count : number ≡ length all + 1
+  pub is : verdict ≡ record { unread = list_any is_unread all; error = false }
+
+module _ (found : Finding) where
+  pub begin : (adds : List FileFixes → Type 0) (first before : Option (List ℕ)) (number : ℕ) (verdict : Verdict)
+      → number ≡ 1 → verdict ≡ record { unread = false; error = false } → adds []
+      → Passing adds found first first before before number verdict
+  begin adds first before number verdict one none nothing = record {
+    all = [];
+    rows = rows_begin first;
+    each = All-nil (IsGiving found);
+    added = nothing;
+    notes = Appends-nil before;
+    count = one;
+    is = none;
+  }
+
+  pub more : (adds adds_then : List FileFixes → Type 0) (first left next before after later : Option (List ℕ))
+      (number : ℕ) (verdict made : Verdict) (row : List ℕ) (kind : RowKind) (fixes : List FileFixes) → 0 < length row
+      → Passing adds found first left before after number verdict → IsNextRow left next row
+      → IsGiving found (giving row kind fixes)
+      → ((all : List FileFixes) → adds all → adds_then (all ++ fixes))
+      → Appends after later (note_of number (kind_unread kind))
+      → made ≡ record { unread = verdict.unread || kind_unread kind; error = verdict.error || kind_grave kind }
+      → Passing adds_then found first next before later (number + 1) made
+  more adds adds_then first left next before after later number verdict made row kind fixes some p is_next is_giving add
+      said with_it =
+      let s = giving row kind fixes in
+      let was : verdict ≡ record { unread = list_any is_unread p.all; error = false } = p.is in
+      let calm : kind_grave kind ≡ false = never_grave found s is_giving in
+      let unread : (verdict.unread || kind_unread kind) ≡ list_any is_unread (p.all ++ s ∷ []) =
+      ap (λ (v : Verdict). v.unread || kind_unread kind) was
+      ∙ sym (list_any-append is_unread p.all (s ∷ [])
+      ∙ ap (λ c. list_any is_unread p.all || c) (or_false (kind_unread kind)))
+      in
+      let error : (verdict.error || kind_grave kind) ≡ false =
+      ap (λ (v : Verdict). v.error || kind_grave kind) was ∙ calm
+      in
+      record {
+        all = p.all ++ s ∷ [];
+        rows = subst (RowsLeft first next) (sym (map-append row_of p.all (s ∷ [])))
+            (rows_more first left next (map row_of p.all) row some p.rows is_next);
+        each = All-append (IsGiving found) p.all (s ∷ []) p.each
+            (All-cons (IsGiving found) s [] is_giving (All-nil (IsGiving found)));
+        added = subst adds_then
+            (sym (flat_map-append (λ (x : Giving). x.fixes) p.all (s ∷ [])
+            ∙ ap (λ l. given p.all ++ l) (append-nil fixes)))
+            (add (given p.all) p.added);
+        notes = subst (Appends before later) (sym (notes_more 1 p.all s number p.count))
+            (Appends-trans before after later (unread_notes 1 p.all) (note_of number (kind_unread kind)) p.notes said);
+        count = omega (arith, p.count, length_more p.all s);
+        is = with_it ∙ ap₂ (λ (a b : Bool). verdict_by a b) unread error;
+      }
+
+  pub end : (adds : List FileFixes → Type 0) (first left next before after : Option (List ℕ)) (number : ℕ)
+      (verdict : Verdict) (row : List ℕ) → row ≡ [] → Passing adds found first left before after number verdict
+      → IsNextRow left next row
+      → IfSome first (λ bytes. Gives found bytes (λ all notes. adds all × Appends before after notes) verdict)
+  end adds first left next before after number verdict row none p is_next =
+      ended first (rows_end first left next (map row_of p.all) row none p.rows is_next)
+    where
+      ended : (o : Option (List ℕ)) → IfSome o (λ bytes. map row_of p.all ≡ rows_of bytes)
+          → IfSome o (λ bytes. Gives found bytes (λ all notes. adds all × Appends before after notes) verdict)
+      ended None e = tt
+      ended (Some bytes) e = (p.all, e, p.each, (p.added, p.notes), p.is)

@@ -1,0 +1,13 @@
+-- What a store of files tells of what was written.
+use Rattle.std.specs.Prelude.{◌≡◌, ℕ, List, [], ◌∷◌, ◌++◌, Option, Some, None, Bool, true, false, ⊤}
+
+-- these texts were written under these names, behind the others, where it tells
+abbrev pub Writes : Option (List (List ℕ × List ℕ)) → Option (List (List ℕ × List ℕ)) → List (List ℕ × List ℕ) → Type 0
+Writes None new more = ⊤
+Writes (Some old) None more = ⊥
+Writes (Some old) (Some new) more = new ≡ old ++ more
+
+abbrev pub IsWritten : Option (List (List ℕ × List ℕ)) → Option (List (List ℕ × List ℕ)) → Bool → List ℕ → List ℕ
+    → Type 0
+IsWritten old new true name text = Writes old new ((name, text) ∷ [])
+IsWritten old new false name text = Writes old new []
