@@ -1,19 +1,22 @@
 #!/usr/bin/env python3
-"""show_fix.py: runs the built program `show --fix` on what rustc wrote (`rustc/`) over copies of its sources, and compares
-the files and what is said of them with a model of the rules (docs/RULES.md, 'Programs').
+"""show_fix.py: runs the built program `show --fix` on what rustc wrote (`rustc/`) over copies of its sources, and
+compares the files and what is said of them with a model of the rules (docs/RULES.md, 'Programs').
 
-Tried are the recorded rows, the same rows twice, files that have changed since or are gone, and a folder in which
-nothing can be written. Where cargo is installed, a crate is fixed by `cargo fix` too, and the files are compared. The
-last line is 'N passed, M failed', and the exit status is 0 only where nothing failed."""
+Tried are the recorded rows, the same rows twice, files that have changed since or are gone, names that lead out of the
+folder, fixes that overlap, files that can't be written, a disk that is full, and each growth of memory refused. Where
+cargo is installed, a crate is fixed by `cargo fix` too, and the files are compared. The last line is 'N passed, M
+failed', and the exit status is 0 only where nothing failed."""
 import json
 import os
+import resource
 import shutil
+import signal
 import subprocess
 import sys
 import tempfile
 
 from fix_model import Edit, taken
-from programs import HERE, counted, run
+from programs import HERE, built, counted, library_in, refusals, run
 from readers_model import NoMessage, Settled, diagnostic_in, fixes, is_edit, member, objects, offers, stretch, text
 
 FOLDER = os.path.join(HERE, "rustc")
@@ -43,15 +46,15 @@ OTHER = "pub fn told(some: u32) {\n    let unused = 1;\n    while (false) {}\n}\
 
 
 def fresh(span, files):
-    """Whether the rows that rustc read at a span are those of its file, and it stands at the same column of the first."""
-    name, at = text(span, "file_name"), stretch(span)
-    if name not in files or at is None or at[0] > len(files[name]):
+    """Whether the rows that rustc read at a span are those of its file, and it stands at its column of the first."""
+    name, at, rows = text(span, "file_name"), stretch(span), objects(span, "text")
+    if name not in files or at is None or at[0] > len(files[name]) or not rows:
         return False
     start = files[name].rfind(b"\n", 0, at[0]) + 1
     before, rest = files[name][start : at[0]], files[name][start:]
     if sum(it & 0xC0 != 0x80 for it in before) + 1 != member(span, "column_start", int):
         return False
-    for row in (text(it, "text").encode() for it in objects(span, "text")):
+    for row in (text(it, "text").encode() for it in rows):
         end = next((end for end in (b"\n", b"\r\n") if rest.startswith(row + end)), None)
         if end is None and rest != row:
             return False
@@ -70,7 +73,12 @@ def sure_fixes(message, files):
                         yield name, [Edit(it["offset"], it["length"], it["text"].encode()) for it in fix["edits"]]
 
 
-def wanted(given, files):
+def leads_out(name):
+    """Whether a file of this name is none below the folder."""
+    return name.startswith("/") or ".." in name.split("/")
+
+
+def wanted(given, files, unwritable=()):
     """Status, standard output and standard error, and the files after it."""
     gathered, notes, unread = {}, [], False
     for number, row in enumerate(given.splitlines(keepends=True), 1):
@@ -84,9 +92,13 @@ def wanted(given, files):
             notes.append(f"show: row {number}: no message that can be read\n".encode())
     said, after = [], dict(files)
     for name, lists in gathered.items():
+        if name in unwritable or leads_out(name):
+            notes.append(f"show: {name}: can't be written\n".encode())
+            continue
         which, after[name] = taken(files[name], lists)
         said.append(f"fixed {name}: {sum(which)} of {len(which)} fixes\n".encode())
-    return (3 if unread else 0, b"".join(said), b"".join(notes)), after
+    status = 2 if len(said) < len(gathered) else 3 if unread else 0
+    return (status, b"".join(said), b"".join(notes)), after
 
 
 # ---- runs
@@ -115,17 +127,141 @@ def recorded(name):
         return file.read()
 
 
-def tried(what, given, files):
-    """Whether the program and the model agree over these files; nothing else is left in the folder."""
+def tried(what, given, files, unwritable=(), prepare=None, **named):
+    """Whether the program and the model agree over these files, in a folder that is prepared; it has no file more."""
     with tempfile.TemporaryDirectory() as folder:
         write(folder, files)
-        want, after = wanted(given, files)
-        got = run(["show", "--root", folder, "--fix"], given)
+        if prepare:
+            prepare(folder)
+        before = sorted(os.listdir(folder))
+        want, after = wanted(given, files, unwritable)
+        got = run(["show", "--root", folder, "--fix"], given, **named)
         found = files_in(folder)
-        if got != want or found != after or len(os.listdir(folder)) != len(files):
-            print(f"{what}: {got}, wanted {want}; files that differ: {[it for it in after if found.get(it) != after[it]]}")
+        if got != want or found != after or sorted(os.listdir(folder)) != before:
+            differ = [it for it in after if found.get(it) != after[it]]
+            print(f"{what}: {got}, wanted {want}; files that differ: {differ}, in the folder: {os.listdir(folder)}")
             return False
     return True
+
+
+# ---- made by hand
+
+
+def sure(name, data, row, column, length, new):
+    """A row of rustc that proposes one edit, of which it is sure: at a row and a column from 1, in ASCII."""
+    lines = data.split(b"\n")
+    start = sum(len(it) + 1 for it in lines[: row - 1]) + column - 1
+    rows = [{"text": lines[row - 1].decode()}]
+    span = {"file_name": name, "byte_start": start, "byte_end": start + length, "column_start": column, "text": rows}
+    edit = {**span, "suggested_replacement": new, "suggestion_applicability": "MachineApplicable"}
+    return {"message": "m", "level": "warning", "children": [{"message": "h", "level": "help", "spans": [edit]}]}
+
+
+def rows_of(*messages):
+    return b"".join(json.dumps(it).encode() + b"\n" for it in messages)
+
+
+def changed(message, **members):
+    """A message whose proposal has other members."""
+    child = message["children"][0]
+    return {**message, "children": [{**child, "spans": [{**child["spans"][0], **members}]}]}
+
+
+TEXT = b"let a = (1);\nlet b = (2);\n"
+FIRST, SECOND = sure("a.rs", TEXT, 1, 9, 3, "1"), sure("a.rs", TEXT, 2, 9, 3, "2")
+
+
+def hand_made():
+    """What is read, with the files."""
+    files = {"a.rs": TEXT, "b.rs": TEXT}
+    yield "two fixes", rows_of(FIRST, SECOND), files
+    yield "in the other order", rows_of(SECOND, FIRST), files
+    yield "of two files", rows_of(SECOND, sure("b.rs", TEXT, 1, 9, 3, "1"), FIRST), files
+    yield "that overlap", rows_of(FIRST, sure("a.rs", TEXT, 1, 10, 2, "7;"), SECOND), files
+    yield "in front of one another", rows_of(sure("a.rs", TEXT, 1, 9, 0, "x"), sure("a.rs", TEXT, 1, 9, 0, "y")), files
+    for other in ("MaybeIncorrect", "HasPlaceholders", "Unspecified", "machineapplicable", 1, None):
+        yield f"that are {other}", rows_of(changed(FIRST, suggestion_applicability=other), SECOND), files
+    for key, it in [("text", []), ("text", 1), ("text", [{}]), ("column_start", 8), ("column_start", None)]:
+        yield f"whose {key} is {it}", rows_of(changed(FIRST, **{key: it}), SECOND), files
+    for key, it in [("byte_start", 2**64), ("byte_end", 2**63), ("byte_end", 0), ("byte_start", 22), ("file_name", "")]:
+        yield f"whose {key} is {it}", rows_of(changed(FIRST, **{key: it}), SECOND), files
+    yield "without a last LF", rows_of(sure("a.rs", TEXT[:-1], 2, 9, 3, "2")), {"a.rs": TEXT[:-1]}
+    yield "behind a lone CR", rows_of(sure("a.rs", b"(1)\r(2)\n", 1, 5, 3, "2")), {"a.rs": b"(1)\r(2)\n"}
+    yield "of a file that isn't UTF-8", rows_of(FIRST), {"a.rs": b"let a = (1);\n\xff\xfe"}
+    yield "of an empty file", rows_of(FIRST), {"a.rs": b""}
+
+
+def led_out(folder):
+    """Names that lead out of the folder, or through it, with what they may change there."""
+    inner = os.path.join(folder, "inner")
+    write(folder, {"a.rs": TEXT, "inner/a.rs": TEXT, "inner/src/a.rs": TEXT})
+    for name in ["../a.rs", "src/../../a.rs", f"{folder}/a.rs", "src/../a.rs", "/../a.rs", "src/a..rs", "..a.rs"]:
+        got = run(["show", "--root", inner, "--fix"], rows_of(sure(name, TEXT, 1, 9, 3, "1")))
+        there = os.path.exists(os.path.join(inner, name))
+        yield got == ((2, b"", f"show: {name}: can't be written\n".encode()) if there else (0, b"", b""))
+    yield files_in(folder) == {"a.rs": TEXT, "inner/a.rs": TEXT, "inner/src/a.rs": TEXT}
+    # one file by two names: what is written by the second one would undo the first
+    both = rows_of(FIRST, sure("./a.rs", TEXT, 2, 9, 3, "2"))
+    got = run(["show", "--fix"], both, cwd=folder)
+    yield got == (2, b"fixed a.rs: 1 of 1 fixes\n", b"show: ./a.rs: can't be written\n")
+    yield files_in(folder)["a.rs"] == b"let a = 1;\nlet b = (2);\n"
+
+
+def linked(folder):
+    os.rename(os.path.join(folder, "a.rs"), os.path.join(folder, "target"))
+    os.symlink("target", os.path.join(folder, "a.rs"))
+
+
+def little_room():
+    """No file gets more than 20 bytes, as on a disk that is full."""
+    signal.signal(signal.SIGXFSZ, signal.SIG_IGN)
+    resource.setrlimit(resource.RLIMIT_FSIZE, (20, 20))
+
+
+def unwritable():
+    """Files that stay as they are: what is said of them, beside one that is written."""
+    files, given = {"a.rs": TEXT, "b.rs": b"(1)\n"}, rows_of(FIRST, SECOND, sure("b.rs", b"(1)\n", 1, 1, 3, "1"))
+    yield tried("a link", given, files, ["a.rs"], linked)
+    yield tried("read-only", given, files, ["a.rs"], lambda it: os.chmod(os.path.join(it, "a.rs"), 0o444))
+    yield tried("in the way", given, files, ["a.rs"], lambda it: write(it, {"a.rs.show-fix": b"mine"}))
+    yield tried("a full disk", given, files, ["a.rs"], preexec_fn=little_room)
+    if os.geteuid():
+        yield tried("a folder", given, files, ["a.rs", "b.rs"], lambda it: os.chmod(it, 0o500))
+
+
+def modes_kept():
+    """A file's permissions are those of before."""
+    with tempfile.TemporaryDirectory() as folder:
+        write(folder, {"a.rs": TEXT})
+        os.chmod(os.path.join(folder, "a.rs"), 0o751)
+        got = run(["show", "--root", folder, "--fix"], rows_of(FIRST))
+        return got[0] == 0 and os.stat(os.path.join(folder, "a.rs")).st_mode & 0o7777 == 0o751
+
+
+def refused_growths():
+    """With each growth refused the files are as before or as after, each whole, and nothing else is there."""
+    files = {"a.rs": TEXT, "b.rs": TEXT}
+    given = rows_of(FIRST, sure("b.rs", TEXT, 1, 9, 3, "1"), SECOND, {"message": "m", "spans": []})
+    want, after = wanted(given, files)
+    with tempfile.TemporaryDirectory(dir=built("show")) as folder:
+        library, root = library_in(folder, "refuse"), os.path.join(folder, "root")
+        write(root, files)
+        for growth, got, was_refused in refusals(["show", "--root", root, "--fix"], given, library):
+            found = files_in(root)
+            is_well = got == want and found == after
+            if was_refused and not is_well:
+                is_well = got[0] == 2 and got[2] == b"show: out of memory\n" and want[1].startswith(got[1])
+            is_whole = all(found.get(it) in (files[it], after[it]) for it in files)
+            if not (is_well and is_whole and sorted(os.listdir(root)) == sorted(files)):
+                print(f"growth {growth} refused: {got}, {found}")
+                return False
+            if not was_refused:
+                return growth > 20
+            write(root, files)
+    return False
+
+
+# ---- what rustc wrote
 
 
 def inputs():
@@ -142,19 +278,6 @@ def inputs():
         yield f"{name} without its last bytes", given[: -len(given) // 7], files
     yield "nothing", b"", files
     yield "rows that can't be read", b'chatter\n{"message":5}\n{"\n', files
-
-
-def unwritable_tried():
-    """A file that can't be written is said, and the status is 2; its folder stays as it was."""
-    if os.geteuid() == 0:
-        return []
-    files = files_in(FOLDER)
-    with tempfile.TemporaryDirectory() as folder:
-        write(folder, files)
-        os.chmod(folder, 0o500)
-        got = run(["show", "--root", folder, "--fix"], recorded("fixits"))
-        os.chmod(folder, 0o700)
-        return [got == (2, b"", b"show: fixits.rs: can't be written\n") and files_in(folder) == files]
 
 
 def beside_cargo():
@@ -177,7 +300,10 @@ def beside_cargo():
 
 
 def main():
-    done = [tried(*it) for it in inputs()] + unwritable_tried() + beside_cargo()
+    done = [tried(*it) for it in (*inputs(), *hand_made())] + [*unwritable(), modes_kept(), refused_growths()]
+    with tempfile.TemporaryDirectory() as folder:
+        done += led_out(folder)
+    done += beside_cargo()
     return counted(sum(done), len(done) - sum(done))
 
 

@@ -106,7 +106,8 @@ fn stand_in(bytes: &[u8], offset: usize, column: u64, rows: &[&Value]) -> bool
     column_behind(&bytes[start..offset]) as u64 == column && begin_with(rows, &bytes[start..])
 }
 
-/// Whether the rows that rustc read at a span are those of the file, and it stands at the same column of the first one.
+/// Whether the rows that rustc read at a span, of which there is one at least, are those of the file, and it stands at
+/// the same column of the first one.
 pub fn is_fresh<F: Files>(alloc: Global, files: &F, span: &Value) -> Result<bool, AllocError>
     ensures { IfOk result (λ b. b ≡ is_fresh (F.found files.now) (view span.now)) }
 {
@@ -118,6 +119,9 @@ pub fn is_fresh<F: Files>(alloc: Global, files: &F, span: &Value) -> Result<bool
     };
     let column = whole_at(span, "column_start").unwrap_or(0);
     let rows = objects_at(alloc, span, "text")?;
+    if rows.is_empty() {
+        return Ok(false);
+    }
     Ok(stand_in(file.bytes(), offset as usize, column, rows.as_slice()))
 }
 

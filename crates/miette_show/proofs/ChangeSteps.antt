@@ -1,19 +1,23 @@
 -- Files that are changed, one after another.
 use Rattle.std.proofs.Common.{◌≡◌, ℕ, List, [], ◌∷◌, ◌++◌, Bool, true, false, map, Option, Some, None, IfSome, All, refl}
-use Rattle.std.proofs.Common.{sym, ap, ap₂, subst, ◌∙◌, append_assoc, append-nil, ◌⊎◌, ◌↔◌, inl, inr, IsTrue, Ok, Err}
+use Rattle.std.proofs.Common.{◌+◌, ◌<◌, drop, get_or, length, take, sym, ap, ap₂, subst, ◌∙◌, append_assoc, append-nil, ◌⊎◌, ◌↔◌, inl, inr, IsTrue, Ok, Err}
 use Rattle.std.specs.Prelude.{◌&&◌, is_some}
 use Rattle.std.specs.List.{flat_map, list_all}
 use Rattle.std.specs.Io.KnownBytes.{Appends}
 use Rattle.std.proofs.KnownBytes.{Appends-nil, Appends-trans}
-use Rattle.std.proofs.lemmas.List.{map-append}
+use Rattle.std.proofs.lemmas.List.{map-append, take-append-drop}
 use Rattle.std.proofs.lemmas.List.Concat.{flat_map-append}
 use Rattle.std.proofs.lemmas.List.Elements.{All-nil, All-push, All-weaker}
 use Rattle.std.proofs.lemmas.List.Folds.{list_all-append}
+use Rattle.miette_fixes.specs.rules.ApplyingAll.{taken}
 use Rattle.miette_fixes.specs.rules.Edits.{Proposal}
+use Rattle.miette_mending.specs.rules.Gathered.{mended}
 use Rattle.miette_protocol.specs.rules.Reading.{Source}
+use Rattle.miette_readers.proofs.Steps.{next_taken}
 use Rattle.miette_report.specs.declared.fault.Fault.{Fault}
-use Rattle.miette_show.specs.rules.Mends.{Change, Changes, IsChange, IsOutcome, fault_as, fault_of, is_done, said_as}
-use Rattle.miette_show.specs.rules.Mends.{said_of, written_as, written_of}
+use Rattle.miette_show.specs.rules.Looking.{leads_out}
+use Rattle.miette_show.specs.rules.Mends.{Change, Changes, ChangesFirst, IsChange, IsMended, IsOutcome, fault_as}
+use Rattle.miette_show.specs.rules.Mends.{fault_of, is_done, said_as, said_of, written_as, written_of}
 use Rattle.miette_show.specs.views.Writing.{Writes}
 
 abbrev Told : Type 0
@@ -42,6 +46,28 @@ pub neither_failed : {A : Type 0} (a b : Bool) (x : A) (f : Fault) → ((IsTrue 
 neither_failed false false x f h = (refl, refl)
 neither_failed true b x f h = absurd (let e : Ok x ≡ Err f = h.0 (inl refl) in cc)
 neither_failed false true x f h = absurd (let e : Ok x ≡ Err f = h.0 (inr refl) in cc)
+
+-- the text that was made of a file's bytes is that after its fixes
+pub mended_by : (source : Option Source) (file : Source) (bytes : List ℕ) (held fixes : List Proposal) (text : List ℕ)
+    (which : List Bool) → Some file ≡ source → bytes ≡ file.bytes → held ≡ fixes → text ≡ mended bytes held
+    → which ≡ taken (length bytes) [] (map (λ fix. fix.edits) held) → IsMended source fixes text which
+mended_by source file bytes held fixes text which there is same text_is taken_is =
+    subst (λ (o : Option Source). IsMended o fixes text which) there (
+      text_is ∙ ap₂ mended is same,
+      taken_is
+          ∙ ap₂ (λ (b : List ℕ) (f : List Proposal). taken (length b) [] (map (λ fix. fix.edits) f)) is same,
+    )
+
+-- what is passed and what is left
+pub parted : {X Y : Type 0} (look : X → Y) (xs : List X) (i : ℕ) → map look xs ≡ map look (take i xs) ++ map look (drop i xs)
+parted look xs i = ap (map look) (sym (take-append-drop i xs)) ∙ map-append look (take i xs) (drop i xs)
+
+-- one more is passed
+pub one_passed : {X Y : Type 0} (look : X → Y) (xs : List X) (i : ℕ) (x : X) (y : Y) → i < length xs → x ≡ get_or xs i x
+    → y ≡ look x → map look (take i xs) ++ y ∷ [] ≡ map look (take (i + 1) xs)
+one_passed look xs i x y h is same =
+    ap (λ z. map look (take i xs) ++ z ∷ []) same
+    ∙ sym (ap (map look) (next_taken xs i x h is) ∙ map-append look (take i xs) (x ∷ []))
 
 abbrev name_of : Change → List ℕ
 name_of c = c.name
@@ -72,15 +98,16 @@ module _ (files : List ℕ → Option Source) (refuses : List ℕ → Type 0) (f
   }
 
   pub more : (names : List (List ℕ)) (all done made : Bool) (put kept later : Option (List (List ℕ × List ℕ)))
-      (old new newer before after then : Option (List ℕ)) (name text : List ℕ) (taken : Option (List Bool))
+      (old new newer before after then : Option (List ℕ)) (name text : List ℕ) (which : Option (List Bool))
       → Changing files refuses fixes names all put kept old new before after
-      → IsOutcome (files name) (refuses name) (fixes name) text taken → Writes kept later (written_as name text taken)
-      → done ≡ is_some taken → Appends new newer (said_as name taken) → Appends after then (fault_as name taken)
+      → IsOutcome (files name) (refuses name) (leads_out name) (fixes name) text which
+      → Writes kept later (written_as name text which) → done ≡ is_some which → Appends new newer (said_as name which)
+      → Appends after then (fault_as name which)
       → made ≡ (all && done)
       → Changing files refuses fixes (names ++ name ∷ []) made put later old newer before then
-  more names all done made put kept later old new newer before after then name text taken p is wrote done_is said
+  more names all done made put kept later old new newer before after then name text which p is wrote done_is said
       noted made_is =
-      let c : Change = record { name = name; text = text; taken = taken } in
+      let c : Change = record { name = name; text = text; taken = which } in
       record {
         changes = p.changes ++ c ∷ [];
         named = map-append name_of p.changes (c ∷ []) ∙ ap (λ l. l ++ name ∷ []) p.named;
@@ -89,11 +116,11 @@ module _ (files : List ℕ → Option Source) (refuses : List ℕ → Type 0) (f
             ∙ sym (list_all-append is_done p.changes (c ∷ [])
             ∙ ap (λ b. list_all is_done p.changes && b) (and_true (is_done c)));
         written = subst (Writes put later) (sym (flat_more written_of p.changes c))
-            (writes_then put kept later (flat_map written_of p.changes) (written_as name text taken) p.written wrote);
+            (writes_then put kept later (flat_map written_of p.changes) (written_as name text which) p.written wrote);
         said = subst (Appends old newer) (sym (flat_more said_of p.changes c))
-            (Appends-trans old new newer (flat_map said_of p.changes) (said_as name taken) p.said said);
+            (Appends-trans old new newer (flat_map said_of p.changes) (said_as name which) p.said said);
         noted = subst (Appends before then) (sym (flat_more fault_of p.changes c))
-            (Appends-trans before after then (flat_map fault_of p.changes) (fault_as name taken) p.noted noted);
+            (Appends-trans before after then (flat_map fault_of p.changes) (fault_as name which) p.noted noted);
       }
 
   pub all_changed : (names last : List (List ℕ)) (all : Bool) (put kept : Option (List (List ℕ × List ℕ)))
@@ -104,3 +131,38 @@ module _ (files : List ℕ → Option Source) (refuses : List ℕ → Type 0) (f
       × Appends before after (flat_map fault_of changes))
   all_changed names last all put kept old new before after same p =
       (p.changes, p.named ∙ same, p.each, (p.done, p.written, p.said, p.noted))
+
+  -- ---- after an error
+
+  -- those before this one
+  pub first_still : (names others last : List (List ℕ)) (all : Bool)
+      (put kept later : Option (List (List ℕ × List ℕ))) (old new before after : Option (List ℕ))
+      → Changing files refuses fixes names all put kept old new before after → Writes kept later []
+      → last ≡ names ++ others
+      → ChangesFirst files refuses fixes last (λ changes. Writes put later (flat_map written_of changes))
+  first_still names others last all put kept later old new before after p none is = (
+    p.changes,
+    others,
+    is ∙ ap (λ l. l ++ others) (sym p.named),
+    p.each,
+    subst (Writes put later) (append-nil (flat_map written_of p.changes))
+        (writes_then put kept later (flat_map written_of p.changes) [] p.written none),
+  )
+
+  -- and this one
+  pub first_more : (names others last : List (List ℕ)) (all : Bool)
+      (put kept later : Option (List (List ℕ × List ℕ))) (old new before after : Option (List ℕ)) (name text : List ℕ)
+      (which : Option (List Bool)) → Changing files refuses fixes names all put kept old new before after
+      → IsOutcome (files name) (refuses name) (leads_out name) (fixes name) text which
+      → Writes kept later (written_as name text which) → last ≡ (names ++ name ∷ []) ++ others
+      → ChangesFirst files refuses fixes last (λ changes. Writes put later (flat_map written_of changes))
+  first_more names others last all put kept later old new before after name text which p outcome wrote is =
+      let c : Change = record { name = name; text = text; taken = which } in (
+        p.changes ++ c ∷ [],
+        others,
+        is ∙ ap (λ l. l ++ others)
+            (sym (map-append name_of p.changes (c ∷ []) ∙ ap (λ l. l ++ name ∷ []) p.named)),
+        All-push (IsChange files refuses fixes) p.changes c p.each outcome,
+        subst (Writes put later) (sym (flat_more written_of p.changes c))
+            (writes_then put kept later (flat_map written_of p.changes) (written_as name text which) p.written wrote),
+      )

@@ -5,6 +5,7 @@ pub mod FolderSteps
 pub mod Going
 pub mod MendEnds
 pub mod MendSteps
+pub mod NameSteps
 pub mod NoteEnds
 pub mod Progress
 pub mod ReportSteps

@@ -1,5 +1,6 @@
 -- What a run of `show --fix` comes to.
-use Rattle.std.proofs.Common.{◌≡◌, ℕ, List, [], ◌++◌, Bool, true, map, Option, Some, None, IfSome, subst, ◌∙◌, string_bytes}
+use Rattle.std.proofs.Common.{◌≡◌, ℕ, List, [], ◌++◌, Bool, true, map, Option, Some, None, IfSome, subst, sym, ◌∙◌}
+use Rattle.std.proofs.Common.{append-nil, string_bytes}
 use Rattle.std.specs.List.{flat_map, list_all}
 use Rattle.std.specs.Io.KnownBytes.{Appends}
 use Rattle.std.proofs.KnownBytes.{Appends-trans}
@@ -10,15 +11,17 @@ use Rattle.miette_mending.specs.rules.Gathered.{fixes_for, names_in}
 use Rattle.miette_mending.specs.rules.Sure.{FileFixes}
 use Rattle.miette_mending.specs.views.Holding.{Adds, HoldsAll, fixes_at}
 use Rattle.miette_mending.specs.declared.gathered.Gathered.{Gathered}
-use Rattle.miette_show.specs.rules.Mends.{Change, Changes, Gives, IsChange, IsOutcome, Mends, fault_of, given}
-use Rattle.miette_show.specs.rules.Mends.{unread_notes}
+use Rattle.miette_show.specs.rules.Looking.{leads_out}
+use Rattle.miette_show.specs.rules.Mends.{Change, Changes, ChangesFirst, Gives, IsChange, IsOutcome, Mends, MendsFirst}
+use Rattle.miette_show.specs.rules.Mends.{fault_of, given, unread_notes}
 use Rattle.miette_show.specs.rules.Statuses.{status_of}
 use Rattle.miette_show.specs.declared.verdict.Verdict.{Verdict}
 
 change_by : (files : List ℕ → Option Source) (refuses : List ℕ → Type 0) (p q : List ℕ → List Proposal)
     → ((name : List ℕ) → p name ≡ q name) → (c : Change) → IsChange files refuses p c → IsChange files refuses q c
 change_by files refuses p q same c is =
-    subst (λ (f : List Proposal). IsOutcome (files c.name) (refuses c.name) f c.text c.taken) (same c.name) is
+    subst (λ (f : List Proposal). IsOutcome (files c.name) (refuses c.name) (leads_out c.name) f c.text c.taken)
+    (same c.name) is
 
 module _ (found : (List ℕ → Option Source) → List (List ℕ) → Type 0) (refuses : List ℕ → Type 0)
     (files : List ℕ → Option Source) (verdict : Verdict) (old new : Gathered) where
@@ -57,6 +60,38 @@ module _ (found : (List ℕ → Option Source) → List (List ℕ) → Type 0) (
         gives.4,
       )
 
+  -- as is what is done with the first of them
+  pub first_of : (first before after : Option (List ℕ)) (wrote : List Change → Type 0)
+      → IfSome first (λ bytes. Gives found bytes (λ all notes. Adds old new all × Appends before after notes) verdict)
+      → HoldsAll old [] → found files (map string_bytes new.names.items)
+      → ChangesFirst files refuses (fixes_at new.fixes) (map string_bytes new.names.items) wrote
+      → IfSome first (λ bytes. MendsFirst found refuses bytes wrote)
+  first_of None before after wrote gives none known changed = tt
+  first_of (Some bytes) before after wrote gives none known (changes, others, named, each, holds) =
+      let held : HoldsAll new (given gives.0) = gives.3.0 [] none in (
+        verdict,
+        (
+          gives.0,
+          gives.1,
+          gives.2,
+          (
+            files,
+            subst (found files) held.named known,
+            (
+              changes,
+              others,
+              sym held.named ∙ named,
+              All-weaker (IsChange files refuses (fixes_at new.fixes))
+                  (IsChange files refuses (λ name. fixes_for name (given gives.0)))
+                  (change_by files refuses (fixes_at new.fixes) (λ name. fixes_for name (given gives.0)) held.each)
+                  changes each,
+              holds,
+            ),
+          ),
+          gives.4,
+        ),
+      )
+
 -- of which only this is told
 pub mends_weaker : (found : (List ℕ → Option Source) → List (List ℕ) → Type 0) (refuses : List ℕ → Type 0)
     (p q : List Change → List ℕ → Type 0) (verdict : Verdict) (first : Option (List ℕ))
@@ -66,6 +101,34 @@ pub mends_weaker : (found : (List ℕ → Option Source) → List (List ℕ) →
 mends_weaker found refuses p q verdict None h mends = tt
 mends_weaker found refuses p q verdict (Some bytes) h (all, rows, each, (files, known, changed), is) =
     (all, rows, each, (files, known, (changed.0, changed.1, changed.2, h changed.0 (unread_notes 1 all) changed.3)), is)
+
+-- all of them are the first of them
+pub mends_first : (found : (List ℕ → Option Source) → List (List ℕ) → Type 0) (refuses : List ℕ → Type 0)
+    (p : List Change → List ℕ → Type 0) (q : List Change → Type 0) (verdict : Verdict) (first : Option (List ℕ))
+    → ((changes : List Change) (notes : List ℕ) → p changes notes → q changes)
+    → IfSome first (λ bytes. Mends found refuses bytes p verdict)
+    → IfSome first (λ bytes. MendsFirst found refuses bytes q)
+mends_first found refuses p q verdict None h mends = tt
+mends_first found refuses p q verdict (Some bytes) h (all, rows, each, (files, known, changed), is) = (
+  verdict,
+  (
+    all,
+    rows,
+    each,
+    (
+      files,
+      known,
+      (
+        changed.0,
+        [],
+        sym changed.1 ∙ sym (append-nil (map (λ (c : Change). c.name) changed.0)),
+        changed.2,
+        h changed.0 (unread_notes 1 all) changed.3,
+      ),
+    ),
+    is,
+  ),
+)
 
 -- and the status is that of the verdict
 pub mends_status : (found : (List ℕ → Option Source) → List (List ℕ) → Type 0) (refuses : List ℕ → Type 0)

@@ -36,7 +36,7 @@ pub(crate) fn path_in(alloc: Global, root: Option<&str>, name: &str) -> Result<S
 }
 
 /// The bytes of a file, where it is one and can be read.
-fn bytes_at<H: rt::Files + AllocGlobal>(
+pub(crate) fn bytes_at<H: rt::Files + AllocGlobal>(
     host: &H,
     path: &str,
 ) -> Result<Option<Vec<u8>>, AllocError> {

@@ -1,10 +1,10 @@
 //! The files of a folder, written in place of those that are there.
 
-use crate::folder::path_in;
+use crate::folder::{bytes_at, path_in};
 use crate::store::Store;
 use std::alloc::{AllocError, Global};
-use std::fs::OpenFile;
-use std::io::{ErrorKind, Write};
+use std::fs::{File, OpenFile, Permissions};
+use std::io::Write;
 use std::{fs, io, rt};
 
 /// Writes files below a folder, by the names that rows give them.
@@ -31,19 +31,27 @@ fn path_beside(alloc: Global, path: &str) -> Result<String, AllocError> {
     Ok(beside)
 }
 
-/// Writes a file that isn't there yet, with the permissions of another one, which is no link.
-fn write_like<H: rt::Files>(host: &H, path: &str, like: &str, text: &[u8]) -> io::Result<()> {
-    let found = fs::symlink_metadata(host, like)?;
-    if !found.is_file() {
-        return Err(ErrorKind::InvalidInput.into());
+/// The permissions of a file that is no link and that may be written.
+fn permissions_of<H: rt::Files>(host: &H, path: &str) -> Option<Permissions> {
+    let found = fs::symlink_metadata(host, path).ok()?;
+    let permissions = found.permissions();
+    if found.is_file() && !permissions.readonly() {
+        Some(permissions)
+    } else {
+        None
     }
-    let mut file = fs::OpenOptions::new()
-        .write(true)
-        .create_new(true)
-        .open(host, path)?;
+}
+
+/// Writes all of a new file, which gets these permissions.
+fn fill<F: Write + OpenFile + Drop>(
+    file: F,
+    permissions: Permissions,
+    text: &[u8],
+) -> io::Result<()> {
+    let mut file = file;
     file.write_all(text)?;
-    file.sync_all()?;
-    fs::set_permissions(host, path, found.permissions())
+    file.set_permissions(permissions)?;
+    file.sync_all()
 }
 
 /// Writes a file whole beside the one of this path, and renames it over that one, or leaves all as it was; whether it
@@ -55,20 +63,28 @@ fn write_over<H: rt::Files>(
     text: &[u8],
 ) -> Result<bool, AllocError> {
     let beside = path_beside(alloc, path)?;
-    match write_like(host, beside.as_str(), path, text) {
-        Ok(()) => {}
-        Err(error) if error.kind() == ErrorKind::AlreadyExists => return Ok(false),
-        Err(_) => {
-            let _ = fs::remove_file(host, beside.as_str());
-            return Ok(false);
-        }
+    let Some(permissions) = permissions_of(host, path) else {
+        return Ok(false);
+    };
+    let Ok(file) = File::create_new(host, beside.as_str()) else {
+        return Ok(false);
+    };
+    if fill(file, permissions, text).is_ok() && fs::rename(host, beside.as_str(), path).is_ok() {
+        return Ok(true);
     }
-    match fs::rename(host, beside.as_str(), path) {
-        Ok(()) => Ok(true),
-        Err(_) => {
-            let _ = fs::remove_file(host, beside.as_str());
-            Ok(false)
-        }
+    let _ = fs::remove_file(host, beside.as_str());
+    Ok(false)
+}
+
+/// Whether a file has these bytes.
+fn has_bytes<H: rt::Files + AllocGlobal>(
+    host: &H,
+    path: &str,
+    bytes: &[u8],
+) -> Result<bool, AllocError> {
+    match bytes_at(host, path)? {
+        Some(found) => Ok(found.as_slice() == bytes),
+        None => Ok(false),
     }
 }
 
@@ -79,8 +95,17 @@ impl<'r, H: rt::Files + AllocGlobal> Store for FolderStore<'r, H> {
 
     ghost refuses = { λ name. ⊤ };
 
-    fn write(&mut self, alloc: Global, name: &str, text: &[u8]) -> Result<bool, AllocError> {
+    fn write(
+        &mut self,
+        alloc: Global,
+        name: &str,
+        bytes: &[u8],
+        text: &[u8],
+    ) -> Result<bool, AllocError> {
         let path = path_in(alloc, self.root, name)?;
+        if !has_bytes(self.host, path.as_str(), bytes)? {
+            return Ok(false);
+        }
         write_over(alloc, self.host, path.as_str(), text)
     }
 }

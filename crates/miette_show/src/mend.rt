@@ -6,7 +6,8 @@ ghost use Rattle.std.specs.Io.KnownBytes.{Appends};
 ghost use Rattle.miette_mending.specs.rules.Sure.{FileFixes};
 ghost use Rattle.miette_mending.specs.views.Holding.{Adds};
 ghost use Rattle.miette_show.specs.rules.Looking.{Goes, IsFoundBy};
-ghost use Rattle.miette_show.specs.rules.Mends.{Gives, IsGiving, Mends, fault_of, is_done, said_of, written_of};
+ghost use Rattle.miette_show.specs.rules.Mends.{Gives, IsGiving, Mends, MendsFirst, fault_of, is_done, said_of};
+ghost use Rattle.miette_show.specs.rules.Mends.{written_of};
 ghost use Rattle.miette_show.specs.rules.Statuses.{status_of};
 ghost use Rattle.miette_show.specs.views.Reading.{left_of};
 ghost use Rattle.miette_show.specs.views.Writing.{Writes};
@@ -112,6 +113,10 @@ pub fn mend_on<F: Loader, S: Store, R: Read, W: Write, E: Write>(
     ensures write_failed { (IsTrue streams.new.writer.failed ⊎ IsTrue streams.new.faults.failed)
         ↔ (result ≡ Err Fault.Write) }
     ensures unwritten { (result ≡ Err Fault.Read) → store.new ≡ store.old }
+    // After an error the first of these files were written so, or none.
+    ensures first { OnErr result ((store.new ≡ store.old) ⊎ IfSome (left_of R.remaining streams.old.rows) (λ bytes.
+        MendsFirst (IsFoundBy F.found F.knows files.old) S.refuses bytes
+        (λ changes. Writes (S.written store.old) (S.written store.new) (flat_map written_of changes)))) }
 {
     let mut gathered = Gathered::new(alloc);
     let verdict = gather_rows(
@@ -148,6 +153,10 @@ where
         × (result ≡ status_of verdict) × Mends (IsFoundBy F.found F.knows files.old) S.refuses bytes
         (λ changes notes. (list_all is_done changes ≡ true)
         × Writes (S.written store.old) (S.written store.new) (flat_map written_of changes)) verdict) }
+    // Whatever it is, no other file was written, and each that was by its fixes.
+    ensures first { (store.new ≡ store.old) ⊎ IfSome (left_of R.remaining streams.rows) (λ bytes.
+        MendsFirst (IsFoundBy F.found F.knows files.old) S.refuses bytes
+        (λ changes. Writes (S.written store.old) (S.written store.new) (flat_map written_of changes))) }
 {
     let mut streams = streams;
     match mend_on(alloc, files, store, &mut streams) {

@@ -1,18 +1,18 @@
 //! Files that are written in place of others, after their fixes.
 
-ghost use Rattle.std.specs.Prelude.{◌≡◌, ◌⊎◌, ◌↔◌, ◌&&◌, ℕ, List, Bool, Err, IfOk, IfSome, IsTrue, None, Ok, OnErr};
-ghost use Rattle.std.specs.Prelude.{false, is_some, map, string_bytes};
+ghost use Rattle.std.specs.Prelude.{◌≡◌, ◌⊎◌, ◌↔◌, ◌&&◌, ℕ, List, [], Err, IfOk, IsTrue, OnErr, false, is_some, map};
+ghost use Rattle.std.specs.Prelude.{string_bytes};
 ghost use Rattle.std.specs.List.{count_by, flat_map, list_all};
 ghost use Rattle.std.specs.Option.{option_map};
 ghost use Rattle.std.specs.Io.KnownBytes.{Appends};
 ghost use Rattle.miette_mending.specs.views.Holding.{fixes_at};
-ghost use Rattle.miette_show.specs.rules.Mends.{Changes, IsMended, IsOutcome, done_row, fault_as, fault_of, fault_row};
-ghost use Rattle.miette_show.specs.rules.Mends.{is_done, said_as, said_of, written_as, written_of};
+ghost use Rattle.miette_show.specs.rules.Looking.{begins_up, goes_up, leads_out};
+ghost use Rattle.miette_show.specs.rules.Mends.{Changes, ChangesFirst, IsOutcome, done_row, fault_as, fault_of};
+ghost use Rattle.miette_show.specs.rules.Mends.{fault_row, is_done, said_as, said_of, written_as, written_of};
 ghost use Rattle.miette_show.specs.views.Writing.{Writes};
 
 use crate::show::Streams;
 use crate::store::Store;
-use miette_fixes::fix::Applied;
 use miette_mending::gathered::{Gathered, mended};
 use miette_readers::files::Files;
 use miette_report::fault::Fault;
@@ -48,25 +48,36 @@ fn fault_row(alloc: Global, name: &str) -> Result<String, AllocError>
     format!(in alloc; "show: {name}: can't be written\n")
 }
 
-/// The text of a file after its fixes, and which are taken; nothing where it isn't there.
-fn mended_file<F: Files>(
-    alloc: Global,
-    files: &F,
-    gathered: &Gathered,
-    name: &str,
-) -> Result<Option<Applied>, AllocError>
-    ensures mended { IfOk result (λ o. IfSome o (λ it. IsMended (F.found files.now name.now)
-        (fixes_at gathered.now.fixes name.now) it.text.items it.taken.items)) }
-    ensures none { (result ≡ Ok None) → F.found files.now name.now ≡ None }
+/// Whether `/../` stands here.
+fn begins_up(rest: &[u8]) -> bool
+    ensures { result ≡ begins_up rest.now }
 {
-    let Some(file) = files.find(name) else {
-        return Ok(None);
-    };
-    let applied = mended(alloc, file.bytes(), gathered.fixes(name))?;
-    Ok(Some(applied))
+    rest.starts_with(b"/../")
 }
 
-/// Writes a file after its fixes; which of them are taken, nothing where it isn't there or is refused.
+/// Whether it stands anywhere in a name.
+fn goes_up(name: &[u8]) -> bool
+    ensures { result ≡ goes_up name.now }
+{
+    let mut rest = name;
+    while let Some((_, more)) = rest.split_first() {
+        if begins_up(rest) {
+            return true;
+        }
+        rest = more;
+    }
+    false
+}
+
+/// Whether the name of a file leads out of the folder that it is taken from.
+fn leads_out(name: &[u8]) -> bool
+    ensures { result ≡ leads_out name.now }
+{
+    name.starts_with(b"/") || name.starts_with(b"../") || goes_up(name)
+}
+
+/// Writes a file after its fixes; which of them are taken, nothing where it isn't there, leads out
+/// of the folder, or is refused.
 fn write_mended<F: Files, S: Store>(
     alloc: Global,
     files: &F,
@@ -74,15 +85,21 @@ fn write_mended<F: Files, S: Store>(
     gathered: &Gathered,
     name: &str,
 ) -> Result<Option<Vec<bool>>, AllocError>
-    ensures { IfOk result (λ o. (text : List ℕ) × IsOutcome (F.found files.now name.now) (S.refuses name.now)
+    ensures ok { IfOk result (λ o. (text : List ℕ)
+        × IsOutcome (F.found files.now name.now) (S.refuses name.now) (leads_out name.now)
         (fixes_at gathered.now.fixes name.now) text (option_map (λ list. list.items) o)
         × Writes (S.written store.old) (S.written store.new)
         (written_as name.now text (option_map (λ list. list.items) o))) }
+    ensures unwritten { OnErr result (Writes (S.written store.old) (S.written store.new) []) }
 {
-    let Some(applied) = mended_file(alloc, files, gathered, name)? else {
+    if leads_out(name.as_bytes()) {
+        return Ok(None);
+    }
+    let Some(file) = files.find(name) else {
         return Ok(None);
     };
-    if store.write(alloc, name, applied.text.as_slice())? {
+    let applied = mended(alloc, file.bytes(), gathered.fixes(name))?;
+    if store.write(alloc, name, file.bytes(), applied.text.as_slice())? {
         Ok(Some(applied.taken))
     } else {
         Ok(None)
@@ -145,6 +162,10 @@ pub(crate) fn mend_files<F: Files, S: Store, R, W: Write, E: Write>(
         × Appends (W.contents streams.old.writer.inner) (W.contents streams.new.writer.inner) (flat_map said_of changes)
         × Appends (E.contents streams.old.faults.inner) (E.contents streams.new.faults.inner)
         (flat_map fault_of changes))) }
+    // After an error the first of them were written.
+    ensures first { OnErr result (ChangesFirst (F.found files.now) S.refuses (fixes_at gathered.now.fixes)
+        (map string_bytes gathered.now.names.items)
+        (λ changes. Writes (S.written store.old) (S.written store.new) (flat_map written_of changes))) }
     ensures rows { streams.new.rows ≡ streams.old.rows }
     ensures write_failed { (IsTrue streams.new.writer.failed ⊎ IsTrue streams.new.faults.failed)
         ↔ (result ≡ Err Fault.Write) }

@@ -57,9 +57,10 @@ stand_in bytes at column rows =
 abbrev pub stand_at : Option Source → Option ℕ → ℕ → List Data → Bool
 stand_at None at column rows = false
 stand_at (Some file) None column rows = false
-stand_at (Some file) (Some at) column rows = stand_in file.bytes at column rows
+stand_at (Some file) (Some at) column rows = if length rows == 0 then false else stand_in file.bytes at column rows
 
--- The rows that rustc read at a span are those of the file, and it stands at the same column of the first one.
+-- The rows that rustc read at a span, of which there is one at least, are those of the file, and it stands at the same
+-- column of the first one.
 abbrev pub is_fresh : (List ℕ → Option Source) → Data → Bool
 is_fresh files d =
     stand_at (files (file_name d)) (whole_at (codes "byte_start") d)

@@ -1,5 +1,6 @@
 -- Files that are looked for one after another.
-use Rattle.std.specs.Prelude.{◌≡◌, ℕ, List, ◌++◌, Option, Some, None, if◌then◌else◌, codes, nat_eq}
+use Rattle.std.specs.Prelude.{◌≡◌, ℕ, List, [], ◌∷◌, ◌++◌, Bool, false, ◌||◌, Option, Some, None, if◌then◌else◌, codes}
+use Rattle.std.specs.Prelude.{nat_eq}
 use Rattle.std.specs.List.{All, starts_with}
 use Rattle.miette_protocol.specs.rules.Reading.{Source}
 
@@ -18,3 +19,15 @@ IsFoundBy {F} found knows first files names = (later : F) × Goes (found first) 
 abbrev pub path_in : Option (List ℕ) → List ℕ → List ℕ
 path_in None name = name
 path_in (Some root) name = if starts_with nat_eq name (codes "/") then name else root ++ (codes "/" ++ name)
+
+-- `/../` stands here
+abbrev pub begins_up : List ℕ → Bool
+begins_up rest = starts_with nat_eq rest (47 ∷ 46 ∷ 46 ∷ 47 ∷ [])
+
+abbrev pub goes_up : List ℕ → Bool
+goes_up [] = false
+goes_up (b ∷ bs) = begins_up (b ∷ bs) || goes_up bs
+
+-- The name of a file leads out of the folder that it is taken from: it begins with `/` or `../`, or has a part `..`.
+abbrev pub leads_out : List ℕ → Bool
+leads_out name = starts_with nat_eq name (47 ∷ []) || starts_with nat_eq name (46 ∷ 46 ∷ 47 ∷ []) || goes_up name

@@ -9,6 +9,7 @@ use Rattle.miette_fixes.specs.rules.Edits.{Proposal}
 use Rattle.miette_protocol.specs.rules.Reading.{Source}
 use Rattle.miette_mending.specs.rules.Gathered.{fixes_for, mended, names_in}
 use Rattle.miette_mending.specs.rules.Sure.{FileFixes, value_fixes}
+use Rattle.miette_show.specs.rules.Looking.{leads_out}
 use Rattle.miette_show.specs.rules.Rows.{begins_object, rows_of}
 use Rattle.miette_show.specs.rules.Shown.{all_names, kind_unread, note_of}
 use Rattle.miette_show.specs.declared.verdict.Verdict.{Verdict}
@@ -63,14 +64,15 @@ IsMended None fixes text which = ⊥
 IsMended (Some file) fixes text which =
     (text ≡ mended file.bytes fixes) × (which ≡ taken (length file.bytes) [] (map (λ fix. fix.edits) fixes))
 
--- one that isn't written isn't there, or may be refused
-abbrev pub IsOutcome : Option Source → Type 0 → List Proposal → List ℕ → Option (List Bool) → Type 0
-IsOutcome file may_refuse fixes text None = (file ≡ None) ⊎ may_refuse
-IsOutcome file may_refuse fixes text (Some which) = IsMended file fixes text which
+-- One that isn't written isn't there, leads out of the folder, or may be refused.
+abbrev pub IsOutcome : Option Source → Type 0 → Bool → List Proposal → List ℕ → Option (List Bool) → Type 0
+IsOutcome file may_refuse out fixes text None = (file ≡ None) ⊎ ((out ≡ true) ⊎ may_refuse)
+IsOutcome file may_refuse out fixes text (Some which) = (out ≡ false) × IsMended file fixes text which
 
 -- by what is found of files, what may be refused, and the fixes of each file
 abbrev pub IsChange : (List ℕ → Option Source) → (List ℕ → Type 0) → (List ℕ → List Proposal) → Change → Type 0
-IsChange files refuses fixes c = IsOutcome (files c.name) (refuses c.name) (fixes c.name) c.text c.taken
+IsChange files refuses fixes c =
+    IsOutcome (files c.name) (refuses c.name) (leads_out c.name) (fixes c.name) c.text c.taken
 
 -- what is written of a file
 abbrev pub written_as : List ℕ → List ℕ → Option (List Bool) → List (List ℕ × List ℕ)
@@ -128,3 +130,19 @@ abbrev pub Mends : ((List ℕ → Option Source) → List (List ℕ) → Type 0)
 Mends found refuses bytes holds verdict = Gives found bytes (λ all notes. (files : List ℕ → Option Source)
     × found files (names_in all)
     × Changes files refuses (λ name. fixes_for name all) (names_in all) (λ changes. holds changes notes)) verdict
+
+-- ---- a run that is broken off
+
+-- The first files of these names are changed, and this holds of the changes.
+abbrev pub ChangesFirst : (List ℕ → Option Source) → (List ℕ → Type 0) → (List ℕ → List Proposal) → List (List ℕ)
+    → (List Change → Type 0) → Type 0
+ChangesFirst files refuses fixes names holds = (changes : List Change) × (others : List (List ℕ))
+    × (names ≡ map (λ c. c.name) changes ++ others) × All (IsChange files refuses fixes) changes × holds changes
+
+-- The rows of these bytes give fixes, the first of the files that have some are changed by them, and this holds of the
+-- changes.
+abbrev pub MendsFirst : ((List ℕ → Option Source) → List (List ℕ) → Type 0) → (List ℕ → Type 0) → List ℕ
+    → (List Change → Type 0) → Type 0
+MendsFirst found refuses bytes holds = (verdict : Verdict) × Gives found bytes (λ all notes.
+    (files : List ℕ → Option Source) × found files (names_in all)
+    × ChangesFirst files refuses (λ name. fixes_for name all) (names_in all) holds) verdict

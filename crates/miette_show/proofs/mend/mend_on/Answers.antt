@@ -1,4 +1,4 @@
-use Rattle.std.proofs.Common.{◌≡◌, ◌⊎◌, ℕ, List, All, ap, map, refl, string_bytes, subst, ◌∙◌, rules}
+use Rattle.std.proofs.Common.{◌≡◌, ◌⊎◌, ℕ, List, All, ap, inr, map, refl, string_bytes, subst, ◌∙◌, rules}
 use Rattle.std.specs.List.{flat_map, list_all}
 use Rattle.std.specs.Io.KnownBytes.{Appends}
 use Rattle.miette_show.specs.rules.Looking.{IsFoundBy}
@@ -6,7 +6,8 @@ use Rattle.miette_show.specs.rules.Mends.{Change, is_done, said_of, written_of}
 use Rattle.miette_show.specs.views.Reading.{left_of}
 use Rattle.miette_show.specs.views.Writing.{Writes}
 use Rattle.miette_show.proofs.Going.{goes_on}
-use Rattle.miette_show.proofs.MendEnds.{mends_of}
+use Rattle.miette_show.proofs.MendEnds.{first_of, mends_of}
+use Rattle.miette_show.proofs.NoteEnds.{on_err_of}
 use Rattle.miette_show.proofs.mend.mend_on.Goals as goal
 
 pub returns-clause-ok : goal.returns-clause-ok
@@ -34,3 +35,26 @@ returns-clause-ok g c =
       refl,
     )
     c.in_ok-all.ensures.ok
+
+pub returns-in_err-all-clause-first : goal.returns-in_err-all-clause-first
+returns-in_err-all-clause-first g c =
+    let first = c.args.files.now in
+    let mid = c.gather_rows.new.files in
+    let last = c.load_held.new.files in
+    let found = g.F.Files.found in
+    let knows = g.F.Loader.knows in
+    let names : c.names.result.now ≡ c.gather_rows.new.gathered.names.items = c.names.ensures in
+    let known = subst (λ l. All (knows last) (map string_bytes l)) names c.in_ok-load_held.ensures.known in
+    on_err_of _ _
+    (inr (first_of (IsFoundBy found knows first) g.S.Store.refuses (found last) c.in_ok-verdict.verdict
+    c.new-gathered.result c.gather_rows.new.gathered (left_of g.R.Read.remaining c.args.streams.now.rows)
+    (g.E.Write.contents c.args.streams.now.faults.inner) (g.E.Write.contents c.gather_rows.new.faults.inner)
+    (λ changes. Writes (g.S.Store.written c.args.store.now) (g.S.Store.written c.mend_files.new.store)
+    (flat_map written_of changes)) c.in_ok-verdict.ensures.ok c.new-gathered.ensures (
+      last,
+      goes_on (found first) (found mid) (found last) (knows first) (knows mid) (knows last)
+          c.gather_rows.ensures.goes c.load_held.ensures.goes,
+      known,
+      refl,
+    )
+    c.in_err-all.ensures.first))

@@ -1,12 +1,13 @@
 use Rattle.std.proofs.Common.{◌≡◌, ◌≤◌, ◌∙◌, [], ◌∷◌, ◌++◌, List, ℕ, String, ap, length, map, refl, string_bytes, subst}
-use Rattle.std.proofs.Common.{sym, take, true, arith, Bool, Option}
+use Rattle.std.proofs.Common.{◌+◌, drop, sym, take, true, arith, Bool, Option}
 use Rattle.std.specs.Prelude.{Vec, option_map}
 use Rattle.std.specs.declared.alloc.Global.{Global}
-use Rattle.std.proofs.lemmas.List.{map-append, take_all}
+use Rattle.std.proofs.lemmas.List.{take_all}
 use Rattle.miette_mending.specs.views.Holding.{fixes_at}
-use Rattle.miette_readers.proofs.Steps.{next_taken}
 use Rattle.miette_report.specs.declared.fault.Fault.TheVariants.{Write}
-use Rattle.miette_show.proofs.ChangeSteps.{Changing, all_changed, begin, more, neither_failed}
+use Rattle.miette_show.proofs.ChangeSteps.{Changing, all_changed, begin, first_more, first_still, more}
+use Rattle.miette_show.proofs.ChangeSteps.{neither_failed, one_passed, parted}
+use Rattle.miette_show.proofs.NoteEnds.{on_err_of}
 use Rattle.miette_show.proofs.rewrite.mend_files.Goals as goal
 
 pub loop-entry-init : goal.loop-entry-init
@@ -35,16 +36,13 @@ loop-entry-preserved g c =
     let kept = g.S.Store.written in
     let out = g.W.Write.contents in
     let err = g.E.Write.contents in
-    let wrote = c.in_ok-taken.ensures in
+    let wrote = c.in_ok-taken.ensures.ok in
     let taken : Option (List Bool) = option_map (λ (list : Vec Bool Global). list.items) c.in_ok-taken.taken in
     let sound = neither_failed last.writer.failed last.faults.failed c.in_ok-done.done Write
     c.in_ok-done.ensures.write_failed
     in
-    let passed : map string_bytes (take l.entry-index items) ++ name ∷ []
-    ≡ map string_bytes (take (l.entry-index + 1) items) =
-    ap (λ (n : List ℕ). map string_bytes (take l.entry-index items) ++ n ∷ []) c.as_str-name.ensures.value
-    ∙ sym (ap (map string_bytes) (next_taken items l.entry-index item c.loop-entry-test.true c.entry-item.is)
-    ∙ map-append string_bytes (take l.entry-index items) (item ∷ []))
+    let passed = one_passed string_bytes items l.entry-index item name c.loop-entry-test.true c.entry-item.is
+    c.as_str-name.ensures.value
     in
     record {
       writer_sound = sound.0;
@@ -69,3 +67,31 @@ returns-clause-ok g c =
     (map string_bytes (take l.entry-index items)) (map string_bytes c.args.gathered.now.names.items) l.all _ _ _ _ _ _
     (ap (map string_bytes) (take_all l.entry-index items end) ∙ ap (map string_bytes) c.names-entry-items.ensures)
     l.invariant.changing
+
+pub returns-in_err-taken-clause-first : goal.returns-in_err-taken-clause-first
+returns-in_err-taken-clause-first g c =
+    let l = c.loop-entry in
+    let items = c.names-entry-items.result.now in
+    on_err_of _ _
+    (first_still (g.F.Files.found c.args.files.now) g.S.Store.refuses (fixes_at c.args.gathered.now.fixes)
+    (map string_bytes (take l.entry-index items)) (map string_bytes (drop l.entry-index items))
+    (map string_bytes c.args.gathered.now.names.items) l.all _ _ _ _ _ _ _ l.invariant.changing
+    c.in_err-taken.ensures.unwritten
+    (ap (map string_bytes) (sym c.names-entry-items.ensures) ∙ parted string_bytes items l.entry-index))
+
+pub returns-in_err-done-clause-first : goal.returns-in_err-done-clause-first
+returns-in_err-done-clause-first g c =
+    let l = c.loop-entry in
+    let items = c.names-entry-items.result.now in
+    let item = c.entry-item.result in
+    let wrote = c.in_ok-taken.ensures.ok in
+    let taken : Option (List Bool) = option_map (λ (list : Vec Bool Global). list.items) c.in_ok-taken.taken in
+    on_err_of _ _
+    (first_more (g.F.Files.found c.args.files.now) g.S.Store.refuses (fixes_at c.args.gathered.now.fixes)
+    (map string_bytes (take l.entry-index items)) (map string_bytes (drop (l.entry-index + 1) items))
+    (map string_bytes c.args.gathered.now.names.items) l.all _ _ _ _ _ _ _ c.as_str-name.result.now wrote.0 taken
+    l.invariant.changing wrote.1 wrote.2
+    (ap (map string_bytes) (sym c.names-entry-items.ensures) ∙ parted string_bytes items (l.entry-index + 1)
+    ∙ ap (λ (ns : List (List ℕ)). ns ++ map string_bytes (drop (l.entry-index + 1) items))
+    (sym (one_passed string_bytes items l.entry-index item c.as_str-name.result.now c.loop-entry-test.true
+    c.entry-item.is c.as_str-name.ensures.value))))
