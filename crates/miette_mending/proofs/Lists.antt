@@ -10,7 +10,7 @@ use Rattle.serde_json.specs.View.{view}
 use Rattle.serde_json.specs.declared.value.Value.{Value}
 use Rattle.miette_readers.proofs.Steps.{next_taken}
 use Rattle.miette_readers.specs.views.Values.{seen}
-use Rattle.miette_mending.specs.rules.Fresh.{begin_with, behind_row, row_text}
+use Rattle.miette_mending.specs.rules.Fresh.{begin_with, behind_row, row_text, rows_stand_in, stand_in}
 
 next_left : {V : Type 0} (xs : List V) (i : ℕ) (x : V) → i < length xs → x ≡ get_or xs i x
     → drop i xs ≡ x ∷ drop (i + 1) xs
@@ -41,6 +41,18 @@ module _ (rows : List (Bor Value)) (i : ℕ) (row : Bor Value) (rest : List ℕ)
 pub begins_all : (rows : List (Bor Value)) (i : ℕ) (rest : List ℕ) → length rows ≤ i
     → true ≡ begin_with (seen (drop i rows)) rest
 begins_all rows i rest h = sym (ap (λ ds. begin_with (seen ds) rest) (drop_all i rows h))
+
+-- ---- at least one row
+
+module _ (bytes : List ℕ) (at column : ℕ) where
+  pub no_rows : (rows : List (Bor Value)) → length rows ≡ 0 → false ≡ rows_stand_in bytes at column (seen rows)
+  no_rows [] e = refl
+  no_rows (x ∷ xs) e = absurd (omega (arith, e))
+
+  pub some_rows : (rows : List (Bor Value)) (b : Bool) → 0 < length rows → b ≡ stand_in bytes at column (seen rows)
+      → b ≡ rows_stand_in bytes at column (seen rows)
+  some_rows [] b h e = absurd (omega (arith, h))
+  some_rows (x ∷ xs) b h e = e
 
 -- ---- one item more
 

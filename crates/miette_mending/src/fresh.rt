@@ -6,7 +6,7 @@ ghost use Rattle.std.specs.Option.{option_copied};
 ghost use Rattle.serde_json.specs.View.{view};
 ghost use Rattle.miette_readers.specs.views.Values.{seen};
 ghost use Rattle.miette_mending.specs.rules.Fresh.{begin_with, behind_end, behind_row, column_behind, is_first};
-ghost use Rattle.miette_mending.specs.rules.Fresh.{is_fresh, row_start, row_text, stand_in};
+ghost use Rattle.miette_mending.specs.rules.Fresh.{is_fresh, row_start, row_text, rows_stand_in, stand_in};
 
 use memchr::memrchr;
 use miette_readers::files::Files;
@@ -106,6 +106,16 @@ fn stand_in(bytes: &[u8], offset: usize, column: u64, rows: &[&Value]) -> bool
     column_behind(&bytes[start..offset]) as u64 == column && begin_with(rows, &bytes[start..])
 }
 
+/// Whether there is a row, and they stand there.
+fn rows_stand_in(bytes: &[u8], offset: usize, column: u64, rows: &[&Value]) -> bool
+    ensures { result ≡ rows_stand_in bytes.now offset column (seen rows.now) }
+{
+    if rows.is_empty() {
+        return false;
+    }
+    stand_in(bytes, offset, column, rows)
+}
+
 /// Whether the rows that rustc read at a span, of which there is one at least, are those of the file, and it stands at
 /// the same column of the first one.
 pub fn is_fresh<F: Files>(alloc: Global, files: &F, span: &Value) -> Result<bool, AllocError>
@@ -119,10 +129,7 @@ pub fn is_fresh<F: Files>(alloc: Global, files: &F, span: &Value) -> Result<bool
     };
     let column = whole_at(span, "column_start").unwrap_or(0);
     let rows = objects_at(alloc, span, "text")?;
-    if rows.is_empty() {
-        return Ok(false);
-    }
-    Ok(stand_in(file.bytes(), offset as usize, column, rows.as_slice()))
+    Ok(rows_stand_in(file.bytes(), offset as usize, column, rows.as_slice()))
 }
 
 /// Whether those at all of these spans are.

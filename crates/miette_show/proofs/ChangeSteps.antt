@@ -1,6 +1,7 @@
 -- Files that are changed, one after another.
-use Rattle.std.proofs.Common.{◌≡◌, ℕ, List, [], ◌∷◌, ◌++◌, Bool, true, false, map, Option, Some, None, IfSome, All, refl}
-use Rattle.std.proofs.Common.{◌+◌, ◌<◌, drop, get_or, length, take, sym, ap, ap₂, subst, ◌∙◌, append_assoc, append-nil, ◌⊎◌, ◌↔◌, inl, inr, IsTrue, Ok, Err}
+use Rattle.std.proofs.Common.{◌≡◌, ℕ, List, [], ◌∷◌, ◌++◌, Bool, true, false, map, Option, Some, None, All, refl, Ok}
+use Rattle.std.proofs.Common.{◌+◌, ◌<◌, ◌⊎◌, ◌↔◌, ◌∙◌, sym, ap, ap₂, subst, append_assoc, append-nil, inl, inr, IsTrue}
+use Rattle.std.proofs.Common.{Err, drop, get_or, length, take}
 use Rattle.std.specs.Prelude.{◌&&◌, is_some}
 use Rattle.std.specs.List.{flat_map, list_all}
 use Rattle.std.specs.Io.KnownBytes.{Appends}
@@ -59,7 +60,8 @@ mended_by source file bytes held fixes text which there is same text_is taken_is
     )
 
 -- what is passed and what is left
-pub parted : {X Y : Type 0} (look : X → Y) (xs : List X) (i : ℕ) → map look xs ≡ map look (take i xs) ++ map look (drop i xs)
+pub parted : {X Y : Type 0} (look : X → Y) (xs : List X) (i : ℕ)
+    → map look xs ≡ map look (take i xs) ++ map look (drop i xs)
 parted look xs i = ap (map look) (sym (take-append-drop i xs)) ∙ map-append look (take i xs) (drop i xs)
 
 -- one more is passed

@@ -47,8 +47,8 @@ module _ (found : (List ℕ → Option Source) → List (List ℕ) → Type 0) (
             named ∙ held.named,
             All-weaker (IsChange files refuses (fixes_at new.fixes))
                 (IsChange files refuses (λ name. fixes_for name (given gives.0)))
-                (change_by files refuses (fixes_at new.fixes) (λ name. fixes_for name (given gives.0)) held.each) changes
-                each,
+                (change_by files refuses (fixes_at new.fixes) (λ name. fixes_for name (given gives.0)) held.each)
+                changes each,
             (
               holds.0,
               holds.1,

@@ -54,10 +54,15 @@ stand_in bytes at column rows =
     && begin_with rows (drop (row_start bytes at) bytes)
     else false
 
+-- there is one at least
+abbrev pub rows_stand_in : List ℕ → ℕ → ℕ → List Data → Bool
+rows_stand_in bytes at column [] = false
+rows_stand_in bytes at column (d ∷ ds) = stand_in bytes at column (d ∷ ds)
+
 abbrev pub stand_at : Option Source → Option ℕ → ℕ → List Data → Bool
 stand_at None at column rows = false
 stand_at (Some file) None column rows = false
-stand_at (Some file) (Some at) column rows = if length rows == 0 then false else stand_in file.bytes at column rows
+stand_at (Some file) (Some at) column rows = rows_stand_in file.bytes at column rows
 
 -- The rows that rustc read at a span, of which there is one at least, are those of the file, and it stands at the same
 -- column of the first one.

@@ -26,7 +26,8 @@ returns-in_ok-push_item-in-None c =
     let mid : Gathered = record { names = c.push_item.new.list; fixes = c.remove.new.self } in
     let it : FileFixes = record { name = c.args.name.now; fixes = c.args.fixes.items } in
     let item = c.in_ok-from_str-in-None.field-0 in
-    let listed : map string_bytes c.put-in-None.new.self.names.items ≡ map string_bytes old.names.items ++ it.name ∷ [] =
+    let names = map string_bytes old.names.items in
+    let listed : map string_bytes c.put-in-None.new.self.names.items ≡ names ++ it.name ∷ [] =
     ap (λ l. map string_bytes l.items) c.put-in-None.ensures.names
     ∙ ap (map string_bytes) c.in_ok-push_item-in-None.ensures
     ∙ map-append string_bytes old.names.items (item ∷ [])

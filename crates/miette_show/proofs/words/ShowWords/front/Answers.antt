@@ -1,4 +1,4 @@
-use Rattle.std.proofs.Common.{◌≡◌, ◌∷◌, ◌∙◌, List, ℕ, Some, true, false, ap, sym, map, string_bytes, bytes_eq, codes, length}
+use Rattle.std.proofs.Common.{◌≡◌, ◌∷◌, ◌∙◌, Some, true, false, ap, sym, map, string_bytes, bytes_eq, codes, length}
 use Rattle.std.proofs.Common.{rules, tests}
 use Rattle.std.specs.Option.{option_copied}
 use Rattle.std.proofs.lemmas.List.{nil_from_length}
