@@ -3,6 +3,7 @@ use Rattle.miette_mending.specs.views.Holding.{fixes_at}
 use Rattle.miette_show.specs.rules.Looking.{leads_out}
 use Rattle.miette_show.specs.views.Writing.{IsWritten, Writes}
 use Rattle.miette_show.proofs.ChangeSteps.{mended_by, writes_nil}
+use Rattle.miette_show.proofs.NoteEnds.{on_err_of}
 use Rattle.miette_show.proofs.rewrite.write_mended.Goals as goal
 
 pub returns-then-leads_out-clause-ok : goal.returns-then-leads_out-clause-ok
@@ -14,7 +15,7 @@ pub returns-in_default-clause-ok : goal.returns-in_default-clause-ok
 returns-in_default-clause-ok g c = ([], inl (search rules), writes_nil (g.S.Store.written c.args.store.now))
 
 pub returns-in_err-applied-clause-unwritten : goal.returns-in_err-applied-clause-unwritten
-returns-in_err-applied-clause-unwritten g c = writes_nil (g.S.Store.written c.args.store.now)
+returns-in_err-applied-clause-unwritten g c = on_err_of _ _ (writes_nil (g.S.Store.written c.args.store.now))
 
 pub returns-then-branch-clause-ok : goal.returns-then-branch-clause-ok
 returns-then-branch-clause-ok g c =
