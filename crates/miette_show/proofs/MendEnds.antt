@@ -1,14 +1,13 @@
 -- What a run of `show --fix` comes to.
-use Rattle.std.proofs.Common.{◌≡◌, ℕ, List, [], ◌++◌, Bool, true, map, Option, Some, None, IfSome, subst, sym, ◌∙◌}
+use Rattle.std.proofs.Common.{◌≡◌, ℕ, List, [], ◌++◌, map, Option, Some, None, IfSome, subst, sym, ◌∙◌}
 use Rattle.std.proofs.Common.{append-nil, string_bytes}
-use Rattle.std.specs.List.{flat_map, list_all}
+use Rattle.std.specs.List.{flat_map}
 use Rattle.std.specs.Io.KnownBytes.{Appends}
 use Rattle.std.proofs.KnownBytes.{Appends-trans}
 use Rattle.std.proofs.lemmas.List.Elements.{All-weaker}
 use Rattle.miette_fixes.specs.rules.Edits.{Proposal}
 use Rattle.miette_protocol.specs.rules.Reading.{Source}
-use Rattle.miette_mending.specs.rules.Gathered.{fixes_for, names_in}
-use Rattle.miette_mending.specs.rules.Sure.{FileFixes}
+use Rattle.miette_mending.specs.rules.Gathered.{fixes_for}
 use Rattle.miette_mending.specs.views.Holding.{Adds, HoldsAll, fixes_at}
 use Rattle.miette_mending.specs.declared.gathered.Gathered.{Gathered}
 use Rattle.miette_show.specs.rules.Looking.{leads_out}

@@ -1,8 +1,8 @@
-use Rattle.std.proofs.Common.{◌≡◌, ◌⊎◌, ℕ, List, All, ap, inr, map, refl, string_bytes, subst, ◌∙◌, rules}
+use Rattle.std.proofs.Common.{◌≡◌, All, inr, map, refl, string_bytes, subst}
 use Rattle.std.specs.List.{flat_map, list_all}
 use Rattle.std.specs.Io.KnownBytes.{Appends}
 use Rattle.miette_show.specs.rules.Looking.{IsFoundBy}
-use Rattle.miette_show.specs.rules.Mends.{Change, is_done, said_of, written_of}
+use Rattle.miette_show.specs.rules.Mends.{is_done, said_of, written_of}
 use Rattle.miette_show.specs.views.Reading.{left_of}
 use Rattle.miette_show.specs.views.Writing.{Writes}
 use Rattle.miette_show.proofs.Going.{goes_on}

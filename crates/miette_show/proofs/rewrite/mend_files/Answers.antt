@@ -1,4 +1,4 @@
-use Rattle.std.proofs.Common.{◌≡◌, ◌≤◌, ◌∙◌, [], ◌∷◌, ◌++◌, List, ℕ, String, ap, length, map, refl, string_bytes, subst}
+use Rattle.std.proofs.Common.{◌≤◌, ◌∙◌, ◌++◌, List, ℕ, ap, length, map, refl, string_bytes, subst}
 use Rattle.std.proofs.Common.{◌+◌, drop, sym, take, true, arith, Bool, Option}
 use Rattle.std.specs.Prelude.{Vec, option_map}
 use Rattle.std.specs.declared.alloc.Global.{Global}
@@ -48,13 +48,14 @@ loop-entry-preserved g c =
       writer_sound = sound.0;
       faults_sound = sound.1;
       rows = c.say.ensures.rows ∙ l.invariant.rows;
-      changing = subst (λ (ns : List (List ℕ)). Changing files refuses fixes ns c.both-all.result (kept c.args.store.now)
-          (kept c.write_mended.new.store) (out first.writer.inner) (out last.writer.inner) (err first.faults.inner)
-          (err last.faults.inner)) passed
-          (more files refuses fixes (map string_bytes (take l.entry-index items)) l.all c.in_ok-done.done c.both-all.result
-          (kept c.args.store.now) (kept l.store) (kept c.write_mended.new.store) (out first.writer.inner)
-          (out l.streams.writer.inner) (out last.writer.inner) (err first.faults.inner) (err l.streams.faults.inner)
-          (err last.faults.inner) name wrote.0 taken l.invariant.changing wrote.1 wrote.2 c.in_ok-done.ensures.done
+      changing = subst (λ (ns : List (List ℕ)). Changing files refuses fixes ns c.both-all.result
+          (kept c.args.store.now) (kept c.write_mended.new.store) (out first.writer.inner) (out last.writer.inner)
+          (err first.faults.inner) (err last.faults.inner)) passed
+          (more files refuses fixes (map string_bytes (take l.entry-index items)) l.all c.in_ok-done.done
+          c.both-all.result (kept c.args.store.now) (kept l.store) (kept c.write_mended.new.store)
+          (out first.writer.inner) (out l.streams.writer.inner) (out last.writer.inner) (err first.faults.inner)
+          (err l.streams.faults.inner) (err last.faults.inner) name wrote.0 taken l.invariant.changing wrote.1 wrote.2
+          c.in_ok-done.ensures.done
           c.in_ok-done.ensures.said c.in_ok-done.ensures.noted c.both-all.ensures);
     }
 

@@ -1,4 +1,4 @@
-use Rattle.std.proofs.Common.{◌≡◌, ◌∷◌, [], ℕ, List, Ok, Some, ap, false, inl, inr, subst, sym, ◌∙◌, true, rules}
+use Rattle.std.proofs.Common.{◌≡◌, ◌∷◌, [], ℕ, List, Ok, Some, ap, false, inl, inr, subst, true, rules}
 use Rattle.miette_mending.specs.views.Holding.{fixes_at}
 use Rattle.miette_show.specs.rules.Looking.{leads_out}
 use Rattle.miette_show.specs.views.Writing.{IsWritten, Writes}
