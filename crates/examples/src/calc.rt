@@ -14,6 +14,7 @@ use miette::style::{Color, Style};
 use miette_tree::diagnostic;
 use std::alloc::{AllocError, Global};
 use std::env::Args;
+use std::io::Print;
 use std::process::ExitCode;
 
 /// Runs the example with the words behind its name.
@@ -28,7 +29,7 @@ pub fn main<R: Host>(rt: &R, mut words: Args) -> ExitCode {
     }
 }
 
-fn run<R: Host>(rt: &R, text: Option<&str>) -> Result<()> {
+fn run<R: Print + AllocGlobal>(rt: &R, text: Option<&str>) -> Result<()> {
     let alloc = rt.alloc();
     let text = text.wrap_err(alloc, "usage: calc EXPRESSION")?;
     match value_of(text) {

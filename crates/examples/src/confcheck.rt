@@ -11,6 +11,8 @@ use miette::prelude::{
 use miette_tree::miette;
 use std::alloc::{AllocError, Global};
 use std::env::Args;
+use std::fs::Files;
+use std::io::Print;
 use std::process::ExitCode;
 use toml::Table;
 use toml::de::Error;
@@ -24,7 +26,11 @@ pub fn main<R: Host>(rt: &R, mut words: Args) -> ExitCode {
     }
 }
 
-fn run<R: Host>(rt: &R, name: Option<&str>, other: Option<&str>) -> Result<()> {
+fn run<R: Files + Print + AllocGlobal>(
+    rt: &R,
+    name: Option<&str>,
+    other: Option<&str>,
+) -> Result<()> {
     let alloc = rt.alloc();
     let name = name.wrap_err(alloc, "usage: confcheck FILE [FILE]")?;
     let text = text_of(rt, name)?;
@@ -38,7 +44,7 @@ fn run<R: Host>(rt: &R, name: Option<&str>, other: Option<&str>) -> Result<()> {
 }
 
 /// The port, or what is wrong with the settings, of which another file may give none.
-fn check_with<R: Host>(rt: &R, text: &str, other: Option<&str>) -> Result<i64> {
+fn check_with<R: Files + AllocGlobal>(rt: &R, text: &str, other: Option<&str>) -> Result<i64> {
     if let Some(name) = other {
         check_other(rt, text, name)?;
     }
@@ -46,7 +52,7 @@ fn check_with<R: Host>(rt: &R, text: &str, other: Option<&str>) -> Result<i64> {
 }
 
 /// Fails where another file gives one of the settings too.
-fn check_other<R: Host>(rt: &R, text: &str, name: &str) -> Result<()> {
+fn check_other<R: Files + AllocGlobal>(rt: &R, text: &str, name: &str) -> Result<()> {
     let alloc = rt.alloc();
     let other = text_of(rt, name)?;
     match set_twice(text, other.as_str()) {

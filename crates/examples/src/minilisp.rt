@@ -12,7 +12,8 @@ use miette::prelude::*;
 use miette_tree::miette;
 use std::alloc::{AllocError, Global};
 use std::env::Args;
-use std::io::Write;
+use std::fs::Files;
+use std::io::{Input, Write};
 use std::process::ExitCode;
 
 /// Runs the example with the words behind its name.
@@ -33,15 +34,28 @@ pub fn main<R: Host>(rt: &R, words: Args) -> ExitCode {
 /// Reports what is found in each file, and then how much that is.
 fn check_all<R: Host>(rt: &R, words: &Words) -> Result<ExitCode> {
     let options = MietteHandlerOpts::new().end_labels(true);
-    let mut run = Reporter::new(rt, words.form, options)?.with_summary();
-    for name in words.names.iter() {
+    let run = Reporter::new(rt, words.form, options)?.with_summary();
+    check_files(rt, &words.names, run)
+}
+
+fn check_files<R: Files + Input + AllocGlobal, T, W, F>(
+    rt: &R,
+    names: &[String],
+    mut run: Reporter<T, W, F>,
+) -> Result<ExitCode>
+where
+    T: ReportHandler + Drop,
+    W: Write + Drop,
+    F: Write + Drop,
+{
+    for name in names {
         check(rt, name.as_str(), &mut run)?;
     }
     Ok(run.finish())
 }
 
 /// Reports what is found in a file, or that it can't be read.
-fn check<R: Host, T: ReportHandler, W: Write, F: Write>(
+fn check<R: Files + Input + AllocGlobal, T: ReportHandler, W: Write, F: Write>(
     rt: &R,
     name: &str,
     run: &mut Reporter<T, W, F>,

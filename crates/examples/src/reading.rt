@@ -1,13 +1,14 @@
 //! The texts of files.
 
-use miette::prelude::{Host, IntoDiagnostic, Result, WrapErr};
+use miette::prelude::{IntoDiagnostic, Result, WrapErr};
 use std::fs;
+use std::fs::Files;
 
 /// The text of a file.
 ///
 /// # Errors
 /// Where it can't be read, or isn't UTF-8.
-pub fn text_of<R: Host>(rt: &R, name: &str) -> Result<String> {
+pub fn text_of<R: Files + AllocGlobal>(rt: &R, name: &str) -> Result<String> {
     let alloc = rt.alloc();
     fs::read_to_string(rt, name)
         .into_diagnostic(alloc)

@@ -4,27 +4,30 @@ mod lines;
 
 use crate::reading::text_of;
 use crate::testdiff::lines::differences;
-use miette::prelude::{
-    Form, Host, IntoDiagnostic, LabeledSpan, MietteHandlerOpts, OwnedSource, Report, Reporter,
-    Result, WrapErr, eprint_report,
-};
+use miette::prelude::*;
 use miette_tree::miette;
 use std::alloc::Global;
 use std::env::Args;
+use std::fs::Files;
+use std::io::{Print, Write};
 use std::process::ExitCode;
 
 /// Runs the example with the words behind its name.
-pub fn main<R: Host>(rt: &R, mut words: Args) -> ExitCode {
-    let first = words.next();
-    let (form, expected) = if first.as_deref() == Some("--json") {
-        (Form::JsonRows, words.next())
-    } else {
-        (Form::Pictures, first)
-    };
-    let actual = words.next();
+pub fn main<R: Host>(rt: &R, words: Args) -> ExitCode {
+    let (form, expected, actual) = words_of(words);
     match run(rt, form, expected.as_deref(), actual.as_deref()) {
         Ok(status) => status,
         Err(report) => eprint_report(rt, &report),
+    }
+}
+
+/// The form of the report, and the names of the two logs.
+fn words_of(mut words: Args) -> (Form, Option<String>, Option<String>) {
+    let first = words.next();
+    if first.as_deref() == Some("--json") {
+        (Form::JsonRows, words.next(), words.next())
+    } else {
+        (Form::Pictures, first, words.next())
     }
 }
 
@@ -34,33 +37,40 @@ fn run<R: Host>(
     expected: Option<&str>,
     actual: Option<&str>,
 ) -> Result<ExitCode> {
+    match compare(rt, expected, actual)? {
+        Some(report) => {
+            let run = Reporter::new(rt, form, MietteHandlerOpts::new())?;
+            tell(rt.alloc(), run, &report)
+        }
+        None => Ok(ExitCode::SUCCESS),
+    }
+}
+
+/// Tells a report as the one of a run.
+fn tell<T: ReportHandler + Drop, W: Write + Drop, F: Write + Drop>(
+    alloc: Global,
+    mut run: Reporter<T, W, F>,
+    report: &Report,
+) -> Result<ExitCode> {
+    run.report(report).into_diagnostic(alloc)?;
+    Ok(run.finish())
+}
+
+/// A report of the lines that aren't the expected ones. Where there are none, that is printed.
+fn compare<R: Files + Print + AllocGlobal>(
+    rt: &R,
+    expected: Option<&str>,
+    actual: Option<&str>,
+) -> Result<Option<Report>> {
     let alloc = rt.alloc();
     let usage = "usage: testdiff [--json] EXPECTED ACTUAL";
     let expected = expected.wrap_err(alloc, usage)?;
     let actual = actual.wrap_err(alloc, usage)?;
-    match difference(rt, expected, actual)? {
-        Some(report) => tell(rt, form, &report),
-        None => {
-            println!(rt; "{actual}: as expected").into_diagnostic(alloc)?;
-            Ok(ExitCode::SUCCESS)
-        }
-    }
-}
-
-/// Writes a report in a form.
-fn tell<R: Host>(rt: &R, form: Form, report: &Report) -> Result<ExitCode> {
-    let mut run = Reporter::new(rt, form, MietteHandlerOpts::new())?;
-    run.report(report).into_diagnostic(rt.alloc())?;
-    Ok(run.finish())
-}
-
-/// A report of the lines of a log that aren't the expected ones, where there are some.
-fn difference<R: Host>(rt: &R, expected: &str, actual: &str) -> Result<Option<Report>> {
-    let alloc = rt.alloc();
     let wanted = text_of(rt, expected)?;
     let found = text_of(rt, actual)?;
     let labels = differences(alloc, wanted.as_str(), found.as_str())?;
     if labels.is_empty() {
+        println!(rt; "{actual}: as expected").into_diagnostic(alloc)?;
         return Ok(None);
     }
     Ok(Some(report_of(alloc, actual, found, labels)?))
