@@ -2,6 +2,7 @@
 
 mod lines;
 
+use crate::reading::text_of;
 use crate::testdiff::lines::differences;
 use miette::prelude::{
     Form, Host, IntoDiagnostic, LabeledSpan, MietteHandlerOpts, OwnedSource, Report, Reporter,
@@ -10,43 +11,40 @@ use miette::prelude::{
 use miette_tree::miette;
 use std::alloc::Global;
 use std::env::Args;
-use std::fs;
 use std::process::ExitCode;
 
-/// What the program was called with.
-#[derive(Drop)]
-struct Words {
-    form: Form,
-    expected: String,
-    actual: String,
-}
-
 /// Runs the example with the words behind its name.
-pub fn main<R: Host>(rt: &R, words: Args) -> ExitCode {
-    match run(rt, words) {
+pub fn main<R: Host>(rt: &R, mut words: Args) -> ExitCode {
+    let first = words.next();
+    let (form, expected) = if first.as_deref() == Some("--json") {
+        (Form::JsonRows, words.next())
+    } else {
+        (Form::Pictures, first)
+    };
+    let actual = words.next();
+    match run(rt, form, expected.as_deref(), actual.as_deref()) {
         Ok(status) => status,
         Err(report) => eprint_report(rt, &report),
     }
 }
 
-fn run<R: Host>(rt: &R, words: Args) -> Result<ExitCode> {
-    let words = read_words(rt.alloc(), words)?;
-    let wanted = log(rt, words.expected.as_str())?;
-    let found = log(rt, words.actual.as_str())?;
-    compare(rt, &words, wanted.as_str(), found)
-}
-
-/// Says where the log that was found isn't the expected one.
-fn compare<R: Host>(rt: &R, words: &Words, wanted: &str, found: String) -> Result<ExitCode> {
+fn run<R: Host>(
+    rt: &R,
+    form: Form,
+    expected: Option<&str>,
+    actual: Option<&str>,
+) -> Result<ExitCode> {
     let alloc = rt.alloc();
-    let labels = differences(alloc, wanted, found.as_str())?;
-    let actual = words.actual.as_str();
-    if labels.is_empty() {
-        println!(rt; "{actual}: as expected").into_diagnostic(alloc)?;
-        return Ok(ExitCode::SUCCESS);
+    let usage = "usage: testdiff [--json] EXPECTED ACTUAL";
+    let expected = expected.wrap_err(alloc, usage)?;
+    let actual = actual.wrap_err(alloc, usage)?;
+    match difference(rt, expected, actual)? {
+        Some(report) => tell(rt, form, &report),
+        None => {
+            println!(rt; "{actual}: as expected").into_diagnostic(alloc)?;
+            Ok(ExitCode::SUCCESS)
+        }
     }
-    let report = report_of(alloc, actual, found, labels)?;
-    tell(rt, words.form, &report)
 }
 
 /// Writes a report in a form.
@@ -54,6 +52,18 @@ fn tell<R: Host>(rt: &R, form: Form, report: &Report) -> Result<ExitCode> {
     let mut run = Reporter::new(rt, form, MietteHandlerOpts::new())?;
     run.report(report).into_diagnostic(rt.alloc())?;
     Ok(run.finish())
+}
+
+/// A report of the lines of a log that aren't the expected ones, where there are some.
+fn difference<R: Host>(rt: &R, expected: &str, actual: &str) -> Result<Option<Report>> {
+    let alloc = rt.alloc();
+    let wanted = text_of(rt, expected)?;
+    let found = text_of(rt, actual)?;
+    let labels = differences(alloc, wanted.as_str(), found.as_str())?;
+    if labels.is_empty() {
+        return Ok(None);
+    }
+    Ok(Some(report_of(alloc, actual, found, labels)?))
 }
 
 /// A report with a label on each line that differs.
@@ -72,27 +82,4 @@ fn report_of(
         "lines that differ: {count}"
     );
     Ok(report.with_owned_source(source))
-}
-
-fn read_words(alloc: Global, mut words: Args) -> Result<Words> {
-    let usage = "usage: testdiff [--json] EXPECTED ACTUAL";
-    let first = words.next().wrap_err(alloc, usage)?;
-    let (form, expected) = if first.as_str() == "--json" {
-        (Form::JsonRows, words.next().wrap_err(alloc, usage)?)
-    } else {
-        (Form::Pictures, first)
-    };
-    let actual = words.next().wrap_err(alloc, usage)?;
-    Ok(Words {
-        form,
-        expected,
-        actual,
-    })
-}
-
-fn log<R: Host>(rt: &R, name: &str) -> Result<String> {
-    let alloc = rt.alloc();
-    fs::read_to_string(rt, name)
-        .into_diagnostic(alloc)
-        .wrap_err_with(alloc, || format!(in alloc; "could not read {name}"))
 }

@@ -1,12 +1,12 @@
 //! Finds words that are often misspelt: `typos FILE` labels them, `typos --fix FILE` prints the file with them mended.
-#![tactic(auto)]
 
+use crate::reading::text_of;
 use miette::prelude::*;
 use miette_tree::miette;
 use std::alloc::{AllocError, Global};
+use std::env::Args;
 use std::io::Write;
 use std::process::ExitCode;
-use std::{env, fs};
 
 /// Words as they are often misspelt, each with how it is spelt.
 const WORDS: [(&str, &str); 4] = [
@@ -16,39 +16,21 @@ const WORDS: [(&str, &str); 4] = [
     ("seperate", "separate"),
 ];
 
-/// How the program is called.
-const USAGE: &str = "usage: typos [--fix] FILE";
-
-fn main(rt: HostRuntime) -> ExitCode {
-    match run(&rt) {
+/// Runs the example with the words behind its name.
+pub fn main<R: Host>(rt: &R, mut words: Args) -> ExitCode {
+    let first = words.next();
+    let is_fixing = first.as_deref() == Some("--fix");
+    let name = if is_fixing { words.next() } else { first };
+    match run(rt, name.as_deref(), is_fixing) {
         Ok(()) => ExitCode::SUCCESS,
-        Err(report) => print_report(&rt, &report),
+        Err(report) => print_report(rt, &report),
     }
 }
 
-fn run<R: Host>(rt: &R) -> Result<()> {
-    let (is_fixing, name) = words_of(rt)?;
-    let text = text_of(rt, name.as_str())?;
-    check(rt, name.as_str(), text, is_fixing)
-}
-
-/// Whether the file is to be mended, and its name.
-fn words_of<R: Host>(rt: &R) -> Result<(bool, String)> {
-    let alloc = rt.alloc();
-    let mut words = env::args(rt).into_diagnostic(alloc)?.skip(1);
-    let first = words.next().wrap_err(alloc, USAGE)?;
-    if first.as_str() == "--fix" {
-        Ok((true, words.next().wrap_err(alloc, USAGE)?))
-    } else {
-        Ok((false, first))
-    }
-}
-
-fn text_of<R: Host>(rt: &R, name: &str) -> Result<String> {
-    let alloc = rt.alloc();
-    fs::read_to_string(rt, name)
-        .into_diagnostic(alloc)
-        .wrap_err_with(alloc, || format!(in alloc; "could not read {name}"))
+fn run<R: Host>(rt: &R, name: Option<&str>, is_fixing: bool) -> Result<()> {
+    let name = name.wrap_err(rt.alloc(), "usage: typos [--fix] FILE")?;
+    let text = text_of(rt, name)?;
+    check(rt, name, text, is_fixing)
 }
 
 /// Prints a text with its misspelt words mended, or fails with a report of them.

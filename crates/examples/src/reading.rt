@@ -1,0 +1,15 @@
+//! The texts of files.
+
+use miette::prelude::{Host, IntoDiagnostic, Result, WrapErr};
+use std::fs;
+
+/// The text of a file.
+///
+/// # Errors
+/// Where it can't be read, or isn't UTF-8.
+pub fn text_of<R: Host>(rt: &R, name: &str) -> Result<String> {
+    let alloc = rt.alloc();
+    fs::read_to_string(rt, name)
+        .into_diagnostic(alloc)
+        .wrap_err_with(alloc, || format!(in alloc; "could not read {name}"))
+}
