@@ -2,7 +2,7 @@ use Rattle.std.proofs.Common.{◌≡◌, ◌++◌, map}
 use Rattle.miette_tree.proofs.TreeSizes.{tree_size}
 use Rattle.miette_tree.specs.rules.Tree.{cause_of, causes_of}
 use Rattle.miette_tree.specs.views.Report.{tree_of}
-use Rattle.miette_sarif.proofs.gather.cause_rows.Given as goal
+use Rattle.miette_sarif.proofs.told.cause_rows.Given as goal
 
 abbrev pub decreases-loop-next : goal.decreases-loop-next
 decreases-loop-next g l = tree_size (tree_of g.D.Diagnostic.meaning g.S.SourceCode.source l.at)

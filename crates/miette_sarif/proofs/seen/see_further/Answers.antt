@@ -3,7 +3,7 @@ use Rattle.std.proofs.lemmas.List.{map-append}
 use Rattle.miette_tree.specs.views.Attached.{section_of}
 use Rattle.miette_sarif.specs.views.Sources.{seen_of}
 use Rattle.miette_sarif.proofs.Gathers.{all_further, next_in, no_further, none_in, one_further}
-use Rattle.miette_sarif.proofs.gather.see_further.Goals as goal
+use Rattle.miette_sarif.proofs.seen.see_further.Goals as goal
 
 pub loop-section-init : goal.loop-section-init
 loop-section-init g c = no_further _ _ _ (ap (map seen_of) c.in_ok-list.ensures.items)
