@@ -48,8 +48,7 @@ fn push_number_start<O: Canvas>(page: &mut Page<O>, context: &LineContext, numbe
     page.begin(context.frame.settings.theme.styles.linum)?;
     page.push_right(number, context.frame.number_width)?;
     page.push_line(PLAIN, ' ', context.frame.settings.theme.characters.vbar, 1)?;
-    page.push(' ')?;
-    Ok(())
+    page.push(' ')
 }
 
 // The number row: ` 12 │ ╭─▶ the line's text`.
@@ -68,8 +67,7 @@ fn push_number_row<O: Canvas>(
     push_number_start(page, context, shown.number)?;
     push_gutter(page, context, context.gutter, GutterEnd::Arrow)?;
     push_shown_text(page, text, shown.pieces, cut)?;
-    page.end_row()?;
-    Ok(())
+    page.end_row()
 }
 
 // The mark row and the rows of texts under it, where there is a mark.
@@ -85,8 +83,7 @@ fn push_marked_rows<O: Canvas>(page: &mut Page<O>, context: &LineContext, marks:
     push_before_marks(page, context)?;
     push_marks(page, context, marks)?;
     page.end_row()?;
-    push_texts(page, context, marks)?;
-    Ok(())
+    push_texts(page, context, marks)
 }
 
 // The marks of the labels that lie on a line alone, by the columns of the whole line.
@@ -123,8 +120,7 @@ fn push_break_row<O: Canvas>(page: &mut Page<O>, context: &LineContext) -> Outco
     page.push_line(PLAIN, '.', '.', 2)?;
     page.push(context.frame.settings.theme.characters.vbar)?;
     push_break_gutter(page, context)?;
-    page.end_row()?;
-    Ok(())
+    page.end_row()
 }
 
 // The row of the break where it begins with the context's line, or none where the line before it is left out too.
@@ -135,8 +131,7 @@ fn push_break<O: Canvas>(page: &mut Page<O>, context: &LineContext, shown: &Show
     if shown.gap {
         return Ok(());
     }
-    push_break_row(page, context)?;
-    Ok(())
+    push_break_row(page, context)
 }
 
 /// The rows of the context's line: the number row, the marks and texts of the labels that lie on it alone, and the
@@ -157,8 +152,7 @@ pub(crate) fn push_line_or_break<O: Canvas>(
         (map highlight_of shown.now.pieces.now)))) }
 {
     if shown.left_out {
-        push_break(page, context, shown)?;
-        return Ok(());
+        return push_break(page, context, shown);
     }
     let whole = marks_alone(alloc, context, shown)?;
     let text = LineText {
@@ -175,6 +169,5 @@ pub(crate) fn push_line_or_break<O: Canvas>(
     push_number_row(page, context, shown, &text, &cut)?;
     let marks = marks_shown(alloc, &cut, whole)?;
     push_marked_rows(page, context, &marks)?;
-    push_closings(page, context)?;
-    Ok(())
+    push_closings(page, context)
 }

@@ -1,5 +1,6 @@
 use Rattle.miette_page.specs.views.Printouts.{◌⊕◌}
 use Rattle.std.proofs.Common.{◌≡◌, List, Option, [], ◌∷◌, ◌∙◌, false, map, ap, sym, option_map, rules}
+use Rattle.std.proofs.lemmas.Result.{on_ok_weaker}
 use Rattle.miette_page.specs.rules.Rows.{Row}
 use Rattle.miette_page.specs.views.Tokens.{rows_tokens}
 use Rattle.miette_labels.specs.rules.Answers.{Highlight}
@@ -67,6 +68,7 @@ returns g c =
     in
     let moved : map mark_of c.in_ok-marks.marks.items ≡ shown_marks o own = c.in_ok-marks.ensures o made
     ∙ ap (shown_marks o) c.in_ok-whole.ensures.marks in
+    on_ok_weaker c.push_closings.result (λ h.
     line_put (number_row context shown (shown_runs o pieces cells)) (drawn (shown_marks o own))
     (before_each (other_start (settings context) context.frame.number_width)
     (closing_rows (settings context) (line_of_text context.line) context.gutter
@@ -77,8 +79,8 @@ returns g c =
     (c.in_ok-push_marked_rows.ensures ∙ ap (λ ms. c.push_number_row.new.page
     ⊕ rows_tokens (drawn (map mark_of ms))) c.deref-2.ensures.value
     ∙ ap (λ ms. c.push_number_row.new.page ⊕ rows_tokens (drawn ms)) moved)
-    c.in_ok-push_closings.ensures
+    h
     ∙ ap (λ out. c.args.page.now ⊕ rows_tokens (line_or_break_of shown.gap out
     (line_in (settings context) context.frame.number_width context.gutter (line_of_text context.line)
     (multi_labels context))
-    (line_shown shown.number (labels_alone context shown) cells pieces))) (sym kept)
+    (line_shown shown.number (labels_alone context shown) cells pieces))) (sym kept)) c.push_closings.ensures

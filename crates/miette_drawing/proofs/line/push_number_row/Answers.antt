@@ -1,5 +1,6 @@
 use Rattle.std.proofs.Common.{map}
 use Rattle.std.specs.Option.{option_map}
+use Rattle.std.proofs.lemmas.Result.{on_ok_weaker}
 use Rattle.miette_cuts.specs.views.Cuts.{made_runs}
 use Rattle.miette_snippet_rules.specs.rules.Frames.{number_start}
 use Rattle.miette_snippet_rules.specs.rules.Gutters.{number_gutter}
@@ -13,6 +14,7 @@ use Rattle.miette_drawing.proofs.line.push_number_row.Goals as goal
 pub returns : goal.returns
 returns g c =
     let context = c.args.context.now in
+    on_ok_weaker c.end_row.result (λ h.
     number_row_put (number_start (settings context) context.frame.number_width c.args.shown.now.number)
     (number_gutter (settings context) (line_of_text context.line) context.gutter
     (multi_labels context))
@@ -21,4 +23,4 @@ returns g c =
     c.args.page.now c.push_number_start.new.page c.push_gutter.new.page c.push_shown_text.new.page
     c.end_row.new.self
     c.in_ok-push_number_start.ensures c.in_ok-push_gutter.ensures c.in_ok-push_shown_text.ensures
-    c.in_ok-end_row.ensures
+    h) c.end_row.ensures
