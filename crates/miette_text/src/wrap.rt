@@ -125,13 +125,9 @@ fn push_filled_under<S: Sink>(out: &mut S, plan: Plan<'_>, text: &Runs) -> Resul
     };
     push_all(out, first)?;
     match plan.separator {
-        WordSeparator::AsciiSpace => {
-            push_filled::<S, Spaced>(out, cuts, under, text.parts())?;
-            Ok(())
-        }
+        WordSeparator::AsciiSpace => push_filled::<S, Spaced>(out, cuts, under, text.parts()),
         WordSeparator::UnicodeBreakProperties => {
-            push_filled::<S, Broken>(out, cuts, under, text.parts())?;
-            Ok(())
+            push_filled::<S, Broken>(out, cuts, under, text.parts())
         }
     }
 }
@@ -142,11 +138,9 @@ fn push_wrapped<S: Sink>(out: &mut S, plan: Plan<'_>, text: &Runs) -> Result<(),
         ++ spell (wrapped_tokens (runs_plan plan.entry) text.now)) }
 {
     if plan.wraps {
-        push_filled_under(out, plan, text)?;
-        Ok(())
+        push_filled_under(out, plan, text)
     } else {
-        push_whole(out, plan.first.parts(), plan.further.parts(), text.parts())?;
-        Ok(())
+        push_whole(out, plan.first.parts(), plan.further.parts(), text.parts())
     }
 }
 
@@ -176,8 +170,7 @@ fn push_reread(
         further: &further,
         ..plan
     };
-    push_wrapped(out, read, &text)?;
-    Ok(())
+    push_wrapped(out, read, &text)
 }
 
 /// Appends the runs, wrapped, as the text that they print is.
@@ -189,8 +182,7 @@ pub fn wrap(alloc: Global, plan: Plan<'_>, text: &Runs, out: &mut Output) -> Res
     ensures { OnOk result (out.new ≡ out.old ++ wrapped_text (printed_plan plan.entry) (spell text.now)) }
 {
     if are_settled(plan, text) {
-        push_wrapped(out, plan, text)?;
-        return Ok(());
+        return push_wrapped(out, plan, text);
     }
     push_reread(alloc, out, plan, text)
 }

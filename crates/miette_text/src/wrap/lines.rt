@@ -31,8 +31,7 @@ fn push_break<S: Sink>(out: &mut S, further: RunsSlice<'_>) -> Result<(), AllocE
         ++ 10 ∷ spell (interleaving 0 further.entry.codes.now further.entry.tags.now)) }
 {
     out.push('\n')?;
-    push_all(out, further)?;
-    Ok(())
+    push_all(out, further)
 }
 
 // A row, from a place in the text up to the end of what is given, without its last spaces. How many tags are used.
