@@ -138,6 +138,15 @@ def has_body(text, function):
     return re.compile(r"\n    \{|;\n").search(text, end.end())[0] != ";\n"
 
 
+def has_clause(text, function):
+    """Whether a contract says what a function gives."""
+    end = end_of_head(text, function)
+    if end[0] in "{;":
+        return False
+    contract = re.compile(rf"\n{function.indent}\{{|;\n").split(text[end.start() :], maxsplit=1)[0]
+    return re.search(r"\bensures\b", contract) is not None
+
+
 def at_top(text, separator):
     """The parts of a text between separators that stand in no brackets."""
     depth, parts = 0, [""]

@@ -43,10 +43,12 @@ pub fn highlighted_both<H: Highlighter, K: Highlighter>(
 {
     themes_law();
     let mut coloured = String::new(alloc);
+    {
+        let theme = GraphicalTheme::unicode(alloc)?;
+        let mut one = GraphicalReportHandler::themed(theme).with_syntax_highlighting(first);
+        one.render_report(report, &mut coloured)?;
+    }
     let mut plain = String::new(alloc);
-    let theme = GraphicalTheme::unicode(alloc)?;
-    let mut one = GraphicalReportHandler::themed(theme).with_syntax_highlighting(first);
-    one.render_report(report, &mut coloured)?;
     let theme = GraphicalTheme::unicode_nocolor(alloc)?;
     let mut other = GraphicalReportHandler::themed(theme).with_syntax_highlighting(second);
     other.render_report(report, &mut plain)?;

@@ -19,12 +19,12 @@ pub fn no_colon(alloc: Global) -> Result<Report, AllocError>
     ensures { IfOk result (λ r. tree_of ⟦<Box<dyn Diagnostic> as Diagnostic>⟧.meaning
         ⟦<Box<dyn SourceCode> as SourceCode>⟧.source r ≡ colon_tree) }
 {
-    let edit = Edit::insert(16, String::from_str(alloc, ":")?);
-    let fix = Fix::new(alloc, "a colon is missing")?.with_edit(edit)?;
     let code = "def f(x):\n  if x\n    return 1\n"
         .as_bytes()
         .to_vec(alloc)?;
     let source = OwnedSource::named(alloc, "f.py", None, code)?;
+    let edit = Edit::insert(16, String::from_str(alloc, ":")?);
+    let fix = Fix::new(alloc, "a colon is missing")?.with_edit(edit)?;
     let diagnostic = MietteDiagnostic::new(alloc, "no colon")?;
     Report::new(diagnostic)
         .with_owned_source(source)

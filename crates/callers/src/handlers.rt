@@ -36,10 +36,10 @@ pub fn warning(alloc: Global) -> Result<Report, AllocError>
     ensures { IfOk result (λ r. tree_of ⟦<Box<dyn Diagnostic> as Diagnostic>⟧.meaning
         ⟦<Box<dyn SourceCode> as SourceCode>⟧.source r ≡ warning_tree) }
 {
-    let label = LabeledSpan::at(alloc, (17, 1), "this name")?;
-    let diagnostic = MietteDiagnostic::new(alloc, "no such host")?.with_label(alloc, label)?;
     let settings = "port = 80\nhost = x\n".as_bytes().to_vec(alloc)?;
     let source = OwnedSource::named(alloc, "app.toml", None, settings)?;
+    let label = LabeledSpan::at(alloc, (17, 1), "this name")?;
+    let diagnostic = MietteDiagnostic::new(alloc, "no such host")?.with_label(alloc, label)?;
     Ok(Report::new(diagnostic).with_owned_source(source))
 }
 
@@ -65,9 +65,11 @@ pub fn draw_both(alloc: Global, report: &Report) -> Result<Pictures, RenderError
     shown_lines_law();
     number_rows_law();
     let mut coloured = String::new(alloc);
+    {
+        let mut handler = GraphicalReportHandler::new_themed(GraphicalTheme::unicode(alloc)?);
+        handler.render_report(report, &mut coloured)?;
+    }
     let mut plain = String::new(alloc);
-    let mut handler = GraphicalReportHandler::new_themed(GraphicalTheme::unicode(alloc)?);
-    handler.render_report(report, &mut coloured)?;
     let mut handler = GraphicalReportHandler::new_themed(GraphicalTheme::unicode_nocolor(alloc)?);
     handler.render_report(report, &mut plain)?;
     Ok(Pictures { coloured, plain })

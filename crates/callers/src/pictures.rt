@@ -31,10 +31,10 @@ pub fn depth(alloc: Global) -> Result<Report, AllocError>
     ensures { IfOk result (λ r. tree_of ⟦<Box<dyn Diagnostic> as Diagnostic>⟧.meaning
         ⟦<Box<dyn SourceCode> as SourceCode>⟧.source r ≡ depth_tree) }
 {
-    let label = LabeledSpan::at(alloc, (8, 1), "set here")?;
-    let diagnostic = MietteDiagnostic::new(alloc, "too deep")?.with_label(alloc, label)?;
     let settings = "depth = 1\n".as_bytes().to_vec(alloc)?;
     let source = OwnedSource::named(alloc, "app.toml", None, settings)?;
+    let label = LabeledSpan::at(alloc, (8, 1), "set here")?;
+    let diagnostic = MietteDiagnostic::new(alloc, "too deep")?.with_label(alloc, label)?;
     Ok(Report::new(diagnostic).with_owned_source(source))
 }
 
@@ -43,15 +43,15 @@ pub fn sum(alloc: Global) -> Result<Report, AllocError>
     ensures { IfOk result (λ r. tree_of ⟦<Box<dyn Diagnostic> as Diagnostic>⟧.meaning
         ⟦<Box<dyn SourceCode> as SourceCode>⟧.source r ≡ sum_tree) }
 {
+    let code = "call(\n  one,\n  two,\n  three,\n  four)\nlet total = one + two + three +"
+        .as_bytes()
+        .to_vec(alloc)?;
+    let source = OwnedSource::named(alloc, "sum.x", None, code)?;
     let call = LabeledSpan::at(alloc, (0, 36), "a call")?;
     let total = LabeledSpan::at(alloc, (41, 5), "the sum")?;
     let term = LabeledSpan::at(alloc, (68, 0), "a term")?;
     let labels = vec![in alloc; call, total, term]?;
     let diagnostic = MietteDiagnostic::new(alloc, "no term")?.with_labels(labels);
-    let code = "call(\n  one,\n  two,\n  three,\n  four)\nlet total = one + two + three +"
-        .as_bytes()
-        .to_vec(alloc)?;
-    let source = OwnedSource::named(alloc, "sum.x", None, code)?;
     let report = Report::new(diagnostic).with_owned_source(source);
     match report.with_diagnostic_cause(alloc, depth(alloc)?) {
         Ok(report) => Ok(report),

@@ -1,12 +1,11 @@
 //! Diagnostics.
 
-use crate::fixtures::{Label, labels_of};
+use crate::fixtures::{Label, M, Written, diagnostic_of, labels_of};
 use crate::rows::{Called, Rows};
 use miette::diagnostic::MietteDiagnostic;
 use miette::protocol::{LabeledSpan, Severity};
 use miette_tree::diagnostic;
 use std::alloc::{AllocError, Global};
-use std::io::Write;
 
 /// The calls of this module.
 pub static NAMES: [&str; 11] = [
@@ -27,7 +26,7 @@ pub static NAMES: [&str; 11] = [
 ///
 /// # Errors
 /// Where memory is refused for what it is given.
-pub fn make<W: Write + Drop>(alloc: Global, name: &str, row: &mut Rows<W>) -> Called {
+pub fn make(alloc: Global, name: &str, row: &mut Rows) -> Called {
     match name {
         "MietteDiagnostic::new" => row.answer(MietteDiagnostic::new(alloc, "oops!")),
         "diagnostic!" => row.answer(by_macro(alloc)),
@@ -55,10 +54,7 @@ fn by_macro(alloc: Global) -> Result<MietteDiagnostic, AllocError> {
 ///
 /// # Errors
 /// Where memory is refused.
-pub fn given_diagnostic<W: Write + Drop>(
-    alloc: Global,
-    row: &mut Rows<W>,
-) -> Result<MietteDiagnostic, AllocError> {
+pub fn given_diagnostic(alloc: Global, row: &mut Rows) -> Result<MietteDiagnostic, AllocError> {
     let full = full_diagnostic(alloc)?;
     row.value(&full);
     Ok(full)
@@ -79,18 +75,18 @@ fn changed(
     }
 }
 
-fn with_label<W: Write + Drop>(alloc: Global, name: &str, row: &mut Rows<W>) -> Called {
+fn with_label(alloc: Global, name: &str, row: &mut Rows) -> Called {
     let label = LabeledSpan::at(alloc, (0, 6), "and this")?;
     let full = given_diagnostic(alloc, row)?;
-    row.answer(if name == "MietteDiagnostic::with_label" {
-        full.with_label(alloc, label)
+    if name == "MietteDiagnostic::with_label" {
+        row.answer(full.with_label(alloc, label));
     } else {
-        full.and_label(alloc, label)
-    });
+        row.answer(full.and_label(alloc, label));
+    }
     Ok(())
 }
 
-fn and_labels<W: Write + Drop>(alloc: Global, row: &mut Rows<W>) -> Called {
+fn and_labels(alloc: Global, row: &mut Rows) -> Called {
     let labels = labels_of(alloc, &TWO)?;
     let full = given_diagnostic(alloc, row)?;
     row.answer(full.and_labels(alloc, labels));
@@ -101,15 +97,20 @@ fn and_labels<W: Write + Drop>(alloc: Global, row: &mut Rows<W>) -> Called {
 static TWO: [Label<'static>; 2] = [(0, 6, 0, "first"), (18, 4, 0, "second")];
 
 /// A diagnostic with all parts.
+static FULL: Written<'static> = Written {
+    message: "oops!",
+    code: "a::b",
+    url: "http://x",
+    help: "try",
+    severity: Some(Severity::Warning),
+    labels: &[(9, 4, 0, "This bit here")],
+    ..M
+};
+
+/// A diagnostic with all parts. Its labels have no room for more.
 ///
 /// # Errors
 /// Where memory is refused.
 pub fn full_diagnostic(alloc: Global) -> Result<MietteDiagnostic, AllocError> {
-    let label = LabeledSpan::at(alloc, (9, 4), "This bit here")?;
-    MietteDiagnostic::new(alloc, "oops!")?
-        .with_severity(Severity::Warning)
-        .with_label(alloc, label)?
-        .with_code(alloc, "a::b")?
-        .with_help(alloc, "try")?
-        .with_url(alloc, "http://x")
+    diagnostic_of(alloc, &FULL)
 }

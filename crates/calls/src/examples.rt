@@ -9,11 +9,13 @@ use miette::handlers::{
     BriefReportHandler, DebugReportHandler, Form, GraphicalReportHandler, JSONReportHandler,
     NarratableReportHandler, ReportHandler,
 };
-use miette::options::MietteHandlerOpts;
+use miette::options::{MietteHandler, MietteHandlerOpts};
+use miette::protocol::Diagnostic;
+use miette::report::Report;
+use miette::source::SourceCode;
 use miette::theme::GraphicalTheme;
 use std::alloc::{AllocError, Global};
 use std::cell::Cell;
-use std::io::Write;
 
 /// The reports.
 pub static NAMES: [&str; 17] = [
@@ -57,12 +59,7 @@ pub static HANDLERS: [&str; 13] = [
 ///
 /// # Errors
 /// `Write` where standard output took no more.
-pub fn rows_of<W: Write + Drop>(
-    alloc: Global,
-    rows: &mut Rows<W>,
-    name: &str,
-    handler: &str,
-) -> Done {
+pub fn rows_of(alloc: Global, rows: &mut Rows, name: &str, handler: &str) -> Done {
     for one in &NAMES {
         if name.is_empty() || name == *one {
             rows_by(alloc, rows, one, handler)?;
@@ -72,7 +69,7 @@ pub fn rows_of<W: Write + Drop>(
 }
 
 /// The rows of a report that are asked for.
-fn rows_by<W: Write + Drop>(alloc: Global, rows: &mut Rows<W>, name: &str, handler: &str) -> Done {
+fn rows_by(alloc: Global, rows: &mut Rows, name: &str, handler: &str) -> Done {
     for by in &HANDLERS {
         if handler.is_empty() || handler == *by {
             row_by(alloc, rows, name, by)?;
@@ -82,7 +79,7 @@ fn rows_by<W: Write + Drop>(alloc: Global, rows: &mut Rows<W>, name: &str, handl
 }
 
 /// The row of a report by a handler.
-fn row_by<W: Write + Drop>(alloc: Global, row: &mut Rows<W>, name: &str, handler: &str) -> Done {
+fn row_by(alloc: Global, row: &mut Rows, name: &str, handler: &str) -> Done {
     let reads = Reads {
         count: Cell::new(0),
         fails_at: 1,
@@ -99,48 +96,42 @@ fn row_by<W: Write + Drop>(alloc: Global, row: &mut Rows<W>, name: &str, handler
 ///
 /// # Errors
 /// Where memory is refused for the handler, or was for the report.
-pub fn render_made<W: Write + Drop>(
+pub fn render_made(
     alloc: Global,
-    row: &mut Rows<W>,
+    row: &mut Rows,
     report: Result<Made<'_>, AllocError>,
     handler: &str,
     lines: usize,
 ) -> Called {
-    let report = report?;
+    tell(alloc, row, handler, &report?, lines)
+}
+
+/// The same of a report that is lent.
+fn tell(alloc: Global, row: &mut Rows, handler: &str, report: &Made<'_>, lines: usize) -> Called {
     match handler {
         "narrated" => {
-            let mut telling = NarratableReportHandler::new().with_context_lines(lines);
-            render(alloc, row, &mut telling, &report)
+            let telling = NarratableReportHandler::new().with_context_lines(lines);
+            render_by(alloc, row, Ok(telling), report)
         }
-        "brief" => render(alloc, row, &mut BriefReportHandler::new(), &report),
+        "brief" => render_by(alloc, row, Ok(BriefReportHandler::new()), report),
         "github" => {
-            let mut telling = BriefReportHandler::new().with_form(Form::Github);
-            render(alloc, row, &mut telling, &report)
+            let telling = BriefReportHandler::new().with_form(Form::Github);
+            render_by(alloc, row, Ok(telling), report)
         }
-        "json" => render(alloc, row, &mut JSONReportHandler::new(), &report),
-        "debug" => render(alloc, row, &mut DebugReportHandler::new(), &report),
-        _ => draw(alloc, row, handler, &report, lines),
+        "json" => render_by(alloc, row, Ok(JSONReportHandler::new()), report),
+        "debug" => render_by(alloc, row, Ok(DebugReportHandler::new()), report),
+        _ => draw(alloc, row, handler, report, lines),
     }
 }
 
 /// The same for handlers that draw, and for those that options choose.
-fn draw<W: Write + Drop>(
-    alloc: Global,
-    row: &mut Rows<W>,
-    handler: &str,
-    report: &Made<'_>,
-    lines: usize,
-) -> Called {
-    let red = red_of(handler);
+fn draw(alloc: Global, row: &mut Rows, handler: &str, report: &Made<'_>, lines: usize) -> Called {
     if handler == "graphical" {
         render_by(alloc, row, plain_drawing(alloc, lines), report)
     } else if handler.starts_with("chosen") {
-        let terminal = terminal(alloc)?;
-        let chosen = options(red, handler.ends_with("narrated"), lines).build(alloc, &terminal);
-        render_by(alloc, row, chosen, report)
+        render_by(alloc, row, chosen(alloc, handler, lines), report)
     } else {
-        let nested = handler.starts_with("nested");
-        render_by(alloc, row, drawing(alloc, red, nested, lines), report)
+        render_by(alloc, row, drawing(alloc, handler, lines), report)
     }
 }
 
@@ -153,7 +144,14 @@ fn red_of(handler: &str) -> Red {
     }
 }
 
-fn plain_drawing(alloc: Global, lines: usize) -> Result<GraphicalReportHandler<Red>, AllocError> {
+/// A picture in colours, whose source lines no highlighter styles.
+///
+/// # Errors
+/// Where memory is refused.
+pub fn plain_drawing(
+    alloc: Global,
+    lines: usize,
+) -> Result<GraphicalReportHandler<Red>, AllocError> {
     let theme = GraphicalTheme::unicode(alloc)?;
     let drawing: GraphicalReportHandler<Red> = GraphicalReportHandler::themed(theme);
     Ok(drawing.with_width(40).with_context_lines(lines))
@@ -161,8 +159,7 @@ fn plain_drawing(alloc: Global, lines: usize) -> Result<GraphicalReportHandler<R
 
 fn drawing(
     alloc: Global,
-    red: Red,
-    nested: bool,
+    handler: &str,
     lines: usize,
 ) -> Result<GraphicalReportHandler<Red>, AllocError> {
     let drawing = GraphicalReportHandler::themed(GraphicalTheme::unicode(alloc)?);
@@ -170,36 +167,33 @@ fn drawing(
         drawing
             .with_width(30)
             .with_context_lines(lines)
-            .with_show_related_as_nested(nested)
-            .with_syntax_highlighting(red),
+            .with_show_related_as_nested(handler.starts_with("nested"))
+            .with_syntax_highlighting(red_of(handler)),
     )
 }
 
-fn options(red: Red, told: bool, lines: usize) -> MietteHandlerOpts<Red> {
+fn chosen(alloc: Global, handler: &str, lines: usize) -> Result<MietteHandler<Red>, AllocError> {
+    let terminal = terminal(alloc)?;
     let options: MietteHandlerOpts<Red> = MietteHandlerOpts::default();
     options
         .width(30)
-        .force_narrated(told)
+        .force_narrated(handler.ends_with("narrated"))
         .context_lines(lines)
-        .with_syntax_highlighting(red)
+        .with_syntax_highlighting(red_of(handler))
+        .build(alloc, &terminal)
 }
 
 /// The same by a handler, where it was made.
-fn render_by<H: ReportHandler + Drop, W: Write + Drop>(
+///
+/// # Errors
+/// Where memory was refused for the handler, or is for the text.
+pub fn render_by<H: ReportHandler + Drop, D: Diagnostic, S: SourceCode>(
     alloc: Global,
-    row: &mut Rows<W>,
+    row: &mut Rows,
     handler: Result<H, AllocError>,
-    report: &Made<'_>,
+    report: &Report<D, S>,
 ) -> Called {
-    render(alloc, row, &mut handler?, report)
-}
-
-fn render<H: ReportHandler, W: Write + Drop>(
-    alloc: Global,
-    row: &mut Rows<W>,
-    handler: &mut H,
-    report: &Made<'_>,
-) -> Called {
+    let mut handler = handler?;
     let mut text = String::from_str(alloc, "> ")?;
     row.value(&text);
     let answer = handler.debug(report, &mut text);

@@ -1,9 +1,9 @@
 //! Fixes: edits of a source, and the text after them.
 
+use crate::fixtures::{Mended, fix_of};
 use crate::rows::{Called, Rows};
 use miette_fixes::fix::{Edit, Fix, apply_all};
 use std::alloc::{AllocError, Global};
-use std::io::Write;
 
 /// The calls of this module.
 pub static NAMES: [&str; 7] = [
@@ -20,12 +20,12 @@ pub static NAMES: [&str; 7] = [
 ///
 /// # Errors
 /// Where memory is refused for what it is given.
-pub fn make<W: Write + Drop>(alloc: Global, name: &str, row: &mut Rows<W>) -> Called {
+pub fn make(alloc: Global, name: &str, row: &mut Rows) -> Called {
     match name {
         "Edit::delete" => row.value(&Edit::delete(alloc, (0, 1))),
         "Edit::clone" => row.clones(colon(alloc)?),
         "Fix::new" => row.answer(Fix::new(alloc, "m")),
-        "Fix::with_edit" => row.answer(with_colon(alloc)),
+        "Fix::with_edit" => row.answer(fix_of(alloc, &COLON)),
         "Fix::with_edits_from" => row.answer(with_edits(alloc)),
         "Fix::apply" => row.answer(fixed(alloc)),
         _ => row.answer(apply_all(alloc, b"if x", &[&with_edits(alloc)?])),
@@ -38,12 +38,7 @@ fn colon(alloc: Global) -> Result<Edit, AllocError> {
 }
 
 /// The message `m`, with a colon inserted.
-///
-/// # Errors
-/// Where memory is refused.
-pub fn with_colon(alloc: Global) -> Result<Fix, AllocError> {
-    Fix::new(alloc, "m")?.with_edit(colon(alloc)?)
-}
+pub static COLON: Mended<'static> = ("m", 4, 0, ":");
 
 /// With a colon behind, and without the first byte.
 fn with_edits(alloc: Global) -> Result<Fix, AllocError> {

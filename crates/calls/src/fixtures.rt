@@ -4,6 +4,7 @@ use crate::stopping::Stopping;
 use miette::diagnostic::MietteDiagnostic;
 use miette::protocol::{LabeledSpan, Severity};
 use miette::report::{OwnedSource, Report};
+use miette::source::SourceCode;
 use miette_fixes::fix::{Edit, Fix};
 use std::alloc::{AllocError, Global};
 
@@ -45,6 +46,9 @@ pub const M: Written<'static> = Written {
     name: "",
     source: None,
 };
+
+/// A source without bytes.
+const NOTHING: &[u8] = b"";
 
 /// The report that is written.
 ///
@@ -122,17 +126,20 @@ pub fn texts_of(alloc: Global, texts: &[&str]) -> Result<Vec<String>, AllocError
 /// A report with others beside it.
 ///
 /// # Errors
-/// Where memory is refused.
+/// Where memory was refused for one of them.
 pub fn report_beside<'a>(
-    alloc: Global,
-    report: Made<'a>,
-    others: &[Written<'_>],
+    report: Result<Made<'a>, AllocError>,
+    others: Result<Vec<Made<'a>>, AllocError>,
 ) -> Result<Made<'a>, AllocError> {
-    let list = reports_of(alloc, others)?;
-    Ok(report.with_related(list))
+    let others = others?;
+    Ok(report?.with_related(others))
 }
 
-fn reports_of<'a>(alloc: Global, others: &[Written<'_>]) -> Result<Vec<Made<'a>>, AllocError> {
+/// Reports that are written.
+///
+/// # Errors
+/// Where memory is refused.
+pub fn reports_of<'a>(alloc: Global, others: &[Written<'_>]) -> Result<Vec<Made<'a>>, AllocError> {
     let mut list = Vec::new(alloc);
     for written in others {
         push_made(&mut list, report_of(alloc, written))?;
@@ -140,41 +147,27 @@ fn reports_of<'a>(alloc: Global, others: &[Written<'_>]) -> Result<Vec<Made<'a>>
     Ok(list)
 }
 
-/// A report with another one beside it.
+/// A list of what was made.
+///
+/// # Errors
+/// Where memory was refused for it, or is for the list.
+pub fn list_of<T: Drop>(alloc: Global, made: Result<T, AllocError>) -> Result<Vec<T>, AllocError> {
+    let mut list = Vec::new(alloc);
+    push_made(&mut list, made)?;
+    Ok(list)
+}
+
+/// A report with labels over a further source too; over an empty one where none is written.
 ///
 /// # Errors
 /// Where memory is refused.
-pub fn report_beside_one<'a>(
+pub fn report_and_further<S: SourceCode>(
     alloc: Global,
-    report: Result<Made<'a>, AllocError>,
-    other: Result<Made<'a>, AllocError>,
-) -> Result<Made<'a>, AllocError> {
-    let list = list_of(alloc, other)?;
-    Ok(report?.with_related(list))
-}
-
-fn list_of<'a>(
-    alloc: Global,
-    report: Result<Made<'a>, AllocError>,
-) -> Result<Vec<Made<'a>>, AllocError> {
-    let report = report?;
-    Ok(vec![in alloc; report]?)
-}
-
-/// A report with labels over a further source too; over none where none is written.
-///
-/// # Errors
-/// Where memory is refused.
-pub fn report_and_further<'a>(
-    alloc: Global,
-    report: Result<Made<'a>, AllocError>,
+    report: Result<Report<MietteDiagnostic, S>, AllocError>,
     further: &Written<'_>,
-) -> Result<Made<'a>, AllocError> {
-    let Some(bytes) = further.source else {
-        return report;
-    };
-    let source = source_of(alloc, further.name, bytes)?;
+) -> Result<Report<MietteDiagnostic, S>, AllocError> {
     let labels = labels_of(alloc, further.labels)?;
+    let source = source_of(alloc, further.name, further.source.unwrap_or(NOTHING))?;
     report?.with_owned_snippets(alloc, source, labels)
 }
 
@@ -195,7 +188,11 @@ pub fn report_and_stopping<'a>(
 /// A fix of one edit: its message, the offset and the length of what is replaced, and the text that takes its place.
 pub type Mended<'a> = (&'a str, usize, usize, &'a str);
 
-fn fix_of(alloc: Global, mended: &Mended<'_>) -> Result<Fix, AllocError> {
+/// The fix that is written.
+///
+/// # Errors
+/// Where memory is refused.
+pub fn fix_of(alloc: Global, mended: &Mended<'_>) -> Result<Fix, AllocError> {
     let (message, offset, length, text) = *mended;
     let edit = Edit::replace((offset, length), String::from_str(alloc, text)?);
     Fix::new(alloc, message)?.with_edit(edit)
@@ -205,11 +202,11 @@ fn fix_of(alloc: Global, mended: &Mended<'_>) -> Result<Fix, AllocError> {
 ///
 /// # Errors
 /// Where memory is refused.
-pub fn report_and_fix<'a>(
+pub fn report_and_fix<S: SourceCode>(
     alloc: Global,
-    report: Result<Made<'a>, AllocError>,
+    report: Result<Report<MietteDiagnostic, S>, AllocError>,
     mended: &Mended<'_>,
-) -> Result<Made<'a>, AllocError> {
+) -> Result<Report<MietteDiagnostic, S>, AllocError> {
     let fix = fix_of(alloc, mended)?;
     report?.with_fix(alloc, fix)
 }
@@ -219,23 +216,19 @@ pub fn report_and_fix<'a>(
 /// # Errors
 /// Where memory is refused.
 pub fn diagnostic_of(alloc: Global, written: &Written<'_>) -> Result<MietteDiagnostic, AllocError> {
-    let mut made = MietteDiagnostic::new(alloc, written.message)?;
-    made.severity = written.severity;
-    give_parts(alloc, &mut made, written)?;
-    Ok(made)
-}
-
-/// All parts that take memory, but the message.
-fn give_parts(
-    alloc: Global,
-    made: &mut MietteDiagnostic,
-    written: &Written<'_>,
-) -> Result<(), AllocError> {
-    made.code = text_of(alloc, written.code)?;
-    made.help = text_of(alloc, written.help)?;
-    made.url = text_of(alloc, written.url)?;
-    made.labels = Some(labels_of(alloc, written.labels)?);
-    Ok(())
+    let message = String::from_str(alloc, written.message)?;
+    let labels = labels_of(alloc, written.labels)?;
+    let code = text_of(alloc, written.code)?;
+    let help = text_of(alloc, written.help)?;
+    let url = text_of(alloc, written.url)?;
+    Ok(MietteDiagnostic {
+        message,
+        code,
+        severity: written.severity,
+        help,
+        url,
+        labels: Some(labels),
+    })
 }
 
 fn text_of(alloc: Global, text: &str) -> Result<Option<String>, AllocError> {
@@ -245,12 +238,12 @@ fn text_of(alloc: Global, text: &str) -> Result<Option<String>, AllocError> {
     Ok(Some(String::from_str(alloc, text)?))
 }
 
-/// Labels as they are written down.
+/// Labels as they are written down, in a list that has no room for more.
 ///
 /// # Errors
 /// Where memory is refused.
 pub fn labels_of(alloc: Global, labels: &[Label<'_>]) -> Result<Vec<LabeledSpan>, AllocError> {
-    let mut list = Vec::new(alloc);
+    let mut list = Vec::with_capacity(alloc, labels.len())?;
     for label in labels {
         push_made(&mut list, label_of(alloc, *label))?;
     }
@@ -269,7 +262,11 @@ fn label_of(
     }
 }
 
-fn source_of(alloc: Global, name: &str, bytes: &[u8]) -> Result<OwnedSource, AllocError> {
+/// An owned source; without a name where that is empty.
+///
+/// # Errors
+/// Where memory is refused.
+pub fn source_of(alloc: Global, name: &str, bytes: &[u8]) -> Result<OwnedSource, AllocError> {
     let bytes = bytes.to_vec(alloc)?;
     if name.is_empty() {
         return OwnedSource::new(alloc, bytes);

@@ -1,8 +1,11 @@
 //! Handlers: what makes them, and the texts that they append.
 
+use crate::examples::{plain_drawing, render_by};
+use crate::fixtures::source_of;
 use crate::reports::full_report;
 use crate::rows::{Called, Rows};
 use crate::sources::README;
+use crate::stopping::Red;
 use crate::themes::terminal;
 use miette::error::RenderError;
 use miette::handlers::{
@@ -11,10 +14,9 @@ use miette::handlers::{
 };
 use miette::highlight::BlankHighlighter;
 use miette::options::{MietteHandler, MietteHandlerOpts};
-use miette::report::{OwnedSource, Report};
-use miette::theme::{GraphicalTheme, Terminal};
+use miette::report::Report;
+use miette::theme::Terminal;
 use std::alloc::{AllocError, Global};
-use std::io::Write;
 
 /// The calls of this module.
 pub static NAMES: [&str; 18] = [
@@ -42,7 +44,7 @@ pub static NAMES: [&str; 18] = [
 ///
 /// # Errors
 /// Where memory is refused for what it is given.
-pub fn make<W: Write + Drop>(alloc: Global, name: &str, row: &mut Rows<W>) -> Called {
+pub fn make(alloc: Global, name: &str, row: &mut Rows) -> Called {
     match name {
         "NarratableReportHandler::clone" => {
             let footer = String::from_str(alloc, "bye")?;
@@ -53,64 +55,67 @@ pub fn make<W: Write + Drop>(alloc: Global, name: &str, row: &mut Rows<W>) -> Ca
             row.value(&terminal);
             choose(alloc, name, row, &terminal);
         }
-        _ => return render_behind(alloc, name, row, &report_with_source(alloc)?),
+        _ => return render(alloc, name, row, &report_with_source(alloc)?),
     }
     Ok(())
 }
 
 /// The report that is rendered.
 fn report_with_source(alloc: Global) -> Result<Report, AllocError> {
-    let source = OwnedSource::named(alloc, "bad_file.rs", None, README.to_vec(alloc)?)?;
+    let source = source_of(alloc, "bad_file.rs", README)?;
     Ok(full_report(alloc)?.with_owned_source(source))
 }
 
 /// The text `> ` and what the call of this name puts behind it.
-fn render_behind<W: Write + Drop>(
-    alloc: Global,
-    name: &str,
-    row: &mut Rows<W>,
-    report: &Report,
-) -> Called {
+fn render(alloc: Global, name: &str, row: &mut Rows, report: &Report) -> Called {
+    match name {
+        "ReportHandler::debug for GraphicalReportHandler" => {
+            render_by(alloc, row, plain_drawing(alloc, 1), report)
+        }
+        "ReportHandler::debug for NarratableReportHandler" => {
+            render_by(alloc, row, Ok(NarratableReportHandler::new()), report)
+        }
+        "ReportHandler::debug for BriefReportHandler" => {
+            render_by(alloc, row, Ok(BriefReportHandler::new()), report)
+        }
+        "ReportHandler::debug for JSONReportHandler" => {
+            render_by(alloc, row, Ok(JSONReportHandler::new()), report)
+        }
+        "ReportHandler::debug for DebugReportHandler" => {
+            render_by(alloc, row, Ok(DebugReportHandler::new()), report)
+        }
+        "ReportHandler::debug for MietteHandler" => render_by(alloc, row, chosen(alloc), report),
+        _ => render_behind(alloc, name, row, report),
+    }
+}
+
+fn chosen(alloc: Global) -> Result<MietteHandler<Red>, AllocError> {
+    Ok(MietteHandler::Graphical(plain_drawing(alloc, 1)?))
+}
+
+/// The same by a handler's own methods.
+fn render_behind(alloc: Global, name: &str, row: &mut Rows, report: &Report) -> Called {
     let mut text = String::from_str(alloc, "> ")?;
     row.value(&text);
-    let answer = render(alloc, name, report, &mut text)?;
+    let answer = render_to(alloc, name, report, &mut text)?;
     row.appended(answer, &text);
     Ok(())
 }
 
 /// What the call of this name answers; an error where the handler can't be made.
-fn render(
+fn render_to(
     alloc: Global,
     name: &str,
     report: &Report,
     text: &mut String,
 ) -> Result<Result<(), RenderError>, AllocError> {
-    match name {
-        "GraphicalReportHandler::render_report" => {
-            let theme = GraphicalTheme::unicode(alloc)?;
-            let drawing: GraphicalReportHandler = GraphicalReportHandler::new_themed(theme);
-            Ok(drawing.with_width(40).render_report(report, text))
-        }
-        "ReportHandler::debug for GraphicalReportHandler" => {
-            let theme = GraphicalTheme::unicode(alloc)?;
-            let drawing: GraphicalReportHandler = GraphicalReportHandler::new_themed(theme);
-            Ok(debug_by(drawing.with_width(40), report, text))
-        }
-        "ReportHandler::debug for MietteHandler" => {
-            let theme = GraphicalTheme::unicode(alloc)?;
-            let drawing = GraphicalReportHandler::new_themed(theme).with_width(40);
-            let chosen: MietteHandler = MietteHandler::Graphical(drawing);
-            Ok(debug_by(chosen, report, text))
-        }
-        _ => Ok(if name.starts_with("ReportHandler::") {
-            render_by_trait(name, report, text)
-        } else {
-            render_by_method(name, report, text)
-        }),
+    if name == "GraphicalReportHandler::render_report" {
+        return Ok(plain_drawing(alloc, 1)?.render_report(report, text));
     }
+    Ok(render_by_method(name, report, text))
 }
 
-/// What a handler's own method of this name answers.
+/// What a method of this name answers of a handler that takes no memory.
 fn render_by_method(name: &str, report: &Report, text: &mut String) -> Result<(), RenderError> {
     match name {
         "NarratableReportHandler::render_report" => {
@@ -122,39 +127,13 @@ fn render_by_method(name: &str, report: &Report, text: &mut String) -> Result<()
         }
         "BriefReportHandler::render" => BriefReportHandler::new().render(report, text),
         "JSONReportHandler::render_report" => JSONReportHandler::new().render_report(report, text),
+        "ReportHandler::display" => DebugReportHandler::new().display(report, true, text),
         _ => DebugReportHandler::new().render_report(report, text),
     }
 }
 
-/// What a method of each handler answers, by this handler.
-fn render_by_trait(name: &str, report: &Report, text: &mut String) -> Result<(), RenderError> {
-    match name {
-        "ReportHandler::debug for NarratableReportHandler" => {
-            debug_by(NarratableReportHandler::new(), report, text)
-        }
-        "ReportHandler::debug for BriefReportHandler" => {
-            debug_by(BriefReportHandler::new(), report, text)
-        }
-        "ReportHandler::debug for JSONReportHandler" => {
-            debug_by(JSONReportHandler::new(), report, text)
-        }
-        "ReportHandler::debug for DebugReportHandler" => {
-            debug_by(DebugReportHandler::new(), report, text)
-        }
-        _ => DebugReportHandler::new().display(report, true, text),
-    }
-}
-
-fn debug_by<H: ReportHandler + Drop>(
-    mut handler: H,
-    report: &Report,
-    text: &mut String,
-) -> Result<(), RenderError> {
-    handler.debug(report, text)
-}
-
 /// A handler that a terminal chooses, and what it makes of a message alone.
-fn choose<W: Write + Drop>(alloc: Global, name: &str, row: &mut Rows<W>, terminal: &Terminal) {
+fn choose(alloc: Global, name: &str, row: &mut Rows, terminal: &Terminal) {
     match name {
         "GraphicalReportHandler::new" => {
             picture(alloc, row, GraphicalReportHandler::new(alloc, terminal))
@@ -167,11 +146,7 @@ fn choose<W: Write + Drop>(alloc: Global, name: &str, row: &mut Rows<W>, termina
     }
 }
 
-fn picture<H: ReportHandler + Drop, W: Write + Drop>(
-    alloc: Global,
-    row: &mut Rows<W>,
-    answer: Result<H, AllocError>,
-) {
+fn picture<H: ReportHandler + Drop>(alloc: Global, row: &mut Rows, answer: Result<H, AllocError>) {
     match answer {
         Ok(mut handler) => match text_by(alloc, &mut handler) {
             Ok(text) => row.value(&text),

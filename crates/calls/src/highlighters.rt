@@ -5,7 +5,6 @@ use miette::highlight::Highlighter;
 use miette::style::{Color, Style};
 use miette_highlight::highlight::{Delimiters, Pattern, PatternHighlighter, Rule, by_char};
 use std::alloc::{AllocError, Global};
-use std::io::Write;
 
 /// The calls of this module.
 pub static NAMES: [&str; 11] = [
@@ -26,7 +25,7 @@ pub static NAMES: [&str; 11] = [
 ///
 /// # Errors
 /// Where memory is refused for what it is given.
-pub fn make<W: Write + Drop>(alloc: Global, name: &str, row: &mut Rows<W>) -> Called {
+pub fn make(alloc: Global, name: &str, row: &mut Rows) -> Called {
     match name {
         "by_char" => row.answer(by_char(alloc, "a1", digits_in_cyan)),
         "Delimiters::new" => row.answer(Delimiters::new(alloc, "/*", "*/")),
@@ -69,12 +68,7 @@ fn digits_in_cyan(c: char) -> Style {
 }
 
 /// The pieces of a line by the highlighter that a call gave.
-fn pieces<W: Write + Drop>(
-    alloc: Global,
-    row: &mut Rows<W>,
-    line: &str,
-    made: Result<PatternHighlighter, AllocError>,
-) {
+fn pieces(alloc: Global, row: &mut Rows, line: &str, made: Result<PatternHighlighter, AllocError>) {
     row.value(&line);
     match made {
         Ok(mut highlighter) => row.answer(highlighter.highlight_line(alloc, line)),
@@ -96,11 +90,7 @@ fn highlighter_by_rule(alloc: Global) -> Result<PatternHighlighter, AllocError> 
 }
 
 /// The pieces of a line that leaves a comment open, and the highlighter behind it; after a refusal that is as before.
-fn open_comment<W: Write + Drop>(
-    alloc: Global,
-    row: &mut Rows<W>,
-    mut highlighter: PatternHighlighter,
-) {
+fn open_comment(alloc: Global, row: &mut Rows, mut highlighter: PatternHighlighter) {
     row.value(&highlighter);
     match highlighter.highlight_line(alloc, "a /*b") {
         Ok(pieces) => {

@@ -3,7 +3,6 @@
 use crate::rows::{Called, Rows};
 use miette::protocol::LabeledSpan;
 use std::alloc::Global;
-use std::io::Write;
 
 /// The calls of this module.
 pub static NAMES: [&str; 3] = [
@@ -16,7 +15,7 @@ pub static NAMES: [&str; 3] = [
 ///
 /// # Errors
 /// Where memory is refused for what it is given.
-pub fn make<W: Write + Drop>(alloc: Global, name: &str, row: &mut Rows<W>) -> Called {
+pub fn make(alloc: Global, name: &str, row: &mut Rows) -> Called {
     match name {
         "LabeledSpan::at" => row.answer(LabeledSpan::at(alloc, (9, 4), "This bit here")),
         "LabeledSpan::at_offset" => row.answer(LabeledSpan::at_offset(alloc, 9, "here")),

@@ -26,16 +26,14 @@ mod themes;
 mod worked;
 
 use crate::rows::{Called, Done, Rows, Stop};
-use miette::terminal::Streams;
 use std::env;
-use std::env::Env;
 use std::io::Write;
 use std::process::ExitCode;
 
 fn main(rt: HostRuntime) -> ExitCode {
     match run(&rt) {
         Ok(()) => ExitCode::SUCCESS,
-        Err(stop) => end(stop, rt.faults()),
+        Err(stop) => end(stop, rt.stderr()),
     }
 }
 
@@ -49,7 +47,7 @@ fn end<F: Write + Drop>(stop: Stop, mut faults: F) -> ExitCode {
     ExitCode::from(status)
 }
 
-fn run<R: Env + AllocGlobal + Streams>(rt: &R) -> Done {
+fn run(rt: &HostRuntime) -> Done {
     let words: Vec<String> = match env::args(rt) {
         Ok(words) => words.skip(1).collect(rt.alloc())?,
         Err(_) => return Err(Stop::Memory),
@@ -63,20 +61,20 @@ fn run<R: Env + AllocGlobal + Streams>(rt: &R) -> Done {
     }
 }
 
-fn rows_of_word<R: Env + AllocGlobal + Streams>(rt: &R, name: &str) -> Done {
+fn rows_of_word(rt: &HostRuntime, name: &str) -> Done {
     match name {
         "report" => worked_rows(rt, name, "", ""),
-        "stops" => stops::rows(rt.alloc(), &mut Rows::on(rt.output())),
+        "stops" => stops::rows(rt.alloc(), &mut Rows::on(rt.stdout())),
         _ => rows_of(rt, Some(name)),
     }
 }
 
 /// The rows of worked reports.
-fn worked_rows<R: AllocGlobal + Streams>(rt: &R, kind: &str, name: &str, handler: &str) -> Done {
+fn worked_rows(rt: &HostRuntime, kind: &str, name: &str, handler: &str) -> Done {
     if kind != "report" {
         return Err(Stop::Usage);
     }
-    examples::rows_of(rt.alloc(), &mut Rows::on(rt.output()), name, handler)
+    examples::rows_of(rt.alloc(), &mut Rows::on(rt.stdout()), name, handler)
 }
 
 /// What the calls of a module are about.
@@ -128,20 +126,12 @@ fn names(subject: Subject) -> &'static [&'static str] {
     }
 }
 
-/// Whether a call is asked for.
-fn is_wanted(wanted: Option<&str>, name: &str) -> bool {
-    match wanted {
-        Some(wanted) => wanted == name,
-        None => true,
-    }
-}
-
 /// The rows of all calls, or that of one.
-fn rows_of<R: Env + AllocGlobal + Streams>(rt: &R, wanted: Option<&str>) -> Done {
+fn rows_of(rt: &HostRuntime, wanted: Option<&str>) -> Done {
     let mut found = false;
     for subject in &SUBJECTS {
         for name in names(*subject) {
-            if is_wanted(wanted, name) {
+            if wanted.unwrap_or(name) == *name {
                 found = true;
                 row(rt, *subject, name)?;
             }
@@ -151,19 +141,14 @@ fn rows_of<R: Env + AllocGlobal + Streams>(rt: &R, wanted: Option<&str>) -> Done
 }
 
 /// The row of a call.
-fn row<R: Env + AllocGlobal + Streams>(rt: &R, subject: Subject, name: &str) -> Done {
-    let mut row = Rows::on(rt.output());
+fn row(rt: &HostRuntime, subject: Subject, name: &str) -> Done {
+    let mut row = Rows::on(rt.stdout());
     row.text(name);
     let called = make(rt, subject, name, &mut row);
     row.end(called)
 }
 
-fn make<R: Env + AllocGlobal + Streams, W: Write + Drop>(
-    rt: &R,
-    subject: Subject,
-    name: &str,
-    row: &mut Rows<W>,
-) -> Called {
+fn make(rt: &HostRuntime, subject: Subject, name: &str, row: &mut Rows) -> Called {
     let alloc = rt.alloc();
     match subject {
         Subject::Labels => labels::make(alloc, name, row),

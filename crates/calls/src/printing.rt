@@ -10,11 +10,8 @@ use miette::print::{
     print_report_with, print_to, write_report,
 };
 use miette::report::Report;
-use miette::terminal::{Stream, Streams, Variables, detect};
+use miette::terminal::{Stream, Variables, detect};
 use std::alloc::{AllocError, Global};
-use std::env::Env;
-use std::io;
-use std::io::Write;
 
 /// The calls of this module.
 pub static NAMES: [&str; 9] = [
@@ -33,11 +30,7 @@ pub static NAMES: [&str; 9] = [
 ///
 /// # Errors
 /// Where memory is refused for what it is given.
-pub fn make<R: Env + AllocGlobal + Streams, W: Write + Drop>(
-    rt: &R,
-    name: &str,
-    row: &mut Rows<W>,
-) -> Called {
+pub fn make(rt: &HostRuntime, name: &str, row: &mut Rows) -> Called {
     match name {
         "Variables::read" => row.after(Variables::read(rt, true, true), &"read"),
         "detect" => row.after(detect(rt, Stream::Stdout), &"detected"),
@@ -57,7 +50,7 @@ pub fn make<R: Env + AllocGlobal + Streams, W: Write + Drop>(
 }
 
 /// Prints a report; how a program would end with it isn't looked at.
-fn print<R: Env + AllocGlobal + Streams>(rt: &R, name: &str, report: &Report) {
+fn print(rt: &HostRuntime, name: &str, report: &Report) {
     let _ = match name {
         "print_report" => print_report(rt, report),
         "print_report_with" => print_report_with(rt, in_colours(), report),
@@ -74,87 +67,65 @@ fn in_words() -> MietteHandlerOpts<BlankHighlighter> {
     MietteHandlerOpts::default().force_narrated(true)
 }
 
-/// Takes as many bytes as there is room for from the start.
-#[derive(Drop)]
-struct Room {
-    held: Vec<u8>,
+/// A writer that has room from the start for all that is printed here.
+fn room(alloc: Global) -> Result<Vec<u8>, AllocError> {
+    Vec::with_capacity(alloc, 4096)
 }
 
-impl Room {
-    fn new(alloc: Global) -> Result<Room, AllocError> {
-        let held = Vec::with_capacity(alloc, 4096)?;
-        Ok(Room { held })
-    }
-
-    fn text(&self) -> &str {
-        str::from_utf8(self.held.as_slice()).unwrap_or("no text")
-    }
-}
-
-impl Write for Room {
-    fn write(&mut self, buf: &[u8]) -> io::Result<usize> {
-        self.held.extend_from_slice(buf)?;
-        Ok(buf.len())
-    }
-
-    fn flush(&mut self) -> io::Result<()> {
-        Ok(())
-    }
-}
-
-fn narrated<R: Env + AllocGlobal + Streams, W: Write + Drop>(
-    rt: &R,
-    name: &str,
-    row: &mut Rows<W>,
-    report: &Report,
-) -> Called {
-    let mut room = Room::new(rt.alloc())?;
-    let answer = if name == "print_to" {
-        print_to(rt, Stream::Stdout, in_words(), report, &mut room)
-    } else {
-        write_report(
-            rt.alloc(),
-            &mut NarratableReportHandler::new(),
-            report,
-            &mut room,
-        )
-    };
-    held(row, answer, &room);
+fn narrated(rt: &HostRuntime, name: &str, row: &mut Rows, report: &Report) -> Called {
+    let mut writer = room(rt.alloc())?;
+    let answer = narrate(rt, name, report, &mut writer);
+    held(row, answer, writer.as_slice());
     Ok(())
 }
 
-fn two_rooms(alloc: Global) -> Result<Outputs<Room, Room>, AllocError> {
-    let writer = Room::new(alloc)?;
-    let faults = Room::new(alloc)?;
-    Ok(Outputs::new(writer, faults))
+/// What the call of this name answers, by a narrating handler.
+fn narrate(
+    rt: &HostRuntime,
+    name: &str,
+    report: &Report,
+    writer: &mut Vec<u8>,
+) -> Result<(), PrintError> {
+    if name == "print_to" {
+        return print_to(rt, Stream::Stdout, in_words(), report, writer);
+    }
+    let mut telling = NarratableReportHandler::new();
+    write_report(rt.alloc(), &mut telling, report, writer)
 }
 
-fn outputs<R: Env + AllocGlobal + Streams, W: Write + Drop>(
-    rt: &R,
-    row: &mut Rows<W>,
-    report: &Report,
-) -> Called {
+fn two_rooms(alloc: Global) -> Result<Outputs<Vec<u8>, Vec<u8>>, AllocError> {
+    let writer = room(alloc)?;
+    Ok(Outputs::new(writer, room(alloc)?))
+}
+
+fn outputs(rt: &HostRuntime, row: &mut Rows, report: &Report) -> Called {
     let mut outputs = two_rooms(rt.alloc())?;
     let _ = print_on(rt, Stream::Stdout, in_words(), report, &mut outputs);
-    let answer = match outputs.faults.text() {
+    held(
+        row,
+        told(outputs.faults.as_slice()),
+        outputs.writer.as_slice(),
+    );
+    Ok(())
+}
+
+/// How printing ended, by what was told of faults.
+fn told(faults: &[u8]) -> Result<(), PrintError> {
+    match str::from_utf8(faults).unwrap_or("no text") {
         "" => Ok(()),
         "a report could not be printed: out of memory\n" => Err(PrintError::Memory),
         _ => Err(PrintError::Write),
-    };
-    held(row, answer, &outputs.writer);
-    Ok(())
+    }
 }
 
 /// What a writer holds after a call that prints a report there.
-fn held<W: Write + Drop>(row: &mut Rows<W>, answer: Result<(), PrintError>, room: &Room) {
-    match answer {
-        Ok(()) => row.text(VALUE),
-        Err(PrintError::Memory) => row.text(REFUSED),
-        Err(error) => {
-            row.text("\t");
-            row.text(error.text());
-            row.text(": ");
-        }
-    }
-    row.part("", &room.text());
+fn held(row: &mut Rows, answer: Result<(), PrintError>, written: &[u8]) {
+    let text = str::from_utf8(written).unwrap_or("no text");
+    let before = match answer {
+        Ok(()) => VALUE,
+        Err(PrintError::Memory) => REFUSED,
+        Err(PrintError::Refused) => "\ta source could not be read: ",
+        Err(PrintError::Write) => "\twrite fault: ",
+    };
+    row.part(before, &text);
 }

@@ -7,7 +7,6 @@ use miette::error::MietteError;
 use miette::report::{IntoDiagnostic, Report, Result, WrapErr};
 use miette_tree::{bail, ensure, miette};
 use std::alloc::{AllocError, Global};
-use std::io::Write;
 
 /// The calls of this module.
 pub static NAMES: [&str; 18] = [
@@ -35,7 +34,7 @@ pub static NAMES: [&str; 18] = [
 ///
 /// # Errors
 /// Where memory is refused for what it is given.
-pub fn make<W: Write + Drop>(alloc: Global, name: &str, row: &mut Rows<W>) -> Called {
+pub fn make(alloc: Global, name: &str, row: &mut Rows) -> Called {
     match name {
         "Report::copied" => {
             let full = given_diagnostic(alloc, row)?;
@@ -65,7 +64,7 @@ fn by_macro(alloc: Global) -> Report {
 }
 
 /// A message in front of what is missing or has failed.
-fn in_front<W: Write + Drop>(alloc: Global, name: &str, row: &mut Rows<W>) -> Called {
+fn in_front(alloc: Global, name: &str, row: &mut Rows) -> Called {
     match name {
         "WrapErr::wrap_err for Option" => failed(row, None.wrap_err(alloc, "nothing is there")),
         "WrapErr::context for Option" => failed(row, None.context(alloc, "nothing is there")),
@@ -108,7 +107,7 @@ fn put_in_front(alloc: Global, name: &str, error: Result<u32>) -> Result<u32> {
 }
 
 /// A report over another one; where memory is refused both come back.
-fn over_another<W: Write + Drop>(alloc: Global, row: &mut Rows<W>) -> Called {
+fn over_another(alloc: Global, row: &mut Rows) -> Called {
     let cause = full_report(alloc)?;
     let report = Report::new(full_diagnostic(alloc)?);
     row.report(VALUE, &report);
@@ -124,7 +123,7 @@ fn over_another<W: Write + Drop>(alloc: Global, row: &mut Rows<W>) -> Called {
 }
 
 /// The report that a call is given, which the row shows.
-fn given_report<W: Write + Drop>(alloc: Global, row: &mut Rows<W>) -> Result<Report, AllocError> {
+fn given_report(alloc: Global, row: &mut Rows) -> Result<Report, AllocError> {
     let report = full_report(alloc)?;
     row.report(VALUE, &report);
     Ok(report)
@@ -146,7 +145,7 @@ fn is_held(alloc: Global, number: u32) -> Result<u32> {
 }
 
 /// The report that a call gave, or that memory was refused.
-fn made<W: Write + Drop>(row: &mut Rows<W>, answer: Result<Report, AllocError>) {
+fn made(row: &mut Rows, answer: Result<Report, AllocError>) {
     match answer {
         Ok(report) => row.report(VALUE, &report),
         Err(AllocError) => row.refused(),
@@ -154,7 +153,7 @@ fn made<W: Write + Drop>(row: &mut Rows<W>, answer: Result<Report, AllocError>) 
 }
 
 /// A report with a message in front, or as it came back.
-fn put_before<W: Write + Drop>(row: &mut Rows<W>, answer: Result<Report, Report>) {
+fn put_before(row: &mut Rows, answer: Result<Report, Report>) {
     match answer {
         Ok(report) => row.report(VALUE, &report),
         Err(report) => row.report(REFUSED, &report),
@@ -162,7 +161,7 @@ fn put_before<W: Write + Drop>(row: &mut Rows<W>, answer: Result<Report, Report>
 }
 
 /// The report of what is missing or has failed.
-fn failed<W: Write + Drop>(row: &mut Rows<W>, answer: Result<u32>) {
+fn failed(row: &mut Rows, answer: Result<u32>) {
     match answer {
         Ok(value) => row.value(&value),
         Err(report) => row.report_or_refusal(&report),

@@ -5,6 +5,7 @@ use miette::report::{Report, ReportKind};
 use std::alloc::AllocError;
 use std::fmt::Debug;
 use std::io::Write;
+use std::rt::Stdout;
 
 /// Why the program ends.
 #[derive(Clone, Copy)]
@@ -35,16 +36,16 @@ pub const VALUE: &str = "\t";
 /// What stands in front of a value that is as before, since memory was refused.
 pub const REFUSED: &str = "\trefused: ";
 
-/// Rows on an output. Once that takes no more, nothing else is written; the end of a row says so.
+/// Rows on standard output. Once that takes no more, nothing else is written; the end of a row says so.
 #[derive(Drop)]
-pub struct Rows<W: Write + Drop> {
-    out: W,
+pub struct Rows {
+    out: Stdout,
     is_full: bool,
 }
 
-impl<W: Write + Drop> Rows<W> {
-    /// Rows on this output.
-    pub fn on(out: W) -> Rows<W> {
+impl Rows {
+    /// Rows of which none is written yet.
+    pub fn on(out: Stdout) -> Rows {
         Rows {
             out,
             is_full: false,

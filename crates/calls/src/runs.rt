@@ -6,7 +6,6 @@ use miette_text::runs::Runs;
 use miette_text::runs::output::Output;
 use miette_text::runs::reading::read_text;
 use std::alloc::{AllocError, Global};
-use std::io::Write;
 
 /// The calls of this module.
 pub static NAMES: [&str; 24] = [
@@ -40,7 +39,7 @@ pub static NAMES: [&str; 24] = [
 ///
 /// # Errors
 /// Where memory is refused for what it is given.
-pub fn make<W: Write + Drop>(alloc: Global, name: &str, row: &mut Rows<W>) -> Called {
+pub fn make(alloc: Global, name: &str, row: &mut Rows) -> Called {
     match name {
         "Runs::new" => row.value(&Runs::new(alloc)),
         "Output::for_text" => row.value(&Output::for_text(alloc)),
@@ -70,7 +69,7 @@ fn red() -> Style {
     Style::new().color(Color::Red)
 }
 
-fn pushed<W: Write + Drop>(alloc: Global, name: &str, row: &mut Rows<W>) -> Called {
+fn pushed(alloc: Global, name: &str, row: &mut Rows) -> Called {
     let more = read_text(alloc, "\u{1b}[32mb\u{1b}[0mc")?;
     let mut runs = Runs::new(alloc);
     row.value(&runs);
@@ -95,7 +94,7 @@ fn push(name: &str, runs: &mut Runs, more: &Runs) -> Result<(), AllocError> {
     }
 }
 
-fn put<W: Write + Drop>(name: &str, row: &mut Rows<W>, mut output: Output) {
+fn put(name: &str, row: &mut Rows, mut output: Output) {
     let answer = push_to(name, &mut output);
     row.after(answer, &output);
 }

@@ -5,7 +5,6 @@ use miette::protocol::{SourceOffset, SourceSpan};
 use miette::report::OwnedSource;
 use miette::source::{IndexedSource, NamedSource, SourceCode};
 use std::alloc::{AllocError, Global};
-use std::io::Write;
 
 /// The calls of this module.
 pub static NAMES: [&str; 6] = [
@@ -24,7 +23,7 @@ pub const README: &[u8] = b"source\n  text\n    here";
 ///
 /// # Errors
 /// Where memory is refused for what it is given.
-pub fn make<W: Write + Drop>(alloc: Global, name: &str, row: &mut Rows<W>) -> Called {
+pub fn make(alloc: Global, name: &str, row: &mut Rows) -> Called {
     let bytes = README.to_vec(alloc)?;
     match name {
         "IndexedSource::new" => read(row, IndexedSource::new(alloc, bytes)),
@@ -34,30 +33,29 @@ pub fn make<W: Write + Drop>(alloc: Global, name: &str, row: &mut Rows<W>) -> Ca
             row,
             OwnedSource::named(alloc, "bad_file.rs", Some("rust"), bytes),
         ),
-        _ => return of_named(alloc, name, row),
+        "NamedSource::with_language" => return with_language(alloc, row, bytes),
+        _ => return clones(alloc, row, bytes),
     }
     Ok(())
 }
 
-fn of_named<W: Write + Drop>(alloc: Global, name: &str, row: &mut Rows<W>) -> Called {
-    let named = NamedSource::new(alloc, "bad_file.rs", README.to_vec(alloc)?)?;
-    if name == "NamedSource::clone" {
-        clones(row, &named.with_language(alloc, "rust")?);
-    } else {
-        row.value(&named);
-        read(row, named.with_language(alloc, "rust"));
-    }
+fn with_language(alloc: Global, row: &mut Rows, bytes: Vec<u8>) -> Called {
+    let named = NamedSource::new(alloc, "bad_file.rs", bytes)?;
+    row.value(&named);
+    read(row, named.with_language(alloc, "rust"));
     Ok(())
 }
 
-fn clones<W: Write + Drop>(row: &mut Rows<W>, named: &NamedSource<Vec<u8>>) {
-    row.value(named);
+fn clones(alloc: Global, row: &mut Rows, bytes: Vec<u8>) -> Called {
+    let named = NamedSource::new(alloc, "bad_file.rs", bytes)?.with_language(alloc, "rust")?;
+    row.value(&named);
     read(row, named.clone());
     read(row, named.clone());
+    Ok(())
 }
 
 /// A read of the source that a call gave, with a line of context.
-fn read<S: SourceCode, W: Write + Drop>(row: &mut Rows<W>, answer: Result<S, AllocError>) {
+fn read<S: SourceCode>(row: &mut Rows, answer: Result<S, AllocError>) {
     match answer {
         Ok(source) => {
             let span = SourceSpan::new(SourceOffset::from(9), 4);

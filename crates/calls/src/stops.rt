@@ -2,14 +2,13 @@
 
 use crate::examples::render_made;
 use crate::fixtures::{
-    M, Made, Mended, Written, report_and_fix, report_and_stopping, report_beside_one, report_of,
-    report_over, stopping_report,
+    M, Made, Mended, Written, list_of, report_and_fix, report_and_stopping, report_beside,
+    report_of, report_over, stopping_report,
 };
-use crate::rows::{Called, Done, Rows, Stop};
+use crate::rows::{Done, Rows, Stop};
 use crate::stopping::{Reads, Stopping};
 use std::alloc::{AllocError, Global};
 use std::cell::Cell;
-use std::io::Write;
 
 static NAMES: [&str; 10] = [
     "one label",
@@ -77,10 +76,10 @@ static FAR_DOWN: Mended<'static> = ("five", 1150, 0, "five");
 ///
 /// # Errors
 /// `Write` where standard output took no more.
-pub fn rows<W: Write + Drop>(alloc: Global, rows: &mut Rows<W>) -> Done {
+pub fn rows(alloc: Global, rows: &mut Rows) -> Done {
     for name in &NAMES {
         for handler in &HANDLERS {
-            for lines in [0usize, 1, 2] {
+            for lines in 0..3usize {
                 until_none_fails(alloc, rows, (name, handler, lines), false)?;
                 until_none_fails(alloc, rows, (name, handler, lines), true)?;
             }
@@ -89,9 +88,9 @@ pub fn rows<W: Write + Drop>(alloc: Global, rows: &mut Rows<W>) -> Done {
     Ok(())
 }
 
-fn until_none_fails<W: Write + Drop>(
+fn until_none_fails(
     alloc: Global,
-    rows: &mut Rows<W>,
+    rows: &mut Rows,
     (name, handler, lines): (&str, &str, usize),
     stays: bool,
 ) -> Done {
@@ -108,22 +107,13 @@ fn until_none_fails<W: Write + Drop>(
         rows.part(", ", &lines);
         rows.text(how);
         rows.part(" ", &fails_at);
-        let called = row(alloc, rows, (name, handler, lines), &reads);
+        let called = render_made(alloc, rows, report(alloc, name, &reads), handler, lines);
         rows.end(called)?;
         if reads.count.get() < fails_at {
             return Ok(());
         }
     }
     Err(Stop::Usage)
-}
-
-fn row<W: Write + Drop>(
-    alloc: Global,
-    row: &mut Rows<W>,
-    (name, handler, lines): (&str, &str, usize),
-    reads: &Reads,
-) -> Called {
-    render_made(alloc, row, report(alloc, name, reads), handler, lines)
 }
 
 fn report<'a>(alloc: Global, name: &str, reads: &'a Reads) -> Result<Made<'a>, AllocError> {
@@ -164,7 +154,7 @@ fn with_another<'a>(
     other: Result<Made<'a>, AllocError>,
 ) -> Result<Made<'a>, AllocError> {
     if name == "a related report" {
-        report_beside_one(alloc, report_of(alloc, &PLAIN), other)
+        report_beside(report_of(alloc, &PLAIN), list_of(alloc, other))
     } else {
         report_over(alloc, report_of(alloc, &APART), other)
     }

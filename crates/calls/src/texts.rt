@@ -10,7 +10,6 @@ use miette_text::wrap::cutting::{without_leading, without_trailing};
 use miette_text::wrap::fitting::push_fitting;
 use miette_tree::report_handler::append_whole;
 use std::alloc::{AllocError, Global};
-use std::io::Write;
 
 /// The calls of this module.
 pub static NAMES: [&str; 10] = [
@@ -34,7 +33,7 @@ const TEXT: &str =
 ///
 /// # Errors
 /// Where memory is refused for what it is given.
-pub fn make<W: Write + Drop>(alloc: Global, name: &str, row: &mut Rows<W>) -> Called {
+pub fn make(alloc: Global, name: &str, row: &mut Rows) -> Called {
     match name {
         "fill" | "append_whole" => appended(alloc, name, row),
         "wrap" => wrapped(alloc, row),
@@ -57,7 +56,7 @@ pub fn make<W: Write + Drop>(alloc: Global, name: &str, row: &mut Rows<W>) -> Ca
     }
 }
 
-fn of_runs<W: Write + Drop>(alloc: Global, name: &str, row: &mut Rows<W>, runs: Runs) {
+fn of_runs(alloc: Global, name: &str, row: &mut Rows, runs: Runs) {
     match name {
         "without_leading" => row.answer(without_leading(alloc, runs)),
         "without_trailing" => row.answer(without_trailing(alloc, runs)),
@@ -77,22 +76,23 @@ static OPTIONS: WrapOptions<'static> = WrapOptions {
 };
 
 /// The text `> `, and what the call of this name puts behind it.
-fn appended<W: Write + Drop>(alloc: Global, name: &str, row: &mut Rows<W>) -> Called {
+fn appended(alloc: Global, name: &str, row: &mut Rows) -> Called {
     let mut text = String::from_str(alloc, "> ")?;
     row.value(&text);
-    let answer = if name == "fill" {
-        match fill(TEXT, &OPTIONS, &mut text) {
-            Ok(()) => Ok(()),
-            Err(AllocError) => Err(RenderError::Memory),
-        }
-    } else {
-        append_whole("a text that is longer than what is there", &mut text)
-    };
+    let answer = append(name, &mut text);
     row.appended(answer, &text);
     Ok(())
 }
 
-fn wrapped<W: Write + Drop>(alloc: Global, row: &mut Rows<W>) -> Called {
+/// What the call answers.
+fn append(name: &str, text: &mut String) -> Result<(), RenderError> {
+    if name == "append_whole" {
+        return append_whole("a text that is longer than what is there", text);
+    }
+    Ok(fill(TEXT, &OPTIONS, text)?)
+}
+
+fn wrapped(alloc: Global, row: &mut Rows) -> Called {
     let mut output = Output::for_runs(alloc);
     row.value(&output);
     let answer = wrap_text(alloc, &mut output)?;
@@ -117,7 +117,7 @@ fn wrap_text(alloc: Global, output: &mut Output) -> Result<Result<(), AllocError
     Ok(wrap(alloc, plan, &text, output))
 }
 
-fn fitted<W: Write + Drop>(alloc: Global, row: &mut Rows<W>) -> Called {
+fn fitted(alloc: Global, row: &mut Rows) -> Called {
     let first = read_text(alloc, "* ")?;
     let mut output = Output::for_runs(alloc);
     row.value(&output);

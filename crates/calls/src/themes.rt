@@ -4,7 +4,6 @@ use crate::rows::{Called, Rows};
 use miette::highlight::{BlankHighlighter, Highlighter};
 use miette::theme::{GraphicalTheme, Terminal, ThemeCharacters, ThemeStyles};
 use std::alloc::{AllocError, Global};
-use std::io::Write;
 
 /// The calls of this module.
 pub static NAMES: [&str; 16] = [
@@ -30,7 +29,7 @@ pub static NAMES: [&str; 16] = [
 ///
 /// # Errors
 /// Where memory is refused for what it is given.
-pub fn make<W: Write + Drop>(alloc: Global, name: &str, row: &mut Rows<W>) -> Called {
+pub fn make(alloc: Global, name: &str, row: &mut Rows) -> Called {
     match name {
         "ThemeCharacters::unicode" => row.answer(ThemeCharacters::unicode(alloc)),
         "ThemeCharacters::emoji" => row.answer(ThemeCharacters::emoji(alloc)),

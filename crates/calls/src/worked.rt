@@ -1,8 +1,8 @@
 //! Worked reports, each by its name.
 
 use crate::fixtures::{
-    M, Made, Mended, Written, report_and_fix, report_and_further, report_beside, report_beside_one,
-    report_of, report_over, report_over_texts, stopping_report,
+    M, Made, Mended, Written, list_of, report_and_fix, report_and_further, report_beside,
+    report_of, report_over, report_over_texts, reports_of, stopping_report,
 };
 use crate::sources::README;
 use crate::stopping::{Reads, Stopping};
@@ -155,15 +155,14 @@ fn mended<'a>(alloc: Global) -> Result<Made<'a>, AllocError> {
 }
 
 fn report_with_related_below<'a>(alloc: Global) -> Result<Made<'a>, AllocError> {
-    report_beside_one(
-        alloc,
+    report_beside(
         report_of(alloc, &CROSSING),
-        report_with_related(alloc),
+        list_of(alloc, report_with_related(alloc)),
     )
 }
 
 fn report_with_related<'a>(alloc: Global) -> Result<Made<'a>, AllocError> {
-    report_beside(alloc, report_of(alloc, &PLAIN)?, &BESIDE)
+    report_beside(report_of(alloc, &PLAIN), reports_of(alloc, &BESIDE))
 }
 
 fn cause<'a>(alloc: Global, name: &str, reads: &'a Reads) -> Result<Made<'a>, AllocError> {

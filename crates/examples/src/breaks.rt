@@ -11,7 +11,8 @@ use std::{fs, io};
 
 /// Runs the example with the words behind its name.
 pub fn main<R: Files + Print + Eprint + AllocGlobal>(rt: &R, mut words: Args) -> ExitCode {
-    match run(rt, words.next()) {
+    let name = words.next();
+    match run(rt, name.as_deref()) {
         Ok(()) => ExitCode::SUCCESS,
         Err(fault) => {
             let _ = eprintln!(rt; "breaks: {fault}");
@@ -20,11 +21,11 @@ pub fn main<R: Files + Print + Eprint + AllocGlobal>(rt: &R, mut words: Args) ->
     }
 }
 
-fn run<R: Files + Print + AllocGlobal>(rt: &R, name: Option<String>) -> io::Result<()> {
+fn run<R: Files + Print + AllocGlobal>(rt: &R, name: Option<&str>) -> io::Result<()> {
     let Some(name) = name else {
         return Err(io::Error::other("usage: breaks FILE"));
     };
-    let text = fs::read_to_string(rt, name.as_str())?;
+    let text = fs::read_to_string(rt, name)?;
     for part in text.split('\0') {
         let places = places_of(rt.alloc(), part)?;
         println!(rt; "{places}")?;

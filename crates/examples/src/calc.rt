@@ -14,11 +14,13 @@ use miette::style::{Color, Style};
 use miette_tree::diagnostic;
 use std::alloc::{AllocError, Global};
 use std::env::Args;
+use std::io::Print;
 use std::process::ExitCode;
 
 /// Runs the example with the words behind its name.
 pub fn main<R: Host>(rt: &R, mut words: Args) -> ExitCode {
-    match run(rt, words.next()) {
+    let text = words.next();
+    match run(rt, text.as_deref()) {
         Ok(()) => ExitCode::SUCCESS,
         Err(report) => {
             let options = MietteHandlerOpts::default().with_syntax_highlighting(Cyan);
@@ -27,15 +29,12 @@ pub fn main<R: Host>(rt: &R, mut words: Args) -> ExitCode {
     }
 }
 
-fn run<R: Host>(rt: &R, text: Option<String>) -> Result<()> {
+fn run<R: Print + AllocGlobal>(rt: &R, text: Option<&str>) -> Result<()> {
     let alloc = rt.alloc();
     let text = text.wrap_err(alloc, "usage: calc EXPRESSION")?;
-    match value_of(text.as_str()) {
+    match value_of(text) {
         Ok(value) => println!(rt; "{value}").into_diagnostic(alloc),
-        Err(fault) => Err(report_of(alloc, text.as_str(), fault)?).wrap_err(
-            alloc,
-            "there is no value",
-        ),
+        Err(fault) => Err(report_of(alloc, text, fault)?).wrap_err(alloc, "there is no value"),
     }
 }
 

@@ -3,6 +3,7 @@
 mod settings;
 
 use crate::confcheck::settings::{is_known, key_in, line_of, nearest, port_of, set_twice};
+use crate::reading::text_of;
 use miette::prelude::{
     Applicability, Edit, Fix, Host, IntoDiagnostic, LabeledSpan, MietteDiagnostic, OwnedSource,
     Report, Result, Severity, Snippets, WrapErr, print_report,
@@ -10,50 +11,48 @@ use miette::prelude::{
 use miette_tree::miette;
 use std::alloc::{AllocError, Global};
 use std::env::Args;
-use std::fs;
+use std::fs::Files;
+use std::io::Print;
 use std::process::ExitCode;
 use toml::Table;
 use toml::de::Error;
 
 /// Runs the example with the words behind its name.
 pub fn main<R: Host>(rt: &R, mut words: Args) -> ExitCode {
-    match run(rt, words.next(), words.next()) {
+    let (name, other) = (words.next(), words.next());
+    match run(rt, name.as_deref(), other.as_deref()) {
         Ok(()) => ExitCode::SUCCESS,
         Err(report) => print_report(rt, &report),
     }
 }
 
-fn run<R: Host>(rt: &R, name: Option<String>, other: Option<String>) -> Result<()> {
+fn run<R: Files + Print + AllocGlobal>(
+    rt: &R,
+    name: Option<&str>,
+    other: Option<&str>,
+) -> Result<()> {
     let alloc = rt.alloc();
     let name = name.wrap_err(alloc, "usage: confcheck FILE [FILE]")?;
-    let text = text_of(rt, name.as_str())?;
+    let text = text_of(rt, name)?;
     match check_with(rt, text.as_str(), other) {
         Ok(port) => println!(rt; "{name}: port {port}").into_diagnostic(alloc),
         Err(report) => {
-            let source = OwnedSource::named(alloc, name.as_str(), Some("toml"), text.into_bytes())?;
+            let source = OwnedSource::named(alloc, name, Some("toml"), text.into_bytes())?;
             Err(report.with_owned_source(source))
         }
     }
 }
 
-/// The text of a file.
-fn text_of<R: Host>(rt: &R, name: &str) -> Result<String> {
-    let alloc = rt.alloc();
-    fs::read_to_string(rt, name)
-        .into_diagnostic(alloc)
-        .wrap_err_with(alloc, || format!(in alloc; "could not read {name}"))
-}
-
 /// The port, or what is wrong with the settings, of which another file may give none.
-fn check_with<R: Host>(rt: &R, text: &str, other: Option<String>) -> Result<i64> {
+fn check_with<R: Files + AllocGlobal>(rt: &R, text: &str, other: Option<&str>) -> Result<i64> {
     if let Some(name) = other {
-        check_other(rt, text, name.as_str())?;
+        check_other(rt, text, name)?;
     }
     check(rt.alloc(), text)
 }
 
 /// Fails where another file gives one of the settings too.
-fn check_other<R: Host>(rt: &R, text: &str, name: &str) -> Result<()> {
+fn check_other<R: Files + AllocGlobal>(rt: &R, text: &str, name: &str) -> Result<()> {
     let alloc = rt.alloc();
     let other = text_of(rt, name)?;
     match set_twice(text, other.as_str()) {
@@ -105,7 +104,7 @@ fn no_toml(alloc: Global, error: &Error) -> Result<Report, AllocError> {
 /// A fault, and beside it a warning for each key that nothing reads.
 fn bad_port(alloc: Global, text: &str, table: &Table) -> Result<Report> {
     let labels = label_on(alloc, line_of(text, "port"), "from 1 to 65535")?;
-    let fixes = vec![in alloc; port_fix(alloc, text)?]?;
+    let fixes = port_fixes(alloc, text)?;
     let warnings = unread_keys(alloc, text, table)?;
     let fault = miette!(
         in alloc;
@@ -144,13 +143,13 @@ fn unread_key(alloc: Global, text: &str, key: &str) -> Result<Report> {
 }
 
 /// A port that is right: in place of the line that sets one, or in front.
-fn port_fix(alloc: Global, text: &str) -> Result<Fix, AllocError> {
+fn port_fixes(alloc: Global, text: &str) -> Result<Vec<Fix>, AllocError> {
     let edit = match line_of(text, "port") {
         Some(line) => Edit::replace(line, String::from_str(alloc, "port = 8080")?),
         None => Edit::insert(0, String::from_str(alloc, "port = 8080\n")?),
     };
     let fix = Fix::new(alloc, "set a port")?.with_edit(edit)?;
-    Ok(fix.with_applicability(Applicability::HasPlaceholders))
+    Ok(vec![in alloc; fix.with_applicability(Applicability::HasPlaceholders)]?)
 }
 
 /// The known key that is nearest to this one, in its place, where there is one.

@@ -1,4 +1,4 @@
-//! Five examples in one program, whose first word names one: `examples confcheck settings.toml`. Each takes the words
+//! Six examples in one program, whose first word names one: `examples confcheck settings.toml`. Each takes the words
 //! behind its name, and could be a program of its own.
 #![tactic(auto)]
 
@@ -6,7 +6,9 @@ mod breaks;
 mod calc;
 mod confcheck;
 mod minilisp;
+mod reading;
 mod testdiff;
+mod typos;
 
 use miette::prelude::Host;
 use std::io::Eprint;
@@ -32,8 +34,9 @@ fn run<R: Host + Eprint>(rt: &R) -> io::Result<ExitCode> {
         "confcheck" => Ok(confcheck::main(rt, words)),
         "minilisp" => Ok(minilisp::main(rt, words)),
         "testdiff" => Ok(testdiff::main(rt, words)),
+        "typos" => Ok(typos::main(rt, words)),
         _ => Err(io::Error::other(
-            "usage: examples breaks|calc|confcheck|minilisp|testdiff WORDS..",
+            "usage: examples breaks|calc|confcheck|minilisp|testdiff|typos WORDS..",
         )),
     }
 }

@@ -2,58 +2,78 @@
 
 mod lines;
 
+use crate::reading::text_of;
 use crate::testdiff::lines::differences;
-use miette::prelude::{
-    Form, Host, IntoDiagnostic, LabeledSpan, MietteHandlerOpts, OwnedSource, Report, Reporter,
-    Result, WrapErr, eprint_report,
-};
+use miette::prelude::*;
 use miette_tree::miette;
 use std::alloc::Global;
 use std::env::Args;
-use std::fs;
+use std::fs::Files;
+use std::io::{Print, Write};
 use std::process::ExitCode;
-
-/// What the program was called with.
-#[derive(Drop)]
-struct Words {
-    form: Form,
-    expected: String,
-    actual: String,
-}
 
 /// Runs the example with the words behind its name.
 pub fn main<R: Host>(rt: &R, words: Args) -> ExitCode {
-    match run(rt, words) {
+    let (form, expected, actual) = words_of(words);
+    match run(rt, form, expected.as_deref(), actual.as_deref()) {
         Ok(status) => status,
         Err(report) => eprint_report(rt, &report),
     }
 }
 
-fn run<R: Host>(rt: &R, words: Args) -> Result<ExitCode> {
-    let words = read_words(rt.alloc(), words)?;
-    let wanted = log(rt, words.expected.as_str())?;
-    let found = log(rt, words.actual.as_str())?;
-    compare(rt, &words, wanted.as_str(), found)
+/// The form of the report, and the names of the two logs.
+fn words_of(mut words: Args) -> (Form, Option<String>, Option<String>) {
+    let first = words.next();
+    if first.as_deref() == Some("--json") {
+        (Form::JsonRows, words.next(), words.next())
+    } else {
+        (Form::Pictures, first, words.next())
+    }
 }
 
-/// Says where the log that was found isn't the expected one.
-fn compare<R: Host>(rt: &R, words: &Words, wanted: &str, found: String) -> Result<ExitCode> {
+fn run<R: Host>(
+    rt: &R,
+    form: Form,
+    expected: Option<&str>,
+    actual: Option<&str>,
+) -> Result<ExitCode> {
+    match compare(rt, expected, actual)? {
+        Some(report) => {
+            let run = Reporter::new(rt, form, MietteHandlerOpts::new())?;
+            tell(rt.alloc(), run, &report)
+        }
+        None => Ok(ExitCode::SUCCESS),
+    }
+}
+
+/// Tells a report as the one of a run.
+fn tell<T: ReportHandler + Drop, W: Write + Drop, F: Write + Drop>(
+    alloc: Global,
+    mut run: Reporter<T, W, F>,
+    report: &Report,
+) -> Result<ExitCode> {
+    run.report(report).into_diagnostic(alloc)?;
+    Ok(run.finish())
+}
+
+/// A report of the lines that aren't the expected ones. Where there are none, that is printed.
+fn compare<R: Files + Print + AllocGlobal>(
+    rt: &R,
+    expected: Option<&str>,
+    actual: Option<&str>,
+) -> Result<Option<Report>> {
     let alloc = rt.alloc();
-    let labels = differences(alloc, wanted, found.as_str())?;
-    let actual = words.actual.as_str();
+    let usage = "usage: testdiff [--json] EXPECTED ACTUAL";
+    let expected = expected.wrap_err(alloc, usage)?;
+    let actual = actual.wrap_err(alloc, usage)?;
+    let wanted = text_of(rt, expected)?;
+    let found = text_of(rt, actual)?;
+    let labels = differences(alloc, wanted.as_str(), found.as_str())?;
     if labels.is_empty() {
         println!(rt; "{actual}: as expected").into_diagnostic(alloc)?;
-        return Ok(ExitCode::SUCCESS);
+        return Ok(None);
     }
-    let report = report_of(alloc, actual, found, labels)?;
-    tell(rt, words.form, &report)
-}
-
-/// Writes a report in a form.
-fn tell<R: Host>(rt: &R, form: Form, report: &Report) -> Result<ExitCode> {
-    let mut run = Reporter::new(rt, form, MietteHandlerOpts::new())?;
-    run.report(report).into_diagnostic(rt.alloc())?;
-    Ok(run.finish())
+    Ok(Some(report_of(alloc, actual, found, labels)?))
 }
 
 /// A report with a label on each line that differs.
@@ -72,27 +92,4 @@ fn report_of(
         "lines that differ: {count}"
     );
     Ok(report.with_owned_source(source))
-}
-
-fn read_words(alloc: Global, mut words: Args) -> Result<Words> {
-    let usage = "usage: testdiff [--json] EXPECTED ACTUAL";
-    let first = words.next().wrap_err(alloc, usage)?;
-    let (form, expected) = if first.as_str() == "--json" {
-        (Form::JsonRows, words.next().wrap_err(alloc, usage)?)
-    } else {
-        (Form::Pictures, first)
-    };
-    let actual = words.next().wrap_err(alloc, usage)?;
-    Ok(Words {
-        form,
-        expected,
-        actual,
-    })
-}
-
-fn log<R: Host>(rt: &R, name: &str) -> Result<String> {
-    let alloc = rt.alloc();
-    fs::read_to_string(rt, name)
-        .into_diagnostic(alloc)
-        .wrap_err_with(alloc, || format!(in alloc; "could not read {name}"))
 }

@@ -11,7 +11,7 @@ use crate::host::Host;
 use miette_protocol::diagnostic::MietteDiagnostic;
 use miette_protocol::protocol::{Diagnostic, LabeledSpan};
 use miette_protocol::source::SourceCode;
-use miette_tree::report::{OwnedSource, Report, Result};
+use miette_tree::report::{OwnedSource, Report, UsualBoxes};
 use std::alloc::{AllocError, Global};
 use std::io::Read;
 use std::{fs, io};
@@ -29,9 +29,13 @@ pub fn input_name(word: &str) -> &str
 /// # Errors
 /// A report: `could not read NAME` with the reason as its cause, that of `text_of` where the input isn't UTF-8, or that
 /// of refused memory. The name is that of `input_name`.
-pub fn read_text<R: Host>(rt: &R, word: &str) -> Result<String>
-    ensures { IfErr result (λ r. GivesNoText (shown_name word.now)
-        (tree_of ⟦<Box<dyn Diagnostic> as Diagnostic>⟧.meaning ⟦<Box<dyn SourceCode> as SourceCode>⟧.source r)) }
+pub fn read_text<R: Host, D: Diagnostic, S: SourceCode>(
+    rt: &R,
+    word: &str,
+) -> Result<String, Report<D, S>>
+where
+    Report<D, S>: UsualBoxes,
+    ensures { IfErr result (λ r. GivesNoText (shown_name word.now) (tree_of D.meaning S.source r)) }
 {
     let alloc = rt.alloc();
     let name = input_name(word);
@@ -46,11 +50,16 @@ pub fn read_text<R: Host>(rt: &R, word: &str) -> Result<String>
 /// # Errors
 /// A report over the input, `NAME isn't UTF-8`, with a label on the byte behind the longest beginning that is text; or
 /// that of refused memory.
-pub fn text_of(alloc: Global, name: &str, bytes: Vec<u8>) -> Result<String>
+pub fn text_of<D: Diagnostic, S: SourceCode>(
+    alloc: Global,
+    name: &str,
+    bytes: Vec<u8>,
+) -> Result<String, Report<D, S>>
+where
+    Report<D, S>: UsualBoxes,
     ensures ok { IfOk result (λ text. string_bytes text ≡ bytes.items) }
     ensures utf8 { IsUtf8 bytes.items → IsOk result }
-    ensures err { IfErr result (λ r. IsNoText name.now bytes.items
-        (tree_of ⟦<Box<dyn Diagnostic> as Diagnostic>⟧.meaning ⟦<Box<dyn SourceCode> as SourceCode>⟧.source r)) }
+    ensures err { IfErr result (λ r. IsNoText name.now bytes.items (tree_of D.meaning S.source r)) }
 {
     match String::from_utf8(bytes) {
         Ok(text) => Ok(text),
@@ -79,23 +88,31 @@ fn stop_diagnostic(alloc: Global, name: &str, stop: usize) -> Result<MietteDiagn
 }
 
 // The report of an input that stops being text there.
-fn not_text(alloc: Global, name: &str, stop: usize, bytes: Vec<u8>) -> Result<Report, AllocError>
+fn not_text<D: Diagnostic, S: SourceCode>(
+    alloc: Global,
+    name: &str,
+    stop: usize,
+    bytes: Vec<u8>,
+) -> Result<Report<D, S>, AllocError>
     requires { stop ≡ utf8_valid_len bytes.items }
-    ensures { IfOk result (λ r.
-        tree_of ⟦<Box<dyn Diagnostic> as Diagnostic>⟧.meaning ⟦<Box<dyn SourceCode> as SourceCode>⟧.source r
-        ≡ no_text name.now bytes.items) }
+    ensures { IfOk result (λ r. tree_of D.meaning S.source r ≡ no_text name.now bytes.items) }
 {
     let diagnostic = stop_diagnostic(alloc, name, stop)?;
     let source = OwnedSource::named(alloc, name, None, bytes)?;
-    Ok(Report::new(diagnostic).with_owned_source(source))
+    Ok(Report::built(diagnostic).with_owned_source(source))
 }
 
 // The report of an input that couldn't be read for this reason.
-fn unread(alloc: Global, name: &str, reason: io::Error) -> Result<Report, AllocError>
-    ensures { IfOk result (λ r. IsUnread name.now
-        (tree_of ⟦<Box<dyn Diagnostic> as Diagnostic>⟧.meaning ⟦<Box<dyn SourceCode> as SourceCode>⟧.source r)) }
+fn unread<D: Diagnostic, S: SourceCode>(
+    alloc: Global,
+    name: &str,
+    reason: io::Error,
+) -> Result<Report<D, S>, AllocError>
+where
+    Report<D, S>: UsualBoxes,
+    ensures { IfOk result (λ r. IsUnread name.now (tree_of D.meaning S.source r)) }
 {
-    let reason: Report = Report::from_err(alloc, reason)?;
+    let reason: Report<D, S> = Report::from_err(alloc, reason)?;
     let message = format!(in alloc; "could not read {name}")?;
     match reason.wrap_err(alloc, message.as_str()) {
         Ok(report) => Ok(report),

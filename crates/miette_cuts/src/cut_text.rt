@@ -145,13 +145,11 @@ fn push_stretch<O: Canvas>(
     if !is_shown(stretch) {
         page.begin(PLAIN)?;
         page.push_copies('.', 3)?;
-        skip(walk, stretch.cells)?;
-        return Ok(());
+        return skip(walk, stretch.cells);
     }
     let many = push_pieces(page, walk, pieces, before, stretch)?;
     page.begin(PLAIN)?;
-    push_all(page, walk, many)?;
-    Ok(())
+    push_all(page, walk, many)
 }
 
 /// The cells of a line, of which these are the stretches, in a highlighter's pieces, each a length in bytes and a

@@ -89,8 +89,7 @@ fn stretches_of(
         return Ok(Vec::new(alloc));
     };
     let first = lone_stretch(&mut nearness, false, &cell);
-    let made = stretches_behind(alloc, walk, &mut nearness, first)?;
-    Ok(made)
+    stretches_behind(alloc, walk, &mut nearness, first)
 }
 
 // The ends of a line: each mark's first column, its anchor and its last column.
@@ -214,10 +213,7 @@ pub fn marks_shown<'a>(
         map mark_of moved.items ≡ shown_marks ruled (map mark_of marks.entry.items)) }
 {
     match cut {
-        Some(cut) => {
-            let moved = row_marks(alloc, cut, &marks)?;
-            Ok(moved)
-        }
+        Some(cut) => row_marks(alloc, cut, &marks),
         None => Ok(marks),
     }
 }

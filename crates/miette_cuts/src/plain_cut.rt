@@ -77,11 +77,9 @@ fn push_plain_stretch<O: Canvas>(
 {
     page.begin(PLAIN)?;
     if is_shown(stretch) {
-        push_ascii(page, own)?;
-        return Ok(());
+        return push_ascii(page, own);
     }
-    page.push_copies('.', 3)?;
-    Ok(())
+    page.push_copies('.', 3)
 }
 
 /// The cells of a text of printable ASCII, of which these are the stretches. `AllocError` where memory is refused.

@@ -35,8 +35,7 @@ fn push_line_text<O: Canvas>(
         push_cells_within(page, walk, piece.0)?;
     }
     page.begin(PLAIN)?;
-    push_cells(page, walk)?;
-    Ok(())
+    push_cells(page, walk)
 }
 
 // A text: in no highlighter's pieces as it is where it's UTF-8 without tabs, and between its tabs where it's printable
@@ -53,18 +52,15 @@ fn push_text<O: Canvas>(
     if pieces.is_empty() {
         if let Some(untabbed) = text_without_tabs(text.bytes) {
             page.begin(PLAIN)?;
-            page.push_str(untabbed)?;
-            return Ok(());
+            return page.push_str(untabbed);
         }
         if all_tabbed(text.bytes) {
             page.begin(PLAIN)?;
-            push_tabbed(page, text.bytes, text.tab)?;
-            return Ok(());
+            return push_tabbed(page, text.bytes, text.tab);
         }
     }
     let mut walk = Walk::new(text.bytes, text.start, text.tab);
-    push_line_text(page, &mut walk, pieces)?;
-    Ok(())
+    push_line_text(page, &mut walk, pieces)
 }
 
 /// What is shown of a line's text: its stretches, or all of it where it isn't cut, in a highlighter's pieces, each a
@@ -83,8 +79,7 @@ pub fn push_shown_text<O: Canvas>(
     match cut {
         Some(cut) => {
             if pieces.is_empty() && all_printable(text.bytes) {
-                push_plain_cut(page, text.bytes, cut)?;
-                return Ok(());
+                return push_plain_cut(page, text.bytes, cut);
             }
             let mut walk = Walk::new(text.bytes, text.start, text.tab);
             push_cut(page, &mut walk, pieces, cut)

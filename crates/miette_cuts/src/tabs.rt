@@ -56,8 +56,7 @@ pub(crate) fn push_ascii<O: Canvas>(page: &mut Page<O>, bytes: &[u8]) -> Result<
     let Ok(text) = str::from_utf8(bytes) else {
         unreachable!();
     };
-    page.push_str(text)?;
-    Ok(())
+    page.push_str(text)
 }
 
 /// Prints ASCII from the first column on: what lies between tabs as it is, a tab as spaces up to the next multiple of
@@ -85,6 +84,5 @@ pub(crate) fn push_tabbed<O: Canvas>(
         column = next;
         rest = &rest[size + 1..];
     }
-    push_ascii(page, rest)?;
-    Ok(())
+    push_ascii(page, rest)
 }

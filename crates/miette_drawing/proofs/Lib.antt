@@ -1,3 +1,4 @@
+pub mod AroundRows
 pub mod LineRows
 pub mod LeftOutRows
 pub mod HighlightedPieces

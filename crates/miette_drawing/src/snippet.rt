@@ -15,7 +15,7 @@
 //! 2. `push_framed` counts lines and the widest gutter (`miette_folds::extent`), and puts the frame around
 //!    (`miette_frames::frame`).
 //! 3. `push_lines` goes on line by line: which labels lie on it (the sweep), a highlighter's pieces, whether it is left
-//!    out inside a folded label (`miette_folds::folds`). Those left out behind such a line are passed over at once,
+//!    out inside a folded label (`miette_folds::left_out`). Those left out behind such a line are passed over at once,
 //!    where no highlighter is to be asked for them (`miette_folds::gaps`).
 //! 4. `push_line_or_break` (`line.rt`) puts the rows of a line: its number row over the gutter, the marks, the texts
 //!    with their leaders, and the texts of labels that end there (`gutters`, `strokes`, `texts` and `closings` of
@@ -42,8 +42,11 @@ use crate::shown_line::ShownLine;
 use itoa::Buffer;
 use miette_basics::sums::sum;
 use miette_folds::extent::extent_of;
-use miette_folds::folds::{Fold, Spread, folds_in, leaves_out};
+use miette_folds::folds::Spread;
 use miette_folds::gaps::next_start;
+use miette_folds::left_out::leaves_out;
+use miette_folds::snippet_folds::{Folds, folds_in};
+use miette_folds::windows::Spreads;
 use miette_frames::frame::{Frame, Heading, push_bottom_row, push_top_row};
 use miette_frames::line_context::LineContext;
 use miette_highlight::highlight::Highlighter;
@@ -63,7 +66,7 @@ pub struct Drawing<'a> {
     /// The labels as they are drawn, by offset.
     pub placed: &'a [PlacedLabel<'a>],
     /// The labels as they may be folded; none where none is to be.
-    pub spreads: &'a [Spread],
+    pub spreads: &'a Spreads,
 }
 
 /// A snippet: what its read lent, and the line and column that its frame points to.
@@ -85,7 +88,7 @@ pub struct Passage<'a> {
 }
 
 // What the lines of a snippet are drawn with: their frame and gutter, how many lines stand before them, their bytes
-// with where these begin, and the labels among them.
+// with where these begin, the labels that may be folded, and these among them.
 #[derive(Clone, Copy)]
 struct Body<'a> {
     frame: Frame<'a>,
@@ -93,7 +96,8 @@ struct Body<'a> {
     before: usize,
     start: usize,
     bytes: &'a [u8],
-    folds: &'a [Fold],
+    spreads: &'a [Spread],
+    folds: &'a Folds,
 }
 
 // How many decimal digits a number has.
@@ -169,12 +173,12 @@ fn push_lines<'a, H: Highlighter, O: Canvas>(
     requires sorted { AreSorted drawing.now.placed.now }
     requires at { IsAt drawing.now.placed.now body.now.start sweep.old.next sweep.old.running.items }
     requires small { body.now.start + length body.now.bytes.now < 2 ^ 64 }
-    requires folds { body.now.folds.now ≡ map (fold_in body.now.start body.now.bytes.now) drawing.now.spreads.now }
+    requires folds { body.now.folds.now ≡ map (fold_in body.now.start body.now.bytes.now) body.now.spreads.now }
     ensures rows { OnOk result (PutsRows (leaves_plain H.is_blank highlighter.old)
         (AreCallsOn H.may_follow highlighter.old highlighter.new)
         (texts_in body.now.start body.now.bytes.now (lines_from body.now.start body.now.bytes.now))
         (λ pieces. rows_of_lines (left_out (settings_of body.now.frame.settings) body.now.before
-        (lines_from body.now.start body.now.bytes.now) (map spread_of drawing.now.spreads.now)) false
+        (lines_from body.now.start body.now.bytes.now) (map spread_of body.now.spreads.now)) false
         (snippet_context (settings_of body.now.frame.settings) body.now.frame.number_width body.now.gutter
         (map drawn_of drawing.now.placed.now)
         (cells_in (settings_of body.now.frame.settings) body.now.start body.now.bytes.now)) (body.now.before + 1) pieces
@@ -249,7 +253,9 @@ fn push_framed<'a, H: Highlighter, O: Canvas>(
     let start = contents.span().offset();
     let bytes = contents.data();
     let before = contents.line();
-    let folds = folds_in(drawing.settings.alloc, contents, drawing.spreads)?;
+    let end = start + bytes.len();
+    let spreads = drawing.spreads.around(start, end);
+    let folds = folds_in(drawing.settings.alloc, contents, spreads)?;
     let begun = sweep.copy(drawing.settings.alloc)?;
     let extent = extent_of(bytes, start, &folds, drawing.placed, sweep)?;
     sweep.come_back(begun);
@@ -263,6 +269,7 @@ fn push_framed<'a, H: Highlighter, O: Canvas>(
         before,
         start,
         bytes,
+        spreads,
         folds: &folds,
     };
     let heading = Heading {

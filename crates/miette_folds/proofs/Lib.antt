@@ -1,8 +1,10 @@
+pub mod AroundLines
 pub mod GapLines
 pub mod LeftOutLines
 pub mod LineCounts
 pub mod LineExtent
 pub mod LineNumbers
+pub mod NearFolds
 pub mod PartCounts
 pub mod ReadSpreads
 pub mod Starts

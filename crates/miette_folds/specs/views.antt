@@ -2,4 +2,6 @@
 pub mod Folding
 pub mod ReadSpreads
 pub mod Gaps
+pub mod NearFolds
 pub mod Spreads
+pub mod Windows

@@ -8,8 +8,9 @@ ghost use Rattle.miette_source_lines.specs.views.Walking.{line_of_text};
 ghost use Rattle.miette_labels.specs.views.LabelCounts.{most_multi};
 ghost use Rattle.miette_folds.specs.views.Folding.{AreFoldsIn};
 
-use crate::folds::{Fold, LineStart};
+use crate::folds::LineStart;
 use crate::gaps::next_start;
+use crate::snippet_folds::Folds;
 use miette_labels::line_sweep::{enter_line, line_at, pass_over};
 use miette_labels::sweep::{PlacedLabel, Sweep};
 use miette_source_lines::find::FindLines;
@@ -41,7 +42,7 @@ fn begins_before(labels: &[PlacedLabel<'_>], first: usize, offset: usize) -> boo
 fn next_counted(
     labels: &[PlacedLabel<'_>],
     sweep: &Sweep<'_>,
-    folds: &[Fold],
+    folds: &Folds,
     place: usize,
     line: &LineOfText,
 ) -> LineStart
@@ -76,7 +77,7 @@ fn count_lines(bytes: &[u8]) -> usize
 fn counts_rest(
     labels: &[PlacedLabel<'_>],
     sweep: &Sweep<'_>,
-    folds: &[Fold],
+    folds: &Folds,
     end: usize,
     line: &LineOfText,
 ) -> bool
@@ -108,7 +109,7 @@ fn counted_end(bytes: &[u8], start: usize, place: usize, line: &LineOfText) -> L
 pub fn extent_of<'a>(
     bytes: &[u8],
     start: usize,
-    folds: &[Fold],
+    folds: &Folds,
     labels: &[PlacedLabel<'a>],
     sweep: &mut Sweep<'a>,
 ) -> Result<Extent, AllocError>

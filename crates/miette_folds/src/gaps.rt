@@ -1,26 +1,14 @@
 //! Gaps inside folded labels, whose lines are left out: where one ends.
 
-ghost use Rattle.std.specs.Prelude.{◌≡◌, ◌+◌, ◌<◌, ◌^◌, None};
+ghost use Rattle.std.specs.Prelude.{◌≡◌, ◌+◌, ◌<◌, ◌^◌};
 ghost use Rattle.std.specs.List.{list_any};
 ghost use Rattle.miette_source_lines.specs.views.Walking.{line_of_text};
-ghost use Rattle.miette_folds.specs.views.Gaps.{nearest, further, nearer_stop, nearest_stop, goes_on, gap_end};
+ghost use Rattle.miette_folds.specs.views.Gaps.{further, nearer_stop, nearest_stop, goes_on, gap_end};
 ghost use Rattle.miette_folds.specs.views.Gaps.{next_start};
 
 use crate::folds::{Fold, LineStart, is_around};
+use crate::snippet_folds::{Folds, nearest};
 use miette_source_lines::lines::LineOfText;
-
-// The nearest beginning of a line so far, if there is one, or this one where it's nearer.
-fn nearest(end: Option<LineStart>, stop: LineStart) -> LineStart
-    ensures { result ≡ nearest end stop }
-{
-    match end {
-        Some(end) => LineStart {
-            offset: end.offset.min(stop.offset),
-            place: end.place.min(stop.place),
-        },
-        None => stop,
-    }
-}
 
 // The further one of two beginnings of lines.
 fn further(a: LineStart, b: LineStart) -> LineStart
@@ -45,11 +33,11 @@ fn nearer_stop(line: &LineOfText, end: Option<LineStart>, fold: &Fold) -> Option
     }
 }
 
-// Where lines behind one that is left out stop because of some label.
-fn nearest_stop(line: &LineOfText, folds: &[Fold]) -> Option<LineStart>
-    ensures { result ≡ nearest_stop (line_of_text line.now) None folds.now }
+// Where lines behind one that is left out stop because of some label, if they go on to here.
+fn nearest_stop(line: &LineOfText, stop: Option<LineStart>, folds: &[Fold]) -> Option<LineStart>
+    ensures { result ≡ nearest_stop (line_of_text line.now) stop folds.now }
 {
-    let mut end: Option<LineStart> = None;
+    let mut end = stop;
     for fold in folds {
         end = nearer_stop(line, end, fold);
     }
@@ -77,13 +65,14 @@ fn some_goes_on(line: &LineOfText, end: LineStart, folds: &[Fold]) -> bool
 
 // Where a gap ends, behind its first line, whose next one begins there. Each line before
 // the end is left out: a label that hides the first one hides it too, and no label's context begins before.
-fn gap_end(line: &LineOfText, next: LineStart, folds: &[Fold]) -> LineStart
+fn gap_end(line: &LineOfText, next: LineStart, folds: &Folds) -> LineStart
     ensures { result ≡ gap_end (line_of_text line.now) next folds.now }
 {
-    let Some(end) = nearest_stop(line, folds) else {
+    let near = folds.around_line(line);
+    let Some(end) = nearest_stop(line, near.stop, near.folds) else {
         return next;
     };
-    if some_goes_on(line, end, folds) {
+    if some_goes_on(line, end, near.folds) {
         further(next, end)
     } else {
         next
@@ -92,7 +81,7 @@ fn gap_end(line: &LineOfText, next: LineStart, folds: &[Fold]) -> LineStart
 
 /// Where the line begins that is looked at behind a line, before which so many stand: the next one. Or where the line
 /// is left out, and those behind it may be passed over, the one behind the gap that begins with it.
-pub fn next_start(folds: &[Fold], place: usize, line: &LineOfText, jumps: bool) -> LineStart
+pub fn next_start(folds: &Folds, place: usize, line: &LineOfText, jumps: bool) -> LineStart
     requires { place + 1 < 2 ^ 64 }
     ensures { result ≡ next_start folds.now place (line_of_text line.now) jumps }
 {

@@ -4,4 +4,7 @@
 pub mod extent;
 pub mod folds;
 pub mod gaps;
+pub mod left_out;
+pub mod snippet_folds;
 pub mod spreads;
+pub mod windows;

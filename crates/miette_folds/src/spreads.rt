@@ -14,6 +14,7 @@ ghost use Rattle.miette_labels.specs.rules.Around.{has_own};
 ghost use Rattle.miette_folds.specs.steps.LineNumbers.{IsLineIn};
 
 use crate::folds::Spread;
+use crate::windows::Spreads;
 use miette_labels::grouping::end_of;
 use miette_labels::reading::{ReadLabel, lines_around, some_own, usual_lines};
 use miette_protocol::protocol::{LabeledSpan, SourceSpan};
@@ -145,9 +146,8 @@ fn all_spreads(
     Ok(spreads)
 }
 
-/// The labels that were read, in the same order, as they may be folded; none where no label is to be. `AllocError`
-/// where memory is refused, or a line's number or the end of a label's or a read's span is past the largest `usize`.
-pub fn spreads(
+// The labels that were read, in the same order, as they may be folded; none where no label is to be.
+fn spread_list(
     settings: &SnippetSettings<'_>,
     labels: &[LabeledSpan],
     reads: &[ReadLabel<'_>],
@@ -162,4 +162,22 @@ pub fn spreads(
         Some(_) => all_spreads(settings.alloc, settings.layout.context_lines, labels, reads),
         None => Ok(Vec::new(settings.alloc)),
     }
+}
+
+/// The labels that were read, in the same order, as they may be folded; none where no label is to be. `AllocError`
+/// where memory is refused, or a line's number or the end of a label's or a read's span is past the largest `usize`.
+pub fn spreads(
+    settings: &SnippetSettings<'_>,
+    labels: &[LabeledSpan],
+    reads: &[ReadLabel<'_>],
+) -> Result<Spreads, AllocError>
+    ensures parts { IfOk result (λ spreads. map spread_of spreads
+        ≡ read_spreads settings.now.layout.now.label_lines settings.now.layout.now.context_lines labels.now reads.now) }
+    ensures lines { IfOk result (λ spreads. (source : Source) →
+        All (IsRead settings.now.layout.now.context_lines source labels.now) reads.now →
+        All (HasLines source.bytes) spreads) }
+{
+    let all = spread_list(settings, labels, reads)?;
+    let spreads = Spreads::new(settings.alloc, all)?;
+    Ok(spreads)
 }

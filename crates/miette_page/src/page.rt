@@ -170,8 +170,7 @@ impl<O: Canvas> Page<O> {
         ensures { OnOk result (self.new ≡ self.old ⊕ styled_tokens PLAIN (replicate many 32)) }
     {
         self.begin(PLAIN)?;
-        self.push_copies(' ', many)?;
-        Ok(())
+        self.push_copies(' ', many)
     }
 
     /// A run of a character and copies of another: `╰────`. `AllocError` where memory is refused.
@@ -186,8 +185,7 @@ impl<O: Canvas> Page<O> {
     {
         self.begin(style)?;
         self.push(first)?;
-        self.push_copies(bar, many)?;
-        Ok(())
+        self.push_copies(bar, many)
     }
 
     /// Puts characters behind the run's text. `AllocError` where memory is refused.
@@ -210,8 +208,7 @@ impl<O: Canvas> Page<O> {
         let mut buffer = Buffer::new();
         let digits = buffer.format(number);
         self.push_copies(' ', columns.saturating_sub(digits.len()))?;
-        self.push_str(digits)?;
-        Ok(())
+        self.push_str(digits)
     }
 
     /// Puts a number behind the run's text, in decimal digits. `AllocError` where memory is refused.
@@ -219,7 +216,6 @@ impl<O: Canvas> Page<O> {
         ensures { OnOk result (self.new ≡ self.old ⊕ text_tokens (decimal number)) }
     {
         let mut digits = Buffer::new();
-        self.push_str(digits.format(number))?;
-        Ok(())
+        self.push_str(digits.format(number))
     }
 }

@@ -1,3 +1,4 @@
 pub mod Finding
+pub mod Passing
 pub mod Rising
 pub mod Stepping

@@ -1,2 +1,3 @@
 -- How the code goes over a source.
 pub mod Marks
+pub mod Onward

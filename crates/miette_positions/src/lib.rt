@@ -5,5 +5,6 @@ pub mod index;
 pub mod laws;
 mod marked;
 pub mod place;
+mod plain;
 pub mod spans;
 mod stops;

@@ -1,6 +1,6 @@
 //! A source and some of its stops, from which it is gone through.
 
-ghost use Rattle.std.specs.Prelude.{◌≡◌, All, Option, true, nat_le};
+ghost use Rattle.std.specs.Prelude.{◌≡◌, ◌≤◌, ℕ, All, Option, true, nat_le};
 ghost use Rattle.miette_protocol.specs.rules.Reading.{is_accepted};
 ghost use Rattle.miette_positions.specs.rules.Regions.{cut_end, first_stop, is_same, last_stop, offset_of, region_of};
 ghost use Rattle.miette_positions.specs.rules.Regions.{span_between, span_of, stop_after, stop_at, stop_before};
@@ -8,8 +8,10 @@ ghost use Rattle.miette_positions.specs.rules.Regions.{stretch};
 ghost use Rattle.miette_positions.specs.rules.Regions.{stretch_of};
 ghost use Rattle.miette_positions.specs.rules.Stops.{is_until, stops_from};
 ghost use Rattle.miette_positions.specs.steps.Marks.{IsMark, IsWithin, is_reached, stop_for};
+ghost use Rattle.miette_positions.specs.steps.Onward.{onward};
 
 use crate::place::{Position, PositionEncoding, Region, Stop, Stretch};
+use crate::plain::behind_plain;
 use crate::stops::{first_of_all, next_stop};
 use miette_protocol::protocol::SourceSpan;
 use std::marker::Model;
@@ -47,6 +49,23 @@ fn is_reached(target: Target, stop: Stop) -> bool
     }
 }
 
+// How many columns on from a stop that isn't behind what is looked for nothing is.
+fn columns_before(target: Target, stop: Stop) -> usize
+    requires { is_reached target stop ≡ true }
+    ensures { (n : ℕ) → n ≤ result → is_reached target (onward n stop) ≡ true }
+{
+    match target {
+        Target::ToOffset(at) => at - stop.offset,
+        Target::ToPosition(position) => {
+            if stop.position.line < position.line {
+                usize::MAX
+            } else {
+                position.column - stop.position.column
+            }
+        }
+    }
+}
+
 // Of a stop and those behind it, the last one that isn't behind what is looked for.
 fn last_from(encoding: PositionEncoding, source: &[u8], from: Stop, target: Target) -> Stop
     requires { IsWithin source.now from }
@@ -58,7 +77,7 @@ fn last_from(encoding: PositionEncoding, source: &[u8], from: Stop, target: Targ
         if !is_reached(target, next) {
             return here;
         }
-        here = next;
+        here = behind_plain(source, next, columns_before(target, next));
     }
     here
 }
@@ -73,7 +92,7 @@ fn first_from(encoding: PositionEncoding, source: &[u8], from: Stop, at: usize) 
         let Some(next) = next_stop(encoding, source, here) else {
             return here;
         };
-        here = next;
+        here = behind_plain(source, next, at.saturating_sub(next.offset));
     }
     here
 }

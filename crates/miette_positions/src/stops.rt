@@ -37,8 +37,8 @@ fn character(bytes: &[u8]) -> (char, usize)
     first_character(bytes)
 }
 
-// The bytes from an offset on.
-fn rest_from(bytes: &[u8], at: usize) -> &[u8]
+/// The bytes from an offset on.
+pub(crate) fn rest_from(bytes: &[u8], at: usize) -> &[u8]
     requires { at ≤ length bytes.now }
     ensures { result.now ≡ drop at bytes.now }
 {

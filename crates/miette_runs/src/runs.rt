@@ -229,8 +229,7 @@ impl Runs {
     pub fn push_link_end(&mut self) -> Result<(), AllocError>
         ensures text { OnOk result (spell self.new ≡ spell self.old ++ link_start []) }
     {
-        self.push_link("")?;
-        Ok(())
+        self.push_link("")
     }
 
     /// Appends other runs.
@@ -250,8 +249,7 @@ impl Runs {
             self.push_sign(&tag.sign)?;
             start += gap;
         }
-        self.push_chars(&parts.codes[start..])?;
-        Ok(())
+        self.push_chars(&parts.codes[start..])
     }
 
     /// The characters, and the signs between them.
@@ -270,13 +268,11 @@ pub(crate) fn push_run<C: Canvas>(out: &mut C, style: Style, text: &str) -> Resu
     ensures { OnOk result (C.written out.new ≡ C.written out.old ++ printed_run style (chars text.now)) }
 {
     if text.is_empty() || style.is_plain() {
-        out.push_str(text)?;
-        return Ok(());
+        return out.push_str(text);
     }
     out.begin(style)?;
     out.push_str(text)?;
-    out.end()?;
-    Ok(())
+    out.end()
 }
 
 impl Canvas for Runs {

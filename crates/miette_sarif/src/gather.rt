@@ -1,33 +1,30 @@
 //! Findings of reports: of each one and of each that is related to it, depth first.
 
-ghost use Rattle.std.specs.Prelude.{◌≡◌, ◌+◌, ◌++◌, ◌∷◌, [], IfOk, OnOk, length, map, string_bytes};
+ghost use Rattle.std.specs.Prelude.{◌≡◌, ◌+◌, ◌++◌, ◌∷◌, [], IfOk, OnOk, length, map};
 ghost use Rattle.std.specs.Option.{option_map};
-ghost use Rattle.miette_tree.specs.rules.Tree.{cause_of, causes_of, head, source_of, trees};
-ghost use Rattle.miette_tree.specs.views.Attached.{section_of};
-ghost use Rattle.miette_tree.specs.views.Owned.{shown_source};
+ghost use Rattle.miette_tree.specs.rules.Tree.{cause_of, head, source_of, trees};
 ghost use Rattle.miette_tree.specs.views.Report.{tree_of};
-ghost use Rattle.miette_sarif.specs.rules.Gathered.{AreFindingsOf, level};
+ghost use Rattle.miette_sarif.specs.rules.Gathered.{AreFindingsOf};
 ghost use Rattle.miette_sarif.specs.rules.Marks.{groups_of};
 ghost use Rattle.miette_sarif.specs.rules.Proposals.{proposal_over};
 ghost use Rattle.miette_sarif.specs.rules.Seen.{count_causes, count_own};
 ghost use Rattle.miette_sarif.specs.steps.Gathering.{Adds, AddsAll, AddsCause, AddsCauses, AddsMarks, AddsOver};
-ghost use Rattle.miette_sarif.specs.steps.Gathering.{IsFound, told, with_fix, with_fixes};
-ghost use Rattle.miette_sarif.specs.steps.Sees.{Sees, SeesFurther, SeesOwn, seen_first};
-ghost use Rattle.miette_sarif.specs.views.Collected.{collected_of, gathered_of, told_of};
+ghost use Rattle.miette_sarif.specs.steps.Gathering.{IsFound, with_fix, with_fixes};
+ghost use Rattle.miette_sarif.specs.views.Collected.{collected_of, gathered_of};
 ghost use Rattle.miette_sarif.specs.views.Found.{finding_of, findings_of, mark_of};
 ghost use Rattle.miette_sarif.specs.views.Grouped.{groups_in, labels_in};
 ghost use Rattle.miette_sarif.specs.views.Sources.{over_of, seen_of};
 
 use crate::edits::proposal_over;
-use crate::finding::{Finding, Mark, Proposal, Told};
+use crate::finding::{Finding, Mark, Proposal};
 use crate::labels::{Group, primary_or, push_groups, take_primary};
-use crate::seen::{Seen, see};
-use miette_basics::sums::sum;
+use crate::seen::{Seen, own_or, see_further, see_own};
+use crate::told::told_of;
 use miette_fixes::fix::Fix;
-use miette_protocol::protocol::{Diagnostic, LabeledSpan, Severity};
+use miette_protocol::protocol::{Diagnostic, LabeledSpan};
 use miette_protocol::source::SourceCode;
-use miette_tree::parts::{cause_texts, labels_of};
-use miette_tree::report::{Cause, Report, Snippets, SourceRef};
+use miette_tree::parts::labels_of;
+use miette_tree::report::{Cause, Report};
 use std::alloc::{AllocError, Global};
 
 // Findings, and how many sources were read for them.
@@ -43,72 +40,6 @@ struct Collected<'a> {
     marks: Vec<Mark<'a>>,
     fixes: Vec<Proposal<'a>>,
     unapplied: Vec<&'a str>,
-}
-
-// Reads a source, and counts it.
-fn see_next<'a, S: SourceCode>(
-    alloc: Global,
-    sources: &mut usize,
-    source: SourceRef<'a, S>,
-) -> Result<Seen<'a>, AllocError>
-    ensures seen { IfOk result (λ it. Sees sources.old (shown_source S.source source.entry) (seen_of it)) }
-    ensures counted { OnOk result (sources.new ≡ sources.old + 1) }
-{
-    let next = sum(*sources, 1)?;
-    let seen = see(alloc, *sources, source)?;
-    *sources = next;
-    Ok(seen)
-}
-
-// Reads the source of a report, if it has one.
-fn see_own<'a, D: Diagnostic, S: SourceCode>(
-    alloc: Global,
-    sources: &mut usize,
-    report: &'a Report<D, S>,
-) -> Result<Option<Seen<'a>>, AllocError>
-    ensures seen { IfOk result (λ it. SeesOwn sources.old (source_of (tree_of D.meaning S.source report.now))
-        (option_map seen_of it)) }
-    ensures counted { OnOk result (sources.new
-        ≡ sources.old + count_own (source_of (tree_of D.meaning S.source report.now))) }
-{
-    match report.source_code() {
-        Some(source) => {
-            let seen = see_next(alloc, sources, source)?;
-            Ok(Some(seen))
-        }
-        None => Ok(None),
-    }
-}
-
-// The own source of a report, else another one.
-fn own_or<'s, 'a>(
-    own: &'s Option<Seen<'a>>,
-    inherited: Option<&'s Seen<'a>>,
-) -> Option<&'s Seen<'a>>
-    ensures { over_of result ≡ seen_first (option_map seen_of own.now) (over_of inherited.entry) }
-{
-    match own {
-        Some(own) => Some(own),
-        None => inherited,
-    }
-}
-
-// Reads further sources.
-fn see_further<'a, S: SourceCode>(
-    alloc: Global,
-    sources: &mut usize,
-    sections: &'a [Snippets<S>],
-) -> Result<Vec<Seen<'a>>, AllocError>
-    ensures seen { IfOk result (λ list. SeesFurther sources.old (map (section_of S.source) sections.now)
-        (map seen_of list.items)) }
-    ensures counted { OnOk result (sources.new ≡ sources.old + length sections.now) }
-{
-    let mut list = Vec::with_capacity(alloc, sections.len())?;
-    for section in sections {
-        let seen = see_next(alloc, sources, section.source())?;
-        list.push(seen)?;
-    }
-    Ok(list)
 }
 
 // References to labels, in the order given.
@@ -159,65 +90,6 @@ fn groups_of<'s, 'a, D: Diagnostic, S: SourceCode>(
         left = rest;
     }
     Ok(groups)
-}
-
-// The level of a severity.
-fn level_of(severity: Option<Severity>) -> &'static str
-    ensures { result.now ≡ level severity }
-{
-    match severity {
-        Some(Severity::Advice) => "note",
-        Some(Severity::Warning) => "warning",
-        _ => "error",
-    }
-}
-
-// Appends texts.
-fn push_texts<'a>(rows: &mut Vec<&'a str>, texts: &'a [String]) -> Result<(), AllocError>
-    ensures { OnOk result (map (λ row. row.now) rows.new.items
-        ≡ map (λ row. row.now) rows.old.items ++ map string_bytes texts.now) }
-{
-    for text in texts {
-        rows.push(text.as_str())?;
-    }
-    Ok(())
-}
-
-// The messages and texts of causes, the nearest first.
-fn cause_rows<'a, D: Diagnostic, S: SourceCode>(
-    alloc: Global,
-    report: &'a Report<D, S>,
-) -> Result<Vec<&'a str>, AllocError>
-    ensures { IfOk result (λ rows. map (λ row. row.now) rows.items
-        ≡ causes_of (cause_of (tree_of D.meaning S.source report.now))) }
-{
-    let mut rows = Vec::new(alloc);
-    let mut at = report;
-    while let Cause::Diagnostic(next) = at.cause() {
-        rows.push(next.message())?;
-        at = next;
-    }
-    push_texts(&mut rows, cause_texts(at))?;
-    Ok(rows)
-}
-
-// What is said of a report beside its places.
-fn told_of<'a, D: Diagnostic, S: SourceCode>(
-    alloc: Global,
-    report: &'a Report<D, S>,
-) -> Result<Told<'a>, AllocError>
-    ensures { IfOk result (λ it. told_of it ≡ told (head (tree_of D.meaning S.source report.now))
-        (cause_of (tree_of D.meaning S.source report.now))) }
-{
-    let causes = cause_rows(alloc, report)?;
-    Ok(Told {
-        code: report.code().unwrap_or(""),
-        level: level_of(report.severity()),
-        message: report.message(),
-        causes,
-        help: report.help(),
-        url: report.url(),
-    })
 }
 
 // Appends what a fix over a source proposes, or its message where it can't be proposed.

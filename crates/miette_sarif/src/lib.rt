@@ -14,6 +14,7 @@ pub mod results;
 mod rules;
 mod seen;
 mod texts;
+mod told;
 pub mod uri;
 pub mod value;
 mod whole;

@@ -1,6 +1,7 @@
 //! The files of a folder, each read once.
 
 ghost use Rattle.std.specs.Prelude.{◌≡◌, IfOk, string_bytes};
+ghost use Rattle.std.specs.HashMap.{IsEmpty};
 ghost use Rattle.std.specs.Option.{option_copied};
 ghost use Rattle.miette_show.specs.rules.Looking.{path_in};
 
@@ -52,8 +53,11 @@ pub(crate) fn bytes_at<H: rt::Files + AllocGlobal>(
 }
 
 impl<'r, H: rt::Files + AllocGlobal> Folder<'r, H> {
-    /// Of no file yet.
-    pub fn new(host: &'r H, root: Option<&'r str>) -> Folder<'r, H> {
+    /// Of no file yet: below this folder, else where names are looked for as they are.
+    pub fn new(host: &'r H, root: Option<&'r str>) -> Folder<'r, H>
+        ensures empty { IsEmpty result.files }
+        ensures root { option_copied result.root ≡ option_copied root.entry }
+    {
         Folder {
             host,
             root,

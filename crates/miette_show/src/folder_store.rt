@@ -1,5 +1,8 @@
 //! The files of a folder, written in place of those that are there.
 
+ghost use Rattle.std.specs.Prelude.{◌≡◌};
+ghost use Rattle.std.specs.Option.{option_copied};
+
 use crate::folder::{bytes_at, path_in};
 use crate::store::Store;
 use std::alloc::{AllocError, Global};
@@ -16,7 +19,9 @@ pub struct FolderStore<'r, H> {
 
 impl<'r, H: rt::Files + AllocGlobal> FolderStore<'r, H> {
     /// Below this folder, where there is one.
-    pub fn new(host: &'r H, root: Option<&'r str>) -> FolderStore<'r, H> {
+    pub fn new(host: &'r H, root: Option<&'r str>) -> FolderStore<'r, H>
+        ensures root { option_copied result.root ≡ option_copied root.entry }
+    {
         FolderStore { host, root }
     }
 }

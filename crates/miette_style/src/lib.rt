@@ -4,4 +4,5 @@
 pub mod codes;
 pub mod laws;
 pub mod style;
+mod styles;
 pub mod theme;

@@ -1,6 +1,7 @@
 //! The characters and styles that a graphical report is drawn with.
 
 use crate::style::{Color, Style};
+use crate::styles::{ANSI_HIGHLIGHTS, CYAN, DIMMED, NO_HIGHLIGHTS, PLAIN, RGB_HIGHLIGHTS};
 use std::alloc::{AllocError, Global};
 
 /// The characters of a drawing, and the icon before a message for each severity.
@@ -188,19 +189,31 @@ impl ThemeStyles {
     pub fn rgb(alloc: Global) -> Result<Self, AllocError>
         ensures { IfOk result (λ it. styles_of it ≡ rgb_styles) }
     {
-        let coloured = |red, green, blue| Style::new().color(Color::Rgb(red, green, blue));
         Ok(ThemeStyles {
-            error: coloured(255, 30, 30),
-            warning: coloured(244, 191, 117),
-            advice: coloured(106, 159, 181),
-            help: coloured(106, 159, 181),
-            link: coloured(92, 157, 255).bold().underline(),
-            linum: Style::new().dimmed(),
-            highlights: vec![in alloc;
-                coloured(246, 87, 248),
-                coloured(30, 201, 212),
-                coloured(145, 246, 111),
-            ]?,
+            error: Style {
+                fg: Some(Color::Rgb(255, 30, 30)),
+                ..PLAIN
+            },
+            warning: Style {
+                fg: Some(Color::Rgb(244, 191, 117)),
+                ..PLAIN
+            },
+            advice: Style {
+                fg: Some(Color::Rgb(106, 159, 181)),
+                ..PLAIN
+            },
+            help: Style {
+                fg: Some(Color::Rgb(106, 159, 181)),
+                ..PLAIN
+            },
+            link: Style {
+                fg: Some(Color::Rgb(92, 157, 255)),
+                bold: true,
+                underline: true,
+                ..PLAIN
+            },
+            linum: DIMMED,
+            highlights: Vec::from_slice(alloc, &RGB_HIGHLIGHTS)?,
         })
     }
 
@@ -212,17 +225,23 @@ impl ThemeStyles {
         ensures { IfOk result (λ it. styles_of it ≡ ansi_styles) }
     {
         Ok(ThemeStyles {
-            error: Style::new().color(Color::Red),
-            warning: Style::new().color(Color::Yellow),
-            advice: Style::new().color(Color::Cyan),
-            help: Style::new().color(Color::Cyan),
-            link: Style::new().color(Color::Cyan).bold().underline(),
-            linum: Style::new().dimmed(),
-            highlights: vec![in alloc;
-                Style::new().color(Color::Magenta).bold(),
-                Style::new().color(Color::Yellow).bold(),
-                Style::new().color(Color::Green).bold(),
-            ]?,
+            error: Style {
+                fg: Some(Color::Red),
+                ..PLAIN
+            },
+            warning: Style {
+                fg: Some(Color::Yellow),
+                ..PLAIN
+            },
+            advice: CYAN,
+            help: CYAN,
+            link: Style {
+                bold: true,
+                underline: true,
+                ..CYAN
+            },
+            linum: DIMMED,
+            highlights: Vec::from_slice(alloc, &ANSI_HIGHLIGHTS)?,
         })
     }
 
@@ -234,13 +253,13 @@ impl ThemeStyles {
         ensures { IfOk result (λ it. styles_of it ≡ no_styles) }
     {
         Ok(ThemeStyles {
-            error: Style::new(),
-            warning: Style::new(),
-            advice: Style::new(),
-            help: Style::new(),
-            link: Style::new(),
-            linum: Style::new(),
-            highlights: vec![in alloc; Style::new()]?,
+            error: PLAIN,
+            warning: PLAIN,
+            advice: PLAIN,
+            help: PLAIN,
+            link: PLAIN,
+            linum: PLAIN,
+            highlights: Vec::from_slice(alloc, &NO_HIGHLIGHTS)?,
         })
     }
 }

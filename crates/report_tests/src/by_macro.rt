@@ -34,13 +34,6 @@ fn half(alloc: Global, n: u32) -> Result<u32> {
     Ok(n / 2)
 }
 
-#[test]
-fn what_is_ensured(rt: HostRuntime) {
-    has_value(&rt, half(rt.alloc(), 8), 4);
-    fails(&rt, half(rt.alloc(), 3), "3 is odd", Some("odd::number"));
-    fails(&rt, half(rt.alloc(), 102), "102 is past 100", None);
-}
-
 /// A diagnostic with a label, and with texts from all kinds of arguments. The other keys are in a row of `calls`.
 fn sum_of(alloc: Global, x: u8, y: u8) -> Result<MietteDiagnostic, AllocError> {
     let sum = u32::from(x) + u32::from(y);
@@ -58,7 +51,10 @@ fn tells_sum(rt: &impl Abort, it: &MietteDiagnostic) {
 }
 
 #[test]
-fn a_diagnostic_by_macro(rt: HostRuntime) -> Result<(), AllocError> {
+fn what_is_ensured_and_a_diagnostic(rt: HostRuntime) -> Result<(), AllocError> {
+    has_value(&rt, half(rt.alloc(), 8), 4);
+    fails(&rt, half(rt.alloc(), 3), "3 is odd", Some("odd::number"));
+    fails(&rt, half(rt.alloc(), 102), "102 is past 100", None);
     tells_sum(&rt, &sum_of(rt.alloc(), 1, 2)?);
     Ok(())
 }

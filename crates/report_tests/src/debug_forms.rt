@@ -35,7 +35,7 @@ fn rows<T: Debug + Drop>(alloc: Global, made: Result<T, AllocError>) -> Result<S
 }
 
 #[test]
-fn debug_forms_in_a_row(rt: HostRuntime) {
+fn debug_forms_in_a_row_and_in_rows(rt: HostRuntime) {
     gives(
         &rt,
         row(rt.alloc(), own_label(rt.alloc())),
@@ -47,10 +47,6 @@ fn debug_forms_in_a_row(rt: HostRuntime) {
         row(rt.alloc(), source_in_rust(rt.alloc())),
         "NamedSource { name: \"é.rs\", source: \"<redacted>\", language: Some(\"Rust\") }",
     );
-}
-
-#[test]
-fn debug_forms_in_rows(rt: HostRuntime) {
     gives(
         &rt,
         rows(rt.alloc(), label(rt.alloc(), "é")),

@@ -35,13 +35,8 @@ fn nest(alloc: Global) -> Result<Report, AllocError> {
 }
 
 /// Behind the message of the related report stand a line feed, the colours of a bar without spaces, and two line feeds.
-#[test]
-fn line_feeds_around_colours_at_the_end(rt: HostRuntime) {
-    let alloc = rt.alloc();
-    let wanted =
-        "  \u{1B}[31m×\u{1B}[0m top\n\u{1B}[31m  ╰─▶ \u{1B}[0m  \u{1B}[31m×\u{1B}[0m r\u{1B}[31m\u{1B}[0m\n";
-    draws(&rt, alloc, without_bars(alloc), nest(alloc), wanted);
-}
+const NESTED: &str =
+    "  \u{1B}[31m×\u{1B}[0m top\n\u{1B}[31m  ╰─▶ \u{1B}[0m  \u{1B}[31m×\u{1B}[0m r\u{1B}[31m\u{1B}[0m\n";
 
 /// In colours, but with no style for labels.
 fn without_highlights(alloc: Global) -> Result<GraphicalReportHandler, AllocError> {
@@ -50,16 +45,19 @@ fn without_highlights(alloc: Global) -> Result<GraphicalReportHandler, AllocErro
     Ok(GraphicalReportHandler::themed(theme))
 }
 
+/// The mark of a label without a style.
+const UNSTYLED: &str =
+    "  \u{1b}[31m×\u{1b}[0m m\n   ╭────\n \u{1b}[2m1\u{1b}[0m │ ab\n   · ─\n   ╰────\n";
+
 #[test]
-fn no_style_for_labels(rt: HostRuntime) {
+fn line_feeds_around_colours_at_the_end_and_no_style_for_labels(rt: HostRuntime) {
     let alloc = rt.alloc();
-    let wanted =
-        "  \u{1b}[31m×\u{1b}[0m m\n   ╭────\n \u{1b}[2m1\u{1b}[0m │ ab\n   · ─\n   ╰────\n";
+    draws(&rt, alloc, without_bars(alloc), nest(alloc), NESTED);
     draws(
         &rt,
         alloc,
         without_highlights(alloc),
         over_ab(alloc, 0),
-        wanted,
+        UNSTYLED,
     );
 }

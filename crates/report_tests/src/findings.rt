@@ -44,7 +44,8 @@ const UNENDED: &str = "no final terminator";
 /// A source and the width that its lines may have, and its labels.
 type Row<'a> = ((&'a [u8], usize), &'a [LabelParts<'a>]);
 
-static TABS_AND_ENDS: [Row<'static>; 10] = [
+static ROWS: [Row<'static>; 20] = [
+    // lines without terminators and with tabs
     (
         (b"x = 1 \n \ty\nend", 80),
         &[(TRAILING, 5, 1), (TAB, 8, 1), (UNENDED, 13, 1)],
@@ -58,9 +59,7 @@ static TABS_AND_ENDS: [Row<'static>; 10] = [
     ((b"  \t\ta\n", 80), &[(TAB, 2, 1)]),
     ((b"\t a\tb\n", 80), &[]),
     ((b"x \tb\n", 80), &[]),
-];
-
-static WIDE_AND_BROKEN: [Row<'static>; 10] = [
+    // lines that are too wide or broken
     ((b"\ta\n", 4), &[("wider than 4 columns", 1, 1)]),
     ((b"\ta\n", 3), &[("wider than 3 columns", 0, 2)]),
     (
@@ -93,16 +92,8 @@ static WIDE_AND_BROKEN: [Row<'static>; 10] = [
 ];
 
 #[test]
-fn lines_without_terminators_and_with_tabs(rt: HostRuntime) -> Result<(), Fail> {
-    for (row, wanted) in &TABS_AND_ENDS {
-        expect(&rt, rt.alloc(), *row, *wanted)?;
-    }
-    Ok(())
-}
-
-#[test]
-fn lines_that_are_too_wide_or_broken(rt: HostRuntime) -> Result<(), Fail> {
-    for (row, wanted) in &WIDE_AND_BROKEN {
+fn what_is_found(rt: HostRuntime) -> Result<(), Fail> {
+    for (row, wanted) in &ROWS {
         expect(&rt, rt.alloc(), *row, *wanted)?;
     }
     Ok(())

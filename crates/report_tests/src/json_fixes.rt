@@ -17,15 +17,18 @@ fn is_written(
     Ok(())
 }
 
-#[test]
-fn a_fix(rt: HostRuntime) -> Result<(), serde_json::Error> {
-    let text = "{\"message\":\"m\",\"applicability\":\"machine-applicable\",\
-        \"edits\":[{\"span\":{\"offset\":9,\"length\":0},\"text\":\":\"}]}";
-    is_written(&rt, rt.alloc(), text, text)
-}
+/// A fix of one edit.
+const COLON: &str = "{\"message\":\"m\",\"applicability\":\"machine-applicable\",\
+    \"edits\":[{\"span\":{\"offset\":9,\"length\":0},\"text\":\":\"}]}";
+
+/// A fix of which nothing says how sure it is.
+const UNSURE: &str = r#"{"message":"m","edits":[]}"#;
+
+/// The same as it is written.
+const UNSPECIFIED: &str = r#"{"message":"m","applicability":"unspecified","edits":[]}"#;
 
 #[test]
-fn a_fix_that_is_as_sure_as_nothing_says(rt: HostRuntime) -> Result<(), serde_json::Error> {
-    let wanted = r#"{"message":"m","applicability":"unspecified","edits":[]}"#;
-    is_written(&rt, rt.alloc(), r#"{"message":"m","edits":[]}"#, wanted)
+fn fixes(rt: HostRuntime) -> Result<(), serde_json::Error> {
+    is_written(&rt, rt.alloc(), COLON, COLON)?;
+    is_written(&rt, rt.alloc(), UNSURE, UNSPECIFIED)
 }

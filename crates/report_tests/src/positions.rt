@@ -89,13 +89,6 @@ static ROWS: [Row; 30] = [
     (b"\xEF\xBB\xBFx", UTF16, (3, 1), Some((0, 1, 0, 2))),
 ];
 
-#[test]
-fn regions(rt: HostRuntime) {
-    for (source, encoding, span, wanted) in &ROWS {
-        same(&rt, found(*source, *encoding, *span), *wanted);
-    }
-}
-
 fn spanned(numbers: Numbers) -> Option<(usize, usize)> {
     match span_of(region(numbers), MIXED, UTF16) {
         Some(span) => Some((span.offset(), span.len())),
@@ -116,13 +109,6 @@ static REGIONS: [(Numbers, Option<(usize, usize)>); 8] = [
     ((1, 1, 1, 0), None),
 ];
 
-#[test]
-fn spans_of_regions(rt: HostRuntime) {
-    for (numbers, wanted) in &REGIONS {
-        same(&rt, spanned(*numbers), *wanted);
-    }
-}
-
 /// Lines and columns, and the offsets that they are brought to.
 static CLAMPED: [((usize, usize), usize); 6] = [
     ((0, 3), 2),
@@ -133,13 +119,19 @@ static CLAMPED: [((usize, usize), usize); 6] = [
     ((9, 0), 18),
 ];
 
+fn clamped((line, column): (usize, usize)) -> usize {
+    clamped_offset(Position { line, column }, MIXED, UTF16)
+}
+
 #[test]
-fn clamped(rt: HostRuntime) {
-    for ((line, column), wanted) in &CLAMPED {
-        let position = Position {
-            line: *line,
-            column: *column,
-        };
-        same(&rt, clamped_offset(position, MIXED, UTF16), *wanted);
+fn regions_spans_and_offsets(rt: HostRuntime) {
+    for (source, encoding, span, wanted) in &ROWS {
+        same(&rt, found(*source, *encoding, *span), *wanted);
+    }
+    for (numbers, wanted) in &REGIONS {
+        same(&rt, spanned(*numbers), *wanted);
+    }
+    for (place, wanted) in &CLAMPED {
+        same(&rt, clamped(*place), *wanted);
     }
 }

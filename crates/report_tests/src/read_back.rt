@@ -20,8 +20,8 @@ fn value_of(alloc: Global, report: &Report) -> Result<Value, Fail> {
 
 /// A report with these labels over a source.
 fn labelled(alloc: Global, source: &[u8], labels: Vec<LabeledSpan>) -> Result<Report, Fail> {
-    let diagnostic = MietteDiagnostic::new(alloc, "m")?.with_labels(labels);
     let source = OwnedSource::named(alloc, "f", None, Vec::from_slice(alloc, source)?)?;
+    let diagnostic = MietteDiagnostic::new(alloc, "m")?.with_labels(labels);
     Ok(Report::built(diagnostic).with_owned_source(source))
 }
 

@@ -74,13 +74,6 @@ fn read<'a>(row: &'a Row<'_>) -> Option<ReadParts<'a>> {
     }
 }
 
-#[test]
-fn bytes_are_read(rt: HostRuntime) {
-    for row in &ROWS {
-        same(&rt, read(row), wanted(row));
-    }
-}
-
 /// A source that may fail, and does.
 #[derive(Drop)]
 struct Broken;
@@ -111,8 +104,15 @@ fn breaks(code: &Box<dyn SourceCode>) -> bool {
     matches!(found, Err(MietteError::IoError(_)))
 }
 
+/// Whether it says that it is broken, in a box.
+fn breaks_in_a_box(alloc: Global) -> Result<bool, AllocError> {
+    Ok(breaks(&boxed_broken(alloc)?))
+}
+
 #[test]
-fn a_broken_source(rt: HostRuntime) -> Result<(), AllocError> {
-    same(&rt, breaks(&boxed_broken(rt.alloc())?), true);
-    Ok(())
+fn bytes_are_read_and_a_source_is_broken(rt: HostRuntime) {
+    for row in &ROWS {
+        same(&rt, read(row), wanted(row));
+    }
+    same(&rt, breaks_in_a_box(rt.alloc()), Ok(true));
 }

@@ -28,14 +28,6 @@ static LOCATIONS: [(&str, usize, usize, usize); 12] = [
     ("漢x", 1, 2, 3),
 ];
 
-#[test]
-fn locations(rt: HostRuntime) {
-    for (text, line, column, offset) in &LOCATIONS {
-        let found = locate(text, *line, *column);
-        same(&rt, (line, column, found), (line, column, *offset));
-    }
-}
-
 /// A line, a column and a length, and the span.
 static SPANS: [((usize, usize, usize), (usize, usize)); 3] = [
     ((2, 3, 3), (4, 3)),
@@ -43,12 +35,9 @@ static SPANS: [((usize, usize, usize), (usize, usize)); 3] = [
     ((9, 1, 2), (13, 2)),
 ];
 
-#[test]
-fn spans_from_a_line_and_a_column(rt: HostRuntime) {
-    for ((line, column, length), wanted) in &SPANS {
-        let span = SourceSpan::at_line_column("{\n  \"é\": x\n}", *line, *column, *length);
-        same(&rt, parts(span), *wanted);
-    }
+fn spanned((line, column, length): (usize, usize, usize)) -> (usize, usize) {
+    let span = SourceSpan::at_line_column("{\n  \"é\": x\n}", line, column, length);
+    (span.offset(), span.len())
 }
 
 /// A label where the reader of JSON stopped. Its columns count bytes, so they are added to the line's offset.
@@ -79,12 +68,15 @@ fn json_ends(alloc: Global, text: &str) -> Result<Option<usize>, AllocError> {
 static NO_JSON: [(&str, usize); 3] = [("{\n  \"é\": x\n}", 10), ("{\n  \"a\": ", 8), ("[1,\n", 4)];
 
 #[test]
-fn a_label_where_json_ends(rt: HostRuntime) {
+fn locations_spans_and_where_json_ends(rt: HostRuntime) {
+    for (text, line, column, offset) in &LOCATIONS {
+        let found = locate(text, *line, *column);
+        same(&rt, (line, column, found), (line, column, *offset));
+    }
+    for (place, wanted) in &SPANS {
+        same(&rt, spanned(*place), *wanted);
+    }
     for (text, offset) in &NO_JSON {
         same(&rt, json_ends(rt.alloc(), text), Ok(Some(*offset)));
     }
-}
-
-fn parts(span: SourceSpan) -> (usize, usize) {
-    (span.offset(), span.len())
 }

@@ -40,15 +40,6 @@ fn is_json<'de, T: Serialize + Deserialize<'de> + PartialEq + Drop>(
     is_read(rt, alloc, value, text)
 }
 
-#[test]
-fn parts(rt: HostRuntime) -> Result<(), serde_json::Error> {
-    let alloc = rt.alloc();
-    is_json(&rt, alloc, &Severity::Advice, "\"Advice\"")?;
-    is_json(&rt, alloc, &SourceOffset::from(0), "0")?;
-    let span = SourceSpan::from((3, 4));
-    is_json(&rt, alloc, &span, r#"{"offset":3,"length":4}"#)
-}
-
 /// A label's JSON, without context lines of its own.
 const PLAIN_LABEL: &str = r#"{"span":{"offset":1,"length":2},"primary":false}"#;
 
@@ -98,14 +89,6 @@ fn is_label(
     is_written(rt, alloc, label, written)
 }
 
-#[test]
-fn labels(rt: HostRuntime) -> Result<(), serde_json::Error> {
-    for (given, lines, written) in &LABELS {
-        is_label(&rt, rt.alloc(), &label_with(*lines), (*given, *written))?;
-    }
-    Ok(())
-}
-
 /// With context lines that can't be.
 static NO_LABELS: [&str; 6] = [
     r#"{"span":{"offset":1,"length":2},"primary":false,"context_lines":-1}"#,
@@ -122,10 +105,14 @@ fn is_any_label(alloc: Global, text: &str) -> bool {
 }
 
 #[test]
-fn other_context_lines(rt: HostRuntime) {
+fn labels(rt: HostRuntime) -> Result<(), serde_json::Error> {
+    for (given, lines, written) in &LABELS {
+        is_label(&rt, rt.alloc(), &label_with(*lines), (*given, *written))?;
+    }
     for text in &NO_LABELS {
         same(&rt, is_any_label(rt.alloc(), text), false);
     }
+    Ok(())
 }
 
 /// All parts but labels.
@@ -143,12 +130,12 @@ fn full_diagnostic(alloc: Global) -> Result<MietteDiagnostic, AllocError> {
     all_but_labels(alloc)?.with_label(alloc, label)
 }
 
-/// The diagnostic is read from each of the texts, and written as the first.
-fn is_diagnostic(
+/// The value, where it was made, is read from each of the texts, and written as the first.
+fn is_made<'de, T: Serialize + Deserialize<'de> + PartialEq + Drop>(
     rt: &impl Abort,
     alloc: Global,
-    made: Result<MietteDiagnostic, AllocError>,
-    (text, more): (&str, &str),
+    made: Result<T, AllocError>,
+    (text, more): (&'de str, &'de str),
 ) -> Result<(), serde_json::Error> {
     let value = made?;
     is_json(rt, alloc, &value, text)?;
@@ -159,12 +146,19 @@ const FULL: &str =
     "{\"message\":\"message\",\"code\":\"c\",\"severity\":\"Warning\",\"help\":\"h\",\"url\":\"u\",\
     \"labels\":[{\"label\":\"t\",\"span\":{\"offset\":1,\"length\":2},\"primary\":false}]}";
 
+/// A message alone, as it is written, and with all other parts empty.
+static ALONE: (&str, &str) = (
+    r#"{"message":"message"}"#,
+    r#"{"message":"message","code":null,"severity":null,"help":null,"url":null,"labels":null}"#,
+);
+
 #[test]
-fn diagnostics(rt: HostRuntime) -> Result<(), serde_json::Error> {
+fn parts_and_diagnostics(rt: HostRuntime) -> Result<(), serde_json::Error> {
     let alloc = rt.alloc();
-    let null =
-        r#"{"message":"message","code":null,"severity":null,"help":null,"url":null,"labels":null}"#;
-    let texts = (r#"{"message":"message"}"#, null);
-    is_diagnostic(&rt, alloc, MietteDiagnostic::new(alloc, "message"), texts)?;
-    is_diagnostic(&rt, alloc, full_diagnostic(alloc), (FULL, FULL))
+    is_json(&rt, alloc, &Severity::Advice, "\"Advice\"")?;
+    is_json(&rt, alloc, &SourceOffset::from(0), "0")?;
+    let span = SourceSpan::from((3, 4));
+    is_json(&rt, alloc, &span, r#"{"offset":3,"length":4}"#)?;
+    is_made(&rt, alloc, MietteDiagnostic::new(alloc, "message"), ALONE)?;
+    is_made(&rt, alloc, full_diagnostic(alloc), (FULL, FULL))
 }

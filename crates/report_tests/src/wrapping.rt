@@ -58,15 +58,6 @@ const WHOLE_UNDER_SIGNS: WrapOptions<'static> = WrapOptions {
 /// A text, the columns of a row, and the rows.
 type Row<'a> = (&'a str, usize, &'a str);
 
-/// Texts with sequences.
-static SEQUENCES: [Row<'static>; 5] = [
-    ("aa \u{1B}[31m bb", 3, "aa\u{1B}[31m\nbb"),
-    ("\u{1B}[31mred \u{1B}[0mx", 4, "\u{1B}[31mred\n\u{1B}[0mx"),
-    ("a-\u{1B}[31mb\u{1B}[0m", 2, "a-\n\u{1B}[31mb\u{1B}[0m"),
-    ("\u{1B}[31mab \u{1B}[0m", 5, "\u{1B}[31mab\u{1B}[0m"),
-    ("\u{1B}[31mabcd\u{1B}[0m", 2, "\u{1B}[31mab\ncd\u{1B}[0m"),
-];
-
 /// The text in rows.
 fn filled(alloc: Global, options: &WrapOptions<'_>, text: &str) -> Result<String, AllocError> {
     let mut out = String::new(alloc);
@@ -86,7 +77,18 @@ fn fills(rt: &impl Abort, alloc: Global, options: WrapOptions<'_>, rows: &[Row<'
 }
 
 /// Options, and rows that they make.
-static TABLES: [(WrapOptions<'static>, &[Row<'static>]); 8] = [
+static TABLES: [(WrapOptions<'static>, &[Row<'static>]); 9] = [
+    // texts with sequences
+    (
+        PLAIN,
+        &[
+            ("aa \u{1B}[31m bb", 3, "aa\u{1B}[31m\nbb"),
+            ("\u{1B}[31mred \u{1B}[0mx", 4, "\u{1B}[31mred\n\u{1B}[0mx"),
+            ("a-\u{1B}[31mb\u{1B}[0m", 2, "a-\n\u{1B}[31mb\u{1B}[0m"),
+            ("\u{1B}[31mab \u{1B}[0m", 5, "\u{1B}[31mab\u{1B}[0m"),
+            ("\u{1B}[31mabcd\u{1B}[0m", 2, "\u{1B}[31mab\ncd\u{1B}[0m"),
+        ],
+    ),
     (
         PLAIN,
         &[("ab-cd ef", 5, "ab-cd\nef"), ("ab-cd ef", 4, "ab-\ncd\nef")],
@@ -161,14 +163,6 @@ static TABLES: [(WrapOptions<'static>, &[Row<'static>]); 8] = [
     ),
 ];
 
-#[test]
-fn texts_are_filled(rt: HostRuntime) {
-    for (options, rows) in &TABLES {
-        fills(&rt, rt.alloc(), *options, *rows);
-    }
-    fills(&rt, rt.alloc(), PLAIN, &SEQUENCES);
-}
-
 /// Whether the text fits behind a red indent of two columns.
 fn fits(alloc: Global, wraps: bool, width: usize, text: &str) -> Result<bool, AllocError> {
     let first = read_text(alloc, "\u{1B}[31m>\u{1B}[0m ")?;
@@ -189,15 +183,6 @@ static FITTING: [(&str, usize, bool); 10] = [
     ("\u{1B}[31ma", 8, false),
 ];
 
-#[test]
-fn fitting(rt: HostRuntime) {
-    for (text, width, wanted) in &FITTING {
-        same(&rt, fits(rt.alloc(), true, *width, text), Ok(*wanted));
-        let less = width.saturating_sub(1);
-        same(&rt, fits(rt.alloc(), true, less, text), Ok(false));
-    }
-}
-
 /// Lines that stay whole have any width; those that are white have another indent.
 static FITTING_WHOLE: [(&str, bool); 5] = [
     ("a ", true),
@@ -208,7 +193,15 @@ static FITTING_WHOLE: [(&str, bool); 5] = [
 ];
 
 #[test]
-fn fitting_without_wrapping(rt: HostRuntime) {
+fn texts_are_filled_and_fit(rt: HostRuntime) {
+    for (options, rows) in &TABLES {
+        fills(&rt, rt.alloc(), *options, *rows);
+    }
+    for (text, width, wanted) in &FITTING {
+        same(&rt, fits(rt.alloc(), true, *width, text), Ok(*wanted));
+        let less = width.saturating_sub(1);
+        same(&rt, fits(rt.alloc(), true, less, text), Ok(false));
+    }
     for (text, wanted) in &FITTING_WHOLE {
         same(&rt, fits(rt.alloc(), false, 0, text), Ok(*wanted));
     }

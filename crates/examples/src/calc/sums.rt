@@ -3,7 +3,7 @@
 use thiserror::Error;
 
 /// Why an expression has no value.
-#[derive(Clone, Copy, Debug, PartialEq, Eq, Error)]
+#[derive(Clone, Copy, Debug, Error)]
 pub enum Reason {
     /// A part of it is no number.
     #[error("a number is wanted")]
@@ -14,7 +14,7 @@ pub enum Reason {
 }
 
 /// The reason, and where it lies: an offset and a length, in bytes.
-#[derive(Clone, Copy, Debug)]
+#[derive(Clone, Copy)]
 pub struct Fault {
     /// Why there is no value.
     pub reason: Reason,

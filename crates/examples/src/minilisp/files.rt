@@ -3,7 +3,8 @@
 use miette::prelude::*;
 use miette_tree::miette;
 use std::alloc::Global;
-use std::io::Read;
+use std::fs::Files;
+use std::io::{Input, Read};
 use std::{fs, io};
 
 /// A file that was read.
@@ -33,7 +34,7 @@ impl File {
 ///
 /// # Errors
 /// A report, with the first byte that is wrong where the file isn't UTF-8.
-pub fn read<R: Host>(rt: &R, name: &str) -> Result<File> {
+pub fn read<R: Files + Input + AllocGlobal>(rt: &R, name: &str) -> Result<File> {
     let alloc = rt.alloc();
     let shown = if name == "-" { "<stdin>" } else { name };
     let bytes = bytes_of(rt, name)
@@ -56,7 +57,7 @@ fn not_text(alloc: Global, name: &str, at: usize, bytes: Vec<u8>) -> Result<Repo
     Ok(miette!(in alloc; labels = labels, "{name} isn't UTF-8").with_owned_source(source))
 }
 
-fn bytes_of<R: Host>(rt: &R, name: &str) -> io::Result<Vec<u8>> {
+fn bytes_of<R: Files + Input + AllocGlobal>(rt: &R, name: &str) -> io::Result<Vec<u8>> {
     if name != "-" {
         return fs::read(rt, name);
     }

@@ -3,7 +3,7 @@
 use std::alloc::{AllocError, Global};
 
 /// A slip, with the offset where it begins, in bytes.
-#[derive(Clone, Copy, Debug)]
+#[derive(Clone, Copy)]
 pub enum Slip {
     /// A list that is never closed.
     Unclosed(usize),
@@ -16,7 +16,7 @@ pub enum Slip {
 }
 
 /// Where the reader stands.
-#[derive(Clone, Copy, Debug)]
+#[derive(Clone, Copy)]
 enum State {
     Code,
     /// In a text that begins here.

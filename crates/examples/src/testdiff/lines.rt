@@ -17,9 +17,8 @@ pub fn differences(
     let mut start = 0usize;
     for line in actual.split_inclusive('\n') {
         let found = line.strip_suffix('\n').unwrap_or(line);
-        let why = told_of(alloc, wanted.next(), found)?;
-        if why.is_some() {
-            labels.push(LabeledSpan::new(why, start, found.len()))?;
+        if let Some(why) = told_of(alloc, wanted.next(), found)? {
+            labels.push(LabeledSpan::new(Some(why), start, found.len()))?;
         }
         start = start.saturating_add(line.len());
     }

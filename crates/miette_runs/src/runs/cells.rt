@@ -83,6 +83,5 @@ pub fn push_all<S: Sink>(out: &mut S, runs: RunsSlice<'_>) -> Result<(), AllocEr
         ++ spell (interleaving 0 runs.entry.codes.now runs.entry.tags.now)) }
 {
     let n = push_cells(out, 0, runs.codes, runs.tags)?;
-    push_tags(out, &runs.tags[n..])?;
-    Ok(())
+    push_tags(out, &runs.tags[n..])
 }

@@ -192,8 +192,7 @@ impl Output {
     pub fn push_link_end(&mut self) -> Result<(), AllocError>
         ensures { OnOk result (self.new ≡ self.old ++ link_start []) }
     {
-        self.push_link("")?;
-        Ok(())
+        self.push_link("")
     }
 
     /// What was appended, as a text.

@@ -30,8 +30,7 @@ fn codes_of(alloc: Global, text: &str) -> Result<Vec<char>, AllocError>
     ensures { IfOk result (λ v. v.items ≡ chars text.now) }
 {
     if text.is_ascii() {
-        let codes = byte_codes(alloc, text.as_bytes())?;
-        return Ok(codes);
+        return byte_codes(alloc, text.as_bytes());
     }
     text.chars().collect(alloc)
 }
@@ -79,8 +78,7 @@ pub fn read(alloc: Global, codes: Vec<char>) -> Result<Runs, AllocError>
     if has_no_escape(&codes) {
         return Ok(Runs::of_characters(alloc, codes));
     }
-    let found = cut(alloc, &codes)?;
-    Ok(found)
+    cut(alloc, &codes)
 }
 
 /// The runs that a text spells.
@@ -133,8 +131,7 @@ pub fn reread(alloc: Global, runs: &Runs) -> Result<Runs, AllocError>
     ensures { IfOk result (λ r. r ≡ tokens (spell runs.now)) }
 {
     let text = print(alloc, runs)?;
-    let found = read_text(alloc, text.as_str())?;
-    Ok(found)
+    read_text(alloc, text.as_str())
 }
 
 /// What runs print.
@@ -159,10 +156,8 @@ pub fn columns_of(alloc: Global, runs: &Runs) -> Result<usize, AllocError>
 {
     let parts = runs.parts();
     if is_settled(parts) {
-        let columns = token_columns(parts)?;
-        return Ok(columns);
+        return token_columns(parts);
     }
     let again = reread(alloc, runs)?;
-    let columns = token_columns(again.parts())?;
-    Ok(columns)
+    token_columns(again.parts())
 }

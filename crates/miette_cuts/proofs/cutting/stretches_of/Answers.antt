@@ -1,4 +1,5 @@
 use Rattle.std.proofs.Common.{◌≡◌, ◌∷◌, ◌∙◌, false, map, ap, rules}
+use Rattle.std.proofs.lemmas.Result.{IfOk-weaker}
 use Rattle.miette_cells.specs.views.Walking.{cell_of}
 use Rattle.miette_snippet_rules.specs.rules.CutLines.{is_near, is_near_after, stretches}
 use Rattle.miette_cuts.specs.views.Cuts.{measure}
@@ -17,8 +18,8 @@ returns c =
     (cell_of c.in-Some.cell)) (cell_of c.in-Some.cell) = c.lone_stretch-first.ensures.lone
     ∙ ap (λ (v : LineEnds). lone (is_near_after (is_near v.limit v.ends) false (cell_of c.in-Some.cell))
     (cell_of c.in-Some.cell)) c.new-nearness.ensures in
-    c.in_ok-made.ensures
+    IfOk-weaker c.stretches_behind.result _ _ (λ _ h. h
     ∙ ap (λ (v : LineEnds). onto_made c.lone_stretch-first.result (map measure
     (stretches (is_near v.limit v.ends) c.lone_stretch-first.result.near c.next.new.self))) same
     ∙ first_stretch (is_near c.args.limit c.args.ends.now) false (cell_of c.in-Some.cell)
-    c.args.walk c.next.new.self c.lone_stretch-first.result step first
+    c.args.walk c.next.new.self c.lone_stretch-first.result step first) c.stretches_behind.ensures

@@ -1,5 +1,6 @@
 use Rattle.miette_cuts.proofs.CellPrints.{piece_end, piece_more}
 use Rattle.std.proofs.Common.{refl}
+use Rattle.std.proofs.lemmas.Result.{on_ok_weaker}
 use Rattle.miette_cuts.proofs.printing.push_line_text.Goals as goal
 
 pub loop-piece-preserved : goal.loop-piece-preserved
@@ -11,6 +12,7 @@ loop-piece-preserved g c =
 
 pub returns : goal.returns
 returns g c =
+    on_ok_weaker c.push_cells.result (λ h.
     piece_end c.args.pieces.now c.loop-piece.piece-index c.loop-piece.walk c.loop-piece.page c.begin-2.new.self
-    c.push_cells.new.page _ c.loop-piece-test.false c.in_ok-begin-2.ensures c.in_ok-push_cells.ensures
-    c.loop-piece.invariant
+    c.push_cells.new.page _ c.loop-piece-test.false c.in_ok-begin-2.ensures h
+    c.loop-piece.invariant) c.push_cells.ensures

@@ -1,6 +1,7 @@
 use Rattle.std.proofs.Common.{ℕ, ◌+◌, ◌≡◌, rules, arith}
 use Rattle.std.proofs.lemmas.Str.{IsAscii-take, IsAscii-drop}
 use Rattle.std.proofs.lemmas.List.{take_rest}
+use Rattle.std.proofs.lemmas.Result.{on_ok_weaker}
 use Rattle.miette_cuts.proofs.TabbedText.{stretch_put, rest_put, shorter}
 use Rattle.miette_cuts.proofs.tabs.push_tabbed.Goals as goal
 
@@ -23,5 +24,7 @@ loop-size-preserved g c =
     }
 
 pub returns : goal.returns
-returns g c = rest_put c.args.tab c.loop-size.column c.loop-size.rest.now c.loop-size.page c.push_ascii-2.new.page _
-    c.in_default.ensures c.in_ok-push_ascii-2.ensures c.loop-size.invariant.told
+returns g c =
+    on_ok_weaker c.push_ascii-2.result (λ h.
+    rest_put c.args.tab c.loop-size.column c.loop-size.rest.now c.loop-size.page c.push_ascii-2.new.page _
+    c.in_default.ensures h c.loop-size.invariant.told) c.push_ascii-2.ensures

@@ -1,4 +1,4 @@
-use Rattle.std.proofs.Common.{ℕ, ◌≡◌, List, ap, sym, subst, ◌∙◌, map}
+use Rattle.std.proofs.Common.{ℕ, ◌≡◌, ◌+◌, List, ap, sym, subst, ◌∙◌, length, map, refl}
 use Rattle.std.specs.Option.{option_map}
 use Rattle.miette_folds.specs.views.Spreads.{spread_of}
 use Rattle.miette_frames.specs.views.Places.{place_at}
@@ -7,7 +7,12 @@ use Rattle.miette_labels.specs.views.Sweeping.{IsAt}
 use Rattle.miette_snippet_rules.specs.views.SettingsView.{settings_of}
 use Rattle.miette_snippet_rules.specs.rules.Highlighting.{leaves_plain, follows}
 use Rattle.miette_highlight.specs.rules.HighlighterCalls.{Call, Leads}
+use Rattle.miette_source_lines.specs.rules.Lines.{lines_from}
+use Rattle.miette_labels.specs.views.GivenLabels.{drawn_of}
+use Rattle.miette_snippet_rules.specs.rules.SnippetLayout.{snippet_context}
+use Rattle.miette_frames.specs.views.LentRows.{cells_in, texts_in}
 use Rattle.miette_frames.proofs.ReadRows.{told_lent}
+use Rattle.miette_drawing.proofs.AroundRows.{rows_around}
 use Rattle.miette_drawing.proofs.snippet.push_framed.Goals as goal
 
 pub extent_of-requires-clause-at : goal.extent_of-requires-clause-at
@@ -33,23 +38,29 @@ push_lines-requires-clause-at g c =
 pub extent_of-requires-clause-folds : goal.extent_of-requires-clause-folds
 extent_of-requires-clause-folds g c =
     let lent = c.args.snippet.now.contents.now in
-    let spreads = c.args.drawing.now.spreads.now in
+    let spreads = c.around-spreads.result.now in
     let at : lent.span.offset ≡ c.offset-start.result =
     sym (c.offset-start.ensures ∙ ap (λ s. s.offset) c.span.ensures) in
     record {
       labels = spreads;
-      are = c.deref.ensures.value ∙ c.in_ok-folds.ensures ∙ ap (λ n. map (fold_in n lent.bytes) spreads) at
+      are = c.in_ok-folds.ensures ∙ ap (λ n. map (fold_in n lent.bytes) spreads) at
           ∙ ap (λ bs. map (fold_in c.offset-start.result bs) spreads) (sym c.data-bytes.ensures);
     }
 
 pub push_lines-requires-clause-folds : goal.push_lines-requires-clause-folds
 push_lines-requires-clause-folds g c =
     let lent = c.args.snippet.now.contents.now in
-    let spreads = c.args.drawing.now.spreads.now in
+    let spreads = c.around-spreads.result.now in
     let at : lent.span.offset ≡ c.offset-start.result =
     sym (c.offset-start.ensures ∙ ap (λ s. s.offset) c.span.ensures) in
-    c.deref-2.ensures.value ∙ c.in_ok-folds.ensures ∙ ap (λ n. map (fold_in n lent.bytes) spreads) at
+    c.in_ok-folds.ensures ∙ ap (λ n. map (fold_in n lent.bytes) spreads) at
     ∙ ap (λ bs. map (fold_in c.offset-start.result bs) spreads) (sym c.data-bytes.ensures)
+
+pub folds_in-requires-clause-numbered : goal.folds_in-requires-clause-numbered
+folds_in-requires-clause-numbered g c = record {
+  counted = c.requires.numbered.counted;
+  each = c.around-spreads.ensures.numbered c.args.snippet.now.contents.now c.requires.numbered.each;
+}
 
 pub returns-clause-rows : goal.returns-clause-rows
 returns-clause-rows g c =
@@ -66,4 +77,14 @@ returns-clause-rows g c =
     c.line-before.ensures (c.offset-start.ensures ∙ ap (λ s. s.offset) c.span.ensures) c.name.ensures
     c.data-bytes.ensures
     c.in_ok-extent.ensures.lines c.in_ok-extent.ensures.most c.in_ok-number_width.ensures c.in_ok-gutter_width.ensures
-    c.in_ok-push_top_row.ensures c.in_ok-push_lines.ensures.rows c.in_ok-push_bottom_row.ensures
+    c.in_ok-push_top_row.ensures
+    (rows_around (settings_of drawing.settings) blank (λ calls. Leads had calls now) c.offset-start.result
+    (c.offset-start.result + length c.data-bytes.result.now) c.line-before.result c.data-bytes.result.now
+    drawing.spreads.now c.around-spreads.result.now
+    (texts_in c.offset-start.result c.data-bytes.result.now (lines_from c.offset-start.result c.data-bytes.result.now))
+    (snippet_context (settings_of drawing.settings) c.in_ok-number_width.field-0 c.in_ok-gutter_width.field-0
+    (map drawn_of drawing.placed.now)
+    (cells_in (settings_of drawing.settings) c.offset-start.result c.data-bytes.result.now))
+    c.push_top_row.new.page c.push_lines.new.page refl c.around-spreads.ensures.around
+    c.in_ok-push_lines.ensures.rows)
+    c.in_ok-push_bottom_row.ensures

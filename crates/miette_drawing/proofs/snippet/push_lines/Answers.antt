@@ -29,7 +29,7 @@ loop-at-init g c =
     let e : c.args.body.now.start ≡ c.args.body.now.start + 0 = omega arith in
     let n : c.args.body.now.before + 1 ≡ c.args.body.now.before + 0 + 1 = omega arith in record {
       lined = subst (λ (m : ℕ). AreLined (left_out (settings_of body.frame.settings) body.before
-          (lines_from body.start body.bytes.now) (map spread_of c.args.drawing.now.spreads.now)) false
+          (lines_from body.start body.bytes.now) (map spread_of c.args.body.now.spreads.now)) false
           (settings_of body.frame.settings) body.frame.number_width body.gutter
           (map drawn_of c.args.drawing.now.placed.now) body.start body.bytes.now
           (body.before + 1)
@@ -37,7 +37,7 @@ loop-at-init g c =
           (follows g.H.Highlighter.may_follow c.args.highlighter.now)
           (follows g.H.Highlighter.may_follow c.args.highlighter.now) 0 m c.args.page.now c.args.page.now) n
           (lines_first (left_out (settings_of body.frame.settings) body.before
-          (lines_from body.start body.bytes.now) (map spread_of c.args.drawing.now.spreads.now))
+          (lines_from body.start body.bytes.now) (map spread_of c.args.body.now.spreads.now))
           (settings_of body.frame.settings) body.frame.number_width body.gutter
           (map drawn_of c.args.drawing.now.placed.now) body.start body.bytes.now
           (body.before + 1)
@@ -104,7 +104,7 @@ loop-at-preserved g c =
     let body = c.args.body.now in
     let start : ℕ = c.args.body.now.start in
     let bytes : List ℕ = c.args.body.now.bytes.now in
-    let spreads = c.args.drawing.now.spreads.now in
+    let spreads = c.args.body.now.spreads.now in
     let folds = c.args.body.now.folds.now in
     let placed : List PlacedLabel = c.args.drawing.now.placed.now in
     let l : Line = line_of_text c.line_at-line.result in
@@ -129,7 +129,7 @@ loop-at-preserved g c =
     c.line_at-line.ensures.to in
     let low : c.args.body.now.start ≤ c.line_at-line.result.end = omega (arith, from, some) in
     let lined = subst (λ (n : ℕ). AreLined (left_out (settings_of body.frame.settings) body.before
-    (lines_from body.start body.bytes.now) (map spread_of c.args.drawing.now.spreads.now)) c.loop-at.gap
+    (lines_from body.start body.bytes.now) (map spread_of c.args.body.now.spreads.now)) c.loop-at.gap
     (settings_of body.frame.settings) body.frame.number_width body.gutter
     (map drawn_of placed) body.start body.bytes.now (body.before + 1) blank begun was
     c.loop-at.at n c.args.page.now c.loop-at.page)
@@ -137,16 +137,16 @@ loop-at-preserved g c =
     let counted : c.loop-at.place ≡ c.in_ok-number.number - (c.args.body.now.before + 1) =
     omega (arith, c.in_ok-number.ensures) in
     let is : c.leaves_out-left_out.result ≡ leaves_out c.args.body.now.frame.settings.layout.now.label_lines
-    (lines_from start bytes) (map spread_of c.args.drawing.now.spreads.now) c.loop-at.place
+    (lines_from start bytes) (map spread_of c.args.body.now.spreads.now) c.loop-at.place
     (line_of_text c.line_at-line.result) =
-    c.leaves_out-left_out.ensures start bytes c.args.drawing.now.spreads.now c.requires.folds in
+    c.leaves_out-left_out.ensures start bytes c.args.body.now.spreads.now c.requires.folds in
     let leaves : c.leaves_out-left_out.result ≡ left_out (settings_of body.frame.settings)
-    body.before (lines_from body.start body.bytes.now) (map spread_of c.args.drawing.now.spreads.now)
+    body.before (lines_from body.start body.bytes.now) (map spread_of c.args.body.now.spreads.now)
     c.in_ok-number.number (line_of_text c.line_at-line.result) =
     is ∙ ap (λ n. leaves_out c.args.body.now.frame.settings.layout.now.label_lines (lines_from start bytes)
-    (map spread_of c.args.drawing.now.spreads.now) n (line_of_text c.line_at-line.result)) counted in
+    (map spread_of c.args.body.now.spreads.now) n (line_of_text c.line_at-line.result)) counted in
     let drawn = lines_more (left_out (settings_of body.frame.settings) body.before
-    (lines_from body.start body.bytes.now) (map spread_of c.args.drawing.now.spreads.now)) c.loop-at.gap
+    (lines_from body.start body.bytes.now) (map spread_of c.args.body.now.spreads.now)) c.loop-at.gap
     c.leaves_out-left_out.result (settings_of body.frame.settings) body.frame.number_width body.gutter placed
     body.start body.bytes.now (body.before + 1) blank begun was now
     c.loop-at.at c.in_ok-number.number c.line_at-line.result
@@ -160,7 +160,7 @@ loop-at-preserved g c =
     let sums : c.in_ok-number.number + 1 ≡ c.args.body.now.before + (c.loop-at.place + 1) + 1 =
     omega (arith, c.in_ok-number.ensures) in
     let behind = subst (λ (n : ℕ). AreLined (left_out (settings_of body.frame.settings) body.before
-    (lines_from body.start body.bytes.now) (map spread_of c.args.drawing.now.spreads.now))
+    (lines_from body.start body.bytes.now) (map spread_of c.args.body.now.spreads.now))
     c.leaves_out-left_out.result (settings_of body.frame.settings) body.frame.number_width
     body.gutter (map drawn_of placed) body.start body.bytes.now (body.before + 1)
     blank begun now (c.line_at-line.result.end - c.args.body.now.start) n c.args.page.now
@@ -178,7 +178,7 @@ loop-at-preserved g c =
     + (c.next_start-next.result.offset - c.args.body.now.start) = omega (arith, b.low) in
     record {
       lined = lines_run (settings_of body.frame.settings)
-          (map spread_of c.args.drawing.now.spreads.now) c.leaves_out-left_out.result jumps body.frame.number_width
+          (map spread_of c.args.body.now.spreads.now) c.leaves_out-left_out.result jumps body.frame.number_width
           body.gutter (map drawn_of placed) start bytes body.before (body.before + 1)
           blank begun now near far c.args.page.now c.push_line_or_break.new.page
           c.may_pass.ensures.out c.may_pass.ensures.free (λ f. c.next_start-next.ensures
@@ -198,7 +198,7 @@ pub returns-clause-rows : goal.returns-clause-rows
 returns-clause-rows g c =
     let body = c.args.body.now in
     lines_all (left_out (settings_of body.frame.settings) body.before
-    (lines_from body.start body.bytes.now) (map spread_of c.args.drawing.now.spreads.now)) c.loop-at.gap
+    (lines_from body.start body.bytes.now) (map spread_of c.args.body.now.spreads.now)) c.loop-at.gap
     (settings_of body.frame.settings) body.frame.number_width body.gutter
     (map drawn_of c.args.drawing.now.placed.now) body.start body.bytes.now
     (body.before + 1)

@@ -13,7 +13,7 @@ use Rattle.miette_drawing.proofs.snippet.push_lines.Given as goal
 abbrev pub invariant-loop-at : goal.invariant-loop-at
 invariant-loop-at g l = record {
   lined : AreLined (left_out (settings_of l.body.frame.settings) l.body.before
-      (lines_from l.body.start l.body.bytes.now) (map spread_of l.drawing.spreads.now)) l.gap
+      (lines_from l.body.start l.body.bytes.now) (map spread_of l.body.spreads.now)) l.gap
       (settings_of l.body.frame.settings) l.body.frame.number_width l.body.gutter
       (map drawn_of l.drawing.placed.now) l.body.start l.body.bytes.now (l.body.before + 1)
       (leaves_plain g.H.Highlighter.is_blank l.initial.highlighter)

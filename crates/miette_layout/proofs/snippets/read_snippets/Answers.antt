@@ -65,11 +65,10 @@ push_snippet-requires-clause-numbered g c =
     let context = c.args.settings.now.layout.now.context_lines in
     let ls = in_order c.args.given.now.labels.now in
     let group = c.group-item.result in
-    are_numbered (group_context context ls) source group.span group.contents c.deref-3.result.now
+    are_numbered (group_context context ls) source group.span group.contents c.in_ok-spreads.spreads
     (groups_lent context source ls c.deref-group-items.result.now c.loop-group.group-index group
     c.loop-group.invariant.grouped c.loop-group-test.true c.group-item.is)
-    (subst (λ (xs : List MadeSpread). All (HasLines source.bytes) xs) (sym c.deref-3.ensures.value)
-    (c.in_ok-spreads.ensures.lines source c.requires.each))
+    (c.in_ok-spreads.ensures.lines source c.requires.each)
 
 pub loop-group-init : goal.loop-group-init
 loop-group-init g c =
@@ -102,8 +101,7 @@ loop-group-preserved g c =
     let was : List Call → Type 0 = follows g.H.Highlighter.may_follow c.loop-group.highlighter in
     let now : List Call → Type 0 = follows g.H.Highlighter.may_follow c.push_snippet.new.highlighter in
     let happen : List Call → Type 0 = λ calls. Leads was (restarted group.contents ∷ calls) now in
-    let folded : map spread_of c.deref-3.result.now ≡ spreads = ap (map spread_of) c.deref-3.ensures.value
-    ∙ c.in_ok-spreads.ensures.parts
+    let folded : map spread_of c.in_ok-spreads.spreads ≡ spreads = c.in_ok-spreads.ensures.parts
     ∙ spreads_are s.layout.label_lines s.layout.context_lines source given.labels.now given.reads.now c.requires.order
     c.requires.each in
     let told = subst (λ xs. PutsRows (leaves_plain g.H.Highlighter.is_blank c.loop-group.highlighter) happen

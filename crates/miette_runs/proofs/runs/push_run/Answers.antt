@@ -1,4 +1,5 @@
 use Rattle.std.proofs.Common.{◌≡◌, ◌∙◌, ◌++◌, ap, chars, length, ◌<◌, sym, eqb-true}
+use Rattle.std.proofs.lemmas.Result.{on_ok_weaker}
 use Rattle.miette_runs.specs.rules.Runs.{printed_run}
 use Rattle.miette_runs.proofs.Painting.{run-empty, run-plain, run-pushed}
 use Rattle.miette_page.proofs.Paging.{some-chars, nonzero}
@@ -15,12 +16,14 @@ returns-then-is_empty g c =
       | then-is_empty-via-else-is_empty+then-is_plain w ↦ run-plain s (chars bs)
           (sym w.is_plain.ensures ∙ w.if-is_plain.true)
     ] in
-    c.in_ok-push_str.ensures ∙ ap (λ x. g.C.Canvas.written c.args.out.now ++ x) (sym same)
+    on_ok_weaker c.push_str.result (λ h. h ∙ ap (λ x. g.C.Canvas.written c.args.out.now ++ x) (sym same))
+    c.push_str.ensures
 
 pub returns : goal.returns
 returns g c =
     let bs = c.args.text.now in
     let some : 0 < length bs = nonzero (length bs) (sym c.is_empty.ensures ∙ c.if-is_empty.false) in
+    on_ok_weaker c.end.result (λ h.
     run-pushed c.args.style (chars bs) (g.C.Canvas.written c.args.out.now) (g.C.Canvas.written c.begin.new.self)
     (g.C.Canvas.written c.push_str-2.new.self) (g.C.Canvas.written c.end.new.self) (some-chars bs c.utf8.text some)
-    (sym c.is_plain.ensures ∙ c.if-is_plain.false) c.in_ok-begin.ensures c.in_ok-push_str-2.ensures c.in_ok-end.ensures
+    (sym c.is_plain.ensures ∙ c.if-is_plain.false) c.in_ok-begin.ensures c.in_ok-push_str.ensures h) c.end.ensures

@@ -1,5 +1,6 @@
 use Rattle.std.proofs.Common.{◌≡◌, ◌∙◌, ◌+◌, ◌-◌, ◌++◌, [], ap, arith, drop, length, length-drop, map, min, sym, take}
 use Rattle.std.proofs.lemmas.List.{take_rest, drop_all}
+use Rattle.std.proofs.lemmas.Result.{on_ok_weaker}
 use Rattle.miette_runs.specs.rules.Sequences.{Character}
 use Rattle.miette_runs.specs.views.Interleaving.{tag_token, interleaving}
 use Rattle.miette_runs.proofs.Growing.{appended-next, spell-appended}
@@ -33,13 +34,15 @@ returns-clause-tokens c =
     let xs = drop c.loop-tag.start c.parts-parts.result.codes.now in
     let none : drop c.loop-tag.tag-index c.parts-parts.result.tags.now ≡ [] =
     drop_all c.loop-tag.tag-index c.parts-parts.result.tags.now (omega arith) in
-    c.in_ok-push_chars-2.ensures.tokens
+    on_ok_weaker c.push_chars-2.result (λ h. h
     ∙ ap (λ ts. c.loop-tag.self ++ ts)
     (ap (map Character) (take_rest c.parts-parts.result.codes.now c.loop-tag.start)
     ∙ sym (woven-none c.loop-tag.start xs)
     ∙ ap (λ vs. interleaving c.loop-tag.start xs vs) (sym none))
     ∙ c.loop-tag.invariant.woven
-    ∙ ap (λ ts. c.args.self.now ++ ts) c.parts-parts.ensures
+    ∙ ap (λ ts. c.args.self.now ++ ts) c.parts-parts.ensures) c.push_chars-2.ensures.tokens
 
 pub returns-clause-text : goal.returns-clause-text
-returns-clause-text c = spell-appended c.args.self.now _ c.args.more.now (returns-clause-tokens c)
+returns-clause-text c =
+    on_ok_weaker c.push_chars-2.result (λ h. spell-appended c.args.self.now _ c.args.more.now h)
+    (returns-clause-tokens c)

@@ -1,4 +1,5 @@
 use Rattle.std.proofs.Common.{◌≡◌, ◌∙◌, ap, sym, true}
+use Rattle.std.proofs.lemmas.Result.{IfOk-weaker}
 use Rattle.miette_runs.specs.rules.Sequences.{spell, tokens}
 use Rattle.miette_style.specs.rules.Escapes.{no_escape}
 use Rattle.miette_runs.proofs.Tokens.{spell-tokens}
@@ -18,5 +19,5 @@ returns-then-has_no_escape-clause-text c = ap spell c.of_characters.ensures ∙ 
 
 pub returns-clause-text : goal.returns-clause-text
 returns-clause-text c =
-    ap spell c.in_ok-found.ensures ∙ ap (λ xs. spell (tokens xs)) c.deref-2.ensures.value
-    ∙ spell-tokens c.args.codes.items
+    IfOk-weaker c.cut.result _ _ (λ _ h. ap spell h ∙ ap (λ xs. spell (tokens xs)) c.deref-2.ensures.value
+    ∙ spell-tokens c.args.codes.items) c.cut.ensures

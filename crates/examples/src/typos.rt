@@ -1,0 +1,101 @@
+//! Finds words that are often misspelt: `typos FILE` labels them, `typos --fix FILE` prints the file with them mended.
+
+use crate::reading::text_of;
+use miette::prelude::*;
+use miette_tree::miette;
+use std::alloc::{AllocError, Global};
+use std::env::Args;
+use std::fs::Files;
+use std::io::Write;
+use std::process::ExitCode;
+
+/// Words as they are often misspelt, each with how it is spelt.
+const WORDS: [(&str, &str); 4] = [
+    ("lenght", "length"),
+    ("occured", "occurred"),
+    ("recieve", "receive"),
+    ("seperate", "separate"),
+];
+
+/// Runs the example with the words behind its name.
+pub fn main<R: Host>(rt: &R, words: Args) -> ExitCode {
+    let (is_fixing, name) = words_of(words);
+    match run(rt, name.as_deref(), is_fixing) {
+        Ok(()) => ExitCode::SUCCESS,
+        Err(report) => print_report(rt, &report),
+    }
+}
+
+/// Whether the file is to be mended, and its name.
+fn words_of(mut words: Args) -> (bool, Option<String>) {
+    let first = words.next();
+    if first.as_deref() == Some("--fix") {
+        (true, words.next())
+    } else {
+        (false, first)
+    }
+}
+
+/// Prints a file with its misspelt words mended, or fails with a report of them.
+fn run<R: Files + Streams + AllocGlobal>(
+    rt: &R,
+    name: Option<&str>,
+    is_fixing: bool,
+) -> Result<()> {
+    let alloc = rt.alloc();
+    let name = name.wrap_err(alloc, "usage: typos [--fix] FILE")?;
+    let text = text_of(rt, name)?;
+    if !is_fixing {
+        return check(alloc, name, text);
+    }
+    let fixed = mended(alloc, text.as_str())?;
+    rt.output()
+        .write_all(fixed.as_slice())
+        .into_diagnostic(alloc)
+}
+
+/// A text with its misspelt words mended.
+fn mended(alloc: Global, text: &str) -> Result<Vec<u8>> {
+    let fix = fix_of(alloc, text)?;
+    fix.apply(alloc, text.as_bytes()).into_diagnostic(alloc)
+}
+
+/// Fails with a report of the misspelt words of a file, where there are some.
+fn check(alloc: Global, name: &str, text: String) -> Result<()> {
+    let fix = fix_of(alloc, text.as_str())?;
+    if fix.edits().is_empty() {
+        return Ok(());
+    }
+    let source = OwnedSource::named(alloc, name, None, text.into_bytes())?;
+    Err(report_of(alloc, fix)?.with_owned_source(source))
+}
+
+/// A fix with an edit for each misspelt word of a text.
+fn fix_of(alloc: Global, text: &str) -> Result<Fix, AllocError> {
+    let mut fix = Fix::new(alloc, "spell it right")?;
+    for (wrong, right) in WORDS {
+        for (offset, word) in text.match_indices(wrong) {
+            let edit = Edit::replace((offset, word.len()), String::from_str(alloc, right)?);
+            fix = fix.with_edit(edit)?;
+        }
+    }
+    Ok(fix)
+}
+
+/// A label on each word that a fix mends.
+fn labels_of(alloc: Global, fix: &Fix) -> Result<Vec<LabeledSpan>, AllocError> {
+    let mut labels = Vec::new(alloc);
+    for edit in fix.edits() {
+        let why = format!(in alloc; "should be `{}`", edit.text())?;
+        labels.push(LabeledSpan::new_with_span(Some(why), *edit.span()))?;
+    }
+    Ok(labels)
+}
+
+/// A report with a label on each misspelt word, and the fix.
+fn report_of(alloc: Global, fix: Fix) -> Result<Report> {
+    let labels = labels_of(alloc, &fix)?;
+    let count = labels.len();
+    let fixes = vec![in alloc; fix]?;
+    Ok(miette!(in alloc; labels = labels, fixes = fixes, "misspelt words: {count}"))
+}

@@ -1,0 +1,201 @@
+-- The labels that may touch some lines, among all.
+use Rattle.std.proofs.Common.{ℕ, zero, suc, ◌+◌, ◌-◌, ◌<◌, ◌≤◌, ◌≡◌, max, min, Bool, false, ◌&&◌, ◌||◌, List, []}
+use Rattle.std.proofs.Common.{◌∷◌, ◌++◌, length, map, take, drop, get_or, refl, sym, ap, subst, ◌∙◌, ltb, arith, All}
+use Rattle.std.specs.List.{list_any}
+use Rattle.std.proofs.Common.{⊎_elim}
+use Rattle.std.proofs.lemmas.Bool.{cases_lt, le-ltb}
+use Rattle.std.proofs.lemmas.List.{get_or-append-add, get_or-drop, get_or_append_left, get_or_default}
+use Rattle.std.proofs.lemmas.List.{length-append, length-drop}
+use Rattle.std.proofs.lemmas.List.Elements.{All-drop, All-take}
+use Rattle.std.proofs.Math.Bool.{and-false}
+use Rattle.miette_source_lines.specs.rules.Lines.{Line}
+use Rattle.miette_protocol.specs.rules.Reading.{Contents}
+use Rattle.miette_snippet_rules.specs.rules.Folds.{Spread, is_around}
+use Rattle.miette_folds.specs.declared.folds.Spread.{Spread as MadeSpread}
+use Rattle.miette_folds.specs.views.Spreads.{IsNumbered, spread_of}
+use Rattle.miette_folds.specs.views.Windows.{AreAround, AreBounds, IsWindow}
+
+-- ---- some of a list
+
+any-mapped : (p : Spread → Bool) (xs : List MadeSpread) → list_any p (map spread_of xs)
+    ≡ list_any (λ x. p (spread_of x)) xs
+any-mapped p [] = refl
+any-mapped p (x ∷ xs) = ap (λ b. p (spread_of x) || b) (any-mapped p xs)
+
+pub any-dropped : {A : Type 0} (p : A → Bool) (xs : List A) (n : ℕ)
+    → ((k : ℕ) (d : A) → k < n → k < length xs → p (get_or xs k d) ≡ false) → list_any p (drop n xs)
+    ≡ list_any p xs
+any-dropped p xs zero h = refl
+any-dropped p [] (suc n) h = refl
+any-dropped p (x ∷ xs) (suc n) h =
+    any-dropped p xs n (λ k d lt inside. h (suc k) d (omega (arith, lt)) (omega (arith, inside)))
+    ∙ ap (λ b. b || list_any p xs) (sym (h 0 x (omega arith) (omega arith)))
+
+pub any-taken : {A : Type 0} (p : A → Bool) (xs : List A) (n : ℕ)
+    → ((k : ℕ) (d : A) → n ≤ k → k < length xs → p (get_or xs k d) ≡ false) → list_any p (take n xs)
+    ≡ list_any p xs
+any-taken p [] zero h = refl
+any-taken p [] (suc n) h = refl
+any-taken p (x ∷ xs) zero h =
+    any-taken p xs zero (λ k d le inside. h (suc k) d (omega arith) (omega (arith, inside)))
+    ∙ ap (λ b. b || list_any p xs) (sym (h 0 x (omega arith) (omega arith)))
+any-taken p (x ∷ xs) (suc n) h =
+    ap (λ b. p x || b) (any-taken p xs n (λ k d le inside. h (suc k) d (omega (arith, le)) (omega (arith, inside))))
+
+-- ---- the labels that are looked at
+
+off_until : (line : Line) (s : MadeSpread) (start : ℕ) (test : Bool) → start ≤ line.start → s.until ≤ start
+    → (is_around line (spread_of s) && test) ≡ false
+off_until line s start test low le =
+    let off : ltb line.start s.until ≡ false = le-ltb line.start s.until (omega (arith, low, le)) in
+    ap (λ b. (b && ltb s.from line.end) && test) off
+
+off_from : (line : Line) (s : MadeSpread) (end : ℕ) (test : Bool) → line.end ≤ end → end ≤ s.from
+    → (is_around line (spread_of s) && test) ≡ false
+off_from line s end test high le =
+    let off : ltb s.from line.end ≡ false = le-ltb s.from line.end (omega (arith, high, le)) in
+    ap (λ b. (ltb line.start s.until && b) && test) off
+    ∙ ap (λ b. b && test) (and-false (ltb line.start s.until))
+
+-- so those in between say of lines what all do
+pub around_part : (start end : ℕ) (all some : List MadeSpread) (first behind : ℕ)
+    → IsWindow start end all first behind → some ≡ take (behind - first) (drop first all)
+    → AreAround start end all some
+around_part start end all some first behind w is = λ line low high test.
+    let p : MadeSpread → Bool = λ s. is_around line (spread_of s) && test (spread_of s) in
+    let rest : List MadeSpread = drop first all in
+    any-mapped (λ s. is_around line s && test s) some ∙ ap (list_any p) is
+    ∙ any-taken p rest (behind - first) (λ k d ge inside.
+    let later : first + k < length all = omega (arith, inside, length-drop first all) in
+    let same : get_or rest k d ≡ get_or all (first + k) d = get_or-drop first all k d in
+    ap p same ∙ off_from line (get_or all (first + k) d) end (test (spread_of (get_or all (first + k) d))) high
+    (w.from (first + k) d (omega (arith, ge)) later))
+    ∙ any-dropped p all first (λ k d lt inside. off_until line (get_or all k d) start
+    (test (spread_of (get_or all k d))) low (w.until k d lt))
+    ∙ sym (any-mapped (λ s. is_around line s && test s) all)
+
+-- where the first and the last ones are off by the bounds
+pub window_is : (start end : ℕ) (all : List MadeSpread) (untils froms : List ℕ) (first later behind : ℕ)
+    → AreBounds all untils froms → first ≤ length untils → (0 < first → get_or untils (first - 1) 0 < min start end) →
+    later ≤ length froms → (0 < later → end ≤ get_or froms (later - 1) 0) → behind ≡ max (length untils - later) first →
+    IsWindow start end all first behind
+window_is start end all untils froms first later behind bounds few low many high b = record {
+  order = omega (arith, b);
+  within = omega (arith, b, few, bounds.untils);
+  until = λ k d lt. omega (arith, reach k d lt, low (omega (arith, lt)));
+  begun = λ k d lt. omega (arith, reach k d lt, low (omega (arith, lt)));
+  from = λ k d ge inside.
+      let some : 0 < later = omega (arith, b, ge, inside, bounds.untils) in
+      let last : later - 1 < length all = omega (arith, many, some, bounds.froms) in
+      let le : get_or froms (later - 1) 0 ≤ (get_or all k d).from = bounds.from k (later - 1) d last
+      (omega (arith, b, ge, some, bounds.untils)) inside in
+      omega (arith, le, high some);
+}
+  where
+    reach : (k : ℕ) (d : MadeSpread) → k < first → max (get_or all k d).until (get_or all k d).from
+        ≤ get_or untils (first - 1) 0
+    reach k d lt = bounds.until k (first - 1) d (omega (arith, lt)) (omega (arith, few, lt, bounds.untils))
+
+pub some_numbered : (lent : Contents) (all some : List MadeSpread) (first many : ℕ) → some ≡ take many (drop first all)
+    → All (IsNumbered lent) all → All (IsNumbered lent) some
+some_numbered lent all some first many is h =
+    subst (λ (xs : List MadeSpread). All (IsNumbered lent) xs) (sym is)
+    (All-take (IsNumbered lent) many (drop first all) (All-drop (IsNumbered lent) first all h))
+
+-- ---- the bounds, label by label
+
+-- so many labels go no further than so many entries say, and than the greatest of them so far
+pub record AreUntils (labels : List MadeSpread) (made : List ℕ) (count greatest : ℕ) : Type 0 where
+  pub many : length made ≡ count
+  pub until : (j k : ℕ) (d : MadeSpread) → j ≤ k → k < count → max (get_or labels j d).until (get_or labels j d).from
+      ≤ get_or made k 0
+  pub most : (j : ℕ) (d : MadeSpread) → j < count → max (get_or labels j d).until (get_or labels j d).from ≤ greatest
+
+pub untils_none : (labels : List MadeSpread) (made : List ℕ) → made ≡ [] → AreUntils labels made 0 0
+untils_none labels made e = record {
+  many = ap length e;
+  until = λ j k d le lt. absurd (omega (arith, lt));
+  most = λ j d lt. absurd (omega (arith, lt));
+}
+
+pub untils_more : (labels : List MadeSpread) (made new : List ℕ) (many most next : ℕ) (own : MadeSpread)
+    → many < length labels → new ≡ made ++ next ∷ [] → next
+    ≡ max (max (get_or labels many own).until (get_or labels many own).from) most →
+    AreUntils labels made many most → AreUntils labels new (many + 1) next
+untils_more labels made new many most next own some e n h = record {
+  many = omega (arith, ap length e, length-append made (next ∷ []), h.many);
+  until = λ j k d le lt.
+      ⊎_elim {C = max (get_or labels j d).until (get_or labels j d).from ≤ get_or new k 0}
+      (λ less.
+      let same : get_or new k 0 ≡ get_or made k 0 = ap (λ xs. get_or xs k 0) e
+      ∙ get_or_append_left made (next ∷ []) 0 k (omega (arith, h.many, less)) in
+      omega (arith, same, h.until j k d le less))
+      (λ ge.
+      let last : k ≡ length made + 0 = omega (arith, ge, lt, h.many) in
+      let same : get_or new k 0 ≡ next = ap (λ xs. get_or xs k 0) e ∙ ap (λ i. get_or (made ++ next ∷ []) i 0) last
+      ∙ get_or-append-add made (next ∷ []) 0 0 in
+      omega (arith, same, newest j d (omega (arith, le, lt))))
+      (cases_lt k many);
+  most = newest;
+}
+  where
+    newest : (j : ℕ) (d : MadeSpread) → j < many + 1 → max (get_or labels j d).until (get_or labels j d).from ≤ next
+    newest j d lt =
+        ⊎_elim {C = max (get_or labels j d).until (get_or labels j d).from ≤ next}
+        (λ less. omega (arith, n, h.most j d less))
+        (λ ge.
+        let same : j ≡ many = omega (arith, ge, lt) in
+        let is : get_or labels j d ≡ get_or labels many own = ap (λ i. get_or labels i d) same
+        ∙ get_or_default labels many d own some in
+        omega (arith, n, ap (λ (x : MadeSpread). x.until) is, ap (λ (x : MadeSpread). x.from) is))
+        (cases_lt j many)
+
+-- the same from the last one on
+pub record AreFroms (labels : List MadeSpread) (made : List ℕ) (count smallest : ℕ) : Type 0 where
+  pub many : length made ≡ count
+  pub from : (j k : ℕ) (d : MadeSpread) → k < count → length labels - (k + 1) ≤ j → j < length labels →
+      get_or made k 0 ≤ (get_or labels j d).from
+  pub least : (j : ℕ) (d : MadeSpread) → length labels - count ≤ j → j < length labels → smallest
+      ≤ (get_or labels j d).from
+
+pub froms_none : (labels : List MadeSpread) (made : List ℕ) (least : ℕ) → made ≡ [] → AreFroms labels made 0 least
+froms_none labels made least e = record {
+  many = ap length e;
+  from = λ j k d lt ge inside. absurd (omega (arith, lt));
+  least = λ j d ge inside. absurd (omega (arith, ge, inside));
+}
+
+pub froms_more : (labels : List MadeSpread) (made new : List ℕ) (many least next : ℕ) (own : MadeSpread)
+    → many < length labels → new ≡ made ++ next ∷ [] →
+    next ≡ min (get_or labels (length labels - 1 - many) own).from least →
+    AreFroms labels made many least → AreFroms labels new (many + 1) next
+froms_more labels made new many least next own some e n h = record {
+  many = omega (arith, ap length e, length-append made (next ∷ []), h.many);
+  from = λ j k d lt ge inside.
+      ⊎_elim {C = get_or new k 0 ≤ (get_or labels j d).from}
+      (λ less.
+      let same : get_or new k 0 ≡ get_or made k 0 = ap (λ xs. get_or xs k 0) e
+      ∙ get_or_append_left made (next ∷ []) 0 k (omega (arith, h.many, less)) in
+      omega (arith, same, h.from j k d less ge inside))
+      (λ more.
+      let last : k ≡ length made + 0 = omega (arith, more, lt, h.many) in
+      let same : get_or new k 0 ≡ next = ap (λ xs. get_or xs k 0) e ∙ ap (λ i. get_or (made ++ next ∷ []) i 0) last
+      ∙ get_or-append-add made (next ∷ []) 0 0 in
+      omega (arith, same, newest j d (omega (arith, ge, lt, more)) inside))
+      (cases_lt k many);
+  least = newest;
+}
+  where
+    newest : (j : ℕ) (d : MadeSpread) → length labels - (many + 1) ≤ j → j < length labels → next
+        ≤ (get_or labels j d).from
+    newest j d ge inside =
+        ⊎_elim {C = next ≤ (get_or labels j d).from}
+        (λ less.
+        let same : j ≡ length labels - 1 - many = omega (arith, ge, less, some) in
+        let at : length labels - 1 - many < length labels = omega (arith, some) in
+        let is : (get_or labels j d).from ≡ (get_or labels (length labels - 1 - many) own).from =
+        ap (λ i. (get_or labels i d).from) same ∙ ap (λ (x : MadeSpread). x.from)
+        (get_or_default labels (length labels - 1 - many) d own at) in
+        omega (arith, n, is))
+        (λ more. omega (arith, n, h.least j d more inside))
+        (cases_lt j (length labels - many))

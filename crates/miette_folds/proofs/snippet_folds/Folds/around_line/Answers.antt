@@ -1,0 +1,36 @@
+use Rattle.std.proofs.Common.{◌-◌, ◌&&◌, ◌∙◌, List, None, take, drop, map, ap, sym, subst}
+use Rattle.std.specs.List.{list_any}
+use Rattle.miette_source_lines.specs.views.Walking.{line_of_text}
+use Rattle.miette_folds.specs.declared.folds.Fold.{Fold}
+use Rattle.miette_folds.specs.declared.folds.LineStart.{LineStart}
+use Rattle.miette_folds.specs.views.Folding.{is_around_fold}
+use Rattle.miette_folds.specs.views.Gaps.{nearest_stop}
+use Rattle.miette_folds.specs.views.NearFolds.{AreStops}
+use Rattle.miette_folds.proofs.NearFolds.{around_near, near_window, stop_near}
+use Rattle.miette_folds.proofs.snippet_folds.Folds.around_line.Goals as goal
+
+pub returns-clause-around : goal.returns-clause-around
+returns-clause-around c = λ test.
+    let line = line_of_text c.args.line.now in
+    let all = c.self.inside.all.items in
+    let first = c.touching-near.result.first in
+    let behind = c.touching-near.result.behind in
+    around_near line all (take (behind - first) (drop first c.deref.result.now)) first behind test
+    (near_window line all first behind
+    (c.touching-near.ensures (map (λ (f : Fold). f.label) all) c.self.invariant.bounds))
+    (ap (λ xs. take (behind - first) (drop first xs)) c.deref.ensures.value)
+    ∙ ap (list_any (λ (f : Fold). is_around_fold line f && test f)) c.self.view_is
+
+pub returns-clause-stop : goal.returns-clause-stop
+returns-clause-stop c =
+    let line = line_of_text c.args.line.now in
+    let all = c.self.inside.all.items in
+    let first = c.touching-near.result.first in
+    let behind = c.touching-near.result.behind in
+    stop_near line all (take (behind - first) (drop first c.deref.result.now)) first behind c.stop_behind.result
+    (near_window line all first behind
+    (c.touching-near.ensures (map (λ (f : Fold). f.label) all) c.self.invariant.bounds))
+    (ap (λ xs. take (behind - first) (drop first xs)) c.deref.ensures.value)
+    (c.stop_behind.ensures all (subst (λ (xs : List LineStart). AreStops all xs) (sym c.deref-2.ensures.value)
+    c.self.invariant.stops))
+    ∙ ap (λ xs. nearest_stop line None xs) c.self.view_is

@@ -1,0 +1,25 @@
+use Rattle.std.proofs.Common.{◌-◌, List, take, drop, ap, sym, subst, All}
+use Rattle.miette_folds.specs.declared.folds.Spread.{Spread as MadeSpread}
+use Rattle.miette_folds.specs.views.Spreads.{IsNumbered}
+use Rattle.miette_folds.specs.views.Windows.{AreAround}
+use Rattle.miette_folds.proofs.AroundLines.{around_part, some_numbered}
+use Rattle.miette_folds.proofs.windows.Spreads.around.Goals as goal
+
+pub returns-clause-around : goal.returns-clause-around
+returns-clause-around c =
+    let all = c.self.inside.all.items in
+    let first = c.touching-near.result.first in
+    let behind = c.touching-near.result.behind in
+    let some = take (behind - first) (drop first c.deref.result.now) in
+    subst (λ (xs : List MadeSpread). AreAround c.args.start c.args.end xs some) c.self.view_is
+    (around_part c.args.start c.args.end all some first behind (c.touching-near.ensures all c.self.invariant)
+    (ap (λ xs. take (behind - first) (drop first xs)) c.deref.ensures.value))
+
+pub returns-clause-numbered : goal.returns-clause-numbered
+returns-clause-numbered c = λ lent each.
+    let all = c.self.inside.all.items in
+    let first = c.touching-near.result.first in
+    let many = c.touching-near.result.behind - first in
+    some_numbered lent all (take many (drop first c.deref.result.now)) first many
+    (ap (λ xs. take many (drop first xs)) c.deref.ensures.value)
+    (subst (λ (xs : List MadeSpread). All (IsNumbered lent) xs) (sym c.self.view_is) each)
