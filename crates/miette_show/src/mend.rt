@@ -21,10 +21,10 @@ use crate::store::Store;
 use crate::verdict::{RowKind, Verdict};
 use miette_mending::gathered::Gathered;
 use miette_mending::sure::gather;
+use miette_program::device::Device;
+use miette_program::fault::{Fault, Program};
 use miette_readers::files::Files;
 use miette_readers::rustc::ReadError;
-use miette_report::device::Device;
-use miette_report::fault::{Fault, Program};
 use std::alloc::Global;
 use std::io::{Read, Write};
 

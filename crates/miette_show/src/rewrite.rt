@@ -14,9 +14,9 @@ ghost use Rattle.miette_show.specs.views.Writing.{Writes};
 use crate::show::Streams;
 use crate::store::Store;
 use miette_mending::gathered::{Gathered, mended};
+use miette_program::fault::Fault;
+use miette_program::whole::write_whole;
 use miette_readers::files::Files;
-use miette_report::fault::Fault;
-use miette_report::whole::write_whole;
 use std::alloc::{AllocError, Global};
 use std::io::Write;
 

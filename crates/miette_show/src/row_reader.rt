@@ -7,8 +7,8 @@ ghost use Rattle.miette_show.specs.views.Reading.{IsNextRow, IsRowEnd, IsTaken, 
 ghost use Rattle.miette_show.specs.views.RowState.{RowState};
 
 use memchr::memchr;
-use miette_report::device::Device;
-use miette_report::fault::Fault;
+use miette_program::device::Device;
+use miette_program::fault::Fault;
 use std::alloc::{AllocError, Global};
 use std::io::Read;
 use std::marker::Model;

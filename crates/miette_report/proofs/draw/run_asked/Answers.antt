@@ -1,7 +1,7 @@
 use Rattle.std.proofs.Common.{inr, map, refl, rules, string_bytes}
 use Rattle.std.proofs.lemmas.Result.{on_err_weaker, on_ok_weaker}
 use Rattle.std.specs.Io.KnownBytes.{Appends}
-use Rattle.miette_report.specs.views.Device.{TakesBeginning}
+use Rattle.miette_program.specs.views.Device.{TakesBeginning}
 use Rattle.miette_report.specs.views.DrawReports.{draw_request}
 use Rattle.miette_report.proofs.FaultStatuses.{never-usage}
 use Rattle.miette_report.proofs.PictureSteps.{call_pictured, draw_called}
