@@ -9,8 +9,7 @@ use Rattle.std.proofs.lemmas.Bool.{eqb-true, lt-ltb, ltb-true, false_from_ne_tru
 use Rattle.std.proofs.lemmas.Slice.Eq.{bytes_eq-Decides}
 use Rattle.std.proofs.lemmas.Str.Parse.{tells_all_ascii_digits, tells_digits}
 use Rattle.miette_program.specs.rules.OptionWords.{JobRequest, read_number, with_answer, with_name, with_number}
-use Rattle.miette_program.specs.rules.OptionWords.{with_read}
-use Rattle.miette_program.specs.rules.OptionWords.{with_value, with_words, with_words_after}
+use Rattle.miette_program.specs.rules.OptionWords.{with_read, with_value, with_words, with_words_after}
 use Rattle.miette_program.specs.rules.Words.{IsReadAs}
 use Rattle.miette_program.specs.steps.AskedWords.{AreGiven, IsGiven}
 use Rattle.miette_program.specs.declared.arguments.Arguments.{Arguments}
