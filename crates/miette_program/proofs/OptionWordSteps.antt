@@ -10,11 +10,11 @@ use Rattle.std.proofs.lemmas.Slice.Eq.{bytes_eq-Decides}
 use Rattle.std.proofs.lemmas.Str.Parse.{tells_all_ascii_digits, tells_digits}
 use Rattle.miette_program.specs.rules.OptionWords.{JobRequest, read_number, with_answer, with_name, with_number}
 use Rattle.miette_program.specs.rules.OptionWords.{with_read, with_value, with_words, with_words_after}
-use Rattle.miette_program.specs.rules.Words.{IsReadAs}
+use Rattle.miette_devices.specs.rules.Words.{IsReadAs}
 use Rattle.miette_program.specs.steps.AskedWords.{AreGiven, IsGiven}
 use Rattle.miette_program.specs.declared.arguments.Arguments.{Arguments}
-use Rattle.miette_program.specs.declared.fault.Fault.{Fault}
-use Rattle.miette_program.specs.declared.fault.Fault.TheVariants.{Usage, Memory, Read, Write, Description, Refused}
+use Rattle.miette_devices.specs.declared.fault.Fault.{Fault}
+use Rattle.miette_devices.specs.declared.fault.Fault.TheVariants.{Usage, Memory, Read, Write, Description, Refused}
 use Rattle.miette.specs.rules.Options.{Options}
 use Rattle.miette_style.specs.declared.theme.Terminal.{Terminal}
 use Rattle.miette_program.specs.rules.OptionWords.{asked_by, request_of, AreWanted}

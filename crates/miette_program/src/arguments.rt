@@ -5,14 +5,14 @@ ghost use Rattle.miette_program.specs.rules.OptionWords as table;
 ghost use Rattle.miette_program.specs.rules.OptionWords.{AreWanted, asked_by, chosen_by, nothing_asked};
 ghost use Rattle.miette_program.specs.steps.AskedWords.{AreGiven, asked_of, with_asked, with_named};
 
-use crate::fault::Fault;
 use crate::language::LanguageHighlighter;
 use crate::option_words::{Asked, Choice, Named, ReportAsked, first_asked, read_named};
-use crate::words::number;
 use miette::handlers::Form;
 use miette::options::MietteHandlerOpts;
 use miette::theme::Terminal;
 use miette::wrap::WordSplitter;
+use miette_devices::fault::Fault;
+use miette_devices::words::number;
 use std::alloc::Global;
 
 /// What a job is asked for.

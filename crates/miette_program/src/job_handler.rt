@@ -6,7 +6,6 @@ ghost use Rattle.miette_tree.specs.rules.Reads.{AlwaysReads};
 ghost use Rattle.miette_program.specs.steps.JobHandler.{IsAsked, IsGiven, IsLed, MayRefuse, Stays};
 
 use crate::arguments::Arguments;
-use crate::fault::Fault;
 use crate::language::LanguageHighlighter;
 use crate::option_words::Choice;
 use miette::error::RenderError;
@@ -16,6 +15,7 @@ use miette::options::MietteHandler;
 use miette::protocol::Diagnostic;
 use miette::report::Report;
 use miette::source::SourceCode;
+use miette_devices::fault::Fault;
 use miette_tree::text_handler::append_text;
 use std::alloc::{AllocError, Global};
 

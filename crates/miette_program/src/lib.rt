@@ -1,11 +1,7 @@
-//! What the programs share: their words, devices and faults, and the handler that words choose.
+//! What words ask for, and the handler that they choose.
 #![tactic(auto)]
 
 pub mod arguments;
-pub mod device;
-pub mod fault;
 pub mod job_handler;
 pub mod language;
 pub mod option_words;
-pub mod whole;
-pub mod words;

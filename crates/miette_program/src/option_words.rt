@@ -7,11 +7,11 @@ ghost use Rattle.miette_program.specs.rules.OptionWords as table;
 ghost use Rattle.miette_program.specs.rules.OptionWords.{JobRequest, with_words, with_words_after};
 ghost use Rattle.miette_program.specs.steps.AskedWords.{IsGiven, with_asked, with_named};
 
-use crate::fault::Fault;
 use crate::language::{Language, LanguageHighlighter};
 use miette::options::RgbColors;
 use miette::theme::GraphicalTheme;
 use miette::wrap::WordSeparator;
+use miette_devices::fault::Fault;
 use std::alloc::Global;
 
 /// Which handler gives the text.

@@ -1,4 +1,3 @@
-pub mod FaultStatuses
 pub mod FixSteps
 pub mod JobEnds
 pub mod PictureSteps

@@ -2,19 +2,19 @@
 
 ghost use Rattle.std.specs.Prelude.{◌≡◌, ◌↔◌, ◌⊎◌, false, IfSome, IsTrue, OnErr, OnOk, None, map, string_bytes};
 ghost use Rattle.std.specs.Io.KnownBytes.{Appends};
-ghost use Rattle.miette_program.specs.views.Device.{TakesBeginning};
+ghost use Rattle.miette_devices.specs.views.Device.{TakesBeginning};
 ghost use Rattle.miette_program.specs.rules.OptionWords.{asked_by};
 ghost use Rattle.miette_report.specs.rules.JobCalls.{CallWrites, IsJobEnd, IsJobStatus};
-ghost use Rattle.miette_program.specs.rules.Faults.{status_of};
+ghost use Rattle.miette_devices.specs.rules.Faults.{status_of};
 
 pub use miette_program::arguments::Arguments;
 /// An earlier name of `Arguments`.
 pub use crate::pipeline::run;
 use miette::highlight::Highlighter;
+use miette_devices::device::Device;
+use miette_devices::fault::Program;
+pub use miette_devices::fault::{Fault, Fault as JobError, Fault as WordsFault};
 pub use miette_program::arguments::Arguments as Settings;
-use miette_program::device::Device;
-use miette_program::fault::Program;
-pub use miette_program::fault::{Fault, Fault as JobError, Fault as WordsFault};
 use miette_program::language::LanguageHighlighter;
 pub use miette_program::option_words::Choice;
 use std::alloc::Global;

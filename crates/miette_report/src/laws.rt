@@ -5,7 +5,7 @@ ghost use Rattle.miette_protocol.specs.rules.Reading.{Source};
 ghost use Rattle.miette_report.specs.rules.Fixing.{whole_text};
 
 use crate::job::Choice;
-use miette_program::fault::{Fault, Program};
+use miette_devices::fault::{Fault, Program};
 use miette_program::language::Language;
 
 /// Faults, programs, languages and choices of a handler are equal where they are the same, and a clone is the same.

@@ -20,4 +20,5 @@ mod pipeline;
 pub mod sarif;
 
 pub use miette_description::laws as description_laws;
-pub use miette_program::{device, fault, job_handler, language, whole, words};
+pub use miette_devices::{device, fault, whole, words};
+pub use miette_program::{job_handler, language};

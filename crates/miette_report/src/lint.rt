@@ -4,8 +4,8 @@ ghost use Rattle.std.specs.Prelude.{◌≡◌, ◌↔◌, ◌⊎◌, ◌<◌, fa
 ghost use Rattle.std.specs.Io.KnownBytes.{Appends};
 ghost use Rattle.miette.specs.Diagnostic.{meaning_of};
 ghost use Rattle.miette_labels.specs.rules.Groups.{AreAccepted};
-ghost use Rattle.miette_program.specs.views.Device.{TakesBeginning};
-ghost use Rattle.miette_program.specs.views.Endings.{IsFailure, IsFound};
+ghost use Rattle.miette_devices.specs.views.Device.{TakesBeginning};
+ghost use Rattle.miette_devices.specs.views.Endings.{IsFailure, IsFound};
 ghost use Rattle.miette_report.specs.views.LintReports.{commands_of, count_text, warning, CallIsClean, CallLints};
 ghost use Rattle.miette_report.specs.views.LintReports.{CallLintsText};
 ghost use Rattle.miette_report.specs.views.LintReports.{IsClean, IsLinted, IsShown, Lints, LintsText};
@@ -22,12 +22,12 @@ use itoa::Buffer;
 use miette::diagnostic::MietteDiagnostic;
 use miette::error::RenderError;
 use miette::protocol::{LabeledSpan, Severity};
+use miette_devices::device::Device;
+use miette_devices::fault::{Ending, Fault, Program};
+use miette_devices::whole::{read_whole, write_whole};
 use miette_lint::coded::coded_findings;
 pub use miette_lint::findings::findings;
 use miette_lint::laws::coded_laws;
-use miette_program::device::Device;
-use miette_program::fault::{Ending, Fault, Program};
-use miette_program::whole::{read_whole, write_whole};
 use std::alloc::{AllocError, Global};
 use std::io::{Read, Write};
 

@@ -9,9 +9,9 @@ ghost use Rattle.miette_lint.specs.rules.Findings.{findings_of};
 ghost use Rattle.miette_lint.specs.rules.Joint.{joint_proposal};
 ghost use Rattle.miette_report.specs.rules.Words.{AreDiffWords, IsNoDiffCall};
 ghost use Rattle.miette_report.specs.steps.PictureReads.{IsReadWhole};
-ghost use Rattle.miette_program.specs.views.Device.{TakesBeginning};
+ghost use Rattle.miette_devices.specs.views.Device.{TakesBeginning};
 ghost use Rattle.miette_report.specs.views.DrawReports.{over_input};
-ghost use Rattle.miette_program.specs.views.Endings.{IsFailure, IsFound};
+ghost use Rattle.miette_devices.specs.views.Endings.{IsFailure, IsFound};
 ghost use Rattle.miette_report.specs.views.LintReports.{warning, IsClean, IsDiffed, LintDiffs, LintDiffsText};
 
 use crate::lint::{LintForm, LintWords, diagnostic, is_clean};
@@ -20,11 +20,11 @@ use miette::error::RenderError;
 use miette::protocol::{Diagnostic, LabeledSpan};
 use miette::report::Report;
 use miette::source::SourceCode;
+use miette_devices::device::Device;
+use miette_devices::fault::{Ending, Fault, Program};
+use miette_devices::whole::{read_whole, write_whole};
 use miette_lint::findings::findings;
 use miette_lint::joint::joint_proposal;
-use miette_program::device::Device;
-use miette_program::fault::{Ending, Fault, Program};
-use miette_program::whole::{read_whole, write_whole};
 use std::alloc::{AllocError, Global};
 use std::io::{Read, Write};
 

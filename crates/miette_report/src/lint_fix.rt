@@ -7,15 +7,15 @@ ghost use Rattle.miette_lint.specs.rules.Fixes.{fixed_text};
 ghost use Rattle.miette_lint.specs.rules.Findings.{findings_of};
 ghost use Rattle.miette_report.specs.declared.lint_words.LintForm.TheVariants.{Picture};
 ghost use Rattle.miette_report.specs.rules.Words.{AreFixWords, IsNoFixCall};
-ghost use Rattle.miette_program.specs.views.Device.{TakesBeginning};
-ghost use Rattle.miette_program.specs.views.Endings.{IsFailure, IsFound};
+ghost use Rattle.miette_devices.specs.views.Device.{TakesBeginning};
+ghost use Rattle.miette_devices.specs.views.Endings.{IsFailure, IsFound};
 ghost use Rattle.miette_report.specs.views.LintReports.{IsClean, IsLinted, LintFixes};
 
 use crate::lint::{LintForm, LintWords, text_of};
+use miette_devices::device::Device;
+use miette_devices::fault::{Ending, Fault, Program};
+use miette_devices::whole::{read_whole, write_whole};
 use miette_lint::fixed::fixed;
-use miette_program::device::Device;
-use miette_program::fault::{Ending, Fault, Program};
-use miette_program::whole::{read_whole, write_whole};
 use std::alloc::Global;
 use std::io::{Read, Write};
 

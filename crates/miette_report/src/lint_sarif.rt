@@ -5,20 +5,20 @@ ghost use Rattle.std.specs.Prelude.{Some, None, map, string_bytes};
 ghost use Rattle.std.specs.Io.KnownBytes.{Appends};
 ghost use Rattle.miette_lint.specs.rules.Findings.{findings_of};
 ghost use Rattle.miette_report.specs.rules.Logs.{AreLogWords, IsNoLogCall, lint_log};
-ghost use Rattle.miette_program.specs.views.Device.{TakesBeginning};
-ghost use Rattle.miette_program.specs.views.Endings.{IsFailure, IsFound};
-ghost use Rattle.miette_program.specs.rules.Words.{IsReadAs};
+ghost use Rattle.miette_devices.specs.views.Device.{TakesBeginning};
+ghost use Rattle.miette_devices.specs.views.Endings.{IsFailure, IsFound};
+ghost use Rattle.miette_devices.specs.rules.Words.{IsReadAs};
 ghost use Rattle.miette_report.specs.views.LintReports.{IsClean};
 
 use crate::lint_reports::reports_over;
 use crate::sarif::log_of;
 use miette::report::Report;
+use miette_devices::device::Device;
+use miette_devices::fault::{Ending, Fault, Program};
+use miette_devices::whole::{read_whole, write_whole};
+use miette_devices::words::number;
 use miette_lint::coded::coded_findings;
 use miette_lint::laws::coded_laws;
-use miette_program::device::Device;
-use miette_program::fault::{Ending, Fault, Program};
-use miette_program::whole::{read_whole, write_whole};
-use miette_program::words::number;
 use std::alloc::{AllocError, Global};
 use std::io::{Read, Write};
 

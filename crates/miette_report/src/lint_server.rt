@@ -4,13 +4,13 @@ ghost use Rattle.std.specs.Prelude.{◌≡◌, ◌⊎◌, ◌<◌, Err, IfOk, If
 ghost use Rattle.std.specs.Io.Buffered.{reader_remaining};
 ghost use Rattle.miette_language_server.specs.rules.Serving.{served};
 ghost use Rattle.miette_report.specs.rules.Words.{AreServerWords, IsNoServerCall};
-ghost use Rattle.miette_program.specs.views.Endings.{IsFailure};
+ghost use Rattle.miette_devices.specs.views.Endings.{IsFailure};
 ghost use Rattle.miette_report.specs.views.Service.{IsService};
 
+use miette_devices::fault::{Ending, Fault, Program};
+use miette_devices::words::number;
 use miette_language_server::fault::Fault as ServerFault;
 use miette_language_server::serve::serve;
-use miette_program::fault::{Ending, Fault, Program};
-use miette_program::words::number;
 use std::alloc::Global;
 use std::io::{BufReader, Read, Write};
 

@@ -3,7 +3,7 @@
 ghost use Rattle.std.specs.Prelude.{◌≡◌, ◌<◌, ◌↔◌, length, ◌⊎◌, false, string_bytes, IsTrue, IsUtf8, IfOk, OnOk, OnErr};
 ghost use Rattle.std.specs.Prelude.{IfSome, Some};
 ghost use Rattle.std.specs.Io.KnownBytes.{Appends};
-ghost use Rattle.miette_program.specs.views.Device.{TakesBeginning};
+ghost use Rattle.miette_devices.specs.views.Device.{TakesBeginning};
 ghost use Rattle.miette_tree.specs.views.Report.{tree_of};
 ghost use Rattle.miette_tree.specs.rules.Reads.{AlwaysReads};
 ghost use Rattle.miette_description.specs.rules.Description.{tree_for};
@@ -13,12 +13,12 @@ ghost use Rattle.miette_program.specs.rules.JobText.{IsTelling};
 
 use miette::highlight::Highlighter;
 use miette_description::error::BuildError;
+use miette_devices::device::Device;
+use miette_devices::fault::Fault;
+use miette_devices::whole::{read_whole, write_whole};
 use miette_program::arguments::Arguments;
-use miette_program::device::Device;
-use miette_program::fault::Fault;
 use miette_program::job_handler::JobHandler;
 use miette_program::language::LanguageHighlighter;
-use miette_program::whole::{read_whole, write_whole};
 use miette_protocol::protocol::Diagnostic;
 use miette_protocol::source::SourceCode;
 use miette_tree::report::Report;

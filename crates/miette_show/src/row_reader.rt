@@ -7,8 +7,8 @@ ghost use Rattle.miette_show.specs.views.Reading.{IsNextRow, IsRowEnd, IsTaken, 
 ghost use Rattle.miette_show.specs.views.RowState.{RowState};
 
 use memchr::memchr;
-use miette_program::device::Device;
-use miette_program::fault::Fault;
+use miette_devices::device::Device;
+use miette_devices::fault::Fault;
 use std::alloc::{AllocError, Global};
 use std::io::Read;
 use std::marker::Model;

@@ -1,8 +1,8 @@
 -- What the words ask for, as the code keeps it.
 use Rattle.std.specs.Prelude.{◌≡◌, Option, Some, None, Result, Ok, Err}
 use Rattle.miette_program.specs.declared.arguments.Arguments.{Arguments}
-use Rattle.miette_program.specs.declared.fault.Fault.{Fault}
-use Rattle.miette_program.specs.declared.fault.Fault.TheVariants.{Usage, Memory, Read, Write, Description, Refused}
+use Rattle.miette_devices.specs.declared.fault.Fault.{Fault}
+use Rattle.miette_devices.specs.declared.fault.Fault.TheVariants.{Usage, Memory, Read, Write, Description, Refused}
 use Rattle.miette_program.specs.declared.option_words.Asked.{Asked}
 use Rattle.miette_program.specs.declared.option_words.Asked.TheVariants.{Report, Value}
 use Rattle.miette_style.specs.rules.Themes.{theme_of}

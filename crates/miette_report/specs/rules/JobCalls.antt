@@ -4,9 +4,9 @@ use Rattle.std.specs.Prelude.{codes, decimal, length}
 use Rattle.miette_report.specs.rules.Job.{IsDescription, IsNoDescription, IsRefused, Writes}
 use Rattle.miette_program.specs.rules.JobText.{IsTelling}
 use Rattle.miette_program.specs.rules.OptionWords.{asked_by, ForAsked}
-use Rattle.miette_program.specs.rules.Words.{IsReadAs}
-use Rattle.miette_program.specs.declared.fault.Fault.{Fault}
-use Rattle.miette_program.specs.declared.fault.Fault.TheVariants.{Usage, Memory, Description, Refused}
+use Rattle.miette_devices.specs.rules.Words.{IsReadAs}
+use Rattle.miette_devices.specs.declared.fault.Fault.{Fault}
+use Rattle.miette_devices.specs.declared.fault.Fault.TheVariants.{Usage, Memory, Description, Refused}
 use Rattle.miette_program.specs.declared.language.LanguageHighlighter.{LanguageHighlighter}
 
 -- ---- by the words

@@ -3,7 +3,7 @@ use Rattle.std.specs.Prelude.{◌≡◌, ℕ, List, [], ◌∷◌, ◌++◌, Opt
 use Rattle.std.specs.Prelude.{bytes_eq, codes, if◌then◌else◌}
 use Rattle.miette_report.specs.declared.lint_words.LintForm.{LintForm}
 use Rattle.miette_report.specs.declared.lint_words.LintForm.TheVariants.{Picture, Rows, Commands}
-use Rattle.miette_program.specs.rules.Words.{IsReadAs}
+use Rattle.miette_devices.specs.rules.Words.{IsReadAs}
 
 -- what `draw` is asked for: the source's name, where the label begins, its length and its text, the report's message
 pub record DrawRequest : Type 0 where

@@ -1,8 +1,8 @@
 use Rattle.std.proofs.Common.{map, refl, rules, string_bytes}
 use Rattle.std.proofs.lemmas.Result.{on_ok_weaker}
 use Rattle.std.specs.Io.KnownBytes.{Appends}
-use Rattle.miette_program.specs.views.Device.{TakesBeginning}
-use Rattle.miette_program.specs.declared.fault.Fault.TheVariants.{Read, Write}
+use Rattle.miette_devices.specs.views.Device.{TakesBeginning}
+use Rattle.miette_devices.specs.declared.fault.Fault.TheVariants.{Read, Write}
 use Rattle.miette_report.proofs.JobEnds.{asked-writes, early-end, early-failed, early-other}
 use Rattle.miette_program.proofs.OptionWordSteps.{not-wrong}
 use Rattle.miette_report.proofs.JobEnds.{settings-end, writes-described}

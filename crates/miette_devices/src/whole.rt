@@ -2,7 +2,7 @@
 
 ghost use Rattle.std.specs.Prelude.{◌≡◌, ◌↔◌, ◌⊎◌, false, IsTrue, IsErr, IfOk, OnOk, OnErr, IfSome};
 ghost use Rattle.std.specs.Io.KnownBytes.{Appends};
-ghost use Rattle.miette_program.specs.views.Device.{TakesBeginning};
+ghost use Rattle.miette_devices.specs.views.Device.{TakesBeginning};
 
 use crate::device::Device;
 use crate::fault::Fault;

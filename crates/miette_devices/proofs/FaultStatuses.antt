@@ -1,8 +1,8 @@
 -- Which fault has which status.
 use Rattle.std.proofs.Common.{◌≡◌, ℕ, ◌<◌, ◌↔◌, ◌⊎◌, inl, inr, Result, Ok, Err, OnErr, ap, refl, sym, ◌∙◌, arith}
-use Rattle.miette_program.specs.rules.Faults.{usual_status}
-use Rattle.miette_program.specs.declared.fault.Fault.{Fault}
-use Rattle.miette_program.specs.declared.fault.Fault.TheVariants.{Usage, Memory, Read, Write, Description, Refused}
+use Rattle.miette_devices.specs.rules.Faults.{usual_status}
+use Rattle.miette_devices.specs.declared.fault.Fault.{Fault}
+use Rattle.miette_devices.specs.declared.fault.Fault.TheVariants.{Usage, Memory, Read, Write, Description, Refused}
 
 abbrev status_in : {T : Type 0} → Result T Fault → ℕ
 status_in (Ok x) = 0

@@ -1,9 +1,9 @@
 -- The row that says why a program fails.
 use Rattle.std.proofs.Common.{◌≡◌, ℕ, List, ◌++◌, Some, None, codes, Result, OnOk, ap, ap₂, subst, ◌∙◌}
 use Rattle.std.proofs.lemmas.Result.{on_ok_weaker}
-use Rattle.miette_program.specs.rules.Faults.{fault_row, name_of, reason_of, reason_row, usage_of}
-use Rattle.miette_program.specs.declared.fault.Fault.{Fault}
-use Rattle.miette_program.specs.declared.fault.Program.{Program}
+use Rattle.miette_devices.specs.rules.Faults.{fault_row, name_of, reason_of, reason_row, usage_of}
+use Rattle.miette_devices.specs.declared.fault.Fault.{Fault}
+use Rattle.miette_devices.specs.declared.fault.Program.{Program}
 
 pub row_named : {A E : Type 0} (r : Result A E) (P : List ℕ → Type 0) (program : Program) (fault : Fault)
     (name reason : List ℕ) → name ≡ name_of program → Some reason ≡ reason_of fault

@@ -1,6 +1,6 @@
-use Rattle.miette_program.proofs.DeviceLemmas.{IfSome-read_end}
+use Rattle.miette_devices.proofs.DeviceLemmas.{IfSome-read_end}
 use Rattle.std.proofs.Common.{rules}
-use Rattle.miette_program.proofs.whole.read_whole.Goals as goal
+use Rattle.miette_devices.proofs.whole.read_whole.Goals as goal
 
 pub returns-in-Ok-eq0-clause-bytes : goal.returns-in-Ok-eq0-clause-bytes
 returns-in-Ok-eq0-clause-bytes g c =

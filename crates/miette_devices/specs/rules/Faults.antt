@@ -1,9 +1,9 @@
 -- Why programs fail, what they say of it, and the statuses that they end with.
 use Rattle.std.specs.Prelude.{ℕ, List, ◌++◌, Option, Some, None, Result, Ok, Err, codes}
-use Rattle.miette_program.specs.declared.fault.Fault.{Fault}
-use Rattle.miette_program.specs.declared.fault.Fault.TheVariants.{Usage, Memory, Read, Write, Description, Refused}
-use Rattle.miette_program.specs.declared.fault.Program.{Program}
-use Rattle.miette_program.specs.declared.fault.Program.TheVariants.{Draw, Job, Bench, Lint, Show}
+use Rattle.miette_devices.specs.declared.fault.Fault.{Fault}
+use Rattle.miette_devices.specs.declared.fault.Fault.TheVariants.{Usage, Memory, Read, Write, Description, Refused}
+use Rattle.miette_devices.specs.declared.fault.Program.{Program}
+use Rattle.miette_devices.specs.declared.fault.Program.TheVariants.{Draw, Job, Bench, Lint, Show}
 
 -- the status of each fault, in all programs but `lint`
 abbrev pub usual_status : Fault → ℕ

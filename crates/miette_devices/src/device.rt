@@ -3,7 +3,7 @@
 ghost use Rattle.std.specs.Prelude.{◌≡◌, ◌⊎◌, ◌↔◌, IsTrue, IsErr, false};
 ghost use Rattle.std.specs.Io.{ReadsAtMost, WritesAtMost};
 ghost use Rattle.std.specs.Io.KnownBytes.{ReadConsumes, WriteAppends};
-ghost use Rattle.miette_program.specs.views.DeviceState.{DeviceState};
+ghost use Rattle.miette_devices.specs.views.DeviceState.{DeviceState};
 
 use std::io;
 use std::io::{Read, Write};
@@ -73,7 +73,7 @@ impl<D: Read> Device<D> {
 }
 
 impl<D: Write> Device<D> {
-    ghost use Rattle.miette_program.specs.views.Device.{IsWriteFault};
+    ghost use Rattle.miette_devices.specs.views.Device.{IsWriteFault};
 
     /// Writes a beginning of the buffer, and gives how many bytes that was. The device has then failed exactly where it
     /// had before, where the inner call answers an error, or where it takes 0 bytes of a nonempty buffer.

@@ -3,9 +3,9 @@
 ghost use Rattle.std.specs.Prelude.{◌≡◌, OnOk};
 ghost use Rattle.std.specs.Option.{option_map};
 ghost use Rattle.std.specs.Io.KnownBytes.{Appends};
-ghost use Rattle.miette_program.specs.rules.Faults.{end_status, fault_row, name_of, reason_of, status_of};
-ghost use Rattle.miette_program.specs.rules.Faults.{usage_of};
-ghost use Rattle.miette_program.specs.views.Endings.{IsFailure};
+ghost use Rattle.miette_devices.specs.rules.Faults.{end_status, fault_row, name_of, reason_of, status_of};
+ghost use Rattle.miette_devices.specs.rules.Faults.{usage_of};
+ghost use Rattle.miette_devices.specs.views.Endings.{IsFailure};
 
 use std::alloc::AllocError;
 use std::io;
@@ -30,7 +30,7 @@ pub enum Fault {
 
 impl From<AllocError> for Fault {
     ghost use Rattle.std.specs.Prelude.{◌≡◌};
-    ghost use Rattle.miette_program.specs.declared.fault.Fault.TheVariants.{Memory};
+    ghost use Rattle.miette_devices.specs.declared.fault.Fault.TheVariants.{Memory};
 
     ghost from_gives = { λ _ fault. fault ≡ Memory };
 

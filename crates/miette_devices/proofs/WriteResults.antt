@@ -1,8 +1,8 @@
 -- What the result of writing all says.
 use Rattle.std.proofs.Common.{◌≡◌, ◌↔◌, Result, Ok, Err, Bool, IsTrue, OnErr, refl, sym, subst, ◌∙◌}
 use Rattle.std.specs.Prelude.{IsErr}
-use Rattle.miette_program.specs.declared.fault.Fault.{Fault}
-use Rattle.miette_program.specs.declared.fault.Fault.TheVariants.{Read, Write}
+use Rattle.miette_devices.specs.declared.fault.Fault.{Fault}
+use Rattle.miette_devices.specs.declared.fault.Fault.TheVariants.{Read, Write}
 
 -- where a writer failed, nothing else did
 pub no-other : {A : Type 0} (r : Result A Fault) (f : Fault) → OnErr r (r ≡ Err Write) → (f ≡ Write → ⊥) → r ≡ Err f → ⊥

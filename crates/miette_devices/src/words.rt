@@ -1,7 +1,7 @@
 //! The words that a program is called with.
 
 ghost use Rattle.std.specs.Prelude.{◌≡◌, ◌⊎◌, OnErr};
-ghost use Rattle.miette_program.specs.rules.Words.{IsReadAs};
+ghost use Rattle.miette_devices.specs.rules.Words.{IsReadAs};
 
 use crate::fault::Fault;
 pub use crate::fault::Fault as WordsFault;

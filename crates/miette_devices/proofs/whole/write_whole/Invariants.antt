@@ -1,6 +1,6 @@
 use Rattle.std.proofs.Common.{◌≡◌, ◌++◌, false, length, List, ℕ}
 use Rattle.std.specs.Io.KnownBytes.{Appends}
-use Rattle.miette_program.proofs.whole.write_whole.Given as goal
+use Rattle.miette_devices.proofs.whole.write_whole.Given as goal
 
 -- no call failed, and the writer took the bytes in front of the rest
 abbrev pub invariant-loop-rest : goal.invariant-loop-rest

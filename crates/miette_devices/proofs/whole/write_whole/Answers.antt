@@ -1,7 +1,7 @@
 use Rattle.std.proofs.Common.{refl, ◌++◌, take}
 use Rattle.std.proofs.KnownBytes.{Appends-trans}
-use Rattle.miette_program.proofs.DeviceLemmas.{none-failed, taken-more}
-use Rattle.miette_program.proofs.whole.write_whole.Goals as goal
+use Rattle.miette_devices.proofs.DeviceLemmas.{none-failed, taken-more}
+use Rattle.miette_devices.proofs.whole.write_whole.Goals as goal
 
 pub loop-rest-preserved : goal.loop-rest-preserved
 loop-rest-preserved g c =

@@ -1,8 +1,8 @@
 use Rattle.std.proofs.Common.{ap, sym, ◌∙◌, Bor, List, ℕ}
 use Rattle.std.specs.Option.{option_map}
 use Rattle.std.specs.Io.KnownBytes.{Appends}
-use Rattle.miette_program.proofs.FaultRows.{row_named, row_used}
-use Rattle.miette_program.proofs.fault.Program.tell.Goals as goal
+use Rattle.miette_devices.proofs.FaultRows.{row_named, row_used}
+use Rattle.miette_devices.proofs.fault.Program.tell.Goals as goal
 
 pub returns-in-None : goal.returns-in-None
 returns-in-None g c =

@@ -3,7 +3,7 @@ use Rattle.std.proofs.Common.{◌≡◌, ℕ, ◌⊎◌, ◌↔◌, ◌++◌, �
 use Rattle.std.proofs.Common.{IsTrue, IfSome, length, take, drop, refl, sym, ◌∙◌, ap, append-nil, append_assoc}
 use Rattle.std.proofs.Common.{take-append-drop}
 use Rattle.std.specs.Io.KnownBytes.{Consumes, IsAtEnd}
-use Rattle.miette_program.specs.views.Device.{IsWriteFault}
+use Rattle.miette_devices.specs.views.Device.{IsWriteFault}
 use Rattle.std.proofs.Common.{inl, inr}
 use Rattle.std.proofs.Math.Seq.{take-length}
 use Rattle.std.proofs.lemmas.List.{length-drop}

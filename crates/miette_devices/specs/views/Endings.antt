@@ -1,11 +1,11 @@
 -- How programs end.
 use Rattle.std.specs.Prelude.{◌≡◌, ◌↔◌, ℕ, Bool, IsTrue, List, Option, OnOk}
 use Rattle.std.specs.Io.KnownBytes.{Appends}
-use Rattle.miette_program.specs.declared.fault.Ending.{Ending}
-use Rattle.miette_program.specs.declared.fault.Fault.{Fault}
-use Rattle.miette_program.specs.declared.fault.Fault.TheVariants.{Usage, Read, Write}
-use Rattle.miette_program.specs.declared.fault.Program.{Program}
-use Rattle.miette_program.specs.rules.Faults.{fault_row, status_of}
+use Rattle.miette_devices.specs.declared.fault.Ending.{Ending}
+use Rattle.miette_devices.specs.declared.fault.Fault.{Fault}
+use Rattle.miette_devices.specs.declared.fault.Fault.TheVariants.{Usage, Read, Write}
+use Rattle.miette_devices.specs.declared.fault.Program.{Program}
+use Rattle.miette_devices.specs.rules.Faults.{fault_row, status_of}
 
 -- A program failed for this fault: it ends with its status, and where the stream of faults took the row, it holds what
 -- it held and then that.

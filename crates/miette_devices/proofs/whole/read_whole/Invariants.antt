@@ -1,6 +1,6 @@
 use Rattle.std.proofs.Common.{◌≡◌, ◌≤◌, false, length}
 use Rattle.std.specs.Io.KnownBytes.{Consumes}
-use Rattle.miette_program.proofs.whole.read_whole.Given as goal
+use Rattle.miette_devices.proofs.whole.read_whole.Given as goal
 
 -- no call failed, and the bytes so far are what the reader had in front
 abbrev pub invariant-loop : goal.invariant-loop
