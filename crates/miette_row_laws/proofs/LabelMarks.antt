@@ -163,11 +163,17 @@ stand_under s labels source line =
 
 -- ---- marks behind the text, which no cell has
 
-first_past : (at end : ℕ) (cells : List Cell) (width offset : ℕ) → AreBytes at end cells → end ≤ offset
-    → first_column cells end width offset ≡ cond (leb offset end) width (width + 1)
-first_past at end [] width offset are le = refl
-first_past at end (c ∷ cs) width offset are le =
-    rw (le-ltb offset c.after (omega (arith, are.2, le))) (first_past c.after end cs width offset are.3 le)
+first_at_end : (at end : ℕ) (cells : List Cell) (width offset : ℕ) → AreBytes at end cells → offset ≡ end
+    → first_column cells end width offset ≡ width
+first_at_end at end [] width offset are is = rw (le-leb offset end (omega (arith, is))) refl
+first_at_end at end (c ∷ cs) width offset are is =
+    rw (le-ltb offset c.after (omega (arith, are.2, is))) (first_at_end c.after end cs width offset are.3 is)
+
+first_behind : (at end : ℕ) (cells : List Cell) (width offset : ℕ) → AreBytes at end cells → end < offset
+    → first_column cells end width offset ≡ width + 1
+first_behind at end [] width offset are lt = rw (lt-leb offset end lt) refl
+first_behind at end (c ∷ cs) width offset are lt =
+    rw (le-ltb offset c.after (omega (arith, are.2, lt))) (first_behind c.after end cs width offset are.3 lt)
 
 last_past : (at end : ℕ) (cells : List Cell) (width offset : ℕ) → AreBytes at end cells → end < offset
     → last_column cells end width offset ≡ width + 1
@@ -184,8 +190,10 @@ past_from end cells at reached (label ∷ labels) are =
     let first : ℕ = first_column cells end text.width label.start in
     let last : ℕ = last_column cells end text.width label.after in (
       record {
-        first = λ le shown. ap (λ b. max (cond b text.width first) reached) shown
-            ∙ ap (λ n. max n reached) (first_past at end cells text.width label.start are le);
+        at_end = λ is shown. ap (λ b. max (cond b text.width first) reached) shown
+            ∙ ap (λ n. max n reached) (first_at_end at end cells text.width label.start are is);
+        behind_end = λ lt shown. ap (λ b. max (cond b text.width first) reached) shown
+            ∙ ap (λ n. max n reached) (first_behind at end cells text.width label.start are lt);
         last = λ some lt.
             ap (λ b. cond b (from + 1) (max last (from + 1)))
             (ne_eqb label.start label.after (λ e. omega (arith, some, e)))

@@ -91,8 +91,8 @@ pub fn marks_stand_on_their_characters()
 /// whole line, where the mark before it ends no later, a mark begins at the first column of the character that has the
 /// label's first byte, and ends behind the last column of the one that has its last byte (`under`). At each of these
 /// columns stands what is printed of that character (`characters`). Where a label begins at the end of the line's text,
-/// its mark begins in the column after the text, one further on behind the terminator's first byte; where it ends in
-/// the terminator, its mark ends behind the column after the text (`past`).
+/// as at its terminator, its mark begins in the column after the text, or one further on behind a terminator's first
+/// byte; where it ends in the terminator, its mark ends behind the column after the text (`past`).
 pub fn marks_stand_under_their_labels()
     ensures labels { (s : SnippetSettings) (labels : List DrawnLabel) (source : List ℕ) (line : Line) →
         map (λ mark. mark.label) (marks_of_line s labels line (cells_of s source line)) ≡ one_line line labels }

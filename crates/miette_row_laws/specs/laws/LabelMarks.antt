@@ -1,5 +1,5 @@
 -- Where marks stand in the columns of a whole line, by the characters that have their labels' first and last bytes.
-use Rattle.std.specs.Prelude.{ℕ, ◌+◌, ◌-◌, ◌<◌, ◌≤◌, ◌≡◌, max, List, [], ◌∷◌, true, false, if◌then◌else◌, nat_le}
+use Rattle.std.specs.Prelude.{ℕ, ◌+◌, ◌-◌, ◌<◌, ◌≤◌, ◌≡◌, max, List, [], ◌∷◌, true, false}
 use Rattle.std.specs.List.{Contains}
 use Rattle.miette_cells.specs.rules.Cells.{Cell}
 use Rattle.miette_labels.specs.rules.Labels.{is_empty}
@@ -26,13 +26,13 @@ abbrev pub StandUnder : List Cell → ℕ → List Mark → Type 0
 StandUnder cells reached [] = Unit {0}
 StandUnder cells reached (mark ∷ marks) = StandsUnder cells reached mark × StandUnder cells mark.until marks
 
--- Behind a text that ends at an offset and has so many columns, where the mark before it ends at a column: a mark whose
--- label begins at the text's end begins in the column after the text, one whose label begins behind that offset one
--- column further on. One whose label ends behind it ends behind the column after the text, or has one column, if that
--- is more.
+-- Of a text that ends at an offset and has so many columns: where the mark before it ends at a column, a mark whose
+-- label begins where the text ends begins in the column after the text, one whose label begins behind that offset one
+-- column further on, or each where that other mark ends, if that is later. A mark whose label ends behind the text ends
+-- behind the column after it, or has one column, if that is more.
 pub record StandsPast (text_end width reached : ℕ) (mark : Mark) : Type 0 where
-  pub first : text_end ≤ mark.label.start → mark.label.behind ≡ false →
-      mark.from ≡ max (if nat_le mark.label.start text_end then width else width + 1) reached
+  pub at_end : mark.label.start ≡ text_end → mark.label.behind ≡ false → mark.from ≡ max width reached
+  pub behind_end : text_end < mark.label.start → mark.label.behind ≡ false → mark.from ≡ max (width + 1) reached
   pub last : mark.label.start < mark.label.after → text_end < mark.label.after →
       mark.until ≡ max (width + 1) (mark.from + 1)
 
