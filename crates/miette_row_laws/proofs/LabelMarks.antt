@@ -1,5 +1,5 @@
 -- Marks stand under the characters of their labels.
-use Rattle.std.proofs.Common.{◌≡◌, ℕ, ◌+◌, ◌-◌, ◌<◌, ◌≤◌, max, Bool, true, false, cond, ltb, leb, List, [], ◌∷◌, ◌++◌}
+use Rattle.std.proofs.Common.{◌≡◌, ℕ, ◌+◌, ◌-◌, ◌<◌, ◌≤◌, max, Bool, true, false, cond, ltb, leb, List, [], ◌∷◌}
 use Rattle.std.proofs.Common.{length, map, refl, sym, ap, ap₂, ◌∙◌, subst, inl, inr, ◌⊎◌, ⊎_elim, zero}
 use Rattle.std.proofs.Common.{arith, drop, suc}
 use Rattle.std.proofs.lemmas.Bool.{lt-ltb, le-ltb, le-leb, lt-leb, leb-true, leb-false, ne_eqb}
@@ -20,7 +20,7 @@ use Rattle.miette_snippet_rules.specs.rules.SnippetLayout.{cells_of, line_marks,
 use Rattle.miette_snippet_rules.proofs.CutColumns.{AreColumns}
 use Rattle.miette_source_lines.specs.rules.Lines.{Line}
 use Rattle.miette_row_laws.specs.laws.Cuts.{standing_at}
-use Rattle.miette_row_laws.specs.laws.LabelMarks.{HasByte, StandAtColumns, StandUnder}
+use Rattle.miette_row_laws.specs.laws.LabelMarks.{HasByte, StandAtColumns, StandPast, StandUnder}
 use Rattle.miette_row_laws.proofs.CutMarks.{standing-behind, standing-front}
 use Rattle.miette_row_laws.proofs.CutWidth.{printed-columns}
 use Rattle.miette_row_laws.proofs.Whole.{line_columns}
@@ -160,6 +160,53 @@ pub stand_under : (s : SnippetSettings) (labels : List DrawnLabel) (source : Lis
 stand_under s labels source line =
     under_from line.text_end (cells_of s source line) line.start 0 (one_line line labels) (line_columns s source line)
     (line_bytes s source line)
+
+-- ---- marks behind the text, which no cell has
+
+first_at_end : (at end : ℕ) (cells : List Cell) (width offset : ℕ) → AreBytes at end cells → offset ≡ end
+    → first_column cells end width offset ≡ width
+first_at_end at end [] width offset are is = rw (le-leb offset end (omega (arith, is))) refl
+first_at_end at end (c ∷ cs) width offset are is =
+    rw (le-ltb offset c.after (omega (arith, are.2, is))) (first_at_end c.after end cs width offset are.3 is)
+
+first_behind : (at end : ℕ) (cells : List Cell) (width offset : ℕ) → AreBytes at end cells → end < offset
+    → first_column cells end width offset ≡ width + 1
+first_behind at end [] width offset are lt = rw (lt-leb offset end lt) refl
+first_behind at end (c ∷ cs) width offset are lt =
+    rw (le-ltb offset c.after (omega (arith, are.2, lt))) (first_behind c.after end cs width offset are.3 lt)
+
+last_past : (at end : ℕ) (cells : List Cell) (width offset : ℕ) → AreBytes at end cells → end < offset
+    → last_column cells end width offset ≡ width + 1
+last_past at end [] width offset are lt = rw (lt-leb offset end lt) refl
+last_past at end (c ∷ cs) width offset are lt =
+    rw (lt-leb offset c.start (omega (arith, are.1, are.2, lt))) (last_past c.after end cs width offset are.3 lt)
+
+past_from : (end : ℕ) (cells : List Cell) (at reached : ℕ) (labels : List DrawnLabel) → AreBytes at end cells
+    → StandPast end (cells_width 0 cells) reached (marks_from (text_of_cells cells end) reached labels)
+past_from end cells at reached [] are = tt
+past_from end cells at reached (label ∷ labels) are =
+    let text : Text = text_of_cells cells end in
+    let from : ℕ = mark_from text reached label in
+    let first : ℕ = first_column cells end text.width label.start in
+    let last : ℕ = last_column cells end text.width label.after in (
+      record {
+        at_end = λ is shown. ap (λ b. max (cond b text.width first) reached) shown
+            ∙ ap (λ n. max n reached) (first_at_end at end cells text.width label.start are is);
+        behind_end = λ lt shown. ap (λ b. max (cond b text.width first) reached) shown
+            ∙ ap (λ n. max n reached) (first_behind at end cells text.width label.start are lt);
+        last = λ some lt.
+            ap (λ b. cond b (from + 1) (max last (from + 1)))
+            (ne_eqb label.start label.after (λ e. omega (arith, some, e)))
+            ∙ ap (λ n. max n (from + 1)) (last_past at end cells text.width label.after are lt);
+      },
+      past_from end cells at (mark_until text reached label) labels are,
+    )
+
+pub stand_past : (s : SnippetSettings) (labels : List DrawnLabel) (source : List ℕ) (line : Line)
+    → StandPast line.text_end (cells_width 0 (cells_of s source line)) 0
+    (line_marks line (cells_of s source line) (one_line line labels))
+stand_past s labels source line =
+    past_from line.text_end (cells_of s source line) line.start 0 (one_line line labels) (line_bytes s source line)
 
 -- ---- what is printed at the columns of a cell
 

@@ -13,7 +13,7 @@ ghost use Rattle.miette_row_laws.specs.laws.Ends.{with_ends};
 ghost use Rattle.miette_row_laws.specs.laws.Cuts.{AreAsWide, AreStretches, Fits, IsWithin, by_nearness, by_stretch};
 ghost use Rattle.miette_row_laws.specs.laws.Cuts.{AreMoved, GroupsFit, IsSameAt, is_shown_at, most_columns};
 ghost use Rattle.miette_row_laws.specs.laws.Cuts.{pieces_shown, without_limit};
-ghost use Rattle.miette_row_laws.specs.laws.LabelMarks.{StandAtColumns, StandUnder};
+ghost use Rattle.miette_row_laws.specs.laws.LabelMarks.{StandAtColumns, StandPast, StandUnder};
 ghost use Rattle.miette_row_laws.specs.laws.Fading.{ArePlain, IsPlainRow, restyled, unhighlighted_answer};
 ghost use Rattle.miette_style.specs.rules.Themes.{Styles};
 ghost use Rattle.miette_page.specs.rules.Rows.{columns_of, glyphs_of};
@@ -90,12 +90,17 @@ pub fn marks_stand_on_their_characters()
 /// The labels of a line's marks are those that lie on the line alone, in their order (`labels`). In the columns of the
 /// whole line, where the mark before it ends no later, a mark begins at the first column of the character that has the
 /// label's first byte, and ends behind the last column of the one that has its last byte (`under`). At each of these
-/// columns stands what is printed of that character (`characters`).
+/// columns stands what is printed of that character (`characters`). Where a label begins at the end of the line's text,
+/// as at its terminator, its mark begins in the column after the text, or one further on behind a terminator's first
+/// byte; where it ends in the terminator, its mark ends behind the column after the text (`past`).
 pub fn marks_stand_under_their_labels()
     ensures labels { (s : SnippetSettings) (labels : List DrawnLabel) (source : List ℕ) (line : Line) →
         map (λ mark. mark.label) (marks_of_line s labels line (cells_of s source line)) ≡ one_line line labels }
     ensures under { (s : SnippetSettings) (labels : List DrawnLabel) (source : List ℕ) (line : Line) →
         StandUnder (cells_of s source line) 0 (line_marks line (cells_of s source line) (one_line line labels)) }
+    ensures past { (s : SnippetSettings) (labels : List DrawnLabel) (source : List ℕ) (line : Line) →
+        StandPast line.text_end (cells_width 0 (cells_of s source line)) 0
+        (line_marks line (cells_of s source line) (one_line line labels)) }
     ensures characters { (s : SnippetSettings) (source : List ℕ) (line : Line) →
         StandAtColumns (cells_of s source line) }
 {}

@@ -26,6 +26,22 @@ abbrev pub StandUnder : List Cell → ℕ → List Mark → Type 0
 StandUnder cells reached [] = Unit {0}
 StandUnder cells reached (mark ∷ marks) = StandsUnder cells reached mark × StandUnder cells mark.until marks
 
+-- Of a text that ends at an offset and has so many columns: where the mark before it ends at a column, a mark whose
+-- label begins where the text ends begins in the column after the text, one whose label begins behind that offset one
+-- column further on, or each where that other mark ends, if that is later. A mark whose label ends behind the text ends
+-- behind the column after it, or has one column, if that is more.
+pub record StandsPast (text_end width reached : ℕ) (mark : Mark) : Type 0 where
+  pub at_end : mark.label.start ≡ text_end → mark.label.behind ≡ false → mark.from ≡ max width reached
+  pub behind_end : text_end < mark.label.start → mark.label.behind ≡ false → mark.from ≡ max (width + 1) reached
+  pub last : mark.label.start < mark.label.after → text_end < mark.label.after →
+      mark.until ≡ max (width + 1) (mark.from + 1)
+
+-- each mark, behind one that ends at a column
+abbrev pub StandPast : ℕ → ℕ → ℕ → List Mark → Type 0
+StandPast text_end width reached [] = Unit {0}
+StandPast text_end width reached (mark ∷ marks) =
+    StandsPast text_end width reached mark × StandPast text_end width mark.until marks
+
 -- at each column of a cell stands what is printed of that cell
 abbrev pub StandAtColumns : List Cell → Type 0
 StandAtColumns cells = (cell : Cell) → Contains cells cell → (column : ℕ) → cell.from ≤ column → column < cell.until →

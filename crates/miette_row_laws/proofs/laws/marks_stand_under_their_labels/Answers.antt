@@ -1,5 +1,5 @@
 use Rattle.miette_snippet_rules.specs.rules.SnippetLayout.{cells_of}
-use Rattle.miette_row_laws.proofs.LabelMarks.{stand_at, stand_under}
+use Rattle.miette_row_laws.proofs.LabelMarks.{stand_at, stand_past, stand_under}
 use Rattle.miette_row_laws.proofs.RowCounts.{labels_are}
 use Rattle.miette_row_laws.proofs.laws.marks_stand_under_their_labels.Goals as goal
 
@@ -8,6 +8,9 @@ returns-clause-labels c = λ s labels source line. labels_are s labels line (cel
 
 pub returns-clause-under : goal.returns-clause-under
 returns-clause-under c = stand_under
+
+pub returns-clause-past : goal.returns-clause-past
+returns-clause-past c = stand_past
 
 pub returns-clause-characters : goal.returns-clause-characters
 returns-clause-characters c = stand_at
