@@ -3,6 +3,7 @@ pub mod Calls
 pub mod FolderSteps
 pub mod Going
 pub mod NoteEnds
+pub mod PartSteps
 pub mod Progress
 pub mod ReportSteps
 pub mod RowEnds

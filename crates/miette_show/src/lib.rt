@@ -4,6 +4,7 @@
 pub mod folder;
 pub mod loader;
 mod message;
+mod parts;
 mod reports;
 pub mod row_reader;
 pub mod show;
