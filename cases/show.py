@@ -71,12 +71,33 @@ def rows_of(given):
     return [it + b"\n" for it in rows[:-1]] + ([rows[-1]] if rows[-1] else [])
 
 
+def is_unfinished(part):
+    """Whether its first row is a bracket alone, and a bracket is open at its end, and no text."""
+    beside = re.sub(rb'"(?:[^"\\]|\\.)*"', b"", part, flags=re.S)
+    depth = 0
+    for byte in re.findall(rb"[][{}]", beside):
+        depth = depth + 1 if byte in b"[{" else max(depth - 1, 0)
+    return re.match(rb"[\[{]\r?\n", part) is not None and depth > 0 and b'"' not in beside
+
+
+def parts_of(given):
+    """The rows, or those of a value over several, each with the number of its first row."""
+    part, begun = b"", 1
+    for number, row in enumerate(rows_of(given), 1):
+        part += row
+        if not is_unfinished(part):
+            yield begun, part
+            part, begun = b"", number + 1
+    if part:
+        yield begun, part
+
+
 def wanted(given, files, form):
-    """Status, standard output and standard error, row by row, of what is read in a format."""
+    """Status, standard output and standard error, part by part, of what is read in a format."""
     page, files = Page(120), {**files, **named_in(given)}
     shown, notes, unread, error = [], [], False, False
-    for number, row in enumerate(rows_of(given), 1):
-        text, bad, grave = shown_of(row, files, lambda report: whole_picture(report, page), form)
+    for number, part in parts_of(given):
+        text, bad, grave = shown_of(part, files, lambda report: whole_picture(report, page), form)
         shown.append(text)
         notes += [f"show: row {number}: no message that can be read\n".encode()] if bad else []
         unread, error = unread or bad, error or grave

@@ -6,8 +6,8 @@ import gcc_model
 import sarif_reader_model
 from readers_model import NoMessage, member, report_of
 
-# what rows of messages begin with
-BEGINNINGS = {"rustc": (b'{"',), "gcc": (b'[{"', b"[]")}
+# what messages begin with, over several rows with a bracket alone
+BEGINNINGS = {"rustc": (b'{"', b"{\n", b"{\r\n"), "gcc": (b'[{"', b"[]", b"[\n", b"[\r\n")}
 BEGINNINGS["sarif"] = BEGINNINGS["rustc"]
 BEGINNINGS["auto"] = BEGINNINGS["rustc"] + BEGINNINGS["gcc"]
 
