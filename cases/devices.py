@@ -84,7 +84,7 @@ REFUSED = [
     (["job", "--jsonx"], "usage: job [OPTIONS]\n"),
     (["bench", "x"], "usage: bench N [OPTIONS]\n"),
     (["lint", "--lsp"], LINT_USAGE),
-    (["show", "--from", "clang"], "usage: show [--from auto|rustc|gcc|sarif] [--root DIR] [OPTIONS]\n"),
+    (["show", "--from", "clang"], "usage: show [--from auto|rustc|gcc|sarif] [--root DIR] [--fix | OPTIONS]\n"),
 ]
 # words and an input of which nothing is written, status, row
 SILENT = [

@@ -195,7 +195,7 @@ def tried(folder, what, given, root, form="rustc"):
 
 def words_tried():
     """Wrong words end with status 2 and say which are right, before anything is read."""
-    usage = b"usage: show [--from auto|rustc|gcc|sarif] [--root DIR] [OPTIONS]\n"
+    usage = b"usage: show [--from auto|rustc|gcc|sarif] [--root DIR] [--fix | OPTIONS]\n"
     wrong = [["--from", "clang"], ["--root"], ["--from"], ["--width"], ["x"], ["--brief", "--root", "."]]
     wrong += [["--fix", "--brief"], ["--root", ".", "--fix", "x"]]
     return [run(["show", *words], b'{"message":"m"}\n') == (2, b"", usage) for words in wrong]

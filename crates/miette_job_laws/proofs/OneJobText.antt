@@ -26,14 +26,14 @@ use Rattle.miette_highlight.specs.rules.FollowingCalls.{FollowTokens}
 use Rattle.miette_picture_laws.proofs.Determined.{one-followed}
 use Rattle.miette_picture_laws.proofs.DeterminedTokens.{tokens-determined}
 use Rattle.miette_snippet_rules.specs.rules.Highlighting.{follows}
-use Rattle.miette_report.specs.rules.Job.{IsBuiltText, IsJobText}
+use Rattle.miette_program.specs.rules.JobText.{IsBuiltText, IsJobText}
 use Rattle.miette_report.specs.rules.JobCalls.{CallWrites}
-use Rattle.miette_report.specs.rules.LanguageRules.{Highlighting, TokensFollow, highlighting_of}
-use Rattle.miette_report.specs.rules.OptionWords.{Facts, JobRequest, chosen_by, facts_of, request_of}
-use Rattle.miette_report.specs.declared.language.LanguageHighlighter.{LanguageHighlighter}
-use Rattle.miette_report.specs.declared.option_words.Choice.{Choice}
-use Rattle.miette_report.specs.declared.option_words.Choice.TheVariants.{Build, Json, Debug}
-use Rattle.miette_report.proofs.AlwaysRead.{printed-reads}
+use Rattle.miette_program.specs.rules.LanguageRules.{Highlighting, TokensFollow, highlighting_of}
+use Rattle.miette_program.specs.rules.OptionWords.{Facts, JobRequest, chosen_by, facts_of, request_of}
+use Rattle.miette_program.specs.declared.language.LanguageHighlighter.{LanguageHighlighter}
+use Rattle.miette_program.specs.declared.option_words.Choice.{Choice}
+use Rattle.miette_program.specs.declared.option_words.Choice.TheVariants.{Build, Json, Debug}
+use Rattle.miette_program.proofs.AlwaysRead.{printed-reads}
 use Rattle.miette_job_laws.proofs.RuleTexts.{follow-by}
 
 -- whether a highlighter of a language is blank: none is

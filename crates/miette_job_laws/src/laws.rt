@@ -1,7 +1,7 @@
 //! A law of what `job` writes. The function does nothing; what it ensures is proved.
 ghost use Rattle.std.specs.Prelude.{◌≡◌, ◌≢◌, ℕ, List, Some};
 ghost use Rattle.miette_report.specs.rules.JobCalls.{CallWrites};
-ghost use Rattle.miette_report.specs.rules.OptionWords.{chosen_by};
+ghost use Rattle.miette_program.specs.rules.OptionWords.{chosen_by};
 
 use miette::highlight::Highlighter;
 use miette_report::job::Choice;

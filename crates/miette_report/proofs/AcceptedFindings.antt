@@ -9,7 +9,7 @@ use Rattle.miette_tree.specs.rules.Reads.{report_accepted}
 use Rattle.miette_tree.specs.rules.Tree.{Tree}
 use Rattle.miette_report.specs.views.DrawReports.{over_input}
 use Rattle.miette_report.specs.views.LintReports.{warning}
-use Rattle.miette_report.proofs.AlwaysRead.{accept_all}
+use Rattle.miette_program.proofs.AlwaysRead.{accept_all}
 
 pub warned_accepted : (m : Meaning) (found : List Label) (input : List ℕ) → m ≡ warning found
     → AreAccepted input found → AreAccepted input (given_labels m.labels)

@@ -5,17 +5,19 @@ use Rattle.std.proofs.Common.{codes, decimal}
 use Rattle.std.proofs.lemmas.Result.{on_ok_weaker}
 use Rattle.miette.specs.rules.Options.{Options}
 use Rattle.miette_style.specs.declared.theme.Terminal.{Terminal}
-use Rattle.miette_report.specs.rules.Faults.{end_status, usual_status}
-use Rattle.miette_report.specs.rules.Job.{IsDescription, IsNoDescription, IsRefused, IsTelling, Writes}
+use Rattle.miette_devices.specs.rules.Faults.{end_status, usual_status}
+use Rattle.miette_report.specs.rules.Job.{IsDescription, IsNoDescription, IsRefused, Writes}
+use Rattle.miette_program.specs.rules.JobText.{IsTelling}
 use Rattle.miette_report.specs.rules.JobCalls.{AreBenchWords, CallMeasures, CallWrites, IsJobEnd, IsJobStatus}
 use Rattle.miette_report.specs.rules.JobCalls.{IsNoBenchCall, Measures}
-use Rattle.miette_report.specs.rules.OptionWords.{asked_by, request_of, AreWanted}
-use Rattle.miette_report.specs.declared.fault.Fault.{Fault}
-use Rattle.miette_report.specs.declared.fault.Fault.TheVariants.{Usage, Memory, Description, Refused}
-use Rattle.miette_report.specs.declared.language.LanguageHighlighter.{LanguageHighlighter}
-use Rattle.miette_report.specs.declared.option_words.Choice.{Choice}
-use Rattle.miette_report.proofs.FaultStatuses.{description-status, only-usage, refused-status, usual-below}
-use Rattle.miette_report.proofs.FaultStatuses.{usual-positive, words-status}
+use Rattle.miette_program.specs.rules.OptionWords.{AreWanted}
+use Rattle.miette_devices.specs.declared.fault.Fault.{Fault}
+use Rattle.miette_devices.specs.declared.fault.Fault.TheVariants.{Usage, Memory, Description, Refused}
+use Rattle.miette_program.specs.declared.language.LanguageHighlighter.{LanguageHighlighter}
+use Rattle.miette_program.specs.declared.option_words.Choice.{Choice}
+use Rattle.miette_devices.proofs.FaultStatuses.{description-status, only-usage, refused-status, usual-below}
+use Rattle.miette_devices.proofs.FaultStatuses.{usual-positive, words-status}
+use Rattle.miette_program.proofs.OptionWordSteps.{not-wrong}
 
 -- ---- statuses
 
@@ -118,10 +120,6 @@ settings-end wrong words c o t told r are right done bad refused called = record
   usage = λ e. absurd (called e);
   ends = λ w. absurd (right w);
 }
-
-pub not-wrong : (words : List (List ℕ)) (c : Choice) (o : Options LanguageHighlighter) (t : Terminal)
-    → AreWanted words c o t → asked_by words ≡ None → ⊥
-not-wrong words c o t are none = let no : None ≡ Some (request_of c o t) = sym none ∙ are in cc
 
 -- ---- `bench` by its words
 

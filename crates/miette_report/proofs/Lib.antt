@@ -1,11 +1,6 @@
-pub mod DeviceLemmas
-pub mod FaultStatuses
 pub mod FixSteps
 pub mod JobEnds
 pub mod PictureSteps
-pub mod AlwaysRead
-pub mod HighlighterSteps
-pub mod JobHandlerSteps
 pub mod AcceptedFindings
 pub mod LintDiffSteps
 pub mod LintFixSteps
@@ -14,7 +9,5 @@ pub mod LintSteps
 pub mod CommandSteps
 pub mod LogSteps
 pub mod EditorSteps
-pub mod OptionWordSteps
-pub mod WriteResults
-pub mod FaultRows
 pub mod WholeTexts
+pub mod JobSteps

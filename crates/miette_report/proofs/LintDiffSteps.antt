@@ -9,8 +9,9 @@ use Rattle.miette_tree.proofs.Readings.{none_further}
 use Rattle.miette_graphical.specs.rules.PrintedDiagnostics.{all_read, diagnostics_of}
 use Rattle.miette_lint.specs.rules.Findings.{findings_of}
 use Rattle.miette_lint.specs.rules.Joint.{joint_proposal}
-use Rattle.miette_report.proofs.AlwaysRead.{printed-reads}
-use Rattle.miette_report.specs.rules.Words.{AreDiffWords, IsReadAs}
+use Rattle.miette_program.proofs.AlwaysRead.{printed-reads}
+use Rattle.miette_report.specs.rules.Words.{AreDiffWords}
+use Rattle.miette_devices.specs.rules.Words.{IsReadAs}
 use Rattle.miette_report.specs.steps.PictureReads.{IsReadWhole}
 use Rattle.miette_report.specs.views.DrawReports.{draw_settings, over_input, IsPicture}
 use Rattle.miette_report.specs.views.LintReports.{warning, IsClean, IsDiffed, LintDiffs, LintDiffsText}

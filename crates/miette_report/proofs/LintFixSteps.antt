@@ -4,7 +4,8 @@ use Rattle.std.proofs.Common.{refl, sym, ◌∙◌, subst, ap}
 use Rattle.std.specs.Prelude.{codes}
 use Rattle.miette_lint.specs.rules.Findings.{findings_of}
 use Rattle.miette_lint.specs.rules.Fixes.{fixed_text}
-use Rattle.miette_report.specs.rules.Words.{AreFixWords, IsReadAs}
+use Rattle.miette_report.specs.rules.Words.{AreFixWords}
+use Rattle.miette_devices.specs.rules.Words.{IsReadAs}
 use Rattle.miette_report.specs.views.LintReports.{IsClean, IsLinted, LintFixes}
 use Rattle.miette_report.specs.declared.lint_words.LintForm.TheVariants.{Picture}
 use Rattle.miette_report.specs.declared.lint_words.LintWords.{LintWords}

@@ -7,11 +7,12 @@ use Rattle.std.specs.declared.alloc.Global.{Global}
 use Rattle.std.specs.declared.io.buffered.BufReader.{BufReader}
 use Rattle.std.proofs.KnownBytes.{prepend_known-nil}
 use Rattle.miette_language_server.specs.rules.Serving.{served}
-use Rattle.miette_report.specs.declared.fault.Ending.{Ending}
-use Rattle.miette_report.specs.declared.fault.Fault.{Fault}
-use Rattle.miette_report.specs.declared.fault.Program.TheVariants.{Lint}
-use Rattle.miette_report.specs.rules.Words.{AreServerWords, IsReadAs}
-use Rattle.miette_report.specs.views.Endings.{IsFailure}
+use Rattle.miette_devices.specs.declared.fault.Ending.{Ending}
+use Rattle.miette_devices.specs.declared.fault.Fault.{Fault}
+use Rattle.miette_devices.specs.declared.fault.Program.TheVariants.{Lint}
+use Rattle.miette_report.specs.rules.Words.{AreServerWords}
+use Rattle.miette_devices.specs.rules.Words.{IsReadAs}
+use Rattle.miette_devices.specs.views.Endings.{IsFailure}
 use Rattle.miette_report.specs.views.Service.{IsService}
 
 pub server_words : (words : List (List ℕ)) (first width : List ℕ) (r : Option ℕ) → words ≡ first ∷ width ∷ []

@@ -8,10 +8,11 @@ use Rattle.miette_protocol.specs.views.Meaning.{Label}
 use Rattle.miette_lint.specs.rules.Findings.{findings_of}
 use Rattle.miette_report.specs.views.LintReports.{CallIsClean, CallLints, CallLintsText, IsClean, IsLinted}
 use Rattle.miette_report.specs.views.LintReports.{IsShown, Lints, LintsText}
-use Rattle.miette_report.specs.rules.Words.{AreLintWords, AskFor, IsNoLintCall, IsReadAs, form_named}
-use Rattle.miette_report.specs.views.Endings.{IsFound}
-use Rattle.miette_report.specs.declared.fault.Fault.{Fault}
-use Rattle.miette_report.specs.declared.fault.Fault.TheVariants.{Usage, Read, Write}
+use Rattle.miette_report.specs.rules.Words.{AreLintWords, AskFor, IsNoLintCall, form_named}
+use Rattle.miette_devices.specs.rules.Words.{IsReadAs}
+use Rattle.miette_devices.specs.views.Endings.{IsFound}
+use Rattle.miette_devices.specs.declared.fault.Fault.{Fault}
+use Rattle.miette_devices.specs.declared.fault.Fault.TheVariants.{Usage, Read, Write}
 use Rattle.miette_report.specs.declared.lint_words.LintForm.{LintForm}
 use Rattle.miette_report.specs.declared.lint_words.LintForm.TheVariants.{Picture}
 use Rattle.miette_report.specs.declared.lint_words.LintWords.{LintWords}

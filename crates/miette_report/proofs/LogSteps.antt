@@ -20,7 +20,7 @@ use Rattle.miette_tree.specs.rules.Tree.{Tree, Trees, trees, with_related, with_
 use Rattle.miette_report.specs.declared.lint_sarif.LogWords.{LogWords}
 use Rattle.miette_report.specs.rules.Logs.{AreLogWords, IsNoLogCall, Logs, finding_tree, finding_trees, lint_log}
 use Rattle.miette_report.specs.rules.Logs.{log_words, tool_called}
-use Rattle.miette_report.specs.rules.Words.{IsReadAs}
+use Rattle.miette_devices.specs.rules.Words.{IsReadAs}
 use Rattle.miette_report.specs.views.LintReports.{IsClean}
 
 -- ---- reports that always read

@@ -14,7 +14,7 @@ use Rattle.miette_graphical.specs.views.Handling.{Handling, draws_plain, without
 use Rattle.miette_graphical.specs.rules.Snippets.{whole_drawing}
 use Rattle.miette_graphical.specs.rules.Text.{report_text}
 use Rattle.miette_brief.specs.rules.Report as rows
-use Rattle.miette_report.proofs.AlwaysRead.{printed-reads}
+use Rattle.miette_program.proofs.AlwaysRead.{printed-reads}
 use Rattle.miette_report.specs.views.DrawReports.{draw_settings, drawn_tree, over_input, settings_in, IsPicture}
 use Rattle.miette_report.specs.views.DrawReports.{CallPictures, Pictures}
 use Rattle.miette_report.specs.rules.Words.{AreDrawWords, DrawRequest, IsNoDrawCall}

@@ -1,10 +1,7 @@
 -- What users rely on, in the words of docs/RULES.md.
 pub mod Words
-pub mod LanguageRules
-pub mod OptionWords
 pub mod Job
 pub mod Logs
 pub mod Editors
 pub mod JobCalls
-pub mod Faults
 pub mod Fixing

@@ -1,5 +1,3 @@
 -- The code's own steps, which no rule names.
-pub mod JobHandler
-pub mod AskedWords
 pub mod PictureReads
 pub mod FixLists

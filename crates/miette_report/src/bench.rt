@@ -3,21 +3,22 @@
 ghost use Rattle.std.specs.Prelude.{◌≡◌, ◌↔◌, ◌⊎◌, ◌++◌, false, IfOk, IfSome, IsTrue, OnErr, OnOk, None};
 ghost use Rattle.std.specs.Prelude.{codes, decimal, drop, map, string_bytes};
 ghost use Rattle.std.specs.Io.KnownBytes.{Appends};
-ghost use Rattle.miette_report.specs.views.Device.{TakesBeginning};
-ghost use Rattle.miette_report.specs.rules.OptionWords.{asked_by, AreWanted};
-ghost use Rattle.miette_report.specs.rules.Job.{IsDescription, IsNoDescription, IsTelling, IsRefused, Writes};
+ghost use Rattle.miette_devices.specs.views.Device.{TakesBeginning};
+ghost use Rattle.miette_program.specs.rules.OptionWords.{asked_by, AreWanted};
+ghost use Rattle.miette_report.specs.rules.Job.{IsDescription, IsNoDescription, IsRefused, Writes};
+ghost use Rattle.miette_program.specs.rules.JobText.{IsTelling};
 ghost use Rattle.miette_report.specs.rules.JobCalls.{AreBenchWords, CallMeasures, IsNoBenchCall, IsJobEnd, IsJobStatus};
 ghost use Rattle.miette_report.specs.rules.JobCalls.{Measures};
-ghost use Rattle.miette_report.specs.rules.Faults.{status_of};
+ghost use Rattle.miette_devices.specs.rules.Faults.{status_of};
 
-use crate::arguments::Arguments;
-use crate::device::Device;
-use crate::fault::{Fault, Program};
-use crate::language::LanguageHighlighter;
 use crate::pipeline::rendered_length;
-use crate::whole::{read_whole, write_whole};
-use crate::words::number;
 use miette::highlight::Highlighter;
+use miette_devices::device::Device;
+use miette_devices::fault::{Fault, Program};
+use miette_devices::whole::{read_whole, write_whole};
+use miette_devices::words::number;
+use miette_program::arguments::Arguments;
+use miette_program::language::LanguageHighlighter;
 use std::alloc::{AllocError, Global};
 use std::io::{Read, Write};
 

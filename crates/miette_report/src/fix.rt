@@ -4,13 +4,13 @@ ghost use Rattle.std.specs.Prelude.{◌≡◌, ◌↔◌, ◌⊎◌, false, IsTr
 ghost use Rattle.std.specs.Io.KnownBytes.{Appends};
 ghost use Rattle.miette_report.specs.rules.Fixing.{Fixes, IsFixStatus, fixing_of};
 ghost use Rattle.miette_report.specs.rules.Job.{IsNoDescription};
-ghost use Rattle.miette_report.specs.views.Device.{TakesBeginning};
+ghost use Rattle.miette_devices.specs.views.Device.{TakesBeginning};
 
-use crate::device::Device;
-use crate::fault::{Fault, Program};
 use crate::fixing::{FixedText, fixed};
 use crate::pipeline::report_of;
-use crate::whole::{read_whole, write_whole};
+use miette_devices::device::Device;
+use miette_devices::fault::{Fault, Program};
+use miette_devices::whole::{read_whole, write_whole};
 use std::alloc::Global;
 use std::io::{Read, Write};
 

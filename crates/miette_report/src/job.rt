@@ -2,21 +2,21 @@
 
 ghost use Rattle.std.specs.Prelude.{◌≡◌, ◌↔◌, ◌⊎◌, false, IfSome, IsTrue, OnErr, OnOk, None, map, string_bytes};
 ghost use Rattle.std.specs.Io.KnownBytes.{Appends};
-ghost use Rattle.miette_report.specs.views.Device.{TakesBeginning};
-ghost use Rattle.miette_report.specs.rules.OptionWords.{asked_by};
+ghost use Rattle.miette_devices.specs.views.Device.{TakesBeginning};
+ghost use Rattle.miette_program.specs.rules.OptionWords.{asked_by};
 ghost use Rattle.miette_report.specs.rules.JobCalls.{CallWrites, IsJobEnd, IsJobStatus};
-ghost use Rattle.miette_report.specs.rules.Faults.{status_of};
+ghost use Rattle.miette_devices.specs.rules.Faults.{status_of};
 
-pub use crate::arguments::Arguments;
+pub use miette_program::arguments::Arguments;
 /// An earlier name of `Arguments`.
-pub use crate::arguments::Arguments as Settings;
-use crate::device::Device;
-use crate::fault::Program;
-pub use crate::fault::{Fault, Fault as JobError, Fault as WordsFault};
-use crate::language::LanguageHighlighter;
-pub use crate::option_words::Choice;
 pub use crate::pipeline::run;
 use miette::highlight::Highlighter;
+use miette_devices::device::Device;
+use miette_devices::fault::Program;
+pub use miette_devices::fault::{Fault, Fault as JobError, Fault as WordsFault};
+pub use miette_program::arguments::Arguments as Settings;
+use miette_program::language::LanguageHighlighter;
+pub use miette_program::option_words::Choice;
 use std::alloc::Global;
 use std::io::{Read, Write};
 

@@ -4,9 +4,9 @@ ghost use Rattle.std.specs.Prelude.{◌≡◌, ◌<◌, ◌^◌, ◌↔◌, IsTr
 ghost use Rattle.miette_protocol.specs.rules.Reading.{Source};
 ghost use Rattle.miette_report.specs.rules.Fixing.{whole_text};
 
-use crate::fault::{Fault, Program};
 use crate::job::Choice;
-use crate::language::Language;
+use miette_devices::fault::{Fault, Program};
+use miette_program::language::Language;
 
 /// Faults, programs, languages and choices of a handler are equal where they are the same, and a clone is the same.
 pub fn comparison_laws()

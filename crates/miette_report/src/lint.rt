@@ -4,8 +4,8 @@ ghost use Rattle.std.specs.Prelude.{◌≡◌, ◌↔◌, ◌⊎◌, ◌<◌, fa
 ghost use Rattle.std.specs.Io.KnownBytes.{Appends};
 ghost use Rattle.miette.specs.Diagnostic.{meaning_of};
 ghost use Rattle.miette_labels.specs.rules.Groups.{AreAccepted};
-ghost use Rattle.miette_report.specs.views.Device.{TakesBeginning};
-ghost use Rattle.miette_report.specs.views.Endings.{IsFailure, IsFound};
+ghost use Rattle.miette_devices.specs.views.Device.{TakesBeginning};
+ghost use Rattle.miette_devices.specs.views.Endings.{IsFailure, IsFound};
 ghost use Rattle.miette_report.specs.views.LintReports.{commands_of, count_text, warning, CallIsClean, CallLints};
 ghost use Rattle.miette_report.specs.views.LintReports.{CallLintsText};
 ghost use Rattle.miette_report.specs.views.LintReports.{IsClean, IsLinted, IsShown, Lints, LintsText};
@@ -15,16 +15,16 @@ ghost use Rattle.miette_report.specs.declared.lint_words.LintForm.TheVariants.{P
 ghost use Rattle.miette_report.specs.rules.Logs.{finding_trees};
 ghost use Rattle.miette_report.specs.rules.Words.{IsNoLintCall};
 
-use crate::device::Device;
-use crate::fault::{Ending, Fault, Program};
 use crate::lint_reports::commands_over;
 pub use crate::lint_words::{LintForm, LintWords};
 use crate::picture::{picture_over, rows_over};
-use crate::whole::{read_whole, write_whole};
 use itoa::Buffer;
 use miette::diagnostic::MietteDiagnostic;
 use miette::error::RenderError;
 use miette::protocol::{LabeledSpan, Severity};
+use miette_devices::device::Device;
+use miette_devices::fault::{Ending, Fault, Program};
+use miette_devices::whole::{read_whole, write_whole};
 use miette_lint::coded::coded_findings;
 pub use miette_lint::findings::findings;
 use miette_lint::laws::coded_laws;

@@ -4,11 +4,11 @@ ghost use Rattle.std.specs.Prelude.{◌≡◌, ◌⊎◌, ◌<◌, Err, IfOk, If
 ghost use Rattle.std.specs.Io.Buffered.{reader_remaining};
 ghost use Rattle.miette_language_server.specs.rules.Serving.{served};
 ghost use Rattle.miette_report.specs.rules.Words.{AreServerWords, IsNoServerCall};
-ghost use Rattle.miette_report.specs.views.Endings.{IsFailure};
+ghost use Rattle.miette_devices.specs.views.Endings.{IsFailure};
 ghost use Rattle.miette_report.specs.views.Service.{IsService};
 
-use crate::fault::{Ending, Fault, Program};
-use crate::words::number;
+use miette_devices::fault::{Ending, Fault, Program};
+use miette_devices::words::number;
 use miette_language_server::fault::Fault as ServerFault;
 use miette_language_server::serve::serve;
 use std::alloc::Global;

@@ -1,9 +1,10 @@
 //! The words that `lint` is called with.
 
 ghost use Rattle.std.specs.Prelude.{◌≡◌, IfSome, IsNone, Some, None, map, string_bytes};
-ghost use Rattle.miette_report.specs.rules.Words.{AreLintWords, IsNoLintCall, IsReadAs, form_named};
+ghost use Rattle.miette_report.specs.rules.Words.{AreLintWords, IsNoLintCall, form_named};
+ghost use Rattle.miette_devices.specs.rules.Words.{IsReadAs};
 
-use crate::words::number;
+use miette_devices::words::number;
 
 /// In what form it is told what is found.
 #[derive(Clone, Copy, Debug, PartialEq, Eq)]

@@ -3,21 +3,22 @@
 ghost use Rattle.std.specs.Prelude.{◌≡◌, ◌<◌, ◌↔◌, length, ◌⊎◌, false, string_bytes, IsTrue, IsUtf8, IfOk, OnOk, OnErr};
 ghost use Rattle.std.specs.Prelude.{IfSome, Some};
 ghost use Rattle.std.specs.Io.KnownBytes.{Appends};
-ghost use Rattle.miette_report.specs.views.Device.{TakesBeginning};
+ghost use Rattle.miette_devices.specs.views.Device.{TakesBeginning};
 ghost use Rattle.miette_tree.specs.views.Report.{tree_of};
 ghost use Rattle.miette_tree.specs.rules.Reads.{AlwaysReads};
 ghost use Rattle.miette_description.specs.rules.Description.{tree_for};
-ghost use Rattle.miette_report.specs.steps.JobHandler.{IsAsked};
-ghost use Rattle.miette_report.specs.rules.Job.{IsDescription, IsNoDescription, IsTelling, IsRefused, Writes};
+ghost use Rattle.miette_program.specs.steps.JobHandler.{IsAsked, IsGiven, MayRefuse};
+ghost use Rattle.miette_report.specs.rules.Job.{IsDescription, IsNoDescription, IsRefused, Writes};
+ghost use Rattle.miette_program.specs.rules.JobText.{IsTelling};
 
-use crate::arguments::Arguments;
-use crate::device::Device;
-use crate::fault::Fault;
-use crate::job_handler::JobHandler;
-use crate::language::LanguageHighlighter;
-use crate::whole::{read_whole, write_whole};
 use miette::highlight::Highlighter;
 use miette_description::error::BuildError;
+use miette_devices::device::Device;
+use miette_devices::fault::Fault;
+use miette_devices::whole::{read_whole, write_whole};
+use miette_program::arguments::Arguments;
+use miette_program::job_handler::JobHandler;
+use miette_program::language::LanguageHighlighter;
 use miette_protocol::protocol::Diagnostic;
 use miette_protocol::source::SourceCode;
 use miette_tree::report::Report;
@@ -74,6 +75,29 @@ fn text_of(alloc: Global, bytes: &[u8], settings: Arguments) -> Result<String, F
     handler.render(alloc, &report)
 }
 
+/// The last of so many texts of a report, at least one.
+fn render_times<H: Highlighter>(
+    handler: &mut JobHandler<H>,
+    alloc: Global,
+    report: &Report,
+    times: usize,
+) -> Result<String, Fault>
+    requires reads { AlwaysReads (tree_of ⟦<Box<dyn Diagnostic> as Diagnostic>⟧.meaning
+        ⟦<Box<dyn SourceCode> as SourceCode>⟧.source report.now) }
+    ensures ok { IfOk result (λ text. IsGiven H.is_blank H.may_follow handler.old
+        (tree_of ⟦<Box<dyn Diagnostic> as Diagnostic>⟧.meaning ⟦<Box<dyn SourceCode> as SourceCode>⟧.source
+        report.now) (string_bytes text)) }
+    ensures others { OnErr result ((result ≡ Err Fault.Refused) ⊎ (result ≡ Err Fault.Memory)) }
+    ensures refused { (result ≡ Err Fault.Refused) →
+        MayRefuse handler.old (tree_of ⟦<Box<dyn Diagnostic> as Diagnostic>⟧.meaning
+        ⟦<Box<dyn SourceCode> as SourceCode>⟧.source report.now) }
+{
+    for _ in 1..times {
+        handler.render(alloc, report)?;
+    }
+    handler.render(alloc, report)
+}
+
 /// The number of bytes of the text for a description, which is rendered so many times; 0 where that is not at all.
 pub(crate) fn rendered_length(
     alloc: Global,
@@ -96,7 +120,7 @@ pub(crate) fn rendered_length(
     if times == 0 {
         return Ok(0);
     }
-    let last = handler.render_times(alloc, &report, times)?;
+    let last = render_times(&mut handler, alloc, &report, times)?;
     Ok(last.len())
 }
 

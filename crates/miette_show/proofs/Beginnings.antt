@@ -1,7 +1,7 @@
 -- What writers took of texts that follow one another.
 use Rattle.std.proofs.Common.{ℕ, List, [], ◌++◌, Option, Some, None, refl, sym, ap, ◌∙◌, append_assoc, append-nil}
 use Rattle.std.specs.Io.KnownBytes.{Appends}
-use Rattle.miette_report.specs.views.Device.{TakesBeginning}
+use Rattle.miette_devices.specs.views.Device.{TakesBeginning}
 
 pub all_taken : (a b : Option (List ℕ)) (x : List ℕ) → Appends a b x → TakesBeginning a b x
 all_taken None b x h = tt

@@ -4,14 +4,14 @@ use Rattle.std.specs.Prelude.{⊤}
 use Rattle.miette.specs.rules.Options.{Options}
 use Rattle.miette_protocol.specs.rules.Reading.{Source}
 use Rattle.miette_style.specs.declared.theme.Terminal.{Terminal}
-use Rattle.miette_report.proofs.JobHandlerSteps.{asked-text}
-use Rattle.miette_report.specs.rules.Job.{IsJobText}
-use Rattle.miette_report.specs.rules.OptionWords.{AreWanted}
-use Rattle.miette_report.specs.rules.LanguageRules.{TokensFollow}
-use Rattle.miette_report.specs.steps.JobHandler.{IsAsked, IsGiven}
-use Rattle.miette_report.specs.declared.job_handler.JobHandler.{JobHandler}
-use Rattle.miette_report.specs.declared.language.LanguageHighlighter.{LanguageHighlighter}
-use Rattle.miette_report.specs.declared.option_words.Choice.{Choice}
+use Rattle.miette_program.proofs.JobHandlerSteps.{asked-text}
+use Rattle.miette_program.specs.rules.JobText.{IsJobText}
+use Rattle.miette_program.specs.rules.OptionWords.{AreWanted}
+use Rattle.miette_program.specs.rules.LanguageRules.{TokensFollow}
+use Rattle.miette_program.specs.steps.JobHandler.{IsAsked, IsGiven}
+use Rattle.miette_program.specs.declared.job_handler.JobHandler.{JobHandler}
+use Rattle.miette_program.specs.declared.language.LanguageHighlighter.{LanguageHighlighter}
+use Rattle.miette_program.specs.declared.option_words.Choice.{Choice}
 use Rattle.miette_show.specs.rules.ShowCalls.{CallShows, CallShowsFirst}
 use Rattle.miette_show.specs.rules.ShowWords.{ShowRequest}
 use Rattle.miette_show.specs.rules.Shown.{Shows, ShowsFirst}

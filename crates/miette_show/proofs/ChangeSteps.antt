@@ -15,7 +15,7 @@ use Rattle.miette_fixes.specs.rules.Edits.{Proposal}
 use Rattle.miette_mending.specs.rules.Gathered.{mended}
 use Rattle.miette_protocol.specs.rules.Reading.{Source}
 use Rattle.miette_readers.proofs.Steps.{next_taken}
-use Rattle.miette_report.specs.declared.fault.Fault.{Fault}
+use Rattle.miette_devices.specs.declared.fault.Fault.{Fault}
 use Rattle.miette_show.specs.rules.Looking.{leads_out}
 use Rattle.miette_show.specs.rules.Mends.{Change, Changes, ChangesFirst, IsChange, IsMended, IsOutcome, fault_as}
 use Rattle.miette_show.specs.rules.Mends.{fault_of, is_done, said_as, said_of, written_as, written_of}

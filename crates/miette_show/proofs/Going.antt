@@ -9,10 +9,10 @@ use Rattle.miette_tree.specs.rules.Tree.{Tree}
 use Rattle.miette_readers.proofs.Steps.{next_taken}
 use Rattle.miette_readers.specs.views.Values.{texts}
 use Rattle.miette_highlight.specs.rules.HighlighterCalls.{Call}
-use Rattle.miette_report.proofs.HighlighterSteps.{led-nowhere}
-use Rattle.miette_report.proofs.JobHandlerSteps.{given-before}
-use Rattle.miette_report.specs.declared.job_handler.JobHandler.{JobHandler}
-use Rattle.miette_report.specs.steps.JobHandler.{IsGiven, IsLed, Stays}
+use Rattle.miette_program.proofs.HighlighterSteps.{led-nowhere}
+use Rattle.miette_program.proofs.JobHandlerSteps.{given-before}
+use Rattle.miette_program.specs.declared.job_handler.JobHandler.{JobHandler}
+use Rattle.miette_program.specs.steps.JobHandler.{IsGiven, IsLed, Stays}
 use Rattle.miette_show.specs.rules.Looking.{Goes, IsFoundBy}
 use Rattle.miette_show.specs.rules.Shown.{AreDrawn, IsRowText, IsShown, Shown, Shows, ShowsFirst}
 use Rattle.miette_show.specs.declared.verdict.RowKind.{RowKind}

@@ -1,8 +1,8 @@
 -- What the results of writing say.
 use Rattle.std.proofs.Common.{◌≡◌, ◌⊎◌, ◌↔◌, Bool, true, false, IsTrue, OnErr, OnOk, Result, Ok, Err, inl, inr, refl}
 use Rattle.std.proofs.Common.{sym, ◌∙◌}
-use Rattle.miette_report.specs.declared.fault.Fault.{Fault}
-use Rattle.miette_report.specs.declared.fault.Fault.TheVariants.{Memory, Write}
+use Rattle.miette_devices.specs.declared.fault.Fault.{Fault}
+use Rattle.miette_devices.specs.declared.fault.Fault.TheVariants.{Memory, Write}
 
 -- after what was done no call has failed
 pub not_failed : {A : Type 0} (b : Bool) (x : A) (f : Fault) → (IsTrue b ↔ (Ok x ≡ Err f)) → b ≡ false

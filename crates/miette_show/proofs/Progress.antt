@@ -10,7 +10,7 @@ use Rattle.std.proofs.lemmas.List.Concat.{flat_map-append}
 use Rattle.std.proofs.lemmas.List.Elements.{All-nil, All-cons, All-append}
 use Rattle.std.proofs.lemmas.List.Folds.{list_any-append}
 use Rattle.miette_protocol.specs.rules.Reading.{Source}
-use Rattle.miette_report.specs.views.Device.{TakesBeginning}
+use Rattle.miette_devices.specs.views.Device.{TakesBeginning}
 use Rattle.miette_tree.specs.rules.Tree.{Tree}
 use Rattle.miette_show.specs.rules.Parts.{ends_in, parts_of}
 use Rattle.miette_show.specs.rules.Shown.{ShowsFirst}

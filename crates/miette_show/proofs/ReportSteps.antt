@@ -13,9 +13,9 @@ use Rattle.miette_readers.specs.rules.RustcReport.{rustc_tree}
 use Rattle.miette_gcc.specs.rules.GccReport.{gcc_trees}
 use Rattle.miette_sarif_reader.specs.rules.Logs.{sarif_trees}
 use Rattle.miette_highlight.specs.rules.HighlighterCalls.{Call}
-use Rattle.miette_report.proofs.JobHandlerSteps.{given-before}
-use Rattle.miette_report.specs.declared.job_handler.JobHandler.{JobHandler}
-use Rattle.miette_report.specs.steps.JobHandler.{IsGiven, IsLed, Stays}
+use Rattle.miette_program.proofs.JobHandlerSteps.{given-before}
+use Rattle.miette_program.specs.declared.job_handler.JobHandler.{JobHandler}
+use Rattle.miette_program.specs.steps.JobHandler.{IsGiven, IsLed, Stays}
 use Rattle.miette_show.specs.rules.Shown.{is_gcc, is_sarif, maybe_tree, rustc_trees, value_trees}
 use Rattle.miette_show.specs.views.Texts.{AreTexts, IsPushed}
 use Rattle.miette_show.specs.declared.words.Format.{Format}

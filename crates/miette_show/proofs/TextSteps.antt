@@ -11,11 +11,11 @@ use Rattle.miette_protocol.specs.rules.Reading.{Source}
 use Rattle.miette_tree.specs.rules.Reads.{report_accepted}
 use Rattle.miette_tree.specs.rules.Tree.{Tree}
 use Rattle.miette.specs.declared.options.handler.MietteHandler.TheVariants as handler
-use Rattle.miette_report.specs.declared.fault.Fault.{Fault}
-use Rattle.miette_report.specs.declared.fault.Fault.TheVariants.{Memory, Refused}
-use Rattle.miette_report.specs.declared.job_handler.JobHandler.{JobHandler}
-use Rattle.miette_report.specs.declared.job_handler.JobHandler.TheVariants as chosen
-use Rattle.miette_report.specs.steps.JobHandler.{MayRefuse}
+use Rattle.miette_devices.specs.declared.fault.Fault.{Fault}
+use Rattle.miette_devices.specs.declared.fault.Fault.TheVariants.{Memory, Refused}
+use Rattle.miette_program.specs.declared.job_handler.JobHandler.{JobHandler}
+use Rattle.miette_program.specs.declared.job_handler.JobHandler.TheVariants as chosen
+use Rattle.miette_program.specs.steps.JobHandler.{MayRefuse}
 use Rattle.miette_show.specs.rules.Rows.{begins_message}
 use Rattle.miette_show.specs.rules.Shown.{AreDrawn, IsRowText, all_names, IsShown, row_trees, tree_grave, value_trees}
 use Rattle.miette_show.specs.views.Texts.{AreTexts, IsPushed, IsValueText, shown_text}

@@ -19,12 +19,12 @@ use crate::row_reader::RowReader;
 use crate::show::{Streams, note};
 use crate::store::Store;
 use crate::verdict::{RowKind, Verdict};
+use miette_devices::device::Device;
+use miette_devices::fault::{Fault, Program};
 use miette_mending::gathered::Gathered;
 use miette_mending::sure::gather;
 use miette_readers::files::Files;
 use miette_readers::rustc::ReadError;
-use miette_report::device::Device;
-use miette_report::fault::{Fault, Program};
 use std::alloc::Global;
 use std::io::{Read, Write};
 

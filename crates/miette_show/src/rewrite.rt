@@ -13,10 +13,10 @@ ghost use Rattle.miette_show.specs.views.Writing.{Writes};
 
 use crate::show::Streams;
 use crate::store::Store;
+use miette_devices::fault::Fault;
+use miette_devices::whole::write_whole;
 use miette_mending::gathered::{Gathered, mended};
 use miette_readers::files::Files;
-use miette_report::fault::Fault;
-use miette_report::whole::write_whole;
 use std::alloc::{AllocError, Global};
 use std::io::Write;
 

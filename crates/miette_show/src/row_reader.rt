@@ -9,8 +9,8 @@ ghost use Rattle.miette_show.specs.views.RowState.{RowState};
 
 use crate::parts::{Open, begins_value, ends_in};
 use memchr::memchr;
-use miette_report::device::Device;
-use miette_report::fault::Fault;
+use miette_devices::device::Device;
+use miette_devices::fault::Fault;
 use std::alloc::{AllocError, Global};
 use std::io::Read;
 use std::marker::Model;

@@ -1,8 +1,8 @@
 //! Reads what rustc, cargo and GCC write for machines from standard input, and draws it, or fixes what rustc is sure of.
 #![tactic(auto)]
 
-use miette_report::fault::Fault;
-use miette_report::words::program_words;
+use miette_devices::fault::Fault;
+use miette_devices::words::program_words;
 use miette_show::folder::Folder;
 use miette_show::folder_store::FolderStore;
 use miette_show::mend::mend_with;

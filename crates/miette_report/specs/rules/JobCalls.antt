@@ -1,22 +1,15 @@
 -- Calls of `job` and `bench`: what their words ask for, what they write, and why they end.
 use Rattle.std.specs.Prelude.{◌≡◌, ◌⊎◌, ℕ, ◌<◌, Bool, List, ◌∷◌, ◌++◌, Option, Some, None, IfSome, Result, Err, OnOk}
 use Rattle.std.specs.Prelude.{codes, decimal, length}
-use Rattle.miette.specs.rules.Options.{Options}
-use Rattle.miette_style.specs.declared.theme.Terminal.{Terminal}
-use Rattle.miette_report.specs.rules.Job.{IsDescription, IsNoDescription, IsRefused, IsTelling, Writes}
-use Rattle.miette_report.specs.rules.OptionWords.{AreWanted, asked_by}
-use Rattle.miette_report.specs.rules.Words.{IsReadAs}
-use Rattle.miette_report.specs.declared.fault.Fault.{Fault}
-use Rattle.miette_report.specs.declared.fault.Fault.TheVariants.{Usage, Memory, Description, Refused}
-use Rattle.miette_report.specs.declared.language.LanguageHighlighter.{LanguageHighlighter}
-use Rattle.miette_report.specs.declared.option_words.Choice.{Choice}
+use Rattle.miette_report.specs.rules.Job.{IsDescription, IsNoDescription, IsRefused, Writes}
+use Rattle.miette_program.specs.rules.JobText.{IsTelling}
+use Rattle.miette_program.specs.rules.OptionWords.{asked_by, ForAsked}
+use Rattle.miette_devices.specs.rules.Words.{IsReadAs}
+use Rattle.miette_devices.specs.declared.fault.Fault.{Fault}
+use Rattle.miette_devices.specs.declared.fault.Fault.TheVariants.{Usage, Memory, Description, Refused}
+use Rattle.miette_program.specs.declared.language.LanguageHighlighter.{LanguageHighlighter}
 
 -- ---- by the words
-
--- this holds of handler, options and terminal as the words ask for them
-abbrev pub ForAsked : List (List ℕ) → (Choice → Options LanguageHighlighter → Terminal → Type 0) → Type 0
-ForAsked words holds = (choice : Choice) × (options : Options LanguageHighlighter) × (terminal : Terminal)
-    × AreWanted words choice options terminal × holds choice options terminal
 
 -- the words ask for a report that is narrated, or told in brief
 abbrev pub CallTells : List (List ℕ) → Type 0

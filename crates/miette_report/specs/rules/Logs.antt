@@ -12,7 +12,7 @@ use Rattle.miette_sarif.specs.rules.Log.{ToolName}
 use Rattle.miette_sarif.specs.rules.LogText.{log_text}
 use Rattle.miette_tree.specs.rules.Diagnosis.{plain_diagnosis}
 use Rattle.miette_report.specs.rules.Job.{IsDescription, IsNoDescription}
-use Rattle.miette_report.specs.rules.Words.{IsReadAs}
+use Rattle.miette_devices.specs.rules.Words.{IsReadAs}
 
 -- a tool of which a log says its name alone
 abbrev pub tool_called : List ℕ → ToolName

@@ -1,15 +1,9 @@
 -- The words that programs are called with.
-use Rattle.std.specs.Prelude.{◌≡◌, ℕ, ◌<◌, ◌≤◌, ◌^◌, List, [], ◌∷◌, ◌++◌, Option, Some, None}
+use Rattle.std.specs.Prelude.{◌≡◌, ℕ, List, [], ◌∷◌, ◌++◌, Option, Some, None}
 use Rattle.std.specs.Prelude.{bytes_eq, codes, if◌then◌else◌}
-use Rattle.std.specs.Str.Parse.{IsNumeral, digits_value}
 use Rattle.miette_report.specs.declared.lint_words.LintForm.{LintForm}
 use Rattle.miette_report.specs.declared.lint_words.LintForm.TheVariants.{Picture, Rows, Commands}
-
--- What a word is read as: the number that its digits write, one or more and nothing else, where that number is below
--- 2 ^ 64.
-abbrev pub IsReadAs : List ℕ → Option ℕ → Type 0
-IsReadAs word (Some n) = IsNumeral 10 word × (digits_value 10 word < 2 ^ 64) × (n ≡ digits_value 10 word)
-IsReadAs word None = IsNumeral 10 word → 2 ^ 64 ≤ digits_value 10 word
+use Rattle.miette_devices.specs.rules.Words.{IsReadAs}
 
 -- what `draw` is asked for: the source's name, where the label begins, its length and its text, the report's message
 pub record DrawRequest : Type 0 where

@@ -1,9 +1,9 @@
 -- Calls of `show`: what they write by their words.
 use Rattle.std.specs.Prelude.{ℕ, Bool, List, Option}
 use Rattle.miette_protocol.specs.rules.Reading.{Source}
-use Rattle.miette_report.specs.rules.Job.{IsJobText}
-use Rattle.miette_report.specs.rules.JobCalls.{ForAsked}
-use Rattle.miette_report.specs.declared.language.LanguageHighlighter.{LanguageHighlighter}
+use Rattle.miette_program.specs.rules.JobText.{IsJobText}
+use Rattle.miette_program.specs.rules.OptionWords.{ForAsked}
+use Rattle.miette_program.specs.declared.language.LanguageHighlighter.{LanguageHighlighter}
 use Rattle.miette_show.specs.rules.Shown.{Shows, ShowsFirst}
 use Rattle.miette_show.specs.rules.ShowWords.{ShowRequest}
 use Rattle.miette_show.specs.declared.verdict.Verdict.{Verdict}

@@ -1,7 +1,7 @@
 use Rattle.std.proofs.Common.{drop, map, refl, string_bytes, subst}
-use Rattle.miette_report.specs.rules.Faults.{status_of}
+use Rattle.miette_devices.specs.rules.Faults.{status_of}
 use Rattle.miette_report.specs.rules.JobCalls.{IsJobEnd, IsNoBenchCall}
-use Rattle.miette_report.specs.declared.fault.Program.TheVariants.{Bench}
+use Rattle.miette_devices.specs.declared.fault.Program.TheVariants.{Bench}
 use Rattle.miette_report.proofs.JobEnds.{job-status}
 use Rattle.miette_report.proofs.bench.bench_with.Goals as goal
 

@@ -1,8 +1,8 @@
 use Rattle.std.proofs.Common.{refl, rules}
 use Rattle.std.proofs.lemmas.Result.{on_ok_weaker}
 use Rattle.std.specs.Io.KnownBytes.{Appends}
-use Rattle.miette_report.specs.views.Device.{TakesBeginning}
-use Rattle.miette_report.specs.declared.fault.Fault.TheVariants.{Read, Write}
+use Rattle.miette_devices.specs.views.Device.{TakesBeginning}
+use Rattle.miette_devices.specs.declared.fault.Fault.TheVariants.{Read, Write}
 use Rattle.miette_report.proofs.JobEnds.{asked-measures, early-end, early-failed, early-other}
 use Rattle.miette_report.proofs.JobEnds.{not-wrong-bench, settings-end}
 use Rattle.miette_report.proofs.bench.run_asked.Goals as goal

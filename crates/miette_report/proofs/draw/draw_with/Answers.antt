@@ -1,4 +1,4 @@
-use Rattle.miette_report.proofs.FaultStatuses.{plain-status, usage-status}
+use Rattle.miette_devices.proofs.FaultStatuses.{plain-status, usage-status}
 use Rattle.miette_report.proofs.draw.draw_with.Goals as goal
 
 pub returns-in-Err-clause-status : goal.returns-in-Err-clause-status

@@ -1,9 +1,9 @@
 use Rattle.std.proofs.Common.{inr, map, refl, rules, string_bytes}
 use Rattle.std.proofs.lemmas.Result.{on_err_weaker, on_ok_weaker}
 use Rattle.std.specs.Io.KnownBytes.{Appends}
-use Rattle.miette_report.specs.views.Device.{TakesBeginning}
+use Rattle.miette_devices.specs.views.Device.{TakesBeginning}
 use Rattle.miette_report.specs.views.DrawReports.{draw_request}
-use Rattle.miette_report.proofs.FaultStatuses.{never-usage}
+use Rattle.miette_devices.proofs.FaultStatuses.{never-usage}
 use Rattle.miette_report.proofs.PictureSteps.{call_pictured, draw_called}
 use Rattle.miette_report.proofs.draw.run_asked.Goals as goal
 

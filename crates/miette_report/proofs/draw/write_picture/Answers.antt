@@ -1,10 +1,10 @@
 use Rattle.std.proofs.Common.{inl, inr}
 use Rattle.std.proofs.lemmas.Result.{on_err_weaker, on_ok_weaker}
 use Rattle.miette_report.proofs.PictureSteps.{told}
-use Rattle.miette_report.proofs.WriteResults.{of-error, read-failed, write-failed}
-use Rattle.miette_report.specs.views.Device.{TakesBeginning}
+use Rattle.miette_devices.proofs.WriteResults.{of-error, read-failed, write-failed}
+use Rattle.miette_devices.specs.views.Device.{TakesBeginning}
 use Rattle.std.specs.Io.KnownBytes.{Appends}
-use Rattle.miette_report.specs.declared.fault.Fault.TheVariants.{Write}
+use Rattle.miette_devices.specs.declared.fault.Fault.TheVariants.{Write}
 use Rattle.miette_report.proofs.draw.write_picture.Goals as goal
 
 pub returns-clause-ok : goal.returns-clause-ok

@@ -1,8 +1,8 @@
 use Rattle.std.proofs.Common.{◌≡◌, map, None, refl, string_bytes, subst}
-use Rattle.miette_report.specs.rules.Faults.{status_of}
+use Rattle.miette_devices.specs.rules.Faults.{status_of}
 use Rattle.miette_report.specs.rules.JobCalls.{IsJobEnd}
-use Rattle.miette_report.specs.rules.OptionWords.{asked_by}
-use Rattle.miette_report.specs.declared.fault.Program.TheVariants.{Job}
+use Rattle.miette_program.specs.rules.OptionWords.{asked_by}
+use Rattle.miette_devices.specs.declared.fault.Program.TheVariants.{Job}
 use Rattle.miette_report.proofs.JobEnds.{job-status}
 use Rattle.miette_report.proofs.job.job_with.Goals as goal
 

@@ -1,10 +1,11 @@
 use Rattle.std.proofs.Common.{map, refl, rules, string_bytes}
 use Rattle.std.proofs.lemmas.Result.{on_ok_weaker}
 use Rattle.std.specs.Io.KnownBytes.{Appends}
-use Rattle.miette_report.specs.views.Device.{TakesBeginning}
-use Rattle.miette_report.specs.declared.fault.Fault.TheVariants.{Read, Write}
+use Rattle.miette_devices.specs.views.Device.{TakesBeginning}
+use Rattle.miette_devices.specs.declared.fault.Fault.TheVariants.{Read, Write}
 use Rattle.miette_report.proofs.JobEnds.{asked-writes, early-end, early-failed, early-other}
-use Rattle.miette_report.proofs.JobEnds.{not-wrong, settings-end, writes-described}
+use Rattle.miette_program.proofs.OptionWordSteps.{not-wrong}
+use Rattle.miette_report.proofs.JobEnds.{settings-end, writes-described}
 use Rattle.miette_report.proofs.job.run_asked.Goals as goal
 
 pub returns-in_err-settings-clause-end : goal.returns-in_err-settings-clause-end

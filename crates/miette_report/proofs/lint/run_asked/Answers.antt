@@ -1,7 +1,7 @@
 use Rattle.std.proofs.Common.{inr, map, refl, rules, string_bytes}
 use Rattle.std.proofs.lemmas.Result.{on_err_weaker}
 use Rattle.std.specs.Io.KnownBytes.{Appends}
-use Rattle.miette_report.specs.views.Device.{TakesBeginning}
+use Rattle.miette_devices.specs.views.Device.{TakesBeginning}
 use Rattle.miette_report.proofs.LintSteps.{call_begun, call_clean, call_linted, usage_called}
 use Rattle.miette_report.proofs.lint.run_asked.Goals as goal
 

@@ -1,5 +1,5 @@
 use Rattle.std.specs.Io.KnownBytes.{Appends}
-use Rattle.miette_report.specs.views.Device.{TakesBeginning}
+use Rattle.miette_devices.specs.views.Device.{TakesBeginning}
 use Rattle.miette_report.proofs.LintDiffSteps.{diffed_begun, diffed_told}
 use Rattle.miette_report.proofs.lint_diff.write_diff.Goals as goal
 

@@ -1,6 +1,6 @@
 use Rattle.std.proofs.Common.{string_bytes}
 use Rattle.std.specs.Io.KnownBytes.{Appends}
-use Rattle.miette_report.specs.views.Device.{TakesBeginning}
+use Rattle.miette_devices.specs.views.Device.{TakesBeginning}
 use Rattle.miette_report.proofs.LintFixSteps.{fixes_begun, fixes_told}
 use Rattle.miette_report.proofs.lint_fix.write_fixed.Goals as goal
 

@@ -1,5 +1,5 @@
 use Rattle.std.specs.Io.KnownBytes.{Appends}
-use Rattle.miette_report.specs.views.Device.{TakesBeginning}
+use Rattle.miette_devices.specs.views.Device.{TakesBeginning}
 use Rattle.miette_report.proofs.LogSteps.{clean_read, lint_written}
 use Rattle.miette_report.proofs.lint_sarif.write_log.Goals as goal
 

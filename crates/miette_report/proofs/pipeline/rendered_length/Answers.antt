@@ -1,5 +1,5 @@
 use Rattle.std.proofs.Common.{rules}
-use Rattle.miette_report.proofs.JobHandlerSteps.{length-written, render-refuses}
+use Rattle.miette_report.proofs.JobSteps.{length-written, render-refuses}
 use Rattle.miette_report.proofs.pipeline.rendered_length.Goals as goal
 
 pub returns-in_err-last-clause-refused : goal.returns-in_err-last-clause-refused

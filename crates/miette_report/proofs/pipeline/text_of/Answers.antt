@@ -1,4 +1,4 @@
-use Rattle.miette_report.proofs.JobHandlerSteps.{render-writes, render-refuses}
+use Rattle.miette_report.proofs.JobSteps.{render-writes, render-refuses}
 use Rattle.miette_report.proofs.pipeline.text_of.Goals as goal
 
 pub returns-clause-ok : goal.returns-clause-ok

@@ -1,10 +1,10 @@
 use Rattle.std.proofs.Common.{inl}
 use Rattle.std.proofs.lemmas.Result.{on_err_weaker, on_ok_weaker}
 use Rattle.std.specs.Io.KnownBytes.{Appends}
-use Rattle.miette_report.specs.declared.fault.Fault.TheVariants.{Description, Refused, Usage, Write}
-use Rattle.miette_report.specs.views.Device.{TakesBeginning}
+use Rattle.miette_devices.specs.declared.fault.Fault.TheVariants.{Description, Refused, Usage, Write}
+use Rattle.miette_devices.specs.views.Device.{TakesBeginning}
 use Rattle.miette_report.proofs.LogSteps.{log_written}
-use Rattle.miette_report.proofs.WriteResults.{no-other, of-error, read-failed, write-failed}
+use Rattle.miette_devices.proofs.WriteResults.{no-other, of-error, read-failed, write-failed}
 use Rattle.miette_report.proofs.sarif.write_log.Goals as goal
 
 pub returns-clause-ok : goal.returns-clause-ok

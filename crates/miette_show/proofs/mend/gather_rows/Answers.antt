@@ -1,6 +1,6 @@
 use Rattle.std.proofs.Common.{◌≡◌, ◌<◌, ◌∙◌, Err, length, refl, sym, ap, rules}
 use Rattle.std.proofs.lemmas.List.{nil_from_length}
-use Rattle.miette_report.specs.declared.fault.Fault.TheVariants.{Read, Write}
+use Rattle.miette_devices.specs.declared.fault.Fault.TheVariants.{Read, Write}
 use Rattle.miette_mending.proofs.Holds.{adds_none, adds_then}
 use Rattle.miette_mending.specs.views.Holding.{Adds}
 use Rattle.miette_show.specs.rules.Looking.{IsFoundBy}

@@ -1,7 +1,7 @@
 use Rattle.std.proofs.Common.{◌≡◌, [], IfSome, Some, IsUtf8, true, false, refl, subst, rules}
 use Rattle.serde_json.specs.Read.{read}
 use Rattle.serde_json.specs.View.{view}
-use Rattle.miette_report.specs.steps.JobHandler.{IsGiven}
+use Rattle.miette_program.specs.steps.JobHandler.{IsGiven}
 use Rattle.miette_show.specs.rules.Looking.{IsFoundBy}
 use Rattle.miette_show.specs.rules.Rows.{begins_message}
 use Rattle.miette_show.proofs.TextSteps.{passed, told_ok, unread}

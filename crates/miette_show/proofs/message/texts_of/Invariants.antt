@@ -1,5 +1,5 @@
 use Rattle.std.proofs.Common.{map, string_bytes, take}
-use Rattle.miette_report.specs.steps.JobHandler.{IsGiven, IsLed, Stays}
+use Rattle.miette_program.specs.steps.JobHandler.{IsGiven, IsLed, Stays}
 use Rattle.miette_tree.specs.views.Report.{tree_of}
 use Rattle.miette_show.specs.views.Texts.{AreTexts}
 use Rattle.miette_show.proofs.message.texts_of.Given as goal

@@ -4,7 +4,7 @@ use Rattle.std.specs.Prelude.{Vec, option_map}
 use Rattle.std.specs.declared.alloc.Global.{Global}
 use Rattle.std.proofs.lemmas.List.{take_all}
 use Rattle.miette_mending.specs.views.Holding.{fixes_at}
-use Rattle.miette_report.specs.declared.fault.Fault.TheVariants.{Write}
+use Rattle.miette_devices.specs.declared.fault.Fault.TheVariants.{Write}
 use Rattle.miette_show.proofs.ChangeSteps.{Changing, all_changed, begin, first_more, first_still, more}
 use Rattle.miette_show.proofs.ChangeSteps.{neither_failed, one_passed, parted}
 use Rattle.miette_show.proofs.NoteEnds.{on_err_of}

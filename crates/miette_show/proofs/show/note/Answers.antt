@@ -1,7 +1,7 @@
 use Rattle.std.proofs.Common.{◌≡◌, ℕ, List, Bool, true, subst, sym, ◌∙◌, rules}
-use Rattle.miette_report.proofs.WriteResults.{of-error}
-use Rattle.miette_report.specs.declared.fault.Fault.TheVariants.{Write}
-use Rattle.miette_report.specs.views.Device.{TakesBeginning}
+use Rattle.miette_devices.proofs.WriteResults.{of-error}
+use Rattle.miette_devices.specs.declared.fault.Fault.TheVariants.{Write}
+use Rattle.miette_devices.specs.views.Device.{TakesBeginning}
 use Rattle.miette_show.specs.rules.Shown.{kind_unread, note_of, note_row}
 use Rattle.miette_show.proofs.show.note.Goals as goal
 

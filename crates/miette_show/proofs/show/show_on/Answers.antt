@@ -1,7 +1,7 @@
 use Rattle.std.proofs.Common.{◌≡◌}
 use Rattle.std.specs.Io.KnownBytes.{Appends}
-use Rattle.miette_report.proofs.JobEnds.{not-wrong}
-use Rattle.miette_report.specs.views.Device.{TakesBeginning}
+use Rattle.miette_program.proofs.OptionWordSteps.{not-wrong}
+use Rattle.miette_devices.specs.views.Device.{TakesBeginning}
 use Rattle.miette_show.specs.rules.Looking.{IsFoundBy}
 use Rattle.miette_show.specs.views.Asked.{request_of, words_of}
 use Rattle.miette_show.specs.views.Reading.{left_of}

@@ -1,5 +1,5 @@
 use Rattle.std.proofs.Common.{ℕ, List, string_bytes, subst}
-use Rattle.miette_report.specs.views.Device.{TakesBeginning}
+use Rattle.miette_devices.specs.views.Device.{TakesBeginning}
 use Rattle.miette_show.specs.views.Texts.{shown_text}
 use Rattle.miette_show.proofs.show.show_row.Goals as goal
 

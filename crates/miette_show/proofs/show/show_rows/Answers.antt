@@ -1,10 +1,10 @@
 use Rattle.std.proofs.Common.{◌≡◌, ◌<◌, ◌∙◌, Err, IfSome, inl, inr, length, refl, sym, ap, subst, rules}
 use Rattle.std.proofs.lemmas.List.{nil_from_length}
-use Rattle.miette_report.proofs.HighlighterSteps.{led-nowhere, led-on}
-use Rattle.miette_report.proofs.JobHandlerSteps.{stays-itself, stays-on}
-use Rattle.miette_report.specs.declared.fault.Fault.TheVariants.{Read, Refused, Usage, Write}
-use Rattle.miette_report.specs.steps.JobHandler.{IsGiven}
-use Rattle.miette_report.specs.views.Device.{TakesBeginning}
+use Rattle.miette_program.proofs.HighlighterSteps.{led-nowhere, led-on}
+use Rattle.miette_program.proofs.JobHandlerSteps.{stays-itself, stays-on}
+use Rattle.miette_devices.specs.declared.fault.Fault.TheVariants.{Read, Refused, Usage, Write}
+use Rattle.miette_program.specs.steps.JobHandler.{IsGiven}
+use Rattle.miette_devices.specs.views.Device.{TakesBeginning}
 use Rattle.miette_show.specs.rules.Looking.{IsFoundBy}
 use Rattle.miette_show.specs.rules.Shown.{ShowsFirst, kind_unread, note_of}
 use Rattle.miette_show.specs.views.Reading.{left_of}

@@ -1,5 +1,5 @@
 use Rattle.std.proofs.Common.{◌≡◌, false}
-use Rattle.miette_report.specs.steps.JobHandler.{IsGiven, IsLed, Stays}
+use Rattle.miette_program.specs.steps.JobHandler.{IsGiven, IsLed, Stays}
 use Rattle.miette_show.specs.rules.Looking.{Goes, IsFoundBy}
 use Rattle.miette_show.specs.views.Reading.{left_of}
 use Rattle.miette_show.proofs.Progress.{Progress}

@@ -1,0 +1,4 @@
+pub mod DeviceLemmas
+pub mod FaultRows
+pub mod FaultStatuses
+pub mod WriteResults

@@ -1,0 +1,7 @@
+//! What all programs share: devices that remember their failures, faults with their rows and statuses, words.
+#![tactic(auto)]
+
+pub mod device;
+pub mod fault;
+pub mod whole;
+pub mod words;

@@ -1,0 +1,4 @@
+pub mod AlwaysRead
+pub mod HighlighterSteps
+pub mod JobHandlerSteps
+pub mod OptionWordSteps

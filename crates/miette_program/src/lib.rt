@@ -1,0 +1,7 @@
+//! What words ask for, and the handler that they choose.
+#![tactic(auto)]
+
+pub mod arguments;
+pub mod job_handler;
+pub mod language;
+pub mod option_words;

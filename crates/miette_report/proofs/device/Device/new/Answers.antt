@@ -1,5 +1,0 @@
-use Rattle.std.proofs.Common.{refl}
-use Rattle.miette_report.proofs.device.Device.new.Goals as goal
-
-pub returns-clause-sound : goal.returns-clause-sound
-returns-clause-sound g c = refl
