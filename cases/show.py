@@ -21,7 +21,7 @@ import sarif_read_cases
 import size_runs
 from json_changes import changed
 from programs import HERE, counted, program, run
-from show_model import shown_of
+from show_model import parts_of, rows_of, shown_of
 from tree_model import Page, whole_picture
 
 FOLDER = os.path.join(HERE, "rustc")
@@ -63,33 +63,6 @@ def recorded(name):
     """What rustc wrote of a program."""
     with open(os.path.join(FOLDER, f"{name}.jsonl"), "rb") as file:
         return file.read()
-
-
-def rows_of(given):
-    """The rows, each with the LF that ends it."""
-    rows = given.split(b"\n")
-    return [it + b"\n" for it in rows[:-1]] + ([rows[-1]] if rows[-1] else [])
-
-
-def is_unfinished(part):
-    """Whether its first row is a bracket alone, and a bracket is open at its end, and no text."""
-    beside = re.sub(rb'"(?:[^"\\]|\\.)*"', b"", part, flags=re.S)
-    depth = 0
-    for byte in re.findall(rb"[][{}]", beside):
-        depth = depth + 1 if byte in b"[{" else max(depth - 1, 0)
-    return re.match(rb"[\[{]\r?\n", part) is not None and depth > 0 and b'"' not in beside
-
-
-def parts_of(given):
-    """The rows, or those of a value over several, each with the number of its first row."""
-    part, begun = b"", 1
-    for number, row in enumerate(rows_of(given), 1):
-        part += row
-        if not is_unfinished(part):
-            yield begun, part
-            part, begun = b"", number + 1
-    if part:
-        yield begun, part
 
 
 def wanted(given, files, form):
