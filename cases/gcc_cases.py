@@ -70,6 +70,8 @@ def inputs(folder):
         given = recorded(name)
         yield f"GCC's {name} as recorded", given, FOLDER
         yield f"GCC's {name} cut at every 50th byte", cut(name), FOLDER
+        spread = json.dumps(json.loads(given.split(b"\n", 1)[0]), indent=1).encode() + b"\n"
+        yield f"GCC's {name} over many rows", spread + given + b"[\r\n]\n[\n", FOLDER
         yield f"GCC's {name} without its last bytes", given[: -len(given) // 7], FOLDER
         yield f"GCC's {name} over files that are gone or shorter", given, folder
     yield "rows of GCC that can't be read", b"".join(OTHER + BAD), FOLDER

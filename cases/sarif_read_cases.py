@@ -37,6 +37,17 @@ def cut(value):
     return b"".join(row[:end] + b"\n" for end in range(1, len(row), 50))
 
 
+def spread(value, end=b"\n"):
+    """A value over many rows."""
+    return json.dumps(value, ensure_ascii=False, indent=2).encode().replace(b"\n", end) + end
+
+
+def spread_and_cut(value):
+    """The log over many rows, cut at every 50th byte; behind each there is a quote, so that a value that is cut ends."""
+    rows = spread(value)
+    return b"".join(rows[:end] + b'\n"\n' for end in range(1, len(rows), 50))
+
+
 # ---- logs of ours
 
 
@@ -145,6 +156,9 @@ def inputs(folder):
     yield "a log as made by hand", row_of(value), FOLDER
     yield "the log cut at every 50th byte", cut(value), FOLDER
     yield "the log over files that are gone or shorter", row_of(value), folder
+    rows = spread(value) + row_of(value) + spread(value, b"\r\n")
+    yield "the log over many rows", rows + b"[ 50%] Building\n{ a\n{\n" + rows, FOLDER
+    yield "the log over many rows, cut at every 50th byte", spread_and_cut(value), FOLDER
     yield "a log worded as clang's", of_clang(), FOLDER
     yield "rows of logs that can't be read", b"".join(OTHER + BAD), FOLDER
     yield "logs that are changed", hostile(random.Random(13), 600), FOLDER

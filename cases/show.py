@@ -21,7 +21,7 @@ import sarif_read_cases
 import size_runs
 from json_changes import changed
 from programs import HERE, counted, program, run
-from show_model import shown_of
+from show_model import parts_of, rows_of, shown_of
 from tree_model import Page, whole_picture
 
 FOLDER = os.path.join(HERE, "rustc")
@@ -65,18 +65,12 @@ def recorded(name):
         return file.read()
 
 
-def rows_of(given):
-    """The rows, each with the LF that ends it."""
-    rows = given.split(b"\n")
-    return [it + b"\n" for it in rows[:-1]] + ([rows[-1]] if rows[-1] else [])
-
-
 def wanted(given, files, form):
-    """Status, standard output and standard error, row by row, of what is read in a format."""
+    """Status, standard output and standard error, part by part, of what is read in a format."""
     page, files = Page(120), {**files, **named_in(given)}
     shown, notes, unread, error = [], [], False, False
-    for number, row in enumerate(rows_of(given), 1):
-        text, bad, grave = shown_of(row, files, lambda report: whole_picture(report, page), form)
+    for number, part in parts_of(given):
+        text, bad, grave = shown_of(part, files, lambda report: whole_picture(report, page), form)
         shown.append(text)
         notes += [f"show: row {number}: no message that can be read\n".encode()] if bad else []
         unread, error = unread or bad, error or grave

@@ -18,6 +18,7 @@ import tempfile
 from fix_model import Edit, taken
 from programs import HERE, built, counted, library_in, refusals, run
 from readers_model import NoMessage, Settled, diagnostic_in, fixes, is_edit, member, objects, offers, stretch, text
+from show_model import BEGINNINGS, parts_of
 
 FOLDER = os.path.join(HERE, "rustc")
 NAMES = ["borrow", "fixits", "life", "mine", "multi"]
@@ -81,8 +82,8 @@ def leads_out(name):
 def wanted(given, files, unwritable=()):
     """Status, standard output and standard error, and the files after it."""
     gathered, notes, unread = {}, [], False
-    for number, row in enumerate(given.splitlines(keepends=True), 1):
-        if not row.startswith(b'{"'):
+    for number, row in parts_of(given):
+        if not row.startswith(BEGINNINGS["rustc"]):
             continue
         try:
             for name, edits in sure_fixes(diagnostic_in(json.loads(row)), files):
@@ -189,6 +190,9 @@ def hand_made():
     yield "behind a lone CR", rows_of(sure("a.rs", b"(1)\r(2)\n", 1, 5, 3, "2")), {"a.rs": b"(1)\r(2)\n"}
     yield "of a file that isn't UTF-8", rows_of(FIRST), {"a.rs": b"let a = (1);\n\xff\xfe"}
     yield "of an empty file", rows_of(FIRST), {"a.rs": b""}
+    spread = b"".join(json.dumps(it, indent=2).encode() + b"\n" for it in (FIRST, SECOND))
+    yield "over several rows", spread, files
+    yield "behind a part that can't be read", b'{\n"a":\n}\n' + rows_of(FIRST) + b"{\r\n", files
 
 
 def led_out(folder):

@@ -1,15 +1,43 @@
 """show_model.py: what `show` makes of a row of bytes (docs/RULES.md, 'Programs'), made without the programs: whose
 reports readers_model.py, gcc_model.py and sarif_reader_model.py make."""
 import json
+import re
 
 import gcc_model
 import sarif_reader_model
 from readers_model import NoMessage, member, report_of
 
-# what rows of messages begin with
-BEGINNINGS = {"rustc": (b'{"',), "gcc": (b'[{"', b"[]")}
+# what messages begin with, over several rows with a bracket alone
+BEGINNINGS = {"rustc": (b'{"', b"{\n", b"{\r\n"), "gcc": (b'[{"', b"[]", b"[\n", b"[\r\n")}
 BEGINNINGS["sarif"] = BEGINNINGS["rustc"]
 BEGINNINGS["auto"] = BEGINNINGS["rustc"] + BEGINNINGS["gcc"]
+
+
+def rows_of(given):
+    """The rows, each with the LF that ends it."""
+    rows = given.split(b"\n")
+    return [it + b"\n" for it in rows[:-1]] + ([rows[-1]] if rows[-1] else [])
+
+
+def is_unfinished(part):
+    """Whether its first row is a bracket alone, and a bracket is open at its end, and no text."""
+    beside = re.sub(rb'"(?:[^"\\]|\\.)*"', b"", part, flags=re.S)
+    depth = 0
+    for byte in re.findall(rb"[][{}]", beside):
+        depth = depth + 1 if byte in b"[{" else max(depth - 1, 0)
+    return re.match(rb"[\[{]\r?\n", part) is not None and depth > 0 and b'"' not in beside
+
+
+def parts_of(given):
+    """The rows, or those of a value over several, each with the number of its first row."""
+    part, begun = b"", 1
+    for number, row in enumerate(rows_of(given), 1):
+        part += row
+        if not is_unfinished(part):
+            yield begun, part
+            part, begun = b"", number + 1
+    if part:
+        yield begun, part
 
 
 def refused(name):
@@ -27,7 +55,7 @@ def reports_in(value, files, form):
 
 
 def shown_of(row, files, draw, form="auto"):
-    """What is shown of a row, as `draw` draws reports; whether it can't be read, and whether an error is among them."""
+    """What is shown of a part, as `draw` draws reports; whether it can't be read, and whether an error is among them."""
     if not row.startswith(BEGINNINGS[form]):
         return row, False, False
     try:

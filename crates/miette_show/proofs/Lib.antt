@@ -7,6 +7,7 @@ pub mod MendEnds
 pub mod MendSteps
 pub mod NameSteps
 pub mod NoteEnds
+pub mod PartSteps
 pub mod Progress
 pub mod ReportSteps
 pub mod RowEnds

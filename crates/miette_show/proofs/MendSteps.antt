@@ -15,14 +15,15 @@ use Rattle.miette_protocol.specs.rules.Reading.{Source}
 use Rattle.miette_mending.specs.rules.Sure.{FileFixes, value_fixes}
 use Rattle.miette_show.specs.rules.Looking.{Goes, IsFoundBy}
 use Rattle.miette_show.specs.rules.Mends.{Giving, Gives, IsGiving, IsRowFixes, given, row_fixes, unread_notes}
-use Rattle.miette_show.specs.rules.Rows.{begins_object, rows_of}
+use Rattle.miette_show.specs.rules.Parts.{ends_in, parts_of}
+use Rattle.miette_show.specs.rules.Rows.{begins_object}
 use Rattle.miette_show.specs.rules.Shown.{all_names, kind_grave, kind_unread, note_of}
-use Rattle.miette_show.specs.views.Reading.{IsNextRow}
+use Rattle.miette_show.specs.views.Reading.{IsNextPart}
 use Rattle.miette_show.specs.declared.verdict.RowKind.{RowKind}
 use Rattle.miette_show.specs.declared.verdict.RowKind.TheVariants.{Passed, Unread, Messages}
 use Rattle.miette_show.specs.declared.verdict.Verdict.{Verdict}
 use Rattle.miette_show.proofs.Going.{found_before}
-use Rattle.miette_show.proofs.RowSteps.{RowsLeft, rows_begin, rows_end, rows_more}
+use Rattle.miette_show.proofs.PartSteps.{PartsLeft, parts_begin, parts_end, parts_more}
 
 abbrev Finding : Type 1
 Finding = (List ℕ → Option Source) → List (List ℕ) → Type 0
@@ -76,7 +77,7 @@ giving_before find knows first second slice row kind fixes goes same (files, nam
       gives,
     )
 
--- ---- all rows
+-- ---- all parts
 
 abbrev row_of : Giving → List ℕ
 row_of s = s.row
@@ -84,19 +85,26 @@ row_of s = s.row
 abbrev is_unread : Giving → Bool
 is_unread s = kind_unread s.kind
 
-notes_more : (n : ℕ) (ss : List Giving) (s : Giving) (m : ℕ) → m ≡ length ss + n
+-- how many rows end in these
+abbrev ends_before : List Giving → ℕ
+ends_before [] = 0
+ends_before (s ∷ ss) = ends_in s.row + ends_before ss
+
+notes_more : (n : ℕ) (ss : List Giving) (s : Giving) (m : ℕ) → m ≡ ends_before ss + n
     → unread_notes n (ss ++ s ∷ []) ≡ unread_notes n ss ++ note_of m (is_unread s)
 notes_more n [] s m e =
     let same : n ≡ m = omega (arith, e) in
     append-nil (note_of n (is_unread s)) ∙ ap (λ (k : ℕ). note_of k (is_unread s)) same
 notes_more n (x ∷ xs) s m e =
-    let same : m ≡ length xs + (n + 1) = omega (arith, e) in
-    ap (λ l. note_of n (is_unread x) ++ l) (notes_more (n + 1) xs s m same)
-    ∙ sym (append_assoc (note_of n (is_unread x)) (unread_notes (n + 1) xs) (note_of m (is_unread s)))
+    let k = n + ends_in x.row in
+    let same : m ≡ ends_before xs + k = omega (arith, e) in
+    ap (λ l. note_of n (is_unread x) ++ l) (notes_more k xs s m same)
+    ∙ sym (append_assoc (note_of n (is_unread x)) (unread_notes k xs) (note_of m (is_unread s)))
 
-length_more : (ss : List Giving) (s : Giving) → length (ss ++ s ∷ []) ≡ length ss + 1
-length_more [] s = refl
-length_more (x ∷ xs) s = let h : length (xs ++ s ∷ []) ≡ length xs + 1 = length_more xs s in omega (arith, h)
+ends_more : (ss : List Giving) (s : Giving) → ends_before (ss ++ s ∷ []) ≡ ends_before ss + ends_in s.row
+ends_more [] s = omega arith
+ends_more (x ∷ xs) s =
+    let h : ends_before (xs ++ s ∷ []) ≡ ends_before xs + ends_in s.row = ends_more xs s in omega (arith, h)
 
 or_false : (b : Bool) → (b || false) ≡ b
 or_false true = refl
@@ -114,15 +122,15 @@ never_grave found s h = by s.kind h.2
     by Unread e = refl
     by (Messages grave) e = e.3
 
--- These rows gave fixes, which are added; what is left is left, and the writer took their notes.
+-- These parts gave fixes, which are added; what is left is left, and the writer took their notes.
 pub record Passing (adds : List FileFixes → Type 0) (found : Finding)
     (first left before after : Option (List ℕ)) (number : ℕ) (verdict : Verdict) : Type 0 where
   pub all : List Giving
-  pub rows : RowsLeft first left (map row_of all)
+  pub rows : PartsLeft first left (map row_of all)
   pub each : All (IsGiving found) all
   pub added : adds (given all)
   pub notes : Appends before after (unread_notes 1 all)
-  pub count : number ≡ length all + 1
+  pub count : number ≡ ends_before all + 1
   pub is : verdict ≡ record { unread = list_any is_unread all; error = false }
 
 module _ (found : Finding) where
@@ -131,7 +139,7 @@ module _ (found : Finding) where
       → Passing adds found first first before before number verdict
   begin adds first before number verdict one none nothing = record {
     all = [];
-    rows = rows_begin first;
+    rows = parts_begin first;
     each = All-nil (IsGiving found);
     added = nothing;
     notes = Appends-nil before;
@@ -140,17 +148,18 @@ module _ (found : Finding) where
   }
 
   pub more : (adds adds_then : List FileFixes → Type 0) (first left next before after later : Option (List ℕ))
-      (number : ℕ) (verdict made : Verdict) (row : List ℕ) (kind : RowKind) (fixes : List FileFixes) → 0 < length row
-      → Passing adds found first left before after number verdict → IsNextRow left next row
+      (number : ℕ) (verdict made : Verdict) (row : List ℕ) (kind : RowKind) (fixes : List FileFixes) (following : ℕ)
+      → 0 < length row → Passing adds found first left before after number verdict → IsNextPart left next row
       → IsGiving found (giving row kind fixes)
       → ((all : List FileFixes) → adds all → adds_then (all ++ fixes))
       → Appends after later (note_of number (kind_unread kind))
       → made ≡ record { unread = verdict.unread || kind_unread kind; error = verdict.error || kind_grave kind }
-      → Passing adds_then found first next before later (number + 1) made
-  more adds adds_then first left next before after later number verdict made row kind fixes some p is_next is_giving add
-      said with_it =
+      → following ≡ number + ends_in row → Passing adds_then found first next before later following made
+  more adds adds_then first left next before after later number verdict made row kind fixes following some p is_next
+      is_giving add said with_it behind =
       let s = giving row kind fixes in
       let was : verdict ≡ record { unread = list_any is_unread p.all; error = false } = p.is in
+      let counted : number ≡ ends_before p.all + 1 = p.count in
       let calm : kind_grave kind ≡ false = never_grave found s is_giving in
       let unread : (verdict.unread || kind_unread kind) ≡ list_any is_unread (p.all ++ s ∷ []) =
       ap (λ (v : Verdict). v.unread || kind_unread kind) was
@@ -162,28 +171,28 @@ module _ (found : Finding) where
       in
       record {
         all = p.all ++ s ∷ [];
-        rows = subst (RowsLeft first next) (sym (map-append row_of p.all (s ∷ [])))
-            (rows_more first left next (map row_of p.all) row some p.rows is_next);
+        rows = subst (PartsLeft first next) (sym (map-append row_of p.all (s ∷ [])))
+            (parts_more first left next (map row_of p.all) row some p.rows is_next);
         each = All-append (IsGiving found) p.all (s ∷ []) p.each
             (All-cons (IsGiving found) s [] is_giving (All-nil (IsGiving found)));
         added = subst adds_then
             (sym (flat_map-append (λ (x : Giving). x.fixes) p.all (s ∷ [])
             ∙ ap (λ l. given p.all ++ l) (append-nil fixes)))
             (add (given p.all) p.added);
-        notes = subst (Appends before later) (sym (notes_more 1 p.all s number p.count))
+        notes = subst (Appends before later) (sym (notes_more 1 p.all s number counted))
             (Appends-trans before after later (unread_notes 1 p.all) (note_of number (kind_unread kind)) p.notes said);
-        count = omega (arith, p.count, length_more p.all s);
+        count = omega (arith, counted, behind, ends_more p.all s);
         is = with_it ∙ ap₂ (λ (a b : Bool). verdict_by a b) unread error;
       }
 
   pub end : (adds : List FileFixes → Type 0) (first left next before after : Option (List ℕ)) (number : ℕ)
       (verdict : Verdict) (row : List ℕ) → row ≡ [] → Passing adds found first left before after number verdict
-      → IsNextRow left next row
+      → IsNextPart left next row
       → IfSome first (λ bytes. Gives found bytes (λ all notes. adds all × Appends before after notes) verdict)
   end adds first left next before after number verdict row none p is_next =
-      ended first (rows_end first left next (map row_of p.all) row none p.rows is_next)
+      ended first (parts_end first left next (map row_of p.all) row none p.rows is_next)
     where
-      ended : (o : Option (List ℕ)) → IfSome o (λ bytes. map row_of p.all ≡ rows_of bytes)
+      ended : (o : Option (List ℕ)) → IfSome o (λ bytes. map row_of p.all ≡ parts_of bytes)
           → IfSome o (λ bytes. Gives found bytes (λ all notes. adds all × Appends before after notes) verdict)
       ended None e = tt
       ended (Some bytes) e = (p.all, e, p.each, (p.added, p.notes), p.is)

@@ -1,4 +1,4 @@
--- Rows that were shown, one after another.
+-- Parts that were shown, one after another.
 use Rattle.std.proofs.Common.{◌≡◌, ℕ, ◌+◌, ◌<◌, List, [], ◌∷◌, ◌++◌, Bool, true, false, length, map, Option}
 use Rattle.std.proofs.Common.{Some, None, IfSome, All, refl, sym, ap, ap₂, ◌∙◌, arith, append_assoc, append-nil, subst}
 use Rattle.std.specs.Prelude.{◌||◌}
@@ -12,29 +12,35 @@ use Rattle.std.proofs.lemmas.List.Folds.{list_any-append}
 use Rattle.miette_protocol.specs.rules.Reading.{Source}
 use Rattle.miette_devices.specs.views.Device.{TakesBeginning}
 use Rattle.miette_tree.specs.rules.Tree.{Tree}
-use Rattle.miette_show.specs.rules.Rows.{rows_of}
+use Rattle.miette_show.specs.rules.Parts.{ends_in, parts_of}
 use Rattle.miette_show.specs.rules.Shown.{ShowsFirst}
 use Rattle.miette_show.specs.rules.Shown.{IsShown, Shown, Shows, is_error, is_unread, kind_grave, kind_unread, note_of}
 use Rattle.miette_show.specs.rules.Shown.{notes_from, text_of, verdict_of}
-use Rattle.miette_show.specs.views.Reading.{IsNextRow}
+use Rattle.miette_show.specs.views.Reading.{IsNextPart}
 use Rattle.miette_show.specs.declared.verdict.RowKind.{RowKind}
 use Rattle.miette_show.specs.declared.verdict.Verdict.{Verdict}
 use Rattle.miette_show.specs.declared.words.Format.{Format}
 use Rattle.miette_show.proofs.Beginnings.{all_taken, taken_then}
-use Rattle.miette_show.proofs.RowSteps.{RowsLeft, first_rows, rows_begin, rows_end, rows_more}
+use Rattle.miette_show.proofs.PartSteps.{PartsLeft, first_parts, parts_begin, parts_end, parts_more}
 
 abbrev row_of : Shown → List ℕ
 row_of s = s.row
 
-notes_more : (n : ℕ) (ss : List Shown) (s : Shown) (m : ℕ) → m ≡ length ss + n
+-- how many rows end in those that were shown
+abbrev ends_before : List Shown → ℕ
+ends_before [] = 0
+ends_before (s ∷ ss) = ends_in s.row + ends_before ss
+
+notes_more : (n : ℕ) (ss : List Shown) (s : Shown) (m : ℕ) → m ≡ ends_before ss + n
     → notes_from n (ss ++ s ∷ []) ≡ notes_from n ss ++ note_of m (is_unread s)
 notes_more n [] s m e =
     let same : n ≡ m = omega (arith, e) in
     append-nil (note_of n (is_unread s)) ∙ ap (λ (k : ℕ). note_of k (is_unread s)) same
 notes_more n (x ∷ xs) s m e =
-    let same : m ≡ length xs + (n + 1) = omega (arith, e) in
-    ap (λ l. note_of n (is_unread x) ++ l) (notes_more (n + 1) xs s m same)
-    ∙ sym (append_assoc (note_of n (is_unread x)) (notes_from (n + 1) xs) (note_of m (is_unread s)))
+    let k = n + ends_in x.row in
+    let same : m ≡ ends_before xs + k = omega (arith, e) in
+    ap (λ l. note_of n (is_unread x) ++ l) (notes_more k xs s m same)
+    ∙ sym (append_assoc (note_of n (is_unread x)) (notes_from k xs) (note_of m (is_unread s)))
 
 any_more : (p : Shown → Bool) (ss : List Shown) (s : Shown) (b : Bool) → p s ≡ b
     → list_any p (ss ++ s ∷ []) ≡ (list_any p ss || b)
@@ -43,9 +49,10 @@ any_more p ss s b e = list_any-append p ss (s ∷ []) ∙ ap (λ c. list_any p s
   one true = refl
   one false = refl
 
-length_more : (ss : List Shown) (s : Shown) → length (ss ++ s ∷ []) ≡ length ss + 1
-length_more [] s = refl
-length_more (x ∷ xs) s = let h : length (xs ++ s ∷ []) ≡ length xs + 1 = length_more xs s in omega (arith, h)
+ends_more : (ss : List Shown) (s : Shown) → ends_before (ss ++ s ∷ []) ≡ ends_before ss + ends_in s.row
+ends_more [] s = omega arith
+ends_more (x ∷ xs) s =
+    let h : ends_before (xs ++ s ∷ []) ≡ ends_before xs + ends_in s.row = ends_more xs s in omega (arith, h)
 
 abbrev verdict_by : Bool → Bool → Verdict
 verdict_by unread error = record { unread = unread; error = error }
@@ -53,16 +60,16 @@ verdict_by unread error = record { unread = unread; error = error }
 text_more : (ss : List Shown) (s : Shown) → text_of (ss ++ s ∷ []) ≡ text_of ss ++ s.text
 text_more ss s = flat_map-append (λ (x : Shown). x.text) ss (s ∷ []) ∙ ap (λ l. text_of ss ++ l) (append-nil s.text)
 
--- These rows were shown, what is left is left, and the writers took their texts and notes.
+-- These parts were shown, what is left is left, and the writers took their texts and notes.
 pub record Progress (from : Format) (gives : Tree → List ℕ → Type 0)
     (found : (List ℕ → Option Source) → List (List ℕ) → Type 0) (first left old new before after : Option (List ℕ))
     (number : ℕ) (verdict : Verdict) : Type 0 where
   pub shown : List Shown
-  pub rows : RowsLeft first left (map row_of shown)
+  pub rows : PartsLeft first left (map row_of shown)
   pub each : All (IsShown from gives found) shown
   pub text : Appends old new (text_of shown)
   pub notes : Appends before after (notes_from 1 shown)
-  pub count : number ≡ length shown + 1
+  pub count : number ≡ ends_before shown + 1
   pub is : verdict ≡ verdict_of shown
 
 module _ (from : Format) (gives : Tree → List ℕ → Type 0)
@@ -72,7 +79,7 @@ module _ (from : Format) (gives : Tree → List ℕ → Type 0)
       → Progress from gives found first first old old before before number verdict
   begin first old before number verdict one none = record {
     shown = [];
-    rows = rows_begin first;
+    rows = parts_begin first;
     each = All-nil (IsShown from gives found);
     text = Appends-nil old;
     notes = Appends-nil before;
@@ -81,43 +88,43 @@ module _ (from : Format) (gives : Tree → List ℕ → Type 0)
   }
 
   pub more : (first left next old new newer before after later : Option (List ℕ)) (number : ℕ) (verdict made : Verdict)
-      (row : List ℕ) (kind : RowKind) (text : List ℕ) → 0 < length row
-      → Progress from gives found first left old new before after number verdict → IsNextRow left next row
+      (row : List ℕ) (kind : RowKind) (text : List ℕ) (following : ℕ) → 0 < length row
+      → Progress from gives found first left old new before after number verdict → IsNextPart left next row
       → IsShown from gives found (record { row = row; kind = kind; text = text }) → Appends new newer text
       → Appends after later (note_of number (kind_unread kind))
       → made ≡ record { unread = verdict.unread || kind_unread kind; error = verdict.error || kind_grave kind }
-      → Progress from gives found first next old newer before later (number + 1) made
-  more first left next old new newer before after later number verdict made row kind text some p is_next is_shown took
-      said with_it =
+      → following ≡ number + ends_in row → Progress from gives found first next old newer before later following made
+  more first left next old new newer before after later number verdict made row kind text following some p is_next is_shown
+      took said with_it behind =
       let s : Shown = record { row = row; kind = kind; text = text } in
       let was : verdict ≡ verdict_of p.shown = p.is in
       let unread = ap (λ (v : Verdict). v.unread || kind_unread kind) was in
       let error = ap (λ (v : Verdict). v.error || kind_grave kind) was in
-      let counted : number ≡ length p.shown + 1 = p.count in
+      let counted : number ≡ ends_before p.shown + 1 = p.count in
       record {
         shown = p.shown ++ s ∷ [];
-        rows = subst (RowsLeft first next) (sym (map-append row_of p.shown (s ∷ [])))
-            (rows_more first left next (map row_of p.shown) row some p.rows is_next);
+        rows = subst (PartsLeft first next) (sym (map-append row_of p.shown (s ∷ [])))
+            (parts_more first left next (map row_of p.shown) row some p.rows is_next);
         each = All-append (IsShown from gives found) p.shown (s ∷ []) p.each
             (All-cons (IsShown from gives found) s [] is_shown (All-nil (IsShown from gives found)));
         text = subst (Appends old newer) (sym (text_more p.shown s))
             (Appends-trans old new newer (text_of p.shown) text p.text took);
         notes = subst (Appends before later) (sym (notes_more 1 p.shown s number counted))
             (Appends-trans before after later (notes_from 1 p.shown) (note_of number (kind_unread kind)) p.notes said);
-        count = omega (arith, counted, length_more p.shown s);
+        count = omega (arith, counted, behind, ends_more p.shown s);
         is = with_it ∙ ap₂ verdict_by
             (unread ∙ sym (any_more is_unread p.shown s (kind_unread kind) refl))
             (error ∙ sym (any_more is_error p.shown s (kind_grave kind) refl));
       }
 
   pub end : (first left next old new before after : Option (List ℕ)) (number : ℕ) (verdict : Verdict) (row : List ℕ)
-      → row ≡ [] → Progress from gives found first left old new before after number verdict → IsNextRow left next row
+      → row ≡ [] → Progress from gives found first left old new before after number verdict → IsNextPart left next row
       → IfSome first (λ bytes. Shows from gives found bytes
       (λ text notes. Appends old new text × Appends before after notes) verdict)
   end first left next old new before after number verdict row none p is_next =
-      ended first (rows_end first left next (map row_of p.shown) row none p.rows is_next)
+      ended first (parts_end first left next (map row_of p.shown) row none p.rows is_next)
     where
-      ended : (o : Option (List ℕ)) → IfSome o (λ bytes. map row_of p.shown ≡ rows_of bytes)
+      ended : (o : Option (List ℕ)) → IfSome o (λ bytes. map row_of p.shown ≡ parts_of bytes)
           → IfSome o (λ bytes. Shows from gives found bytes
           (λ text notes. Appends old new text × Appends before after notes) verdict)
       ended None e = tt
@@ -126,7 +133,7 @@ module _ (from : Format) (gives : Tree → List ℕ → Type 0)
   -- ---- after an error
 
   so_far : (first : Option (List ℕ)) (shown : List Shown) (holds : List ℕ → List ℕ → Type 0)
-      → IfSome first (λ bytes. (others : List (List ℕ)) × (rows_of bytes ≡ map row_of shown ++ others))
+      → IfSome first (λ bytes. (others : List (List ℕ)) × (parts_of bytes ≡ map row_of shown ++ others))
       → All (IsShown from gives found) shown → holds (text_of shown) (notes_from 1 shown)
       → IfSome first (λ bytes. ShowsFirst from gives found bytes holds)
   so_far None shown holds rows each h = tt
@@ -139,13 +146,13 @@ module _ (from : Format) (gives : Tree → List ℕ → Type 0)
       (λ text notes. TakesBeginning old new text × TakesBeginning before after notes))
   begun first left old new before after number verdict p =
       so_far first p.shown (λ text notes. TakesBeginning old new text × TakesBeginning before after notes)
-      (first_rows first left (map row_of p.shown) p.rows) p.each
+      (first_parts first left (map row_of p.shown) p.rows) p.each
       (all_taken old new (text_of p.shown) p.text, all_taken before after (notes_from 1 p.shown) p.notes)
 
   -- and a beginning of this one's text and note
   pub begun_with : (first left next old new newer before after later : Option (List ℕ)) (number : ℕ) (verdict : Verdict)
       (row : List ℕ) (kind : RowKind) (text : List ℕ) → 0 < length row
-      → Progress from gives found first left old new before after number verdict → IsNextRow left next row
+      → Progress from gives found first left old new before after number verdict → IsNextPart left next row
       → IsShown from gives found (record { row = row; kind = kind; text = text }) → TakesBeginning new newer text
       → TakesBeginning after later (note_of number (kind_unread kind))
       → IfSome first (λ bytes. ShowsFirst from gives found bytes
@@ -154,9 +161,9 @@ module _ (from : Format) (gives : Tree → List ℕ → Type 0)
       said =
       let s : Shown = record { row = row; kind = kind; text = text } in
       so_far first (p.shown ++ s ∷ []) (λ text notes. TakesBeginning old newer text × TakesBeginning before later notes)
-      (first_rows first next (map row_of (p.shown ++ s ∷ []))
-      (subst (RowsLeft first next) (sym (map-append row_of p.shown (s ∷ [])))
-      (rows_more first left next (map row_of p.shown) row some p.rows is_next)))
+      (first_parts first next (map row_of (p.shown ++ s ∷ []))
+      (subst (PartsLeft first next) (sym (map-append row_of p.shown (s ∷ [])))
+      (parts_more first left next (map row_of p.shown) row some p.rows is_next)))
       (All-append (IsShown from gives found) p.shown (s ∷ []) p.each
       (All-cons (IsShown from gives found) s [] is_shown (All-nil (IsShown from gives found)))) (
         subst (TakesBeginning old newer) (sym (text_more p.shown s))

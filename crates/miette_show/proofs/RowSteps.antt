@@ -33,21 +33,11 @@ unended begun (b ∷ bs) none =
     ∙ unended (begun ++ b ∷ []) bs (rest_not (b == 10) (has_end bs) none)
     ∙ ap last_row (append_assoc begun (b ∷ []) bs)
 
-last_alone : (row : List ℕ) → 0 < length row → last_row row ≡ row ∷ []
+pub last_alone : (row : List ℕ) → 0 < length row → last_row row ≡ row ∷ []
 last_alone [] h = absurd (omega (arith, h))
 last_alone (b ∷ bs) h = refl
 
--- the rows of what was there at first are those that were read and those of what is left
-abbrev pub RowsLeft : Option (List ℕ) → Option (List ℕ) → List (List ℕ) → Type 0
-RowsLeft None new done = ⊤
-RowsLeft (Some xs) None done = ⊥
-RowsLeft (Some xs) (Some ys) done = rows_of xs ≡ done ++ rows_of ys
-
-pub rows_begin : (old : Option (List ℕ)) → RowsLeft old old []
-rows_begin None = tt
-rows_begin (Some xs) = refl
-
-next_of : (ys zs row : List ℕ) → 0 < length row → IsNextRow (Some ys) (Some zs) row → rows_of ys ≡ row ∷ rows_of zs
+pub next_of : (ys zs row : List ℕ) → 0 < length row → IsNextRow (Some ys) (Some zs) row → rows_of ys ≡ row ∷ rows_of zs
 next_of ys zs row some (is, inl (text, none, whole)) =
     ap rows_of (is ∙ ap (λ r. r ++ zs) whole ∙ append_assoc text (10 ∷ []) zs) ∙ whole_row [] text zs none
     ∙ ap (λ r. r ∷ rows_of zs) (sym whole)
@@ -55,33 +45,10 @@ next_of ys zs row some (is, inr (none, end)) =
     ap rows_of (is ∙ ap (λ r. row ++ r) end ∙ append-nil row) ∙ unended [] row none ∙ last_alone row some
     ∙ ap (λ r. row ∷ rows_of r) (sym end)
 
-pub rows_more : (old mid new : Option (List ℕ)) (done : List (List ℕ)) (row : List ℕ) → 0 < length row
-    → RowsLeft old mid done → IsNextRow mid new row → RowsLeft old new (done ++ row ∷ [])
-rows_more None mid new done row some left next = tt
-rows_more (Some xs) None new done row some left next = absurd left
-rows_more (Some xs) (Some ys) None done row some left next = absurd next.0
-rows_more (Some xs) (Some ys) (Some zs) done row some left next =
-    left ∙ ap (λ l. done ++ l) (next_of ys zs row some next) ∙ sym (append_assoc done (row ∷ []) (rows_of zs))
-
 not_whole : (text : List ℕ) → [] ≡ text ++ 10 ∷ [] → ⊥
 not_whole [] e = cc
 not_whole (b ∷ bs) e = cc
 
-none_next : (ys zs row : List ℕ) → row ≡ [] → IsNextRow (Some ys) (Some zs) row → ys ≡ []
+pub none_next : (ys zs row : List ℕ) → row ≡ [] → IsNextRow (Some ys) (Some zs) row → ys ≡ []
 none_next ys zs row none (is, inl (text, free, whole)) = absurd (not_whole text (sym none ∙ whole))
 none_next ys zs row none (is, inr (free, end)) = is ∙ ap (λ r. r ++ zs) none ∙ end
-
-pub rows_end : (old mid new : Option (List ℕ)) (done : List (List ℕ)) (row : List ℕ) → row ≡ [] → RowsLeft old mid done
-    → IsNextRow mid new row → IfSome old (λ bytes. done ≡ rows_of bytes)
-rows_end None mid new done row none left next = tt
-rows_end (Some xs) None new done row none left next = absurd left
-rows_end (Some xs) (Some ys) None done row none left next = absurd next.0
-rows_end (Some xs) (Some ys) (Some zs) done row none left next =
-    sym (left ∙ ap (λ l. done ++ rows_of l) (none_next ys zs row none next) ∙ append-nil done)
-
--- the rows that were read are the first ones
-pub first_rows : (first left : Option (List ℕ)) (done : List (List ℕ)) → RowsLeft first left done
-    → IfSome first (λ bytes. (others : List (List ℕ)) × (rows_of bytes ≡ done ++ others))
-first_rows None left done is = tt
-first_rows (Some xs) None done is = absurd is
-first_rows (Some xs) (Some ys) done is = (rows_of ys, is)

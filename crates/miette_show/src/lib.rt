@@ -6,6 +6,7 @@ pub mod folder_store;
 pub mod loader;
 pub mod mend;
 mod message;
+mod parts;
 mod reports;
 mod rewrite;
 pub mod row_reader;

@@ -28,7 +28,7 @@ use miette_readers::rustc::ReadError;
 use std::alloc::Global;
 use std::io::{Read, Write};
 
-/// Adds the fixes of a row; what the row is.
+/// Adds the fixes of a part; what the part is.
 fn gather_row<F: Loader>(
     gathered: &mut Gathered,
     alloc: Global,
@@ -75,15 +75,18 @@ fn gather_rows<F: Loader, R: Read, E: Write>(
     ensures goes { Goes (F.found files.old) (F.knows files.old) (F.found files.new) (F.knows files.new) }
 {
     let mut row = Vec::new(alloc);
+    let mut part = Vec::new(alloc);
     let mut verdict = Verdict::none();
-    for number in 1..u64::MAX {
-        rows.next(&mut row)?;
-        if row.is_empty() {
+    let mut number: u64 = 1;
+    for _ in 0..u64::MAX {
+        let following = rows.next_part(number, &mut row, &mut part)?;
+        if part.is_empty() {
             return Ok(verdict);
         }
-        let kind = gather_row(gathered, alloc, files, row.as_slice())?;
+        let kind = gather_row(gathered, alloc, files, part.as_slice())?;
         note(alloc, faults, number, kind)?;
         verdict = verdict.with(kind);
+        number = following;
     }
     Err(Fault::Memory)
 }

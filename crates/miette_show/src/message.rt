@@ -37,18 +37,21 @@ pub(crate) struct Row<'r> {
     pub bytes: &'r [u8],
 }
 
-/// Whether a row begins as each message of rustc and cargo does, and each SARIF log in a row.
+/// Whether a part begins as each message of rustc and cargo does, and each SARIF log.
 pub(crate) fn begins_object(row: &[u8]) -> bool
     ensures { result ≡ begins_object row.now }
 {
-    row.starts_with(b"{\"")
+    row.starts_with(b"{\"") || row.starts_with(b"{\n") || row.starts_with(b"{\r\n")
 }
 
-/// Whether a row begins as each array of GCC does.
+/// Whether a part begins as each array of GCC does.
 fn begins_array(row: &[u8]) -> bool
     ensures { result ≡ begins_array row.now }
 {
-    row.starts_with(b"[{\"") || row.starts_with(b"[]")
+    row.starts_with(b"[{\"")
+        || row.starts_with(b"[]")
+        || row.starts_with(b"[\n")
+        || row.starts_with(b"[\r\n")
 }
 
 /// Whether a row begins as messages do.

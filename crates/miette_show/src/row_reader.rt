@@ -1,11 +1,13 @@
 //! The rows of a reader, one after another.
 
-ghost use Rattle.std.specs.Prelude.{◌≡◌, ◌↔◌, ◌⊎◌, ◌≤◌, [], IsTrue, IfOk, IfSome, OnErr, OnOk, drop, false, length};
-ghost use Rattle.std.specs.Prelude.{true};
+ghost use Rattle.std.specs.Prelude.{◌≡◌, ◌↔◌, ◌⊎◌, ◌≤◌, ◌+◌, ◌&&◌, [], IsTrue, IfOk, IfSome, OnErr, OnOk, drop};
+ghost use Rattle.std.specs.Prelude.{false, length, true};
 ghost use Rattle.std.specs.Io.KnownBytes.{Consumes, IsAtEnd};
-ghost use Rattle.miette_show.specs.views.Reading.{IsNextRow, IsRowEnd, IsTaken, left_of};
+ghost use Rattle.miette_show.specs.rules.Parts.{begins_value, ends_in, is_open};
+ghost use Rattle.miette_show.specs.views.Reading.{IsNextPart, IsNextRow, IsRowEnd, IsTaken, left_of};
 ghost use Rattle.miette_show.specs.views.RowState.{RowState};
 
+use crate::parts::{Open, begins_value, ends_in};
 use memchr::memchr;
 use miette_devices::device::Device;
 use miette_devices::fault::Fault;
@@ -136,5 +138,57 @@ impl<R: Read> RowReader<R> {
             }
         }
         Err(Fault::Memory)
+    }
+
+    /// Reads the next part, row by row, in place of what `part` holds.
+    fn gather(&mut self, row: &mut Vec<u8>, part: &mut Vec<u8>) -> Result<(), Fault>
+        requires sound { self.old.failed ≡ false }
+        ensures part { OnOk result
+            (IsNextPart (left_of R.remaining self.old) (left_of R.remaining self.new) part.new.items) }
+        ensures failed { IsTrue self.new.failed ↔ (result ≡ Err Fault.Read) }
+        ensures others { OnErr result ((result ≡ Err Fault.Read) ⊎ (result ≡ Err Fault.Memory)) }
+    {
+        part.clear();
+        let mut state = Open::nothing();
+        for _ in 0..u64::MAX {
+            self.next(row)?;
+            if row.is_empty() {
+                return Ok(());
+            }
+            part.extend_from_slice(row.as_slice())?;
+            if !begins_value(part.as_slice()) {
+                return Ok(());
+            }
+            state = state.behind(row.as_slice());
+            if !state.is_open() {
+                return Ok(());
+            }
+        }
+        Err(Fault::Memory)
+    }
+
+    /// Reads the next part, a row or the rows of a value, through `row` in place of what `part` holds; none is left
+    /// where it is empty then. Gives the number of the row behind it, where its first one has this number.
+    ///
+    /// # Errors
+    /// `Read` exactly where a call of the reader failed, and `Memory`.
+    pub fn next_part(
+        &mut self,
+        number: u64,
+        row: &mut Vec<u8>,
+        part: &mut Vec<u8>,
+    ) -> Result<u64, Fault>
+        requires sound { self.old.failed ≡ false }
+        ensures part { OnOk result
+            (IsNextPart (left_of R.remaining self.old) (left_of R.remaining self.new) part.new.items) }
+        ensures number { IfOk result (λ following. following ≡ number + ends_in part.new.items) }
+        ensures failed { IsTrue self.new.failed ↔ (result ≡ Err Fault.Read) }
+        ensures others { OnErr result ((result ≡ Err Fault.Read) ⊎ (result ≡ Err Fault.Memory)) }
+    {
+        self.gather(row, part)?;
+        match number.checked_add(ends_in(part.as_slice())) {
+            Some(following) => Ok(following),
+            None => Err(Fault::Memory),
+        }
     }
 }

@@ -153,19 +153,22 @@ fn show_rows<H: Highlighter, F: Loader, R: Read, W: Write, E: Write>(
     ensures called { ¬ (result ≡ Err Fault.Usage) }
 {
     let mut row = Vec::new(alloc);
+    let mut part = Vec::new(alloc);
     let mut verdict = Verdict::none();
-    for number in 1..u64::MAX {
-        streams.rows.next(&mut row)?;
-        if row.is_empty() {
+    let mut number: u64 = 1;
+    for _ in 0..u64::MAX {
+        let following = streams.rows.next_part(number, &mut row, &mut part)?;
+        if part.is_empty() {
             return Ok(verdict);
         }
         let read = Row {
             from,
-            bytes: row.as_slice(),
+            bytes: part.as_slice(),
         };
         let kind = show_row(alloc, handler, files, &mut streams.writer, read)?;
         note(alloc, &mut streams.faults, number, kind)?;
         verdict = verdict.with(kind);
+        number = following;
     }
     Err(Fault::Memory)
 }

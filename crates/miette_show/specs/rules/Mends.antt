@@ -10,7 +10,8 @@ use Rattle.miette_protocol.specs.rules.Reading.{Source}
 use Rattle.miette_mending.specs.rules.Gathered.{fixes_for, mended, names_in}
 use Rattle.miette_mending.specs.rules.Sure.{FileFixes, value_fixes}
 use Rattle.miette_show.specs.rules.Looking.{leads_out}
-use Rattle.miette_show.specs.rules.Rows.{begins_object, rows_of}
+use Rattle.miette_show.specs.rules.Parts.{ends_in, parts_of}
+use Rattle.miette_show.specs.rules.Rows.{begins_object}
 use Rattle.miette_show.specs.rules.Shown.{all_names, kind_unread, note_of}
 use Rattle.miette_show.specs.declared.verdict.Verdict.{Verdict}
 use Rattle.miette_show.specs.declared.verdict.RowKind.{RowKind}
@@ -21,7 +22,7 @@ use Rattle.miette_show.specs.declared.verdict.RowKind.TheVariants.{Passed, Unrea
 abbrev pub row_fixes : (List ℕ → Option Source) → List ℕ → Option (List FileFixes)
 row_fixes files row = option_and_then (value_fixes files) (read row)
 
--- A row that begins no object gives no fixes, nor does one that can't be read; else those that rustc is sure of.
+-- A part that begins no object gives no fixes, nor does one that can't be read; else those that rustc is sure of.
 abbrev pub IsRowFixes : (List ℕ → Option Source) → List ℕ → RowKind → List FileFixes → Type 0
 IsRowFixes files row Passed fixes = (begins_object row ≡ false) × (fixes ≡ [])
 IsRowFixes files row Unread fixes =
@@ -29,7 +30,7 @@ IsRowFixes files row Unread fixes =
 IsRowFixes files row (Messages grave) fixes =
     (begins_object row ≡ true) × IsUtf8 row × (row_fixes files row ≡ Some fixes) × (grave ≡ false)
 
--- a row, what it is, and the fixes that it gives
+-- a part, what it is, and the fixes that it gives
 pub record Giving : Type 0 where
   pub row : List ℕ
   pub kind : RowKind
@@ -48,7 +49,7 @@ given all = flat_map (λ s. s.fixes) all
 
 abbrev pub unread_notes : ℕ → List Giving → List ℕ
 unread_notes n [] = []
-unread_notes n (s ∷ ss) = note_of n (kind_unread s.kind) ++ unread_notes (n + 1) ss
+unread_notes n (s ∷ ss) = note_of n (kind_unread s.kind) ++ unread_notes (n + ends_in s.row) ss
 
 -- ---- files
 
@@ -110,10 +111,10 @@ fault_of c = fault_as c.name c.taken
 
 -- ---- a run
 
--- The rows of these bytes give fixes, and this holds of them and of the notes on rows that can't be read.
+-- The parts of these bytes give fixes, and this holds of them and of the notes on rows that can't be read.
 abbrev pub Gives : ((List ℕ → Option Source) → List (List ℕ) → Type 0) → List ℕ
     → (List FileFixes → List ℕ → Type 0) → Verdict → Type 0
-Gives found bytes holds verdict = (all : List Giving) × (map (λ s. s.row) all ≡ rows_of bytes)
+Gives found bytes holds verdict = (all : List Giving) × (map (λ s. s.row) all ≡ parts_of bytes)
     × All (IsGiving found) all × holds (given all) (unread_notes 1 all)
     × (verdict ≡ record { unread = list_any (λ s. kind_unread s.kind) all; error = false })
 
@@ -123,7 +124,7 @@ abbrev pub Changes : (List ℕ → Option Source) → (List ℕ → Type 0) → 
 Changes files refuses fixes names holds = (changes : List Change) × (map (λ c. c.name) changes ≡ names)
     × All (IsChange files refuses fixes) changes × holds changes
 
--- The rows of these bytes give fixes, each file that has some is changed by them, and this holds of the changes and of
+-- The parts of these bytes give fixes, each file that has some is changed by them, and this holds of the changes and of
 -- the notes on rows that can't be read.
 abbrev pub Mends : ((List ℕ → Option Source) → List (List ℕ) → Type 0) → (List ℕ → Type 0) → List ℕ
     → (List Change → List ℕ → Type 0) → Verdict → Type 0
@@ -139,7 +140,7 @@ abbrev pub ChangesFirst : (List ℕ → Option Source) → (List ℕ → Type 0)
 ChangesFirst files refuses fixes names holds = (changes : List Change) × (others : List (List ℕ))
     × (names ≡ map (λ c. c.name) changes ++ others) × All (IsChange files refuses fixes) changes × holds changes
 
--- The rows of these bytes give fixes, the first of the files that have some are changed by them, and this holds of the
+-- The parts of these bytes give fixes, the first of the files that have some are changed by them, and this holds of the
 -- changes.
 abbrev pub MendsFirst : ((List ℕ → Option Source) → List (List ℕ) → Type 0) → (List ℕ → Type 0) → List ℕ
     → (List Change → Type 0) → Type 0

@@ -1,5 +1,5 @@
 -- The rows of what is read.
-use Rattle.std.specs.Prelude.{ℕ, List, [], ◌∷◌, ◌++◌, Bool, if◌then◌else◌, ◌==◌, ◌||◌, nat_eq}
+use Rattle.std.specs.Prelude.{ℕ, List, [], ◌∷◌, ◌++◌, Bool, if◌then◌else◌, ◌==◌, ◌||◌, codes, nat_eq}
 use Rattle.std.specs.List.{list_any, starts_with}
 use Rattle.miette_show.specs.declared.words.Format.{Format}
 use Rattle.miette_show.specs.declared.words.Format.TheVariants.{Auto, Rustc, Gcc, Sarif}
@@ -21,13 +21,16 @@ rows_of bytes = rows_from [] bytes
 abbrev pub has_end : List ℕ → Bool
 has_end bytes = list_any (λ b. b == 10) bytes
 
--- rustc and cargo begin each message so, and a tool its log
+-- rustc and cargo begin each message so, and a tool its log; one over several rows begins with a bracket alone
 abbrev pub begins_object : List ℕ → Bool
-begins_object row = starts_with nat_eq row (123 ∷ 34 ∷ [])
+begins_object row =
+    list_any (λ beginning. starts_with nat_eq row beginning) (codes "{\"" ∷ codes "{\n" ∷ codes "{\r\n" ∷ [])
 
--- GCC begins so what it writes, `[{"`; where it has nothing to say, it writes `[]`
+-- GCC begins so what it writes; where it has nothing to say, it writes `[]`
 abbrev pub begins_array : List ℕ → Bool
-begins_array row = starts_with nat_eq row (91 ∷ 123 ∷ 34 ∷ []) || starts_with nat_eq row (91 ∷ 93 ∷ [])
+begins_array row =
+    list_any (λ beginning. starts_with nat_eq row beginning)
+    (codes "[{\"" ∷ codes "[]" ∷ codes "[\n" ∷ codes "[\r\n" ∷ [])
 
 -- a row begins so that may say something, in a format
 abbrev pub begins_message : Format → List ℕ → Bool

@@ -14,7 +14,8 @@ use Rattle.miette_readers.specs.rules.RustcReport.{rustc_tree}
 use Rattle.miette_gcc.specs.rules.GccReport.{gcc_trees}
 use Rattle.miette_sarif_reader.specs.rules.Logs.{has_runs, sarif_trees}
 use Rattle.miette_sarif_reader.specs.rules.Names as log
-use Rattle.miette_show.specs.rules.Rows.{begins_message, rows_of}
+use Rattle.miette_show.specs.rules.Parts.{ends_in, parts_of}
+use Rattle.miette_show.specs.rules.Rows.{begins_message}
 use Rattle.miette_show.specs.declared.verdict.RowKind.{RowKind}
 use Rattle.miette_show.specs.declared.words.Format.{Format}
 use Rattle.miette_show.specs.declared.words.Format.TheVariants.{Auto, Rustc, Gcc, Sarif}
@@ -84,7 +85,7 @@ IsRowText from gives files row (Messages grave) text =
     (begins_message from row ≡ true) × IsUtf8 row × ((ts : List Tree) × (row_trees from files row ≡ Some ts)
     × (grave ≡ list_any tree_grave ts) × AreDrawn gives ts text)
 
--- a row, what it is, and the text that is shown of it
+-- a part, what it is, and the text that is shown of it
 pub record Shown : Type 0 where
   pub row : List ℕ
   pub kind : RowKind
@@ -125,7 +126,7 @@ note_of n false = []
 
 abbrev pub notes_from : ℕ → List Shown → List ℕ
 notes_from n [] = []
-notes_from n (s ∷ ss) = note_of n (is_unread s) ++ notes_from (n + 1) ss
+notes_from n (s ∷ ss) = note_of n (is_unread s) ++ notes_from (n + ends_in s.row) ss
 
 -- whether a row can't be read, and whether an error is among the messages
 abbrev pub verdict_of : List Shown → Verdict
@@ -134,15 +135,15 @@ verdict_of shown = record { unread = list_any is_unread shown; error = list_any 
 abbrev pub text_of : List Shown → List ℕ
 text_of shown = flat_map (λ s. s.text) shown
 
--- The rows of these bytes are shown, one after the other, as this text, with these notes and this verdict.
+-- The parts of these bytes are shown, one after the other, as this text, with these notes and this verdict.
 abbrev pub Shows : Format → (Tree → List ℕ → Type 0) → ((List ℕ → Option Source) → List (List ℕ) → Type 0) → List ℕ
     → (List ℕ → List ℕ → Type 0) → Verdict → Type 0
-Shows from gives found bytes holds verdict = (shown : List Shown) × (map (λ s. s.row) shown ≡ rows_of bytes)
+Shows from gives found bytes holds verdict = (shown : List Shown) × (map (λ s. s.row) shown ≡ parts_of bytes)
     × All (IsShown from gives found) shown × holds (text_of shown) (notes_from 1 shown) × (verdict ≡ verdict_of shown)
 
--- The first rows of these bytes are shown so, and this holds of their text and notes.
+-- The first parts of these bytes are shown so, and this holds of their text and notes.
 abbrev pub ShowsFirst : Format → (Tree → List ℕ → Type 0) → ((List ℕ → Option Source) → List (List ℕ) → Type 0)
     → List ℕ → (List ℕ → List ℕ → Type 0) → Type 0
 ShowsFirst from gives found bytes holds = (shown : List Shown) × (others : List (List ℕ))
-    × (rows_of bytes ≡ map (λ s. s.row) shown ++ others) × All (IsShown from gives found) shown
+    × (parts_of bytes ≡ map (λ s. s.row) shown ++ others) × All (IsShown from gives found) shown
     × holds (text_of shown) (notes_from 1 shown)

@@ -1,7 +1,8 @@
 -- What reading a row says.
-use Rattle.std.specs.Prelude.{◌≡◌, ◌⊎◌, ℕ, List, [], ◌∷◌, ◌++◌, Option, Some, None, Bool, true, false, take}
+use Rattle.std.specs.Prelude.{◌≡◌, ◌⊎◌, ℕ, List, [], ◌∷◌, ◌++◌, Option, Some, None, Bool, true, false, take, ⊤}
 use Rattle.std.specs.Io.KnownBytes.{Consumes, IsAtEnd, prepend_known}
-use Rattle.miette_show.specs.rules.Rows.{has_end}
+use Rattle.miette_show.specs.rules.Parts.{parts_of}
+use Rattle.miette_show.specs.rules.Rows.{has_end, last_row}
 use Rattle.miette_show.specs.views.RowState.{RowState}
 
 -- what is left to be read, where the reader tells its bytes
@@ -26,3 +27,9 @@ abbrev pub IsRowEnd : List ℕ → Option ℕ → Type 0
 IsRowEnd pending None = has_end pending ≡ false
 IsRowEnd pending (Some size) =
     (text : List ℕ) × (has_end text ≡ false) × (take size pending ≡ text ++ 10 ∷ [])
+
+-- The next part with the rows in it, behind which those of what is left stand; there is none only at the end.
+abbrev pub IsNextPart : Option (List ℕ) → Option (List ℕ) → List ℕ → Type 0
+IsNextPart None new part = ⊤
+IsNextPart (Some xs) None part = ⊥
+IsNextPart (Some xs) (Some ys) part = (parts_of xs ≡ last_row part ++ parts_of ys) × (part ≡ [] → ys ≡ [])

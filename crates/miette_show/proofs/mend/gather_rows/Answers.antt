@@ -9,8 +9,8 @@ use Rattle.miette_show.proofs.NoteEnds.{no_other, not_failed}
 use Rattle.miette_show.proofs.MendSteps as steps
 use Rattle.miette_show.proofs.mend.gather_rows.Goals as goal
 
-pub loop-number-init : goal.loop-number-init
-loop-number-init g c = record {
+pub loop-init : goal.loop-init
+loop-init g c = record {
   rows_sound = c.requires.rows_sound;
   faults_sound = c.requires.faults_sound;
   goes = goes_still _ _;
@@ -21,15 +21,15 @@ loop-number-init g c = record {
 
 pub returns-then-is_empty-clause-ok : goal.returns-then-is_empty-clause-ok
 returns-then-is_empty-clause-ok g c =
-    let none : length c.next.new.row.items ≡ 0 = search rules in
+    let none : length c.next_part.new.part.items ≡ 0 = search rules in
     steps.end (IsFoundBy g.F.Files.found g.F.Loader.knows c.args.files.now)
-    (Adds c.args.gathered.now c.loop-number.gathered) _ _ _ _ _ c.loop-number.number c.loop-number.verdict
-    c.next.new.row.items (nil_from_length c.next.new.row.items none) c.loop-number.invariant.passing
-    c.in_ok-next.ensures.row
+    (Adds c.args.gathered.now c.loop.gathered) _ _ _ _ _ c.loop.number c.loop.verdict
+    c.next_part.new.part.items (nil_from_length c.next_part.new.part.items none) c.loop.invariant.passing
+    c.in_ok-following.ensures.part
 
 pub returns-in_err-note-clause-read_failed : goal.returns-in_err-note-clause-read_failed
 returns-in_err-note-clause-read_failed g c = (
-  (λ failed. (let e = c.in_ok-next.ensures.failed.0 failed in cc)),
+  (λ failed. (let e = c.in_ok-following.ensures.failed.0 failed in cc)),
   (λ e. absurd (no_other _ _ _ Read refl (search rules) c.in_err-note.ensures.others (λ k. cc) (λ k. cc) e)),
 )
 
@@ -42,27 +42,27 @@ returns-in_err-note-clause-write_failed g c =
           let same : c.in_err-note.field-0.0 ≡ Write = cc in c.in_err-note.ensures.failed.1 (ap Err same))),
     )
 
-pub loop-number-preserved : goal.loop-number-preserved
-loop-number-preserved g c =
-    let l = c.loop-number in
+pub loop-preserved : goal.loop-preserved
+loop-preserved g c =
+    let l = c.loop in
     let first = c.args.files.now in
     let found = IsFoundBy g.F.Files.found g.F.Loader.knows first in
     let kind = c.in_ok-kind.kind in
-    let row = c.next.new.row.items in
+    let row = c.next_part.new.part.items in
     let gives = c.in_ok-kind.ensures.given in
     let some : 0 < length row = search rules in
     let is_giving = steps.giving_before g.F.Files.found g.F.Loader.knows first l.files c.as_slice.result.now row kind
     gives.0 l.invariant.goes c.as_slice.ensures.value gives.1
     in
     record {
-      rows_sound = not_failed _ _ Read c.in_ok-next.ensures.failed;
+      rows_sound = not_failed _ _ Read c.in_ok-following.ensures.failed;
       faults_sound = not_failed _ _ Write c.in_ok-note.ensures.failed;
       goes = goes_on (g.F.Files.found first) (g.F.Files.found l.files) (g.F.Files.found c.gather_row.new.files)
           (g.F.Loader.knows first) (g.F.Loader.knows l.files) (g.F.Loader.knows c.gather_row.new.files)
           l.invariant.goes c.gather_row.ensures.goes;
       passing = steps.more found (Adds c.args.gathered.now l.gathered)
           (Adds c.args.gathered.now c.gather_row.new.gathered) _ _ _ _ _ _ l.number l.verdict c.with-verdict.result row
-          kind gives.0 some l.invariant.passing c.in_ok-next.ensures.row is_giving
+          kind gives.0 c.in_ok-following.following some l.invariant.passing c.in_ok-following.ensures.part is_giving
           (λ all added. adds_then c.args.gathered.now l.gathered c.gather_row.new.gathered all gives.0 added gives.2)
-          c.in_ok-note.ensures.noted c.with-verdict.ensures;
+          c.in_ok-note.ensures.noted c.with-verdict.ensures c.in_ok-following.ensures.number;
     }

@@ -5,9 +5,9 @@ use Rattle.miette_show.specs.views.Reading.{left_of}
 use Rattle.miette_show.proofs.MendSteps.{Passing}
 use Rattle.miette_show.proofs.mend.gather_rows.Given as goal
 
--- no call failed, what is known stays, and the rows before this number gave fixes
-abbrev pub invariant-loop-number : goal.invariant-loop-number
-invariant-loop-number g l = record {
+-- no call failed, what is known stays, and the parts before this number gave fixes
+abbrev pub invariant-loop : goal.invariant-loop
+invariant-loop g l = record {
   rows_sound : l.rows.failed ≡ false;
   faults_sound : l.faults.failed ≡ false;
   goes : Goes (g.F.Files.found l.initial.files) (g.F.Loader.knows l.initial.files) (g.F.Files.found l.files)

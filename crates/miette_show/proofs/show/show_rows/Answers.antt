@@ -14,8 +14,8 @@ use Rattle.miette_show.proofs.NoteEnds.{no_other, not_failed, on_err_of}
 use Rattle.miette_show.proofs.Progress as progress
 use Rattle.miette_show.proofs.show.show_rows.Goals as goal
 
-pub loop-number-init : goal.loop-number-init
-loop-number-init g c = record {
+pub loop-init : goal.loop-init
+loop-init g c = record {
   rows_sound = c.requires.rows_sound;
   writer_sound = c.requires.writer_sound;
   faults_sound = c.requires.faults_sound;
@@ -27,9 +27,9 @@ loop-number-init g c = record {
 
 pub returns-then-is_empty-clause-ok : goal.returns-then-is_empty-clause-ok
 returns-then-is_empty-clause-ok g c =
-    let none : length c.next.new.row.items ≡ 0 = search rules in
-    progress.end _ _ _ _ _ _ _ _ _ _ c.loop-number.number c.loop-number.verdict c.next.new.row.items
-    (nil_from_length c.next.new.row.items none) c.loop-number.invariant.progress c.in_ok-next.ensures.row
+    let none : length c.next_part.new.part.items ≡ 0 = search rules in
+    progress.end _ _ _ _ _ _ _ _ _ _ c.loop.number c.loop.verdict c.next_part.new.part.items
+    (nil_from_length c.next_part.new.part.items none) c.loop.invariant.progress c.in_ok-following.ensures.part
 
 pub returns-in_err-note-clause-accepted : goal.returns-in_err-note-clause-accepted
 returns-in_err-note-clause-accepted g c = λ e.
@@ -41,7 +41,7 @@ returns-in_err-note-clause-called g c = λ e.
 
 pub returns-in_err-note-clause-read_failed : goal.returns-in_err-note-clause-read_failed
 returns-in_err-note-clause-read_failed g c = (
-  (λ failed. (let e = c.in_ok-next.ensures.failed.0 failed in cc)),
+  (λ failed. (let e = c.in_ok-following.ensures.failed.0 failed in cc)),
   (λ e. absurd (no_other _ _ _ Read refl (search rules) c.in_err-note.ensures.others (λ k. cc) (λ k. cc)
       e)),
 )
@@ -58,16 +58,16 @@ returns-in_err-note-clause-write_failed g c =
           let same : c.in_err-note.field-0.0 ≡ Write = cc in c.in_err-note.ensures.failed.1 (ap Err same))),
     )
 
-pub loop-number-preserved : goal.loop-number-preserved
-loop-number-preserved g c =
-    let l = c.loop-number in
+pub loop-preserved : goal.loop-preserved
+loop-preserved g c =
+    let l = c.loop in
     let first = c.args.files.now in
     let blank = g.H.Highlighter.is_blank in
     let follow = g.H.Highlighter.may_follow in
     let gives = IsGiven blank follow c.args.handler.now in
     let found = IsFoundBy g.F.Files.found g.F.Loader.knows first in
     let kind = c.in_ok-kind.kind in
-    let row = c.next.new.row.items in
+    let row = c.next_part.new.part.items in
     let shown = c.in_ok-kind.ensures.shown in
     let some : 0 < length row = search rules in
     let is_shown = shown_before c.args.from blank follow c.args.handler.now l.handler g.F.Files.found g.F.Loader.knows
@@ -76,7 +76,7 @@ loop-number-preserved g c =
     c.as_slice.ensures.value shown.1
     in
     record {
-      rows_sound = not_failed _ _ Read c.in_ok-next.ensures.failed;
+      rows_sound = not_failed _ _ Read c.in_ok-following.ensures.failed;
       writer_sound = not_failed _ _ Write c.in_ok-kind.ensures.failed;
       faults_sound = not_failed _ _ Write c.in_ok-note.ensures.failed;
       goes = goes_on (g.F.Files.found first) (g.F.Files.found l.files) (g.F.Files.found c.show_row.new.files)
@@ -87,22 +87,22 @@ loop-number-preserved g c =
       led = led-on follow c.args.handler.now l.handler c.show_row.new.handler l.invariant.led
           c.in_ok-kind.ensures.led;
       progress = progress.more c.args.from gives found _ _ _ _ _ _ _ _ _ l.number l.verdict c.with-verdict.result row
-          kind shown.0 some l.invariant.progress c.in_ok-next.ensures.row is_shown shown.2 c.in_ok-note.ensures.noted
-          c.with-verdict.ensures;
+          kind shown.0 c.in_ok-following.following some l.invariant.progress c.in_ok-following.ensures.part is_shown shown.2
+          c.in_ok-note.ensures.noted c.with-verdict.ensures c.in_ok-following.ensures.number;
     }
 
-pub returns-in_err-next-clause-beginning : goal.returns-in_err-next-clause-beginning
-returns-in_err-next-clause-beginning g c = on_err_of _ _
-    (progress.begun _ _ _ _ _ _ _ _ _ c.loop-number.number c.loop-number.verdict c.loop-number.invariant.progress)
+pub returns-in_err-following-clause-beginning : goal.returns-in_err-following-clause-beginning
+returns-in_err-following-clause-beginning g c = on_err_of _ _
+    (progress.begun _ _ _ _ _ _ _ _ _ c.loop.number c.loop.verdict c.loop.invariant.progress)
 
 pub returns-in_err-kind-clause-beginning : goal.returns-in_err-kind-clause-beginning
 returns-in_err-kind-clause-beginning g c =
-    let l = c.loop-number in
+    let l = c.loop in
     let first = c.args.files.now in
     let gives = IsGiven g.H.Highlighter.is_blank g.H.Highlighter.may_follow c.args.handler.now in
     let found = IsFoundBy g.F.Files.found g.F.Loader.knows first in
     let left = left_of g.R.Read.remaining c.args.streams.now.rows in
-    let row = c.next.new.row.items in
+    let row = c.next_part.new.part.items in
     let some : 0 < length row = search rules in
     on_err_of _ _ (elim c.in_err-kind.ensures.untouched [
       | inl failed ↦
@@ -112,7 +112,7 @@ returns-in_err-kind-clause-beginning g c =
           l.invariant.stays l.invariant.led l.invariant.goes c.as_slice.ensures.value cut.2
           in
           progress.begun_with c.args.from gives found left _ _ _ _ _ _ _ _ l.number l.verdict row cut.0 cut.1 some
-          l.invariant.progress c.in_ok-next.ensures.row is_shown cut.3
+          l.invariant.progress c.in_ok-following.ensures.part is_shown cut.3
           (none_taken _ _))
       | inr same ↦
           subst (λ d. IfSome left (λ bytes. ShowsFirst c.args.from gives found bytes
@@ -124,13 +124,13 @@ returns-in_err-kind-clause-beginning g c =
 
 pub returns-in_err-note-clause-beginning : goal.returns-in_err-note-clause-beginning
 returns-in_err-note-clause-beginning g c =
-    let l = c.loop-number in
+    let l = c.loop in
     let first = c.args.files.now in
     let gives = IsGiven g.H.Highlighter.is_blank g.H.Highlighter.may_follow c.args.handler.now in
     let found = IsFoundBy g.F.Files.found g.F.Loader.knows first in
     let left = left_of g.R.Read.remaining c.args.streams.now.rows in
     let kind = c.in_ok-kind.kind in
-    let row = c.next.new.row.items in
+    let row = c.next_part.new.part.items in
     let shown = c.in_ok-kind.ensures.shown in
     let some : 0 < length row = search rules in
     let is_shown = shown_before c.args.from g.H.Highlighter.is_blank g.H.Highlighter.may_follow c.args.handler.now
@@ -149,8 +149,8 @@ returns-in_err-note-clause-beginning g c =
     in
     on_err_of _ _
     (progress.begun_with c.args.from gives found left _ _ _ _ _ _ _ _ l.number l.verdict row kind shown.0 some
-    l.invariant.progress c.in_ok-next.ensures.row is_shown (all_taken _ _ _ shown.2) taken)
+    l.invariant.progress c.in_ok-following.ensures.part is_shown (all_taken _ _ _ shown.2) taken)
 
 pub returns-clause-beginning : goal.returns-clause-beginning
 returns-clause-beginning g c =
-    progress.begun _ _ _ _ _ _ _ _ _ c.loop-number.number c.loop-number.verdict c.loop-number.invariant.progress
+    progress.begun _ _ _ _ _ _ _ _ _ c.loop.number c.loop.verdict c.loop.invariant.progress

@@ -6,8 +6,8 @@ use Rattle.miette_show.proofs.Progress.{Progress}
 use Rattle.miette_show.proofs.show.show_rows.Given as goal
 
 -- no call failed, what is known stays, and the rows before this number were shown
-abbrev pub invariant-loop-number : goal.invariant-loop-number
-invariant-loop-number g l = record {
+abbrev pub invariant-loop : goal.invariant-loop
+invariant-loop g l = record {
   rows_sound : l.streams.rows.failed ≡ false;
   writer_sound : l.streams.writer.failed ≡ false;
   faults_sound : l.streams.faults.failed ≡ false;

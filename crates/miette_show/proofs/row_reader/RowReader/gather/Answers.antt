@@ -1,0 +1,75 @@
+use Rattle.std.proofs.Common.{◌≡◌, ◌<◌, ◌++◌, [], true, false, length, ap, subst, sym, ◌∙◌, rules}
+use Rattle.std.proofs.lemmas.List.{nil_from_length}
+use Rattle.miette_show.specs.rules.Parts.{begins_value, behind, closed, is_open}
+use Rattle.miette_show.specs.views.Reading.{left_of}
+use Rattle.miette_show.proofs.PartSteps.{PartHeld, behind_more, held_begin, held_end, held_more, held_whole, is_on}
+use Rattle.miette_show.proofs.PartSteps.{never_on, not_on}
+use Rattle.miette_show.proofs.row_reader.RowReader.gather.Goals as goal
+
+pub loop-init : goal.loop-init
+loop-init g c =
+    let left = left_of g.R.Read.remaining c.args.self.now in
+    let none : c.clear.new.self.items ≡ [] = search rules in
+    record {
+      sound = c.requires.sound;
+      held = subst (PartHeld left left) (sym none) (held_begin left);
+      reached = c.nothing-state.ensures ∙ ap (λ l. behind closed l) (sym none);
+    }
+
+pub returns-then-is_empty-clause-part : goal.returns-then-is_empty-clause-part
+returns-then-is_empty-clause-part g c =
+    let none : length c.next.new.row.items ≡ 0 = search rules in
+    held_end _ _ _ c.loop.part.items c.next.new.row.items (nil_from_length c.next.new.row.items none)
+    c.loop.invariant.held c.in_ok-next.ensures.row
+
+pub returns-then-not-begins_value-clause-part : goal.returns-then-not-begins_value-clause-part
+returns-then-not-begins_value-clause-part g c =
+    let held = c.loop.part.items in
+    let row = c.next.new.row.items in
+    let part = c.extend_from_slice.new.self.items in
+    let one : part ≡ held ++ row = search rules in
+    let some : 0 < length row = search rules in
+    let begins : begins_value part ≡ false = search rules in
+    held_whole _ _ _ held row part one some (never_on part begins) c.loop.invariant.held c.in_ok-next.ensures.row
+
+pub returns-then-not-is_open-clause-part : goal.returns-then-not-is_open-clause-part
+returns-then-not-is_open-clause-part g c =
+    let held = c.loop.part.items in
+    let row = c.next.new.row.items in
+    let part = c.extend_from_slice.new.self.items in
+    let state = c.behind-state.result in
+    let one : part ≡ held ++ row = search rules in
+    let some : 0 < length row = search rules in
+    let begins : begins_value part ≡ true = search rules in
+    let after : state ≡ behind c.loop.state row =
+    c.behind-state.ensures ∙ ap (λ l. behind c.loop.state l) c.as_slice-in-loop-2.ensures.value
+    in
+    let reached : state ≡ behind closed part =
+    behind_more held row part c.loop.state state one c.loop.invariant.reached after
+    in
+    let none : is_open state ≡ false = search rules in
+    held_whole _ _ _ held row part one some (not_on part state reached begins none) c.loop.invariant.held
+    c.in_ok-next.ensures.row
+
+pub loop-preserved : goal.loop-preserved
+loop-preserved g c =
+    let held = c.loop.part.items in
+    let row = c.next.new.row.items in
+    let part = c.extend_from_slice.new.self.items in
+    let state = c.behind-state.result in
+    let one : part ≡ held ++ row = search rules in
+    let some : 0 < length row = search rules in
+    let begins : begins_value part ≡ true = search rules in
+    let after : state ≡ behind c.loop.state row =
+    c.behind-state.ensures ∙ ap (λ l. behind c.loop.state l) c.as_slice-in-loop-2.ensures.value
+    in
+    let reached : state ≡ behind closed part =
+    behind_more held row part c.loop.state state one c.loop.invariant.reached after
+    in
+    let more : is_open state ≡ true = search rules in
+    record {
+      sound = search rules;
+      held = held_more _ _ _ held row part one some (is_on part state reached begins more) c.loop.invariant.held
+          c.in_ok-next.ensures.row;
+      reached = reached;
+    }

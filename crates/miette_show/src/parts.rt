@@ -1,0 +1,125 @@
+//! Values that stand over several rows: where they end.
+
+ghost use Rattle.std.specs.Prelude.{◌≡◌, ◌≤◌, ◌&&◌, length};
+ghost use Rattle.miette_show.specs.rules.Parts.{begins_value, behind, beside_text, closed, ends_in, in_text, is_open};
+ghost use Rattle.miette_show.specs.rules.Parts.{with_byte};
+
+/// What is open behind some bytes of JSON.
+#[derive(Clone, Copy)]
+pub(crate) struct Open {
+    /// How many brackets.
+    pub depth: u64,
+    /// Whether a text.
+    pub quoted: bool,
+    /// Whether the text's last byte is a `\` that speaks of the next one.
+    pub escaped: bool,
+}
+
+impl Open {
+    /// Behind no byte.
+    pub(crate) fn nothing() -> Open
+        ensures { result ≡ closed }
+    {
+        Open {
+            depth: 0,
+            quoted: false,
+            escaped: false,
+        }
+    }
+
+    /// Behind a byte more, which is within a text.
+    fn in_text(self, byte: u8) -> Open
+        ensures { result ≡ in_text self byte }
+    {
+        if self.escaped {
+            return Open {
+                escaped: false,
+                ..self
+            };
+        }
+        match byte {
+            b'\\' => Open {
+                escaped: true,
+                ..self
+            },
+            b'"' => Open {
+                quoted: false,
+                ..self
+            },
+            _ => self,
+        }
+    }
+
+    /// Behind a byte more, which is beside texts.
+    fn beside_text(self, byte: u8) -> Open
+        ensures { result ≡ beside_text self byte }
+    {
+        match byte {
+            b'"' => Open {
+                quoted: true,
+                ..self
+            },
+            b'{' | b'[' => Open {
+                depth: self.depth.saturating_add(1),
+                ..self
+            },
+            b'}' | b']' => Open {
+                depth: self.depth.saturating_sub(1),
+                ..self
+            },
+            _ => self,
+        }
+    }
+
+    /// Behind a byte more.
+    fn with_byte(self, byte: u8) -> Open
+        ensures { result ≡ with_byte self byte }
+    {
+        if self.quoted {
+            self.in_text(byte)
+        } else {
+            self.beside_text(byte)
+        }
+    }
+
+    /// Behind further bytes.
+    pub(crate) fn behind(self, bytes: &[u8]) -> Open
+        ensures { result ≡ behind self bytes.now }
+    {
+        let mut state = self;
+        for byte in bytes {
+            state = state.with_byte(*byte);
+        }
+        state
+    }
+
+    /// Whether a bracket is open, and no text.
+    pub(crate) fn is_open(self) -> bool
+        ensures { result ≡ is_open self }
+    {
+        self.depth > 0 && !self.quoted
+    }
+}
+
+/// Whether the first row is a bracket alone.
+pub(crate) fn begins_value(part: &[u8]) -> bool
+    ensures { result ≡ begins_value part.now }
+{
+    part.starts_with(b"{\n")
+        || part.starts_with(b"{\r\n")
+        || part.starts_with(b"[\n")
+        || part.starts_with(b"[\r\n")
+}
+
+/// How many rows end in these bytes.
+pub(crate) fn ends_in(bytes: &[u8]) -> u64
+    ensures { result ≡ ends_in bytes.now }
+{
+    let mut ends: u64 = 0;
+    for byte in bytes {
+        if *byte == b'\n' {
+            ends += 1;
+        }
+    }
+    ends
+}
