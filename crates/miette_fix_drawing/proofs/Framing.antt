@@ -13,9 +13,9 @@ use Rattle.miette_page.specs.views.Tokens.{rows_tokens}
 use Rattle.miette_frames.proofs.TextRows.{rows_then}
 use Rattle.miette_fix_rows.specs.rules.Blocks.{bytes_of, line_texts}
 use Rattle.miette_fix_rows.specs.rules.Hunks.{Hunk}
-use Rattle.miette_fix_rows.specs.rules.DiffFrames.{DiffLine, Standing, behind_hunk, changed_lines, frame_at}
-use Rattle.miette_fix_rows.specs.rules.DiffFrames.{frames_from}
-use Rattle.miette_fix_rows.specs.rules.DiffFrames.{is_near, kept_lines, past_hunk}
+use Rattle.miette_fix_rows.specs.rules.DiffFrames.{DiffFrame, DiffLine, Standing, behind_hunk, changed_lines}
+use Rattle.miette_fix_rows.specs.rules.DiffFrames.{first_place, frame_at, frames_from, is_near, kept_lines}
+use Rattle.miette_fix_rows.specs.rules.DiffFrames.{left_before, past_hunk, past_kept}
 use Rattle.miette_fix_rows.specs.rules.DiffRows.{DiffContext, largest, number_of, past, rows_of_line, rows_of_lines}
 use Rattle.miette_fix_drawing.specs.declared.hunks.Hunk.{Hunk as MadeHunk}
 use Rattle.miette_fix_drawing.specs.steps.Framing.{IsFar}
@@ -177,6 +177,31 @@ largest_pushed at next ss s m n hm hn h =
     ∙ ap (λ x. max (largest at (lines_of_segments ss)) (largest x (lines_of_segment s))) hn
     ∙ sym (largest_append at (lines_of_segments ss) (lines_of_segment s))
     ∙ ap (largest at) (sym (segments_pushed ss s))
+
+-- a frame from its parts: where it begins, the offset that it points to, and its lines in three steps
+abbrev framed : Standing → ℕ → List DiffLine → DiffFrame
+framed at place lines = record { at = at; place = place; lines = lines }
+
+pub frame_made : (context : ℕ) (behind : List (List ℕ)) (at from : Standing) (hunk : Hunk) (rest more : List Hunk)
+    (place : ℕ) (first made all : List Segment) (last : Segment)
+    → from ≡ past_kept at (take (left_before context hunk) hunk.kept)
+    → lines_of_segments first
+    ≡ kept_lines (drop (left_before context hunk) hunk.kept) ++ changed_lines hunk.changes
+    → place ≡ first_place hunk.changes
+    → lines_of_segments made ++ behind_hunk context behind rest
+    ≡ lines_of_segments first ++ behind_hunk context behind more
+    → lines_of_segment last ≡ behind_hunk context behind rest → all ≡ made ++ last ∷ []
+    → framed from place (lines_of_segments all) ≡ frame_at context at hunk (behind_hunk context behind more)
+frame_made context behind at from hunk rest more place first made all last begins firsts points goes ends pushed =
+    let later : List DiffLine = behind_hunk context behind more in
+    let own : List DiffLine = kept_lines (drop (left_before context hunk) hunk.kept) in
+    let changed : List DiffLine = changed_lines hunk.changes in
+    let lines : lines_of_segments all ≡ own ++ (changed ++ later) =
+    ap lines_of_segments pushed ∙ segments_pushed made last ∙ ap (λ ls. lines_of_segments made ++ ls) ends ∙ goes
+    ∙ ap (λ ls. ls ++ later) firsts ∙ append_assoc own changed later in
+    ap (λ s. framed s place (lines_of_segments all)) begins
+    ∙ ap (λ n. framed (past_kept at (take (left_before context hunk) hunk.kept)) n (lines_of_segments all)) points
+    ∙ ap (framed (past_kept at (take (left_before context hunk) hunk.kept)) (first_place hunk.changes)) lines
 
 -- ---- the items of a loop
 

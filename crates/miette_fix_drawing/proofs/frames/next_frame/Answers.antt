@@ -1,14 +1,41 @@
-use Rattle.std.proofs.Common.{◌≡◌, ap, sym, ◌∙◌, ◌++◌, true, drop}
+use Rattle.std.proofs.Common.{◌≡◌, ap, subst, sym, ◌∙◌, ◌++◌, true, drop}
+use Rattle.std.proofs.lemmas.List.{take_rest}
 use Rattle.miette_fix_rows.specs.rules.Blocks.{line_texts}
-use Rattle.miette_fix_rows.specs.rules.DiffFrames.{changed_lines, frames_from, kept_lines, left_before, past_hunk}
+use Rattle.miette_fix_rows.specs.rules.DiffFrames.{behind_hunk, changed_lines, frames_from, kept_lines, left_before}
+use Rattle.miette_fix_rows.specs.rules.DiffFrames.{past_hunk}
 use Rattle.miette_fix_rows.specs.rules.DiffRows.{largest}
 use Rattle.miette_fix_rows.specs.laws.Frames.{past_lines}
+use Rattle.miette_fix_drawing.specs.steps.Framing.{IsFar}
 use Rattle.miette_fix_drawing.specs.views.Hunks.{hunk_of, hunks_of}
 use Rattle.miette_fix_drawing.specs.views.ShownLines.{lines_of_segments}
 use Rattle.miette_fix_drawing.specs.views.Standings.{standing_of}
 use Rattle.miette_fix_rows.proofs.Passing.{past_first}
-use Rattle.miette_fix_drawing.proofs.Framing.{far_frames, largest_pushed}
+use Rattle.miette_fix_drawing.proofs.Framing.{far_frames, frame_made, largest_pushed}
 use Rattle.miette_fix_drawing.proofs.frames.next_frame.Goals as goal
+
+pub lines_behind-after-requires : goal.lines_behind-after-requires
+lines_behind-after-requires g c =
+    subst (IsFar c.args.drawing.now.settings.layout.now.context_lines)
+    (sym (ap hunks_of (take_rest c.args.more.now c.in_ok-taken.taken))) c.in_ok-taken.ensures.far
+
+pub returns-clause-frame : goal.returns-clause-frame
+returns-clause-frame g c =
+    let context = c.args.drawing.now.settings.layout.now.context_lines in
+    let behind = line_texts c.args.behind.now in
+    let more = c.args.more.now in
+    let taken = c.in_ok-taken.taken in
+    frame_made context behind (standing_of c.args.progress.now.at) (standing_of c.in_ok-from.from)
+    (hunk_of c.args.hunk.now) (hunks_of (drop taken more)) (hunks_of more) c.place_in.result c.in_ok-from.lines.items
+    c.take_near.new.list.items c.push.new.self.items c.lines_behind-after.result c.in_ok-from.ensures.at
+    c.in_ok-from.ensures.lines c.place_in.ensures (c.in_ok-taken.ensures.lines behind)
+    (c.lines_behind-after.ensures ∙ ap (λ hs. behind_hunk context behind (hunks_of hs)) (take_rest more taken))
+    c.in_ok-push.ensures.items
+
+pub returns-clause-within : goal.returns-clause-within
+returns-clause-within g c = c.in_ok-taken.ensures.within
+
+pub returns-clause-cursor : goal.returns-clause-cursor
+returns-clause-cursor g c = c.first_hunk.ensures.cursor
 
 pub returns-clause-largest : goal.returns-clause-largest
 returns-clause-largest g c =
