@@ -69,10 +69,10 @@ fn push_title<D: Diagnostic, S: SourceCode, H>(
 {
     painter.out.push('\n')?;
     push_severity_title(&mut painter.out, report.severity())?;
-    if !push_header_of(painter, report)? {
-        painter.out.push('\n')?;
+    if push_header_of(painter, report)? {
+        return Ok(());
     }
-    Ok(())
+    painter.out.push('\n')
 }
 
 /// Appends what a sibling begins with, and its message.

@@ -252,6 +252,25 @@ fn further_indent<H>(painter: &Painter<'_, H>, kind: TextKind) -> Result<Runs, A
     }
 }
 
+// Appends a text behind its indents, wrapped, and a line feed, where this is what stands in front of its first row.
+fn push_rows<H>(
+    painter: &mut Painter<'_, H>,
+    kind: TextKind,
+    first: &Runs,
+    text: &str,
+) -> Result<(), AllocError>
+    requires { spell first.now ≡ print (first_indent (settings_of painter.old) kind) }
+    ensures text { OnOk result (painter.new.out ≡ painter.old.out ++ (indents.wrapped_under (settings_of painter.old)
+        (first_indent (settings_of painter.old) kind) (further_indent (settings_of painter.old) kind)
+        (chars text.now) ++ parts.line_feed)) }
+    ensures stays { PrintsOnly painter.old painter.new }
+{
+    let further = further_indent(painter, kind)?;
+    let text = read_text(painter.alloc, text)?;
+    let under = plan(painter, first, &further);
+    push_wrapped(&mut painter.out, painter.alloc, under, &text)
+}
+
 /// Appends a text behind its indents, wrapped, and a line feed.
 pub fn push_text<H>(
     painter: &mut Painter<'_, H>,
@@ -267,10 +286,7 @@ pub fn push_text<H>(
     if push_row(painter, &first, text)? {
         return Ok(());
     }
-    let further = further_indent(painter, kind)?;
-    let text = read_text(painter.alloc, text)?;
-    let under = plan(painter, &first, &further);
-    push_wrapped(&mut painter.out, painter.alloc, under, &text)
+    push_rows(painter, kind, &first, text)
 }
 
 /// Appends a help text, where there is one.
