@@ -1,20 +1,23 @@
 -- Lists that are empty or not.
 use Rattle.std.proofs.Common.{◌≡◌, ℕ, List, [], ◌∷◌, ◌++◌, true, false, eqb, length, map, refl, sym, ap, ◌∙◌}
-use Rattle.std.specs.Prelude.{IfOk, Vec, if◌then◌else◌, is_ok}
+use Rattle.std.specs.List.{flat_map}
+use Rattle.std.specs.Prelude.{Bool, IfOk, Vec, if◌then◌else◌, is_ok}
 use Rattle.std.specs.declared.alloc.Global.{Global}
 use Rattle.miette_lint.specs.declared.coded.CodedFinding.{CodedFinding}
-use Rattle.miette_lint.specs.rules.Coded.{Coded}
+use Rattle.miette_lint.specs.rules.Coded.{Coded, coded_findings}
 use Rattle.miette_lint.specs.views.Found.{coded_of}
 use Rattle.std.proofs.lemmas.Bool.{ne_eqb}
-use Rattle.std.proofs.lemmas.List.{map-append}
-use Rattle.std.proofs.Common.{suc, arith, Result, Ok, Err, OnOk}
+use Rattle.std.proofs.lemmas.List.{drop_more, flat_map_more, length-map, map-append, take_all, take_more}
+use Rattle.std.proofs.Common.{suc, arith, Result, Ok, Err, OnOk, ◌+◌, ◌<◌, ◌≤◌, drop, get_or, take}
 use Rattle.serde_json.specs.Data.{Data}
 use Rattle.serde_json.specs.View.{view}
 use Rattle.serde_json.specs.declared.value.Value.{Value}
 use Rattle.miette_fixes.specs.rules.Edits.{Proposal}
+use Rattle.miette_positions.specs.declared.place.Region.{Region}
 use Rattle.miette_positions.specs.rules.Regions.{Placed}
-use Rattle.miette_language_server.specs.rules.Actions.{joint_of, with_joint}
-use Rattle.miette_language_server.specs.rules.Diagnostics.{by_fixes, diagnostic_value}
+use Rattle.miette_language_server.specs.rules.Actions.{actions, actions_at, joint_of, with_joint}
+use Rattle.miette_language_server.specs.rules.Changes.{changed, changed_by}
+use Rattle.miette_language_server.specs.rules.Diagnostics.{by_fixes, diagnostic_value, placed}
 
 some : (n : ℕ) → eqb (suc n) 0 ≡ true → true ≡ false
 some n h = sym h ∙ ne_eqb (suc n) 0 (λ e. omega (arith, e))
@@ -57,3 +60,67 @@ told_all uri source (Err e) slice found all same is h = tt
 told_all uri source (Ok list) slice found all same is h =
     h ∙ composed (diagnostic_value uri source) coded_of slice
     ∙ ap (λ xs. map (diagnostic_value uri source) (map coded_of xs)) same ∙ ap (map (diagnostic_value uri source)) is
+
+-- ---- lists that a loop fills
+
+-- the value of one more item
+pub value_more : {A : Type 0} (f : A → Data) (xs : List A) (i : ℕ) (x : A) (values new : List Value) (value : Value)
+    → i < length xs → x ≡ get_or xs i x → new ≡ values ++ value ∷ [] → view value ≡ f x
+    → map view values ≡ map f (take i xs) → map view new ≡ map f (take (i + 1) xs)
+value_more f xs i x values new value l is e h so =
+    ap (map view) e
+    ∙ map-append view values (value ∷ [])
+    ∙ ap (λ d. map view values ++ d ∷ []) (h ∙ ap f is)
+    ∙ ap (λ ds. ds ++ f (get_or xs i x) ∷ []) so
+    ∙ sym (ap (map f) (take_more xs i x l) ∙ map-append f (take i xs) (get_or xs i x ∷ []))
+
+-- the values of all items
+pub values_all : {A : Type 0} (f : A → Data) (xs : List A) (i : ℕ) (values : List Value) → length xs ≤ i
+    → map view values ≡ map f (take i xs) → map view values ≡ map f xs
+values_all f xs i values h so = so ∙ ap (map f) (take_all i xs h)
+
+-- those of one more item behind
+pub joined_more : {A : Type 0} (f : A → List Data) (xs : List A) (i : ℕ) (x : A) (old new more : List Data)
+    → i < length xs → x ≡ get_or xs i x → new ≡ old ++ more → more ≡ f x → old ≡ flat_map f (take i xs)
+    → new ≡ flat_map f (take (i + 1) xs)
+joined_more f xs i x old new more l is e h so =
+    e
+    ∙ ap (λ ds. old ++ ds) (h ∙ ap f is)
+    ∙ ap (λ ds. ds ++ f (get_or xs i x)) so
+    ∙ flat_map_more f [] (take i xs) (get_or xs i x)
+    ∙ sym (ap (flat_map f) (take_more xs i x l))
+
+pub where_so : (b : Bool) (ds : List Data) → b ≡ true → ds ≡ (if b then ds else [])
+where_so true ds h = refl
+where_so false ds h = let bad : false ≡ true = h in cc
+
+-- one change further
+pub changed_next : (all : List ℕ) (changes : List Value) (i : ℕ) (x : Value) (made new : List ℕ) → i < length changes
+    → x ≡ get_or changes i x → new ≡ changed made (view x) → all ≡ changed_by made (map view (drop i changes))
+    → all ≡ changed_by new (map view (drop (i + 1) changes))
+changed_next all changes i x made new l is e h =
+    let rest = map view (drop (i + 1) changes) in
+    h
+    ∙ ap (λ vs. changed_by made (map view vs)) (drop_more changes i x l)
+    ∙ ap (λ v. changed_by (changed made (view v)) rest) (sym is)
+    ∙ ap (λ m. changed_by m rest) (sym e)
+
+-- the actions at a part, by what is found in the text
+pub acted : {E : Type 0} (width : ℕ) (uri u v text : List ℕ) (region : Region) (source : Placed)
+    (slice found : List CodedFinding) (own : List Value) (n : ℕ) (r : Result (Vec Value Global) E) → source ≡ placed text
+    → map coded_of found ≡ coded_findings text width → slice ≡ found → u ≡ uri → v ≡ uri → n ≡ length found
+    → map view own ≡ flat_map (actions_at u source region) (map coded_of slice)
+    → IfOk r (λ made. map view made.items ≡ with_joint v source n (map view own))
+    → IfOk r (λ made. map view made.items ≡ actions width uri text region)
+acted width uri u v text region source slice found own n (Err e) s f same p q count is h = tt
+acted width uri u v text region source slice found own n (Ok made) s f same p q count is h =
+    let all : map coded_of slice ≡ coded_findings text width = ap (map coded_of) same ∙ f in
+    let many : n ≡ length (coded_findings text width) = count ∙ sym (length-map found coded_of) ∙ ap length f in
+    h
+    ∙ ap (λ w. with_joint w source n (map view own)) q
+    ∙ ap (λ k. with_joint uri source k (map view own)) many
+    ∙ ap (with_joint uri source (length (coded_findings text width))) (is
+    ∙ ap (λ w. flat_map (actions_at w source region) (map coded_of slice)) p
+    ∙ ap (flat_map (actions_at uri source region)) all)
+    ∙ ap (λ at. with_joint uri at (length (coded_findings text width))
+    (flat_map (actions_at uri at region) (coded_findings text width))) s

@@ -7,19 +7,18 @@ ghost use Rattle.miette_lint.specs.views.Found.{coded_of};
 ghost use Rattle.miette_positions.specs.rules.Stops.{is_until};
 ghost use Rattle.miette_language_server.specs.rules.Actions.{action_value, actions, actions_at, actions_in};
 ghost use Rattle.miette_language_server.specs.rules.Actions.{changes_value, is_sure, joint_of, joint_value, touches, with_joint};
-ghost use Rattle.miette_language_server.specs.rules.Diagnostics.{diagnostic_value};
 ghost use Rattle.miette_language_server.specs.rules.Values.{list_value};
 
 use crate::diagnostics::{diagnostic_value, placed};
 use crate::documents::Document;
-use crate::objects::{with_text, with_value};
+use crate::objects::{object_with, object_with_text, with_text, with_value};
 use crate::values::{edits_value, part};
 use miette_fixes::fix::{Applicability, Fix};
 use miette_lint::coded::{CodedFinding, coded_findings};
 use miette_lint::joint::joint_proposal;
 use miette_positions::index::PositionIndex;
 use miette_positions::place::{Position, Region};
-use serde_json::{Map, Value, json};
+use serde_json::{Map, Value, json, push};
 use std::alloc::{AllocError, Global};
 
 // Whether a position is another one or stands before it.
@@ -52,7 +51,8 @@ fn is_sure(applicability: Applicability) -> bool
 fn changes_value(alloc: Global, uri: &str, edits: Value) -> Result<Value, AllocError>
     ensures { IfOk result (λ value. view value ≡ changes_value uri.now (view edits)) }
 {
-    json!(in alloc; {"changes": {(uri): edits}})
+    let changes = object_with(alloc, Map::new(alloc), uri, edits)?;
+    object_with(alloc, Map::new(alloc), "changes", changes)
 }
 
 // A list of one value.
@@ -84,8 +84,7 @@ fn action_value(
         Value::Bool(is_sure(fix.applicability())),
     )?;
     let diagnostics = list_of_one(alloc, diagnostic)?;
-    let it = with_value(alloc, it, "diagnostics", diagnostics)?;
-    Ok(Value::Object(it))
+    object_with(alloc, it, "diagnostics", diagnostics)
 }
 
 // What all fixes of a document are called.
@@ -111,8 +110,7 @@ fn joint_value(
     let edits = edits_value(alloc, source, fix.edits())?;
     let edit = changes_value(alloc, uri, edits)?;
     let it = with_value(alloc, it, "edit", edit)?;
-    let it = with_text(alloc, it, "kind", "quickfix")?;
-    Ok(Value::Object(it))
+    object_with_text(alloc, it, "kind", "quickfix")
 }
 
 // These fixes of what a diagnostic tells.
@@ -128,7 +126,8 @@ fn fix_actions(
 {
     let mut list = Vec::with_capacity(alloc, fixes.len())?;
     for fix in fixes {
-        list.push(action_value(alloc, uri, source, diagnostic, fix)?)?;
+        let action = action_value(alloc, uri, source, diagnostic, fix)?;
+        push(&mut list, action)?;
     }
     Ok(list)
 }
@@ -141,21 +140,22 @@ fn append(list: &mut Vec<Value>, more: Vec<Value>) -> Result<(), AllocError>
     list.append(&mut more)
 }
 
-// The fixes of a finding.
-fn push_fixes(
+// The fixes of a finding, where a part touches it.
+fn actions_at(
     alloc: Global,
     uri: &str,
     source: &PositionIndex<'_>,
+    region: Region,
     found: &CodedFinding,
-    list: &mut Vec<Value>,
-) -> Result<(), AllocError>
-    ensures { OnOk result (map view list.new.items ≡ map view list.old.items
-        ++ map (action_value uri.now source.now (diagnostic_value uri.now source.now (coded_of found.now)))
-        found.now.fixes.items) }
+) -> Result<Vec<Value>, AllocError>
+    ensures { IfOk result (λ list. map view list.items
+        ≡ actions_at uri.now source.now region (coded_of found.now)) }
 {
+    if !touches(part(source, *found.label.inner()), region) {
+        return Ok(Vec::new(alloc));
+    }
     let diagnostic = diagnostic_value(alloc, uri, source, found)?;
-    let actions = fix_actions(alloc, uri, source, &diagnostic, found.fixes.as_slice())?;
-    append(list, actions)
+    fix_actions(alloc, uri, source, &diagnostic, found.fixes.as_slice())
 }
 
 // The fixes of all findings that a part touches.
@@ -171,9 +171,8 @@ fn own_actions(
 {
     let mut list = Vec::new(alloc);
     for it in found {
-        if touches(part(source, *it.label.inner()), region) {
-            push_fixes(alloc, uri, source, it, &mut list)?;
-        }
+        let more = actions_at(alloc, uri, source, region, it)?;
+        append(&mut list, more)?;
     }
     Ok(list)
 }
@@ -207,7 +206,7 @@ fn with_joint(
     }
     let joint = joint_of(alloc, uri, source, found)?;
     let mut made = list;
-    made.push(joint)?;
+    push(&mut made, joint)?;
     Ok(made)
 }
 

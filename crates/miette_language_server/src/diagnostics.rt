@@ -8,16 +8,17 @@ ghost use Rattle.miette_lint.specs.views.Found.{coded_of};
 ghost use Rattle.miette_language_server.specs.rules.Diagnostics.{diagnostic_value, diagnostics, diagnostics_of};
 ghost use Rattle.miette_language_server.specs.rules.Diagnostics.{fixable_value, fixes_value, placed, plain_value, published_value};
 ghost use Rattle.miette_language_server.specs.rules.Diagnostics.{told};
+ghost use Rattle.miette_language_server.specs.rules.Values.{fix_value};
 
 use crate::documents::Document;
-use crate::objects::{with_text, with_value};
+use crate::objects::{object_with, with_text, with_value};
 use crate::values::{fix_value, part, range_value};
 use miette_fixes::fix::Fix;
 use miette_lint::coded::{CodedFinding, coded_findings};
 use miette_positions::index::PositionIndex;
 use miette_positions::place::PositionEncoding;
 use miette_protocol::protocol::LabeledSpan;
-use serde_json::{Map, Value, json};
+use serde_json::{Map, Value, push};
 use std::alloc::{AllocError, Global};
 
 /// A text with an index of its positions in units of UTF-16.
@@ -25,6 +26,23 @@ pub(crate) fn placed(alloc: Global, text: &[u8]) -> Result<PositionIndex<'_>, Al
     ensures { IfOk result (λ it. it ≡ placed text.now) }
 {
     PositionIndex::new(alloc, text, PositionEncoding::Utf16)
+}
+
+// These fixes.
+fn fix_values(
+    alloc: Global,
+    uri: &str,
+    source: &PositionIndex<'_>,
+    fixes: &[Fix],
+) -> Result<Vec<Value>, AllocError>
+    ensures { IfOk result (λ list. map view list.items ≡ map (fix_value uri.now source.now) fixes.now) }
+{
+    let mut values = Vec::with_capacity(alloc, fixes.len())?;
+    for fix in fixes {
+        let value = fix_value(alloc, uri, source, fix)?;
+        push(&mut values, value)?;
+    }
+    Ok(values)
 }
 
 // What is proposed for a finding.
@@ -36,11 +54,8 @@ fn fixes_value(
 ) -> Result<Value, AllocError>
     ensures { IfOk result (λ value. view value ≡ fixes_value uri.now source.now fixes.now) }
 {
-    let mut values = Vec::with_capacity(alloc, fixes.len())?;
-    for fix in fixes {
-        values.push(fix_value(alloc, uri, source, fix)?)?;
-    }
-    json!(in alloc; {"fixes": values})
+    let values = fix_values(alloc, uri, source, fixes)?;
+    object_with(alloc, Map::new(alloc), "fixes", Value::Array(values))
 }
 
 // What is said of a place.
@@ -93,8 +108,7 @@ fn fixable_value(
 {
     let fixes = fixes_value(alloc, uri, source, found.fixes.as_slice())?;
     let it = told(alloc, source, found)?;
-    let it = with_value(alloc, it, "data", fixes)?;
-    Ok(Value::Object(it))
+    object_with(alloc, it, "data", fixes)
 }
 
 /// A diagnostic of a document with a uri.
@@ -125,7 +139,8 @@ fn diagnostic_values(
 {
     let mut values = Vec::with_capacity(alloc, found.len())?;
     for it in found {
-        values.push(diagnostic_value(alloc, uri, source, it)?)?;
+        let value = diagnostic_value(alloc, uri, source, it)?;
+        push(&mut values, value)?;
     }
     Ok(values)
 }
@@ -169,10 +184,7 @@ pub(crate) fn published_value(
     let it = with_value(alloc, Map::new(alloc), "diagnostics", Value::Array(list))?;
     let it = with_text(alloc, it, "uri", uri)?;
     match version {
-        Some(version) => {
-            let it = with_value(alloc, it, "version", Value::from(version))?;
-            Ok(Value::Object(it))
-        }
+        Some(version) => object_with(alloc, it, "version", Value::from(version)),
         None => Ok(Value::Object(it)),
     }
 }

@@ -8,12 +8,12 @@ ghost use Rattle.miette_language_server.specs.rules.Messages.{error_value};
 ghost use Rattle.miette_language_server.specs.rules.Messages.{publication, reason_of, refused, server_value};
 ghost use Rattle.miette_language_server.specs.rules.Messages.{sync_value};
 
-use crate::objects::{with_text, with_value};
+use crate::objects::{object_with, object_with_text, with_text, with_value};
 use serde_json::{Map, Value, json};
 use std::alloc::{AllocError, Global};
 
 /// Why a request is refused.
-#[derive(Clone, Copy, Debug, PartialEq, Eq)]
+#[derive(Clone, Copy)]
 pub enum Refusal {
     /// A message is no JSON.
     NotJson,
@@ -58,8 +58,7 @@ fn with_id(alloc: Global, members: Map<String, Value>, id: &Value) -> Result<Val
 {
     let it = with_text(alloc, members, "jsonrpc", "2.0")?;
     let id = id.clone()?;
-    let it = with_value(alloc, it, "id", id)?;
-    Ok(Value::Object(it))
+    object_with(alloc, it, "id", id)
 }
 
 /// What a request with this id is answered by.
@@ -75,8 +74,7 @@ fn error_value(alloc: Global, why: Refusal) -> Result<Value, AllocError>
     ensures { IfOk result (λ value. view value ≡ error_value why) }
 {
     let it = with_value(alloc, Map::new(alloc), "code", Value::from(why.code()))?;
-    let it = with_text(alloc, it, "message", why.reason())?;
-    Ok(Value::Object(it))
+    object_with_text(alloc, it, "message", why.reason())
 }
 
 /// What refuses a request with this id.
@@ -94,8 +92,7 @@ pub(crate) fn publication(alloc: Global, params: Value) -> Result<Value, AllocEr
 {
     let it = with_value(alloc, Map::new(alloc), "params", params)?;
     let it = with_text(alloc, it, "jsonrpc", "2.0")?;
-    let it = with_text(alloc, it, "method", "textDocument/publishDiagnostics")?;
-    Ok(Value::Object(it))
+    object_with_text(alloc, it, "method", "textDocument/publishDiagnostics")
 }
 
 // Documents are opened, closed, saved, and told as a whole where they change.
@@ -104,15 +101,15 @@ fn sync_value(alloc: Global) -> Result<Value, AllocError>
 {
     let it = with_value(alloc, Map::new(alloc), "openClose", Value::Bool(true))?;
     let it = with_value(alloc, it, "change", Value::from(1u8))?;
-    let it = with_value(alloc, it, "save", Value::Bool(true))?;
-    Ok(Value::Object(it))
+    object_with(alloc, it, "save", Value::Bool(true))
 }
 
 // Quick fixes.
 fn actions_kinds(alloc: Global) -> Result<Value, AllocError>
     ensures { IfOk result (λ value. view value ≡ actions_kinds) }
 {
-    json!(in alloc; {"codeActionKinds": ["quickfix"]})
+    let kinds = json!(in alloc; ["quickfix"])?;
+    object_with(alloc, Map::new(alloc), "codeActionKinds", kinds)
 }
 
 // What a server can do.
@@ -123,17 +120,15 @@ fn capabilities(alloc: Global) -> Result<Value, AllocError>
     let it = with_value(alloc, Map::new(alloc), "textDocumentSync", sync)?;
     let actions = actions_kinds(alloc)?;
     let it = with_value(alloc, it, "codeActionProvider", actions)?;
-    let it = with_text(alloc, it, "positionEncoding", "utf-16")?;
-    Ok(Value::Object(it))
+    object_with_text(alloc, it, "positionEncoding", "utf-16")
 }
 
 /// The answer to `initialize`.
 pub(crate) fn server_value(alloc: Global) -> Result<Value, AllocError>
     ensures { IfOk result (λ value. view value ≡ server_value) }
 {
-    let info = with_text(alloc, Map::new(alloc), "name", "lint")?;
-    let it = with_value(alloc, Map::new(alloc), "serverInfo", Value::Object(info))?;
+    let info = object_with_text(alloc, Map::new(alloc), "name", "lint")?;
+    let it = with_value(alloc, Map::new(alloc), "serverInfo", info)?;
     let capabilities = capabilities(alloc)?;
-    let it = with_value(alloc, it, "capabilities", capabilities)?;
-    Ok(Value::Object(it))
+    object_with(alloc, it, "capabilities", capabilities)
 }

@@ -4,7 +4,7 @@ ghost use Rattle.std.specs.Prelude.{◌≡◌};
 ghost use Rattle.miette_language_server.specs.rules.Session.{notice_named, request_named};
 
 /// What a request asks for.
-#[derive(Clone, Copy, Debug, PartialEq, Eq)]
+#[derive(Clone, Copy)]
 pub enum Request {
     /// To begin, and to say what the server can do.
     Initialize,
@@ -17,7 +17,7 @@ pub enum Request {
 }
 
 /// What a notification tells.
-#[derive(Clone, Copy, Debug, PartialEq, Eq)]
+#[derive(Clone, Copy)]
 pub enum Notice {
     /// A document was opened.
     Opened,

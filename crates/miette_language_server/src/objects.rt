@@ -1,11 +1,19 @@
-//! Objects of JSON, member by member: nothing is held while a member is made, as it is inside `json!`.
+//! Lists of JSON, and objects, member by member: nothing is held while a member is made, as it is inside `json!`.
 
-ghost use Rattle.std.specs.Prelude.{◌≡◌, IfOk};
-ghost use Rattle.serde_json.specs.Data.{put as with_member, string};
+ghost use Rattle.std.specs.Prelude.{◌≡◌, IfOk, map};
+ghost use Rattle.serde_json.specs.Data.{object, put as with_member, string};
 ghost use Rattle.serde_json.specs.View.{members_view, view};
+ghost use Rattle.miette_language_server.specs.rules.Values.{list_value};
 
 use serde_json::{Map, Value, put};
 use std::alloc::{AllocError, Global};
+
+/// A list.
+pub(crate) fn list_value(values: Vec<Value>) -> Value
+    ensures { view result ≡ list_value (map view values.items) }
+{
+    Value::Array(values)
+}
 
 /// Members with one more, or with another value of one.
 ///
@@ -40,4 +48,38 @@ pub(crate) fn with_text(
 {
     let value = Value::try_from_str(alloc, text)?;
     with_value(alloc, members, key, value)
+}
+
+/// An object of members and one more.
+///
+/// # Errors
+/// `AllocError` where memory is refused.
+pub(crate) fn object_with(
+    alloc: Global,
+    members: Map<String, Value>,
+    key: &str,
+    value: Value,
+) -> Result<Value, AllocError>
+    ensures { IfOk result (λ it. view it
+        ≡ object (with_member key.now (view value) (members_view members.entries))) }
+{
+    let members = with_value(alloc, members, key, value)?;
+    Ok(Value::Object(members))
+}
+
+/// An object of members and one more that is a text.
+///
+/// # Errors
+/// `AllocError` where memory is refused.
+pub(crate) fn object_with_text(
+    alloc: Global,
+    members: Map<String, Value>,
+    key: &str,
+    text: &str,
+) -> Result<Value, AllocError>
+    ensures { IfOk result (λ it. view it
+        ≡ object (with_member key.now (string text.now) (members_view members.entries))) }
+{
+    let value = Value::try_from_str(alloc, text)?;
+    object_with(alloc, members, key, value)
 }

@@ -1,11 +1,10 @@
 //! A session of a client with the server, message by message.
 
-ghost use Rattle.std.specs.Prelude.{◌≡◌, IfOk, map, option_map};
+ghost use Rattle.std.specs.Prelude.{◌≡◌, IfOk, option_map};
 ghost use Rattle.serde_json.specs.View.{view};
 ghost use Rattle.miette_language_server.specs.rules.Session.{asked_first, asked_in, asked_then, called, first_state};
 ghost use Rattle.miette_language_server.specs.rules.Session.{message_of, alone, noticed, noticed_in, step, told};
 ghost use Rattle.miette_language_server.specs.rules.Session.{actions_value, closed, held};
-ghost use Rattle.miette_language_server.specs.rules.Values.{list_value};
 ghost use Rattle.miette_language_server.specs.views.Answered.{IsStep, outcome_of};
 
 use crate::actions::actions_in;
@@ -14,6 +13,7 @@ use crate::documents::{Document, changed_in, document_in, opened_in, put, take_o
 use crate::members::{id_of, region_at, text_at};
 use crate::messages::{Refusal, answer, publication, refused, server_value};
 use crate::names::{Notice, Request, notice_named, request_named};
+use crate::objects::list_value;
 use serde_json::Value;
 use std::alloc::{AllocError, Global};
 use std::marker::Model;
@@ -76,13 +76,6 @@ fn alone(status: u8, notice: Notice) -> Outcome
         Notice::Opened | Notice::Changed | Notice::Saved | Notice::Closed | Notice::Ignored =>
             Outcome::Nothing,
     }
-}
-
-// A list.
-fn list_value(values: Vec<Value>) -> Value
-    ensures { view result ≡ list_value (map view values.items) }
-{
-    Value::Array(values)
 }
 
 impl Session {

@@ -5,12 +5,12 @@ ghost use Rattle.serde_json.specs.View.{view};
 ghost use Rattle.miette_language_server.specs.rules.Values.{edit_value, edits_value, fix_value, origin, part};
 ghost use Rattle.miette_language_server.specs.rules.Values.{position_value, range_value};
 
-use crate::objects::{with_text, with_value};
+use crate::objects::{list_value, object_with, object_with_text, with_text, with_value};
 use miette_fixes::fix::{Edit, Fix};
 use miette_positions::index::PositionIndex;
 use miette_positions::place::{Position, Region};
 use miette_protocol::protocol::SourceSpan;
-use serde_json::{Map, Value};
+use serde_json::{Map, Value, push};
 use std::alloc::{AllocError, Global};
 
 // A position.
@@ -18,8 +18,7 @@ fn position_value(alloc: Global, position: Position) -> Result<Value, AllocError
     ensures { IfOk result (λ value. view value ≡ position_value position) }
 {
     let it = with_value(alloc, Map::new(alloc), "line", Value::from(position.line))?;
-    let it = with_value(alloc, it, "character", Value::from(position.column))?;
-    Ok(Value::Object(it))
+    object_with(alloc, it, "character", Value::from(position.column))
 }
 
 /// A range.
@@ -29,8 +28,7 @@ pub(crate) fn range_value(alloc: Global, region: Region) -> Result<Value, AllocE
     let start = position_value(alloc, region.start)?;
     let it = with_value(alloc, Map::new(alloc), "start", start)?;
     let end = position_value(alloc, region.end)?;
-    let it = with_value(alloc, it, "end", end)?;
-    Ok(Value::Object(it))
+    object_with(alloc, it, "end", end)
 }
 
 // The empty part at the beginning of a source.
@@ -57,8 +55,7 @@ fn edit_value(alloc: Global, source: &PositionIndex<'_>, edit: &Edit) -> Result<
 {
     let range = range_value(alloc, part(source, *edit.span()))?;
     let it = with_value(alloc, Map::new(alloc), "range", range)?;
-    let it = with_text(alloc, it, "newText", edit.text())?;
-    Ok(Value::Object(it))
+    object_with_text(alloc, it, "newText", edit.text())
 }
 
 /// A list of edits.
@@ -71,9 +68,10 @@ pub(crate) fn edits_value(
 {
     let mut values = Vec::with_capacity(alloc, edits.len())?;
     for edit in edits {
-        values.push(edit_value(alloc, source, edit)?)?;
+        let value = edit_value(alloc, source, edit)?;
+        push(&mut values, value)?;
     }
-    Ok(Value::Array(values))
+    Ok(list_value(values))
 }
 
 /// A fix of the document with a uri.
@@ -89,6 +87,5 @@ pub(crate) fn fix_value(
     let it = with_value(alloc, Map::new(alloc), "edits", edits)?;
     let it = with_text(alloc, it, "title", fix.message())?;
     let it = with_text(alloc, it, "applicability", fix.applicability().name())?;
-    let it = with_text(alloc, it, "uri", uri)?;
-    Ok(Value::Object(it))
+    object_with_text(alloc, it, "uri", uri)
 }

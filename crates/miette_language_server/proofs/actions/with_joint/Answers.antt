@@ -14,7 +14,7 @@ returns c =
     let values = c.args.list.items in
     let value = c.in_ok-joint.joint in
     let some : eqb (length values) 0 ≡ false = search rules in
-    let items : c.push.new.self.items ≡ values ++ value ∷ [] = search rules in
+    let items : c.push.new.list.items ≡ values ++ value ∷ [] = c.in_ok-push.ensures.ok in
     ap (map view) items ∙ map-append view values (value ∷ [])
     ∙ ap (λ d. map view values ++ d ∷ []) c.in_ok-joint.ensures
     ∙ joint_some c.args.uri.now c.args.source.now c.args.found values some
