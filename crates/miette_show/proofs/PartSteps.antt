@@ -69,7 +69,7 @@ held_whole (Some xs) (Some ys) None held row part one some on is next = absurd n
 held_whole (Some xs) (Some ys) (Some zs) held row part one some on is next =
     let more = some_more held row part one some in (
       is ∙ ap (parts_from held) (next_of ys zs row some next) ∙ taken_by held row part (rows_of zs) false one on
-      ∙ ap (λ l. l ++ parts_of zs) (sym (last_alone part more)),
+          ∙ ap (λ l. l ++ parts_of zs) (sym (last_alone part more)),
       (λ e. absurd (not_none part more e)),
     )
 
@@ -82,7 +82,7 @@ held_end (Some xs) (Some ys) (Some zs) held row none is next =
     let end : ys ≡ [] = none_next ys zs row none next in
     let left : zs ≡ [] = sym (next.0 ∙ ap (λ r. r ++ zs) none) ∙ end in (
       is ∙ ap (λ l. parts_from held (rows_of l)) end ∙ sym (append-nil (last_row held))
-      ∙ ap (λ l. last_row held ++ parts_of l) (sym left),
+          ∙ ap (λ l. last_row held ++ parts_of l) (sym left),
       (λ e. left),
     )
 
