@@ -72,6 +72,10 @@ position_codes q ks =
 
 -- ---- one more of several
 
+pub map_pushed : {A B : Type 0} (f : A → B) (old new : List A) (x : A) → new ≡ old ++ x ∷ []
+    → map f new ≡ map f old ++ f x ∷ []
+map_pushed f old new x e = ap (map f) e ∙ map_end f old x
+
 pub some_pushed : {A : Type 0} (old new more left rest all : List A) → new ≡ old ++ more → left ≡ more ++ rest
     → old ++ left ≡ all → new ++ rest ≡ all
 some_pushed old new more left rest all e next h =

@@ -4,12 +4,13 @@ pub mod Drafting
 pub mod Finds
 pub mod Finishing
 pub mod Gathers
+pub mod Growing
 pub mod Keys
 pub mod Made
 pub mod Noted
 pub mod Picks
+pub mod Pieces
 pub mod Reading
-pub mod Runs
 pub mod Shown
 pub mod Spelling
 pub mod Taken

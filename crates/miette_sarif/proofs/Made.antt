@@ -1,15 +1,13 @@
 -- One level of a made value.
 use Rattle.std.proofs.Common.{rules, Vec, String, Global, ◌≡◌, ℕ, List, [], ◌∷◌, ◌++◌, refl, ap, ◌∙◌, string_bytes}
-use Rattle.std.proofs.Common.{append_assoc, Bool, false, length}
 use Rattle.std.proofs.lemmas.Result.{IfOk-weaker}
-use Rattle.std.specs.Prelude.{Result, IfOk, codes, ◌==◌}
+use Rattle.std.specs.Prelude.{Result, IfOk, codes}
 use Rattle.std.specs.Str.{bytes_eq}
 use denote.Ref.{Bor}
 use Rattle.miette_sarif.specs.rules.Artifacts.{index_of, located_at}
 use Rattle.miette_json.specs.rules.Json.{Json, number, string, array, object, member}
 use Rattle.miette_sarif.specs.declared.value.Value.{Value, Number, Text, List as Listed, Object, the_lemmas}
-use Rattle.miette_sarif.specs.rules.Objects.{Pairs, listed, members_of as plain_members, message_of, object_of, pair}
-use Rattle.miette_sarif.specs.rules.Results.{inserted}
+use Rattle.miette_sarif.specs.rules.Objects.{Pairs, members_of as plain_members, object_of, pair}
 use Rattle.miette_sarif.specs.views.Values.{json_of, items_view, members_view, pairs_of}
 
 pub json_number : (n : ℕ) → json_of (Number n) ≡ number n
@@ -43,35 +41,6 @@ equal_pairs r a b h e =
 pub one_more : {E : Type 0} (r : Result (Vec (Bor (List ℕ) × Value) Global) E) (a b c : Pairs)
     → IfOk r (λ all. pairs_of all.items ≡ a ++ b) → b ≡ c → IfOk r (λ all. pairs_of all.items ≡ a ++ c)
 one_more r a b c h e = equal_pairs r (a ++ b) (a ++ c) h (ap (λ l. a ++ l) e)
-
--- two members after others
-pub two_more : {E : Type 0} (r : Result (Vec (Bor (List ℕ) × Value) Global) E) (a m : Pairs) (k l : List ℕ)
-    → (v w x y : Json) → m ≡ a ++ pair k v → v ≡ x → w ≡ y → IfOk r (λ all. pairs_of all.items ≡ m ++ pair l w)
-    → IfOk r (λ all. pairs_of all.items ≡ a ++ (pair k x ++ pair l y))
-two_more r a m k l v w x y begun first second h =
-    equal_pairs r (m ++ pair l w) (a ++ (pair k x ++ pair l y)) h (
-    ap (λ p. p ++ pair l w) begun ∙ append_assoc a (pair k v) (pair l w)
-    ∙ ap (λ j. a ++ (pair k j ++ pair l w)) first ∙ ap (λ j. a ++ (pair k x ++ pair l j)) second)
-
--- three members with lists after others
-pub three_lists : {E : Type 0} (r : Result (Vec (Bor (List ℕ) × Value) Global) E) (a one two : Pairs)
-    (k l m : List ℕ) (u v w x y z : List Json) → one ≡ a ++ listed k u → two ≡ one ++ listed l v → u ≡ x → v ≡ y
-    → w ≡ z → IfOk r (λ all. pairs_of all.items ≡ two ++ listed m w)
-    → IfOk r (λ all. pairs_of all.items ≡ a ++ (listed k x ++ (listed l y ++ listed m z)))
-three_lists r a one two k l m u v w x y z begun next first second third h =
-    equal_pairs r (two ++ listed m w) (a ++ (listed k x ++ (listed l y ++ listed m z))) h (
-    ap (λ p. p ++ listed m w) (next ∙ ap (λ p. p ++ listed l v) begun)
-    ∙ append_assoc (a ++ listed k u) (listed l v) (listed m w)
-    ∙ append_assoc a (listed k u) (listed l v ++ listed m w)
-    ∙ ap (λ j. a ++ (listed k j ++ (listed l v ++ listed m w))) first
-    ∙ ap (λ j. a ++ (listed k x ++ (listed l j ++ listed m w))) second
-    ∙ ap (λ j. a ++ (listed k x ++ (listed l y ++ listed m j))) third)
-
--- the text that is inserted, where it isn't empty
-pub inserted_some : (text : List ℕ) (empty : Bool) (v : Json) → empty ≡ (length text == 0) → empty ≡ false
-    → v ≡ message_of text → pair (codes "insertedContent") v ≡ inserted text
-inserted_some [] empty v e f g = cc
-inserted_some (c ∷ cs) empty v e f g = ap (pair (codes "insertedContent")) g
 
 -- a source by its uri and its index
 pub located_is : (whole : Json) (uri wanted : List ℕ) (uris : List (List ℕ)) (i : ℕ)

@@ -7,19 +7,18 @@ ghost use Rattle.indexmap.specs.IndexSet.{insert_all};
 ghost use Rattle.miette_sarif.specs.rules.Artifacts.{all_named, artifact, artifact_values, artifacts_in, located};
 ghost use Rattle.miette_sarif.specs.rules.Artifacts.{named_in, named_in_fixes, named_in_marks};
 ghost use Rattle.miette_sarif.specs.rules.Artifacts.{named_in_place, named_in_primary, untitled_after, uri_of};
-ghost use Rattle.miette_json.specs.rules.Json.{number, string};
-ghost use Rattle.miette_sarif.specs.rules.Objects.{object_of, pair};
+ghost use Rattle.miette_json.specs.rules.Json.{items_text, json_text, number, string};
+ghost use Rattle.miette_sarif.specs.rules.Objects.{items_of, listed, object_of, pair};
+ghost use Rattle.miette_sarif.specs.steps.Members.{further};
 ghost use Rattle.miette_sarif.specs.views.Found.{finding_of, findings_of, mark_of, name_of, names_of, place_of};
 ghost use Rattle.miette_sarif.specs.views.Found.{proposed_of, texts_of};
 ghost use Rattle.miette_sarif.specs.views.Artifacts.{artifacts_view};
-ghost use Rattle.miette_sarif.specs.views.Values.{json_of, values_of};
 
 use crate::finding::{Finding, Mark, Named, Place, Proposal};
+use crate::members::{push_count, push_plain, push_string};
 use crate::texts::insert_text;
 use crate::uri::name_uri;
-use crate::value::{
-    Value, number_value, object_value, owned_value, push_item, single, single_text, with_member,
-};
+use crate::write::push_comma;
 use indexmap::IndexSet;
 use miette_basics::numbers::push_number;
 use miette_basics::sums::sum;
@@ -185,32 +184,35 @@ pub fn artifacts_in(alloc: Global, findings: &[Finding<'_>]) -> Result<Artifacts
 }
 
 // `{"location": {"uri": "a.rs"}}`
-fn artifact(alloc: Global, uri: &String) -> Result<Value, AllocError>
-    ensures { IfOk result (λ value. json_of value ≡ artifact (string_bytes uri.now)) }
+fn push_artifact(out: &mut String, uri: &str) -> Result<(), AllocError>
+    ensures { OnOk result (string_bytes out.new ≡ string_bytes out.old ++ json_text (artifact uri.now)) }
 {
-    let uri = single_text(alloc, "uri", uri.as_str())?;
-    single(alloc, "location", uri)
+    push_string(out, "{\"location\": {\"uri\": ", uri)?;
+    push_plain(out, "}}")
 }
 
-// Appends `{"location": {"uri": "a.rs"}}` of each uri.
-fn push_artifacts(alloc: Global, list: &mut Vec<Value>, uris: &[String]) -> Result<(), AllocError>
-    ensures { OnOk result (values_of list.new.items ≡ values_of list.old.items ++ map artifact (texts_of uris.now)) }
+// Appends the artifact of each uri, and the end of their list.
+fn push_artifacts(out: &mut String, uris: &[String]) -> Result<(), AllocError>
+    ensures { OnOk result (string_bytes out.new
+        ≡ string_bytes out.old ++ items_text (items_of (map artifact (texts_of uris.now)))) }
 {
+    let mut first = true;
     for uri in uris {
-        let value = artifact(alloc, uri)?;
-        push_item(list, value)?;
+        push_comma(out, first)?;
+        push_artifact(out, uri.as_str())?;
+        first = false;
     }
-    Ok(())
+    push_plain(out, "]")
 }
 
 // `{"uri": "a.rs","index": 0}`
-fn located_at(alloc: Global, uri: String, index: usize) -> Result<Value, AllocError>
-    ensures { IfOk result (λ value. json_of value ≡ object_of (pair (codes "uri") (string (string_bytes uri))
-        ++ pair (codes "index") (number index))) }
+fn push_located_at(out: &mut String, uri: &str, index: usize) -> Result<(), AllocError>
+    ensures { OnOk result (string_bytes out.new ≡ string_bytes out.old
+        ++ json_text (object_of (pair (codes "uri") (string uri.now) ++ pair (codes "index") (number index)))) }
 {
-    let members = with_member(Vec::new(alloc), "uri", owned_value(uri))?;
-    let members = with_member(members, "index", number_value(index))?;
-    Ok(object_value(members))
+    push_string(out, "{\"uri\": ", uri)?;
+    push_count(out, ",\"index\": ", index)?;
+    push_plain(out, "}")
 }
 
 impl Artifacts {
@@ -222,22 +224,27 @@ impl Artifacts {
         uri_of(alloc, &self.untitled, &source)
     }
 
-    /// `{"uri": "a.rs","index": 0}`: a source by its uri, and by the index of the artifact that has it.
-    pub(crate) fn located(&self, alloc: Global, source: Named<'_>) -> Result<Value, AllocError>
-        ensures { IfOk result (λ value. json_of value ≡ located (artifacts_view self.now) (name_of source.entry)) }
+    /// Appends `{"uri": "a.rs","index": 0}`: a source by its uri, and by the index of the artifact that has it.
+    pub(crate) fn push_located(&self, out: &mut String, source: Named<'_>) -> Result<(), AllocError>
+        ensures { OnOk result (string_bytes out.new ≡ string_bytes out.old
+            ++ json_text (located (artifacts_view self.now) (name_of source.entry))) }
     {
-        let uri = uri_of(alloc, &self.untitled, &source)?;
-        let index = self.uris.get_index_of(uri.as_str()).unwrap_or(0);
-        located_at(alloc, uri, index)
+        let uri = uri_of(*out.allocator(), &self.untitled, &source)?;
+        let text = uri.as_str();
+        let index = self.uris.get_index_of(text).unwrap_or(0);
+        push_located_at(out, text, index)
     }
 
-    /// `[{"location": {"uri": "a.rs"}}]`
-    pub(crate) fn values(&self, alloc: Global) -> Result<Vec<Value>, AllocError>
-        ensures { IfOk result (λ list. values_of list.items ≡ artifact_values (artifacts_view self.now)) }
+    /// Appends `,"artifacts": [{"location": {"uri": "a.rs"}}]`, where there is one.
+    pub(crate) fn push_all(&self, out: &mut String) -> Result<(), AllocError>
+        ensures { OnOk result (string_bytes out.new ≡ string_bytes out.old
+            ++ further (listed (codes "artifacts") (artifact_values (artifacts_view self.now)))) }
     {
         let uris = self.uris.as_slice();
-        let mut list = Vec::with_capacity(alloc, uris.len())?;
-        push_artifacts(alloc, &mut list, uris)?;
-        Ok(list)
+        if uris.is_empty() {
+            return Ok(());
+        }
+        push_plain(out, ",\"artifacts\": [")?;
+        push_artifacts(out, uris)
     }
 }

@@ -13,8 +13,7 @@ ghost use Rattle.miette_sarif.specs.views.Tool.{tool_view};
 
 use crate::finding::Finding;
 use crate::gather::{findings_in, findings_of};
-use crate::log::{Tool, log_value};
-use crate::write::text_of;
+use crate::log::{Tool, log_text};
 use miette_json::laws;
 use miette_protocol::error::RenderError;
 use miette_protocol::protocol::Diagnostic;
@@ -172,6 +171,5 @@ fn spelled_log(
 {
     laws::the_spelling_denotes_its_value();
     laws::a_text_denotes_one_value();
-    let value = log_value(alloc, tool, &findings)?;
-    text_of(alloc, &value)
+    log_text(alloc, tool, &findings)
 }

@@ -8,6 +8,7 @@ pub mod gather;
 pub mod handler;
 mod labels;
 mod log;
+mod members;
 mod message;
 mod places;
 pub mod results;

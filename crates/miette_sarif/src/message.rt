@@ -1,12 +1,17 @@
 //! Messages: rows of text, in which braces are doubled, since single ones are placeholders of a message's arguments.
 
-ghost use Rattle.std.specs.Prelude.{◌≡◌, ◌++◌, true, map, IfOk, OnOk, string_bytes, position};
+ghost use Rattle.std.specs.Prelude.{◌≡◌, ◌++◌, true, map, OnOk, string_bytes, position};
 ghost use Rattle.std.specs.Option.{option_copied};
+ghost use Rattle.miette_json.specs.rules.Json.{json_text};
 ghost use Rattle.miette_sarif.specs.rules.Messages.{is_brace, double_byte, doubled, maybe_row, row, rows};
 ghost use Rattle.miette_sarif.specs.rules.Objects.{message_of};
-ghost use Rattle.miette_sarif.specs.views.Values.{json_of};
+ghost use Rattle.miette_sarif.specs.rules.Results.{message_text, see_row};
+ghost use Rattle.miette_sarif.specs.views.Found.{finding_of};
+ghost use Rattle.miette_sarif.specs.views.Rules.{rules_view};
 
-use crate::value::{Value, owned_value, single, single_text};
+use crate::finding::Finding;
+use crate::members::{push_plain, push_string};
+use crate::rules::Rules;
 use std::alloc::{AllocError, Global};
 
 // Whether a byte is doubled.
@@ -83,18 +88,71 @@ pub(crate) fn push_maybe(
     }
 }
 
-/// The message of a text that stands as it is.
-pub(crate) fn plain_message(alloc: Global, text: &str) -> Result<Value, AllocError>
-    ensures { IfOk result (λ value. json_of value ≡ message_of text.now) }
+/// Appends the message of a text that stands as it is: `{"text": "1"}`
+pub(crate) fn push_plain_message(out: &mut String, text: &str) -> Result<(), AllocError>
+    ensures { OnOk result (string_bytes out.new ≡ string_bytes out.old ++ json_text (message_of text.now)) }
 {
-    single_text(alloc, "text", text)
+    push_string(out, "{\"text\": ", text)?;
+    push_plain(out, "}")
 }
 
-/// The message of a text, with its braces doubled.
-pub(crate) fn message_value(alloc: Global, text: &str) -> Result<Value, AllocError>
-    ensures { IfOk result (λ value. json_of value ≡ message_of (doubled text.now)) }
+/// Appends the message of a text, with its braces doubled.
+pub(crate) fn push_doubled_message(out: &mut String, text: &str) -> Result<(), AllocError>
+    ensures { OnOk result (string_bytes out.new
+        ≡ string_bytes out.old ++ json_text (message_of (doubled text.now))) }
 {
-    let mut doubled = String::new(alloc);
+    let mut doubled = String::new(*out.allocator());
     push_doubled(&mut doubled, text)?;
-    single(alloc, "text", owned_value(doubled))
+    push_plain_message(out, doubled.as_str())
+}
+
+// Appends the url, where it isn't that of the rule.
+fn push_see<'a>(
+    alloc: Global,
+    rules: &Rules<'a>,
+    finding: &Finding<'a>,
+    out: &mut String,
+) -> Result<(), AllocError>
+    ensures { OnOk result (string_bytes out.new ≡ string_bytes out.old
+        ++ see_row ((rules_view rules.now).uri (finding_of finding.now).code) (finding_of finding.now).url) }
+{
+    let Some(url) = finding.told.url else {
+        return Ok(());
+    };
+    if rules.has_uri(alloc, finding.told.code, url)? {
+        return Ok(());
+    }
+    push_row(out, "see: ", url)
+}
+
+// Appends the rows of a message: its text, causes, help, fixes that can't be applied, and the url that its rule hasn't.
+fn push_message<'a>(
+    alloc: Global,
+    rules: &Rules<'a>,
+    finding: &Finding<'a>,
+    out: &mut String,
+) -> Result<(), AllocError>
+    ensures { OnOk result (string_bytes out.new ≡ string_bytes out.old
+        ++ message_text (rules_view rules.now) (finding_of finding.now)) }
+{
+    push_doubled(out, finding.told.message)?;
+    push_rows(out, "caused by: ", &finding.told.causes)?;
+    push_maybe(out, "help: ", finding.told.help)?;
+    push_rows(out, "fix: ", &finding.unapplied)?;
+    push_see(alloc, rules, finding, out)
+}
+
+/// Appends the message of a result: `{"text": "oops"}`
+pub(crate) fn push_told<'a>(
+    out: &mut String,
+    rules: &Rules<'a>,
+    finding: &Finding<'a>,
+) -> Result<(), AllocError>
+    ensures { OnOk result (string_bytes out.new ≡ string_bytes out.old
+        ++ json_text (message_of (message_text (rules_view rules.now) (finding_of finding.now)))) }
+{
+    let alloc = *out.allocator();
+    let mut text = String::new(alloc);
+    push_message(alloc, rules, finding, &mut text)?;
+    push_plain_message(out, text.as_str())
 }

@@ -1,159 +1,178 @@
-//! Places as values: regions, locations.
+//! Places as text: regions, locations.
 
-ghost use Rattle.std.specs.Prelude.{◌≡◌, ◌++◌, IfOk};
+ghost use Rattle.std.specs.Prelude.{◌≡◌, ◌++◌, [], OnOk, codes, string_bytes};
 ghost use Rattle.std.specs.Option.{option_map, option_copied};
-ghost use Rattle.miette_sarif.specs.rules.Objects.{object_of};
-ghost use Rattle.miette_sarif.specs.rules.Places.{byte_pairs, line_pairs, location, place_pairs, place_value};
-ghost use Rattle.miette_sarif.specs.rules.Places.{position_pairs, region, region_pairs, snippet_pairs, text_pairs};
+ghost use Rattle.miette_json.specs.rules.Json.{json_text, number};
+ghost use Rattle.miette_sarif.specs.rules.Objects.{object_of, pair};
+ghost use Rattle.miette_sarif.specs.rules.Places.{line_pairs, location, place_pairs, place_value};
+ghost use Rattle.miette_sarif.specs.rules.Places.{region, region_pairs, snippet_pairs, text_pairs};
+ghost use Rattle.miette_sarif.specs.steps.Members.{further, opened};
 ghost use Rattle.miette_sarif.specs.views.Artifacts.{artifacts_view};
 ghost use Rattle.miette_sarif.specs.views.Found.{area_of, mark_of, place_of};
-ghost use Rattle.miette_sarif.specs.views.Values.{json_of, pairs_of};
 
 use crate::artifacts::Artifacts;
 use crate::finding::{Area, Mark, Place};
-use crate::message::{message_value, plain_message};
-use crate::value::{Members, Value, number_value, object_value, with_member};
-use miette_basics::sums::sum;
-use miette_positions::place::{Position, Stretch};
-use std::alloc::{AllocError, Global};
+use crate::members::{push_count, push_ordinal, push_plain};
+use crate::message::{push_doubled_message, push_plain_message};
+use miette_positions::place::Stretch;
+use std::alloc::AllocError;
 
-// A position, which counts from 1, under two keys.
-fn with_position(
-    members: Members,
-    line: &'static str,
-    column: &'static str,
-    position: Position,
-) -> Result<Members, AllocError>
-    ensures { IfOk result (λ all. pairs_of all.items
-        ≡ pairs_of members.entry.items ++ position_pairs line.now column.now position) }
+// `{"startLine": 1,"startColumn": 9,"endLine": 1,"endColumn": 10`
+fn push_lines(out: &mut String, stretch: &Stretch) -> Result<(), AllocError>
+    ensures { OnOk result (string_bytes out.new ≡ string_bytes out.old ++ opened (line_pairs stretch.now)) }
 {
-    let members = with_member(members, line, number_value(sum(position.line, 1)?))?;
-    with_member(members, column, number_value(sum(position.column, 1)?))
+    push_ordinal(out, "{\"startLine\": ", stretch.start.position.line)?;
+    push_ordinal(out, ",\"startColumn\": ", stretch.start.position.column)?;
+    push_ordinal(out, ",\"endLine\": ", stretch.end.position.line)?;
+    push_ordinal(out, ",\"endColumn\": ", stretch.end.position.column)
 }
 
-// `"startLine": 1,"startColumn": 9,"endLine": 1,"endColumn": 10`
-fn line_members(alloc: Global, stretch: &Stretch) -> Result<Members, AllocError>
-    ensures { IfOk result (λ all. pairs_of all.items ≡ line_pairs stretch.now) }
+/// Appends a region by its lines and columns alone.
+pub(crate) fn push_stretch(out: &mut String, stretch: &Stretch) -> Result<(), AllocError>
+    ensures { OnOk result (string_bytes out.new
+        ≡ string_bytes out.old ++ json_text (object_of (line_pairs stretch.now))) }
 {
-    let members = with_position(
-        Vec::new(alloc),
-        "startLine",
-        "startColumn",
-        stretch.start.position,
-    )?;
-    with_position(members, "endLine", "endColumn", stretch.end.position)
+    push_lines(out, stretch)?;
+    push_plain(out, "}")
 }
 
-/// `{"startLine": 1,"startColumn": 9,"endLine": 1,"endColumn": 10}`
-pub(crate) fn lines_value(alloc: Global, stretch: &Stretch) -> Result<Value, AllocError>
-    ensures { IfOk result (λ value. json_of value ≡ object_of (line_pairs stretch.now)) }
-{
-    let members = line_members(alloc, stretch)?;
-    Ok(object_value(members))
-}
-
-// `"byteOffset": 8,"byteLength": 1`
-fn with_bytes(members: Members, stretch: &Stretch) -> Result<Members, AllocError>
-    ensures { IfOk result (λ all. pairs_of all.items ≡ pairs_of members.entry.items ++ byte_pairs stretch.now) }
-{
-    let start = stretch.start.offset;
-    let length = stretch.end.offset.saturating_sub(start);
-    let members = with_member(members, "byteOffset", number_value(start))?;
-    with_member(members, "byteLength", number_value(length))
-}
-
-// `"snippet": {"text": "x"}`
-fn with_snippet(
-    alloc: Global,
-    members: Members,
-    snippet: Option<&str>,
-) -> Result<Members, AllocError>
-    ensures { IfOk result (λ all. pairs_of all.items
-        ≡ pairs_of members.entry.items ++ snippet_pairs (option_copied snippet.entry)) }
+// `,"snippet": {"text": "x"}`
+fn push_snippet(out: &mut String, snippet: Option<&str>) -> Result<(), AllocError>
+    ensures { OnOk result (string_bytes out.new
+        ≡ string_bytes out.old ++ further (snippet_pairs (option_copied snippet.entry))) }
 {
     match snippet {
-        Some(text) => with_member(members, "snippet", plain_message(alloc, text)?),
-        None => Ok(members),
+        Some(text) => {
+            push_plain(out, ",\"snippet\": ")?;
+            push_plain_message(out, text)
+        }
+        None => Ok(()),
     }
 }
 
-// Lines, columns and bytes, and the text where it is shown.
-fn region_value(alloc: Global, area: &Area<'_>) -> Result<Value, AllocError>
-    ensures { IfOk result (λ value. json_of value ≡ region (area_of area.now)) }
+// Appends a region: lines, columns and bytes, and the text where it is shown.
+fn push_area(out: &mut String, area: &Area<'_>) -> Result<(), AllocError>
+    ensures { OnOk result (string_bytes out.new ≡ string_bytes out.old ++ json_text (region (area_of area.now))) }
 {
-    let members = line_members(alloc, &area.stretch)?;
-    let members = with_bytes(members, &area.stretch)?;
-    let members = with_snippet(alloc, members, area.snippet)?;
-    Ok(object_value(members))
+    let start = area.stretch.start.offset;
+    let length = area.stretch.end.offset.saturating_sub(start);
+    push_lines(out, &area.stretch)?;
+    push_count(out, ",\"byteOffset\": ", start)?;
+    push_count(out, ",\"byteLength\": ", length)?;
+    push_snippet(out, area.snippet)?;
+    push_plain(out, "}")
 }
 
-// `"region": {..}`
-fn with_region(
-    alloc: Global,
-    members: Members,
-    area: &Option<Area<'_>>,
-) -> Result<Members, AllocError>
-    ensures { IfOk result (λ all. pairs_of all.items
-        ≡ pairs_of members.entry.items ++ region_pairs (option_map area_of area.now)) }
+// `,"region": {..}`
+fn push_region(out: &mut String, area: &Option<Area<'_>>) -> Result<(), AllocError>
+    ensures { OnOk result (string_bytes out.new
+        ≡ string_bytes out.old ++ further (region_pairs (option_map area_of area.now))) }
 {
     match area {
-        Some(area) => with_member(members, "region", region_value(alloc, area)?),
-        None => Ok(members),
+        Some(area) => {
+            push_plain(out, ",\"region\": ")?;
+            push_area(out, area)
+        }
+        None => Ok(()),
     }
 }
 
 // `{"artifactLocation": {..},"region": {..}}`
-fn place_value(alloc: Global, artifacts: &Artifacts, place: &Place<'_>) -> Result<Value, AllocError>
-    ensures { IfOk result (λ value. json_of value
-        ≡ place_value (artifacts_view artifacts.now) (place_of place.now)) }
+fn push_place(out: &mut String, artifacts: &Artifacts, place: &Place<'_>) -> Result<(), AllocError>
+    ensures { OnOk result (string_bytes out.new
+        ≡ string_bytes out.old ++ json_text (place_value (artifacts_view artifacts.now) (place_of place.now))) }
 {
-    let located = artifacts.located(alloc, place.source)?;
-    let members = with_member(Vec::new(alloc), "artifactLocation", located)?;
-    let members = with_region(alloc, members, &place.area)?;
-    Ok(object_value(members))
+    push_plain(out, "{\"artifactLocation\": ")?;
+    artifacts.push_located(out, place.source)?;
+    push_region(out, &place.area)?;
+    push_plain(out, "}")
 }
 
-// `"physicalLocation": {..}`
-fn with_place(
-    alloc: Global,
+// `,"physicalLocation": {..}`
+fn push_further_place(
+    out: &mut String,
     artifacts: &Artifacts,
-    members: Members,
     place: &Option<Place<'_>>,
-) -> Result<Members, AllocError>
-    ensures { IfOk result (λ all. pairs_of all.items
-        ≡ pairs_of members.entry.items ++ place_pairs (artifacts_view artifacts.now) (option_map place_of place.now)) }
+) -> Result<(), AllocError>
+    ensures { OnOk result (string_bytes out.new ≡ string_bytes out.old
+        ++ further (place_pairs (artifacts_view artifacts.now) (option_map place_of place.now))) }
 {
     match place {
-        Some(place) => with_member(
-            members,
-            "physicalLocation",
-            place_value(alloc, artifacts, place)?,
-        ),
-        None => Ok(members),
+        Some(place) => {
+            push_plain(out, ",\"physicalLocation\": ")?;
+            push_place(out, artifacts, place)
+        }
+        None => Ok(()),
     }
 }
 
-// `"message": {"text": "here"}`
-fn with_text(alloc: Global, members: Members, text: &str) -> Result<Members, AllocError>
-    ensures { IfOk result (λ all. pairs_of all.items ≡ pairs_of members.entry.items ++ text_pairs text.now) }
+// `,"message": {"text": "here"}`
+fn push_further_text(out: &mut String, text: &str) -> Result<(), AllocError>
+    ensures { OnOk result (string_bytes out.new ≡ string_bytes out.old ++ further (text_pairs text.now)) }
 {
     if text.is_empty() {
-        return Ok(members);
+        return Ok(());
     }
-    with_member(members, "message", message_value(alloc, text)?)
+    push_plain(out, ",\"message\": ")?;
+    push_doubled_message(out, text)
 }
 
-/// `{"id": 1,"physicalLocation": {..},"message": {..}}`, after the members that were there.
-pub(crate) fn location_value(
-    alloc: Global,
+/// Appends a location with a number: `{"id": 1,"physicalLocation": {..},"message": {..}}`
+pub(crate) fn push_numbered(
+    out: &mut String,
     artifacts: &Artifacts,
-    members: Members,
+    id: usize,
     mark: &Mark<'_>,
-) -> Result<Value, AllocError>
-    ensures { IfOk result (λ value. json_of value
-        ≡ location (artifacts_view artifacts.now) (pairs_of members.entry.items) (mark_of mark.now)) }
+) -> Result<(), AllocError>
+    ensures { OnOk result (string_bytes out.new ≡ string_bytes out.old
+        ++ json_text (location (artifacts_view artifacts.now) (pair (codes "id") (number id)) (mark_of mark.now))) }
 {
-    let members = with_place(alloc, artifacts, members, &mark.place)?;
-    let members = with_text(alloc, members, mark.text)?;
-    Ok(object_value(members))
+    push_count(out, "{\"id\": ", id)?;
+    push_further_place(out, artifacts, &mark.place)?;
+    push_further_text(out, mark.text)?;
+    push_plain(out, "}")
+}
+
+// A location without a place: `{"message": {..}}`
+fn push_unplaced(out: &mut String, text: &str) -> Result<(), AllocError>
+    ensures { OnOk result (string_bytes out.new ≡ string_bytes out.old ++ json_text (object_of (text_pairs text.now))) }
+{
+    if text.is_empty() {
+        return push_plain(out, "{}");
+    }
+    push_plain(out, "{\"message\": ")?;
+    push_doubled_message(out, text)?;
+    push_plain(out, "}")
+}
+
+// A location at a place: `{"physicalLocation": {..},"message": {..}}`
+fn push_placed(
+    out: &mut String,
+    artifacts: &Artifacts,
+    place: &Place<'_>,
+    text: &str,
+) -> Result<(), AllocError>
+    ensures { OnOk result (string_bytes out.new ≡ string_bytes out.old
+        ++ json_text (object_of (pair (codes "physicalLocation")
+        (place_value (artifacts_view artifacts.now) (place_of place.now)) ++ text_pairs text.now))) }
+{
+    push_plain(out, "{\"physicalLocation\": ")?;
+    push_place(out, artifacts, place)?;
+    push_further_text(out, text)?;
+    push_plain(out, "}")
+}
+
+/// Appends a location without a number.
+pub(crate) fn push_location(
+    out: &mut String,
+    artifacts: &Artifacts,
+    mark: &Mark<'_>,
+) -> Result<(), AllocError>
+    ensures { OnOk result (string_bytes out.new ≡ string_bytes out.old
+        ++ json_text (location (artifacts_view artifacts.now) [] (mark_of mark.now))) }
+{
+    match &mark.place {
+        Some(place) => push_placed(out, artifacts, place, mark.text),
+        None => push_unplaced(out, mark.text),
+    }
 }

@@ -1,21 +1,23 @@
 //! The rules of a log: one for each code, in the order of the first result with it.
 
-ghost use Rattle.std.specs.Prelude.{◌≡◌, ◌++◌, ℕ, List, IfOk, OnOk, codes, if◌then◌else◌};
+ghost use Rattle.std.specs.Prelude.{◌≡◌, ◌++◌, ℕ, List, IfOk, OnOk, codes, if◌then◌else◌, string_bytes};
 ghost use Rattle.std.specs.Option.{option_copied};
 ghost use Rattle.std.specs.Str.{bytes_eq};
 ghost use Rattle.indexmap.specs.IndexSet.{insert_key};
 ghost use Rattle.miette_basics.specs.rules.Lists.{is_nil};
+ghost use Rattle.miette_json.specs.rules.Json.{items_text, json_text, string};
 ghost use Rattle.miette_sarif.specs.rules.Codes.{absolute_uri, codes_after, first_or, has_code, help_uri};
 ghost use Rattle.miette_sarif.specs.rules.Codes.{is_uri_of_rule, rule_pairs};
-ghost use Rattle.miette_sarif.specs.rules.Objects.{maybe_text};
+ghost use Rattle.miette_sarif.specs.rules.Objects.{items_of, listed, maybe_text, pair};
+ghost use Rattle.miette_sarif.specs.steps.Members.{further, opened};
 ghost use Rattle.miette_sarif.specs.rules.Codes.{rule_value, rule_values, rule_values_of, rules_in};
 ghost use Rattle.miette_sarif.specs.views.Found.{finding_of, findings_of};
 ghost use Rattle.miette_sarif.specs.views.Rules.{codes_seen, option_text, rules_view, uri_at};
-ghost use Rattle.miette_sarif.specs.views.Values.{json_of, pairs_of, values_of};
 
 use crate::finding::Finding;
+use crate::members::{push_count, push_plain, push_string};
 use crate::uri::{address_uri, is_absolute};
-use crate::value::{Members, Value, number_value, object_value, push_item, with_member, with_text};
+use crate::write::push_comma;
 use indexmap::{IndexMap, IndexSet};
 use std::alloc::{AllocError, Global};
 
@@ -112,55 +114,63 @@ pub(crate) fn rules_in<'a>(alloc: Global, findings: &[Finding<'a>]) -> Result<Ru
     Ok(Rules { codes, uris })
 }
 
-// `"helpUri": "https://x.org/oops"`, where there is one.
-fn with_uri(alloc: Global, members: Members, uri: Option<&String>) -> Result<Members, AllocError>
-    ensures { IfOk result (λ all. pairs_of all.items ≡ pairs_of members.entry.items
-        ++ maybe_text (codes "helpUri") (option_text (option_copied uri.entry))) }
+// `,"helpUri": "https://x.org/oops"`, where there is one.
+fn push_uri(out: &mut String, uri: Option<&String>) -> Result<(), AllocError>
+    ensures { OnOk result (string_bytes out.new ≡ string_bytes out.old
+        ++ further (maybe_text (codes "helpUri") (option_text (option_copied uri.entry)))) }
 {
     match uri {
-        Some(uri) => with_text(alloc, members, "helpUri", uri.as_str()),
-        None => Ok(members),
+        Some(uri) => push_string(out, ",\"helpUri\": ", uri.as_str()),
+        None => Ok(()),
     }
 }
 
 // `{"id": "oops","helpUri": "https://x.org/oops"}`
-fn rule_value(alloc: Global, code: &str, uri: Option<&String>) -> Result<Value, AllocError>
-    ensures { IfOk result (λ value. json_of value
-        ≡ rule_value code.now (option_text (option_copied uri.entry))) }
+fn push_rule(out: &mut String, code: &str, uri: Option<&String>) -> Result<(), AllocError>
+    ensures { OnOk result (string_bytes out.new ≡ string_bytes out.old
+        ++ json_text (rule_value code.now (option_text (option_copied uri.entry)))) }
 {
-    let members = with_text(alloc, Vec::new(alloc), "id", code)?;
-    let members = with_uri(alloc, members, uri)?;
-    Ok(object_value(members))
+    push_string(out, "{\"id\": ", code)?;
+    push_uri(out, uri)?;
+    push_plain(out, "}")
 }
 
-// Appends `{"id": "oops","helpUri": "https://x.org/oops"}` of each code.
+// Appends the rule of each code, and the end of their list.
 fn push_rules(
-    alloc: Global,
-    list: &mut Vec<Value>,
+    out: &mut String,
     codes: &[&str],
     uris: &IndexMap<&str, String>,
 ) -> Result<(), AllocError>
-    ensures { OnOk result (values_of list.new.items
-        ≡ values_of list.old.items ++ rule_values_of (codes_seen codes.now) (uri_at uris.now)) }
+    ensures { OnOk result (string_bytes out.new ≡ string_bytes out.old
+        ++ items_text (items_of (rule_values_of (codes_seen codes.now) (uri_at uris.now)))) }
 {
+    let mut first = true;
     for code in codes {
-        let value = rule_value(alloc, code, uris.get(*code))?;
-        push_item(list, value)?;
+        push_comma(out, first)?;
+        push_rule(out, code, uris.get(*code))?;
+        first = false;
     }
-    Ok(())
+    push_plain(out, "]")
 }
 
 impl<'a> Rules<'a> {
-    /// `"ruleId": "oops","ruleIndex": 0`, where there is a code.
-    pub(crate) fn members(&self, alloc: Global, code: &str) -> Result<Members, AllocError>
-        ensures { IfOk result (λ members. pairs_of members.items ≡ rule_pairs (rules_view self.now) code.now) }
+    /// Begins a result: `{"ruleId": "oops","ruleIndex": 0,"level": "error"`, the first two where there is a code.
+    pub(crate) fn push_begun(
+        &self,
+        out: &mut String,
+        code: &str,
+        level: &str,
+    ) -> Result<(), AllocError>
+        ensures { OnOk result (string_bytes out.new ≡ string_bytes out.old
+            ++ opened (rule_pairs (rules_view self.now) code.now ++ pair (codes "level") (string level.now))) }
     {
         if code.is_empty() {
-            return Ok(Vec::new(alloc));
+            return push_string(out, "{\"level\": ", level);
         }
         let index = self.codes.get_index_of(code).unwrap_or(0);
-        let members = with_text(alloc, Vec::new(alloc), "ruleId", code)?;
-        with_member(members, "ruleIndex", number_value(index))
+        push_string(out, "{\"ruleId\": ", code)?;
+        push_count(out, ",\"ruleIndex\": ", index)?;
+        push_string(out, ",\"level\": ", level)
     }
 
     /// Whether a url is the one of a code's rule.
@@ -173,13 +183,16 @@ impl<'a> Rules<'a> {
         Ok(is_absolute(url) && address_uri(alloc, url)? == *uri)
     }
 
-    /// `[{"id": "oops","helpUri": "https://x.org/oops"}]`
-    pub(crate) fn values(&self, alloc: Global) -> Result<Vec<Value>, AllocError>
-        ensures { IfOk result (λ list. values_of list.items ≡ rule_values (rules_view self.now)) }
+    /// Appends `,"rules": [{"id": "oops","helpUri": "https://x.org/oops"}]`, where there is one.
+    pub(crate) fn push_all(&self, out: &mut String) -> Result<(), AllocError>
+        ensures { OnOk result (string_bytes out.new ≡ string_bytes out.old
+            ++ further (listed (codes "rules") (rule_values (rules_view self.now)))) }
     {
         let codes = self.codes.as_slice();
-        let mut list = Vec::with_capacity(alloc, codes.len())?;
-        push_rules(alloc, &mut list, codes, &self.uris)?;
-        Ok(list)
+        if codes.is_empty() {
+            return Ok(());
+        }
+        push_plain(out, ",\"rules\": [")?;
+        push_rules(out, codes, &self.uris)
     }
 }

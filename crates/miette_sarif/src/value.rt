@@ -56,15 +56,6 @@ pub fn push_item(list: &mut Vec<Value>, value: Value) -> Result<(), AllocError>
     Ok(())
 }
 
-/// A list with one item.
-pub fn list_of_one(alloc: Global, value: Value) -> Result<Vec<Value>, AllocError>
-    ensures { IfOk result (λ list. values_of list.items ≡ json_of value ∷ []) }
-{
-    let mut list = Vec::new(alloc);
-    push_item(&mut list, value)?;
-    Ok(list)
-}
-
 /// An object.
 pub fn object_value(members: Members) -> Value
     ensures { json_of result ≡ object_of (pairs_of members.entry.items) }
@@ -110,14 +101,6 @@ pub fn with_list(
         return Ok(members);
     }
     with_member(members, key, list_value(items))
-}
-
-/// An object with a text as its one member.
-pub fn single_text(alloc: Global, key: &'static str, text: &str) -> Result<Value, AllocError>
-    ensures { IfOk result (λ whole. json_of whole ≡ object_of (pair key.now (string text.now))) }
-{
-    let members = with_text(alloc, Vec::new(alloc), key, text)?;
-    Ok(object_value(members))
 }
 
 /// An object with one member.

@@ -77,8 +77,8 @@ fn push_key(out: &mut String, key: &str) -> Result<(), AllocError>
     out.push_str(": ")
 }
 
-// A comma, but not before the first item of a list.
-fn push_comma(out: &mut String, first: bool) -> Result<(), AllocError>
+/// A comma, but not before the first item of a list.
+pub(crate) fn push_comma(out: &mut String, first: bool) -> Result<(), AllocError>
     ensures { OnOk result (string_bytes out.new ≡ string_bytes out.old ++ (if first then [] else 44 ∷ [])) }
 {
     if first {

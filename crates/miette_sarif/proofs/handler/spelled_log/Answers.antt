@@ -1,4 +1,4 @@
-use Rattle.std.proofs.Common.{ap, ◌∙◌}
+use Rattle.std.proofs.Common.{ap}
 use Rattle.std.proofs.lemmas.Result.{IfOk-weaker}
 use Rattle.std.proofs.lemmas.Str.{IsUtf8-string_bytes}
 use Rattle.miette_sarif.specs.rules.Log.{log}
@@ -10,7 +10,7 @@ use Rattle.miette_sarif.proofs.handler.spelled_log.Goals as goal
 pub returns : goal.returns
 returns c =
     let tool = tool_view c.args.tool.now in
-    IfOk-weaker c.text_of.result _ _ (λ text spelled ts found.
+    IfOk-weaker c.log_text.result _ _ (λ text spelled ts found.
     is_log c.the_spelling_denotes_its_value.ensures.tokens c.a_text_denotes_one_value.ensures tool ts _ found _
-    (c.in_ok-value.ensures ∙ ap (λ fs. log tool (findings_of fs)) c.deref.ensures.value) _ (IsUtf8-string_bytes text)
-    spelled) c.text_of.ensures
+    (ap (λ fs. log tool (findings_of fs)) c.deref.ensures.value) _ (IsUtf8-string_bytes text) spelled)
+    c.log_text.ensures

@@ -1,20 +1,39 @@
-use Rattle.std.proofs.Common.{◌+◌, ap, drop, map}
-use Rattle.miette_sarif.specs.rules.Results.{fix_value}
+use Rattle.std.proofs.Common.{List, ap, map, refl, string_bytes, ◌++◌, ◌∙◌}
+use Rattle.std.proofs.lemmas.Result.{on_ok_weaker}
+use Rattle.std.specs.Prelude.{codes}
+use Rattle.json.specs.Print.{escape_byte}
+use Rattle.miette_json.specs.rules.Json.{Json}
+use Rattle.miette_sarif.specs.declared.finding.Proposal.{Proposal}
+use Rattle.miette_sarif.specs.rules.Artifacts.{Artifacts}
+use Rattle.miette_sarif.specs.rules.Objects.{array_of, listed, pair}
+use Rattle.miette_sarif.specs.rules.Results.{fix_value, fix_values}
+use Rattle.miette_sarif.specs.steps.Members.{texts_listed}
 use Rattle.miette_sarif.specs.views.Artifacts.{artifacts_view}
 use Rattle.miette_sarif.specs.views.Found.{proposed_of, texts_of}
-use Rattle.miette_sarif.specs.views.Values.{json_of, values_of}
-use Rattle.miette_sarif.proofs.Gathers.{next_in}
-use Rattle.miette_sarif.proofs.Keys.{first_added}
+use Rattle.miette_sarif.proofs.Growing.{list_put, none_put, some_put}
+use Rattle.miette_sarif.proofs.Pieces.{fixes_listed}
 use Rattle.miette_sarif.proofs.results.push_fixes.Goals as goal
 
-pub loop-fix-preserved : goal.loop-fix-preserved
-loop-fix-preserved c =
-    let l = c.loop-fix in
-    let value = fix_value (artifacts_view c.args.artifacts.now) in
-    first_added (values_of l.list.items) (values_of c.push_first.new.list.items) (texts_of l.spelled.keys)
-    (texts_of c.push_first.new.spelled.keys) (json_of c.in_ok-value.value) _
-    (map value (map proposed_of (drop l.fix-index c.args.fixes.now)))
-    (map value (map proposed_of (drop (l.fix-index + 1) c.args.fixes.now))) _
-    c.in_ok-push_first.ensures.values c.in_ok-push_first.ensures.texts c.in_ok-value.ensures
-    (ap (map value) (next_in proposed_of c.args.fixes.now l.fix-index c.fix-item.result c.loop-fix-test.true
-    c.fix-item.is)) l.invariant
+abbrev values : Artifacts → List Proposal → List Json
+values a ps = fix_values a (map proposed_of ps)
+
+pub returns-then-is_empty : goal.returns-then-is_empty
+returns-then-is_empty c =
+    let a = artifacts_view c.args.artifacts.now in
+    none_put c.args.fixes.now (λ ps. listed (codes "fixes") (values a ps))
+    (string_bytes c.args.out.now) c.is_empty.result refl c.is_empty.ensures c.if-is_empty.true
+
+pub returns : goal.returns
+unfolding escape_byte
+returns c =
+    let a = artifacts_view c.args.artifacts.now in
+    let fixes = c.args.fixes.now in
+    let old = string_bytes c.args.out.now in
+    let one = string_bytes c.push_plain.new.out in
+    let all = map (fix_value a) (map proposed_of fixes) in
+    on_ok_weaker c.push_texts.result (λ put. some_put fixes (λ ps. pair (codes "fixes") (array_of (values a ps)))
+    (λ ps. listed (codes "fixes") (values a ps)) old _ c.is_empty.result (λ p ps. refl) c.is_empty.ensures
+    c.if-is_empty.false (list_put (codes "fixes") (values a fixes) old one _ c.in_ok-push_plain.ensures
+    (put ∙ ap (λ ts. one ++ texts_listed (texts_of ts)) c.as_slice.ensures.keys
+    ∙ ap (λ l. one ++ l) (fixes_listed _ (texts_of c.new-texts.result.keys) all (ap texts_of c.new-texts.ensures.empty)
+    c.in_ok-insert_fixes.ensures)))) c.push_texts.ensures

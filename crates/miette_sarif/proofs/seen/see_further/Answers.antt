@@ -1,8 +1,8 @@
-use Rattle.std.proofs.Common.{◌∙◌, ap, arith, map}
-use Rattle.std.proofs.lemmas.List.{map-append}
+use Rattle.std.proofs.Common.{ap, arith, map}
 use Rattle.miette_tree.specs.views.Attached.{section_of}
 use Rattle.miette_sarif.specs.views.Sources.{seen_of}
 use Rattle.miette_sarif.proofs.Gathers.{all_further, next_in, no_further, none_in, one_further}
+use Rattle.miette_sarif.proofs.Keys.{map_pushed}
 use Rattle.miette_sarif.proofs.seen.see_further.Goals as goal
 
 pub loop-section-init : goal.loop-section-init
@@ -14,7 +14,7 @@ loop-section-preserved g c =
     one_further _ _ _ _ _ _ _ _ _ _ _ (next_in (section_of g.S.SourceCode.source) c.args.sections.now l.section-index
     c.section-item.result c.loop-section-test.true c.section-item.is) l.invariant c.in_ok-seen.ensures.seen
     c.source.ensures c.in_ok-seen.ensures.counted
-    (ap (map seen_of) c.in_ok-push.ensures.items ∙ map-append seen_of _ _)
+    (map_pushed seen_of l.list.items c.push.new.self.items c.in_ok-seen.seen c.in_ok-push.ensures.items)
 
 pub returns-clause-seen : goal.returns-clause-seen
 returns-clause-seen g c =

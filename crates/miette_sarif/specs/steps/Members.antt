@@ -1,0 +1,29 @@
+-- The text of an object as it is written, member by member.
+use Rattle.std.specs.Prelude.{Bool, true, false, ℕ, List, [], ◌∷◌, ◌++◌}
+use Rattle.miette_json.specs.rules.Json.{json_text, quoted_text}
+use Rattle.miette_sarif.specs.rules.Objects.{Pairs}
+
+-- further members of an object, each behind a comma
+abbrev pub further : Pairs → List ℕ
+further [] = []
+further (m ∷ ms) = 44 ∷ (quoted_text m.0 ++ (58 ∷ 32 ∷ (json_text m.1 ++ further ms)))
+
+-- an object's members, without its end
+abbrev pub opened : Pairs → List ℕ
+opened [] = 123 ∷ []
+opened (m ∷ ms) = 123 ∷ (quoted_text m.0 ++ (58 ∷ 32 ∷ (json_text m.1 ++ further ms)))
+
+-- further items of a list by their texts, and its end
+abbrev pub more_texts_listed : List (List ℕ) → List ℕ
+more_texts_listed [] = 93 ∷ []
+more_texts_listed (t ∷ ts) = 44 ∷ (t ++ more_texts_listed ts)
+
+-- the items of a list by their texts, and its end
+abbrev pub texts_listed : List (List ℕ) → List ℕ
+texts_listed [] = 93 ∷ []
+texts_listed (t ∷ ts) = t ++ more_texts_listed ts
+
+-- the rest of them, from the first item on or from a later one on
+abbrev pub rest_texts : Bool → List (List ℕ) → List ℕ
+rest_texts true ts = texts_listed ts
+rest_texts false ts = more_texts_listed ts
