@@ -1,3 +1,4 @@
+pub mod Filling
 pub mod Grouping
 pub mod Parts
 pub mod Putting

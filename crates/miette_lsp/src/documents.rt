@@ -7,10 +7,12 @@ ghost use Rattle.std.specs.Option.{option_map};
 ghost use Rattle.std.specs.Str.{bytes_eq};
 ghost use Rattle.indexmap.specs.IndexSet.{insert_key};
 ghost use Rattle.miette_lsp.specs.rules.Diagnostics.{diagnostic};
-ghost use Rattle.miette_lsp.specs.rules.Documents.{all_diagnostics, document, documents, mark_source, place_source};
+ghost use Rattle.miette_lsp.specs.rules.Documents.{all_diagnostics, document, documents, documents_in, mark_source};
+ghost use Rattle.miette_lsp.specs.rules.Documents.{place_source};
 ghost use Rattle.miette_lsp.specs.steps.Putting.{AreLists, AreSomeLists, IsPut, documents_of};
 ghost use Rattle.miette_lsp.specs.views.Grouped.{lists_of};
 ghost use Rattle.miette_sarif.specs.rules.Findings.{Finding as Found};
+ghost use Rattle.miette_sarif.specs.rules.Objects.{array_of};
 ghost use Rattle.miette_sarif.specs.views.Artifacts.{artifacts_view};
 ghost use Rattle.miette_sarif.specs.views.Found.{finding_of, findings_of, mark_of, name_of, place_of, texts_of};
 ghost use Rattle.miette_sarif.specs.views.Values.{json_of, values_of};
@@ -186,6 +188,21 @@ fn told(alloc: Global, grouped: Grouped) -> Result<Vec<Value>, AllocError>
     documents_of(alloc, uris.as_slice(), lists)
 }
 
+// The documents of findings, the sources without a name numbered as these artifacts have them.
+fn documents_in(
+    alloc: Global,
+    tool: &str,
+    artifacts: &Artifacts,
+    findings: &[Finding<'_>],
+) -> Result<Value, AllocError>
+    ensures { IfOk result (λ value. json_of value
+        ≡ array_of (documents_in tool.now (artifacts_view artifacts.now).untitled (findings_of findings.now))) }
+{
+    let grouped = lists_by_uri(alloc, tool, artifacts, findings)?;
+    let documents = told(alloc, grouped)?;
+    Ok(list_value(documents))
+}
+
 /// The documents of findings, as of a tool of this name: for each source that one lies in its `uri` and its
 /// `diagnostics`, in the order of the first finding there.
 ///
@@ -199,27 +216,25 @@ pub fn documents_value(
     ensures { IfOk result (λ value. json_of value ≡ documents tool.now (findings_of findings.now)) }
 {
     let artifacts = artifacts_in(alloc, findings)?;
-    let grouped = lists_by_uri(alloc, tool, &artifacts, findings)?;
-    let documents = told(alloc, grouped)?;
-    Ok(list_value(documents))
+    documents_in(alloc, tool, &artifacts, findings)
 }
 
-// Appends the diagnostics of findings.
-fn push_diagnostics(
+// The diagnostics of findings, the sources without a name numbered as these artifacts have them.
+fn diagnostics_in(
     alloc: Global,
     tool: &str,
     artifacts: &Artifacts,
-    list: &mut Vec<Value>,
     findings: &[Finding<'_>],
-) -> Result<(), AllocError>
-    ensures { OnOk result (values_of list.new.items ≡ values_of list.old.items
-        ++ map (diagnostic tool.now (artifacts_view artifacts.now).untitled) (findings_of findings.now)) }
+) -> Result<Vec<Value>, AllocError>
+    ensures { IfOk result (λ list. values_of list.items
+        ≡ map (diagnostic tool.now (artifacts_view artifacts.now).untitled) (findings_of findings.now)) }
 {
+    let mut list = Vec::with_capacity(alloc, findings.len())?;
     for finding in findings {
         let value = diagnostic_value(alloc, tool, artifacts, finding)?;
-        push_item(list, value)?;
+        push_item(&mut list, value)?;
     }
-    Ok(())
+    Ok(list)
 }
 
 /// The diagnostics of all findings, in their order, whatever source they lie in.
@@ -234,7 +249,5 @@ pub fn diagnostics_of(
     ensures { IfOk result (λ list. values_of list.items ≡ all_diagnostics tool.now (findings_of findings.now)) }
 {
     let artifacts = artifacts_in(alloc, findings)?;
-    let mut list = Vec::with_capacity(alloc, findings.len())?;
-    push_diagnostics(alloc, tool, &artifacts, &mut list, findings)?;
-    Ok(list)
+    diagnostics_in(alloc, tool, &artifacts, findings)
 }
