@@ -2,3 +2,4 @@ pub mod Finding
 pub mod Kept
 pub mod LogsHold
 pub mod NameSteps
+pub mod Steps
