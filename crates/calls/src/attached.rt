@@ -14,14 +14,15 @@ use miette_tree::miette;
 use std::alloc::{AllocError, Global};
 
 /// The calls of this module.
-pub static NAMES: [&str; 6] = [
-    "Report::with_snippets",
-    "Report::with_owned_snippets",
-    "Report::with_all_snippets",
-    "Report::with_fix",
-    "Report::with_fixes",
-    "miette! for a report with fixes",
-];
+#[derive(Clone, Copy)]
+pub enum Call {
+    WithSnippets,
+    WithOwnedSnippets,
+    WithAllSnippets,
+    WithFix,
+    WithFixes,
+    Macro,
+}
 
 /// A report over sources that are texts.
 type Plain = Report<MietteDiagnostic, String>;
@@ -38,20 +39,20 @@ static BEHIND: Written<'static> = Written {
     ..M
 };
 
-/// Makes the call of this name.
+/// Makes a call.
 ///
 /// # Errors
 /// Where memory is refused for what it is given.
-pub fn make(alloc: Global, name: &str, row: &mut Rows) -> Called {
-    match name {
-        "Report::with_snippets" => made(row, over_a_text(alloc)),
-        "Report::with_owned_snippets" => {
+pub fn make(alloc: Global, call: Call, row: &mut Rows) -> Called {
+    match call {
+        Call::WithSnippets => made(row, over_a_text(alloc)),
+        Call::WithOwnedSnippets => {
             made(row, report_and_further(alloc, over_a_text(alloc), &BEHIND))
         }
-        "Report::with_all_snippets" => made(row, over_another(alloc)),
-        "Report::with_fix" => made(row, report_and_fix(alloc, with_empty_fix(alloc), &COLON)),
-        "Report::with_fixes" => made(row, with_other_fixes(alloc)),
-        _ => made_by_macro(row, &by_macro(alloc)?),
+        Call::WithAllSnippets => made(row, over_another(alloc)),
+        Call::WithFix => made(row, report_and_fix(alloc, with_empty_fix(alloc), &COLON)),
+        Call::WithFixes => made(row, with_other_fixes(alloc)),
+        Call::Macro => made_by_macro(row, &by_macro(alloc)?),
     }
     Ok(())
 }
@@ -67,9 +68,14 @@ fn over_a_text(alloc: Global) -> Result<Plain, AllocError> {
     oops(alloc)?.with_snippets(alloc, text, labels)
 }
 
+/// Labels over another text.
+fn section<S: SourceCode>(alloc: Global, labels: &[Label<'_>]) -> Result<Snippets<S>, AllocError> {
+    let labels = labels_of(alloc, labels)?;
+    Ok(Snippets::over_owned(source_of(alloc, "", b"b\n")?, labels))
+}
+
 fn over_another(alloc: Global) -> Result<Plain, AllocError> {
-    let other = Snippets::over_owned(source_of(alloc, "", b"b\n")?, labels_of(alloc, &THIRD)?);
-    let others = vec![in alloc; other]?;
+    let others = list_of(alloc, section(alloc, &THIRD))?;
     over_a_text(alloc)?.with_all_snippets(alloc, others)
 }
 
@@ -84,11 +90,7 @@ fn with_other_fixes(alloc: Global) -> Result<Plain, AllocError> {
 }
 
 fn by_macro(alloc: Global) -> Result<Report, AllocError> {
-    let section = Snippets::over_owned(
-        source_of(alloc, "", b"b\n")?,
-        labels_of(alloc, BEHIND.labels)?,
-    );
-    let snippets = vec![in alloc; section]?;
+    let snippets = list_of(alloc, section(alloc, BEHIND.labels))?;
     let fixes = list_of(alloc, fix_of(alloc, &COLON))?;
     Ok(with_both(alloc, snippets, fixes))
 }

@@ -8,36 +8,35 @@ use miette_tree::diagnostic;
 use std::alloc::{AllocError, Global};
 
 /// The calls of this module.
-pub static NAMES: [&str; 11] = [
-    "MietteDiagnostic::new",
-    "MietteDiagnostic::copied",
-    "MietteDiagnostic::with_code",
-    "MietteDiagnostic::with_help",
-    "MietteDiagnostic::with_url",
-    "MietteDiagnostic::with_label",
-    "MietteDiagnostic::with_labels_from",
-    "MietteDiagnostic::and_label",
-    "MietteDiagnostic::and_labels",
-    "MietteDiagnostic::clone",
-    "diagnostic!",
-];
+#[derive(Clone, Copy)]
+pub enum Call {
+    New,
+    Copied,
+    WithCode,
+    WithHelp,
+    WithUrl,
+    WithLabel,
+    WithLabelsFrom,
+    AndLabel,
+    AndLabels,
+    Clones,
+    Macro,
+}
 
-/// Makes the call of this name.
+/// Makes a call.
 ///
 /// # Errors
 /// Where memory is refused for what it is given.
-pub fn make(alloc: Global, name: &str, row: &mut Rows) -> Called {
-    match name {
-        "MietteDiagnostic::new" => row.answer(MietteDiagnostic::new(alloc, "oops!")),
-        "diagnostic!" => row.answer(by_macro(alloc)),
-        "MietteDiagnostic::clone" => row.clones(full_diagnostic(alloc)?),
-        "MietteDiagnostic::with_label" | "MietteDiagnostic::and_label" => {
-            return with_label(alloc, name, row);
-        }
-        "MietteDiagnostic::and_labels" => return and_labels(alloc, row),
+pub fn make(alloc: Global, call: Call, row: &mut Rows) -> Called {
+    match call {
+        Call::New => row.answer(MietteDiagnostic::new(alloc, "oops!")),
+        Call::Macro => row.answer(by_macro(alloc)),
+        Call::Clones => return row.clones(full_diagnostic(alloc)),
+        Call::WithLabel | Call::AndLabel => return with_label(alloc, call, row),
+        Call::AndLabels => return and_labels(alloc, row),
         _ => {
             let full = given_diagnostic(alloc, row)?;
-            row.answer(changed(alloc, name, full));
+            row.answer(changed(alloc, call, full));
         }
     }
     Ok(())
@@ -60,29 +59,34 @@ pub fn given_diagnostic(alloc: Global, row: &mut Rows) -> Result<MietteDiagnosti
     Ok(full)
 }
 
-/// What the call of this name makes of a diagnostic.
+/// What a call makes of a diagnostic.
 fn changed(
     alloc: Global,
-    name: &str,
+    call: Call,
     full: MietteDiagnostic,
 ) -> Result<MietteDiagnostic, AllocError> {
-    match name {
-        "MietteDiagnostic::copied" => MietteDiagnostic::copied(alloc, &full),
-        "MietteDiagnostic::with_code" => full.with_code(alloc, "c::d"),
-        "MietteDiagnostic::with_help" => full.with_help(alloc, "try again"),
-        "MietteDiagnostic::with_url" => full.with_url(alloc, "http://y"),
-        _ => full.with_labels_from(alloc, [4, 7].into_iter().map(LabeledSpan::underline)),
+    match call {
+        Call::WithCode => full.with_code(alloc, "c::d"),
+        Call::WithHelp => full.with_help(alloc, "try again"),
+        Call::WithUrl => full.with_url(alloc, "http://y"),
+        Call::WithLabelsFrom => {
+            full.with_labels_from(alloc, [4, 7].into_iter().map(LabeledSpan::underline))
+        }
+        _ => {
+            let copy = MietteDiagnostic::copied(alloc, &full);
+            drop(full);
+            copy
+        }
     }
 }
 
-fn with_label(alloc: Global, name: &str, row: &mut Rows) -> Called {
+fn with_label(alloc: Global, call: Call, row: &mut Rows) -> Called {
     let label = LabeledSpan::at(alloc, (0, 6), "and this")?;
     let full = given_diagnostic(alloc, row)?;
-    if name == "MietteDiagnostic::with_label" {
-        row.answer(full.with_label(alloc, label));
-    } else {
-        row.answer(full.and_label(alloc, label));
-    }
+    row.answer(match call {
+        Call::WithLabel => full.with_label(alloc, label),
+        _ => full.and_label(alloc, label),
+    });
     Ok(())
 }
 

@@ -4,7 +4,7 @@ use crate::fixtures::Made;
 use crate::rows::{Called, Done, Rows};
 use crate::stopping::{Reads, Red};
 use crate::themes::terminal;
-use crate::worked::report;
+use crate::worked::{EXAMPLES, Example, report};
 use miette::handlers::{
     BriefReportHandler, DebugReportHandler, Form, GraphicalReportHandler, JSONReportHandler,
     NarratableReportHandler, ReportHandler,
@@ -17,42 +17,39 @@ use miette::theme::GraphicalTheme;
 use std::alloc::{AllocError, Global};
 use std::cell::Cell;
 
-/// The reports.
-pub static NAMES: [&str; 17] = [
-    "one label",
-    "labels on one line",
-    "wide characters",
-    "tabs",
-    "lines that cross",
-    "own context",
-    "many labels",
-    "a linked cause",
-    "causes with sources",
-    "texts",
-    "related reports",
-    "related reports in one another",
-    "a refused label",
-    "labels over two sources",
-    "fixes",
-    "fixes of a cause",
-    "a cause over a source that stops",
-];
+/// A handler.
+#[derive(Clone, Copy)]
+pub enum By {
+    Graphical,
+    Nested,
+    Highlighted,
+    Chosen,
+    Wanting,
+    NestedWanting,
+    ChosenWanting,
+    ChosenNarrated,
+    Narrated,
+    Brief,
+    Github,
+    Json,
+    Debug,
+}
 
 /// The handlers.
-pub static HANDLERS: [&str; 13] = [
-    "graphical",
-    "nested",
-    "highlighted",
-    "chosen",
-    "wanting",
-    "nested wanting",
-    "chosen wanting",
-    "chosen narrated",
-    "narrated",
-    "brief",
-    "github",
-    "json",
-    "debug",
+static HANDLERS: [(&str, By); 13] = [
+    ("graphical", By::Graphical),
+    ("nested", By::Nested),
+    ("highlighted", By::Highlighted),
+    ("chosen", By::Chosen),
+    ("wanting", By::Wanting),
+    ("nested wanting", By::NestedWanting),
+    ("chosen wanting", By::ChosenWanting),
+    ("chosen narrated", By::ChosenNarrated),
+    ("narrated", By::Narrated),
+    ("brief", By::Brief),
+    ("github", By::Github),
+    ("json", By::Json),
+    ("debug", By::Debug),
 ];
 
 /// The rows that are asked for: those of a report, of a handler, or all.
@@ -60,26 +57,26 @@ pub static HANDLERS: [&str; 13] = [
 /// # Errors
 /// `Write` where standard output took no more.
 pub fn rows_of(alloc: Global, rows: &mut Rows, name: &str, handler: &str) -> Done {
-    for one in &NAMES {
-        if name.is_empty() || name == *one {
-            rows_by(alloc, rows, one, handler)?;
+    for example in &EXAMPLES {
+        if name.is_empty() || name == example.0 {
+            rows_by(alloc, rows, *example, handler)?;
         }
     }
     Ok(())
 }
 
 /// The rows of a report that are asked for.
-fn rows_by(alloc: Global, rows: &mut Rows, name: &str, handler: &str) -> Done {
+fn rows_by(alloc: Global, rows: &mut Rows, example: (&str, Example), handler: &str) -> Done {
     for by in &HANDLERS {
-        if handler.is_empty() || handler == *by {
-            row_by(alloc, rows, name, by)?;
+        if handler.is_empty() || handler == by.0 {
+            row_by(alloc, rows, example, *by)?;
         }
     }
     Ok(())
 }
 
 /// The row of a report by a handler.
-fn row_by(alloc: Global, row: &mut Rows, name: &str, handler: &str) -> Done {
+fn row_by(alloc: Global, row: &mut Rows, (name, example): (&str, Example), by: (&str, By)) -> Done {
     let reads = Reads {
         count: Cell::new(0),
         fails_at: 1,
@@ -87,12 +84,12 @@ fn row_by(alloc: Global, row: &mut Rows, name: &str, handler: &str) -> Done {
     };
     row.text(name);
     row.text(", ");
-    row.text(handler);
-    let called = render_made(alloc, row, report(alloc, name, &reads), handler, 1);
+    row.text(by.0);
+    let called = render_made(alloc, row, report(alloc, example, &reads), by.1, 1);
     row.end(called)
 }
 
-/// The text `> ` and what the handler of this name puts behind it, of a report that was made.
+/// The text `> ` and what the handler puts behind it, of a report that was made.
 ///
 /// # Errors
 /// Where memory is refused for the handler, or was for the report.
@@ -100,47 +97,39 @@ pub fn render_made(
     alloc: Global,
     row: &mut Rows,
     report: Result<Made<'_>, AllocError>,
-    handler: &str,
+    by: By,
     lines: usize,
 ) -> Called {
-    tell(alloc, row, handler, &report?, lines)
+    tell(alloc, row, by, &report?, lines)
 }
 
 /// The same of a report that is lent.
-fn tell(alloc: Global, row: &mut Rows, handler: &str, report: &Made<'_>, lines: usize) -> Called {
-    match handler {
-        "narrated" => {
+fn tell(alloc: Global, row: &mut Rows, by: By, report: &Made<'_>, lines: usize) -> Called {
+    match by {
+        By::Narrated => {
             let telling = NarratableReportHandler::new().with_context_lines(lines);
             render_by(alloc, row, Ok(telling), report)
         }
-        "brief" => render_by(alloc, row, Ok(BriefReportHandler::new()), report),
-        "github" => {
+        By::Brief => render_by(alloc, row, Ok(BriefReportHandler::new()), report),
+        By::Github => {
             let telling = BriefReportHandler::new().with_form(Form::Github);
             render_by(alloc, row, Ok(telling), report)
         }
-        "json" => render_by(alloc, row, Ok(JSONReportHandler::new()), report),
-        "debug" => render_by(alloc, row, Ok(DebugReportHandler::new()), report),
-        _ => draw(alloc, row, handler, report, lines),
-    }
-}
-
-/// The same for handlers that draw, and for those that options choose.
-fn draw(alloc: Global, row: &mut Rows, handler: &str, report: &Made<'_>, lines: usize) -> Called {
-    if handler == "graphical" {
-        render_by(alloc, row, plain_drawing(alloc, lines), report)
-    } else if handler.starts_with("chosen") {
-        render_by(alloc, row, chosen(alloc, handler, lines), report)
-    } else {
-        render_by(alloc, row, drawing(alloc, handler, lines), report)
+        By::Json => render_by(alloc, row, Ok(JSONReportHandler::new()), report),
+        By::Debug => render_by(alloc, row, Ok(DebugReportHandler::new()), report),
+        By::Graphical => render_by(alloc, row, plain_drawing(alloc, lines), report),
+        By::Chosen | By::ChosenWanting | By::ChosenNarrated => {
+            render_by(alloc, row, chosen(alloc, by, lines), report)
+        }
+        _ => render_by(alloc, row, drawing(alloc, by, lines), report),
     }
 }
 
 /// All lines in red, or one, behind which memory is refused.
-fn red_of(handler: &str) -> Red {
-    if handler.ends_with("wanting") {
-        Red(2)
-    } else {
-        Red(usize::MAX)
+fn red_of(by: By) -> Red {
+    match by {
+        By::Wanting | By::NestedWanting | By::ChosenWanting => Red(2),
+        _ => Red(usize::MAX),
     }
 }
 
@@ -157,29 +146,25 @@ pub fn plain_drawing(
     Ok(drawing.with_width(40).with_context_lines(lines))
 }
 
-fn drawing(
-    alloc: Global,
-    handler: &str,
-    lines: usize,
-) -> Result<GraphicalReportHandler<Red>, AllocError> {
+fn drawing(alloc: Global, by: By, lines: usize) -> Result<GraphicalReportHandler<Red>, AllocError> {
     let drawing = GraphicalReportHandler::themed(GraphicalTheme::unicode(alloc)?);
     Ok(
         drawing
             .with_width(30)
             .with_context_lines(lines)
-            .with_show_related_as_nested(handler.starts_with("nested"))
-            .with_syntax_highlighting(red_of(handler)),
+            .with_show_related_as_nested(matches!(by, By::Nested | By::NestedWanting))
+            .with_syntax_highlighting(red_of(by)),
     )
 }
 
-fn chosen(alloc: Global, handler: &str, lines: usize) -> Result<MietteHandler<Red>, AllocError> {
+fn chosen(alloc: Global, by: By, lines: usize) -> Result<MietteHandler<Red>, AllocError> {
     let terminal = terminal(alloc)?;
     let options: MietteHandlerOpts<Red> = MietteHandlerOpts::default();
     options
         .width(30)
-        .force_narrated(handler.ends_with("narrated"))
+        .force_narrated(matches!(by, By::ChosenNarrated))
         .context_lines(lines)
-        .with_syntax_highlighting(red_of(handler))
+        .with_syntax_highlighting(red_of(by))
         .build(alloc, &terminal)
 }
 

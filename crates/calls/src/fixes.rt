@@ -6,29 +6,35 @@ use miette_fixes::fix::{Edit, Fix, apply_all};
 use std::alloc::{AllocError, Global};
 
 /// The calls of this module.
-pub static NAMES: [&str; 7] = [
-    "Edit::delete",
-    "Edit::clone",
-    "Fix::new",
-    "Fix::with_edit",
-    "Fix::with_edits_from",
-    "Fix::apply",
-    "apply_all",
-];
+#[derive(Clone, Copy)]
+pub enum Call {
+    Delete,
+    EditClones,
+    New,
+    WithEdit,
+    WithEditsFrom,
+    Apply,
+    ApplyAll,
+}
 
-/// Makes the call of this name.
+/// Makes a call.
 ///
 /// # Errors
 /// Where memory is refused for what it is given.
-pub fn make(alloc: Global, name: &str, row: &mut Rows) -> Called {
-    match name {
-        "Edit::delete" => row.value(&Edit::delete(alloc, (0, 1))),
-        "Edit::clone" => row.clones(colon(alloc)?),
-        "Fix::new" => row.answer(Fix::new(alloc, "m")),
-        "Fix::with_edit" => row.answer(fix_of(alloc, &COLON)),
-        "Fix::with_edits_from" => row.answer(with_edits(alloc)),
-        "Fix::apply" => row.answer(fixed(alloc)),
-        _ => row.answer(apply_all(alloc, b"if x", &[&with_edits(alloc)?])),
+pub fn make(alloc: Global, call: Call, row: &mut Rows) -> Called {
+    match call {
+        Call::Delete => row.value(&Edit::delete(alloc, (0, 1))),
+        Call::EditClones => return row.clones(colon(alloc)),
+        Call::New => row.answer(Fix::new(alloc, "m")),
+        Call::WithEdit => row.answer(fix_of(alloc, &COLON)),
+        Call::WithEditsFrom => row.answer(with_edits(alloc)),
+        Call::Apply => row.answer(fixed(alloc)),
+        Call::ApplyAll => {
+            let fix = with_edits(alloc)?;
+            let applied = apply_all(alloc, b"if x", &[&fix]);
+            drop(fix);
+            row.answer(applied);
+        }
     }
     Ok(())
 }

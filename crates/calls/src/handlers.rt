@@ -19,43 +19,44 @@ use miette::theme::Terminal;
 use std::alloc::{AllocError, Global};
 
 /// The calls of this module.
-pub static NAMES: [&str; 18] = [
-    "GraphicalReportHandler::new",
-    "GraphicalReportHandler::render_report",
-    "ReportHandler::debug for GraphicalReportHandler",
-    "NarratableReportHandler::render_report",
-    "NarratableReportHandler::render",
-    "NarratableReportHandler::clone",
-    "ReportHandler::debug for NarratableReportHandler",
-    "BriefReportHandler::render_report",
-    "BriefReportHandler::render",
-    "ReportHandler::debug for BriefReportHandler",
-    "JSONReportHandler::render_report",
-    "ReportHandler::debug for JSONReportHandler",
-    "DebugReportHandler::render_report",
-    "ReportHandler::debug for DebugReportHandler",
-    "ReportHandler::display",
-    "MietteHandlerOpts::build",
-    "MietteHandler::new",
-    "ReportHandler::debug for MietteHandler",
-];
+#[derive(Clone, Copy)]
+pub enum Call {
+    NewGraphical,
+    RenderGraphical,
+    DebugGraphical,
+    ReportNarrated,
+    RenderNarrated,
+    NarratedClones,
+    DebugNarrated,
+    ReportBrief,
+    RenderBrief,
+    DebugBrief,
+    ReportJson,
+    DebugJson,
+    ReportDebug,
+    DebugDebug,
+    Display,
+    Build,
+    NewChosen,
+    DebugChosen,
+}
 
-/// Makes the call of this name.
+/// Makes a call.
 ///
 /// # Errors
 /// Where memory is refused for what it is given.
-pub fn make(alloc: Global, name: &str, row: &mut Rows) -> Called {
-    match name {
-        "NarratableReportHandler::clone" => {
+pub fn make(alloc: Global, call: Call, row: &mut Rows) -> Called {
+    match call {
+        Call::NarratedClones => {
             let footer = String::from_str(alloc, "bye")?;
-            row.clones(NarratableReportHandler::new().with_footer(footer));
+            return row.clones(Ok(NarratableReportHandler::new().with_footer(footer)));
         }
-        "GraphicalReportHandler::new" | "MietteHandlerOpts::build" | "MietteHandler::new" => {
+        Call::NewGraphical | Call::Build | Call::NewChosen => {
             let terminal = terminal(alloc)?;
             row.value(&terminal);
-            choose(alloc, name, row, &terminal);
+            choose(alloc, call, row, &terminal);
         }
-        _ => return render(alloc, name, row, &report_with_source(alloc)?),
+        _ => return render(alloc, call, row, &report_with_source(alloc)?),
     }
     Ok(())
 }
@@ -66,26 +67,16 @@ fn report_with_source(alloc: Global) -> Result<Report, AllocError> {
     Ok(full_report(alloc)?.with_owned_source(source))
 }
 
-/// The text `> ` and what the call of this name puts behind it.
-fn render(alloc: Global, name: &str, row: &mut Rows, report: &Report) -> Called {
-    match name {
-        "ReportHandler::debug for GraphicalReportHandler" => {
-            render_by(alloc, row, plain_drawing(alloc, 1), report)
-        }
-        "ReportHandler::debug for NarratableReportHandler" => {
-            render_by(alloc, row, Ok(NarratableReportHandler::new()), report)
-        }
-        "ReportHandler::debug for BriefReportHandler" => {
-            render_by(alloc, row, Ok(BriefReportHandler::new()), report)
-        }
-        "ReportHandler::debug for JSONReportHandler" => {
-            render_by(alloc, row, Ok(JSONReportHandler::new()), report)
-        }
-        "ReportHandler::debug for DebugReportHandler" => {
-            render_by(alloc, row, Ok(DebugReportHandler::new()), report)
-        }
-        "ReportHandler::debug for MietteHandler" => render_by(alloc, row, chosen(alloc), report),
-        _ => render_behind(alloc, name, row, report),
+/// The text `> ` and what the call puts behind it.
+fn render(alloc: Global, call: Call, row: &mut Rows, report: &Report) -> Called {
+    match call {
+        Call::DebugGraphical => render_by(alloc, row, plain_drawing(alloc, 1), report),
+        Call::DebugNarrated => render_by(alloc, row, Ok(NarratableReportHandler::new()), report),
+        Call::DebugBrief => render_by(alloc, row, Ok(BriefReportHandler::new()), report),
+        Call::DebugJson => render_by(alloc, row, Ok(JSONReportHandler::new()), report),
+        Call::DebugDebug => render_by(alloc, row, Ok(DebugReportHandler::new()), report),
+        Call::DebugChosen => render_by(alloc, row, chosen(alloc), report),
+        _ => render_behind(alloc, call, row, report),
     }
 }
 
@@ -94,51 +85,57 @@ fn chosen(alloc: Global) -> Result<MietteHandler<Red>, AllocError> {
 }
 
 /// The same by a handler's own methods.
-fn render_behind(alloc: Global, name: &str, row: &mut Rows, report: &Report) -> Called {
+fn render_behind(alloc: Global, call: Call, row: &mut Rows, report: &Report) -> Called {
     let mut text = String::from_str(alloc, "> ")?;
     row.value(&text);
-    let answer = render_to(alloc, name, report, &mut text)?;
+    let answer = render_to(alloc, call, report, &mut text)?;
     row.appended(answer, &text);
     Ok(())
 }
 
-/// What the call of this name answers; an error where the handler can't be made.
+/// What the call answers; an error where the handler can't be made.
 fn render_to(
     alloc: Global,
-    name: &str,
+    call: Call,
     report: &Report,
     text: &mut String,
 ) -> Result<Result<(), RenderError>, AllocError> {
-    if name == "GraphicalReportHandler::render_report" {
-        return Ok(plain_drawing(alloc, 1)?.render_report(report, text));
-    }
-    Ok(render_by_method(name, report, text))
+    Ok(match call {
+        Call::RenderGraphical => {
+            let mut drawing = plain_drawing(alloc, 1)?;
+            let answer = drawing.render_report(report, text);
+            drop(drawing);
+            answer
+        }
+        Call::ReportNarrated | Call::RenderNarrated => narrate(call, report, text),
+        _ => render_by_method(call, report, text),
+    })
 }
 
-/// What a method of this name answers of a handler that takes no memory.
-fn render_by_method(name: &str, report: &Report, text: &mut String) -> Result<(), RenderError> {
-    match name {
-        "NarratableReportHandler::render_report" => {
-            NarratableReportHandler::new().render_report(report, text)
-        }
-        "NarratableReportHandler::render" => NarratableReportHandler::new().render(report, text),
-        "BriefReportHandler::render_report" => {
-            BriefReportHandler::new().render_report(report, text)
-        }
-        "BriefReportHandler::render" => BriefReportHandler::new().render(report, text),
-        "JSONReportHandler::render_report" => JSONReportHandler::new().render_report(report, text),
-        "ReportHandler::display" => DebugReportHandler::new().display(report, true, text),
+fn narrate(call: Call, report: &Report, text: &mut String) -> Result<(), RenderError> {
+    let telling = NarratableReportHandler::new();
+    match call {
+        Call::ReportNarrated => telling.render_report(report, text),
+        _ => telling.render(report, text),
+    }
+}
+
+/// What a method answers of a handler that holds nothing.
+fn render_by_method(call: Call, report: &Report, text: &mut String) -> Result<(), RenderError> {
+    match call {
+        Call::ReportBrief => BriefReportHandler::new().render_report(report, text),
+        Call::RenderBrief => BriefReportHandler::new().render(report, text),
+        Call::ReportJson => JSONReportHandler::new().render_report(report, text),
+        Call::Display => DebugReportHandler::new().display(report, true, text),
         _ => DebugReportHandler::new().render_report(report, text),
     }
 }
 
 /// A handler that a terminal chooses, and what it makes of a message alone.
-fn choose(alloc: Global, name: &str, row: &mut Rows, terminal: &Terminal) {
-    match name {
-        "GraphicalReportHandler::new" => {
-            picture(alloc, row, GraphicalReportHandler::new(alloc, terminal))
-        }
-        "MietteHandler::new" => picture(alloc, row, MietteHandler::new(alloc, terminal)),
+fn choose(alloc: Global, call: Call, row: &mut Rows, terminal: &Terminal) {
+    match call {
+        Call::NewGraphical => picture(alloc, row, GraphicalReportHandler::new(alloc, terminal)),
+        Call::NewChosen => picture(alloc, row, MietteHandler::new(alloc, terminal)),
         _ => {
             let options: MietteHandlerOpts<BlankHighlighter> = MietteHandlerOpts::default();
             picture(alloc, row, options.width(20).build(alloc, terminal))

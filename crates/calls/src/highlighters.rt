@@ -7,33 +7,34 @@ use miette_highlight::highlight::{Delimiters, Pattern, PatternHighlighter, Rule,
 use std::alloc::{AllocError, Global};
 
 /// The calls of this module.
-pub static NAMES: [&str; 11] = [
-    "by_char",
-    "Delimiters::new",
-    "Delimiters::clone",
-    "Pattern::words",
-    "Pattern::clone",
-    "Rule::clone",
-    "PatternHighlighter::json",
-    "PatternHighlighter::toml",
-    "PatternHighlighter::rust",
-    "PatternHighlighter::clone",
-    "Highlighter::highlight_line for PatternHighlighter",
-];
+#[derive(Clone, Copy)]
+pub enum Call {
+    ByChar,
+    NewDelimiters,
+    DelimitersClones,
+    Words,
+    PatternClones,
+    RuleClones,
+    Json,
+    Toml,
+    Rust,
+    Clones,
+    Line,
+}
 
-/// Makes the call of this name.
+/// Makes a call.
 ///
 /// # Errors
 /// Where memory is refused for what it is given.
-pub fn make(alloc: Global, name: &str, row: &mut Rows) -> Called {
-    match name {
-        "by_char" => row.answer(by_char(alloc, "a1", digits_in_cyan)),
-        "Delimiters::new" => row.answer(Delimiters::new(alloc, "/*", "*/")),
-        "Delimiters::clone" => row.clones(Delimiters::new(alloc, "/*", "*/")?),
-        "Pattern::words" => row.answer(Pattern::words(alloc, &["let", "in"])),
-        "Pattern::clone" => row.clones(Pattern::words(alloc, &["let", "in"])?),
-        "Rule::clone" => row.clones(rule(alloc)?),
-        "PatternHighlighter::json" => {
+pub fn make(alloc: Global, call: Call, row: &mut Rows) -> Called {
+    match call {
+        Call::ByChar => row.answer(by_char(alloc, "a1", digits_in_cyan)),
+        Call::NewDelimiters => row.answer(Delimiters::new(alloc, "/*", "*/")),
+        Call::DelimitersClones => return row.clones(Delimiters::new(alloc, "/*", "*/")),
+        Call::Words => row.answer(Pattern::words(alloc, &["let", "in"])),
+        Call::PatternClones => return row.clones(Pattern::words(alloc, &["let", "in"])),
+        Call::RuleClones => return row.clones(rule(alloc)),
+        Call::Json => {
             pieces(
                 alloc,
                 row,
@@ -41,10 +42,8 @@ pub fn make(alloc: Global, name: &str, row: &mut Rows) -> Called {
                 PatternHighlighter::json(alloc),
             )
         }
-        "PatternHighlighter::toml" => {
-            pieces(alloc, row, "a = 'x' # c", PatternHighlighter::toml(alloc))
-        }
-        "PatternHighlighter::rust" => {
+        Call::Toml => { pieces(alloc, row, "a = 'x' # c", PatternHighlighter::toml(alloc)) }
+        Call::Rust => {
             pieces(
                 alloc,
                 row,
@@ -52,8 +51,8 @@ pub fn make(alloc: Global, name: &str, row: &mut Rows) -> Called {
                 PatternHighlighter::rust(alloc),
             )
         }
-        "PatternHighlighter::clone" => row.clones(highlighter_by_rule(alloc)?),
-        _ => open_comment(alloc, row, highlighter_by_rule(alloc)?),
+        Call::Clones => return row.clones(highlighter_by_rule(alloc)),
+        Call::Line => open_comment(alloc, row, highlighter_by_rule(alloc)?),
     }
     Ok(())
 }

@@ -5,23 +5,24 @@ use miette::protocol::LabeledSpan;
 use std::alloc::Global;
 
 /// The calls of this module.
-pub static NAMES: [&str; 3] = [
-    "LabeledSpan::at",
-    "LabeledSpan::at_offset",
-    "LabeledSpan::clone",
-];
+#[derive(Clone, Copy)]
+pub enum Call {
+    At,
+    AtOffset,
+    Clones,
+}
 
-/// Makes the call of this name.
+/// Makes a call.
 ///
 /// # Errors
 /// Where memory is refused for what it is given.
-pub fn make(alloc: Global, name: &str, row: &mut Rows) -> Called {
-    match name {
-        "LabeledSpan::at" => row.answer(LabeledSpan::at(alloc, (9, 4), "This bit here")),
-        "LabeledSpan::at_offset" => row.answer(LabeledSpan::at_offset(alloc, 9, "here")),
-        _ => {
+pub fn make(alloc: Global, call: Call, row: &mut Rows) -> Called {
+    match call {
+        Call::At => row.answer(LabeledSpan::at(alloc, (9, 4), "This bit here")),
+        Call::AtOffset => row.answer(LabeledSpan::at_offset(alloc, 9, "here")),
+        Call::Clones => {
             let label = LabeledSpan::at(alloc, (9, 4), "This bit here")?;
-            row.clones(label.with_context_lines(2));
+            return row.clones(Ok(label.with_context_lines(2)));
         }
     }
     Ok(())

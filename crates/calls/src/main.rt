@@ -14,6 +14,8 @@ mod fixtures;
 mod handlers;
 mod highlighters;
 mod labels;
+mod names;
+mod outputs;
 mod printing;
 mod reports;
 mod rows;
@@ -25,6 +27,7 @@ mod texts;
 mod themes;
 mod worked;
 
+use crate::names::{CALLS, Call};
 use crate::rows::{Called, Done, Rows, Stop};
 use std::env;
 use std::io::Write;
@@ -77,91 +80,41 @@ fn worked_rows(rt: &HostRuntime, kind: &str, name: &str, handler: &str) -> Done 
     examples::rows_of(rt.alloc(), &mut Rows::on(rt.stdout()), name, handler)
 }
 
-/// What the calls of a module are about.
-#[derive(Clone, Copy)]
-enum Subject {
-    Labels,
-    Diagnostics,
-    Sources,
-    Themes,
-    Highlighters,
-    Reports,
-    Attached,
-    Texts,
-    Runs,
-    Handlers,
-    Fixes,
-    Printing,
-}
-
-static SUBJECTS: [Subject; 12] = [
-    Subject::Labels,
-    Subject::Diagnostics,
-    Subject::Sources,
-    Subject::Themes,
-    Subject::Highlighters,
-    Subject::Reports,
-    Subject::Attached,
-    Subject::Texts,
-    Subject::Runs,
-    Subject::Handlers,
-    Subject::Fixes,
-    Subject::Printing,
-];
-
-fn names(subject: Subject) -> &'static [&'static str] {
-    match subject {
-        Subject::Labels => &labels::NAMES,
-        Subject::Diagnostics => &diagnostics::NAMES,
-        Subject::Sources => &sources::NAMES,
-        Subject::Themes => &themes::NAMES,
-        Subject::Highlighters => &highlighters::NAMES,
-        Subject::Reports => &reports::NAMES,
-        Subject::Attached => &attached::NAMES,
-        Subject::Texts => &texts::NAMES,
-        Subject::Runs => &runs::NAMES,
-        Subject::Handlers => &handlers::NAMES,
-        Subject::Fixes => &fixes::NAMES,
-        Subject::Printing => &printing::NAMES,
-    }
-}
-
 /// The rows of all calls, or that of one.
 fn rows_of(rt: &HostRuntime, wanted: Option<&str>) -> Done {
     let mut found = false;
-    for subject in &SUBJECTS {
-        for name in names(*subject) {
-            if wanted.unwrap_or(name) == *name {
-                found = true;
-                row(rt, *subject, name)?;
-            }
+    for (name, call) in &CALLS {
+        if wanted.unwrap_or(name) == *name {
+            found = true;
+            row(rt, name, *call)?;
         }
     }
     if found { Ok(()) } else { Err(Stop::Usage) }
 }
 
 /// The row of a call.
-fn row(rt: &HostRuntime, subject: Subject, name: &str) -> Done {
+fn row(rt: &HostRuntime, name: &str, call: Call) -> Done {
     let mut row = Rows::on(rt.stdout());
     row.text(name);
-    let called = make(rt, subject, name, &mut row);
+    let called = make(rt, name, call, &mut row);
     row.end(called)
 }
 
-fn make(rt: &HostRuntime, subject: Subject, name: &str, row: &mut Rows) -> Called {
+fn make(rt: &HostRuntime, name: &str, call: Call, row: &mut Rows) -> Called {
     let alloc = rt.alloc();
-    match subject {
-        Subject::Labels => labels::make(alloc, name, row),
-        Subject::Diagnostics => diagnostics::make(alloc, name, row),
-        Subject::Sources => sources::make(alloc, name, row),
-        Subject::Themes => themes::make(alloc, name, row),
-        Subject::Highlighters => highlighters::make(alloc, name, row),
-        Subject::Reports => reports::make(alloc, name, row),
-        Subject::Attached => attached::make(alloc, name, row),
-        Subject::Texts => texts::make(alloc, name, row),
-        Subject::Runs => runs::make(alloc, name, row),
-        Subject::Handlers => handlers::make(alloc, name, row),
-        Subject::Fixes => fixes::make(alloc, name, row),
-        Subject::Printing => printing::make(rt, name, row),
+    match call {
+        Call::Label(call) => labels::make(alloc, call, row),
+        Call::Diagnostic(call) => diagnostics::make(alloc, call, row),
+        Call::Source(call) => sources::make(alloc, call, row),
+        Call::Theme(call) => themes::make(alloc, call, row),
+        Call::Highlighter(call) => highlighters::make(alloc, call, row),
+        Call::Report(call) => reports::make(alloc, call, row),
+        Call::Part(call) => attached::make(alloc, call, row),
+        Call::Text(call) => texts::make(alloc, call, row),
+        Call::Runs(call) => runs::make(alloc, call, row),
+        Call::Output(call) => outputs::make(alloc, call, row),
+        Call::Handler(call) => handlers::make(alloc, call, row),
+        Call::Fix(call) => fixes::make(alloc, call, row),
+        Call::Printing(call) => printing::make(rt, name, call, row),
     }
 }

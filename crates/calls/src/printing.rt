@@ -14,34 +14,35 @@ use miette::terminal::{Stream, Variables, detect};
 use std::alloc::{AllocError, Global};
 
 /// The calls of this module.
-pub static NAMES: [&str; 9] = [
-    "Variables::read",
-    "detect",
-    "write_report",
-    "print_to",
-    "print_on",
-    "print_report",
-    "print_report_with",
-    "eprint_report",
-    "eprint_report_with",
-];
+#[derive(Clone, Copy)]
+pub enum Call {
+    Read,
+    Detect,
+    Write,
+    To,
+    On,
+    Print,
+    PrintWith,
+    Eprint,
+    EprintWith,
+}
 
-/// Makes the call of this name. What the printing ones print stands in rows of its own.
+/// Makes a call. What the printing ones print stands in rows of its own.
 ///
 /// # Errors
 /// Where memory is refused for what it is given.
-pub fn make(rt: &HostRuntime, name: &str, row: &mut Rows) -> Called {
-    match name {
-        "Variables::read" => row.after(Variables::read(rt, true, true), &"read"),
-        "detect" => row.after(detect(rt, Stream::Stdout), &"detected"),
-        "write_report" | "print_to" => {
-            return narrated(rt, name, row, &full_report(rt.alloc())?);
+pub fn make(rt: &HostRuntime, name: &str, call: Call, row: &mut Rows) -> Called {
+    match call {
+        Call::Read => row.after(Variables::read(rt, true, true), &"read"),
+        Call::Detect => row.after(detect(rt, Stream::Stdout), &"detected"),
+        Call::Write | Call::To => {
+            return narrated(rt, call, row, &full_report(rt.alloc())?);
         }
-        "print_on" => return outputs(rt, row, &full_report(rt.alloc())?),
+        Call::On => return outputs(rt, row, &full_report(rt.alloc())?),
         _ => {
             let report = Report::msg(rt.alloc(), "oops!")?;
             row.text("\tprints:\n");
-            print(rt, name, &report);
+            print(rt, call, &report);
             row.text(name);
             row.text("\tprinted");
         }
@@ -50,11 +51,11 @@ pub fn make(rt: &HostRuntime, name: &str, row: &mut Rows) -> Called {
 }
 
 /// Prints a report; how a program would end with it isn't looked at.
-fn print(rt: &HostRuntime, name: &str, report: &Report) {
-    let _ = match name {
-        "print_report" => print_report(rt, report),
-        "print_report_with" => print_report_with(rt, in_colours(), report),
-        "eprint_report" => eprint_report(rt, report),
+fn print(rt: &HostRuntime, call: Call, report: &Report) {
+    let _ = match call {
+        Call::Print => print_report(rt, report),
+        Call::PrintWith => print_report_with(rt, in_colours(), report),
+        Call::Eprint => eprint_report(rt, report),
         _ => eprint_report_with(rt, in_colours(), report),
     };
 }
@@ -72,21 +73,21 @@ fn room(alloc: Global) -> Result<Vec<u8>, AllocError> {
     Vec::with_capacity(alloc, 4096)
 }
 
-fn narrated(rt: &HostRuntime, name: &str, row: &mut Rows, report: &Report) -> Called {
+fn narrated(rt: &HostRuntime, call: Call, row: &mut Rows, report: &Report) -> Called {
     let mut writer = room(rt.alloc())?;
-    let answer = narrate(rt, name, report, &mut writer);
+    let answer = narrate(rt, call, report, &mut writer);
     held(row, answer, writer.as_slice());
     Ok(())
 }
 
-/// What the call of this name answers, by a narrating handler.
+/// What the call answers, by a narrating handler.
 fn narrate(
     rt: &HostRuntime,
-    name: &str,
+    call: Call,
     report: &Report,
     writer: &mut Vec<u8>,
 ) -> Result<(), PrintError> {
-    if name == "print_to" {
+    if let Call::To = call {
         return print_to(rt, Stream::Stdout, in_words(), report, writer);
     }
     let mut telling = NarratableReportHandler::new();

@@ -9,52 +9,55 @@ use miette_tree::{bail, ensure, miette};
 use std::alloc::{AllocError, Global};
 
 /// The calls of this module.
-pub static NAMES: [&str; 18] = [
-    "Report::copied",
-    "Report::msg",
-    "Report::from_err",
-    "Report::with_diagnostic_cause",
-    "Report::wrap_err",
-    "Report::context",
-    "WrapErr::wrap_err for Option",
-    "WrapErr::context for Option",
-    "WrapErr::wrap_err_with for Option",
-    "WrapErr::with_context for Option",
-    "WrapErr::wrap_err for Result",
-    "WrapErr::context for Result",
-    "WrapErr::wrap_err_with for Result",
-    "WrapErr::with_context for Result",
-    "IntoDiagnostic::into_diagnostic for Result",
-    "miette!",
-    "bail!",
-    "ensure!",
-];
+#[derive(Clone, Copy)]
+pub enum Call {
+    Copied,
+    Msg,
+    FromErr,
+    WithDiagnosticCause,
+    WrapErr,
+    Context,
+    OptionWrapErr,
+    OptionContext,
+    OptionWrapErrWith,
+    OptionWithContext,
+    ResultWrapErr,
+    ResultContext,
+    ResultWrapErrWith,
+    ResultWithContext,
+    IntoDiagnostic,
+    Miette,
+    Bail,
+    Ensure,
+}
 
-/// Makes the call of this name.
+/// Makes a call.
 ///
 /// # Errors
 /// Where memory is refused for what it is given.
-pub fn make(alloc: Global, name: &str, row: &mut Rows) -> Called {
-    match name {
-        "Report::copied" => {
+pub fn make(alloc: Global, call: Call, row: &mut Rows) -> Called {
+    match call {
+        Call::Copied => {
             let full = given_diagnostic(alloc, row)?;
-            made(row, Report::copied(alloc, &full));
+            let copy = Report::copied(alloc, &full);
+            drop(full);
+            made(row, copy);
         }
-        "Report::msg" => made(row, Report::msg(alloc, "oops!")),
-        "Report::from_err" => made(row, Report::from_err(alloc, MietteError::OutOfBounds)),
-        "Report::with_diagnostic_cause" => return over_another(alloc, row),
-        "Report::wrap_err" => {
-            let report = given_report(alloc, row)?;
-            put_before(row, report.wrap_err(alloc, "in front"));
+        Call::Msg => made(row, Report::msg(alloc, "oops!")),
+        Call::FromErr => made(row, Report::from_err(alloc, MietteError::OutOfBounds)),
+        Call::WithDiagnosticCause => return over_another(alloc, row),
+        Call::Miette => row.report_or_refusal(&by_macro(alloc)),
+        Call::Bail => failed(row, is_refused(alloc, 7)),
+        Call::Ensure => failed(row, is_held(alloc, 7)),
+        Call::IntoDiagnostic => {
+            let error: std::result::Result<u32, MietteError> = Err(MietteError::OutOfBounds);
+            failed(row, error.into_diagnostic(alloc));
         }
-        "Report::context" => {
-            let report = given_report(alloc, row)?;
-            put_before(row, report.context(alloc, "in front"));
-        }
-        "miette!" => row.report_or_refusal(&by_macro(alloc)),
-        "bail!" => failed(row, is_refused(alloc, 7)),
-        "ensure!" => failed(row, is_held(alloc, 7)),
-        _ => return in_front(alloc, name, row),
+        Call::OptionWrapErr
+        | Call::OptionContext
+        | Call::OptionWrapErrWith
+        | Call::OptionWithContext => failed(row, missing(alloc, call)),
+        _ => return in_front(alloc, call, row),
     }
     Ok(())
 }
@@ -63,45 +66,34 @@ fn by_macro(alloc: Global) -> Report {
     miette!(in alloc; code = "a::b", help = "try", "{} is too much", 7)
 }
 
-/// A message in front of what is missing or has failed.
-fn in_front(alloc: Global, name: &str, row: &mut Rows) -> Called {
-    match name {
-        "WrapErr::wrap_err for Option" => failed(row, None.wrap_err(alloc, "nothing is there")),
-        "WrapErr::context for Option" => failed(row, None.context(alloc, "nothing is there")),
-        "WrapErr::wrap_err_with for Option" | "WrapErr::with_context for Option" => {
-            failed(
-                row,
-                missing(alloc, name == "WrapErr::wrap_err_with for Option"),
-            )
-        }
-        "IntoDiagnostic::into_diagnostic for Result" => {
-            let error: std::result::Result<u32, MietteError> = Err(MietteError::OutOfBounds);
-            failed(row, error.into_diagnostic(alloc))
-        }
-        _ => {
-            let report = given_report(alloc, row)?;
-            failed(row, put_in_front(alloc, name, Err(report)));
-        }
+/// A message in front of a report, or of what has failed with it.
+fn in_front(alloc: Global, call: Call, row: &mut Rows) -> Called {
+    let report = given_report(alloc, row)?;
+    match call {
+        Call::WrapErr => put_before(row, report.wrap_err(alloc, "in front")),
+        Call::Context => put_before(row, report.context(alloc, "in front")),
+        _ => failed(row, put_in_front(alloc, call, Err(report))),
     }
     Ok(())
 }
 
-/// A message that is made where it is needed, in front of what is missing.
-fn missing(alloc: Global, wraps: bool) -> Result<u32> {
+/// A message in front of what is missing.
+fn missing(alloc: Global, call: Call) -> Result<u32> {
     let why = || format!(in alloc; "item {} is missing", 7);
-    if wraps {
-        None.wrap_err_with(alloc, why)
-    } else {
-        None.with_context(alloc, why)
+    match call {
+        Call::OptionWrapErr => None.wrap_err(alloc, "nothing is there"),
+        Call::OptionContext => None.context(alloc, "nothing is there"),
+        Call::OptionWrapErrWith => None.wrap_err_with(alloc, why),
+        _ => None.with_context(alloc, why),
     }
 }
 
-fn put_in_front(alloc: Global, name: &str, error: Result<u32>) -> Result<u32> {
+fn put_in_front(alloc: Global, call: Call, error: Result<u32>) -> Result<u32> {
     let why = || format!(in alloc; "{} in front", 7);
-    match name {
-        "WrapErr::wrap_err for Result" => error.wrap_err(alloc, "in front"),
-        "WrapErr::context for Result" => error.context(alloc, "in front"),
-        "WrapErr::wrap_err_with for Result" => error.wrap_err_with(alloc, why),
+    match call {
+        Call::ResultWrapErr => error.wrap_err(alloc, "in front"),
+        Call::ResultContext => error.context(alloc, "in front"),
+        Call::ResultWrapErrWith => error.wrap_err_with(alloc, why),
         _ => error.with_context(alloc, why),
     }
 }

@@ -99,26 +99,26 @@ impl Rows {
         }
     }
 
-    /// A value, and two clones of it.
-    pub fn clones<T: Clone + Debug + Drop>(&mut self, value: T) {
+    /// A value, where it was made, and two clones of it.
+    ///
+    /// # Errors
+    /// Where memory was refused for the value.
+    pub fn clones<T: Clone + Debug + Drop>(&mut self, made: Result<T, AllocError>) -> Called {
+        let value = made?;
         self.value(&value);
         self.answer(value.clone());
         self.answer(value.clone());
+        Ok(())
     }
 
     /// The parts of a report, behind a text.
     pub fn report(&mut self, before: &str, report: &Report) {
-        self.is_full = self.is_full
-            || write!(
-                self.out,
-                "{before}{report:?}, code {:?}, severity {:?}, help {:?}, url {:?}, labels {:?}",
-                report.code(),
-                report.severity(),
-                report.help(),
-                report.url(),
-                report.labels()
-            )
-            .is_err();
+        self.part(before, report);
+        self.part(", code ", &report.code());
+        self.part(", severity ", &report.severity());
+        self.part(", help ", &report.help());
+        self.part(", url ", &report.url());
+        self.part(", labels ", &report.labels());
     }
 
     /// A report that a call gave; in front of that of refused memory stands that it was refused.

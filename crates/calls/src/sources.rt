@@ -7,34 +7,35 @@ use miette::source::{IndexedSource, NamedSource, SourceCode};
 use std::alloc::{AllocError, Global};
 
 /// The calls of this module.
-pub static NAMES: [&str; 6] = [
-    "IndexedSource::new",
-    "NamedSource::new",
-    "NamedSource::with_language",
-    "NamedSource::clone",
-    "OwnedSource::new",
-    "OwnedSource::named",
-];
+#[derive(Clone, Copy)]
+pub enum Call {
+    Indexed,
+    Named,
+    NamedWithLanguage,
+    NamedClones,
+    Owned,
+    OwnedNamed,
+}
 
 /// Three lines, the last without a line feed.
 pub const README: &[u8] = b"source\n  text\n    here";
 
-/// Makes the call of this name.
+/// Makes a call.
 ///
 /// # Errors
 /// Where memory is refused for what it is given.
-pub fn make(alloc: Global, name: &str, row: &mut Rows) -> Called {
+pub fn make(alloc: Global, call: Call, row: &mut Rows) -> Called {
     let bytes = README.to_vec(alloc)?;
-    match name {
-        "IndexedSource::new" => read(row, IndexedSource::new(alloc, bytes)),
-        "NamedSource::new" => read(row, NamedSource::new(alloc, "bad_file.rs", bytes)),
-        "OwnedSource::new" => read(row, OwnedSource::new(alloc, bytes)),
-        "OwnedSource::named" => read(
+    match call {
+        Call::Indexed => read(row, IndexedSource::new(alloc, bytes)),
+        Call::Named => read(row, NamedSource::new(alloc, "bad_file.rs", bytes)),
+        Call::Owned => read(row, OwnedSource::new(alloc, bytes)),
+        Call::OwnedNamed => read(
             row,
             OwnedSource::named(alloc, "bad_file.rs", Some("rust"), bytes),
         ),
-        "NamedSource::with_language" => return with_language(alloc, row, bytes),
-        _ => return clones(alloc, row, bytes),
+        Call::NamedWithLanguage => return with_language(alloc, row, bytes),
+        Call::NamedClones => return clones(alloc, row, bytes),
     }
     Ok(())
 }

@@ -1,6 +1,6 @@
 //! Reports over sources that stop after each number of reads: `calls stops`.
 
-use crate::examples::render_made;
+use crate::examples::{By, render_made};
 use crate::fixtures::{
     M, Made, Mended, Written, list_of, report_and_fix, report_and_stopping, report_beside,
     report_of, report_over, stopping_report,
@@ -10,29 +10,44 @@ use crate::stopping::{Reads, Stopping};
 use std::alloc::{AllocError, Global};
 use std::cell::Cell;
 
-static NAMES: [&str; 10] = [
-    "one label",
-    "two labels",
-    "labels far apart",
-    "own context",
-    "no labels",
-    "a related report",
-    "a cause",
-    "a further source",
-    "a fix",
-    "a fix far down",
+/// A report over a source that stops, or beside or above such a one.
+#[derive(Clone, Copy)]
+enum Stopped {
+    OneLabel,
+    TwoLabels,
+    Apart,
+    OwnContext,
+    NoLabels,
+    Related,
+    Cause,
+    Further,
+    Fix,
+    FarFix,
+}
+
+static REPORTS: [(&str, Stopped); 10] = [
+    ("one label", Stopped::OneLabel),
+    ("two labels", Stopped::TwoLabels),
+    ("labels far apart", Stopped::Apart),
+    ("own context", Stopped::OwnContext),
+    ("no labels", Stopped::NoLabels),
+    ("a related report", Stopped::Related),
+    ("a cause", Stopped::Cause),
+    ("a further source", Stopped::Further),
+    ("a fix", Stopped::Fix),
+    ("a fix far down", Stopped::FarFix),
 ];
 
-static HANDLERS: [&str; 9] = [
-    "graphical",
-    "nested",
-    "chosen",
-    "chosen narrated",
-    "narrated",
-    "brief",
-    "github",
-    "json",
-    "debug",
+static HANDLERS: [(&str, By); 9] = [
+    ("graphical", By::Graphical),
+    ("nested", By::Nested),
+    ("chosen", By::Chosen),
+    ("chosen narrated", By::ChosenNarrated),
+    ("narrated", By::Narrated),
+    ("brief", By::Brief),
+    ("github", By::Github),
+    ("json", By::Json),
+    ("debug", By::Debug),
 ];
 
 /// How many reads are tried at most.
@@ -77,21 +92,24 @@ static FAR_DOWN: Mended<'static> = ("five", 1150, 0, "five");
 /// # Errors
 /// `Write` where standard output took no more.
 pub fn rows(alloc: Global, rows: &mut Rows) -> Done {
-    for name in &NAMES {
+    for report in &REPORTS {
         for handler in &HANDLERS {
             for lines in 0..3usize {
-                until_none_fails(alloc, rows, (name, handler, lines), false)?;
-                until_none_fails(alloc, rows, (name, handler, lines), true)?;
+                until_none_fails(alloc, rows, (*report, *handler, lines), false)?;
+                until_none_fails(alloc, rows, (*report, *handler, lines), true)?;
             }
         }
     }
     Ok(())
 }
 
+/// A report and a handler, each by its name, and a number of context lines.
+type Rendering<'a> = ((&'a str, Stopped), (&'a str, By), usize);
+
 fn until_none_fails(
     alloc: Global,
     rows: &mut Rows,
-    (name, handler, lines): (&str, &str, usize),
+    ((name, stopped), (handler, by), lines): Rendering<'_>,
     stays: bool,
 ) -> Done {
     let how = if stays { ", from" } else { ", at" };
@@ -107,7 +125,7 @@ fn until_none_fails(
         rows.part(", ", &lines);
         rows.text(how);
         rows.part(" ", &fails_at);
-        let called = render_made(alloc, rows, report(alloc, name, &reads), handler, lines);
+        let called = render_made(alloc, rows, report(alloc, stopped, &reads), by, lines);
         rows.end(called)?;
         if reads.count.get() < fails_at {
             return Ok(());
@@ -116,46 +134,40 @@ fn until_none_fails(
     Err(Stop::Usage)
 }
 
-fn report<'a>(alloc: Global, name: &str, reads: &'a Reads) -> Result<Made<'a>, AllocError> {
-    let source = Stopping { bytes: NINE, reads };
-    if name == "a further source" {
-        return report_and_stopping(alloc, report_of(alloc, &PLAIN), ONE.labels, source);
+fn report<'a>(alloc: Global, stopped: Stopped, reads: &'a Reads) -> Result<Made<'a>, AllocError> {
+    let bytes: &[u8] = match stopped {
+        Stopped::FarFix => &MANY,
+        _ => NINE,
+    };
+    let source = Stopping { bytes, reads };
+    match stopped {
+        Stopped::Related => report_beside(
+            report_of(alloc, &PLAIN),
+            list_of(alloc, stopping_report(alloc, &ONE, source)),
+        ),
+        Stopped::Cause => report_over(
+            alloc,
+            report_of(alloc, &APART),
+            stopping_report(alloc, &ONE, source),
+        ),
+        Stopped::Further => {
+            report_and_stopping(alloc, report_of(alloc, &PLAIN), ONE.labels, source)
+        }
+        Stopped::Fix => report_and_fix(alloc, stopping_report(alloc, &PLAIN, source), &FIFTH),
+        Stopped::FarFix => {
+            report_and_fix(alloc, stopping_report(alloc, &PLAIN, source), &FAR_DOWN)
+        }
+        _ => stopping_report(alloc, lone_report(stopped), source),
     }
-    if name == "a related report" || name == "a cause" {
-        return with_another(alloc, name, stopping_report(alloc, &ONE, source));
-    }
-    if name == "a fix" {
-        return report_and_fix(alloc, stopping_report(alloc, &PLAIN, source), &FIFTH);
-    }
-    if name == "a fix far down" {
-        let source = Stopping {
-            bytes: &MANY,
-            reads,
-        };
-        return report_and_fix(alloc, stopping_report(alloc, &PLAIN, source), &FAR_DOWN);
-    }
-    stopping_report(alloc, lone_report(name), source)
 }
 
 /// What is written of a report that has no other beside it or below it.
-fn lone_report(name: &str) -> &'static Written<'static> {
-    match name {
-        "two labels" => &TWO,
-        "labels far apart" => &APART,
-        "own context" => &OWN,
-        "no labels" => &PLAIN,
+fn lone_report(stopped: Stopped) -> &'static Written<'static> {
+    match stopped {
+        Stopped::TwoLabels => &TWO,
+        Stopped::Apart => &APART,
+        Stopped::OwnContext => &OWN,
+        Stopped::NoLabels => &PLAIN,
         _ => &ONE,
-    }
-}
-
-fn with_another<'a>(
-    alloc: Global,
-    name: &str,
-    other: Result<Made<'a>, AllocError>,
-) -> Result<Made<'a>, AllocError> {
-    if name == "a related report" {
-        report_beside(report_of(alloc, &PLAIN), list_of(alloc, other))
-    } else {
-        report_over(alloc, report_of(alloc, &APART), other)
     }
 }

@@ -12,55 +12,52 @@ use miette_tree::report_handler::append_whole;
 use std::alloc::{AllocError, Global};
 
 /// The calls of this module.
-pub static NAMES: [&str; 10] = [
-    "fill",
-    "wrap",
-    "push_fitting",
-    "without_leading",
-    "without_trailing",
-    "read",
-    "read_text",
-    "print",
-    "columns_of",
-    "append_whole",
-];
+#[derive(Clone, Copy)]
+pub enum Call {
+    Fill,
+    Wrap,
+    PushFitting,
+    WithoutLeading,
+    WithoutTrailing,
+    Read,
+    ReadText,
+    Print,
+    ColumnsOf,
+    AppendWhole,
+}
 
 /// A red word, a long one that is cut, and a link.
 const TEXT: &str =
     "a \u{1b}[31mred\u{1b}[0m word-and-another, abcdefghijklmnop\n\u{1b}]8;;u\u{1b}\\here\u{1b}]8;;\u{1b}\\ \u{6f22}\n";
 
-/// Makes the call of this name.
+/// Makes a call.
 ///
 /// # Errors
 /// Where memory is refused for what it is given.
-pub fn make(alloc: Global, name: &str, row: &mut Rows) -> Called {
-    match name {
-        "fill" | "append_whole" => appended(alloc, name, row),
-        "wrap" => wrapped(alloc, row),
-        "push_fitting" => fitted(alloc, row),
-        "read" => {
+pub fn make(alloc: Global, call: Call, row: &mut Rows) -> Called {
+    match call {
+        Call::Fill | Call::AppendWhole => return appended(alloc, call, row),
+        Call::Wrap => return wrapped(alloc, row),
+        Call::PushFitting => return fitted(alloc, row),
+        Call::Read => {
             let codes: Vec<char> = TEXT.chars().collect(alloc)?;
             row.answer(read(alloc, codes));
-            Ok(())
         }
-        "read_text" => {
-            row.answer(read_text(alloc, TEXT));
-            Ok(())
-        }
+        Call::ReadText => row.answer(read_text(alloc, TEXT)),
         _ => {
             let runs = read_text(alloc, "\n\u{1b}[31m\nred\u{1b}[0m\n")?;
             row.value(&runs);
-            of_runs(alloc, name, row, runs);
-            Ok(())
+            of_runs(alloc, call, row, runs);
         }
     }
+    Ok(())
 }
 
-fn of_runs(alloc: Global, name: &str, row: &mut Rows, runs: Runs) {
-    match name {
-        "without_leading" => row.answer(without_leading(alloc, runs)),
-        "without_trailing" => row.answer(without_trailing(alloc, runs)),
-        "print" => row.answer(print(alloc, &runs)),
+fn of_runs(alloc: Global, call: Call, row: &mut Rows, runs: Runs) {
+    match call {
+        Call::WithoutLeading => row.answer(without_leading(alloc, runs)),
+        Call::WithoutTrailing => row.answer(without_trailing(alloc, runs)),
+        Call::Print => row.answer(print(alloc, &runs)),
         _ => row.answer(columns_of(alloc, &runs)),
     }
 }
@@ -75,21 +72,21 @@ static OPTIONS: WrapOptions<'static> = WrapOptions {
     splitter: WordSplitter::HyphenSplitter,
 };
 
-/// The text `> `, and what the call of this name puts behind it.
-fn appended(alloc: Global, name: &str, row: &mut Rows) -> Called {
+/// The text `> `, and what the call puts behind it.
+fn appended(alloc: Global, call: Call, row: &mut Rows) -> Called {
     let mut text = String::from_str(alloc, "> ")?;
     row.value(&text);
-    let answer = append(name, &mut text);
+    let answer = append(call, &mut text);
     row.appended(answer, &text);
     Ok(())
 }
 
 /// What the call answers.
-fn append(name: &str, text: &mut String) -> Result<(), RenderError> {
-    if name == "append_whole" {
-        return append_whole("a text that is longer than what is there", text);
+fn append(call: Call, text: &mut String) -> Result<(), RenderError> {
+    match call {
+        Call::AppendWhole => append_whole("a text that is longer than what is there", text),
+        _ => Ok(fill(TEXT, &OPTIONS, text)?),
     }
-    Ok(fill(TEXT, &OPTIONS, text)?)
 }
 
 fn wrapped(alloc: Global, row: &mut Rows) -> Called {

@@ -6,65 +6,60 @@ use miette::theme::{GraphicalTheme, Terminal, ThemeCharacters, ThemeStyles};
 use std::alloc::{AllocError, Global};
 
 /// The calls of this module.
-pub static NAMES: [&str; 16] = [
-    "ThemeCharacters::unicode",
-    "ThemeCharacters::emoji",
-    "ThemeCharacters::ascii",
-    "ThemeCharacters::clone",
-    "ThemeStyles::rgb",
-    "ThemeStyles::ansi",
-    "ThemeStyles::none",
-    "ThemeStyles::clone",
-    "GraphicalTheme::ascii",
-    "GraphicalTheme::unicode",
-    "GraphicalTheme::unicode_nocolor",
-    "GraphicalTheme::none",
-    "GraphicalTheme::for_terminal",
-    "GraphicalTheme::clone",
-    "Highlighter::highlight_line for BlankHighlighter",
-    "Highlighter::highlight_line for Box",
-];
+#[derive(Clone, Copy)]
+pub enum Call {
+    UnicodeCharacters,
+    EmojiCharacters,
+    AsciiCharacters,
+    CharactersClones,
+    RgbStyles,
+    AnsiStyles,
+    NoStyles,
+    StylesClones,
+    Ascii,
+    Unicode,
+    UnicodeWithoutColour,
+    NoTheme,
+    ForTerminal,
+    Clones,
+    BlankLine,
+    BoxedLine,
+}
 
-/// Makes the call of this name.
+/// Makes a call.
 ///
 /// # Errors
 /// Where memory is refused for what it is given.
-pub fn make(alloc: Global, name: &str, row: &mut Rows) -> Called {
-    match name {
-        "ThemeCharacters::unicode" => row.answer(ThemeCharacters::unicode(alloc)),
-        "ThemeCharacters::emoji" => row.answer(ThemeCharacters::emoji(alloc)),
-        "ThemeCharacters::ascii" => row.answer(ThemeCharacters::ascii(alloc)),
-        "ThemeCharacters::clone" => row.clones(ThemeCharacters::emoji(alloc)?),
-        "ThemeStyles::rgb" => row.answer(ThemeStyles::rgb(alloc)),
-        "ThemeStyles::ansi" => row.answer(ThemeStyles::ansi(alloc)),
-        "ThemeStyles::none" => row.answer(ThemeStyles::none(alloc)),
-        "ThemeStyles::clone" => row.clones(ThemeStyles::rgb(alloc)?),
-        "GraphicalTheme::clone" => row.clones(GraphicalTheme::unicode(alloc)?),
-        "GraphicalTheme::for_terminal" => {
+pub fn make(alloc: Global, call: Call, row: &mut Rows) -> Called {
+    match call {
+        Call::UnicodeCharacters => row.answer(ThemeCharacters::unicode(alloc)),
+        Call::EmojiCharacters => row.answer(ThemeCharacters::emoji(alloc)),
+        Call::AsciiCharacters => row.answer(ThemeCharacters::ascii(alloc)),
+        Call::CharactersClones => return row.clones(ThemeCharacters::emoji(alloc)),
+        Call::RgbStyles => row.answer(ThemeStyles::rgb(alloc)),
+        Call::AnsiStyles => row.answer(ThemeStyles::ansi(alloc)),
+        Call::NoStyles => row.answer(ThemeStyles::none(alloc)),
+        Call::StylesClones => return row.clones(ThemeStyles::rgb(alloc)),
+        Call::Ascii => row.answer(GraphicalTheme::ascii(alloc)),
+        Call::Unicode => row.answer(GraphicalTheme::unicode(alloc)),
+        Call::UnicodeWithoutColour => row.answer(GraphicalTheme::unicode_nocolor(alloc)),
+        Call::NoTheme => row.answer(GraphicalTheme::none(alloc)),
+        Call::Clones => return row.clones(GraphicalTheme::unicode(alloc)),
+        Call::ForTerminal => {
             let terminal = terminal(alloc)?;
             row.value(&terminal);
             row.answer(GraphicalTheme::for_terminal(alloc, &terminal));
         }
-        "Highlighter::highlight_line for BlankHighlighter" => {
+        Call::BlankLine => {
             let mut highlighter = BlankHighlighter;
             row.answer(highlighter.highlight_line(alloc, "let x = 1;"));
         }
-        "Highlighter::highlight_line for Box" => {
+        Call::BoxedLine => {
             let mut highlighter: Box<dyn Highlighter> = Box::new(alloc, BlankHighlighter)?;
             row.answer(highlighter.highlight_line(alloc, "let x = 1;"));
         }
-        _ => row.answer(theme(alloc, name)),
     }
     Ok(())
-}
-
-fn theme(alloc: Global, name: &str) -> Result<GraphicalTheme, AllocError> {
-    match name {
-        "GraphicalTheme::ascii" => GraphicalTheme::ascii(alloc),
-        "GraphicalTheme::unicode" => GraphicalTheme::unicode(alloc),
-        "GraphicalTheme::unicode_nocolor" => GraphicalTheme::unicode_nocolor(alloc),
-        _ => GraphicalTheme::none(alloc),
-    }
 }
 
 /// Colours that its user doesn't want.

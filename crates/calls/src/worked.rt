@@ -104,47 +104,100 @@ static REFUSED: Written<'static> = Written {
     ..M
 };
 
-/// The report of this name. Of the source that stops the first read fails.
+/// A report.
+#[derive(Clone, Copy)]
+pub enum Example {
+    OneLabel,
+    OneLine,
+    Wide,
+    Tabs,
+    Crossing,
+    OwnContext,
+    Many,
+    Linked,
+    CausesWithSources,
+    Texts,
+    Related,
+    RelatedBelow,
+    Refused,
+    TwoSources,
+    Fixes,
+    FixesOfCause,
+    StoppingCause,
+}
+
+/// The reports, each by its name.
+pub static EXAMPLES: [(&str, Example); 17] = [
+    ("one label", Example::OneLabel),
+    ("labels on one line", Example::OneLine),
+    ("wide characters", Example::Wide),
+    ("tabs", Example::Tabs),
+    ("lines that cross", Example::Crossing),
+    ("own context", Example::OwnContext),
+    ("many labels", Example::Many),
+    ("a linked cause", Example::Linked),
+    ("causes with sources", Example::CausesWithSources),
+    ("texts", Example::Texts),
+    ("related reports", Example::Related),
+    ("related reports in one another", Example::RelatedBelow),
+    ("a refused label", Example::Refused),
+    ("labels over two sources", Example::TwoSources),
+    ("fixes", Example::Fixes),
+    ("fixes of a cause", Example::FixesOfCause),
+    ("a cause over a source that stops", Example::StoppingCause),
+];
+
+/// The report. Of the source that stops the first read fails.
 ///
 /// # Errors
 /// Where memory is refused.
-pub fn report<'a>(alloc: Global, name: &str, reads: &'a Reads) -> Result<Made<'a>, AllocError> {
-    match lone_report(name) {
+pub fn report<'a>(
+    alloc: Global,
+    example: Example,
+    reads: &'a Reads,
+) -> Result<Made<'a>, AllocError> {
+    match lone_report(example) {
         Some(written) => report_of(alloc, written),
-        None => with_others(alloc, name, reads),
+        None => with_others(alloc, example, reads),
     }
 }
 
 /// What is written of a report that has nothing beside it or below it.
-fn lone_report(name: &str) -> Option<&'static Written<'static>> {
-    match name {
-        "one label" => Some(&ONE_LABEL),
-        "lines that cross" => Some(&CROSSING),
-        "labels on one line" => Some(&ON_ONE_LINE),
-        "wide characters" => Some(&WIDE),
-        "tabs" => Some(&TABS),
-        "own context" => Some(&OWN),
-        "many labels" => Some(&MANY),
-        "a refused label" => Some(&REFUSED),
+fn lone_report(example: Example) -> Option<&'static Written<'static>> {
+    match example {
+        Example::OneLabel => Some(&ONE_LABEL),
+        Example::Crossing => Some(&CROSSING),
+        Example::OneLine => Some(&ON_ONE_LINE),
+        Example::Wide => Some(&WIDE),
+        Example::Tabs => Some(&TABS),
+        Example::OwnContext => Some(&OWN),
+        Example::Many => Some(&MANY),
+        Example::Refused => Some(&REFUSED),
         _ => None,
     }
 }
 
-fn with_others<'a>(alloc: Global, name: &str, reads: &'a Reads) -> Result<Made<'a>, AllocError> {
-    match name {
-        "related reports" => report_with_related(alloc),
-        "related reports in one another" => report_with_related_below(alloc),
-        "texts" => report_over_texts(alloc, report_of(alloc, &PLAIN)?, &TEXTS),
-        "labels over two sources" => {
-            report_and_further(alloc, report_of(alloc, &ONE_LABEL), &CROSSING)
-        }
-        "fixes" => mended(alloc),
-        "fixes of a cause" => report_over(
+fn with_others<'a>(
+    alloc: Global,
+    example: Example,
+    reads: &'a Reads,
+) -> Result<Made<'a>, AllocError> {
+    match example {
+        Example::Related => report_with_related(alloc),
+        Example::RelatedBelow => report_with_related_below(alloc),
+        Example::Texts => report_over_texts(alloc, report_of(alloc, &PLAIN)?, &TEXTS),
+        Example::TwoSources => report_and_further(alloc, report_of(alloc, &ONE_LABEL), &CROSSING),
+        Example::Fixes => mended(alloc),
+        Example::FixesOfCause => report_over(
             alloc,
             report_and_fix(alloc, report_of(alloc, &PLAIN), &MENDED[0]),
             mended(alloc),
         ),
-        _ => report_over(alloc, report_of(alloc, &PLAIN), cause(alloc, name, reads)),
+        _ => report_over(
+            alloc,
+            report_of(alloc, &PLAIN),
+            cause(alloc, example, reads),
+        ),
     }
 }
 
@@ -165,10 +218,10 @@ fn report_with_related<'a>(alloc: Global) -> Result<Made<'a>, AllocError> {
     report_beside(report_of(alloc, &PLAIN), reports_of(alloc, &BESIDE))
 }
 
-fn cause<'a>(alloc: Global, name: &str, reads: &'a Reads) -> Result<Made<'a>, AllocError> {
-    match name {
-        "a linked cause" => report_of(alloc, &LINKED),
-        "causes with sources" => report_over(
+fn cause<'a>(alloc: Global, example: Example, reads: &'a Reads) -> Result<Made<'a>, AllocError> {
+    match example {
+        Example::Linked => report_of(alloc, &LINKED),
+        Example::CausesWithSources => report_over(
             alloc,
             report_of(alloc, &ONE_LABEL),
             report_of(alloc, &CROSSING),

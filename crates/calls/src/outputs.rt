@@ -1,0 +1,73 @@
+//! Outputs that print runs or collect them.
+
+use crate::rows::{Called, Rows};
+use crate::runs::{XY, red};
+use miette_text::runs::output::Output;
+use std::alloc::{AllocError, Global};
+
+/// The calls of this module.
+#[derive(Clone, Copy)]
+pub enum Call {
+    ForText,
+    ForRuns,
+    Reserve,
+    Push,
+    PushChars,
+    PushStr,
+    Begin,
+    End,
+    PushRun,
+    PushLink,
+    PushLinkEnd,
+    IntoText,
+    IntoRuns,
+}
+
+/// Makes a call, of an output that prints and of one that collects.
+///
+/// # Errors
+/// Where memory is refused for what it is given.
+pub fn make(alloc: Global, call: Call, row: &mut Rows) -> Called {
+    match call {
+        Call::ForText => row.value(&Output::for_text(alloc)),
+        Call::ForRuns => row.value(&Output::for_runs(alloc)),
+        Call::IntoText | Call::IntoRuns => {
+            taken(alloc, call, row, Output::for_text(alloc))?;
+            return taken(alloc, call, row, Output::for_runs(alloc));
+        }
+        _ => {
+            put(call, row, Output::for_text(alloc));
+            put(call, row, Output::for_runs(alloc));
+        }
+    }
+    Ok(())
+}
+
+/// What is taken of an output with a red text.
+fn taken(alloc: Global, call: Call, row: &mut Rows, mut output: Output) -> Called {
+    output.push_run(red(), "xyz")?;
+    match call {
+        Call::IntoText => row.answer(output.into_text(alloc)),
+        _ => row.answer(output.into_runs(alloc)),
+    }
+    Ok(())
+}
+
+fn put(call: Call, row: &mut Rows, mut output: Output) {
+    let answer = push(call, &mut output);
+    row.after(answer, &output);
+}
+
+fn push(call: Call, output: &mut Output) -> Result<(), AllocError> {
+    match call {
+        Call::Reserve => output.reserve('x', 3),
+        Call::Push => output.push('x'),
+        Call::PushChars => output.push_chars(&XY),
+        Call::PushStr => output.push_str("xyz"),
+        Call::Begin => output.begin(red()),
+        Call::End => output.end(),
+        Call::PushRun => output.push_run(red(), "xyz"),
+        Call::PushLink => output.push_link("http://x"),
+        _ => output.push_link_end(),
+    }
+}
