@@ -27,9 +27,13 @@ returns-then-not-begins_value-clause-part g c =
     let held = c.loop.part.items in
     let row = c.next.new.row.items in
     let part = c.extend_from_slice.new.self.items in
-    let one : part ≡ held ++ row = search rules in
+    let one : part ≡ held ++ row =
+    c.in_ok-extend_from_slice.ensures.items ∙ ap (λ l. held ++ l) c.as_slice.ensures.value
+    in
     let some : 0 < length row = search rules in
-    let begins : begins_value part ≡ false = search rules in
+    let begins : begins_value part ≡ false =
+    ap begins_value (sym c.as_slice-in-loop.ensures.value) ∙ sym c.begins_value.ensures ∙ c.if-not-begins_value.true
+    in
     held_whole _ _ _ held row part one some (never_on part begins) c.loop.invariant.held c.in_ok-next.ensures.row
 
 pub returns-then-not-is_open-clause-part : goal.returns-then-not-is_open-clause-part
@@ -38,16 +42,20 @@ returns-then-not-is_open-clause-part g c =
     let row = c.next.new.row.items in
     let part = c.extend_from_slice.new.self.items in
     let state = c.behind-state.result in
-    let one : part ≡ held ++ row = search rules in
+    let one : part ≡ held ++ row =
+    c.in_ok-extend_from_slice.ensures.items ∙ ap (λ l. held ++ l) c.as_slice.ensures.value
+    in
     let some : 0 < length row = search rules in
-    let begins : begins_value part ≡ true = search rules in
+    let begins : begins_value part ≡ true =
+    ap begins_value (sym c.as_slice-in-loop.ensures.value) ∙ sym c.begins_value.ensures ∙ c.if-not-begins_value.false
+    in
     let after : state ≡ behind c.loop.state row =
     c.behind-state.ensures ∙ ap (λ l. behind c.loop.state l) c.as_slice-in-loop-2.ensures.value
     in
     let reached : state ≡ behind closed part =
     behind_more held row part c.loop.state state one c.loop.invariant.reached after
     in
-    let none : is_open state ≡ false = search rules in
+    let none : is_open state ≡ false = sym c.is_open.ensures ∙ c.if-not-is_open.true in
     held_whole _ _ _ held row part one some (not_on part state reached begins none) c.loop.invariant.held
     c.in_ok-next.ensures.row
 
@@ -57,16 +65,20 @@ loop-preserved g c =
     let row = c.next.new.row.items in
     let part = c.extend_from_slice.new.self.items in
     let state = c.behind-state.result in
-    let one : part ≡ held ++ row = search rules in
+    let one : part ≡ held ++ row =
+    c.in_ok-extend_from_slice.ensures.items ∙ ap (λ l. held ++ l) c.as_slice.ensures.value
+    in
     let some : 0 < length row = search rules in
-    let begins : begins_value part ≡ true = search rules in
+    let begins : begins_value part ≡ true =
+    ap begins_value (sym c.as_slice-in-loop.ensures.value) ∙ sym c.begins_value.ensures ∙ c.if-not-begins_value.false
+    in
     let after : state ≡ behind c.loop.state row =
     c.behind-state.ensures ∙ ap (λ l. behind c.loop.state l) c.as_slice-in-loop-2.ensures.value
     in
     let reached : state ≡ behind closed part =
     behind_more held row part c.loop.state state one c.loop.invariant.reached after
     in
-    let more : is_open state ≡ true = search rules in
+    let more : is_open state ≡ true = sym c.is_open.ensures ∙ c.if-not-is_open.false in
     record {
       sound = search rules;
       held = held_more _ _ _ held row part one some (is_on part state reached begins more) c.loop.invariant.held
