@@ -23,12 +23,10 @@ pub fn no_colon(alloc: Global) -> Result<Report, AllocError>
         .as_bytes()
         .to_vec(alloc)?;
     let source = OwnedSource::named(alloc, "f.py", None, code)?;
+    let report = Report::new(MietteDiagnostic::new(alloc, "no colon")?).with_owned_source(source);
     let edit = Edit::insert(16, String::from_str(alloc, ":")?);
     let fix = Fix::new(alloc, "a colon is missing")?.with_edit(edit)?;
-    let diagnostic = MietteDiagnostic::new(alloc, "no colon")?;
-    Report::new(diagnostic)
-        .with_owned_source(source)
-        .with_fix(alloc, fix)
+    report.with_fix(alloc, fix)
 }
 
 /// The picture of that report.

@@ -2,7 +2,7 @@
 
 use miette_protocol::protocol::Severity;
 use miette_tree::miette;
-use miette_tree::report::{IntoDiagnostic, Result, WrapErr};
+use miette_tree::report::{IntoDiagnostic, Report, Result, WrapErr};
 use std::alloc::{Alloc, Global};
 use std::fs;
 use std::fs::Files;
@@ -24,17 +24,19 @@ pub fn settings_len<R: Files + Alloc<A = Global>>(rt: &R, path: &str) -> Result<
 
 /// The same, with a hint beside the error.
 pub fn settings_len_or_hint<R: Files + Alloc<A = Global>>(rt: &R, path: &str) -> Result<usize> {
-    let alloc = rt.alloc();
     match settings_len(rt, path) {
         Ok(len) => Ok(len),
-        Err(report) => {
-            let hint =
-                miette!(in alloc; severity = Severity::Advice, "without {path} the default settings hold");
-            let mut related = Vec::new(alloc);
-            match related.push(hint) {
-                Ok(()) => Err(report.with_related(related)),
-                Err(_) => Err(report),
-            }
-        }
+        Err(report) => Err(beside_a_hint(rt.alloc(), path, report)),
+    }
+}
+
+/// The report with a hint beside it, where there is memory for that.
+fn beside_a_hint(alloc: Global, path: &str, report: Report) -> Report {
+    let hint =
+        miette!(in alloc; severity = Severity::Advice, "without {path} the default settings hold");
+    let mut related = Vec::new(alloc);
+    match related.push(hint) {
+        Ok(()) => report.with_related(related),
+        Err(_) => report,
     }
 }
