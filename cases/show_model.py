@@ -19,25 +19,27 @@ def rows_of(given):
     return [it + b"\n" for it in rows[:-1]] + ([rows[-1]] if rows[-1] else [])
 
 
-def is_unfinished(part):
-    """Whether its first row is a bracket alone, and a bracket is open at its end, and no text."""
-    beside = re.sub(rb'"(?:[^"\\]|\\.)*"', b"", part, flags=re.S)
-    depth = 0
+def depth_behind(depth, row):
+    """How many brackets are open behind a row that begins beside texts; none where it ends within one."""
+    beside = re.sub(rb'"(?:[^"\\]|\\.)*"', b"", row, flags=re.S)
+    if b'"' in beside:
+        return 0
     for byte in re.findall(rb"[][{}]", beside):
         depth = depth + 1 if byte in b"[{" else max(depth - 1, 0)
-    return re.match(rb"[\[{]\r?\n", part) is not None and depth > 0 and b'"' not in beside
+    return depth
 
 
 def parts_of(given):
-    """The rows, or those of a value over several, each with the number of its first row."""
-    part, begun = b"", 1
+    """The rows, or those of a value that begins with a bracket alone, each with the number of its first row."""
+    part, begun, depth = [], 1, 0
     for number, row in enumerate(rows_of(given), 1):
-        part += row
-        if not is_unfinished(part):
-            yield begun, part
-            part, begun = b"", number + 1
+        part.append(row)
+        depth = depth_behind(depth, row) if re.match(rb"[\[{]\r?\n", part[0]) else 0
+        if depth == 0:
+            yield begun, b"".join(part)
+            part, begun = [], number + 1
     if part:
-        yield begun, part
+        yield begun, b"".join(part)
 
 
 def refused(name):
