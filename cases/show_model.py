@@ -30,7 +30,7 @@ def depth_behind(depth, row):
 
 
 def parts_of(given):
-    """The rows, or those of a value that begins with a bracket alone, each with the number of its first row."""
+    """The rows, those of a value that begins with a bracket alone as one, each with its number."""
     part, begun, depth = [], 1, 0
     for number, row in enumerate(rows_of(given), 1):
         part.append(row)
