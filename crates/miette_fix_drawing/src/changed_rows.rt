@@ -44,8 +44,7 @@ fn cut_of(settings: &SnippetSettings<'_>, line: &ChangedLine) -> Result<Cut, All
         tab: settings.layout.tab_width,
     };
     let ends = line_ends(settings, line)?;
-    let cut = cut_at_ends(settings.alloc, &text, &ends, most)?;
-    Ok(cut)
+    cut_at_ends(settings.alloc, &text, &ends, most)
 }
 
 // What stands before a changed line's text: ` 12 - `.
@@ -57,8 +56,7 @@ fn push_sign_start<O: Canvas>(page: &mut Page<O>, frame: &Frame, line: &ChangedL
     page.push_blank(1)?;
     page.begin(line.style)?;
     page.push(line.sign)?;
-    page.push_blank(1)?;
-    Ok(())
+    page.push_blank(1)
 }
 
 // The row of a changed line, which is cut so: ` 12 - text`.
@@ -83,8 +81,7 @@ fn push_text_row<O: Canvas>(
     let pieces = changed_pieces(frame.settings.alloc, line.style, line.spans, &text)?;
     push_sign_start(page, frame, line)?;
     push_changed_text(page, &text, &pieces, cut)?;
-    page.end_row()?;
-    Ok(())
+    page.end_row()
 }
 
 // The row of marks below a changed line, which is cut so.
@@ -103,8 +100,7 @@ fn push_line_marks<O: Canvas>(
 {
     let marks = edit_marks(&frame.settings, line)?;
     let shown = marks_shown(frame.settings.alloc, cut, marks)?;
-    push_marks_row(page, frame, line.sign, &shown)?;
-    Ok(())
+    push_marks_row(page, frame, line.sign, &shown)
 }
 
 // The rows of a changed line whose spans are those that may touch it.
@@ -123,8 +119,7 @@ fn push_near_rows<O: Canvas>(
     push_text_row(page, frame, line, &cut)?;
     let alike = look_alike(&frame.settings, line.text, other)?;
     if alike {
-        push_line_marks(page, frame, line, &cut)?;
-        return Ok(());
+        return push_line_marks(page, frame, line, &cut);
     }
     Ok(())
 }
@@ -146,6 +141,5 @@ pub(crate) fn push_changed_rows<O: Canvas>(
         spans: spans_from(line.spans, line.start),
         ..*line
     };
-    push_near_rows(page, frame, &near, other)?;
-    Ok(())
+    push_near_rows(page, frame, &near, other)
 }

@@ -23,8 +23,7 @@ pub fn push_digits<O: Canvas>(page: &mut Page<O>, frame: &Frame, number: usize) 
 {
     page.push_blank(1)?;
     page.begin(frame.settings.theme.styles.linum)?;
-    page.push_right(number, frame.number_width)?;
-    Ok(())
+    page.push_right(number, frame.number_width)
 }
 
 /// The number of an unchanged line: ` 12 │ `.
@@ -34,8 +33,7 @@ pub fn push_number_start<O: Canvas>(page: &mut Page<O>, frame: &Frame, number: u
 {
     push_digits(page, frame, number)?;
     page.push_line(PLAIN, ' ', frame.settings.theme.characters.vbar, 1)?;
-    page.push(' ')?;
-    Ok(())
+    page.push(' ')
 }
 
 /// What stands before marks: `    · `.
@@ -45,6 +43,5 @@ pub fn push_other_start<O: Canvas>(page: &mut Page<O>, frame: &Frame) -> Outcome
 {
     let columns = sum(frame.number_width, 2)?;
     page.push_blank(columns)?;
-    page.push_line(PLAIN, frame.settings.theme.characters.vbar_break, ' ', 1)?;
-    Ok(())
+    page.push_line(PLAIN, frame.settings.theme.characters.vbar_break, ' ', 1)
 }

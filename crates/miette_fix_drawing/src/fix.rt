@@ -45,8 +45,7 @@ fn push_ascii<O: Canvas>(page: &mut Page<O>, style: Style, text: &str) -> Outcom
     ensures { OnOk result (page.new ≡ page.old ⊕ styled_tokens style text.now) }
 {
     page.begin(style)?;
-    page.push_str(text)?;
-    Ok(())
+    page.push_str(text)
 }
 
 /// The row in place of a fix's frames, with the name of what refuses it: "  [Failed to apply fix: Overlap]".
@@ -66,8 +65,7 @@ pub fn push_refused_fix<O: Canvas>(
     push_ascii(page, PLAIN, ": ")?;
     push_ascii(page, styles.warning, name)?;
     push_ascii(page, PLAIN, "]")?;
-    page.end_row()?;
-    Ok(())
+    page.end_row()
 }
 
 /// The row in place of a fix's frames where the source can't be read; none where the fix has no edits. `AllocError`
@@ -83,8 +81,7 @@ pub fn push_unread_fix<O: Canvas>(
     if fix.edits().is_empty() {
         return Ok(());
     }
-    push_refused_fix(page, settings, "IoError")?;
-    Ok(())
+    push_refused_fix(page, settings, "IoError")
 }
 
 // The row of a refusal.

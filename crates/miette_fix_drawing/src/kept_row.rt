@@ -40,6 +40,5 @@ pub fn push_kept_row<O: Canvas>(
     let cut = cut_around(settings.alloc, &text, &[], settings.layout.line_columns)?;
     push_number_start(page, frame, number)?;
     push_shown_text(page, &text, &[], &cut)?;
-    page.end_row()?;
-    Ok(())
+    page.end_row()
 }

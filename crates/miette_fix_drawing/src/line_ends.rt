@@ -63,8 +63,7 @@ fn push_ends_on(
         then span_ends columns.now line.now.start (length line.now.text.now) span.now else [])) }
 {
     if is_on(line, text, span) {
-        push_ends(ends, columns, line, span)?;
-        return Ok(());
+        return push_ends(ends, columns, line, span);
     }
     Ok(())
 }
@@ -110,6 +109,5 @@ pub(crate) fn line_ends(
         end: line.start + line.text.len(),
     };
     let columns = Columns::new(settings.alloc, &bounds, text, settings.layout.tab_width)?;
-    let ends = ends_in(settings.alloc, &columns, line, text)?;
-    Ok(ends)
+    ends_in(settings.alloc, &columns, line, text)
 }

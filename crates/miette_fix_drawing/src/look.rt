@@ -67,8 +67,7 @@ fn seen_of_line(settings: &SnippetSettings, line: &[u8]) -> Result<Vec<char>, Al
     ensures { IfOk result (λ made. without_blanks made.items ≡ look (settings_of settings.now) line.now) }
 {
     let walk = Walk::new(text_of(line), 0, settings.layout.tab_width);
-    let made = seen_of(settings.alloc, walk)?;
-    Ok(made)
+    seen_of(settings.alloc, walk)
 }
 
 // Whether two lines have the same bytes.
@@ -127,6 +126,5 @@ pub fn look_alike(
     if same_bytes(line, other) {
         return Ok(false);
     }
-    let alike = are_seen_alike(settings, line, other)?;
-    Ok(alike)
+    are_seen_alike(settings, line, other)
 }

@@ -89,14 +89,13 @@ pub(crate) fn edit_marks<'a>(
         end: line.start + line.text.len(),
     };
     let parts = parts_in(settings.alloc, line)?;
-    let marks = marks_on(
+    marks_on(
         settings.alloc,
         &bounds,
         text,
         settings.layout.tab_width,
         &parts,
-    )?;
-    Ok(marks)
+    )
 }
 
 // A row of marks, each behind the spaces before it: `  ---  --`.
@@ -131,6 +130,5 @@ pub(crate) fn push_marks_row<O: Canvas>(
     }
     push_other_start(page, frame)?;
     push_sign_runs(page, sign, marks)?;
-    page.end_row()?;
-    Ok(())
+    page.end_row()
 }

@@ -119,6 +119,5 @@ pub fn pieces_of(
         return Ok(Vec::new(alloc));
     };
     let first = painted_cell(spans, &cell);
-    let made = pieces_behind(alloc, style, spans, walk, first)?;
-    Ok(made)
+    pieces_behind(alloc, style, spans, walk, first)
 }

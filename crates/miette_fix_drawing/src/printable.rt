@@ -108,8 +108,7 @@ fn printable_pieces(
         return Ok(Vec::new(alloc));
     }
     let first = alike_from(spans, text.start, text.start + text.bytes.len());
-    let made = pieces_past(alloc, style, spans, text, first)?;
-    Ok(made)
+    pieces_past(alloc, style, spans, text, first)
 }
 
 /// A changed line's characters in pieces: those of which a span has a byte in this style, the others plain.
@@ -125,8 +124,7 @@ pub(crate) fn changed_pieces(
     ensures { IfOk result (λ made. map highlight_of made.items ≡ pieces style spans.now (text_cells text.now)) }
 {
     if all_printable(text.bytes) {
-        let made = printable_pieces(alloc, style, spans, text)?;
-        return Ok(made);
+        return printable_pieces(alloc, style, spans, text);
     }
     pieces_of(alloc, style, spans, text)
 }
@@ -140,8 +138,7 @@ fn push_run<O: Canvas>(page: &mut Page<O>, style: Style, bytes: &[u8]) -> Outcom
     let Ok(text) = str::from_utf8(bytes) else {
         unreachable!();
     };
-    page.push_str(text)?;
-    Ok(())
+    page.push_str(text)
 }
 
 // A text of printable ASCII in pieces, each a length in bytes and a style, and plain behind them.
@@ -155,8 +152,7 @@ fn push_pieces<O: Canvas>(page: &mut Page<O>, text: &[u8], pieces: &[(usize, Sty
         push_run(page, piece.1, own)?;
         rest = later;
     }
-    push_run(page, PLAIN, rest)?;
-    Ok(())
+    push_run(page, PLAIN, rest)
 }
 
 /// What is shown of a changed line's text in pieces, each a length in bytes and a style, and plain behind them: its
@@ -173,10 +169,7 @@ pub(crate) fn push_changed_text<O: Canvas>(
         (map highlight_of pieces.now) (text_cells text.now))) }
 {
     match cut {
-        None if all_printable(text.bytes) => {
-            push_pieces(page, text.bytes, pieces)?;
-            Ok(())
-        }
+        None if all_printable(text.bytes) => push_pieces(page, text.bytes, pieces),
         _ => push_shown_text(page, text, pieces, cut),
     }
 }

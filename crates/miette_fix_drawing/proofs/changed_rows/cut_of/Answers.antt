@@ -1,4 +1,5 @@
 use Rattle.std.proofs.Common.{◌∙◌, ap, false, List, map, Option, Some, option_map, sym, ℕ}
+use Rattle.std.proofs.lemmas.Result.{IfOk-weaker}
 use Rattle.miette_cells.specs.rules.Cells.{Cell, cells_from, characters}
 use Rattle.miette_cells.specs.rules.Widths.{width_of}
 use Rattle.miette_cuts.specs.views.CutEnds.{cut_with_ends}
@@ -22,7 +23,7 @@ returns c =
     let tab : ℕ = c.args.settings.now.layout.now.tab_width in
     let line = c.args.line.now in
     let cells : List ℕ → List Cell = λ bytes. cells_from width_of tab false line.start 0 (characters bytes) in
-    c.in_ok-cut.ensures
+    IfOk-weaker c.cut_at_ends.result _ _ (λ _ h. h
     ∙ ap (λ es. option_map (map measure) (cut_with_ends (Some c.in-Some._limit) es (cells c.text_of.result.now)))
     (c.deref.ensures.value ∙ c.in_ok-ends.ensures)
     ∙ ap (λ (o : Option ℕ). option_map (map measure) (cut_with_ends o
@@ -30,4 +31,4 @@ returns c =
     ∙ ap (λ bytes. option_map (map measure) (cut_with_ends most (line_ends s line.start line.text.now line.spans.now)
     (cells bytes))) c.text_of.ensures.text
     ∙ ap (option_map (map measure)) (cut_alike most (line_ends s line.start line.text.now line.spans.now)
-    (line_cells s line.start line.text.now))
+    (line_cells s line.start line.text.now))) c.cut_at_ends.ensures

@@ -1,4 +1,5 @@
 use Rattle.std.proofs.Common.{◌∙◌, ap, map}
+use Rattle.std.proofs.lemmas.Result.{on_ok_weaker}
 use Rattle.miette_page.specs.views.Printouts.{◌⊕◌}
 use Rattle.miette_page.specs.views.Tokens.{rows_tokens}
 use Rattle.miette_snippet_rules.specs.rules.CutLines.{shown_marks}
@@ -16,8 +17,8 @@ returns g c =
     let line = c.args.line.now in
     let cut = cut_around s.layout.line_columns (line_ends s line.start line.text.now line.spans.now)
     (line_cells s line.start line.text.now) in
-    c.in_ok-push_marks_row.ensures
+    on_ok_weaker c.push_marks_row.result (λ h. h
     ∙ ap (λ ms. c.args.page.now ⊕ rows_tokens (before_some (other_start s w)
     (row_if_some (sign_runs s line.sign 0 ms))))
     (ap (map mark_of) c.deref.ensures.value ∙ c.in_ok-shown.ensures cut c.requires.cut
-    ∙ ap (shown_marks cut) c.in_ok-marks.ensures)
+    ∙ ap (shown_marks cut) c.in_ok-marks.ensures)) c.push_marks_row.ensures

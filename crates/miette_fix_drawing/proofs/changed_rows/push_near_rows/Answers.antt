@@ -1,4 +1,5 @@
 use Rattle.std.specs.Prelude.{option_copied}
+use Rattle.std.proofs.lemmas.Result.{on_ok_weaker}
 use Rattle.miette_snippet_rules.specs.views.SettingsView.{settings_of}
 use Rattle.miette_fix_drawing.specs.views.ChangedLines.{changed_line_of}
 use Rattle.miette_fix_drawing.proofs.ChangedRows.{alike_put, unlike_put}
@@ -6,9 +7,10 @@ use Rattle.miette_fix_drawing.proofs.changed_rows.push_near_rows.Goals as goal
 
 pub returns-then-alike : goal.returns-then-alike
 returns-then-alike g c =
+    on_ok_weaker c.push_line_marks.result (λ h.
     alike_put (settings_of c.args.frame.now.settings) c.args.frame.now.number_width (changed_line_of c.args.line.now)
     (option_copied c.args.other) c.in_ok-alike.alike c.args.page.now c.push_text_row.new.page c.push_line_marks.new.page
-    c.in_ok-alike.ensures c.if-alike.true c.in_ok-push_text_row.ensures c.in_ok-push_line_marks.ensures
+    c.in_ok-alike.ensures c.if-alike.true c.in_ok-push_text_row.ensures h) c.push_line_marks.ensures
 
 pub returns : goal.returns
 returns g c =

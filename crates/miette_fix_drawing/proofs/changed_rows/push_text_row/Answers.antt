@@ -1,4 +1,5 @@
 use Rattle.std.proofs.Common.{◌∙◌, ap, false, map, option_map}
+use Rattle.std.proofs.lemmas.Result.{on_ok_weaker}
 use Rattle.miette_cells.specs.rules.Cells.{cells_from, characters}
 use Rattle.miette_cells.specs.rules.Widths.{width_of}
 use Rattle.miette_snippet_rules.specs.rules.Highlighting.{highlight_of}
@@ -11,6 +12,7 @@ pub returns : goal.returns
 returns g c =
     let tab = c.args.frame.now.settings.layout.now.tab_width in
     let line = c.args.line.now in
+    on_ok_weaker c.end_row.result (λ h.
     text_put (settings_of c.args.frame.now.settings) c.args.frame.now.number_width (changed_line_of line)
     (cells_from width_of tab false line.start 0 (characters c.text_of.result.now))
     (map highlight_of c.deref.result.now)
@@ -18,4 +20,4 @@ returns g c =
     c.push_changed_text.new.page c.end_row.new.self
     (ap (λ bytes. cells_from width_of tab false line.start 0 (characters bytes)) c.text_of.ensures.text)
     (ap (map highlight_of) c.deref.ensures.value ∙ c.in_ok-pieces.ensures) c.requires.cut
-    c.in_ok-push_sign_start.ensures c.in_ok-push_changed_text.ensures c.in_ok-end_row.ensures
+    c.in_ok-push_sign_start.ensures c.in_ok-push_changed_text.ensures h) c.end_row.ensures

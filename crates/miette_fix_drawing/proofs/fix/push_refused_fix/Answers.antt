@@ -1,5 +1,6 @@
 use Rattle.std.proofs.Common.{[], ◌∷◌}
 use Rattle.std.specs.Prelude.{codes}
+use Rattle.std.proofs.lemmas.Result.{on_ok_weaker}
 use Rattle.miette_page.specs.rules.Rows.{Row, styled_run}
 use Rattle.miette_style.specs.rules.Styles.{plain}
 use Rattle.miette_cells.specs.rules.Widths.{width_of}
@@ -15,6 +16,7 @@ returns g c =
     let colon : Row = styled_run width_of plain (codes ": ") ∷ name in
     let what : Row = styled_run width_of styles.error (codes "Failed to apply fix") ∷ colon in
     let end = c.push_ascii-5.new.page in
+    on_ok_weaker c.end_row.result (λ h.
     row_done (styled_run width_of plain (codes "  [") ∷ what) c.args.page.now end c.end_row.new.self
     (run_then width_of plain (codes "  [") what c.args.page.now c.push_ascii.new.page end c.in_ok-push_ascii.ensures
     (run_then width_of styles.error (codes "Failed to apply fix") colon c.push_ascii.new.page c.push_ascii-2.new.page
@@ -25,4 +27,4 @@ returns g c =
     (run_then width_of styles.warning c.args.name.now last c.push_ascii-3.new.page c.push_ascii-4.new.page end
     c.in_ok-push_ascii-4.ensures
     (run_last width_of plain (codes "]") c.push_ascii-4.new.page end c.in_ok-push_ascii-5.ensures)))))
-    c.in_ok-end_row.ensures
+    h) c.end_row.ensures

@@ -1,5 +1,6 @@
 use Rattle.std.proofs.Common.{◌+◌, ◌∙◌, ap, length, List, ℕ, false}
 use Rattle.std.specs.List.{filter}
+use Rattle.std.proofs.lemmas.Result.{IfOk-weaker}
 use Rattle.miette_cells.specs.rules.Cells.{cells_from, characters}
 use Rattle.miette_cells.specs.rules.Widths.{width_of}
 use Rattle.miette_snippet_rules.specs.rules.Marks.{Text}
@@ -16,8 +17,8 @@ returns c =
     let line : List ℕ = c.args.line.now.text.now in
     let tab : ℕ = c.args.settings.now.layout.now.tab_width in
     let on = filter (is_on start line) c.args.line.now.spans.now in
-    c.in_ok-ends.ensures
+    IfOk-weaker c.ends_in.result _ _ (λ _ h. h
     ∙ ap (λ (t : Text). all_ends t start (length line) on) c.in_ok-columns.ensures
     ∙ ap (λ bytes. all_ends (text_of_cells (cells_from width_of tab false start 0 (characters bytes))
     (start + length bytes)) start (length line) on) c.text_of-text.ensures.text
-    ∙ all_alike (settings_of c.args.settings.now) start line on
+    ∙ all_alike (settings_of c.args.settings.now) start line on) c.ends_in.ensures

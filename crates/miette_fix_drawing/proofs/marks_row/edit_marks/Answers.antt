@@ -1,4 +1,5 @@
 use Rattle.std.proofs.Common.{◌+◌, ◌∙◌, ap, length, List, map, ℕ, false}
+use Rattle.std.proofs.lemmas.Result.{IfOk-weaker}
 use Rattle.miette_cells.specs.rules.Cells.{cells_from, characters}
 use Rattle.miette_cells.specs.rules.Widths.{width_of}
 use Rattle.miette_labels.specs.views.GivenLabels.{drawn_of}
@@ -14,8 +15,8 @@ returns c =
     let tab : ℕ = c.args.settings.now.layout.now.tab_width in
     let text : List ℕ → Text =
     λ bytes. text_of_cells (cells_from width_of tab false start 0 (characters bytes)) (start + length bytes) in
-    c.in_ok-marks.ensures.is
+    IfOk-weaker c.marks_on.result _ _ (λ _ h. h
     ∙ ap (λ ps. marks (text c.text_of-text.result.now) (map drawn_of ps)) c.deref.ensures.value
     ∙ ap (marks (text c.text_of-text.result.now)) c.in_ok-parts.ensures
     ∙ ap (λ bytes. marks (text bytes) (parts_in start (length line) c.args.line.now.style c.args.line.now.spans.now))
-    c.text_of-text.ensures.text
+    c.text_of-text.ensures.text) c.marks_on.ensures.is

@@ -1,4 +1,5 @@
 use Rattle.std.proofs.Common.{◌≡◌, ◌∷◌, ◌∙◌, ap, false, refl, rules}
+use Rattle.std.proofs.lemmas.Result.{IfOk-weaker}
 use Rattle.miette_cells.specs.rules.Widths.{width_of}
 use Rattle.miette_cells.specs.views.Walking.{cell_of}
 use Rattle.miette_cuts.specs.views.LineTexts.{text_cells}
@@ -16,8 +17,8 @@ pieces_behind-requires-clause-come c =
 pub returns : goal.returns
 returns c =
     let step : text_cells c.args.text.now ≡ cell_of c.in-Some.cell ∷ c.next.new.self = search rules in
-    c.in_ok-made.ensures
+    IfOk-weaker c.pieces_behind.result _ _ (λ _ h. h
     ∙ ap (told c.args.style) (painted_next c.args.spans.now c.args.spans.now (cell_of c.in-Some.cell)
     (text_cells c.args.text.now) c.next.new.self c.painted_cell-first.result step
     (cells_come width_of c.args.text.now.tab false c.args.text.now.start 0 c.args.text.now.bytes.now)
-    (λ cell le. refl) c.painted_cell-first.ensures.changed c.painted_cell-first.ensures.bytes)
+    (λ cell le. refl) c.painted_cell-first.ensures.changed c.painted_cell-first.ensures.bytes)) c.pieces_behind.ensures

@@ -1,14 +1,15 @@
 use Rattle.std.proofs.Common.{◌∙◌, ap, option_map, sym}
+use Rattle.std.proofs.lemmas.Result.{on_ok_weaker}
 use Rattle.miette_fix_drawing.proofs.ChangedTexts.{printable_put}
 use Rattle.miette_fix_drawing.proofs.printable.push_changed_text.Goals as goal
 
 pub push_pieces-requires : goal.push_pieces-requires
 push_pieces-requires g c = sym c.all_printable.ensures ∙ c.if-all_printable.true
 
-pub returns-in_ok-push_pieces-in-None : goal.returns-in_ok-push_pieces-in-None
-returns-in_ok-push_pieces-in-None g c =
+pub returns-in-None : goal.returns-in-None
+returns-in-None g c =
     let text = c.args.text.now in
-    printable_put text.tab text.start c.args.pieces.now text.bytes.now
+    on_ok_weaker c.push_pieces.result (λ h. printable_put text.tab text.start c.args.pieces.now text.bytes.now
     (option_map (λ made. made.items) c.args.cut.now) c.args.page.now c.push_pieces.new.page
     (ap (option_map (λ made. made.items)) c.in-None.is) (sym c.all_printable.ensures ∙ c.if-all_printable.true)
-    c.in_ok-push_pieces-in-None.ensures
+    h) c.push_pieces.ensures

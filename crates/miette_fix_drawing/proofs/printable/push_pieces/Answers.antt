@@ -1,5 +1,6 @@
 use Rattle.std.proofs.Common.{◌∙◌, ap, take, drop, refl}
 use Rattle.std.specs.List.{list_all}
+use Rattle.std.proofs.lemmas.Result.{on_ok_weaker}
 use Rattle.miette_cells.specs.views.Printable.{is_printable}
 use Rattle.miette_cells.proofs.Plaining.{printable_taken}
 use Rattle.miette_cuts.proofs.CutPlain.{drop_least, dropped, take_least}
@@ -25,5 +26,7 @@ loop-piece-preserved g c =
     }
 
 pub returns : goal.returns
-returns g c = pieces_left c.args.pieces.now c.loop-piece.piece-index c.loop-piece.rest.now c.loop-piece.page
-    c.push_run-2.new.page _ c.loop-piece-test.false c.in_ok-push_run-2.ensures c.loop-piece.invariant.told
+returns g c =
+    on_ok_weaker c.push_run-2.result (λ h.
+    pieces_left c.args.pieces.now c.loop-piece.piece-index c.loop-piece.rest.now c.loop-piece.page
+    c.push_run-2.new.page _ c.loop-piece-test.false h c.loop-piece.invariant.told) c.push_run-2.ensures

@@ -1,6 +1,7 @@
 use Rattle.std.proofs.Common.{[], ◌∷◌, ◌∙◌, ap}
 use Rattle.std.specs.Str.{chars}
 use Rattle.std.proofs.lemmas.Str.{IsUtf8-from_ascii, chars-IsAscii}
+use Rattle.std.proofs.lemmas.Result.{on_ok_weaker}
 use Rattle.miette_page.specs.views.Printouts.{◌⊕◌}
 use Rattle.miette_page.specs.views.Tokens.{begins, text_tokens}
 use Rattle.miette_snippet_rules.proofs.RowTokens.{then}
@@ -13,7 +14,8 @@ unreachable-requires g c =
 
 pub returns : goal.returns
 returns g c =
+    on_ok_weaker c.push_str.result (λ h.
     then c.args.page.now (begins c.args.style ∷ []) (text_tokens c.args.bytes.now) c.in_ok-begin.ensures
-    (c.in_ok-push_str.ensures
+    (h
     ∙ ap (λ x. c.begin.new.self ⊕ text_tokens x) (ap chars c.in-Ok.ensures.cases.0
-    ∙ chars-IsAscii c.args.bytes.now (printable_ascii c.args.bytes.now c.requires)))
+    ∙ chars-IsAscii c.args.bytes.now (printable_ascii c.args.bytes.now c.requires)))) c.push_str.ensures
