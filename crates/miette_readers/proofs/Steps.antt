@@ -124,3 +124,23 @@ module _ {V W : Type 0} (look : V → W) (xs : List V) (i : ℕ) (x : V) (h : i 
       inv ∙ ap (λ l. initial ++ l) (sym (append-nil before))
       ∙ ap (λ b. initial ++ (before ++ (if b then look x ∷ [] else []))) (sym e)
       ∙ ap (λ l. initial ++ l) (sym (next_kept p))
+
+  pub fold_kept : {A Y : Type 0} (f : A → Y → A) (first old new : A) (made : W → Y) (p : W → Bool) → p (look x) ≡ true
+      → new ≡ f old (made (look x)) → old ≡ fold f first (map made (filter p (map look (take i xs))))
+      → new ≡ fold f first (map made (filter p (map look (take (i + 1) xs))))
+  fold_kept f first old new made p e pushed inv =
+      let before = filter p (map look (take i xs)) in
+      pushed ∙ ap (λ a. f a (made (look x))) inv
+      ∙ sym (fold-append f first (map made before) (made (look x) ∷ []))
+      ∙ ap (fold f first) (sym (map-append made before (look x ∷ [])))
+      ∙ ap (λ b. fold f first (map made (before ++ (if b then look x ∷ [] else [])))) (sym e)
+      ∙ ap (λ l. fold f first (map made l)) (sym (next_kept p))
+
+  pub fold_stays : {A Y : Type 0} (f : A → Y → A) (first old : A) (made : W → Y) (p : W → Bool) → p (look x) ≡ false
+      → old ≡ fold f first (map made (filter p (map look (take i xs))))
+      → old ≡ fold f first (map made (filter p (map look (take (i + 1) xs))))
+  fold_stays f first old made p e inv =
+      let before = filter p (map look (take i xs)) in
+      inv ∙ ap (λ l. fold f first (map made l)) (sym (append-nil before))
+      ∙ ap (λ b. fold f first (map made (before ++ (if b then look x ∷ [] else [])))) (sym e)
+      ∙ ap (λ l. fold f first (map made l)) (sym (next_kept p))
