@@ -1,13 +1,14 @@
 #!/usr/bin/env python3
-"""mended.py [FILE ..]: ten files of C, Rust and TOML, to which blanks were added, through `lint --fix`.
+"""mended.py [FILE ..]: 13 files of C, Rust and TOML, to which blanks were added, through `lint --fix`.
 
-The files of C are those of this repository and `stdio.h`, those of Rust are sources of this repository, those of TOML
-hold its cases. By chance, from a fixed seed, lines get blanks at their ends, and tabs after spaces in place of the
-spaces that they begin with; the last terminator is dropped; some files have CR LF. What `lint --fix` prints of that must
-be the file as it was, in which `lint` finds nothing; and what reads the language must read both alike: the assembly that
-`cc` makes, the rows that it reads of a header, the words of Rust, the value of TOML. With FILE .. these are tried in
-their place, each read as the end of its name says (`.c`, `.h`, `.rs`, `.toml`), and mended as it is before blanks are
-added. The last line is 'N passed, M failed', and the exit status is 0 only where nothing failed."""
+The files of C are those of this repository and four headers of the C library, of up to 1,500 lines, those of Rust are
+sources of this repository, those of TOML hold its cases. By chance, from a fixed seed, lines get blanks at their
+ends, and tabs after spaces in place of the spaces that they begin with; the last terminator is dropped; some files
+have CR LF. What `lint --fix` prints of that must be the file as it was, in which `lint` finds nothing; and what reads
+the language must read both alike: the assembly that `cc` makes, the rows that it reads of a header, the words of
+Rust, the value of TOML. With FILE .. these are tried in their place, each read as the end of its name says (`.c`,
+`.h`, `.rs`, `.toml`), and mended as it is before blanks are added. The last line is 'N passed, M failed', and the
+exit status is 0 only where nothing failed."""
 import json
 import os
 import random
@@ -21,7 +22,7 @@ from programs import ROOT, counted, each, run
 CC = os.environ.get("CC") or "cc"
 WIDTH = str(2**64 - 1)
 C = ["cases/stop.c", "cases/refuse.c", "bench/heap.c"]
-HEADER = "stdio.h"
+HEADERS = ["stdio.h", "stdlib.h", "unistd.h", "math.h"]
 RUST = ["crates/miette_text/src/wrap.rt", "crates/miette_graphical/src/report.rt", "crates/miette_lint/src/findings.rt"]
 TOML = ["gallery", "worked", "examples"]
 # the words of Rust: comments, texts, letters, words, numbers, signs
@@ -33,10 +34,10 @@ def file_in(path):
         return file.read()
 
 
-def header():
-    """The text of the header that `cc` reads."""
-    done = subprocess.run([CC, "-M", "-x", "c", "-"], input=f"#include <{HEADER}>\n", capture_output=True, text=True)
-    return file_in(next(it for it in done.stdout.split() if it.endswith("/" + HEADER)))
+def header(name):
+    """The text of a header that `cc` reads."""
+    done = subprocess.run([CC, "-M", "-x", "c", "-"], input=f"#include <{name}>\n", capture_output=True, text=True)
+    return file_in(next(it for it in done.stdout.split() if it.endswith("/" + name)))
 
 
 def toml(name):
@@ -88,7 +89,7 @@ READERS = {".c": assembly, ".h": header_words, ".rs": rust_words, ".toml": toml_
 def files():
     """Each file: its name, its text, and what reads it."""
     yield from ((path, file_in(path), assembly) for path in C)
-    yield HEADER, header(), header_words
+    yield from ((name, header(name), header_words) for name in HEADERS)
     yield from ((path, file_in(path), rust_words) for path in RUST)
     yield from ((f"{name}.toml", toml(name), toml_value) for name in TOML)
 

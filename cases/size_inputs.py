@@ -53,6 +53,7 @@ WHOLE = Way("whole", "job", (*PLAIN.words, "--context", "100000000"), draws=True
 BENCH = Way("bench", "bench", ("2", *PLAIN.words), draws=True)
 DRAW = Way("draw", "draw", ("f", MIDDLE, "1", "here", "m"), draws=True)
 LINT = Way("lint", "lint", ("f", "80"), 1, draws=True)
+FIXED = Way("fixed", "job", ("--fix=all",))
 
 CHARACTERS = {
     "letters": b"a",
@@ -248,6 +249,44 @@ def long_label(unit):
     return lambda size: labelled("ab\n", [(0, 2)], (unit * size)[:size])
 
 
+def fixed(text, fixes):
+    """The description of a source with fixes, each as its edits."""
+    named = ("offset", "length", "text")
+    message = "an `x` in place of the first letter of a line"
+    members = [{"message": message, "edits": [dict(zip(named, it)) for it in edits]} for edits in fixes]
+    return described(message="m", source={"name": "f", "text": text}, fixes=members)
+
+
+def each_fourth(size):
+    """n lines, and edits of the first letter of each fourth one."""
+    return "ab\n" * size, [(3 * i, 1, "x") for i in range(0, size, 4)]
+
+
+def one_fix(size):
+    """A fix of edits of each fourth of n lines, the last one first."""
+    text, edits = each_fourth(size)
+    return fixed(text, [edits[::-1]])
+
+
+def fix_each(size):
+    """A fix for each fourth of n lines, the last one first."""
+    text, edits = each_fourth(size)
+    return fixed(text, [[it] for it in edits[::-1]])
+
+
+def fix_again(size):
+    """The same fix, of two edits, for each fourth of n lines."""
+    text, edits = each_fourth(size)
+    return fixed(text, [[edits[0], edits[-1]]] * len(edits))
+
+
+def further(size):
+    """A label over each of n further sources, between two longer lines."""
+    source = {"name": "g", "text": f"{text_of(200)}\nab\n{text_of(200)}\n"}
+    section = {"source": source, "labels": [{"offset": 201, "length": 2, "label": "x"}]}
+    return described(message="m", snippets=[section] * size)
+
+
 def lint_lines(text):
     """n lines, each of this text with blanks at its end."""
     return lambda size: (text + " \n").encode() * size
@@ -307,6 +346,15 @@ def pictures():
     yield Family("lint of 9.6 MB", lint_lines("let it = that + other;"), sizes, (), (LINT,))
 
 
+def attached():
+    """Labels over many sources, and fixes."""
+    yield Family("labels over further sources", further, doubled(2_500, 80_000), (10_000,), HANDLERS)
+    told = (*HANDLERS, FIXED)
+    yield Family("a fix of many lines", one_fix, COUNTS, (20_000,), told)
+    yield Family("a fix for each line", fix_each, COUNTS, (20_000,), told)
+    yield Family("the same fix", fix_again, COUNTS, (20_000,), told)
+
+
 def fitted():
     """Pictures with labels that are folded, and lines that are cut."""
     folded = (FOLDED,)
@@ -350,4 +398,4 @@ def long_lines():
     yield Family("up to 100 MB of FF", repeated(b"\xff"), sizes, (), (DRAW, LINT))
 
 
-FAMILIES = [*small(), *lists(), *pictures(), *fitted(), *long_texts(), *long_lines()]
+FAMILIES = [*small(), *lists(), *pictures(), *attached(), *fitted(), *long_texts(), *long_lines()]
