@@ -23,12 +23,19 @@ from show_model import BEGINNINGS, parts_of
 FOLDER = os.path.join(HERE, "rustc")
 NAMES = ["borrow", "fixits", "life", "mine", "multi"]
 MANIFEST = '[package]\nname = "mended"\nversion = "0.1.0"\nedition = "2021"\n'
-# what rustc can mend in one round
-BROKEN = """#![warn(unused_parens, unused_mut)]
+# what rustc can mend in one round, and a value of which it tells two ways to keep it, of which one alone can be made
+BROKEN = """#![warn(unused_parens, unused_mut, let_underscore_drop)]
 mod other;
 use std::collections::HashMap;
 
+struct Held;
+
+impl Drop for Held {
+    fn drop(&mut self) {}
+}
+
 fn main() {
+    let _ = Held;
     let mut total = 0;
     let mut kept = 1;
     for it in (0..3) {
