@@ -23,12 +23,19 @@ from show_model import BEGINNINGS, parts_of
 FOLDER = os.path.join(HERE, "rustc")
 NAMES = ["borrow", "fixits", "life", "mine", "multi"]
 MANIFEST = '[package]\nname = "mended"\nversion = "0.1.0"\nedition = "2021"\n'
-# what rustc can mend in one round
-BROKEN = """#![warn(unused_parens, unused_mut)]
+# what rustc can mend in one round, and a value of which it tells two ways to keep it, of which one alone can be made
+BROKEN = """#![warn(unused_parens, unused_mut, let_underscore_drop)]
 mod other;
 use std::collections::HashMap;
 
+struct Held;
+
+impl Drop for Held {
+    fn drop(&mut self) {}
+}
+
 fn main() {
+    let _ = Held;
     let mut total = 0;
     let mut kept = 1;
     for it in (0..3) {
@@ -64,14 +71,20 @@ def fresh(span, files):
 
 
 def sure_fixes(message, files):
-    """The fixes of a message that are machine-applicable, each with the name of its file."""
+    """The fixes of a message that are machine-applicable, each with the name of its file; none of alternatives."""
+    sure = []
     for child in objects(message, "children"):
         spans = [it for it in objects(child, "spans") if is_edit(it)]
         for offer in offers({"children": [child]}, Settled(files)):
             if offer[1] == "machine-applicable" and all(fresh(it, files) for it in spans):
-                for name in dict.fromkeys(it[0] for it in offer[2]):
-                    for fix in fixes(offer, name, offer[0]):
-                        yield name, [Edit(it["offset"], it["length"], it["text"].encode()) for it in fix["edits"]]
+                sure.append(offer)
+    joint = ("", None, [edit for offer in sure for edit in offer[2]])
+    if any(len(fixes(joint, name, "")) > 1 for name, *_ in joint[2]):
+        return
+    for offer in sure:
+        for name in dict.fromkeys(it[0] for it in offer[2]):
+            for fix in fixes(offer, name, offer[0]):
+                yield name, [Edit(it["offset"], it["length"], it["text"].encode()) for it in fix["edits"]]
 
 
 def leads_out(name):
@@ -168,6 +181,12 @@ def changed(message, **members):
     return {**message, "children": [{**child, "spans": [{**child["spans"][0], **members}]}]}
 
 
+def together(*messages):
+    """One proposal of the edits of several."""
+    spans = [span for it in messages for span in it["children"][0]["spans"]]
+    return {**messages[0], "children": [{**messages[0]["children"][0], "spans": spans}]}
+
+
 TEXT = b"let a = (1);\nlet b = (2);\n"
 FIRST, SECOND = sure("a.rs", TEXT, 1, 9, 3, "1"), sure("a.rs", TEXT, 2, 9, 3, "2")
 
@@ -180,6 +199,15 @@ def hand_made():
     yield "of two files", rows_of(SECOND, sure("b.rs", TEXT, 1, 9, 3, "1"), FIRST), files
     yield "that overlap", rows_of(FIRST, sure("a.rs", TEXT, 1, 10, 2, "7;"), SECOND), files
     yield "in front of one another", rows_of(sure("a.rs", TEXT, 1, 9, 0, "x"), sure("a.rs", TEXT, 1, 9, 0, "y")), files
+    seven, there = changed(FIRST, suggested_replacement="7"), sure("b.rs", TEXT, 1, 9, 3, "1")
+    yield "of one proposal", rows_of(together(FIRST, SECOND)), files
+    yield "of two notes", rows_of({**FIRST, "children": FIRST["children"] + SECOND["children"]}), files
+    yield "of one proposal in two files", rows_of(together(there, FIRST, SECOND)), files
+    yield "that are alternatives", rows_of(together(FIRST, seven), SECOND), files
+    yield "that are alternatives in one of two files", rows_of(together(there, FIRST, seven), SECOND), files
+    yield "in front of what is replaced", rows_of(together(sure("a.rs", TEXT, 1, 9, 0, "x"), FIRST), SECOND), files
+    two = {**FIRST, "children": FIRST["children"] + seven["children"]}
+    yield "that are alternatives of two notes", rows_of(two, SECOND), files
     for other in ("MaybeIncorrect", "HasPlaceholders", "Unspecified", "machineapplicable", 1, None):
         yield f"that are {other}", rows_of(changed(FIRST, suggestion_applicability=other), SECOND), files
     for key, it in [("text", []), ("text", 1), ("text", [{}]), ("column_start", 8), ("column_start", None)]:

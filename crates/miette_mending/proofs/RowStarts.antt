@@ -6,7 +6,7 @@ use Rattle.std.specs.List.{list_any}
 use Rattle.std.proofs.lemmas.Bool.{false_from_ne_true}
 use Rattle.std.proofs.lemmas.Bool.Decides.{nat_tests}
 use Rattle.std.proofs.lemmas.List.{length-drop, length-take-le, take_all}
-use Rattle.memchr.specs.Find.{IsLastByte, NoneAfter, Nowhere, Passes, is_byte}
+use Rattle.memchr.specs.Find.{NoneAfter, Nowhere, Passes, is_byte}
 use Rattle.serde_json.specs.Data.{Data}
 use Rattle.miette_mending.specs.rules.Fresh.{begin_with, column_behind, last_row, row_start, stand_in}
 

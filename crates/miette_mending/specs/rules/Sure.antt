@@ -1,6 +1,6 @@
 -- The proposals of a row of rustc that are applied without being asked about.
-use Rattle.std.specs.Prelude.{ℕ, List, [], ◌∷◌, Option, Some, None, Bool, true, false, if◌then◌else◌, map, codes}
-use Rattle.std.specs.Prelude.{option_and_then, option_map, is_some}
+use Rattle.std.specs.Prelude.{ℕ, List, [], Option, Some, None, Bool, true, false, if◌then◌else◌, map, codes}
+use Rattle.std.specs.Prelude.{option_and_then, option_map, is_some, length, ◌==◌}
 use Rattle.std.specs.List.{flat_map, list_all}
 use Rattle.serde_json.specs.Data.{Data}
 use Rattle.miette_fixes.specs.declared.applicability.Applicability.{Applicability}
@@ -63,9 +63,40 @@ fixes_if_any (Some offer) = offer_fixes offer
 abbrev pub child_fixes : (List ℕ → Option Source) → Data → List FileFixes
 child_fixes files c = fixes_if_any (sure_offer files c)
 
+-- ---- alternatives
+
+abbrev pub edits_if_any : Option Offer → List FileEdit
+edits_if_any None = []
+edits_if_any (Some offer) = offer.edits
+
+-- the edits that a note or a help proposes so
+abbrev pub sure_edits : (List ℕ → Option Source) → Data → List FileEdit
+sure_edits files c = edits_if_any (sure_offer files c)
+
+-- those of all notes and helps, as one proposal
+abbrev pub joint : (List ℕ → Option Source) → List Data → Offer
+joint files cs = record { message = []; applicability = MachineApplicable; edits = flat_map (sure_edits files) cs }
+
+-- the edits of a proposal over the file of this one are one fix: no two of them conflict
+abbrev pub is_one_fix : Offer → FileEdit → Bool
+is_one_fix offer e = length (fixes_in e.name offer.message offer) == 1
+
+-- they are one fix of each file
+abbrev pub is_whole : Offer → Bool
+is_whole offer = list_all (is_one_fix offer) (others None offer.edits)
+
+-- Edits that conflict are alternatives, of one note or of several, and rustc doesn't say which of them it is sure of.
+abbrev pub agree : (List ℕ → Option Source) → List Data → Bool
+agree files cs = is_whole (joint files cs)
+
+-- ---- the fixes of a row
+
+abbrev pub children_fixes : (List ℕ → Option Source) → List Data → List FileFixes
+children_fixes files cs = if agree files cs then flat_map (child_fixes files) cs else []
+
 abbrev pub message_fixes : (List ℕ → Option Source) → Option Data → List FileFixes
 message_fixes files None = []
-message_fixes files (Some m) = flat_map (child_fixes files) (objects_at (codes "children") m)
+message_fixes files (Some m) = children_fixes files (objects_at (codes "children") m)
 
 -- the fixes of a row; nothing of one that can't be read
 abbrev pub value_fixes : (List ℕ → Option Source) → Data → Option (List FileFixes)

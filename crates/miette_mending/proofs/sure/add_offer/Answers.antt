@@ -1,5 +1,4 @@
-use Rattle.std.proofs.Common.{◌≡◌, ◌∷◌, [], Bor, arith, map, sym, subst, take, rules}
-use Rattle.std.proofs.lemmas.List.{take_all}
+use Rattle.std.proofs.Common.{◌≡◌, ◌∷◌, [], Bor, map, sym, subst, take, rules}
 use Rattle.miette_readers.specs.rules.Proposing.{FileEdit}
 use Rattle.miette_readers.specs.views.Edits.{edits_behind}
 use Rattle.miette_mending.specs.rules.Sure.{FileFixes, fixes_over}

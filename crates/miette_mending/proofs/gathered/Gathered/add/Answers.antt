@@ -1,8 +1,7 @@
-use Rattle.std.proofs.Common.{◌≡◌, ◌∙◌, ℕ, List, [], ◌∷◌, ◌++◌, None, Some, ap, map, refl, string_bytes}
+use Rattle.std.proofs.Common.{◌≡◌, ◌∙◌, ℕ, List, [], ◌∷◌, ◌++◌, None, ap, map, refl, string_bytes}
 use Rattle.std.proofs.lemmas.List.{map-append}
 use Rattle.std.proofs.lemmas.Map.Text.{hash_map_updates_text}
 use Rattle.std.proofs.lemmas.Result.{on_ok_weaker}
-use Rattle.std.specs.HashMap.{get_by_text}
 use Rattle.miette_mending.specs.rules.Sure.{FileFixes}
 use Rattle.miette_mending.specs.declared.gathered.Gathered.{Gathered}
 use Rattle.miette_mending.specs.views.Holding.{Puts}
