@@ -1,11 +1,12 @@
 -- The parts of bytes, one after another.
-use Rattle.std.proofs.Common.{◌≡◌, ℕ, ◌<◌, ◌+◌, List, [], ◌∷◌, ◌++◌, Bool, true, false, length, Option, Some, None, IfSome}
-use Rattle.std.proofs.Common.{refl, sym, ap, ap₂, ◌∙◌, arith, append_assoc, append-nil}
+use Rattle.std.proofs.Common.{◌≡◌, ℕ, ◌<◌, ◌+◌, List, [], ◌∷◌, ◌++◌, Bool, true, false, length, Option, Some}
+use Rattle.std.proofs.Common.{None, IfSome, refl, sym, ap, ap₂, ◌∙◌, arith, append_assoc, append-nil}
 use Rattle.std.specs.Prelude.{⊤, ◌&&◌, if◌then◌else◌}
 use Rattle.std.proofs.lemmas.List.{length-append}
 use Rattle.std.proofs.lemmas.List.Sums.{fold-append}
 use Rattle.miette_show.specs.declared.parts.Open.{Open}
-use Rattle.miette_show.specs.rules.Parts.{begins_value, behind, closed, goes_on, is_open, parts_from, parts_of, with_byte}
+use Rattle.miette_show.specs.rules.Parts.{begins_value, behind, closed, goes_on, is_open, parts_from, parts_of}
+use Rattle.miette_show.specs.rules.Parts.{with_byte}
 use Rattle.miette_show.specs.rules.Rows.{last_row, rows_of}
 use Rattle.miette_show.specs.views.Reading.{IsNextPart, IsNextRow}
 use Rattle.miette_show.proofs.RowSteps.{last_alone, next_of, none_next}
