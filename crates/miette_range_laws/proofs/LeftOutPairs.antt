@@ -15,7 +15,7 @@ none_of false b h = ap not h
 other_of : (a b : Bool) → (not a && not b) ≡ false → a ≡ false → b ≡ true
 other_of true b h none = absurd (cc)
 other_of false true h none = refl
-other_of false false h none = absurd (cc)
+other_of false false h none = let wrong : true ≡ false = h in absurd (cc)
 
 -- a hidden line beside another one
 left_beside : (limit context : ℕ) (bytes : List ℕ) (labels : List Label) (k : ℕ)
