@@ -64,4 +64,3 @@ none_before None lines labels = refl
 none_before (Some limit) lines labels =
     sym (and_left (is_hidden limit lines labels 0 (line_at lines 0)) (is_beside_hidden limit lines labels 0)
     (first_shown limit lines (line_at lines 0) labels))
-
