@@ -3,8 +3,9 @@
 ghost use Rattle.std.specs.Prelude.{◌≡◌, ◌+◌, ◌^◌, ◌<◌, ◌≤◌, ◌&&◌, not, nat_eq, IsTrue, IfOk, IfSome, false};
 ghost use Rattle.std.specs.Prelude.{length, drop, string_bytes};
 ghost use Rattle.std.specs.List.{starts_with};
-ghost use Rattle.miette_highlight.specs.rules.Patterns.{all_go_on, begins_within, character_end, close_end, is_among};
-ghost use Rattle.miette_highlight.specs.rules.Patterns.{escapes_next, is_character, is_word_byte, goes_on};
+ghost use Rattle.miette_highlight.specs.rules.Patterns.{are_continuations, begins_within, character_end, close_end};
+ghost use Rattle.miette_highlight.specs.rules.Patterns.{escapes_next, is_among, is_character, is_continuation};
+ghost use Rattle.miette_highlight.specs.rules.Patterns.{is_word_byte};
 ghost use Rattle.miette_highlight.specs.rules.Patterns.{inside, match_of, prefixed_word, word_end};
 ghost use Rattle.miette_highlight.specs.rules.Tokens.{AreTokens, IsToken, first_match, running_token, token_at};
 ghost use Rattle.miette_highlight.specs.rules.Tokens.{token_of};
@@ -124,19 +125,19 @@ fn end_of(delimiters: &Delimiters, start: usize, text: &[u8]) -> (usize, bool)
 }
 
 // Whether a byte goes on with the character that began before it.
-fn goes_on(byte: u8) -> bool
-    ensures { result ≡ goes_on byte }
+fn is_continuation(byte: u8) -> bool
+    ensures { result ≡ is_continuation byte }
 {
     128 <= byte && byte < 192
 }
 
 // Whether all these bytes do.
-fn all_go_on(bytes: &[u8]) -> bool
-    ensures { result ≡ all_go_on bytes.now }
+fn are_continuations(bytes: &[u8]) -> bool
+    ensures { result ≡ are_continuations bytes.now }
 {
     let mut rest = bytes;
     while let Some((byte, tail)) = rest.split_first() {
-        if !goes_on(*byte) {
+        if !is_continuation(*byte) {
             return false;
         }
         rest = tail;
@@ -149,7 +150,7 @@ fn is_character(escape: Option<u8>, bytes: &[u8]) -> bool
     ensures { result ≡ is_character escape bytes.now }
 {
     match bytes.split_first() {
-        Some((first, rest)) => escapes_next(escape, *first) || all_go_on(rest),
+        Some((first, rest)) => escapes_next(escape, *first) || are_continuations(rest),
         None => false,
     }
 }

@@ -51,17 +51,17 @@ abbrev pub inside : Delimiters → ℕ → List ℕ → ℕ × Bool
 inside delimiters at text = closed_at (close_end delimiters false at text) (at + length text) delimiters.over_lines
 
 -- a byte that goes on with the character that began before it
-abbrev pub goes_on : ℕ → Bool
-goes_on b = nat_le 128 b && nat_lt b 192
+abbrev pub is_continuation : ℕ → Bool
+is_continuation b = nat_le 128 b && nat_lt b 192
 
-abbrev pub all_go_on : List ℕ → Bool
-all_go_on [] = true
-all_go_on (b ∷ bs) = if goes_on b then all_go_on bs else false
+abbrev pub are_continuations : List ℕ → Bool
+are_continuations [] = true
+are_continuations (b ∷ bs) = if is_continuation b then are_continuations bs else false
 
 -- whether some bytes are one character, or begin with an escape
 abbrev pub is_character : Option ℕ → List ℕ → Bool
 is_character escape [] = false
-is_character escape (b ∷ bs) = escapes_next escape b || all_go_on bs
+is_character escape (b ∷ bs) = escapes_next escape b || are_continuations bs
 
 -- a text between delimiters, beginning at a place, up to the end that was found, where it is a character
 abbrev pub closed_character : Delimiters → ℕ → List ℕ → Option ℕ → Option (ℕ × Bool)
