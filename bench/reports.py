@@ -214,6 +214,15 @@ def long_line(kilobytes, is_head=False):
     return labelled("a fault on a long line", labels, text, "line.txt")
 
 
+def accented_line(kilobytes):
+    """A label in the middle of such a line, with one character outside ASCII before it."""
+    text = words(Numbers(6), kilobytes * KB)
+    place = len(text) // 4
+    text = text[:place] + "\u00e9" + text[place + 1 :]
+    labels = [{"offset": 2 * place + 1, "length": 10, "label": "on the line"}]
+    return labelled("a fault on a long line", labels, text, "line.txt")
+
+
 def one_line(count):
     """`count` labels on one line of words."""
     size = 10 * count

@@ -97,6 +97,7 @@ def long_lines():
         yield bench(f"e_line_{size}kb", "e", PLAIN, of.long_line, size)
         yield bench(f"e_head_{size}kb", "e_head", PLAIN, of.long_line, size, True)
         yield bench(f"e_cut_{size}kb", "e_cut", PLAIN, of.long_line, size, ours=CUT)
+        yield bench(f"e_accent_{size}kb", "e_accent", PLAIN, of.accented_line, size, ours=CUT)
     for size in (30, 60, 120):
         yield bench(f"e_short_{size}kb", "e_short", PLAIN, of.long_line, size)
     for count in (100, 200, 400):

@@ -1,5 +1,6 @@
 pub mod CutColumns
 pub mod SourceEnd
 pub mod LabelEnds
+pub mod NeverHidden
 pub mod NoPieces
 pub mod RowTokens
