@@ -13,7 +13,6 @@ pub mod EndLabels
 pub mod Flat
 pub mod HungTexts
 pub mod LabelMarks
-pub mod NearColumns
 pub mod Numerals
 pub mod PlainStyles
 pub mod PaleSnippets
