@@ -111,7 +111,7 @@ cut_fits limit many [] cells h le =
 cut_fits limit many (e ∷ es) cells h le =
     let all : List ℕ = e ∷ es in
     let reach : ℕ = reach_of limit many all cells in
-    by_cases {C = text_columns many (cut_to limit many all cells)
+    by_cases {C = text_columns many (cut_at many reach all cells)
     ≤ max limit (text_columns many (cut_at many 0 all cells))} (ltb 0 reach)
     (λ y. let fits : text_columns many (cut_at many reach all cells) ≤ limit =
     leb-true (text_columns many (cut_at many reach all cells)) limit

@@ -9,6 +9,7 @@ pub mod CutLaws
 pub mod CutMarks
 pub mod CutShows
 pub mod CutWidth
+pub mod EndColumns
 pub mod EndLabels
 pub mod Flat
 pub mod HungTexts

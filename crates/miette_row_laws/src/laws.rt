@@ -9,8 +9,8 @@ ghost use Rattle.miette_protocol.specs.rules.Reading.{Source, Contents};
 ghost use Rattle.miette_row_laws.specs.laws.Clean.{AreCleanDrawings, IsCleanLabel, IsCleanRow, IsCleanSource};
 ghost use Rattle.miette_row_laws.specs.laws.Ends.{AreBehindShown, AreBehindText, EndsStandBehind, draws_ends};
 ghost use Rattle.miette_row_laws.specs.laws.Ends.{with_ends};
-ghost use Rattle.miette_row_laws.specs.laws.Cuts.{AreMoved, Fits, GroupsFit, IsCutBy, IsCutByReach, IsSameAt, IsWithin};
-ghost use Rattle.miette_row_laws.specs.laws.Cuts.{pieces_shown, without_limit};
+ghost use Rattle.miette_row_laws.specs.laws.Cuts.{AreAsWide, AreMoved, Fits, GroupsFit, IsCutBy, IsCutByReach};
+ghost use Rattle.miette_row_laws.specs.laws.Cuts.{IsSameAt, IsWithin, most_columns, pieces_shown, without_limit};
 ghost use Rattle.miette_row_laws.specs.laws.LabelMarks.{StandAtColumns, StandPast, StandUnder};
 ghost use Rattle.miette_row_laws.specs.laws.Fading.{ArePlain, IsPlainRow, restyled, unhighlighted_answer};
 ghost use Rattle.miette_style.specs.rules.Themes.{Styles, Theme};
@@ -130,6 +130,9 @@ pub fn cut_rows_are_narrow()
         (cut_at (dots_in s.theme.characters) 0
         (cut_ends line (cells_of s source line) (one_line line labels) (multi_line line labels))
         (cells_of s source line))) }
+    ensures ends { (s : SnippetSettings) (source : List ℕ) (line : Line) (many widest : ℕ) (ends : List ℕ) →
+        AreAsWide widest (cells_of s source line) →
+        text_columns many (cut_at many 0 ends (cells_of s source line)) ≤ most_columns many widest (length ends) }
     ensures reached { (s : SnippetSettings) → AreAsWideAsSaid s }
 {}
 

@@ -21,7 +21,8 @@ use Rattle.miette_page.specs.rules.Rows.{Row, columns_of, glyphs_of}
 use Rattle.miette_cells.specs.rules.Cells.{Cell}
 use Rattle.miette_cells.specs.rules.Widths.{width_of}
 use Rattle.miette_snippet_rules.specs.rules.CutLines.{Stretch, cut_at, dots, dots_in, limit_of, text_columns}
-use Rattle.miette_row_laws.specs.laws.Cuts.{AreMoved, Fits, GroupsFit, IsCutByReach, pieces_shown}
+use Rattle.miette_row_laws.specs.laws.Cuts.{AreAsWide, AreMoved, Fits, GroupsFit, IsCutByReach, most_columns}
+use Rattle.miette_row_laws.specs.laws.Cuts.{pieces_shown}
 use Rattle.miette_snippet_rules.specs.rules.Marks.{Mark, marks_at, AreApart}
 use Rattle.miette_snippet_rules.specs.rules.PrintedCells.{cells_width}
 use Rattle.miette_snippet_rules.specs.rules.Numbers.{ranges, IsRange, AreParted}
@@ -188,7 +189,8 @@ pub record IsCutExactly (s : Settings) (source : Source) (labels : List Label) (
       (marks_under s source labels k)
 
 -- Line k is cut where it has more columns than the limit, and just there, exactly; a limit below 8 counts as 8. Its text
--- has no more columns in its row than the limit, or where its ends alone need more, than those.
+-- has no more columns in its row than the limit, or where its ends alone need more, than those: no more than the widest
+-- cell and dots for each end ask for.
 pub record IsCutAt (s : Settings) (source : Source) (labels : List Label) (k limit : ℕ) : Type 0 where
   pub wide : limit_of limit < cells_width 0 (cells_under s source k) → cut_under s source labels k ≢ None
   pub fits : cells_width 0 (cells_under s source k) ≤ limit_of limit → cut_under s source labels k ≡ None
@@ -196,6 +198,8 @@ pub record IsCutAt (s : Settings) (source : Source) (labels : List Label) (k lim
       IsCutExactly s source labels k limit cut
   pub narrow : (pieces : List Highlight) → columns_of (glyphs_of (text_shown s source labels k pieces))
       ≤ max (limit_of limit) (least_columns s source labels k)
+  pub ends : (widest : ℕ) → AreAsWide widest (cells_under s source k) → least_columns s source labels k
+      ≤ most_columns (dots_in s.theme.characters) widest (length (ends_under s source labels k))
 
 -- each line of a diagnostic's source, where there is a limit
 abbrev pub CutsAreExact : Settings → LabelledSource → Type 0

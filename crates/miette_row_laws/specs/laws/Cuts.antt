@@ -1,5 +1,5 @@
 -- What holds of lines that are cut: which cells are shown, where dots and marks stand, and how wide a row can be.
-use Rattle.std.specs.Prelude.{ℕ, ◌+◌, ◌-◌, ◌<◌, ◌≤◌, ◌≡◌, ◌≢◌, List, [], ◌∷◌, ◌++◌, map, Bool, if◌then◌else◌, nat_lt}
+use Rattle.std.specs.Prelude.{ℕ, ◌+◌, ◌-◌, ◌*◌, ◌<◌, ◌≤◌, ◌≡◌, ◌≢◌, List, [], ◌∷◌, ◌++◌, map, Bool, if◌then◌else◌, nat_lt}
 use Rattle.std.specs.Prelude.{Option, Some, None, true, false}
 use Rattle.std.specs.List.{AllByRecursion}
 use Rattle.miette_cells.specs.rules.Cells.{Cell}
@@ -111,6 +111,18 @@ AreMoved run cells cut [] (moved ∷ more) = ⊥
 AreMoved run cells cut (mark ∷ marks) [] = ⊥
 AreMoved run cells cut (mark ∷ marks) (moved ∷ more) =
     IsMoved run cells cut mark moved × AreMoved run cells cut marks more
+
+-- ---- how wide a row is
+
+-- each of some cells has at most so many columns
+abbrev pub AreAsWide : ℕ → List Cell → Type 0
+AreAsWide widest [] = Unit {0}
+AreAsWide widest (cell ∷ cells) = (cell.until - cell.from ≤ widest) × AreAsWide widest cells
+
+-- The most columns that so many ends of a line need in its row, by its widest cell: that of each end and dots before it,
+-- and dots behind the last.
+abbrev pub most_columns : ℕ → ℕ → ℕ → ℕ
+most_columns many widest ends = ends * (widest + many) + many
 
 -- ---- lines that fit
 

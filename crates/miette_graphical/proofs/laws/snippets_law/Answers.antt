@@ -9,7 +9,7 @@ use Rattle.miette_labels.specs.rules.Contexts.{contents}
 use Rattle.miette_labels.specs.rules.Groups.{in_order}
 use Rattle.miette_cells.specs.rules.Cells.{Cell}
 use Rattle.miette_page.specs.rules.Rows.{glyphs_of}
-use Rattle.miette_snippet_rules.specs.rules.CutLines.{dots, limit_of, shown_runs}
+use Rattle.miette_snippet_rules.specs.rules.CutLines.{dots, dots_in, limit_of, shown_runs}
 use Rattle.miette_snippet_rules.specs.rules.PrintedCells.{cells_width}
 use Rattle.miette_row_laws.specs.laws.Cuts.{Fits}
 use Rattle.miette_graphical.specs.rules.Answers.{pieces_listed}
@@ -17,7 +17,7 @@ use Rattle.miette_graphical.specs.rules.Settings.{Settings}
 use Rattle.miette_graphical.specs.laws.Headline.{EndsAreDrawn, LabelsAreFolded, LinesAreShown, MarksAreApart, TextsHang}
 use Rattle.miette_graphical.specs.laws.Headline.{SnippetHangs, drawn_labels, groups_of, group_settings}
 use Rattle.miette_graphical.specs.laws.Headline.{shown_lines, CutsAreExact, LinesThatFitStay, SnippetStays, cells_under}
-use Rattle.miette_graphical.specs.laws.Headline.{line_of}
+use Rattle.miette_graphical.specs.laws.Headline.{ends_under, line_of}
 use Rattle.miette_graphical.specs.rules.Sources.{HoldsOfSources, LabelledSource, after_labels, drawn_with, sources_of}
 use Rattle.miette_graphical.specs.rules.PrintedDiagnostics.{HoldsOfPrinted, PrintedDiagnostic, diagnostics_of}
 use Rattle.miette_graphical.specs.rules.Snippets.{snippet_settings, shown_rows, source_rows}
@@ -115,6 +115,8 @@ returns-clause-cuts c = λ s t. everywhere CutsAreExact (λ s p.
         marks = c.marks_stand_on_their_characters.ensures.marks lay drawn source.bytes line cut is;
       };
       narrow = λ pieces. c.cut_rows_are_narrow.ensures.bound lay drawn source.bytes line pieces limit some;
+      ends = λ widest wide. c.cut_rows_are_narrow.ensures.ends lay source.bytes line (dots_in s.theme.characters)
+          widest (ends_under s source labels k) wide;
     }) p.source) s (diagnostics_of s t)
 
 pub returns-clause-fits : goal.returns-clause-fits
