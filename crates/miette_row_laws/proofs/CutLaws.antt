@@ -110,9 +110,9 @@ cut_reach limit many all cells h =
     let near : Cell → Bool = is_near_by limit many reach all in record {
       reach = reach;
       is_reach = λ some. reach_is limit many all cells;
-      cells = subst (λ (ss : List Stretch). IsCutBy near many cells ss) (sym (near_to limit many all cells))
+      is_cut = subst (λ (ss : List Stretch). IsCutBy near many cells ss) (sym (near_to limit many all cells))
           (cut_by near many cells);
-      ends = ends_shown limit many all cells h;
+      shown = ends_shown limit many all cells h;
     }
 
 some_same : (a b : ℕ) → Some a ≡ Some b → a ≡ b

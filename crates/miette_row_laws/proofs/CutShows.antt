@@ -137,7 +137,7 @@ pub cut_by : (near : Cell → Bool) (many : ℕ) (cells : List Cell)
     → IsCutBy near many cells (with_short many (stretches near false cells))
 cut_by near many cells = record {
   parts = stretches near false cells;
-  near = cells_near near false cells;
+  nearness = cells_near near false cells;
   parted = stretches_parted near false cells;
   shown = cells_kept many (stretches near false cells);
   joined = short_parted many (stretches near false cells) (stretches_parted near false cells);

@@ -1,5 +1,5 @@
 -- What a line's ends alone need in its row: their own characters, and dots beside them.
-use Rattle.std.proofs.Common.{◌≡◌, ℕ, ◌+◌, ◌-◌, ◌*◌, ◌<◌, ◌≤◌, min, Bool, true, false, eqb, ltb, leb, List, [], ◌∷◌}
+use Rattle.std.proofs.Common.{◌≡◌, ℕ, ◌+◌, ◌-◌, ◌*◌, ◌<◌, ◌≤◌, Bool, true, false, eqb, ltb, leb, List, [], ◌∷◌}
 use Rattle.std.proofs.Common.{length, refl, ◌||◌, arith}
 use Rattle.std.proofs.lemmas.Bool.{and_left, and_parts, lt-leb, ltb-true, or_from, or_left, or_right}
 use Rattle.std.proofs.Math.Nat.{suc-mul}

@@ -42,7 +42,7 @@ AreStretches (s ∷ next ∷ later) = (s.cells ≢ []) × (s.shown ≢ next.show
 -- order, shown where its part is near, or no wider than the dots. Of two stretches side by side one is shown.
 pub record IsCutBy (near : Cell → Bool) (many : ℕ) (cells : List Cell) (cut : List Stretch) : Type 0 where
   pub parts : List Stretch
-  pub near : by_stretch parts ≡ by_nearness near false cells
+  pub nearness : by_stretch parts ≡ by_nearness near false cells
   pub parted : AreStretches parts
   pub shown : by_stretch cut ≡ by_kept many parts
   pub joined : AreStretches cut
@@ -72,8 +72,8 @@ pub record IsReach (limit many : ℕ) (ends : List ℕ) (cells : List Cell) (rea
 pub record IsCutByReach (limit many : ℕ) (ends : List ℕ) (cells : List Cell) (cut : List Stretch) : Type 0 where
   pub reach : ℕ
   pub is_reach : ends ≢ [] → IsReach limit many ends cells reach
-  pub cells : IsCutBy (is_near_by limit many reach ends) many cells cut
-  pub ends : AllByRecursion (λ column. is_shown_at cut column ≡ true) ends
+  pub is_cut : IsCutBy (is_near_by limit many reach ends) many cells cut
+  pub shown : AllByRecursion (λ column. is_shown_at cut column ≡ true) ends
 
 -- ---- what is printed
 
