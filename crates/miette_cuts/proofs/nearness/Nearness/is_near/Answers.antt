@@ -5,13 +5,13 @@ use Rattle.miette_cuts.proofs.nearness.Nearness.is_near.Goals as goal
 
 pub returns-in-Some-clause-near : goal.returns-in-Some-clause-near
 returns-in-Some-clause-near c =
-    near_met (record { limit = c.self.inside.limit; ends = c.self.inside.ends.now }) c.args.self.now
+    near_met (record { room = c.self.inside.room; ends = c.self.inside.ends.now }) c.args.self.now
     (cell_of c.args.cell.now) c.in-Some.end c.is_within_of.result c.self.view_is
     (sym c.is_empty.ensures ∙ c.if-is_empty.false) c.self.invariant.ascending c.in-Some.ensures.found
     c.is_within_of.ensures
 
 pub returns-in-None-clause-near : goal.returns-in-None-clause-near
 returns-in-None-clause-near c =
-    near_unmet (record { limit = c.self.inside.limit; ends = c.self.inside.ends.now }) c.args.self.now
+    near_unmet (record { room = c.self.inside.room; ends = c.self.inside.ends.now }) c.args.self.now
     (cell_of c.args.cell.now) c.self.view_is
     (sym c.is_empty.ensures ∙ c.if-is_empty.false) c.self.invariant.ascending c.in-None.ensures.found
