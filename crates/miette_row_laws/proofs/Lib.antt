@@ -9,11 +9,11 @@ pub mod CutLaws
 pub mod CutMarks
 pub mod CutShows
 pub mod CutWidth
+pub mod EndColumns
 pub mod EndLabels
 pub mod Flat
 pub mod HungTexts
 pub mod LabelMarks
-pub mod NearColumns
 pub mod Numerals
 pub mod PlainStyles
 pub mod PaleSnippets

@@ -3,3 +3,4 @@ pub mod SourceEnd
 pub mod LabelEnds
 pub mod NoPieces
 pub mod RowTokens
+pub mod TextColumns

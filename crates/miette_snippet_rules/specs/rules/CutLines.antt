@@ -1,7 +1,7 @@
 -- Lines that are wider than the settings let them be: which of their cells are shown, where dots stand in place of the
 -- others, and at which columns the marks then are.
 use Rattle.std.specs.Prelude.{ℕ, zero, suc, ◌+◌, ◌-◌, min, max, List, [], ◌∷◌, ◌++◌, map, length, Option, None, Some}
-use Rattle.std.specs.Prelude.{Bool, not, false, ◌&&◌, ◌||◌, if◌then◌else◌, ◌==◌, nat_lt, nat_le}
+use Rattle.std.specs.Prelude.{Bool, not, true, false, ◌&&◌, ◌||◌, if◌then◌else◌, ◌==◌, nat_lt, nat_le}
 use Rattle.std.specs.List.{list_any}
 use Rattle.miette_page.specs.rules.Rows.{Glyph, Run}
 use Rattle.miette_style.specs.rules.Themes.{Characters, Theme}
@@ -152,6 +152,12 @@ shown_runs run None pieces cells = line_runs pieces cells
 shown_runs run (Some cut) pieces cells = cut_runs run pieces 0 cut
 
 -- ---- where the marks are
+
+-- whether the character at a column of stretches is shown; behind the last one none is left out
+abbrev pub is_shown_at : List Stretch → ℕ → Bool
+is_shown_at [] column = true
+is_shown_at (s ∷ later) column =
+    if nat_lt column (columns_in s.cells) then s.shown else is_shown_at later (column - columns_in s.cells)
 
 -- Where a column of these stretches stands in the row, both counted from where they begin: columns behind the text
 -- stay behind it, those that are left out stand at the first dot.
