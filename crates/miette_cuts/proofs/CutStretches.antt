@@ -3,7 +3,7 @@ use Rattle.std.proofs.Common.{ℕ, ◌+◌, ◌-◌, ◌<◌, ◌≤◌, ◌≡�
 use Rattle.std.proofs.Common.{length, drop, get_or, refl, sym, ap, subst, ◌∙◌, append_assoc, length-append}
 use Rattle.std.proofs.Common.{Option, Some, None, option_map, arith}
 use Rattle.std.proofs.Math.Bool.{beq}
-use Rattle.std.proofs.lemmas.Bool.{lt-ltb, le-ltb, ltb-true}
+use Rattle.std.proofs.lemmas.Bool.{lt-ltb, le-ltb}
 use Rattle.std.proofs.lemmas.List.{at_drop_more}
 use Rattle.std.specs.List.{All, AllByRecursion}
 use Rattle.std.proofs.lemmas.List.Elements.{All-from_recursion, recursion_from_All}
@@ -13,6 +13,7 @@ use Rattle.miette_snippet_rules.specs.rules.Marks.{Mark, HasAnchor}
 use Rattle.miette_snippet_rules.specs.rules.PrintedCells.{text_bytes}
 use Rattle.miette_snippet_rules.specs.rules.CutLines.{Stretch, agree, bytes_in, columns_in, onto_stretches}
 use Rattle.miette_snippet_rules.specs.rules.CutLines.{passes_after, row_column, row_mark, shown_marks, stretches}
+use Rattle.miette_snippet_rules.proofs.CutColumns.{columns_in-append, shown_anchored}
 use Rattle.miette_cuts.specs.declared.stretch.Stretch.{Stretch as MadeStretch}
 use Rattle.miette_snippet_rules.specs.declared.marks.Mark.{Mark as MadeMark}
 use Rattle.miette_cuts.specs.views.Cuts.{measure}
@@ -20,10 +21,6 @@ use Rattle.miette_cuts.specs.steps.Cut.{lone, grown_stretch, onto_made, made_col
 use Rattle.miette_snippet_rules.specs.views.MadeMarks.{mark_of, IsAnchored}
 
 -- ---- stretches and their counts
-
-pub columns_in-append : (a b : List Cell) → columns_in (a ++ b) ≡ columns_in a + columns_in b
-columns_in-append [] b = omega arith
-columns_in-append (c ∷ a) b = omega (arith, columns_in-append a b)
 
 bytes_in-append : (a b : List Cell) → bytes_in (a ++ b) ≡ bytes_in a + bytes_in b
 bytes_in-append [] b = omega arith
@@ -237,40 +234,11 @@ made_anchored ms h = All-from_recursion IsAnchored ms (each ms h)
     each [] h = tt
     each (m ∷ ms) h = (h.0, each ms h.1)
 
--- a column that stands in front of another doesn't stand behind it in the row
-row_follows : (many : ℕ) (ss : List Stretch) (a b : ℕ) → a ≤ b → row_column many ss a ≤ row_column many ss b
-row_follows many [] a b le = le
-row_follows many (s ∷ later) a b le =
-    let own : ℕ = columns_in s.cells in
-    by_cases {C = row_column many (s ∷ later) a ≤ row_column many (s ∷ later) b} (ltb b own)
-    (λ y. by_cases {C = row_column many (s ∷ later) a ≤ row_column many (s ∷ later) b} s.shown
-    (λ k. rw (y, lt-ltb a own (omega (arith, le, ltb-true b own y)), k) le)
-    (λ k. rw (y, lt-ltb a own (omega (arith, le, ltb-true b own y)), k) (omega arith)))
-    (λ n. by_cases {C = row_column many (s ∷ later) a ≤ row_column many (s ∷ later) b} (ltb a own)
-    (λ y. by_cases {C = row_column many (s ∷ later) a ≤ row_column many (s ∷ later) b} s.shown
-    (λ k. rw (n, y, k) (omega (arith, ltb-true a own y)))
-    (λ k. rw (n, y, k) (omega arith)))
-    (λ m. rw (n, m) (omega (arith, row_follows many later (a - own) (b - own) (omega (arith, le))))))
-
 -- the marks of a line have their anchors in its row
-pub moved_anchored : (many : ℕ) (ruled : Option (List Stretch)) (ms : List Mark) → AllByRecursion HasAnchor ms
-    → AllByRecursion HasAnchor (shown_marks many ruled ms)
-moved_anchored many None ms h = h
-moved_anchored many (Some ss) [] h = tt
-moved_anchored many (Some ss) (m ∷ ms) h =
-    let last : m.anchor ≤ m.until - 1 = omega (arith, h.0.1) in (
-      (
-        row_follows many ss m.from m.anchor h.0.0,
-        omega (arith, row_follows many ss m.anchor (m.until - 1) last),
-      ),
-      moved_anchored many (Some ss) ms h.1,
-    )
-
--- the same, as a program makes them
 pub shown_made_anchored : (many : ℕ) (ruled : Option (List Stretch)) (own : List Mark) (whole moved : List MadeMark)
     → map mark_of whole ≡ own → All IsAnchored whole → map mark_of moved ≡ shown_marks many ruled own →
     All IsAnchored moved
 shown_made_anchored many ruled own whole moved w anchored m =
     made_anchored moved (subst (λ (ms : List Mark). AllByRecursion HasAnchor ms) (sym m)
-    (moved_anchored many ruled own (subst (λ (ms : List Mark). AllByRecursion HasAnchor ms) w
+    (shown_anchored many ruled own (subst (λ (ms : List Mark). AllByRecursion HasAnchor ms) w
     (marks_anchored whole anchored))))

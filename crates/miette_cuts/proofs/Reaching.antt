@@ -13,6 +13,7 @@ use Rattle.miette_snippet_rules.specs.rules.CutLines.{Stretch, cut_at, cut_line,
 use Rattle.miette_snippet_rules.specs.rules.CutLines.{is_kept, is_near, is_within, largest, limit_of, onto_stretches}
 use Rattle.miette_snippet_rules.specs.rules.CutLines.{passes_after}
 use Rattle.miette_snippet_rules.specs.rules.CutLines.{reach_of, row_columns, stretches, text_columns, with_short}
+use Rattle.miette_snippet_rules.proofs.TextColumns.{largest_is}
 use Rattle.miette_cuts.specs.declared.nearness.Room.{Room}
 use Rattle.miette_cuts.specs.declared.stretch.Stretch.{Stretch as MadeStretch}
 use Rattle.miette_cuts.specs.views.Cuts.{measure}
@@ -20,7 +21,7 @@ use Rattle.miette_cuts.specs.steps.Cut.{kept_made, made_columns, made_width, mad
 use Rattle.miette_cuts.specs.steps.Nearness.{near_by}
 use Rattle.miette_cuts.proofs.CutStretches.{measure-onto}
 use Rattle.miette_cuts.proofs.NearEnds.{any-moved}
-use Rattle.miette_cuts.proofs.RowWidth.{row_grows}
+use Rattle.miette_cuts.proofs.RowWidth.{text_grows}
 
 -- ---- short stretches, and the columns of a row, by counts
 
@@ -90,22 +91,6 @@ pub record IsBetween (passes : ℕ → Bool) (limit low high : ℕ) : Type 0 whe
   pub enough : 0 < low → passes low ≡ true
   pub none : (x : ℕ) → high < x → x ≤ limit → passes x ≡ false
 
--- the number that passes, where no larger one does, is the largest
-largest_is : (passes : ℕ → Bool) (limit r : ℕ) → r ≤ limit → (0 < r → passes r ≡ true)
-    → ((x : ℕ) → r < x → x ≤ limit → passes x ≡ false) → largest passes limit ≡ r
-largest_is passes zero r le yes no = let none : 0 ≡ r = omega (arith, le) in none
-largest_is passes (suc n) r le yes no =
-    by_cases {C = largest passes (suc n) ≡ r} (ltb r (suc n))
-    (λ y.
-    let less : r < suc n = ltb-true r (suc n) y in
-    let off : passes (suc n) ≡ false = no (suc n) less (omega arith) in
-    ap (λ b. cond b (suc n) (largest passes n)) off
-    ∙ largest_is passes n r (omega (arith, less)) yes (λ x lt to. no x lt (omega (arith, to))))
-    (λ m.
-    let same : r ≡ suc n = omega (arith, le, ltb-false r (suc n) m) in
-    let on : passes (suc n) ≡ true = ap passes (sym same) ∙ yes (omega (arith, same)) in
-    ap (λ b. cond b (suc n) (largest passes n)) on ∙ sym same)
-
 pub between_first : (passes : ℕ → Bool) (limit : ℕ) → IsBetween passes limit 0 limit
 between_first passes limit = record {
   order = omega arith;
@@ -120,7 +105,7 @@ no_more : (limit many : ℕ) (es : List ℕ) (cells : List Cell) (x y : ℕ) →
 no_more limit many es cells x y le off =
     let own : ℕ = text_columns many (cut_at many x es cells) in
     let more : ℕ = text_columns many (cut_at many y es cells) in
-    lt-leb more limit (omega (arith, leb-false own limit off, row_grows many x y es cells le))
+    lt-leb more limit (omega (arith, leb-false own limit off, text_grows many x y es cells le))
 
 -- one between them
 pub halved : (limit many : ℕ) (es : List ℕ) (cells : List Cell) (low high reach next last : ℕ) (enough : Bool)
@@ -156,6 +141,26 @@ halved limit many es cells low high reach next last enough lt r is yes no h =
       omega (arith, n, l, lt, above, within),
     ))
 
+-- what is near in a room is what is near by its reach
+pub near_room : (room : Room) (es : List ℕ) (cells : List Cell) → 0 < length es →
+    with_short room.dots (stretches (near_by room es) false cells) ≡ cut_at room.dots room.reach es cells
+near_room room [] cells some = absurd (omega (arith, some))
+near_room room (e ∷ es) cells some = refl
+
+-- the same, by what was found of one between them
+pub halved_by : (room : Room) (es : List ℕ) (cells read : List Cell) (low high next last : ℕ) (enough : Bool)
+    → low < high → room.reach ≡ high - (high - low) / 2 → 0 < length es → read ≡ cells → enough
+    ≡ leb (text_columns room.dots (with_short room.dots (stretches (near_by room es) false read))) room.limit →
+    (enough ≡ true → (next ≡ room.reach) × (last ≡ high)) →
+    (enough ≡ false → (next ≡ low) × (last ≡ room.reach - 1)) →
+    IsBetween (leaves_room room.limit room.dots es cells) room.limit low high →
+    IsBetween (leaves_room room.limit room.dots es cells) room.limit next last × (last - next < high - low)
+halved_by room es cells read low high next last enough lt r some same is yes no h =
+    halved room.limit room.dots es cells low high room.reach next last enough lt r
+    (is ∙ ap (λ (cs : List Cell). leb (text_columns room.dots
+    (with_short room.dots (stretches (near_by room es) false cs))) room.limit) same
+    ∙ ap (λ cut. leb (text_columns room.dots cut) room.limit) (near_room room es cells some)) yes no h
+
 pub halving_ends : (limit many : ℕ) (es : List ℕ) (cells : List Cell) (low high : ℕ) → high ≤ low
     → IsBetween (leaves_room limit many es cells) limit low high → low ≡ reach_of limit many es cells
 halving_ends limit many es cells low high met h =
@@ -163,12 +168,6 @@ halving_ends limit many es cells low high met h =
     (λ x past to. h.none x (omega (arith, met, past)) to))
 
 -- ---- a line with some ends
-
--- what is near in a room is what is near by its reach
-pub near_room : (room : Room) (es : List ℕ) (cells : List Cell) → 0 < length es →
-    with_short room.dots (stretches (near_by room es) false cells) ≡ cut_at room.dots room.reach es cells
-near_room room [] cells some = absurd (omega (arith, some))
-near_room room (e ∷ es) cells some = refl
 
 pub cut_by_room : (room : Room) (limit many : ℕ) (es : List ℕ) (cells : List Cell) → room.limit ≡ limit → room.dots
     ≡ many → (0 < length es → room.reach ≡ reach_of limit many es cells) →

@@ -1,15 +1,14 @@
 //! The ends of a line, around which it is cut.
 
-ghost use Rattle.std.specs.Prelude.{◌≡◌, ◌+◌, ◌++◌, ◌<◌, ◌^◌, [], ◌∷◌, map, length, false, IfOk, OnOk};
+ghost use Rattle.std.specs.Prelude.{◌≡◌, ◌+◌, ◌++◌, ◌<◌, ◌^◌, map, length, IfOk, OnOk};
 ghost use Rattle.std.specs.List.{list_any};
 ghost use Rattle.miette_source_lines.specs.views.Walking.{line_of_text};
-ghost use Rattle.miette_cells.specs.rules.Cells.{cells_from, characters};
-ghost use Rattle.miette_cells.specs.rules.Widths.{width_of};
 ghost use Rattle.miette_labels.specs.rules.Labels.{starts_on, ends_on};
 ghost use Rattle.miette_labels.specs.views.GivenLabels.{drawn_of};
 ghost use Rattle.miette_snippet_rules.specs.rules.CutEnds.{hung_at, mark_ends, spread_ends};
 ghost use Rattle.miette_snippet_rules.specs.rules.SnippetLayout.{text_of_cells};
 ghost use Rattle.miette_snippet_rules.specs.views.MadeMarks.{mark_of};
+ghost use Rattle.miette_cuts.specs.views.LineTexts.{text_cells};
 ghost use Rattle.miette_cuts.specs.steps.Ends.{has_end, spread_end};
 
 use crate::line_text::LineText;
@@ -128,10 +127,10 @@ pub fn ends_of(
     marks: &[Mark<'_>],
     spread: &[PlacedLabel<'_>],
 ) -> Result<Vec<usize>, AllocError>
-    requires { line.now.start + length text.now.bytes.now < 2 ^ 64 }
+    requires start { text.now.start ≡ line.now.start }
+    requires fits { text.now.start + length text.now.bytes.now < 2 ^ 64 }
     ensures { IfOk result (λ ends. ends.items ≡ mark_ends (map mark_of marks.now) ++ spread_ends (line_of_text line.now)
-        (text_of_cells (cells_from width_of text.now.tab false line.now.start 0 (characters text.now.bytes.now))
-        line.now.text_end) (map drawn_of spread.now)) }
+        (text_of_cells (text_cells text.now) line.now.text_end) (map drawn_of spread.now)) }
 {
     let mut ends = Vec::new(alloc);
     push_mark_ends(&mut ends, marks)?;

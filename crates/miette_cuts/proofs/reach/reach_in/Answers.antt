@@ -1,9 +1,5 @@
-use Rattle.std.proofs.Common.{◌≡◌, ◌∙◌, List, ap, leb, false}
-use Rattle.miette_cells.specs.rules.Cells.{Cell}
-use Rattle.miette_snippet_rules.specs.rules.CutLines.{stretches, text_columns, with_short}
-use Rattle.miette_cuts.specs.declared.nearness.Room.{Room}
-use Rattle.miette_cuts.specs.steps.Nearness.{near_by}
-use Rattle.miette_cuts.proofs.Reaching.{between_first, halved, halving_ends, leaves_room, near_room}
+use Rattle.std.proofs.Common.{refl}
+use Rattle.miette_cuts.proofs.Reaching.{between_first, halved_by, halving_ends, leaves_room}
 use Rattle.miette_cuts.proofs.reach.reach_in.Goals as goal
 
 pub loop-low-init : goal.loop-low-init
@@ -11,6 +7,18 @@ loop-low-init c = between_first (leaves_room c.args.limit c.args.dots c.args.end
 
 pub loop-low-preserved : goal.loop-low-preserved
 loop-low-preserved c =
-    let cells : List Cell = c.args.walk.now in
-    let room : Room = record { limit = c.args.limit; dots = c.args.dots; reach = c.loop-low.high - (c.loop-low.high - c.loop-low.low) / 2 } in
-    ?
+    (halved_by (record { limit = c.args.limit; dots = c.args.dots; reach = _ }) c.args.ends.now c.args.walk.now
+    c.copy.result c.loop-low.low c.loop-low.high c.narrowed-from.result.0 c.narrowed-from.result.1
+    c.in_ok-enough.enough c.loop-low-test.true refl c.requires.some c.copy.ensures c.in_ok-enough.ensures
+    c.narrowed-from.ensures.yes c.narrowed-from.ensures.no c.loop-low.invariant).0
+
+pub loop-low-smaller : goal.loop-low-smaller
+loop-low-smaller c =
+    (halved_by (record { limit = c.args.limit; dots = c.args.dots; reach = _ }) c.args.ends.now c.args.walk.now
+    c.copy.result c.loop-low.low c.loop-low.high c.narrowed-from.result.0 c.narrowed-from.result.1
+    c.in_ok-enough.enough c.loop-low-test.true refl c.requires.some c.copy.ensures c.in_ok-enough.ensures
+    c.narrowed-from.ensures.yes c.narrowed-from.ensures.no c.loop-low.invariant).1
+
+pub returns : goal.returns
+returns c = halving_ends c.args.limit c.args.dots c.args.ends.now c.args.walk.now c.loop-low.low c.loop-low.high
+    c.loop-low-test.false c.loop-low.invariant
