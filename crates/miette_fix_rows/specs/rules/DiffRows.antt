@@ -15,8 +15,8 @@ use Rattle.miette_fixes.specs.rules.Edits.{Replacement}
 use Rattle.miette_fixes.specs.rules.Applying.{by_offset, refusal}
 use Rattle.miette_fix_rows.specs.rules.Hunks.{diff}
 use Rattle.miette_fix_rows.specs.rules.DiffFrames.{DiffFrame, DiffLine, Standing, kept, removed, added, frames_of}
-use Rattle.miette_fix_rows.specs.rules.DiffTexts.{deleted_spans, edit_marks, inserted_spans, line_cells}
-use Rattle.miette_fix_rows.specs.rules.DiffTexts.{line_ends, look_alike, pieces, sign_runs}
+use Rattle.miette_fix_rows.specs.rules.DiffTexts.{deleted_spans, edit_marks, inserted_spans, line_cells, line_ends}
+use Rattle.miette_fix_rows.specs.rules.DiffTexts.{look_alike, pieces, sign_runs}
 
 -- What the rows of a fix are drawn with: the width of line numbers, and what is deleted and inserted.
 pub record DiffContext : Type 0 where
@@ -41,7 +41,7 @@ sign_start s w line =
     ∷ styled_run s.width s.theme.styles.linum (replicate (w - length (decimal line.number)) 32 ++ decimal line.number)
     ∷ blank s 1 ∷ styled_run s.width line.style (line.sign ∷ []) ∷ blank s 1 ∷ []
 
--- how a changed line is cut, if it is, around what edits delete or insert there
+-- how a changed line is cut, if it is, around what edits delete (insert) there
 abbrev pub changed_cut : SnippetSettings → ChangedLine → Option (List Stretch)
 changed_cut s line =
     cut_line (dots_in s.theme.characters) s.layout.line_columns (line_ends s line.start line.text line.spans)
@@ -50,8 +50,7 @@ changed_cut s line =
 abbrev pub text_row : SnippetSettings → ℕ → ChangedLine → Row
 text_row s w line = sign_start s w line
     ++ shown_runs (dots s.theme) (changed_cut s line)
-    (pieces line.style line.spans (line_cells s line.start line.text))
-    (line_cells s line.start line.text)
+    (pieces line.style line.spans (line_cells s line.start line.text)) (line_cells s line.start line.text)
 
 -- the row of marks below a line that looks like the one that goes with it; none where it has no mark
 abbrev pub row_if_some : Row → List Row

@@ -133,7 +133,7 @@ abbrev pub look_alike : SnippetSettings → List ℕ → Option (List ℕ) → B
 look_alike s line None = false
 look_alike s line (Some other) = not (bytes_eq line other) && bytes_eq (look s line) (look s other)
 
--- ---- the ends of changed lines
+-- ---- cut lines
 
 -- Whether an edit is one of a line's: it touches the line. Behind the last byte of a line with a terminator the next
 -- line is.
