@@ -6,6 +6,7 @@ mod Columns
 pub mod CutEnds
 pub mod CutFading
 pub mod CutLaws
+pub mod CutLetters
 pub mod CutMarks
 pub mod CutShows
 pub mod CutWidth
@@ -22,4 +23,3 @@ pub mod Paling
 pub mod RowCounts
 pub mod UnstyledRows
 pub mod Whole
-pub mod WidestRows

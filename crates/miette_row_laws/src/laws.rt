@@ -32,7 +32,7 @@ ghost use Rattle.miette_snippet_rules.specs.rules.Settings.{SnippetSettings};
 ghost use Rattle.miette_snippet_rules.specs.rules.SnippetLayout.{snippet_rows, body_rows, cells_of, cut_ends, line_cut};
 ghost use Rattle.miette_snippet_rules.specs.rules.SnippetLayout.{line_marks, settings_around};
 ghost use Rattle.miette_row_laws.specs.laws.Pictures.{BodyShows, marks_of_line, text_of_line};
-ghost use Rattle.miette_row_laws.specs.laws.WidestRows.{AreAsWideAsSaid};
+ghost use Rattle.miette_row_laws.specs.laws.CutLetters.{AreEndsShown, AreFirstShown};
 
 /// The marks of a line's labels are not empty, and each begins where the one before it ends, or later. So an anchor
 /// lies in its own mark and in no other. The same holds of the marks in a line's row, where it may be cut.
@@ -121,7 +121,8 @@ pub fn marks_stand_under_their_labels()
 {}
 
 /// Where there is a limit, a line's text has no more columns in its row than the limit; or where its ends alone, with the
-/// dots between them, have more, than those (`bound`). So wide are rows (`reached`).
+/// dots between them, have more, than those (`bound`): no more than the widest cell and dots for each end ask for
+/// (`ends`).
 pub fn cut_rows_are_narrow()
     ensures bound { (s : SnippetSettings) (labels : List DrawnLabel) (source : List ℕ) (line : Line)
         (pieces : List Highlight) (limit : ℕ) → s.layout.line_columns ≡ Some limit →
@@ -133,7 +134,13 @@ pub fn cut_rows_are_narrow()
     ensures ends { (s : SnippetSettings) (source : List ℕ) (line : Line) (many widest : ℕ) (ends : List ℕ) →
         AreAsWide widest (cells_of s source line) →
         text_columns many (cut_at many 0 ends (cells_of s source line)) ≤ most_columns many widest (length ends) }
-    ensures reached { (s : SnippetSettings) → AreAsWideAsSaid s }
+{}
+
+/// Of a line of the 26 letters at a limit of eight and of twelve columns is shown, in Unicode and in ASCII: without a
+/// label its first ones (`first`), and what is near the ends of a label (`ends`). A limit of one counts as eight.
+pub fn letters_are_cut()
+    ensures first { (s : SnippetSettings) → AreFirstShown s }
+    ensures ends { (s : SnippetSettings) → AreEndsShown s }
 {}
 
 /// Where no line of a snippet has more columns than the limit, its rows are those without a limit (`snippet`), and so

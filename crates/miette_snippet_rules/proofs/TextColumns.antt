@@ -1,10 +1,10 @@
 -- The columns of the text of a line that is cut, cell by cell; and the largest number that passes a test.
-use Rattle.std.proofs.Common.{ℕ, zero, suc, ◌+◌, ◌-◌, ◌<◌, ◌≤◌, ◌≡◌, ◌≢◌, min, Bool, true, false, cond, eqb, ltb, leb}
+use Rattle.std.proofs.Common.{ℕ, zero, suc, ◌+◌, ◌-◌, ◌<◌, ◌≤◌, ◌≡◌, min, Bool, true, false, cond, eqb, ltb, leb}
 use Rattle.std.proofs.Common.{List, [], ◌∷◌, ◌++◌, append_assoc, refl, sym, ap, ◌∙◌, ◌||◌, arith}
 use Rattle.std.proofs.lemmas.Bool.{leb-true, leb-false, ltb-true, ltb-false, eqb-true}
 use Rattle.miette_cells.specs.rules.Cells.{Cell}
 use Rattle.miette_snippet_rules.specs.rules.CutLines.{Stretch, agree, columns_in, is_kept, largest, onto_stretches}
-use Rattle.miette_snippet_rules.specs.rules.CutLines.{passes_after, row_columns, stretches, text_columns, with_short}
+use Rattle.miette_snippet_rules.specs.rules.CutLines.{passes_after, stretches, text_columns, with_short}
 use Rattle.miette_snippet_rules.proofs.CutColumns.{columns_in-append}
 use Rattle.miette_basics.proofs.Cases.{by_cases}
 
@@ -23,7 +23,7 @@ shown_columns many near passed (cell ∷ cells) =
 abbrev own_columns : ℕ → Bool → ℕ → ℕ
 own_columns many near columns = cond near columns (min columns many)
 
-abbrev pub stretch_columns : ℕ → List Stretch → ℕ
+abbrev stretch_columns : ℕ → List Stretch → ℕ
 stretch_columns many [] = 0
 stretch_columns many (s ∷ later) = own_columns many s.shown (columns_in s.cells) + stretch_columns many later
 
@@ -33,7 +33,7 @@ IsFirstShown [] = Unit {0}
 IsFirstShown (s ∷ later) = s.shown ≡ true
 
 -- of two stretches that follow one another one is near
-abbrev pub AreParted : List Stretch → Type 0
+abbrev AreParted : List Stretch → Type 0
 AreParted [] = Unit {0}
 AreParted (s ∷ []) = Unit {0}
 AreParted (s ∷ next ∷ later) = (agree s.shown next.shown ≡ false) × AreParted (next ∷ later)
@@ -123,7 +123,7 @@ onto_parted s (next ∷ later) h =
     same false true h = h
     same false false h = refl
 
-pub stretches_part : (near : Cell → Bool) (before : Bool) (cells : List Cell) → AreParted (stretches near before cells)
+stretches_part : (near : Cell → Bool) (before : Bool) (cells : List Cell) → AreParted (stretches near before cells)
 stretches_part near before [] = tt
 stretches_part near before (c ∷ cs) = onto_parted (record { shown = passes_after near before c; cells = c ∷ [] })
     (stretches near (passes_after near before c) cs) (stretches_part near (passes_after near before c) cs)

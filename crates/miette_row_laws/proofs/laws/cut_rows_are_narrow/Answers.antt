@@ -1,6 +1,5 @@
 use Rattle.miette_row_laws.proofs.CutLaws.{rows_narrow}
 use Rattle.miette_row_laws.proofs.EndColumns.{ends_few}
-use Rattle.miette_row_laws.proofs.WidestRows.{as_wide_as_said}
 use Rattle.miette_row_laws.proofs.Whole.{line_columns}
 use Rattle.miette_snippet_rules.specs.rules.SnippetLayout.{cells_of}
 use Rattle.miette_row_laws.proofs.laws.cut_rows_are_narrow.Goals as goal
@@ -11,6 +10,3 @@ returns-clause-bound c = rows_narrow
 pub returns-clause-ends : goal.returns-clause-ends
 returns-clause-ends c = λ s source line many widest ends wide.
     ends_few many widest ends (cells_of s source line) (line_columns s source line) wide
-
-pub returns-clause-reached : goal.returns-clause-reached
-returns-clause-reached c = as_wide_as_said
