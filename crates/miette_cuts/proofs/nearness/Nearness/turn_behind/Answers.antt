@@ -1,5 +1,5 @@
 use Rattle.std.proofs.Common.{◌∙◌, sym}
-use Rattle.miette_cuts.proofs.NearEnds.{met_within, turned_met, turned_unmet}
+use Rattle.miette_cuts.proofs.NearEnds.{met_within, turned_first, turned_met, turned_unmet}
 use Rattle.miette_cuts.proofs.nearness.Nearness.turn_behind.Goals as goal
 
 pub turn_by-requires-clause-ahead : goal.turn_by-requires-clause-ahead
@@ -19,3 +19,9 @@ returns-in-None-clause-alike c =
     turned_unmet (record { room = c.self.inside.room; ends = c.self.inside.ends.now }) c.args.self.now c.args.column
     c.args.len c.self.view_is (sym c.is_empty.ensures ∙ c.if-is_empty.false) c.self.invariant.ascending
     c.in-None.ensures.found
+
+pub returns-then-is_empty-clause-alike : goal.returns-then-is_empty-clause-alike
+returns-then-is_empty-clause-alike c =
+    turned_first (record { room = c.self.inside.room; ends = c.self.inside.ends.now }) c.args.self.now c.args.column
+    c.turn_at.result.1 c.turn_at.result.0 c.self.view_is (sym c.is_empty.ensures ∙ c.if-is_empty.true)
+    c.turn_at.ensures.alike
