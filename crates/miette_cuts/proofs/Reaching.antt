@@ -113,14 +113,14 @@ pub halved : (limit many : ℕ) (es : List ℕ) (cells : List Cell) (low high re
     (enough ≡ true → (next ≡ reach) × (last ≡ high)) → (enough ≡ false → (next ≡ low) × (last ≡ reach - 1)) →
     IsBetween (leaves_room limit many es cells) limit low high →
     IsBetween (leaves_room limit many es cells) limit next last × (last - next < high - low)
-halved limit many es cells low high reach next last enough lt r is yes no h =
+halved limit many es cells low high reach next last enough lt r is on off h =
     let passes : ℕ → Bool = leaves_room limit many es cells in
     let above : low < reach = omega (arith, lt, r) in
     let within : reach ≤ high = omega (arith, r) in
     by_cases {C = IsBetween passes limit next last × (last - next < high - low)} enough
     (λ y.
-    let n : next ≡ reach = (yes y).0 in
-    let l : last ≡ high = (yes y).1 in (
+    let n : next ≡ reach = (on y).0 in
+    let l : last ≡ high = (on y).1 in (
       record {
         order = omega (arith, n, l, within);
         most = omega (arith, l, h.most);
@@ -130,8 +130,8 @@ halved limit many es cells low high reach next last enough lt r is yes no h =
       omega (arith, n, l, lt, above, within),
     ))
     (λ f.
-    let n : next ≡ low = (no f).0 in
-    let l : last ≡ reach - 1 = (no f).1 in (
+    let n : next ≡ low = (off f).0 in
+    let l : last ≡ reach - 1 = (off f).1 in (
       record {
         order = omega (arith, n, l, above);
         most = omega (arith, l, within, h.most);
@@ -155,11 +155,11 @@ pub halved_by : (room : Room) (es : List ℕ) (cells read : List Cell) (low high
     (enough ≡ false → (next ≡ low) × (last ≡ room.reach - 1)) →
     IsBetween (leaves_room room.limit room.dots es cells) room.limit low high →
     IsBetween (leaves_room room.limit room.dots es cells) room.limit next last × (last - next < high - low)
-halved_by room es cells read low high next last enough lt r some same is yes no h =
+halved_by room es cells read low high next last enough lt r some same is on off h =
     halved room.limit room.dots es cells low high room.reach next last enough lt r
     (is ∙ ap (λ (cs : List Cell). leb (text_columns room.dots
     (with_short room.dots (stretches (near_by room es) false cs))) room.limit) same
-    ∙ ap (λ cut. leb (text_columns room.dots cut) room.limit) (near_room room es cells some)) yes no h
+    ∙ ap (λ cut. leb (text_columns room.dots cut) room.limit) (near_room room es cells some)) on off h
 
 pub halving_ends : (limit many : ℕ) (es : List ℕ) (cells : List Cell) (low high : ℕ) → high ≤ low
     → IsBetween (leaves_room limit many es cells) limit low high → low ≡ reach_of limit many es cells

@@ -51,6 +51,10 @@ near_more x y (e ∷ es) cell le h =
 pub text_grows : (many x y : ℕ) (ends : List ℕ) (cells : List Cell) → x ≤ y →
     text_columns many (cut_at many x ends cells) ≤ text_columns many (cut_at many y ends cells)
 text_grows many x y ends cells le =
-    omega (arith, text_columns_are many (is_near x ends) cells, text_columns_are many (is_near y ends) cells,
-    grows many (is_near x ends) (is_near y ends) 0 0 cells (omega arith)
-    (λ cell h. near_more x y ends cell le h))
+    omega (
+      arith,
+      text_columns_are many (is_near x ends) cells,
+      text_columns_are many (is_near y ends) cells,
+      grows many (is_near x ends) (is_near y ends) 0 0 cells (omega arith)
+          (λ cell h. near_more x y ends cell le h),
+    )

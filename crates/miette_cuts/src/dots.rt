@@ -26,7 +26,10 @@ pub fn dots_in(theme: &GraphicalTheme) -> usize
 }
 
 /// The dots of a theme, in the style of line numbers. `AllocError` where memory is refused.
-pub(crate) fn push_dots<O: Canvas>(page: &mut Page<O>, theme: &GraphicalTheme) -> Result<(), AllocError>
+pub(crate) fn push_dots<O: Canvas>(
+    page: &mut Page<O>,
+    theme: &GraphicalTheme,
+) -> Result<(), AllocError>
     ensures { OnOk result (page.new ≡ page.old ⊕ row_tokens (dots (theme_of theme.now) ∷ [])) }
 {
     page.begin(theme.styles.linum)?;

@@ -16,11 +16,7 @@ use std::alloc::{AllocError, Global};
 
 // Stretches, of which the short ones are shown too, with dots of so many columns; those that are shown side by side are
 // one.
-fn join_short(
-    alloc: Global,
-    stretches: &[Stretch],
-    dots: usize,
-) -> Result<Vec<Stretch>, AllocError>
+fn join_short(alloc: Global, stretches: &[Stretch], dots: usize) -> Result<Vec<Stretch>, AllocError>
     ensures { IfOk result (λ made. made.items ≡ made_with_short dots stretches.now) }
 {
     let mut made = Vec::new(alloc);
@@ -63,12 +59,7 @@ fn width_of(cut: &[Stretch], dots: usize) -> Result<usize, AllocError>
 }
 
 // Whether what is shown in this room of a line with these ends, which ascend, has no more columns than the limit.
-fn fits(
-    alloc: Global,
-    walk: Walk<'_>,
-    room: &Room,
-    ends: &[usize],
-) -> Result<bool, AllocError>
+fn fits(alloc: Global, walk: Walk<'_>, room: &Room, ends: &[usize]) -> Result<bool, AllocError>
     requires { IsNonDecreasing ends.now }
     ensures { IfOk result (λ fits. fits ≡ nat_le (text_columns room.now.dots
         (with_short room.now.dots (stretches (near_by room.now ends.now) false walk.entry))) room.now.limit) }

@@ -248,24 +248,25 @@ largest_passes passes (suc n) lt =
 
 pub largest_over : (passes : ℕ → Bool) (n x : ℕ) → largest passes n < x → x ≤ n → passes x ≡ false
 largest_over passes zero x lt le = absurd (omega (arith, lt, le))
-largest_over passes (suc n) x lt le = above (passes (suc n)) refl lt
+largest_over passes (suc n) x lt le = above (passes (suc n)) refl (largest_over passes n x) lt
   where
-    above : (b : Bool) → passes (suc n) ≡ b → cond b (suc n) (largest passes n) < x → passes x ≡ false
-    above true is over = absurd (omega (arith, over, le))
-    above false is over =
+    above : (b : Bool) → passes (suc n) ≡ b → (largest passes n < x → x ≤ n → passes x ≡ false)
+        → cond b (suc n) (largest passes n) < x → passes x ≡ false
+    above true is rest over = absurd (omega (arith, over, le))
+    above false is rest over =
         by_cases {C = passes x ≡ false} (ltb x (suc n))
-        (λ y. largest_over passes n x over (omega (arith, ltb-true x (suc n) y)))
+        (λ y. rest over (omega (arith, ltb-true x (suc n) y)))
         (λ f. let same : x ≡ suc n = omega (arith, le, ltb-false x (suc n) f) in rw same is)
 
 -- a number that passes, or 0, where no larger one does
 pub largest_is : (passes : ℕ → Bool) (n r : ℕ) → r ≤ n → (0 < r → passes r ≡ true)
     → ((x : ℕ) → r < x → x ≤ n → passes x ≡ false) → largest passes n ≡ r
-largest_is passes zero r le yes no = omega (arith, le)
-largest_is passes (suc n) r le yes no =
+largest_is passes zero r le fits none = omega (arith, le)
+largest_is passes (suc n) r le fits none =
     by_cases {C = largest passes (suc n) ≡ r} (ltb r (suc n))
     (λ y. let less : r < suc n = ltb-true r (suc n) y in
-    rw (no (suc n) less (omega arith)) (largest_is passes n r (omega (arith, less)) yes
-    (λ x lt to. no x lt (omega (arith, to)))))
+    rw (none (suc n) less (omega arith)) (largest_is passes n r (omega (arith, less)) fits
+    (λ x lt to. none x lt (omega (arith, to)))))
     (λ f. let same : suc n ≡ r = omega (arith, le, ltb-false r (suc n) f) in
-    let own : passes (suc n) ≡ true = ap passes same ∙ yes (omega (arith, same)) in
+    let own : passes (suc n) ≡ true = ap passes same ∙ fits (omega (arith, same)) in
     rw own same)
