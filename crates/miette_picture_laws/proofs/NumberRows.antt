@@ -93,7 +93,7 @@ prints-number c line number h =
     record {
       row = number_start s c.number_width number ++ number_gutter s line c.gutter (multi_line line c.labels)
           ++ shown_runs (dots s.theme) (line_cut s line cells (one_line line c.labels) (multi_line line c.labels)) []
-              cells;
+          cells;
       below = drop 1 (line_rows c line number []);
       first = refl;
       prints = shown;

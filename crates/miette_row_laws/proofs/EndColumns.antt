@@ -58,8 +58,11 @@ one_more many widest end column p near (c ∷ cs) h w =
     (λ f. by_cases {C = shown_columns many (also_at end near) p (c ∷ cs)
     ≤ shown_columns many near p (c ∷ cs) + (widest + many)} (is_within 0 c end)
     (λ y. let both : also_at end near c ≡ true = or_left (is_within 0 c end) (near c) y in
-    let past : end < c.until = omega (arith, ltb-true end (c.until + 0)
-    (and_parts (leb c.from (end + 0)) (ltb end (c.until + 0)) y).1) in
+    let past : end < c.until = omega (
+      arith,
+      ltb-true end (c.until + 0)
+          (and_parts (leb c.from (end + 0)) (ltb end (c.until + 0)) y).1,
+    ) in
     rw (n, both, f) (omega (
       arith,
       w.0,
