@@ -35,7 +35,7 @@ measure-lone shown c =
     let bytes : text_bytes c.code + 0 ≡ text_bytes c.code = omega arith in
     ap (λ n. made_of shown 1 n (text_bytes c.code + 0)) columns ∙ ap (λ n. made_of shown 1 (c.until - c.from) n) bytes
 
-measure-onto : (s : Stretch) (ss : List Stretch) → map measure (onto_stretches s ss)
+pub measure-onto : (s : Stretch) (ss : List Stretch) → map measure (onto_stretches s ss)
     ≡ onto_made (measure s) (map measure ss)
 measure-onto s [] = refl
 measure-onto s (next ∷ later) =

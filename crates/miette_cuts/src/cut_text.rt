@@ -183,9 +183,10 @@ pub(crate) fn push_cut<O: Canvas>(
     for stretch in cut {
         let behind = pieces_behind(&rest);
         push_stretch(page, walk, &behind, stretch, theme)?;
+        let before = sum(behind.before, stretch.bytes)?;
         rest = Pieces {
             pieces: behind.pieces,
-            before: sum(behind.before, stretch.bytes)?,
+            before,
         };
     }
     Ok(())

@@ -26,7 +26,8 @@ fn push_anchor(ends: &mut Vec<usize>, mark: &Mark<'_>) -> Result<(), AllocError>
     let Some(_text) = mark.label.text else {
         return Ok(());
     };
-    ends.push(mark.anchor)
+    ends.push(mark.anchor)?;
+    Ok(())
 }
 
 // Puts the ends of marks behind others: of each its first column, its anchor where a text hangs from it, and its last
@@ -92,11 +93,13 @@ fn push_spread_end(
 {
     if begins(line, label) {
         let first = columns.first_column(label.start)?;
-        return ends.push(first);
+        ends.push(first)?;
+        return Ok(());
     }
     if stops(line, label) {
         let behind = columns.last_column(label.after)?;
-        return ends.push(behind.saturating_sub(1));
+        ends.push(behind.saturating_sub(1))?;
+        return Ok(());
     }
     Ok(())
 }

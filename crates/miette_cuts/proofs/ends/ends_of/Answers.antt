@@ -10,8 +10,8 @@ use Rattle.miette_snippet_rules.specs.views.MadeMarks.{mark_of}
 use Rattle.miette_cuts.proofs.EndColumns.{ends_alone}
 use Rattle.miette_cuts.proofs.ends.ends_of.Goals as goal
 
-pub new-columns-requires : goal.new-columns-requires
-new-columns-requires c = subst (λ n. n + length c.args.text.now.bytes.now < 2 ^ 64) c.requires.start c.requires.fits
+pub new-requires : goal.new-requires
+new-requires c = subst (λ n. n + length c.args.text.now.bytes.now < 2 ^ 64) c.requires.start c.requires.fits
 
 pub returns-then-some_touches : goal.returns-then-some_touches
 returns-then-some_touches c =

@@ -1,14 +1,12 @@
 use Rattle.std.proofs.Common.{ap}
-use Rattle.std.proofs.lemmas.Result.{on_ok_weaker}
 use Rattle.std.specs.Option.{option_copied}
 use Rattle.miette_cuts.proofs.EndColumns.{anchor_none, anchor_put}
 use Rattle.miette_cuts.proofs.ends.push_anchor.Goals as goal
 
 pub returns : goal.returns
 returns c =
-    on_ok_weaker c.push.result (λ h.
     anchor_put (option_copied c.args.mark.now.label.text) c.in-Some._text.now c.args.mark.now.anchor
-    c.args.ends.now.items c.push.new.self.items (ap option_copied c.in-Some.is) h) c.push.ensures.items
+    c.args.ends.now.items c.push.new.self.items (ap option_copied c.in-Some.is) c.in_ok-push.ensures.items
 
 pub returns-in_default : goal.returns-in_default
 returns-in_default c =
