@@ -1,4 +1,4 @@
-use Rattle.std.proofs.Common.{◌∙◌, map, take}
+use Rattle.std.proofs.Common.{map, take}
 use Rattle.std.proofs.lemmas.Result.{on_ok_weaker}
 use Rattle.miette_style.specs.rules.Themes.{theme_of}
 use Rattle.miette_snippet_rules.specs.rules.CutLines.{dots, pieces_within}

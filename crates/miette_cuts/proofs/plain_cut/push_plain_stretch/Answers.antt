@@ -1,4 +1,3 @@
-use Rattle.std.proofs.Common.{◌≡◌}
 use Rattle.std.proofs.lemmas.Result.{on_ok_weaker}
 use Rattle.miette_style.specs.rules.Themes.{theme_of}
 use Rattle.miette_snippet_rules.specs.rules.CutLines.{dots}

@@ -1,4 +1,4 @@
-use Rattle.std.proofs.Common.{◌∙◌, false}
+use Rattle.std.proofs.Common.{false}
 use Rattle.miette_snippet_rules.specs.rules.CutLines.{stretches, with_short}
 use Rattle.miette_cuts.specs.steps.Nearness.{near_by}
 use Rattle.miette_cuts.proofs.Reaching.{fitting}
