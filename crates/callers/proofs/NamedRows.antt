@@ -39,7 +39,7 @@ stands : (text line : List ℕ) (row : List Fragment) → RowsStand text → Con
 stands text line row rows there is = subst (λ line. StandsIn (encode_utf8_all line) text) is (rows row there)
 
 abbrev cut_row : List ℕ
-cut_row = codes " 6 │     … total …+\n"
+cut_row = codes " 7 │     … total …+\n"
 
 cut_stands : (text : List ℕ) → RowsStand text → StandsIn (encode_utf8_all cut_row) text
 unfolding ends_line line_of line_start line_end column_of terminators_in pieces_from digits chars lib.Utf8.encode char_width

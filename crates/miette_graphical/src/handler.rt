@@ -241,7 +241,7 @@ impl<H: Highlighter> GraphicalReportHandler<H> {
     }
 
     /// A label over more lines than these is folded: only the lines around its first and its last one are shown, and a
-    /// row of dots stands for those between them. At least 1 is the caller's condition.
+    /// row of dots stands for those between them, where they are several. At least 1 is the caller's condition.
     pub fn with_label_lines(mut self, lines: usize) -> Self
         requires { 1 ≤ lines }
         ensures { result ≡ laid_out self (record self.settings.layout { label_lines = Some lines }) }

@@ -319,7 +319,8 @@ impl<H: Highlighter> MietteHandlerOpts<H> {
     }
 
     /// In pictures a label over more lines than these is folded: only the lines around its first and its last one are
-    /// shown, and a row of dots stands for those between them. At least 1 is the caller's condition.
+    /// shown, and a row of dots stands for those between them, where they are several. At least 1 is the caller's
+    /// condition.
     pub fn label_lines(mut self, lines: usize) -> Self
         requires { 1 ≤ lines }
         ensures { result ≡ record self { layout = record self.layout { label_lines = Some lines } } }

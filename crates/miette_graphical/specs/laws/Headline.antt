@@ -1,7 +1,7 @@
 -- What holds of the snippets of each printed diagnostic, over its effective source by its labels, and over each further
 -- source by the labels there.
 use Rattle.std.specs.Prelude.{◌≡◌, ◌≢◌, ◌<◌, ◌+◌, ℕ, Bool, true, false, List, [], ◌∷◌, length, Option, Some, None}
-use Rattle.std.specs.Prelude.{IfSome, ◌≤◌, max}
+use Rattle.std.specs.Prelude.{IfSome, ◌≤◌, ◌-◌, ◌||◌, max}
 use Rattle.std.specs.List.{AllByRecursion, concat}
 use Rattle.miette_source_lines.specs.rules.Lines.{Line, lines_of}
 use Rattle.miette_protocol.specs.views.Meaning.{Label}
@@ -30,7 +30,7 @@ use Rattle.miette_row_laws.specs.laws.Ends.{AreBehindShown, EndsStandBehind, dra
 use Rattle.miette_range_laws.specs.laws.Folding.{EndsPass, FitsIn, IsInside}
 use Rattle.miette_row_laws.specs.laws.Pictures.{BodyShows, marks_of_line, text_of_line}
 use Rattle.miette_snippet_rules.specs.rules.ShownLines.{framed_ranges, line_at}
-use Rattle.miette_snippet_rules.specs.rules.Snippets.{shown_numbers, snippets, is_kept}
+use Rattle.miette_snippet_rules.specs.rules.Snippets.{shown_numbers, snippets, is_kept, is_left_out}
 use Rattle.miette_graphical.specs.rules.Answers.{pieces_listed}
 use Rattle.miette_graphical.specs.rules.Sources.{LabelledSource}
 use Rattle.miette_graphical.specs.rules.Settings.{Settings}
@@ -117,14 +117,18 @@ MarksAreApart s p = IfSome p.source (λ source. (k : ℕ) →
 abbrev pub is_kept_at : ℕ → Settings → Source → List Label → ℕ → Bool
 is_kept_at limit s source labels k = is_kept (Some limit) s.layout.context_lines source.bytes labels k
 
+-- whether it is left out
+abbrev pub is_left_out_at : ℕ → Settings → Source → List Label → ℕ → Bool
+is_left_out_at limit s source labels k = is_left_out (Some limit) s.layout.context_lines source.bytes labels k
+
 -- the labels on line k and on others beside it
 abbrev pub labels_through : Settings → Source → List Label → ℕ → List DrawnLabel
 labels_through s source labels k = multi_line (line_at (lines_of source.bytes) k) (drawn_labels s source labels)
 
 -- A frame begins and ends with a line that is kept. No label begins or ends on a line that is left out, and the same
 -- labels lie on two such lines that follow each other; so the row of a break has a bar for just the labels that run
--- through all lines that it stands for. Where no label has more lines than labels are folded to, the rows are those
--- without folding.
+-- through all lines that it stands for. No line is left out alone. Where no label has more lines than labels are folded
+-- to, the rows are those without folding.
 pub record FoldsTo (limit : ℕ) (s : Settings) (source : Source) (labels : List Label) : Type 0 where
   pub ends : AllByRecursion (EndsPass (is_kept_at limit s source labels)) (ranges (shown_lines s source labels))
   pub inside : (k : ℕ) → k < length (lines_of source.bytes) → is_kept_at limit s source labels k ≡ false →
@@ -132,6 +136,8 @@ pub record FoldsTo (limit : ℕ) (s : Settings) (source : Source) (labels : List
   pub same : (k : ℕ) → k + 1 < length (lines_of source.bytes) → is_kept_at limit s source labels k ≡ false →
       is_kept_at limit s source labels (k + 1) ≡ false →
       labels_through s source labels k ≡ labels_through s source labels (k + 1)
+  pub pairs : (k : ℕ) → is_left_out_at limit s source labels k ≡ true →
+      (is_left_out_at limit s source labels (k - 1) || is_left_out_at limit s source labels (k + 1)) ≡ true
   pub short : AllByRecursion (FitsIn limit source.bytes) labels → (pieces : List (List (List Highlight))) →
       source_rows s (Some source) labels (pieces_listed pieces)
       ≡ source_rows (record s { layout = record s.layout { label_lines = None } }) (Some source) labels

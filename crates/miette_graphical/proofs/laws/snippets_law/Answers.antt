@@ -162,6 +162,7 @@ returns-clause-folds c = λ s t. everywhere LabelsAreFolded (λ s p.
           context;
       same = λ k. c.left_out_lines_are_inside.ensures.same _ _ limit s.layout.context_lines source.bytes labels k
           context;
+      pairs = c.left_out_lines_are_inside.ensures.pairs limit s.layout.context_lines source.bytes labels;
       short = λ fit pieces. short_rows limit s source labels (pieces_listed pieces) is
           (c.short_labels_stay.ensures (snippet_settings s) limit source labels (pieces_listed pieces) context accepted
           (none_listed pieces) fit);
