@@ -367,7 +367,8 @@ def frame_rows(source, labels, group, primary, name, settings):
     at = f"{source.line_of(primary.offset) + 1}:{source.column_of(primary.offset) + 1}"
     place = f"[{name}:{at}]" if name is not None else f"[{at}]" if len(lines) > 1 or settings.placed else "───"
     kept = set().union(*(shown_lines(source, it, settings.label_lines) for it in labels))
-    shown = [it for it in lines if it in kept]
+    out = {it for it in lines if it not in kept}
+    shown = [it for it in lines if it in kept or not {it - 1, it + 1} & out]
     most = max((sum(it.is_several(lines[number]) for it in labels) for number in shown), default=0)
     pad, left = " " * (digits + 2), most + 3 if most else 0
     rows, before = [f"{pad}╭─{place}"], None
