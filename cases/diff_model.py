@@ -9,7 +9,7 @@ from itertools import groupby
 from typing import NamedTuple
 
 from fix_model import Edit, applied, by_offset, refusal
-from model import DOTS, Settings, Source, places_of, printed, stretches_of
+from model import DOTS, Settings, Source, cut_stretches, places_of, printed
 
 
 class Theme(NamedTuple):
@@ -201,7 +201,7 @@ def look_alike(old, new):
 def laid_out(line, limit, ends, dots):
     """The stretches of cells that are shown, with none in place of those that dots stand for, and where a column is in
     the row."""
-    cut = stretches_of(line, limit, ends, len(dots))
+    cut = cut_stretches(line, limit, ends, len(dots))
     if cut is None:
         return [line.cells], lambda column: column
     return [cells if is_shown else None for is_shown, cells in cut], places_of(line, cut, len(dots))

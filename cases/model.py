@@ -281,7 +281,7 @@ def row_columns(parts, wide):
     return sum(columns_of(cells) if is_shown else wide for is_shown, cells in parts)
 
 
-def stretches_of(line, limit, ends, wide):
+def cut_stretches(line, limit, ends, wide):
     """The stretches of a line that is cut, with dots of so many columns; none where it isn't. Shown is what is within its
     reach of an end: the most columns by which the row is no wider than the limit. Without ends it is the first cells."""
     if limit is None or line.width <= max(limit, LEAST):
@@ -320,7 +320,7 @@ def ends_of(line, marks, several):
 
 def cut(limit, line, marks, several):
     """What is shown of a line's text, and its marks in the row."""
-    parts = stretches_of(line, limit, ends_of(line, marks, several), len(DOTS))
+    parts = cut_stretches(line, limit, ends_of(line, marks, several), len(DOTS))
     if parts is None:
         return printed(line.cells), marks
     place = places_of(line, parts, len(DOTS))
