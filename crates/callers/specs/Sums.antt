@@ -116,8 +116,8 @@ EndStandsBehind = EndsBehind narrow sum_file sum_labels
 -- sum and, behind what is shown, that of the label at the end; the break in the call, with the call's bar; the first
 -- row of the cause's source, under the arrow.
 pub record NamesRows (text : List ℕ) : Type 0 where
-  pub cut : StandsIn (encode_utf8_all (codes " 7 │     let total = ...e +\n")) text
-  pub end : StandsIn (encode_utf8_all (codes "   ·         ──┬──         ▲\n")) text
+  pub cut : StandsIn (encode_utf8_all (codes " 7 │     … total …+\n")) text
+  pub end : StandsIn (encode_utf8_all (codes "   ·       ──┬──   ▲\n")) text
   pub folded : StandsIn (encode_utf8_all (codes "...│ │\n")) text
   pub cause : StandsIn (encode_utf8_all (codes "       1 │ depth = 1\n")) text
 

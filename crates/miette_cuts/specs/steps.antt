@@ -1,6 +1,7 @@
 -- The code's own steps, which no rule names.
 pub mod CellTokens
 pub mod Cut
+pub mod Ends
 pub mod Moving
 pub mod Nearness
 pub mod Stops

@@ -4,3 +4,4 @@ pub mod LabelEnds
 pub mod NeverHidden
 pub mod NoPieces
 pub mod RowTokens
+pub mod TextColumns

@@ -1,7 +1,7 @@
 -- What holds of the snippets of each printed diagnostic, over its effective source by its labels, and over each further
 -- source by the labels there.
 use Rattle.std.specs.Prelude.{◌≡◌, ◌≢◌, ◌<◌, ◌+◌, ℕ, Bool, true, false, List, [], ◌∷◌, length, Option, Some, None}
-use Rattle.std.specs.Prelude.{IfSome, ◌≤◌, ◌-◌, ◌||◌}
+use Rattle.std.specs.Prelude.{IfSome, ◌≤◌, ◌-◌, ◌||◌, max}
 use Rattle.std.specs.List.{AllByRecursion, concat}
 use Rattle.miette_source_lines.specs.rules.Lines.{Line, lines_of}
 use Rattle.miette_protocol.specs.views.Meaning.{Label}
@@ -15,13 +15,14 @@ use Rattle.miette_labels.specs.rules.Groups as grouping
 use Rattle.miette_labels.specs.rules.Groups.{AreAccepted, in_order, lines_of_groups}
 use Rattle.miette_labels.specs.rules.Labels.{DrawnLabel, multi_line, one_line, some_shows_end}
 use Rattle.miette_snippet_rules.specs.rules.SnippetLayout as snippet_layout
-use Rattle.miette_snippet_rules.specs.rules.SnippetLayout.{body_rows, cells_of, line_cut, line_marks, settings_around}
+use Rattle.miette_snippet_rules.specs.rules.SnippetLayout.{body_rows, cells_of, cut_ends, line_cut, line_marks}
+use Rattle.miette_snippet_rules.specs.rules.SnippetLayout.{settings_around}
 use Rattle.miette_page.specs.rules.Rows.{Row, columns_of, glyphs_of}
 use Rattle.miette_cells.specs.rules.Cells.{Cell}
 use Rattle.miette_cells.specs.rules.Widths.{width_of}
-use Rattle.miette_snippet_rules.specs.rules.CutLines.{Stretch, ends, is_near}
-use Rattle.miette_row_laws.specs.laws.Cuts.{AreAsWide, AreMoved, AreStretches, Fits, by_nearness, by_stretch}
-use Rattle.miette_row_laws.specs.laws.Cuts.{GroupsFit, most_columns, pieces_shown}
+use Rattle.miette_snippet_rules.specs.rules.CutLines.{Stretch, cut_at, dots, dots_in, limit_of, text_columns}
+use Rattle.miette_row_laws.specs.laws.Cuts.{AreAsWide, AreMoved, Fits, GroupsFit, IsCutByReach, most_columns}
+use Rattle.miette_row_laws.specs.laws.Cuts.{pieces_shown}
 use Rattle.miette_snippet_rules.specs.rules.Marks.{Mark, marks_at, AreApart}
 use Rattle.miette_snippet_rules.specs.rules.PrintedCells.{cells_width}
 use Rattle.miette_snippet_rules.specs.rules.Numbers.{ranges, IsRange, AreParted}
@@ -162,32 +163,49 @@ abbrev pub whole_marks : Settings → Source → List Label → ℕ → List Mar
 whole_marks s source labels k =
     line_marks (line_of source k) (cells_under s source k) (labels_under s source labels k)
 
+-- the ends of line k: of these marks, and of the labels of several lines that begin or end on it
+abbrev pub ends_under : Settings → Source → List Label → ℕ → List ℕ
+ends_under s source labels k =
+    cut_ends (line_of source k) (cells_under s source k) (labels_under s source labels k)
+    (labels_through s source labels k)
+
 -- the stretches into which line k is cut, if it is
 abbrev pub cut_under : Settings → Source → List Label → ℕ → Option (List Stretch)
 cut_under s source labels k =
     line_cut (snippet_settings s) (line_of source k) (cells_under s source k) (labels_under s source labels k)
+    (labels_through s source labels k)
 
--- Line k is cut into stretches that have its cells, each once and in order, and are near where the cells are. Of each
--- stretch that is near or at most three columns wide the cells are printed, and dots in place of each other one. At the
--- columns of a mark stands what stands at them in the whole line.
+-- the columns of the text of line k in its row, were just its ends shown
+abbrev pub least_columns : Settings → Source → List Label → ℕ → ℕ
+least_columns s source labels k =
+    text_columns (dots_in s.theme.characters)
+    (cut_at (dots_in s.theme.characters) 0 (ends_under s source labels k) (cells_under s source k))
+
+-- Line k is cut by its reach: the largest number of columns around its ends by which the row's text is no wider than the
+-- limit; where it has no ends its first cells are shown, as many as have room. Of each stretch that is shown the cells
+-- are printed, and the theme's dots in place of each other one. At the ends of a mark, and at its other columns that are
+-- shown, stands what stands at them in the whole line.
 pub record IsCutExactly (s : Settings) (source : Source) (labels : List Label) (k limit : ℕ) (cut : List Stretch) :
     Type 0 where
-  pub cells : by_stretch cut ≡ by_nearness (is_near limit (ends (whole_marks s source labels k))) false
-      (cells_under s source k)
-  pub parted : AreStretches cut
-  pub printed : (pieces : List Highlight) → glyphs_of (text_shown s source labels k pieces) ≡ pieces_shown cut
-  pub marks : AreMoved (cells_under s source k) cut (whole_marks s source labels k) (marks_under s source labels k)
+  pub reach : IsCutByReach (limit_of limit) (dots_in s.theme.characters) (ends_under s source labels k)
+      (cells_under s source k) cut
+  pub printed : (pieces : List Highlight) →
+      glyphs_of (text_shown s source labels k pieces) ≡ pieces_shown (dots s.theme) cut
+  pub marks : AreMoved (dots s.theme) (cells_under s source k) cut (whole_marks s source labels k)
+      (marks_under s source labels k)
 
--- Line k is cut where it has more columns than the limit, and just there, exactly; and has no more columns then than
--- limit, labels and widest cell ask for.
+-- Line k is cut where it has more columns than the limit, and just there, exactly; a limit below 8 counts as 8. Its text
+-- has no more columns in its row than the limit, or where its ends alone need more, than those: no more than the widest
+-- cell and dots for each end ask for.
 pub record IsCutAt (s : Settings) (source : Source) (labels : List Label) (k limit : ℕ) : Type 0 where
-  pub wide : limit < cells_width 0 (cells_under s source k) → cut_under s source labels k ≢ None
-  pub fits : cells_width 0 (cells_under s source k) ≤ limit → cut_under s source labels k ≡ None
+  pub wide : limit_of limit < cells_width 0 (cells_under s source k) → cut_under s source labels k ≢ None
+  pub fits : cells_width 0 (cells_under s source k) ≤ limit_of limit → cut_under s source labels k ≡ None
   pub exact : (cut : List Stretch) → cut_under s source labels k ≡ Some cut →
       IsCutExactly s source labels k limit cut
-  pub narrow : (pieces : List Highlight) (widest : ℕ) → AreAsWide widest (cells_under s source k) →
-      columns_of (glyphs_of (text_shown s source labels k pieces))
-      ≤ most_columns limit (length (labels_under s source labels k)) widest
+  pub narrow : (pieces : List Highlight) → columns_of (glyphs_of (text_shown s source labels k pieces))
+      ≤ max (limit_of limit) (least_columns s source labels k)
+  pub ends : (widest : ℕ) → AreAsWide widest (cells_under s source k) → least_columns s source labels k
+      ≤ most_columns (dots_in s.theme.characters) widest (length (ends_under s source labels k))
 
 -- each line of a diagnostic's source, where there is a limit
 abbrev pub CutsAreExact : Settings → LabelledSource → Type 0
