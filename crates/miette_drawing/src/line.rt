@@ -70,13 +70,7 @@ fn push_number_row<O: Canvas>(
 {
     push_number_start(page, context, shown.number)?;
     push_gutter(page, context, context.gutter, GutterEnd::Arrow)?;
-    push_shown_text(
-        page,
-        text,
-        shown.pieces,
-        cut,
-        context.frame.settings.theme,
-    )?;
+    push_shown_text(page, text, shown.pieces, cut, context.frame.settings.theme)?;
     page.end_row()
 }
 

@@ -39,7 +39,13 @@ pub fn push_kept_row<O: Canvas>(
         tab: settings.layout.tab_width,
     };
     let dots = dots_in(settings.theme);
-    let cut = cut_at_ends(settings.alloc, &text, &[], settings.layout.line_columns, dots)?;
+    let cut = cut_at_ends(
+        settings.alloc,
+        &text,
+        &[],
+        settings.layout.line_columns,
+        dots,
+    )?;
     push_number_start(page, frame, number)?;
     push_shown_text(page, &text, &[], &cut, settings.theme)?;
     page.end_row()
