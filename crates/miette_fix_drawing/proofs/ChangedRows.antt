@@ -1,7 +1,7 @@
 -- The rows of a changed line.
 use Rattle.miette_page.specs.views.Printouts.{Printout, ◌⊕◌}
 use Rattle.std.proofs.Common.{ℕ, ◌≤◌, ◌≡◌, Bool, true, false, cond, List, [], ◌∷◌, ◌++◌, map, length, replicate}
-use Rattle.std.proofs.Common.{Option, sym, ap, ◌∙◌, arith}
+use Rattle.std.proofs.Common.{Option, refl, sym, ap, ◌∙◌, arith}
 use Rattle.std.specs.List.{filter, list_any}
 use Rattle.miette_style.specs.rules.Styles.{plain}
 use Rattle.miette_protocol.specs.rules.Reading.{Span}
