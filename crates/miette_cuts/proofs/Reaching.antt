@@ -12,12 +12,12 @@ use Rattle.miette_snippet_rules.specs.rules.PrintedCells.{cells_width}
 use Rattle.miette_snippet_rules.specs.rules.CutLines.{Stretch, cut_at, cut_line, cut_to, has_room}
 use Rattle.miette_snippet_rules.specs.rules.CutLines.{is_kept, is_near, is_within, largest, limit_of, onto_stretches}
 use Rattle.miette_snippet_rules.specs.rules.CutLines.{passes_after}
-use Rattle.miette_snippet_rules.specs.rules.CutLines.{reach_of, row_columns, stretches, text_columns, with_short}
+use Rattle.miette_snippet_rules.specs.rules.CutLines.{reach_of, stretches, text_columns, with_short}
 use Rattle.miette_snippet_rules.proofs.TextColumns.{largest_is}
 use Rattle.miette_cuts.specs.declared.nearness.Room.{Room}
 use Rattle.miette_cuts.specs.declared.stretch.Stretch.{Stretch as MadeStretch}
 use Rattle.miette_cuts.specs.views.Cuts.{measure}
-use Rattle.miette_cuts.specs.steps.Cut.{kept_made, made_columns, made_width, made_with_short, onto_made}
+use Rattle.miette_cuts.specs.steps.Cut.{kept_made, made_with_short, onto_made}
 use Rattle.miette_cuts.specs.steps.Nearness.{near_by}
 use Rattle.miette_cuts.proofs.CutStretches.{measure-onto}
 use Rattle.miette_cuts.proofs.NearEnds.{any-moved}

@@ -1,8 +1,8 @@
-use Rattle.std.proofs.Common.{◌+◌, ◌≡◌, ◌≤◌, ◌∙◌, length, ap, sym, refl, arith}
+use Rattle.std.proofs.Common.{◌+◌, ◌≡◌, ◌∙◌, length, ap, sym, refl, arith}
 use Rattle.miette_cuts.specs.steps.Counting.{whole_count}
 use Rattle.miette_cuts.specs.steps.Cut.{cell_at}
 use Rattle.miette_cuts.specs.steps.Nearness.{LineEnds, near_by}
-use Rattle.miette_cuts.proofs.CountedColumns.{plain_begun, plain_counted, plain_done, plain_over}
+use Rattle.miette_cuts.proofs.CountedColumns.{plain_begun, plain_counted, plain_done}
 use Rattle.miette_cuts.proofs.CutPlain.{IsEven}
 use Rattle.miette_cuts.proofs.counting.count_plain.Goals as goal
 
