@@ -57,12 +57,13 @@ def reports_in(value, files, form):
 
 
 def shown_of(row, files, draw, form="auto"):
-    """What is shown of a part, as `draw` draws reports; whether it can't be read, and whether an error is among them."""
+    """What is shown of a part, as `draw` draws reports, and what is passed on of it; whether it can't be read, and
+    whether an error is among the reports."""
     if not row.startswith(BEGINNINGS[form]):
-        return row, False, False
+        return b"", row, False, False
     try:
         reports = reports_in(json.loads(row.decode(), parse_constant=refused), files, form)
     except (ValueError, RecursionError, NoMessage, gcc_model.NoReports, sarif_reader_model.NoReports):
-        return row, True, False
+        return b"", row, True, False
     shown = b"".join(draw(it).encode() + b"\n" for it in reports)
-    return shown, False, any(it["severity"] == "error" for it in reports)
+    return shown, b"", False, any(it["severity"] == "error" for it in reports)
