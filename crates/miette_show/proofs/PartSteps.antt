@@ -75,7 +75,8 @@ held_begin None = tt
 held_begin (Some xs) = (refl, inl refl)
 
 taken_by : (t : Bool) (held row : List ℕ) (rows : List (List ℕ)) → t ≡ true
-    → (if t then parts_from (held ++ row) rows else last_row held ++ parts_from row rows) ≡ parts_from (held ++ row) rows
+    → (if t then parts_from (held ++ row) rows else last_row held ++ parts_from row rows)
+    ≡ parts_from (held ++ row) rows
 taken_by true held row rows e = refl
 taken_by false held row rows e = cc
 

@@ -2,7 +2,8 @@
 
 ghost use Rattle.std.specs.Prelude.{◌≡◌, ◌≤◌, ◌&&◌, length};
 ghost use Rattle.miette_show.specs.rules.Parts.{begins_alone, begins_value, behind, beside_text, closed, ends_in};
-ghost use Rattle.miette_show.specs.rules.Parts.{in_text, is_closing, is_inner, is_open, is_opening, is_space, with_byte};
+ghost use Rattle.miette_show.specs.rules.Parts.{in_text, is_closing, is_inner, is_open, is_opening, is_space};
+ghost use Rattle.miette_show.specs.rules.Parts.{with_byte};
 
 /// What is open behind some bytes of JSON.
 #[derive(Clone, Copy)]
