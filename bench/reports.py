@@ -1,5 +1,5 @@
 """The reports of the workloads, as descriptions that `bench` reads."""
-from texts import Numbers, escaped, lines, rows, sample, sentences, tabbed, words
+from texts import Numbers, escaped, lines, printed_errors, rows, sample, sentences, tabbed, words
 
 KB, MB = 1 << 10, 1 << 20
 ROW, LINE = 80, 40
@@ -214,6 +214,15 @@ def long_line(kilobytes, is_head=False):
     return labelled("a fault on a long line", labels, text, "line.txt")
 
 
+def accented_line(kilobytes):
+    """A label in the middle of such a line, with one character outside ASCII before it."""
+    text = words(Numbers(6), kilobytes * KB)
+    place = len(text) // 4
+    text = text[:place] + "\u00e9" + text[place + 1 :]
+    labels = [{"offset": 2 * place + 1, "length": 10, "label": "on the line"}]
+    return labelled("a fault on a long line", labels, text, "line.txt")
+
+
 def one_line(count):
     """`count` labels on one line of words."""
     size = 10 * count
@@ -346,3 +355,77 @@ def long_help():
 def long_url():
     """A url of 200 KB."""
     return {"message": "m", "code": "c", "url": "http://x/" + "u" * 200_000}
+
+
+def compiled():
+    """A help that is what a compiler printed, in colours."""
+    return {"message": "`rustc` failed", "help": printed_errors()}
+
+
+def short_lines(count):
+    """A message of so many lines."""
+    return {"message": "line of text\n" * count}
+
+
+def help_lines():
+    """A help of five lines, one of them empty."""
+    tries = "try one of these:\n  - add `x` to the list\n  - remove `y`"
+    return {"message": "m", "help": f"{tries}\n\nor see the manual"}
+
+
+def message_lines():
+    """A message of three lines."""
+    return {"message": "expected one of:\n  `a`, `b`\nfound `c`"}
+
+
+def text_causes():
+    """Eight causes that are texts."""
+    names = ("the service", "the listener", "the table", "the file", "the row", "the cell", "the number", "the digit")
+    return {"message": "could not start", "causes": [f"could not read {it} that was asked for" for it in names]}
+
+
+def compiler_error(count):
+    """The typical report's labels far behind in a source of so many lines."""
+    report, text = typical(), sample()
+    before = (text * (count // 60 + 1))[: len(text) * (count // 60 * 2 // 3)]
+    for label in report["labels"]:
+        label["offset"] += len(before)
+    return {**report, "source": {**report["source"], "text": before + text * (count // 60 // 3)}, "related": []}
+
+
+def table_row(count):
+    """A label near the end of so many rows of a table."""
+    row = "{:05d},some name of a thing,12.50,2026-11-29,another longer column of text,yes\n"
+    text = "".join(row.format(it) for it in range(count))
+    return labelled("no such name", [{"offset": len(text) - 2000, "length": 9, "label": "here"}], text, "t.csv")
+
+
+def early(megabytes):
+    """A label on the third line of a source of this many megabytes."""
+    label = {"offset": 2 * ROW + 7, "length": 9, "label": "here"}
+    return labelled("a fault at the beginning", [label], rows(4, megabytes * MB), "log.txt")
+
+
+def apart(count):
+    """`count` labels, eight lines between two."""
+    line = "let value = compute(input, 12);\n"
+    return findings(spans(range(0, 8 * len(line) * count, 8 * len(line)), 3, "x"), line * (8 * count))
+
+
+def marked_line(count, end=""):
+    """`count` labels without texts on one line of letters, with something behind them."""
+    places = range(5, 100 * count, 100)
+    labels = [{"offset": at, "length": 3} for at in places]
+    return findings(labels, "abcdefghij" * (10 * count) + end)
+
+
+def accented_line(kilobytes):
+    """A label near the head of a line of this many kilobytes of words, with an accent behind them."""
+    report = long_line(kilobytes, True)
+    report["source"]["text"] += "é"
+    return report
+
+
+def controls(count):
+    """A message of so many control characters."""
+    return {"message": "\x01" * count}

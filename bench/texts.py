@@ -1,4 +1,5 @@
 """The texts of the workloads, the same each time they are made."""
+import json
 import os
 
 HERE = os.path.dirname(os.path.abspath(__file__))
@@ -81,6 +82,12 @@ def sample():
     """The 60 lines of source that the typical report shows."""
     with open(os.path.join(HERE, "sample.txt"), encoding="utf-8") as file:
         return file.read()
+
+
+def printed_errors():
+    """What rustc printed of a program with four errors, in colours."""
+    with open(os.path.join(HERE, "rustc.json"), encoding="utf-8") as file:
+        return "\n".join(json.load(file))
 
 
 def tabbed(text):

@@ -97,6 +97,7 @@ def long_lines():
         yield bench(f"e_line_{size}kb", "e", PLAIN, of.long_line, size)
         yield bench(f"e_head_{size}kb", "e_head", PLAIN, of.long_line, size, True)
         yield bench(f"e_cut_{size}kb", "e_cut", PLAIN, of.long_line, size, ours=CUT)
+        yield bench(f"e_accent_{size}kb", "e_accent", PLAIN, of.accented_line, size, ours=CUT)
     for size in (30, 60, 120):
         yield bench(f"e_short_{size}kb", "e_short", PLAIN, of.long_line, size)
     for count in (100, 200, 400):
@@ -227,6 +228,34 @@ def hard():
     yield bench("nested_labels_2000", "nested_labels", PLAIN, of.nested_labels, 2000)
 
 
+def unwrapped_texts():
+    """Texts of several lines, not wrapped, with colours of their own or without."""
+    plain, colour = (*PLAIN, "--wrap", "no"), (*COLOUR, "--wrap", "no")
+    yield bench("p_printed_3kb", "p_printed", plain, of.compiled)
+    yield bench("p_printed_3kb_ansi", "p_printed_ansi", colour, of.compiled)
+    yield bench("p_coloured_100kb", "p_coloured", plain, of.changed_message, 100, coloured)
+    yield bench("p_lines_8000", "p_lines", plain, of.short_lines, 8000)
+    yield bench("p_help_5_lines", "p_help", plain, of.help_lines)
+    yield bench("p_message_3_lines", "p_message", plain, of.message_lines)
+
+
+def set_goals():
+    """What else goals were set for."""
+    cut = {"ours": CUT, "is_new": True}
+    yield bench("r_message_ansi", "r_message", COLOUR, of.message_alone)
+    yield bench("r_eight_causes", "r_causes", PLAIN, of.text_causes)
+    yield bench("r_error_1700", "r_error", PLAIN, of.compiler_error, 1700)
+    yield bench("r_table_5000", "r_table", PLAIN, of.table_row, 5000)
+    yield bench("r_early_2mb", "r_early", PLAIN, of.early, 2)
+    yield bench("r_folded_4000", "r_folded", PLAIN, of.apart, 4000, ours=FOLDED, is_new=True)
+    yield bench("r_cut_2000", "r_cut", PLAIN, of.marked_line, 2000, **cut)
+    yield bench("r_cut_accent_2000", "r_cut_accent", PLAIN, of.marked_line, 2000, "é", **cut)
+    yield bench("r_accent_1024kb", "r_accent", PLAIN, of.accented_line, 1024)
+    yield bench("r_accent_cut_1024kb", "r_accent_cut", PLAIN, of.accented_line, 1024, ours=CUT)
+    yield bench("r_json_controls_50kb", "r_controls", JSON, of.controls, 50_000)
+    yield bench("r_json_small", "r_json", JSON, of.message_alone)
+
+
 def hard_lines():
     """Lines of 1 MB of one kind of character."""
     kinds = {"wide": "漢", "marks": "e\u0301\u0302", "emoji": "👩\u200d👧", "tabs": "\t"}
@@ -239,7 +268,7 @@ def hard_lines():
 
 
 FAMILIES = (everyday, big_sources, long_lines, long_texts, texts_by_unicode, several_sources)
-FAMILIES += (fixes, lints, logs, inner_reports, others, hard, hard_lines)
+FAMILIES += (fixes, lints, logs, inner_reports, others, hard, hard_lines, unwrapped_texts, set_goals)
 ALL = [workload for family in FAMILIES for workload in family()]
 
 

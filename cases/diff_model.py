@@ -9,7 +9,7 @@ from itertools import groupby
 from typing import NamedTuple
 
 from fix_model import Edit, applied, by_offset, refusal
-from model import Settings, Source, is_near
+from model import DOTS, Settings, Source, cut_stretches, places_of, printed
 
 
 class Theme(NamedTuple):
@@ -26,6 +26,10 @@ class Theme(NamedTuple):
     def drawn(self, signs):
         """Signs of frames, arrows and icons, as this theme has them."""
         return signs.translate(IN_ASCII) if self.is_ascii else signs
+
+    def dots(self):
+        """What stands in place of characters that are left out."""
+        return "..." if self.is_ascii else DOTS
 
 
 IN_ASCII = str.maketrans("│·╭─╰├▶×⚠☞", "|:,-`|>x!>")
@@ -194,44 +198,28 @@ def look_alike(old, new):
 # ---- rows
 
 
-def laid_out(line, limit, ends):
+def laid_out(line, limit, ends, dots):
     """The stretches of cells that are shown, with none in place of those that dots stand for, and where a column is in
     the row."""
-    if limit is None or line.width <= limit:
+    cut = cut_stretches(line, limit, ends, len(dots))
+    if cut is None:
         return [line.cells], lambda column: column
-    near, before = [], False
-    for cell in line.cells:
-        before = before if cell.column == cell.next_column else is_near(limit, ends, cell)
-        near.append(before)
-    shown, places, row = [], {}, 0
-    for is_shown, group in groupby(zip(line.cells, near), key=lambda it: it[1]):
-        cells = [cell for cell, _ in group]
-        first, after = cells[0].column, cells[-1].next_column
-        if is_shown or after - first <= 3:
-            places.update({column: row + column - first for column in range(first, after)})
-            shown, row = [*shown, cells], row + after - first
-        else:
-            shown, row = [*shown, [None]], row + 3
-    return shown, lambda column: places[column] if column < line.width else row + column - line.width
+    return [cells if is_shown else None for is_shown, cells in cut], places_of(line, cut, len(dots))
 
 
-def printed(cell):
-    if cell is None:
-        return "..."
-    return " " * (cell.next_column - cell.column) if cell.character == "\t" else cell.character
-
-
-def text_of(stretches, parts, code):
-    """The text of a row, in which characters with a byte of one of these parts are painted, neighbours of a stretch
-    together."""
+def text_of(stretches, parts, code, dots):
+    """The text of a row, in which characters with a byte of one of these parts are painted, neighbours together."""
 
     def is_painted(cell):
-        return cell is not None and any(begin < cell.end and cell.start < end for begin, end in parts if begin < end)
+        return any(begin < cell.end and cell.start < end for begin, end in parts if begin < end)
 
     text = ""
-    for changed, group in (it for cells in stretches for it in groupby(cells, key=is_painted)):
-        piece = "".join(printed(it) for it in group)
-        text += painted(piece, code) if changed else piece
+    for cells in stretches:
+        if cells is None:
+            text += dots
+            continue
+        for changed, group in groupby(cells, key=is_painted):
+            text += painted(printed(list(group)), code) if changed else printed(list(group))
     return text
 
 
@@ -263,15 +251,19 @@ class Frame:
         """A row without a number, or its beginning."""
         return self.pad + self.theme.drawn(signs)
 
+    def dots(self):
+        return painted(self.theme.dots(), self.theme.linum)
+
     def unchanged(self, source, number):
-        stretches, _ = laid_out(source.lines[number], self.settings.line_columns, [])
-        return self.head(number, self.theme.drawn("│")) + text_of(stretches, [], "")
+        stretches, _ = laid_out(source.lines[number], self.settings.line_columns, [], self.theme.dots())
+        return self.head(number, self.theme.drawn("│")) + text_of(stretches, [], "", self.dots())
 
     def changed(self, side, number, alike):
         """The row of a removed or an added line, and that of its marks, where it has some."""
         line, parts = side.line(number), side.parts(number)
-        stretches, place = laid_out(line, self.settings.line_columns, ends_of(line, parts))
-        rows = [self.head(number, painted(side.sign, side.code)) + text_of(stretches, parts, side.code)]
+        stretches, place = laid_out(line, self.settings.line_columns, ends_of(line, parts), self.theme.dots())
+        text = text_of(stretches, parts, side.code, self.dots())
+        rows = [self.head(number, painted(side.sign, side.code)) + text]
         marks = mark_row(line, parts, place, side) if alike else ""
         return rows + ([self.other("· ") + marks] if marks else [])
 

@@ -5,6 +5,7 @@ several, lines that are cut, folded labels, and labels at the source's end. cut_
 by chance, and write them as cases with the picture that the rules ask for."""
 import re
 from bisect import bisect_right
+from itertools import groupby
 from typing import NamedTuple, Optional
 
 TERMINATOR = re.compile(rb"\r\n|\r|\n")
@@ -250,37 +251,80 @@ def marks_of(line, labels):
     return marks
 
 
-def is_near(limit, ends, cell):
-    """Whether a cell stays where a line is cut: near the end of a mark, or at the beginning where there is none."""
-    columns = range(cell.column, cell.next_column)
-    if not ends:
-        return any(column < limit for column in columns)
-    return any(abs(column - end) <= limit // 4 for column in columns for end in ends)
+# a smaller limit of columns counts as this
+LEAST = 8
+DOTS = "\u2026"
 
 
-def cut(limit, line, marks):
-    """What is shown of a line's text, and its marks in the row."""
-    printed = [" " * (it.next_column - it.column) if it.character == "\t" else it.character for it in line.cells]
-    if limit is None or line.width <= limit:
-        return "".join(printed), marks
-    ends = [end for mark in marks for end in (mark.start, mark.anchor, mark.after - 1)]
-    near, before = [], False
+def columns_of(cells):
+    return cells[-1].next_column - cells[0].column
+
+
+def parted(line, wide, is_near):
+    """The cells of a line in stretches, of which those are shown that are near or no wider than the dots; neighbours
+    that are shown are one. A cell without columns goes with the one before it."""
+    near, before, parts = [], False, []
     for cell in line.cells:
-        before = before if cell.column == cell.next_column else is_near(limit, ends, cell)
+        before = before if cell.column == cell.next_column else is_near(cell)
         near.append(before)
-    text, places, column, at = "", {}, 0, 0
-    while at < len(near):
-        stop = next((k for k in range(at, len(near)) if near[k] != near[at]), len(near))
-        first, last = line.cells[at].column, line.cells[stop - 1].next_column
-        is_shown = near[at] or last - first <= 3
-        text += "".join(printed[at:stop]) if is_shown else "..."
-        if is_shown:
-            places.update({k: column + k - first for k in range(first, last)})
-        column, at = column + (last - first if is_shown else 3), stop
+    for is_shown, group in groupby(zip(line.cells, near), key=lambda it: it[1]):
+        cells = [cell for cell, _ in group]
+        is_shown = is_shown or columns_of(cells) <= wide
+        if parts and parts[-1][0] == is_shown:
+            parts[-1][1].extend(cells)
+        else:
+            parts.append((is_shown, cells))
+    return parts
 
-    def place(k):
-        return places[k] if k < line.width else column + k - line.width
 
+def row_columns(parts, wide):
+    return sum(columns_of(cells) if is_shown else wide for is_shown, cells in parts)
+
+
+def cut_stretches(line, limit, ends, wide):
+    """The stretches of a line that is cut, with dots of so many columns; none where it isn't. Shown is what is within its
+    reach of an end: the most columns by which the row is no wider than the limit. Without ends it is the first cells."""
+    if limit is None or line.width <= max(limit, LEAST):
+        return None
+    limit = max(limit, LEAST)
+    if not ends:
+        return parted(line, wide, lambda cell: cell.next_column + wide <= limit)
+    for reach in range(limit, -1, -1):
+        parts = parted(line, wide, lambda it: any(it.column - reach <= end < it.next_column + reach for end in ends))
+        if row_columns(parts, wide) <= limit:
+            break
+    return parts
+
+
+def places_of(line, parts, wide):
+    """Where a column of a line that is cut is in its row: the first dot's where it is left out."""
+    places, row = [], 0
+    for is_shown, cells in parts:
+        places += [row + k if is_shown else row for k in range(columns_of(cells))]
+        row += columns_of(cells) if is_shown else wide
+    return lambda column: places[column] if column < line.width else row + column - line.width
+
+
+def printed(cells):
+    return "".join(" " * (it.next_column - it.column) if it.character == "\t" else it.character for it in cells)
+
+
+def ends_of(line, marks, several):
+    """The columns around which a line is cut: the first and the last one of each mark, its anchor where a text hangs from
+    it, and where a label of several lines begins or ends on it."""
+    ends = [end for mark in marks for end in (mark.start, mark.after - 1)]
+    ends += [mark.anchor for mark in marks if mark.label.parts]
+    ends += [line.first_column(it.start) for it in several if it.starts_on(line)]
+    return ends + [max(line.last_column(it.after) - 1, 0) for it in several if it.ends_on(line)]
+
+
+def cut(limit, line, marks, several):
+    """What is shown of a line's text, and its marks in the row."""
+    parts = cut_stretches(line, limit, ends_of(line, marks, several), len(DOTS))
+    if parts is None:
+        return printed(line.cells), marks
+    place = places_of(line, parts, len(DOTS))
+    text = "".join(printed(cells) if is_shown else DOTS for is_shown, cells in parts)
     return text, [Mark(place(it.start), place(it.anchor), place(it.after - 1) + 1, it.label) for it in marks]
 
 
@@ -345,7 +389,7 @@ def line_rows(line, heads, left, labels, limit):
     """The rows of a line, of which the first begins with its number, the others with as many blanks."""
     on = [it for it in labels if it.lies_on(line)]
     several = [it for it in on if it.is_several(line)]
-    text, marks = cut(limit, line, marks_of(line, [it for it in on if it not in several]))
+    text, marks = cut(limit, line, marks_of(line, [it for it in on if it not in several]), several)
     first, other = heads
     rows = [first + number_gutter(line, left, several) + text]
     if marks:
@@ -367,7 +411,8 @@ def frame_rows(source, labels, group, primary, name, settings):
     at = f"{source.line_of(primary.offset) + 1}:{source.column_of(primary.offset) + 1}"
     place = f"[{name}:{at}]" if name is not None else f"[{at}]" if len(lines) > 1 or settings.placed else "───"
     kept = set().union(*(shown_lines(source, it, settings.label_lines) for it in labels))
-    shown = [it for it in lines if it in kept]
+    out = {it for it in lines if it not in kept}
+    shown = [it for it in lines if it in kept or not {it - 1, it + 1} & out]
     most = max((sum(it.is_several(lines[number]) for it in labels) for number in shown), default=0)
     pad, left = " " * (digits + 2), most + 3 if most else 0
     rows, before = [f"{pad}╭─{place}"], None

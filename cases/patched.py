@@ -171,7 +171,7 @@ def tried(case, runs):
     if b"\x1b" in given or b"\\u001b" in given:
         return "with escapes", None
     picture = COLOUR.sub("", picture_of(case, runs))
-    if "..." in picture:
+    if "..." in picture or "\u2026" in picture:
         return "with cut lines", None
     fixes, tab = fixes_in(case)
     try:

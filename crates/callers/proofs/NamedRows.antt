@@ -39,14 +39,14 @@ stands : (text line : List ℕ) (row : List Fragment) → RowsStand text → Con
 stands text line row rows there is = subst (λ line. StandsIn (encode_utf8_all line) text) is (rows row there)
 
 abbrev cut_row : List ℕ
-cut_row = codes " 6 │     let total = ...e +\n"
+cut_row = codes " 7 │     … total …+\n"
 
 cut_stands : (text : List ℕ) → RowsStand text → StandsIn (encode_utf8_all cut_row) text
 unfolding ends_line line_of line_start line_end column_of terminators_in pieces_from digits chars lib.Utf8.encode char_width
 cut_stands text rows = stands text cut_row (row_at 7) rows (7, omega (arith, many), refl) refl
 
 abbrev end_row : List ℕ
-end_row = codes "   ·         ──┬──         ▲\n"
+end_row = codes "   ·       ──┬──   ▲\n"
 
 end_stands : (text : List ℕ) → RowsStand text → StandsIn (encode_utf8_all end_row) text
 unfolding ends_line line_of line_start line_end column_of terminators_in pieces_from digits chars lib.Utf8.encode char_width

@@ -48,10 +48,10 @@ known P h t p q all =
 pub is_cut : AllByRecursion (HoldsOfPrinted CutsAreExact narrow) (diagnostics_of narrow sum_tree) → IsCut
 unfolding ends_line pieces_from char_width
 is_cut all =
-    let long : cells_width 0 (cells_under narrow sum_file 5) ≡ 31 = refl in
+    let long : cells_width 0 (cells_under narrow sum_file 6) ≡ 31 = refl in
     let short : cells_width 0 (cells_under narrow sum_file 0) ≡ 5 = refl in
     record {
-      long = (all.0.0 5 12 refl).wide (omega (arith, long));
+      long = (all.0.0 6 12 refl).wide (omega (arith, long));
       short = (all.0.0 0 12 refl).fits
           (omega (arith, short));
     }
@@ -76,7 +76,7 @@ left_out all =
       (record { begins = omega arith; ends = omega arith }, (record { begins = omega arith; ends = omega arith }, tt)),
     ) in
     let folded = all.0.0 refl accepted (omega arith, (omega arith, (omega arith, tt))) in
-    record { out = refl; inside = folded.inside 2 (omega arith) refl }
+    record { out = refl; next = refl; inside = folded.inside 2 (omega arith) refl }
 
 -- ---- the rows in the text
 

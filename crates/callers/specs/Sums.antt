@@ -23,11 +23,11 @@ use Rattle.miette_graphical.specs.rules.Indents.{spaces}
 use Rattle.miette_range_laws.specs.laws.Folding.{IsInside}
 use Rattle.callers.specs.Known.{plain}
 
--- ---- the report: a call over five lines, and below it a long line at whose end a term is missing
+-- ---- the report: a call over six lines, and below it a long line at whose end a term is missing
 
 abbrev pub sum_file : Source
 sum_file = named_source
-    (plain_source (codes "call(\n  one,\n  two,\n  three,\n  four)\nlet total = one + two + three +"))
+    (plain_source (codes "call(\n  one,\n  two,\n  three,\n  four,\n  five)\nlet total = one + two + three +"))
     (codes "sum.x") None
 
 abbrev pub label_at : ℕ → ℕ → List ℕ → Label
@@ -39,7 +39,7 @@ label_at offset len text = record {
 }
 
 abbrev pub sum_labels : List Label
-sum_labels = label_at 0 36 (codes "a call") ∷ label_at 41 5 (codes "the sum") ∷ label_at 68 0 (codes "a term") ∷ []
+sum_labels = label_at 0 44 (codes "a call") ∷ label_at 49 5 (codes "the sum") ∷ label_at 76 0 (codes "a term") ∷ []
 
 -- its cause, over another file
 abbrev pub depth_file : Source
@@ -89,7 +89,7 @@ CauseStands text = (rows : List (List ℕ)) → AreAmong cause_text (cause_arrow
 
 -- the long line is cut, the first one of the call isn't
 pub record IsCut : Type 0 where
-  pub long : cut_under narrow sum_file sum_labels 5 ≢ None
+  pub long : cut_under narrow sum_file sum_labels 6 ≢ None
   pub short : cut_under narrow sum_file sum_labels 0 ≡ None
 
 -- the same settings, in which no line is cut
@@ -102,9 +102,10 @@ CauseStays = (pieces : List (List (List Highlight))) →
     source_rows narrow (Some depth_file) depth_labels (pieces_listed pieces)
     ≡ source_rows uncut (Some depth_file) depth_labels (pieces_listed pieces)
 
--- the third line is left out, on which no label begins or ends
+-- the third line is left out, as the fourth one is: no label begins or ends on it
 pub record IsLeftOut : Type 0 where
   pub out : is_kept_at 2 narrow sum_file sum_labels 2 ≡ false
+  pub next : is_kept_at 2 narrow sum_file sum_labels 3 ≡ false
   pub inside : AllByRecursion (IsInside (line_of sum_file 2)) (drawn_labels narrow sum_file sum_labels)
 
 -- the label at the end stands in the column after what is shown of the long line
@@ -115,8 +116,8 @@ EndStandsBehind = EndsBehind narrow sum_file sum_labels
 -- sum and, behind what is shown, that of the label at the end; the break in the call, with the call's bar; the first
 -- row of the cause's source, under the arrow.
 pub record NamesRows (text : List ℕ) : Type 0 where
-  pub cut : StandsIn (encode_utf8_all (codes " 6 │     let total = ...e +\n")) text
-  pub end : StandsIn (encode_utf8_all (codes "   ·         ──┬──         ▲\n")) text
+  pub cut : StandsIn (encode_utf8_all (codes " 7 │     … total …+\n")) text
+  pub end : StandsIn (encode_utf8_all (codes "   ·       ──┬──   ▲\n")) text
   pub folded : StandsIn (encode_utf8_all (codes "...│ │\n")) text
   pub cause : StandsIn (encode_utf8_all (codes "       1 │ depth = 1\n")) text
 

@@ -38,18 +38,18 @@ pub fn depth(alloc: Global) -> Result<Report, AllocError>
     Ok(Report::new(diagnostic).with_owned_source(source))
 }
 
-/// A call over five lines, below it a long line at whose end a term is missing, and the cause.
+/// A call over six lines, below it a long line at whose end a term is missing, and the cause.
 pub fn sum(alloc: Global) -> Result<Report, AllocError>
     ensures { IfOk result (λ r. tree_of ⟦<Box<dyn Diagnostic> as Diagnostic>⟧.meaning
         ⟦<Box<dyn SourceCode> as SourceCode>⟧.source r ≡ sum_tree) }
 {
-    let code = "call(\n  one,\n  two,\n  three,\n  four)\nlet total = one + two + three +"
+    let code = "call(\n  one,\n  two,\n  three,\n  four,\n  five)\nlet total = one + two + three +"
         .as_bytes()
         .to_vec(alloc)?;
     let source = OwnedSource::named(alloc, "sum.x", None, code)?;
-    let call = LabeledSpan::at(alloc, (0, 36), "a call")?;
-    let total = LabeledSpan::at(alloc, (41, 5), "the sum")?;
-    let term = LabeledSpan::at(alloc, (68, 0), "a term")?;
+    let call = LabeledSpan::at(alloc, (0, 44), "a call")?;
+    let total = LabeledSpan::at(alloc, (49, 5), "the sum")?;
+    let term = LabeledSpan::at(alloc, (76, 0), "a term")?;
     let labels = vec![in alloc; call, total, term]?;
     let diagnostic = MietteDiagnostic::new(alloc, "no term")?.with_labels(labels);
     let report = Report::new(diagnostic).with_owned_source(source);
@@ -88,7 +88,7 @@ pub fn draw_sum(alloc: Global, report: &Report) -> Result<String, RenderError>
     ensures cause { IfOk result (λ text. CauseStays) }
     // the label at the end stands behind what is shown of the long line: by `ends`
     ensures end { IfOk result (λ text. EndStandsBehind) }
-    // the third line is left out, inside the call: by `folds`
+    // the third line and the fourth one are left out, inside the call: by `folds`
     ensures folded { IfOk result (λ text. IsLeftOut) }
     // a row of each of these by its bytes: by `holds`, `levels_law`, and definitions, which compute
     ensures named { IfOk result (λ text. NamesRows (string_bytes text)) }

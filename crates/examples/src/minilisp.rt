@@ -1,11 +1,9 @@
 //! Checks files of a small Lisp: `minilisp [--FORM] FILE..`, where `-` is standard input. The status is 0 where no file
 //! has an error, 1 where one has, 2 where the words aren't these.
 
-mod files;
 mod syntax;
 mod words;
 
-use crate::minilisp::files::{File, read};
 use crate::minilisp::syntax::{Slip, slips_of};
 use crate::minilisp::words::{Words, words_of};
 use miette::prelude::*;
@@ -13,17 +11,14 @@ use miette_tree::miette;
 use std::alloc::{AllocError, Global};
 use std::env::Args;
 use std::fs::Files;
-use std::io::{Input, Write};
+use std::io::Input;
 use std::process::ExitCode;
 
 /// Runs the example with the words behind its name.
 pub fn main<R: Host>(rt: &R, words: Args) -> ExitCode {
     let done = match words_of(rt.alloc(), words) {
         Ok(words) => check_all(rt, &words),
-        Err(report) => {
-            let _ = eprint_report(rt, &report);
-            return ExitCode::from(2);
-        }
+        Err(report) => return fail_with(rt, 2, &report),
     };
     match done {
         Ok(status) => status,
@@ -33,48 +28,30 @@ pub fn main<R: Host>(rt: &R, words: Args) -> ExitCode {
 
 /// Reports what is found in each file, and then how much that is.
 fn check_all<R: Host>(rt: &R, words: &Words) -> Result<ExitCode> {
+    let faults = faults_in(rt, &words.names)?;
     let options = MietteHandlerOpts::new().end_labels(true);
     let run = Reporter::new(rt, words.form, options)?.with_summary();
-    check_files(rt, &words.names, run)
+    Ok(run.report_all(faults.as_slice()))
 }
 
-fn check_files<R: Files + Input + AllocGlobal, T, W, F>(
-    rt: &R,
-    names: &[String],
-    mut run: Reporter<T, W, F>,
-) -> Result<ExitCode>
-where
-    T: ReportHandler + Drop,
-    W: Write + Drop,
-    F: Write + Drop,
-{
+/// What is wrong with each file, or why it can't be read.
+fn faults_in<R: Files + Input + AllocGlobal>(rt: &R, names: &[String]) -> Result<Vec<Report>> {
+    let mut faults = Vec::new(rt.alloc());
     for name in names {
-        check(rt, name.as_str(), &mut run)?;
+        match SourceText::read(rt, name.as_str(), Some("lisp")) {
+            Ok(file) => push_slips(rt.alloc(), &file, &mut faults)?,
+            Err(report) => faults.push(report)?,
+        }
     }
-    Ok(run.finish())
+    Ok(faults)
 }
 
-/// Reports what is found in a file, or that it can't be read.
-fn check<R: Files + Input + AllocGlobal, T: ReportHandler, W: Write, F: Write>(
-    rt: &R,
-    name: &str,
-    run: &mut Reporter<T, W, F>,
-) -> Result<()> {
-    match read(rt, name) {
-        Ok(file) => report_slips(rt.alloc(), &file, run),
-        Err(report) => run.report(&report).into_diagnostic(rt.alloc()),
-    }
-}
-
-/// Reports each slip in a file.
-fn report_slips<T: ReportHandler, W: Write, F: Write>(
-    alloc: Global,
-    file: &File,
-    run: &mut Reporter<T, W, F>,
-) -> Result<()> {
-    for slip in slips_of(alloc, file.text.as_str())?.iter() {
-        let report = file.under(report_of(alloc, *slip, file.text.len())?)?;
-        run.report(&report).into_diagnostic(alloc)?;
+/// Appends a report of each slip in a file.
+fn push_slips(alloc: Global, file: &SourceText, faults: &mut Vec<Report>) -> Result<()> {
+    let text = file.text();
+    for slip in slips_of(alloc, text)?.iter() {
+        let report = report_of(alloc, *slip, text.len())?;
+        faults.push(report.with_owned_source(file.source()?))?;
     }
     Ok(())
 }

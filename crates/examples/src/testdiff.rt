@@ -9,7 +9,7 @@ use miette_tree::miette;
 use std::alloc::Global;
 use std::env::Args;
 use std::fs::Files;
-use std::io::{Print, Write};
+use std::io::Print;
 use std::process::ExitCode;
 
 /// Runs the example with the words behind its name.
@@ -40,20 +40,10 @@ fn run<R: Host>(
     match compare(rt, expected, actual)? {
         Some(report) => {
             let run = Reporter::new(rt, form, MietteHandlerOpts::new())?;
-            tell(rt.alloc(), run, &report)
+            Ok(run.report_all(&[report]))
         }
         None => Ok(ExitCode::SUCCESS),
     }
-}
-
-/// Tells a report as the one of a run.
-fn tell<T: ReportHandler + Drop, W: Write + Drop, F: Write + Drop>(
-    alloc: Global,
-    mut run: Reporter<T, W, F>,
-    report: &Report,
-) -> Result<ExitCode> {
-    run.report(report).into_diagnostic(alloc)?;
-    Ok(run.finish())
 }
 
 /// A report of the lines that aren't the expected ones. Where there are none, that is printed.

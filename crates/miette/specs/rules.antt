@@ -7,3 +7,6 @@ pub mod Counting
 pub mod Forms
 pub mod Run
 pub mod Inputs
+pub mod Pieces
+pub mod Texts
+pub mod Words

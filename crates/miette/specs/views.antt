@@ -2,3 +2,4 @@
 pub mod Handler
 pub mod FormHandler
 pub mod Beginning
+pub mod Severities

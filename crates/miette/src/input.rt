@@ -7,13 +7,13 @@ ghost use Rattle.miette_tree.specs.views.Report.{tree_of};
 ghost use Rattle.miette.specs.rules.Inputs.{GivesNoText, IsNoText, IsUnread, no_text, shown_name};
 ghost use Rattle.miette.specs.rules.Inputs.{stop_label, stop_meaning};
 
-use crate::host::Host;
 use miette_protocol::diagnostic::MietteDiagnostic;
 use miette_protocol::protocol::{Diagnostic, LabeledSpan};
 use miette_protocol::source::SourceCode;
 use miette_tree::report::{OwnedSource, Report, UsualBoxes};
 use std::alloc::{AllocError, Global};
-use std::io::Read;
+use std::fs::Files;
+use std::io::{Input, Read};
 use std::{fs, io};
 
 /// How reports call the input that a word names: `<stdin>` where it is `-`, which stands for standard input; else by
@@ -29,7 +29,7 @@ pub fn input_name(word: &str) -> &str
 /// # Errors
 /// A report: `could not read NAME` with the reason as its cause, that of `text_of` where the input isn't UTF-8, or that
 /// of refused memory. The name is that of `input_name`.
-pub fn read_text<R: Host, D: Diagnostic, S: SourceCode>(
+pub fn read_text<R: Files + Input + AllocGlobal, D: Diagnostic, S: SourceCode>(
     rt: &R,
     word: &str,
 ) -> Result<String, Report<D, S>>
@@ -121,7 +121,7 @@ where
 }
 
 // All of an input. No clause can say what a file holds.
-fn bytes_of<R: Host>(rt: &R, word: &str) -> io::Result<Vec<u8>> {
+fn bytes_of<R: Files + Input + AllocGlobal>(rt: &R, word: &str) -> io::Result<Vec<u8>> {
     if word != "-" {
         return fs::read(rt, word);
     }

@@ -6,9 +6,11 @@ pub mod host;
 pub mod input;
 pub mod laws;
 pub mod options;
+pub mod pieces;
 pub mod prelude;
 pub mod print;
 pub mod reporter;
+pub mod source_text;
 pub mod terminal;
 
 pub use miette_fixes::fix;

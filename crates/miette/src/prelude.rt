@@ -3,8 +3,12 @@
 pub use crate::host::Host;
 pub use crate::input::{input_name, read_text};
 pub use crate::options::{MietteHandlerOpts, Terminal};
-pub use crate::print::{eprint_report, eprint_report_with, print_report, print_report_with};
-pub use crate::reporter::{Form, Reporter};
+pub use crate::pieces::Piece;
+pub use crate::print::{
+    eprint_report, eprint_report_with, fail_with, print_report, print_report_with,
+};
+pub use crate::reporter::{Form, Reporter, RunWords};
+pub use crate::source_text::SourceText;
 pub use crate::terminal::{Stream, Streams};
 pub use miette_fixes::fix::{Applicability, Edit, Fix};
 pub use miette_handlers::handlers::{

@@ -122,6 +122,18 @@ pub fn print_report<R: Lookup + AllocGlobal + Streams, D: Diagnostic, S: SourceC
     print_report_with(rt, plain(), report)
 }
 
+/// As `eprint_report`, and gives this status, as for words that can't be used.
+pub fn fail_with<R: Lookup + AllocGlobal + Streams, D: Diagnostic, S: SourceCode>(
+    rt: &R,
+    status: u8,
+    report: &Report<D, S>,
+) -> ExitCode
+    ensures { exit_status result ≡ status }
+{
+    let _ = eprint_report(rt, report);
+    ExitCode::from(status)
+}
+
 /// As `eprint_report`, by the handler that these options choose.
 pub fn eprint_report_with<
     R: Lookup + AllocGlobal + Streams,

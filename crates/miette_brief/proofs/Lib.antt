@@ -17,3 +17,4 @@ pub mod Wholes
 pub mod Commanding
 pub mod CommandsBack
 pub mod ToldSources
+pub mod LabelOrder

@@ -12,7 +12,7 @@ ghost use Rattle.miette_tree.specs.rules.Reads.{accepts, holds_further};
 ghost use Rattle.miette_labels.specs.rules.Groups.{in_order};
 ghost use Rattle.miette_labels.specs.views.GivenLabels.{label_at};
 ghost use Rattle.miette_brief.specs.rules.Marks.{further_marks, is_marked, is_placed, mark_over, marks};
-ghost use Rattle.miette_brief.specs.rules.Marks.{primary_at as primary_index};
+ghost use Rattle.miette_brief.specs.rules.Marks.{is_wanted, primary_at as primary_index};
 ghost use Rattle.miette_brief.specs.rules.PossibleAnswers.{HasAccepted, FurtherAccepted};
 ghost use Rattle.miette_brief.specs.steps.CommandParts.{mark_of};
 
@@ -143,27 +143,20 @@ fn is_marked<S: SourceCode>(it: &Mark<'_, S>) -> bool
     it.source.is_some() && it.label.primary()
 }
 
-/// How many labels stand before the first over a source that is marked as primary, if there is one.
-fn marked_at<S: SourceCode>(marks: &[Mark<'_, S>]) -> Option<usize>
-    ensures { result ≡ position is_marked (map (mark_of S.source) marks.now) }
+/// Whether a label lies over a source, and is marked as primary where only such labels are wanted.
+fn is_wanted<S: SourceCode>(it: &Mark<'_, S>, marked: bool) -> bool
+    ensures { result ≡ is_wanted marked (mark_of S.source it.now) }
 {
-    let mut at = 0;
-    for mark in marks {
-        if is_marked(mark) {
-            return Some(at);
-        }
-        at += 1;
-    }
-    None
+    if marked { is_marked(it) } else { is_placed(it) }
 }
 
-/// How many stand before the first over a source, if there is one.
-fn placed_at<S: SourceCode>(marks: &[Mark<'_, S>]) -> Option<usize>
-    ensures { result ≡ position is_placed (map (mark_of S.source) marks.now) }
+/// How many labels stand before the first that is wanted, if there is one.
+fn first_at<S: SourceCode>(marks: &[Mark<'_, S>], marked: bool) -> Option<usize>
+    ensures { result ≡ position (is_wanted marked) (map (mark_of S.source) marks.now) }
 {
     let mut at = 0;
     for mark in marks {
-        if is_placed(mark) {
+        if is_wanted(mark, marked) {
             return Some(at);
         }
         at += 1;
@@ -175,8 +168,8 @@ fn placed_at<S: SourceCode>(marks: &[Mark<'_, S>]) -> Option<usize>
 pub(crate) fn primary_at<S: SourceCode>(marks: &[Mark<'_, S>]) -> Option<usize>
     ensures { result ≡ primary_index (map (mark_of S.source) marks.now) }
 {
-    match marked_at(marks) {
+    match first_at(marks, true) {
         Some(at) => Some(at),
-        None => placed_at(marks),
+        None => first_at(marks, false),
     }
 }

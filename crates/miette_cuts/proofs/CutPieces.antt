@@ -11,11 +11,11 @@ use Rattle.miette_labels.specs.rules.Answers.{Highlight}
 use Rattle.miette_cells.specs.rules.Cells.{Cell}
 use Rattle.miette_basics.proofs.Cases.{by_cases}
 use Rattle.miette_snippet_rules.specs.rules.PrintedCells.{cells_within, cells_beyond, line_runs, printed_cells}
-use Rattle.miette_snippet_rules.specs.rules.CutLines.{dots, pieces_within}
+use Rattle.miette_snippet_rules.specs.rules.CutLines.{pieces_within}
 use Rattle.miette_snippet_rules.specs.rules.Highlighting.{highlight_of}
 use Rattle.miette_snippet_rules.proofs.RowTokens.{told-append}
 use Rattle.miette_cuts.specs.declared.stretch.Stretch.{Stretch}
-use Rattle.miette_cuts.specs.views.Cuts.{cut_cells, is_kept}
+use Rattle.miette_cuts.specs.views.Cuts.{cut_cells}
 use Rattle.miette_cuts.proofs.CellPrints.{beyond_none, within_none}
 
 -- a run of no character, and the runs behind it
@@ -69,24 +69,25 @@ piece_before h hs before bytes cells p le =
     h.style p own
 
 -- the same of all stretches
-pub pieces_passed : (h : Highlight) (hs : List Highlight) (before : ℕ) (cut : List Stretch) (cells : List Cell)
-    (p : Printout) → h.bytes ≤ before → p ⊕ row_tokens (cut_cells hs (before - h.bytes) cut cells)
-    ≡ p ⊕ row_tokens (cut_cells (h ∷ hs) before cut cells)
-pieces_passed h hs before [] cells p le = refl
-pieces_passed h hs before (s ∷ later) cells p le =
-    let own : List Highlight → ℕ → List Run = λ xs n. cond (is_kept s)
-    (line_runs (pieces_within n s.bytes xs) (take s.cells cells)) (dots ∷ []) in
-    let rest : List Highlight → ℕ → List Run = λ xs n. cut_cells xs n later (drop s.cells cells) in
+pub pieces_passed : (run : Run) (h : Highlight) (hs : List Highlight) (before : ℕ) (cut : List Stretch)
+    (cells : List Cell) (p : Printout) → h.bytes ≤ before → p
+    ⊕ row_tokens (cut_cells run hs (before - h.bytes) cut cells)
+    ≡ p ⊕ row_tokens (cut_cells run (h ∷ hs) before cut cells)
+pieces_passed run h hs before [] cells p le = refl
+pieces_passed run h hs before (s ∷ later) cells p le =
+    let own : List Highlight → ℕ → List Run = λ xs n. cond s.shown
+    (line_runs (pieces_within n s.bytes xs) (take s.cells cells)) (run ∷ []) in
+    let rest : List Highlight → ℕ → List Run = λ xs n. cut_cells run xs n later (drop s.cells cells) in
     let next : before - h.bytes + s.bytes ≡ before + s.bytes - h.bytes = omega (arith, le) in
     let here : p ⊕ row_tokens (own hs (before - h.bytes)) ≡ p ⊕ row_tokens (own (h ∷ hs) before) =
-    by_cases {C = p ⊕ row_tokens (own hs (before - h.bytes)) ≡ p ⊕ row_tokens (own (h ∷ hs) before)} (is_kept s)
+    by_cases {C = p ⊕ row_tokens (own hs (before - h.bytes)) ≡ p ⊕ row_tokens (own (h ∷ hs) before)} s.shown
     (λ y. rw y (piece_before h hs before s.bytes (take s.cells cells) p le))
     (λ n. rw n refl) in
     ap (λ x. p ⊕ x) (told-append (own hs (before - h.bytes)) (rest hs (before - h.bytes + s.bytes)))
     ∙ sym (put_append p (row_tokens (own hs (before - h.bytes))) (row_tokens (rest hs (before - h.bytes + s.bytes))))
     ∙ ap (λ x. x ⊕ row_tokens (rest hs (before - h.bytes + s.bytes))) here
     ∙ ap (λ n. (p ⊕ row_tokens (own (h ∷ hs) before)) ⊕ row_tokens (rest hs n)) next
-    ∙ pieces_passed h hs (before + s.bytes) later (drop s.cells cells) (p ⊕ row_tokens (own (h ∷ hs) before))
+    ∙ pieces_passed run h hs (before + s.bytes) later (drop s.cells cells) (p ⊕ row_tokens (own (h ∷ hs) before))
     (omega (arith, le))
     ∙ put_append p (row_tokens (own (h ∷ hs) before)) (row_tokens (rest (h ∷ hs) (before + s.bytes)))
     ∙ ap (λ x. p ⊕ x) (sym (told-append (own (h ∷ hs) before) (rest (h ∷ hs) (before + s.bytes))))

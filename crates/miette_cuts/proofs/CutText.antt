@@ -1,13 +1,13 @@
 -- What the text of a line that is cut tells.
 use Rattle.miette_page.specs.views.Printouts.{Printout, ◌⊕◌}
 use Rattle.std.proofs.Common.{ℕ, zero, suc, ◌+◌, ◌-◌, ◌<◌, ◌≤◌, ◌≡◌, min, Bool, true, false, cond, ltb, List, [], ◌∷◌}
-use Rattle.std.proofs.Common.{◌++◌, map, length, take, drop, get_or, replicate, refl, sym, ap, ◌∙◌, append_assoc}
+use Rattle.std.proofs.Common.{◌++◌, map, length, take, drop, get_or, refl, sym, ap, ◌∙◌, append_assoc}
 use Rattle.std.proofs.Common.{append-nil, Option, Some, None, option_map, arith}
 use Rattle.std.proofs.lemmas.List.{at_drop_more, at_drop_all, drop_at, take_at}
 use Rattle.miette_style.specs.declared.style.Style.{Style}
 use Rattle.miette_style.specs.rules.Styles.{plain}
 use Rattle.miette_page.specs.rules.Rows.{Run}
-use Rattle.miette_page.specs.views.Tokens.{begins, row_tokens, text_tokens}
+use Rattle.miette_page.specs.views.Tokens.{begins, row_tokens}
 use Rattle.miette_page.proofs.Paging.{put_append, put_nil}
 use Rattle.miette_labels.specs.rules.Answers.{Highlight}
 use Rattle.miette_cells.specs.declared.cells.PlainCells.{PlainCells}
@@ -16,15 +16,13 @@ use Rattle.miette_cells.specs.views.Walking.{ComeFirst}
 use Rattle.miette_cells.specs.rules.Cells.{Cell}
 use Rattle.miette_basics.proofs.Cases.{by_cases}
 use Rattle.miette_snippet_rules.specs.rules.Highlighting.{highlight_of}
-use Rattle.miette_snippet_rules.specs.rules.Marks.{Mark}
 use Rattle.miette_snippet_rules.specs.rules.PrintedCells.{cells_width, cells_within, cells_beyond, line_runs}
-use Rattle.miette_snippet_rules.specs.rules.CutLines.{Stretch, agree, bytes_in, cut_line, cut_runs, dots, ends, is_near}
-use Rattle.miette_snippet_rules.specs.rules.CutLines.{is_near_after, onto_stretches, pieces_within, shown_runs}
-use Rattle.miette_snippet_rules.specs.rules.CutLines.{stretches}
+use Rattle.miette_snippet_rules.specs.rules.CutLines.{Stretch, agree, bytes_in, cut_line, cut_runs, cut_to, has_room}
+use Rattle.miette_snippet_rules.specs.rules.CutLines.{is_kept, is_near, limit_of, onto_stretches, passes_after}
+use Rattle.miette_snippet_rules.specs.rules.CutLines.{pieces_within, reach_of, shown_runs, stretches, with_short}
 use Rattle.miette_snippet_rules.proofs.RowTokens.{then, told-append}
 use Rattle.miette_cuts.specs.declared.stretch.Stretch.{Stretch as MadeStretch}
-use Rattle.miette_cuts.specs.views.CutEnds.{cut_with_ends}
-use Rattle.miette_cuts.specs.views.Cuts.{measure, is_kept, cut_cells, made_runs}
+use Rattle.miette_cuts.specs.views.Cuts.{measure, cut_cells, made_runs}
 use Rattle.miette_cuts.specs.steps.CellTokens.{cells_tokens}
 
 -- ---- so many cells
@@ -123,42 +121,40 @@ pieces_end cells p q r whole hq hr inv =
 
 -- ---- a stretch, or its dots
 
-pub stretch_shown : (b : Bool) (runs : List Run) (p q : Printout) → b ≡ true → q ≡ p ⊕ row_tokens runs → q ≡ p
-    ⊕ row_tokens (cond b runs (dots ∷ []))
-stretch_shown b runs p q e h = h ∙ ap (λ c. p ⊕ row_tokens (cond c runs (dots ∷ []))) (sym e)
+pub stretch_shown : (run : Run) (b : Bool) (runs : List Run) (p q : Printout) → b ≡ true → q ≡ p ⊕ row_tokens runs → q
+    ≡ p ⊕ row_tokens (cond b runs (run ∷ []))
+stretch_shown run b runs p q e h = h ∙ ap (λ c. p ⊕ row_tokens (cond c runs (run ∷ []))) (sym e)
 
-pub stretch_dots : (b : Bool) (runs : List Run) (p q r : Printout) → b ≡ false → q ≡ p ⊕ begins plain ∷ [] → r ≡ q
-    ⊕ text_tokens (replicate 3 46) → r ≡ p ⊕ row_tokens (cond b runs (dots ∷ []))
-stretch_dots b runs p q r e hq hr =
-    then p (begins plain ∷ []) (text_tokens (replicate 3 46)) hq hr
-    ∙ ap (λ x. p ⊕ x) (sym (append-nil (begins plain ∷ text_tokens (replicate 3 46))))
-    ∙ ap (λ c. p ⊕ row_tokens (cond c runs (dots ∷ []))) (sym e)
+pub stretch_dots : (run : Run) (b : Bool) (runs : List Run) (p q : Printout) → b ≡ false → q ≡ p
+    ⊕ row_tokens (run ∷ []) → q ≡ p ⊕ row_tokens (cond b runs (run ∷ []))
+stretch_dots run b runs p q e h = h ∙ ap (λ c. p ⊕ row_tokens (cond c runs (run ∷ []))) (sym e)
 
 -- ---- all stretches
 
-pub cut_more : (pieces : List Highlight) (cut : List MadeStretch) (i before next : ℕ) (d : MadeStretch)
+pub cut_more : (run : Run) (pieces : List Highlight) (cut : List MadeStretch) (i before next : ℕ) (d : MadeStretch)
     (walk later : List Cell) (p q whole : Printout) → i < length cut →
-    q ≡ p ⊕ row_tokens (cond (is_kept (get_or cut i d)) (line_runs (pieces_within before (get_or cut i d).bytes pieces)
-    (take (get_or cut i d).cells walk)) (dots ∷ [])) →
+    q ≡ p ⊕ row_tokens (cond (get_or cut i d).shown (line_runs (pieces_within before (get_or cut i d).bytes pieces)
+    (take (get_or cut i d).cells walk)) (run ∷ [])) →
     later ≡ drop (get_or cut i d).cells walk → next ≡ before + (get_or cut i d).bytes →
-    p ⊕ row_tokens (cut_cells pieces before (drop i cut) walk) ≡ whole → q
-    ⊕ row_tokens (cut_cells pieces next (drop (i + 1) cut) later) ≡ whole
-cut_more pieces cut i before next d walk later p q whole lt hq l n inv =
+    p ⊕ row_tokens (cut_cells run pieces before (drop i cut) walk) ≡ whole → q
+    ⊕ row_tokens (cut_cells run pieces next (drop (i + 1) cut) later) ≡ whole
+cut_more run pieces cut i before next d walk later p q whole lt hq l n inv =
     let s : MadeStretch = get_or cut i d in
-    let own : List Run = cond (is_kept s) (line_runs (pieces_within before s.bytes pieces) (take s.cells walk))
-    (dots ∷ []) in
-    let rest : List Run = cut_cells pieces (before + s.bytes) (drop (i + 1) cut) (drop s.cells walk) in
-    ap (λ k. q ⊕ row_tokens (cut_cells pieces k (drop (i + 1) cut) later)) n
-    ∙ ap (λ x. q ⊕ row_tokens (cut_cells pieces (before + s.bytes) (drop (i + 1) cut) x)) l
+    let own : List Run = cond s.shown (line_runs (pieces_within before s.bytes pieces) (take s.cells walk))
+    (run ∷ []) in
+    let rest : List Run = cut_cells run pieces (before + s.bytes) (drop (i + 1) cut) (drop s.cells walk) in
+    ap (λ k. q ⊕ row_tokens (cut_cells run pieces k (drop (i + 1) cut) later)) n
+    ∙ ap (λ x. q ⊕ row_tokens (cut_cells run pieces (before + s.bytes) (drop (i + 1) cut) x)) l
     ∙ ap (λ x. x ⊕ row_tokens rest) hq ∙ put_append p (row_tokens own) (row_tokens rest)
     ∙ ap (λ x. p ⊕ x) (sym (told-append own rest))
-    ∙ ap (λ xs. p ⊕ row_tokens (cut_cells pieces before xs walk))
+    ∙ ap (λ xs. p ⊕ row_tokens (cut_cells run pieces before xs walk))
     (sym (at_drop_more (λ (xs : List MadeStretch). xs) cut i d lt)) ∙ inv
 
-pub cut_end : (pieces : List Highlight) (cut : List MadeStretch) (i before : ℕ) (walk : List Cell) (p whole : Printout)
-    → length cut ≤ i → p ⊕ row_tokens (cut_cells pieces before (drop i cut) walk) ≡ whole → p ≡ whole
-cut_end pieces cut i before walk p whole le inv = sym (put_nil p)
-    ∙ ap (λ xs. p ⊕ row_tokens (cut_cells pieces before xs walk))
+pub cut_end : (run : Run) (pieces : List Highlight) (cut : List MadeStretch) (i before : ℕ) (walk : List Cell)
+    (p whole : Printout) → length cut ≤ i → p ⊕ row_tokens (cut_cells run pieces before (drop i cut) walk) ≡ whole → p
+    ≡ whole
+cut_end run pieces cut i before walk p whole le inv = sym (put_nil p)
+    ∙ ap (λ xs. p ⊕ row_tokens (cut_cells run pieces before xs walk))
     (sym (at_drop_all (λ (xs : List MadeStretch). xs) cut i le)) ∙ inv
 
 -- ---- the stretches of a line make it up
@@ -171,54 +167,54 @@ onto_cells : (s : Stretch) (ss : List Stretch) → all_cells (onto_stretches s s
 onto_cells s [] = refl
 onto_cells s (next ∷ later) =
     by_cases {C = all_cells (onto_stretches s (next ∷ later)) ≡ s.cells ++ all_cells (next ∷ later)}
-    (agree s.near next.near)
+    (agree s.shown next.shown)
     (λ y. rw y (append_assoc s.cells next.cells (all_cells later)))
     (λ n. rw n refl)
 
-cells_kept : (near : Cell → Bool) (before : Bool) (cells : List Cell) → all_cells (stretches near before cells) ≡ cells
-cells_kept near before [] = refl
-cells_kept near before (c ∷ cs) =
-    let here : Bool = is_near_after near before c in
-    onto_cells (record { near = here; cells = c ∷ [] }) (stretches near here cs)
-    ∙ ap (λ xs. c ∷ xs) (cells_kept near here cs)
+cells_swept : (near : Cell → Bool) (before : Bool) (cells : List Cell) → all_cells (stretches near before cells) ≡ cells
+cells_swept near before [] = refl
+cells_swept near before (c ∷ cs) =
+    let here : Bool = passes_after near before c in
+    onto_cells (record { shown = here; cells = c ∷ [] }) (stretches near here cs)
+    ∙ ap (λ xs. c ∷ xs) (cells_swept near here cs)
 
-runs_measured : (pieces : List Highlight) (before : ℕ) (ss : List Stretch)
-    → cut_cells pieces before (map measure ss) (all_cells ss) ≡ cut_runs pieces before ss
-runs_measured pieces before [] = refl
-runs_measured pieces before (s ∷ later) =
+cells_joined : (many : ℕ) (ss : List Stretch) → all_cells (with_short many ss) ≡ all_cells ss
+cells_joined many [] = refl
+cells_joined many (s ∷ later) =
+    onto_cells (record { shown = is_kept many s; cells = s.cells }) (with_short many later)
+    ∙ ap (λ xs. s.cells ++ xs) (cells_joined many later)
+
+cells_kept : (limit many : ℕ) (es : List ℕ) (cells : List Cell) → all_cells (cut_to limit many es cells) ≡ cells
+cells_kept limit many [] cells =
+    cells_joined many (stretches (has_room limit many) false cells) ∙ cells_swept (has_room limit many) false cells
+cells_kept limit many (e ∷ es) cells =
+    let near : Cell → Bool = is_near (reach_of limit many (e ∷ es) cells) (e ∷ es) in
+    cells_joined many (stretches near false cells) ∙ cells_swept near false cells
+
+runs_measured : (run : Run) (pieces : List Highlight) (before : ℕ) (ss : List Stretch)
+    → cut_cells run pieces before (map measure ss) (all_cells ss) ≡ cut_runs run pieces before ss
+runs_measured run pieces before [] = refl
+runs_measured run pieces before (s ∷ later) =
     let own : List Highlight = pieces_within before (bytes_in s.cells) pieces in
-    ap (λ cells. cond (is_kept (measure s)) (line_runs own cells) (dots ∷ [])
-    ++ cut_cells pieces (before + bytes_in s.cells) (map measure later)
+    ap (λ cells. cond s.shown (line_runs own cells) (run ∷ [])
+    ++ cut_cells run pieces (before + bytes_in s.cells) (map measure later)
     (drop (length s.cells) (s.cells ++ all_cells later)))
     (take_at s.cells (all_cells later) (length s.cells) refl)
-    ∙ ap (λ cells. cond (is_kept (measure s)) (line_runs own s.cells) (dots ∷ [])
-    ++ cut_cells pieces (before + bytes_in s.cells) (map measure later) cells)
+    ∙ ap (λ cells. cond s.shown (line_runs own s.cells) (run ∷ [])
+    ++ cut_cells run pieces (before + bytes_in s.cells) (map measure later) cells)
     (drop_at s.cells (all_cells later) (length s.cells) refl)
-    ∙ ap (λ runs. cond (is_kept (measure s)) (line_runs own s.cells) (dots ∷ []) ++ runs)
-    (runs_measured pieces (before + bytes_in s.cells) later)
+    ∙ ap (λ runs. cond s.shown (line_runs own s.cells) (run ∷ []) ++ runs)
+    (runs_measured run pieces (before + bytes_in s.cells) later)
 
 -- what is shown of a line, by its counts
-pub shown_made : (limit : Option ℕ) (ms : List Mark) (cells : List Cell) (pieces : List Highlight) →
-    made_runs (option_map (map measure) (cut_line limit ms cells)) pieces cells
-    ≡ shown_runs (cut_line limit ms cells) pieces cells
-shown_made None ms cells pieces = refl
-shown_made (Some limit) ms cells pieces =
-    let near : Cell → Bool = is_near limit (ends ms) in
-    by_cases {C = made_runs (option_map (map measure) (cut_line (Some limit) ms cells)) pieces cells
-    ≡ shown_runs (cut_line (Some limit) ms cells) pieces cells} (ltb limit (cells_width 0 cells))
-    (λ y. rw y (ap (λ xs. cut_cells pieces 0 (map measure (stretches near false cells)) xs)
-    (sym (cells_kept near false cells)) ∙ runs_measured pieces 0 (stretches near false cells)))
-    (λ n. rw n refl)
-
--- the same, of a line that is cut around columns
-pub shown_at_ends : (limit : Option ℕ) (es : List ℕ) (cells : List Cell) (pieces : List Highlight) →
-    made_runs (option_map (map measure) (cut_with_ends limit es cells)) pieces cells
-    ≡ shown_runs (cut_with_ends limit es cells) pieces cells
-shown_at_ends None es cells pieces = refl
-shown_at_ends (Some limit) es cells pieces =
-    let near : Cell → Bool = is_near limit es in
-    by_cases {C = made_runs (option_map (map measure) (cut_with_ends (Some limit) es cells)) pieces cells
-    ≡ shown_runs (cut_with_ends (Some limit) es cells) pieces cells} (ltb limit (cells_width 0 cells))
-    (λ y. rw y (ap (λ xs. cut_cells pieces 0 (map measure (stretches near false cells)) xs)
-    (sym (cells_kept near false cells)) ∙ runs_measured pieces 0 (stretches near false cells)))
+pub shown_made : (run : Run) (many : ℕ) (limit : Option ℕ) (es : List ℕ) (cells : List Cell) (pieces : List Highlight) →
+    made_runs run (option_map (map measure) (cut_line many limit es cells)) pieces cells
+    ≡ shown_runs run (cut_line many limit es cells) pieces cells
+shown_made run many None es cells pieces = refl
+shown_made run many (Some limit) es cells pieces =
+    let most : ℕ = limit_of limit in
+    by_cases {C = made_runs run (option_map (map measure) (cut_line many (Some limit) es cells)) pieces cells
+    ≡ shown_runs run (cut_line many (Some limit) es cells) pieces cells} (ltb most (cells_width 0 cells))
+    (λ y. rw y (ap (λ xs. cut_cells run pieces 0 (map measure (cut_to most many es cells)) xs)
+    (sym (cells_kept most many es cells)) ∙ runs_measured run pieces 0 (cut_to most many es cells)))
     (λ n. rw n refl)

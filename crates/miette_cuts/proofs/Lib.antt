@@ -1,12 +1,16 @@
 pub mod CellPrints
+pub mod CountedColumns
 pub mod CutPieces
 pub mod CutPlain
 pub mod CutStretches
 pub mod CutText
+pub mod EndColumns
 pub mod NearEnds
 pub mod OffsetColumns
 pub mod PassedStretches
 pub mod PlainText
+pub mod Reaching
+pub mod RowWidth
 pub mod StopColumns
 pub mod TabbedText
 pub mod TextWithoutTabs

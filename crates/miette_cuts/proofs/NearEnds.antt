@@ -1,22 +1,21 @@
 -- Which cells are near an end, by the first end that isn't too far in front of them; and the same ends in order.
-use Rattle.std.proofs.Common.{ℕ, suc, ◌+◌, ◌-◌, ◌<◌, ◌≤◌, ◌≡◌, ◌/◌, Bool, true, false, cond, ltb, leb, eqb}
-use Rattle.std.proofs.Common.{List, [], ◌∷◌, map, length, drop, get_or, refl, sym, ap, subst, ◌∙◌, ◌&&◌, ◌||◌, Option}
-use Rattle.std.proofs.Common.{Some, None, arith}
+use Rattle.std.proofs.Common.{ℕ, suc, ◌+◌, ◌-◌, ◌<◌, ◌≤◌, ◌≡◌, Bool, true, false, cond, ltb, leb, eqb}
+use Rattle.std.proofs.Common.{List, [], ◌∷◌, length, drop, get_or, refl, sym, ap, subst, ◌∙◌, ◌&&◌, ◌||◌, Option}
+use Rattle.std.proofs.Common.{Some, None, eqb-true, arith}
 use Rattle.std.proofs.lemmas.Bool.{eq-eqb, lt-ltb, le-ltb, le-leb, lt-leb, ltb-true, ltb-false}
-use Rattle.std.proofs.lemmas.List.{at_drop_more, at_drop_all, nil_from_length}
+use Rattle.std.proofs.lemmas.List.{at_drop_more, at_drop_all}
 use Rattle.std.proofs.lemmas.List.Sums.{sum_by-cons}
-use Rattle.std.proofs.lemmas.List.Sorted.{IsNonDecreasingBy-from_sort, length_permutation, sum_by-IsPermutation}
+use Rattle.std.proofs.lemmas.List.Sorted.{IsNonDecreasingBy-from_sort, sum_by-IsPermutation}
 use Rattle.std.specs.Ordering.{nat_cmp}
 use Rattle.std.proofs.Math.Bool.{and-false}
 use Rattle.std.specs.List.{list_any, sum_by}
 use Rattle.std.specs.List.Sorted.{IsNonDecreasing, IsPermutation, IsSorted}
 use Rattle.miette_basics.proofs.Cases.{by_cases}
 use Rattle.miette_cells.specs.rules.Cells.{Cell}
-use Rattle.miette_snippet_rules.specs.rules.CutLines.{is_near, is_near_after, is_within, onto_stretches, stretches}
-use Rattle.miette_cuts.specs.views.Cuts.{measure}
+use Rattle.miette_snippet_rules.specs.rules.CutLines.{has_room, is_within}
 use Rattle.miette_cuts.specs.steps.Cut.{cell_at}
-use Rattle.miette_cuts.specs.steps.Nearness.{ArePassed, LineEnds, end_ahead}
-use Rattle.miette_cuts.proofs.CutStretches.{near_listed}
+use Rattle.miette_cuts.specs.declared.nearness.Room.{Room}
+use Rattle.miette_cuts.specs.steps.Nearness.{ArePassed, LineEnds, end_ahead, near_by}
 
 -- ---- ends that are passed
 
@@ -102,9 +101,9 @@ ascend own ends e up = subst (λ (v : LineEnds). IsNonDecreasing v.ends) e up
 
 -- ---- the first end that isn't passed says whether a cell is near
 
-abbrev near_by : ℕ → Cell → Option ℕ → Bool
-near_by reach cell None = false
-near_by reach cell (Some end) = is_within reach cell end
+abbrev met_by : ℕ → Cell → Option ℕ → Bool
+met_by reach cell None = false
+met_by reach cell (Some end) = is_within reach cell end
 
 later_ends : (e : ℕ) (es : List ℕ) → IsNonDecreasing (e ∷ es) → IsNonDecreasing es
 later_ends e es up = λ i j d le lt. up (suc i) (suc j) d (omega (arith, le)) (omega (arith, lt))
@@ -122,19 +121,19 @@ none_within reach cell e (x ∷ es) far up =
     ∙ none_within reach cell x es (omega (arith, far, more)) (later_ends e (x ∷ es) up)
 
 near_ahead : (reach : ℕ) (cell : Cell) (es : List ℕ) → IsNonDecreasing es → list_any (is_within reach cell) es
-    ≡ near_by reach cell (end_ahead reach cell.from es)
+    ≡ met_by reach cell (end_ahead reach cell.from es)
 near_ahead reach cell [] up = refl
 near_ahead reach cell (e ∷ es) up =
     let rest : Bool = list_any (is_within reach cell) es in
     let next : Option ℕ = end_ahead reach cell.from es in
-    by_cases {C = list_any (is_within reach cell) (e ∷ es) ≡ near_by reach cell (end_ahead reach cell.from (e ∷ es))}
+    by_cases {C = list_any (is_within reach cell) (e ∷ es) ≡ met_by reach cell (end_ahead reach cell.from (e ∷ es))}
     (ltb (e + reach) cell.from)
     (λ y.
     let off : leb cell.from (e + reach) ≡ false = lt-leb cell.from (e + reach) (ltb-true _ _ y) in
     ap (λ b. (b && ltb e (cell.until + reach)) || rest) off ∙ near_ahead reach cell es (later_ends e es up)
-    ∙ ap (λ b. near_by reach cell (cond b next (Some e))) (sym y))
+    ∙ ap (λ b. met_by reach cell (cond b next (Some e))) (sym y))
     (λ n. first_near reach cell e es up (ltb-false _ _ n)
-    ∙ ap (λ b. near_by reach cell (cond b next (Some e))) (sym n))
+    ∙ ap (λ b. met_by reach cell (cond b next (Some e))) (sym n))
   where
     first_near : (reach : ℕ) (cell : Cell) (e : ℕ) (es : List ℕ) → IsNonDecreasing (e ∷ es) → cell.from ≤ e + reach
         → list_any (is_within reach cell) (e ∷ es) ≡ is_within reach cell e
@@ -145,16 +144,27 @@ near_ahead reach cell (e ∷ es) up =
         (none_within reach cell e es (ltb-false _ _ n) up)
         ∙ rw (le-leb cell.from (e + reach) on, n) refl)
 
-pub near_found : (limit : ℕ) (es : List ℕ) (cell : Cell) (end : ℕ) (near : Bool) → (length es ≡ 0 → ⊥)
-    → IsNonDecreasing es → Some end ≡ end_ahead (limit / 4) cell.from es → near ≡ is_within (limit / 4) cell end →
-    near ≡ is_near limit es cell
-near_found limit es cell end near some up found h =
-    h ∙ ap (near_by (limit / 4) cell) found ∙ sym (near_ahead (limit / 4) cell es up) ∙ near_listed limit es cell some
+near_listed : (room : Room) (es : List ℕ) (cell : Cell) → (length es ≡ 0 → ⊥)
+    → list_any (is_within room.reach cell) es ≡ near_by room es cell
+near_listed room [] cell some = absurd (some refl)
+near_listed room (e ∷ es) cell some = refl
 
-pub near_nowhere : (limit : ℕ) (es : List ℕ) (cell : Cell) → (length es ≡ 0 → ⊥) → IsNonDecreasing es
-    → None ≡ end_ahead (limit / 4) cell.from es → false ≡ is_near limit es cell
-near_nowhere limit es cell some up none =
-    ap (near_by (limit / 4) cell) none ∙ sym (near_ahead (limit / 4) cell es up) ∙ near_listed limit es cell some
+pub near_found : (room : Room) (es : List ℕ) (cell : Cell) (end : ℕ) (near : Bool) → (length es ≡ 0 → ⊥)
+    → IsNonDecreasing es → Some end ≡ end_ahead room.reach cell.from es → near ≡ is_within room.reach cell end →
+    near ≡ near_by room es cell
+near_found room es cell end near some up found h =
+    h ∙ ap (met_by room.reach cell) found ∙ sym (near_ahead room.reach cell es up) ∙ near_listed room es cell some
+
+pub near_nowhere : (room : Room) (es : List ℕ) (cell : Cell) → (length es ≡ 0 → ⊥) → IsNonDecreasing es
+    → None ≡ end_ahead room.reach cell.from es → false ≡ near_by room es cell
+near_nowhere room es cell some up none =
+    ap (met_by room.reach cell) none ∙ sym (near_ahead room.reach cell es up) ∙ near_listed room es cell some
+
+-- where there is no end, a cell is near where it has room
+pub near_first_columns : (room : Room) (es : List ℕ) (cell : Cell) → length es ≡ 0 → has_room room.limit room.dots cell
+    ≡ near_by room es cell
+near_first_columns room [] cell h = refl
+near_first_columns room (e ∷ es) cell h = absurd (omega (arith, h))
 
 -- ---- the cells of one column from a column on
 
@@ -164,56 +174,72 @@ column_near reach e x lo hi = rw (le-leb x (e + reach) hi, lt-ltb e (x + 1 + rea
 pub column_before : (reach e x : ℕ) → x < e - reach → is_within reach (cell_at x) e ≡ false
 column_before reach e x lt = rw (le-ltb e (x + 1 + reach) (omega (arith, lt))) (and-false (leb x (e + reach)))
 
-pub turned : (limit : ℕ) (es : List ℕ) (column end until : ℕ) (near : Bool) → (length es ≡ 0 → ⊥) → IsNonDecreasing es
-    → Some end ≡ end_ahead (limit / 4) column es → until ≤ end + limit / 4 + 1 →
-    ((x : ℕ) → column ≤ x → x < until → is_within (limit / 4) (cell_at x) end ≡ near) →
-    (x : ℕ) → column ≤ x → x < until → is_near limit es (cell_at x) ≡ near
-turned limit es column end until near some up found reached alike x lo lt =
-    sym (near_found limit es (cell_at x) end near some up
-    (sym (ahead_stays (limit / 4) es column x end (sym found) lo (omega (arith, lt, reached)))) (sym (alike x lo lt)))
+pub turned : (room : Room) (es : List ℕ) (column end until : ℕ) (near : Bool) → (length es ≡ 0 → ⊥)
+    → IsNonDecreasing es → Some end ≡ end_ahead room.reach column es → until ≤ end + room.reach + 1 →
+    ((x : ℕ) → column ≤ x → x < until → is_within room.reach (cell_at x) end ≡ near) →
+    (x : ℕ) → column ≤ x → x < until → near_by room es (cell_at x) ≡ near
+turned room es column end until near some up found reached alike x lo lt =
+    sym (near_found room es (cell_at x) end near some up
+    (sym (ahead_stays room.reach es column x end (sym found) lo (omega (arith, lt, reached)))) (sym (alike x lo lt)))
 
-pub turned_none : (limit : ℕ) (es : List ℕ) (column : ℕ) → (length es ≡ 0 → ⊥) → IsNonDecreasing es
-    → None ≡ end_ahead (limit / 4) column es → (x : ℕ) → column ≤ x → is_near limit es (cell_at x) ≡ false
-turned_none limit es column some up none x lo =
-    sym (near_nowhere limit es (cell_at x) some up (sym (ahead_gone (limit / 4) es column x (sym none) lo)))
+pub turned_none : (room : Room) (es : List ℕ) (column : ℕ) → (length es ≡ 0 → ⊥) → IsNonDecreasing es
+    → None ≡ end_ahead room.reach column es → (x : ℕ) → column ≤ x → near_by room es (cell_at x) ≡ false
+turned_none room es column some up none x lo =
+    sym (near_nowhere room es (cell_at x) some up (sym (ahead_gone room.reach es column x (sym none) lo)))
 
 -- ---- the same, of ends whose fields were looked at
 
 pub near_met : (own ends : LineEnds) (cell : Cell) (end : ℕ) (near : Bool) → own ≡ ends → eqb (length own.ends) 0
-    ≡ false → IsNonDecreasing own.ends → Some end ≡ end_ahead (ends.limit / 4) cell.from ends.ends →
-    near ≡ is_within (own.limit / 4) cell end → near ≡ is_near ends.limit ends.ends cell
+    ≡ false → IsNonDecreasing own.ends → Some end ≡ end_ahead ends.room.reach cell.from ends.ends →
+    near ≡ is_within own.room.reach cell end → near ≡ near_by ends.room ends.ends cell
 near_met own ends cell end near e some up found h =
-    near_found ends.limit ends.ends cell end near (listed own ends e some) (ascend own ends e up) found
-    (h ∙ ap (λ (v : LineEnds). is_within (v.limit / 4) cell end) e)
+    near_found ends.room ends.ends cell end near (listed own ends e some) (ascend own ends e up) found
+    (h ∙ ap (λ (v : LineEnds). is_within v.room.reach cell end) e)
 
 pub near_unmet : (own ends : LineEnds) (cell : Cell) → own ≡ ends → eqb (length own.ends) 0 ≡ false
-    → IsNonDecreasing own.ends → None ≡ end_ahead (ends.limit / 4) cell.from ends.ends →
-    false ≡ is_near ends.limit ends.ends cell
+    → IsNonDecreasing own.ends → None ≡ end_ahead ends.room.reach cell.from ends.ends →
+    false ≡ near_by ends.room ends.ends cell
 near_unmet own ends cell e some up none =
-    near_nowhere ends.limit ends.ends cell (listed own ends e some) (ascend own ends e up) none
+    near_nowhere ends.room ends.ends cell (listed own ends e some) (ascend own ends e up) none
 
 pub met_within : (own ends : LineEnds) (column end : ℕ) → own ≡ ends → Some end
-    ≡ end_ahead (ends.limit / 4) column ends.ends → column ≤ end + own.limit / 4
+    ≡ end_ahead ends.room.reach column ends.ends → column ≤ end + own.room.reach
 met_within own ends column end e found =
-    let same : own.limit ≡ ends.limit = ap (λ (v : LineEnds). v.limit) e in
-    subst (λ n. column ≤ end + n / 4) (sym same) (ahead_within (ends.limit / 4) ends.ends column end (sym found))
+    let same : own.room.reach ≡ ends.room.reach = ap (λ (v : LineEnds). v.room.reach) e in
+    subst (λ n. column ≤ end + n) (sym same) (ahead_within ends.room.reach ends.ends column end (sym found))
 
 pub turned_met : (own ends : LineEnds) (column end until : ℕ) (near : Bool) → own ≡ ends → eqb (length own.ends) 0
-    ≡ false → IsNonDecreasing own.ends → Some end ≡ end_ahead (ends.limit / 4) column ends.ends →
-    until ≤ end + own.limit / 4 + 1 →
-    ((x : ℕ) → column ≤ x → x < until → is_within (own.limit / 4) (cell_at x) end ≡ near) →
-    (x : ℕ) → column ≤ x → x < until → is_near ends.limit ends.ends (cell_at x) ≡ near
+    ≡ false → IsNonDecreasing own.ends → Some end ≡ end_ahead ends.room.reach column ends.ends →
+    until ≤ end + own.room.reach + 1 →
+    ((x : ℕ) → column ≤ x → x < until → is_within own.room.reach (cell_at x) end ≡ near) →
+    (x : ℕ) → column ≤ x → x < until → near_by ends.room ends.ends (cell_at x) ≡ near
 turned_met own ends column end until near e some up found reached alike =
-    let same : own.limit ≡ ends.limit = ap (λ (v : LineEnds). v.limit) e in
-    turned ends.limit ends.ends column end until near (listed own ends e some) (ascend own ends e up) found
-    (subst (λ n. until ≤ end + n / 4 + 1) same reached)
-    (λ x lo lt. ap (λ n. is_within (n / 4) (cell_at x) end) (sym same) ∙ alike x lo lt)
+    let same : own.room.reach ≡ ends.room.reach = ap (λ (v : LineEnds). v.room.reach) e in
+    turned ends.room ends.ends column end until near (listed own ends e some) (ascend own ends e up) found
+    (subst (λ n. until ≤ end + n + 1) same reached)
+    (λ x lo lt. ap (λ n. is_within n (cell_at x) end) (sym same) ∙ alike x lo lt)
 
 pub turned_unmet : (own ends : LineEnds) (column until : ℕ) → own ≡ ends → eqb (length own.ends) 0 ≡ false
-    → IsNonDecreasing own.ends → None ≡ end_ahead (ends.limit / 4) column ends.ends →
-    (x : ℕ) → column ≤ x → x < until → is_near ends.limit ends.ends (cell_at x) ≡ false
+    → IsNonDecreasing own.ends → None ≡ end_ahead ends.room.reach column ends.ends →
+    (x : ℕ) → column ≤ x → x < until → near_by ends.room ends.ends (cell_at x) ≡ false
 turned_unmet own ends column until e some up none x lo lt =
-    turned_none ends.limit ends.ends column (listed own ends e some) (ascend own ends e up) none x lo
+    turned_none ends.room ends.ends column (listed own ends e some) (ascend own ends e up) none x lo
+
+-- the same, of a line without ends
+pub none_listed : (own ends : LineEnds) → own ≡ ends → eqb (length own.ends) 0 ≡ true → length ends.ends ≡ 0
+none_listed own ends e none = sym (ap (λ (v : LineEnds). length v.ends) e) ∙ eqb-true (length own.ends) 0 none
+
+pub near_first : (own ends : LineEnds) (cell : Cell) (near : Bool) → own ≡ ends → eqb (length own.ends) 0 ≡ true
+    → near ≡ has_room own.room.limit own.room.dots cell → near ≡ near_by ends.room ends.ends cell
+near_first own ends cell near e none h =
+    h ∙ ap (λ (v : LineEnds). has_room v.room.limit v.room.dots cell) e
+    ∙ near_first_columns ends.room ends.ends cell (none_listed own ends e none)
+
+pub turned_first : (own ends : LineEnds) (column until : ℕ) (near : Bool) → own ≡ ends → eqb (length own.ends) 0 ≡ true
+    → ((x : ℕ) → column ≤ x → x < until → has_room own.room.limit own.room.dots (cell_at x) ≡ near) →
+    (x : ℕ) → column ≤ x → x < until → near_by ends.room ends.ends (cell_at x) ≡ near
+turned_first own ends column until near e none alike x lo lt =
+    sym (near_first own ends (cell_at x) near e none (sym (alike x lo lt)))
 
 -- ---- ends in another order
 
@@ -237,31 +263,6 @@ any-counted p (e ∷ es) =
     let same : rest ≡ whole = omega (arith, more, none) in
     ap (λ b. b || list_any p es) n ∙ any-counted p es ∙ ap (ltb 0) same)
 
-any-moved : (p : ℕ → Bool) (es moved : List ℕ) → IsPermutation es moved → list_any p moved ≡ list_any p es
+pub any-moved : (p : ℕ → Bool) (es moved : List ℕ) → IsPermutation es moved → list_any p moved ≡ list_any p es
 any-moved p es moved h = any-counted p moved ∙ ap (ltb 0) (sum_by-IsPermutation (λ e. cond (p e) 1 0) es moved h)
     ∙ sym (any-counted p es)
-
-near_moved : (limit : ℕ) (es moved : List ℕ) → IsPermutation es moved → (cell : Cell) → is_near limit moved cell
-    ≡ is_near limit es cell
-near_moved limit [] moved h cell =
-    let none : moved ≡ [] = nil_from_length moved (length_permutation [] moved h) in
-    ap (λ xs. is_near limit xs cell) none
-near_moved limit (e ∷ es) [] h cell = absurd (omega (arith, length_permutation (e ∷ es) [] h))
-near_moved limit (e ∷ es) (x ∷ moved) h cell = any-moved (is_within (limit / 4) cell) (e ∷ es) (x ∷ moved) h
-
-stretches_alike : (near other : Cell → Bool) → ((cell : Cell) → near cell ≡ other cell) → (before : Bool)
-    (cells : List Cell) → stretches near before cells ≡ stretches other before cells
-stretches_alike near other h before [] = refl
-stretches_alike near other h before (c ∷ cs) =
-    let here : Bool = is_near_after other before c in
-    ap (λ b. onto_stretches (record { near = is_near_after (λ x. b) before c; cells = c ∷ [] })
-    (stretches near (is_near_after (λ x. b) before c) cs)) (h c)
-    ∙ ap (onto_stretches (record { near = here; cells = c ∷ [] })) (stretches_alike near other h here cs)
-
--- a line's stretches are the same
-pub stretches_moved : (limit : ℕ) (es moved : List ℕ) (before : Bool) (cells : List Cell) → IsPermutation es moved
-    → map measure (stretches (is_near limit moved) before cells)
-    ≡ map measure (stretches (is_near limit es) before cells)
-stretches_moved limit es moved before cells h =
-    ap (map measure)
-    (stretches_alike (is_near limit moved) (is_near limit es) (near_moved limit es moved h) before cells)

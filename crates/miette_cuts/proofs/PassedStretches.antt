@@ -6,79 +6,78 @@ use Rattle.std.proofs.lemmas.List.{at_drop_all, map-append, take_more}
 use Rattle.miette_snippet_rules.specs.declared.marks.Mark.{Mark}
 use Rattle.miette_cuts.specs.declared.stretch.Stretch.{Stretch}
 use Rattle.miette_cuts.specs.declared.moving.Place.{Place}
-use Rattle.miette_cuts.specs.views.Cuts.{is_kept}
-use Rattle.miette_cuts.specs.steps.Cut.{kept_columns, made_column, made_mark}
+use Rattle.miette_cuts.specs.steps.Cut.{made_columns, made_column, made_mark}
 use Rattle.miette_cuts.specs.steps.Moving.{IsPlace}
 use Rattle.miette_basics.proofs.Cases.{by_cases}
 use Rattle.miette_cuts.proofs.CutStretches.{column_here, column_past}
 
 -- the place before the first of them
-pub place_first : (cut : List Stretch) (place : Place) → place.passed ≡ 0 → place.before ≡ 0 → place.row ≡ 0
-    → IsPlace cut place
-place_first cut place p b r = record {
+pub place_first : (dots : ℕ) (cut : List Stretch) (place : Place) → place.passed ≡ 0 → place.before ≡ 0 → place.row ≡ 0
+    → IsPlace dots cut place
+place_first dots cut place p b r = record {
   stand = λ column le.
       let left : column ≡ column - place.before = omega (arith, b) in
-      let sum : made_column cut column ≡ 0 + made_column cut column = omega arith in
-      sum ∙ ap (λ n. n + made_column cut column) (sym r)
-      ∙ ap (λ n. place.row + made_column (drop n cut) column) (sym p)
-      ∙ ap (λ n. place.row + made_column (drop place.passed cut) n) left;
+      let sum : made_column dots cut column ≡ 0 + made_column dots cut column = omega arith in
+      sum ∙ ap (λ n. n + made_column dots cut column) (sym r)
+      ∙ ap (λ n. place.row + made_column dots (drop n cut) column) (sym p)
+      ∙ ap (λ n. place.row + made_column dots (drop place.passed cut) n) left;
 }
 
 -- the one from which a column is looked for
-pub place_found : (cut : List Stretch) (place at : Place) (column : ℕ)
+pub place_found : (dots : ℕ) (cut : List Stretch) (place at : Place) (column : ℕ)
     → (column < place.before → at ≡ record { passed = 0; before = 0; row = 0 }) → (place.before ≤ column → at ≡ place) →
-    IsPlace cut place → IsPlace cut at × (at.before ≤ column)
-place_found cut place at column anew on h =
-    by_cases {C = IsPlace cut at × (at.before ≤ column)} (ltb column place.before)
+    IsPlace dots cut place → IsPlace dots cut at × (at.before ≤ column)
+place_found dots cut place at column anew on h =
+    by_cases {C = IsPlace dots cut at × (at.before ≤ column)} (ltb column place.before)
     (λ y.
     let first : at ≡ record { passed = 0; before = 0; row = 0 } = anew (ltb-true column place.before y) in
     let none : at.before ≡ 0 = ap (λ (p : Place). p.before) first in (
-      place_first cut at (ap (λ (p : Place). p.passed) first) none (ap (λ (p : Place). p.row) first),
+      place_first dots cut at (ap (λ (p : Place). p.passed) first) none (ap (λ (p : Place). p.row) first),
       omega (arith, none),
     ))
     (λ n.
     let le : place.before ≤ column = ltb-false column place.before n in
     let same : at ≡ place = on le in
     let own : at.before ≡ place.before = ap (λ (p : Place). p.before) same in
-    (subst (λ (p : Place). IsPlace cut p) (sym same) h, omega (arith, own, le)))
+    (subst (λ (p : Place). IsPlace dots cut p) (sym same) h, omega (arith, own, le)))
 
 -- the place behind one more
-pub place_more : (cut : List Stretch) (place next : Place) (d : Stretch) → place.passed < length cut
+pub place_more : (dots : ℕ) (cut : List Stretch) (place next : Place) (d : Stretch) → place.passed < length cut
     → next.passed ≡ place.passed + 1 → next.before ≡ place.before + (get_or cut place.passed d).columns →
-    next.row ≡ place.row + kept_columns (get_or cut place.passed d) → IsPlace cut place → IsPlace cut next
-place_more cut place next d lt p b r h = record {
+    next.row ≡ place.row + made_columns dots (get_or cut place.passed d) → IsPlace dots cut place → IsPlace dots cut next
+place_more dots cut place next d lt p b r h = record {
   stand = λ column le.
       let s : Stretch = get_or cut place.passed d in
       let left : column - place.before - s.columns ≡ column - next.before = omega (arith, b) in
       let before : place.before ≤ column = omega (arith, b, le) in
       let past : s.columns ≤ column - place.before = omega (arith, b, le) in
-      sym (column_past cut place.passed (column - place.before) place.row next.row d (made_column cut column) lt past
+      sym (column_past dots cut place.passed (column - place.before) place.row next.row d (made_column dots cut column) lt past
       r (sym (h.stand column before)))
-      ∙ ap (λ n. next.row + made_column (drop (place.passed + 1) cut) n) left
-      ∙ ap (λ n. next.row + made_column (drop n cut) (column - next.before)) (sym p);
+      ∙ ap (λ n. next.row + made_column dots (drop (place.passed + 1) cut) n) left
+      ∙ ap (λ n. next.row + made_column dots (drop n cut) (column - next.before)) (sym p);
 }
 
 -- a column of the next one
-pub place_here : (cut : List Stretch) (place : Place) (column own found : ℕ) (d : Stretch) → place.passed < length cut
+pub place_here : (dots : ℕ) (cut : List Stretch) (place : Place) (column own found : ℕ) (d : Stretch) → place.passed < length cut
     → place.before ≤ column → column - place.before < (get_or cut place.passed d).columns →
-    own ≡ cond (is_kept (get_or cut place.passed d)) (column - place.before) 0 → found ≡ place.row + own →
-    IsPlace cut place → found ≡ made_column cut column
-place_here cut place column own found d lt b inside o f h =
-    f ∙ column_here cut place.passed (column - place.before) place.row own d (made_column cut column) lt inside o
+    own ≡ cond (get_or cut place.passed d).shown (column - place.before) 0 → found ≡ place.row + own →
+    IsPlace dots cut place → found ≡ made_column dots cut column
+place_here dots cut place column own found d lt b inside o f h =
+    f ∙ column_here dots cut place.passed (column - place.before) place.row own d (made_column dots cut column) lt inside o
     (sym (h.stand column b))
 
 -- a column behind all of them
-pub place_end : (cut : List Stretch) (place : Place) (column found : ℕ) → length cut ≤ place.passed → place.before
-    ≤ column → found ≡ place.row + (column - place.before) → IsPlace cut place → found ≡ made_column cut column
-place_end cut place column found le b f h =
+pub place_end : (dots : ℕ) (cut : List Stretch) (place : Place) (column found : ℕ) → length cut ≤ place.passed → place.before
+    ≤ column → found ≡ place.row + (column - place.before) → IsPlace dots cut place → found ≡ made_column dots cut column
+place_end dots cut place column found le b f h =
     f ∙ sym (h.stand column b ∙ ap (λ n. place.row + n)
-    (at_drop_all (λ (xs : List Stretch). made_column xs (column - place.before)) cut place.passed le))
+    (at_drop_all (λ (xs : List Stretch). made_column dots xs (column - place.before)) cut place.passed le))
 
 -- one mark more
-pub marks_more : (cut : List Stretch) (marks : List Mark) (i : ℕ) (d next : Mark) (moved new : List Mark)
-    → i < length marks → next ≡ made_mark cut (get_or marks i d) → new ≡ moved ++ next ∷ [] →
-    moved ≡ map (made_mark cut) (take i marks) → new ≡ map (made_mark cut) (take (i + 1) marks)
-marks_more cut marks i d next moved new lt n more inv =
-    more ∙ ap (λ xs. xs ++ next ∷ []) inv ∙ ap (λ m. map (made_mark cut) (take i marks) ++ m ∷ []) n
-    ∙ sym (map-append (made_mark cut) (take i marks) (get_or marks i d ∷ []))
-    ∙ ap (map (made_mark cut)) (sym (take_more marks i d lt))
+pub marks_more : (dots : ℕ) (cut : List Stretch) (marks : List Mark) (i : ℕ) (d next : Mark) (moved new : List Mark)
+    → i < length marks → next ≡ made_mark dots cut (get_or marks i d) → new ≡ moved ++ next ∷ [] →
+    moved ≡ map (made_mark dots cut) (take i marks) → new ≡ map (made_mark dots cut) (take (i + 1) marks)
+marks_more dots cut marks i d next moved new lt n more inv =
+    more ∙ ap (λ xs. xs ++ next ∷ []) inv ∙ ap (λ m. map (made_mark dots cut) (take i marks) ++ m ∷ []) n
+    ∙ sym (map-append (made_mark dots cut) (take i marks) (get_or marks i d ∷ []))
+    ∙ ap (map (made_mark dots cut)) (sym (take_more marks i d lt))

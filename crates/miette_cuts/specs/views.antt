@@ -1,4 +1,3 @@
 -- What the code's values stand for.
 pub mod Cuts
 pub mod LineTexts
-pub mod CutEnds

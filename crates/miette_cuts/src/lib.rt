@@ -2,8 +2,11 @@
 #![tactic(auto)]
 
 mod cells;
+mod counting;
 mod cut_text;
 pub mod cutting;
+pub mod dots;
+pub mod ends;
 pub mod line_text;
 pub mod marks;
 mod moving;
@@ -11,5 +14,7 @@ mod nearness;
 mod passing;
 mod plain_cut;
 pub mod printing;
+mod reach;
 pub mod stretch;
+mod sweeping;
 mod tabs;

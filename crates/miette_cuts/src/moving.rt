@@ -1,11 +1,10 @@
 //! Where the columns of a line that is cut stand in its row.
 
 ghost use Rattle.std.specs.Prelude.{◌≡◌, ◌<◌, ◌≤◌, map, if◌then◌else◌, IfOk, OnOk};
-ghost use Rattle.miette_cuts.specs.views.Cuts.{is_kept};
-ghost use Rattle.miette_cuts.specs.steps.Cut.{kept_columns, made_column, made_mark};
+ghost use Rattle.miette_cuts.specs.steps.Cut.{made_column, made_mark};
 ghost use Rattle.miette_cuts.specs.steps.Moving.{IsPlace};
 
-use crate::stretch::{Stretch, is_shown};
+use crate::stretch::{Stretch, shown_columns};
 use miette_basics::sums::sum;
 use miette_snippet_rules::marks::Mark;
 use std::alloc::{AllocError, Global};
@@ -25,22 +24,11 @@ const START: Place = Place {
     row: 0,
 };
 
-// The columns of a stretch in the row: its own, or those of its dots.
-fn shown_columns(stretch: &Stretch) -> usize
-    ensures { result ≡ kept_columns stretch.now }
-{
-    if is_shown(stretch) {
-        stretch.columns
-    } else {
-        3
-    }
-}
-
 // Where one of a stretch's columns stands in what is shown of it.
 fn column_within(stretch: &Stretch, column: usize) -> usize
-    ensures { result ≡ (if is_kept stretch.now then column else 0) }
+    ensures { result ≡ (if stretch.now.shown then column else 0) }
 {
-    if is_shown(stretch) { column } else { 0 }
+    if stretch.shown { column } else { 0 }
 }
 
 // The place from which a column is looked for: this one, or the first one where the column stands in front of it.
@@ -51,12 +39,17 @@ fn place_for(place: &Place, column: usize) -> Place
     if column < place.before { START } else { *place }
 }
 
-// Where a column of a line stands in the row of its stretches. The place goes on to the column's stretch: columns that
-// ascend pass each stretch once.
-fn row_column_of(cut: &[Stretch], place: &mut Place, column: usize) -> Result<usize, AllocError>
-    requires { IsPlace cut.now place.old }
-    ensures column { IfOk result (λ found. found ≡ made_column cut.now column) }
-    ensures place { OnOk result (IsPlace cut.now place.new) }
+// Where a column of a line stands in the row of its stretches, with dots of so many columns. The place goes on to the
+// column's stretch: columns that ascend pass each stretch once.
+fn row_column_of(
+    cut: &[Stretch],
+    place: &mut Place,
+    column: usize,
+    dots: usize,
+) -> Result<usize, AllocError>
+    requires { IsPlace dots cut.now place.old }
+    ensures column { IfOk result (λ found. found ≡ made_column dots cut.now column) }
+    ensures place { OnOk result (IsPlace dots cut.now place.new) }
 {
     *place = place_for(place, column);
     while place.passed < cut.len() {
@@ -67,7 +60,7 @@ fn row_column_of(cut: &[Stretch], place: &mut Place, column: usize) -> Result<us
             let inside = sum(place.row, column_within(stretch, left))?;
             return Ok(inside);
         }
-        let row = sum(place.row, shown_columns(stretch))?;
+        let row = sum(place.row, shown_columns(stretch, dots))?;
         place.row = row;
         place.before += columns;
         place.passed += 1;
@@ -81,14 +74,15 @@ fn row_mark_of<'a>(
     cut: &[Stretch],
     place: &mut Place,
     mark: &Mark<'a>,
+    dots: usize,
 ) -> Result<Mark<'a>, AllocError>
-    requires { IsPlace cut.now place.old }
-    ensures mark { IfOk result (λ moved. moved ≡ made_mark cut.now mark.now) }
-    ensures place { OnOk result (IsPlace cut.now place.new) }
+    requires { IsPlace dots cut.now place.old }
+    ensures mark { IfOk result (λ moved. moved ≡ made_mark dots cut.now mark.now) }
+    ensures place { OnOk result (IsPlace dots cut.now place.new) }
 {
-    let from = row_column_of(cut, place, mark.from)?;
-    let anchor = row_column_of(cut, place, mark.anchor)?;
-    let last = row_column_of(cut, place, mark.until.saturating_sub(1))?;
+    let from = row_column_of(cut, place, mark.from, dots)?;
+    let anchor = row_column_of(cut, place, mark.anchor, dots)?;
+    let last = row_column_of(cut, place, mark.until.saturating_sub(1), dots)?;
     let until = sum(last, 1)?;
     Ok(Mark {
         from,
@@ -98,19 +92,20 @@ fn row_mark_of<'a>(
     })
 }
 
-/// Marks in the row of a line's stretches. `AllocError` where memory is refused, or a column is past the largest
-/// `usize`.
+/// Marks in the row of a line's stretches, with dots of so many columns. `AllocError` where memory is refused, or a
+/// column is past the largest `usize`.
 pub(crate) fn row_marks<'a>(
     alloc: Global,
     cut: &[Stretch],
     marks: &[Mark<'a>],
+    dots: usize,
 ) -> Result<Vec<Mark<'a>>, AllocError>
-    ensures { IfOk result (λ moved. moved.items ≡ map (made_mark cut.now) marks.now) }
+    ensures { IfOk result (λ moved. moved.items ≡ map (made_mark dots cut.now) marks.now) }
 {
     let mut moved = Vec::new(alloc);
     let mut place = START;
     for mark in marks {
-        let next = row_mark_of(cut, &mut place, mark)?;
+        let next = row_mark_of(cut, &mut place, mark, dots)?;
         moved.push(next)?;
     }
     Ok(moved)

@@ -1,20 +1,31 @@
-//! Which cells of a line are near an end of a mark, by one walk over the ends.
+//! Which cells of a line are near one of its ends, by one walk over the ends.
 
-ghost use Rattle.std.specs.Prelude.{◌≡◌, ◌<◌, ◌≤◌, ◌+◌, ◌/◌, ℕ, nat_lt};
+ghost use Rattle.std.specs.Prelude.{◌≡◌, ◌<◌, ◌≤◌, ◌+◌, ℕ};
 ghost use Rattle.std.specs.List.Sorted.{IsNonDecreasing};
 ghost use Rattle.miette_cells.specs.views.Walking.{cell_of};
-ghost use Rattle.miette_snippet_rules.specs.rules.CutLines.{is_near, is_within};
+ghost use Rattle.miette_snippet_rules.specs.rules.CutLines.{has_room, is_within};
 ghost use Rattle.miette_cuts.specs.steps.Cut.{cell_at};
-ghost use Rattle.miette_cuts.specs.steps.Nearness.{ArePassed, end_ahead, LineEnds};
+ghost use Rattle.miette_cuts.specs.steps.Nearness.{ArePassed, end_ahead, near_by, LineEnds};
 
 use miette_cells::cells::Cell;
 use std::marker::Model;
 
-/// The ends of a line, which ascend, and how many columns it may have. As far as columns ascend that are asked for,
-/// each end is passed once: the first `passed` ends are too far in front of `column`.
+/// What a line's cells are shown by.
+#[derive(Clone, Copy, Drop)]
+pub(crate) struct Room {
+    /// How many columns its row's text may have.
+    pub(crate) limit: usize,
+    /// How many of them the dots have that stand for what is left out.
+    pub(crate) dots: usize,
+    /// How many columns from an end its cells are shown.
+    pub(crate) reach: usize,
+}
+
+/// The room of a line and its ends, which ascend. As far as columns ascend that are asked for, each end is passed once:
+/// the first `passed` ends are too far in front of `column`.
 #[derive(Drop)]
 pub(crate) struct Nearness<'a> {
-    limit: usize,
+    room: Room,
     ends: &'a [usize],
     passed: usize,
     column: usize,
@@ -25,9 +36,9 @@ impl<'a> Model for Nearness<'a> {
 
     ghost Value = { LineEnds };
 
-    ghost view = { λ n. record { limit = n.limit; ends = n.ends.now } };
+    ghost view = { λ n. record { room = n.room; ends = n.ends.now } };
 
-    ghost invariant = { λ n. IsSearched n.limit n.ends.now n.passed n.column };
+    ghost invariant = { λ n. IsSearched n.room.reach n.ends.now n.passed n.column };
 }
 
 // Whether some column of a cell is at most so many columns away from this one.
@@ -38,21 +49,31 @@ fn is_within_of(reach: usize, cell: &Cell, column: usize) -> bool
         && (column < cell.until || column - cell.until < reach)
 }
 
-// Whether a column is near where there is no end, as those before the limit are, and the column, at most `len`, up to
-// which those behind it are near where it is.
-fn turn_at(limit: usize, column: usize, len: usize) -> (bool, usize)
+// Whether a cell stands, with the dots behind it, within the limit.
+fn has_room_in(room: &Room, cell: &Cell) -> bool
+    ensures { result ≡ has_room room.now.limit room.now.dots (cell_of cell.now) }
+{
+    cell.until <= room.limit && room.dots <= room.limit - cell.until
+}
+
+// Whether the cell of one column that stands at a column has room, and the column, at most `len`, up to which those
+// behind it have room where it does.
+fn turn_at(room: &Room, column: usize, len: usize) -> (bool, usize)
     requires { column < len }
     ensures more { column < result.1 }
     ensures within { result.1 ≤ len }
-    ensures alike { (x : ℕ) → column ≤ x → x < result.1 → nat_lt x limit ≡ result.0 }
+    ensures alike { (x : ℕ) → column ≤ x → x < result.1 →
+        has_room room.now.limit room.now.dots (cell_at x) ≡ result.0 }
 {
-    if column < limit {
-        return (true, limit.min(len));
+    let first = room.limit.saturating_sub(room.dots);
+    if column < first {
+        return (true, first.min(len));
     }
     (false, len)
 }
 
-// The same by an end that isn't too far in front of the column.
+// Whether the cell of one column that stands at a column is near an end that isn't too far in front of it, and the
+// column, at most `len`, up to which those behind it are near where it is.
 fn turn_by(reach: usize, end: usize, column: usize, len: usize) -> (bool, usize)
     requires some { column < len }
     requires ahead { column ≤ end + reach }
@@ -96,13 +117,13 @@ fn passed_at(ends: &[usize], reach: usize, column: usize, start: usize) -> (usiz
 }
 
 impl<'a> Nearness<'a> {
-    /// The ends of a line, which ascend, and how many columns it may have.
-    pub(crate) fn new(limit: usize, ends: &'a [usize]) -> Self
+    /// What the cells of a line are shown by, and its ends, which ascend.
+    pub(crate) fn new(room: &Room, ends: &'a [usize]) -> Self
         requires { IsNonDecreasing ends.now }
-        ensures { result ≡ record { limit = limit; ends = ends.now } }
+        ensures { result ≡ record { room = room.now; ends = ends.now } }
     {
         Nearness {
-            limit,
+            room: *room,
             ends,
             passed: 0,
             column: 0,
@@ -111,11 +132,11 @@ impl<'a> Nearness<'a> {
 
     // The first end that isn't too far in front of a column.
     fn end_ahead(&mut self, column: usize) -> Option<usize>
-        ensures found { result ≡ end_ahead (self.old.limit / 4) column self.old.ends }
+        ensures found { result ≡ end_ahead self.old.room.reach column self.old.ends }
         ensures same { self.new ≡ self.old }
     {
         let start = start_at(column, self.column, self.passed);
-        let (passed, found) = passed_at(self.ends, self.limit / 4, column, start);
+        let (passed, found) = passed_at(self.ends, self.room.reach, column, start);
         self.passed = passed;
         self.column = column;
         found
@@ -123,13 +144,13 @@ impl<'a> Nearness<'a> {
 
     /// Whether a cell that has columns is near.
     pub(crate) fn is_near(&mut self, cell: &Cell) -> bool
-        ensures near { result ≡ is_near self.old.limit self.old.ends (cell_of cell.now) }
+        ensures near { result ≡ near_by self.old.room self.old.ends (cell_of cell.now) }
         ensures same { self.new ≡ self.old }
     {
         if self.ends.is_empty() {
-            return cell.from < self.limit;
+            return has_room_in(&self.room, cell);
         }
-        let reach = self.limit / 4;
+        let reach = self.room.reach;
         match self.end_ahead(cell.from) {
             Some(end) => is_within_of(reach, cell, end),
             None => false,
@@ -143,13 +164,13 @@ impl<'a> Nearness<'a> {
         ensures more { column < result.1 }
         ensures within { result.1 ≤ len }
         ensures alike { (x : ℕ) → column ≤ x → x < result.1 →
-            is_near self.old.limit self.old.ends (cell_at x) ≡ result.0 }
+            near_by self.old.room self.old.ends (cell_at x) ≡ result.0 }
         ensures same { self.new ≡ self.old }
     {
         if self.ends.is_empty() {
-            return turn_at(self.limit, column, len);
+            return turn_at(&self.room, column, len);
         }
-        let reach = self.limit / 4;
+        let reach = self.room.reach;
         match self.end_ahead(column) {
             Some(end) => turn_by(reach, end, column, len),
             None => (false, len),

@@ -1,4 +1,4 @@
-//! Printable ASCII in lines that are cut: its stretches by the ends of marks, and what is printed of lines that are all
+//! Printable ASCII in lines that are cut: its stretches by the line's ends, and what is printed of lines that are all
 //! printable ASCII, with no walk over the characters.
 
 ghost use Rattle.std.specs.Prelude.{◌≡◌, ◌<◌, ◌≤◌, ◌+◌, ◌++◌, ℕ, List, true, map, take, length, OnOk};
@@ -6,33 +6,37 @@ ghost use Rattle.std.specs.List.{list_all};
 ghost use Rattle.miette_page.specs.views.Printouts.{◌⊕◌};
 ghost use Rattle.miette_cells.specs.rules.Cells.{Cell};
 ghost use Rattle.miette_cells.specs.views.Printable.{is_printable, plain_cells};
-ghost use Rattle.miette_snippet_rules.specs.rules.CutLines.{is_near, stretches};
+ghost use Rattle.miette_style.specs.rules.Themes.{theme_of};
+ghost use Rattle.miette_snippet_rules.specs.rules.CutLines.{dots, stretches};
 ghost use Rattle.miette_cuts.specs.views.Cuts.{measure};
 ghost use Rattle.miette_cuts.specs.steps.Cut.{cell_at, even, onto_made, plain_run, plain_told};
+ghost use Rattle.miette_cuts.specs.steps.Nearness.{near_by};
 
+use crate::dots::push_dots;
 use crate::nearness::Nearness;
-use crate::stretch::{Stretch, is_shown, put_stretch};
+use crate::stretch::{Stretch, put_stretch};
 use crate::tabs::push_ascii;
 use miette_basics::sums::sum;
 use miette_cells::cells::PlainCells;
 use miette_page::canvas::Canvas;
 use miette_page::page::{PLAIN, Page};
+use miette_style::theme::GraphicalTheme;
 use std::alloc::AllocError;
 
-// The stretch of cells of one column each from a column on, as far as they are as near as the first.
-fn even_stretch(nearness: &mut Nearness<'_>, column: usize, len: usize) -> Stretch
+/// The stretch of cells of one column each from a column on, as far as they are as near as the first.
+pub(crate) fn even_stretch(nearness: &mut Nearness<'_>, column: usize, len: usize) -> Stretch
     requires { column < len }
-    ensures even { result ≡ even result.near result.cells }
+    ensures even { result ≡ even result.shown result.cells }
     ensures some { 0 < result.cells }
     ensures within { column + result.cells ≤ len }
     ensures alike { (x : ℕ) → column ≤ x → x < column + result.cells →
-        is_near nearness.old.limit nearness.old.ends (cell_at x) ≡ result.near }
+        near_by nearness.old.room nearness.old.ends (cell_at x) ≡ result.shown }
     ensures same { nearness.new ≡ nearness.old }
 {
-    let (near, until) = nearness.turn_behind(column, len);
+    let (shown, until) = nearness.turn_behind(column, len);
     let cells = until - column;
     Stretch {
-        near,
+        shown,
         cells,
         columns: cells,
         bytes: cells,
@@ -49,10 +53,10 @@ pub(crate) fn put_plain(
 ) -> Result<(), AllocError>
     ensures put { OnOk result ((bytes : List ℕ) → (rest : List Cell) → list_all is_printable bytes ≡ true →
         length bytes ≡ plain.now.many → made.new.items
-        ++ onto_made reached.new (map measure (stretches (is_near nearness.old.limit nearness.old.ends)
-        reached.new.near rest))
-        ≡ made.old.items ++ onto_made reached.old (map measure (stretches (is_near nearness.old.limit nearness.old.ends)
-        reached.old.near (plain_cells plain.now.start plain.now.from bytes ++ rest)))) }
+        ++ onto_made reached.new (map measure (stretches (near_by nearness.old.room nearness.old.ends)
+        reached.new.shown rest))
+        ≡ made.old.items ++ onto_made reached.old (map measure (stretches (near_by nearness.old.room nearness.old.ends)
+        reached.old.shown (plain_cells plain.now.start plain.now.from bytes ++ rest)))) }
     ensures same { OnOk result (nearness.new ≡ nearness.old) }
 {
     let end = sum(plain.from, plain.many)?;
@@ -70,31 +74,34 @@ fn push_plain_stretch<O: Canvas>(
     page: &mut Page<O>,
     own: &[u8],
     stretch: &Stretch,
+    theme: &GraphicalTheme,
 ) -> Result<(), AllocError>
     requires { list_all is_printable own.now ≡ true }
     ensures { OnOk result ((bytes : List ℕ) → own.now ≡ take stretch.now.cells bytes →
-        page.new ≡ page.old ⊕ plain_run stretch.now bytes) }
+        page.new ≡ page.old ⊕ plain_run (dots (theme_of theme.now)) stretch.now bytes) }
 {
-    page.begin(PLAIN)?;
-    if is_shown(stretch) {
-        return push_ascii(page, own);
+    if !stretch.shown {
+        return push_dots(page, theme);
     }
-    page.push_copies('.', 3)
+    page.begin(PLAIN)?;
+    push_ascii(page, own)
 }
 
-/// The cells of a text of printable ASCII, of which these are the stretches. `AllocError` where memory is refused.
+/// The cells of a text of printable ASCII, of which these are the stretches, with the theme's dots. `AllocError` where
+/// memory is refused.
 pub(crate) fn push_plain_cut<O: Canvas>(
     page: &mut Page<O>,
     text: &[u8],
     cut: &[Stretch],
+    theme: &GraphicalTheme,
 ) -> Result<(), AllocError>
     requires { list_all is_printable text.now ≡ true }
-    ensures { OnOk result (page.new ≡ page.old ⊕ plain_told cut.now text.now) }
+    ensures { OnOk result (page.new ≡ page.old ⊕ plain_told (dots (theme_of theme.now)) cut.now text.now) }
 {
     let mut rest = text;
     for stretch in cut {
         let (own, later) = rest.split_at(stretch.cells.min(rest.len()));
-        push_plain_stretch(page, own, stretch)?;
+        push_plain_stretch(page, own, stretch, theme)?;
         rest = later;
     }
     Ok(())

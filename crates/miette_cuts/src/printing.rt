@@ -4,6 +4,8 @@ ghost use Rattle.std.specs.Prelude.{◌≡◌, ◌+◌, ◌^◌, ◌<◌, map, l
 ghost use Rattle.std.specs.Option.{option_map};
 ghost use Rattle.miette_page.specs.views.Printouts.{◌⊕◌};
 ghost use Rattle.miette_page.specs.views.Tokens.{row_tokens};
+ghost use Rattle.miette_style.specs.rules.Themes.{theme_of};
+ghost use Rattle.miette_snippet_rules.specs.rules.CutLines.{dots};
 ghost use Rattle.miette_snippet_rules.specs.rules.Highlighting.{highlight_of};
 ghost use Rattle.miette_snippet_rules.specs.rules.PrintedCells.{line_runs};
 ghost use Rattle.miette_cuts.specs.views.Cuts.{made_runs};
@@ -20,6 +22,7 @@ use miette_cells::plain::all_printable;
 use miette_page::canvas::Canvas;
 use miette_page::page::{PLAIN, Page};
 use miette_style::style::Style;
+use miette_style::theme::GraphicalTheme;
 use std::alloc::AllocError;
 
 // A text in a highlighter's pieces, each a length in bytes and a style, and plain behind them.
@@ -63,26 +66,27 @@ fn push_text<O: Canvas>(
     push_line_text(page, &mut walk, pieces)
 }
 
-/// What is shown of a line's text: its stretches, or all of it where it isn't cut, in a highlighter's pieces, each a
-/// length in bytes and a style, and plain behind them. `AllocError` where memory is refused, or a column or a count of
-/// bytes is past the largest `usize`.
+/// What is shown of a line's text: its stretches, with the theme's dots, or all of it where it isn't cut, in a
+/// highlighter's pieces, each a length in bytes and a style, and plain behind them. `AllocError` where memory is
+/// refused, or a column or a count of bytes is past the largest `usize`.
 pub fn push_shown_text<O: Canvas>(
     page: &mut Page<O>,
     text: &LineText,
     pieces: &[(usize, Style)],
     cut: &Cut,
+    theme: &GraphicalTheme,
 ) -> Result<(), AllocError>
     requires { text.now.start + length text.now.bytes.now < 2 ^ 64 }
-    ensures { OnOk result (page.new ≡ page.old ⊕ row_tokens (made_runs (option_map (λ made. made.items) cut.now)
-        (map highlight_of pieces.now) (text_cells text.now))) }
+    ensures { OnOk result (page.new ≡ page.old ⊕ row_tokens (made_runs (dots (theme_of theme.now))
+        (option_map (λ made. made.items) cut.now) (map highlight_of pieces.now) (text_cells text.now))) }
 {
     match cut {
         Some(cut) => {
             if pieces.is_empty() && all_printable(text.bytes) {
-                return push_plain_cut(page, text.bytes, cut);
+                return push_plain_cut(page, text.bytes, cut, theme);
             }
             let mut walk = Walk::new(text.bytes, text.start, text.tab);
-            push_cut(page, &mut walk, pieces, cut)
+            push_cut(page, &mut walk, pieces, cut, theme)
         }
         None => push_text(page, text, pieces),
     }

@@ -1,8 +1,7 @@
 //! The stretches of a line that is cut: counts of cells, columns and bytes.
 
 ghost use Rattle.std.specs.Prelude.{◌≡◌, ◌++◌, List, IfOk, OnOk};
-ghost use Rattle.miette_cuts.specs.views.Cuts.{is_kept};
-ghost use Rattle.miette_cuts.specs.steps.Cut.{grown_stretch, onto_made};
+ghost use Rattle.miette_cuts.specs.steps.Cut.{grown_stretch, kept_made, made_columns, onto_made};
 
 use miette_basics::sums::sum;
 use std::alloc::AllocError;
@@ -10,12 +9,12 @@ use std::alloc::AllocError;
 /// A line's stretches; none where it isn't cut.
 pub type Cut = Option<Vec<Stretch>>;
 
-/// Cells one after the other that are all near an end of a mark, or of which none is: how many, and how many columns
-/// and bytes they have.
+/// Cells one after the other that are all shown, or of which none is: how many, and how many columns and bytes they
+/// have.
 #[derive(Clone, Copy, Debug, PartialEq, Eq, Drop)]
 pub struct Stretch {
-    /// Whether the cells are near.
-    pub near: bool,
+    /// Whether the cells are shown.
+    pub shown: bool,
     /// How many they are.
     pub cells: usize,
     /// Their columns.
@@ -24,19 +23,19 @@ pub struct Stretch {
     pub bytes: usize,
 }
 
-// A stretch and the one behind it, as near as the first.
+// A stretch and the one behind it, shown as the first is.
 fn grown_stretch(first: &Stretch, next: &Stretch) -> Result<Stretch, AllocError>
     ensures { IfOk result (λ both. both ≡ grown_stretch first.now next.now) }
 {
     Ok(Stretch {
-        near: first.near,
+        shown: first.shown,
         cells: sum(first.cells, next.cells)?,
         columns: sum(first.columns, next.columns)?,
         bytes: sum(first.bytes, next.bytes)?,
     })
 }
 
-/// Puts a stretch behind the last one that was reached, which goes on into it where both are near, or neither.
+/// Puts a stretch behind the last one that was reached, which goes on into it where both are shown, or neither.
 pub(crate) fn put_stretch(
     made: &mut Vec<Stretch>,
     reached: &mut Stretch,
@@ -44,9 +43,9 @@ pub(crate) fn put_stretch(
 ) -> Result<(), AllocError>
     ensures put { OnOk result ((rest : List Stretch) → made.new.items ++ onto_made reached.new rest
         ≡ made.old.items ++ onto_made reached.old (onto_made next rest)) }
-    ensures near { OnOk result (reached.new.near ≡ next.near) }
+    ensures shown { OnOk result (reached.new.shown ≡ next.shown) }
 {
-    let same = next.near == reached.near;
+    let same = next.shown == reached.shown;
     if same {
         *reached = grown_stretch(reached, &next)?;
         return Ok(());
@@ -56,9 +55,21 @@ pub(crate) fn put_stretch(
     Ok(())
 }
 
-/// Whether a stretch is shown: it is near, or three dots would be no shorter.
-pub(crate) fn is_shown(stretch: &Stretch) -> bool
-    ensures { result ≡ is_kept stretch.now }
+/// A stretch that is shown too where it is short: so many dots would be no shorter.
+pub(crate) fn kept_stretch(stretch: &Stretch, dots: usize) -> Stretch
+    ensures { result ≡ kept_made dots stretch.now }
 {
-    stretch.near || stretch.columns <= 3
+    Stretch {
+        shown: stretch.shown || stretch.columns <= dots,
+        cells: stretch.cells,
+        columns: stretch.columns,
+        bytes: stretch.bytes,
+    }
+}
+
+/// The columns of a stretch in the row: its own, or those of its dots.
+pub(crate) fn shown_columns(stretch: &Stretch, dots: usize) -> usize
+    ensures { result ≡ made_columns dots stretch.now }
+{
+    if stretch.shown { stretch.columns } else { dots }
 }

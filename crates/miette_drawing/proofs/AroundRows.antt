@@ -1,7 +1,7 @@
 -- A snippet's rows by the labels that may touch it are those by all labels.
 use Rattle.miette_page.specs.views.Printouts.{Printout, ◌⊕◌}
-use Rattle.std.proofs.Common.{ℕ, ◌+◌, ◌-◌, ◌≤◌, ◌≡◌, Bool, true, false, not, ◌&&◌, ◌||◌, List, [], ◌∷◌, ◌++◌, length}
-use Rattle.std.proofs.Common.{map, drop, refl, sym, ap, ap₂, ◌∙◌, Option, Some, None, arith}
+use Rattle.std.proofs.Common.{ℕ, zero, suc, ◌+◌, ◌-◌, ◌≤◌, ◌≡◌, ◌⊎◌, inl, inr, ⊎_elim, Bool, true, false, not}
+use Rattle.std.proofs.Common.{◌&&◌, ◌||◌, List, [], ◌∷◌, ◌++◌, length, map, drop, refl, sym, ap, ap₂, ◌∙◌, Option, Some, None, arith}
 use Rattle.std.specs.List.{list_any}
 use Rattle.miette_source_lines.specs.rules.Lines as P
 use Rattle.miette_source_lines.specs.rules.Lines.{Line, IsCut}
@@ -9,13 +9,15 @@ use Rattle.miette_source_lines.proofs.Cuts.{cut_from, cut_le}
 use Rattle.miette_highlight.specs.rules.HighlighterCalls.{Call}
 use Rattle.miette_page.specs.views.Tokens.{rows_tokens}
 use Rattle.miette_labels.specs.rules.Answers.{Highlight, first_of}
-use Rattle.miette_snippet_rules.specs.rules.Folds.{Spread, hides, is_around, leaves_out, place_among}
+use Rattle.miette_snippet_rules.specs.rules.Folds.{Spread, hides, is_around, is_hidden, leaves_out}
+use Rattle.miette_snippet_rules.specs.rules.Folds.{line_at, place_among}
 use Rattle.miette_snippet_rules.specs.rules.Settings.{SnippetSettings}
 use Rattle.miette_snippet_rules.specs.rules.SnippetLayout.{SnippetContext, left_out, line_or_break, rows_of_lines}
 use Rattle.miette_frames.specs.views.LentRows.{PutsRows}
 use Rattle.miette_folds.specs.declared.folds.Spread.{Spread as MadeSpread}
 use Rattle.miette_folds.specs.views.Spreads.{spread_of}
 use Rattle.miette_folds.specs.views.Windows.{AreAround}
+use Rattle.miette_snippet_rules.proofs.NeverHidden.{no_line, none_hidden}
 
 and_true : (b : Bool) → b ≡ (b && true)
 and_true true = refl
@@ -26,17 +28,49 @@ any_alike : (line : Line) (xs : List Spread) → list_any (is_around line) xs
 any_alike line [] = refl
 any_alike line (x ∷ xs) = ap₂ (λ a b. a || b) (and_true (is_around line x)) (any_alike line xs)
 
--- whether a line is left out
-leaves_alike : (limit : Option ℕ) (lines : List Line) (all some : List MadeSpread) (start end i : ℕ) (line : Line)
+-- whether a line is hidden
+hidden_alike : (limit : ℕ) (lines : List Line) (all some : List MadeSpread) (start end i : ℕ) (line : Line)
     → AreAround start end all some → start ≤ line.start → line.end ≤ end →
-    leaves_out limit lines (map spread_of some) i line ≡ leaves_out limit lines (map spread_of all) i line
-leaves_alike None lines all some start end i line h low high = refl
-leaves_alike (Some limit) lines all some start end i line h low high =
+    is_hidden limit lines (map spread_of some) i line ≡ is_hidden limit lines (map spread_of all) i line
+hidden_alike limit lines all some start end i line h low high =
     let shown : Spread → Bool = λ s. not (hides limit (place_among lines s.first) (place_among lines s.last) s.around i)
     in
     let around : list_any (is_around line) (map spread_of some) ≡ list_any (is_around line) (map spread_of all) =
     any_alike line (map spread_of some) ∙ h line low high (λ s. true) ∙ sym (any_alike line (map spread_of all)) in
     ap₂ (λ a b. a && not b) around (h line low high shown)
+
+-- a line by its number lies among the others, or there is none
+line_within : (ls : List Line) (at to k : ℕ) → IsCut at ls to
+    → ((at ≤ (line_at ls k).start) × ((line_at ls k).end ≤ to)) ⊎ (line_at ls k ≡ no_line)
+line_within [] at to k cut = inr refl
+line_within (l ∷ ls) at to zero cut = inl (omega (arith, cut.0), cut_le l.end ls to cut.4)
+line_within (l ∷ ls) at to (suc k) cut =
+    elim (line_within ls l.end to k cut.4) [
+      | inl both ↦ inl (omega (arith, cut.3, both.0), both.1)
+      | inr none ↦ inr none
+    ]
+
+hidden_at : (limit : ℕ) (lines : List Line) (all some : List MadeSpread) (start end i : ℕ)
+    → AreAround start end all some → IsCut start lines end →
+    is_hidden limit lines (map spread_of some) i (line_at lines i)
+    ≡ is_hidden limit lines (map spread_of all) i (line_at lines i)
+hidden_at limit lines all some start end i h cut =
+    ⊎_elim {C = is_hidden limit lines (map spread_of some) i (line_at lines i)
+    ≡ is_hidden limit lines (map spread_of all) i (line_at lines i)}
+    (λ both. hidden_alike limit lines all some start end i (line_at lines i) h both.0 both.1)
+    (λ none. ap (is_hidden limit lines (map spread_of some) i) none ∙ none_hidden limit lines (map spread_of some) i
+    ∙ sym (ap (is_hidden limit lines (map spread_of all) i) none ∙ none_hidden limit lines (map spread_of all) i))
+    (line_within lines start end i cut)
+
+-- whether a line is left out
+leaves_alike : (limit : Option ℕ) (lines : List Line) (all some : List MadeSpread) (start end i : ℕ) (line : Line)
+    → AreAround start end all some → IsCut start lines end → start ≤ line.start → line.end ≤ end →
+    leaves_out limit lines (map spread_of some) i line ≡ leaves_out limit lines (map spread_of all) i line
+leaves_alike None lines all some start end i line h cut low high = refl
+leaves_alike (Some limit) lines all some start end i line h cut low high =
+    ap₂ (λ a b. a && b) (hidden_alike limit lines all some start end i line h low high)
+    (ap₂ (λ a b. a || b) (hidden_at limit lines all some start end (i - 1) h cut)
+    (hidden_at limit lines all some start end (i + 1) h cut))
 
 -- rows of lines that are left out or not alike
 rows_alike : (f g : ℕ → Line → Bool) (start end : ℕ) → ((k : ℕ) (line : Line) → start ≤ line.start → line.end ≤ end
@@ -69,6 +103,6 @@ rows_around s blank happen start end before bytes all some texts c p q e around 
       is = h.is ∙ ap (λ rows. p ⊕ rows_tokens rows) (rows_alike (left_out s before lines (map spread_of some))
           (left_out s before lines (map spread_of all)) start end
           (λ k line low high. leaves_alike s.layout.label_lines lines all some start end (k - (before + 1)) line around
-          low high)
+          (cut_from start bytes end e) low high)
           false c (before + 1) h.pieces lines start end (cut_from start bytes end e) (omega arith) (omega arith));
     }

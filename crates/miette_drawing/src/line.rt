@@ -1,6 +1,6 @@
 //! All rows of one line.
 
-ghost use Rattle.std.specs.Prelude.{◌≡◌, ◌+◌, ◌^◌, ◌<◌, ◌∷◌, [], map, length, IfOk, OnOk, if◌then◌else◌};
+ghost use Rattle.std.specs.Prelude.{◌≡◌, ◌+◌, ◌++◌, ◌^◌, ◌<◌, ◌∷◌, [], map, length, IfOk, OnOk, if◌then◌else◌};
 ghost use Rattle.std.specs.List.{All};
 ghost use Rattle.miette_snippet_rules.specs.rules.Marks.{marks};
 ghost use Rattle.miette_snippet_rules.specs.rules.Drawing.{marked_rows};
@@ -12,7 +12,9 @@ ghost use Rattle.miette_page.specs.views.Printouts.{◌⊕◌};
 ghost use Rattle.miette_page.specs.views.Tokens.{row_tokens, rows_tokens};
 ghost use Rattle.miette_snippet_rules.specs.rules.Highlighting.{highlight_of};
 ghost use Rattle.std.specs.Option.{option_map};
-ghost use Rattle.miette_cuts.specs.views.Cuts.{made_runs};
+ghost use Rattle.miette_snippet_rules.specs.rules.CutEnds.{mark_ends, spread_ends};
+ghost use Rattle.miette_snippet_rules.specs.rules.CutLines.{cut_line, dots, dots_in as dots_of_characters};
+ghost use Rattle.miette_cuts.specs.views.Cuts.{made_runs, measure};
 ghost use Rattle.miette_cuts.specs.views.LineTexts.{text_cells};
 ghost use Rattle.miette_snippet_rules.specs.views.MadeMarks.{mark_of, IsAnchored};
 ghost use Rattle.miette_frames.specs.views.LineContexts.{settings, multi_labels, before_marks};
@@ -21,7 +23,9 @@ ghost use Rattle.miette_drawing.specs.steps.ShownLines.{shown_cells, labels_alon
 ghost use Rattle.miette_source_lines.specs.views.Walking.{line_of_text};
 
 use crate::shown_line::ShownLine;
-use miette_cuts::cutting::{cut_around, marks_shown};
+use miette_cuts::cutting::{cut_at_ends, marks_shown};
+use miette_cuts::dots::dots_in;
+use miette_cuts::ends::ends_of;
 use miette_cuts::line_text::LineText;
 use miette_cuts::marks::marks_on;
 use miette_cuts::printing::push_shown_text;
@@ -61,12 +65,12 @@ fn push_number_row<O: Canvas>(
 ) -> Outcome
     requires { text.now.start + length text.now.bytes.now < 2 ^ 64 }
     ensures { OnOk result (page.new ≡ page.old ⊕ rows_tokens (number_row context.now shown.now
-        (made_runs (option_map (λ made. made.items) cut.now) (map highlight_of shown.now.pieces.now)
-        (text_cells text.now)) ∷ [])) }
+        (made_runs (dots (settings context.now).theme) (option_map (λ made. made.items) cut.now)
+        (map highlight_of shown.now.pieces.now) (text_cells text.now)) ∷ [])) }
 {
     push_number_start(page, context, shown.number)?;
     push_gutter(page, context, context.gutter, GutterEnd::Arrow)?;
-    push_shown_text(page, text, shown.pieces, cut)?;
+    push_shown_text(page, text, shown.pieces, cut, context.frame.settings.theme)?;
     page.end_row()
 }
 
@@ -108,6 +112,31 @@ fn marks_alone<'a>(
         context.frame.settings.layout.tab_width,
         shown.one,
     )
+}
+
+// How a line is cut around the ends of these marks and those of the labels of several lines that lie on it.
+fn cut_of(
+    alloc: Global,
+    context: &LineContext,
+    text: &LineText,
+    marks: &[Mark],
+) -> Result<Cut, AllocError>
+    requires start { text.now.start ≡ context.now.line.start }
+    requires fits { text.now.start + length text.now.bytes.now < 2 ^ 64 }
+    ensures { IfOk result (λ cut. option_map (λ made. made.items) cut ≡ option_map (map measure)
+        (cut_line (dots_of_characters (settings context.now).theme.characters)
+        (settings context.now).layout.line_columns
+        (mark_ends (map mark_of marks.now) ++ spread_ends (line_of_text context.now.line)
+        (text_of_cells (text_cells text.now) context.now.line.text_end) (multi_labels context.now))
+        (text_cells text.now))) }
+{
+    let most = context.frame.settings.layout.line_columns;
+    let Some(_limit) = most else {
+        return Ok(None);
+    };
+    let ends = ends_of(alloc, &context.line, text, marks, context.multi)?;
+    let dots = dots_in(context.frame.settings.theme);
+    cut_at_ends(alloc, text, &ends, most, dots)
 }
 
 // The row of a break: `...│ │`.
@@ -160,14 +189,10 @@ pub(crate) fn push_line_or_break<O: Canvas>(
         bytes: shown.text,
         tab: context.frame.settings.layout.tab_width,
     };
-    let cut = cut_around(
-        alloc,
-        &text,
-        &whole,
-        context.frame.settings.layout.line_columns,
-    )?;
+    let cut = cut_of(alloc, context, &text, &whole)?;
     push_number_row(page, context, shown, &text, &cut)?;
-    let marks = marks_shown(alloc, &cut, whole)?;
+    let dots = dots_in(context.frame.settings.theme);
+    let marks = marks_shown(alloc, &cut, whole, dots)?;
     push_marked_rows(page, context, &marks)?;
     push_closings(page, context)
 }

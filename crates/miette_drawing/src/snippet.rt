@@ -44,7 +44,7 @@ use miette_basics::sums::sum;
 use miette_folds::extent::extent_of;
 use miette_folds::folds::Spread;
 use miette_folds::gaps::next_start;
-use miette_folds::left_out::leaves_out;
+use miette_folds::left_out::{PlacedLine, leaves_out};
 use miette_folds::snippet_folds::{Folds, folds_in};
 use miette_folds::windows::Spreads;
 use miette_frames::frame::{Frame, Heading, push_bottom_row, push_top_row};
@@ -188,9 +188,7 @@ fn push_lines<'a, H: Highlighter, O: Canvas>(
     ensures at { OnOk result (IsAt drawing.now.placed.now (body.now.start + length body.now.bytes.now) sweep.new.next
         sweep.new.running.items) }
 {
-    let mut place: usize = 0;
-    let mut at: usize = 0;
-    let mut gap = false;
+    let (mut place, mut at, mut gap): (usize, usize, bool) = (0, 0, false);
     while at < body.bytes.len() {
         let number = number_of(body.before, place)?;
         let line = line_at(body.bytes, body.start, at);
@@ -203,12 +201,14 @@ fn push_lines<'a, H: Highlighter, O: Canvas>(
         };
         let text = &body.bytes[line.start - body.start..line.text_end - body.start];
         let pieces = pieces_of(drawing.settings.alloc, highlighter, text)?;
-        let left_out = leaves_out(
-            body.frame.settings.layout.label_lines,
-            body.folds,
+        let here = PlacedLine {
+            bytes: body.bytes,
+            start: body.start,
             place,
-            &line,
-        );
+            line,
+        };
+        let limit = body.frame.settings.layout.label_lines;
+        let left_out = leaves_out(limit, body.folds, &here, gap);
         let shown = ShownLine {
             number,
             text,

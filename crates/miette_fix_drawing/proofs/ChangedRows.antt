@@ -1,15 +1,15 @@
 -- The rows of a changed line.
 use Rattle.miette_page.specs.views.Printouts.{Printout, ◌⊕◌}
 use Rattle.std.proofs.Common.{ℕ, ◌≤◌, ◌≡◌, Bool, true, false, cond, List, [], ◌∷◌, ◌++◌, map, length, replicate}
-use Rattle.std.proofs.Common.{Option, Some, None, option_map, refl, sym, ap, ◌∙◌, arith}
+use Rattle.std.proofs.Common.{Option, refl, sym, ap, ◌∙◌, arith}
 use Rattle.std.specs.List.{filter, list_any}
 use Rattle.miette_style.specs.rules.Styles.{plain}
 use Rattle.miette_protocol.specs.rules.Reading.{Span}
-use Rattle.miette_page.specs.rules.Rows.{Row, styled_run}
+use Rattle.miette_page.specs.rules.Rows.{Row, Run, styled_run}
 use Rattle.miette_page.specs.views.Tokens.{begins, row_end, row_tokens, rows_tokens, styled_tokens, text_tokens}
 use Rattle.miette_labels.specs.rules.Answers.{Highlight}
 use Rattle.miette_cells.specs.rules.Cells.{Cell}
-use Rattle.miette_snippet_rules.specs.rules.CutLines.{shown_marks, shown_runs}
+use Rattle.miette_snippet_rules.specs.rules.CutLines.{Stretch, cut_line, dots, dots_in, shown_marks, shown_runs}
 use Rattle.miette_snippet_rules.specs.rules.Drawing.{blank}
 use Rattle.miette_snippet_rules.specs.rules.Frames.{other_start}
 use Rattle.miette_snippet_rules.specs.rules.Marks.{Mark, marks}
@@ -19,23 +19,15 @@ use Rattle.miette_snippet_rules.proofs.RowTokens.{then, told_as, blank_row, styl
 use Rattle.miette_frames.proofs.TextRows.{parts_then, row_done, rows_then}
 use Rattle.miette_cuts.specs.declared.stretch.Stretch.{Stretch as MadeStretch}
 use Rattle.miette_cuts.specs.steps.Stops.{ComeFrom}
-use Rattle.miette_cuts.specs.views.CutEnds.{cut_with_ends}
-use Rattle.miette_cuts.specs.views.Cuts.{made_runs, measure}
-use Rattle.miette_cuts.proofs.CutText.{shown_at_ends}
+use Rattle.miette_cuts.specs.views.Cuts.{made_runs}
+use Rattle.miette_cuts.proofs.CutText.{shown_made}
 use Rattle.miette_fix_rows.specs.rules.DiffRows.{ChangedLine, before_some, changed_rows, marks_row, row_if_some}
-use Rattle.miette_fix_rows.specs.rules.DiffRows.{sign_start}
-use Rattle.miette_fix_rows.specs.rules.DiffRows.{text_row}
-use Rattle.miette_fix_rows.specs.rules.DiffTexts.{cut_around, edit_marks, ends_of, holds_byte, is_on, line_cells}
-use Rattle.miette_fix_rows.specs.rules.DiffTexts.{line_ends}
+use Rattle.miette_fix_rows.specs.rules.DiffRows.{changed_cut, sign_start, text_row}
+use Rattle.miette_fix_rows.specs.rules.DiffTexts.{edit_marks, ends_of, holds_byte, is_on, line_cells, line_ends}
 use Rattle.miette_fix_rows.specs.rules.DiffTexts.{line_text, look_alike, onto_painted, painted, parts_in, pieces}
 use Rattle.miette_fix_rows.specs.rules.DiffTexts.{sign_runs}
 use Rattle.miette_fix_drawing.specs.steps.Ends.{line_cut}
 use Rattle.miette_fix_drawing.specs.steps.Starts.{digits_row}
-
-pub cut_alike : (most : Option ℕ) (es : List ℕ) (cells : List Cell)
-    → cut_with_ends most es cells ≡ cut_around most es cells
-cut_alike None es cells = refl
-cut_alike (Some limit) es cells = refl
 
 pub sign_put : (s : SnippetSettings) (w : ℕ) (line : ChangedLine) (p d b g k n : Printout)
     → d ≡ p ⊕ row_tokens (digits_row s w line.number) → b ≡ d ⊕ styled_tokens plain (replicate 1 32)
@@ -59,21 +51,20 @@ sign_put s w line p d b g k n hd hb hg hk hn =
 pub text_put : (s : SnippetSettings) (w : ℕ) (line : ChangedLine) (cells : List Cell) (made : List Highlight)
     (cut : Option (List MadeStretch)) (p a t n : Printout) → cells ≡ line_cells s line.start line.text
     → made ≡ pieces line.style line.spans cells → cut ≡ line_cut s line → a ≡ p ⊕ row_tokens (sign_start s w line)
-    → t ≡ a ⊕ row_tokens (made_runs cut made cells) → n ≡ t ⊕ row_end ∷ [] → n ≡ p ⊕ rows_tokens
+    → t ≡ a ⊕ row_tokens (made_runs (dots s.theme) cut made cells) → n ≡ t ⊕ row_end ∷ [] → n ≡ p ⊕ rows_tokens
     (text_row s w line ∷ [])
 text_put s w line cells made cut p a t n hcells hmade hcut ha ht hn =
-    let most : Option ℕ = s.layout.line_columns in
+    let run : Run = dots s.theme in
     let es : List ℕ = line_ends s line.start line.text line.spans in
     let own : List Cell = line_cells s line.start line.text in
     let ps : List Highlight = pieces line.style line.spans own in
-    let shown : made_runs cut made cells ≡ shown_runs (cut_around most es own) ps own =
-    ap (λ x. made_runs x made cells) hcut
-    ∙ ap (λ x. made_runs (line_cut s line) x cells) hmade
-    ∙ ap (λ x. made_runs (line_cut s line) (pieces line.style line.spans x) x) hcells
-    ∙ ap (λ x. made_runs (option_map (map measure) x) ps own) (sym (cut_alike most es own))
-    ∙ shown_at_ends most es own ps ∙ ap (λ x. shown_runs x ps own) (cut_alike most es own) in
-    row_done (sign_start s w line ++ made_runs cut made cells) p t n
-    (parts_then (sign_start s w line) (made_runs cut made cells) p a t ha ht) hn
+    let shown : made_runs run cut made cells ≡ shown_runs run (changed_cut s line) ps own =
+    ap (λ x. made_runs run x made cells) hcut
+    ∙ ap (λ x. made_runs run (line_cut s line) x cells) hmade
+    ∙ ap (λ x. made_runs run (line_cut s line) (pieces line.style line.spans x) x) hcells
+    ∙ shown_made run (dots_in s.theme.characters) s.layout.line_columns es own ps in
+    row_done (sign_start s w line ++ made_runs run cut made cells) p t n
+    (parts_then (sign_start s w line) (made_runs run cut made cells) p a t ha ht) hn
     ∙ ap (λ row. p ⊕ rows_tokens ((sign_start s w line ++ row) ∷ [])) shown
 
 -- a line that looks like the other, and one that doesn't
@@ -111,13 +102,14 @@ pub near_rows : (s : SnippetSettings) (w : ℕ) (line : ChangedLine) (near : Lis
     → filter (is_on line.start line.text) near ≡ filter (is_on line.start line.text) line.spans
     → changed_rows s w (record line { spans = near }) other ≡ changed_rows s w line other
 near_rows s w line near other come held parts on =
-    let most : Option ℕ = s.layout.line_columns in
     let cells : List Cell = line_cells s line.start line.text in
+    let cut : List Span → Option (List Stretch) =
+    λ touching. cut_line (dots_in s.theme.characters) s.layout.line_columns (ends_of s line.start line.text touching)
+    cells in
     let rows : List Span → List Highlight → List Mark → List Row =
-    λ touching ps ms. (sign_start s w line
-    ++ shown_runs (cut_around most (ends_of s line.start line.text touching) cells) ps cells)
+    λ touching ps ms. (sign_start s w line ++ shown_runs (dots s.theme) (cut touching) ps cells)
     ∷ cond (look_alike s line.text other) (before_some (other_start s w) (row_if_some (sign_runs s line.sign 0
-    (shown_marks (cut_around most (ends_of s line.start line.text touching) cells) ms)))) [] in
+    (shown_marks (dots_in s.theme.characters) (cut touching) ms)))) [] in
     let ps : List Highlight = pieces line.style near cells in
     let ms : List Mark = edit_marks s line.start line.text line.style near in
     let pieces_same : ps ≡ pieces line.style line.spans cells =

@@ -11,7 +11,7 @@ use Rattle.miette_style.specs.declared.style.Style.{Style}
 use Rattle.miette_style.specs.rules.Styles.{plain}
 use Rattle.miette_labels.specs.rules.Answers.{Highlight}
 use Rattle.miette_protocol.specs.rules.Reading.{Span}
-use Rattle.miette_page.specs.rules.Rows.{Glyph}
+use Rattle.miette_page.specs.rules.Rows.{Glyph, Run}
 use Rattle.miette_page.specs.views.Printouts.{Printout, ◌⊕◌}
 use Rattle.miette_page.specs.views.Tokens.{row_tokens, styled_tokens}
 use Rattle.miette_page.proofs.Paging.{put_append}
@@ -221,13 +221,13 @@ pieces_left pieces i rest p r whole le hr inv =
     hr ∙ ap (λ xs. p ⊕ pieces_told xs rest) (sym (at_drop_all (map highlight_of) pieces i le)) ∙ inv
 
 -- a line that isn't cut
-pub printable_put : (tab start : ℕ) (pieces : List (ℕ × Style)) (bs : List ℕ) (cut : Option (List Stretch))
+pub printable_put : (run : Run) (tab start : ℕ) (pieces : List (ℕ × Style)) (bs : List ℕ) (cut : Option (List Stretch))
     (p q : Printout) → cut ≡ None → list_all is_printable bs ≡ true
     → q ≡ p ⊕ pieces_told (map highlight_of pieces) bs
     → q ≡ p
-    ⊕ row_tokens (made_runs cut (map highlight_of pieces) (cells_from width_of tab false start 0 (characters bs)))
-printable_put tab start pieces bs cut p q none h hq =
+    ⊕ row_tokens (made_runs run cut (map highlight_of pieces) (cells_from width_of tab false start 0 (characters bs)))
+printable_put run tab start pieces bs cut p q none h hq =
     let hs : List Highlight = map highlight_of pieces in
     hq ∙ ap (λ ts. p ⊕ ts) (pieces_shown hs start 0 bs h)
     ∙ ap (λ cells. p ⊕ row_tokens (line_runs hs cells)) (sym (printable_cells tab start 0 bs h))
-    ∙ ap (λ c. p ⊕ row_tokens (made_runs c hs (cells_from width_of tab false start 0 (characters bs)))) (sym none)
+    ∙ ap (λ c. p ⊕ row_tokens (made_runs run c hs (cells_from width_of tab false start 0 (characters bs)))) (sym none)

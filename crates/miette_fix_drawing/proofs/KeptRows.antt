@@ -1,10 +1,10 @@
 -- The row of an unchanged line.
 use Rattle.miette_page.specs.views.Printouts.{Printout, ◌⊕◌}
-use Rattle.std.proofs.Common.{ℕ, ◌+◌, ◌≡◌, List, [], ◌∷◌, ◌++◌, map, Option, Some, None, option_map, refl, ap, ◌∙◌}
+use Rattle.std.proofs.Common.{ℕ, ◌+◌, ◌≡◌, List, [], ◌∷◌, ◌++◌, map, Option, option_map, ap, ◌∙◌}
 use Rattle.miette_page.specs.rules.Rows.{Run}
 use Rattle.miette_page.specs.views.Tokens.{row_end, row_tokens, rows_tokens}
 use Rattle.miette_cells.specs.rules.Cells.{Cell}
-use Rattle.miette_snippet_rules.specs.rules.CutLines.{cut_line, shown_runs}
+use Rattle.miette_snippet_rules.specs.rules.CutLines.{cut_line, dots, dots_in, shown_runs}
 use Rattle.miette_snippet_rules.specs.rules.Frames.{number_start}
 use Rattle.miette_snippet_rules.specs.rules.Settings.{SnippetSettings}
 use Rattle.miette_cuts.specs.declared.stretch.Stretch.{Stretch as MadeStretch}
@@ -13,27 +13,25 @@ use Rattle.miette_cuts.proofs.CutText.{shown_made}
 use Rattle.miette_frames.proofs.TextRows.{parts_then, row_done}
 use Rattle.miette_fix_rows.specs.rules.DiffFrames.{Standing}
 use Rattle.miette_fix_rows.specs.rules.DiffRows.{kept_row}
-use Rattle.miette_fix_rows.specs.rules.DiffTexts.{cut_around, line_cells}
+use Rattle.miette_fix_rows.specs.rules.DiffTexts.{line_cells}
 
--- a line without marks has no ends
-cut_alike : (most : Option ℕ) (cells : List Cell) → cut_line most [] cells ≡ cut_around most [] cells
-cut_alike None cells = refl
-cut_alike (Some limit) cells = refl
-
-pub kept_put : (s : SnippetSettings) (w number : ℕ) (at : Standing) (line : List ℕ) (cells : List Cell)
+pub kept_put : (s : SnippetSettings) (w number : ℕ) (at : Standing) (line : List ℕ) (many : ℕ) (cells : List Cell)
     (cut : Option (List MadeStretch)) (p a t n : Printout) → number ≡ at.old_line + 1
-    → cells ≡ line_cells s at.old_offset line
-    → cut ≡ option_map (map measure) (cut_line s.layout.line_columns [] cells)
-    → a ≡ p ⊕ row_tokens (number_start s w number) → t ≡ a ⊕ row_tokens (made_runs cut [] cells) → n ≡ t ⊕ row_end ∷ []
+    → many ≡ dots_in s.theme.characters → cells ≡ line_cells s at.old_offset line
+    → cut ≡ option_map (map measure) (cut_line many s.layout.line_columns [] cells)
+    → a ≡ p ⊕ row_tokens (number_start s w number) → t ≡ a ⊕ row_tokens (made_runs (dots s.theme) cut [] cells)
+    → n ≡ t ⊕ row_end ∷ []
     → n ≡ p ⊕ rows_tokens (kept_row s w at line ∷ [])
-kept_put s w number at line cells cut p a t n hnumber hcells hcut ha ht hn =
+kept_put s w number at line many cells cut p a t n hnumber hmany hcells hcut ha ht hn =
+    let run : Run = dots s.theme in
     let runs : List Cell → List Run =
-    λ cs. shown_runs (cut_around s.layout.line_columns [] cs) [] cs in
-    let shown : made_runs cut [] cells ≡ runs cells =
-    ap (λ x. made_runs x [] cells) hcut ∙ shown_made s.layout.line_columns [] cells []
-    ∙ ap (λ o. shown_runs o [] cells) (cut_alike s.layout.line_columns cells) in
-    row_done (number_start s w number ++ made_runs cut [] cells) p t n
-    (parts_then (number_start s w number) (made_runs cut [] cells) p a t ha ht) hn
+    λ cs. shown_runs run (cut_line (dots_in s.theme.characters) s.layout.line_columns [] cs) [] cs in
+    let shown : made_runs run cut [] cells ≡ runs cells =
+    ap (λ x. made_runs run x [] cells) hcut
+    ∙ ap (λ k. made_runs run (option_map (map measure) (cut_line k s.layout.line_columns [] cells)) [] cells) hmany
+    ∙ shown_made run (dots_in s.theme.characters) s.layout.line_columns [] cells [] in
+    row_done (number_start s w number ++ made_runs run cut [] cells) p t n
+    (parts_then (number_start s w number) (made_runs run cut [] cells) p a t ha ht) hn
     ∙ ap (λ row. p ⊕ rows_tokens ((number_start s w number ++ row) ∷ [])) shown
     ∙ ap (λ k. p ⊕ rows_tokens ((number_start s w k ++ runs cells) ∷ [])) hnumber
     ∙ ap (λ cs. p ⊕ rows_tokens ((number_start s w (at.old_line + 1) ++ runs cs) ∷ [])) hcells

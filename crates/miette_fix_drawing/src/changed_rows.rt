@@ -19,6 +19,7 @@ use crate::printable::{changed_pieces, push_changed_text};
 use crate::spans::spans_from;
 use crate::texts::text_of;
 use miette_cuts::cutting::{cut_at_ends, marks_shown};
+use miette_cuts::dots::dots_in;
 use miette_cuts::line_text::LineText;
 use miette_cuts::stretch::Cut;
 use miette_frames::frame::Frame;
@@ -44,7 +45,8 @@ fn cut_of(settings: &SnippetSettings<'_>, line: &ChangedLine) -> Result<Cut, All
         tab: settings.layout.tab_width,
     };
     let ends = line_ends(settings, line)?;
-    cut_at_ends(settings.alloc, &text, &ends, most)
+    let dots = dots_in(settings.theme);
+    cut_at_ends(settings.alloc, &text, &ends, most, dots)
 }
 
 // What stands before a changed line's text: ` 12 - `.
@@ -80,7 +82,7 @@ fn push_text_row<O: Canvas>(
     };
     let pieces = changed_pieces(frame.settings.alloc, line.style, line.spans, &text)?;
     push_sign_start(page, frame, line)?;
-    push_changed_text(page, &text, &pieces, cut)?;
+    push_changed_text(page, &text, &pieces, cut, frame.settings.theme)?;
     page.end_row()
 }
 
@@ -99,7 +101,8 @@ fn push_line_marks<O: Canvas>(
         frame.now.number_width (changed_line_of line.now))) }
 {
     let marks = edit_marks(&frame.settings, line)?;
-    let shown = marks_shown(frame.settings.alloc, cut, marks)?;
+    let dots = dots_in(frame.settings.theme);
+    let shown = marks_shown(frame.settings.alloc, cut, marks, dots)?;
     push_marks_row(page, frame, line.sign, &shown)
 }
 

@@ -11,7 +11,8 @@ use crate::digits::{Outcome, push_number_start};
 use crate::standing::Standing;
 use crate::texts::text_of;
 use miette_basics::sums::sum;
-use miette_cuts::cutting::cut_around;
+use miette_cuts::cutting::cut_at_ends;
+use miette_cuts::dots::dots_in;
 use miette_cuts::line_text::LineText;
 use miette_cuts::printing::push_shown_text;
 use miette_frames::frame::Frame;
@@ -37,8 +38,15 @@ pub fn push_kept_row<O: Canvas>(
         bytes: text_of(line),
         tab: settings.layout.tab_width,
     };
-    let cut = cut_around(settings.alloc, &text, &[], settings.layout.line_columns)?;
+    let dots = dots_in(settings.theme);
+    let cut = cut_at_ends(
+        settings.alloc,
+        &text,
+        &[],
+        settings.layout.line_columns,
+        dots,
+    )?;
     push_number_start(page, frame, number)?;
-    push_shown_text(page, &text, &[], &cut)?;
+    push_shown_text(page, &text, &[], &cut, settings.theme)?;
     page.end_row()
 }

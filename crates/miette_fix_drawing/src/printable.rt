@@ -8,6 +8,8 @@ ghost use Rattle.miette_cells.specs.views.Printable.{is_printable, plain_cells};
 ghost use Rattle.miette_page.specs.views.Printouts.{◌⊕◌};
 ghost use Rattle.miette_page.specs.views.Tokens.{row_tokens, styled_tokens};
 ghost use Rattle.miette_snippet_rules.specs.rules.Highlighting.{highlight_of};
+ghost use Rattle.miette_style.specs.rules.Themes.{theme_of};
+ghost use Rattle.miette_snippet_rules.specs.rules.CutLines.{dots};
 ghost use Rattle.miette_cuts.specs.views.Cuts.{made_runs};
 ghost use Rattle.miette_cuts.specs.views.LineTexts.{text_cells};
 ghost use Rattle.miette_fix_rows.specs.rules.DiffTexts.{holds_byte, painted, pieces};
@@ -26,6 +28,7 @@ use miette_page::canvas::Canvas;
 use miette_page::page::{PLAIN, Page};
 use miette_protocol::protocol::SourceSpan;
 use miette_style::style::Style;
+use miette_style::theme::GraphicalTheme;
 use std::alloc::{AllocError, Global};
 use std::str;
 
@@ -156,20 +159,21 @@ fn push_pieces<O: Canvas>(page: &mut Page<O>, text: &[u8], pieces: &[(usize, Sty
 }
 
 /// What is shown of a changed line's text in pieces, each a length in bytes and a style, and plain behind them: its
-/// stretches, or all of it where it isn't cut. `AllocError` where memory is refused, or a column or a count of bytes is
-/// past the largest `usize`.
+/// stretches, with the theme's dots, or all of it where it isn't cut. `AllocError` where memory is refused, or a column
+/// or a count of bytes is past the largest `usize`.
 pub(crate) fn push_changed_text<O: Canvas>(
     page: &mut Page<O>,
     text: &LineText,
     pieces: &[(usize, Style)],
     cut: &Cut,
+    theme: &GraphicalTheme,
 ) -> Outcome
     requires { text.now.start + length text.now.bytes.now < 2 ^ 64 }
-    ensures { OnOk result (page.new ≡ page.old ⊕ row_tokens (made_runs (option_map (λ made. made.items) cut.now)
-        (map highlight_of pieces.now) (text_cells text.now))) }
+    ensures { OnOk result (page.new ≡ page.old ⊕ row_tokens (made_runs (dots (theme_of theme.now))
+        (option_map (λ made. made.items) cut.now) (map highlight_of pieces.now) (text_cells text.now))) }
 {
     match cut {
         None if all_printable(text.bytes) => push_pieces(page, text.bytes, pieces),
-        _ => push_shown_text(page, text, pieces, cut),
+        _ => push_shown_text(page, text, pieces, cut, theme),
     }
 }

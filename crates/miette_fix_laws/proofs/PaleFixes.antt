@@ -1,50 +1,48 @@
 -- The rows of a fix in their styles, and the same rows in plain ones.
 use Rattle.std.proofs.Common.{◌≡◌, ℕ, ◌+◌, ◌-◌, Bool, true, false, if◌then◌else◌, List, [], ◌∷◌, ◌++◌, map, length}
 use Rattle.std.proofs.Common.{replicate, decimal, codes, Option, Some, None, IfSome, refl, sym, ap, ◌∙◌, subst}
-use Rattle.std.specs.Prelude.{nat_lt}
 use Rattle.std.specs.List.{AllByRecursion, filter, prefix_len}
-use Rattle.miette_basics.proofs.Cases.{by_cases}
 use Rattle.miette_cells.specs.rules.Cells.{Cell, characters}
 use Rattle.miette_fixes.specs.declared.error.FixError.{FixError}
 use Rattle.miette_fixes.specs.declared.error.FixError.TheVariants.{OutOfBounds, Overlap, Memory}
 use Rattle.miette_fixes.specs.rules.Applying.{by_offset, refusal}
 use Rattle.miette_fixes.specs.rules.Edits.{Replacement}
 use Rattle.miette_fix_rows.specs.rules.DiffFrames.{DiffFrame, DiffLine, Standing, added, frames_of, kept, removed}
-use Rattle.miette_fix_rows.specs.rules.DiffRows.{ChangedLine, added_line, before_some, changed_rows}
+use Rattle.miette_fix_rows.specs.rules.DiffRows.{ChangedLine, added_line, before_some, changed_cut, changed_rows}
 use Rattle.miette_fix_rows.specs.rules.DiffRows.{context_of, error_name, fix_rows, frame_rows, frame_width, kept_row}
 use Rattle.miette_fix_rows.specs.rules.DiffRows.{marks_row, past, place_at, refused_row, removed_line, row_if_some}
 use Rattle.miette_fix_rows.specs.rules.DiffRows.{rows_of_frames, rows_of_line, rows_of_lines, rows_unless, sign_start}
 use Rattle.miette_fix_rows.specs.rules.DiffRows.{text_row}
-use Rattle.miette_fix_rows.specs.rules.DiffTexts.{Painted, cut_around, edit_marks, has_bytes, line_cells, line_ends}
+use Rattle.miette_fix_rows.specs.rules.DiffTexts.{Painted, edit_marks, has_bytes, line_cells, line_ends}
 use Rattle.miette_fix_rows.specs.rules.DiffTexts.{line_text, look_alike, painted, part_in, parts_in, pieces, sign_runs}
 use Rattle.miette_fix_rows.specs.rules.DiffTexts.{text_of_line}
 use Rattle.miette_fix_rows.specs.rules.Hunks.{diff}
 use Rattle.miette_labels.specs.rules.Answers.{Highlight}
-use Rattle.miette_page.specs.rules.Rows.{Row}
+use Rattle.miette_page.specs.rules.Rows.{Row, Run}
 use Rattle.miette_protocol.specs.rules.Reading.{Source, Span}
-use Rattle.miette_snippet_rules.specs.rules.CutLines.{Stretch, bytes_in, cut_runs, dots, is_kept, is_near}
+use Rattle.miette_snippet_rules.specs.rules.CutLines.{Stretch, bytes_in, cut_line, cut_runs, dots, dots_in}
 use Rattle.miette_snippet_rules.specs.rules.CutLines.{pieces_within}
 use Rattle.miette_snippet_rules.specs.rules.CutLines.{shown_marks, shown_runs}
 use Rattle.miette_snippet_rules.specs.rules.Frames.{bottom_row, number_start, other_start}
 use Rattle.miette_snippet_rules.specs.rules.Marks.{Mark, marks}
-use Rattle.miette_snippet_rules.specs.rules.PrintedCells.{cells_beyond, cells_width, line_runs}
+use Rattle.miette_snippet_rules.specs.rules.PrintedCells.{cells_beyond, line_runs}
 use Rattle.miette_snippet_rules.specs.rules.Settings.{SnippetSettings}
 use Rattle.miette_source_lines.specs.rules.Lines.{is_text}
 use Rattle.miette_style.specs.declared.style.Style.{Style}
 use Rattle.miette_style.specs.rules.Styles.{plain}
-use Rattle.miette_style.specs.rules.Themes.{Styles}
+use Rattle.miette_style.specs.rules.Themes.{Styles, Theme}
 use Rattle.miette_row_laws.specs.laws.Clean.{AreCleanDrawings, IsClean, IsCleanCode, IsCleanSource}
 use Rattle.miette_row_laws.specs.laws.Fading.{AreAllPlain, ArePlain, IsPlainRow, restyled}
 use Rattle.miette_row_laws.proofs.Bleaching.{filter_bleached, marks_bleached}
 use Rattle.miette_row_laws.proofs.CleanTexts.{AreCleanCells, clean_append, clean_cells, clean_characters, clean_cons}
 use Rattle.miette_row_laws.proofs.CleanTexts.{clean_copies, clean_decimal, clean_replicate, clean_take}
-use Rattle.miette_row_laws.proofs.CutFading.{IsCleanStretch, pale_shown, shown_bleached, stretches_clean}
+use Rattle.miette_row_laws.proofs.CutFading.{IsCleanStretch, cut_clean, pale_dots, pale_shown, shown_bleached}
 use Rattle.miette_row_laws.proofs.PaleSnippets.{faded, pale_bottom, pale_number_start, pale_other_start, pale_top}
 use Rattle.miette_row_laws.proofs.PaleSnippets.{pale_unstyled}
 use Rattle.miette_row_laws.proofs.Paling.{PaleRow, PaleRows, all_append, bleached, bleached_mark, pale_append}
 use Rattle.miette_row_laws.proofs.Paling.{pale_blank, pale_cons, pale_nil, pale_styled, rows_append, rows_cons}
 use Rattle.miette_row_laws.proofs.Paling.{rows_nil}
-use Rattle.miette_row_laws.proofs.PlainStyles.{are_faded}
+use Rattle.miette_row_laws.proofs.PlainStyles.{are_faded, faded_styles}
 use Rattle.miette_fix_laws.proofs.CleanLines.{AreCleanEdits, AreCleanShown, IsCleanFrame, frames_clean}
 
 -- ---- pieces in plain
@@ -75,21 +73,21 @@ row_if : (b : Bool) (x y : Row) → IsPlainRow x → IsPlainRow y → IsPlainRow
 row_if true x y h k = h
 row_if false x y h k = k
 
-cut_plain : (hs : List Highlight) (before : ℕ) (cut : List Stretch) → ArePlainPieces hs
-    → IsPlainRow (cut_runs hs before cut)
-cut_plain hs before [] h = tt
-cut_plain hs before (s ∷ later) h =
+cut_plain : (run : Run) (hs : List Highlight) (before : ℕ) (cut : List Stretch) → run.style ≡ plain
+    → ArePlainPieces hs → IsPlainRow (cut_runs run hs before cut)
+cut_plain run hs before [] d h = tt
+cut_plain run hs before (s ∷ later) d h =
     let own : List Highlight = pieces_within before (bytes_in s.cells) hs in
-    let first : Row = if is_kept s then line_runs own s.cells else dots ∷ [] in
-    all_append (λ run. run.style ≡ plain) first (cut_runs hs (before + bytes_in s.cells) later)
-    (row_if (is_kept s) (line_runs own s.cells) (dots ∷ [])
-    (line_plain own s.cells (within_plain before (bytes_in s.cells) hs h)) (refl, tt))
-    (cut_plain hs (before + bytes_in s.cells) later h)
+    let first : Row = if s.shown then line_runs own s.cells else run ∷ [] in
+    all_append (λ (r : Run). r.style ≡ plain) first (cut_runs run hs (before + bytes_in s.cells) later)
+    (row_if s.shown (line_runs own s.cells) (run ∷ [])
+    (line_plain own s.cells (within_plain before (bytes_in s.cells) hs h)) (d, tt))
+    (cut_plain run hs (before + bytes_in s.cells) later d h)
 
-shown_plain : (cut : Option (List Stretch)) (hs : List Highlight) (cells : List Cell) → ArePlainPieces hs
-    → IsPlainRow (shown_runs cut hs cells)
-shown_plain None hs cells h = line_plain hs cells h
-shown_plain (Some cut) hs cells h = cut_plain hs 0 cut h
+shown_plain : (run : Run) (cut : Option (List Stretch)) (hs : List Highlight) (cells : List Cell)
+    → run.style ≡ plain → ArePlainPieces hs → IsPlainRow (shown_runs run cut hs cells)
+shown_plain run None hs cells d h = line_plain hs cells h
+shown_plain run (Some cut) hs cells d h = cut_plain run hs 0 cut d h
 
 -- ---- clean lines
 
@@ -100,15 +98,6 @@ cells_clean : (s : SnippetSettings) (start : ℕ) (line : List ℕ) → IsClean 
 cells_clean s start line h =
     clean_cells s.width s.layout.tab_width false start 0 (characters (text_of_line line))
     (clean_characters (text_of_line line) (text_clean line h))
-
-around_clean : (limit : Option ℕ) (ends : List ℕ) (cells : List Cell) → AreCleanCells cells
-    → IfSome (cut_around limit ends cells) (AllByRecursion IsCleanStretch)
-around_clean None ends cells h = tt
-around_clean (Some limit) ends cells h =
-    by_cases {C = IfSome (cut_around (Some limit) ends cells) (AllByRecursion IsCleanStretch)}
-    (nat_lt limit (cells_width 0 cells))
-    (λ y. rw y (stretches_clean (is_near limit ends) false cells h))
-    (λ n. rw n tt)
 
 -- ---- marks in plain
 
@@ -134,13 +123,17 @@ module _ (P : Type 0) where
   rows_if true h = h
   rows_if false h = rows_nil P
 
-  pale_pieces : (cut : Option (List Stretch)) (plains hs : List Highlight) (cells : List Cell) → ArePlainPieces plains
-      → (P → AreCleanCells cells) → (P → IfSome cut (AllByRecursion IsCleanStretch)) →
-      PaleRow P (shown_runs cut plains cells) (shown_runs cut hs cells)
-  pale_pieces cut plains hs cells h k j =
-      let own = pale_shown P cut hs cells k j in
-      let other = pale_shown P cut plains cells k j in record {
-        plain = shown_plain cut plains cells h;
+  pale_pieces : (t : Theme) (hs : List Style) (cut : Option (List Stretch)) (plains pieces : List Highlight)
+      (cells : List Cell) → ArePlainPieces plains → (P → AreCleanCells cells)
+      → (P → IfSome cut (AllByRecursion IsCleanStretch)) →
+      PaleRow P (shown_runs (dots (record t { styles = faded_styles hs })) cut plains cells)
+      (shown_runs (dots t) cut pieces cells)
+  pale_pieces t hs cut plains pieces cells h k j =
+      let pale : Run = dots (record t { styles = faded_styles hs }) in
+      let own = pale_shown P pale (dots t) cut pieces cells (pale_dots P t (faded_styles hs) refl) k j in
+      let other = pale_shown P pale pale cut plains cells (pale_dots P (record t { styles = faded_styles hs })
+      (faded_styles hs) refl) k j in record {
+        plain = shown_plain pale cut plains cells refl h;
         same = sym other.same ∙ own.same;
         clean = own.clean;
       }
@@ -181,33 +174,33 @@ module _ (P : Type 0) where
         (pale_cons P (pale_styled P s.width line.style (line.sign ∷ []) (λ p. clean_cons line.sign [] h refl))
         (pale_cons P (pale_blank P s 1) (pale_nil P)))))
 
-    abbrev cut_of : ChangedLine → Option (List Stretch)
-    cut_of line = cut_around s.layout.line_columns (line_ends s line.start line.text line.spans)
-        (line_cells s line.start line.text)
-
     pale_text : (w : ℕ) (line : ChangedLine) → IsCleanCode line.sign → (P → IsClean line.text)
         → PaleRow P (text_row (faded hs s) w (in_plain line)) (text_row s w line)
     pale_text w line h k =
         let cells = line_cells s line.start line.text in
         pale_append P (sign_start (faded hs s) w (in_plain line)) (sign_start s w line)
-        (shown_runs (cut_of line) (pieces plain line.spans cells) cells)
-        (shown_runs (cut_of line) (pieces line.style line.spans cells) cells) (pale_start w line h)
-        (pale_pieces (cut_of line) (pieces plain line.spans cells) (pieces line.style line.spans cells) cells
+        (shown_runs (dots (faded hs s).theme) (changed_cut s line) (pieces plain line.spans cells) cells)
+        (shown_runs (dots s.theme) (changed_cut s line) (pieces line.style line.spans cells) cells)
+        (pale_start w line h)
+        (pale_pieces s.theme hs (changed_cut s line) (pieces plain line.spans cells)
+        (pieces line.style line.spans cells) cells
         (painted_plain (painted line.spans cells)) (λ p. cells_clean s line.start line.text (k p))
-        (λ p. around_clean s.layout.line_columns (line_ends s line.start line.text line.spans) cells
-        (cells_clean s line.start line.text (k p))))
+        (λ p. cut_clean (dots_in s.theme.characters) s.layout.line_columns
+        (line_ends s line.start line.text line.spans) cells (cells_clean s line.start line.text (k p))))
 
     pale_marks : (w : ℕ) (line : ChangedLine) → IsCleanCode line.sign
         → PaleRows P (marks_row (faded hs s) w (in_plain line)) (marks_row s w line)
     pale_marks w line h =
-        let cut = cut_of line in
+        let many = dots_in s.theme.characters in
+        let cut = changed_cut s line in
         let own = edit_marks s line.start line.text line.style line.spans in
-        let same : shown_marks cut (edit_marks s line.start line.text plain line.spans)
-        ≡ map bleached_mark (shown_marks cut own) =
-        ap (shown_marks cut) (edits_bleached s line.start line.text line.style line.spans) ∙ shown_bleached cut own in
+        let same : shown_marks many cut (edit_marks s line.start line.text plain line.spans)
+        ≡ map bleached_mark (shown_marks many cut own) =
+        ap (shown_marks many cut) (edits_bleached s line.start line.text line.style line.spans)
+        ∙ shown_bleached many cut own in
         subst (λ ms. PaleRows P (before_some (other_start (faded hs s) w) (row_if_some (sign_runs s line.sign 0 ms)))
         (marks_row s w line)) (sym same)
-        (pale_before s line.sign (other_start (faded hs s) w) (other_start s w) (shown_marks cut own) h
+        (pale_before s line.sign (other_start (faded hs s) w) (other_start s w) (shown_marks many cut own) h
         (pale_other_start P s hs bare clean w))
 
     pale_changed : (w : ℕ) (line : ChangedLine) (other : Option (List ℕ)) → IsCleanCode line.sign
@@ -220,12 +213,15 @@ module _ (P : Type 0) where
         → PaleRow P (kept_row (faded hs s) w at text) (kept_row s w at text)
     pale_kept w at text h =
         let cells = line_cells s at.old_offset text in
-        let cut = cut_around s.layout.line_columns [] cells in
+        let many = dots_in s.theme.characters in
+        let cut = cut_line many s.layout.line_columns [] cells in
+        let pale = dots (faded hs s).theme in
         pale_append P (number_start (faded hs s) w (at.old_line + 1)) (number_start s w (at.old_line + 1))
-        (shown_runs cut [] cells) (shown_runs cut [] cells)
+        (shown_runs pale cut [] cells) (shown_runs (dots s.theme) cut [] cells)
         (pale_number_start P s hs bare clean w (at.old_line + 1))
-        (pale_shown P cut [] cells (λ p. cells_clean s at.old_offset text (h p))
-        (λ p. around_clean s.layout.line_columns [] cells (cells_clean s at.old_offset text (h p))))
+        (pale_shown P pale (dots s.theme) cut [] cells (pale_dots P s.theme (faded_styles hs) refl)
+        (λ p. cells_clean s at.old_offset text (h p))
+        (λ p. cut_clean many s.layout.line_columns [] cells (cells_clean s at.old_offset text (h p))))
 
     -- ---- a frame
 

@@ -13,8 +13,8 @@ use Rattle.std.proofs.lemmas.Map.Keys.{ge_from_not_lt, le_from_not_gt}
 use Rattle.miette_basics.proofs.Cases.{by_cases}
 use Rattle.miette_fixes.specs.declared.beginnings.Beginning.{Beginning}
 use Rattle.miette_fixes.specs.rules.ApplyingAll.{all_of, conflict, some_conflict}
-use Rattle.miette_fixes.specs.rules.Edits.{Replacement, end_of, is_behind, overlap, some_overlap}
-use Rattle.miette_fixes.specs.steps.Beginnings.{AreBegun, begins_at, begins_with, is_inside, meets_from}
+use Rattle.miette_fixes.specs.rules.Edits.{Replacement, end_of, overlap, some_overlap}
+use Rattle.miette_fixes.specs.steps.Beginnings.{AreBegun, begins_with, is_inside, meets_from}
 
 -- ---- one of two, and both
 
@@ -217,15 +217,22 @@ last_meets begun lists e k it h free is le last =
     parts.1 (ne_eqb x.span.offset e.span.offset (λ at. omega (arith, before, le, at))) in
     absurd (omega (arith, over, end, le))))
 
+-- no edit of the lists passes a test where none begins at the place of one that does
+none_passes : (begun : BTreeMap ℕ Beginning) (lists : List (List Replacement)) (test : Replacement → Bool)
+    → AreBegun begun lists → ((x : Replacement) → test x ≡ true → get nat_cmp begun x.span.offset ≡ None)
+    → list_any test (all_of lists) ≡ false
+none_passes begun lists test h none =
+    by_cases {C = list_any test (all_of lists) ≡ false} (list_any test (all_of lists))
+    (λ some. let other = any_there test (all_of lists) some in
+    let own = h.each other.0.span.offset other.0.span.len other.2 in
+    let bad : None ≡ Some own.0 = sym (none other.0 other.1) ∙ own.1 in cc)
+    (λ f. f)
+
 none_meets : (begun : BTreeMap ℕ Beginning) (lists : List (List Replacement)) (e : Replacement)
     → AreBegun begun lists → ((q : ℕ) → q ≤ e.span.offset → get nat_cmp begun q ≡ None)
     → list_any (meets_from e) (all_of lists) ≡ false
 none_meets begun lists e h none =
-    by_cases {C = list_any (meets_from e) (all_of lists) ≡ false} (list_any (meets_from e) (all_of lists))
-    (λ some. let other = any_there (meets_from e) (all_of lists) some in
-    let own = h.each other.0.span.offset other.0.span.len other.2 in
-    let bad : None ≡ Some own.0 = sym (none other.0.span.offset (grind (arith, other.1))) ∙ own.1 in cc)
-    (λ f. f)
+    none_passes begun lists (meets_from e) h (λ x met. none x.span.offset (grind (arith, met)))
 
 inside_parts : (e x : Replacement) → is_inside e x ≡ true
     → (e.span.offset ≤ x.span.offset) × (x.span.offset < end_of e)
@@ -259,11 +266,7 @@ none_inside_it : (begun : BTreeMap ℕ Beginning) (lists : List (List Replacemen
     → AreBegun begun lists → ((q : ℕ) → e.span.offset ≤ q → get nat_cmp begun q ≡ None)
     → list_any (is_inside e) (all_of lists) ≡ false
 none_inside_it begun lists e h none =
-    by_cases {C = list_any (is_inside e) (all_of lists) ≡ false} (list_any (is_inside e) (all_of lists))
-    (λ some. let other = any_there (is_inside e) (all_of lists) some in
-    let own = h.each other.0.span.offset other.0.span.len other.2 in
-    let bad : None ≡ Some own.0 = sym (none other.0.span.offset (grind (arith, other.1))) ∙ own.1 in cc)
-    (λ f. f)
+    none_passes begun lists (is_inside e) h (λ x inside. none x.span.offset (grind (arith, inside)))
 
 -- ---- what a map's ranges say
 

@@ -1,7 +1,7 @@
 -- Edits that conflict with none of those that count are applied beside them, in any order of their fixes.
-use Rattle.std.proofs.Common.{ℕ, zero, suc, ◌≡◌, Bool, true, false, eqb, inl, inr, take, ◌⊎◌, ◌&&◌, ◌||◌, not}
+use Rattle.std.proofs.Common.{ℕ, zero, suc, ◌≡◌, Bool, true, false, eqb, inl, inr, take, ◌⊎◌, not}
 use Rattle.std.proofs.Common.{List, [], ◌∷◌, ◌++◌, refl, sym, ap, ◌∙◌, ◌+◌, ◌<◌, ◌≤◌, arith, append_assoc, drop, get_or}
-use Rattle.std.proofs.Common.{length, subst}
+use Rattle.std.proofs.Common.{length}
 use Rattle.std.specs.Prelude.{◌≢◌, Option, None, Some, is_none, slice_get}
 use denote.Ref.{Bor}
 use Rattle.std.specs.List.{filter, list_any}
@@ -22,28 +22,29 @@ use Rattle.miette_fixes.proofs.Sorting.{less, not_behind, same_order}
 
 -- ---- what can be applied
 
--- an edit that others don't conflict with overlaps none of them
-head_free : (x : Replacement) (xs ys : List Replacement) → some_conflict ys (x ∷ xs) ≡ false
-    → list_any (overlap x) ys ≡ false
-head_free x xs [] h = refl
-head_free x xs (y ∷ ys) h =
+-- an edit that others don't conflict with overlaps none of them, and they conflict with none of those after it
+free_parts : (x : Replacement) (xs ys : List Replacement) → some_conflict ys (x ∷ xs) ≡ false
+    → (list_any (overlap x) ys ≡ false) × (some_conflict ys xs ≡ false)
+free_parts x xs [] h = (refl, refl)
+free_parts x xs (y ∷ ys) h =
     let parts : (list_any (conflict y) (x ∷ xs) ≡ false) × (some_conflict ys (x ∷ xs) ≡ false) =
     or_parts (list_any (conflict y) (x ∷ xs)) (some_conflict ys (x ∷ xs)) h in
     let first : (conflict y x ≡ false) × (list_any (conflict y) xs ≡ false) =
     or_parts (conflict y x) (list_any (conflict y) xs) parts.0 in
     let apart : (eqb y.span.offset x.span.offset ≡ false) × (overlap y x ≡ false) =
     or_parts (eqb y.span.offset x.span.offset) (overlap y x) first.0 in
-    or_from (overlap x y) (list_any (overlap x) ys) (overlap_turned x y ∙ apart.1) (head_free x xs ys parts.1)
+    let more : (list_any (overlap x) ys ≡ false) × (some_conflict ys xs ≡ false) = free_parts x xs ys parts.1 in (
+      or_from (overlap x y) (list_any (overlap x) ys) (overlap_turned x y ∙ apart.1) more.0,
+      or_from (list_any (conflict y) xs) (some_conflict ys xs) first.1 more.1,
+    )
+
+head_free : (x : Replacement) (xs ys : List Replacement) → some_conflict ys (x ∷ xs) ≡ false
+    → list_any (overlap x) ys ≡ false
+head_free x xs ys h = (free_parts x xs ys h).0
 
 pub rest_free : (x : Replacement) (xs ys : List Replacement) → some_conflict ys (x ∷ xs) ≡ false
     → some_conflict ys xs ≡ false
-rest_free x xs [] h = refl
-rest_free x xs (y ∷ ys) h =
-    let parts : (list_any (conflict y) (x ∷ xs) ≡ false) × (some_conflict ys (x ∷ xs) ≡ false) =
-    or_parts (list_any (conflict y) (x ∷ xs)) (some_conflict ys (x ∷ xs)) h in
-    let first : (conflict y x ≡ false) × (list_any (conflict y) xs ≡ false) =
-    or_parts (conflict y x) (list_any (conflict y) xs) parts.0 in
-    or_from (list_any (conflict y) xs) (some_conflict ys xs) first.1 (rest_free x xs ys parts.1)
+rest_free x xs ys h = (free_parts x xs ys h).1
 
 joined : (xs ys : List Replacement) → some_overlap xs ≡ false → some_overlap ys ≡ false
     → some_conflict ys xs ≡ false → some_overlap (xs ++ ys) ≡ false

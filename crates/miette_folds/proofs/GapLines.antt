@@ -1,4 +1,4 @@
--- A gap ends where a line begins, and each of its lines is left out.
+-- A gap ends where a line begins, and each of its lines is hidden.
 use Rattle.std.proofs.Common.{ℕ, ◌+◌, ◌-◌, ◌<◌, ◌≤◌, ◌≡◌, min, max, le_refl, Bool, true, false, cond, not, ◌&&◌, ◌||◌}
 use Rattle.std.proofs.Common.{ltb, leb, List, [], ◌∷◌, map, Option, Some, None, refl, sym, ap, ◌∙◌, subst, arith}
 use Rattle.std.specs.List.{AllByRecursion, list_any}
@@ -8,7 +8,7 @@ use Rattle.std.proofs.lemmas.Bool.{not-true, or_from, or_parts, or_right}
 use Rattle.miette_source_lines.specs.rules.Lines as P
 use Rattle.miette_source_lines.specs.rules.Lines.{Line}
 use Rattle.miette_basics.proofs.Cases.{by_cases}
-use Rattle.miette_snippet_rules.specs.rules.Folds.{place_among, hides, is_around, is_near, leaves_out}
+use Rattle.miette_snippet_rules.specs.rules.Folds.{place_among, hides, is_around, is_hidden, is_near}
 use Rattle.miette_folds.specs.declared.folds.Fold.{Fold}
 use Rattle.miette_folds.specs.declared.folds.LineStart.{LineStart}
 use Rattle.miette_folds.specs.declared.folds.Spread.{Spread as MadeSpread}
@@ -110,7 +110,7 @@ next_further folds place line jumps =
     chosen (λ s. line.end ≤ s.offset) jumps (gap_end line next folds) next
     (gap_further (λ end. list_any (goes_on line end) folds) next (nearest_stop line None folds)) (le_refl line.end)
 
--- ---- its lines are left out
+-- ---- its lines are hidden
 
 -- an end is no further than another one, if there is one
 abbrev IsBelow : LineStart → Option LineStart → Type 0
@@ -310,15 +310,14 @@ away_if start bytes labels limit place k line other (Some e) is low order far h 
     away_of start bytes labels limit place k line other e (list_any (goes_on line e) (map (fold_in start bytes) labels))
     refl is low order far h
 
--- each line of the gap is left out, as its first one is
-run_out : (start : ℕ) (bytes : List ℕ) (labels : List MadeSpread) (limit : Option ℕ) (place k : ℕ) (line other : Line)
+-- each line of the gap is hidden, as its first one is
+run_hidden : (start : ℕ) (bytes : List ℕ) (labels : List MadeSpread) (limit place k : ℕ) (line other : Line)
     → start ≤ line.end → line.start ≤ line.end →
-    leaves_out limit (P.lines_from start bytes) (map spread_of labels) place line ≡ true
+    is_hidden limit (P.lines_from start bytes) (map spread_of labels) place line ≡ true
     → IsBetween (next_line place line) (gap_end line (next_line place line) (map (fold_in start bytes) labels)) k
     other →
-    leaves_out limit (P.lines_from start bytes) (map spread_of labels) k other ≡ true
-run_out start bytes labels None place k line other low order out h = let e : false ≡ true = out in absurd (cc)
-run_out start bytes labels (Some limit) place k line other low order out h =
+    is_hidden limit (P.lines_from start bytes) (map spread_of labels) k other ≡ true
+run_hidden start bytes labels limit place k line other low order out h =
     let ls : List Line = P.lines_from start bytes in
     let spreads = map spread_of labels in
     let near : list_any (is_near limit ls place line) spreads ≡ false =
@@ -331,22 +330,12 @@ run_out start bytes labels (Some limit) place k line other low order out h =
     (sym (any_around start bytes other labels) ∙ away.0)
     (ap not (sym (any_near limit k start bytes other labels) ∙ away.1))
 
-next_out : (start : ℕ) (bytes : List ℕ) (labels : List MadeSpread) (limit : Option ℕ) (place k : ℕ) (line other : Line)
+pub next_hidden : (start : ℕ) (bytes : List ℕ) (labels : List MadeSpread) (limit place k : ℕ) (line other : Line)
     (jumps : Bool) → start ≤ line.end → line.start ≤ line.end →
-    (jumps ≡ true → leaves_out limit (P.lines_from start bytes) (map spread_of labels) place line ≡ true)
+    is_hidden limit (P.lines_from start bytes) (map spread_of labels) place line ≡ true
     → IsBetween (next_line place line) (next_start (map (fold_in start bytes) labels) place line jumps) k other →
-    leaves_out limit (P.lines_from start bytes) (map spread_of labels) k other ≡ true
-next_out start bytes labels limit place k line other true low order out h =
-    run_out start bytes labels limit place k line other low order (out refl) h
-next_out start bytes labels limit place k line other false low order out h =
+    is_hidden limit (P.lines_from start bytes) (map spread_of labels) k other ≡ true
+next_hidden start bytes labels limit place k line other true low order out h =
+    run_hidden start bytes labels limit place k line other low order out h
+next_hidden start bytes labels limit place k line other false low order out h =
     absurd (no_between (next_line place line) k other h)
-
-pub next_outs : (start : ℕ) (bytes : List ℕ) (labels : List MadeSpread) (folds : List Fold) (limit : Option ℕ)
-    (place : ℕ) (line : Line) (jumps : Bool) → folds ≡ map (fold_in start bytes) labels → start ≤ line.end → line.start
-    ≤ line.end →
-    (jumps ≡ true → leaves_out limit (P.lines_from start bytes) (map spread_of labels) place line ≡ true)
-    → (k : ℕ) (other : Line) → IsBetween (next_line place line) (next_start folds place line jumps) k other →
-    leaves_out limit (P.lines_from start bytes) (map spread_of labels) k other ≡ true
-next_outs start bytes labels folds limit place line jumps e low order out k other h =
-    next_out start bytes labels limit place k line other jumps low order out
-    (subst (λ (fs : List Fold). IsBetween (next_line place line) (next_start fs place line jumps) k other) e h)

@@ -1,11 +1,11 @@
--- Which lines a program leaves out.
-use Rattle.std.proofs.Common.{ℕ, ◌-◌, ◌≡◌, min, Bool, true, false, not, ◌&&◌, ◌||◌, List, [], ◌∷◌, length, map, Some}
+-- Which lines labels hide, by a program's folds.
+use Rattle.std.proofs.Common.{ℕ, ◌-◌, ◌≡◌, min, Bool, true, false, not, ◌&&◌, ◌||◌, List, [], ◌∷◌, length, map}
 use Rattle.std.proofs.Common.{refl, sym, ap, ◌∙◌}
 use Rattle.std.specs.List.{list_any}
 use Rattle.miette_source_lines.specs.rules.Lines as P
 use Rattle.miette_source_lines.specs.rules.Lines.{Line, line_of, line_start}
 use Rattle.miette_source_lines.proofs.Places.{line_of_cut}
-use Rattle.miette_snippet_rules.specs.rules.Folds.{place_among, is_around, is_near, leaves_out}
+use Rattle.miette_snippet_rules.specs.rules.Folds.{place_among, is_around, is_hidden, is_near}
 use Rattle.miette_folds.specs.declared.folds.Fold.{Fold}
 use Rattle.miette_folds.specs.declared.folds.Spread.{Spread as MadeSpread}
 use Rattle.miette_folds.specs.views.Spreads.{spread_of}
@@ -23,7 +23,7 @@ started start bytes offset place lines at begin is cut found =
     found ∙ ap (λ n. line_start bytes (n - lines)) (line_of_cut bytes (offset - start) at cut
     ∙ sym (place_shifted start bytes offset) ∙ sym is)
 
--- ---- what is left out
+-- ---- what is hidden
 
 pub any_around : (start : ℕ) (bytes : List ℕ) (line : Line) (labels : List MadeSpread)
     → list_any (is_around_fold line) (map (fold_in start bytes) labels)
@@ -48,11 +48,11 @@ and_all : (b : Bool) → b ≡ (b && not false)
 and_all true = refl
 and_all false = refl
 
--- a label is near, so the line is shown
+-- a label is near, so the line isn't hidden
 pub left_near : (limit place : ℕ) (line : Line) (folds : List Fold) → list_any (is_near_fold limit place line) folds
     ≡ true →
     (start : ℕ) (bytes : List ℕ) (labels : List MadeSpread) → folds ≡ map (fold_in start bytes) labels → false
-    ≡ leaves_out (Some limit) (P.lines_from start bytes) (map spread_of labels) place line
+    ≡ is_hidden limit (P.lines_from start bytes) (map spread_of labels) place line
 left_near limit place line folds near start bytes labels e =
     let lines : List Line = P.lines_from start bytes in
     let is : list_any (is_near limit lines place line) (map spread_of labels) ≡ true =
@@ -61,11 +61,11 @@ left_near limit place line folds near start bytes labels e =
     and_none (list_any (is_around line) (map spread_of labels))
     ∙ ap (λ b. list_any (is_around line) (map spread_of labels) && not b) (sym is)
 
--- none is near: it is left out where it lies in a context
+-- none is near: it is hidden where it lies in a context
 pub left_far : (limit place : ℕ) (line : Line) (folds : List Fold) (result : Bool)
     → list_any (is_near_fold limit place line) folds ≡ false → result ≡ list_any (is_around_fold line) folds →
     (start : ℕ) (bytes : List ℕ) (labels : List MadeSpread) → folds ≡ map (fold_in start bytes) labels → result
-    ≡ leaves_out (Some limit) (P.lines_from start bytes) (map spread_of labels) place line
+    ≡ is_hidden limit (P.lines_from start bytes) (map spread_of labels) place line
 left_far limit place line folds result far around start bytes labels e =
     let lines : List Line = P.lines_from start bytes in
     let is : list_any (is_near limit lines place line) (map spread_of labels) ≡ false =

@@ -1,5 +1,7 @@
 pub mod AroundLines
 pub mod GapLines
+pub mod HiddenLines
+pub mod LeftOutGaps
 pub mod LeftOutLines
 pub mod LineCounts
 pub mod LineExtent

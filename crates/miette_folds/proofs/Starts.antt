@@ -78,6 +78,15 @@ begins_first start bytes =
       lines = ap (λ n. P.lines_from n bytes) sums ∙ ap (λ n. P.lines_from (start + 0) (drop n bytes)) none;
     }
 
+-- a line that begins there, and those behind it
+pub begun_line : (start : ℕ) (bytes : List ℕ) (at place : ℕ) (line : LineOfText) → Begins start bytes (start + at) place
+    → P.lines_from (start + at) (drop at bytes) ≡ line_of_text line
+    ∷ P.lines_from line.end (drop (line.end - start) bytes) →
+    drop place (P.lines_from start bytes) ≡ line_of_text line ∷ P.lines_from line.end (drop (line.end - start) bytes)
+begun_line start bytes at place line h part =
+    let same : start + at - start ≡ at = omega arith in
+    h.lines ∙ ap (λ n. P.lines_from (start + at) (drop n bytes)) same ∙ part
+
 -- the line behind one
 pub begins_next : (start : ℕ) (bytes : List ℕ) (at place : ℕ) (line : LineOfText)
     → Begins start bytes (start + at) place →
@@ -87,9 +96,7 @@ pub begins_next : (start : ℕ) (bytes : List ℕ) (at place : ℕ) (line : Line
 begins_next start bytes at place line h part low to =
     let ls : List Line = P.lines_from start bytes in
     let rest : List Line = P.lines_from line.end (drop (line.end - start) bytes) in
-    let same : start + at - start ≡ at = omega arith in
-    let here : drop place ls ≡ line_of_text line ∷ rest = h.lines
-    ∙ ap (λ n. P.lines_from (start + at) (drop n bytes)) same ∙ part in
+    let here : drop place ls ≡ line_of_text line ∷ rest = begun_line start bytes at place line h part in
     let some : length (drop place ls) ≡ length ls - place = length-drop place ls in
     let one : length (drop place ls) ≡ suc (length rest) = ap length here in
     record {

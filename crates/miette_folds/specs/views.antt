@@ -2,6 +2,7 @@
 pub mod Folding
 pub mod ReadSpreads
 pub mod Gaps
+pub mod LeftOut
 pub mod NearFolds
 pub mod Spreads
 pub mod Windows

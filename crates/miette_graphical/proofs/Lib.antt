@@ -8,7 +8,6 @@ pub mod Lists
 pub mod Outermost
 pub mod Painted
 pub mod Steps
-pub mod WholeReads
 pub mod ShownFixes
 pub mod FixPictures
 pub mod Remaining

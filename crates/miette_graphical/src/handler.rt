@@ -165,8 +165,8 @@ impl<H: Highlighter> GraphicalReportHandler<H> {
         self
     }
 
-    /// A line of more than so many columns is cut: it shows what stands near the labels that lie on it alone, and dots
-    /// in place of the rest. A limit of 0 shows the columns of marks alone.
+    /// A line of more than so many columns is cut: it shows what stands around its labels, as much as fits into so many
+    /// columns, and dots in place of the rest. A limit below 8 counts as 8.
     pub fn with_line_columns(mut self, columns: usize) -> Self
         ensures { result ≡ laid_out self (record self.settings.layout { line_columns = Some columns }) }
     {
@@ -241,7 +241,7 @@ impl<H: Highlighter> GraphicalReportHandler<H> {
     }
 
     /// A label over more lines than these is folded: only the lines around its first and its last one are shown, and a
-    /// row of dots stands for those between them. At least 1 is the caller's condition.
+    /// row of dots stands for those between them, where they are several. At least 1 is the caller's condition.
     pub fn with_label_lines(mut self, lines: usize) -> Self
         requires { 1 ≤ lines }
         ensures { result ≡ laid_out self (record self.settings.layout { label_lines = Some lines }) }

@@ -17,9 +17,9 @@ use crate::settings::{icon, severity_style};
 use miette_protocol::protocol::Severity;
 use miette_text::runs::Runs;
 use miette_text::runs::output::Output;
-use miette_text::runs::reading::{columns_of, read_text};
+use miette_text::runs::reading::columns_of;
 use miette_text::wrap::fitting::push_fitting;
-use miette_text::wrap::{Plan, cuts_hyphens, wrap};
+use miette_text::wrap::{Plan, cuts_hyphens, wrap, wrap_text};
 use std::alloc::{AllocError, Global};
 
 /// How a cause or a nested report hangs under another one: in the style of that one's severity, and as the last one
@@ -67,7 +67,7 @@ fn plan<'a, H>(painter: &Painter<'_, H>, first: &'a Runs, further: &'a Runs) -> 
     }
 }
 
-/// Appends a text, wrapped, and a line feed.
+/// Appends what runs print, wrapped, and a line feed.
 fn push_wrapped(
     out: &mut Output,
     alloc: Global,
@@ -78,6 +78,20 @@ fn push_wrapped(
         ++ parts.line_feed)) }
 {
     wrap(alloc, plan, text, out)?;
+    out.push('\n')
+}
+
+/// Appends a text, wrapped, and a line feed.
+fn push_wrapped_text(
+    out: &mut Output,
+    alloc: Global,
+    plan: Plan<'_>,
+    text: &str,
+) -> Result<(), AllocError>
+    ensures { OnOk result (out.new ≡ out.old ++ (wrapped_text (printed_plan plan.entry) (chars text.now)
+        ++ parts.line_feed)) }
+{
+    wrap_text(alloc, plan, text, out)?;
     out.push('\n')
 }
 
@@ -266,9 +280,8 @@ fn push_rows<H>(
     ensures stays { PrintsOnly painter.old painter.new }
 {
     let further = further_indent(painter, kind)?;
-    let text = read_text(painter.alloc, text)?;
     let under = plan(painter, first, &further);
-    push_wrapped(&mut painter.out, painter.alloc, under, &text)
+    push_wrapped_text(&mut painter.out, painter.alloc, under, text)
 }
 
 /// Appends a text behind its indents, wrapped, and a line feed.

@@ -30,7 +30,7 @@ use miette_fix_rows::laws::{
 };
 use miette_layout::laws::{
     cut_lines_are_parted, cut_rows_are_narrow, ends_are_drawn, groups_are_ranges,
-    left_out_lines_are_inside, lines_that_fit_stay, marks_are_apart,
+    left_out_lines_are_inside, lines_are_cut_by_reach, lines_that_fit_stay, marks_are_apart,
     marks_stand_on_their_characters, ranges_are_maximal, ranges_end_kept, rows_fade,
     rows_hold_no_escape, short_labels_stay, snippets_draw_ranges, texts_hang, wide_lines_are_cut,
 };
@@ -102,8 +102,8 @@ pub fn erasing_law()
 }
 
 /// The snippets of each printed diagnostic show the lines in the context of its labels, its marks are apart, each line
-/// that is too wide is cut, shows what is near them, and has them under their own characters, lines that fit stay as
-/// they are, each text hangs from its own mark, labels at the end of a source stand in the column after what is shown
+/// that is too wide is cut by its reach around its ends, and has the marks under their own characters, lines that fit
+/// stay as they are, each text hangs from its own mark, labels at the end of a source stand in the column after what is shown
 /// of its last line, where they are drawn, and no label begins, ends or is missed where lines are left out inside
 /// folded labels.
 pub fn snippets_law()
@@ -122,6 +122,7 @@ pub fn snippets_law()
     marks_are_apart();
     wide_lines_are_cut();
     cut_lines_are_parted();
+    lines_are_cut_by_reach();
     marks_stand_on_their_characters();
     cut_rows_are_narrow();
     lines_that_fit_stay();

@@ -63,6 +63,11 @@ pub enum Pattern {
     From(u8, u8),
     /// What lies between two delimiters, with them.
     Between(Delimiters),
+    /// One character between two delimiters, with them; or what is escaped at its beginning, up to where it closes on
+    /// the line.
+    Character(Delimiters),
+    /// A byte, and the word behind it.
+    Prefixed(u8),
 }
 
 impl Pattern {

@@ -1,10 +1,11 @@
 //! Rules for languages: texts green, numbers cyan, values yellow, words of the language magenta, comments dimmed.
 
 ghost use Rattle.std.specs.Prelude.{◌≡◌, ◌++◌, ◌∷◌, [], IfOk, OnOk, None, map};
-ghost use Rattle.miette_highlight.specs.rules.Languages.{beginning, of_words, rule_texts, values};
-ghost use Rattle.miette_highlight.specs.rules.Languages.{json_rules, rust_rules, toml_rules};
+ghost use Rattle.miette_highlight.specs.rules.Languages.{beginning, of_words, pattern_text, prefixed, rule_texts};
+ghost use Rattle.miette_highlight.specs.rules.Languages.{values, json_rules, rust_rules, toml_rules};
 ghost use Rattle.miette_highlight.specs.rules.Patterns.{AreDelimiters};
-ghost use Rattle.miette_highlight.specs.steps.LanguageParts.{escape_of, part_rule};
+ghost use Rattle.miette_highlight.specs.steps.LanguageParts.{escape_of, part_rule, part_text};
+ghost use Rattle.miette_style.specs.declared.style.Style.{Style};
 ghost use Rattle.miette_style.specs.rules.Styles.{coloured_style};
 
 use crate::patterns::{Delimiters, Pattern, PatternHighlighter, Rule};
@@ -36,8 +37,7 @@ impl PatternHighlighter {
         with_values(alloc, rules, &["true", "false", "inf", "nan"])
     }
 
-    /// The highlighter of Rust. A block comment ends at the first `*/`, and characters in quotes are plain, but for a
-    /// quotation delimiter.
+    /// The highlighter of Rust. A block comment ends at the first `*/`, and raw texts have at most three hashes.
     ///
     /// # Errors
     /// Where no memory is found for its rules.
@@ -46,12 +46,13 @@ impl PatternHighlighter {
         ensures closed { IfOk result (λ it. it.left_open ≡ None) }
     {
         let mut rules = rules_of(alloc, &RUST_PARTS)?;
+        push_prefixed(&mut rules, b'\'', Color::Magenta)?;
         push_words(&mut rules, alloc, &RUST_WORDS, Color::Magenta)?;
         with_values(alloc, rules, &["true", "false"])
     }
 }
 
-/// A part of a line between delimiters: a comment or a text.
+/// A part of a line between delimiters: a comment, a text or a character.
 struct DelimitedPart {
     opens: &'static str,
     closes: &'static str,
@@ -60,6 +61,8 @@ struct DelimitedPart {
     /// Whether it may go on over lines.
     goes_on: bool,
     is_comment: bool,
+    /// Whether it is one character.
+    is_character: bool,
 }
 
 const TEXT: DelimitedPart = DelimitedPart {
@@ -68,6 +71,7 @@ const TEXT: DelimitedPart = DelimitedPart {
     escapes: false,
     goes_on: false,
     is_comment: false,
+    is_character: false,
 };
 
 static JSON_PARTS: [DelimitedPart; 1] = [DelimitedPart {
@@ -106,7 +110,16 @@ static TOML_PARTS: [DelimitedPart; 5] = [
     },
 ];
 
-static RUST_PARTS: [DelimitedPart; 9] = [
+// A character in quotes.
+const CHARACTER: DelimitedPart = DelimitedPart {
+    closes: "'",
+    escapes: true,
+    is_character: true,
+    ..TEXT
+};
+
+// Texts in which nothing is escaped have as many hashes behind as in front, at most three.
+static RUST_PARTS: [DelimitedPart; 19] = [
     DelimitedPart {
         opens: "//",
         closes: "\n",
@@ -121,25 +134,12 @@ static RUST_PARTS: [DelimitedPart; 9] = [
         ..TEXT
     },
     DelimitedPart {
-        opens: "'\"'",
-        closes: "",
-        ..TEXT
+        opens: "'",
+        ..CHARACTER
     },
     DelimitedPart {
-        opens: "'\\\"'",
-        closes: "",
-        ..TEXT
-    },
-    DelimitedPart {
-        opens: "r#\"",
-        closes: "\"#",
-        goes_on: true,
-        ..TEXT
-    },
-    DelimitedPart {
-        opens: "r\"",
-        goes_on: true,
-        ..TEXT
+        opens: "b'",
+        ..CHARACTER
     },
     DelimitedPart {
         escapes: true,
@@ -155,6 +155,75 @@ static RUST_PARTS: [DelimitedPart; 9] = [
     DelimitedPart {
         opens: "c\"",
         escapes: true,
+        goes_on: true,
+        ..TEXT
+    },
+    DelimitedPart {
+        opens: "r\"",
+        goes_on: true,
+        ..TEXT
+    },
+    DelimitedPart {
+        opens: "r#\"",
+        closes: "\"#",
+        goes_on: true,
+        ..TEXT
+    },
+    DelimitedPart {
+        opens: "r##\"",
+        closes: "\"##",
+        goes_on: true,
+        ..TEXT
+    },
+    DelimitedPart {
+        opens: "r###\"",
+        closes: "\"###",
+        goes_on: true,
+        ..TEXT
+    },
+    DelimitedPart {
+        opens: "br\"",
+        goes_on: true,
+        ..TEXT
+    },
+    DelimitedPart {
+        opens: "br#\"",
+        closes: "\"#",
+        goes_on: true,
+        ..TEXT
+    },
+    DelimitedPart {
+        opens: "br##\"",
+        closes: "\"##",
+        goes_on: true,
+        ..TEXT
+    },
+    DelimitedPart {
+        opens: "br###\"",
+        closes: "\"###",
+        goes_on: true,
+        ..TEXT
+    },
+    DelimitedPart {
+        opens: "cr\"",
+        goes_on: true,
+        ..TEXT
+    },
+    DelimitedPart {
+        opens: "cr#\"",
+        closes: "\"#",
+        goes_on: true,
+        ..TEXT
+    },
+    DelimitedPart {
+        opens: "cr##\"",
+        closes: "\"##",
+        goes_on: true,
+        ..TEXT
+    },
+    DelimitedPart {
+        opens: "cr###\"",
+        closes: "\"###",
         goes_on: true,
         ..TEXT
     },
@@ -182,7 +251,18 @@ fn delimiters_of(alloc: Global, part: &DelimitedPart) -> Result<Delimiters, Allo
     Ok(delimiters)
 }
 
-// The rules of these parts. Texts are green, and comments dimmed.
+// The pattern of such a part.
+fn pattern_of(alloc: Global, part: &DelimitedPart) -> Result<Pattern, AllocError>
+    ensures { IfOk result (λ it. (style : Style) → pattern_text it style ≡ part_text part.now style) }
+{
+    let delimiters = delimiters_of(alloc, part)?;
+    if part.is_character {
+        return Ok(Pattern::Character(delimiters));
+    }
+    Ok(Pattern::Between(delimiters))
+}
+
+// The rules of these parts. Texts and characters are green, and comments dimmed.
 fn rules_of(alloc: Global, parts: &[DelimitedPart]) -> Result<Vec<Rule>, AllocError>
     ensures { IfOk result (λ rules. rule_texts rules.items ≡ map part_rule parts.now) }
 {
@@ -193,7 +273,7 @@ fn rules_of(alloc: Global, parts: &[DelimitedPart]) -> Result<Vec<Rule>, AllocEr
         } else {
             Style::new().color(Color::Green)
         };
-        let pattern = Pattern::Between(delimiters_of(alloc, part)?);
+        let pattern = pattern_of(alloc, part)?;
         rules.push(Rule { pattern, style })?;
     }
     Ok(rules)
@@ -211,6 +291,17 @@ fn push_words(
 {
     let style = Style::new().color(color);
     let pattern = Pattern::words(alloc, words)?;
+    rules.push(Rule { pattern, style })?;
+    Ok(())
+}
+
+// A word behind this byte has this colour, with the byte.
+fn push_prefixed(rules: &mut Vec<Rule>, byte: u8, color: Color) -> Result<(), AllocError>
+    ensures { OnOk result (rule_texts rules.new.items ≡ rule_texts rules.old.items
+        ++ prefixed byte (coloured_style color) ∷ []) }
+{
+    let style = Style::new().color(color);
+    let pattern = Pattern::Prefixed(byte);
     rules.push(Rule { pattern, style })?;
     Ok(())
 }

@@ -1,10 +1,12 @@
 //! What rules find at the start of a text, and the pieces that they cut a line into.
 
-ghost use Rattle.std.specs.Prelude.{◌≡◌, ◌+◌, ◌^◌, ◌<◌, ◌≤◌, ◌&&◌, not, nat_eq, IsTrue, IfOk, false};
+ghost use Rattle.std.specs.Prelude.{◌≡◌, ◌+◌, ◌^◌, ◌<◌, ◌≤◌, ◌&&◌, not, nat_eq, IsTrue, IfOk, IfSome, false};
 ghost use Rattle.std.specs.Prelude.{length, drop, string_bytes};
 ghost use Rattle.std.specs.List.{starts_with};
-ghost use Rattle.miette_highlight.specs.rules.Patterns.{begins_within, close_end, is_among, escapes_next, is_word_byte};
-ghost use Rattle.miette_highlight.specs.rules.Patterns.{inside, match_of, word_end};
+ghost use Rattle.miette_highlight.specs.rules.Patterns.{are_continuations, begins_within, character_end, close_end};
+ghost use Rattle.miette_highlight.specs.rules.Patterns.{escapes_next, is_among, is_character, is_continuation};
+ghost use Rattle.miette_highlight.specs.rules.Patterns.{is_word_byte};
+ghost use Rattle.miette_highlight.specs.rules.Patterns.{inside, match_of, prefixed_word, word_end};
 ghost use Rattle.miette_highlight.specs.rules.Tokens.{AreTokens, IsToken, first_match, running_token, token_at};
 ghost use Rattle.miette_highlight.specs.rules.Tokens.{token_of};
 ghost use Rattle.miette_highlight.specs.rules.Pieces.{CutsLine};
@@ -93,7 +95,9 @@ fn closes_here(delimiters: &Delimiters, escaped: bool, text: &[u8]) -> bool
 // Where the first closing delimiter ends that isn't escaped, the text beginning at a place.
 fn close_end(delimiters: &Delimiters, start: usize, text: &[u8]) -> Option<usize>
     requires { start + length text.now < 2 ^ 64 }
-    ensures { result ≡ close_end delimiters.now false start text.now }
+    ensures end { result ≡ close_end delimiters.now false start text.now }
+    ensures low { IfSome result (λ end. start + length (string_bytes delimiters.now.closes) ≤ end) }
+    ensures high { IfSome result (λ end. end ≤ start + length text.now) }
 {
     let mut escaped = false;
     let mut at = start;
@@ -120,6 +124,62 @@ fn end_of(delimiters: &Delimiters, start: usize, text: &[u8]) -> (usize, bool)
     }
 }
 
+// Whether a byte goes on with the character that began before it.
+fn is_continuation(byte: u8) -> bool
+    ensures { result ≡ is_continuation byte }
+{
+    128 <= byte && byte < 192
+}
+
+// Whether all these bytes do.
+fn are_continuations(bytes: &[u8]) -> bool
+    ensures { result ≡ are_continuations bytes.now }
+{
+    let mut rest = bytes;
+    while let Some((byte, tail)) = rest.split_first() {
+        if !is_continuation(*byte) {
+            return false;
+        }
+        rest = tail;
+    }
+    true
+}
+
+// Whether some bytes are one character, or begin with an escape.
+fn is_character(escape: Option<u8>, bytes: &[u8]) -> bool
+    ensures { result ≡ is_character escape bytes.now }
+{
+    match bytes.split_first() {
+        Some((first, rest)) => escapes_next(escape, *first) || are_continuations(rest),
+        None => false,
+    }
+}
+
+// Where a character behind an opening delimiter ends with its closing one, the text beginning at a place.
+fn character_end(delimiters: &Delimiters, start: usize, text: &[u8]) -> Option<(usize, bool)>
+    requires { start + length text.now < 2 ^ 64 }
+    ensures { result ≡ character_end delimiters.now start text.now }
+{
+    let end = close_end(delimiters, start, text)?;
+    let held = end - start - delimiters.closes.as_bytes().len();
+    if is_character(delimiters.escape, &text[..held]) {
+        return Some((end, false));
+    }
+    None
+}
+
+// How many bytes this one and the word behind it have, where a text begins with it and a word follows.
+fn prefixed_word(byte: u8, text: &[u8]) -> Option<(usize, bool)>
+    ensures { result ≡ prefixed_word byte text.now }
+{
+    let (first, rest) = text.split_first()?;
+    let word = word_end(rest);
+    if *first == byte && 0 < word {
+        return Some((word + 1, false));
+    }
+    None
+}
+
 // How many bytes a pattern finds at the start of a text, and whether what it finds stays open.
 fn match_of(pattern: &Pattern, text: &[u8]) -> Option<(usize, bool)>
     ensures { result ≡ match_of pattern.now text.now }
@@ -132,6 +192,11 @@ fn match_of(pattern: &Pattern, text: &[u8]) -> Option<(usize, bool)>
             let start = delimiters.opens.as_bytes().len();
             Some(end_of(delimiters, start, &text[start..]))
         }
+        Pattern::Character(delimiters) if text.starts_with(delimiters.opens.as_bytes()) => {
+            let start = delimiters.opens.as_bytes().len();
+            character_end(delimiters, start, &text[start..])
+        }
+        Pattern::Prefixed(byte) => prefixed_word(*byte, text),
         _ => None,
     }
 }

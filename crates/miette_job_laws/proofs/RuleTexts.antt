@@ -1,5 +1,5 @@
 -- Rules of the same texts cut a line into the same tokens.
-use Rattle.std.proofs.Common.{◌≡◌, ℕ, ◌+◌, Bool, true, false, List, [], ◌∷◌, length, drop, map, zero, suc}
+use Rattle.std.proofs.Common.{◌≡◌, ℕ, ◌+◌, ◌-◌, Bool, true, false, List, [], ◌∷◌, length, drop, take, map, zero, suc}
 use Rattle.std.proofs.Common.{refl, ap, ap₂, subst, ◌∙◌, Option, Some, None, if◌then◌else◌}
 use Rattle.std.specs.Prelude.{nat_eq, not, ◌&&◌, String, string_bytes, unwrap_or, slice_get}
 use Rattle.std.specs.List.{starts_with}
@@ -9,14 +9,15 @@ use Rattle.miette_style.specs.declared.style.Style.{Style}
 use Rattle.miette_highlight.specs.rules.FollowingCalls.{FollowTokens}
 use Rattle.miette_highlight.specs.rules.HighlighterCalls.{Call, asked, restarted}
 use Rattle.miette_highlight.specs.rules.Languages.{pattern_text, rule_text, rule_texts}
-use Rattle.miette_highlight.specs.rules.Patterns.{begins_within, close_end, closed_at, escapes_next, inside, is_among}
-use Rattle.miette_highlight.specs.rules.Patterns.{match_of, word_end}
+use Rattle.miette_highlight.specs.rules.Patterns.{begins_within, character_end, close_end, closed_at, closed_character}
+use Rattle.miette_highlight.specs.rules.Patterns.{escapes_next, inside, is_among, is_character, match_of, prefixed_word}
+use Rattle.miette_highlight.specs.rules.Patterns.{word_end}
 use Rattle.miette_highlight.specs.rules.Pieces.{Piece}
 use Rattle.miette_highlight.specs.rules.Tokens.{AreTokens, IsToken, first_match, found_or, plain_token, running_in}
 use Rattle.miette_highlight.specs.rules.Tokens.{running_rule, running_token, token_at, token_of}
 use Rattle.miette_highlight.specs.declared.rule.Delimiters.{Delimiters}
 use Rattle.miette_highlight.specs.declared.rule.Pattern.{Pattern}
-use Rattle.miette_highlight.specs.declared.rule.Pattern.TheVariants.{Words, From, Between}
+use Rattle.miette_highlight.specs.declared.rule.Pattern.TheVariants.{Words, From, Between, Character, Prefixed}
 use Rattle.miette_highlight.specs.declared.rule.Rule.{Rule}
 
 -- ---- what patterns find
@@ -49,6 +50,19 @@ insides : (d f : Delimiters) → string_bytes d.closes ≡ string_bytes f.closes
 insides d f same escape over at text =
     ap₂ (λ end lines. closed_at end (at + length text) lines) (closes d f same escape false at text) over
 
+closed-alike : (d f : Delimiters) → string_bytes d.closes ≡ string_bytes f.closes → d.escape ≡ f.escape → (at : ℕ)
+    (text : List ℕ) (end : Option ℕ) → closed_character d at text end ≡ closed_character f at text end
+closed-alike d f same escape at text None = refl
+closed-alike d f same escape at text (Some end) =
+    ap₂ (λ bytes it. if is_character it (take (end - at - length bytes) text) then Some (end, false) else None) same
+    escape
+
+characters : (d f : Delimiters) → string_bytes d.closes ≡ string_bytes f.closes → d.escape ≡ f.escape → (at : ℕ)
+    (text : List ℕ) → character_end d at text ≡ character_end f at text
+characters d f same escape at text =
+    ap (closed_character d at text) (closes d f same escape false at text)
+    ∙ closed-alike d f same escape at text (close_end f false at text)
+
 matches : (p q : Pattern) (style other : Style) (text : List ℕ) → pattern_text p style ≡ pattern_text q other
     → match_of p text ≡ match_of q text
 matches (Words words) (Words others) style other text e =
@@ -74,6 +88,30 @@ matches (Between d) (Between f) style other text e =
     then Some (inside d (length bytes) (drop (length bytes) text)) else None) opens
     ∙ ap (λ it. if starts_with nat_eq text (string_bytes f.opens) then Some it else None)
     (insides d f same escape over (length (string_bytes f.opens)) (drop (length (string_bytes f.opens)) text))
+matches (Character d) (Character f) style other text e =
+    let opens : string_bytes d.opens ≡ string_bytes f.opens = cc in
+    let same : string_bytes d.closes ≡ string_bytes f.closes = cc in
+    let escape : d.escape ≡ f.escape = cc in
+    ap (λ bytes. if starts_with nat_eq text bytes
+    then character_end d (length bytes) (drop (length bytes) text) else None) opens
+    ∙ ap (λ it. if starts_with nat_eq text (string_bytes f.opens) then it else None)
+    (characters d f same escape (length (string_bytes f.opens)) (drop (length (string_bytes f.opens)) text))
+matches (Prefixed byte) (Prefixed b) style other text e =
+    let same : byte ≡ b = cc in ap (λ it. prefixed_word it text) same
+matches (Words words) (Character f) style other text e = absurd (cc)
+matches (Words words) (Prefixed b) style other text e = absurd (cc)
+matches (From first last) (Character f) style other text e = absurd (cc)
+matches (From first last) (Prefixed b) style other text e = absurd (cc)
+matches (Between d) (Character f) style other text e = absurd (cc)
+matches (Between d) (Prefixed b) style other text e = absurd (cc)
+matches (Character d) (Words others) style other text e = absurd (cc)
+matches (Character d) (From from to) style other text e = absurd (cc)
+matches (Character d) (Between f) style other text e = absurd (cc)
+matches (Character d) (Prefixed b) style other text e = absurd (cc)
+matches (Prefixed byte) (Words others) style other text e = absurd (cc)
+matches (Prefixed byte) (From from to) style other text e = absurd (cc)
+matches (Prefixed byte) (Between f) style other text e = absurd (cc)
+matches (Prefixed byte) (Character f) style other text e = absurd (cc)
 
 goes-on : (at : ℕ) (p q : Pattern) (style other : Style) (text : List ℕ)
     → pattern_text p style ≡ pattern_text q other → running_in at style p text ≡ running_in at other q text
@@ -91,6 +129,22 @@ goes-on at (Between d) (Between f) style other text e =
     let over : d.over_lines ≡ f.over_lines = cc in
     let styled : style ≡ other = cc in
     ap₂ (λ it found. Some (token_of at it found)) styled (insides d f same escape over 0 text)
+goes-on at (Character d) (Character f) style other text e = refl
+goes-on at (Prefixed byte) (Prefixed b) style other text e = refl
+goes-on at (Words words) (Character f) style other text e = absurd (cc)
+goes-on at (Words words) (Prefixed b) style other text e = absurd (cc)
+goes-on at (From first last) (Character f) style other text e = absurd (cc)
+goes-on at (From first last) (Prefixed b) style other text e = absurd (cc)
+goes-on at (Between d) (Character f) style other text e = absurd (cc)
+goes-on at (Between d) (Prefixed b) style other text e = absurd (cc)
+goes-on at (Character d) (Words others) style other text e = absurd (cc)
+goes-on at (Character d) (From from to) style other text e = absurd (cc)
+goes-on at (Character d) (Between f) style other text e = absurd (cc)
+goes-on at (Character d) (Prefixed b) style other text e = absurd (cc)
+goes-on at (Prefixed byte) (Words others) style other text e = absurd (cc)
+goes-on at (Prefixed byte) (From from to) style other text e = absurd (cc)
+goes-on at (Prefixed byte) (Between f) style other text e = absurd (cc)
+goes-on at (Prefixed byte) (Character f) style other text e = absurd (cc)
 
 styled-alike : (p q : Pattern) (style other : Style) → pattern_text p style ≡ pattern_text q other → style ≡ other
 styled-alike (Words words) (Words others) style other e = cc
@@ -102,6 +156,22 @@ styled-alike (From first last) (Between f) style other e = absurd (cc)
 styled-alike (Between d) (Words others) style other e = absurd (cc)
 styled-alike (Between d) (From from to) style other e = absurd (cc)
 styled-alike (Between d) (Between f) style other e = cc
+styled-alike (Character d) (Character f) style other e = cc
+styled-alike (Prefixed byte) (Prefixed b) style other e = cc
+styled-alike (Words words) (Character f) style other e = absurd (cc)
+styled-alike (Words words) (Prefixed b) style other e = absurd (cc)
+styled-alike (From first last) (Character f) style other e = absurd (cc)
+styled-alike (From first last) (Prefixed b) style other e = absurd (cc)
+styled-alike (Between d) (Character f) style other e = absurd (cc)
+styled-alike (Between d) (Prefixed b) style other e = absurd (cc)
+styled-alike (Character d) (Words others) style other e = absurd (cc)
+styled-alike (Character d) (From from to) style other e = absurd (cc)
+styled-alike (Character d) (Between f) style other e = absurd (cc)
+styled-alike (Character d) (Prefixed b) style other e = absurd (cc)
+styled-alike (Prefixed byte) (Words others) style other e = absurd (cc)
+styled-alike (Prefixed byte) (From from to) style other e = absurd (cc)
+styled-alike (Prefixed byte) (Between f) style other e = absurd (cc)
+styled-alike (Prefixed byte) (Character f) style other e = absurd (cc)
 
 -- ---- what rules find
 

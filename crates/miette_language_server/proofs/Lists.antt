@@ -107,9 +107,9 @@ changed_next all changes i x made new l is e h =
 
 -- the actions at a part, by what is found in the text
 pub acted : {E : Type 0} (width : ℕ) (uri u v text : List ℕ) (region : Region) (source : Placed)
-    (slice found : List CodedFinding) (own : List Value) (n : ℕ) (r : Result (Vec Value Global) E) → source ≡ placed text
-    → map coded_of found ≡ coded_findings text width → slice ≡ found → u ≡ uri → v ≡ uri → n ≡ length found
-    → map view own ≡ flat_map (actions_at u source region) (map coded_of slice)
+    (slice found : List CodedFinding) (own : List Value) (n : ℕ) (r : Result (Vec Value Global) E)
+    → source ≡ placed text → map coded_of found ≡ coded_findings text width → slice ≡ found → u ≡ uri → v ≡ uri
+    → n ≡ length found → map view own ≡ flat_map (actions_at u source region) (map coded_of slice)
     → IfOk r (λ made. map view made.items ≡ with_joint v source n (map view own))
     → IfOk r (λ made. map view made.items ≡ actions width uri text region)
 acted width uri u v text region source slice found own n (Err e) s f same p q count is h = tt

@@ -6,7 +6,8 @@ ghost use Rattle.serde_json.specs.View.{view};
 ghost use Rattle.miette_lint.specs.views.Found.{coded_of};
 ghost use Rattle.miette_positions.specs.rules.Stops.{is_until};
 ghost use Rattle.miette_language_server.specs.rules.Actions.{action_value, actions, actions_at, actions_in};
-ghost use Rattle.miette_language_server.specs.rules.Actions.{changes_value, is_sure, joint_of, joint_value, touches, with_joint};
+ghost use Rattle.miette_language_server.specs.rules.Actions.{changes_value, is_sure, joint_of, joint_value, touches};
+ghost use Rattle.miette_language_server.specs.rules.Actions.{with_joint};
 ghost use Rattle.miette_language_server.specs.rules.Values.{list_value};
 
 use crate::diagnostics::{diagnostic_value, placed};

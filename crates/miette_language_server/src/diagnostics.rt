@@ -6,7 +6,8 @@ ghost use Rattle.serde_json.specs.View.{members_view, view};
 ghost use Rattle.miette_lint.specs.rules.Coded.{coded_findings};
 ghost use Rattle.miette_lint.specs.views.Found.{coded_of};
 ghost use Rattle.miette_language_server.specs.rules.Diagnostics.{diagnostic_value, diagnostics, diagnostics_of};
-ghost use Rattle.miette_language_server.specs.rules.Diagnostics.{fixable_value, fixes_value, placed, plain_value, published_value};
+ghost use Rattle.miette_language_server.specs.rules.Diagnostics.{fixable_value, fixes_value, placed, plain_value};
+ghost use Rattle.miette_language_server.specs.rules.Diagnostics.{published_value};
 ghost use Rattle.miette_language_server.specs.rules.Diagnostics.{told};
 ghost use Rattle.miette_language_server.specs.rules.Values.{fix_value};
 

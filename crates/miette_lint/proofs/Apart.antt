@@ -79,6 +79,24 @@ all_more : (before : List (List Replacement)) (e : Replacement) → all_of (befo
     ≡ all_of before ++ e ∷ []
 all_more before e = flat_map-append (λ (edits : List Replacement). edits) before ((e ∷ []) ∷ [])
 
+-- an edit behind others counts, and then lies before the next one
+record CountsFirst (n : ℕ) (e : Replacement) (before : List (List Replacement)) : Type 0 where
+  yes : counts n (all_of before) (e ∷ []) ≡ true
+  next : counted_with n before (e ∷ []) ≡ before ++ (e ∷ []) ∷ []
+  below : AllByRecursion (LiesBelow (next_at e)) (all_of (before ++ (e ∷ []) ∷ []))
+
+counts_first : (n low : ℕ) (e : Replacement) (before : List (List Replacement)) → low ≤ e.span.offset → end_of e ≤ n
+    → AllByRecursion (LiesBelow low) (all_of before) → CountsFirst n e before
+counts_first n low e before from within h =
+    let yes : counts n (all_of before) (e ∷ []) ≡ true = one_counts n low e (all_of before) from within h in
+    let more : List (List Replacement) = before ++ (e ∷ []) ∷ [] in
+    record {
+      yes = yes;
+      next = ap (λ b. cond b more before) yes;
+      below = subst (AllByRecursion (LiesBelow (next_at e))) (sym (all_more before e))
+          (below_more low e (all_of before) from h);
+    }
+
 pub all_count : (n low : ℕ) (before : List (List Replacement)) (fixes : List Proposal)
     → AllByRecursion (LiesBelow low) (all_of before) → AreApart n low fixes
     → counted n before (lists_in fixes) ≡ before ++ lists_in fixes
@@ -86,17 +104,10 @@ all_count n low before [] h apart = sym (append-nil before)
 all_count n low before (fix ∷ fixes) h apart =
     let e : Replacement = apart.0 in
     let one : fix.edits ≡ e ∷ [] = apart.1.one in
-    let from : low ≤ e.span.offset = apart.1.from in
-    let yes : counts n (all_of before) (e ∷ []) ≡ true =
-    one_counts n low e (all_of before) from apart.1.within h in
-    let more : List (List Replacement) = before ++ (e ∷ []) ∷ [] in
-    let next : counted_with n before (e ∷ []) ≡ more = ap (λ b. cond b more before) yes in
-    let below : AllByRecursion (LiesBelow (next_at e)) (all_of more) =
-    subst (AllByRecursion (LiesBelow (next_at e))) (sym (all_more before e)) (below_more low e (all_of before) from h)
-    in
+    let first = counts_first n low e before apart.1.from apart.1.within h in
     ap (λ es. counted n (counted_with n before es) (lists_in fixes)) one
-    ∙ ap (λ b. counted n b (lists_in fixes)) next
-    ∙ all_count n (next_at e) more fixes below apart.2
+    ∙ ap (λ b. counted n b (lists_in fixes)) first.next
+    ∙ all_count n (next_at e) (before ++ (e ∷ []) ∷ []) fixes first.below apart.2
     ∙ append_assoc before ((e ∷ []) ∷ []) (lists_in fixes)
     ∙ ap (λ es. before ++ es ∷ lists_in fixes) (sym one)
 
@@ -108,18 +119,12 @@ all_are_taken n low before [] h apart = refl
 all_are_taken n low before (fix ∷ fixes) h apart =
     let e : Replacement = apart.0 in
     let one : fix.edits ≡ e ∷ [] = apart.1.one in
-    let from : low ≤ e.span.offset = apart.1.from in
-    let yes : counts n (all_of before) (e ∷ []) ≡ true =
-    one_counts n low e (all_of before) from apart.1.within h in
-    let more : List (List Replacement) = before ++ (e ∷ []) ∷ [] in
-    let next : counted_with n before (e ∷ []) ≡ more = ap (λ b. cond b more before) yes in
-    let below : AllByRecursion (LiesBelow (next_at e)) (all_of more) =
-    subst (AllByRecursion (LiesBelow (next_at e))) (sym (all_more before e)) (below_more low e (all_of before) from h)
-    in
+    let first = counts_first n low e before apart.1.from apart.1.within h in
     ap (λ es. is_taken n before es ∷ taken n (counted_with n before es) (lists_in fixes)) one
-    ∙ ap (λ b. (b || is_among (e ∷ []) before) ∷ taken n (counted_with n before (e ∷ [])) (lists_in fixes)) yes
-    ∙ ap (λ bs. true ∷ taken n bs (lists_in fixes)) next
-    ∙ ap (λ (ts : List Bool). true ∷ ts) (all_are_taken n (next_at e) more fixes below apart.2)
+    ∙ ap (λ b. (b || is_among (e ∷ []) before) ∷ taken n (counted_with n before (e ∷ [])) (lists_in fixes)) first.yes
+    ∙ ap (λ bs. true ∷ taken n bs (lists_in fixes)) first.next
+    ∙ ap (λ (ts : List Bool). true ∷ ts)
+    (all_are_taken n (next_at e) (before ++ (e ∷ []) ∷ []) fixes first.below apart.2)
 
 -- ---- in which order
 

@@ -8,8 +8,9 @@ use Rattle.miette_lint.specs.rules.Coded.{Coded, coded}
 use Rattle.miette_lint.specs.views.Found.{coded_of}
 
 pub coded_put : (found : CodedFinding) (code : List ℕ) (fixes : List Proposal) (label : Label)
-    (labels rest : List Label) (old new : List CodedFinding) → coded_of found ≡ record { code = code; label = label; fixes = fixes }
-    → labels ≡ label ∷ rest → new ≡ old ++ found ∷ [] → map coded_of new ≡ map coded_of old ++ coded code fixes labels
+    (labels rest : List Label) (old new : List CodedFinding)
+    → coded_of found ≡ record { code = code; label = label; fixes = fixes } → labels ≡ label ∷ rest
+    → new ≡ old ++ found ∷ [] → map coded_of new ≡ map coded_of old ++ coded code fixes labels
 coded_put found code fixes label labels rest old new is some put =
     ap (map coded_of) put ∙ map-append coded_of old (found ∷ [])
     ∙ ap (λ (c : Coded). map coded_of old ++ c ∷ []) is ∙ ap (λ ls. map coded_of old ++ coded code fixes ls) (sym some)

@@ -9,7 +9,7 @@ use Rattle.std.proofs.lemmas.List.{length-drop, take_rest}
 use Rattle.std.proofs.lemmas.List.Folds.{length-prefix_len}
 use Rattle.miette_source_lines.specs.rules.Lines.{Line, lines_from}
 use Rattle.miette_source_lines.specs.declared.lines.LineOfText.{LineOfText}
-use Rattle.miette_source_lines.specs.views.Walking.{Rest, IsFirst, behind, line_of_text, lines_left}
+use Rattle.miette_source_lines.specs.views.Walking.{Rest, GivesLine, IsFirst, behind, line_of_text, lines_left}
 use Rattle.miette_protocol.specs.views.Meaning.{Label}
 use Rattle.miette_cells.specs.rules.Cells.{Cell}
 use Rattle.miette_lint.specs.rules.Findings.{ending_blanks, finding, is_blank, misplaced_tab, overlong}
@@ -28,24 +28,34 @@ left_first f rest bytes found is none =
     subst (λ (r : Rest). AreLeft f (length bytes) r found (flat_map f (lines_from 0 bytes))) (sym is)
     (record { rows = ap (λ ls. ls ++ flat_map f (lines_from 0 bytes)) none; to = omega arith })
 
-pub left_more : {X : Type 0} (f : Line → List X) (size : ℕ) (rest after : Rest) (line : LineOfText)
-    (found more all : List X) → AreLeft f size rest found all → IsFirst rest line → after ≡ behind rest line
-    → more ≡ found ++ f (line_of_text line) → AreLeft f size after more all
-left_more {X} f size rest after line found more all h first left step =
+-- a step that gives a line
+pub given_line : (rest after : Rest) (r : Option LineOfText) (line : LineOfText) → r ≡ Some line
+    → GivesLine rest r after → IsFirst rest line × (after ≡ behind rest line)
+given_line rest after r line is given = subst (λ (o : Option LineOfText). GivesLine rest o after) is given
+
+pub left_more : {X : Type 0} (f : Line → List X) (size : ℕ) (rest after : Rest) (r : Option LineOfText)
+    (line : LineOfText) (found more all : List X) → AreLeft f size rest found all → r ≡ Some line
+    → GivesLine rest r after → more ≡ found ++ f (line_of_text line) → AreLeft f size after more all
+left_more {X} f size rest after r line found more all h is given step =
+    let step_is : IsFirst rest line × (after ≡ behind rest line) = given_line rest after r line is given in
+    let first : IsFirst rest line = step_is.0 in
     let later : List X = flat_map f (lines_left (behind rest line)) in
     let bytes : length (drop (line.end - rest.start) rest.bytes) ≡ length rest.bytes - (line.end - rest.start) =
     length-drop (line.end - rest.start) rest.bytes in
-    subst (λ (r : Rest). AreLeft f size r more all) (sym left)
+    subst (λ (r : Rest). AreLeft f size r more all) (sym step_is.1)
     (record {
       rows = ap (λ m. m ++ later) step ∙ append_assoc found (f (line_of_text line)) later
           ∙ ap (λ ls. found ++ flat_map f ls) (sym first.lines) ∙ h.rows;
       to = omega (arith, h.to, bytes, first.from, first.some, first.to);
     })
 
-pub left_none : {X : Type 0} (f : Line → List X) (size : ℕ) (rest : Rest) (found all : List X)
-    → AreLeft f size rest found all → rest.bytes ≡ [] → found ≡ all
-left_none f size rest found all h none = sym (append-nil found)
-    ∙ ap (λ bs. found ++ flat_map f (lines_from rest.start bs)) (sym none) ∙ h.rows
+-- one that gives none
+pub left_none : {X : Type 0} (f : Line → List X) (size : ℕ) (rest after : Rest) (r : Option LineOfText)
+    (found all : List X) → AreLeft f size rest found all → r ≡ None → GivesLine rest r after → found ≡ all
+left_none f size rest after r found all h is given =
+    let end : (rest.bytes ≡ []) × (after ≡ rest) =
+    subst (λ (o : Option LineOfText). GivesLine rest o after) is given in
+    sym (append-nil found) ∙ ap (λ bs. found ++ flat_map f (lines_from rest.start bs)) (sym end.0) ∙ h.rows
 
 -- the texts of a line
 

@@ -1,9 +1,10 @@
 -- How a page grows.
-use Rattle.std.proofs.Common.{ℕ, zero, suc, ◌-◌, ◌<◌, ◌≡◌, ◌==◌, true, false, List, [], ◌∷◌, ◌++◌, length, replicate}
-use Rattle.std.proofs.Common.{decimal, chars, encode_utf8_all, refl, sym, ap, ◌∙◌, append_assoc, arith}
+use Rattle.std.proofs.Common.{ℕ, zero, suc, ◌-◌, ◌<◌, ◌≡◌, ◌==◌, Bool, true, false, List, [], ◌∷◌, ◌++◌, length}
+use Rattle.std.proofs.Common.{replicate, decimal, chars, encode_utf8_all, refl, sym, ap, ◌∙◌, append_assoc, arith}
 use Rattle.std.specs.Str.{IsAscii, IsUtf8}
 use Rattle.std.proofs.lemmas.Str.{chars-IsAscii, chars-nil, encodes-chars}
 use Rattle.std.proofs.lemmas.List.{map-append}
+use Rattle.miette_style.specs.declared.style.Style.{Style}
 use Rattle.miette_page.specs.views.Printouts.{Printout, put, started_text, ◌⊕◌}
 use Rattle.miette_page.specs.views.Tokens.{Token, text_tokens}
 
@@ -32,6 +33,10 @@ some_put p (c ∷ cs) h = sym (text_put p c cs)
 
 pub put_nil : (p : Printout) → p ⊕ [] ≡ p
 put_nil p = refl
+
+-- a printout of these parts
+abbrev pub printed_as : List ℕ → Style → Bool → Printout
+printed_as text style begun = record { text = text; style = style; begun = begun }
 
 -- a page whose output holds some characters more, once its run has a start
 pub page_put : (p started : Printout) (more codes : List ℕ) → 0 < length codes

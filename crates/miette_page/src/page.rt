@@ -1,6 +1,7 @@
 //! Rows in the making, printed as they come.
 
-ghost use Rattle.std.specs.Prelude.{◌≡◌, ◌-◌, ◌∷◌, ◌++◌, [], chars, decimal, length, replicate, true, IfOk, OnOk};
+ghost use Rattle.std.specs.Prelude.{◌≡◌, ◌≤◌, ◌-◌, ◌∷◌, ◌++◌, [], chars, decimal, length, replicate, true, IfOk, IfSome};
+ghost use Rattle.std.specs.Prelude.{OnOk};
 ghost use Rattle.miette_page.specs.views.Printouts.{◌⊕◌, ended_text, printout_of, started_text};
 ghost use Rattle.miette_page.specs.views.Tokens.{begins, row_end, styled_tokens, text_tokens};
 
@@ -63,6 +64,42 @@ fn end_run<O: Canvas>(out: &mut O, style: Style, begun: bool) -> Result<(), Allo
 // Room for so many copies of a character is taken as they come.
 const FEW: usize = 8;
 
+// So many copies of a character are put at once, where it is one that pictures repeat.
+const RUN: usize = 16;
+
+// A text of the copies that are put at once.
+fn run_of(character: char) -> Option<&'static str>
+    ensures { IfSome result (λ run. chars run.now ≡ replicate 16 character) }
+{
+    match character {
+        ' ' => Some("                "),
+        '─' => Some("────────────────"),
+        '-' => Some("----------------"),
+        '^' => Some("^^^^^^^^^^^^^^^^"),
+        _ => None,
+    }
+}
+
+// As many copies of a character as can be put at once; gives how many are left.
+fn push_runs<O: Canvas>(out: &mut O, character: char, many: usize) -> Result<usize, AllocError>
+    ensures within { IfOk result (λ left. left ≤ many) }
+    ensures text { IfOk result (λ left. O.written out.new
+        ≡ O.written out.old ++ replicate (many - left) character) }
+{
+    let mut left = many;
+    if left < RUN {
+        return Ok(left);
+    }
+    let Some(run) = run_of(character) else {
+        return Ok(left);
+    };
+    while RUN <= left {
+        out.push_str(run)?;
+        left -= RUN;
+    }
+    Ok(left)
+}
+
 // Copies of a character; the room for many is taken at once.
 fn push_each<O: Canvas>(out: &mut O, character: char, many: usize) -> Result<(), AllocError>
     ensures { OnOk result (O.written out.new ≡ O.written out.old ++ replicate many character) }
@@ -70,7 +107,8 @@ fn push_each<O: Canvas>(out: &mut O, character: char, many: usize) -> Result<(),
     if many > FEW {
         out.reserve(character, many)?;
     }
-    for i in 0..many {
+    let left = push_runs(out, character, many)?;
+    for i in 0..left {
         let _count = i;
         out.push(character)?;
     }

@@ -3,20 +3,21 @@ use Rattle.std.proofs.Common.{arith, ◌≡◌, ℕ, ◌+◌, ◌≤◌, ◌<◌
 use Rattle.std.proofs.Common.{inl, inr, refl, sym, ap, ap₂, subst, ◌∙◌, Option, Some, None, max}
 use Rattle.std.proofs.lemmas.Bool.{and_parts, cases_order, cond_both}
 use Rattle.std.proofs.lemmas.List.{length-drop}
-use Rattle.std.specs.Prelude.{IfSome, nat_eq, not, ◌&&◌, string_bytes, unwrap_or, slice_get}
+use Rattle.std.specs.Prelude.{IfSome, nat_eq, nat_lt, not, ◌&&◌, ◌==◌, ◌-◌, string_bytes, unwrap_or, slice_get}
 use Rattle.std.specs.Cmp.Lexicographic.{pointwise}
 use Rattle.std.specs.List.{starts_with}
 use Rattle.miette_style.specs.declared.style.Style.{Style}
 use Rattle.miette_highlight.specs.rules.FollowingCalls.{FollowTokens}
 use Rattle.miette_highlight.specs.rules.HighlighterCalls.{asked, listed_pieces, restarted}
-use Rattle.miette_highlight.specs.rules.Patterns.{begins_within, close_end, closed_at, escapes_next, inside, is_among}
-use Rattle.miette_highlight.specs.rules.Patterns.{is_word_byte, match_of, word_end}
+use Rattle.miette_highlight.specs.rules.Patterns.{begins_within, character_end, close_end, closed_at, closed_character}
+use Rattle.miette_highlight.specs.rules.Patterns.{escapes_next, inside, is_among, is_character, is_word_byte, match_of}
+use Rattle.miette_highlight.specs.rules.Patterns.{prefixed_word, word_end}
 use Rattle.miette_highlight.specs.rules.Pieces.{Piece}
 use Rattle.miette_highlight.specs.rules.Tokens.{AreTokens, EndsFrom, first_match, found_or, plain_token, running_in}
 use Rattle.miette_highlight.specs.rules.Tokens.{running_rule, running_token, token_at}
 use Rattle.miette_highlight.specs.declared.rule.Delimiters.{Delimiters}
 use Rattle.miette_highlight.specs.declared.rule.Pattern.{Pattern}
-use Rattle.miette_highlight.specs.declared.rule.Pattern.TheVariants.{Words, From, Between}
+use Rattle.miette_highlight.specs.declared.rule.Pattern.TheVariants.{Words, From, Between, Character, Prefixed}
 use Rattle.miette_highlight.specs.declared.rule.Rule.{Rule}
 use Rattle.miette_highlight.specs.declared.tokens.Token.{Token}
 use Rattle.miette_picture_laws.specs.laws.Determined.{IsDetermined}
@@ -65,6 +66,29 @@ inside-within : (d : Delimiters) (at : ℕ) (text : List ℕ) → (inside d at t
 inside-within d at text =
     closed-within (close_end d false at text) (at + length text) d.over_lines (close-within d false at text)
 
+held-within : (d : Delimiters) (at : ℕ) (text : List ℕ) (o : Option ℕ) → IfSome o (λ end. end ≤ at + length text)
+    → IfSome (closed_character d at text o) (λ found. found.0 ≤ at + length text)
+held-within d at text None h = tt
+held-within d at text (Some end) h =
+    cond_both (is_character d.escape (take (end - at - length (string_bytes d.closes)) text)) (Some (end, false)) None
+    (λ o. IfSome o (λ found. found.0 ≤ at + length text)) (λ y. h) (λ n. tt)
+
+found-less : (o : Option (ℕ × Bool)) (m n : ℕ) → m ≤ n → IfSome o (λ found. found.0 ≤ m)
+    → IfSome o (λ found. found.0 ≤ n)
+found-less None m n h less = tt
+found-less (Some found) m n h less = omega arith
+
+character-within : (d : Delimiters) (at : ℕ) (text : List ℕ)
+    → IfSome (character_end d at text) (λ found. found.0 ≤ at + length text)
+character-within d at text = held-within d at text (close_end d false at text) (close-within d false at text)
+
+prefixed-within : (byte : ℕ) (text : List ℕ) → IfSome (prefixed_word byte text) (λ found. found.0 ≤ length text)
+prefixed-within byte [] = tt
+prefixed-within byte (b ∷ bs) =
+    cond_both (b == byte && nat_lt 0 (word_end 0 bs)) (Some (word_end 0 bs + 1, false)) None
+    (λ o. IfSome o (λ found. found.0 ≤ length (b ∷ bs)))
+    (λ y. let w : word_end 0 bs ≤ 0 + length bs = word-within 0 bs in omega arith) (λ n. tt)
+
 match-within : (p : Pattern) (text : List ℕ) → IfSome (match_of p text) (λ found. found.0 ≤ length text)
 match-within (Words words) text =
     cond_both (is_among words.items (take (word_end 0 text) text)) (Some (word_end 0 text, false)) None
@@ -83,6 +107,16 @@ match-within (Between d) text =
     + length (drop (length opens) text) = inside-within d (length opens) (drop (length opens) text) in
     omega (arith, length-drop (length opens) text))
     (λ n. tt)
+match-within (Character d) text =
+    let opens = string_bytes d.opens in
+    cond_both (starts_with nat_eq text opens) (character_end d (length opens) (drop (length opens) text)) None
+    (λ o. IfSome o (λ found. found.0 ≤ length text))
+    (λ y. let l : length opens ≤ length text = begin-within opens text y in
+    found-less (character_end d (length opens) (drop (length opens) text))
+    (length opens + length (drop (length opens) text)) (length text) (omega (arith, l, length-drop (length opens) text))
+    (character-within d (length opens) (drop (length opens) text)))
+    (λ n. tt)
+match-within (Prefixed byte) text = prefixed-within byte text
 
 -- a token, where there is one, has no more bytes than so many
 abbrev IsWithin : ℕ → Option Token → Type 0
@@ -103,6 +137,8 @@ open-within : (at : ℕ) (style : Style) (p : Pattern) (text : List ℕ)
     → IsWithin (length text) (running_in at style p text)
 open-within at style (Words words) text = tt
 open-within at style (From first last) text = tt
+open-within at style (Character d) text = tt
+open-within at style (Prefixed byte) text = tt
 open-within at style (Between d) text =
     let i : (inside d 0 text).0 ≤ 0 + length text = inside-within d 0 text in omega arith
 

@@ -13,7 +13,7 @@ use Rattle.miette_cells.proofs.Stepping.{cells_end}
 use Rattle.miette_labels.specs.rules.Labels.{multi_line, one_line}
 use Rattle.miette_page.specs.rules.Rows.{glyph_of}
 use Rattle.miette_runs.specs.rules.Runs.{print}
-use Rattle.miette_snippet_rules.specs.rules.CutLines.{shown_runs}
+use Rattle.miette_snippet_rules.specs.rules.CutLines.{dots, shown_runs}
 use Rattle.miette_snippet_rules.specs.rules.Drawing.{blank}
 use Rattle.miette_snippet_rules.specs.rules.Frames.{number_start}
 use Rattle.miette_snippet_rules.specs.rules.Gutters.{number_gutter}
@@ -88,11 +88,12 @@ prints-number c line number h =
     let s = c.settings in
     let cells = c.cells line in
     let shown = ap₂ (λ multi cut. print (runs_of_row (number_start s c.number_width number
-    ++ number_gutter s line c.gutter multi ++ shown_runs cut [] cells))) h.alone h.whole
+    ++ number_gutter s line c.gutter multi ++ shown_runs (dots s.theme) cut [] cells))) h.alone h.whole
     ∙ plain-number s c.number_width number c.gutter cells h.numbers in
     record {
       row = number_start s c.number_width number ++ number_gutter s line c.gutter (multi_line line c.labels)
-          ++ shown_runs (line_cut s line cells (one_line line c.labels)) [] cells;
+          ++ shown_runs (dots s.theme) (line_cut s line cells (one_line line c.labels) (multi_line line c.labels)) []
+          cells;
       below = drop 1 (line_rows c line number []);
       first = refl;
       prints = shown;

@@ -1,3 +1,4 @@
 pub mod LineFacts
 pub mod Wholes
 pub mod Locations
+pub mod Labelled

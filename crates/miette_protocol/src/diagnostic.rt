@@ -1,12 +1,13 @@
 //! A diagnostic that is plain data, as in the crate miette 7.6.0.
 
-ghost use Rattle.std.specs.Prelude.{◌≡◌, ◌↔◌, List, [], ◌∷◌, IfOk, IsTrue, Some, None, string_bytes};
+ghost use Rattle.std.specs.Prelude.{◌≡◌, ◌↔◌, List, [], ◌∷◌, IfOk, IsTrue, Some, None, false, true, string_bytes};
 ghost use Rattle.std.specs.Iterator.{Drains, IsFinite};
 ghost use Rattle.std.specs.Option.{option_copied, option_map};
+ghost use Rattle.miette_protocol.specs.rules.Reading.{Span};
 ghost use Rattle.miette_protocol.specs.views.Diagnostic.{meaning_of};
 ghost use Rattle.miette_protocol.specs.views.Meaning.{Label};
 
-use crate::protocol::{Diagnostic, LabeledSpan, Severity};
+use crate::protocol::{Diagnostic, LabeledSpan, Severity, SourceSpan};
 use serde::{Deserialize, Serialize};
 use std::alloc::{AllocError, Global};
 use std::fmt;
@@ -65,6 +66,7 @@ fn copied_labels(
 
 impl MietteDiagnostic {
     ghost use Rattle.miette_protocol.specs.views.Diagnostic.{meaning_of, message_alone, appended_labels};
+    ghost use Rattle.miette_protocol.specs.views.Diagnostic.{with_label_at};
 
     /// A diagnostic with a copy of a message, and nothing else.
     ///
@@ -198,6 +200,40 @@ impl MietteDiagnostic {
         let mut labels = self.labels.take().unwrap_or(Vec::new(alloc));
         labels.push(label)?;
         Ok(self.with_labels(labels))
+    }
+
+    /// With a label on a span, with a copy of a text, after those that were there.
+    ///
+    /// # Errors
+    /// `AllocError` where memory for the list or the text is refused; the value is dropped.
+    pub fn and_label_at<S: Into<SourceSpan>>(
+        self,
+        alloc: Global,
+        span: S,
+        text: &str,
+    ) -> Result<Self, AllocError>
+        ensures { IfOk result (λ it. (place : Span) × S.converts span place
+            × (meaning_of it ≡ with_label_at (meaning_of self) place text.now false)) }
+    {
+        let label = LabeledSpan::at(alloc, span, text)?;
+        self.and_label(alloc, label)
+    }
+
+    /// As `and_label_at`, with the label marked as primary.
+    ///
+    /// # Errors
+    /// `AllocError` where memory for the list or the text is refused; the value is dropped.
+    pub fn and_primary_at<S: Into<SourceSpan>>(
+        self,
+        alloc: Global,
+        span: S,
+        text: &str,
+    ) -> Result<Self, AllocError>
+        ensures { IfOk result (λ it. (place : Span) × S.converts span place
+            × (meaning_of it ≡ with_label_at (meaning_of self) place text.now true)) }
+    {
+        let label = LabeledSpan::primary_at(alloc, span, text)?;
+        self.and_label(alloc, label)
     }
 
     /// With these labels after those that were there.

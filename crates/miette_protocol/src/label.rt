@@ -172,6 +172,23 @@ impl LabeledSpan {
         })
     }
 
+    /// A primary label with a copy of a text.
+    ///
+    /// # Errors
+    /// `AllocError` where memory for the copy is refused.
+    pub fn primary_at<S: Into<SourceSpan>>(
+        alloc: Global,
+        span: S,
+        label: &str,
+    ) -> Result<Self, AllocError>
+        ensures text { IfOk result (λ it. it.text ≡ Some label.now) }
+        ensures span { IfOk result (λ it. S.converts span it.span) }
+        ensures primary { IfOk result (λ it. it.primary ≡ true) }
+        ensures context { IfOk result (λ it. it.context ≡ None) }
+    {
+        Ok(LabeledSpan::at(alloc, span, label)?.as_primary())
+    }
+
     /// An empty label at an offset in bytes, with a copy of a text, not primary.
     ///
     /// # Errors
@@ -212,6 +229,16 @@ impl LabeledSpan {
     {
         LabeledSpan {
             context_lines: NonZeroUsize::new(lines),
+            ..self
+        }
+    }
+
+    /// The label as the primary one of its diagnostic.
+    pub fn as_primary(self) -> Self
+        ensures { result ≡ record self { primary = true } }
+    {
+        LabeledSpan {
+            primary: true,
             ..self
         }
     }

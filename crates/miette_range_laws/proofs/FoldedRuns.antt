@@ -1,8 +1,8 @@
--- Inside a frame exactly the lines that are in no context of a label as it is folded are left out.
-use Rattle.std.proofs.Common.{ℕ, zero, suc, ◌+◌, ◌-◌, ◌<◌, ◌≤◌, ◌≡◌, ◌⊎◌, inl, inr, min, max, Bool, true, false, cond}
+-- Which lines of a run labels hide, and that its first line and its last one are kept.
+use Rattle.std.proofs.Common.{ℕ, zero, suc, ◌+◌, ◌-◌, ◌<◌, ◌≤◌, ◌≡◌, ◌⊎◌, inl, inr, min, Bool, true, false}
 use Rattle.std.proofs.Common.{ltb, leb, not, ◌&&◌, ◌||◌, List, [], ◌∷◌, length, map, Option, Some, None, refl, sym, ap}
 use Rattle.std.proofs.Common.{ap₂, ◌∙◌, ⊎_elim, arith}
-use Rattle.std.specs.Prelude.{unwrap_or, slice_range}
+use Rattle.std.specs.Prelude.{slice_range}
 use Rattle.std.specs.List.{range_with_len, list_any, AllByRecursion}
 use Rattle.std.proofs.lemmas.Bool.{lt-ltb, le-ltb, le-leb, lt-leb, leb-true, cases_lt}
 use Rattle.std.proofs.lemmas.Bool.{and_parts, and_from, or_left, or_right}
@@ -12,15 +12,12 @@ use Rattle.miette_protocol.specs.views.Meaning.{Label}
 use Rattle.miette_protocol.specs.rules.Reading.{Span, Source, reading_end}
 use Rattle.miette_protocol.specs.rules.Context.{first_line, last_line}
 use Rattle.miette_labels.specs.rules.Around.{lines_around}
-use Rattle.miette_labels.specs.rules.Groups.{in_order}
-use Rattle.miette_snippet_rules.specs.rules.Folds.{Spread, spread, spreads_of, last_byte, hides, place_among, is_around}
-use Rattle.miette_snippet_rules.specs.rules.Folds.{is_near, leaves_out}
-use Rattle.miette_snippet_rules.specs.rules.SnippetLayout.{left_out}
+use Rattle.miette_snippet_rules.specs.rules.Folds.{Spread, spread, last_byte, hides, place_among, is_around}
+use Rattle.miette_snippet_rules.specs.rules.Folds.{is_near}
 use Rattle.miette_snippet_rules.specs.rules.Numbers.{ranges}
 use Rattle.miette_snippet_rules.specs.rules.ShownLines.{line_at}
 use Rattle.miette_snippet_rules.specs.rules.Snippets as N
 use Rattle.miette_basics.proofs.Cases.{by_cases}
-use Rattle.miette_labels.proofs.OwnContexts.{own_ordered, order_any}
 use Rattle.miette_source_lines.proofs.Places.{line_end_mono, line_of_all, line_of_mono, line_of_next, line_of_within}
 use Rattle.miette_source_lines.proofs.Places.{line_start_mono, line_start_next}
 use Rattle.miette_source_lines.proofs.Cuts.{few_lines, line_of_there, lines_before, nonempty}
@@ -29,17 +26,15 @@ use Rattle.miette_source_lines.proofs.Parts.{part_place, start_whole}
 use Rattle.miette_protocol.proofs.Wholes.{data_are, end-le-reading, first-le-last, start_is}
 use Rattle.miette_protocol.proofs.Wholes.{first-lt}
 use Rattle.miette_range_laws.proofs.ReadLines.{end_at, middle_lines, start_at}
-use Rattle.miette_range_laws.proofs.SnippetBodies.{KeepsAlike, LeaveAlike}
 use Rattle.miette_range_laws.specs.laws.Folding.{FitsIn, EndsPass}
-use Rattle.miette_range_laws.proofs.Stretches.{IsMaximal, range_same, each_run, each_numbers}
+use Rattle.miette_range_laws.proofs.Stretches.{IsMaximal, each_numbers}
 use Rattle.miette_range_laws.proofs.OwnGroups.{Around}
 use Rattle.miette_range_laws.proofs.SnippetBodies.{last_of-range}
-use Rattle.miette_snippet_rules.specs.rules.Settings.{SnippetSettings}
 
 -- ---- the places of offsets among the lines of a frame
 
 -- the lines with these numbers
-abbrev frame : List ℕ → ℕ → ℕ → List Line
+abbrev pub frame : List ℕ → ℕ → ℕ → List Line
 frame bytes low many = map (line_at (lines_of bytes)) (range_with_len low many)
 
 place_is : (bytes : List ℕ) (low many o : ℕ) → low + many ≤ length (lines_of bytes)
@@ -120,7 +115,7 @@ record AreIn (low many first last : ℕ) : Type 0 where
   pub ends : last ≤ low + many
 
 -- the lines of a context all pass
-abbrev Covers : (ℕ → Bool) → ℕ → ℕ → List ℕ → Span → Type 0
+abbrev pub Covers : (ℕ → Bool) → ℕ → ℕ → List ℕ → Span → Type 0
 Covers p to c bytes span = (k : ℕ) → k < to → first_line bytes span c ≤ k → k ≤ last_line bytes span c → p k ≡ true
 
 lies_in : (p : ℕ → Bool) (c : ℕ) (bytes : List ℕ) (span : Span) (low many k : ℕ)
@@ -194,7 +189,7 @@ near_is limit context source all label p low many k one some m covers le lt =
     inside le
     (place_is bytes low many x.first m.inside) (place_is bytes low many x.last m.inside) (omega arith))
 
-any_around : (context : ℕ) (source : Source) (all labels : List Label) (k : ℕ) → Around context all labels → 0
+pub any_around : (context : ℕ) (source : Source) (all labels : List Label) (k : ℕ) → Around context all labels → 0
     < length source.bytes → k < length (lines_of source.bytes) →
     list_any (is_around (line_at (lines_of source.bytes) k)) (map (spread context source all) labels)
     ≡ list_any (λ label. N.is_in_context (lines_around context all label) source.bytes k label.span) labels
@@ -204,11 +199,11 @@ any_around context source all (label ∷ labels) k h some there =
     (any_around context source all labels k h.1 some there)
 
 -- the lines of each label's context pass
-abbrev AllCovered : (ℕ → Bool) → ℕ → List ℕ → List Label → List Label → Type 0
+abbrev pub AllCovered : (ℕ → Bool) → ℕ → List ℕ → List Label → List Label → Type 0
 AllCovered p context bytes all labels = AllByRecursion
     (λ label. Covers p (length (lines_of bytes)) (lines_around context all label) bytes label.span) labels
 
-any_near : (limit context : ℕ) (source : Source) (all labels : List Label) (p : ℕ → Bool) (low many k : ℕ)
+pub any_near : (limit context : ℕ) (source : Source) (all labels : List Label) (p : ℕ → Bool) (low many k : ℕ)
     → Around context all labels → 0 < length source.bytes →
     IsMaximal p (length (lines_of source.bytes)) low many → AllCovered p context source.bytes all labels → low ≤ k → k
     < low + many →
@@ -235,7 +230,7 @@ each_label : (A B : Label → Type 0) (labels : List Label) → ((label : Label)
 each_label A B [] f h = tt
 each_label A B (label ∷ labels) f h = (f label h.0, each_label A B labels f h.1)
 
-all_covered : (context : ℕ) (bytes : List ℕ) (labels : List Label)
+pub all_covered : (context : ℕ) (bytes : List ℕ) (labels : List Label)
     → AllCovered (N.is_shown context bytes labels) context bytes labels labels
 all_covered context bytes labels =
     each_label (λ label. (k : ℕ) → N.is_in_context (lines_around context labels label) bytes k label.span ≡ true
@@ -249,55 +244,6 @@ all_covered context bytes labels =
     (le-leb k (last_line bytes label.span (lines_around context labels label)) to)))
     (covered (λ label k. N.is_in_context (lines_around context labels label) bytes k label.span)
     (N.is_shown context bytes labels) (length (lines_of bytes)) labels (λ k t. t))
-
--- ---- what is left out of a run isn't kept
-
-leaves_alike : (limit : Option ℕ) (context : ℕ) (source : Source) (labels : List Label) (low many k : ℕ)
-    → Around context labels labels → 0 < length source.bytes →
-    IsMaximal (N.is_shown context source.bytes labels) (length (lines_of source.bytes)) low many → low ≤ k → k < low
-    + many
-    →
-    leaves_out limit (frame source.bytes low many) (spreads_of limit context source labels) (k + 1 - (low + 1))
-    (line_at (lines_of source.bytes) k) ≡ not (N.is_kept limit context source.bytes labels k)
-leaves_alike None context source labels low many k h some m le lt = ap not (sym (m.all k le lt))
-leaves_alike (Some limit) context source labels low many k h some m le lt =
-    ap₂ (λ x y. x && not y) (any_around context source labels labels k h some (omega (arith, m.inside, lt))
-    ∙ m.all k le lt)
-    (any_near limit context source labels labels (N.is_shown context source.bytes labels) low many k h some m
-    (all_covered context source.bytes labels) le lt)
-
--- the order of labels changes nothing
-pub kept_ordered : (limit : Option ℕ) (context : ℕ) (bytes : List ℕ) (labels : List Label) (k : ℕ)
-    → N.is_kept limit context bytes (in_order labels) k ≡ N.is_kept limit context bytes labels k
-kept_ordered None context bytes labels k =
-    ap (λ own. list_any (λ l. N.is_in_context (unwrap_or l.context (cond own (max 1 context) context)) bytes k l.span)
-    (in_order labels)) (own_ordered labels)
-    ∙ order_any (λ l. N.is_in_context (lines_around context labels l) bytes k l.span) labels
-kept_ordered (Some limit) context bytes labels k =
-    ap (λ own. list_any (λ l. N.is_in_folded_context limit (unwrap_or l.context (cond own (max 1 context) context))
-    bytes k l.span) (in_order labels)) (own_ordered labels)
-    ∙ order_any (λ l. N.is_in_folded_context limit (lines_around context labels l) bytes k l.span) labels
-
--- in each run of lines that are shown
-pub runs_alike : (s : SnippetSettings) (context : ℕ) (source : Source) (labels : List Label)
-    → Around context (in_order labels) (in_order labels) → 0 < length source.bytes →
-    AllByRecursion (KeepsAlike s (spreads_of s.layout.label_lines context source (in_order labels)) source.bytes
-    (N.is_kept s.layout.label_lines context source.bytes labels))
-    (ranges (N.shown_numbers context source.bytes (in_order labels)))
-runs_alike s context source labels h some =
-    let bytes : List ℕ = source.bytes in
-    let xs : List Spread = spreads_of s.layout.label_lines context source (in_order labels) in
-    let alike : ℕ → ℕ → Type 0 = λ low many. LeaveAlike (lines_of bytes)
-    (left_out s low (map (line_at (lines_of bytes)) (range_with_len low many)) xs)
-    (N.is_kept s.layout.label_lines context bytes labels) low many in
-    each_run alike (N.is_shown context bytes (in_order labels)) (length (lines_of bytes)) (λ low many m.
-    λ k le lt. leaves_alike s.layout.label_lines context source (in_order labels) low many k h some m le lt
-    ∙ ap not (kept_ordered s.layout.label_lines context bytes labels k))
-
--- a run without lines
-pub none_alike : (s : SnippetSettings) (xs : List Spread) (bytes : List ℕ) (kept : ℕ → Bool)
-    → KeepsAlike s xs bytes kept []
-none_alike s xs bytes kept = λ low many e. λ k le lt. absurd (omega (arith, le, lt, (range_same 0 0 low many e).0))
 
 -- ---- the first line of a run, and its last one, are kept
 
@@ -331,15 +277,21 @@ none_first limit first last c k le =
     not_right true = refl
     not_right false = refl
 
+not_all : (b d : Bool) → not (b && (d && false)) ≡ true
+not_all true true = refl
+not_all true false = refl
+not_all false d = refl
+
+pub none_past : (limit first last c k : ℕ) → last ≤ k → not (hides limit first last c k) ≡ true
+none_past limit first last c k le =
+    let none : last - k ≡ 0 = omega (arith, le) in
+    let no_more : ltb c (last - k) ≡ false = ap (ltb c) none ∙ le-ltb c 0 (omega arith) in
+    rw no_more (not_all (leb limit (last - first)) (ltb c (k - first)))
+
 pub none_last : (limit first last c k : ℕ) → last ≤ k + 1 → 1 ≤ c → not (hides limit first last c k) ≡ true
 none_last limit first last c k le one =
     let no_more : ltb c (last - k) ≡ false = le-ltb c (last - k) (omega (arith, le, one)) in
-    rw no_more (not_right (leb limit (last - first)) (ltb c (k - first)))
-  where
-    not_right : (b d : Bool) → not (b && (d && false)) ≡ true
-    not_right true true = refl
-    not_right true false = refl
-    not_right false d = refl
+    rw no_more (not_all (leb limit (last - first)) (ltb c (k - first)))
 
 -- a label keeps the first line of a run that its context meets there, and the last one
 keeps_end : (limit context : ℕ) (bytes : List ℕ) (all : List Label) (label : Label) (p : ℕ → Bool) (low many k : ℕ)
@@ -368,12 +320,13 @@ end_kept : (limit : Option ℕ) (context : ℕ) (bytes : List ℕ) (labels : Lis
     (k ≡ low) ⊎ (k + 1 ≡ low + many) → low ≤ k → k < low + many → N.is_kept limit context bytes labels k ≡ true
 end_kept None context bytes labels low many k h m at le lt = m.all k le lt
 end_kept (Some limit) context bytes labels low many k h m at le lt =
-    any_to (IsCovered (N.is_shown context bytes labels) context bytes labels)
+    or_left (N.is_in_some_fold limit context bytes labels k) (N.is_alone limit context bytes labels k)
+    (any_to (IsCovered (N.is_shown context bytes labels) context bytes labels)
     (λ label. N.is_in_context (lines_around context labels label) bytes k label.span)
     (λ label. N.is_in_folded_context limit (lines_around context labels label) bytes k label.span) labels
     (both_covered (N.is_shown context bytes labels) context bytes labels labels h (all_covered context bytes labels))
     (λ label own t. keeps_end limit context bytes labels label (N.is_shown context bytes labels) low many k m at le lt
-    own t) (m.all k le lt)
+    own t) (m.all k le lt))
 
 -- of each maximal run of the lines that are shown
 ends_of : (limit : Option ℕ) (context : ℕ) (bytes : List ℕ) (labels : List Label) (low many : ℕ)
@@ -401,7 +354,7 @@ none_hidden limit first last c k le =
     let no_more : leb limit (last - first) ≡ false = lt-leb limit (last - first) (omega (arith, le)) in
     rw no_more refl
 
-and_true : (b x : Bool) → x ≡ true → (b && x) ≡ b
+pub and_true : (b x : Bool) → x ≡ true → (b && x) ≡ b
 and_true true x h = h
 and_true false x h = refl
 
@@ -418,8 +371,17 @@ any_unfolded limit context bytes all (label ∷ labels) k h =
     (none_hidden limit (line_of bytes label.span.offset) (line_of bytes (last_byte bytes label.span)) c k h.0))
     (any_unfolded limit context bytes all labels k h.1)
 
+kept_shown : (shown beside : Bool) → (shown || ((shown && not shown) && beside)) ≡ shown
+kept_shown true beside = refl
+kept_shown false beside = refl
+
 -- all shown lines are kept
 pub all_kept : (limit context : ℕ) (bytes : List ℕ) (labels : List Label) (k : ℕ)
     → AllByRecursion (FitsIn limit bytes) labels → N.is_kept (Some limit) context bytes labels k
     ≡ N.is_kept None context bytes labels k
-all_kept limit context bytes labels k h = any_unfolded limit context bytes labels labels k h
+all_kept limit context bytes labels k h =
+    let shown : Bool = N.is_shown context bytes labels k in
+    let beside : Bool = not (N.is_hidden limit context bytes labels (k - 1))
+    && not (N.is_hidden limit context bytes labels (k + 1)) in
+    ap (λ fold. fold || ((shown && not fold) && beside)) (any_unfolded limit context bytes labels labels k h)
+    ∙ kept_shown shown beside

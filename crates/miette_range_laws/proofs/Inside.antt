@@ -184,7 +184,8 @@ pub left_out_inside : (ends : Bool) (styles : List Style) (limit context : ℕ) 
     ≡ false →
     AllByRecursion (IsInside (line_at (lines_of bytes) k)) (drawn_from ends styles (length bytes) 0 labels)
 left_out_inside ends styles limit context bytes labels k h lt off =
-    all_inside ends styles limit context bytes labels labels 0 k h lt off
+    all_inside ends styles limit context bytes labels labels 0 k h lt
+    (or_parts (N.is_in_some_fold limit context bytes labels k) (N.is_alone limit context bytes labels k) off).0
 
 -- ---- the labels on two such lines that follow each other
 

@@ -1,6 +1,8 @@
 pub mod Blocks
 pub mod FoldedRuns
 pub mod Inside
+pub mod LeftOutPairs
+pub mod LeftOutRuns
 pub mod Maximal
 pub mod MaximalRanges
 pub mod OneGroup

@@ -3,7 +3,7 @@ use Rattle.std.proofs.Common.{ℕ, ◌<◌, ◌≤◌, ◌≡◌, ◌⊎◌, max
 use Rattle.std.proofs.Common.{length, map, Some, None, sym, ap, ap₂, ◌∙◌, subst, arith}
 use Rattle.std.specs.Prelude.{unwrap_or, is_some}
 use Rattle.std.specs.Option.{option_map}
-use Rattle.std.specs.List.{range_with_len, list_any, AllByRecursion}
+use Rattle.std.specs.List.{range_with_len, AllByRecursion}
 use Rattle.std.proofs.lemmas.List.Elements.{filter_agree}
 use Rattle.std.proofs.lemmas.Bool.{or_parts}
 use Rattle.miette_source_lines.specs.rules.Lines.{lines_of}
@@ -31,20 +31,13 @@ use Rattle.miette_labels.proofs.NoFailures.{some_none}
 use Rattle.miette_range_laws.proofs.OwnGroups.{Around, group_blocks, groups_are, groups_there}
 use Rattle.miette_range_laws.proofs.OwnGroups.{block_runs, lines_are, block_bodies, nowhere, groups_nowhere}
 use Rattle.miette_range_laws.proofs.OwnGroups.{lines_nowhere, body_nowhere}
-use Rattle.miette_range_laws.proofs.FoldedRuns.{runs_alike, none_alike}
-use Rattle.miette_labels.proofs.OwnContexts.{none_around, own_ordered, order_any, order_each}
+use Rattle.miette_range_laws.proofs.LeftOutRuns.{any_ordered, runs_alike, none_alike}
+use Rattle.miette_labels.proofs.OwnContexts.{none_around, own_ordered, order_each}
 use Rattle.miette_range_laws.proofs.Blocks.{numbers_of}
 use Rattle.miette_labels.proofs.NoFailures.{none_unread}
 use Rattle.miette_snippet_rules.specs.rules.Settings.{SnippetSettings}
 
 -- ---- the order of labels changes nothing that is shown
-
-any_ordered : (context : ℕ) (bytes : List ℕ) (labels : List Label) (k : ℕ)
-    → N.is_shown context bytes (in_order labels) k ≡ N.is_shown context bytes labels k
-any_ordered context bytes labels k =
-    ap (λ own. list_any (λ l. N.is_in_context (unwrap_or l.context (cond own (max 1 context) context)) bytes k l.span)
-    (in_order labels)) (own_ordered labels)
-    ∙ order_any (λ l. N.is_in_context (lines_around context labels l) bytes k l.span) labels
 
 shown_ordered : (context : ℕ) (bytes : List ℕ) (labels : List Label) → N.shown_numbers context bytes (in_order labels)
     ≡ N.shown_numbers context bytes labels

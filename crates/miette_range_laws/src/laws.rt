@@ -1,8 +1,8 @@
 //! Which lines snippets show, as laws of the definitions: ranges, groups of labels, folded labels.
 
-ghost use Rattle.std.specs.Prelude.{◌≡◌, ℕ, List, Option, Some, None, Bool, false};
+ghost use Rattle.std.specs.Prelude.{◌≡◌, ℕ, List, Option, Some, None, Bool, true, false};
 ghost use Rattle.std.specs.Prelude.{length};
-ghost use Rattle.std.specs.Prelude.{◌<◌, ◌+◌};
+ghost use Rattle.std.specs.Prelude.{◌<◌, ◌+◌, ◌-◌, ◌||◌};
 ghost use Rattle.std.specs.List.{AllByRecursion, concat};
 ghost use Rattle.miette_snippet_rules.specs.rules.Numbers.{ranges, IsRange, AreParted};
 ghost use Rattle.miette_source_lines.specs.rules.Lines.{lines_of};
@@ -14,7 +14,7 @@ ghost use Rattle.miette_range_laws.specs.laws.Folding.{EndsPass, FitsIn, IsInsid
 ghost use Rattle.miette_labels.specs.rules.Answers.{Answers, AlwaysReads, NoneFails};
 ghost use Rattle.miette_labels.specs.rules.Around.{HaveContext, group_context};
 ghost use Rattle.miette_labels.specs.rules.Groups.{AreAccepted, in_order, groups_of, lines_of_groups};
-ghost use Rattle.miette_snippet_rules.specs.rules.Snippets.{snippets, shown_numbers, is_kept};
+ghost use Rattle.miette_snippet_rules.specs.rules.Snippets.{snippets, shown_numbers, is_kept, is_left_out};
 ghost use Rattle.miette_labels.specs.rules.Labels.{drawn_from, multi_line};
 ghost use Rattle.miette_snippet_rules.specs.rules.Settings.{SnippetSettings};
 ghost use Rattle.miette_snippet_rules.specs.rules.SnippetLayout.{snippet_rows};
@@ -58,7 +58,7 @@ pub fn ranges_end_kept()
 
 /// No label begins or ends on a line that no label keeps, so each that lies on it runs through it (`inside`); and the
 /// labels on such a line are those on the next one, where no label keeps that one either (`same`). So a break's row has
-/// a bar for just the labels that run through all lines that it stands for.
+/// a bar for just the labels that run through all lines that it stands for. No line is left out alone (`pairs`).
 pub fn left_out_lines_are_inside()
     ensures inside { (ends : Bool) (styles : List Style) (limit : ℕ) (context : ℕ) (bytes : List ℕ)
         (labels : List Label) (k : ℕ) → HaveContext context labels → k < length (lines_of bytes) →
@@ -71,6 +71,10 @@ pub fn left_out_lines_are_inside()
         is_kept (Some limit) context bytes labels (k + 1) ≡ false →
         multi_line (line_at (lines_of bytes) k) (drawn_from ends styles (length bytes) 0 (in_order labels))
         ≡ multi_line (line_at (lines_of bytes) (k + 1)) (drawn_from ends styles (length bytes) 0 (in_order labels)) }
+    ensures pairs { (limit : ℕ) (context : ℕ) (bytes : List ℕ) (labels : List Label) (k : ℕ) →
+        is_left_out (Some limit) context bytes labels k ≡ true →
+        (is_left_out (Some limit) context bytes labels (k - 1) || is_left_out (Some limit) context bytes labels (k + 1))
+        ≡ true }
 {}
 
 /// Where no label has more lines than labels are folded to, the rows are those without folding.

@@ -1,7 +1,6 @@
 -- Steps of `lint --diff`.
 use Rattle.std.proofs.Common.{◌≡◌, ℕ, ◌<◌, List, [], ◌∷◌, length, Option, Some, None, IfSome, sym, ◌∙◌, subst, ap}
 use Rattle.std.proofs.Common.{arith, Bool, refl, Result, Ok, Err, IfOk}
-use Rattle.std.specs.Prelude.{codes}
 use Rattle.miette_protocol.specs.views.Meaning.{Label, Meaning}
 use Rattle.miette_fixes.specs.rules.Edits.{Proposal}
 use Rattle.miette_tree.specs.rules.Tree.{Tree, with_fix}
@@ -10,24 +9,9 @@ use Rattle.miette_graphical.specs.rules.PrintedDiagnostics.{all_read, diagnostic
 use Rattle.miette_lint.specs.rules.Findings.{findings_of}
 use Rattle.miette_lint.specs.rules.Joint.{joint_proposal}
 use Rattle.miette_program.proofs.AlwaysRead.{printed-reads}
-use Rattle.miette_report.specs.rules.Words.{AreDiffWords}
-use Rattle.miette_devices.specs.rules.Words.{IsReadAs}
 use Rattle.miette_report.specs.steps.PictureReads.{IsReadWhole}
 use Rattle.miette_report.specs.views.DrawReports.{draw_settings, over_input, IsPicture}
 use Rattle.miette_report.specs.views.LintReports.{warning, IsClean, IsDiffed, LintDiffs, LintDiffsText}
-use Rattle.miette_report.specs.declared.lint_words.LintForm.TheVariants.{Picture}
-use Rattle.miette_report.specs.declared.lint_words.LintWords.{LintWords}
-
-pub diff_words : (words : List (List ℕ)) (first name width : List ℕ) (r : Option LintWords) → words ≡ first ∷ name
-    ∷ width ∷ [] → first ≡ codes "--diff"
-    → IfSome r (λ it. (it.form ≡ Picture) × (it.name.now ≡ name) × IsReadAs width (Some it.width))
-    → IfSome r (λ it. AreDiffWords words it.name.now it.width)
-diff_words words first name width None are is h = tt
-diff_words words first name width (Some it) are is h = record {
-  width_word = width;
-  are = are ∙ ap (λ f. f ∷ name ∷ width ∷ []) is ∙ ap (λ n. codes "--diff" ∷ n ∷ width ∷ []) (sym h.1);
-  width_is = h.2;
-}
 
 -- ---- the report
 

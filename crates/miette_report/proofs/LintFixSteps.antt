@@ -1,25 +1,10 @@
 -- Steps of `lint --fix`.
-use Rattle.std.proofs.Common.{◌≡◌, ℕ, ◌↔◌, Bool, List, [], ◌∷◌, Option, Some, None, IfSome}
-use Rattle.std.proofs.Common.{refl, sym, ◌∙◌, subst, ap}
-use Rattle.std.specs.Prelude.{codes}
+use Rattle.std.proofs.Common.{◌≡◌, ℕ, ◌↔◌, Bool, List, Option, Some, None, IfSome}
+use Rattle.std.proofs.Common.{refl, ◌∙◌, subst}
 use Rattle.miette_lint.specs.rules.Findings.{findings_of}
 use Rattle.miette_lint.specs.rules.Fixes.{fixed_text}
-use Rattle.miette_report.specs.rules.Words.{AreFixWords}
-use Rattle.miette_devices.specs.rules.Words.{IsReadAs}
 use Rattle.miette_report.specs.views.LintReports.{IsClean, IsLinted, LintFixes}
 use Rattle.miette_report.specs.declared.lint_words.LintForm.TheVariants.{Picture}
-use Rattle.miette_report.specs.declared.lint_words.LintWords.{LintWords}
-
-pub fix_words : (words : List (List ℕ)) (first name width : List ℕ) (r : Option LintWords) → words ≡ first ∷ name
-    ∷ width ∷ [] → first ≡ codes "--fix"
-    → IfSome r (λ it. (it.form ≡ Picture) × (it.name.now ≡ name) × IsReadAs width (Some it.width))
-    → IfSome r (λ it. AreFixWords words it.name.now it.width)
-fix_words words first name width None are is h = tt
-fix_words words first name width (Some it) are is h = record {
-  width_word = width;
-  are = are ∙ ap (λ f. f ∷ name ∷ width ∷ []) is ∙ ap (λ n. codes "--fix" ∷ n ∷ width ∷ []) (sym h.1);
-  width_is = h.2;
-}
 
 -- what is written and told of what was read
 pub fixes_told : (name : List ℕ) (width : ℕ) (all : Option (List ℕ)) (input text bytes left : List ℕ) (clean : Bool)

@@ -8,7 +8,7 @@ use Rattle.miette_protocol.specs.views.Meaning.{Label}
 use Rattle.miette_lint.specs.rules.Findings.{findings_of}
 use Rattle.miette_report.specs.views.LintReports.{CallIsClean, CallLints, CallLintsText, IsClean, IsLinted}
 use Rattle.miette_report.specs.views.LintReports.{IsShown, Lints, LintsText}
-use Rattle.miette_report.specs.rules.Words.{AreLintWords, AskFor, IsNoLintCall, form_named}
+use Rattle.miette_report.specs.rules.Words.{AreLintWords, AreNamedWords, AskFor, IsNoLintCall, form_named}
 use Rattle.miette_devices.specs.rules.Words.{IsReadAs}
 use Rattle.miette_devices.specs.views.Endings.{IsFound}
 use Rattle.miette_devices.specs.declared.fault.Fault.{Fault}
@@ -93,6 +93,17 @@ formed : (words before : List (List ℕ)) (form : LintForm) (name width : List �
 formed words [] form name width two three e asked = two (ap length e)
 formed words (word ∷ []) form name width two three e asked = three (ap length e)
 formed words (word ∷ more ∷ rest) form name width two three e asked = asked
+
+-- three words, the first of which is this one
+pub named_words : (words : List (List ℕ)) (key first name width : List ℕ) (r : Option LintWords)
+    → IfSome r (λ it. (it.form ≡ Picture) × (it.name.now ≡ name) × IsReadAs width (Some it.width))
+    → words ≡ first ∷ name ∷ width ∷ [] → first ≡ key → IfSome r (λ it. AreNamedWords key words it.name.now it.width)
+named_words words key first name width None h are is = tt
+named_words words key first name width (Some it) h are is = record {
+  width_word = width;
+  are = are ∙ ap (λ f. f ∷ name ∷ width ∷ []) is ∙ ap (λ n. key ∷ n ∷ width ∷ []) (sym h.1);
+  width_is = h.2;
+}
 
 -- fewer or more
 pub no_others : (words : List (List ℕ)) → (length words ≡ 2 → ⊥) → (length words ≡ 3 → ⊥) → IsNoLintCall words

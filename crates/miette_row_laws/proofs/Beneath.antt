@@ -11,6 +11,8 @@ use Rattle.miette_source_lines.specs.rules.Lines.{Line}
 use Rattle.miette_cells.specs.rules.Cells.{Cell}
 use Rattle.miette_labels.specs.rules.Answers.{Highlight}
 use Rattle.miette_labels.specs.rules.Labels.{DrawnLabel, starts_on, ends_on, one_line, multi_line, closing_labels}
+use Rattle.miette_snippet_rules.specs.rules.CutEnds.{spread_ends}
+use Rattle.miette_snippet_rules.specs.rules.CutLines.{dots_in}
 use Rattle.miette_snippet_rules.specs.rules.Marks.{Mark, AreApart}
 use Rattle.miette_snippet_rules.specs.rules.Drawing.{IsNarrow, blank, mark_runs, rows_below, marked_rows}
 use Rattle.miette_snippet_rules.specs.rules.Gutters.{most_labels, gutter_columns, number_gutter, other_gutter}
@@ -136,8 +138,9 @@ line_shows s w columns labels line number cells pieces n room whole =
     ++ text_of_line s labels line cells pieces)
     (before_each (other_start s w) (closing_rows s line columns (multi_line line labels)
     (closing_labels line (multi_line line labels))))
-    (marks_of_line s labels line cells) (shown_apart s.layout.line_columns
-    (line_marks line cells (one_line line labels)) cells
+    (marks_of_line s labels line cells) (shown_apart (dots_in s.theme.characters) s.layout.line_columns
+    (line_marks line cells (one_line line labels))
+    (spread_ends line (text_of_cells cells line.text_end) (multi_line line labels)) cells
     whole (marks_apart (text_of_cells cells line.text_end) (one_line line labels))))
 
 -- the gutters of a snippet have room on each of its lines

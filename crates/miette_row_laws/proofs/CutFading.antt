@@ -3,51 +3,62 @@ use Rattle.std.proofs.Common.{◌≡◌, ℕ, ◌+◌, ◌-◌, Bool, false, ltb
 use Rattle.std.proofs.Common.{if◌then◌else◌, refl, sym, ap, ◌∙◌, subst, append-nil}
 use Rattle.std.specs.List.{AllByRecursion}
 use Rattle.std.proofs.lemmas.List.{map-append}
+use Rattle.miette_source_lines.specs.rules.Lines.{Line}
 use Rattle.miette_labels.specs.rules.Answers.{Highlight}
+use Rattle.miette_labels.specs.rules.Labels.{DrawnLabel, ends_on, starts_on}
 use Rattle.miette_cells.specs.rules.Cells.{Cell}
 use Rattle.miette_basics.proofs.Cases.{by_cases}
-use Rattle.miette_snippet_rules.specs.rules.CutLines.{Stretch, agree, bytes_in, cut_line, cut_runs, dots, ends, is_kept}
-use Rattle.miette_snippet_rules.specs.rules.CutLines.{is_near, is_near_after, onto_stretches, pieces_within, row_mark}
-use Rattle.miette_snippet_rules.specs.rules.CutLines.{shown_marks, shown_runs, stretches}
-use Rattle.miette_snippet_rules.specs.rules.Marks.{Mark}
-use Rattle.miette_snippet_rules.specs.rules.PrintedCells.{cells_width, line_runs, printed_cells}
+use Rattle.miette_page.specs.rules.Rows.{Run}
+use Rattle.miette_style.specs.rules.Styles.{plain}
+use Rattle.miette_style.specs.rules.Themes.{Styles, Theme}
+use Rattle.miette_snippet_rules.specs.rules.CutEnds.{hung_at, mark_ends, spread_ends}
+use Rattle.miette_snippet_rules.specs.rules.CutLines.{Stretch, agree, bytes_in, cut_line, cut_runs, cut_to, dots}
+use Rattle.miette_snippet_rules.specs.rules.CutLines.{has_room, is_kept, is_near, limit_of, onto_stretches}
+use Rattle.miette_snippet_rules.specs.rules.CutLines.{passes_after, pieces_within, reach_of, row_mark, shown_marks}
+use Rattle.miette_snippet_rules.specs.rules.CutLines.{shown_runs, stretches, with_short}
+use Rattle.miette_snippet_rules.specs.rules.Marks.{Mark, Text}
+use Rattle.miette_snippet_rules.specs.rules.PrintedCells.{cells_width, first_column, last_column, line_runs}
+use Rattle.miette_snippet_rules.specs.rules.PrintedCells.{printed_cells}
 use Rattle.miette_row_laws.specs.laws.Clean.{IsClean}
-use Rattle.miette_row_laws.proofs.CleanTexts.{AreCleanCells, clean_append, clean_first, clean_rest, clean_cons}
-use Rattle.miette_row_laws.proofs.CleanTexts.{clean_line, line_same}
-use Rattle.miette_row_laws.proofs.Paling.{bleached_mark, IsCleanMark, PaleRow, PaleRun, pale_nil, pale_cons}
+use Rattle.miette_row_laws.proofs.CleanTexts.{AreCleanCells, AreCleanPieces, clean_append, clean_first, clean_rest}
+use Rattle.miette_row_laws.proofs.CleanTexts.{clean_cons, clean_line, line_same}
+use Rattle.miette_row_laws.proofs.Paling.{bleached, bleached_mark, IsCleanMark, PaleRow, PaleRun, pale_nil, pale_cons}
 use Rattle.miette_row_laws.proofs.Paling.{pale_append, pale_if}
 
 -- ---- the same ends, the same stretches, the same columns
 
-ends_bleached : (ms : List Mark) → ends (map bleached_mark ms) ≡ ends ms
+pub ends_bleached : (ms : List Mark) → mark_ends (map bleached_mark ms) ≡ mark_ends ms
 ends_bleached [] = refl
-ends_bleached (m ∷ ms) = ap (λ es. m.from ∷ m.anchor ∷ (m.until - 1) ∷ es) (ends_bleached ms)
+ends_bleached (m ∷ ms) =
+    ap (λ es. m.from ∷ hung_at m.label.parts m.anchor ++ (m.until - 1) ∷ es) (ends_bleached ms)
 
-pub cut_bleached : (limit : Option ℕ) (ms : List Mark) (cells : List Cell) → cut_line limit (map bleached_mark ms) cells
-    ≡ cut_line limit ms cells
-cut_bleached None ms cells = refl
-cut_bleached (Some limit) ms cells = ap (λ es. if ltb limit (cells_width 0 cells) then
-    Some (stretches (is_near limit es) false cells) else None) (ends_bleached ms)
+pub spreads_bleached : (line : Line) (text : Text) (labels : List DrawnLabel)
+    → spread_ends line text (map bleached labels) ≡ spread_ends line text labels
+spreads_bleached line text [] = refl
+spreads_bleached line text (label ∷ labels) =
+    ap (λ more. (if starts_on line label then first_column text.cells text.text_end text.width label.start ∷ []
+    else if ends_on line label then (last_column text.cells text.text_end text.width label.after - 1) ∷ []
+    else []) ++ more) (spreads_bleached line text labels)
 
-moved_bleached : (cut : List Stretch) (ms : List Mark) → map (row_mark cut) (map bleached_mark ms)
-    ≡ map bleached_mark (map (row_mark cut) ms)
-moved_bleached cut [] = refl
-moved_bleached cut (m ∷ ms) = ap (λ r. bleached_mark (row_mark cut m) ∷ r) (moved_bleached cut ms)
+moved_bleached : (many : ℕ) (cut : List Stretch) (ms : List Mark) → map (row_mark many cut) (map bleached_mark ms)
+    ≡ map bleached_mark (map (row_mark many cut) ms)
+moved_bleached many cut [] = refl
+moved_bleached many cut (m ∷ ms) = ap (λ r. bleached_mark (row_mark many cut m) ∷ r) (moved_bleached many cut ms)
 
-pub shown_bleached : (cut : Option (List Stretch)) (ms : List Mark) → shown_marks cut (map bleached_mark ms)
-    ≡ map bleached_mark (shown_marks cut ms)
-shown_bleached None ms = refl
-shown_bleached (Some cut) ms = moved_bleached cut ms
+pub shown_bleached : (many : ℕ) (cut : Option (List Stretch)) (ms : List Mark)
+    → shown_marks many cut (map bleached_mark ms) ≡ map bleached_mark (shown_marks many cut ms)
+shown_bleached many None ms = refl
+shown_bleached many (Some cut) ms = moved_bleached many cut ms
 
-moved_clean : (cut : List Stretch) (ms : List Mark) → AllByRecursion IsCleanMark ms
-    → AllByRecursion IsCleanMark (map (row_mark cut) ms)
-moved_clean cut [] h = tt
-moved_clean cut (m ∷ ms) h = (h.0, moved_clean cut ms h.1)
+moved_clean : (many : ℕ) (cut : List Stretch) (ms : List Mark) → AllByRecursion IsCleanMark ms
+    → AllByRecursion IsCleanMark (map (row_mark many cut) ms)
+moved_clean many cut [] h = tt
+moved_clean many cut (m ∷ ms) h = (h.0, moved_clean many cut ms h.1)
 
-pub shown_clean : (cut : Option (List Stretch)) (ms : List Mark) → AllByRecursion IsCleanMark ms
-    → AllByRecursion IsCleanMark (shown_marks cut ms)
-shown_clean None ms h = h
-shown_clean (Some cut) ms h = moved_clean cut ms h
+pub shown_clean : (many : ℕ) (cut : Option (List Stretch)) (ms : List Mark) → AllByRecursion IsCleanMark ms
+    → AllByRecursion IsCleanMark (shown_marks many cut ms)
+shown_clean many None ms h = h
+shown_clean many (Some cut) ms h = moved_clean many cut ms h
 
 -- ---- stretches without an escape
 
@@ -63,29 +74,50 @@ onto_clean : (s : Stretch) (ss : List Stretch) → IsCleanStretch s → AllByRec
     → AllByRecursion IsCleanStretch (onto_stretches s ss)
 onto_clean s [] h k = (h, tt)
 onto_clean s (next ∷ later) h k =
-    by_cases {C = AllByRecursion IsCleanStretch (onto_stretches s (next ∷ later))} (agree s.near next.near)
+    by_cases {C = AllByRecursion IsCleanStretch (onto_stretches s (next ∷ later))} (agree s.shown next.shown)
     (λ y. rw y (codes_append s.cells next.cells h k.0, k.1))
     (λ n. rw n (h, k))
 
-pub stretches_clean : (near : Cell → Bool) (before : Bool) (cells : List Cell) → AreCleanCells cells
+stretches_clean : (near : Cell → Bool) (before : Bool) (cells : List Cell) → AreCleanCells cells
     → AllByRecursion IsCleanStretch (stretches near before cells)
 stretches_clean near before [] h = tt
 stretches_clean near before (c ∷ cs) h =
     let codes : List ℕ = map (λ (c : Cell). c.code) cs in
-    onto_clean (record { near = is_near_after near before c; cells = c ∷ [] })
-    (stretches near (is_near_after near before c) cs) (clean_cons c.code [] (clean_first c.code codes h) refl)
-    (stretches_clean near (is_near_after near before c) cs (clean_rest c.code codes h))
+    let here : Bool = passes_after near before c in
+    onto_clean (record { shown = here; cells = c ∷ [] }) (stretches near here cs)
+    (clean_cons c.code [] (clean_first c.code codes h) refl)
+    (stretches_clean near here cs (clean_rest c.code codes h))
 
-pub cut_clean : (limit : Option ℕ) (ms : List Mark) (cells : List Cell) → AreCleanCells cells
-    → IfSome (cut_line limit ms cells) (AllByRecursion IsCleanStretch)
-cut_clean None ms cells h = tt
-cut_clean (Some limit) ms cells h =
-    by_cases {C = IfSome (cut_line (Some limit) ms cells) (AllByRecursion IsCleanStretch)}
-    (ltb limit (cells_width 0 cells))
-    (λ y. rw y (stretches_clean (is_near limit (ends ms)) false cells h))
+short_clean : (many : ℕ) (ss : List Stretch) → AllByRecursion IsCleanStretch ss
+    → AllByRecursion IsCleanStretch (with_short many ss)
+short_clean many [] h = tt
+short_clean many (s ∷ later) h =
+    onto_clean (record { shown = is_kept many s; cells = s.cells }) (with_short many later) h.0
+    (short_clean many later h.1)
+
+cut_to_clean : (limit many : ℕ) (all : List ℕ) (cells : List Cell) → AreCleanCells cells
+    → AllByRecursion IsCleanStretch (cut_to limit many all cells)
+cut_to_clean limit many [] cells h =
+    short_clean many (stretches (has_room limit many) false cells) (stretches_clean (has_room limit many) false cells h)
+cut_to_clean limit many (e ∷ es) cells h =
+    let near : Cell → Bool = is_near (reach_of limit many (e ∷ es) cells) (e ∷ es) in
+    short_clean many (stretches near false cells) (stretches_clean near false cells h)
+
+pub cut_clean : (many : ℕ) (limit : Option ℕ) (all : List ℕ) (cells : List Cell) → AreCleanCells cells
+    → IfSome (cut_line many limit all cells) (AllByRecursion IsCleanStretch)
+cut_clean many None all cells h = tt
+cut_clean many (Some limit) all cells h =
+    by_cases {C = IfSome (cut_line many (Some limit) all cells) (AllByRecursion IsCleanStretch)}
+    (ltb (limit_of limit) (cells_width 0 cells))
+    (λ y. rw y (cut_to_clean (limit_of limit) many all cells h))
     (λ n. rw n tt)
 
 -- ---- the text of a line in plain
+
+-- the dots hold no escape
+dots_clean : (t : Theme) → AreCleanPieces (dots t).glyphs
+dots_clean t =
+    by_cases {C = AreCleanPieces (dots t).glyphs} (ltb t.characters.vbar 0x80) (λ y. rw y refl) (λ n. rw n refl)
 
 module _ (P : Type 0) where
   pale_line : (pieces : List Highlight) (cells : List Cell) → (P → AreCleanCells cells)
@@ -97,22 +129,24 @@ module _ (P : Type 0) where
     clean = λ p. clean_line pieces cells (h p);
   }
 
-  pale_dots : PaleRun P dots dots
-  pale_dots = record { plain = refl; same = refl; clean = λ p. refl }
+  pub pale_dots : (t : Theme) (styles : Styles) → styles.linum ≡ plain
+      → PaleRun P (dots (record t { styles = styles })) (dots t)
+  pale_dots t styles h = record { plain = h; same = refl; clean = λ p. dots_clean t }
 
-  pale_cut : (pieces : List Highlight) (before : ℕ) (cut : List Stretch) → (P → AllByRecursion IsCleanStretch cut)
-      → PaleRow P (cut_runs [] before cut) (cut_runs pieces before cut)
-  pale_cut pieces before [] h = pale_nil P
-  pale_cut pieces before (s ∷ later) h =
+  pale_cut : (pale run : Run) (pieces : List Highlight) (before : ℕ) (cut : List Stretch) → PaleRun P pale run
+      → (P → AllByRecursion IsCleanStretch cut)
+      → PaleRow P (cut_runs pale [] before cut) (cut_runs run pieces before cut)
+  pale_cut pale run pieces before [] d h = pale_nil P
+  pale_cut pale run pieces before (s ∷ later) d h =
       let own : List Highlight = pieces_within before (bytes_in s.cells) pieces in
-      pale_append P (if is_kept s then line_runs [] s.cells else dots ∷ [])
-      (if is_kept s then line_runs own s.cells else dots ∷ [])
-      (cut_runs [] (before + bytes_in s.cells) later) (cut_runs pieces (before + bytes_in s.cells) later)
-      (pale_if P (is_kept s) (pale_line own s.cells (λ p. (h p).0)) (pale_cons P pale_dots (pale_nil P)))
-      (pale_cut pieces (before + bytes_in s.cells) later (λ p. (h p).1))
+      pale_append P (if s.shown then line_runs [] s.cells else pale ∷ [])
+      (if s.shown then line_runs own s.cells else run ∷ [])
+      (cut_runs pale [] (before + bytes_in s.cells) later) (cut_runs run pieces (before + bytes_in s.cells) later)
+      (pale_if P s.shown (pale_line own s.cells (λ p. (h p).0)) (pale_cons P d (pale_nil P)))
+      (pale_cut pale run pieces (before + bytes_in s.cells) later d (λ p. (h p).1))
 
-  pub pale_shown : (cut : Option (List Stretch)) (pieces : List Highlight) (cells : List Cell)
-      → (P → AreCleanCells cells) → (P → IfSome cut (AllByRecursion IsCleanStretch)) →
-      PaleRow P (shown_runs cut [] cells) (shown_runs cut pieces cells)
-  pale_shown None pieces cells h k = pale_line pieces cells h
-  pale_shown (Some cut) pieces cells h k = pale_cut pieces 0 cut k
+  pub pale_shown : (pale run : Run) (cut : Option (List Stretch)) (pieces : List Highlight) (cells : List Cell)
+      → PaleRun P pale run → (P → AreCleanCells cells) → (P → IfSome cut (AllByRecursion IsCleanStretch)) →
+      PaleRow P (shown_runs pale cut [] cells) (shown_runs run cut pieces cells)
+  pale_shown pale run None pieces cells d h k = pale_line pieces cells h
+  pale_shown pale run (Some cut) pieces cells d h k = pale_cut pale run pieces 0 cut d k

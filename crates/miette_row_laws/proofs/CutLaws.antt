@@ -1,8 +1,8 @@
 -- Lines that are cut, in the rows of snippets: which are, how wide they are, and that lines which fit stay as they are.
-use Rattle.std.proofs.Common.{◌≡◌, ◌≢◌, ℕ, suc, ◌+◌, ◌<◌, ◌≤◌, Bool, false, cond, ltb, List, [], ◌∷◌, ◌++◌, length}
+use Rattle.std.proofs.Common.{◌≡◌, ◌≢◌, ℕ, ◌+◌, ◌<◌, ◌≤◌, max, Bool, false, cond, leb, ltb, List, [], ◌∷◌, ◌++◌, length}
 use Rattle.std.proofs.Common.{refl, sym, option_map, ◌||◌}
 use Rattle.std.proofs.Common.{ap, ap₂, ◌∙◌, subst, Option, Some, None, drop}
-use Rattle.std.proofs.lemmas.Bool.{le-ltb, lt-ltb}
+use Rattle.std.proofs.lemmas.Bool.{le-ltb, lt-ltb, leb-true, leb-false}
 use Rattle.std.specs.List.{AllByRecursion}
 use Rattle.miette_source_lines.specs.rules.Lines.{Line}
 use Rattle.miette_protocol.specs.views.Meaning.{Label}
@@ -14,92 +14,140 @@ use Rattle.miette_labels.specs.rules.Groups.{groups_fail, groups_of, in_order, r
 use Rattle.miette_labels.specs.rules.Labels.{DrawnLabel, one_line, multi_line}
 use Rattle.miette_page.specs.rules.Rows.{Row, columns_of, glyphs_of}
 use Rattle.miette_basics.proofs.Cases.{by_cases}
-use Rattle.miette_snippet_rules.specs.rules.CutLines.{Stretch, cut_line, ends, is_near, shown_marks, shown_runs}
-use Rattle.miette_snippet_rules.specs.rules.CutLines.{stretches}
+use Rattle.miette_snippet_rules.specs.rules.CutLines.{Stretch, cut_at, cut_line, cut_to, dots, dots_in, largest}
+use Rattle.miette_snippet_rules.specs.rules.CutLines.{limit_of, reach_of, shown_marks, shown_runs, stretches}
+use Rattle.miette_snippet_rules.specs.rules.CutLines.{text_columns, with_short}
 use Rattle.miette_snippet_rules.specs.rules.Drawing.{marked_rows}
 use Rattle.miette_snippet_rules.specs.rules.Folds.{Spread, spreads_of}
 use Rattle.miette_snippet_rules.specs.rules.Frames.{bottom_row, number_start, other_start, number_width, refused_row}
 use Rattle.miette_snippet_rules.specs.rules.Frames.{top_row}
 use Rattle.miette_snippet_rules.specs.rules.Gutters.{closing_rows, gutter_columns, number_gutter, other_gutter}
-use Rattle.miette_snippet_rules.specs.rules.Marks.{Mark, Text, mark_until, marks_from}
 use Rattle.miette_snippet_rules.specs.rules.PrintedCells.{cells_width}
-use Rattle.miette_snippet_rules.specs.rules.SnippetLayout.{before_each, body_rows, break_row, cells_of, left_out}
-use Rattle.miette_snippet_rules.specs.rules.SnippetLayout.{line_cut, line_marks, line_or_break, line_rows}
+use Rattle.miette_snippet_rules.specs.rules.SnippetLayout.{before_each, body_rows, break_row, cells_of, cut_ends}
+use Rattle.miette_snippet_rules.specs.rules.SnippetLayout.{left_out, line_cut, line_marks, line_or_break, line_rows}
 use Rattle.miette_snippet_rules.specs.rules.SnippetLayout.{all_snippets, drawn_labels, place_of, rows_of_lines}
 use Rattle.miette_snippet_rules.specs.rules.SnippetLayout.{rows_unless, settings_around, snippet_rows}
-use Rattle.miette_snippet_rules.specs.rules.SnippetLayout.{text_of_cells}
 use Rattle.miette_labels.specs.rules.Labels.{closing_labels}
-use Rattle.miette_row_laws.specs.laws.Cuts.{AreAsWide, Fits, GroupsFit, most_columns, without_limit}
+use Rattle.miette_snippet_rules.proofs.CutColumns.{AreColumns, ends_shown}
+use Rattle.miette_snippet_rules.proofs.TextColumns.{largest_over, largest_passes, largest_within}
+use Rattle.miette_row_laws.specs.laws.Cuts.{Fits, GroupsFit, IsCutBy, IsCutByReach, IsReach, is_near_by, without_limit}
 use Rattle.miette_row_laws.specs.laws.Pictures.{text_of_line}
+use Rattle.miette_row_laws.proofs.CutShows.{cut_by}
 use Rattle.miette_row_laws.proofs.CutWidth.{row_bound}
 use Rattle.miette_row_laws.proofs.Whole.{line_columns}
 use Rattle.miette_snippet_rules.specs.rules.SnippetLayout.{snippet_context}
 use Rattle.miette_snippet_rules.specs.rules.Settings.{SnippetSettings}
 
--- a mark for each label
-marks-length : (text : Text) (reached : ℕ) (labels : List DrawnLabel) → length (marks_from text reached labels)
-    ≡ length labels
-marks-length text reached [] = refl
-marks-length text reached (label ∷ labels) = ap suc (marks-length text (mark_until text reached label) labels)
-
 pub rows_narrow : (s : SnippetSettings) (labels : List DrawnLabel) (source : List ℕ) (line : Line)
-    (pieces : List Highlight) (limit widest : ℕ) → s.layout.line_columns ≡ Some limit
-    → AreAsWide widest (cells_of s source line) →
+    (pieces : List Highlight) (limit : ℕ) → s.layout.line_columns ≡ Some limit →
     columns_of (glyphs_of (text_of_line s labels line (cells_of s source line) pieces))
-    ≤ most_columns limit (length (one_line line labels)) widest
-rows_narrow s labels source line pieces limit widest is wide =
+    ≤ max (limit_of limit) (text_columns (dots_in s.theme.characters) (cut_at (dots_in s.theme.characters) 0
+    (cut_ends line (cells_of s source line) (one_line line labels) (multi_line line labels)) (cells_of s source line)))
+rows_narrow s labels source line pieces limit is =
     let cells : List Cell = cells_of s source line in
-    let own : List Mark = line_marks line cells (one_line line labels) in
-    subst (λ (many : ℕ). columns_of (glyphs_of (text_of_line s labels line cells pieces))
-    ≤ most_columns limit many widest) (marks-length (text_of_cells cells line.text_end) 0 (one_line line labels))
-    (subst (λ (o : Option ℕ). columns_of (glyphs_of (shown_runs (cut_line o own cells) pieces cells))
-    ≤ most_columns limit (length own) widest) (sym is)
-    (row_bound limit widest pieces own cells (line_columns s source line) wide))
+    let all : List ℕ = cut_ends line cells (one_line line labels) (multi_line line labels) in
+    let many : ℕ = dots_in s.theme.characters in
+    subst (λ (o : Option ℕ). columns_of (glyphs_of (shown_runs (dots s.theme) (cut_line many o all cells) pieces cells))
+    ≤ max (limit_of limit) (text_columns many (cut_at many 0 all cells))) (sym is)
+    (row_bound s.theme limit pieces all cells (line_columns s source line))
 
 -- ---- which lines are cut
 
-cut_some : (limit : ℕ) (ms : List Mark) (cells : List Cell) → limit < cells_width 0 cells
-    → cut_line (Some limit) ms cells ≡ Some (stretches (is_near limit (ends ms)) false cells)
-cut_some limit ms cells lt = rw (lt-ltb limit (cells_width 0 cells) lt) refl
+cut_some : (many limit : ℕ) (all : List ℕ) (cells : List Cell) → limit_of limit < cells_width 0 cells
+    → cut_line many (Some limit) all cells ≡ Some (cut_to (limit_of limit) many all cells)
+cut_some many limit all cells lt = rw (lt-ltb (limit_of limit) (cells_width 0 cells) lt) refl
 
 some_not : (o : Option (List Stretch)) (ss : List Stretch) → o ≡ Some ss → o ≢ None
 some_not o ss some none = absurd (cc)
 
 pub wide_cut : (s : SnippetSettings) (labels : List DrawnLabel) (source : List ℕ) (line : Line) (limit : ℕ)
-    → s.layout.line_columns ≡ Some limit → limit < cells_width 0 (cells_of s source line) →
-    line_cut s line (cells_of s source line) (one_line line labels) ≢ None
+    → s.layout.line_columns ≡ Some limit → limit_of limit < cells_width 0 (cells_of s source line) →
+    line_cut s line (cells_of s source line) (one_line line labels) (multi_line line labels) ≢ None
 wide_cut s labels source line limit is lt =
     let cells : List Cell = cells_of s source line in
-    let own : List Mark = line_marks line cells (one_line line labels) in
-    subst (λ (o : Option ℕ). cut_line o own cells ≢ None) (sym is)
-    (some_not (cut_line (Some limit) own cells) (stretches (is_near limit (ends own)) false cells)
-    (cut_some limit own cells lt))
+    let all : List ℕ = cut_ends line cells (one_line line labels) (multi_line line labels) in
+    let many : ℕ = dots_in s.theme.characters in
+    subst (λ (o : Option ℕ). cut_line many o all cells ≢ None) (sym is)
+    (some_not (cut_line many (Some limit) all cells) (cut_to (limit_of limit) many all cells)
+    (cut_some many limit all cells lt))
 
 -- a line that is cut is cut at some limit
-pub cut_limit : (o : Option ℕ) (ms : List Mark) (cells : List Cell) (cut : List Stretch)
-    → cut_line o ms cells ≡ Some cut →
-    (limit : ℕ) × (cut ≡ stretches (is_near limit (ends ms)) false cells)
-cut_limit None ms cells cut is = absurd (cc)
-cut_limit (Some n) ms cells cut is =
-    let own : List Stretch = stretches (is_near n (ends ms)) false cells in
-    by_cases {C = (limit : ℕ) × (cut ≡ stretches (is_near limit (ends ms)) false cells)}
-    (ltb n (cells_width 0 cells))
+pub cut_limit : (many : ℕ) (o : Option ℕ) (all : List ℕ) (cells : List Cell) (cut : List Stretch)
+    → cut_line many o all cells ≡ Some cut →
+    (limit : ℕ) × (o ≡ Some limit) × (cut ≡ cut_to (limit_of limit) many all cells)
+cut_limit many None all cells cut is = absurd (cc)
+cut_limit many (Some n) all cells cut is =
+    let own : List Stretch = cut_to (limit_of n) many all cells in
+    let goal : Type 0 = (limit : ℕ) × (Some n ≡ Some limit) × (cut ≡ cut_to (limit_of limit) many all cells) in
+    by_cases {C = goal} (ltb (limit_of n) (cells_width 0 cells))
     (λ y. let there : Some own ≡ Some cut = sym (ap (λ b. cond b (Some own) None) y) ∙ is in
-    let same : cut ≡ own = cc in (n, same))
+    let same : cut ≡ own = cc in (n, refl, same))
     (λ f. let none : None ≡ Some cut = sym (ap (λ b. cond b (Some own) None) f) ∙ is in absurd (cc))
+
+-- ---- lines are cut by their reach
+
+-- the cut of a line by which of its cells are near, in a row of so many dots
+near_to : (limit many : ℕ) (all : List ℕ) (cells : List Cell)
+    → cut_to limit many all cells
+    ≡ with_short many (stretches (is_near_by limit many (reach_of limit many all cells) all) false cells)
+near_to limit many [] cells = refl
+near_to limit many (e ∷ es) cells = refl
+
+reach_is : (limit many : ℕ) (all : List ℕ) (cells : List Cell)
+    → IsReach limit many all cells (reach_of limit many all cells)
+reach_is limit many all cells =
+    let columns : ℕ → ℕ = λ reach. text_columns many (cut_at many reach all cells) in
+    let fits : ℕ → Bool = λ reach. leb (columns reach) limit in record {
+      bounded = largest_within fits limit;
+      fits = λ some. leb-true (columns (largest fits limit)) limit (largest_passes fits limit some);
+      largest = λ more over le. leb-false (columns more) limit (largest_over fits limit more over le);
+    }
+
+cut_reach : (limit many : ℕ) (all : List ℕ) (cells : List Cell) → AreColumns 0 cells
+    → IsCutByReach limit many all cells (cut_to limit many all cells)
+cut_reach limit many all cells h =
+    let reach : ℕ = reach_of limit many all cells in
+    let near : Cell → Bool = is_near_by limit many reach all in record {
+      reach = reach;
+      is_reach = λ some. reach_is limit many all cells;
+      is_cut = subst (λ (ss : List Stretch). IsCutBy near many cells ss) (sym (near_to limit many all cells))
+          (cut_by near many cells);
+      shown = ends_shown limit many all cells h;
+    }
+
+some_same : (a b : ℕ) → Some a ≡ Some b → a ≡ b
+some_same a b h = cc
+
+pub cut_by_reach : (s : SnippetSettings) (labels : List DrawnLabel) (source : List ℕ) (line : Line) (limit : ℕ)
+    (cut : List Stretch) → s.layout.line_columns ≡ Some limit →
+    line_cut s line (cells_of s source line) (one_line line labels) (multi_line line labels) ≡ Some cut →
+    IsCutByReach (limit_of limit) (dots_in s.theme.characters)
+    (cut_ends line (cells_of s source line) (one_line line labels) (multi_line line labels))
+    (cells_of s source line) cut
+cut_by_reach s labels source line limit cut some is =
+    let cells : List Cell = cells_of s source line in
+    let all : List ℕ = cut_ends line cells (one_line line labels) (multi_line line labels) in
+    let many : ℕ = dots_in s.theme.characters in
+    let at = cut_limit many s.layout.line_columns all cells cut is in
+    let own : limit ≡ at.0 = some_same limit at.0 (sym some ∙ at.1) in
+    subst (λ (ss : List Stretch). IsCutByReach (limit_of limit) many all cells ss) (sym at.2)
+    (subst (λ (n : ℕ). IsCutByReach (limit_of limit) many all cells (cut_to (limit_of n) many all cells)) own
+    (cut_reach (limit_of limit) many all cells (line_columns s source line)))
 
 -- ---- lines that fit
 
-cut_none : (limit : Option ℕ) (ms : List Mark) (cells : List Cell) → Fits limit cells → cut_line limit ms cells ≡ None
-cut_none None ms cells h = refl
-cut_none (Some limit) ms cells h = rw (le-ltb limit (cells_width 0 cells) h) refl
+cut_none : (many : ℕ) (limit : Option ℕ) (all : List ℕ) (cells : List Cell) → Fits limit cells
+    → cut_line many limit all cells ≡ None
+cut_none many None all cells h = refl
+cut_none many (Some limit) all cells h = rw (le-ltb (limit_of limit) (cells_width 0 cells) h) refl
 
 pub fits_whole : (s : SnippetSettings) (labels : List DrawnLabel) (source : List ℕ) (line : Line)
     → Fits s.layout.line_columns (cells_of s source line) →
-    line_cut s line (cells_of s source line) (one_line line labels) ≡ None
+    line_cut s line (cells_of s source line) (one_line line labels) (multi_line line labels) ≡ None
 fits_whole s labels source line fits =
     let cells : List Cell = cells_of s source line in
-    cut_none s.layout.line_columns (line_marks line cells (one_line line labels)) cells fits
+    cut_none (dots_in s.theme.characters) s.layout.line_columns
+    (cut_ends line cells (one_line line labels) (multi_line line labels)) cells fits
 
 line_stays : (s : SnippetSettings) (w columns : ℕ) (labels : List DrawnLabel) (line : Line) (number : ℕ)
     (cells : List Cell) (pieces : List Highlight) → Fits s.layout.line_columns cells →
@@ -110,11 +158,11 @@ line_stays s w columns labels line number cells pieces fits =
     let one : List DrawnLabel = one_line line labels in
     let multi : List DrawnLabel = multi_line line labels in
     ap (λ o. (number_start s w number ++ number_gutter s line columns multi
-    ++ shown_runs o pieces cells)
+    ++ shown_runs (dots s.theme) o pieces cells)
     ∷ before_each (other_start s w ++ other_gutter s line columns multi)
-    (marked_rows s (shown_marks o (line_marks line cells one)))
+    (marked_rows s (shown_marks (dots_in s.theme.characters) o (line_marks line cells one)))
     ++ before_each (other_start s w) (closing_rows s line columns multi (closing_labels line multi)))
-    (cut_none s.layout.line_columns (line_marks line cells one) cells fits)
+    (cut_none (dots_in s.theme.characters) s.layout.line_columns (cut_ends line cells one multi) cells fits)
 
 line_or_break_stays : (gap out : Bool) (s : SnippetSettings) (w columns : ℕ) (labels : List DrawnLabel) (line : Line)
     (number : ℕ) (cells : List Cell) (pieces : List Highlight) → Fits s.layout.line_columns cells →

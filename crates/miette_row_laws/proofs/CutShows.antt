@@ -6,11 +6,13 @@ use Rattle.std.proofs.lemmas.List.{map-append}
 use Rattle.miette_labels.specs.rules.Answers.{Highlight}
 use Rattle.miette_cells.specs.rules.Cells.{Cell}
 use Rattle.miette_basics.proofs.Cases.{by_cases}
-use Rattle.miette_page.specs.rules.Rows.{glyphs_of}
-use Rattle.miette_snippet_rules.specs.rules.CutLines.{Stretch, agree, bytes_in, cut_runs, dots, is_kept, is_near_after}
-use Rattle.miette_snippet_rules.specs.rules.CutLines.{is_within, onto_stretches, pieces_within, stretches}
+use Rattle.miette_page.specs.rules.Rows.{Run, glyphs_of}
+use Rattle.miette_snippet_rules.specs.rules.CutLines.{Stretch, agree, bytes_in, cut_runs, cut_to, has_room, is_kept}
+use Rattle.miette_snippet_rules.specs.rules.CutLines.{is_near, is_within, onto_stretches, passes_after, pieces_within}
+use Rattle.miette_snippet_rules.specs.rules.CutLines.{reach_of, stretches, with_short}
 use Rattle.miette_snippet_rules.specs.rules.PrintedCells.{line_runs, printed_cells}
-use Rattle.miette_row_laws.specs.laws.Cuts.{AreStretches, IsWithin, by_nearness, by_stretch, pieces_shown}
+use Rattle.miette_row_laws.specs.laws.Cuts.{AreStretches, IsCutBy, IsWithin, by_kept, by_nearness, by_stretch}
+use Rattle.miette_row_laws.specs.laws.Cuts.{pieces_shown}
 use Rattle.miette_row_laws.proofs.CleanTexts.{line_same}
 use Rattle.miette_row_laws.proofs.Flat.{glyphs_of-append}
 
@@ -25,27 +27,33 @@ agree-not true false h e = absurd (cc)
 agree-not false true h e = absurd (cc)
 agree-not false false h e = absurd (cc)
 
--- ---- each cell once, in order, in a stretch as near as itself
+-- ---- each cell once, in order, in a stretch that is shown where it is near
 
 onto_stretch : (s : Stretch) (ss : List Stretch) → by_stretch (onto_stretches s ss)
-    ≡ map (λ cell. (cell, s.near)) s.cells ++ by_stretch ss
+    ≡ map (λ cell. (cell, s.shown)) s.cells ++ by_stretch ss
 onto_stretch s [] = refl
 onto_stretch s (next ∷ later) =
-    by_cases {C = by_stretch (onto_stretches s (next ∷ later)) ≡ map (λ cell. (cell, s.near)) s.cells
-    ++ by_stretch (next ∷ later)} (agree s.near next.near)
-    (λ y. let same : next.near ≡ s.near = agree-same s.near next.near y in
-    rw (y, same) (ap (λ xs. xs ++ by_stretch later) (map-append (λ cell. (cell, s.near)) s.cells next.cells)
-    ∙ append_assoc (map (λ cell. (cell, s.near)) s.cells) (map (λ cell. (cell, s.near)) next.cells)
+    by_cases {C = by_stretch (onto_stretches s (next ∷ later)) ≡ map (λ cell. (cell, s.shown)) s.cells
+    ++ by_stretch (next ∷ later)} (agree s.shown next.shown)
+    (λ y. let same : next.shown ≡ s.shown = agree-same s.shown next.shown y in
+    rw (y, same) (ap (λ xs. xs ++ by_stretch later) (map-append (λ cell. (cell, s.shown)) s.cells next.cells)
+    ∙ append_assoc (map (λ cell. (cell, s.shown)) s.cells) (map (λ cell. (cell, s.shown)) next.cells)
     (by_stretch later)))
     (λ n. rw n refl)
 
-pub cells_near : (near : Cell → Bool) (before : Bool) (cells : List Cell) → by_stretch (stretches near before cells)
+cells_near : (near : Cell → Bool) (before : Bool) (cells : List Cell) → by_stretch (stretches near before cells)
     ≡ by_nearness near before cells
 cells_near near before [] = refl
 cells_near near before (c ∷ cs) =
-    let here : Bool = is_near_after near before c in
-    onto_stretch (record { near = here; cells = c ∷ [] }) (stretches near here cs)
+    let here : Bool = passes_after near before c in
+    onto_stretch (record { shown = here; cells = c ∷ [] }) (stretches near here cs)
     ∙ ap (λ xs. (c, here) ∷ xs) (cells_near near here cs)
+
+cells_kept : (many : ℕ) (ss : List Stretch) → by_stretch (with_short many ss) ≡ by_kept many ss
+cells_kept many [] = refl
+cells_kept many (s ∷ later) =
+    onto_stretch (record { shown = is_kept many s; cells = s.cells }) (with_short many later)
+    ∙ ap (λ xs. map (λ cell. (cell, is_kept many s)) s.cells ++ xs) (cells_kept many later)
 
 -- the cells of stretches are those of the line
 abbrev pub cells_in : List Stretch → List Cell
@@ -56,40 +64,84 @@ onto_cells : (s : Stretch) (ss : List Stretch) → cells_in (onto_stretches s ss
 onto_cells s [] = refl
 onto_cells s (next ∷ later) =
     by_cases {C = cells_in (onto_stretches s (next ∷ later)) ≡ s.cells ++ cells_in (next ∷ later)}
-    (agree s.near next.near) (λ y. rw y (append_assoc s.cells next.cells (cells_in later))) (λ n. rw n refl)
+    (agree s.shown next.shown) (λ y. rw y (append_assoc s.cells next.cells (cells_in later))) (λ n. rw n refl)
 
-pub whole_cells : (near : Cell → Bool) (before : Bool) (cells : List Cell)
+near_cells_in : (near : Cell → Bool) (before : Bool) (cells : List Cell)
     → cells_in (stretches near before cells) ≡ cells
-whole_cells near before [] = refl
-whole_cells near before (c ∷ cs) =
-    let here : Bool = is_near_after near before c in
-    onto_cells (record { near = here; cells = c ∷ [] }) (stretches near here cs)
-    ∙ ap (λ xs. c ∷ xs) (whole_cells near here cs)
+near_cells_in near before [] = refl
+near_cells_in near before (c ∷ cs) =
+    let here : Bool = passes_after near before c in
+    onto_cells (record { shown = here; cells = c ∷ [] }) (stretches near here cs)
+    ∙ ap (λ xs. c ∷ xs) (near_cells_in near here cs)
+
+short_cells_in : (many : ℕ) (ss : List Stretch) → cells_in (with_short many ss) ≡ cells_in ss
+short_cells_in many [] = refl
+short_cells_in many (s ∷ later) =
+    onto_cells (record { shown = is_kept many s; cells = s.cells }) (with_short many later)
+    ∙ ap (λ xs. s.cells ++ xs) (short_cells_in many later)
+
+pub whole_cells : (many : ℕ) (near : Cell → Bool) (cells : List Cell)
+    → cells_in (with_short many (stretches near false cells)) ≡ cells
+whole_cells many near cells = short_cells_in many (stretches near false cells) ∙ near_cells_in near false cells
+
+-- a line that is cut keeps its cells
+pub cut_cells : (limit many : ℕ) (all : List ℕ) (cells : List Cell) → cells_in (cut_to limit many all cells) ≡ cells
+cut_cells limit many [] cells = whole_cells many (has_room limit many) cells
+cut_cells limit many (e ∷ es) cells = whole_cells many (is_near (reach_of limit many (e ∷ es) cells) (e ∷ es)) cells
 
 -- ---- stretches are parted
 
 more : (c : Cell) (cs : List Cell) → c ∷ cs ≢ []
 more c cs e = absurd (cc)
 
-grown_parted : (near : Bool) (c : Cell) (next : Stretch) (later : List Stretch) → next.near ≡ near
-    → AreStretches (next ∷ later) → AreStretches (record { near = near; cells = c ∷ next.cells } ∷ later)
-grown_parted near c next [] e h = more c next.cells
-grown_parted near c next (l ∷ ls) e h = (more c next.cells, λ same. h.1 (e ∙ same), h.2)
+some_more : (a b : List Cell) → a ≢ [] → a ++ b ≢ []
+some_more [] b some = absurd (some refl)
+some_more (c ∷ cs) b some = more c (cs ++ b)
 
-onto_parted : (near : Bool) (c : Cell) (ss : List Stretch) → AreStretches ss
-    → AreStretches (onto_stretches (record { near = near; cells = c ∷ [] }) ss)
-onto_parted near c [] h = more c []
-onto_parted near c (next ∷ later) h =
-    by_cases {C = AreStretches (onto_stretches (record { near = near; cells = c ∷ [] }) (next ∷ later))}
-    (agree near next.near)
-    (λ y. rw y (grown_parted near c next later (agree-same near next.near y) h))
-    (λ n. rw n (more c [], agree-not near next.near n, h))
+grown_parted : (s next : Stretch) (later : List Stretch) → s.cells ≢ [] → next.shown ≡ s.shown
+    → AreStretches (next ∷ later) → AreStretches (record { shown = s.shown; cells = s.cells ++ next.cells } ∷ later)
+grown_parted s next [] some e h = some_more s.cells next.cells some
+grown_parted s next (l ∷ ls) some e h = (some_more s.cells next.cells some, λ same. h.1 (e ∙ same), h.2)
 
-pub stretches_parted : (near : Cell → Bool) (before : Bool) (cells : List Cell)
+onto_parted : (s : Stretch) (ss : List Stretch) → s.cells ≢ [] → AreStretches ss
+    → AreStretches (onto_stretches s ss)
+onto_parted s [] some h = some
+onto_parted s (next ∷ later) some h =
+    by_cases {C = AreStretches (onto_stretches s (next ∷ later))} (agree s.shown next.shown)
+    (λ y. rw y (grown_parted s next later some (agree-same s.shown next.shown y) h))
+    (λ n. rw n (some, agree-not s.shown next.shown n, h))
+
+stretches_parted : (near : Cell → Bool) (before : Bool) (cells : List Cell)
     → AreStretches (stretches near before cells)
 stretches_parted near before [] = tt
-stretches_parted near before (c ∷ cs) = onto_parted (is_near_after near before c) c
-    (stretches near (is_near_after near before c) cs) (stretches_parted near (is_near_after near before c) cs)
+stretches_parted near before (c ∷ cs) =
+    let here : Bool = passes_after near before c in
+    onto_parted (record { shown = here; cells = c ∷ [] }) (stretches near here cs) (more c [])
+    (stretches_parted near here cs)
+
+first_some : (s : Stretch) (later : List Stretch) → AreStretches (s ∷ later) → s.cells ≢ []
+first_some s [] h = h
+first_some s (next ∷ later) h = h.0
+
+later_parted : (s : Stretch) (later : List Stretch) → AreStretches (s ∷ later) → AreStretches later
+later_parted s [] h = tt
+later_parted s (next ∷ later) h = h.2
+
+short_parted : (many : ℕ) (ss : List Stretch) → AreStretches ss → AreStretches (with_short many ss)
+short_parted many [] h = tt
+short_parted many (s ∷ later) h =
+    onto_parted (record { shown = is_kept many s; cells = s.cells }) (with_short many later) (first_some s later h)
+    (short_parted many later (later_parted s later h))
+
+pub cut_by : (near : Cell → Bool) (many : ℕ) (cells : List Cell)
+    → IsCutBy near many cells (with_short many (stretches near false cells))
+cut_by near many cells = record {
+  parts = stretches near false cells;
+  nearness = cells_near near false cells;
+  parted = stretches_parted near false cells;
+  shown = cells_kept many (stretches near false cells);
+  joined = short_parted many (stretches near false cells) (stretches_parted near false cells);
+}
 
 -- ---- what it means to be near
 
@@ -115,16 +167,16 @@ is_within_of reach cell column h =
 
 -- ---- what is printed
 
-pub cut_pieces : (pieces : List Highlight) (before : ℕ) (ss : List Stretch) → glyphs_of (cut_runs pieces before ss)
-    ≡ pieces_shown ss
-cut_pieces pieces before [] = refl
-cut_pieces pieces before (s ∷ later) =
+pub cut_pieces : (run : Run) (pieces : List Highlight) (before : ℕ) (ss : List Stretch)
+    → glyphs_of (cut_runs run pieces before ss) ≡ pieces_shown run ss
+cut_pieces run pieces before [] = refl
+cut_pieces run pieces before (s ∷ later) =
     let own : List Highlight = pieces_within before (bytes_in s.cells) pieces in
-    glyphs_of-append (cond (is_kept s) (line_runs own s.cells) (dots ∷ []))
-    (cut_runs pieces (before + bytes_in s.cells) later)
-    ∙ ap₂ (λ a b. a ++ b) (choice (is_kept s) own s.cells) (cut_pieces pieces (before + bytes_in s.cells) later)
+    glyphs_of-append (cond s.shown (line_runs own s.cells) (run ∷ []))
+    (cut_runs run pieces (before + bytes_in s.cells) later)
+    ∙ ap₂ (λ a b. a ++ b) (choice s.shown own s.cells) (cut_pieces run pieces (before + bytes_in s.cells) later)
   where
     choice : (b : Bool) (own : List Highlight) (cells : List Cell)
-        → glyphs_of (cond b (line_runs own cells) (dots ∷ [])) ≡ cond b (printed_cells cells) dots.glyphs
+        → glyphs_of (cond b (line_runs own cells) (run ∷ [])) ≡ cond b (printed_cells cells) run.glyphs
     choice true own cells = line_same own cells
-    choice false own cells = append-nil dots.glyphs
+    choice false own cells = append-nil run.glyphs

@@ -6,14 +6,15 @@ mod Columns
 pub mod CutEnds
 pub mod CutFading
 pub mod CutLaws
+pub mod CutLetters
 pub mod CutMarks
 pub mod CutShows
 pub mod CutWidth
+pub mod EndColumns
 pub mod EndLabels
 pub mod Flat
 pub mod HungTexts
 pub mod LabelMarks
-pub mod NearColumns
 pub mod Numerals
 pub mod PlainStyles
 pub mod PaleSnippets
@@ -22,4 +23,3 @@ pub mod Paling
 pub mod RowCounts
 pub mod UnstyledRows
 pub mod Whole
-pub mod WidestRows

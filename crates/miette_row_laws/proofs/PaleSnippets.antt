@@ -8,7 +8,8 @@ use Rattle.miette_source_lines.specs.rules.Lines.{Line}
 use Rattle.miette_protocol.specs.views.Meaning.{Label}
 use Rattle.miette_protocol.specs.rules.Reading.{Span, Source, Contents, is_accepted}
 use Rattle.miette_labels.specs.rules.Answers.{Highlight, next_answer, first_of}
-use Rattle.miette_snippet_rules.specs.rules.CutLines.{cut_line, shown_marks, shown_runs}
+use Rattle.miette_snippet_rules.specs.rules.CutEnds.{mark_ends}
+use Rattle.miette_snippet_rules.specs.rules.CutLines.{cut_line, dots, dots_in, shown_marks, shown_runs}
 use Rattle.miette_cells.specs.rules.Cells.{Cell, characters}
 use Rattle.miette_row_laws.specs.laws.Clean.{IsClean, IsCleanText, IsCleanLabel, IsCleanSource}
 use Rattle.miette_row_laws.specs.laws.Clean.{AreCleanDrawings}
@@ -27,7 +28,7 @@ use Rattle.miette_labels.specs.rules.Labels.{is_one_line, is_multi_line, ends_on
 use Rattle.miette_snippet_rules.specs.rules.SnippetLayout.{text_of_cells, cells_of, before_each, line_rows_of}
 use Rattle.miette_snippet_rules.specs.rules.SnippetLayout.{line_rows, break_row, line_or_break, rows_of_lines, left_out}
 use Rattle.miette_snippet_rules.specs.rules.SnippetLayout.{body_rows, place_of, drawn_labels, snippet, all_snippets}
-use Rattle.miette_snippet_rules.specs.rules.SnippetLayout.{line_cut}
+use Rattle.miette_snippet_rules.specs.rules.SnippetLayout.{cut_ends, line_cut}
 use Rattle.miette_snippet_rules.specs.rules.Marks.{marks}
 use Rattle.miette_page.specs.rules.Rows.{Run, Row, plain_run}
 use Rattle.miette_style.specs.declared.style.Style.{Style}
@@ -40,7 +41,8 @@ use Rattle.miette_row_laws.proofs.Paling.{bleached, HasCleanParts, PaleRow, Pale
 use Rattle.miette_row_laws.proofs.Paling.{pale_append, pale_if, rows_nil, rows_cons, rows_append, pale_styled}
 use Rattle.miette_row_laws.proofs.Paling.{pale_blank, pale_number_gutter, pale_other_gutter, pale_break_gutter}
 use Rattle.miette_row_laws.proofs.Paling.{pale_closing_rows, pale_marked, all_append, bleached_mark}
-use Rattle.miette_row_laws.proofs.CutFading.{cut_bleached, cut_clean, pale_shown, shown_bleached, shown_clean}
+use Rattle.miette_row_laws.proofs.CutFading.{cut_clean, ends_bleached, pale_dots, pale_shown, shown_bleached}
+use Rattle.miette_row_laws.proofs.CutFading.{shown_clean, spreads_bleached}
 use Rattle.miette_row_laws.proofs.Flat.{before_pieces}
 use Rattle.miette_row_laws.proofs.PlainStyles.{faded_styles}
 use Rattle.miette_snippet_rules.specs.rules.SnippetLayout.{snippet_context, line_in, line_shown}
@@ -154,18 +156,21 @@ module _ (P : Type 0) (s : SnippetSettings) (hs : List Style) (bare : AreAllPlai
       let text = text_of_cells cells line.text_end in
       let found = marks text one in
       let pale_found = marks text (map bleached one) in
-      let cut = line_cut s line cells one in
-      let pale_cut_is : line_cut s line cells (map bleached one) ≡ cut =
-      ap (λ ms. cut_line s.layout.line_columns ms cells) (marks_bleached text one)
-      ∙ cut_bleached s.layout.line_columns found cells
-      in
-      let pale_text : PaleRow P (shown_runs (line_cut s line cells (map bleached one)) [] cells)
-      (shown_runs cut pieces cells) =
-      subst (λ o. PaleRow P (shown_runs o [] cells) (shown_runs cut pieces cells)) (sym pale_cut_is)
-      (pale_shown P cut pieces cells j (λ p. cut_clean s.layout.line_columns found cells (j p))) in
-      let shown_pale : shown_marks (line_cut s line cells (map bleached one)) pale_found
-      ≡ map bleached_mark (shown_marks cut found) =
-      ap₂ shown_marks pale_cut_is (marks_bleached text one) ∙ shown_bleached cut found in
+      let many = dots_in s.theme.characters in
+      let run = dots s.theme in
+      let pale_run = dots (faded hs s).theme in
+      let cut = line_cut s line cells one multi in
+      let pale_cut = line_cut s line cells (map bleached one) (map bleached multi) in
+      let all = cut_ends line cells one multi in
+      let pale_cut_is : pale_cut ≡ cut =
+      ap (λ es. cut_line many s.layout.line_columns es cells) (ap₂ (λ a b. a ++ b)
+      (ap mark_ends (marks_bleached text one) ∙ ends_bleached found) (spreads_bleached line text multi)) in
+      let pale_text : PaleRow P (shown_runs pale_run pale_cut [] cells) (shown_runs run cut pieces cells) =
+      subst (λ o. PaleRow P (shown_runs pale_run o [] cells) (shown_runs run cut pieces cells)) (sym pale_cut_is)
+      (pale_shown P pale_run run cut pieces cells (pale_dots P s.theme (faded_styles hs) refl) j
+      (λ p. cut_clean many s.layout.line_columns all cells (j p))) in
+      let shown_pale : shown_marks many pale_cut pale_found ≡ map bleached_mark (shown_marks many cut found) =
+      ap₂ (shown_marks many) pale_cut_is (marks_bleached text one) ∙ shown_bleached many cut found in
       let numbers = pale_number_gutter P s clean line columns multi in
       let others = pale_other_gutter P s clean line columns multi in
       let start = pale_append P (number_start (faded hs s) w number) (number_start s w number)
@@ -174,16 +179,16 @@ module _ (P : Type 0) (s : SnippetSettings) (hs : List Style) (bare : AreAllPlai
       let first = pale_append P (number_start (faded hs s) w number
       ++ number_gutter s line columns (map bleached multi))
       (number_start s w number ++ number_gutter s line columns multi)
-      (shown_runs (line_cut s line cells (map bleached one)) [] cells) (shown_runs cut pieces cells) start pale_text
+      (shown_runs pale_run pale_cut [] cells) (shown_runs run cut pieces cells) start pale_text
       in
       let below = pale_append P (other_start (faded hs s) w) (other_start s w)
       (other_gutter s line columns (map bleached multi)) (other_gutter s line columns multi)
       (pale_other_start w) others in
-      let pale_marks = shown_marks (line_cut s line cells (map bleached one)) pale_found in
-      let marked : PaleRows P (marked_rows s pale_marks) (marked_rows s (shown_marks cut found)) =
-      subst (λ ms. PaleRows P (marked_rows s ms) (marked_rows s (shown_marks cut found)))
-      (sym shown_pale) (pale_marked P s clean (shown_marks cut found)
-      (λ p. shown_clean cut found (marks_clean text one (h p)))) in
+      let pale_marks = shown_marks many pale_cut pale_found in
+      let marked : PaleRows P (marked_rows s pale_marks) (marked_rows s (shown_marks many cut found)) =
+      subst (λ ms. PaleRows P (marked_rows s ms) (marked_rows s (shown_marks many cut found)))
+      (sym shown_pale) (pale_marked P s clean (shown_marks many cut found)
+      (λ p. shown_clean many cut found (marks_clean text one (h p)))) in
       let ends : PaleRows P (closing_rows s line columns (map bleached multi)
       (closing_labels line (map bleached multi))) (closing_rows s line columns multi
       (closing_labels line multi)) =
@@ -196,11 +201,11 @@ module _ (P : Type 0) (s : SnippetSettings) (hs : List Style) (bare : AreAllPlai
       (rows_append P (before_each (other_start (faded hs s) w
       ++ other_gutter s line columns (map bleached multi)) (marked_rows s pale_marks))
       (before_each (other_start s w ++ other_gutter s line columns multi)
-      (marked_rows s (shown_marks cut found)))
+      (marked_rows s (shown_marks many cut found)))
       (before_each (other_start (faded hs s) w) (closing_rows s line columns (map bleached multi)
       (closing_labels line (map bleached multi)))) (before_each (other_start s w)
       (closing_rows s line columns multi (closing_labels line multi)))
-      (pale_before (marked_rows s pale_marks) (marked_rows s (shown_marks cut found)) below marked)
+      (pale_before (marked_rows s pale_marks) (marked_rows s (shown_marks many cut found)) below marked)
       (pale_before (closing_rows s line columns (map bleached multi) (closing_labels line (map bleached multi)))
       (closing_rows s line columns multi (closing_labels line multi)) (pale_other_start w) ends))
 

@@ -7,7 +7,7 @@ use Rattle.miette_source_lines.specs.rules.Lines.{Line}
 use Rattle.miette_cells.specs.rules.Cells.{Cell}
 use Rattle.miette_labels.specs.rules.Answers.{Highlight}
 use Rattle.miette_labels.specs.rules.Labels.{DrawnLabel, one_line, multi_line, closing_labels}
-use Rattle.miette_snippet_rules.specs.rules.CutLines.{Stretch, row_mark, shown_marks}
+use Rattle.miette_snippet_rules.specs.rules.CutLines.{Stretch, dots_in, row_mark, shown_marks}
 use Rattle.miette_snippet_rules.specs.rules.Marks.{Text, Mark, mark_until, marks_from}
 use Rattle.miette_snippet_rules.specs.rules.Drawing.{text_row, beside, rows_of_parts, rows_below, marked_rows}
 use Rattle.miette_snippet_rules.specs.rules.Gutters.{closing_parts, closing_rows, other_gutter, open_gutter, part_run}
@@ -27,13 +27,15 @@ labels_from text reached [] = refl
 labels_from text reached (label ∷ labels) =
     ap (λ ls. label ∷ ls) (labels_from text (mark_until text reached label) labels)
 
-labels_moved : (cut : List Stretch) (ms : List Mark) → labels_of (map (row_mark cut) ms) ≡ labels_of ms
-labels_moved cut [] = refl
-labels_moved cut (m ∷ ms) = ap (λ ls. m.label ∷ ls) (labels_moved cut ms)
+labels_moved : (many : ℕ) (cut : List Stretch) (ms : List Mark) → labels_of (map (row_mark many cut) ms)
+    ≡ labels_of ms
+labels_moved many cut [] = refl
+labels_moved many cut (m ∷ ms) = ap (λ ls. m.label ∷ ls) (labels_moved many cut ms)
 
-labels_shown : (cut : Option (List Stretch)) (ms : List Mark) → labels_of (shown_marks cut ms) ≡ labels_of ms
-labels_shown None ms = refl
-labels_shown (Some cut) ms = labels_moved cut ms
+labels_shown : (many : ℕ) (cut : Option (List Stretch)) (ms : List Mark) → labels_of (shown_marks many cut ms)
+    ≡ labels_of ms
+labels_shown many None ms = refl
+labels_shown many (Some cut) ms = labels_moved many cut ms
 
 -- each part of a text has one row
 parts_count : (s : SnippetSettings) (earlier : List Mark) (m : Mark) (parts : List (List ℕ))
@@ -75,7 +77,8 @@ ending_count s line columns labels (label ∷ ending) =
 pub labels_are : (s : SnippetSettings) (labels : List DrawnLabel) (line : Line) (cells : List Cell)
     → labels_of (marks_of_line s labels line cells) ≡ one_line line labels
 labels_are s labels line cells =
-    labels_shown (line_cut s line cells (one_line line labels)) (line_marks line cells (one_line line labels))
+    labels_shown (dots_in s.theme.characters) (line_cut s line cells (one_line line labels) (multi_line line labels))
+    (line_marks line cells (one_line line labels))
     ∙ labels_from (text_of_cells cells line.text_end) 0 (one_line line labels)
 
 pub line_count : (s : SnippetSettings) (w columns : ℕ) (labels : List DrawnLabel) (line : Line) (number : ℕ)

@@ -6,15 +6,17 @@ use Rattle.miette_source_lines.specs.rules.Lines.{Line}
 use Rattle.miette_protocol.specs.rules.Reading.{Contents}
 use Rattle.miette_labels.specs.rules.Answers.{Highlight, first_of}
 use Rattle.miette_labels.specs.rules.Contexts.{lines_of_contents}
-use Rattle.miette_labels.specs.rules.Labels.{DrawnLabel, one_line}
+use Rattle.miette_labels.specs.rules.Labels.{DrawnLabel, multi_line, one_line}
+use Rattle.miette_snippet_rules.specs.rules.CutEnds.{spread_ends}
+use Rattle.miette_snippet_rules.specs.rules.CutLines.{dots_in}
 use Rattle.miette_snippet_rules.specs.rules.Drawing.{IsNarrow}
 use Rattle.miette_snippet_rules.specs.rules.Gutters.{gutter_columns}
 use Rattle.miette_snippet_rules.specs.rules.Frames.{width_of_lines}
 use Rattle.miette_snippet_rules.specs.rules.SnippetLayout.{cells_of, line_marks, snippet_context, text_of_cells}
 use Rattle.miette_row_laws.specs.laws.Pictures.{LineShows, LinesShow, BodyShows, marks_of_line}
-use Rattle.miette_snippet_rules.specs.rules.Marks.{AreApart}
+use Rattle.miette_snippet_rules.specs.rules.Marks.{AreApart, Text}
 use Rattle.miette_row_laws.proofs.Apart.{marks_apart}
-use Rattle.miette_cells.specs.rules.Cells.{characters}
+use Rattle.miette_cells.specs.rules.Cells.{Cell, characters}
 use Rattle.miette_snippet_rules.proofs.CutColumns.{AreColumns, columns_from, shown_apart}
 use Rattle.miette_row_laws.proofs.Numerals.{decimal-mono}
 use Rattle.miette_row_laws.proofs.RowCounts.{line_count}
@@ -28,9 +30,11 @@ line_columns s source line = columns_from s.width s.layout.tab_width false line.
 pub row_apart : (s : SnippetSettings) (labels : List DrawnLabel) (source : List ℕ) (line : Line)
     → AreApart 0 (marks_of_line s labels line (cells_of s source line))
 row_apart s labels source line =
-    shown_apart s.layout.line_columns (line_marks line (cells_of s source line) (one_line line labels))
-    (cells_of s source line) (line_columns s source line)
-    (marks_apart (text_of_cells (cells_of s source line) line.text_end) (one_line line labels))
+    let cells : List Cell = cells_of s source line in
+    let text : Text = text_of_cells cells line.text_end in
+    shown_apart (dots_in s.theme.characters) s.layout.line_columns (line_marks line cells (one_line line labels))
+    (spread_ends line text (multi_line line labels)) cells (line_columns s source line)
+    (marks_apart text (one_line line labels))
 
 -- the rows of one line
 pub line_shown : (s : SnippetSettings) (w columns : ℕ) (labels : List DrawnLabel) (source : List ℕ) (line : Line)

@@ -1,8 +1,8 @@
 -- What holds of the rules.
 pub mod Clean
+pub mod CutLetters
 pub mod Cuts
 pub mod Ends
 pub mod Fading
 pub mod LabelMarks
 pub mod Pictures
-pub mod WidestRows

@@ -1,8 +1,7 @@
 //! What holds of the rows of snippets, as laws of their definitions: marks, texts, cuts, colours.
 
 ghost use Rattle.std.specs.Prelude.{◌≡◌, ◌≢◌, ◌≤◌, ℕ, List, ◌∷◌, [], Some, None, Bool, true, false, map};
-ghost use Rattle.std.specs.Prelude.{length};
-ghost use Rattle.std.specs.Prelude.{IfSome, ◌<◌};
+ghost use Rattle.std.specs.Prelude.{IfSome, length, max, ◌<◌};
 ghost use Rattle.std.specs.Option.{option_map};
 ghost use Rattle.std.specs.List.{AllByRecursion};
 ghost use Rattle.miette_protocol.specs.views.Meaning.{Label};
@@ -10,30 +9,30 @@ ghost use Rattle.miette_protocol.specs.rules.Reading.{Source, Contents};
 ghost use Rattle.miette_row_laws.specs.laws.Clean.{AreCleanDrawings, IsCleanLabel, IsCleanRow, IsCleanSource};
 ghost use Rattle.miette_row_laws.specs.laws.Ends.{AreBehindShown, AreBehindText, EndsStandBehind, draws_ends};
 ghost use Rattle.miette_row_laws.specs.laws.Ends.{with_ends};
-ghost use Rattle.miette_row_laws.specs.laws.Cuts.{AreAsWide, AreStretches, Fits, IsWithin, by_nearness, by_stretch};
-ghost use Rattle.miette_row_laws.specs.laws.Cuts.{AreMoved, GroupsFit, IsSameAt, is_shown_at, most_columns};
-ghost use Rattle.miette_row_laws.specs.laws.Cuts.{pieces_shown, without_limit};
+ghost use Rattle.miette_row_laws.specs.laws.Cuts.{AreAsWide, AreMoved, Fits, GroupsFit, IsCutBy, IsCutByReach};
+ghost use Rattle.miette_row_laws.specs.laws.Cuts.{IsSameAt, IsWithin, most_columns, pieces_shown, without_limit};
 ghost use Rattle.miette_row_laws.specs.laws.LabelMarks.{StandAtColumns, StandPast, StandUnder};
 ghost use Rattle.miette_row_laws.specs.laws.Fading.{ArePlain, IsPlainRow, restyled, unhighlighted_answer};
-ghost use Rattle.miette_style.specs.rules.Themes.{Styles};
-ghost use Rattle.miette_page.specs.rules.Rows.{columns_of, glyphs_of};
+ghost use Rattle.miette_style.specs.rules.Themes.{Styles, Theme};
+ghost use Rattle.miette_page.specs.rules.Rows.{Run, columns_of, glyphs_of};
 ghost use Rattle.miette_labels.specs.rules.Answers.{Answers, Highlight};
 ghost use Rattle.miette_labels.specs.rules.Groups.{groups_of, in_order};
-ghost use Rattle.miette_labels.specs.rules.Labels.{DrawnLabel, some_shows_end, one_line};
+ghost use Rattle.miette_labels.specs.rules.Labels.{DrawnLabel, some_shows_end, one_line, multi_line};
 ghost use Rattle.miette_snippet_rules.specs.rules.Marks.{Text, marks, marks_at, AreApart};
 ghost use Rattle.miette_source_lines.specs.rules.Lines.{Line};
 ghost use Rattle.miette_cells.specs.rules.Cells.{Cell};
 ghost use Rattle.miette_labels.specs.rules.Contexts.{lines_of_contents};
-ghost use Rattle.miette_snippet_rules.specs.rules.CutLines.{Stretch, cut_runs, is_within, row_column};
-ghost use Rattle.miette_snippet_rules.specs.rules.CutLines.{stretches};
+ghost use Rattle.miette_snippet_rules.specs.rules.CutLines.{Stretch, cut_at, cut_runs, dots, dots_in, is_shown_at};
+ghost use Rattle.miette_snippet_rules.specs.rules.CutLines.{is_within, limit_of, row_column, stretches, text_columns};
+ghost use Rattle.miette_snippet_rules.specs.rules.CutLines.{with_short};
 ghost use Rattle.miette_snippet_rules.specs.rules.PrintedCells.{cells_width};
 ghost use Rattle.miette_snippet_rules.specs.rules.Drawing.{IsNarrow};
 ghost use Rattle.miette_snippet_rules.specs.rules.Folds.{Spread};
 ghost use Rattle.miette_snippet_rules.specs.rules.Settings.{SnippetSettings};
-ghost use Rattle.miette_snippet_rules.specs.rules.SnippetLayout.{snippet_rows, body_rows, cells_of, line_cut};
+ghost use Rattle.miette_snippet_rules.specs.rules.SnippetLayout.{snippet_rows, body_rows, cells_of, cut_ends, line_cut};
 ghost use Rattle.miette_snippet_rules.specs.rules.SnippetLayout.{line_marks, settings_around};
 ghost use Rattle.miette_row_laws.specs.laws.Pictures.{BodyShows, marks_of_line, text_of_line};
-ghost use Rattle.miette_row_laws.specs.laws.WidestRows.{IsWidest, cut_at_four, label_over};
+ghost use Rattle.miette_row_laws.specs.laws.CutLetters.{AreEndsShown, AreFirstShown};
 
 /// The marks of a line's labels are not empty, and each begins where the one before it ends, or later. So an anchor
 /// lies in its own mark and in no other. The same holds of the marks in a line's row, where it may be cut.
@@ -48,42 +47,58 @@ pub fn marks_are_apart()
         (marks_of_line s labels line (cells_of s source line)) }
 {}
 
-/// The stretches of a line that is cut have its cells, each once and in order, in a stretch that is near where the cell
-/// is; no stretch is empty, and of two that follow one another one is near. A cell that has columns is within so many
-/// columns of an end where one of its own columns is. Of each stretch that is near or at most three columns wide all
-/// cells are printed, and three dots in place of each other one.
+/// The stretches of a line that is cut have its cells, each once and in order, in a stretch that is shown where the cell
+/// is near or stands among others that aren't and are no wider than the dots; no stretch is empty, and of two that follow
+/// one another one is shown (`cut`). A cell that has columns is within so many columns of an end where one of its own
+/// columns is (`within`). Of each stretch that is shown all cells are printed, and the dots in place of each other one
+/// (`printed`).
 pub fn cut_lines_are_parted()
-    ensures cells { (near : Cell → Bool) (cells : List Cell) →
-        by_stretch (stretches near false cells) ≡ by_nearness near false cells }
-    ensures parted { (near : Cell → Bool) (cells : List Cell) → AreStretches (stretches near false cells) }
+    ensures cut { (near : Cell → Bool) (many : ℕ) (cells : List Cell) →
+        IsCutBy near many cells (with_short many (stretches near false cells)) }
     ensures within { (reach : ℕ) (cell : Cell) (column : ℕ) → cell.from < cell.until →
         (is_within reach cell column ≡ true → IsWithin reach cell column)
         × (IsWithin reach cell column → is_within reach cell column ≡ true) }
-    ensures printed { (pieces : List Highlight) (cut : List Stretch) →
-        glyphs_of (cut_runs pieces 0 cut) ≡ pieces_shown cut }
+    ensures printed { (run : Run) (pieces : List Highlight) (cut : List Stretch) →
+        glyphs_of (cut_runs run pieces 0 cut) ≡ pieces_shown run cut }
+{}
+
+/// A line that is cut is cut by its reach, the largest number of columns around its ends, up to the limit, by which the
+/// row's text has no more columns than the limit; where it has no ends, its first cells are shown, as many as have room
+/// with the dots. Each of its ends is shown: those of the marks on it, and those of the labels of several lines that
+/// begin or end there.
+pub fn lines_are_cut_by_reach()
+    ensures { (s : SnippetSettings) (labels : List DrawnLabel) (source : List ℕ) (line : Line) (limit : ℕ)
+        (cut : List Stretch) → s.layout.line_columns ≡ Some limit →
+        line_cut s line (cells_of s source line) (one_line line labels) (multi_line line labels) ≡ Some cut →
+        IsCutByReach (limit_of limit) (dots_in s.theme.characters)
+        (cut_ends line (cells_of s source line) (one_line line labels) (multi_line line labels))
+        (cells_of s source line) cut }
 {}
 
 /// Where there is a limit, each line with more columns is cut (`wide`); none is that has no more, or where there is no
-/// limit (`fits`).
+/// limit (`fits`). A limit below 8 counts as 8.
 pub fn wide_lines_are_cut()
     ensures wide { (s : SnippetSettings) (labels : List DrawnLabel) (source : List ℕ) (line : Line) (limit : ℕ) →
-        s.layout.line_columns ≡ Some limit → limit < cells_width 0 (cells_of s source line) →
-        line_cut s line (cells_of s source line) (one_line line labels) ≢ None }
+        s.layout.line_columns ≡ Some limit → limit_of limit < cells_width 0 (cells_of s source line) →
+        line_cut s line (cells_of s source line) (one_line line labels) (multi_line line labels) ≢ None }
     ensures fits { (s : SnippetSettings) (labels : List DrawnLabel) (source : List ℕ) (line : Line) →
         Fits s.layout.line_columns (cells_of s source line) →
-        line_cut s line (cells_of s source line) (one_line line labels) ≡ None }
+        line_cut s line (cells_of s source line) (one_line line labels) (multi_line line labels) ≡ None }
 {}
 
 /// In the row of a line that is cut, at the column to which one that is shown is moved, stands what stands at that one
 /// in the whole line; behind the text it is as far behind (`columns`). So under the line's marks stand their own
-/// characters: at the first column of each, its anchor, its last column, and each column of it that is shown (`marks`).
+/// characters: at the first column of each, its last column, its anchor where a text hangs from it, and each column of
+/// it that is shown (`marks`).
 pub fn marks_stand_on_their_characters()
-    ensures columns { (near : Cell → Bool) (cells : List Cell) (column : ℕ) →
-        is_shown_at (stretches near false cells) column ≡ true →
-        IsSameAt cells (stretches near false cells) column (row_column (stretches near false cells) column) }
+    ensures columns { (near : Cell → Bool) (t : Theme) (cells : List Cell) (cut : List Stretch) (column : ℕ) →
+        cut ≡ with_short (dots_in t.characters) (stretches near false cells) → is_shown_at cut column ≡ true →
+        IsSameAt (dots t) cells cut column (row_column (dots_in t.characters) cut column) }
     ensures marks { (s : SnippetSettings) (labels : List DrawnLabel) (source : List ℕ) (line : Line)
-        (cut : List Stretch) → line_cut s line (cells_of s source line) (one_line line labels) ≡ Some cut →
-        AreMoved (cells_of s source line) cut (line_marks line (cells_of s source line) (one_line line labels))
+        (cut : List Stretch) →
+        line_cut s line (cells_of s source line) (one_line line labels) (multi_line line labels) ≡ Some cut →
+        AreMoved (dots s.theme) (cells_of s source line) cut
+        (line_marks line (cells_of s source line) (one_line line labels))
         (marks_of_line s labels line (cells_of s source line)) }
 {}
 
@@ -105,17 +120,27 @@ pub fn marks_stand_under_their_labels()
         StandAtColumns (cells_of s source line) }
 {}
 
-/// Where there is a limit, the columns of a line's text in its row are bounded by it, the number of labels that lie on
-/// the line alone, and the widest cell of the line (`bound`). The bound is reached: at a limit of four by eight letters
-/// without a label (`reached`), and by 25 with one from the 6th to the 20th (`reached_by_label`).
+/// Where there is a limit, a line's text has no more columns in its row than the limit; or where its ends alone, with the
+/// dots between them, have more, than those (`bound`): no more than the widest cell and dots for each end ask for
+/// (`ends`).
 pub fn cut_rows_are_narrow()
     ensures bound { (s : SnippetSettings) (labels : List DrawnLabel) (source : List ℕ) (line : Line)
-        (pieces : List Highlight) (limit widest : ℕ) → s.layout.line_columns ≡ Some limit →
-        AreAsWide widest (cells_of s source line) →
+        (pieces : List Highlight) (limit : ℕ) → s.layout.line_columns ≡ Some limit →
         columns_of (glyphs_of (text_of_line s labels line (cells_of s source line) pieces))
-        ≤ most_columns limit (length (one_line line labels)) widest }
-    ensures reached { (s : SnippetSettings) → IsWidest (cut_at_four s) 8 [] }
-    ensures reached_by_label { (s : SnippetSettings) → IsWidest (cut_at_four s) 25 (label_over 5 20 ∷ []) }
+        ≤ max (limit_of limit) (text_columns (dots_in s.theme.characters)
+        (cut_at (dots_in s.theme.characters) 0
+        (cut_ends line (cells_of s source line) (one_line line labels) (multi_line line labels))
+        (cells_of s source line))) }
+    ensures ends { (s : SnippetSettings) (source : List ℕ) (line : Line) (many widest : ℕ) (ends : List ℕ) →
+        AreAsWide widest (cells_of s source line) →
+        text_columns many (cut_at many 0 ends (cells_of s source line)) ≤ most_columns many widest (length ends) }
+{}
+
+/// Of a line of the 26 letters at a limit of eight and of twelve columns is shown, in Unicode and in ASCII: without a
+/// label its first ones (`first`), and what is near the ends of a label (`ends`). A limit of one counts as eight.
+pub fn letters_are_cut()
+    ensures first { (s : SnippetSettings) → AreFirstShown s }
+    ensures ends { (s : SnippetSettings) → AreEndsShown s }
 {}
 
 /// Where no line of a snippet has more columns than the limit, its rows are those without a limit (`snippet`), and so

@@ -94,8 +94,8 @@ module _ (from : Format) (gives : Tree → List ℕ → Type 0)
       → Appends after later (note_of number (kind_unread kind))
       → made ≡ record { unread = verdict.unread || kind_unread kind; error = verdict.error || kind_grave kind }
       → following ≡ number + ends_in row → Progress from gives found first next old newer before later following made
-  more first left next old new newer before after later number verdict made row kind text following some p is_next is_shown
-      took said with_it behind =
+  more first left next old new newer before after later number verdict made row kind text following some p is_next
+      is_shown took said with_it behind =
       let s : Shown = record { row = row; kind = kind; text = text } in
       let was : verdict ≡ verdict_of p.shown = p.is in
       let unread = ap (λ (v : Verdict). v.unread || kind_unread kind) was in

@@ -6,12 +6,10 @@ use Rattle.miette_show.specs.rules.ShowWords.{ShowRequest, asked_from, format_na
 use Rattle.miette_show.specs.declared.words.Format.{Format}
 
 pick : {A : Type 0} (b : Bool) (x y : A) → b ≡ true → (if b then x else y) ≡ x
-pick true x y e = refl
-pick false x y e = absurd (cc)
+pick b x y e = rw e refl
 
 skip : {A : Type 0} (b : Bool) (x y : A) → b ≡ false → (if b then x else y) ≡ y
-skip false x y e = refl
-skip true x y e = absurd (cc)
+skip b x y e = rw e refl
 
 module _ (root : Option (List ℕ)) (from : Format) (fix : Bool) (rest : List (List ℕ)) (word : List ℕ) where
   abbrev asked : List (List ℕ) → Option ShowRequest

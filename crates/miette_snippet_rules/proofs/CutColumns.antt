@@ -1,14 +1,16 @@
 -- Columns of a line that is cut, in its row: marks stay apart.
-use Rattle.std.proofs.Common.{ℕ, ◌+◌, ◌-◌, ◌/◌, ◌<◌, ◌≤◌, ◌≡◌, Bool, true, false, cond, eqb, ltb, leb, List, [], ◌∷◌}
-use Rattle.std.proofs.Common.{◌++◌, map, refl, sym, ap, ◌∙◌, ◌||◌, Option, Some, None, arith}
+use Rattle.std.proofs.Common.{ℕ, ◌+◌, ◌-◌, ◌<◌, ◌≤◌, ◌≡◌, ◌≢◌, Bool, true, false, cond, eqb, ltb, leb, List, [], ◌∷◌}
+use Rattle.std.proofs.Common.{◌++◌, map, refl, sym, ap, ◌∙◌, Option, Some, None, arith}
 use Rattle.std.proofs.lemmas.Bool.{lt-ltb, le-ltb, le-leb, ne_eqb, ltb-true, ltb-false, and_from, or_left, or_right}
 use Rattle.std.specs.List.{list_any, AllByRecursion}
 use Rattle.miette_cells.specs.rules.Cells.{Character, Cell, cells_from, hides_next, width_at}
 use Rattle.miette_snippet_rules.specs.rules.Marks.{Mark, AreApart, HasAnchor}
 use Rattle.miette_snippet_rules.specs.rules.PrintedCells.{cells_width}
-use Rattle.miette_snippet_rules.specs.rules.CutLines.{Stretch, agree, columns_in, cut_line, ends, is_kept, is_near}
-use Rattle.miette_snippet_rules.specs.rules.CutLines.{is_near_after, is_within, onto_stretches, row_column, row_mark}
-use Rattle.miette_snippet_rules.specs.rules.CutLines.{shown_marks, stretches}
+use Rattle.miette_snippet_rules.specs.rules.CutEnds.{hung_at, mark_ends}
+use Rattle.miette_snippet_rules.specs.rules.CutLines.{Stretch, agree, columns_in, cut_at, cut_line, cut_to, is_kept}
+use Rattle.miette_snippet_rules.specs.rules.CutLines.{is_near, is_shown_at, is_within, limit_of, onto_stretches}
+use Rattle.miette_snippet_rules.specs.rules.CutLines.{passes_after, reach_of, row_column, row_mark, shown_marks}
+use Rattle.miette_snippet_rules.specs.rules.CutLines.{stretches, with_short}
 use Rattle.miette_basics.proofs.Cases.{by_cases}
 
 -- ---- cells one after the other, from a column on
@@ -31,38 +33,34 @@ pub columns_in-append : (a b : List Cell) → columns_in (a ++ b) ≡ columns_in
 columns_in-append [] b = omega arith
 columns_in-append (c ∷ a) b = omega (arith, columns_in-append a b)
 
--- ---- whether the stretch in which a column lies is near; behind the last it counts as near
-
-abbrev pub near_at : List Stretch → ℕ → Bool
-near_at [] column = true
-near_at (s ∷ later) column = cond (ltb column (columns_in s.cells)) s.near (near_at later (column - columns_in s.cells))
+-- ---- whether a column is shown
 
 agree-same : (a b : Bool) → agree a b ≡ true → a ≡ b
 agree-same true b h = sym h
 agree-same false true h = h
 agree-same false false h = refl
 
-onto-near : (s : Stretch) (ss : List Stretch) (column : ℕ) →
-    near_at (onto_stretches s ss) column ≡ cond (ltb column (columns_in s.cells)) s.near
-    (near_at ss (column - columns_in s.cells))
-onto-near s [] column = refl
-onto-near s (next ∷ later) column =
-    by_cases {C = near_at (onto_stretches s (next ∷ later)) column
-    ≡ cond (ltb column (columns_in s.cells)) s.near (near_at (next ∷ later) (column - columns_in s.cells))}
-    (agree s.near next.near)
-    (λ y. let same : next.near ≡ s.near = sym (agree-same s.near next.near y) in
+onto-shown : (s : Stretch) (ss : List Stretch) (column : ℕ) →
+    is_shown_at (onto_stretches s ss) column ≡ cond (ltb column (columns_in s.cells)) s.shown
+    (is_shown_at ss (column - columns_in s.cells))
+onto-shown s [] column = refl
+onto-shown s (next ∷ later) column =
+    by_cases {C = is_shown_at (onto_stretches s (next ∷ later)) column
+    ≡ cond (ltb column (columns_in s.cells)) s.shown (is_shown_at (next ∷ later) (column - columns_in s.cells))}
+    (agree s.shown next.shown)
+    (λ y. let same : next.shown ≡ s.shown = sym (agree-same s.shown next.shown y) in
     rw (y, columns_in-append s.cells next.cells, same) (joined column (columns_in s.cells) (columns_in next.cells)
-    s.near (near_at later)))
+    s.shown (is_shown_at later)))
     (λ n. rw n refl)
   where
-    joined : (column a b : ℕ) (near : Bool) (f : ℕ → Bool) → cond (ltb column (a + b)) near (f (column - (a + b)))
-        ≡ cond (ltb column a) near (cond (ltb (column - a) b) near (f (column - a - b)))
-    joined column a b near f =
-        by_cases {C = cond (ltb column (a + b)) near (f (column - (a + b)))
-        ≡ cond (ltb column a) near (cond (ltb (column - a) b) near (f (column - a - b)))} (ltb column a)
+    joined : (column a b : ℕ) (shown : Bool) (f : ℕ → Bool) → cond (ltb column (a + b)) shown (f (column - (a + b)))
+        ≡ cond (ltb column a) shown (cond (ltb (column - a) b) shown (f (column - a - b)))
+    joined column a b shown f =
+        by_cases {C = cond (ltb column (a + b)) shown (f (column - (a + b)))
+        ≡ cond (ltb column a) shown (cond (ltb (column - a) b) shown (f (column - a - b)))} (ltb column a)
         (λ y. rw (y, lt-ltb column (a + b) (omega (arith, ltb-true column a y))) refl)
-        (λ n. by_cases {C = cond (ltb column (a + b)) near (f (column - (a + b)))
-        ≡ cond (ltb column a) near (cond (ltb (column - a) b) near (f (column - a - b)))} (ltb (column - a) b)
+        (λ n. by_cases {C = cond (ltb column (a + b)) shown (f (column - (a + b)))
+        ≡ cond (ltb column a) shown (cond (ltb (column - a) b) shown (f (column - a - b)))} (ltb (column - a) b)
         (λ y. rw (n, y, lt-ltb column (a + b) (omega (arith, ltb-false column a n, ltb-true (column - a) b y))) refl)
         (λ m. let less : column - (a + b) ≡ column - a - b = omega arith in
         rw (n, m, le-ltb column (a + b) (omega (arith, ltb-false column a n, ltb-false (column - a) b m)), less) refl))
@@ -71,15 +69,15 @@ onto-near s (next ∷ later) column =
 pub near_cells : (near : Cell → Bool) (before : Bool) (column end : ℕ) (cells : List Cell) → AreColumns column cells
     → column ≤ end →
     ((cell : Cell) → cell.from ≤ end → end < cell.until → near cell ≡ true)
-    → near_at (stretches near before cells) (end - column) ≡ true
+    → is_shown_at (stretches near before cells) (end - column) ≡ true
 near_cells near before column end [] h le is = refl
 near_cells near before column end (c ∷ cs) h le is =
-    let here : Bool = is_near_after near before c in
-    let first : Stretch = record { near = here; cells = c ∷ [] } in
+    let here : Bool = passes_after near before c in
+    let first : Stretch = record { shown = here; cells = c ∷ [] } in
     let rest : List Stretch = stretches near here cs in
-    onto-near first rest (end - column)
+    onto-shown first rest (end - column)
     ∙ by_cases {C = cond (ltb (end - column) (columns_in (c ∷ []))) here
-    (near_at rest (end - column - columns_in (c ∷ []))) ≡ true} (ltb (end - column) (columns_in (c ∷ [])))
+    (is_shown_at rest (end - column - columns_in (c ∷ []))) ≡ true} (ltb (end - column) (columns_in (c ∷ [])))
     (λ y. let inside : end < c.until = omega (arith, h.0, h.1, le, ltb-true (end - column) (columns_in (c ∷ [])) y) in
     let wide : eqb c.from c.until ≡ false = ne_eqb c.from c.until (λ e. omega (arith, h.0, le, inside, e)) in
     rw (y, wide) (is c (omega (arith, h.0, le)) inside))
@@ -87,56 +85,89 @@ near_cells near before column end (c ∷ cs) h le is =
     let less : end - column - columns_in (c ∷ []) ≡ end - c.until = omega (arith, h.0, h.1, past) in
     rw (n, less) (near_cells near here c.until end cs h.2 past is))
 
--- ---- columns in the row grow from a near column on
+-- what is near is shown with the short stretches too
+pub short_shown : (many : ℕ) (ss : List Stretch) (column : ℕ) → is_shown_at ss column ≡ true
+    → is_shown_at (with_short many ss) column ≡ true
+short_shown many [] column h = refl
+short_shown many (s ∷ later) column h =
+    let columns : ℕ = columns_in s.cells in
+    onto-shown (record { shown = is_kept many s; cells = s.cells }) (with_short many later) column
+    ∙ by_cases {C = cond (ltb column columns) (is_kept many s) (is_shown_at (with_short many later) (column - columns))
+    ≡ true} (ltb column columns)
+    (λ y. let own : s.shown ≡ true =
+    sym (ap (λ t. cond t s.shown (is_shown_at later (column - columns))) y) ∙ h in
+    rw y (or_left s.shown (leb columns many) own))
+    (λ n. let rest : is_shown_at later (column - columns) ≡ true =
+    sym (ap (λ t. cond t s.shown (is_shown_at later (column - columns))) n) ∙ h in
+    rw n (short_shown many later (column - columns) rest))
 
-pub row_grows : (ss : List Stretch) (a b : ℕ) → a < b → near_at ss a ≡ true → row_column ss a < row_column ss b
-row_grows [] a b lt near = lt
-row_grows (s ∷ later) a b lt near =
-    let many : ℕ = columns_in s.cells in
-    by_cases {C = row_column (s ∷ later) a < row_column (s ∷ later) b} (ltb a many)
-    (λ y. let own : s.near ≡ true = sym (ap (λ t. cond t s.near (near_at later (a - many))) y) ∙ near in
-    let kept : is_kept s ≡ true = or_left s.near (leb many 3) own in
-    by_cases {C = row_column (s ∷ later) a < row_column (s ∷ later) b} (ltb b many)
-    (λ z. rw (y, z, kept) lt)
-    (λ n. rw (y, n, kept) (omega (arith, ltb-true a many y))))
-    (λ n. let past : many ≤ a = ltb-false a many n in
-    let beyond : ltb b many ≡ false = le-ltb b many (omega (arith, past, lt)) in
-    let rest : near_at later (a - many) ≡ true = sym (ap (λ t. cond t s.near (near_at later (a - many))) n) ∙ near in
-    rw (n, beyond) (omega (arith, row_grows later (a - many) (b - many) (omega (arith, past, lt)) rest)))
+-- ---- columns in the row never fall, and grow from a column on that is shown
 
-row_follows : (ss : List Stretch) (a b : ℕ) → a ≤ b → near_at ss a ≡ true → row_column ss a ≤ row_column ss b
-row_follows ss a b le near =
-    by_cases {C = row_column ss a ≤ row_column ss b} (ltb a b)
-    (λ y. omega (arith, row_grows ss a b (ltb-true a b y) near))
-    (λ n. let same : a ≡ b = omega (arith, le, ltb-false a b n) in rw same (omega arith))
+pub row_grows : (many : ℕ) (ss : List Stretch) (a b : ℕ) → a < b → is_shown_at ss a ≡ true
+    → row_column many ss a < row_column many ss b
+row_grows many [] a b lt shown = lt
+row_grows many (s ∷ later) a b lt shown =
+    let columns : ℕ = columns_in s.cells in
+    by_cases {C = row_column many (s ∷ later) a < row_column many (s ∷ later) b} (ltb a columns)
+    (λ y. let own : s.shown ≡ true =
+    sym (ap (λ t. cond t s.shown (is_shown_at later (a - columns))) y) ∙ shown in
+    by_cases {C = row_column many (s ∷ later) a < row_column many (s ∷ later) b} (ltb b columns)
+    (λ z. rw (y, z, own) lt)
+    (λ n. rw (y, n, own) (omega (arith, ltb-true a columns y))))
+    (λ n. let past : columns ≤ a = ltb-false a columns n in
+    let beyond : ltb b columns ≡ false = le-ltb b columns (omega (arith, past, lt)) in
+    let rest : is_shown_at later (a - columns) ≡ true =
+    sym (ap (λ t. cond t s.shown (is_shown_at later (a - columns))) n) ∙ shown in
+    rw (n, beyond) (omega (arith, row_grows many later (a - columns) (b - columns) (omega (arith, past, lt)) rest)))
 
--- ---- marks whose ends are near stay apart
+pub row_follows : (many : ℕ) (ss : List Stretch) (a b : ℕ) → a ≤ b → row_column many ss a ≤ row_column many ss b
+row_follows many [] a b le = le
+row_follows many (s ∷ later) a b le =
+    let columns : ℕ = columns_in s.cells in
+    by_cases {C = row_column many (s ∷ later) a ≤ row_column many (s ∷ later) b} (ltb a columns)
+    (λ y. by_cases {C = row_column many (s ∷ later) a ≤ row_column many (s ∷ later) b} (ltb b columns)
+    (λ z. rw (y, z) (inside s.shown))
+    (λ n. rw (y, n) (before s.shown columns (row_column many later (b - columns)) (ltb-true a columns y))))
+    (λ n. let past : columns ≤ a = ltb-false a columns n in
+    let beyond : ltb b columns ≡ false = le-ltb b columns (omega (arith, past, le)) in
+    rw (n, beyond) (omega (arith, row_follows many later (a - columns) (b - columns) (omega (arith, past, le)))))
+  where
+    inside : (shown : Bool) → cond shown a 0 ≤ cond shown b 0
+    inside true = le
+    inside false = omega arith
 
-abbrev pub HasNearEnds : List Stretch → Mark → Type 0
-HasNearEnds ss m = (near_at ss m.from ≡ true) × (near_at ss m.anchor ≡ true) × (near_at ss (m.until - 1) ≡ true)
+    before : (shown : Bool) (columns rest : ℕ) → a < columns → cond shown a 0 ≤ cond shown columns many + rest
+    before true columns rest lt = omega (arith, lt)
+    before false columns rest lt = omega arith
 
-own_anchor : (ss : List Stretch) (m : Mark) → HasAnchor m → HasNearEnds ss m → HasAnchor (row_mark ss m)
-own_anchor ss m h near =
+-- ---- marks whose ends are shown stay apart
+
+-- Its first and its last column are shown, and its anchor where a text hangs from it.
+abbrev pub HasShownEnds : List Stretch → Mark → Type 0
+HasShownEnds ss m = (is_shown_at ss m.from ≡ true) × (is_shown_at ss (m.until - 1) ≡ true)
+    × (m.label.parts ≢ [] → is_shown_at ss m.anchor ≡ true)
+
+own_anchor : (many : ℕ) (ss : List Stretch) (m : Mark) → HasAnchor m → HasAnchor (row_mark many ss m)
+own_anchor many ss m h =
     let last : m.anchor ≤ m.until - 1 = omega (arith, h.1) in
-    (row_follows ss m.from m.anchor h.0 near.0, omega (arith, row_follows ss m.anchor (m.until - 1) last near.1))
+    (row_follows many ss m.from m.anchor h.0, omega (arith, row_follows many ss m.anchor (m.until - 1) last))
 
-pub row_apart : (ss : List Stretch) (reached low : ℕ) (ms : List Mark) → AreApart reached ms
-    → AllByRecursion (HasNearEnds ss) ms →
-    ((column : ℕ) → reached ≤ column → low ≤ row_column ss column) → AreApart low (map (row_mark ss) ms)
-row_apart ss reached low [] h near from = tt
-row_apart ss reached low (m ∷ ms) h near from = (
+pub row_apart : (many : ℕ) (ss : List Stretch) (reached low : ℕ) (ms : List Mark) → AreApart reached ms
+    → AllByRecursion (HasShownEnds ss) ms →
+    ((column : ℕ) → reached ≤ column → low ≤ row_column many ss column) → AreApart low (map (row_mark many ss) ms)
+row_apart many ss reached low [] h shown from = tt
+row_apart many ss reached low (m ∷ ms) h shown from = (
   from m.from h.0,
-  own_anchor ss m h.1 near.0,
-  row_apart ss m.until (row_column ss (m.until - 1) + 1) ms h.2 near.1
-      (λ column le. omega (arith, row_grows ss (m.until - 1) column (omega (arith, h.1.0, h.1.1, le)) near.0.2)),
+  own_anchor many ss m h.1,
+  row_apart many ss m.until (row_column many ss (m.until - 1) + 1) ms h.2 shown.1
+      (λ column le. omega (arith, row_grows many ss (m.until - 1) column (omega (arith, h.1.0, h.1.1, le)) shown.0.1)),
 )
 
--- ---- the ends of marks are near in the stretches that are made of them
+-- ---- the ends of a line are shown where it is cut around them
 
-near_any : (limit : ℕ) (columns : List ℕ) (cell : Cell) → list_any (is_within (limit / 4) cell) columns ≡ true
-    → is_near limit columns cell ≡ true
-near_any limit [] cell h = absurd (cc)
-near_any limit (e ∷ es) cell h = h
+-- columns of stretches that are shown
+abbrev pub AreShownAt : List Stretch → List ℕ → Type 0
+AreShownAt ss columns = AllByRecursion (λ column. is_shown_at ss column ≡ true) columns
 
 within_own : (reach : ℕ) (cell : Cell) (column : ℕ) → cell.from ≤ column → column < cell.until
     → is_within reach cell column ≡ true
@@ -146,53 +177,69 @@ within_own reach cell column le lt = and_from (leb cell.from (column + reach)) (
 less_none : (n : ℕ) → n ≡ n - 0
 less_none n = omega arith
 
-pub ends_near : (limit : ℕ) (all : List ℕ) (cells : List Cell) (ms : List Mark) → AreColumns 0 cells
-    → ((p : ℕ → Bool) → list_any p (ends ms) ≡ true → list_any p all ≡ true) →
-    AllByRecursion (HasNearEnds (stretches (is_near limit all) false cells)) ms
-ends_near limit all cells [] h in' = tt
-ends_near limit all cells (m ∷ ms) h in' =
-    let near : (column : ℕ) → ((p : ℕ → Bool) → p column ≡ true → list_any p all ≡ true)
-    → near_at (stretches (is_near limit all) false cells) column ≡ true = λ column any.
-    ap (near_at (stretches (is_near limit all) false cells)) (less_none column)
-    ∙ near_cells (is_near limit all) false 0 column cells h (omega arith)
-    (λ cell le lt. near_any limit all cell (any (is_within (limit / 4) cell)
-    (within_own (limit / 4) cell column le lt))) in (
-      (
-        near m.from (λ p e. in' p (or_left (p m.from) (p m.anchor || (p (m.until - 1) || list_any p (ends ms))) e)),
-        near m.anchor (λ p e. in' p (or_right (p m.from) (p m.anchor || (p (m.until - 1) || list_any p (ends ms)))
-            (or_left (p m.anchor) (p (m.until - 1) || list_any p (ends ms)) e))),
-        near (m.until - 1) (λ p e. in' p (or_right (p m.from) (p m.anchor || (p (m.until - 1) || list_any p (ends ms)))
-            (or_right (p m.anchor) (p (m.until - 1) || list_any p (ends ms))
-            (or_left (p (m.until - 1)) (list_any p (ends ms)) e)))),
-      ),
-      ends_near limit all cells ms h (λ p e. in' p (or_right (p m.from)
-          (p m.anchor || (p (m.until - 1) || list_any p (ends ms)))
-          (or_right (p m.anchor) (p (m.until - 1) || list_any p (ends ms))
-          (or_right (p (m.until - 1)) (list_any p (ends ms)) e)))),
-    )
+end_shown : (many reach : ℕ) (all : List ℕ) (cells : List Cell) (column : ℕ) → AreColumns 0 cells
+    → ((p : ℕ → Bool) → p column ≡ true → list_any p all ≡ true)
+    → is_shown_at (cut_at many reach all cells) column ≡ true
+end_shown many reach all cells column h in' =
+    let near : Cell → Bool = is_near reach all in
+    short_shown many (stretches near false cells) column
+    (ap (is_shown_at (stretches near false cells)) (less_none column)
+    ∙ near_cells near false 0 column cells h (omega arith)
+    (λ cell le lt. in' (is_within reach cell) (within_own reach cell column le lt)))
+
+ends_shown_at : (many reach : ℕ) (all : List ℕ) (cells : List Cell) (es : List ℕ) → AreColumns 0 cells
+    → ((p : ℕ → Bool) → list_any p es ≡ true → list_any p all ≡ true) → AreShownAt (cut_at many reach all cells) es
+ends_shown_at many reach all cells [] h in' = tt
+ends_shown_at many reach all cells (e ∷ es) h in' = (
+  end_shown many reach all cells e h (λ p is. in' p (or_left (p e) (list_any p es) is)),
+  ends_shown_at many reach all cells es h (λ p is. in' p (or_right (p e) (list_any p es) is)),
+)
+
+pub ends_shown : (limit many : ℕ) (all : List ℕ) (cells : List Cell) → AreColumns 0 cells
+    → AreShownAt (cut_to limit many all cells) all
+ends_shown limit many [] cells h = tt
+ends_shown limit many (e ∷ es) cells h =
+    ends_shown_at many (reach_of limit many (e ∷ es) cells) (e ∷ es) cells (e ∷ es) h (λ p is. is)
+
+-- the first of some columns
+pub first_shown : (ss : List Stretch) (a b : List ℕ) → AreShownAt ss (a ++ b) → AreShownAt ss a
+first_shown ss [] b h = tt
+first_shown ss (e ∷ a) b h = (h.0, first_shown ss a b h.1)
+
+pub marks_shown : (ss : List Stretch) (ms : List Mark) → AreShownAt ss (mark_ends ms)
+    → AllByRecursion (HasShownEnds ss) ms
+marks_shown ss [] h = tt
+marks_shown ss (m ∷ ms) h =
+    let rest = hung m.label.parts (mark_ends ms) h.1 in ((h.0, rest.1, rest.0), marks_shown ss ms rest.2)
+  where
+    hung : (parts : List (List ℕ)) (more : List ℕ)
+        → AreShownAt ss (hung_at parts m.anchor ++ (m.until - 1) ∷ more)
+        → (parts ≢ [] → is_shown_at ss m.anchor ≡ true) × (is_shown_at ss (m.until - 1) ≡ true) × AreShownAt ss more
+    hung [] more h = (λ some. absurd (some refl), h.0, h.1)
+    hung (part ∷ parts) more h = (λ some. h.0, h.1.0, h.1.1)
 
 -- ---- a line's marks in its row
 
-pub shown_apart : (limit : Option ℕ) (ms : List Mark) (cells : List Cell) → AreColumns 0 cells → AreApart 0 ms
-    → AreApart 0 (shown_marks (cut_line limit ms cells) ms)
-shown_apart None ms cells h apart = apart
-shown_apart (Some limit) ms cells h apart =
-    by_cases {C = AreApart 0 (shown_marks (cut_line (Some limit) ms cells) ms)} (ltb limit (cells_width 0 cells))
-    (λ y. rw y (row_apart (stretches (is_near limit (ends ms)) false cells) 0 0 ms apart
-    (ends_near limit (ends ms) cells ms h (λ p e. e)) (λ column le. omega arith)))
+pub shown_apart : (many : ℕ) (limit : Option ℕ) (ms : List Mark) (more : List ℕ) (cells : List Cell)
+    → AreColumns 0 cells → AreApart 0 ms
+    → AreApart 0 (shown_marks many (cut_line many limit (mark_ends ms ++ more) cells) ms)
+shown_apart many None ms more cells h apart = apart
+shown_apart many (Some limit) ms more cells h apart =
+    let all : List ℕ = mark_ends ms ++ more in
+    let cut : List Stretch = cut_to (limit_of limit) many all cells in
+    by_cases {C = AreApart 0 (shown_marks many (cut_line many (Some limit) all cells) ms)}
+    (ltb (limit_of limit) (cells_width 0 cells))
+    (λ y. rw y (row_apart many cut 0 0 ms apart
+    (marks_shown cut ms (first_shown cut (mark_ends ms) more (ends_shown (limit_of limit) many all cells h)))
+    (λ column le. omega arith)))
     (λ n. rw n apart)
 
-moved_anchored : (ss : List Stretch) (ms : List Mark) → AllByRecursion HasAnchor ms → AllByRecursion (HasNearEnds ss) ms
-    → AllByRecursion HasAnchor (map (row_mark ss) ms)
-moved_anchored ss [] h near = tt
-moved_anchored ss (m ∷ ms) h near = (own_anchor ss m h.0 near.0, moved_anchored ss ms h.1 near.1)
+moved_anchored : (many : ℕ) (ss : List Stretch) (ms : List Mark) → AllByRecursion HasAnchor ms
+    → AllByRecursion HasAnchor (map (row_mark many ss) ms)
+moved_anchored many ss [] h = tt
+moved_anchored many ss (m ∷ ms) h = (own_anchor many ss m h.0, moved_anchored many ss ms h.1)
 
-pub shown_anchored : (limit : Option ℕ) (ms : List Mark) (cells : List Cell) → AreColumns 0 cells
-    → AllByRecursion HasAnchor ms → AllByRecursion HasAnchor (shown_marks (cut_line limit ms cells) ms)
-shown_anchored None ms cells h anchored = anchored
-shown_anchored (Some limit) ms cells h anchored =
-    by_cases {C = AllByRecursion HasAnchor (shown_marks (cut_line (Some limit) ms cells) ms)}
-    (ltb limit (cells_width 0 cells))
-    (λ y. rw y (moved_anchored (stretches (is_near limit (ends ms)) false cells) ms anchored
-    (ends_near limit (ends ms) cells ms h (λ p e. e))))
-    (λ n. rw n anchored)
+pub shown_anchored : (many : ℕ) (cut : Option (List Stretch)) (ms : List Mark) → AllByRecursion HasAnchor ms
+    → AllByRecursion HasAnchor (shown_marks many cut ms)
+shown_anchored many None ms anchored = anchored
+shown_anchored many (Some cut) ms anchored = moved_anchored many cut ms anchored

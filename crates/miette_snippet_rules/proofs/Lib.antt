@@ -1,5 +1,7 @@
 pub mod CutColumns
 pub mod SourceEnd
 pub mod LabelEnds
+pub mod NeverHidden
 pub mod NoPieces
 pub mod RowTokens
+pub mod TextColumns

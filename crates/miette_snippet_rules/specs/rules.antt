@@ -1,4 +1,5 @@
 -- What users rely on, in the words of docs/RULES.md.
+pub mod CutEnds
 pub mod CutLines
 pub mod Defaults
 pub mod Drawing

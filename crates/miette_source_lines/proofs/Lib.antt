@@ -8,3 +8,4 @@ pub mod AreLines
 pub mod Only
 pub mod Firsts
 pub mod Parts
+pub mod Blocks

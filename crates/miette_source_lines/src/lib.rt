@@ -8,4 +8,5 @@ pub mod indexed;
 pub mod laws;
 mod line_ends;
 pub mod lines;
+mod newlines;
 pub mod scan;

@@ -4,7 +4,8 @@ ghost use Rattle.std.specs.Prelude.{◌≡◌, ◌+◌, ◌-◌, ◌<◌, ◌≤
 ghost use Rattle.miette_source_lines.specs.rules.Lines.{ends_line, line_of, line_start, line_end};
 
 use crate::find::FindLines;
-use memchr::{memchr2, memrchr2};
+use crate::newlines::first_newline;
+use memchr::memrchr2;
 
 /// Bytes, whose lines are found by scans.
 #[derive(Drop)]
@@ -82,7 +83,7 @@ pub(crate) fn next_newline(bytes: &[u8], offset: usize) -> Option<usize>
     ensures within { IfSome result (λ at. at < length bytes.now) }
     ensures same { IfSome result (λ at. line_of bytes.now at ≡ line_of bytes.now offset) }
 {
-    match memchr2(b'\n', b'\r', &bytes[offset..]) {
+    match first_newline(&bytes[offset..]) {
         Some(away) => Some(offset + away),
         None => None,
     }

@@ -43,7 +43,7 @@ row-tokens zero (c ∷ cs) h =
       | suc k ↦ row-tokens k cs p.1
     ]
 
-abbrev line_of : List Token → TextLine
+abbrev pub line_of : List Token → TextLine
 line_of [] = no_characters
 line_of (Character c ∷ ts) = with_code c (line_of ts)
 line_of (Sequence s ∷ ts) = with_tag s (line_of ts)
@@ -57,17 +57,17 @@ one-line (Character c ∷ ts) h =
     ∙ ap (on_first (with_code c)) (one-line ts p.1)
 one-line (Sequence s ∷ ts) h = ap (on_first (with_tag s)) (one-line ts h)
 
-abbrev row_line : List ℕ → TextLine
+abbrev pub row_line : List ℕ → TextLine
 row_line row = line_of (tokens row)
 
-row-line : (row : List ℕ) → is_row row ≡ true → lines row ≡ row_line row ∷ []
+pub row-line : (row : List ℕ) → is_row row ≡ true → lines row ≡ row_line row ∷ []
 row-line row h = one-line (tokens row) (row-tokens 0 row h)
 
 tag-tokens : (s : List ℕ) (p : TextLine) → text_line_tokens (with_tag s p) ≡ Sequence s ∷ text_line_tokens p
 tag-tokens s p = elim p.cells as (λ cs. text_line_tokens (with_tag s (record { cells = cs; rest = p.rest }))
     ≡ Sequence s ∷ text_line_tokens (record { cells = cs; rest = p.rest })) [ [] ↦ refl | c ∷ cs ↦ refl ]
 
-line-tokens : (ts : List Token) → text_line_tokens (line_of ts) ≡ ts
+pub line-tokens : (ts : List Token) → text_line_tokens (line_of ts) ≡ ts
 line-tokens [] = refl
 line-tokens (Character c ∷ ts) = ap (λ us. Character c ∷ us) (line-tokens ts)
 line-tokens (Sequence s ∷ ts) = tag-tokens s (line_of ts) ∙ ap (λ us. Sequence s ∷ us) (line-tokens ts)

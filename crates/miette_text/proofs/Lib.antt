@@ -28,7 +28,9 @@ pub mod InterleavedCells
 pub mod InterleavedRows
 pub mod BareRows
 pub mod Filling
-pub mod InterleavedLines
+pub mod TrimmedIndents
+pub mod PassedLines
+pub mod WholeLines
 pub mod SingleRows
 pub mod Fitting
 pub mod WordLaws

@@ -1,31 +1,24 @@
 -- Printable ASCII without a hyphen: each character has a column, and no word is cut behind one.
-use Rattle.std.proofs.Common.{◌≡◌, ℕ, zero, suc, ◌+◌, ◌<◌, ◌≤◌, Bool, true, false, ◌&&◌, ◌==◌, nat_lt}
+use Rattle.std.proofs.Common.{◌≡◌, ℕ, zero, suc, ◌+◌, ◌<◌, ◌≤◌, Bool, true, false, ◌&&◌, ◌==◌}
 use Rattle.std.proofs.Common.{List, [], ◌∷◌, ◌++◌, get_or, length, take, refl, sym, ap, ap₂, ◌∙◌, arith}
 use Rattle.std.proofs.lemmas.Bool.{and_parts}
 use Rattle.std.proofs.lemmas.Bool.Decides.{nat_tests}
 use Rattle.std.proofs.lemmas.List.{take_more}
 use Rattle.std.proofs.lemmas.List.Sums.{sum_by-cons}
-use Rattle.std.proofs.Math.Bool.{and-false}
 use Rattle.miette_line_breaks.specs.views.Printable.{is_printable}
 use Rattle.miette_runs.specs.rules.Cells.{width}
 use Rattle.miette_runs.specs.steps.Cells.{code_columns}
-use Rattle.miette_text.specs.rules.Wrapping.{Cuts, is_alphanumeric}
-use Rattle.miette_text.specs.steps.Ends.{begins_word, part_len}
+use Rattle.miette_text.specs.rules.Wrapping.{Cuts}
+use Rattle.miette_text.specs.steps.Ends.{part_len}
 use Rattle.miette_text.specs.views.Breaks.{all_printed, is_printed, never}
 use Rattle.miette_text.proofs.Fitting.{printed-width}
-use Rattle.miette_text.proofs.SolidRuns.{chosen, has_room}
+use Rattle.miette_text.proofs.SolidRuns.{chosen, has_room, no_part, no_row}
 
 printed-hyphen : (c : ℕ) → is_printed c ≡ true → (c == 45) ≡ false
 printed-hyphen c h = grind (arith, nat_tests)
 
-printed-low : (c : ℕ) → is_printed c ≡ true → 32 ≤ c
-printed-low c h = grind (arith, nat_tests)
-
-printed-high : (c : ℕ) → is_printed c ≡ true → c ≤ 126
-printed-high c h = grind (arith, nat_tests)
-
 column : (c : ℕ) → is_printed c ≡ true → width c ≡ 1
-column c h = printed-width c (printed-low c h) (printed-high c h)
+column c h = printed-width c (grind (arith, nat_tests)) (grind (arith, nat_tests))
 
 -- where they have room they are one part
 pub printed-part : (cuts : Cuts) (before used j : ℕ) (cs : List ℕ) → all_printed cs ≡ true → j ≡ used + length cs →
@@ -35,16 +28,8 @@ printed-part cuts before used j (c ∷ cs) h e r =
     let p = and_parts (is_printed c) (all_printed cs) h in
     let w = column c p.0 in
     let more = part_len never cuts c (used + width c) cs in
-    let wide = nat_lt 0 used && nat_lt cuts.narrow (used + width c) in
-    let test = (c == 45) && is_alphanumeric before && begins_word cs in
-    let room : nat_lt cuts.narrow (used + width c) ≡ false =
-    has_room cuts.narrow used (width c) w (omega (arith, e, r)) in
-    let none : (cuts.breaks && wide) ≡ false =
-    ap (λ b. cuts.breaks && (nat_lt 0 used && b)) room ∙ ap (λ b. cuts.breaks && b) (and-false (nat_lt 0 used))
-    ∙ and-false cuts.breaks in
-    let whole : (cuts.hyphens && test) ≡ false =
-    ap (λ b. cuts.hyphens && (b && is_alphanumeric before && begins_word cs)) (printed-hyphen c p.0)
-    ∙ and-false cuts.hyphens in
+    let none = no_row cuts used (width c) (has_room cuts.narrow used (width c) w (omega (arith, e, r))) in
+    let whole = no_part cuts c before cs (printed-hyphen c p.0) in
     let i : more ≡ length cs = printed-part cuts c (used + width c) j cs p.1 (omega (arith, e, w)) r in
     ap₂ (λ b d. chosen false b d more) none whole
     ∙ (let s : suc more ≡ suc (length cs) = omega (arith, i) in s)

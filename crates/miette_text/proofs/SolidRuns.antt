@@ -35,6 +35,19 @@ chosen ends wide hyphen more = if ends then 0 else if wide then 0 else if hyphen
 pub has_room : (narrow used w : ℕ) → w ≡ 1 → used + 1 ≤ narrow → nat_lt narrow (used + w) ≡ false
 has_room narrow used w h r = grind (arith, nat_tests)
 
+-- where a code has room no row ends before it
+pub no_row : (cuts : Cuts) (used w : ℕ) → nat_lt cuts.narrow (used + w) ≡ false
+    → (cuts.breaks && (nat_lt 0 used && nat_lt cuts.narrow (used + w))) ≡ false
+no_row cuts used w room =
+    ap (λ b. cuts.breaks && (nat_lt 0 used && b)) room ∙ ap (λ b. cuts.breaks && b) (and-false (nat_lt 0 used))
+    ∙ and-false cuts.breaks
+
+-- and no part of a word ends behind what is no hyphen
+pub no_part : (cuts : Cuts) (c before : ℕ) (cs : List ℕ) → (c == 45) ≡ false
+    → (cuts.hyphens && ((c == 45) && is_alphanumeric before && begins_word cs)) ≡ false
+no_part cuts c before cs h =
+    ap (λ b. cuts.hyphens && (b && is_alphanumeric before && begins_word cs)) h ∙ and-false cuts.hyphens
+
 -- those that have room are in the part
 pub solid-part : (stop : ℕ → Bool) → ((c : ℕ) → is_solid c ≡ true → stop c ≡ false) →
     (cuts : Cuts) (before used k j : ℕ) (cs : List ℕ) → j ≡ used + k → k ≤ solid_len cs → j ≤ cuts.narrow →
@@ -52,12 +65,8 @@ solid-part stop law cuts before used (suc k) j (c ∷ cs) e h r =
     let test = (c == 45) && is_alphanumeric before && begins_word cs in
     let room : nat_lt cuts.narrow (used + width c) ≡ false =
     has_room cuts.narrow used (width c) w (omega (arith, e, r)) in
-    let none : (cuts.breaks && wide) ≡ false =
-    ap (λ b. cuts.breaks && (nat_lt 0 used && b)) room ∙ ap (λ b. cuts.breaks && b) (and-false (nat_lt 0 used))
-    ∙ and-false cuts.breaks in
-    let whole : (cuts.hyphens && test) ≡ false =
-    ap (λ b. cuts.hyphens && (b && is_alphanumeric before && begins_word cs)) (solid-hyphen c p.0)
-    ∙ and-false cuts.hyphens in
+    let none : (cuts.breaks && wide) ≡ false = no_row cuts used (width c) room in
+    let whole : (cuts.hyphens && test) ≡ false = no_part cuts c before cs (solid-hyphen c p.0) in
     let next = part_len stop cuts (code_behind c k cs) j (drop k cs) in
     let i : more ≡ k + next = solid-part stop law cuts c (used + width c) k j cs (omega (arith, e, w)) p.1 r in
     ap (λ b. chosen b (cuts.breaks && wide) (cuts.hyphens && test) more) (law c p.0)

@@ -15,10 +15,12 @@
 //! | the part's letters: a word's, or what is cut from them | `first_part` (`ends.rt`) |
 //! | how many characters a row takes: parts, each with the spaces behind it | `row_len` (`ends.rt`) |
 //! | rows are printed with the signs that stand in them | `push_filled` (`lines.rt`) |
-//! | lines that aren't wrapped are printed whole | `push_whole` (`whole.rt`) |
+//! | lines of a text that aren't wrapped are printed whole, and not read | `push_whole` (`whole.rt`) |
+//! | of a line in which nothing is seen the indent is shorter | `is_passed` (`white.rt`) |
 //!
-//! `fill` wraps a text, `wrap` runs. Where a text stands in one row as it is, `push_fitting` (`fitting.rt`) appends it
-//! without any of these stages, for callers that try it first. `cutting` cuts line feeds at an end.
+//! `fill` wraps a text, `wrap_text` a text under runs, `wrap` runs. Where a text stands in one row as it is,
+//! `push_fitting` (`fitting.rt`) appends it without any of these stages, for callers that try it first. `cutting` cuts
+//! line feeds at an end.
 
 ghost use Rattle.std.specs.Prelude.{◌≡◌, ◌++◌, IfOk, OnErr, OnOk, chars, encode_utf8_all, string_bytes, true};
 ghost use Rattle.miette_runs.specs.rules.Sequences.{erase, spell, tokens};
@@ -31,6 +33,7 @@ mod ends;
 pub mod fitting;
 pub mod laws;
 mod lines;
+mod white;
 mod whole;
 
 use crate::wrap::breaks::Broken;
@@ -42,7 +45,7 @@ use miette_runs::runs::cells::push_all;
 use miette_runs::runs::columns::token_columns;
 pub use miette_runs::runs::cutting;
 use miette_runs::runs::output::Output;
-use miette_runs::runs::reading::{is_settled, read_text, reread};
+use miette_runs::runs::reading::{is_settled, print, read_text, reread};
 use miette_runs::runs::sink::Sink;
 use std::alloc::{AllocError, Global};
 
@@ -132,45 +135,55 @@ fn push_filled_under<S: Sink>(out: &mut S, plan: Plan<'_>, text: &Runs) -> Resul
     }
 }
 
-// Runs, wrapped, each sign as it is.
-fn push_wrapped<S: Sink>(out: &mut S, plan: Plan<'_>, text: &Runs) -> Result<(), AllocError>
+// A text, wrapped, each sign of the indents as it is.
+fn push_wrapped<S: Sink>(
+    alloc: Global,
+    out: &mut S,
+    plan: Plan<'_>,
+    text: &str,
+) -> Result<(), AllocError>
     ensures { OnOk result (S.written out.new ≡ S.written out.old
-        ++ spell (wrapped_tokens (runs_plan plan.entry) text.now)) }
+        ++ spell (wrapped_tokens (runs_plan plan.entry) (tokens (chars text.now)))) }
 {
-    if plan.wraps {
-        push_filled_under(out, plan, text)
-    } else {
-        push_whole(out, plan.first.parts(), plan.further.parts(), text.parts())
+    if !plan.wraps {
+        return push_whole(out, plan.first.parts(), plan.further.parts(), text);
     }
+    let read = read_text(alloc, text)?;
+    push_filled_under(out, plan, &read)
 }
 
-// Whether what the runs print is cut into the very same characters and signs.
-fn are_settled(plan: Plan<'_>, text: &Runs) -> bool
+// Whether what the indents print is cut into the very same characters and signs.
+fn are_settled(plan: Plan<'_>) -> bool
     ensures first { result ≡ true → tokens (spell plan.entry.first.now) ≡ plan.entry.first.now }
     ensures further { result ≡ true → tokens (spell plan.entry.further.now) ≡ plan.entry.further.now }
-    ensures text { result ≡ true → tokens (spell text.now) ≡ text.now }
 {
-    is_settled(plan.first.parts()) && is_settled(plan.further.parts()) && is_settled(text.parts())
+    is_settled(plan.first.parts()) && is_settled(plan.further.parts())
 }
 
-// What runs print, read anew, and wrapped.
-fn push_reread(
+/// Appends a text, wrapped.
+///
+/// # Errors
+/// `AllocError` where memory is refused, or a row has more columns than a `usize` counts. What `out` holds is then
+/// open.
+pub fn wrap_text(
     alloc: Global,
-    out: &mut Output,
     plan: Plan<'_>,
-    text: &Runs,
+    text: &str,
+    out: &mut Output,
 ) -> Result<(), AllocError>
-    ensures { OnOk result (out.new ≡ out.old ++ wrapped_text (printed_plan plan.entry) (spell text.now)) }
+    ensures { OnOk result (out.new ≡ out.old ++ wrapped_text (printed_plan plan.entry) (chars text.now)) }
 {
+    if are_settled(plan) {
+        return push_wrapped(alloc, out, plan, text);
+    }
     let first = reread(alloc, plan.first)?;
     let further = reread(alloc, plan.further)?;
-    let text = reread(alloc, text)?;
     let read = Plan {
         first: &first,
         further: &further,
         ..plan
     };
-    push_wrapped(out, read, &text)
+    push_wrapped(alloc, out, read, text)
 }
 
 /// Appends the runs, wrapped, as the text that they print is.
@@ -181,10 +194,11 @@ fn push_reread(
 pub fn wrap(alloc: Global, plan: Plan<'_>, text: &Runs, out: &mut Output) -> Result<(), AllocError>
     ensures { OnOk result (out.new ≡ out.old ++ wrapped_text (printed_plan plan.entry) (spell text.now)) }
 {
-    if are_settled(plan, text) {
-        return push_wrapped(out, plan, text);
+    if plan.wraps && are_settled(plan) && is_settled(text.parts()) {
+        return push_filled_under(out, plan, text);
     }
-    push_reread(alloc, out, plan, text)
+    let text = print(alloc, text)?;
+    wrap_text(alloc, plan, text.as_str(), out)
 }
 
 /// Whether words are cut behind hyphens.
@@ -203,7 +217,6 @@ fn wrapped_text(alloc: Global, options: &WrapOptions<'_>, text: &str) -> Result<
 {
     let first = read_text(alloc, options.first_indent)?;
     let further = read_text(alloc, options.further_indent)?;
-    let read = read_text(alloc, text)?;
     let hyphens = cuts_hyphens(options.splitter);
     let plan = Plan {
         wraps: options.wrap_lines,
@@ -215,7 +228,7 @@ fn wrapped_text(alloc: Global, options: &WrapOptions<'_>, text: &str) -> Result<
         further: &further,
     };
     let mut out = String::with_capacity(alloc, text.len())?;
-    push_wrapped(&mut out, plan, &read)?;
+    push_wrapped(alloc, &mut out, plan, text)?;
     Ok(out)
 }
 

@@ -5,3 +5,6 @@ pub mod TreeSizes
 pub mod Readings
 pub mod Written
 pub mod Leading
+pub mod WholeReads
+pub mod Refusals
+pub mod Escapes

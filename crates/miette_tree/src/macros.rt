@@ -1,7 +1,8 @@
 //! Diagnostics and reports from a format text.
 //!
 //! Each macro begins with `in alloc;`, as `format!` does. Before the format text stand keys, each with a
-//! value: `code`, `help` and `url` (a `&str`), `severity` (a `Severity`), `labels` (a `Vec<LabeledSpan>`).
+//! value: `code`, `help` and `url` (a `&str`), `severity` (a `Severity`), `labels` (a `Vec<LabeledSpan>`). `label` and
+//! `primary` give one label more, as a span and a `&str`: `primary = ((9, 4), "here")`.
 
 pub use miette_protocol::diagnostic::MietteDiagnostic;
 
@@ -47,6 +48,14 @@ macro_rules! diagnostic_with {
     ($alloc:expr, $diagnostic:ident, labels, $value:expr) => {
         Ok($diagnostic.with_labels($value))
     };
+    ($alloc:expr, $diagnostic:ident, label, $value:expr) => {{
+        let (span, text) = $value;
+        $diagnostic.and_label_at($alloc, span, text)
+    }};
+    ($alloc:expr, $diagnostic:ident, primary, $value:expr) => {{
+        let (span, text) = $value;
+        $diagnostic.and_primary_at($alloc, span, text)
+    }};
 }
 
 /// A report of such a diagnostic; where memory is refused, the report of an `AllocError`. Further keys are `snippets`

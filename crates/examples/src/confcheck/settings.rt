@@ -1,5 +1,6 @@
 //! What settings may say, and where.
 
+use miette::prelude::Piece;
 use std::alloc::{AllocError, Global};
 use strsim::levenshtein;
 use toml::{Table, Value};
@@ -60,13 +61,11 @@ pub fn key_in(text: &str, key: &str) -> Option<(usize, usize)> {
 
 /// The line that sets a key: its offset and its length, in bytes.
 pub fn line_of(text: &str, key: &str) -> Option<(usize, usize)> {
-    let mut start = 0usize;
-    for line in text.split_inclusive('\n') {
-        let found = line.split('=').next().unwrap_or("");
+    for line in Piece::lines(text) {
+        let found = line.text.split('=').next().unwrap_or("");
         if found.trim() == key {
-            return Some((start, line.trim_end().len()));
+            return Some((line.start, line.text.trim_end().len()));
         }
-        start = start.saturating_add(line.len());
     }
     None
 }

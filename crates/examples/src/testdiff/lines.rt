@@ -1,6 +1,6 @@
 //! Two texts, line by line.
 
-use miette::prelude::LabeledSpan;
+use miette::prelude::{LabeledSpan, Piece};
 use std::alloc::{AllocError, Global};
 
 /// A label on each line of a text that isn't the expected one, and one on its last byte for each line that is missing.
@@ -14,13 +14,10 @@ pub fn differences(
 ) -> Result<Vec<LabeledSpan>, AllocError> {
     let mut labels = Vec::new(alloc);
     let mut wanted = expected.lines();
-    let mut start = 0usize;
-    for line in actual.split_inclusive('\n') {
-        let found = line.strip_suffix('\n').unwrap_or(line);
-        if let Some(why) = told_of(alloc, wanted.next(), found)? {
-            labels.push(LabeledSpan::new(Some(why), start, found.len()))?;
+    for line in Piece::lines(actual) {
+        if let Some(why) = told_of(alloc, wanted.next(), line.text)? {
+            labels.push(LabeledSpan::new_with_span(Some(why), line))?;
         }
-        start = start.saturating_add(line.len());
     }
     for line in wanted {
         let why = format!(in alloc; "missing: {line}")?;

@@ -1,6 +1,6 @@
 -- How many reports there are of each severity, and how that is told.
-use Rattle.std.specs.Prelude.{ℕ, ◌+◌, ◌-◌, ◌^◌, min, List, [], ◌++◌, Option, None, Some, if◌then◌else◌, nat_eq, codes}
-use Rattle.std.specs.Prelude.{decimal}
+use Rattle.std.specs.Prelude.{ℕ, ◌+◌, ◌-◌, ◌^◌, min, List, [], ◌∷◌, ◌++◌, Option, None, Some, if◌then◌else◌, nat_eq}
+use Rattle.std.specs.Prelude.{codes, decimal}
 use Rattle.miette_protocol.specs.declared.protocol.Severity.{Severity}
 use Rattle.miette_protocol.specs.declared.protocol.Severity.TheVariants.{Advice, Warning, Error}
 use Rattle.miette.specs.declared.reporter.counts.Counts.{Counts}
@@ -18,6 +18,11 @@ with_one c None = record c { errors = one_more c.errors }
 with_one c (Some Error) = record c { errors = one_more c.errors }
 with_one c (Some Warning) = record c { warnings = one_more c.warnings }
 with_one c (Some Advice) = record c { advices = one_more c.advices }
+
+-- the counts behind reports of these severities
+abbrev pub with_all : Counts → List (Option Severity) → Counts
+with_all c [] = c
+with_all c (s ∷ rest) = with_all (with_one c s) rest
 
 -- what a word ends in, of so many
 abbrev pub plural : ℕ → List ℕ

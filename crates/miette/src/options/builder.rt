@@ -310,7 +310,7 @@ impl<H: Highlighter> MietteHandlerOpts<H> {
     }
 
     /// Whether a label at the end of a source that isn't empty is drawn in pictures, behind the text of the last line;
-    /// else it isn't.
+    /// else it isn't. So that this line is shown, no context lines count as one then.
     pub fn end_labels(mut self, drawn: bool) -> Self
         ensures { result ≡ record self { layout = record self.layout { end_labels = drawn } } }
     {
@@ -319,7 +319,8 @@ impl<H: Highlighter> MietteHandlerOpts<H> {
     }
 
     /// In pictures a label over more lines than these is folded: only the lines around its first and its last one are
-    /// shown, and a row of dots stands for those between them. At least 1 is the caller's condition.
+    /// shown, and a row of dots stands for those between them, where they are several. At least 1 is the caller's
+    /// condition.
     pub fn label_lines(mut self, lines: usize) -> Self
         requires { 1 ≤ lines }
         ensures { result ≡ record self { layout = record self.layout { label_lines = Some lines } } }
@@ -337,8 +338,8 @@ impl<H: Highlighter> MietteHandlerOpts<H> {
         self
     }
 
-    /// A line of more than so many columns is cut in pictures: it shows what stands near its labels, and dots in place
-    /// of the rest.
+    /// A line of more than so many columns is cut in pictures: it shows what stands around its labels, as much as fits
+    /// into so many columns, and dots in place of the rest. A limit below 8 counts as 8.
     pub fn line_columns(mut self, columns: usize) -> Self
         ensures { result ≡ record self { layout = record self.layout { line_columns = Some columns } } }
     {

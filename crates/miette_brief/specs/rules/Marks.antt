@@ -1,6 +1,6 @@
 -- The labels of a diagnostic over all of its sources, and the primary one among them.
 use Rattle.std.specs.Prelude.{ℕ, ◌+◌, List, [], ◌∷◌, ◌++◌, map, take, drop, position, Bool, ◌&&◌, Option, Some, None}
-use Rattle.std.specs.Prelude.{is_some}
+use Rattle.std.specs.Prelude.{is_some, true, false}
 use Rattle.miette_protocol.specs.views.Meaning.{Label}
 use Rattle.miette_protocol.specs.rules.Reading.{Source}
 use Rattle.miette_tree.specs.rules.Diagnosis.{Diagnosis, Section}
@@ -32,6 +32,11 @@ is_placed it = is_some it.source
 
 abbrev pub is_marked : Mark → Bool
 is_marked it = is_some it.source && it.label.primary
+
+-- one that is marked as primary, or any of them
+abbrev pub is_wanted : Bool → Mark → Bool
+is_wanted true it = is_marked it
+is_wanted false it = is_placed it
 
 abbrev pub else_at : Option ℕ → Option ℕ → Option ℕ
 else_at None other = other

@@ -1,21 +1,20 @@
 -- How stretches grow, and where columns and marks stand in the row of a line's stretches.
-use Rattle.std.specs.Prelude.{ℕ, ◌+◌, ◌-◌, List, [], ◌∷◌, ◌++◌, replicate, take, drop, Bool}
-use Rattle.std.specs.Prelude.{if◌then◌else◌, nat_lt}
-use Rattle.miette_page.specs.views.Tokens.{Token, styled_tokens}
+use Rattle.std.specs.Prelude.{ℕ, ◌+◌, ◌-◌, List, [], ◌∷◌, ◌++◌, take, drop, Bool, ◌||◌, if◌then◌else◌, nat_lt, nat_le}
+use Rattle.miette_page.specs.rules.Rows.{Run}
+use Rattle.miette_page.specs.views.Tokens.{Token, row_tokens, styled_tokens}
 use Rattle.miette_style.specs.rules.Styles.{plain}
 use Rattle.miette_cells.specs.rules.Cells.{Cell}
 use Rattle.miette_snippet_rules.specs.rules.PrintedCells.{text_bytes}
 use Rattle.miette_snippet_rules.specs.rules.CutLines.{agree}
 use Rattle.miette_cuts.specs.declared.stretch.Stretch.{Stretch as MadeStretch}
 use Rattle.miette_snippet_rules.specs.declared.marks.Mark.{Mark as MadeMark}
-use Rattle.miette_cuts.specs.views.Cuts.{is_kept}
 
 abbrev pub lone : Bool → Cell → MadeStretch
-lone near cell = record { near = near; cells = 1; columns = cell.until - cell.from; bytes = text_bytes cell.code }
+lone shown cell = record { shown = shown; cells = 1; columns = cell.until - cell.from; bytes = text_bytes cell.code }
 
--- so many cells of one column and one byte each, all near or none
+-- so many cells of one column and one byte each, all shown or none
 abbrev pub even : Bool → ℕ → MadeStretch
-even near many = record { near = near; cells = many; columns = many; bytes = many }
+even shown many = record { shown = shown; cells = many; columns = many; bytes = many }
 
 -- a cell that has one column, this one
 abbrev pub cell_at : ℕ → Cell
@@ -24,7 +23,7 @@ cell_at column = record { code = 32; start = 0; after = 1; from = column; until 
 -- a stretch with the one behind it
 abbrev pub grown_stretch : MadeStretch → MadeStretch → MadeStretch
 grown_stretch s next = record {
-  near = s.near;
+  shown = s.shown;
   cells = s.cells + next.cells;
   columns = s.columns + next.columns;
   bytes = s.bytes + next.bytes;
@@ -32,30 +31,46 @@ grown_stretch s next = record {
 
 abbrev pub onto_made : MadeStretch → List MadeStretch → List MadeStretch
 onto_made s [] = s ∷ []
-onto_made s (next ∷ later) = if agree s.near next.near then grown_stretch s next ∷ later else s ∷ next ∷ later
+onto_made s (next ∷ later) = if agree s.shown next.shown then grown_stretch s next ∷ later else s ∷ next ∷ later
 
-abbrev pub kept_columns : MadeStretch → ℕ
-kept_columns s = if is_kept s then s.columns else 3
+-- a stretch that is shown too where it has no more columns than so many dots
+abbrev pub kept_made : ℕ → MadeStretch → MadeStretch
+kept_made many s = record {
+  shown = s.shown || nat_le s.columns many;
+  cells = s.cells;
+  columns = s.columns;
+  bytes = s.bytes;
+}
+
+-- stretches of which the near and the short ones are shown; such that stand side by side are one
+abbrev pub made_with_short : ℕ → List MadeStretch → List MadeStretch
+made_with_short many [] = []
+made_with_short many (s ∷ later) = onto_made (kept_made many s) (made_with_short many later)
+
+-- the columns of a stretch in the row
+abbrev pub made_columns : ℕ → MadeStretch → ℕ
+made_columns many s = if s.shown then s.columns else many
 
 -- where a column of a line stands in its row
-abbrev pub made_column : List MadeStretch → ℕ → ℕ
-made_column [] column = column
-made_column (s ∷ later) column =
-    if nat_lt column s.columns then (if is_kept s then column else 0)
-    else kept_columns s + made_column later (column - s.columns)
+abbrev pub made_column : ℕ → List MadeStretch → ℕ → ℕ
+made_column many [] column = column
+made_column many (s ∷ later) column =
+    if nat_lt column s.columns then (if s.shown then column else 0)
+    else made_columns many s + made_column many later (column - s.columns)
 
-abbrev pub made_mark : List MadeStretch → MadeMark → MadeMark
-made_mark cut mark = record {
-  from = made_column cut mark.from;
-  until = made_column cut (mark.until - 1) + 1;
-  anchor = made_column cut mark.anchor;
+abbrev pub made_mark : ℕ → List MadeStretch → MadeMark → MadeMark
+made_mark many cut mark = record {
+  from = made_column many cut mark.from;
+  until = made_column many cut (mark.until - 1) + 1;
+  anchor = made_column many cut mark.anchor;
   label = mark.label;
 }
 
--- what is printed of a stretch of printable ASCII, and of all of them, by its bytes
-abbrev pub plain_run : MadeStretch → List ℕ → List Token
-plain_run s bytes = styled_tokens plain (if is_kept s then take s.cells bytes else replicate 3 46)
+-- what is printed of a stretch of printable ASCII, and of all of them, by its bytes, where this run stands for what is
+-- left out
+abbrev pub plain_run : Run → MadeStretch → List ℕ → List Token
+plain_run run s bytes = if s.shown then styled_tokens plain (take s.cells bytes) else row_tokens (run ∷ [])
 
-abbrev pub plain_told : List MadeStretch → List ℕ → List Token
-plain_told [] bytes = []
-plain_told (s ∷ later) bytes = plain_run s bytes ++ plain_told later (drop s.cells bytes)
+abbrev pub plain_told : Run → List MadeStretch → List ℕ → List Token
+plain_told run [] bytes = []
+plain_told run (s ∷ later) bytes = plain_run run s bytes ++ plain_told run later (drop s.cells bytes)

@@ -8,8 +8,8 @@ use Rattle.miette_snippet_rules.specs.rules.PrintedCells.{first_column}
 use Rattle.miette_snippet_rules.specs.rules.Settings.{SnippetSettings}
 use Rattle.miette_cuts.specs.declared.stretch.Stretch.{Stretch as MadeStretch}
 use Rattle.miette_cuts.specs.views.Cuts.{measure}
-use Rattle.miette_fix_rows.specs.rules.DiffRows.{ChangedLine}
-use Rattle.miette_fix_rows.specs.rules.DiffTexts.{cut_around, ends_at, has_bytes, line_cells, line_ends, part_in}
+use Rattle.miette_fix_rows.specs.rules.DiffRows.{ChangedLine, changed_cut}
+use Rattle.miette_fix_rows.specs.rules.DiffTexts.{ends_at, has_bytes, part_in}
 
 -- the ends of what a span has in a line of so many bytes from an offset on, whose text is given
 abbrev pub span_ends : Text → ℕ → ℕ → Span → List ℕ
@@ -23,5 +23,4 @@ all_ends text start bytes (span ∷ spans) = span_ends text start bytes span ++ 
 
 -- the stretches of a changed line, by their counts
 abbrev pub line_cut : SnippetSettings → ChangedLine → Option (List MadeStretch)
-line_cut s line = option_map (map measure)
-    (cut_around s.layout.line_columns (line_ends s line.start line.text line.spans) (line_cells s line.start line.text))
+line_cut s line = option_map (map measure) (changed_cut s line)

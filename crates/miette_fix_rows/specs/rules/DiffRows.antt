@@ -5,7 +5,7 @@ use Rattle.miette_style.specs.declared.style.Style.{Style}
 use Rattle.miette_source_lines.specs.rules.Lines.{line_of, column_of}
 use Rattle.miette_protocol.specs.rules.Reading.{Span, Source}
 use Rattle.miette_page.specs.rules.Rows.{Row, styled_run, plain_run}
-use Rattle.miette_snippet_rules.specs.rules.CutLines.{shown_runs, shown_marks}
+use Rattle.miette_snippet_rules.specs.rules.CutLines.{Stretch, cut_line, dots, dots_in, shown_runs, shown_marks}
 use Rattle.miette_snippet_rules.specs.rules.Drawing.{blank}
 use Rattle.miette_snippet_rules.specs.rules.Frames.{Place, number_start, other_start, top_row_of, bottom_row}
 use Rattle.miette_snippet_rules.specs.rules.Settings.{SnippetSettings}
@@ -15,8 +15,8 @@ use Rattle.miette_fixes.specs.rules.Edits.{Replacement}
 use Rattle.miette_fixes.specs.rules.Applying.{by_offset, refusal}
 use Rattle.miette_fix_rows.specs.rules.Hunks.{diff}
 use Rattle.miette_fix_rows.specs.rules.DiffFrames.{DiffFrame, DiffLine, Standing, kept, removed, added, frames_of}
-use Rattle.miette_fix_rows.specs.rules.DiffTexts.{cut_around, deleted_spans, edit_marks, inserted_spans, line_cells}
-use Rattle.miette_fix_rows.specs.rules.DiffTexts.{line_ends, look_alike, pieces, sign_runs}
+use Rattle.miette_fix_rows.specs.rules.DiffTexts.{deleted_spans, edit_marks, inserted_spans, line_cells, line_ends}
+use Rattle.miette_fix_rows.specs.rules.DiffTexts.{look_alike, pieces, sign_runs}
 
 -- What the rows of a fix are drawn with: the width of line numbers, and what is deleted and inserted.
 pub record DiffContext : Type 0 where
@@ -41,12 +41,16 @@ sign_start s w line =
     ∷ styled_run s.width s.theme.styles.linum (replicate (w - length (decimal line.number)) 32 ++ decimal line.number)
     ∷ blank s 1 ∷ styled_run s.width line.style (line.sign ∷ []) ∷ blank s 1 ∷ []
 
+-- how a changed line is cut, if it is, around what edits delete (insert) there
+abbrev pub changed_cut : SnippetSettings → ChangedLine → Option (List Stretch)
+changed_cut s line =
+    cut_line (dots_in s.theme.characters) s.layout.line_columns (line_ends s line.start line.text line.spans)
+    (line_cells s line.start line.text)
+
 abbrev pub text_row : SnippetSettings → ℕ → ChangedLine → Row
 text_row s w line = sign_start s w line
-    ++ shown_runs
-    (cut_around s.layout.line_columns (line_ends s line.start line.text line.spans) (line_cells s line.start line.text))
-    (pieces line.style line.spans (line_cells s line.start line.text))
-    (line_cells s line.start line.text)
+    ++ shown_runs (dots s.theme) (changed_cut s line)
+    (pieces line.style line.spans (line_cells s line.start line.text)) (line_cells s line.start line.text)
 
 -- the row of marks below a line that looks like the one that goes with it; none where it has no mark
 abbrev pub row_if_some : Row → List Row
@@ -59,8 +63,7 @@ before_some start (row ∷ rows) = (start ++ row) ∷ before_some start rows
 
 abbrev pub marks_row : SnippetSettings → ℕ → ChangedLine → List Row
 marks_row s w line = before_some (other_start s w) (row_if_some (sign_runs s line.sign 0
-    (shown_marks
-    (cut_around s.layout.line_columns (line_ends s line.start line.text line.spans) (line_cells s line.start line.text))
+    (shown_marks (dots_in s.theme.characters) (changed_cut s line)
     (edit_marks s line.start line.text line.style line.spans))))
 
 abbrev pub changed_rows : SnippetSettings → ℕ → ChangedLine → Option (List ℕ) → List Row
@@ -69,7 +72,8 @@ changed_rows s w line other =
 
 abbrev pub kept_row : SnippetSettings → ℕ → Standing → List ℕ → Row
 kept_row s w at text = number_start s w (at.old_line + 1)
-    ++ shown_runs (cut_around s.layout.line_columns [] (line_cells s at.old_offset text)) []
+    ++ shown_runs (dots s.theme)
+    (cut_line (dots_in s.theme.characters) s.layout.line_columns [] (line_cells s at.old_offset text)) []
     (line_cells s at.old_offset text)
 
 abbrev pub removed_line : DiffContext → Standing → List ℕ → ChangedLine

@@ -13,7 +13,6 @@ use Rattle.miette_labels.specs.rules.Answers.{Highlight}
 use Rattle.miette_labels.specs.rules.Labels.{DrawnLabel}
 use Rattle.miette_page.specs.rules.Rows.{Row, glyph_of}
 use Rattle.miette_cells.specs.rules.Cells.{Cell, characters, cells_from}
-use Rattle.miette_snippet_rules.specs.rules.CutLines.{Stretch, is_near, stretches}
 use Rattle.miette_snippet_rules.specs.rules.Drawing.{blank}
 use Rattle.miette_snippet_rules.specs.rules.Marks.{Mark, Text, marks}
 use Rattle.miette_snippet_rules.specs.rules.PrintedCells.{cells_width, first_column, text_bytes}
@@ -168,9 +167,3 @@ ends_of s start line (span ∷ spans) =
 
 abbrev pub line_ends : SnippetSettings → ℕ → List ℕ → List Span → List ℕ
 line_ends s start line spans = ends_of s start line (filter (is_on start line) spans)
-
--- how a line is cut around these columns, where it is wider than the limit
-abbrev pub cut_around : Option ℕ → List ℕ → List Cell → Option (List Stretch)
-cut_around None ends cells = None
-cut_around (Some limit) ends cells =
-    if nat_lt limit (cells_width 0 cells) then Some (stretches (is_near limit ends) false cells) else None

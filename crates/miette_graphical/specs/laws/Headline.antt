@@ -1,7 +1,7 @@
 -- What holds of the snippets of each printed diagnostic, over its effective source by its labels, and over each further
 -- source by the labels there.
 use Rattle.std.specs.Prelude.{◌≡◌, ◌≢◌, ◌<◌, ◌+◌, ℕ, Bool, true, false, List, [], ◌∷◌, length, Option, Some, None}
-use Rattle.std.specs.Prelude.{IfSome, ◌≤◌}
+use Rattle.std.specs.Prelude.{IfSome, ◌≤◌, ◌-◌, ◌||◌, max}
 use Rattle.std.specs.List.{AllByRecursion, concat}
 use Rattle.miette_source_lines.specs.rules.Lines.{Line, lines_of}
 use Rattle.miette_protocol.specs.views.Meaning.{Label}
@@ -15,13 +15,14 @@ use Rattle.miette_labels.specs.rules.Groups as grouping
 use Rattle.miette_labels.specs.rules.Groups.{AreAccepted, in_order, lines_of_groups}
 use Rattle.miette_labels.specs.rules.Labels.{DrawnLabel, multi_line, one_line, some_shows_end}
 use Rattle.miette_snippet_rules.specs.rules.SnippetLayout as snippet_layout
-use Rattle.miette_snippet_rules.specs.rules.SnippetLayout.{body_rows, cells_of, line_cut, line_marks, settings_around}
+use Rattle.miette_snippet_rules.specs.rules.SnippetLayout.{body_rows, cells_of, cut_ends, line_cut, line_marks}
+use Rattle.miette_snippet_rules.specs.rules.SnippetLayout.{settings_around}
 use Rattle.miette_page.specs.rules.Rows.{Row, columns_of, glyphs_of}
 use Rattle.miette_cells.specs.rules.Cells.{Cell}
 use Rattle.miette_cells.specs.rules.Widths.{width_of}
-use Rattle.miette_snippet_rules.specs.rules.CutLines.{Stretch, ends, is_near}
-use Rattle.miette_row_laws.specs.laws.Cuts.{AreAsWide, AreMoved, AreStretches, Fits, by_nearness, by_stretch}
-use Rattle.miette_row_laws.specs.laws.Cuts.{GroupsFit, most_columns, pieces_shown}
+use Rattle.miette_snippet_rules.specs.rules.CutLines.{Stretch, cut_at, dots, dots_in, limit_of, text_columns}
+use Rattle.miette_row_laws.specs.laws.Cuts.{AreAsWide, AreMoved, Fits, GroupsFit, IsCutByReach, most_columns}
+use Rattle.miette_row_laws.specs.laws.Cuts.{pieces_shown}
 use Rattle.miette_snippet_rules.specs.rules.Marks.{Mark, marks_at, AreApart}
 use Rattle.miette_snippet_rules.specs.rules.PrintedCells.{cells_width}
 use Rattle.miette_snippet_rules.specs.rules.Numbers.{ranges, IsRange, AreParted}
@@ -29,7 +30,7 @@ use Rattle.miette_row_laws.specs.laws.Ends.{AreBehindShown, EndsStandBehind, dra
 use Rattle.miette_range_laws.specs.laws.Folding.{EndsPass, FitsIn, IsInside}
 use Rattle.miette_row_laws.specs.laws.Pictures.{BodyShows, marks_of_line, text_of_line}
 use Rattle.miette_snippet_rules.specs.rules.ShownLines.{framed_ranges, line_at}
-use Rattle.miette_snippet_rules.specs.rules.Snippets.{shown_numbers, snippets, is_kept}
+use Rattle.miette_snippet_rules.specs.rules.Snippets.{shown_numbers, snippets, is_kept, is_left_out}
 use Rattle.miette_graphical.specs.rules.Answers.{pieces_listed}
 use Rattle.miette_graphical.specs.rules.Sources.{LabelledSource}
 use Rattle.miette_graphical.specs.rules.Settings.{Settings}
@@ -116,14 +117,18 @@ MarksAreApart s p = IfSome p.source (λ source. (k : ℕ) →
 abbrev pub is_kept_at : ℕ → Settings → Source → List Label → ℕ → Bool
 is_kept_at limit s source labels k = is_kept (Some limit) s.layout.context_lines source.bytes labels k
 
+-- whether it is left out
+abbrev pub is_left_out_at : ℕ → Settings → Source → List Label → ℕ → Bool
+is_left_out_at limit s source labels k = is_left_out (Some limit) s.layout.context_lines source.bytes labels k
+
 -- the labels on line k and on others beside it
 abbrev pub labels_through : Settings → Source → List Label → ℕ → List DrawnLabel
 labels_through s source labels k = multi_line (line_at (lines_of source.bytes) k) (drawn_labels s source labels)
 
 -- A frame begins and ends with a line that is kept. No label begins or ends on a line that is left out, and the same
 -- labels lie on two such lines that follow each other; so the row of a break has a bar for just the labels that run
--- through all lines that it stands for. Where no label has more lines than labels are folded to, the rows are those
--- without folding.
+-- through all lines that it stands for. No line is left out alone. Where no label has more lines than labels are folded
+-- to, the rows are those without folding.
 pub record FoldsTo (limit : ℕ) (s : Settings) (source : Source) (labels : List Label) : Type 0 where
   pub ends : AllByRecursion (EndsPass (is_kept_at limit s source labels)) (ranges (shown_lines s source labels))
   pub inside : (k : ℕ) → k < length (lines_of source.bytes) → is_kept_at limit s source labels k ≡ false →
@@ -131,6 +136,8 @@ pub record FoldsTo (limit : ℕ) (s : Settings) (source : Source) (labels : List
   pub same : (k : ℕ) → k + 1 < length (lines_of source.bytes) → is_kept_at limit s source labels k ≡ false →
       is_kept_at limit s source labels (k + 1) ≡ false →
       labels_through s source labels k ≡ labels_through s source labels (k + 1)
+  pub pairs : (k : ℕ) → is_left_out_at limit s source labels k ≡ true →
+      (is_left_out_at limit s source labels (k - 1) || is_left_out_at limit s source labels (k + 1)) ≡ true
   pub short : AllByRecursion (FitsIn limit source.bytes) labels → (pieces : List (List (List Highlight))) →
       source_rows s (Some source) labels (pieces_listed pieces)
       ≡ source_rows (record s { layout = record s.layout { label_lines = None } }) (Some source) labels
@@ -156,32 +163,49 @@ abbrev pub whole_marks : Settings → Source → List Label → ℕ → List Mar
 whole_marks s source labels k =
     line_marks (line_of source k) (cells_under s source k) (labels_under s source labels k)
 
+-- the ends of line k: of these marks, and of the labels of several lines that begin or end on it
+abbrev pub ends_under : Settings → Source → List Label → ℕ → List ℕ
+ends_under s source labels k =
+    cut_ends (line_of source k) (cells_under s source k) (labels_under s source labels k)
+    (labels_through s source labels k)
+
 -- the stretches into which line k is cut, if it is
 abbrev pub cut_under : Settings → Source → List Label → ℕ → Option (List Stretch)
 cut_under s source labels k =
     line_cut (snippet_settings s) (line_of source k) (cells_under s source k) (labels_under s source labels k)
+    (labels_through s source labels k)
 
--- Line k is cut into stretches that have its cells, each once and in order, and are near where the cells are. Of each
--- stretch that is near or at most three columns wide the cells are printed, and dots in place of each other one. At the
--- columns of a mark stands what stands at them in the whole line.
+-- the columns of the text of line k in its row, were just its ends shown
+abbrev pub least_columns : Settings → Source → List Label → ℕ → ℕ
+least_columns s source labels k =
+    text_columns (dots_in s.theme.characters)
+    (cut_at (dots_in s.theme.characters) 0 (ends_under s source labels k) (cells_under s source k))
+
+-- Line k is cut by its reach: the largest number of columns around its ends by which the row's text is no wider than the
+-- limit; where it has no ends its first cells are shown, as many as have room. Of each stretch that is shown the cells
+-- are printed, and the theme's dots in place of each other one. At the ends of a mark, and at its other columns that are
+-- shown, stands what stands at them in the whole line.
 pub record IsCutExactly (s : Settings) (source : Source) (labels : List Label) (k limit : ℕ) (cut : List Stretch) :
     Type 0 where
-  pub cells : by_stretch cut ≡ by_nearness (is_near limit (ends (whole_marks s source labels k))) false
-      (cells_under s source k)
-  pub parted : AreStretches cut
-  pub printed : (pieces : List Highlight) → glyphs_of (text_shown s source labels k pieces) ≡ pieces_shown cut
-  pub marks : AreMoved (cells_under s source k) cut (whole_marks s source labels k) (marks_under s source labels k)
+  pub reach : IsCutByReach (limit_of limit) (dots_in s.theme.characters) (ends_under s source labels k)
+      (cells_under s source k) cut
+  pub printed : (pieces : List Highlight) →
+      glyphs_of (text_shown s source labels k pieces) ≡ pieces_shown (dots s.theme) cut
+  pub marks : AreMoved (dots s.theme) (cells_under s source k) cut (whole_marks s source labels k)
+      (marks_under s source labels k)
 
--- Line k is cut where it has more columns than the limit, and just there, exactly; and has no more columns then than
--- limit, labels and widest cell ask for.
+-- Line k is cut where it has more columns than the limit, and just there, exactly; a limit below 8 counts as 8. Its text
+-- has no more columns in its row than the limit, or where its ends alone need more, than those: no more than the widest
+-- cell and dots for each end ask for.
 pub record IsCutAt (s : Settings) (source : Source) (labels : List Label) (k limit : ℕ) : Type 0 where
-  pub wide : limit < cells_width 0 (cells_under s source k) → cut_under s source labels k ≢ None
-  pub fits : cells_width 0 (cells_under s source k) ≤ limit → cut_under s source labels k ≡ None
+  pub wide : limit_of limit < cells_width 0 (cells_under s source k) → cut_under s source labels k ≢ None
+  pub fits : cells_width 0 (cells_under s source k) ≤ limit_of limit → cut_under s source labels k ≡ None
   pub exact : (cut : List Stretch) → cut_under s source labels k ≡ Some cut →
       IsCutExactly s source labels k limit cut
-  pub narrow : (pieces : List Highlight) (widest : ℕ) → AreAsWide widest (cells_under s source k) →
-      columns_of (glyphs_of (text_shown s source labels k pieces))
-      ≤ most_columns limit (length (labels_under s source labels k)) widest
+  pub narrow : (pieces : List Highlight) → columns_of (glyphs_of (text_shown s source labels k pieces))
+      ≤ max (limit_of limit) (least_columns s source labels k)
+  pub ends : (widest : ℕ) → AreAsWide widest (cells_under s source k) → least_columns s source labels k
+      ≤ most_columns (dots_in s.theme.characters) widest (length (ends_under s source labels k))
 
 -- each line of a diagnostic's source, where there is a limit
 abbrev pub CutsAreExact : Settings → LabelledSource → Type 0

@@ -136,8 +136,8 @@ impl<H: Highlighter> GraphicalReportHandler<H> {
         // where labels at the end of its source are drawn, just these stand behind the text of the last line, and
         // their marks in the column after what is shown of it; where there is none, nothing changes,
         ensures ends { OnOk result (EachPrinted EndsAreDrawn self.old (tree_of D.meaning S.source report.now)) }
-        // and where labels are folded, no label begins or ends on a line that is left out, the bars of a break are
-        // those of the labels that run through it, and short labels change nothing
+        // and where labels are folded, no label begins or ends on a line that is left out, none is left out alone, the
+        // bars of a break are those of the labels that run through it, and short labels change nothing
         ensures folds { OnOk result (EachPrinted LabelsAreFolded self.old (tree_of D.meaning S.source report.now)) }
         // of each of its fixes that can be applied, over a source that always reads: its rows are the frames of what it
         // changes, in order, truly numbered, with nothing left out but unchanged lines; the removed and unchanged lines

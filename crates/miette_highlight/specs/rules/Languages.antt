@@ -1,24 +1,29 @@
 -- The rules of languages, those that count first before others.
-use Rattle.std.specs.Prelude.{ℕ, Bool, true, false, Option, Some, None, List, [], ◌∷◌, map, codes, string_bytes}
+use Rattle.std.specs.Prelude.{ℕ, Bool, true, false, Option, Some, None, List, [], ◌∷◌, ◌++◌, map, codes, string_bytes}
 use Rattle.miette_highlight.specs.declared.rule.Pattern.{Pattern}
-use Rattle.miette_highlight.specs.declared.rule.Pattern.TheVariants.{Words, From, Between}
+use Rattle.miette_highlight.specs.declared.rule.Pattern.TheVariants.{Words, From, Between, Character, Prefixed}
 use Rattle.miette_highlight.specs.declared.rule.Rule.{Rule}
 use Rattle.miette_style.specs.declared.style.Color.TheVariants.{Green, Yellow, Cyan, Magenta}
 use Rattle.miette_style.specs.declared.style.Style.{Style}
 use Rattle.miette_style.specs.rules.Styles.{coloured_style, plain}
 
--- a rule by its texts: words; a word that begins with a byte from the first up to the last; or what lies between
--- delimiters, with the byte that escapes one and whether it goes on over lines
+-- a rule by its texts: words; a word that begins with a byte from the first up to the last; what lies between
+-- delimiters, with the byte that escapes one and whether it goes on over lines; a character between them, with that
+-- byte; or a word behind a byte
 pub data RuleText : Type 0 where
   of_words : List (List ℕ) → Style → RuleText
   beginning : ℕ → ℕ → Style → RuleText
   between : List ℕ → List ℕ → Option ℕ → Bool → Style → RuleText
+  character : List ℕ → List ℕ → Option ℕ → Style → RuleText
+  prefixed : ℕ → Style → RuleText
 
 abbrev pub pattern_text : Pattern → Style → RuleText
 pattern_text (Words words) style = of_words (map (λ w. string_bytes w) words.items) style
 pattern_text (From first last) style = beginning first last style
 pattern_text (Between d) style =
     between (string_bytes d.opens) (string_bytes d.closes) d.escape d.over_lines style
+pattern_text (Character d) style = character (string_bytes d.opens) (string_bytes d.closes) d.escape style
+pattern_text (Prefixed byte) style = prefixed byte style
 
 abbrev pub rule_text : Rule → RuleText
 rule_text rule = pattern_text rule.pattern rule.style
@@ -64,17 +69,30 @@ rust_words =
     ∷ codes "struct" ∷ codes "super" ∷ codes "trait" ∷ codes "type" ∷ codes "unsafe" ∷ codes "use" ∷ codes "where"
     ∷ codes "while" ∷ codes "yield" ∷ []
 
--- the characters `'"'` and `'\"'` are texts too, so that their quotation mark begins none
+-- texts that go on over lines, and in which nothing is escaped
+abbrev pub raw_text : List ℕ → List ℕ → RuleText
+raw_text opens closes = text_between opens closes None true
+
+-- they have as many hashes behind as in front, at most three
+abbrev pub rust_raw_texts : List RuleText
+rust_raw_texts =
+    raw_text (codes "r\"") (codes "\"") ∷ raw_text (codes "r#\"") (codes "\"#")
+    ∷ raw_text (codes "r##\"") (codes "\"##") ∷ raw_text (codes "r###\"") (codes "\"###")
+    ∷ raw_text (codes "br\"") (codes "\"") ∷ raw_text (codes "br#\"") (codes "\"#")
+    ∷ raw_text (codes "br##\"") (codes "\"##") ∷ raw_text (codes "br###\"") (codes "\"###")
+    ∷ raw_text (codes "cr\"") (codes "\"") ∷ raw_text (codes "cr#\"") (codes "\"#")
+    ∷ raw_text (codes "cr##\"") (codes "\"##") ∷ raw_text (codes "cr###\"") (codes "\"###") ∷ []
+
+-- a character in quotes, green; so an apostrophe before a word that isn't one begins a lifetime, which is as a word of
+-- the language
 abbrev pub rust_rules : List RuleText
 rust_rules =
     comment_between (codes "//") (10 ∷ []) false
     ∷ comment_between (codes "/*") (codes "*/") true
-    ∷ text_between (codes "'\"'") [] None false
-    ∷ text_between (codes "'\\\"'") [] None false
-    ∷ text_between (codes "r#\"") (codes "\"#") None true
-    ∷ text_between (codes "r\"") (codes "\"") None true
+    ∷ character (codes "'") (codes "'") (Some 92) (coloured_style Green)
+    ∷ character (codes "b'") (codes "'") (Some 92) (coloured_style Green)
     ∷ text_between (codes "\"") (codes "\"") (Some 92) true
     ∷ text_between (codes "b\"") (codes "\"") (Some 92) true
     ∷ text_between (codes "c\"") (codes "\"") (Some 92) true
-    ∷ of_words rust_words (coloured_style Magenta)
+    ∷ rust_raw_texts ++ prefixed 39 (coloured_style Magenta) ∷ of_words rust_words (coloured_style Magenta)
     ∷ values (codes "true" ∷ codes "false" ∷ [])

@@ -1,13 +1,14 @@
 -- What a pattern finds at the start of a text, in bytes.
-use Rattle.std.specs.Prelude.{◌≡◌, ℕ, ◌+◌, Bool, true, false, ◌&&◌, ◌||◌, not, ◌==◌, nat_le, nat_eq, if◌then◌else◌}
+use Rattle.std.specs.Prelude.{◌≡◌, ℕ, ◌+◌, ◌-◌, Bool, true, false, ◌&&◌, ◌||◌, not, ◌==◌, nat_le, nat_lt, nat_eq}
 use Rattle.std.specs.Prelude.{Option, Some, None, List, [], ◌∷◌, length, take, drop, map, string_bytes, String}
+use Rattle.std.specs.Prelude.{if◌then◌else◌}
 use Rattle.std.specs.Char.{is_ascii_alphanumeric}
 use Rattle.std.specs.List.{starts_with}
 use Rattle.std.specs.Str.{bytes_eq}
 use Rattle.std.specs.declared.alloc.Global.{Global}
 use Rattle.miette_highlight.specs.declared.rule.Delimiters.{Delimiters}
 use Rattle.miette_highlight.specs.declared.rule.Pattern.{Pattern}
-use Rattle.miette_highlight.specs.declared.rule.Pattern.TheVariants.{Words, From, Between}
+use Rattle.miette_highlight.specs.declared.rule.Pattern.TheVariants.{Words, From, Between, Character, Prefixed}
 
 -- a byte of a letter or a digit of ASCII, of `_`, or of a character beyond ASCII
 abbrev pub is_word_byte : ℕ → Bool
@@ -49,6 +50,35 @@ closed_at None line_end over_lines = (line_end, over_lines)
 abbrev pub inside : Delimiters → ℕ → List ℕ → ℕ × Bool
 inside delimiters at text = closed_at (close_end delimiters false at text) (at + length text) delimiters.over_lines
 
+-- a byte that goes on with the character that began before it
+abbrev pub is_continuation : ℕ → Bool
+is_continuation b = nat_le 128 b && nat_lt b 192
+
+abbrev pub are_continuations : List ℕ → Bool
+are_continuations [] = true
+are_continuations (b ∷ bs) = if is_continuation b then are_continuations bs else false
+
+-- whether some bytes are one character, or begin with an escape
+abbrev pub is_character : Option ℕ → List ℕ → Bool
+is_character escape [] = false
+is_character escape (b ∷ bs) = escapes_next escape b || are_continuations bs
+
+-- a text between delimiters, beginning at a place, up to the end that was found, where it is a character
+abbrev pub closed_character : Delimiters → ℕ → List ℕ → Option ℕ → Option (ℕ × Bool)
+closed_character delimiters at text None = None
+closed_character delimiters at text (Some end) =
+    if is_character delimiters.escape (take (end - at - length (string_bytes delimiters.closes)) text)
+    then Some (end, false) else None
+
+abbrev pub character_end : Delimiters → ℕ → List ℕ → Option (ℕ × Bool)
+character_end delimiters at text = closed_character delimiters at text (close_end delimiters false at text)
+
+-- a byte and the word behind it, where a text begins with it and a word follows
+abbrev pub prefixed_word : ℕ → List ℕ → Option (ℕ × Bool)
+prefixed_word byte [] = None
+prefixed_word byte (b ∷ bs) =
+    if b == byte && nat_lt 0 (word_end 0 bs) then Some (word_end 0 bs + 1, false) else None
+
 -- how many bytes a pattern finds at the start of a text, and whether what it finds stays open
 abbrev pub match_of : Pattern → List ℕ → Option (ℕ × Bool)
 match_of (Words words) text =
@@ -59,12 +89,20 @@ match_of (Between delimiters) text =
     then Some (inside delimiters (length (string_bytes delimiters.opens))
     (drop (length (string_bytes delimiters.opens)) text))
     else None
+match_of (Character delimiters) text =
+    if starts_with nat_eq text (string_bytes delimiters.opens)
+    then character_end delimiters (length (string_bytes delimiters.opens))
+    (drop (length (string_bytes delimiters.opens)) text)
+    else None
+match_of (Prefixed byte) text = prefixed_word byte text
 
 -- the pattern is that of these words
 abbrev pub IsWords : List (List ℕ) → Pattern → Type 0
 IsWords texts (Words words) = map (λ w. string_bytes w) words.items ≡ texts
 IsWords texts (From first last) = ⊥
 IsWords texts (Between delimiters) = ⊥
+IsWords texts (Character delimiters) = ⊥
+IsWords texts (Prefixed byte) = ⊥
 
 -- the delimiters, their escape, and whether what lies between them goes on over lines
 abbrev pub AreDelimiters : List ℕ → List ℕ → Option ℕ → Bool → Delimiters → Type 0

@@ -8,7 +8,7 @@ use Rattle.miette_style.specs.rules.Styles.{plain}
 use Rattle.miette_style.specs.declared.style.Style.{Style}
 use Rattle.miette_highlight.specs.rules.Patterns.{inside, match_of, word_end}
 use Rattle.miette_highlight.specs.declared.rule.Pattern.{Pattern}
-use Rattle.miette_highlight.specs.declared.rule.Pattern.TheVariants.{Words, From, Between}
+use Rattle.miette_highlight.specs.declared.rule.Pattern.TheVariants.{Words, From, Between, Character, Prefixed}
 use Rattle.miette_highlight.specs.declared.rule.Rule.{Rule}
 use Rattle.miette_highlight.specs.declared.tokens.Token.{Token}
 
@@ -32,6 +32,8 @@ abbrev pub running_in : ℕ → Style → Pattern → List ℕ → Option Token
 running_in at style (Words words) text = None
 running_in at style (From first last) text = None
 running_in at style (Between delimiters) text = Some (token_of at style (inside delimiters 0 text))
+running_in at style (Character delimiters) text = None
+running_in at style (Prefixed byte) text = None
 
 abbrev pub running_rule : ℕ → Option Rule → List ℕ → Option Token
 running_rule at None text = None

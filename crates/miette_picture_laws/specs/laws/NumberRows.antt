@@ -31,7 +31,7 @@ numbered number bar text = 32 ∷ (number ++ (32 ∷ (bar ++ (32 ∷ text))))
 pub record IsPlainLine (c : SnippetContext) (line : Line) : Type 0 where
   pub numbers : c.settings.theme.styles.linum ≡ plain
   pub alone : multi_line line c.labels ≡ []
-  pub whole : line_cut c.settings line (c.cells line) (one_line line c.labels) ≡ None
+  pub whole : line_cut c.settings line (c.cells line) (one_line line c.labels) (multi_line line c.labels) ≡ None
 
 -- Without a highlighter's pieces the first of its rows is its number and its text, after a gutter's spaces, if the
 -- snippet has one.

@@ -1,6 +1,7 @@
 -- What a `MietteDiagnostic` means, and what its builders make of it.
-use Rattle.std.specs.Prelude.{ℕ, List, [], ◌++◌, Option, Some, None, string_bytes, unwrap_or}
+use Rattle.std.specs.Prelude.{ℕ, Bool, List, [], ◌∷◌, ◌++◌, Option, Some, None, string_bytes, unwrap_or}
 use Rattle.std.specs.Option.{option_map}
+use Rattle.miette_protocol.specs.rules.Reading.{Span}
 use Rattle.miette_protocol.specs.views.Meaning.{Meaning, Label}
 use Rattle.miette_protocol.specs.declared.diagnostic.MietteDiagnostic.{MietteDiagnostic}
 
@@ -22,3 +23,9 @@ message_alone m = record { message = m; code = None; severity = None; help = Non
 -- labels after those that are there, if any are
 abbrev pub appended_labels : Option (List Label) → List Label → Option (List Label)
 appended_labels labels more = Some (unwrap_or labels [] ++ more)
+
+-- with a label on a span behind those that are there
+abbrev pub with_label_at : Meaning → Span → List ℕ → Bool → Meaning
+with_label_at m span text primary =
+    let label : Label = record { text = Some text; span = span; primary = primary; context = None } in
+    record m { labels = appended_labels m.labels (label ∷ []) }

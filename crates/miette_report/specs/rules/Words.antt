@@ -49,25 +49,29 @@ pub record AreLintWords (words : List (List ℕ)) (form : LintForm) (name : List
 abbrev pub IsNoLintCall : List (List ℕ) → Type 0
 IsNoLintCall words = (form : LintForm) (name : List ℕ) (width : ℕ) → ¬ (AreLintWords words form name width)
 
--- three words: `--fix`, a name and a number
-pub record AreFixWords (words : List (List ℕ)) (name : List ℕ) (width : ℕ) : Type 0 where
+-- three words: this one, a name and a number
+pub record AreNamedWords (first : List ℕ) (words : List (List ℕ)) (name : List ℕ) (width : ℕ) : Type 0 where
   pub width_word : List ℕ
-  pub are : words ≡ codes "--fix" ∷ name ∷ width_word ∷ []
+  pub are : words ≡ first ∷ name ∷ width_word ∷ []
   pub width_is : IsReadAs width_word (Some width)
 
--- no reading of the words is one of `lint --fix`
+-- no reading of the words is one of these
+abbrev pub IsNoNamedCall : List ℕ → List (List ℕ) → Type 0
+IsNoNamedCall first words = (name : List ℕ) (width : ℕ) → ¬ (AreNamedWords first words name width)
+
+-- those of `lint --fix`
+abbrev pub AreFixWords : List (List ℕ) → List ℕ → ℕ → Type 0
+AreFixWords words name width = AreNamedWords (codes "--fix") words name width
+
 abbrev pub IsNoFixCall : List (List ℕ) → Type 0
-IsNoFixCall words = (name : List ℕ) (width : ℕ) → ¬ (AreFixWords words name width)
+IsNoFixCall words = IsNoNamedCall (codes "--fix") words
 
--- three words: `--diff`, a name and a number
-pub record AreDiffWords (words : List (List ℕ)) (name : List ℕ) (width : ℕ) : Type 0 where
-  pub width_word : List ℕ
-  pub are : words ≡ codes "--diff" ∷ name ∷ width_word ∷ []
-  pub width_is : IsReadAs width_word (Some width)
+-- those of `lint --diff`
+abbrev pub AreDiffWords : List (List ℕ) → List ℕ → ℕ → Type 0
+AreDiffWords words name width = AreNamedWords (codes "--diff") words name width
 
--- no reading of the words is one of `lint --diff`
 abbrev pub IsNoDiffCall : List (List ℕ) → Type 0
-IsNoDiffCall words = (name : List ℕ) (width : ℕ) → ¬ (AreDiffWords words name width)
+IsNoDiffCall words = IsNoNamedCall (codes "--diff") words
 
 -- two words: `--lsp` and a number
 pub record AreServerWords (words : List (List ℕ)) (width : ℕ) : Type 0 where

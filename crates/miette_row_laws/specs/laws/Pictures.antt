@@ -6,7 +6,7 @@ use Rattle.miette_page.specs.rules.Rows.{Glyph, Row, glyphs_of, columns_of, glyp
 use Rattle.miette_source_lines.specs.rules.Lines.{Line}
 use Rattle.miette_cells.specs.rules.Cells.{Cell}
 use Rattle.miette_labels.specs.rules.Labels.{DrawnLabel, one_line, multi_line, closing_labels}
-use Rattle.miette_snippet_rules.specs.rules.CutLines.{shown_runs, shown_marks}
+use Rattle.miette_snippet_rules.specs.rules.CutLines.{dots, dots_in, shown_runs, shown_marks}
 use Rattle.miette_snippet_rules.specs.rules.Marks.{Mark}
 use Rattle.miette_snippet_rules.specs.rules.Drawing.{mark_code}
 use Rattle.miette_snippet_rules.specs.rules.Frames.{number_width}
@@ -51,11 +51,13 @@ Hangs s rows start mark = PartHangs s rows (start + mark.anchor) mark.label.part
 -- the marks of a line, by the columns of its row
 abbrev pub marks_of_line : SnippetSettings → List DrawnLabel → Line → List Cell → List Mark
 marks_of_line s labels line cells =
-    shown_marks (line_cut s line cells (one_line line labels)) (line_marks line cells (one_line line labels))
+    shown_marks (dots_in s.theme.characters) (line_cut s line cells (one_line line labels) (multi_line line labels))
+    (line_marks line cells (one_line line labels))
 
 -- what is shown of its text
 abbrev pub text_of_line : SnippetSettings → List DrawnLabel → Line → List Cell → List Highlight → Row
-text_of_line s labels line cells pieces = shown_runs (line_cut s line cells (one_line line labels)) pieces cells
+text_of_line s labels line cells pieces =
+    shown_runs (dots s.theme) (line_cut s line cells (one_line line labels) (multi_line line labels)) pieces cells
 
 -- where the text of the rows begins
 abbrev pub text_start : ℕ → ℕ → ℕ

@@ -1,6 +1,6 @@
 -- Folded labels: which lines inside them are left out.
-use Rattle.std.specs.Prelude.{ℕ, ◌+◌, ◌-◌, min, max, List, [], map, length, count_by, Option, Some, None}
-use Rattle.std.specs.Prelude.{Bool, false, not, ◌&&◌, nat_lt, nat_le}
+use Rattle.std.specs.Prelude.{ℕ, zero, suc, ◌+◌, ◌-◌, min, max, List, [], ◌∷◌, map, length, count_by, Option, Some, None}
+use Rattle.std.specs.Prelude.{Bool, false, not, ◌&&◌, ◌||◌, nat_lt, nat_le}
 use Rattle.std.specs.List.{list_any}
 use Rattle.miette_source_lines.specs.rules.Lines.{Line, is_terminated}
 use Rattle.miette_protocol.specs.views.Meaning.{Label}
@@ -55,9 +55,26 @@ abbrev pub is_near : ℕ → List Line → ℕ → Line → Spread → Bool
 is_near limit lines i line label = is_around line label
     && not (hides limit (place_among lines label.first) (place_among lines label.last) label.around i)
 
--- Whether the i-th line of a snippet is left out: it lies in the contexts of labels, but not as they are folded. None
--- is where no label is to be folded.
+-- line k of some lines; an empty one where there are not so many
+abbrev pub line_at : List Line → ℕ → Line
+line_at [] k = record { start = 0; text_end = 0; end = 0 }
+line_at (l ∷ ls) zero = l
+line_at (l ∷ ls) (suc k) = line_at ls k
+
+-- whether the i-th line lies in the contexts of labels, but not as they are folded to so many lines
+abbrev pub is_hidden : ℕ → List Line → List Spread → ℕ → Line → Bool
+is_hidden limit lines labels i line =
+    list_any (is_around line) labels && not (list_any (is_near limit lines i line) labels)
+
+-- whether the line before the i-th one is hidden so, or the one behind it (the first one never is)
+abbrev pub is_beside_hidden : ℕ → List Line → List Spread → ℕ → Bool
+is_beside_hidden limit lines labels i =
+    is_hidden limit lines labels (i - 1) (line_at lines (i - 1))
+    || is_hidden limit lines labels (i + 1) (line_at lines (i + 1))
+
+-- Whether the i-th line of a snippet is left out: it is hidden, and so is one beside it, as a row of dots takes no less
+-- room than one line. None is where no label is to be folded.
 abbrev pub leaves_out : Option ℕ → List Line → List Spread → ℕ → Line → Bool
 leaves_out None lines labels i line = false
 leaves_out (Some limit) lines labels i line =
-    list_any (is_around line) labels && not (list_any (is_near limit lines i line) labels)
+    is_hidden limit lines labels i line && is_beside_hidden limit lines labels i

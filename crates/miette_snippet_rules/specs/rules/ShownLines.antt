@@ -1,6 +1,6 @@
 -- The rows of shown lines, by their numbers in the source.
-use Rattle.std.specs.Prelude.{ℕ, zero, suc, ◌+◌, List, [], ◌∷◌, ◌++◌, map, length, decimal, Bool, false, not, drop}
-use Rattle.miette_source_lines.specs.rules.Lines.{Line, lines_of}
+use Rattle.std.specs.Prelude.{ℕ, ◌+◌, List, [], ◌∷◌, ◌++◌, map, length, decimal, Bool, false, not, drop}
+use Rattle.miette_source_lines.specs.rules.Lines.{lines_of}
 use Rattle.miette_protocol.specs.views.Meaning.{Label}
 use Rattle.miette_protocol.specs.rules.Reading.{Span, Source}
 use Rattle.miette_snippet_rules.specs.rules.Numbers.{last_of}
@@ -12,18 +12,13 @@ use Rattle.miette_labels.specs.rules.Groups.{in_order, groups_of}
 use Rattle.miette_labels.specs.rules.Labels.{DrawnLabel}
 use Rattle.miette_snippet_rules.specs.rules.Gutters.{gutter_columns}
 use Rattle.miette_snippet_rules.specs.rules.Folds.{Spread}
+pub use Rattle.miette_snippet_rules.specs.rules.Folds.{line_at}
 use Rattle.miette_snippet_rules.specs.rules.Frames.{top_row, bottom_row, number_width}
 use Rattle.miette_snippet_rules.specs.rules.SnippetLayout.{SnippetContext, snippet_context, cells_of, line_or_break}
 use Rattle.miette_snippet_rules.specs.rules.SnippetLayout.{body_rows, place_of}
 use Rattle.miette_snippet_rules.specs.rules.SnippetLayout.{settings_around}
 use Rattle.miette_snippet_rules.specs.rules.SnippetLayout.{drawn_labels}
 use Rattle.miette_snippet_rules.specs.rules.Settings.{SnippetSettings}
-
--- line k
-abbrev pub line_at : List Line → ℕ → Line
-line_at [] k = record { start = 0; text_end = 0; end = 0 }
-line_at (l ∷ ls) zero = l
-line_at (l ∷ ls) (suc k) = line_at ls k
 
 -- The rows of the lines with these numbers, counted from 0, each with its number plus one and its own cells, and a
 -- break where lines are left out; whether the line before them is left out, and whether a line is kept.

@@ -16,7 +16,8 @@ use Rattle.miette_cells.specs.rules.Cells.{Cell, characters, cells_from}
 use Rattle.miette_labels.specs.rules.Labels.{DrawnLabel, drawn_from, some_shows_end, one_line, multi_line}
 use Rattle.miette_labels.specs.rules.Labels.{closing_labels}
 use Rattle.miette_snippet_rules.specs.rules.Marks.{Text, Mark, marks}
-use Rattle.miette_snippet_rules.specs.rules.CutLines.{Stretch, cut_line, shown_runs, shown_marks}
+use Rattle.miette_snippet_rules.specs.rules.CutEnds.{mark_ends, spread_ends}
+use Rattle.miette_snippet_rules.specs.rules.CutLines.{Stretch, cut_line, dots, dots_in, shown_runs, shown_marks}
 use Rattle.miette_snippet_rules.specs.rules.Drawing.{marked_rows}
 use Rattle.miette_snippet_rules.specs.rules.Gutters.{gutter_columns, number_gutter, other_gutter, break_gutter}
 use Rattle.miette_snippet_rules.specs.rules.Gutters.{closing_rows}
@@ -42,9 +43,15 @@ before_each prefix rows = map (λ row. prefix ++ row) rows
 abbrev pub line_marks : Line → List Cell → List DrawnLabel → List Mark
 line_marks line cells one = marks (text_of_cells cells line.text_end) one
 
+-- the ends of a line: of those marks, and of the labels of several lines that begin or end on it
+abbrev pub cut_ends : Line → List Cell → List DrawnLabel → List DrawnLabel → List ℕ
+cut_ends line cells one multi =
+    mark_ends (line_marks line cells one) ++ spread_ends line (text_of_cells cells line.text_end) multi
+
 -- how a line is cut around them, if it is
-abbrev pub line_cut : SnippetSettings → Line → List Cell → List DrawnLabel → Option (List Stretch)
-line_cut s line cells one = cut_line s.layout.line_columns (line_marks line cells one) cells
+abbrev pub line_cut : SnippetSettings → Line → List Cell → List DrawnLabel → List DrawnLabel → Option (List Stretch)
+line_cut s line cells one multi =
+    cut_line (dots_in s.theme.characters) s.layout.line_columns (cut_ends line cells one multi) cells
 
 -- What the lines of a snippet are drawn with: the columns of their numbers and of their gutters, the labels, and a
 -- line's cells.
@@ -92,10 +99,12 @@ shown_line c line number pieces = line_shown number (one_line line c.labels) (c.
 abbrev pub line_rows_of : LineContext → ShownLine → List Row
 line_rows_of c shown =
     (number_start c.settings c.number_width shown.number ++ number_gutter c.settings c.line c.gutter c.multi
-    ++ shown_runs (line_cut c.settings c.line shown.cells shown.one) shown.pieces shown.cells)
+    ++ shown_runs (dots c.settings.theme) (line_cut c.settings c.line shown.cells shown.one c.multi) shown.pieces
+    shown.cells)
     ∷ before_each (other_start c.settings c.number_width ++ other_gutter c.settings c.line c.gutter c.multi)
     (marked_rows c.settings
-    (shown_marks (line_cut c.settings c.line shown.cells shown.one) (line_marks c.line shown.cells shown.one)))
+    (shown_marks (dots_in c.settings.theme.characters)
+    (line_cut c.settings c.line shown.cells shown.one c.multi) (line_marks c.line shown.cells shown.one)))
     ++ before_each (other_start c.settings c.number_width)
     (closing_rows c.settings c.line c.gutter c.multi (closing_labels c.line c.multi))
 

@@ -1,5 +1,5 @@
 -- The shown lines of a source, as a set, and the snippets as its maximal ranges. Nothing here knows an order of labels.
-use Rattle.std.specs.Prelude.{ℕ, List, [], ◌∷◌, length, Bool, not, ◌&&◌, nat_le, Option, Some, None}
+use Rattle.std.specs.Prelude.{ℕ, ◌+◌, ◌-◌, List, [], ◌∷◌, length, Bool, not, ◌&&◌, ◌||◌, nat_le, Option, Some, None}
 use Rattle.std.specs.List.{range_with_len, filter, list_any}
 use Rattle.miette_source_lines.specs.rules.Lines.{lines_of, line_of}
 use Rattle.miette_protocol.specs.views.Meaning.{Label}
@@ -23,11 +23,33 @@ abbrev pub is_in_folded_context : ℕ → ℕ → List ℕ → ℕ → Span → 
 is_in_folded_context limit context bytes k span = is_in_context context bytes k span
     && not (hides limit (line_of bytes span.offset) (line_of bytes (last_byte bytes span)) context k)
 
--- whether line k is in the context of some label as it is folded, where labels are folded
+-- whether line k is in the context of some label as it is folded to so many lines
+abbrev pub is_in_some_fold : ℕ → ℕ → List ℕ → List Label → ℕ → Bool
+is_in_some_fold limit context bytes labels k = list_any (λ label.
+    is_in_folded_context limit (lines_around context labels label) bytes k label.span) labels
+
+-- whether line k is in the context of some label, but of none as it is folded
+abbrev pub is_hidden : ℕ → ℕ → List ℕ → List Label → ℕ → Bool
+is_hidden limit context bytes labels k =
+    is_shown context bytes labels k && not (is_in_some_fold limit context bytes labels k)
+
+-- whether of the lines around line k, and itself, it alone is hidden (the first line never is)
+abbrev pub is_alone : ℕ → ℕ → List ℕ → List Label → ℕ → Bool
+is_alone limit context bytes labels k =
+    is_hidden limit context bytes labels k
+    && (not (is_hidden limit context bytes labels (k - 1)) && not (is_hidden limit context bytes labels (k + 1)))
+
+-- whether line k is kept where labels are folded: it is in the context of some label as it is folded, or it would be
+-- left out alone
 abbrev pub is_kept : Option ℕ → ℕ → List ℕ → List Label → ℕ → Bool
 is_kept None context bytes labels k = is_shown context bytes labels k
-is_kept (Some limit) context bytes labels k = list_any (λ label.
-    is_in_folded_context limit (lines_around context labels label) bytes k label.span) labels
+is_kept (Some limit) context bytes labels k =
+    is_in_some_fold limit context bytes labels k || is_alone limit context bytes labels k
+
+-- whether line k is left out inside folded labels
+abbrev pub is_left_out : Option ℕ → ℕ → List ℕ → List Label → ℕ → Bool
+is_left_out limit context bytes labels k =
+    is_shown context bytes labels k && not (is_kept limit context bytes labels k)
 
 abbrev pub shown_numbers : ℕ → List ℕ → List Label → List ℕ
 shown_numbers context bytes labels = filter (is_shown context bytes labels) (range_with_len 0 (length (lines_of bytes)))

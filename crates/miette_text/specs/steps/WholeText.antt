@@ -1,10 +1,56 @@
 -- Text under indents that is not wrapped, in the steps of the code.
-use Rattle.std.specs.Prelude.{ℕ, Bool, not, ◌||◌, List, [], if◌then◌else◌}
-use Rattle.miette_text.specs.rules.Wrapping.{all_white}
-use Rattle.miette_runs.specs.rules.Cells.{Cell}
-use Rattle.miette_basics.specs.rules.Lists.{is_nil}
+use Rattle.std.specs.Prelude.{◌≡◌, ℕ, zero, suc, Bool, true, false, ◌&&◌, Option, None, Some, List, [], ◌∷◌, ◌++◌, chars}
+use Rattle.std.specs.Prelude.{if◌then◌else◌}
+use Rattle.std.specs.Char.{is_whitespace}
+use Rattle.miette_runs.specs.rules.Sequences.{Token, Character, Sequence, after_escape_len, begins, command_len}
+use Rattle.miette_runs.specs.rules.Sequences.{control_len, spell, tokens, tokens_behind}
+use Rattle.miette_text.specs.declared.wrap.white.Place.{Place}
+use Rattle.miette_text.specs.declared.wrap.white.Place.TheVariants.{Outside, Escape, Control, Command, CommandEscape}
+use Rattle.miette_text.specs.laws.FittingRows.{is_row}
+use Rattle.miette_text.specs.rules.Wrapping.{trimmed_row}
 
--- nothing before what stands behind the last line feed where it has no character
-abbrev pub indent_text : Bool → List ℕ → List ℕ → List Cell → List ℕ
-indent_text last indent short cells = if not last || not (is_nil cells) then (if all_white cells then short else indent)
-    else []
+-- ---- the first line of a text
+
+-- its characters, and the bytes of what stands behind the line feed after it, if there is one
+abbrev pub IsFirstLine : List ℕ → List ℕ → Option (List ℕ) → Type 0
+IsFirstLine text line None = (is_row line ≡ true) × (text ≡ line)
+IsFirstLine text line (Some rest) = (is_row line ≡ true) × (text ≡ line ++ 10 ∷ chars rest)
+
+-- ---- lines in which nothing is seen
+
+-- nothing but sequences, and white characters where these may stand there too
+abbrev pub are_passed : Bool → List Token → Bool
+are_passed blanks [] = true
+are_passed blanks (Character c ∷ ts) = (blanks && is_whitespace c) && are_passed blanks ts
+are_passed blanks (Sequence s ∷ ts) = are_passed blanks ts
+
+-- the same behind so many codes, which end a sequence; it isn't whole where these are none
+abbrev pub passed_behind : Bool → ℕ → List ℕ → Bool
+passed_behind blanks zero cs = false
+passed_behind blanks (suc k) cs = are_passed blanks (tokens_behind (suc k) cs)
+
+-- the same of what is left of a text, by where a walk over it stands
+abbrev pub passed_from : Place → Bool → List ℕ → Bool
+passed_from Outside blanks cs = are_passed blanks (tokens cs)
+passed_from Escape blanks cs = passed_behind blanks (after_escape_len cs) cs
+passed_from Control blanks cs = passed_behind blanks (control_len cs) cs
+passed_from Command blanks cs = passed_behind blanks (command_len cs) cs
+passed_from CommandEscape blanks cs =
+    if begins 92 cs then passed_behind blanks 1 cs else passed_behind blanks (command_len cs) cs
+
+-- nowhere, if it was left
+abbrev pub passed_through : Option Place → Bool → List ℕ → Bool
+passed_through None blanks cs = false
+passed_through (Some place) blanks cs = passed_from place blanks cs
+
+-- ---- a line under its indent
+
+abbrev pub line_indent : List Token → List ℕ → List Token
+line_indent indent line = if are_passed true (tokens line) then trimmed_row indent else indent
+
+abbrev pub line_under : List Token → List ℕ → List ℕ
+line_under indent line = spell (line_indent indent line) ++ line
+
+-- what stands behind the last line feed: sequences alone have no indent
+abbrev pub last_under : List Token → List ℕ → List ℕ
+last_under indent line = if are_passed false (tokens line) then line else line_under indent line

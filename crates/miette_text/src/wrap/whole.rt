@@ -1,16 +1,15 @@
 //! Text under indents, not wrapped.
 
-ghost use Rattle.std.specs.Prelude.{◌≡◌, ◌++◌, OnOk};
-ghost use Rattle.miette_runs.specs.steps.Cells.{plain_cells};
-ghost use Rattle.miette_runs.specs.rules.Sequences.{spell};
-ghost use Rattle.miette_text.specs.steps.WholeText.{indent_text};
+ghost use Rattle.std.specs.Prelude.{◌≡◌, ◌++◌, ◌<◌, chars, length, option_copied, IfSome, OnOk};
+ghost use Rattle.miette_runs.specs.rules.Sequences.{spell, tokens};
 ghost use Rattle.miette_runs.specs.views.Interleaving.{interleaving};
-ghost use Rattle.miette_text.specs.rules.Wrapping.{all_white, text_lines, trimmed_row, whole_lines};
+ghost use Rattle.miette_text.specs.rules.Wrapping.{text_lines, trimmed_row, whole_lines};
+ghost use Rattle.miette_text.specs.steps.WholeText.{IsFirstLine, last_under, line_indent, line_under};
 
 use crate::wrap::ends::bare_len;
-use crate::wrap::lines::line_len;
+use crate::wrap::white::is_passed;
 use miette_runs::runs::RunsSlice;
-use miette_runs::runs::cells::{push_all, push_cells, push_signs, push_tags};
+use miette_runs::runs::cells::push_all;
 use miette_runs::runs::sink::Sink;
 use std::alloc::AllocError;
 
@@ -26,37 +25,47 @@ fn trim_end(indent: RunsSlice<'_>) -> RunsSlice<'_>
     }
 }
 
-fn all_white(line: &[char]) -> bool
-    ensures { result ≡ all_white (plain_cells line.now) }
+// A text's first line, and the text behind the line feed after it, if there is one.
+fn first_line(text: &str) -> (&str, Option<&str>)
+    ensures line { IsFirstLine (chars text.now) (chars result.0.now) (option_copied result.1) }
+    ensures shorter { IfSome result.1 (λ rest. length rest.now < length text.now) }
 {
-    for code in line {
-        if !code.is_whitespace() {
-            return false;
-        }
+    match text.split_once('\n') {
+        Some((first, rest)) => (first, Some(rest)),
+        None => (text, None),
     }
-    true
 }
 
-// The indent of a line; the short one where it is white, none where nothing is behind the last line feed.
-fn push_indent<S: Sink>(
-    out: &mut S,
-    last: bool,
-    indent: RunsSlice<'_>,
-    short: RunsSlice<'_>,
-    line: &[char],
-) -> Result<(), AllocError>
-    ensures { OnOk result (S.written out.new ≡ S.written out.old
-        ++ indent_text last (spell (interleaving 0 indent.entry.codes.now indent.entry.tags.now))
-        (spell (interleaving 0 short.entry.codes.now short.entry.tags.now)) (plain_cells line.now)) }
+// The indent of a line, without its last spaces where the line is white.
+fn line_indent<'a>(indent: RunsSlice<'a>, line: &str) -> RunsSlice<'a>
+    ensures { interleaving 0 result.codes.now result.tags.now
+        ≡ line_indent (interleaving 0 indent.entry.codes.now indent.entry.tags.now) (chars line.now) }
 {
-    if last && line.is_empty() {
-        return Ok(());
-    }
-    if all_white(line) {
-        push_all(out, short)
+    if is_passed(line, true) {
+        trim_end(indent)
     } else {
-        push_all(out, indent)
+        indent
     }
+}
+
+// A line under its indent.
+fn push_line<S: Sink>(out: &mut S, indent: RunsSlice<'_>, line: &str) -> Result<(), AllocError>
+    ensures { OnOk result (S.written out.new ≡ S.written out.old
+        ++ line_under (interleaving 0 indent.entry.codes.now indent.entry.tags.now) (chars line.now)) }
+{
+    push_all(out, line_indent(indent, line))?;
+    out.push_str(line)
+}
+
+// What stands behind the last line feed, without an indent where it has no character.
+fn push_last<S: Sink>(out: &mut S, indent: RunsSlice<'_>, line: &str) -> Result<(), AllocError>
+    ensures { OnOk result (S.written out.new ≡ S.written out.old
+        ++ last_under (interleaving 0 indent.entry.codes.now indent.entry.tags.now) (chars line.now)) }
+{
+    if is_passed(line, false) {
+        return out.push_str(line);
+    }
+    push_line(out, indent, line)
 }
 
 /// The lines of a text, each whole under its indent. A white line has the indent without its last spaces, and nothing
@@ -65,34 +74,22 @@ pub(crate) fn push_whole<S: Sink>(
     out: &mut S,
     first: RunsSlice<'_>,
     further: RunsSlice<'_>,
-    text: RunsSlice<'_>,
+    text: &str,
 ) -> Result<(), AllocError>
     ensures { OnOk result (S.written out.new ≡ S.written out.old
         ++ spell (whole_lines (interleaving 0 first.entry.codes.now first.entry.tags.now)
-        (interleaving 0 further.entry.codes.now further.entry.tags.now)
-        (text_lines (interleaving 0 text.entry.codes.now text.entry.tags.now)))) }
+        (interleaving 0 further.entry.codes.now further.entry.tags.now) (text_lines (tokens (chars text.now))))) }
 {
-    let further_short = trim_end(further);
     let mut indent = first;
-    let mut short = trim_end(first);
-    let mut start: usize = 0;
-    let mut tags = text.tags;
-    'rest: loop {
-        let end = start + line_len(&text.codes[start..]);
-        let last = end == text.codes.len();
-        let line = &text.codes[start..end];
-        push_indent(out, last, indent, short, line)?;
-        let used = push_cells(out, start, line, tags)?;
-        let (_, left) = tags.split_at(used);
-        if last {
-            push_tags(out, left)?;
-            return Ok(());
-        }
-        let (_, behind) = left.split_at(push_signs(out, end, left)?);
+    let mut rest = text;
+    'lines: loop {
+        let (line, behind) = first_line(rest);
+        let Some(behind) = behind else {
+            return push_last(out, indent, line);
+        };
+        push_line(out, indent, line)?;
         out.push('\n')?;
-        tags = behind;
-        start = end + 1;
+        rest = behind;
         indent = further;
-        short = further_short;
     }
 }

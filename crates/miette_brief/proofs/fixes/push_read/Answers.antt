@@ -9,7 +9,8 @@ use Rattle.miette_fixes.proofs.Overlaps.{sorted_inside}
 use Rattle.miette_brief.specs.rules.Fixes.{failed_rows}
 use Rattle.miette_brief.specs.rules.Rows.{rows_text}
 use Rattle.miette_brief.specs.steps.Conversions.{place_of}
-use Rattle.miette_brief.proofs.Fixing.{applied_inside, outside_told}
+use Rattle.miette_tree.proofs.Refusals.{applied_inside}
+use Rattle.miette_brief.proofs.Fixing.{outside_told}
 use Rattle.miette_brief.proofs.fixes.push_read.Goals as goal
 
 pub push_applied-requires : goal.push_applied-requires

@@ -7,9 +7,9 @@ use Rattle.miette_brief.proofs.marks.primary_at.Goals as goal
 pub returns-in-Some : goal.returns-in-Some
 returns-in-Some g c =
     let its = map (mark_of g.S.SourceCode.source) c.args.marks.now in
-    ap (λ o. else_at o (position is_placed its)) (sym c.in-Some.is ∙ c.marked_at.ensures)
+    ap (λ o. else_at o (position is_placed its)) (sym c.in-Some.is ∙ c.first_at.ensures)
 
 pub returns-in-None : goal.returns-in-None
 returns-in-None g c =
     let its = map (mark_of g.S.SourceCode.source) c.args.marks.now in
-    c.placed_at.ensures ∙ ap (λ o. else_at o (position is_placed its)) (sym c.in-None.is ∙ c.marked_at.ensures)
+    c.first_at-in-None.ensures ∙ ap (λ o. else_at o (position is_placed its)) (sym c.in-None.is ∙ c.first_at.ensures)

@@ -6,13 +6,13 @@ use Rattle.miette_cuts.proofs.cut_text.push_pieces.Goals as goal
 
 pub returns-then-bytes-eq0-clause-told : goal.returns-then-bytes-eq0-clause-told
 returns-then-bytes-eq0-clause-told g c =
-    none_left (map highlight_of (drop c.loop-piece.piece-index c.args.pieces.now)) c.loop-piece.before
+    none_left (map highlight_of (drop c.loop-piece.piece-index c.args.all.now.pieces.now)) c.loop-piece.before
     c.loop-piece.bytes (take c.loop-piece.many c.loop-piece.walk) c.loop-piece.page
     (omega (arith, c.if-bytes-eq0.true)) ∙ c.loop-piece.invariant.told
 
 pub loop-piece-preserved : goal.loop-piece-preserved
 loop-piece-preserved g c = record {
-  told = piece_cut c.args.pieces.now c.loop-piece.piece-index c.loop-piece.before c.loop-piece.bytes
+  told = piece_cut c.args.all.now.pieces.now c.loop-piece.piece-index c.loop-piece.before c.loop-piece.bytes
       c.saturating_sub-behind.result c.min.result _ (take c.loop-piece.many c.loop-piece.walk)
       (take c.in_ok-many.many c.push_some.new.walk)
       c.loop-piece.page c.begin.new.self c.push_some.new.page _ c.saturating_sub-before.result
@@ -24,5 +24,5 @@ loop-piece-preserved g c = record {
 
 pub returns-clause-told : goal.returns-clause-told
 returns-clause-told g c =
-    pieces_done c.args.pieces.now c.loop-piece.piece-index c.loop-piece.before c.loop-piece.bytes
+    pieces_done c.args.all.now.pieces.now c.loop-piece.piece-index c.loop-piece.before c.loop-piece.bytes
     (take c.loop-piece.many c.loop-piece.walk) c.loop-piece.page _ c.loop-piece-test.false c.loop-piece.invariant.told

@@ -9,8 +9,8 @@ use Rattle.miette_cuts.proofs.cut_text.push_pieces.Given as goal
 abbrev pub invariant-loop-piece : goal.invariant-loop-piece
 invariant-loop-piece g l = record {
   told : l.page ⊕ row_tokens (line_runs (pieces_within l.before l.bytes
-      (map highlight_of (drop l.piece-index l.pieces))) (take l.many l.walk))
-      ≡ l.fn.page ⊕ row_tokens (line_runs (pieces_within l.fn.before l.fn.stretch.bytes (map highlight_of l.pieces))
-      (take l.fn.stretch.cells l.fn.walk));
+      (map highlight_of (drop l.piece-index l.all.pieces.now))) (take l.many l.walk))
+      ≡ l.fn.page ⊕ row_tokens (line_runs (pieces_within l.fn.all.before l.fn.stretch.bytes
+      (map highlight_of l.all.pieces.now)) (take l.fn.stretch.cells l.fn.walk));
   later : drop l.many l.walk ≡ drop l.fn.stretch.cells l.fn.walk;
 }

@@ -5,14 +5,14 @@ use Rattle.miette_cuts.proofs.moving.row_column_of.Goals as goal
 
 pub loop-place-init : goal.loop-place-init
 loop-place-init c =
-    let found : IsPlace c.args.cut.now c.place_for.result × (c.place_for.result.before ≤ c.args.column) =
-    place_found c.args.cut.now c.args.place.now c.place_for.result c.args.column c.place_for.ensures.anew
+    let found : IsPlace c.args.dots c.args.cut.now c.place_for.result × (c.place_for.result.before ≤ c.args.column) =
+    place_found c.args.dots c.args.cut.now c.args.place.now c.place_for.result c.args.column c.place_for.ensures.anew
     c.place_for.ensures.on c.requires in
     record { place = found.0; before = found.1 }
 
 pub loop-place-preserved : goal.loop-place-preserved
 loop-place-preserved c = record {
-  place = place_more c.args.cut.now c.loop-place.place _ _ c.loop-place-test.true refl refl
+  place = place_more c.args.dots c.args.cut.now c.loop-place.place _ _ c.loop-place-test.true refl refl
       (c.in_ok-row.ensures ∙ ap (λ n. c.loop-place.place.row + n) c.shown_columns.ensures)
       c.loop-place.invariant.place;
   before = omega (arith, c.loop-place.invariant.before, c.if-left-columns.false);
@@ -20,11 +20,11 @@ loop-place-preserved c = record {
 
 pub returns-then-left-columns-clause-column : goal.returns-then-left-columns-clause-column
 returns-then-left-columns-clause-column c =
-    place_here c.args.cut.now c.loop-place.place c.args.column c.column_within.result c.in_ok-inside.inside _
+    place_here c.args.dots c.args.cut.now c.loop-place.place c.args.column c.column_within.result c.in_ok-inside.inside _
     c.loop-place-test.true c.loop-place.invariant.before c.if-left-columns.true c.column_within.ensures
     c.in_ok-inside.ensures c.loop-place.invariant.place
 
 pub returns-clause-column : goal.returns-clause-column
 returns-clause-column c =
-    place_end c.args.cut.now c.loop-place.place c.args.column c.in_ok-behind.behind c.loop-place-test.false
+    place_end c.args.dots c.args.cut.now c.loop-place.place c.args.column c.in_ok-behind.behind c.loop-place-test.false
     c.loop-place.invariant.before c.in_ok-behind.ensures c.loop-place.invariant.place

@@ -1,7 +1,6 @@
 use Rattle.std.proofs.Common.{◌+◌, ◌≡◌, ◌∙◌, length, ap, sym, arith}
-use Rattle.miette_snippet_rules.specs.rules.CutLines.{is_near}
 use Rattle.miette_cuts.specs.steps.Cut.{cell_at}
-use Rattle.miette_cuts.specs.steps.Nearness.{LineEnds}
+use Rattle.miette_cuts.specs.steps.Nearness.{LineEnds, near_by}
 use Rattle.miette_cuts.proofs.CutPlain.{IsEven, even_more}
 use Rattle.miette_cuts.proofs.plain_cut.put_plain.Goals as goal
 
@@ -16,17 +15,17 @@ loop-column-preserved c =
           let next = c.even_stretch-next.result in
           let end : c.in_ok-end.end ≡ c.args.plain.now.from + length bytes =
           omega (arith, c.in_ok-end.ensures, many) in
-          let is : IsEven value.limit value.ends c.loop-column.column (c.args.plain.now.from + length bytes) next =
+          let is : IsEven value.room value.ends c.loop-column.column (c.args.plain.now.from + length bytes) next =
           record {
             even = c.even_stretch-next.ensures.even;
             some = c.even_stretch-next.ensures.some;
             within = omega (arith, end, c.even_stretch-next.ensures.within);
             alike = λ x lo lt.
-                ap (λ (v : LineEnds). is_near v.limit v.ends (cell_at x)) (sym c.loop-column.invariant.nearness)
+                ap (λ (v : LineEnds). near_by v.room v.ends (cell_at x)) (sym c.loop-column.invariant.nearness)
                 ∙ c.even_stretch-next.ensures.alike x lo lt;
           } in
-          even_more value.limit value.ends c.args.plain.now bytes rest c.loop-column.column
+          even_more value.room value.ends c.args.plain.now bytes rest c.loop-column.column
           c.loop-column.made.items c.put_stretch.new.made.items _ c.loop-column.reached next
-          c.put_stretch.new.reached printable c.loop-column.invariant.from is c.in_ok-put_stretch.ensures.near
+          c.put_stretch.new.reached printable c.loop-column.invariant.from is c.in_ok-put_stretch.ensures.shown
           c.in_ok-put_stretch.ensures.put (c.loop-column.invariant.told bytes rest printable many);
     }

@@ -2,9 +2,10 @@ use Rattle.std.proofs.Common.{◌≡◌, ◌≤◌, ◌-◌, ◌++◌, ℕ, List
 use Rattle.std.specs.List.{list_all}
 use Rattle.miette_cells.specs.rules.Cells.{Cell}
 use Rattle.miette_cells.specs.views.Printable.{is_printable, plain_cells}
-use Rattle.miette_snippet_rules.specs.rules.CutLines.{is_near, stretches}
+use Rattle.miette_snippet_rules.specs.rules.CutLines.{stretches}
 use Rattle.miette_cuts.specs.views.Cuts.{measure}
 use Rattle.miette_cuts.specs.steps.Cut.{onto_made}
+use Rattle.miette_cuts.specs.steps.Nearness.{near_by}
 use Rattle.miette_cuts.proofs.CutPlain.{behind}
 use Rattle.miette_cuts.proofs.plain_cut.put_plain.Given as goal
 
@@ -14,10 +15,10 @@ invariant-loop-column l = record {
   within : l.column ≤ l.end;
   from : l.plain.from ≤ l.column;
   told : (bytes : List ℕ) (rest : List Cell) → list_all is_printable bytes ≡ true → length bytes ≡ l.plain.many →
-      l.made.items ++ onto_made l.reached (behind l.fn.nearness.limit l.fn.nearness.ends l.reached.near l.plain bytes
+      l.made.items ++ onto_made l.reached (behind l.fn.nearness.room l.fn.nearness.ends l.reached.shown l.plain bytes
       rest l.column)
       ≡ l.fn.made.items ++ onto_made l.fn.reached (map measure (stretches
-      (is_near l.fn.nearness.limit l.fn.nearness.ends) l.fn.reached.near
+      (near_by l.fn.nearness.room l.fn.nearness.ends) l.fn.reached.shown
       (plain_cells l.plain.start l.plain.from bytes ++ rest)));
 }
 

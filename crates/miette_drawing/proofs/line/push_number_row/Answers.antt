@@ -2,6 +2,7 @@ use Rattle.std.proofs.Common.{map}
 use Rattle.std.specs.Option.{option_map}
 use Rattle.std.proofs.lemmas.Result.{on_ok_weaker}
 use Rattle.miette_cuts.specs.views.Cuts.{made_runs}
+use Rattle.miette_snippet_rules.specs.rules.CutLines.{dots}
 use Rattle.miette_snippet_rules.specs.rules.Frames.{number_start}
 use Rattle.miette_snippet_rules.specs.rules.Gutters.{number_gutter}
 use Rattle.miette_snippet_rules.specs.rules.Highlighting.{highlight_of}
@@ -18,8 +19,8 @@ returns g c =
     number_row_put (number_start (settings context) context.frame.number_width c.args.shown.now.number)
     (number_gutter (settings context) (line_of_text context.line) context.gutter
     (multi_labels context))
-    (made_runs (option_map (λ made. made.items) c.args.cut.now) (map highlight_of c.args.shown.now.pieces.now)
-    (text_cells c.args.text.now))
+    (made_runs (dots (settings context).theme) (option_map (λ made. made.items) c.args.cut.now)
+    (map highlight_of c.args.shown.now.pieces.now) (text_cells c.args.text.now))
     c.args.page.now c.push_number_start.new.page c.push_gutter.new.page c.push_shown_text.new.page
     c.end_row.new.self
     c.in_ok-push_number_start.ensures c.in_ok-push_gutter.ensures c.in_ok-push_shown_text.ensures

@@ -1,9 +1,9 @@
 use Rattle.std.proofs.Common.{ℕ, ◌≡◌, ◌+◌, ◌-◌, ◌≤◌, ◌<◌, false, arith, length, map, refl, sym, ap, subst, ◌∙◌, Bool}
-use Rattle.std.proofs.Common.{List}
+use Rattle.std.proofs.Common.{List, drop}
 use Rattle.miette_labels.specs.declared.sweep.PlacedLabel.{PlacedLabel}
 use Rattle.miette_snippet_rules.specs.views.SettingsView.{settings_of}
 use Rattle.miette_labels.specs.views.GivenLabels.{drawn_of}
-use Rattle.miette_snippet_rules.specs.rules.Folds.{leaves_out}
+use Rattle.miette_snippet_rules.specs.rules.Folds.{leaves_out, line_at}
 use Rattle.miette_snippet_rules.specs.rules.Highlighting.{leaves_plain, decoded_text, ArePieces, follows, highlight_of}
 use Rattle.miette_snippet_rules.specs.rules.SnippetLayout.{left_out}
 use Rattle.miette_source_lines.specs.rules.Lines.{Line, lines_from}
@@ -16,8 +16,10 @@ use Rattle.miette_labels.specs.views.Sweeping.{IsAt}
 use Rattle.miette_labels.proofs.Swept.{left_at}
 use Rattle.miette_highlight.specs.rules.HighlighterCalls.{Call}
 use Rattle.miette_drawing.proofs.HighlightedPieces.{call_for}
-use Rattle.miette_folds.proofs.Starts.{Begins, begins_first, begins_next, begins_few}
-use Rattle.miette_folds.proofs.GapLines.{IsBetween, next_begins, next_further, next_outs}
+use Rattle.miette_folds.proofs.Starts.{Begins, begins_first, begins_next, begins_few, begun_line}
+use Rattle.miette_folds.proofs.GapLines.{IsBetween, next_begins, next_further}
+use Rattle.miette_snippet_rules.proofs.NeverHidden.{none_before}
+use Rattle.miette_folds.proofs.LeftOutGaps.{IsPassed, next_before, next_outs}
 use Rattle.miette_drawing.proofs.LeftOutRows.{lines_run}
 use Rattle.miette_folds.proofs.LineExtent.{not_jumped}
 use Rattle.miette_frames.proofs.ReadRows.{AreLined, lines_first, lines_more, lines_all, text_fits}
@@ -43,6 +45,8 @@ loop-at-init g c =
           (body.before + 1)
           (leaves_plain g.H.Highlighter.is_blank c.args.highlighter.now)
           (follows g.H.Highlighter.may_follow c.args.highlighter.now) c.args.page.now);
+      before = none_before body.frame.settings.layout.now.label_lines (lines_from body.start body.bytes.now)
+          (map spread_of body.spreads.now);
       begun = begins_first body.start body.bytes.now;
       state = subst (λ (n : ℕ). IsAt c.args.drawing.now.placed.now n c.args.sweep.now.next
           c.args.sweep.now.running.items) e c.requires.at;
@@ -71,6 +75,11 @@ pub pass_over-requires-clause-order : goal.pass_over-requires-clause-order
 pass_over-requires-clause-order g c =
     subst (λ (x : LineStart). c.line_at-line.result.end ≤ x.offset) (sym c.next_start-next.ensures)
     (next_further c.args.body.now.folds.now c.loop-at.place (line_of_text c.line_at-line.result) c.may_pass.result)
+
+pub leaves_out-left_out-requires-clause-there : goal.leaves_out-left_out-requires-clause-there
+leaves_out-left_out-requires-clause-there g c =
+    begun_line c.args.body.now.start c.args.body.now.bytes.now c.loop-at.at c.loop-at.place c.line_at-line.result
+    c.loop-at.invariant.begun c.line_at-line.ensures.parted
 
 pub pass_over-requires-clause-at : goal.pass_over-requires-clause-at
 pass_over-requires-clause-at g c =
@@ -139,7 +148,7 @@ loop-at-preserved g c =
     let is : c.leaves_out-left_out.result ≡ leaves_out c.args.body.now.frame.settings.layout.now.label_lines
     (lines_from start bytes) (map spread_of c.args.body.now.spreads.now) c.loop-at.place
     (line_of_text c.line_at-line.result) =
-    c.leaves_out-left_out.ensures start bytes c.args.body.now.spreads.now c.requires.folds in
+    c.leaves_out-left_out.ensures c.args.body.now.spreads.now c.requires.folds c.loop-at.invariant.before in
     let leaves : c.leaves_out-left_out.result ≡ left_out (settings_of body.frame.settings)
     body.before (lines_from body.start body.bytes.now) (map spread_of c.args.body.now.spreads.now)
     c.in_ok-number.number (line_of_text c.line_at-line.result) =
@@ -174,6 +183,15 @@ loop-at-preserved g c =
     let le : c.line_at-line.result.end ≤ c.next_start-next.result.offset =
     subst (λ (x : LineStart). c.line_at-line.result.end ≤ x.offset) (sym c.next_start-next.ensures)
     (next_further folds place l jumps) in
+    let passed : IsPassed start bytes spreads folds place l = record {
+      folds_are = c.requires.folds;
+      low = low;
+      order = omega (arith, some);
+      rest = lines_from c.line_at-line.result.end (drop (c.line_at-line.result.end - start) bytes);
+      there = begun_line start bytes c.loop-at.at place c.line_at-line.result c.loop-at.invariant.begun
+          c.line_at-line.ensures.parted;
+      next = a;
+    } in
     let there : c.next_start-next.result.offset ≡ c.args.body.now.start
     + (c.next_start-next.result.offset - c.args.body.now.start) = omega (arith, b.low) in
     record {
@@ -184,10 +202,15 @@ loop-at-preserved g c =
           c.may_pass.ensures.out c.may_pass.ensures.free (λ f. c.next_start-next.ensures
           ∙ not_jumped folds place l jumps f) a b le
           (λ k other h. next_outs start bytes spreads folds c.args.body.now.frame.settings.layout.now.label_lines place
-          l jumps
-          c.requires.folds low (omega (arith, some)) (λ t. sym is ∙ c.may_pass.ensures.out t) k other
+          l jumps passed (λ t. sym is ∙ c.may_pass.ensures.out t) k other
           (subst (λ (x : LineStart). IsBetween near x k other) c.next_start-next.ensures h))
           behind;
+      before = subst (λ (x : LineStart). c.leaves_out-left_out.result
+          ≡ leaves_out c.args.body.now.frame.settings.layout.now.label_lines (lines_from start bytes)
+          (map spread_of spreads) (x.place - 1) (line_at (lines_from start bytes) (x.place - 1)))
+          (sym c.next_start-next.ensures)
+          (next_before start bytes spreads folds c.args.body.now.frame.settings.layout.now.label_lines place l jumps
+          c.leaves_out-left_out.result passed is c.may_pass.ensures.out);
       begun = subst (λ (n : ℕ). Begins start bytes n c.next_start-next.result.place) there b;
       state = subst (λ (n : ℕ). IsAt placed n c.pass_over.new.sweep.next c.pass_over.new.sweep.running.items) there
           c.in_ok-pass_over.ensures;

@@ -2,6 +2,7 @@ use Rattle.std.proofs.Common.{◌≡◌, ◌+◌, ◌-◌, length, map}
 use Rattle.miette_snippet_rules.specs.views.SettingsView.{settings_of}
 use Rattle.miette_source_lines.specs.rules.Lines.{lines_from}
 use Rattle.miette_labels.specs.views.GivenLabels.{drawn_of}
+use Rattle.miette_snippet_rules.specs.rules.Folds.{leaves_out, line_at}
 use Rattle.miette_snippet_rules.specs.rules.SnippetLayout.{left_out}
 use Rattle.miette_folds.specs.views.Spreads.{spread_of}
 use Rattle.miette_snippet_rules.specs.rules.Highlighting.{leaves_plain, follows}
@@ -19,6 +20,9 @@ invariant-loop-at g l = record {
       (leaves_plain g.H.Highlighter.is_blank l.initial.highlighter)
       (follows g.H.Highlighter.may_follow l.initial.highlighter) (follows g.H.Highlighter.may_follow l.highlighter)
       l.at (l.body.before + l.place + 1) l.initial.page l.page;
+  before : l.gap ≡ leaves_out l.body.frame.settings.layout.now.label_lines (lines_from l.body.start l.body.bytes.now)
+      (map spread_of l.body.spreads.now) (l.place - 1)
+      (line_at (lines_from l.body.start l.body.bytes.now) (l.place - 1));
   begun : Begins l.body.start l.body.bytes.now (l.body.start + l.at) l.place;
   state : IsAt l.drawing.placed.now (l.body.start + l.at) l.sweep.next l.sweep.running.items;
   stays : leaves_plain g.H.Highlighter.is_blank l.highlighter

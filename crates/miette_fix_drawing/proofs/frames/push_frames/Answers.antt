@@ -1,4 +1,4 @@
-use Rattle.std.proofs.Common.{◌-◌, refl, subst, sym, length, arith}
+use Rattle.std.proofs.Common.{refl, subst, sym, length, arith}
 use Rattle.std.specs.List.{AllByRecursion}
 use Rattle.std.proofs.lemmas.List.{take_rest}
 use Rattle.miette_source_lines.proofs.Places.{line_of_none}

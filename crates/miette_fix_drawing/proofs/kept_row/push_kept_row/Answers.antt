@@ -13,9 +13,9 @@ returns g c =
     let at = c.args.at.now in
     on_ok_weaker c.end_row.result (λ h.
     kept_put (settings_of c.args.frame.now.settings) c.args.frame.now.number_width c.in_ok-number.number
-    (standing_of at) c.args.line.now
+    (standing_of at) c.args.line.now c.dots_in-dots.result
     (cells_from width_of tab false at.old_offset 0 (characters c.text_of.result.now))
     (option_map (λ made. made.items) c.in_ok-cut.cut) c.args.page.now c.push_number_start.new.page
-    c.push_shown_text.new.page c.end_row.new.self c.in_ok-number.ensures
+    c.push_shown_text.new.page c.end_row.new.self c.in_ok-number.ensures c.dots_in-dots.ensures
     (ap (λ bytes. cells_from width_of tab false at.old_offset 0 (characters bytes)) c.text_of.ensures.text)
     c.in_ok-cut.ensures c.in_ok-push_number_start.ensures c.in_ok-push_shown_text.ensures h) c.end_row.ensures

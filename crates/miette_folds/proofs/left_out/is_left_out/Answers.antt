@@ -1,21 +1,23 @@
-use Rattle.std.proofs.Common.{sym, ◌∙◌, true, not}
+use Rattle.std.proofs.Common.{◌≡◌, ◌&&◌, ◌∙◌, true, false, List, ap, map, sym}
 use Rattle.miette_source_lines.specs.views.Walking.{line_of_text}
-use Rattle.miette_snippet_rules.specs.rules.Folds.{hides}
-use Rattle.miette_folds.proofs.LeftOutLines.{left_near, left_far}
-use Rattle.miette_folds.proofs.NearFolds.{around_alone}
+use Rattle.miette_snippet_rules.specs.rules.Folds.{Spread, is_beside_hidden, is_hidden}
+use Rattle.miette_folds.specs.views.Spreads.{spread_of}
+use Rattle.miette_folds.specs.views.LeftOut.{lines_of_bytes}
 use Rattle.miette_folds.proofs.left_out.is_left_out.Goals as goal
 
-pub returns-then-some_near : goal.returns-then-some_near
-returns-then-some_near c =
-    left_near c.args.limit c.args.place (line_of_text c.args.line.now) c.args.folds.now
-    (sym (c.around_line-near.ensures.around (λ f. not (hides c.args.limit f.first f.last f.label.around c.args.place)))
-    ∙ sym c.some_near.ensures ∙ c.if-some_near.true)
+pub returns-then-is_hidden : goal.returns-then-is_hidden
+returns-then-is_hidden c = λ labels among before.
+    let it = c.args.at.now in
+    let spreads : List Spread = map spread_of labels in
+    let own : is_hidden c.args.limit (lines_of_bytes it) (map spread_of labels) it.place (line_of_text it.line) ≡ true =
+    sym (c.is_hidden.ensures it.start it.bytes.now labels among) ∙ c.if-is_hidden.true in
+    c.is_beside_hidden.ensures labels among before own
+    ∙ sym (ap (λ b. b && is_beside_hidden c.args.limit (lines_of_bytes it) spreads it.place) own)
 
 pub returns : goal.returns
-returns c =
-    let line = line_of_text c.args.line.now in
-    left_far c.args.limit c.args.place line c.args.folds.now c.some_around.result
-    (sym (c.around_line-near.ensures.around (λ f. not (hides c.args.limit f.first f.last f.label.around c.args.place)))
-    ∙ sym c.some_near.ensures ∙ c.if-some_near.false)
-    (c.some_around.ensures ∙ around_alone line c.around_line-near.result.folds.now
-    ∙ c.around_line-near.ensures.around (λ f. true) ∙ sym (around_alone line c.args.folds.now))
+returns c = λ labels among before.
+    let it = c.args.at.now in
+    let spreads : List Spread = map spread_of labels in
+    let own : is_hidden c.args.limit (lines_of_bytes it) (map spread_of labels) it.place (line_of_text it.line) ≡ false =
+    sym (c.is_hidden.ensures it.start it.bytes.now labels among) ∙ c.if-is_hidden.false in
+    sym (ap (λ b. b && is_beside_hidden c.args.limit (lines_of_bytes it) spreads it.place) own)

@@ -1,13 +1,13 @@
-use Rattle.std.proofs.Common.{◌≡◌, ◌∙◌, ◌<◌, ℕ, false, length, None, refl, sym, ap, arith, rules}
+use Rattle.std.proofs.Common.{◌≡◌, ◌∙◌, false, None, refl, sym, ap, arith, rules}
 use Rattle.std.specs.List.{list_any}
 use Rattle.std.specs.Option.{option_copied, option_map}
 use Rattle.std.proofs.lemmas.Result.{on_ok_weaker}
-use Rattle.miette_protocol.specs.rules.Reading.{Source, Contents, contents_of}
+use Rattle.miette_protocol.specs.rules.Reading.{Source, Contents}
 use Rattle.miette_tree.specs.views.Owned.{shown_source}
+use Rattle.miette_tree.proofs.WholeReads.{read_whole}
 use Rattle.miette_graphical.specs.rules.Sources.{has_edits}
 use Rattle.miette_graphical.specs.views.Painting.{settings_of, source_shown}
 use Rattle.miette_graphical.proofs.ShownFixes.{over_read, over_unneeded}
-use Rattle.miette_graphical.proofs.WholeReads.{nowhere, whole_read}
 use Rattle.miette_graphical.proofs.fixes.push_some.Goals as goal
 
 pub returns-then-not-some_edits-clause-ok : goal.returns-then-not-some_edits-clause-ok
@@ -28,31 +28,16 @@ returns-in-Ok-clause-ok g c =
     let new = c.push_each-in-Ok.new.painter in
     let shown = source_shown g.S.SourceCode.source c.args.source in
     let source : Source = is c.in-Some.source in
-    let most : ℕ = 18446744073709551615 in
-    let begin : c.new-begin.result ≡ nowhere = search rules in
-    let lent : c.in-Ok.lent ≡ contents_of source nowhere 1 most =
-    c.in-Ok.ensures.1 ∙ ap (λ span. contents_of source span 1 most) begin in
-    let bytes : c.data.result.now ≡ (contents_of source nowhere 1 most).bytes =
-    c.data.ensures ∙ ap (λ (it : Contents). it.bytes) lent in
-    let small : length (contents_of source nowhere 1 most).bytes < most =
-    omega (arith, ap length bytes, c.data.type_inv.1) in
-    let whole : c.data.result.now ≡ source.bytes = bytes ∙ whole_read source most (omega arith) small in
+    let whole = read_whole source c.new-begin.result _ c.data.result.now (search rules) c.in-Ok.ensures.1 c.data.ensures
+    (omega (arith, c.data.type_inv.1)) in
     let name : option_copied c.name.result ≡ source.name =
-    c.name.ensures ∙ ap (λ (it : Contents). it.name) lent in
+    c.name.ensures ∙ ap (λ (it : Contents). it.name) c.in-Ok.ensures.1 in
     on_ok_weaker c.push_each-in-Ok.result (λ h. over_read (settings_of old) shown c.args.fixes.now old.out new.out
     (h shown false (source, ap (option_map is) c.in-Some.is, refl, sym whole, sym name)))
     c.push_each-in-Ok.ensures.text
 
 pub push_each-requires-in-Ok : goal.push_each-requires-in-Ok
 push_each-requires-in-Ok g c =
-    let is = shown_source g.S.SourceCode.source in
-    let source : Source = is c.in-Some.source in
-    let most : ℕ = 18446744073709551615 in
-    let begin : c.new-begin.result ≡ nowhere = search rules in
-    let lent : c.in-Ok.lent ≡ contents_of source nowhere 1 most =
-    c.in-Ok.ensures.1 ∙ ap (λ span. contents_of source span 1 most) begin in
-    let bytes : c.data.result.now ≡ (contents_of source nowhere 1 most).bytes =
-    c.data.ensures ∙ ap (λ (it : Contents). it.bytes) lent in
-    let small : length (contents_of source nowhere 1 most).bytes < most =
-    omega (arith, ap length bytes, c.data.type_inv.1) in
-    sym (bytes ∙ whole_read source most (omega arith) small)
+    let source : Source = shown_source g.S.SourceCode.source c.in-Some.source in
+    sym (read_whole source c.new-begin.result _ c.data.result.now (search rules) c.in-Ok.ensures.1 c.data.ensures
+    (omega (arith, c.data.type_inv.1)))

@@ -1,4 +1,4 @@
-use Rattle.std.proofs.Common.{ℕ, ◌≡◌, ◌≤◌, List, [], ◌∷◌, Option, Some, None, IfSome, refl, ap, ◌∙◌, false, cond, ltb}
+use Rattle.std.proofs.Common.{ℕ, ◌≡◌, ◌≤◌, List, [], ◌∷◌, Option, Some, None, IfSome, refl, ap, ◌∙◌}
 use Rattle.std.proofs.Common.{length}
 use Rattle.std.proofs.Common.{sym}
 use Rattle.std.proofs.Common.{subst}
@@ -8,19 +8,16 @@ use Rattle.miette_protocol.specs.rules.Reading.{Source}
 use Rattle.miette_labels.specs.rules.Contexts.{contents}
 use Rattle.miette_labels.specs.rules.Groups.{in_order}
 use Rattle.miette_cells.specs.rules.Cells.{Cell}
-use Rattle.miette_basics.proofs.Cases.{by_cases}
 use Rattle.miette_page.specs.rules.Rows.{glyphs_of}
-use Rattle.miette_snippet_rules.specs.rules.CutLines.{Stretch, cut_line, ends, is_near, shown_runs, stretches}
-use Rattle.miette_snippet_rules.specs.rules.Marks.{Mark}
+use Rattle.miette_snippet_rules.specs.rules.CutLines.{dots, dots_in, limit_of, shown_runs}
 use Rattle.miette_snippet_rules.specs.rules.PrintedCells.{cells_width}
-use Rattle.miette_row_laws.specs.laws.Cuts.{AreStretches, Fits, by_stretch}
+use Rattle.miette_row_laws.specs.laws.Cuts.{Fits}
 use Rattle.miette_graphical.specs.rules.Answers.{pieces_listed}
 use Rattle.miette_graphical.specs.rules.Settings.{Settings}
 use Rattle.miette_graphical.specs.laws.Headline.{EndsAreDrawn, LabelsAreFolded, LinesAreShown, MarksAreApart, TextsHang}
 use Rattle.miette_graphical.specs.laws.Headline.{SnippetHangs, drawn_labels, groups_of, group_settings}
 use Rattle.miette_graphical.specs.laws.Headline.{shown_lines, CutsAreExact, LinesThatFitStay, SnippetStays, cells_under}
-use Rattle.miette_graphical.specs.laws.Headline.{whole_marks}
-use Rattle.miette_graphical.specs.laws.Headline.{line_of}
+use Rattle.miette_graphical.specs.laws.Headline.{ends_under, line_of}
 use Rattle.miette_graphical.specs.rules.Sources.{HoldsOfSources, LabelledSource, after_labels, drawn_with, sources_of}
 use Rattle.miette_graphical.specs.rules.PrintedDiagnostics.{HoldsOfPrinted, PrintedDiagnostic, diagnostics_of}
 use Rattle.miette_graphical.specs.rules.Snippets.{snippet_settings, shown_rows, source_rows}
@@ -46,20 +43,6 @@ everywhere : (P : Settings → LabelledSource → Type 0) → ((s : Settings) (i
 everywhere P f s ps =
     each (HoldsOfPrinted P s) (λ p. over_sources P f (drawn_with p.meaning.snippets s) (sources_of p.source p.meaning))
     ps
-
--- a line that is cut is cut at the limit
-cut_whole : (o : Option ℕ) (limit : ℕ) (ms : List Mark) (cells : List Cell) (cut : List Stretch) → o ≡ Some limit
-    → cut_line o ms cells ≡ Some cut → cut ≡ stretches (is_near limit (ends ms)) false cells
-cut_whole None limit ms cells cut some is = absurd (cc)
-cut_whole (Some n) limit ms cells cut some is =
-    let same : n ≡ limit = cc in
-    by_cases {C = cut ≡ stretches (is_near limit (ends ms)) false cells} (ltb n (cells_width 0 cells))
-    (λ y. let there : Some (stretches (is_near n (ends ms)) false cells) ≡ Some cut =
-    sym (ap (λ b. cond b (Some (stretches (is_near n (ends ms)) false cells)) None) y) ∙ is in
-    let own : stretches (is_near n (ends ms)) false cells ≡ cut = cc in
-    sym own ∙ ap (λ m. stretches (is_near m (ends ms)) false cells) same)
-    (λ f. let none : None ≡ Some cut = sym (ap (λ b. cond b (Some (stretches (is_near n (ends ms)) false cells)) None)
-    f) ∙ is in absurd (cc))
 
 if_some : {A : Type 0} (P : A → Type 0) → ((x : A) → P x) → (o : Option A) → IfSome o P
 if_some P f None = tt
@@ -110,7 +93,8 @@ returns-clause-marks c = λ s t. everywhere MarksAreApart (λ s p.
     }) p.source) s (diagnostics_of s t)
 
 -- a line fits within the limit that there is
-fits_in : (o : Option ℕ) (limit : ℕ) (cells : List Cell) → o ≡ Some limit → cells_width 0 cells ≤ limit → Fits o cells
+fits_in : (o : Option ℕ) (limit : ℕ) (cells : List Cell) → o ≡ Some limit → cells_width 0 cells ≤ limit_of limit
+    → Fits o cells
 fits_in o limit cells some le = subst (λ (it : Option ℕ). Fits it cells) (sym some) le
 
 pub returns-clause-cuts : goal.returns-clause-cuts
@@ -120,23 +104,19 @@ returns-clause-cuts c = λ s t. everywhere CutsAreExact (λ s p.
     let lay = snippet_settings s in
     let drawn = drawn_labels s source labels in
     let line = line_of source k in
-    let cells = cells_under s source k in
-    let own = whole_marks s source labels k in record {
+    let cells = cells_under s source k in record {
       wide = c.wide_lines_are_cut.ensures.wide lay drawn source.bytes line limit some;
       fits = λ le. c.wide_lines_are_cut.ensures.fits lay drawn source.bytes line
           (fits_in s.layout.line_columns limit cells some le);
-      exact = λ cut is.
-          let whole : cut ≡ stretches (is_near limit (ends own)) false cells =
-          cut_whole lay.layout.line_columns limit own cells cut some is in record {
-            cells = ap by_stretch whole ∙ c.cut_lines_are_parted.ensures.cells (is_near limit (ends own)) cells;
-            parted = subst AreStretches (sym whole)
-                (c.cut_lines_are_parted.ensures.parted (is_near limit (ends own)) cells);
-            printed = λ pieces. ap (λ o. glyphs_of (shown_runs o pieces cells)) is
-                ∙ c.cut_lines_are_parted.ensures.printed pieces cut;
-            marks = c.marks_stand_on_their_characters.ensures.marks lay drawn source.bytes line cut is;
-          };
-      narrow = λ pieces widest wide. c.cut_rows_are_narrow.ensures.bound lay drawn source.bytes line pieces limit
-          widest some wide;
+      exact = λ cut is. record {
+        reach = c.lines_are_cut_by_reach.ensures lay drawn source.bytes line limit cut some is;
+        printed = λ pieces. ap (λ o. glyphs_of (shown_runs (dots lay.theme) o pieces cells)) is
+            ∙ c.cut_lines_are_parted.ensures.printed (dots lay.theme) pieces cut;
+        marks = c.marks_stand_on_their_characters.ensures.marks lay drawn source.bytes line cut is;
+      };
+      narrow = λ pieces. c.cut_rows_are_narrow.ensures.bound lay drawn source.bytes line pieces limit some;
+      ends = λ widest wide. c.cut_rows_are_narrow.ensures.ends lay source.bytes line (dots_in s.theme.characters)
+          widest (ends_under s source labels k) wide;
     }) p.source) s (diagnostics_of s t)
 
 pub returns-clause-fits : goal.returns-clause-fits
@@ -182,6 +162,7 @@ returns-clause-folds c = λ s t. everywhere LabelsAreFolded (λ s p.
           context;
       same = λ k. c.left_out_lines_are_inside.ensures.same _ _ limit s.layout.context_lines source.bytes labels k
           context;
+      pairs = c.left_out_lines_are_inside.ensures.pairs limit s.layout.context_lines source.bytes labels;
       short = λ fit pieces. short_rows limit s source labels (pieces_listed pieces) is
           (c.short_labels_stay.ensures (snippet_settings s) limit source labels (pieces_listed pieces) context accepted
           (none_listed pieces) fit);

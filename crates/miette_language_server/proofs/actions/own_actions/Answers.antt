@@ -11,9 +11,10 @@ use Rattle.miette_language_server.proofs.actions.own_actions.Goals as goal
 pub loop-it-preserved : goal.loop-it-preserved
 loop-it-preserved c =
     let l = c.loop-it in
-    joined_more (λ it. actions_at c.args.uri.now c.args.source.now c.args.region (coded_of it)) c.args.found.now l.it-index
-    c.it-item.result (map view l.list.items) (map view c.append.new.list.items) (map view c.in_ok-more.more.items)
-    c.loop-it-test.true c.it-item.is c.in_ok-append.ensures c.in_ok-more.ensures l.invariant
+    joined_more (λ it. actions_at c.args.uri.now c.args.source.now c.args.region (coded_of it)) c.args.found.now
+    l.it-index c.it-item.result (map view l.list.items) (map view c.append.new.list.items)
+    (map view c.in_ok-more.more.items) c.loop-it-test.true c.it-item.is c.in_ok-append.ensures c.in_ok-more.ensures
+    l.invariant
 
 pub returns : goal.returns
 returns c =

@@ -1,11 +1,17 @@
-use Rattle.std.proofs.Common.{Some, subst}
+use Rattle.std.proofs.Common.{◌≡◌, ℕ, List, Some, subst}
 use Rattle.miette_language_server.specs.declared.session.Outcome.{Outcome}
 use Rattle.miette_language_server.specs.declared.session.Outcome.TheVariants.{Ended, Nothing, Written}
-use Rattle.miette_language_server.specs.rules.Session.{step}
+use Rattle.miette_language_server.specs.rules.Session.{State, step}
 use Rattle.miette_language_server.specs.views.Answered.{IsFirstFrame, IsStep}
 use Rattle.miette_language_server.proofs.Floatless.{ended_below, written_floatless}
 use Rattle.miette_language_server.proofs.Turns.{served_ended, served_more, served_none, served_on}
 use Rattle.miette_language_server.proofs.serve.turn.Goals as goal
+
+-- a step on a body, and what it came to
+step_done : (s t : State) (slice body : List ℕ) (outcome told : Outcome) → slice ≡ body
+    → IsStep (step s slice) t outcome → outcome ≡ told → IsStep (step s body) t told
+step_done s t slice body outcome told same done is =
+    subst (λ (o : Outcome). IsStep (step s body) t o) is (subst (λ bs. IsStep (step s bs) t outcome) same done)
 
 pub returns-in-None-clause-served : goal.returns-in-None-clause-served
 returns-in-None-clause-served g c =
@@ -22,12 +28,7 @@ returns-in-Nothing-clause-served g c =
     let t = c.step.new.self in
     let body = c.in-Some.body in
     let first : IsFirstFrame old new (Some body) = subst (IsFirstFrame old new) c.in-Some.is c.in_ok-frame.ensures in
-    let done : IsStep (step s body.items) t c.in_ok-outcome.outcome =
-    subst (λ bs. IsStep (step s bs) t c.in_ok-outcome.outcome) c.as_slice.ensures.value c.in_ok-outcome.ensures
-    in
-    let is : IsStep (step s body.items) t Nothing =
-    subst (λ (o : Outcome). IsStep (step s body.items) t o) c.in-Nothing.is done
-    in
+    let is = step_done s t _ body.items _ Nothing c.as_slice.ensures.value c.in_ok-outcome.ensures c.in-Nothing.is in
     λ v status h. served_on s t old new (g.W.Write.contents c.args.writer.now) v body status first is h
 
 pub returns-in-Ended-clause-served : goal.returns-in-Ended-clause-served
@@ -38,12 +39,8 @@ returns-in-Ended-clause-served g c =
     let t = c.step.new.self in
     let body = c.in-Some.body in
     let first : IsFirstFrame old new (Some body) = subst (IsFirstFrame old new) c.in-Some.is c.in_ok-frame.ensures in
-    let done : IsStep (step s body.items) t c.in_ok-outcome.outcome =
-    subst (λ bs. IsStep (step s bs) t c.in_ok-outcome.outcome) c.as_slice.ensures.value c.in_ok-outcome.ensures
-    in
-    let is : IsStep (step s body.items) t (Ended c.in-Ended.status) =
-    subst (λ (o : Outcome). IsStep (step s body.items) t o) c.in-Ended.is done
-    in
+    let is = step_done s t _ body.items _ (Ended c.in-Ended.status) c.as_slice.ensures.value c.in_ok-outcome.ensures
+    c.in-Ended.is in
     served_ended s t old new (g.W.Write.contents c.args.writer.now) body c.in-Ended.status first is
 
 pub write_message-requires : goal.write_message-requires
@@ -61,12 +58,9 @@ returns-clause-served g c =
     let t = c.step.new.self in
     let body = c.in-Some.body in
     let first : IsFirstFrame old new (Some body) = subst (IsFirstFrame old new) c.in-Some.is c.in_ok-frame.ensures in
-    let done : IsStep (step s body.items) t c.in_ok-outcome.outcome =
-    subst (λ bs. IsStep (step s bs) t c.in_ok-outcome.outcome) c.as_slice.ensures.value c.in_ok-outcome.ensures
-    in
-    let is : IsStep (step s body.items) t (Written c.in-Written.message) =
-    subst (λ (o : Outcome). IsStep (step s body.items) t o) c.in-Written.is done
-    in
+    let is = step_done s t _ body.items _ (Written c.in-Written.message) c.as_slice.ensures.value
+    c.in_ok-outcome.ensures
+    c.in-Written.is in
     λ v status h. served_more s t old new (g.W.Write.contents c.args.writer.now)
     (g.W.Write.contents c.write_message.new.writer) v body c.in-Written.message status first is
     c.in_ok-write_message-in-Written.ensures h

@@ -1,10 +1,8 @@
-use Rattle.std.proofs.Common.{Option, ap, length, arith, subst, sym, rules, ◌∙◌}
+use Rattle.std.proofs.Common.{ap, length, arith, sym, rules, ◌∙◌}
 use Rattle.std.specs.List.{flat_map}
 use Rattle.miette_source_lines.specs.rules.Lines.{lines_of}
-use Rattle.miette_source_lines.specs.declared.lines.LineOfText.{LineOfText}
-use Rattle.miette_source_lines.specs.views.Walking.{GivesLine}
 use Rattle.miette_lint.specs.rules.Fixes.{fixed_line}
-use Rattle.miette_lint.proofs.FindingSteps.{left_first, left_more, left_none}
+use Rattle.miette_lint.proofs.FindingSteps.{given_line, left_first, left_more, left_none}
 use Rattle.miette_lint.proofs.Proposed.{fixed_applied}
 use Rattle.miette_lint.proofs.fixed.fixed.Goals as goal
 
@@ -14,8 +12,7 @@ loop-line-init c = left_first (fixed_line c.args.source.now c.ending_of-ending.r
 
 pub push_line-requires : goal.push_line-requires
 push_line-requires c =
-    let given = subst (λ (r : Option LineOfText). GivesLine c.loop-line.line-iterator r c.next.new.self) c.in-Some.is
-    c.next.ensures.steps in
+    let given = given_line c.loop-line.line-iterator c.next.new.self _ _ c.in-Some.is c.next.ensures.steps in
     record {
       text = given.0.text;
       ends = given.0.ending;
@@ -24,20 +21,14 @@ push_line-requires c =
 
 pub loop-line-preserved : goal.loop-line-preserved
 loop-line-preserved c =
-    let l = c.loop-line in
-    let given = subst (λ (r : Option LineOfText). GivesLine l.line-iterator r c.next.new.self) c.in-Some.is
-    c.next.ensures.steps in
-    left_more (fixed_line c.args.source.now c.ending_of-ending.result.now) (length c.args.source.now) l.line-iterator
-    c.next.new.self c.in-Some.line l.fixed.items c.push_line.new.fixed.items _ l.invariant given.0 given.1
-    c.in_ok-push_line.ensures
+    left_more (fixed_line c.args.source.now c.ending_of-ending.result.now) (length c.args.source.now)
+    c.loop-line.line-iterator c.next.new.self _ c.in-Some.line c.loop-line.fixed.items c.push_line.new.fixed.items _
+    c.loop-line.invariant c.in-Some.is c.next.ensures.steps c.in_ok-push_line.ensures
 
 pub returns : goal.returns
 returns c =
-    let l = c.loop-line in
-    let given = subst (λ (r : Option LineOfText). GivesLine l.line-iterator r c.next.new.self) c.in-None.is
-    c.next.ensures.steps in
     let all =
-    left_none (fixed_line c.args.source.now c.ending_of-ending.result.now) (length c.args.source.now) l.line-iterator
-    l.fixed.items _ l.invariant given.0
+    left_none (fixed_line c.args.source.now c.ending_of-ending.result.now) (length c.args.source.now)
+    c.loop-line.line-iterator _ _ c.loop-line.fixed.items _ c.loop-line.invariant c.in-None.is c.next.ensures.steps
     ∙ ap (λ e. flat_map (fixed_line c.args.source.now e) (lines_of c.args.source.now)) c.ending_of-ending.ensures in
     record { text = all; applied = all ∙ sym (fixed_applied c.args.source.now) }

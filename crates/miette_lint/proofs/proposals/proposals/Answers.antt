@@ -1,10 +1,8 @@
-use Rattle.std.proofs.Common.{Option, ap, length, arith, subst, rules, ◌∙◌}
+use Rattle.std.proofs.Common.{ap, length, arith, rules, ◌∙◌}
 use Rattle.std.specs.List.{flat_map}
 use Rattle.miette_source_lines.specs.rules.Lines.{lines_of}
-use Rattle.miette_source_lines.specs.declared.lines.LineOfText.{LineOfText}
-use Rattle.miette_source_lines.specs.views.Walking.{GivesLine}
 use Rattle.miette_lint.specs.rules.Fixes.{line_fixes}
-use Rattle.miette_lint.proofs.FindingSteps.{left_first, left_more, left_none}
+use Rattle.miette_lint.proofs.FindingSteps.{given_line, left_first, left_more, left_none}
 use Rattle.miette_lint.proofs.proposals.proposals.Goals as goal
 
 pub loop-line-init : goal.loop-line-init
@@ -13,24 +11,17 @@ loop-line-init c = left_first (line_fixes c.args.source.now c.ending_of-ending.r
 
 pub push_line-requires : goal.push_line-requires
 push_line-requires c =
-    let given = subst (λ (r : Option LineOfText). GivesLine c.loop-line.line-iterator r c.next.new.self) c.in-Some.is
-    c.next.ensures.steps in
+    let given = given_line c.loop-line.line-iterator c.next.new.self _ _ c.in-Some.is c.next.ensures.steps in
     record { text = given.0.text; within = omega (arith, given.0.ending, given.0.to, c.loop-line.invariant.to) }
 
 pub loop-line-preserved : goal.loop-line-preserved
 loop-line-preserved c =
-    let l = c.loop-line in
-    let given = subst (λ (r : Option LineOfText). GivesLine l.line-iterator r c.next.new.self) c.in-Some.is
-    c.next.ensures.steps in
-    left_more (line_fixes c.args.source.now c.ending_of-ending.result.now) (length c.args.source.now) l.line-iterator
-    c.next.new.self c.in-Some.line l.fixes.items c.push_line.new.fixes.items _ l.invariant given.0 given.1
-    c.in_ok-push_line.ensures
+    left_more (line_fixes c.args.source.now c.ending_of-ending.result.now) (length c.args.source.now)
+    c.loop-line.line-iterator c.next.new.self _ c.in-Some.line c.loop-line.fixes.items c.push_line.new.fixes.items _
+    c.loop-line.invariant c.in-Some.is c.next.ensures.steps c.in_ok-push_line.ensures
 
 pub returns : goal.returns
 returns c =
-    let l = c.loop-line in
-    let given = subst (λ (r : Option LineOfText). GivesLine l.line-iterator r c.next.new.self) c.in-None.is
-    c.next.ensures.steps in
-    left_none (line_fixes c.args.source.now c.ending_of-ending.result.now) (length c.args.source.now) l.line-iterator
-    l.fixes.items _ l.invariant given.0
+    left_none (line_fixes c.args.source.now c.ending_of-ending.result.now) (length c.args.source.now)
+    c.loop-line.line-iterator _ _ c.loop-line.fixes.items _ c.loop-line.invariant c.in-None.is c.next.ensures.steps
     ∙ ap (λ e. flat_map (line_fixes c.args.source.now e) (lines_of c.args.source.now)) c.ending_of-ending.ensures

@@ -3,7 +3,8 @@ use Rattle.std.proofs.lemmas.Result.{on_ok_weaker}
 use Rattle.miette_fixes.specs.rules.Applying.{refusal}
 use Rattle.miette_fixes.specs.views.Ordered.{edits_of}
 use Rattle.miette_fixes.proofs.Overlaps.{sorted_inside}
-use Rattle.miette_narrated.proofs.Fixing.{applied_inside, outside_told}
+use Rattle.miette_tree.proofs.Refusals.{applied_inside}
+use Rattle.miette_narrated.proofs.Fixing.{outside_told}
 use Rattle.miette_narrated.proofs.fixes.push_applied.Goals as goal
 
 pub push_edits-requires : goal.push_edits-requires

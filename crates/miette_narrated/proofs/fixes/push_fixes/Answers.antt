@@ -1,24 +1,18 @@
-use Rattle.std.proofs.Common.{◌≡◌, ℕ, ◌<◌, ap, ◌∙◌, length, string_bytes, arith, rules}
+use Rattle.std.proofs.Common.{ap, string_bytes, arith, rules}
 use Rattle.std.specs.Option.{option_map}
 use Rattle.std.proofs.lemmas.Result.{on_ok_weaker}
-use Rattle.miette_protocol.specs.rules.Reading.{Source, Contents, contents_of}
+use Rattle.miette_protocol.specs.rules.Reading.{Source}
 use Rattle.miette_tree.specs.views.Owned.{shown_source}
-use Rattle.miette_narrated.proofs.Fixing.{nowhere, whole_read, over_read}
+use Rattle.miette_tree.proofs.WholeReads.{read_whole}
+use Rattle.miette_narrated.proofs.Fixing.{over_read}
 use Rattle.miette_narrated.proofs.fixes.push_fixes.Goals as goal
 
 pub returns-in-Ok : goal.returns-in-Ok
 returns-in-Ok g c =
     let is = shown_source g.S.SourceCode.source in
     let source : Source = is c.in-Some.source in
-    let most : ℕ = 18446744073709551615 in
-    let begin : c.new-begin.result ≡ nowhere = search rules in
-    let lent : c.in-Ok.lent ≡ contents_of source nowhere 1 most =
-    c.in-Ok.ensures.1 ∙ ap (λ span. contents_of source span 1 most) begin in
-    let bytes : c.data.result.now ≡ (contents_of source nowhere 1 most).bytes =
-    c.data.ensures ∙ ap (λ (it : Contents). it.bytes) lent in
-    let small : length (contents_of source nowhere 1 most).bytes < most =
-    omega (arith, ap length bytes, c.data.type_inv.1) in
-    let whole : c.data.result.now ≡ source.bytes = bytes ∙ whole_read source most (omega arith) small in
+    let whole = read_whole source c.new-begin.result _ c.data.result.now (search rules) c.in-Ok.ensures.1 c.data.ensures
+    (omega (arith, c.data.type_inv.1)) in
     on_ok_weaker c.push_over.result (λ h. over_read (option_map is c.args.source) source c.data.result.now
     c.args.fixes.now (string_bytes c.args.out.now) (string_bytes c.push_over.new.out)
     (ap (option_map is) c.in-Some.is) whole h) c.push_over.ensures

@@ -12,31 +12,24 @@ use Rattle.miette_report.specs.rules.Fixing.{asked_edits, fixed_text, some_left,
 use Rattle.miette_report.proofs.FixSteps.{asked_lists}
 use Rattle.miette_report.proofs.fixing.fixed.Goals as goal
 
-pub returns-in-Some-clause-text : goal.returns-in-Some-clause-text
-returns-in-Some-clause-text g c =
+pub returns-in-Some : goal.returns-in-Some
+returns-in-Some g c =
     let t = tree_of g.D.Diagnostic.meaning g.S.SourceCode.source c.args.report.now in
     let source = shown_source g.S.SourceCode.source c.in-Some.source in
     let some : source_of t ≡ Some source =
     sym c.source_code.ensures ∙ ap (option_map (shown_source g.S.SourceCode.source)) c.in-Some.is in
     let lists = asked_lists c.args.all t c.deref.result.now c.in_ok-list.list.items c.in_ok-found.found.items
     c.new.result.items c.deref.ensures.value c.in_ok-list.ensures c.in_ok-found.ensures c.new.ensures.items in
-    IfOk-weaker c.fixed_over.result _ _
-    (λ it p. p ∙ ap (all_applied (whole_text source)) lists
-    ∙ ap (λ o. fixed_text o (asked_edits c.args.all t)) (sym some))
-    c.fixed_over.ensures.text
-
-pub returns-in-Some-clause-left : goal.returns-in-Some-clause-left
-returns-in-Some-clause-left g c =
-    let t = tree_of g.D.Diagnostic.meaning g.S.SourceCode.source c.args.report.now in
-    let source = shown_source g.S.SourceCode.source c.in-Some.source in
-    let some : source_of t ≡ Some source =
-    sym c.source_code.ensures ∙ ap (option_map (shown_source g.S.SourceCode.source)) c.in-Some.is in
-    let lists = asked_lists c.args.all t c.deref.result.now c.in_ok-list.list.items c.in_ok-found.found.items
-    c.new.result.items c.deref.ensures.value c.in_ok-list.ensures c.in_ok-found.ensures c.new.ensures.items in
-    IfOk-weaker c.fixed_over.result _ _
-    (λ it p. p ∙ ap (λ l. list_any not (taken (length (whole_text source)) [] l)) lists
-    ∙ ap (λ o. some_left o (asked_edits c.args.all t)) (sym some))
-    c.fixed_over.ensures.left
+    record {
+      text = IfOk-weaker c.fixed_over.result _ _
+          (λ it p. p ∙ ap (all_applied (whole_text source)) lists
+          ∙ ap (λ o. fixed_text o (asked_edits c.args.all t)) (sym some))
+          c.fixed_over.ensures.text;
+      left = IfOk-weaker c.fixed_over.result _ _
+          (λ it p. p ∙ ap (λ l. list_any not (taken (length (whole_text source)) [] l)) lists
+          ∙ ap (λ o. some_left o (asked_edits c.args.all t)) (sym some))
+          c.fixed_over.ensures.left;
+    }
 
 pub returns-clause-left : goal.returns-clause-left
 returns-clause-left g c =

@@ -87,8 +87,8 @@ loop-preserved g c =
       led = led-on follow c.args.handler.now l.handler c.show_row.new.handler l.invariant.led
           c.in_ok-kind.ensures.led;
       progress = progress.more c.args.from gives found _ _ _ _ _ _ _ _ _ l.number l.verdict c.with-verdict.result row
-          kind shown.0 c.in_ok-following.following some l.invariant.progress c.in_ok-following.ensures.part is_shown shown.2
-          c.in_ok-note.ensures.noted c.with-verdict.ensures c.in_ok-following.ensures.number;
+          kind shown.0 c.in_ok-following.following some l.invariant.progress c.in_ok-following.ensures.part is_shown
+          shown.2 c.in_ok-note.ensures.noted c.with-verdict.ensures c.in_ok-following.ensures.number;
     }
 
 pub returns-in_err-following-clause-beginning : goal.returns-in_err-following-clause-beginning

@@ -1,18 +1,16 @@
-use Rattle.std.proofs.Common.{◌≡◌, ◌∙◌, ◌++◌, ap, sym}
+use Rattle.std.proofs.Common.{◌≡◌, ◌∙◌, ◌++◌, ap, sym, true}
 use Rattle.std.proofs.lemmas.Result.{on_ok_weaker}
-use Rattle.miette_runs.specs.rules.Sequences.{spell}
-use Rattle.miette_text.specs.rules.Wrapping.{wrapped_tokens}
+use Rattle.std.proofs.lemmas.Str.{chars_from_encodes}
+use Rattle.miette_runs.specs.rules.Sequences.{spell, tokens}
+use Rattle.miette_text.specs.rules.Wrapping.{wrapped_text}
 use Rattle.miette_text.specs.views.Plans.{printed_plan, runs_plan}
-use Rattle.miette_text.proofs.Simple.{wrapped-read}
+use Rattle.miette_text.proofs.Simple.{wrapped-filled, wrapped-read}
 use Rattle.miette_text.proofs.wrap.wrap.Goals as goal
 
-pub returns-then-are_settled : goal.returns-then-are_settled
-returns-then-are_settled c =
-    let p = c.args.plan in
-    let text = c.args.text.now in
-    let is = c.are_settled.ensures in
-    let t = c.if-are_settled.true in
-    on_ok_weaker c.push_wrapped.result (λ (h : c.push_wrapped.new.out
-    ≡ c.args.out.now ++ spell (wrapped_tokens (runs_plan p) text)). h
-    ∙ ap (λ us. c.args.out.now ++ us) (wrapped-read (printed_plan p) p.first.now p.further.now text (spell text)
-    (sym (is.first t)) (sym (is.further t)) (sym (is.text t)))) c.push_wrapped.ensures
+pub returns : goal.returns
+returns c =
+    let printed = c.as_str.result.now in
+    on_ok_weaker c.wrap_text.result (λ h. h
+    ∙ ap (λ cs. c.args.out.now ++ wrapped_text (printed_plan c.args.plan) cs)
+    (sym (chars_from_encodes (spell c.args.text.now) printed c.as_str.utf8
+    (sym (c.as_str.ensures.value ∙ c.in_ok-text.ensures))))) c.wrap_text.ensures

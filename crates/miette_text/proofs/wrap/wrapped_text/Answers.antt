@@ -1,4 +1,5 @@
-use Rattle.std.proofs.Common.{◌∙◌, ◌++◌, Bool, List, ℕ, ap, chars, string_bytes}
+use Rattle.std.proofs.Common.{◌∙◌, ◌++◌, Bool, List, ℕ, ap, chars, refl, string_bytes}
+use Rattle.miette_runs.specs.rules.Sequences.{tokens}
 use Rattle.miette_runs.proofs.Outputs.{printed-bytes}
 use Rattle.miette_text.specs.rules.Wrapping.{Plan, wrapped_text}
 use Rattle.miette_text.specs.views.Plans.{options_plan}
@@ -21,7 +22,6 @@ returns c =
     printed-bytes c.in_ok-out.out c.push_wrapped.new.out (wrapped_text p text) c.in_ok-out.ensures.bytes
     (c.in_ok-push_wrapped.ensures
     ∙ ap (λ us. chars (string_bytes c.in_ok-out.out) ++ us)
-    (wrapped-read (plan c.cuts_hyphens-hyphens.result) c.in_ok-first.first c.in_ok-further.further c.in_ok-read.read
-    text
-    c.in_ok-first.ensures.tokens c.in_ok-further.ensures.tokens c.in_ok-read.ensures.tokens
+    (wrapped-read (plan c.cuts_hyphens-hyphens.result) c.in_ok-first.first c.in_ok-further.further (tokens text) text
+    c.in_ok-first.ensures.tokens c.in_ok-further.ensures.tokens refl
     ∙ ap (λ v. wrapped_text (plan v) text) c.cuts_hyphens-hyphens.ensures))

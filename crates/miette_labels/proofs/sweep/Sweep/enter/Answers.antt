@@ -7,26 +7,16 @@ pub loop-next-init : goal.loop-next-init
 loop-next-init c = swept_first c.args.labels.now c.args.line.now c.args.self.now.next c.args.self.now.running.items
     c.clear.new.self.items c.requires.some c.requires.at c.clear.ensures.items
 
-pub returns-clause-alone : goal.returns-clause-alone
-returns-clause-alone c =
+pub returns : goal.returns
+returns c =
     let over : IsOver c.args.labels.now c.args.line.now c.loop-next.next =
     λ lt. elim c.loop-next-test.branch [
       | then-loop-next-test+else-labels-next w ↦ omega arith
-      | else-loop-next-test w
-          ↦ absurd (omega arith)
+      | else-loop-next-test w ↦ absurd (omega arith)
     ] in
-    swept_one c.args.labels.now c.args.line.now c.loop-next.next c.loop-next.self.alone.items
-    c.loop-next.self.running.items
-    c.requires.sorted c.requires.some over c.loop-next.invariant
-
-pub returns-clause-on : goal.returns-clause-on
-returns-clause-on c =
-    let over : IsOver c.args.labels.now c.args.line.now c.loop-next.next =
-    λ lt. elim c.loop-next-test.branch [
-      | then-loop-next-test+else-labels-next w ↦ omega arith
-      | else-loop-next-test w
-          ↦ absurd (omega arith)
-    ] in
-    swept_on c.args.labels.now c.args.line.now c.loop-next.next c.loop-next.self.alone.items
-    c.loop-next.self.running.items
-    c.requires.sorted c.requires.some over c.loop-next.invariant
+    record {
+      alone = swept_one c.args.labels.now c.args.line.now c.loop-next.next c.loop-next.self.alone.items
+          c.loop-next.self.running.items c.requires.sorted c.requires.some over c.loop-next.invariant;
+      on = swept_on c.args.labels.now c.args.line.now c.loop-next.next c.loop-next.self.alone.items
+          c.loop-next.self.running.items c.requires.sorted c.requires.some over c.loop-next.invariant;
+    }

@@ -1,7 +1,6 @@
 use Rattle.std.proofs.Common.{◌∙◌, sym, chars, length, eqb-true}
 use Rattle.std.proofs.lemmas.Result.{on_ok_weaker}
-use Rattle.miette_page.specs.views.Printouts.{Printout}
-use Rattle.miette_page.proofs.Paging.{none_bytes, nonzero, page_put, some-chars}
+use Rattle.miette_page.proofs.Paging.{none_bytes, nonzero, page_put, printed_as, some-chars}
 use Rattle.miette_page.proofs.page.Page.push_str.Goals as goal
 
 pub returns-then-is_empty : goal.returns-then-is_empty
@@ -10,11 +9,7 @@ returns-then-is_empty g c = none_bytes c.args.self.now c.args.text.now
 
 pub returns : goal.returns
 returns g c =
-    let started : Printout = record {
-      text = g.O.Canvas.written c.self.inside.out;
-      style = c.self.inside.style;
-      begun = c.self.inside.begun;
-    } in
+    let started = printed_as (g.O.Canvas.written c.self.inside.out) c.self.inside.style c.self.inside.begun in
     on_ok_weaker c.push_str.result
     (page_put c.args.self.now started (g.O.Canvas.written c.push_str.new.self) (chars c.args.text.now)
     (some-chars c.args.text.now c.utf8.text (nonzero (length c.args.text.now)

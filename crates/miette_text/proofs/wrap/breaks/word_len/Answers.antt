@@ -25,35 +25,26 @@ returns-then-not-is_hyphen-clause-len c =
     walked-over c.args.start (state_in c.rest.place) i c.index-codes-i.result cs v.walked c.index-codes-i.is
     c.rest-test.true (ap₂ (λ (j f : Bool). not j && f) e c.in-Broken.ensures.1)
 
-pub returns-in-Other-clause-len : goal.returns-in-Other-clause-len
-returns-in-Other-clause-len c =
+pub returns-in-Other : goal.returns-in-Other
+returns-in-Other c =
     let cs = c.args.codes.now in
     let i = c.rest.i in
     let v = c.rest.invariant in
     let n = c.rest_len-len-in-Other.result.0 in
     let j = c.is_hyphen-in-Other.result in
-    (walked-rest c.args.start (state_in c.rest.place) c.rest_len-len-in-Other.result.1 i n j cs v.walked
+    let walked = walked-rest c.args.start (state_in c.rest.place) c.rest_len-len-in-Other.result.1 i n j cs v.walked
     (c.is_hyphen-in-Other.ensures
     ∙ ap is_hyphen (c.index-codes-i-in-Other.is ∙ behind-last 0 i _ cs v.some v.within))
     (c.rest_len-len-in-Other.ensures.len
     ∙ ap₂ (λ s xs. piece_len s j xs) c.state-in-Other.ensures (take_rest cs i))
     (c.rest_len-len-in-Other.ensures.state
-    ∙ ap₂ (λ s xs. state_at s n xs) c.state-in-Other.ensures (take_rest cs i))).0
-
-pub returns-in-Other-clause-state : goal.returns-in-Other-clause-state
-returns-in-Other-clause-state c =
-    let cs = c.args.codes.now in
-    let i = c.rest.i in
-    let v = c.rest.invariant in
-    let n = c.rest_len-len-in-Other.result.0 in
-    let j = c.is_hyphen-in-Other.result in
-    (walked-rest c.args.start (state_in c.rest.place) c.rest_len-len-in-Other.result.1 i n j cs v.walked
-    (c.is_hyphen-in-Other.ensures
-    ∙ ap is_hyphen (c.index-codes-i-in-Other.is ∙ behind-last 0 i _ cs v.some v.within))
-    (c.rest_len-len-in-Other.ensures.len
-    ∙ ap₂ (λ s xs. piece_len s j xs) c.state-in-Other.ensures (take_rest cs i))
-    (c.rest_len-len-in-Other.ensures.state
-    ∙ ap₂ (λ s xs. state_at s n xs) c.state-in-Other.ensures (take_rest cs i))).1
+    ∙ ap₂ (λ s xs. state_at s n xs) c.state-in-Other.ensures (take_rest cs i)) in
+    record {
+      len = walked.0;
+      state = walked.1;
+      printed = λ printed. absurd (cc);
+      within = grind arith;
+    }
 
 impossible : {A : Type 0} → false ≡ true → A
 impossible h = absurd (cc)

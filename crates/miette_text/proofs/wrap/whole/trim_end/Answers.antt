@@ -1,6 +1,6 @@
 use Rattle.std.proofs.Common.{◌∙◌, ap, sym, take}
 use Rattle.miette_runs.specs.views.Interleaving.{interleaving}
-use Rattle.miette_text.proofs.InterleavedLines.{trimmed-woven}
+use Rattle.miette_text.proofs.TrimmedIndents.{trimmed-woven}
 use Rattle.miette_text.proofs.wrap.whole.trim_end.Goals as goal
 
 pub returns : goal.returns

@@ -1,0 +1,36 @@
+-- Sources that are texts.
+use Rattle.std.proofs.Common.{◌≡◌, ◌∙◌, ◌<◌, ℕ, List, ap, arith, length, subst, sym, true, false}
+use Rattle.std.specs.Prelude.{IsUtf8, Result, Ok, Err, is_err}
+use Rattle.miette_protocol.specs.rules.Outcome.{Answers, Refuses}
+use Rattle.miette_protocol.specs.rules.Reading.{Contents, Source, Span, contents_of}
+use Rattle.miette_protocol.specs.declared.error.MietteError.{MietteError}
+use Rattle.miette_brief.proofs.Fixing.{fault_met, nowhere, whole_read}
+use Rattle.miette.specs.rules.Texts.{IsText}
+
+pub text_made : (source : Source) (bytes : List ℕ) → source.bytes ≡ bytes → source.always_reads ≡ true → IsUtf8 bytes
+    → IsText source
+text_made source bytes e reads text = record {
+  utf8 = subst IsUtf8 (sym e) text;
+  reads = reads;
+}
+
+-- the largest number of context lines reaches the end
+abbrev pub most : ℕ
+most = 18446744073709551615
+
+pub whole : (source : Source) (lent : Contents) (bytes : List ℕ) → lent ≡ contents_of source nowhere 1 most
+    → bytes ≡ lent.bytes → length bytes < most → bytes ≡ source.bytes
+whole source lent bytes is at small =
+    let same : bytes ≡ (contents_of source nowhere 1 most).bytes = at ∙ ap (λ (it : Contents). it.bytes) is in
+    same ∙ whole_read source most (omega arith) (omega (arith, ap length same, small))
+
+-- its beginning can be read
+pub never_refused : (source : Source) (e : MietteError) → IsText source → Refuses source nowhere e → ⊥
+never_refused source e text refused =
+    (let no : true ≡ false = sym text.reads ∙ fault_met source e refused in cc)
+
+pub always_ok : (source : Source) (span : Span) (r : Result Contents MietteError) → IsText source → span ≡ nowhere
+    → Answers source span 1 most r → is_err r ≡ true → ⊥
+always_ok source span (Ok x) text begin answers h = (let no : false ≡ true = h in cc)
+always_ok source span (Err e) text begin answers h =
+    never_refused source e text (subst (λ s. Refuses source s e) begin answers)

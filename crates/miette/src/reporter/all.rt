@@ -1,0 +1,30 @@
+//! All reports of a run at once.
+
+ghost use Rattle.std.specs.Prelude.{◌≡◌, Option, map};
+ghost use Rattle.std.specs.Process.{exit_status};
+ghost use Rattle.miette.specs.declared.print.PrintError.{PrintError};
+ghost use Rattle.miette.specs.rules.Counting.{with_all};
+ghost use Rattle.miette.specs.rules.Run.{run_status};
+ghost use Rattle.miette.specs.views.Severities.{severity_of};
+
+use crate::reporter::run::Reporter;
+use miette_handlers::handlers::ReportHandler;
+use miette_protocol::protocol::Diagnostic;
+use miette_protocol::source::SourceCode;
+use miette_tree::report::Report;
+use std::io::Write;
+use std::process::ExitCode;
+
+impl<T: ReportHandler + Drop, W: Write + Drop, F: Write + Drop> Reporter<T, W, F> {
+    /// Reports these, as `report` does, also behind one that can't be told, and ends the run, as `finish` does. The
+    /// status is 0 where no error was reported and all was written, else 1.
+    pub fn report_all<D: Diagnostic, S: SourceCode>(mut self, reports: &[Report<D, S>]) -> ExitCode
+        ensures { (failure : Option PrintError) × (exit_status result ≡ run_status (with_all self.counts
+            (map (severity_of D.meaning S.source) reports.now)) failure) }
+    {
+        for report in reports {
+            let _ = self.report(report);
+        }
+        self.finish()
+    }
+}

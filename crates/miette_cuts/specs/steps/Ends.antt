@@ -1,0 +1,19 @@
+-- The ends of labels of several lines, label by label.
+use Rattle.std.specs.Prelude.{ℕ, ◌-◌, List, [], ◌∷◌, Bool, ◌||◌, if◌then◌else◌}
+use Rattle.miette_source_lines.specs.rules.Lines.{Line}
+use Rattle.miette_labels.specs.declared.sweep.PlacedLabel.{PlacedLabel}
+use Rattle.miette_labels.specs.rules.Labels.{DrawnLabel, starts_on, ends_on}
+use Rattle.miette_labels.specs.views.GivenLabels.{drawn_of}
+use Rattle.miette_snippet_rules.specs.rules.Marks.{Text}
+use Rattle.miette_snippet_rules.specs.rules.PrintedCells.{first_column, last_column}
+
+-- whether a label begins or ends on a line
+abbrev pub has_end : Line → PlacedLabel → Bool
+has_end line label = starts_on line (drawn_of label) || ends_on line (drawn_of label)
+
+-- the column at which it does
+abbrev pub spread_end : Line → Text → DrawnLabel → List ℕ
+spread_end line text label =
+    if starts_on line label then first_column text.cells text.text_end text.width label.start ∷ []
+    else if ends_on line label then (last_column text.cells text.text_end text.width label.after - 1) ∷ []
+    else []

@@ -1,0 +1,27 @@
+-- A line of some bytes, as a program asks whether it is left out.
+use Rattle.std.specs.Prelude.{ℕ, ◌-◌, ◌≡◌, List, ◌∷◌, map, drop, Option, Bool}
+use Rattle.miette_source_lines.specs.rules.Lines.{Line, lines_from}
+use Rattle.miette_source_lines.specs.views.Walking.{line_of_text}
+use Rattle.miette_folds.specs.declared.folds.Fold.{Fold}
+use Rattle.miette_folds.specs.declared.folds.Spread.{Spread as MadeSpread}
+use Rattle.miette_folds.specs.declared.left_out.PlacedLine.{PlacedLine}
+use Rattle.miette_folds.specs.views.Folding.{fold_in}
+use Rattle.miette_snippet_rules.specs.rules.Folds.{Spread, leaves_out, line_at}
+
+-- the lines of the bytes
+abbrev pub lines_of_bytes : PlacedLine → List Line
+lines_of_bytes at = lines_from at.start at.bytes.now
+
+-- behind so many of them stand the line and those of the bytes behind it
+abbrev pub IsThere : PlacedLine → Type 0
+IsThere at = drop at.place (lines_of_bytes at)
+    ≡ line_of_text at.line ∷ lines_from at.line.end (drop (at.line.end - at.start) at.bytes.now)
+
+-- some folds are labels among these lines
+abbrev pub AreAmong : PlacedLine → List Fold → List MadeSpread → Type 0
+AreAmong at folds labels = folds ≡ map (fold_in at.start at.bytes.now) labels
+
+-- whether the line before it is left out; before the first one stands none
+abbrev pub was_left_out : Option ℕ → PlacedLine → List Spread → Bool
+was_left_out limit at labels =
+    leaves_out limit (lines_of_bytes at) labels (at.place - 1) (line_at (lines_of_bytes at) (at.place - 1))

@@ -1,0 +1,51 @@
+-- Rows of the 26 letters, as they are cut.
+use Rattle.std.specs.Prelude.{ℕ, ◌≡◌, List, [], ◌∷◌, Some, codes, false, map}
+use Rattle.miette_labels.specs.rules.Labels.{DrawnLabel}
+use Rattle.miette_page.specs.rules.Rows.{glyphs_of}
+use Rattle.miette_snippet_rules.specs.rules.Settings.{SnippetSettings}
+use Rattle.miette_snippet_rules.specs.rules.SnippetLayout.{cells_of}
+use Rattle.miette_source_lines.specs.rules.Lines.{Line}
+use Rattle.miette_style.specs.rules.Styles.{plain}
+use Rattle.miette_style.specs.rules.Themes.{Characters, ascii_characters, unicode_characters}
+use Rattle.miette_row_laws.specs.laws.Pictures.{text_of_line}
+
+-- settings with these characters of a theme and this limit, in which each character has one column
+abbrev pub cut_to_columns : Characters → ℕ → SnippetSettings → SnippetSettings
+cut_to_columns characters limit s = record s {
+  theme = record s.theme { characters = characters };
+  width = λ code. 1;
+  layout = record s.layout { line_columns = Some limit };
+}
+
+-- a source's first line, and its terminator
+abbrev pub letters : List ℕ
+letters = codes "abcdefghijklmnopqrstuvwxyz\n"
+
+abbrev pub letters_line : Line
+letters_line = record { start = 0; text_end = 26; end = 27 }
+
+-- a label from one offset up to another, with these parts of a text
+abbrev pub label_over : ℕ → ℕ → List (List ℕ) → DrawnLabel
+label_over start after parts = record { start = start; after = after; style = plain; parts = parts; behind = false }
+
+-- what is shown of the letters, where just this label lies on their line
+abbrev pub letters_shown : SnippetSettings → List DrawnLabel → List ℕ
+letters_shown s labels =
+    map (λ g. g.code) (glyphs_of (text_of_line s labels letters_line (cells_of s letters letters_line) []))
+
+-- without a label, in Unicode and in ASCII; at a limit below 8
+pub record AreFirstShown (s : SnippetSettings) : Type 0 where
+  pub unicode : letters_shown (cut_to_columns unicode_characters 8 s) [] ≡ codes "abcdefg…"
+  pub ascii : letters_shown (cut_to_columns ascii_characters 8 s) [] ≡ codes "abcde..."
+  pub limit : letters_shown (cut_to_columns unicode_characters 1 s) [] ≡ codes "abcdefg…"
+
+-- around the 14th letter; around the 4th, 13th and 21st, at the ends and under the text of a label over those between,
+-- and without its text; where a label of several lines begins
+pub record AreEndsShown (s : SnippetSettings) : Type 0 where
+  pub one : letters_shown (cut_to_columns unicode_characters 8 s) (label_over 13 13 ([] ∷ []) ∷ []) ≡ codes "…lmnop…"
+  pub ascii : letters_shown (cut_to_columns ascii_characters 8 s) (label_over 13 13 ([] ∷ []) ∷ []) ≡ codes "...n..."
+  pub ends : letters_shown (cut_to_columns unicode_characters 8 s) (label_over 3 21 ([] ∷ []) ∷ []) ≡ codes "…d…m…u…"
+  pub wide : letters_shown (cut_to_columns ascii_characters 8 s) (label_over 3 21 ([] ∷ []) ∷ [])
+      ≡ codes "abcd...m...u..."
+  pub bare : letters_shown (cut_to_columns unicode_characters 8 s) (label_over 3 21 [] ∷ []) ≡ codes "…d…u…"
+  pub begin : letters_shown (cut_to_columns unicode_characters 12 s) (label_over 20 53 [] ∷ []) ≡ codes "…pqrstuvwxyz"

@@ -1,0 +1,51 @@
+//! The first LF or CR of bytes, found a block at a time.
+
+ghost use Rattle.std.specs.Prelude.{◌≡◌, map, not};
+ghost use Rattle.std.specs.List.{prefix_len};
+ghost use Rattle.std.specs.Simd.Lanes.{mask_l};
+ghost use Rattle.memchr.specs.Find.{IsFirstByte, is_byte2};
+
+use std::simd::prelude::*;
+
+/// How many bytes are looked at together.
+const BLOCK: usize = 32;
+
+/// Where the first LF or CR stands.
+pub(crate) fn first_newline(bytes: &[u8]) -> Option<usize>
+    ensures { IsFirstByte (is_byte2 10 13) bytes.now result }
+{
+    let len = text_len(bytes);
+    if len < bytes.len() { Some(len) } else { None }
+}
+
+/// How many bytes stand before it, or at all.
+fn text_len(bytes: &[u8]) -> usize
+    ensures { result ≡ prefix_len (λ b. not (is_byte2 10 13 b)) bytes.now }
+{
+    let mut len = 0;
+    while bytes.len() - len >= BLOCK {
+        let found = newlines_in(u8x32::from_slice(&bytes[len..]));
+        if found != 0 {
+            return len + found.trailing_zeros() as usize;
+        }
+        len += BLOCK;
+    }
+    while len < bytes.len() && !is_newline(bytes[len]) {
+        len += 1;
+    }
+    len
+}
+
+/// A bit for each byte of a block, the lowest for its first: whether it is LF or CR.
+#[inline(always)]
+fn newlines_in(block: u8x32) -> u64
+    ensures { result ≡ mask_l (map (is_byte2 10 13) block) }
+{
+    (block.simd_eq(u8x32::splat(b'\n')) | block.simd_eq(u8x32::splat(b'\r'))).to_bitmask()
+}
+
+fn is_newline(byte: u8) -> bool
+    ensures { result ≡ is_byte2 10 13 byte }
+{
+    byte == b'\n' || byte == b'\r'
+}

@@ -1,0 +1,107 @@
+//! Lines in which nothing is seen.
+
+ghost use Rattle.std.specs.Prelude.{◌≡◌, ◌∷◌, ℕ, Bool, List, chars};
+ghost use Rattle.miette_runs.specs.rules.Sequences.{tokens};
+ghost use Rattle.miette_text.specs.declared.wrap.white.Place.TheVariants.{Outside, Escape, Control, Command};
+ghost use Rattle.miette_text.specs.steps.WholeText.{are_passed, passed_from, passed_through};
+
+// Where a walk over a line stands: between sequences, or behind what begins one.
+#[derive(Clone, Copy)]
+enum Place {
+    Outside,
+    // behind ESC
+    Escape,
+    // behind `ESC [`
+    Control,
+    // behind `ESC ]`
+    Command,
+    // behind an ESC that stands there
+    CommandEscape,
+}
+
+// Behind one more character that is in no sequence.
+fn behind_character(c: char, blanks: bool) -> Option<Place>
+    ensures { (cs : List ℕ) → passed_from Outside blanks (c ∷ cs) ≡ passed_through result blanks cs }
+{
+    if c == '\u{1B}' {
+        return Some(Place::Escape);
+    }
+    if !blanks {
+        return None;
+    }
+    if c.is_whitespace() {
+        Some(Place::Outside)
+    } else {
+        None
+    }
+}
+
+// Behind the character after ESC.
+fn behind_escape(c: char) -> Option<Place>
+    ensures { (blanks : Bool) (cs : List ℕ) → passed_from Escape blanks (c ∷ cs) ≡ passed_through result blanks cs }
+{
+    match c {
+        '[' => Some(Place::Control),
+        ']' => Some(Place::Command),
+        _ => None,
+    }
+}
+
+// Behind one more character of `ESC [`.
+fn behind_control(c: char) -> Option<Place>
+    ensures { (blanks : Bool) (cs : List ℕ) → passed_from Control blanks (c ∷ cs) ≡ passed_through result blanks cs }
+{
+    if c == '\n' {
+        return None;
+    }
+    if '\u{40}' <= c && c <= '\u{7E}' {
+        return Some(Place::Outside);
+    }
+    Some(Place::Control)
+}
+
+// Behind one more character of `ESC ]`.
+fn behind_command(c: char) -> Option<Place>
+    ensures { (blanks : Bool) (cs : List ℕ) → passed_from Command blanks (c ∷ cs) ≡ passed_through result blanks cs }
+{
+    match c {
+        '\n' => None,
+        '\u{7}' => Some(Place::Outside),
+        '\u{1B}' => Some(Place::CommandEscape),
+        _ => Some(Place::Command),
+    }
+}
+
+// Behind one more character; nowhere where a sequence isn't whole, or where one is in none and isn't passed.
+fn next_place(place: Place, c: char, blanks: bool) -> Option<Place>
+    ensures { (cs : List ℕ) → passed_from place blanks (c ∷ cs) ≡ passed_through result blanks cs }
+{
+    match place {
+        Place::Outside => behind_character(c, blanks),
+        Place::Escape => behind_escape(c),
+        Place::Control => behind_control(c),
+        Place::Command => behind_command(c),
+        Place::CommandEscape => {
+            if c == '\\' {
+                Some(Place::Outside)
+            } else {
+                behind_command(c)
+            }
+        }
+    }
+}
+
+/// Whether a text holds nothing but whole sequences, and white characters where these may stand in it too. It is left
+/// at the first other character.
+pub(crate) fn is_passed(text: &str, blanks: bool) -> bool
+    ensures { result ≡ are_passed blanks (tokens (chars text.now)) }
+{
+    let mut place = Place::Outside;
+    for c in text.chars() {
+        let Some(next) = next_place(place, c, blanks) else {
+            return false;
+        };
+        place = next;
+    }
+    matches!(place, Place::Outside)
+}
