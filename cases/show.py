@@ -10,6 +10,7 @@ import json
 import os
 import random
 import re
+import select
 import shutil
 import subprocess
 import sys
@@ -249,6 +250,32 @@ def live_tried():
     return done
 
 
+def read_soon(stream, size):
+    """So many bytes of a stream, or those that came where none comes for ten seconds."""
+    got = b""
+    while len(got) < size and select.select([stream], [], [], 10)[0]:
+        more = os.read(stream.fileno(), size - len(got))
+        if more == b"":
+            break
+        got += more
+    return got
+
+
+def stream_tried():
+    """What is read is shown as soon as its last row has come, in one row or in many, also behind one that is cut off."""
+    row, files = b'{"message":"m","level":"error"}\n', files_in(gcc_cases.FOLDER)
+    rows = gcc_cases.formatted(gcc_cases.array_of("fatal")).encode() + b"\n"
+    done, words = [], [program("show"), "--root", gcc_cases.FOLDER, *WORDS]
+    with subprocess.Popen(words, stdin=subprocess.PIPE, stdout=subprocess.PIPE, stderr=subprocess.DEVNULL) as shown:
+        for given in (row, rows, b'{"message":[\n' + row, rows + row, row):
+            shown.stdin.write(given)
+            shown.stdin.flush()
+            want = wanted(given, files, "auto")[1]
+            done.append(read_soon(shown.stdout, len(want)) == want)
+        shown.stdin.close()
+    return done
+
+
 def most_memory(count):
     """How the program ends that reads so many messages, with the bytes of memory that it takes at most."""
     rows = rows_of(recorded("borrow"))
@@ -285,7 +312,7 @@ def main(words):
         done += [tried(folder, *it, "gcc") for it in gcc_cases.inputs(folder)]
         shutil.copy(os.path.join(sarif_read_cases.FOLDER, "line ends.txt"), os.path.join(folder, "wide.c"))
         done += [tried(folder, *it, "sarif") for it in sarif_read_cases.inputs(folder)]
-    done += words_tried() + handlers_tried() + terminal_tried() + live_tried()
+    done += words_tried() + handlers_tried() + terminal_tried() + live_tried() + stream_tried()
     done += memory_tried(100000 if "--many" in words else 10000)
     return counted(sum(done), len(done) - sum(done))
 

@@ -39,7 +39,7 @@ use Rattle.miette_cuts.proofs.TextWithoutTabs.{printed_code}
 abbrev cell_of_byte : ℕ → ℕ → ℕ → Cell
 cell_of_byte b o c = record { code = b; start = o; after = o + 1; from = c; until = c + 1 }
 
-near_column : (room : Room) (es : List ℕ) (b o c : ℕ) → near_by room es (cell_of_byte b o c)
+pub near_column : (room : Room) (es : List ℕ) (b o c : ℕ) → near_by room es (cell_of_byte b o c)
     ≡ near_by room es (cell_at c)
 near_column room [] b o c = refl
 near_column room (e ∷ es) b o c = refl

@@ -1,4 +1,5 @@
 pub mod CellPrints
+pub mod CountedColumns
 pub mod CutPieces
 pub mod CutPlain
 pub mod CutStretches

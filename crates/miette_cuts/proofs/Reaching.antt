@@ -12,12 +12,12 @@ use Rattle.miette_snippet_rules.specs.rules.PrintedCells.{cells_width}
 use Rattle.miette_snippet_rules.specs.rules.CutLines.{Stretch, cut_at, cut_line, cut_to, has_room}
 use Rattle.miette_snippet_rules.specs.rules.CutLines.{is_kept, is_near, is_within, largest, limit_of, onto_stretches}
 use Rattle.miette_snippet_rules.specs.rules.CutLines.{passes_after}
-use Rattle.miette_snippet_rules.specs.rules.CutLines.{reach_of, row_columns, stretches, text_columns, with_short}
+use Rattle.miette_snippet_rules.specs.rules.CutLines.{reach_of, stretches, text_columns, with_short}
 use Rattle.miette_snippet_rules.proofs.TextColumns.{largest_is}
 use Rattle.miette_cuts.specs.declared.nearness.Room.{Room}
 use Rattle.miette_cuts.specs.declared.stretch.Stretch.{Stretch as MadeStretch}
 use Rattle.miette_cuts.specs.views.Cuts.{measure}
-use Rattle.miette_cuts.specs.steps.Cut.{kept_made, made_columns, made_width, made_with_short, onto_made}
+use Rattle.miette_cuts.specs.steps.Cut.{kept_made, made_with_short, onto_made}
 use Rattle.miette_cuts.specs.steps.Nearness.{near_by}
 use Rattle.miette_cuts.proofs.CutStretches.{measure-onto}
 use Rattle.miette_cuts.proofs.NearEnds.{any-moved}
@@ -31,10 +31,6 @@ short-measured many [] = refl
 short-measured many (s ∷ later) =
     ap (onto_made (kept_made many (measure s))) (short-measured many later)
     ∙ sym (measure-onto (record { shown = is_kept many s; cells = s.cells }) (with_short many later))
-
-width-measured : (many : ℕ) (ss : List Stretch) → made_width many (map measure ss) ≡ text_columns many ss
-width-measured many [] = refl
-width-measured many (s ∷ later) = ap (λ n. row_columns many s + n) (width-measured many later)
 
 -- what is joined of stretches that were swept
 pub joined : (many : ℕ) (ss : List Stretch) (near read made : List MadeStretch) → near ≡ map measure ss → read ≡ near
@@ -57,27 +53,6 @@ pub short_end : (many : ℕ) (ss : List MadeStretch) (i : ℕ) (made new whole :
     made ++ onto_made reached (made_with_short many (drop i ss)) ≡ whole → new ≡ whole
 short_end many ss i made new whole reached le n inv =
     n ∙ ap (λ xs. made ++ onto_made reached xs) (sym (at_drop_all (made_with_short many) ss i le)) ∙ inv
-
-pub width_more : (many : ℕ) (ss : List MadeStretch) (i : ℕ) (d : MadeStretch) (width next own whole : ℕ) → i < length ss
-    → own ≡ made_columns many (get_or ss i d) → next ≡ width + own →
-    width + made_width many (drop i ss) ≡ whole → next + made_width many (drop (i + 1) ss) ≡ whole
-width_more many ss i d width next own whole lt o n inv =
-    let rest : ℕ = made_width many (drop (i + 1) ss) in
-    let step : made_width many (drop i ss) ≡ made_columns many (get_or ss i d) + rest =
-    at_drop_more (made_width many) ss i d lt in
-    omega (arith, inv, step, o, n)
-
-pub width_end : (many : ℕ) (ss : List MadeStretch) (i width whole : ℕ) → length ss ≤ i → width
-    + made_width many (drop i ss) ≡ whole → width ≡ whole
-width_end many ss i width whole le inv =
-    let none : made_width many (drop i ss) ≡ 0 = at_drop_all (made_width many) ss i le in
-    omega (arith, inv, none)
-
--- whether a row has room
-pub fitting : (many limit width : ℕ) (ss : List Stretch) (made read : List MadeStretch) → made ≡ map measure ss → read
-    ≡ made → width ≡ made_width many read → leb width limit ≡ leb (text_columns many ss) limit
-fitting many limit width ss made read m r w =
-    ap (λ n. leb n limit) (w ∙ ap (made_width many) (r ∙ m) ∙ width-measured many ss)
 
 -- ---- the reach
 

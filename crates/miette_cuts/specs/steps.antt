@@ -1,5 +1,6 @@
 -- The code's own steps, which no rule names.
 pub mod CellTokens
+pub mod Counting
 pub mod Cut
 pub mod Ends
 pub mod Moving

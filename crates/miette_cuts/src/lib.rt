@@ -2,6 +2,7 @@
 #![tactic(auto)]
 
 mod cells;
+mod counting;
 mod cut_text;
 pub mod cutting;
 pub mod dots;

@@ -23,8 +23,8 @@ use miette_page::page::{PLAIN, Page};
 use miette_style::theme::GraphicalTheme;
 use std::alloc::AllocError;
 
-// The stretch of cells of one column each from a column on, as far as they are as near as the first.
-fn even_stretch(nearness: &mut Nearness<'_>, column: usize, len: usize) -> Stretch
+/// The stretch of cells of one column each from a column on, as far as they are as near as the first.
+pub(crate) fn even_stretch(nearness: &mut Nearness<'_>, column: usize, len: usize) -> Stretch
     requires { column < len }
     ensures even { result ≡ even result.shown result.cells }
     ensures some { 0 < result.cells }

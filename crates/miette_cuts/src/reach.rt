@@ -1,16 +1,16 @@
 //! How far around its ends a line that is cut is shown: as far as its row has room.
 
-ghost use Rattle.std.specs.Prelude.{◌≡◌, ◌-◌, ◌<◌, map, length, true, false, IfOk, nat_le};
+ghost use Rattle.std.specs.Prelude.{◌≡◌, ◌-◌, ◌<◌, map, length, true, false, IfOk};
 ghost use Rattle.std.specs.List.Sorted.{IsNonDecreasing};
-ghost use Rattle.miette_snippet_rules.specs.rules.CutLines.{cut_to, reach_of, stretches, text_columns, with_short};
+ghost use Rattle.miette_snippet_rules.specs.rules.CutLines.{cut_to, reach_of, stretches, with_short};
 ghost use Rattle.miette_cuts.specs.views.Cuts.{measure};
-ghost use Rattle.miette_cuts.specs.steps.Cut.{made_width, made_with_short};
+ghost use Rattle.miette_cuts.specs.steps.Cut.{made_with_short};
 ghost use Rattle.miette_cuts.specs.steps.Nearness.{near_by};
 
+use crate::counting::fits;
 use crate::nearness::Room;
-use crate::stretch::{Stretch, kept_stretch, put_stretch, shown_columns};
+use crate::stretch::{Stretch, kept_stretch, put_stretch};
 use crate::sweeping::stretches_of;
-use miette_basics::sums::sum;
 use miette_cells::cells::Walk;
 use std::alloc::{AllocError, Global};
 
@@ -47,28 +47,6 @@ fn cut_in(
     join_short(alloc, &near, room.dots)
 }
 
-// The columns of the row's text, which these stretches make up.
-fn width_of(cut: &[Stretch], dots: usize) -> Result<usize, AllocError>
-    ensures { IfOk result (λ width. width ≡ made_width dots cut.now) }
-{
-    let mut width: usize = 0;
-    for stretch in cut {
-        width = sum(width, shown_columns(stretch, dots))?;
-    }
-    Ok(width)
-}
-
-// Whether what is shown in this room of a line with these ends, which ascend, has no more columns than the limit.
-fn fits(alloc: Global, walk: Walk<'_>, room: &Room, ends: &[usize]) -> Result<bool, AllocError>
-    requires { IsNonDecreasing ends.now }
-    ensures { IfOk result (λ fits. fits ≡ nat_le (text_columns room.now.dots
-        (with_short room.now.dots (stretches (near_by room.now ends.now) false walk.entry))) room.now.limit) }
-{
-    let cut = cut_in(alloc, walk, room, ends)?;
-    let width = width_of(&cut, room.dots)?;
-    Ok(width <= room.limit)
-}
-
 // Bounds of a number that is looked for, by whether one between them is enough: a larger one may be, or none from it on.
 fn narrowed(low: usize, high: usize, reach: usize, enough: bool) -> (usize, usize)
     ensures yes { enough ≡ true → (result.0 ≡ reach) × (result.1 ≡ high) }
@@ -83,13 +61,7 @@ fn narrowed(low: usize, high: usize, reach: usize, enough: bool) -> (usize, usiz
 
 // The reach of a line with some ends, which ascend: the largest number of columns up to the limit by which its row has
 // room. What is shown grows with the reach, so it is found by halving.
-fn reach_in(
-    alloc: Global,
-    walk: &Walk<'_>,
-    limit: usize,
-    dots: usize,
-    ends: &[usize],
-) -> Result<usize, AllocError>
+fn reach_in(walk: &Walk<'_>, limit: usize, dots: usize, ends: &[usize]) -> Result<usize, AllocError>
     requires ascending { IsNonDecreasing ends.now }
     requires some { 0 < length ends.now }
     ensures { IfOk result (λ reach. reach ≡ reach_of limit dots ends.now walk.now) }
@@ -99,7 +71,7 @@ fn reach_in(
     while low < high {
         let reach = high - (high - low) / 2;
         let room = Room { limit, dots, reach };
-        let enough = fits(alloc, walk.copy(), &room, ends)?;
+        let enough = fits(walk.copy(), &room, ends)?;
         let (from, to) = narrowed(low, high, reach, enough);
         low = from;
         high = to;
@@ -108,13 +80,7 @@ fn reach_in(
 }
 
 // The room of a line with these ends, which ascend, and this limit.
-fn room_for(
-    alloc: Global,
-    walk: &Walk<'_>,
-    limit: usize,
-    dots: usize,
-    ends: &[usize],
-) -> Result<Room, AllocError>
+fn room_for(walk: &Walk<'_>, limit: usize, dots: usize, ends: &[usize]) -> Result<Room, AllocError>
     requires { IsNonDecreasing ends.now }
     ensures limit { IfOk result (λ room. room.limit ≡ limit) }
     ensures dots { IfOk result (λ room. room.dots ≡ dots) }
@@ -127,7 +93,7 @@ fn room_for(
             reach: 0,
         });
     }
-    let reach = reach_in(alloc, walk, limit, dots, ends)?;
+    let reach = reach_in(walk, limit, dots, ends)?;
     Ok(Room { limit, dots, reach })
 }
 
@@ -143,6 +109,6 @@ pub(crate) fn cut_around(
     requires { IsNonDecreasing ends.now }
     ensures { IfOk result (λ made. made.items ≡ map measure (cut_to limit dots ends.now walk.entry)) }
 {
-    let room = room_for(alloc, &walk, limit, dots, ends)?;
+    let room = room_for(&walk, limit, dots, ends)?;
     cut_in(alloc, walk, &room, ends)
 }

@@ -188,9 +188,7 @@ fn push_lines<'a, H: Highlighter, O: Canvas>(
     ensures at { OnOk result (IsAt drawing.now.placed.now (body.now.start + length body.now.bytes.now) sweep.new.next
         sweep.new.running.items) }
 {
-    let mut place: usize = 0;
-    let mut at: usize = 0;
-    let mut gap = false;
+    let (mut place, mut at, mut gap): (usize, usize, bool) = (0, 0, false);
     while at < body.bytes.len() {
         let number = number_of(body.before, place)?;
         let line = line_at(body.bytes, body.start, at);

@@ -165,8 +165,8 @@ impl<H: Highlighter> GraphicalReportHandler<H> {
         self
     }
 
-    /// A line of more than so many columns is cut: it shows what stands near the labels that lie on it alone, and dots
-    /// in place of the rest. A limit of 0 shows the columns of marks alone.
+    /// A line of more than so many columns is cut: it shows what stands around its labels, as much as fits into so many
+    /// columns, and dots in place of the rest. A limit below 8 counts as 8.
     pub fn with_line_columns(mut self, columns: usize) -> Self
         ensures { result ≡ laid_out self (record self.settings.layout { line_columns = Some columns }) }
     {

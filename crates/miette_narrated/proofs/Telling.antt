@@ -10,9 +10,10 @@ use Rattle.miette_tree.specs.rules.Tree.{cause_of, causes_of, related_of}
 use Rattle.miette_labels.specs.rules.Around.{group_context}
 use Rattle.miette_labels.specs.rules.Groups.{in_order}
 use Rattle.miette_labels.proofs.NoFailures.{grouped_none}
+use Rattle.miette_tree.specs.rules.Answers.{AnswerTrees}
 use Rattle.miette_narrated.specs.rules.Labels.{label_range}
 use Rattle.miette_narrated.specs.rules.Snippets.{snippets_of}
-use Rattle.miette_narrated.specs.rules.Report.{NarrationSettings, Answers, unlisted, listed, RelatedAnswers, no_more}
+use Rattle.miette_narrated.specs.rules.Report.{NarrationSettings, Answers, unlisted, listed, no_more}
 use Rattle.miette_narrated.specs.rules.Report.{and_more, own_answer, related_answers, first_answers, later_answers}
 use Rattle.miette_narrated.specs.rules.Report.{head_rows, titled_rows, cause_rows, causes_if, row_if}
 use Rattle.miette_narrated.specs.rules.Report.{snippet_rows, blank_before, related_report, related_reports, narration}
@@ -33,9 +34,10 @@ use Rattle.std.proofs.lemmas.List.{drop_all}
 
 -- Some are told, and these are left: whatever answers these have, the whole has some.
 pub record RelatedSoFar (context : ℕ) (inherited : Option Source) (all left : Trees) (old now : List ℕ) : Type 0 where
-  pub with_rest : RelatedAnswers → RelatedAnswers
-  pub possible : (more : RelatedAnswers) → AllAnswers inherited more left → AllAnswers inherited (with_rest more) all
-  pub joined_is : (more : RelatedAnswers) → now ++ related_reports context inherited more left ≡ old
+  pub with_rest : AnswerTrees ReadAnswers → AnswerTrees ReadAnswers
+  pub possible : (more : AnswerTrees ReadAnswers) → AllAnswers inherited more left
+      → AllAnswers inherited (with_rest more) all
+  pub joined_is : (more : AnswerTrees ReadAnswers) → now ++ related_reports context inherited more left ≡ old
       ++ (blank_before all ++ related_reports context inherited (with_rest more) all)
 
 pub none_so_far : (context : ℕ) (inherited : Option Source) (all : Trees) (old now : List ℕ) → now ≡ old
@@ -185,7 +187,7 @@ mutual
       (same_below context own (own_answer a) m h.0 p.0 (further_holds always_reads m s inherited c r e) q.0)
       (same_reports context own (related_answers a) r h.1 p.1 q.1)
 
-  same_reports : (context : ℕ) (inherited : Option Source) (more : RelatedAnswers) (ts : Trees)
+  same_reports : (context : ℕ) (inherited : Option Source) (more : AnswerTrees ReadAnswers) (ts : Trees)
       → AllAnswers inherited more ts → holds_of_all always_reads inherited ts ≡ true
       → all_fixes_below inherited ts ≡ true
       → related_reports context inherited more ts ≡ related_reports context inherited no_more ts

@@ -13,7 +13,7 @@ use Rattle.miette_tree.specs.rules.Tree.{Tree, tree, Cause, diagnostic, texts, T
 use Rattle.miette_tree.specs.rules.DiagnosticParts.{given_labels}
 use Rattle.miette_graphical.specs.rules.PrintedDiagnostics.{PrintedDiagnostic, over, diagnostics_of, printed_causes}
 use Rattle.miette_graphical.specs.rules.PrintedDiagnostics.{printed_related, all_read, reads_all}
-use Rattle.miette_tree.specs.rules.Reads.{AlwaysReads, CauseAlwaysReads, AllAlwaysRead, always_reads, holds_of}
+use Rattle.miette_tree.specs.rules.Reads.{AlwaysReads, CauseAlwaysReads, AllAlwaysRead, holds_of}
 use Rattle.miette_fixes.specs.rules.Edits.{Proposal}
 use Rattle.miette_tree.specs.rules.Diagnosis.{Diagnosis, Section}
 use Rattle.miette_tree.specs.rules.Reads.{holds_of_all, accepts, report_accepted, holds_further}
@@ -24,7 +24,8 @@ use Rattle.miette_graphical.specs.rules.Sources.{further_sources, has_edits, rea
 use Rattle.miette_brief.specs.rules.PossibleAnswers as briefly
 use Rattle.miette_brief.specs.rules.Report as brief
 use Rattle.miette_narrated.specs.rules.PossibleAnswers as told
-use Rattle.miette_narrated.specs.rules.Report.{Answers, RelatedAnswers, related_answers, first_answers, later_answers}
+use Rattle.miette_tree.specs.rules.Answers.{AnswerTrees}
+use Rattle.miette_narrated.specs.rules.Report.{Answers, ReadAnswers, related_answers, first_answers, later_answers}
 use Rattle.miette_narrated.specs.rules.Report.{first_fails, later_fails, own_answer}
 use Rattle.miette_labels.proofs.RefusedLabel.{accepted_is}
 use Rattle.miette_labels.proofs.OwnContexts.{order_all}
@@ -136,8 +137,8 @@ mutual
       (and_from _ _ (one_accepted source _ _ here k.0.0) (trees_accepted source (related_answers a) r here q.2 k.1))
       (further_accepted (own_answer a).further m.snippets q.3 k.0.1)
 
-  trees_accepted : (inherited : Option Source) (more : RelatedAnswers) (ts : Trees) → Reads inherited → AllAlwaysRead ts
-      → told.AllAnswers inherited more ts → holds_of_all accepts inherited ts ≡ true
+  trees_accepted : (inherited : Option Source) (more : AnswerTrees ReadAnswers) (ts : Trees) → Reads inherited
+      → AllAlwaysRead ts → told.AllAnswers inherited more ts → holds_of_all accepts inherited ts ≡ true
   trees_accepted inherited more no_trees p q k = refl
   trees_accepted inherited more (more_trees t ts) p q k =
       and_from _ _ (tree_accepted inherited (first_answers more) t p q.0 k.0)

@@ -34,6 +34,7 @@ use Rattle.miette_program.specs.steps.JobHandler.{HappenLater, IsAsked, IsGiven,
 use Rattle.miette_program.specs.rules.JobText.{IsBuiltText, IsJobText, IsTelling}
 use Rattle.miette_program.specs.declared.job_handler.JobHandler.{JobHandler}
 use Rattle.miette_program.specs.declared.job_handler.JobHandler.TheVariants as chosen
+use Rattle.miette_program.specs.declared.job_handler.JobHandler.TheVariants.{Built}
 use Rattle.miette_program.specs.declared.language.LanguageHighlighter.{LanguageHighlighter}
 use Rattle.miette_program.specs.declared.option_words.Choice.{Choice}
 use Rattle.miette_program.specs.rules.LanguageRules.{TokensFollow}
@@ -75,7 +76,7 @@ only-text is_blank it t text reads given plain =
     (subst (λ b. drawn.IsTextOf whole_drawing it.settings b t text) plain given) (printed-reads it.settings t reads)
 
 pub graphical-given : {A E H : Type 0} (is_blank : H → Bool) (may_follow : H → List Call → Type 0) (h : JobHandler H)
-    (it after : Handling H) (t : Tree) (old new : List ℕ) (r : Result A E) → h ≡ chosen.Built (handler.Graphical it)
+    (it after : Handling H) (t : Tree) (old new : List ℕ) (r : Result A E) → h ≡ Built (handler.Graphical it)
     → AlwaysReads t → OnOk r
     (AppendsOne (drawn.IsAskedText whole_drawing it.settings (draws_plain is_blank it) (AreCallsOf may_follow it after)
     t) old new) → OnOk r (AppendsOne (IsGiven is_blank may_follow h t) old new)
@@ -84,7 +85,7 @@ graphical-given is_blank may_follow h it after t old new (Ok x) is reads ok =
     let asked = ok.is_given.1 in
     let given : drawn.IsTextOf whole_drawing it.settings (draws_plain is_blank it) t ok.text =
     (ok.is_given.0, (asked.0, asked.1, asked.3), ok.is_given.2) in
-    let one : AppendsOne (IsGiven is_blank may_follow (chosen.Built (handler.Graphical it)) t) old new =
+    let one : AppendsOne (IsGiven is_blank may_follow (Built (handler.Graphical it)) t) old new =
     record {
       text = ok.text;
       is_given = (
@@ -104,13 +105,13 @@ graphical-accepts h it t reads refused =
 
 pub narrated-given : {A E H : Type 0} (is_blank : H → Bool) (may_follow : H → List Call → Type 0) (h : JobHandler H)
     (s : narrated.NarrationSettings)
-    (t : Tree) (old new : List ℕ) (r : Result A E) → h ≡ chosen.Built (handler.Narrated s) → AlwaysReads t
+    (t : Tree) (old new : List ℕ) (r : Result A E) → h ≡ Built (handler.Narrated s) → AlwaysReads t
     → OnOk r (AppendsOne (IsNarrated s t) old new) → OnOk r
     (report_reads t ≡ true → fixes_read t ≡ true → new ≡ old ++ narrated.narration s t narrated.unlisted)
     → OnOk r (AppendsOne (IsGiven is_blank may_follow h t) old new)
 narrated-given is_blank may_follow h s t old new (Err e) is reads text only = tt
 narrated-given is_blank may_follow h s t old new (Ok x) is reads text only =
-    let one : AppendsOne (IsGiven is_blank may_follow (chosen.Built (handler.Narrated s)) t) old new =
+    let one : AppendsOne (IsGiven is_blank may_follow (Built (handler.Narrated s)) t) old new =
     record {
       text = narrated.narration s t narrated.unlisted;
       is_given = (told-accepted t text.is_given.answers reads text.is_given.possible, refl);
@@ -120,13 +121,13 @@ narrated-given is_blank may_follow h s t old new (Ok x) is reads text only =
 
 pub brief-given : {A E H : Type 0} (is_blank : H → Bool) (may_follow : H → List Call → Type 0) (h : JobHandler H)
     (s : brief.BriefSettings)
-    (t : Tree) (old new : List ℕ) (r : Result A E) → h ≡ chosen.Built (handler.Brief s) → AlwaysReads t
+    (t : Tree) (old new : List ℕ) (r : Result A E) → h ≡ Built (handler.Brief s) → AlwaysReads t
     → OnOk r (AppendsOne (briefly.IsBrief s t) old new) → OnOk r
     (AlwaysReads t → new ≡ old ++ brief.brief s t brief.unlisted)
     → OnOk r (AppendsOne (IsGiven is_blank may_follow h t) old new)
 brief-given is_blank may_follow h s t old new (Err e) is reads text only = tt
 brief-given is_blank may_follow h s t old new (Ok x) is reads text only =
-    let one : AppendsOne (IsGiven is_blank may_follow (chosen.Built (handler.Brief s)) t) old new =
+    let one : AppendsOne (IsGiven is_blank may_follow (Built (handler.Brief s)) t) old new =
     record {
       text = brief.brief s t brief.unlisted;
       is_given = (brief-accepted t text.is_given.answers reads text.is_given.possible, refl);
@@ -135,15 +136,15 @@ brief-given is_blank may_follow h s t old new (Ok x) is reads text only =
     subst (λ k. AppendsOne (IsGiven is_blank may_follow k t) old new) (sym is) one
 
 pub brief-refuses : {H : Type 0} (h : JobHandler H) (s : brief.BriefSettings) (t : Tree) → h
-    ≡ chosen.Built (handler.Brief s) → report_accepted t ≡ false → MayRefuse h t
+    ≡ Built (handler.Brief s) → report_accepted t ≡ false → MayRefuse h t
 brief-refuses {H} h s t is refused =
-    let here : MayRefuse {H = H} (chosen.Built (handler.Brief s)) t = refused in
+    let here : MayRefuse {H = H} (Built (handler.Brief s)) t = refused in
     subst (λ (k : JobHandler H). MayRefuse k t) (sym is) here
 
 pub narrated-refuses : {H : Type 0} (h : JobHandler H) (s : narrated.NarrationSettings) (t : Tree) → h
-    ≡ chosen.Built (handler.Narrated s) → report_accepted t ≡ false → MayRefuse h t
+    ≡ Built (handler.Narrated s) → report_accepted t ≡ false → MayRefuse h t
 narrated-refuses {H} h s t is refused =
-    let here : MayRefuse {H = H} (chosen.Built (handler.Narrated s)) t = refused in
+    let here : MayRefuse {H = H} (Built (handler.Narrated s)) t = refused in
     subst (λ (k : JobHandler H). MayRefuse k t) (sym is) here
 
 -- the text where it was appended to none
@@ -188,7 +189,7 @@ pub asked-text : (is_blank : LanguageHighlighter → Bool) (c : Choice) (o : Opt
     → IsGiven is_blank TokensFollow h t text → IsJobText is_blank c o l t text
 asked-text is_blank c o l chosen.Json t text is given = subst (λ k. IsJobText is_blank k o l t text) (sym is) given
 asked-text is_blank c o l chosen.Debug t text is given = subst (λ k. IsJobText is_blank k o l t text) (sym is) given
-asked-text is_blank c o l (chosen.Built it) t text is given =
+asked-text is_blank c o l (Built it) t text is given =
     subst (λ k. IsJobText is_blank k o l t text) (sym is.0) (it, is.1, first-picture is_blank it t text given)
 
 no-picture : {H : Type 0} (o : Options H) (l : Terminal) → o.brief ≡ true → is_graphical o l ≡ false
@@ -198,99 +199,77 @@ pub asked-refusal : {H : Type 0} (c : Choice) (o : Options H) (l : Terminal) (h 
     → IsAsked c o l h → MayRefuse h t → IsTelling c o l × (report_accepted t ≡ false)
 asked-refusal c o l chosen.Json t is refused = absurd refused
 asked-refusal c o l chosen.Debug t is refused = absurd refused
-asked-refusal c o l (chosen.Built (handler.Graphical it)) t is refused = absurd refused
-asked-refusal c o l (chosen.Built (handler.Narrated it)) t is refused = ((is.0, is.1.0), refused)
-asked-refusal c o l (chosen.Built (handler.Brief it)) t is refused = ((is.0, no-picture o l is.1.0), refused)
+asked-refusal c o l (Built (handler.Graphical it)) t is refused = absurd refused
+asked-refusal c o l (Built (handler.Narrated it)) t is refused = ((is.0, is.1.0), refused)
+asked-refusal c o l (Built (handler.Brief it)) t is refused = ((is.0, no-picture o l is.1.0), refused)
 
 -- ---- where the handler was called before
 
 pub stays-itself : {H : Type 0} (is_blank : H → Bool) (h : JobHandler H) → Stays is_blank h h
 stays-itself is_blank chosen.Json = refl
 stays-itself is_blank chosen.Debug = refl
-stays-itself is_blank (chosen.Built (handler.Graphical it)) = (refl, refl)
-stays-itself is_blank (chosen.Built (handler.Narrated it)) = refl
-stays-itself is_blank (chosen.Built (handler.Brief it)) = refl
+stays-itself is_blank (Built (handler.Graphical it)) = (refl, refl)
+stays-itself is_blank (Built (handler.Narrated it)) = refl
+stays-itself is_blank (Built (handler.Brief it)) = refl
 
 pub stays-on : {H : Type 0} (is_blank : H → Bool) (h k m : JobHandler H) → Stays is_blank h k → Stays is_blank k m
     → Stays is_blank h m
 stays-on is_blank chosen.Json k m p q = subst (λ x. Stays is_blank x m) p q
 stays-on is_blank chosen.Debug k m p q = subst (λ x. Stays is_blank x m) p q
-stays-on is_blank (chosen.Built h) chosen.Json m p q = absurd p
-stays-on is_blank (chosen.Built h) chosen.Debug m p q = absurd p
-stays-on is_blank (chosen.Built h) (chosen.Built k) chosen.Json p q = absurd q
-stays-on is_blank (chosen.Built h) (chosen.Built k) chosen.Debug p q = absurd q
-stays-on is_blank (chosen.Built (handler.Graphical h)) (chosen.Built (handler.Graphical k))
-    (chosen.Built (handler.Graphical m)) p q = (q.0 ∙ p.0, q.1 ∙ p.1)
-stays-on is_blank (chosen.Built (handler.Graphical h)) (chosen.Built (handler.Graphical k))
-    (chosen.Built (handler.Narrated m)) p q = absurd q
-stays-on is_blank (chosen.Built (handler.Graphical h)) (chosen.Built (handler.Graphical k))
-    (chosen.Built (handler.Brief m)) p q = absurd q
-stays-on is_blank (chosen.Built (handler.Graphical h)) (chosen.Built (handler.Narrated k)) (chosen.Built m) p q =
-    absurd p
-stays-on is_blank (chosen.Built (handler.Graphical h)) (chosen.Built (handler.Brief k)) (chosen.Built m) p q = absurd p
-stays-on is_blank (chosen.Built (handler.Narrated h)) (chosen.Built (handler.Narrated k))
-    (chosen.Built (handler.Narrated m)) p q = q ∙ p
-stays-on is_blank (chosen.Built (handler.Narrated h)) (chosen.Built (handler.Narrated k))
-    (chosen.Built (handler.Graphical m)) p q = absurd q
-stays-on is_blank (chosen.Built (handler.Narrated h)) (chosen.Built (handler.Narrated k))
-    (chosen.Built (handler.Brief m)) p q = absurd q
-stays-on is_blank (chosen.Built (handler.Narrated h)) (chosen.Built (handler.Graphical k)) (chosen.Built m) p q =
-    absurd p
-stays-on is_blank (chosen.Built (handler.Narrated h)) (chosen.Built (handler.Brief k)) (chosen.Built m) p q = absurd p
-stays-on is_blank (chosen.Built (handler.Brief h)) (chosen.Built (handler.Brief k)) (chosen.Built (handler.Brief m)) p q
-    = q ∙ p
-stays-on is_blank (chosen.Built (handler.Brief h)) (chosen.Built (handler.Brief k)) (chosen.Built (handler.Graphical m))
-    p q = absurd q
-stays-on is_blank (chosen.Built (handler.Brief h)) (chosen.Built (handler.Brief k)) (chosen.Built (handler.Narrated m))
-    p q = absurd q
-stays-on is_blank (chosen.Built (handler.Brief h)) (chosen.Built (handler.Graphical k)) (chosen.Built m) p q = absurd p
-stays-on is_blank (chosen.Built (handler.Brief h)) (chosen.Built (handler.Narrated k)) (chosen.Built m) p q = absurd p
+stays-on is_blank (Built h) chosen.Json m p q = absurd p
+stays-on is_blank (Built h) chosen.Debug m p q = absurd p
+stays-on is_blank (Built h) (Built k) chosen.Json p q = absurd q
+stays-on is_blank (Built h) (Built k) chosen.Debug p q = absurd q
+stays-on is_blank (Built (handler.Graphical h)) (Built (handler.Graphical k)) (Built (handler.Graphical m)) p q =
+    (q.0 ∙ p.0, q.1 ∙ p.1)
+stays-on is_blank (Built (handler.Graphical h)) (Built (handler.Graphical k)) (Built (handler.Narrated m)) p q = absurd q
+stays-on is_blank (Built (handler.Graphical h)) (Built (handler.Graphical k)) (Built (handler.Brief m)) p q = absurd q
+stays-on is_blank (Built (handler.Graphical h)) (Built (handler.Narrated k)) (Built m) p q = absurd p
+stays-on is_blank (Built (handler.Graphical h)) (Built (handler.Brief k)) (Built m) p q = absurd p
+stays-on is_blank (Built (handler.Narrated h)) (Built (handler.Narrated k)) (Built (handler.Narrated m)) p q = q ∙ p
+stays-on is_blank (Built (handler.Narrated h)) (Built (handler.Narrated k)) (Built (handler.Graphical m)) p q = absurd q
+stays-on is_blank (Built (handler.Narrated h)) (Built (handler.Narrated k)) (Built (handler.Brief m)) p q = absurd q
+stays-on is_blank (Built (handler.Narrated h)) (Built (handler.Graphical k)) (Built m) p q = absurd p
+stays-on is_blank (Built (handler.Narrated h)) (Built (handler.Brief k)) (Built m) p q = absurd p
+stays-on is_blank (Built (handler.Brief h)) (Built (handler.Brief k)) (Built (handler.Brief m)) p q = q ∙ p
+stays-on is_blank (Built (handler.Brief h)) (Built (handler.Brief k)) (Built (handler.Graphical m)) p q = absurd q
+stays-on is_blank (Built (handler.Brief h)) (Built (handler.Brief k)) (Built (handler.Narrated m)) p q = absurd q
+stays-on is_blank (Built (handler.Brief h)) (Built (handler.Graphical k)) (Built m) p q = absurd p
+stays-on is_blank (Built (handler.Brief h)) (Built (handler.Narrated k)) (Built m) p q = absurd p
 
 -- what it gives then, it might have given at first
-pub given-before : {H : Type 0} (is_blank : H → Bool) (may_follow : H → List Call → Type 0) (h k : JobHandler H) (t : Tree)
-    (text : List ℕ) → Stays is_blank h k → IsLed may_follow h k → IsGiven is_blank may_follow k t text
+pub given-before : {H : Type 0} (is_blank : H → Bool) (may_follow : H → List Call → Type 0) (h k : JobHandler H)
+    (t : Tree) (text : List ℕ) → Stays is_blank h k → IsLed may_follow h k → IsGiven is_blank may_follow k t text
     → IsGiven is_blank may_follow h t text
 given-before is_blank follow chosen.Json k t text stays led given =
     subst (λ x. IsGiven is_blank follow x t text) stays given
 given-before is_blank follow chosen.Debug k t text stays led given =
     subst (λ x. IsGiven is_blank follow x t text) stays given
-given-before is_blank follow (chosen.Built h) chosen.Json t text stays led given = absurd stays
-given-before is_blank follow (chosen.Built h) chosen.Debug t text stays led given = absurd stays
-given-before is_blank follow (chosen.Built (handler.Graphical h)) (chosen.Built (handler.Graphical k)) t text
+given-before is_blank follow (Built h) chosen.Json t text stays led given = absurd stays
+given-before is_blank follow (Built h) chosen.Debug t text stays led given = absurd stays
+given-before is_blank follow (Built (handler.Graphical h)) (Built (handler.Graphical k)) t text
     stays led given =
     let asked = given.0.1 in
     let happen = HappenLater follow h.highlighter in
     let behind : HappenLater follow h.highlighter (report_calls k.settings t asked.0) =
-    happen-behind follow (chosen.Built (handler.Graphical h)) (chosen.Built (handler.Graphical k))
+    happen-behind follow (Built (handler.Graphical h)) (Built (handler.Graphical k))
     (report_calls k.settings t asked.0) led asked.2 in
     subst (λ b. drawn.IsAskedText whole_drawing h.settings b happen t text
     × (b ≡ true → text ≡ encode_utf8_all (report_text whole_drawing h.settings t unlisted))) stays.1
     (subst (λ s. drawn.IsAskedText whole_drawing s (draws_plain is_blank k) happen t text
     × (draws_plain is_blank k ≡ true → text ≡ encode_utf8_all (report_text whole_drawing s t unlisted))) stays.0
     ((given.0.0, (asked.0, asked.1, behind, asked.3), given.0.2), given.1))
-given-before is_blank follow (chosen.Built (handler.Narrated h)) (chosen.Built (handler.Narrated k)) t text
+given-before is_blank follow (Built (handler.Narrated h)) (Built (handler.Narrated k)) t text
     stays led given =
     subst (λ s. IsBuiltText is_blank (HappenLater follow) (handler.Narrated s) t text) stays given
-given-before is_blank follow (chosen.Built (handler.Brief h)) (chosen.Built (handler.Brief k)) t text stays led given =
+given-before is_blank follow (Built (handler.Brief h)) (Built (handler.Brief k)) t text stays led given =
     subst (λ s. IsBuiltText is_blank (HappenLater follow) (handler.Brief s) t text) stays given
-given-before is_blank follow (chosen.Built (handler.Graphical h)) (chosen.Built (handler.Narrated k)) t text
-    stays led given =
-    absurd stays
-given-before is_blank follow (chosen.Built (handler.Graphical h)) (chosen.Built (handler.Brief k)) t text
-    stays led given =
-    absurd stays
-given-before is_blank follow (chosen.Built (handler.Narrated h)) (chosen.Built (handler.Graphical k)) t text
-    stays led given =
-    absurd stays
-given-before is_blank follow (chosen.Built (handler.Narrated h)) (chosen.Built (handler.Brief k)) t text
-    stays led given =
-    absurd stays
-given-before is_blank follow (chosen.Built (handler.Brief h)) (chosen.Built (handler.Graphical k)) t text
-    stays led given =
-    absurd stays
-given-before is_blank follow (chosen.Built (handler.Brief h)) (chosen.Built (handler.Narrated k)) t text
-    stays led given =
-    absurd stays
+given-before b f (Built (handler.Graphical h)) (Built (handler.Narrated k)) t text p q given = absurd p
+given-before b f (Built (handler.Graphical h)) (Built (handler.Brief k)) t text p q given = absurd p
+given-before b f (Built (handler.Narrated h)) (Built (handler.Graphical k)) t text p q given = absurd p
+given-before b f (Built (handler.Narrated h)) (Built (handler.Brief k)) t text p q given = absurd p
+given-before b f (Built (handler.Brief h)) (Built (handler.Graphical k)) t text p q given = absurd p
+given-before b f (Built (handler.Brief h)) (Built (handler.Narrated k)) t text p q given = absurd p
 
 pub given-still : {Z E H : Type 0} (is_blank : H → Bool) (may_follow : H → List Call → Type 0) (h k : JobHandler H)
     (t : Tree) (r : Result (String Z) E) → Stays is_blank h k → IsLed may_follow h k
@@ -304,17 +283,17 @@ pub refused-before : {H : Type 0} (is_blank : H → Bool) (h k : JobHandler H) (
     → MayRefuse k t → MayRefuse h t
 refused-before is_blank chosen.Json k t stays refused = subst (λ x. MayRefuse x t) stays refused
 refused-before is_blank chosen.Debug k t stays refused = subst (λ x. MayRefuse x t) stays refused
-refused-before is_blank (chosen.Built h) chosen.Json t stays refused = absurd refused
-refused-before is_blank (chosen.Built h) chosen.Debug t stays refused = absurd refused
-refused-before is_blank (chosen.Built h) (chosen.Built (handler.Graphical k)) t stays refused = absurd refused
-refused-before is_blank (chosen.Built (handler.Narrated h)) (chosen.Built (handler.Narrated k)) t stays refused =
+refused-before is_blank (Built h) chosen.Json t stays refused = absurd refused
+refused-before is_blank (Built h) chosen.Debug t stays refused = absurd refused
+refused-before is_blank (Built h) (Built (handler.Graphical k)) t stays refused = absurd refused
+refused-before is_blank (Built (handler.Narrated h)) (Built (handler.Narrated k)) t stays refused =
     refused
-refused-before is_blank (chosen.Built (handler.Brief h)) (chosen.Built (handler.Brief k)) t stays refused = refused
-refused-before is_blank (chosen.Built (handler.Graphical h)) (chosen.Built (handler.Narrated k)) t stays refused =
+refused-before is_blank (Built (handler.Brief h)) (Built (handler.Brief k)) t stays refused = refused
+refused-before is_blank (Built (handler.Graphical h)) (Built (handler.Narrated k)) t stays refused =
     absurd stays
-refused-before is_blank (chosen.Built (handler.Graphical h)) (chosen.Built (handler.Brief k)) t stays refused =
+refused-before is_blank (Built (handler.Graphical h)) (Built (handler.Brief k)) t stays refused =
     absurd stays
-refused-before is_blank (chosen.Built (handler.Narrated h)) (chosen.Built (handler.Brief k)) t stays refused =
+refused-before is_blank (Built (handler.Narrated h)) (Built (handler.Brief k)) t stays refused =
     absurd stays
-refused-before is_blank (chosen.Built (handler.Brief h)) (chosen.Built (handler.Narrated k)) t stays refused =
+refused-before is_blank (Built (handler.Brief h)) (Built (handler.Narrated k)) t stays refused =
     absurd stays

@@ -18,7 +18,7 @@ pub struct LayoutOptions {
     pub end_labels: bool,
     /// A label over more lines than these is folded: only the lines around its first and its last one are shown.
     pub label_lines: Option<usize>,
-    /// A line of more columns is cut around its labels.
+    /// A line of more columns is cut around its labels; fewer than 8 count as 8.
     pub line_columns: Option<usize>,
 }
 

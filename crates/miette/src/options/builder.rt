@@ -338,8 +338,8 @@ impl<H: Highlighter> MietteHandlerOpts<H> {
         self
     }
 
-    /// A line of more than so many columns is cut in pictures: it shows what stands near its labels, and dots in place
-    /// of the rest.
+    /// A line of more than so many columns is cut in pictures: it shows what stands around its labels, as much as fits
+    /// into so many columns, and dots in place of the rest. A limit below 8 counts as 8.
     pub fn line_columns(mut self, columns: usize) -> Self
         ensures { result ≡ record self { layout = record self.layout { line_columns = Some columns } } }
     {

@@ -51,11 +51,6 @@ made_with_short many (s ∷ later) = onto_made (kept_made many s) (made_with_sho
 abbrev pub made_columns : ℕ → MadeStretch → ℕ
 made_columns many s = if s.shown then s.columns else many
 
--- the columns of the row's text
-abbrev pub made_width : ℕ → List MadeStretch → ℕ
-made_width many [] = 0
-made_width many (s ∷ later) = made_columns many s + made_width many later
-
 -- where a column of a line stands in its row
 abbrev pub made_column : ℕ → List MadeStretch → ℕ → ℕ
 made_column many [] column = column

@@ -8,7 +8,8 @@ use Rattle.miette_tree.specs.rules.Diagnosis.{Diagnosis, Section}
 use Rattle.miette_tree.specs.rules.Tree.{Tree, tree, Trees, no_trees, more_trees, effective}
 use Rattle.miette_labels.specs.rules.Answers.{NoneFails}
 use Rattle.miette_labels.specs.rules.Groups.{in_order, AreAccepted}
-use Rattle.miette_narrated.specs.rules.Report.{NarrationSettings, Answers, RelatedAnswers, own_answer, related_answers}
+use Rattle.miette_tree.specs.rules.Answers.{AnswerTrees}
+use Rattle.miette_narrated.specs.rules.Report.{NarrationSettings, Answers, own_answer, related_answers}
 use Rattle.miette_narrated.specs.rules.Report.{first_answers, later_answers, ReadAnswers, first_fails, later_fails}
 use Rattle.miette_narrated.specs.rules.Report.{narration}
 use Rattle.miette_tree.specs.rules.DiagnosticParts.{given_labels}
@@ -41,7 +42,7 @@ abbrev mutual
   AreAnswers inherited a (tree m own c r) = ArePossible (effective own inherited) (own_answer a) m
       × AllAnswers (effective own inherited) (related_answers a) r
 
-  pub AllAnswers : Option Source → RelatedAnswers → Trees → Type 0
+  pub AllAnswers : Option Source → AnswerTrees ReadAnswers → Trees → Type 0
   AllAnswers inherited more no_trees = Unit {0}
   AllAnswers inherited more (more_trees t ts) =
       AreAnswers inherited (first_answers more) t × AllAnswers inherited (later_answers more) ts

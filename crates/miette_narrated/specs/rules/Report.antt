@@ -39,9 +39,6 @@ none_failed = record { own = []; further = []; fixes = false }
 abbrev pub Answers : Type 0
 Answers = AnswerTree ReadAnswers
 
-abbrev pub RelatedAnswers : Type 0
-RelatedAnswers = AnswerTrees ReadAnswers
-
 abbrev pub own_answer : Answers → ReadAnswers
 own_answer a = own_or none_failed a
 
@@ -127,7 +124,7 @@ abbrev mutual
       ++ (rows_below context (effective own inherited) (own_answer a) m
       ++ (blank_before r ++ related_reports context (effective own inherited) (related_answers a) r)))
 
-  pub related_reports : ℕ → Option Source → RelatedAnswers → Trees → List ℕ
+  pub related_reports : ℕ → Option Source → AnswerTrees ReadAnswers → Trees → List ℕ
   related_reports context inherited more no_trees = []
   related_reports context inherited more (more_trees t ts) =
       related_report context inherited (first_answers more) t

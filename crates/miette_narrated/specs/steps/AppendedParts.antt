@@ -7,7 +7,8 @@ use Rattle.miette_tree.specs.rules.Diagnosis.{Diagnosis, Section}
 use Rattle.miette_tree.specs.rules.DiagnosticParts.{given_labels}
 use Rattle.miette_tree.specs.rules.Reads.{MayMeet}
 use Rattle.miette_tree.specs.rules.Tree.{Tree, Trees}
-use Rattle.miette_narrated.specs.rules.Report.{Answers, RelatedAnswers, snippet_rows, related_report, related_reports}
+use Rattle.miette_tree.specs.rules.Answers.{AnswerTrees}
+use Rattle.miette_narrated.specs.rules.Report.{Answers, snippet_rows, related_report, related_reports}
 use Rattle.miette_narrated.specs.rules.Report.{blank_before, ReadAnswers, further_rows, all_snippets, advice_rows}
 use Rattle.miette_narrated.specs.rules.Report.{rows_below}
 use Rattle.miette_narrated.specs.rules.Fixes.{fixed_source, fixes_rows}
@@ -59,6 +60,6 @@ pub record AppendsReport (context : ℕ) (inherited : Option Source) (t : Tree) 
 
 -- new is old and then related reports behind a blank row, for some answers
 pub record AppendsRelated (context : ℕ) (inherited : Option Source) (ts : Trees) (old new : List ℕ) : Type 0 where
-  pub answers : RelatedAnswers
+  pub answers : AnswerTrees ReadAnswers
   pub possible : AllAnswers inherited answers ts
   pub appended : new ≡ old ++ (blank_before ts ++ related_reports context inherited answers ts)

@@ -1,0 +1,115 @@
+//! Whether what is shown of a line has room in its row: its columns are counted up to the limit.
+
+ghost use Rattle.std.specs.Prelude.{◌≡◌, ◌∷◌, ◌++◌, ℕ, List, true, false, length, IfOk, nat_le};
+ghost use Rattle.std.specs.List.{list_all};
+ghost use Rattle.std.specs.List.Sorted.{IsNonDecreasing};
+ghost use Rattle.miette_cells.specs.rules.Cells.{Cell as TextCell};
+ghost use Rattle.miette_cells.specs.views.Printable.{is_printable, plain_cells};
+ghost use Rattle.miette_cells.specs.views.Walking.{cell_of};
+ghost use Rattle.miette_snippet_rules.specs.rules.CutLines.{stretches, text_columns, with_short};
+ghost use Rattle.miette_cuts.specs.steps.Counting.{IsCounted, counted, whole_count};
+ghost use Rattle.miette_cuts.specs.steps.Nearness.{near_by};
+
+use crate::nearness::{Nearness, Room};
+use crate::plain_cut::even_stretch;
+use miette_basics::sums::sum;
+use miette_cells::cells::{Cell, PlainCells, Walk};
+use std::alloc::AllocError;
+
+// The columns of a row's text as far as its line was gone through: those of what is shown and of dots, and those of the
+// cells behind it that aren't near.
+#[derive(Clone, Copy, Drop)]
+struct Count {
+    shown: usize,
+    passed: usize,
+}
+
+// Columns more, of cells that are near or aren't, with dots of so many columns.
+fn counted(count: &Count, near: bool, columns: usize, dots: usize) -> Result<Count, AllocError>
+    ensures { IfOk result (λ next. next ≡ counted dots near columns count.now) }
+{
+    if near {
+        let more = sum(count.passed.min(dots), columns)?;
+        let shown = sum(count.shown, more)?;
+        return Ok(Count { shown, passed: 0 });
+    }
+    let passed = sum(count.passed, columns)?;
+    Ok(Count {
+        shown: count.shown,
+        passed,
+    })
+}
+
+// The columns of a cell more.
+fn count_cell(
+    count: &Count,
+    nearness: &mut Nearness<'_>,
+    cell: &Cell,
+    dots: usize,
+) -> Result<Count, AllocError>
+    ensures counted { IfOk result (λ next. (rest : List TextCell) →
+        whole_count dots (near_by nearness.old.room nearness.old.ends) next rest
+        ≡ whole_count dots (near_by nearness.old.room nearness.old.ends) count.now (cell_of cell.now ∷ rest)) }
+    ensures same { nearness.new ≡ nearness.old }
+{
+    if cell.from == cell.until {
+        return Ok(*count);
+    }
+    let near = nearness.is_near(cell);
+    counted(count, near, cell.until.saturating_sub(cell.from), dots)
+}
+
+// The columns of cells of printable ASCII more, unless what is shown has more than the limit before they end.
+fn count_plain(
+    count: &Count,
+    nearness: &mut Nearness<'_>,
+    plain: &PlainCells,
+    room: &Room,
+) -> Result<Count, AllocError>
+    ensures counted { IfOk result (λ next. (bytes : List ℕ) → (rest : List TextCell) →
+        list_all is_printable bytes ≡ true → length bytes ≡ plain.now.many → IsCounted room.now.limit next
+        (whole_count room.now.dots (near_by nearness.old.room nearness.old.ends) next rest)
+        (whole_count room.now.dots (near_by nearness.old.room nearness.old.ends) count.now
+        (plain_cells plain.now.start plain.now.from bytes ++ rest))) }
+    ensures same { IfOk result (λ next. nearness.new ≡ nearness.old) }
+{
+    let end = sum(plain.from, plain.many)?;
+    let mut column = plain.from;
+    let mut count = *count;
+    while column < end {
+        if count.shown > room.limit {
+            return Ok(count);
+        }
+        let next = even_stretch(nearness, column, end);
+        column += next.cells;
+        count = counted(&count, next.shown, next.cells, room.dots)?;
+    }
+    Ok(count)
+}
+
+/// Whether what is shown in this room of a line with these ends, which ascend, has no more columns than the limit.
+/// `AllocError` where a column or a count is past the largest `usize`.
+pub(crate) fn fits(walk: Walk<'_>, room: &Room, ends: &[usize]) -> Result<bool, AllocError>
+    requires { IsNonDecreasing ends.now }
+    ensures { IfOk result (λ fits. fits ≡ nat_le (text_columns room.now.dots
+        (with_short room.now.dots (stretches (near_by room.now ends.now) false walk.entry))) room.now.limit) }
+{
+    let mut walk = walk;
+    let mut nearness = Nearness::new(room, ends);
+    let none = Count {
+        shown: 0,
+        passed: 0,
+    };
+    let plain = walk.pass_plain(usize::MAX)?;
+    let mut count = count_plain(&none, &mut nearness, &plain, room)?;
+    while let Some(cell) = walk.next()? {
+        if count.shown > room.limit {
+            return Ok(false);
+        }
+        let next = count_cell(&count, &mut nearness, &cell, room.dots)?;
+        let plain = walk.pass_plain(usize::MAX)?;
+        count = count_plain(&next, &mut nearness, &plain, room)?;
+    }
+    let width = sum(count.shown, count.passed.min(room.dots))?;
+    Ok(width <= room.limit)
+}
