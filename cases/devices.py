@@ -74,7 +74,6 @@ RUNS = [
     (["job", "--debug"], LABELLED, 0, LABELLED_DEBUG),
     (["bench", "2", "--narrated"], SMALL, 0, "33\n"),
     (["show", "--theme", "unicode_nocolor"], '{"message":"漢","level":"error"}', 1, "  × 漢\n\n"),
-    (["show"], "chatter", 0, "chatter"),
 ]
 LINT_USAGE = "usage: lint [--brief | --github | --fix | --diff | --sarif [--tool TOOL]] NAME WIDTH | --lsp WIDTH\n"
 # words that are refused, status, row
@@ -98,6 +97,11 @@ SILENT = [
         "job: report refused\n",
     ),
     (["lint", "f", "80"], "a\n", 0, ""),
+]
+# words and an input that is passed on to standard error, status, what it gets
+PASSED = [
+    (["show"], "chatter", 0, "chatter"),
+    (["show"], 'a\n{"\nb', 3, 'a\nshow: row 2: no message that can be read\n{"\nb'),
 ]
 
 
@@ -247,6 +251,9 @@ def checks():
     for words, given, status, row in SILENT:
         yield from ((writes_nothing, words, given, status, row, device) for device in OUTPUTS)
         yield from ((cannot_tell, words, given, status, "", device) for device in OUTPUTS)
+    for words, given, status, row in PASSED:
+        yield from ((writes_nothing, words, given, status, row, device) for device in OUTPUTS)
+        yield from ((cannot_tell, words, given, STATUS[words[0]], "", device) for device in OUTPUTS)
 
 
 def answer(check):

@@ -33,6 +33,28 @@ def cut(name):
     return b"".join(row[:end] + b"\n" for end in range(1, len(row), 50))
 
 
+def formatted(value, column=0):
+    """A value as GCC writes it from 14 on: a row for each member and item, below the first one of its bracket."""
+    behind = ",\n" + " " * (column + 1)
+    if isinstance(value, dict):
+        held = [f"{json.dumps(key)}: {formatted(it, column + len(key) + 5)}" for key, it in value.items()]
+        return "{" + behind.join(held) + "}"
+    if isinstance(value, list):
+        return "[" + behind.join(formatted(it, column + 1) for it in value) + "]"
+    return json.dumps(value, ensure_ascii=False)
+
+
+def formatted_runs(what, value):
+    """What GCC writes from 14 on: by itself, with other ends, between a build's own rows, and cut."""
+    rows = formatted(value).encode() + b"\n"
+    ends = rows.replace(b"\n", b"\r\n")
+    cut_off = (rows[:end].rstrip(b"\n") + b"\n" for end in range(1, len(rows), 50))
+    yield f"{what}, formatted", rows
+    yield f"{what}, formatted, with CR LF", ends
+    yield f"{what}, formatted, between other rows", b"cc -c a.c\n[ 50%] a\n[ 5\n" + rows + ends + rows + b"  done\n"
+    yield f"{what}, formatted, cut at every 50th byte", b"".join(cut_off)
+
+
 def other_value(dice, key, old):
     """A value in place of another one."""
     near = [max(0, old - 2), old + 1, old + 30] if isinstance(old, int) else []
@@ -72,6 +94,7 @@ def inputs(folder):
         yield f"GCC's {name} cut at every 50th byte", cut(name), FOLDER
         spread = json.dumps(json.loads(given.split(b"\n", 1)[0]), indent=1).encode() + b"\n"
         yield f"GCC's {name} over many rows", spread + given + b"[\r\n]\n[\n", FOLDER
+        yield from ((what, rows, FOLDER) for what, rows in formatted_runs(f"GCC's {name}", array_of(name)))
         yield f"GCC's {name} without its last bytes", given[: -len(given) // 7], FOLDER
         yield f"GCC's {name} over files that are gone or shorter", given, folder
     yield "rows of GCC that can't be read", b"".join(OTHER + BAD), FOLDER

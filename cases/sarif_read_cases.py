@@ -8,6 +8,7 @@ import random
 import re
 from functools import partial
 
+from gcc_cases import formatted_runs
 from json_changes import changed
 from programs import HERE
 from sarif_model import uri_of_name
@@ -159,6 +160,7 @@ def inputs(folder):
     rows = spread(value) + row_of(value) + spread(value, b"\r\n")
     yield "the log over many rows", rows + b"[ 50%] Building\n{ a\n{\n" + rows, FOLDER
     yield "the log over many rows, cut at every 50th byte", spread_and_cut(value), FOLDER
+    yield from ((what, rows, FOLDER) for what, rows in formatted_runs("the log", value))
     yield "a log worded as clang's", of_clang(), FOLDER
     yield "rows of logs that can't be read", b"".join(OTHER + BAD), FOLDER
     yield "logs that are changed", hostile(random.Random(13), 600), FOLDER

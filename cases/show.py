@@ -10,6 +10,7 @@ import json
 import os
 import random
 import re
+import select
 import shutil
 import subprocess
 import sys
@@ -20,7 +21,7 @@ import gcc_cases
 import sarif_read_cases
 import size_runs
 from json_changes import changed
-from programs import HERE, counted, program, run
+from programs import HERE, counted, program, run, run_in_terminal
 from show_model import parts_of, rows_of, shown_of
 from tree_model import Page, whole_picture
 
@@ -34,6 +35,42 @@ BAD = [b'{"message":5}\n', b'{"\n', b'{"reason":"compiler-message"}\n', b'{"\xff
 READ = ("message", "code", "level", "spans", "children")
 # what a run over many messages may take
 MANY = size_runs.Limits(size_runs.WIDE_STACK_KB, size_runs.WIDE_SPACE, 60)
+# a message as wide as two rows, with a code that is a link
+WIDE = [{"kind": "warning", "message": "a row of words " * 6, "option": "-Wa", "option_url": "https://x/y"}]
+XTERM = {"TERM": "xterm"}
+# variables, and the words that they stand for, in a terminal
+IN_TERMINAL = [
+    ({}, []),
+    (XTERM, ["--term-color", "ansi"]),
+    ({"TERM": "dumb"}, []),
+    ({**XTERM, "COLORTERM": "truecolor"}, ["--term-color", "rgb"]),
+    ({**XTERM, "NO_COLOR": "1"}, []),
+    ({**XTERM, "NO_COLOR": "0"}, ["--term-color", "ansi"]),
+    ({**XTERM, "CLICOLOR": "0"}, []),
+    ({**XTERM, "FORCE_COLOR": "0"}, []),
+    ({"TERM": "alacritty"}, ["--term-color", "ansi", "--term-links", "yes"]),
+    ({"TERM_PROGRAM": "vscode"}, ["--term-links", "yes"]),
+    *(({it: "1"}, ["--term-links", "yes"]) for it in ("VTE_VERSION", "KONSOLE_VERSION", "WT_SESSION")),
+]
+# and where standard output is none
+IN_PIPE = [
+    ({}, []),
+    (XTERM, []),
+    ({**XTERM, "VTE_VERSION": "1"}, []),
+    ({"LC_ALL": "C.UTF-8"}, ["--term-unicode", "yes"]),
+    ({"LC_CTYPE": "C.UTF-8", "LANG": "C"}, ["--term-unicode", "yes"]),
+    ({"LC_ALL": "C", "LC_CTYPE": "C.UTF-8"}, []),
+    ({"LANG": "en_US.utf8"}, ["--term-unicode", "yes"]),
+    ({"LANG": "C.UTF-8", "TERM": "linux"}, []),
+    ({"FORCE_COLOR": "1"}, ["--term-color", "ansi"]),
+    ({"FORCE_COLOR": "3"}, ["--term-color", "rgb"]),
+    ({"COLUMNS": "40"}, ["--term-width", "40"]),
+    ({"COLUMNS": "+40"}, []),
+    ({"NO_GRAPHICS": "1"}, ["--no-graphics", "1"]),
+    ({"NO_GRAPHICS": "0"}, []),
+]
+# what overrules all of them
+OVERRULING = ["--width", "60", "--unicode", "no", "--color", "no", "--links", "no", "--graphical"]
 SPAN = {"byte_start": 0, "byte_end": 3, "file_name": "borrow.rs", "is_primary": True, "label": "here"}
 
 
@@ -70,9 +107,10 @@ def wanted(given, files, form):
     page, files = Page(120), {**files, **named_in(given)}
     shown, notes, unread, error = [], [], False, False
     for number, part in parts_of(given):
-        text, bad, grave = shown_of(part, files, lambda report: whole_picture(report, page), form)
+        text, passed, bad, grave = shown_of(part, files, lambda report: whole_picture(report, page), form)
         shown.append(text)
         notes += [f"show: row {number}: no message that can be read\n".encode()] if bad else []
+        notes.append(passed)
         unread, error = unread or bad, error or grave
     return 3 if unread else 1 if error else 0, b"".join(shown), b"".join(notes)
 
@@ -185,6 +223,15 @@ def handlers_tried():
     ]
 
 
+def terminal_tried():
+    """What is known of the terminal counts as the words that say it, and words that are given overrule it."""
+    given = json.dumps(WIDE).encode()
+    shown = [(partial(run_in_terminal, "stdout"), *it) for it in IN_TERMINAL] + [(run, *it) for it in IN_PIPE]
+    done = [on(["show"], given, variables) == run(["show", *said], given, {}) for on, variables, said in shown]
+    plain = run(["show", *OVERRULING], given, {})
+    return done + [on(["show", *OVERRULING], given, variables) == plain for on, variables, _ in shown]
+
+
 def live_tried():
     """What rustc and gcc write now, where they are there."""
     runs = [
@@ -200,6 +247,32 @@ def live_tried():
                 shutil.copy(os.path.join(sources, name), folder)
             given = subprocess.run([compiler, *words], cwd=folder, capture_output=True, check=False).stderr
             done.append(given != b"" and tried(folder, f"{compiler} itself", given, folder, compiler))
+    return done
+
+
+def read_soon(stream, size):
+    """So many bytes of a stream, or those that came where none comes for ten seconds."""
+    got = b""
+    while len(got) < size and select.select([stream], [], [], 10)[0]:
+        more = os.read(stream.fileno(), size - len(got))
+        if more == b"":
+            break
+        got += more
+    return got
+
+
+def stream_tried():
+    """What is read is shown as soon as its last row has come, in one row or in many, also behind one that is cut off."""
+    row, files = b'{"message":"m","level":"error"}\n', files_in(gcc_cases.FOLDER)
+    rows = gcc_cases.formatted(gcc_cases.array_of("fatal")).encode() + b"\n"
+    done, words = [], [program("show"), "--root", gcc_cases.FOLDER, *WORDS]
+    with subprocess.Popen(words, stdin=subprocess.PIPE, stdout=subprocess.PIPE, stderr=subprocess.DEVNULL) as shown:
+        for given in (row, rows, b'{"message":[\n' + row, rows + row, row):
+            shown.stdin.write(given)
+            shown.stdin.flush()
+            want = wanted(given, files, "auto")[1]
+            done.append(read_soon(shown.stdout, len(want)) == want)
+        shown.stdin.close()
     return done
 
 
@@ -239,7 +312,8 @@ def main(words):
         done += [tried(folder, *it, "gcc") for it in gcc_cases.inputs(folder)]
         shutil.copy(os.path.join(sarif_read_cases.FOLDER, "line ends.txt"), os.path.join(folder, "wide.c"))
         done += [tried(folder, *it, "sarif") for it in sarif_read_cases.inputs(folder)]
-    done += words_tried() + handlers_tried() + live_tried() + memory_tried(100000 if "--many" in words else 10000)
+    done += words_tried() + handlers_tried() + terminal_tried() + live_tried() + stream_tried()
+    done += memory_tried(100000 if "--many" in words else 10000)
     return counted(sum(done), len(done) - sum(done))
 
 

@@ -12,6 +12,11 @@ BEGINNINGS = {"rustc": (b'{"', b"{\n", b"{\r\n"), "gcc": (b'[{"', b"[]", b"[\n",
 BEGINNINGS["sarif"] = BEGINNINGS["rustc"]
 BEGINNINGS["auto"] = BEGINNINGS["rustc"] + BEGINNINGS["gcc"]
 
+# how a value begins, its first row where it is a bracket alone, and the rows within a value
+VALUE = re.compile(rb'[\[{]["{}\[\] \t\r\n]')
+ALONE = re.compile(rb"[\[{]\r?\n")
+INNER = re.compile(rb"[ \t\r\n}\]]")
+
 
 def rows_of(given):
     """The rows, each with the LF that ends it."""
@@ -30,14 +35,14 @@ def depth_behind(depth, row):
 
 
 def parts_of(given):
-    """The rows, those of a value that begins with a bracket alone as one, each with its number."""
+    """The rows, those of a value as one, each with its number."""
     part, begun, depth = [], 1, 0
     for number, row in enumerate(rows_of(given), 1):
-        part.append(row)
-        depth = depth_behind(depth, row) if re.match(rb"[\[{]\r?\n", part[0]) else 0
-        if depth == 0:
+        if part and not (depth > 0 and (ALONE.match(part[0]) or INNER.match(row))):
             yield begun, b"".join(part)
-            part, begun = [], number + 1
+            part, begun, depth = [], number, 0
+        part.append(row)
+        depth = depth_behind(depth, row) if VALUE.match(part[0]) else 0
     if part:
         yield begun, b"".join(part)
 
@@ -57,12 +62,13 @@ def reports_in(value, files, form):
 
 
 def shown_of(row, files, draw, form="auto"):
-    """What is shown of a part, as `draw` draws reports; whether it can't be read, and whether an error is among them."""
+    """What is shown of a part, as `draw` draws reports, and what is passed on of it; whether it can't be read, and
+    whether an error is among the reports."""
     if not row.startswith(BEGINNINGS[form]):
-        return row, False, False
+        return b"", row, False, False
     try:
         reports = reports_in(json.loads(row.decode(), parse_constant=refused), files, form)
     except (ValueError, RecursionError, NoMessage, gcc_model.NoReports, sarif_reader_model.NoReports):
-        return row, True, False
+        return b"", row, True, False
     shown = b"".join(draw(it).encode() + b"\n" for it in reports)
-    return shown, False, any(it["severity"] == "error" for it in reports)
+    return shown, b"", False, any(it["severity"] == "error" for it in reports)

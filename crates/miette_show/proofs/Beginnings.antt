@@ -23,3 +23,10 @@ taken_then (Some xs) (Some ys) (Some zs) x y h (taken, rest, is, e) = (
   ap (λ l. x ++ l) is ∙ sym (append_assoc x taken rest),
   e ∙ ap (λ l. l ++ taken) h ∙ append_assoc xs x taken,
 )
+
+-- a beginning of the first is one of both
+pub taken_in : (a b : Option (List ℕ)) (x y : List ℕ) → TakesBeginning a b x → TakesBeginning a b (x ++ y)
+taken_in None b x y t = tt
+taken_in (Some xs) None x y t = absurd t
+taken_in (Some xs) (Some ys) x y (taken, rest, is, e) =
+    (taken, rest ++ y, ap (λ l. l ++ y) is ∙ append_assoc taken rest y, e)

@@ -13,5 +13,6 @@ pub mod ReportSteps
 pub mod RowEnds
 pub mod RowReading
 pub mod RowSteps
+pub mod TerminalSteps
 pub mod TextSteps
 pub mod WordSteps

@@ -14,8 +14,8 @@ use Rattle.miette_devices.specs.views.Device.{TakesBeginning}
 use Rattle.miette_tree.specs.rules.Tree.{Tree}
 use Rattle.miette_show.specs.rules.Parts.{ends_in, parts_of}
 use Rattle.miette_show.specs.rules.Shown.{ShowsFirst}
-use Rattle.miette_show.specs.rules.Shown.{IsShown, Shown, Shows, is_error, is_unread, kind_grave, kind_unread, note_of}
-use Rattle.miette_show.specs.rules.Shown.{notes_from, text_of, verdict_of}
+use Rattle.miette_show.specs.rules.Shown.{IsShown, Shown, Shows, is_error, is_unread, kind_grave, kind_unread}
+use Rattle.miette_show.specs.rules.Shown.{notes_from, passed_on, text_of, verdict_of}
 use Rattle.miette_show.specs.views.Reading.{IsNextPart}
 use Rattle.miette_show.specs.declared.verdict.RowKind.{RowKind}
 use Rattle.miette_show.specs.declared.verdict.Verdict.{Verdict}
@@ -32,15 +32,15 @@ ends_before [] = 0
 ends_before (s ∷ ss) = ends_in s.row + ends_before ss
 
 notes_more : (n : ℕ) (ss : List Shown) (s : Shown) (m : ℕ) → m ≡ ends_before ss + n
-    → notes_from n (ss ++ s ∷ []) ≡ notes_from n ss ++ note_of m (is_unread s)
+    → notes_from n (ss ++ s ∷ []) ≡ notes_from n ss ++ passed_on m s.kind s.row
 notes_more n [] s m e =
     let same : n ≡ m = omega (arith, e) in
-    append-nil (note_of n (is_unread s)) ∙ ap (λ (k : ℕ). note_of k (is_unread s)) same
+    append-nil (passed_on n s.kind s.row) ∙ ap (λ (k : ℕ). passed_on k s.kind s.row) same
 notes_more n (x ∷ xs) s m e =
     let k = n + ends_in x.row in
     let same : m ≡ ends_before xs + k = omega (arith, e) in
-    ap (λ l. note_of n (is_unread x) ++ l) (notes_more k xs s m same)
-    ∙ sym (append_assoc (note_of n (is_unread x)) (notes_from k xs) (note_of m (is_unread s)))
+    ap (λ l. passed_on n x.kind x.row ++ l) (notes_more k xs s m same)
+    ∙ sym (append_assoc (passed_on n x.kind x.row) (notes_from k xs) (passed_on m s.kind s.row))
 
 any_more : (p : Shown → Bool) (ss : List Shown) (s : Shown) (b : Bool) → p s ≡ b
     → list_any p (ss ++ s ∷ []) ≡ (list_any p ss || b)
@@ -91,7 +91,7 @@ module _ (from : Format) (gives : Tree → List ℕ → Type 0)
       (row : List ℕ) (kind : RowKind) (text : List ℕ) (following : ℕ) → 0 < length row
       → Progress from gives found first left old new before after number verdict → IsNextPart left next row
       → IsShown from gives found (record { row = row; kind = kind; text = text }) → Appends new newer text
-      → Appends after later (note_of number (kind_unread kind))
+      → Appends after later (passed_on number kind row)
       → made ≡ record { unread = verdict.unread || kind_unread kind; error = verdict.error || kind_grave kind }
       → following ≡ number + ends_in row → Progress from gives found first next old newer before later following made
   more first left next old new newer before after later number verdict made row kind text following some p is_next
@@ -110,7 +110,7 @@ module _ (from : Format) (gives : Tree → List ℕ → Type 0)
         text = subst (Appends old newer) (sym (text_more p.shown s))
             (Appends-trans old new newer (text_of p.shown) text p.text took);
         notes = subst (Appends before later) (sym (notes_more 1 p.shown s number counted))
-            (Appends-trans before after later (notes_from 1 p.shown) (note_of number (kind_unread kind)) p.notes said);
+            (Appends-trans before after later (notes_from 1 p.shown) (passed_on number kind row) p.notes said);
         count = omega (arith, counted, behind, ends_more p.shown s);
         is = with_it ∙ ap₂ verdict_by
             (unread ∙ sym (any_more is_unread p.shown s (kind_unread kind) refl))
@@ -149,12 +149,12 @@ module _ (from : Format) (gives : Tree → List ℕ → Type 0)
       (first_parts first left (map row_of p.shown) p.rows) p.each
       (all_taken old new (text_of p.shown) p.text, all_taken before after (notes_from 1 p.shown) p.notes)
 
-  -- and a beginning of this one's text and note
+  -- and a beginning of this one's text, and of what is passed on of it
   pub begun_with : (first left next old new newer before after later : Option (List ℕ)) (number : ℕ) (verdict : Verdict)
       (row : List ℕ) (kind : RowKind) (text : List ℕ) → 0 < length row
       → Progress from gives found first left old new before after number verdict → IsNextPart left next row
       → IsShown from gives found (record { row = row; kind = kind; text = text }) → TakesBeginning new newer text
-      → TakesBeginning after later (note_of number (kind_unread kind))
+      → TakesBeginning after later (passed_on number kind row)
       → IfSome first (λ bytes. ShowsFirst from gives found bytes
       (λ text notes. TakesBeginning old newer text × TakesBeginning before later notes))
   begun_with first left next old new newer before after later number verdict row kind text some p is_next is_shown took
@@ -169,5 +169,5 @@ module _ (from : Format) (gives : Tree → List ℕ → Type 0)
         subst (TakesBeginning old newer) (sym (text_more p.shown s))
             (taken_then old new newer (text_of p.shown) text p.text took),
         subst (TakesBeginning before later) (sym (notes_more 1 p.shown s number p.count))
-            (taken_then before after later (notes_from 1 p.shown) (note_of number (kind_unread kind)) p.notes said),
+            (taken_then before after later (notes_from 1 p.shown) (passed_on number kind row) p.notes said),
       )

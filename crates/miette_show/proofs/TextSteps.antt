@@ -18,7 +18,7 @@ use Rattle.miette_program.specs.declared.job_handler.JobHandler.TheVariants as c
 use Rattle.miette_program.specs.steps.JobHandler.{MayRefuse}
 use Rattle.miette_show.specs.rules.Rows.{begins_message}
 use Rattle.miette_show.specs.rules.Shown.{AreDrawn, IsRowText, all_names, IsShown, row_trees, tree_grave, value_trees}
-use Rattle.miette_show.specs.views.Texts.{AreTexts, IsPushed, IsValueText, shown_text}
+use Rattle.miette_show.specs.views.Texts.{AreTexts, IsPushed, IsValueText}
 use Rattle.miette_show.specs.declared.verdict.RowKind.{RowKind}
 use Rattle.miette_show.specs.declared.verdict.RowKind.TheVariants.{Passed, Unread, Messages}
 use Rattle.miette_show.specs.declared.words.Format.{Format}
@@ -31,19 +31,19 @@ Finding = (List ℕ → Option Source) → List (List ℕ) → Type 0
 
 -- a row that begins as no message does, over any files
 pub passed : (from : Format) (gives : Given) (found : Finding) (files : List ℕ → Option Source) (row text : List ℕ)
-    → begins_message from row ≡ false
-    → IsShown from gives found (record { row = row; kind = Passed; text = shown_text Passed row text })
-passed from gives found files row text not =
-    (files, (λ d utf8 begins is. (let no : false ≡ true = sym not ∙ begins in cc)), (not, refl))
+    → begins_message from row ≡ false → text ≡ []
+    → IsShown from gives found (record { row = row; kind = Passed; text = text })
+passed from gives found files row text not none =
+    (files, (λ d utf8 begins is. (let no : false ≡ true = sym not ∙ begins in cc)), (not, none))
 
 -- one that is no value
 pub unread : (from : Format) (gives : Given) (found : Finding) (files : List ℕ → Option Source) (row text : List ℕ)
-    → begins_message from row ≡ true → (IsUtf8 row → read row ≡ None)
-    → IsShown from gives found (record { row = row; kind = Unread; text = shown_text Unread row text })
-unread from gives found files row text begins none = (
+    → begins_message from row ≡ true → (IsUtf8 row → read row ≡ None) → text ≡ []
+    → IsShown from gives found (record { row = row; kind = Unread; text = text })
+unread from gives found files row text begins none empty = (
   files,
   (λ d utf8 b is. (let no : None ≡ Some d = sym (none utf8) ∙ is in cc)),
-  (begins, (λ utf8. ap (option_and_then (value_trees from files)) (none utf8)), refl),
+  (begins, (λ utf8. ap (option_and_then (value_trees from files)) (none utf8)), empty),
 )
 
 says_of : (from : Format) (files : List ℕ → Option Source) (row : List ℕ) (d : Data) → read row ≡ Some d
@@ -53,10 +53,10 @@ says_of from files row d is = ap (option_and_then (value_trees from files)) is
 text_of : (from : Format) (gives : Given) (files : List ℕ → Option Source) (row : List ℕ) (d : Data) (kind : RowKind)
     (text : List ℕ) → begins_message from row ≡ true → IsUtf8 row → read row ≡ Some d
     → IsValueText gives (value_trees from files d) kind text
-    → IsRowText from gives files row kind (shown_text kind row text)
+    → IsRowText from gives files row kind text
 text_of from gives files row d Passed text begins utf8 is said = absurd said
-text_of from gives files row d Unread text begins utf8 is said =
-    (begins, (λ u. says_of from files row d is ∙ said), refl)
+text_of from gives files row d Unread text begins utf8 is (none, empty) =
+    (begins, (λ u. says_of from files row d is ∙ none), empty)
 text_of from gives files row d (Messages grave) text begins utf8 is (ts, says, texts) =
     (begins, utf8, (ts, says_of from files row d is ∙ says, texts.0, texts.1))
 
@@ -64,7 +64,7 @@ text_of from gives files row d (Messages grave) text begins utf8 is (ts, says, t
 pub told : (from : Format) (gives : Given) (found : Finding) (files : List ℕ → Option Source) (row : List ℕ) (d : Data)
     (kind : RowKind) (text : List ℕ) → begins_message from row ≡ true → IsUtf8 row → read row ≡ Some d
     → found files (all_names d) → IsValueText gives (value_trees from files d) kind text
-    → IsShown from gives found (record { row = row; kind = kind; text = shown_text kind row text })
+    → IsShown from gives found (record { row = row; kind = kind; text = text })
 told from gives found files row d kind text begins utf8 is known said = (
   files,
   (λ e u b same. subst (λ x. found files (all_names x)) (some_same d e (sym is ∙ same)) known),
@@ -79,7 +79,7 @@ pub told_ok : {E Z : Type 0} (from : Format) (gives : Given) (found : Finding) (
     → read row ≡ Some d → found files (all_names d)
     → IfOk r (λ it. IsValueText gives (value_trees from files d) it.0 (string_bytes it.1))
     → IfOk r (λ it. IsShown from gives found
-    (record { row = row; kind = it.0; text = shown_text it.0 row (string_bytes it.1) }))
+    (record { row = row; kind = it.0; text = string_bytes it.1 }))
 told_ok from gives found files row d (Err e) begins utf8 is known said = tt
 told_ok from gives found files row d (Ok it) begins utf8 is known said =
     told from gives found files row d it.0 (string_bytes it.1) begins utf8 is known said

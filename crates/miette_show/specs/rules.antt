@@ -6,4 +6,5 @@ pub mod Shown
 pub mod Statuses
 pub mod ShowWords
 pub mod ShowCalls
+pub mod TerminalWords
 pub mod Mends

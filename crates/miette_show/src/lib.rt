@@ -12,5 +12,6 @@ mod rewrite;
 pub mod row_reader;
 pub mod show;
 pub mod store;
+pub mod terminal;
 pub mod verdict;
 pub mod words;

@@ -11,7 +11,7 @@ ghost use Rattle.miette_program.specs.steps.JobHandler.{IsGiven, IsLed, Stays};
 ghost use Rattle.miette_show.specs.rules.Looking.{Goes, IsFoundBy};
 ghost use Rattle.miette_show.specs.rules.Rows.{begins_array, begins_message, begins_object};
 ghost use Rattle.miette_show.specs.rules.Shown.{IsShown, is_grave, value_trees};
-ghost use Rattle.miette_show.specs.views.Texts.{AreTexts, IsPushed, IsValueText, shown_text};
+ghost use Rattle.miette_show.specs.views.Texts.{AreTexts, IsPushed, IsValueText};
 
 use crate::loader::{Loader, load_all};
 use crate::reports::reports_of;
@@ -184,7 +184,7 @@ fn is_error(severity: Option<Severity>) -> bool
     }
 }
 
-/// What a row is, and the text that is shown in its place where that isn't the row itself.
+/// What a row is, and the text that is shown of it.
 #[tactic(auto, using(crate::proofs::Going::led_still))]
 pub(crate) fn row_text<H: Highlighter, F: Loader>(
     alloc: Global,
@@ -194,11 +194,7 @@ pub(crate) fn row_text<H: Highlighter, F: Loader>(
 ) -> Result<(RowKind, String), Fault>
     ensures shown { IfOk result (λ it. IsShown row.entry.from (IsGiven H.is_blank H.may_follow handler.old)
         (IsFoundBy F.found F.knows files.old)
-        (record {
-          row = row.entry.bytes.now;
-          kind = it.0;
-          text = shown_text it.0 row.entry.bytes.now (string_bytes it.1);
-        })) }
+        (record { row = row.entry.bytes.now; kind = it.0; text = string_bytes it.1 })) }
     ensures others { OnErr result (result ≡ Err Fault.Memory) }
     ensures stays { Stays H.is_blank handler.old handler.new }
     ensures led { OnOk result (IsLed H.may_follow handler.old handler.new) }

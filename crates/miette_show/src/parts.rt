@@ -1,7 +1,8 @@
 //! Values that stand over several rows: where they end.
 
 ghost use Rattle.std.specs.Prelude.{◌≡◌, ◌≤◌, ◌&&◌, length};
-ghost use Rattle.miette_show.specs.rules.Parts.{begins_value, behind, beside_text, closed, ends_in, in_text, is_open};
+ghost use Rattle.miette_show.specs.rules.Parts.{begins_alone, begins_value, behind, beside_text, closed, ends_in};
+ghost use Rattle.miette_show.specs.rules.Parts.{in_text, is_closing, is_inner, is_open, is_opening, is_space};
 ghost use Rattle.miette_show.specs.rules.Parts.{with_byte};
 
 /// What is open behind some bytes of JSON.
@@ -101,14 +102,61 @@ impl Open {
     }
 }
 
-/// Whether the first row is a bracket alone.
+/// Whether it is white space of JSON.
+fn is_space(byte: u8) -> bool
+    ensures { result ≡ is_space byte }
+{
+    matches!(byte, b' ' | b'\t' | b'\n' | b'\r')
+}
+
+/// Whether it closes a bracket.
+fn is_closing(byte: u8) -> bool
+    ensures { result ≡ is_closing byte }
+{
+    matches!(byte, b'}' | b']')
+}
+
+/// Whether it opens a bracket.
+fn is_opening(byte: u8) -> bool
+    ensures { result ≡ is_opening byte }
+{
+    matches!(byte, b'{' | b'[')
+}
+
+/// Whether a part begins with a bracket, behind which a quote, a bracket, white space or the row's end stands.
 pub(crate) fn begins_value(part: &[u8]) -> bool
     ensures { result ≡ begins_value part.now }
+{
+    match part {
+        [first, second, ..] => {
+            is_opening(*first)
+                && (*second == b'"'
+                    || is_opening(*second)
+                    || is_closing(*second)
+                    || is_space(*second))
+        }
+        _ => false,
+    }
+}
+
+/// Whether the first row is a bracket alone.
+pub(crate) fn begins_alone(part: &[u8]) -> bool
+    ensures { result ≡ begins_alone part.now }
 {
     part.starts_with(b"{\n")
         || part.starts_with(b"{\r\n")
         || part.starts_with(b"[\n")
         || part.starts_with(b"[\r\n")
+}
+
+/// Whether a row begins as those within a value do.
+pub(crate) fn is_inner(row: &[u8]) -> bool
+    ensures { result ≡ is_inner row.now }
+{
+    match row.first() {
+        Some(first) => is_space(*first) || is_closing(*first),
+        None => false,
+    }
 }
 
 /// How many rows end in these bytes.

@@ -1,13 +1,13 @@
 //! The rows of a reader, one after another.
 
-ghost use Rattle.std.specs.Prelude.{◌≡◌, ◌↔◌, ◌⊎◌, ◌≤◌, ◌+◌, ◌&&◌, [], IsTrue, IfOk, IfSome, OnErr, OnOk, drop};
-ghost use Rattle.std.specs.Prelude.{false, length, true};
+ghost use Rattle.std.specs.Prelude.{◌≡◌, ◌↔◌, ◌⊎◌, ◌<◌, ◌≤◌, ◌+◌, ◌&&◌, ◌||◌, [], IsTrue, IfOk, IfSome, OnErr, OnOk};
+ghost use Rattle.std.specs.Prelude.{drop, false, length, true};
 ghost use Rattle.std.specs.Io.KnownBytes.{Consumes, IsAtEnd};
-ghost use Rattle.miette_show.specs.rules.Parts.{begins_value, ends_in, is_open};
+ghost use Rattle.miette_show.specs.rules.Parts.{begins_alone, begins_value, ends_in, is_inner, is_open};
 ghost use Rattle.miette_show.specs.views.Reading.{IsNextPart, IsNextRow, IsRowEnd, IsTaken, left_of};
 ghost use Rattle.miette_show.specs.views.RowState.{RowState};
 
-use crate::parts::{Open, begins_value, ends_in};
+use crate::parts::{Open, begins_alone, begins_value, ends_in, is_inner};
 use memchr::memchr;
 use miette_devices::device::Device;
 use miette_devices::fault::Fault;
@@ -100,6 +100,7 @@ impl<R: Read> RowReader<R> {
         requires empty { self.old.pending ≡ [] }
         ensures left { OnOk result (Consumes (left_of R.remaining self.old) (left_of R.remaining self.new) []) }
         ensures end { (result ≡ Ok false) → IsAtEnd (left_of R.remaining self.new) }
+        ensures some { (result ≡ Ok true) → 0 < length self.new.pending }
         ensures failed { IsTrue self.new.failed ↔ (result ≡ Err Fault.Read) }
         ensures others { OnErr result ((result ≡ Err Fault.Read) ⊎ (result ≡ Err Fault.Memory)) }
     {
@@ -140,6 +141,24 @@ impl<R: Read> RowReader<R> {
         Err(Fault::Memory)
     }
 
+    /// Whether an open value goes on with what is left. No more of that is read than its first byte needs.
+    fn goes_on(&mut self, part: &[u8]) -> Result<bool, Fault>
+        requires sound { self.old.failed ≡ false }
+        ensures left { OnOk result (Consumes (left_of R.remaining self.old) (left_of R.remaining self.new) []) }
+        ensures on { IfOk result (λ on. IfSome (left_of R.remaining self.new)
+            (λ bytes. (begins_alone part.now || is_inner bytes) ≡ on)) }
+        ensures failed { IsTrue self.new.failed ↔ (result ≡ Err Fault.Read) }
+        ensures others { OnErr result ((result ≡ Err Fault.Read) ⊎ (result ≡ Err Fault.Memory)) }
+    {
+        if begins_alone(part) {
+            return Ok(true);
+        }
+        if self.pending().is_empty() && !self.refill()? {
+            return Ok(false);
+        }
+        Ok(is_inner(self.pending()))
+    }
+
     /// Reads the next part, row by row, in place of what `part` holds.
     fn gather(&mut self, row: &mut Vec<u8>, part: &mut Vec<u8>) -> Result<(), Fault>
         requires sound { self.old.failed ≡ false }
@@ -161,6 +180,9 @@ impl<R: Read> RowReader<R> {
             }
             state = state.behind(row.as_slice());
             if !state.is_open() {
+                return Ok(());
+            }
+            if !self.goes_on(part.as_slice())? {
                 return Ok(());
             }
         }

@@ -9,11 +9,11 @@ ghost use Rattle.miette_devices.specs.views.Device.{TakesBeginning};
 ghost use Rattle.miette_show.specs.rules.Looking.{Goes, IsFoundBy};
 ghost use Rattle.miette_show.specs.rules.ShowCalls.{CallShows, CallShowsFirst};
 ghost use Rattle.miette_show.specs.rules.Shown.{IsShown, Shows, ShowsFirst, kind_unread, note_of, note_row};
+ghost use Rattle.miette_show.specs.rules.Shown.{passed_on};
 ghost use Rattle.miette_show.specs.rules.Statuses.{status_of};
 ghost use Rattle.miette_show.specs.declared.verdict.Verdict.{Verdict};
 ghost use Rattle.miette_show.specs.views.Asked.{request_of, words_of};
 ghost use Rattle.miette_show.specs.views.Reading.{left_of};
-ghost use Rattle.miette_show.specs.views.Texts.{shown_text};
 
 use crate::loader::Loader;
 use crate::message::{Row, row_text};
@@ -30,14 +30,14 @@ use miette_program::language::LanguageHighlighter;
 use std::alloc::{AllocError, Global};
 use std::io::{Read, Write};
 
-/// What the program reads, where it writes what is shown, and where it says what it can't read.
+/// What the program reads, where it writes what is shown, and where it passes on what is no message.
 #[derive(Drop)]
 pub struct Streams<R, W, E> {
     /// The rows of what is read.
     pub rows: RowReader<R>,
     /// What is shown.
     pub writer: Device<W>,
-    /// What can't be read, and why the program fails.
+    /// What is no message, what can't be read, and why the program fails.
     pub faults: Device<E>,
 }
 
@@ -53,16 +53,6 @@ impl<R, W, E> Streams<R, W, E> {
             writer: Device::new(writer),
             faults: Device::new(faults),
         }
-    }
-}
-
-/// The bytes that are shown of a row.
-fn shown_bytes<'r>(kind: RowKind, row: &'r [u8], text: &'r String) -> &'r [u8]
-    ensures { result.now ≡ shown_text kind row.now (string_bytes text.now) }
-{
-    match kind {
-        RowKind::Passed | RowKind::Unread => row,
-        RowKind::Messages(_) => text.as_bytes(),
     }
 }
 
@@ -92,7 +82,7 @@ fn show_row<H: Highlighter, F: Loader, W: Write>(
     ensures goes { Goes (F.found files.old) (F.knows files.old) (F.found files.new) (F.knows files.new) }
 {
     let (kind, text) = row_text(alloc, handler, files, row)?;
-    write_whole(writer, shown_bytes(kind, row.bytes, &text))?;
+    write_whole(writer, text.as_bytes())?;
     Ok(kind)
 }
 
@@ -124,6 +114,33 @@ pub(crate) fn note<E: Write>(
     }
     let note = note_text(alloc, number)?;
     write_whole(faults, note.as_bytes())
+}
+
+/// Passes on a row that isn't shown, behind a note where it can't be read.
+fn pass_on<E: Write>(
+    alloc: Global,
+    faults: &mut Device<E>,
+    number: u64,
+    kind: RowKind,
+    row: &[u8],
+) -> Result<(), Fault>
+    requires sound { faults.old.failed ≡ false }
+    ensures passed { OnOk result (Appends (E.contents faults.old.inner) (E.contents faults.new.inner)
+        (passed_on number kind row.now)) }
+    ensures beginning { (result ≡ Err Fault.Write) → TakesBeginning (E.contents faults.old.inner)
+        (E.contents faults.new.inner) (passed_on number kind row.now) }
+    ensures untouched { OnErr result ((result ≡ Err Fault.Write) ⊎ (faults.new ≡ faults.old)) }
+    ensures failed { IsTrue faults.new.failed ↔ (result ≡ Err Fault.Write) }
+    ensures others { OnErr result ((result ≡ Err Fault.Memory) ⊎ (result ≡ Err Fault.Write)) }
+{
+    match kind {
+        RowKind::Passed => write_whole(faults, row),
+        RowKind::Unread => {
+            note(alloc, faults, number, kind)?;
+            write_whole(faults, row)
+        }
+        RowKind::Messages(_) => Ok(()),
+    }
 }
 
 /// Shows all rows that are left.
@@ -166,7 +183,7 @@ fn show_rows<H: Highlighter, F: Loader, R: Read, W: Write, E: Write>(
             bytes: part.as_slice(),
         };
         let kind = show_row(alloc, handler, files, &mut streams.writer, read)?;
-        note(alloc, &mut streams.faults, number, kind)?;
+        pass_on(alloc, &mut streams.faults, number, kind, read.bytes)?;
         verdict = verdict.with(kind);
         number = following;
     }
@@ -187,7 +204,7 @@ pub fn show_on<F: Loader, R: Read, W: Write, E: Write>(
     requires rows_sound { streams.old.rows.failed ≡ false }
     requires writer_sound { streams.old.writer.failed ≡ false }
     requires faults_sound { streams.old.faults.failed ≡ false }
-    // Row by row the writer took the text of the message's report, or the row, and the other one what can't be read.
+    // Row by row the writer took the texts of the reports, and the other one each row that has no message.
     ensures ok { IfOk result (λ verdict. IfSome (left_of R.remaining streams.old.rows) (λ bytes.
         CallShows ⟦<LanguageHighlighter as Highlighter>⟧.is_blank (request_of asked.now)
         (IsFoundBy F.found F.knows files.old) bytes

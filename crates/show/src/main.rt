@@ -7,6 +7,7 @@ use miette_show::folder::Folder;
 use miette_show::folder_store::FolderStore;
 use miette_show::mend::mend_with;
 use miette_show::show::{Streams, refuse_words, show_with};
+use miette_show::terminal::options_in_terminal;
 use miette_show::words::ShowWords;
 use std::process::ExitCode;
 
@@ -18,12 +19,19 @@ fn main(rt: HostRuntime) -> ExitCode {
     let Some(asked) = ShowWords::read(&words) else {
         return ExitCode::from(refuse_words(Fault::Usage, rt.stderr()));
     };
+    let Ok(options) = options_in_terminal(&rt, asked.options) else {
+        return ExitCode::from(refuse_words(Fault::Memory, rt.stderr()));
+    };
+    let on_terminal = ShowWords {
+        options: options.as_slice(),
+        ..asked
+    };
     let streams = Streams::new(rt.alloc(), rt.stdin(), rt.stdout(), rt.stderr());
     let mut files = Folder::new(&rt, asked.root);
     ExitCode::from(if asked.fix {
         let mut store = FolderStore::new(&rt, asked.root);
         mend_with(rt.alloc(), &mut files, &mut store, streams)
     } else {
-        show_with(rt.alloc(), &asked, &mut files, streams)
+        show_with(rt.alloc(), &on_terminal, &mut files, streams)
     })
 }

@@ -1,4 +1,4 @@
--- What is read, part by part: a row, or the rows of a value whose first one is a bracket alone.
+-- What is read, part by part: a row, or the rows of a value.
 use Rattle.std.specs.Prelude.{ℕ, ◌+◌, ◌-◌, List, [], ◌∷◌, ◌++◌, Bool, if◌then◌else◌, ◌==◌, ◌||◌, ◌&&◌, codes, min, not}
 use Rattle.std.specs.Prelude.{false, true, nat_eq, nat_lt}
 use Rattle.std.specs.List.{count_by, fold, list_any, starts_with}
@@ -35,18 +35,40 @@ is_open o = nat_lt 0 o.depth && not o.quoted
 
 -- ---- parts
 
+abbrev pub is_space : ℕ → Bool
+is_space b = b == 32 || (b == 9 || (b == 10 || b == 13))
+
+abbrev pub is_closing : ℕ → Bool
+is_closing b = b == 125 || b == 93
+
+abbrev pub is_opening : ℕ → Bool
+is_opening b = b == 123 || b == 91
+
+-- a value begins with `{` or `[`, behind which a quote, a bracket, white space or the row's end stands
 abbrev pub begins_value : List ℕ → Bool
-begins_value part =
+begins_value [] = false
+begins_value (a ∷ []) = false
+begins_value (a ∷ b ∷ bs) = is_opening a && (b == 34 || (is_opening b || (is_closing b || is_space b)))
+
+-- its first row is a bracket alone
+abbrev pub begins_alone : List ℕ → Bool
+begins_alone part =
     list_any (λ beginning. starts_with nat_eq part beginning)
     (codes "{\n" ∷ codes "{\r\n" ∷ codes "[\n" ∷ codes "[\r\n" ∷ [])
 
-abbrev pub goes_on : List ℕ → Bool
-goes_on part = begins_value part && is_open (behind closed part)
+-- a row within a value begins with white space or closes a bracket
+abbrev pub is_inner : List ℕ → Bool
+is_inner [] = false
+is_inner (b ∷ bs) = is_space b || is_closing b
+
+-- a value that is open goes on with such a row; behind a bracket alone with any
+abbrev pub goes_on : List ℕ → List ℕ → Bool
+goes_on part row = (begins_value part && is_open (behind closed part)) && (begins_alone part || is_inner row)
 
 -- the parts of rows, behind what a part begins with
 abbrev pub parts_from : List ℕ → List (List ℕ) → List (List ℕ)
 parts_from held [] = last_row held
-parts_from held (r ∷ rs) = if goes_on (held ++ r) then parts_from (held ++ r) rs else (held ++ r) ∷ parts_from [] rs
+parts_from held (r ∷ rs) = if goes_on held r then parts_from (held ++ r) rs else last_row held ++ parts_from r rs
 
 abbrev pub parts_of : List ℕ → List (List ℕ)
 parts_of bytes = parts_from [] (rows_of bytes)

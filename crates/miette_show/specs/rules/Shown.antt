@@ -74,13 +74,13 @@ AreDrawn gives [] text = text ≡ []
 AreDrawn gives (t ∷ ts) text = (drawn : List ℕ) × (rest : List ℕ) × gives t drawn × AreDrawn gives ts rest
     × (text ≡ drawn ++ 10 ∷ rest)
 
--- A row that begins as no message does, and one that can't be read, is passed on as it is. Of one with messages the
+-- Of a row that begins as no message does, and of one that can't be read, nothing is shown. Of one with messages the
 -- texts of their reports are shown; of a row of rustc or cargo that is no message, nothing.
 abbrev pub IsRowText : Format → (Tree → List ℕ → Type 0) → (List ℕ → Option Source) → List ℕ → RowKind → List ℕ
     → Type 0
-IsRowText from gives files row Passed text = (begins_message from row ≡ false) × (text ≡ row)
+IsRowText from gives files row Passed text = (begins_message from row ≡ false) × (text ≡ [])
 IsRowText from gives files row Unread text =
-    (begins_message from row ≡ true) × (IsUtf8 row → row_trees from files row ≡ None) × (text ≡ row)
+    (begins_message from row ≡ true) × (IsUtf8 row → row_trees from files row ≡ None) × (text ≡ [])
 IsRowText from gives files row (Messages grave) text =
     (begins_message from row ≡ true) × IsUtf8 row × ((ts : List Tree) × (row_trees from files row ≡ Some ts)
     × (grave ≡ list_any tree_grave ts) × AreDrawn gives ts text)
@@ -124,9 +124,15 @@ abbrev pub note_of : ℕ → Bool → List ℕ
 note_of n true = note_row n
 note_of n false = []
 
+-- A row that isn't shown is passed on beside what is: as it is, behind a note where it can't be read.
+abbrev pub passed_on : ℕ → RowKind → List ℕ → List ℕ
+passed_on n Passed row = row
+passed_on n Unread row = note_row n ++ row
+passed_on n (Messages grave) row = []
+
 abbrev pub notes_from : ℕ → List Shown → List ℕ
 notes_from n [] = []
-notes_from n (s ∷ ss) = note_of n (is_unread s) ++ notes_from (n + ends_in s.row) ss
+notes_from n (s ∷ ss) = passed_on n s.kind s.row ++ notes_from (n + ends_in s.row) ss
 
 -- whether a row can't be read, and whether an error is among the messages
 abbrev pub verdict_of : List Shown → Verdict
@@ -135,7 +141,7 @@ verdict_of shown = record { unread = list_any is_unread shown; error = list_any 
 abbrev pub text_of : List Shown → List ℕ
 text_of shown = flat_map (λ s. s.text) shown
 
--- The parts of these bytes are shown, one after the other, as this text, with these notes and this verdict.
+-- The parts of these bytes are shown or passed on, one after the other, as this text, these notes and this verdict.
 abbrev pub Shows : Format → (Tree → List ℕ → Type 0) → ((List ℕ → Option Source) → List (List ℕ) → Type 0) → List ℕ
     → (List ℕ → List ℕ → Type 0) → Verdict → Type 0
 Shows from gives found bytes holds verdict = (shown : List Shown) × (map (λ s. s.row) shown ≡ parts_of bytes)

@@ -15,14 +15,8 @@ abbrev pub IsPushed : (Tree → List ℕ → Type 0) → Tree → Bool → List 
 IsPushed gives t error old new = (error ≡ tree_grave t)
     × ((drawn : List ℕ) × gives t drawn × (new ≡ old ++ (drawn ++ 10 ∷ [])))
 
--- a text in place of a row, by what the row says; none where the row itself is shown
+-- the text that is shown of a row, by what the row says
 abbrev pub IsValueText : (Tree → List ℕ → Type 0) → Option (List Tree) → RowKind → List ℕ → Type 0
 IsValueText gives says Passed text = ⊥
-IsValueText gives says Unread text = says ≡ None
+IsValueText gives says Unread text = (says ≡ None) × (text ≡ [])
 IsValueText gives says (Messages grave) text = (ts : List Tree) × (says ≡ Some ts) × AreTexts gives ts grave text
-
--- what is shown: the row itself, or that text
-abbrev pub shown_text : RowKind → List ℕ → List ℕ → List ℕ
-shown_text Passed row text = row
-shown_text Unread row text = row
-shown_text (Messages grave) row text = text

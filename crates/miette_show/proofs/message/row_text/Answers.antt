@@ -1,4 +1,4 @@
-use Rattle.std.proofs.Common.{◌≡◌, [], IfSome, Some, IsUtf8, true, false, refl, subst, rules}
+use Rattle.std.proofs.Common.{◌≡◌, IfSome, Some, IsUtf8, true, false, refl, string_bytes, subst, rules}
 use Rattle.serde_json.specs.Read.{read}
 use Rattle.serde_json.specs.View.{view}
 use Rattle.miette_program.specs.steps.JobHandler.{IsGiven}
@@ -13,7 +13,7 @@ returns-then-not-begins_message-clause-shown g c =
     let not : begins_message c.args.row.from c.args.row.bytes.now ≡ false = search rules in
     passed c.args.row.from (IsGiven g.H.Highlighter.is_blank g.H.Highlighter.may_follow c.args.handler.now)
     (IsFoundBy g.F.Files.found g.F.Loader.knows files)
-    (g.F.Files.found files) c.args.row.bytes.now [] not
+    (g.F.Files.found files) c.args.row.bytes.now (string_bytes c.new.result) not (search rules)
 
 pub returns-in_default-clause-shown : goal.returns-in_default-clause-shown
 returns-in_default-clause-shown g c =
@@ -21,7 +21,8 @@ returns-in_default-clause-shown g c =
     let begins : begins_message c.args.row.from c.args.row.bytes.now ≡ true = search rules in
     unread c.args.row.from (IsGiven g.H.Highlighter.is_blank g.H.Highlighter.may_follow c.args.handler.now)
     (IsFoundBy g.F.Files.found g.F.Loader.knows files)
-    (g.F.Files.found files) c.args.row.bytes.now [] begins (c.in_ok-value.ensures.none (search rules))
+    (g.F.Files.found files) c.args.row.bytes.now (string_bytes c.new-in_default.result) begins
+    (c.in_ok-value.ensures.none (search rules)) (search rules)
 
 pub returns-clause-shown : goal.returns-clause-shown
 returns-clause-shown g c =

@@ -1,12 +1,13 @@
-use Rattle.std.proofs.Common.{◌≡◌, ◌<◌, ◌∙◌, Err, IfSome, inl, inr, length, refl, sym, ap, subst, rules}
+use Rattle.std.proofs.Common.{◌≡◌, ◌<◌, ◌∙◌, ℕ, List, Err, IfSome, inl, inr, length, refl, sym, ap, subst, rules}
 use Rattle.std.proofs.lemmas.List.{nil_from_length}
+use Rattle.std.specs.Io.KnownBytes.{Appends}
 use Rattle.miette_program.proofs.HighlighterSteps.{led-nowhere, led-on}
 use Rattle.miette_program.proofs.JobHandlerSteps.{stays-itself, stays-on}
 use Rattle.miette_devices.specs.declared.fault.Fault.TheVariants.{Read, Refused, Usage, Write}
 use Rattle.miette_program.specs.steps.JobHandler.{IsGiven}
 use Rattle.miette_devices.specs.views.Device.{TakesBeginning}
 use Rattle.miette_show.specs.rules.Looking.{IsFoundBy}
-use Rattle.miette_show.specs.rules.Shown.{ShowsFirst, kind_unread, note_of}
+use Rattle.miette_show.specs.rules.Shown.{ShowsFirst, passed_on}
 use Rattle.miette_show.specs.views.Reading.{left_of}
 use Rattle.miette_show.proofs.Beginnings.{all_taken, none_taken}
 use Rattle.miette_show.proofs.Going.{goes_on, goes_still, shown_before}
@@ -31,31 +32,31 @@ returns-then-is_empty-clause-ok g c =
     progress.end _ _ _ _ _ _ _ _ _ _ c.loop.number c.loop.verdict c.next_part.new.part.items
     (nil_from_length c.next_part.new.part.items none) c.loop.invariant.progress c.in_ok-following.ensures.part
 
-pub returns-in_err-note-clause-accepted : goal.returns-in_err-note-clause-accepted
-returns-in_err-note-clause-accepted g c = λ e.
-    no_other _ _ _ Refused refl (search rules) c.in_err-note.ensures.others (λ k. cc) (λ k. cc) e
+pub returns-in_err-pass_on-clause-accepted : goal.returns-in_err-pass_on-clause-accepted
+returns-in_err-pass_on-clause-accepted g c = λ e.
+    no_other _ _ _ Refused refl (search rules) c.in_err-pass_on.ensures.others (λ k. cc) (λ k. cc) e
 
-pub returns-in_err-note-clause-called : goal.returns-in_err-note-clause-called
-returns-in_err-note-clause-called g c = λ e.
-    no_other _ _ _ Usage refl (search rules) c.in_err-note.ensures.others (λ k. cc) (λ k. cc) e
+pub returns-in_err-pass_on-clause-called : goal.returns-in_err-pass_on-clause-called
+returns-in_err-pass_on-clause-called g c = λ e.
+    no_other _ _ _ Usage refl (search rules) c.in_err-pass_on.ensures.others (λ k. cc) (λ k. cc) e
 
-pub returns-in_err-note-clause-read_failed : goal.returns-in_err-note-clause-read_failed
-returns-in_err-note-clause-read_failed g c = (
+pub returns-in_err-pass_on-clause-read_failed : goal.returns-in_err-pass_on-clause-read_failed
+returns-in_err-pass_on-clause-read_failed g c = (
   (λ failed. (let e = c.in_ok-following.ensures.failed.0 failed in cc)),
-  (λ e. absurd (no_other _ _ _ Read refl (search rules) c.in_err-note.ensures.others (λ k. cc) (λ k. cc)
+  (λ e. absurd (no_other _ _ _ Read refl (search rules) c.in_err-pass_on.ensures.others (λ k. cc) (λ k. cc)
       e)),
 )
 
-pub returns-in_err-note-clause-write_failed : goal.returns-in_err-note-clause-write_failed
-returns-in_err-note-clause-write_failed g c =
-    let is : c.from_residual-in_err-note.result ≡ Err c.in_err-note.field-0.0 = search rules in (
+pub returns-in_err-pass_on-clause-write_failed : goal.returns-in_err-pass_on-clause-write_failed
+returns-in_err-pass_on-clause-write_failed g c =
+    let is : c.from_residual-in_err-pass_on.result ≡ Err c.in_err-pass_on.field-0.0 = search rules in (
       (λ failed. elim failed [
         | inl w ↦ (let e = c.in_ok-kind.ensures.failed.0 w in cc)
-        | inr w ↦ (let e = c.in_err-note.ensures.failed.0 w in
-            let same : c.in_err-note.field-0.0 ≡ Write = cc in is ∙ ap Err same)
+        | inr w ↦ (let e = c.in_err-pass_on.ensures.failed.0 w in
+            let same : c.in_err-pass_on.field-0.0 ≡ Write = cc in is ∙ ap Err same)
       ]),
-      (λ e. inr (let k : Err c.in_err-note.field-0.0 ≡ Err Write = sym is ∙ e in
-          let same : c.in_err-note.field-0.0 ≡ Write = cc in c.in_err-note.ensures.failed.1 (ap Err same))),
+      (λ e. inr (let k : Err c.in_err-pass_on.field-0.0 ≡ Err Write = sym is ∙ e in
+          let same : c.in_err-pass_on.field-0.0 ≡ Write = cc in c.in_err-pass_on.ensures.failed.1 (ap Err same))),
     )
 
 pub loop-preserved : goal.loop-preserved
@@ -75,10 +76,14 @@ loop-preserved g c =
     c.as_slice.result.now row kind shown.0 l.invariant.stays l.invariant.led l.invariant.goes
     c.as_slice.ensures.value shown.1
     in
+    let passed = subst (λ (r : List ℕ). Appends (g.E.Write.contents l.streams.faults.inner)
+    (g.E.Write.contents c.pass_on.new.faults.inner) (passed_on l.number kind r)) c.as_slice.ensures.value
+    c.in_ok-pass_on.ensures.passed
+    in
     record {
       rows_sound = not_failed _ _ Read c.in_ok-following.ensures.failed;
       writer_sound = not_failed _ _ Write c.in_ok-kind.ensures.failed;
-      faults_sound = not_failed _ _ Write c.in_ok-note.ensures.failed;
+      faults_sound = not_failed _ _ Write c.in_ok-pass_on.ensures.failed;
       goes = goes_on (g.F.Files.found first) (g.F.Files.found l.files) (g.F.Files.found c.show_row.new.files)
           (g.F.Loader.knows first) (g.F.Loader.knows l.files) (g.F.Loader.knows c.show_row.new.files) l.invariant.goes
           c.show_row.ensures.goes;
@@ -88,7 +93,7 @@ loop-preserved g c =
           c.in_ok-kind.ensures.led;
       progress = progress.more c.args.from gives found _ _ _ _ _ _ _ _ _ l.number l.verdict c.with-verdict.result row
           kind shown.0 c.in_ok-following.following some l.invariant.progress c.in_ok-following.ensures.part is_shown
-          shown.2 c.in_ok-note.ensures.noted c.with-verdict.ensures c.in_ok-following.ensures.number;
+          shown.2 passed c.with-verdict.ensures c.in_ok-following.ensures.number;
     }
 
 pub returns-in_err-following-clause-beginning : goal.returns-in_err-following-clause-beginning
@@ -122,8 +127,8 @@ returns-in_err-kind-clause-beginning g c =
           (progress.begun c.args.from gives found left _ _ _ _ _ l.number l.verdict l.invariant.progress)
     ])
 
-pub returns-in_err-note-clause-beginning : goal.returns-in_err-note-clause-beginning
-returns-in_err-note-clause-beginning g c =
+pub returns-in_err-pass_on-clause-beginning : goal.returns-in_err-pass_on-clause-beginning
+returns-in_err-pass_on-clause-beginning g c =
     let l = c.loop in
     let first = c.args.files.now in
     let gives = IsGiven g.H.Highlighter.is_blank g.H.Highlighter.may_follow c.args.handler.now in
@@ -139,10 +144,12 @@ returns-in_err-note-clause-beginning g c =
     l.invariant.led l.invariant.goes c.as_slice.ensures.value shown.1
     in
     let before = g.E.Write.contents l.streams.faults.inner in
-    let said = note_of l.number (kind_unread kind) in
-    let taken : TakesBeginning before (g.E.Write.contents c.note.new.faults.inner) said =
-    elim c.in_err-note.ensures.untouched [
-      | inl failed ↦ c.in_err-note.ensures.beginning failed
+    let said = passed_on l.number kind row in
+    let taken : TakesBeginning before (g.E.Write.contents c.pass_on.new.faults.inner) said =
+    elim c.in_err-pass_on.ensures.untouched [
+      | inl failed ↦
+          subst (λ (r : List ℕ). TakesBeginning before (g.E.Write.contents c.pass_on.new.faults.inner)
+          (passed_on l.number kind r)) c.as_slice.ensures.value (c.in_err-pass_on.ensures.beginning failed)
       | inr same ↦
           subst (λ d. TakesBeginning before (g.E.Write.contents d.inner) said) (sym same) (none_taken before said)
     ]
