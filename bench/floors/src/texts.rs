@@ -134,7 +134,7 @@ pub fn json_report(message: &str) -> String {
     out.extend_from_slice(b"{\"message\": \"");
     push_escaped(&mut out, message);
     out.extend_from_slice(b"\",\"severity\": \"error\",\"causes\": [],");
-    out.extend_from_slice(b"\"filename\": \"\",\"labels\": [],\"related\": []}");
+    out.extend_from_slice(b"\"labels\": [],\"related\": []}");
     String::from_utf8(out).unwrap()
 }
 

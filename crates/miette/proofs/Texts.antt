@@ -1,10 +1,10 @@
 -- Sources that are texts.
-use Rattle.std.proofs.Common.{◌≡◌, ◌∙◌, ◌<◌, ℕ, List, ap, arith, length, subst, sym, true, false}
+use Rattle.std.proofs.Common.{◌≡◌, ◌∙◌, ◌<◌, ℕ, List, length, refl, subst, sym, true, false}
 use Rattle.std.specs.Prelude.{IsUtf8, Result, Ok, Err, is_err}
 use Rattle.miette_protocol.specs.rules.Outcome.{Answers, Refuses}
 use Rattle.miette_protocol.specs.rules.Reading.{Contents, Source, Span, contents_of}
 use Rattle.miette_protocol.specs.declared.error.MietteError.{MietteError}
-use Rattle.miette_brief.proofs.Fixing.{fault_met, nowhere, whole_read}
+use Rattle.miette_tree.proofs.WholeReads.{fault_met, nowhere, read_whole}
 use Rattle.miette.specs.rules.Texts.{IsText}
 
 pub text_made : (source : Source) (bytes : List ℕ) → source.bytes ≡ bytes → source.always_reads ≡ true → IsUtf8 bytes
@@ -20,9 +20,7 @@ most = 18446744073709551615
 
 pub whole : (source : Source) (lent : Contents) (bytes : List ℕ) → lent ≡ contents_of source nowhere 1 most
     → bytes ≡ lent.bytes → length bytes < most → bytes ≡ source.bytes
-whole source lent bytes is at small =
-    let same : bytes ≡ (contents_of source nowhere 1 most).bytes = at ∙ ap (λ (it : Contents). it.bytes) is in
-    same ∙ whole_read source most (omega arith) (omega (arith, ap length same, small))
+whole source lent bytes is at small = read_whole source nowhere lent bytes refl is at small
 
 -- its beginning can be read
 pub never_refused : (source : Source) (e : MietteError) → IsText source → Refuses source nowhere e → ⊥

@@ -2,7 +2,7 @@ use Rattle.std.proofs.Common.{◌≡◌, ◌∙◌, ap, arith, subst, sym, rules
 use Rattle.std.specs.Prelude.{IsUtf8, is_err}
 use Rattle.miette_protocol.specs.rules.Reading.{Source, contents_of}
 use Rattle.miette_tree.specs.views.Owned.{owned_source}
-use Rattle.miette_brief.proofs.Fixing.{nowhere}
+use Rattle.miette_tree.proofs.WholeReads.{nowhere}
 use Rattle.miette.proofs.Texts.{always_ok, most, whole}
 use Rattle.miette.proofs.source_text.text_in.Goals as goal
 
