@@ -250,19 +250,20 @@ def print_tables(workloads, asked):
             print(heaps_row(workload, kept[workload.name]))
 
 
-def words():
-    """What is asked for."""
-    reader = argparse.ArgumentParser(description=__doc__.split("\n", maxsplit=1)[0])
-    reader.add_argument("--peers", default="", help="the folder of the peers' programs")
+def words(told, names, further=()):
+    """What is asked for, of a script that tells this of itself and of its names; further options are a path each."""
+    reader = argparse.ArgumentParser(description=told.split("\n", maxsplit=1)[0])
+    for option, what in [("--peers", "the folder of the peers' programs"), *further]:
+        reader.add_argument(option, default="", help=what)
     reader.add_argument("--seconds", type=int, default=300, help="most seconds of the processor")
     reader.add_argument("--keep", default="", help="a file for the counts")
-    reader.add_argument("names", nargs="*", metavar="NAME", help="how the names begin")
+    reader.add_argument("names", nargs="*", metavar="NAME", help=names)
     return reader.parse_args()
 
 
 def main():
     """Counts what is asked for."""
-    asked = words()
+    asked = words(__doc__, "how the names begin")
     workloads = chosen(asked.names)
     for program in sorted({built(it.program) for it in workloads}):
         if not os.path.exists(program):

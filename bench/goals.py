@@ -8,7 +8,6 @@ counted where it writes the same bytes, or does what is named. Of sources in SOU
 their lines, which is made when the report is read, is counted beside one rendering, by
 `valgrind --tool=callgrind`: what `IndexedSource::new` takes.
 """
-import argparse
 import os
 import re
 import subprocess
@@ -100,20 +99,9 @@ def line_of(workload, row):
     return f"{workload.name:22}" + "".join(f"{it or '–':>9}" for it in cells)
 
 
-def words():
-    """What is asked for."""
-    reader = argparse.ArgumentParser(description=__doc__.split("\n", maxsplit=1)[0])
-    reader.add_argument("--peers", default="", help="the folder of the peers' programs")
-    reader.add_argument("--floors", default="", help="the program of the floors")
-    reader.add_argument("--seconds", type=int, default=300, help="most seconds of the processor")
-    reader.add_argument("--keep", default="", help="a file for the counts")
-    reader.add_argument("names", nargs="*", metavar="NAME", help="workloads")
-    return reader.parse_args()
-
-
 def main():
     """Counts what is asked for."""
-    asked = words()
+    asked = count.words(__doc__, "workloads", [("--floors", "the program of the floors")])
     known = {it.name: it for it in chosen([])}
     kept = count.read_kept(asked)
     heads = "ours index original codespan indexed floor /original /floor heap/byte /original calls"

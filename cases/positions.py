@@ -15,7 +15,7 @@ import re
 import sys
 import tempfile
 
-from programs import SHOWN, built, counted, run
+from programs import built, judged, run
 
 COUNT = 400
 PIECES = ["a", "bc", " ", "\t", "\n", "\n", "\r\n", "\r\n", "\r", "\r", "é", "漢", "😀", "e\u0301", "\ufeff", "\u2028"]
@@ -153,16 +153,5 @@ def cases():
             yield f"{kind} {number}", it == right, (asked(number, encoding), right, it)
 
 
-def main():
-    wrong, count = [], 0
-    for name, is_well, told_of in cases():
-        count += 1
-        if not is_well:
-            wrong.append((name, told_of))
-    for name, told_of in wrong[:SHOWN]:
-        print(f"{name}\n  {str(told_of)[:3000]}")
-    return counted(count - len(wrong), len(wrong))
-
-
 if __name__ == "__main__":
-    sys.exit(main())
+    sys.exit(judged(cases()))

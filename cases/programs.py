@@ -116,3 +116,17 @@ def counted(passed, failed):
     """Prints the last line of a script, and gives its exit status."""
     print(f"{passed} passed, {failed} failed")
     return 1 if failed else 0
+
+
+def judged(cases):
+    """Prints the first of these cases that are wrong and the last line, and gives the exit status.
+
+    A case is its name, whether it is well, and what is told of it where it isn't."""
+    wrong, count = [], 0
+    for name, is_well, told in cases:
+        count += 1
+        if not is_well:
+            wrong.append((name, told))
+    for name, told in wrong[:SHOWN]:
+        print(f"{name}\n  {str(told)[:3000]}")
+    return counted(count - len(wrong), len(wrong))

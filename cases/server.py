@@ -21,7 +21,7 @@ import subprocess
 import sys
 import tempfile
 
-from programs import SHOWN, built, counted, library_in, program, refusals, run, run_refusing
+from programs import built, judged, library_in, program, refusals, run, run_refusing
 from server_model import frame, served
 
 SESSIONS = 400
@@ -338,17 +338,10 @@ def editor():
     yield "nvim", is_well, (rows, got[1], fixed, done.stderr[-2000:])
 
 
-def main():
-    wrong, count = [], 0
+def cases():
     for part in (sessions, frames, devices, growths, sizes, changes, editor):
-        for name, is_well, told in part():
-            count += 1
-            if not is_well:
-                wrong.append((name, told))
-    for name, told in wrong[:SHOWN]:
-        print(f"{name}\n  {str(told)[:3000]}")
-    return counted(count - len(wrong), len(wrong))
+        yield from part()
 
 
 if __name__ == "__main__":
-    sys.exit(main())
+    sys.exit(judged(cases()))
