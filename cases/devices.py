@@ -74,8 +74,10 @@ RUNS = [
     (["job", "--debug"], LABELLED, 0, LABELLED_DEBUG),
     (["bench", "2", "--narrated"], SMALL, 0, "33\n"),
     (["show", "--theme", "unicode_nocolor"], '{"message":"漢","level":"error"}', 1, "  × 漢\n\n"),
+    (["show", "--brief"], '{ "comments": [{"code": 2148, "message": "m"}]}', 0, "warning[SC2148]: m\nnote: caused by: :0:0\n\n"),
 ]
 LINT_USAGE = "usage: lint [--brief | --github | --fix | --diff | --sarif [--tool TOOL]] NAME WIDTH | --lsp WIDTH\n"
+SHOW_USAGE = "usage: show [--from auto|rustc|gcc|sarif|shellcheck] [--root DIR] [--fix | OPTIONS]\n"
 # words that are refused, status, row
 REFUSED = [
     (["draw"], "usage: draw NAME OFFSET LENGTH LABEL MESSAGE\n"),
@@ -83,7 +85,7 @@ REFUSED = [
     (["job", "--jsonx"], "usage: job [OPTIONS]\n"),
     (["bench", "x"], "usage: bench N [OPTIONS]\n"),
     (["lint", "--lsp"], LINT_USAGE),
-    (["show", "--from", "clang"], "usage: show [--from auto|rustc|gcc|sarif] [--root DIR] [--fix | OPTIONS]\n"),
+    (["show", "--from", "clang"], SHOW_USAGE),
 ]
 # words and an input of which nothing is written, status, row
 SILENT = [

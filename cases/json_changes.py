@@ -1,5 +1,5 @@
 """json_changes.py: JSON values with a few members or items removed, or of other values and types, for show.py,
-gcc_cases.py and sarif_read_cases.py."""
+gcc_cases.py, sarif_read_cases.py and shellcheck_cases.py."""
 import copy
 
 

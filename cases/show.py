@@ -1,10 +1,10 @@
 #!/usr/bin/env python3
-"""show.py: runs the built program `show` on what rustc and GCC wrote (`rustc/`, `gcc/`) and on SARIF logs
-(`sarif_read/`), and compares it with the model of show_model.py, whose reports tree_model.py draws.
+"""show.py: runs the built program `show` on what rustc, GCC and ShellCheck wrote (`rustc/`, `gcc/`, `shellcheck/`) and
+on SARIF logs (`sarif_read/`), and compares it with the model of show_model.py, whose reports tree_model.py draws.
 
 The recorded rows are tried as they are, as cargo wraps them, cut at every 50th byte, with members removed or of other
 types, offsets, lines and columns that are off or behind the end, other files, files that are gone or shorter. Where
-rustc and gcc are installed, they are run anew. `--many` reads 100,000 messages, and looks at the memory. The last line
+rustc, gcc and shellcheck are installed, they are run anew. `--many` reads 100,000 messages, and looks at the memory. The last line
 is 'N passed, M failed', and the exit status is 0 only where nothing failed."""
 import json
 import os
@@ -19,6 +19,7 @@ from functools import partial
 
 import gcc_cases
 import sarif_read_cases
+import shellcheck_cases
 import size_runs
 from json_changes import changed
 from programs import HERE, counted, program, run, run_in_terminal
@@ -206,7 +207,7 @@ def tried(folder, what, given, root, form="rustc"):
 
 def words_tried():
     """Wrong words end with status 2 and say which are right, before anything is read."""
-    usage = b"usage: show [--from auto|rustc|gcc|sarif] [--root DIR] [--fix | OPTIONS]\n"
+    usage = b"usage: show [--from auto|rustc|gcc|sarif|shellcheck] [--root DIR] [--fix | OPTIONS]\n"
     wrong = [["--from", "clang"], ["--root"], ["--from"], ["--width"], ["x"], ["--brief", "--root", "."]]
     wrong += [["--fix", "--brief"], ["--root", ".", "--fix", "x"]]
     return [run(["show", *words], b'{"message":"m"}\n') == (2, b"", usage) for words in wrong]
@@ -233,10 +234,11 @@ def terminal_tried():
 
 
 def live_tried():
-    """What rustc and gcc write now, where they are there."""
+    """What rustc, gcc and shellcheck write now, where they are there."""
     runs = [
         ("rustc", FOLDER, ["--edition", "2021", "--error-format=json", "--emit=metadata", "multi.rs"]),
         ("gcc", gcc_cases.FOLDER, ["-Wall", "-fanalyzer", "-fdiagnostics-format=json", "-c", "broken.c", "leak.c"]),
+        ("shellcheck", shellcheck_cases.FOLDER, ["-f", "json1", "quotes.sh", "wide.sh", "broken.sh"]),
     ]
     done = []
     for compiler, sources, words in runs:
@@ -245,7 +247,8 @@ def live_tried():
         with tempfile.TemporaryDirectory() as folder:
             for name in files_in(sources):
                 shutil.copy(os.path.join(sources, name), folder)
-            given = subprocess.run([compiler, *words], cwd=folder, capture_output=True, check=False).stderr
+            ran = subprocess.run([compiler, *words], cwd=folder, capture_output=True, check=False)
+            given = ran.stdout + ran.stderr
             done.append(given != b"" and tried(folder, f"{compiler} itself", given, folder, compiler))
     return done
 
@@ -312,6 +315,10 @@ def main(words):
         done += [tried(folder, *it, "gcc") for it in gcc_cases.inputs(folder)]
         shutil.copy(os.path.join(sarif_read_cases.FOLDER, "line ends.txt"), os.path.join(folder, "wide.c"))
         done += [tried(folder, *it, "sarif") for it in sarif_read_cases.inputs(folder)]
+        shutil.copy(os.path.join(shellcheck_cases.FOLDER, "quotes.sh"), os.path.join(folder, "short.sh"))
+        with open(os.path.join(folder, "quotes.sh"), "wb") as file:
+            file.write("#!/bin/sh\r\n# 漢字\r\nlist=".encode())
+        done += [tried(folder, *it, "shellcheck") for it in shellcheck_cases.inputs(folder)]
     done += words_tried() + handlers_tried() + terminal_tried() + live_tried() + stream_tried()
     done += memory_tried(100000 if "--many" in words else 10000)
     return counted(sum(done), len(done) - sum(done))

@@ -18,7 +18,7 @@ import tempfile
 from fix_model import Edit, taken
 from programs import HERE, built, counted, library_in, refusals, run
 from readers_model import NoMessage, Settled, diagnostic_in, fixes, is_edit, member, objects, offers, stretch, text
-from show_model import BEGINNINGS, parts_of
+from show_model import BEGINNING, parts_of
 
 FOLDER = os.path.join(HERE, "rustc")
 NAMES = ["borrow", "fixits", "life", "mine", "multi"]
@@ -96,7 +96,7 @@ def wanted(given, files, unwritable=()):
     """Status, standard output and standard error, and the files after it."""
     gathered, notes, unread = {}, [], False
     for number, row in parts_of(given):
-        if not row.startswith(BEGINNINGS["rustc"]):
+        if not BEGINNING["rustc"].match(row):
             continue
         try:
             for name, edits in sure_fixes(diagnostic_in(json.loads(row)), files):

@@ -1,16 +1,20 @@
 """show_model.py: what `show` makes of a row of bytes (docs/RULES.md, 'Programs'), made without the programs: whose
-reports readers_model.py, gcc_model.py and sarif_reader_model.py make."""
+reports readers_model.py, gcc_model.py, sarif_reader_model.py and shellcheck_model.py make."""
 import json
 import re
 
 import gcc_model
 import sarif_reader_model
+import shellcheck_model
 from readers_model import NoMessage, member, report_of
 
-# what messages begin with, over several rows with a bracket alone
-BEGINNINGS = {"rustc": (b'{"', b"{\n", b"{\r\n"), "gcc": (b'[{"', b"[]", b"[\n", b"[\r\n")}
-BEGINNINGS["sarif"] = BEGINNINGS["rustc"]
-BEGINNINGS["auto"] = BEGINNINGS["rustc"] + BEGINNINGS["gcc"]
+# what messages begin with: a bracket, and behind white space a quote, a bracket or nothing
+BEHIND = rb'[ \t\r\n]*(?:["{}\[\]]|\Z)'
+BEGINNING = {form: re.compile(bracket + BEHIND) for form, bracket in (("auto", rb"[\[{]"), ("gcc", rb"\["))}
+BEGINNING.update(dict.fromkeys(("rustc", "sarif", "shellcheck"), re.compile(rb"{" + BEHIND)))
+
+# what a value that has no reports ends with
+NONE = (NoMessage, gcc_model.NoReports, sarif_reader_model.NoReports, shellcheck_model.NoReports)
 
 # how a value begins, its first row where it is a bracket alone, and the rows within a value
 VALUE = re.compile(rb'[\[{]["{}\[\] \t\r\n]')
@@ -57,6 +61,8 @@ def reports_in(value, files, form):
         return gcc_model.reports_of(value, files)
     if form == "sarif" or (form == "auto" and member(value, "runs", list) is not None):
         return sarif_reader_model.reports_of(value, files)
+    if form == "shellcheck" or (form == "auto" and member(value, "comments", list) is not None):
+        return shellcheck_model.reports_of(value, files)
     report = report_of(value, files)
     return [] if report is None else [report]
 
@@ -64,11 +70,11 @@ def reports_in(value, files, form):
 def shown_of(row, files, draw, form="auto"):
     """What is shown of a part, as `draw` draws reports, and what is passed on of it; whether it can't be read, and
     whether an error is among the reports."""
-    if not row.startswith(BEGINNINGS[form]):
+    if not BEGINNING[form].match(row):
         return b"", row, False, False
     try:
         reports = reports_in(json.loads(row.decode(), parse_constant=refused), files, form)
-    except (ValueError, RecursionError, NoMessage, gcc_model.NoReports, sarif_reader_model.NoReports):
+    except (ValueError, RecursionError, *NONE):
         return b"", row, True, False
     shown = b"".join(draw(it).encode() + b"\n" for it in reports)
     return shown, b"", False, any(it["severity"] == "error" for it in reports)

@@ -16,10 +16,12 @@ use Rattle.miette_mending.specs.rules.Gathered.{mended}
 use Rattle.miette_protocol.specs.rules.Reading.{Source}
 use Rattle.miette_readers.proofs.Steps.{next_taken}
 use Rattle.miette_devices.specs.declared.fault.Fault.{Fault}
+use Rattle.miette_devices.specs.views.Device.{TakesBeginning}
 use Rattle.miette_show.specs.rules.Looking.{leads_out}
 use Rattle.miette_show.specs.rules.Mends.{Change, Changes, ChangesFirst, IsChange, IsMended, IsOutcome, fault_as}
 use Rattle.miette_show.specs.rules.Mends.{fault_of, is_done, said_as, said_of, written_as, written_of}
 use Rattle.miette_show.specs.views.Writing.{Writes}
+use Rattle.miette_show.proofs.Beginnings.{all_taken, taken_then}
 
 abbrev Told : Type 0
 Told = Option (List (List ℕ × List ℕ))
@@ -141,30 +143,45 @@ module _ (files : List ℕ → Option Source) (refuses : List ℕ → Type 0) (f
       (put kept later : Option (List (List ℕ × List ℕ))) (old new before after : Option (List ℕ))
       → Changing files refuses fixes names all put kept old new before after → Writes kept later []
       → last ≡ names ++ others
-      → ChangesFirst files refuses fixes last (λ changes. Writes put later (flat_map written_of changes))
+      → ChangesFirst files refuses fixes last (λ changes. Writes put later (flat_map written_of changes)
+      × TakesBeginning old new (flat_map said_of changes) × TakesBeginning before after (flat_map fault_of changes))
   first_still names others last all put kept later old new before after p none is = (
     p.changes,
     others,
     is ∙ ap (λ l. l ++ others) (sym p.named),
     p.each,
-    subst (Writes put later) (append-nil (flat_map written_of p.changes))
-        (writes_then put kept later (flat_map written_of p.changes) [] p.written none),
+    (
+      subst (Writes put later) (append-nil (flat_map written_of p.changes))
+          (writes_then put kept later (flat_map written_of p.changes) [] p.written none),
+      all_taken old new (flat_map said_of p.changes) p.said,
+      all_taken before after (flat_map fault_of p.changes) p.noted,
+    ),
   )
 
   -- and this one
   pub first_more : (names others last : List (List ℕ)) (all : Bool)
-      (put kept later : Option (List (List ℕ × List ℕ))) (old new before after : Option (List ℕ)) (name text : List ℕ)
-      (which : Option (List Bool)) → Changing files refuses fixes names all put kept old new before after
+      (put kept later : Option (List (List ℕ × List ℕ))) (old new newer before after then : Option (List ℕ))
+      (name text : List ℕ) (which : Option (List Bool))
+      → Changing files refuses fixes names all put kept old new before after
       → IsOutcome (files name) (refuses name) (leads_out name) (fixes name) text which
       → Writes kept later (written_as name text which) → last ≡ (names ++ name ∷ []) ++ others
-      → ChangesFirst files refuses fixes last (λ changes. Writes put later (flat_map written_of changes))
-  first_more names others last all put kept later old new before after name text which p outcome wrote is =
+      → TakesBeginning new newer (said_as name which) × TakesBeginning after then (fault_as name which)
+      → ChangesFirst files refuses fixes last (λ changes. Writes put later (flat_map written_of changes)
+      × TakesBeginning old newer (flat_map said_of changes) × TakesBeginning before then (flat_map fault_of changes))
+  first_more names others last all put kept later old new newer before after then name text which p outcome wrote is
+      took =
       let c : Change = record { name = name; text = text; taken = which } in (
         p.changes ++ c ∷ [],
         others,
         is ∙ ap (λ l. l ++ others)
             (sym (map-append name_of p.changes (c ∷ []) ∙ ap (λ l. l ++ name ∷ []) p.named)),
         All-push (IsChange files refuses fixes) p.changes c p.each outcome,
-        subst (Writes put later) (sym (flat_more written_of p.changes c))
-            (writes_then put kept later (flat_map written_of p.changes) (written_as name text which) p.written wrote),
+        (
+          subst (Writes put later) (sym (flat_more written_of p.changes c))
+              (writes_then put kept later (flat_map written_of p.changes) (written_as name text which) p.written wrote),
+          subst (TakesBeginning old newer) (sym (flat_more said_of p.changes c))
+              (taken_then old new newer (flat_map said_of p.changes) (said_as name which) p.said took.0),
+          subst (TakesBeginning before then) (sym (flat_more fault_of p.changes c))
+              (taken_then before after then (flat_map fault_of p.changes) (fault_as name which) p.noted took.1),
+        ),
       )

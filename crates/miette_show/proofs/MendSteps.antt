@@ -12,9 +12,11 @@ use Rattle.std.proofs.lemmas.List.Folds.{list_any-append}
 use Rattle.serde_json.specs.Data.{Data}
 use Rattle.serde_json.specs.Read.{read}
 use Rattle.miette_protocol.specs.rules.Reading.{Source}
+use Rattle.miette_devices.specs.views.Device.{TakesBeginning}
 use Rattle.miette_mending.specs.rules.Sure.{FileFixes, value_fixes}
 use Rattle.miette_show.specs.rules.Looking.{Goes, IsFoundBy}
-use Rattle.miette_show.specs.rules.Mends.{Giving, Gives, IsGiving, IsRowFixes, given, row_fixes, unread_notes}
+use Rattle.miette_show.specs.rules.Mends.{Giving, Gives, GivesFirst, IsGiving, IsRowFixes, given, row_fixes}
+use Rattle.miette_show.specs.rules.Mends.{unread_notes}
 use Rattle.miette_show.specs.rules.Parts.{ends_in, parts_of}
 use Rattle.miette_show.specs.rules.Rows.{begins_object}
 use Rattle.miette_show.specs.rules.Shown.{all_names, kind_grave, kind_unread, note_of}
@@ -22,8 +24,9 @@ use Rattle.miette_show.specs.views.Reading.{IsNextPart}
 use Rattle.miette_show.specs.declared.verdict.RowKind.{RowKind}
 use Rattle.miette_show.specs.declared.verdict.RowKind.TheVariants.{Passed, Unread, Messages}
 use Rattle.miette_show.specs.declared.verdict.Verdict.{Verdict}
+use Rattle.miette_show.proofs.Beginnings.{all_taken, taken_then}
 use Rattle.miette_show.proofs.Going.{found_before}
-use Rattle.miette_show.proofs.PartSteps.{PartsLeft, parts_begin, parts_end, parts_more}
+use Rattle.miette_show.proofs.PartSteps.{PartsLeft, first_parts, parts_begin, parts_end, parts_more}
 
 abbrev Finding : Type 1
 Finding = (List ℕ → Option Source) → List (List ℕ) → Type 0
@@ -196,3 +199,36 @@ module _ (found : Finding) where
           → IfSome o (λ bytes. Gives found bytes (λ all notes. adds all × Appends before after notes) verdict)
       ended None e = tt
       ended (Some bytes) e = (p.all, e, p.each, (p.added, p.notes), p.is)
+
+  -- ---- after an error
+
+  so_far : (first : Option (List ℕ)) (all : List Giving) (holds : List ℕ → Type 0)
+      → IfSome first (λ bytes. (others : List (List ℕ)) × (parts_of bytes ≡ map row_of all ++ others))
+      → All (IsGiving found) all → holds (unread_notes 1 all) → IfSome first (λ bytes. GivesFirst found bytes holds)
+  so_far None all holds rows each h = tt
+  so_far (Some bytes) all holds rows each h = (all, rows.0, rows.1, each, h)
+
+  -- the notes on the rows before this one
+  pub begun : (adds : List FileFixes → Type 0) (first left before after : Option (List ℕ)) (number : ℕ)
+      (verdict : Verdict) → Passing adds found first left before after number verdict
+      → IfSome first (λ bytes. GivesFirst found bytes (TakesBeginning before after))
+  begun adds first left before after number verdict p =
+      so_far first p.all (TakesBeginning before after) (first_parts first left (map row_of p.all) p.rows) p.each
+      (all_taken before after (unread_notes 1 p.all) p.notes)
+
+  -- and a beginning of that on this one
+  pub begun_with : (adds : List FileFixes → Type 0) (first left next before after later : Option (List ℕ)) (number : ℕ)
+      (verdict : Verdict) (row : List ℕ) (kind : RowKind) (fixes : List FileFixes) → 0 < length row
+      → Passing adds found first left before after number verdict → IsNextPart left next row
+      → IsGiving found (giving row kind fixes) → TakesBeginning after later (note_of number (kind_unread kind))
+      → IfSome first (λ bytes. GivesFirst found bytes (TakesBeginning before later))
+  begun_with adds first left next before after later number verdict row kind fixes some p is_next is_giving said =
+      let s = giving row kind fixes in
+      so_far first (p.all ++ s ∷ []) (TakesBeginning before later)
+      (first_parts first next (map row_of (p.all ++ s ∷ []))
+      (subst (PartsLeft first next) (sym (map-append row_of p.all (s ∷ [])))
+      (parts_more first left next (map row_of p.all) row some p.rows is_next)))
+      (All-append (IsGiving found) p.all (s ∷ []) p.each
+      (All-cons (IsGiving found) s [] is_giving (All-nil (IsGiving found))))
+      (subst (TakesBeginning before later) (sym (notes_more 1 p.all s number p.count))
+      (taken_then before after later (unread_notes 1 p.all) (note_of number (kind_unread kind)) p.notes said))

@@ -12,11 +12,12 @@ use Rattle.miette_readers.proofs.Steps.{next_taken}
 use Rattle.miette_readers.specs.rules.RustcReport.{rustc_tree}
 use Rattle.miette_gcc.specs.rules.GccReport.{gcc_trees}
 use Rattle.miette_sarif_reader.specs.rules.Logs.{sarif_trees}
+use Rattle.miette_shellcheck.specs.rules.Comments.{shellcheck_trees}
 use Rattle.miette_highlight.specs.rules.HighlighterCalls.{Call}
 use Rattle.miette_program.proofs.JobHandlerSteps.{given-before}
 use Rattle.miette_program.specs.declared.job_handler.JobHandler.{JobHandler}
 use Rattle.miette_program.specs.steps.JobHandler.{IsGiven, IsLed, Stays}
-use Rattle.miette_show.specs.rules.Shown.{is_gcc, is_sarif, maybe_tree, rustc_trees, value_trees}
+use Rattle.miette_show.specs.rules.Shown.{is_gcc, is_sarif, is_shellcheck, maybe_tree, rustc_trees, value_trees}
 use Rattle.miette_show.specs.views.Texts.{AreTexts, IsPushed}
 use Rattle.miette_show.specs.declared.words.Format.{Format}
 use Rattle.miette_show.proofs.TextSteps.{pushed_by, texts_more}
@@ -33,20 +34,22 @@ item_holds P tree (y ∷ ys) (suc i) x h is all =
 
 module _ (P : Tree → Type 0) (files : List ℕ → Option Source) (d : Data)
     (of_rustc : IfSome (rustc_tree files d) (λ row. IfSome row P)) (of_gcc : IfSome (gcc_trees files d) (All P))
-    (of_log : IfSome (sarif_trees files d) (All P)) where
+    (of_log : IfSome (sarif_trees files d) (All P)) (of_comments : IfSome (shellcheck_trees files d) (All P)) where
   rustc_hold : (o : Option (Option Tree)) → IfSome o (λ row. IfSome row P) → IfSome (option_map maybe_tree o) (All P)
   rustc_hold None h = tt
   rustc_hold (Some None) h = All-nil P
   rustc_hold (Some (Some t)) h = All-cons P t [] h (All-nil P)
 
-  either : (b c : Bool)
-      → IfSome (if b then gcc_trees files d else if c then sarif_trees files d else rustc_trees files d) (All P)
-  either true c = of_gcc
-  either false true = of_log
-  either false false = rustc_hold (rustc_tree files d) of_rustc
+  each_holds : (b c s : Bool)
+      → IfSome (if b then gcc_trees files d
+      else if c then sarif_trees files d else if s then shellcheck_trees files d else rustc_trees files d) (All P)
+  each_holds true c s = of_gcc
+  each_holds false true s = of_log
+  each_holds false false true = of_comments
+  each_holds false false false = rustc_hold (rustc_tree files d) of_rustc
 
   trees_hold : (from : Format) → IfSome (value_trees from files d) (All P)
-  trees_hold from = either (is_gcc from d) (is_sarif from d)
+  trees_hold from = each_holds (is_gcc from d) (is_sarif from d) (is_shellcheck from d)
 
   some_hold : (o : Option (List Tree)) (ts : List Tree) → IfSome o (All P) → o ≡ Some ts → All P ts
   some_hold None ts h e = absurd (cc)

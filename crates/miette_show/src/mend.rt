@@ -3,11 +3,12 @@
 ghost use Rattle.std.specs.Prelude.{◌≡◌, ◌⊎◌, ◌↔◌, ◌++◌, List, Err, IfOk, IfSome, IsTrue, OnErr, false, true};
 ghost use Rattle.std.specs.List.{flat_map, list_all};
 ghost use Rattle.std.specs.Io.KnownBytes.{Appends};
+ghost use Rattle.miette_devices.specs.views.Device.{TakesBeginning};
 ghost use Rattle.miette_mending.specs.rules.Sure.{FileFixes};
 ghost use Rattle.miette_mending.specs.views.Holding.{Adds};
 ghost use Rattle.miette_show.specs.rules.Looking.{Goes, IsFoundBy};
-ghost use Rattle.miette_show.specs.rules.Mends.{Gives, IsGiving, Mends, MendsFirst, fault_of, is_done, said_of};
-ghost use Rattle.miette_show.specs.rules.Mends.{written_of};
+ghost use Rattle.miette_show.specs.rules.Mends.{Gives, GivesFirst, IsGiving, Mends, MendsFirst, fault_of, is_done};
+ghost use Rattle.miette_show.specs.rules.Mends.{said_of, written_of};
 ghost use Rattle.miette_show.specs.rules.Statuses.{status_of};
 ghost use Rattle.miette_show.specs.views.Reading.{left_of};
 ghost use Rattle.miette_show.specs.views.Writing.{Writes};
@@ -68,6 +69,10 @@ fn gather_rows<F: Loader, R: Read, E: Write>(
     ensures ok { IfOk result (λ verdict. IfSome (left_of R.remaining rows.old) (λ bytes.
         Gives (IsFoundBy F.found F.knows files.old) bytes (λ all notes. Adds gathered.old gathered.new all
         × Appends (E.contents faults.old.inner) (E.contents faults.new.inner) notes) verdict)) }
+    // After an error the writer took the notes on the first rows, the last of them perhaps in part.
+    ensures beginning { OnErr result (IfSome (left_of R.remaining rows.old) (λ bytes.
+        GivesFirst (IsFoundBy F.found F.knows files.old) bytes
+        (TakesBeginning (E.contents faults.old.inner) (E.contents faults.new.inner)))) }
     ensures read_failed { IsTrue rows.new.failed ↔ (result ≡ Err Fault.Read) }
     ensures write_failed { IsTrue faults.new.failed ↔ (result ≡ Err Fault.Write) }
     ensures others { OnErr result ((result ≡ Err Fault.Read)
@@ -116,10 +121,19 @@ pub fn mend_on<F: Loader, S: Store, R: Read, W: Write, E: Write>(
     ensures write_failed { (IsTrue streams.new.writer.failed ⊎ IsTrue streams.new.faults.failed)
         ↔ (result ≡ Err Fault.Write) }
     ensures unwritten { (result ≡ Err Fault.Read) → store.new ≡ store.old }
-    // After an error the first of these files were written so, or none.
-    ensures first { OnErr result ((store.new ≡ store.old) ⊎ IfSome (left_of R.remaining streams.old.rows) (λ bytes.
-        MendsFirst (IsFoundBy F.found F.knows files.old) S.refuses bytes
-        (λ changes. Writes (S.written store.old) (S.written store.new) (flat_map written_of changes)))) }
+    // After an error the first of these files were written and said so, the last perhaps said in part; or none was, and
+    // the notes on the first rows were taken, the last of them perhaps in part.
+    ensures first { OnErr result (((store.new ≡ store.old) × (streams.new.writer ≡ streams.old.writer)
+        × IfSome (left_of R.remaining streams.old.rows) (λ bytes.
+        GivesFirst (IsFoundBy F.found F.knows files.old) bytes
+        (TakesBeginning (E.contents streams.old.faults.inner) (E.contents streams.new.faults.inner))))
+        ⊎ IfSome (left_of R.remaining streams.old.rows) (λ bytes.
+        MendsFirst (IsFoundBy F.found F.knows files.old) S.refuses bytes (λ changes notes.
+        Writes (S.written store.old) (S.written store.new) (flat_map written_of changes)
+        × TakesBeginning (W.contents streams.old.writer.inner) (W.contents streams.new.writer.inner)
+        (flat_map said_of changes)
+        × TakesBeginning (E.contents streams.old.faults.inner) (E.contents streams.new.faults.inner)
+        (notes ++ flat_map fault_of changes)))) }
 {
     let mut gathered = Gathered::new(alloc);
     let verdict = gather_rows(
@@ -159,7 +173,7 @@ where
     // Whatever it is, no other file was written, and each that was by its fixes.
     ensures first { (store.new ≡ store.old) ⊎ IfSome (left_of R.remaining streams.rows) (λ bytes.
         MendsFirst (IsFoundBy F.found F.knows files.old) S.refuses bytes
-        (λ changes. Writes (S.written store.old) (S.written store.new) (flat_map written_of changes))) }
+        (λ changes notes. Writes (S.written store.old) (S.written store.new) (flat_map written_of changes))) }
 {
     let mut streams = streams;
     match mend_on(alloc, files, store, &mut streams) {

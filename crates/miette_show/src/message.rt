@@ -14,6 +14,7 @@ ghost use Rattle.miette_show.specs.rules.Shown.{IsShown, is_grave, value_trees};
 ghost use Rattle.miette_show.specs.views.Texts.{AreTexts, IsPushed, IsValueText};
 
 use crate::loader::{Loader, load_all};
+use crate::parts::begins_with;
 use crate::reports::reports_of;
 use crate::verdict::RowKind;
 use crate::words::Format;
@@ -37,21 +38,18 @@ pub(crate) struct Row<'r> {
     pub bytes: &'r [u8],
 }
 
-/// Whether a part begins as each message of rustc and cargo does, and each SARIF log.
+/// Whether a part begins as each message of rustc and cargo does, each SARIF log, and what ShellCheck writes.
 pub(crate) fn begins_object(row: &[u8]) -> bool
     ensures { result ≡ begins_object row.now }
 {
-    row.starts_with(b"{\"") || row.starts_with(b"{\n") || row.starts_with(b"{\r\n")
+    begins_with(b'{', row)
 }
 
 /// Whether a part begins as each array of GCC does.
 fn begins_array(row: &[u8]) -> bool
     ensures { result ≡ begins_array row.now }
 {
-    row.starts_with(b"[{\"")
-        || row.starts_with(b"[]")
-        || row.starts_with(b"[\n")
-        || row.starts_with(b"[\r\n")
+    begins_with(b'[', row)
 }
 
 /// Whether a row begins as messages do.
@@ -60,7 +58,7 @@ fn begins_message(from: Format, row: &[u8]) -> bool
 {
     match from {
         Format::Auto => begins_object(row) || begins_array(row),
-        Format::Rustc | Format::Sarif => begins_object(row),
+        Format::Rustc | Format::Sarif | Format::ShellCheck => begins_object(row),
         Format::Gcc => begins_array(row),
     }
 }

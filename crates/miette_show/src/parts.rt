@@ -2,8 +2,8 @@
 
 ghost use Rattle.std.specs.Prelude.{◌≡◌, ◌≤◌, ◌&&◌, length};
 ghost use Rattle.miette_show.specs.rules.Parts.{begins_alone, begins_value, behind, beside_text, closed, ends_in};
-ghost use Rattle.miette_show.specs.rules.Parts.{in_text, is_closing, is_inner, is_open, is_opening, is_space};
-ghost use Rattle.miette_show.specs.rules.Parts.{with_byte};
+ghost use Rattle.miette_show.specs.rules.Parts.{in_text, is_inner, is_open, with_byte};
+ghost use Rattle.miette_show.specs.rules.Rows.{begins_with, is_closing, is_mark, is_opening, is_space, leads_in};
 
 /// What is open behind some bytes of JSON.
 #[derive(Clone, Copy)]
@@ -123,18 +123,43 @@ fn is_opening(byte: u8) -> bool
     matches!(byte, b'{' | b'[')
 }
 
+/// Whether it is a quote or a bracket.
+fn is_mark(byte: u8) -> bool
+    ensures { result ≡ is_mark byte }
+{
+    byte == b'"' || is_opening(byte) || is_closing(byte)
+}
+
+/// Whether white space alone begins these bytes, or a quote or a bracket behind it.
+fn leads_in(bytes: &[u8]) -> bool
+    ensures { result ≡ leads_in bytes.now }
+{
+    let mut rest = bytes;
+    while let Some((first, more)) = rest.split_first() {
+        if !is_space(*first) {
+            return is_mark(*first);
+        }
+        rest = more;
+    }
+    true
+}
+
+/// Whether a part begins with this bracket, behind which, beside white space, a quote, a bracket or nothing stands.
+pub(crate) fn begins_with(bracket: u8, part: &[u8]) -> bool
+    ensures { result ≡ begins_with bracket part.now }
+{
+    match part.split_first() {
+        Some((first, rest)) => *first == bracket && leads_in(rest),
+        None => false,
+    }
+}
+
 /// Whether a part begins with a bracket, behind which a quote, a bracket, white space or the row's end stands.
 pub(crate) fn begins_value(part: &[u8]) -> bool
     ensures { result ≡ begins_value part.now }
 {
     match part {
-        [first, second, ..] => {
-            is_opening(*first)
-                && (*second == b'"'
-                    || is_opening(*second)
-                    || is_closing(*second)
-                    || is_space(*second))
-        }
+        [first, second, ..] => is_opening(*first) && (is_mark(*second) || is_space(*second)),
         _ => false,
     }
 }

@@ -5,7 +5,7 @@ ghost use Rattle.std.specs.List.{All};
 ghost use Rattle.serde_json.specs.View.{view};
 ghost use Rattle.miette_tree.specs.rules.Reads.{AlwaysReads, report_accepted};
 ghost use Rattle.miette_tree.specs.views.Report.{tree_of};
-ghost use Rattle.miette_show.specs.rules.Shown.{is_gcc, is_sarif, rustc_trees, value_trees};
+ghost use Rattle.miette_show.specs.rules.Shown.{is_gcc, is_sarif, is_shellcheck, rustc_trees, value_trees};
 
 use crate::words::Format;
 use miette_gcc::gcc::gcc_reports;
@@ -21,6 +21,10 @@ use miette_sarif_reader::laws::{
     labels_are_accepted as logs_are_accepted, reports_always_read as logs_always_read,
 };
 use miette_sarif_reader::sarif::{has_runs, sarif_reports};
+use miette_shellcheck::laws::{
+    labels_are_accepted as comments_are_accepted, reports_always_read as comments_always_read,
+};
+use miette_shellcheck::shellcheck::{has_comments, shellcheck_reports};
 use miette_tree::report::Report;
 use serde_json::Value;
 use std::alloc::{AllocError, Global};
@@ -31,7 +35,7 @@ fn is_gcc(from: Format, value: &Value) -> bool
 {
     match from {
         Format::Auto => value.is_array(),
-        Format::Rustc | Format::Sarif => false,
+        Format::Rustc | Format::Sarif | Format::ShellCheck => false,
         Format::Gcc => true,
     }
 }
@@ -42,8 +46,19 @@ fn is_sarif(from: Format, value: &Value) -> bool
 {
     match from {
         Format::Auto => has_runs(value),
-        Format::Rustc | Format::Gcc => false,
+        Format::Rustc | Format::Gcc | Format::ShellCheck => false,
         Format::Sarif => true,
+    }
+}
+
+/// Whether a value is read as what ShellCheck writes.
+fn is_shellcheck(from: Format, value: &Value) -> bool
+    ensures { result ≡ is_shellcheck from (view value.now) }
+{
+    match from {
+        Format::Auto => has_comments(value),
+        Format::Rustc | Format::Gcc | Format::Sarif => false,
+        Format::ShellCheck => true,
     }
 }
 
@@ -92,6 +107,8 @@ fn value_reports<'f, F: Files>(
         gcc_reports(alloc, files, value)
     } else if is_sarif(from, value) {
         sarif_reports(alloc, files, value)
+    } else if is_shellcheck(from, value) {
+        shellcheck_reports(alloc, files, value)
     } else {
         rustc_reports(alloc, files, value)
     }
@@ -120,5 +137,7 @@ pub(crate) fn reports_of<'f, F: Files>(
     reports_are_accepted();
     logs_always_read();
     logs_are_accepted();
+    comments_always_read();
+    comments_are_accepted();
     value_reports(alloc, from, files, value)
 }

@@ -5,6 +5,7 @@ ghost use Rattle.std.specs.Prelude.{string_bytes};
 ghost use Rattle.std.specs.List.{count_by, flat_map, list_all};
 ghost use Rattle.std.specs.Option.{option_map};
 ghost use Rattle.std.specs.Io.KnownBytes.{Appends};
+ghost use Rattle.miette_devices.specs.views.Device.{TakesBeginning};
 ghost use Rattle.miette_mending.specs.views.Holding.{fixes_at};
 ghost use Rattle.miette_show.specs.rules.Looking.{begins_up, goes_up, leads_out};
 ghost use Rattle.miette_show.specs.rules.Mends.{Changes, ChangesFirst, IsOutcome, done_row, fault_as, fault_of};
@@ -120,6 +121,11 @@ fn say<R, W: Write, E: Write>(
         (W.contents streams.new.writer.inner) (said_as name.now (option_map (λ list. list.items) taken.now))) }
     ensures noted { IfOk result (λ done. Appends (E.contents streams.old.faults.inner)
         (E.contents streams.new.faults.inner) (fault_as name.now (option_map (λ list. list.items) taken.now))) }
+    // After an error a beginning of it was.
+    ensures beginning { OnErr result (TakesBeginning (W.contents streams.old.writer.inner)
+        (W.contents streams.new.writer.inner) (said_as name.now (option_map (λ list. list.items) taken.now))
+        × TakesBeginning (E.contents streams.old.faults.inner) (E.contents streams.new.faults.inner)
+        (fault_as name.now (option_map (λ list. list.items) taken.now))) }
     ensures rows { streams.new.rows ≡ streams.old.rows }
     ensures write_failed { (IsTrue streams.new.writer.failed ⊎ IsTrue streams.new.faults.failed)
         ↔ (result ≡ Err Fault.Write) }
@@ -162,10 +168,14 @@ pub(crate) fn mend_files<F: Files, S: Store, R, W: Write, E: Write>(
         × Appends (W.contents streams.old.writer.inner) (W.contents streams.new.writer.inner) (flat_map said_of changes)
         × Appends (E.contents streams.old.faults.inner) (E.contents streams.new.faults.inner)
         (flat_map fault_of changes))) }
-    // After an error the first of them were written.
+    // After an error the first of them were written and said, the last perhaps said in part.
     ensures first { OnErr result (ChangesFirst (F.found files.now) S.refuses (fixes_at gathered.now.fixes)
-        (map string_bytes gathered.now.names.items)
-        (λ changes. Writes (S.written store.old) (S.written store.new) (flat_map written_of changes))) }
+        (map string_bytes gathered.now.names.items) (λ changes.
+        Writes (S.written store.old) (S.written store.new) (flat_map written_of changes)
+        × TakesBeginning (W.contents streams.old.writer.inner) (W.contents streams.new.writer.inner)
+        (flat_map said_of changes)
+        × TakesBeginning (E.contents streams.old.faults.inner) (E.contents streams.new.faults.inner)
+        (flat_map fault_of changes))) }
     ensures rows { streams.new.rows ≡ streams.old.rows }
     ensures write_failed { (IsTrue streams.new.writer.failed ⊎ IsTrue streams.new.faults.failed)
         ↔ (result ≡ Err Fault.Write) }

@@ -16,6 +16,8 @@ pub enum Format {
     Gcc,
     /// A SARIF log.
     Sarif,
+    /// What ShellCheck writes.
+    ShellCheck,
 }
 
 impl Format {
@@ -28,6 +30,7 @@ impl Format {
             "rustc" => Some(Format::Rustc),
             "gcc" => Some(Format::Gcc),
             "sarif" => Some(Format::Sarif),
+            "shellcheck" => Some(Format::ShellCheck),
             _ => None,
         }
     }

@@ -1,4 +1,5 @@
-//! Reads what rustc, cargo and GCC write for machines from standard input, and draws it, or fixes what rustc is sure of.
+//! Reads what compilers and linters write for machines from standard input, and draws it, or fixes what rustc is sure
+//! of.
 #![tactic(auto)]
 
 use miette_devices::fault::Fault;

@@ -140,10 +140,15 @@ abbrev pub ChangesFirst : (List ℕ → Option Source) → (List ℕ → Type 0)
 ChangesFirst files refuses fixes names holds = (changes : List Change) × (others : List (List ℕ))
     × (names ≡ map (λ c. c.name) changes ++ others) × All (IsChange files refuses fixes) changes × holds changes
 
+-- The first parts of these bytes give fixes, and this holds of the notes on those that can't be read.
+abbrev pub GivesFirst : ((List ℕ → Option Source) → List (List ℕ) → Type 0) → List ℕ → (List ℕ → Type 0) → Type 0
+GivesFirst found bytes holds = (all : List Giving) × (others : List (List ℕ))
+    × (parts_of bytes ≡ map (λ s. s.row) all ++ others) × All (IsGiving found) all × holds (unread_notes 1 all)
+
 -- The parts of these bytes give fixes, the first of the files that have some are changed by them, and this holds of the
--- changes.
+-- changes and of the notes on rows that can't be read.
 abbrev pub MendsFirst : ((List ℕ → Option Source) → List (List ℕ) → Type 0) → (List ℕ → Type 0) → List ℕ
-    → (List Change → Type 0) → Type 0
+    → (List Change → List ℕ → Type 0) → Type 0
 MendsFirst found refuses bytes holds = (verdict : Verdict) × Gives found bytes (λ all notes.
     (files : List ℕ → Option Source) × found files (names_in all)
-    × ChangesFirst files refuses (λ name. fixes_for name all) (names_in all) holds) verdict
+    × ChangesFirst files refuses (λ name. fixes_for name all) (names_in all) (λ changes. holds changes notes)) verdict

@@ -2,7 +2,7 @@
 use Rattle.std.specs.Prelude.{ℕ, ◌+◌, ◌-◌, List, [], ◌∷◌, ◌++◌, Bool, if◌then◌else◌, ◌==◌, ◌||◌, ◌&&◌, codes, min, not}
 use Rattle.std.specs.Prelude.{false, true, nat_eq, nat_lt}
 use Rattle.std.specs.List.{count_by, fold, list_any, starts_with}
-use Rattle.miette_show.specs.rules.Rows.{last_row, rows_of}
+use Rattle.miette_show.specs.rules.Rows.{is_closing, is_mark, is_opening, is_space, last_row, rows_of}
 use Rattle.miette_show.specs.declared.parts.Open.{Open}
 
 -- ---- what is open behind bytes of JSON
@@ -35,20 +35,11 @@ is_open o = nat_lt 0 o.depth && not o.quoted
 
 -- ---- parts
 
-abbrev pub is_space : ℕ → Bool
-is_space b = b == 32 || (b == 9 || (b == 10 || b == 13))
-
-abbrev pub is_closing : ℕ → Bool
-is_closing b = b == 125 || b == 93
-
-abbrev pub is_opening : ℕ → Bool
-is_opening b = b == 123 || b == 91
-
 -- a value begins with `{` or `[`, behind which a quote, a bracket, white space or the row's end stands
 abbrev pub begins_value : List ℕ → Bool
 begins_value [] = false
 begins_value (a ∷ []) = false
-begins_value (a ∷ b ∷ bs) = is_opening a && (b == 34 || (is_opening b || (is_closing b || is_space b)))
+begins_value (a ∷ b ∷ bs) = is_opening a && (is_mark b || is_space b)
 
 -- its first row is a bracket alone
 abbrev pub begins_alone : List ℕ → Bool

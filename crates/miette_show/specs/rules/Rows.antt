@@ -1,8 +1,8 @@
 -- The rows of what is read.
-use Rattle.std.specs.Prelude.{ℕ, List, [], ◌∷◌, ◌++◌, Bool, if◌then◌else◌, ◌==◌, ◌||◌, codes, nat_eq}
-use Rattle.std.specs.List.{list_any, starts_with}
+use Rattle.std.specs.Prelude.{ℕ, List, [], ◌∷◌, ◌++◌, Bool, true, false, if◌then◌else◌, ◌==◌, ◌||◌, ◌&&◌}
+use Rattle.std.specs.List.{list_any}
 use Rattle.miette_show.specs.declared.words.Format.{Format}
-use Rattle.miette_show.specs.declared.words.Format.TheVariants.{Auto, Rustc, Gcc, Sarif}
+use Rattle.miette_show.specs.declared.words.Format.TheVariants.{Auto, Rustc, Gcc, Sarif, ShellCheck}
 
 -- a row that no LF ends, where it has a byte
 abbrev pub last_row : List ℕ → List (List ℕ)
@@ -21,16 +21,38 @@ rows_of bytes = rows_from [] bytes
 abbrev pub has_end : List ℕ → Bool
 has_end bytes = list_any (λ b. b == 10) bytes
 
--- rustc and cargo begin each message so, and a tool its log; one over several rows begins with a bracket alone
-abbrev pub begins_object : List ℕ → Bool
-begins_object row =
-    list_any (λ beginning. starts_with nat_eq row beginning) (codes "{\"" ∷ codes "{\n" ∷ codes "{\r\n" ∷ [])
+-- ---- how values begin
 
--- GCC begins so what it writes; where it has nothing to say, it writes `[]`
+abbrev pub is_space : ℕ → Bool
+is_space b = b == 32 || (b == 9 || (b == 10 || b == 13))
+
+abbrev pub is_closing : ℕ → Bool
+is_closing b = b == 125 || b == 93
+
+abbrev pub is_opening : ℕ → Bool
+is_opening b = b == 123 || b == 91
+
+-- a quote or a bracket
+abbrev pub is_mark : ℕ → Bool
+is_mark b = b == 34 || (is_opening b || is_closing b)
+
+-- white space alone, or a quote or a bracket behind it
+abbrev pub leads_in : List ℕ → Bool
+leads_in [] = true
+leads_in (b ∷ bs) = if is_space b then leads_in bs else is_mark b
+
+-- this bracket, and behind it, beside white space, a quote, a bracket or nothing
+abbrev pub begins_with : ℕ → List ℕ → Bool
+begins_with bracket [] = false
+begins_with bracket (b ∷ bs) = b == bracket && leads_in bs
+
+-- rustc and cargo begin each message so, ShellCheck what it writes, and a tool its log
+abbrev pub begins_object : List ℕ → Bool
+begins_object row = begins_with 123 row
+
+-- GCC begins so what it writes
 abbrev pub begins_array : List ℕ → Bool
-begins_array row =
-    list_any (λ beginning. starts_with nat_eq row beginning)
-    (codes "[{\"" ∷ codes "[]" ∷ codes "[\n" ∷ codes "[\r\n" ∷ [])
+begins_array row = begins_with 91 row
 
 -- a row begins so that may say something, in a format
 abbrev pub begins_message : Format → List ℕ → Bool
@@ -38,3 +60,4 @@ begins_message Auto row = begins_object row || begins_array row
 begins_message Rustc row = begins_object row
 begins_message Gcc row = begins_array row
 begins_message Sarif row = begins_object row
+begins_message ShellCheck row = begins_object row

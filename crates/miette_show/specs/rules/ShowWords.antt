@@ -2,7 +2,7 @@
 use Rattle.std.specs.Prelude.{ℕ, List, [], ◌∷◌, Option, Some, None, Bool, ◌||◌, if◌then◌else◌, bytes_eq, codes}
 use Rattle.std.specs.Prelude.{option_and_then, true, false, ◌==◌, not, length}
 use Rattle.miette_show.specs.declared.words.Format.{Format}
-use Rattle.miette_show.specs.declared.words.Format.TheVariants.{Auto, Rustc, Gcc, Sarif}
+use Rattle.miette_show.specs.declared.words.Format.TheVariants.{Auto, Rustc, Gcc, Sarif, ShellCheck}
 
 -- the folder that names of files are taken from, where one is given, the format that is read, whether files are fixed,
 -- and the words of `job`
@@ -20,7 +20,8 @@ format_named name =
     if bytes_eq name (codes "auto") then Some Auto
     else if bytes_eq name (codes "rustc") then Some Rustc
     else if bytes_eq name (codes "gcc") then Some Gcc
-    else if bytes_eq name (codes "sarif") then Some Sarif else None
+    else if bytes_eq name (codes "sarif") then Some Sarif
+    else if bytes_eq name (codes "shellcheck") then Some ShellCheck else None
 
 -- In front stand a folder, a format and `--fix`, each as often as one likes, of which the last one counts; then those
 -- of `job`.

@@ -14,11 +14,12 @@ use Rattle.miette_readers.specs.rules.RustcReport.{rustc_tree}
 use Rattle.miette_gcc.specs.rules.GccReport.{gcc_trees}
 use Rattle.miette_sarif_reader.specs.rules.Logs.{has_runs, sarif_trees}
 use Rattle.miette_sarif_reader.specs.rules.Names as log
+use Rattle.miette_shellcheck.specs.rules.Comments.{has_comments, shellcheck_trees}
 use Rattle.miette_show.specs.rules.Parts.{ends_in, parts_of}
 use Rattle.miette_show.specs.rules.Rows.{begins_message}
 use Rattle.miette_show.specs.declared.verdict.RowKind.{RowKind}
 use Rattle.miette_show.specs.declared.words.Format.{Format}
-use Rattle.miette_show.specs.declared.words.Format.TheVariants.{Auto, Rustc, Gcc, Sarif}
+use Rattle.miette_show.specs.declared.words.Format.TheVariants.{Auto, Rustc, Gcc, Sarif, ShellCheck}
 use Rattle.miette_show.specs.declared.verdict.RowKind.TheVariants.{Passed, Unread, Messages}
 use Rattle.miette_show.specs.declared.verdict.Verdict.{Verdict}
 
@@ -38,6 +39,7 @@ is_gcc Auto d = is_some (as_array d)
 is_gcc Rustc d = false
 is_gcc Gcc d = true
 is_gcc Sarif d = false
+is_gcc ShellCheck d = false
 
 -- an object with a list of runs is a SARIF log, where no format is asked for
 abbrev pub is_sarif : Format → Data → Bool
@@ -45,14 +47,24 @@ is_sarif Auto d = has_runs d
 is_sarif Rustc d = false
 is_sarif Gcc d = false
 is_sarif Sarif d = true
+is_sarif ShellCheck d = false
+
+-- an object with a list of comments is ShellCheck's, where no format is asked for
+abbrev pub is_shellcheck : Format → Data → Bool
+is_shellcheck Auto d = has_comments d
+is_shellcheck Rustc d = false
+is_shellcheck Gcc d = false
+is_shellcheck Sarif d = false
+is_shellcheck ShellCheck d = true
 
 -- the reports of what a value says over these files
 abbrev pub value_trees : Format → (List ℕ → Option Source) → Data → Option (List Tree)
 value_trees from files d =
     if is_gcc from d then gcc_trees files d
-    else if is_sarif from d then sarif_trees files d else rustc_trees files d
+    else if is_sarif from d then sarif_trees files d
+    else if is_shellcheck from d then shellcheck_trees files d else rustc_trees files d
 
--- the names of the files that a value speaks of: those of rustc and GCC, and those that the URIs of a log stand for
+-- the names of the files that a value speaks of: those of compilers and ShellCheck, and those that the URIs of a log stand for
 abbrev pub all_names : Data → List (List ℕ)
 all_names d = names_of d ++ log.names_of d
 

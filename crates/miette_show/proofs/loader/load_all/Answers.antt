@@ -1,12 +1,12 @@
-use Rattle.std.proofs.Common.{ℕ, List, All, OnOk, Ok, Err, Result, ap, map, string_bytes, subst, sym, ◌∙◌}
+use Rattle.std.proofs.Common.{ℕ, List, All, OnOk, ap, map, string_bytes, subst, ◌∙◌}
 use Rattle.serde_json.specs.View.{view}
 use Rattle.miette_readers.specs.rules.Names.{names_of}
 use Rattle.miette_readers.specs.views.Values.{texts}
 use Rattle.miette_sarif_reader.specs.rules.Names as log
-use Rattle.miette_show.proofs.Going.{all_stay, both_known, goes_on}
+use Rattle.miette_show.proofs.Going.{both_known}
 use Rattle.miette_show.proofs.loader.load_all.Goals as goal
 
--- TO BE CHECKED: the first names stay known when those of the log are looked for
+-- the first names stay known when those of the log are looked for
 pub returns-clause-known : goal.returns-clause-known
 returns-clause-known g c =
     let first = subst (λ (ns : List (List ℕ)). All (g.F.Loader.knows c.load_names.new.files) ns)

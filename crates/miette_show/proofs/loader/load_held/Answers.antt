@@ -1,4 +1,4 @@
-use Rattle.std.proofs.Common.{◌≤◌, All, String, length, map, string_bytes, subst, take, arith}
+use Rattle.std.proofs.Common.{◌≤◌, All, length, map, string_bytes, subst, take, arith}
 use Rattle.std.proofs.lemmas.List.{take_all}
 use Rattle.std.proofs.lemmas.List.Elements.{All-nil}
 use Rattle.miette_show.proofs.Going.{all_stay, goes_on, goes_still, held_more}

@@ -1,11 +1,14 @@
-use Rattle.std.proofs.Common.{◌≡◌, ◌<◌, ◌∙◌, Err, length, refl, sym, ap, rules}
+use Rattle.std.proofs.Common.{◌≡◌, ◌<◌, ◌∙◌, Err, inl, inr, length, refl, subst, sym, ap, rules}
 use Rattle.std.proofs.lemmas.List.{nil_from_length}
 use Rattle.miette_devices.specs.declared.fault.Fault.TheVariants.{Read, Write}
+use Rattle.miette_devices.specs.views.Device.{TakesBeginning}
 use Rattle.miette_mending.proofs.Holds.{adds_none, adds_then}
 use Rattle.miette_mending.specs.views.Holding.{Adds}
 use Rattle.miette_show.specs.rules.Looking.{IsFoundBy}
+use Rattle.miette_show.specs.rules.Shown.{kind_unread, note_of}
+use Rattle.miette_show.proofs.Beginnings.{none_taken}
 use Rattle.miette_show.proofs.Going.{goes_on, goes_still}
-use Rattle.miette_show.proofs.NoteEnds.{no_other, not_failed}
+use Rattle.miette_show.proofs.NoteEnds.{no_other, not_failed, on_err_of}
 use Rattle.miette_show.proofs.MendSteps as steps
 use Rattle.miette_show.proofs.mend.gather_rows.Goals as goal
 
@@ -66,3 +69,42 @@ loop-preserved g c =
           (λ all added. adds_then c.args.gathered.now l.gathered c.gather_row.new.gathered all gives.0 added gives.2)
           c.in_ok-note.ensures.noted c.with-verdict.ensures c.in_ok-following.ensures.number;
     }
+
+pub returns-in_err-following-clause-beginning : goal.returns-in_err-following-clause-beginning
+returns-in_err-following-clause-beginning g c = on_err_of _ _
+    (steps.begun (IsFoundBy g.F.Files.found g.F.Loader.knows c.args.files.now) _ _ _ _ _ c.loop.number c.loop.verdict
+    c.loop.invariant.passing)
+
+pub returns-in_err-kind-clause-beginning : goal.returns-in_err-kind-clause-beginning
+returns-in_err-kind-clause-beginning g c = on_err_of _ _
+    (steps.begun (IsFoundBy g.F.Files.found g.F.Loader.knows c.args.files.now) _ _ _ _ _ c.loop.number c.loop.verdict
+    c.loop.invariant.passing)
+
+pub returns-in_err-note-clause-beginning : goal.returns-in_err-note-clause-beginning
+returns-in_err-note-clause-beginning g c =
+    let l = c.loop in
+    let first = c.args.files.now in
+    let kind = c.in_ok-kind.kind in
+    let row = c.next_part.new.part.items in
+    let gives = c.in_ok-kind.ensures.given in
+    let some : 0 < length row = search rules in
+    let is_giving = steps.giving_before g.F.Files.found g.F.Loader.knows first l.files c.as_slice.result.now row kind
+    gives.0 l.invariant.goes c.as_slice.ensures.value gives.1
+    in
+    let before = g.E.Write.contents l.faults.inner in
+    let said = note_of l.number (kind_unread kind) in
+    let taken : TakesBeginning before (g.E.Write.contents c.note.new.faults.inner) said =
+    elim c.in_err-note.ensures.untouched [
+      | inl failed ↦ c.in_err-note.ensures.beginning failed
+      | inr same ↦
+          subst (λ d. TakesBeginning before (g.E.Write.contents d.inner) said) (sym same) (none_taken before said)
+    ]
+    in
+    on_err_of _ _
+    (steps.begun_with (IsFoundBy g.F.Files.found g.F.Loader.knows first) _ _ _ _ _ _ _ l.number l.verdict row kind
+    gives.0 some l.invariant.passing c.in_ok-following.ensures.part is_giving taken)
+
+pub returns-clause-beginning : goal.returns-clause-beginning
+returns-clause-beginning g c =
+    steps.begun (IsFoundBy g.F.Files.found g.F.Loader.knows c.args.files.now) _ _ _ _ _ c.loop.number c.loop.verdict
+    c.loop.invariant.passing

@@ -9,6 +9,7 @@ returns-clause-reads g c =
     (c.messages_always_read.ensures (g.F.Files.found files) (view c.args.value.now) (g.met.F.Files.reads files))
     (c.reports_always_read.ensures (g.F.Files.found files) (view c.args.value.now) (g.met.F.Files.reads files))
     (c.reports_always_read-2.ensures (g.F.Files.found files) (view c.args.value.now) (g.met.F.Files.reads files))
+    (c.reports_always_read-3.ensures (g.F.Files.found files) (view c.args.value.now) (g.met.F.Files.reads files))
     c.args.from (λ list. list.items) _ c.value_reports.result c.value_reports.ensures.ok
 
 pub returns-clause-accepted : goal.returns-clause-accepted
@@ -18,4 +19,5 @@ returns-clause-accepted g c =
     (c.labels_are_accepted.ensures (g.F.Files.found files) (view c.args.value.now) (g.met.F.Files.reads files))
     (c.labels_are_accepted-2.ensures (g.F.Files.found files) (view c.args.value.now) (g.met.F.Files.reads files))
     (c.labels_are_accepted-3.ensures (g.F.Files.found files) (view c.args.value.now) (g.met.F.Files.reads files))
+    (c.labels_are_accepted-4.ensures (g.F.Files.found files) (view c.args.value.now) (g.met.F.Files.reads files))
     c.args.from (λ list. list.items) _ c.value_reports.result c.value_reports.ensures.ok

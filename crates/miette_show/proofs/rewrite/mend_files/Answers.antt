@@ -90,9 +90,9 @@ returns-in_err-done-clause-first g c =
     on_err_of _ _
     (first_more (g.F.Files.found c.args.files.now) g.S.Store.refuses (fixes_at c.args.gathered.now.fixes)
     (map string_bytes (take l.entry-index items)) (map string_bytes (drop (l.entry-index + 1) items))
-    (map string_bytes c.args.gathered.now.names.items) l.all _ _ _ _ _ _ _ c.as_str-name.result.now wrote.0 taken
+    (map string_bytes c.args.gathered.now.names.items) l.all _ _ _ _ _ _ _ _ _ c.as_str-name.result.now wrote.0 taken
     l.invariant.changing wrote.1 wrote.2
     (ap (map string_bytes) (sym c.names-entry-items.ensures) ∙ parted string_bytes items (l.entry-index + 1)
     ∙ ap (λ (ns : List (List ℕ)). ns ++ map string_bytes (drop (l.entry-index + 1) items))
     (sym (one_passed string_bytes items l.entry-index item c.as_str-name.result.now c.loop-entry-test.true
-    c.entry-item.is c.as_str-name.ensures.value))))
+    c.entry-item.is c.as_str-name.ensures.value))) c.in_err-done.ensures.beginning)
