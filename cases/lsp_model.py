@@ -61,9 +61,9 @@ def related_of(it, primary, artifacts):
     groups = groups_of(it.report, it.source, it.further)
     groups += [group for cause, own, more in it.causes for group in groups_of(cause, own, more)]
     for source, labels in groups:
-        others = [label for label in labels if primary is None or label is not primary[1]]
-        for label in sorted(others, key=lambda label: label["offset"]):
-            if source and label.get("label"):
+        for label in labels:
+            is_other = primary is None or label is not primary[1]
+            if source and label.get("label") and is_other:
                 place = {"uri": artifacts.located(source)["uri"], "range": range_over(source, label)}
                 yield {"location": place, "message": label["label"]}
 

@@ -180,8 +180,9 @@ class Artifacts:
 
 
 def groups_of(report, source, further):
-    """The labels of a report, each list with its source."""
-    return [(source, report.get("labels") or [])] + list(further)
+    """The labels of a report, each list with its source, by offset."""
+    groups = [(source, report.get("labels") or [])] + list(further)
+    return [(over, sorted(labels, key=lambda label: label["offset"])) for over, labels in groups]
 
 
 def primary_of(groups):
@@ -310,9 +311,9 @@ def result(it, rules, artifacts):
         value["locations"] = [{"physicalLocation": {"artifactLocation": artifacts.located(it.source)}}]
     related = []
     for source, labels in groups + [group for cause, own, more in it.causes for group in groups_of(cause, own, more)]:
-        others = [label for label in labels if primary is None or label is not primary[1]]
-        for label in sorted(others, key=lambda label: label["offset"]):
-            location = artifacts.location(source, label)
+        for label in labels:
+            is_other = primary is None or label is not primary[1]
+            location = artifacts.location(source, label) if is_other else None
             if location:
                 related.append({"id": len(related) + 1, **location})
     items = []

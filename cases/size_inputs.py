@@ -54,6 +54,12 @@ BENCH = Way("bench", "bench", ("2", *PLAIN.words), draws=True)
 DRAW = Way("draw", "draw", ("f", MIDDLE, "1", "here", "m"), draws=True)
 LINT = Way("lint", "lint", ("f", "80"), 1, draws=True)
 FIXED = Way("fixed", "job", ("--fix=all",))
+SARIF = Way("sarif", "job", ("--sarif",))
+EDITORS = Way("lsp", "job", ("--lsp",))
+GITHUB = Way("github", "job", ("--github",))
+FORMATS = (SARIF, EDITORS, GITHUB)
+LINT_SARIF = Way("lint sarif", "lint", ("--sarif", "f", "80"), 1)
+LINT_GITHUB = Way("lint github", "lint", ("--github", "f", "80"), 1)
 
 CHARACTERS = {
     "letters": b"a",
@@ -355,6 +361,18 @@ def attached():
     yield Family("the same fix", fix_again, COUNTS, (20_000,), told)
 
 
+def formats():
+    """What other programs read: logs, lists for editors, commands."""
+    yield Family("a label on each line, for tools", line_each, COUNTS, (10_000,), FORMATS)
+    yield Family("labels on one line, for tools", one_line("x"), COUNTS, (10_000,), FORMATS)
+    yield Family("labels across labels, for tools", crossing, doubled(1_000, 64_000), (250,), FORMATS)
+    yield Family("related, for tools", listed("related", '{"message":"a"}'), COUNTS, (9_900,), FORMATS)
+    yield Family("labels over further sources, for tools", further, doubled(2_500, 80_000), (10_000,), FORMATS)
+    yield Family("a fix of many lines, for tools", one_fix, COUNTS, (20_000,), FORMATS)
+    yield Family("a fix for each line, for tools", fix_each, COUNTS, (20_000,), FORMATS)
+    yield Family("lint, for tools", lint_lines("a"), COUNTS, (20_000,), (LINT_SARIF, LINT_GITHUB))
+
+
 def fitted():
     """Pictures with labels that are folded, and lines that are cut."""
     folded = (FOLDED,)
@@ -398,4 +416,4 @@ def long_lines():
     yield Family("up to 100 MB of FF", repeated(b"\xff"), sizes, (), (DRAW, LINT))
 
 
-FAMILIES = [*small(), *lists(), *pictures(), *attached(), *fitted(), *long_texts(), *long_lines()]
+FAMILIES = [*small(), *lists(), *pictures(), *attached(), *formats(), *fitted(), *long_texts(), *long_lines()]

@@ -5,7 +5,7 @@ ghost use Rattle.std.specs.Option.{option_map};
 ghost use Rattle.miette_tree.specs.rules.Tree.{cause_of, head, source_of, trees};
 ghost use Rattle.miette_tree.specs.views.Report.{tree_of};
 ghost use Rattle.miette_sarif.specs.rules.Gathered.{AreFindingsOf};
-ghost use Rattle.miette_sarif.specs.rules.Marks.{groups_of};
+ghost use Rattle.miette_sarif.specs.rules.Marks.{group_over, groups_of};
 ghost use Rattle.miette_sarif.specs.rules.Proposals.{proposal_over};
 ghost use Rattle.miette_sarif.specs.rules.Seen.{count_causes, count_own};
 ghost use Rattle.miette_sarif.specs.steps.Gathering.{Adds, AddsAll, AddsCause, AddsCauses, AddsMarks, AddsOver};
@@ -17,7 +17,7 @@ ghost use Rattle.miette_sarif.specs.views.Sources.{over_of, seen_of};
 
 use crate::edits::proposal_over;
 use crate::finding::{Finding, Mark, Proposal};
-use crate::labels::{Group, primary_or, push_groups, take_primary};
+use crate::labels::{Group, primary_or, push_groups, sort, take_primary};
 use crate::seen::{Seen, own_or, see_further, see_own};
 use crate::told::told_of;
 use miette_fixes::fix::Fix;
@@ -53,7 +53,7 @@ fn listed<'a>(alloc: Global, labels: &'a [LabeledSpan]) -> Result<Vec<&'a Labele
     Ok(list)
 }
 
-// Appends a group of labels over a source, or over none.
+// Appends a group of labels over a source, or over none, by offset.
 fn push_labels<'s, 'a>(
     alloc: Global,
     groups: &mut Vec<Group<'s, 'a>>,
@@ -61,14 +61,15 @@ fn push_labels<'s, 'a>(
     labels: &'a [LabeledSpan],
 ) -> Result<(), AllocError>
     ensures { OnOk result (groups_in groups.new.items ≡ groups_in groups.old.items
-        ++ record { over = over_of seen.entry; labels = labels.now } ∷ []) }
+        ++ group_over (over_of seen.entry) labels.now ∷ []) }
 {
-    let labels = listed(alloc, labels)?;
+    let mut labels = listed(alloc, labels)?;
+    sort(&mut labels)?;
     groups.push(Group { seen, labels })?;
     Ok(())
 }
 
-// The labels of a report over a source, and over its further ones.
+// The labels of a report over a source, and over its further ones, in each by offset.
 fn groups_of<'s, 'a, D: Diagnostic, S: SourceCode>(
     alloc: Global,
     report: &'a Report<D, S>,

@@ -15,7 +15,7 @@ use crate::seen::Seen;
 use miette_protocol::protocol::LabeledSpan;
 use std::alloc::AllocError;
 
-/// Labels over a source, or over none.
+/// Labels by offset over a source, or over none.
 #[derive(Drop)]
 pub(crate) struct Group<'s, 'a> {
     pub(crate) seen: Option<&'s Seen<'a>>,
@@ -96,8 +96,8 @@ pub(crate) fn primary_or<'a>(primary: Option<Mark<'a>>, seen: Option<&Seen<'a>>)
     })
 }
 
-// Sorts labels by offset, ties as given.
-fn sort(labels: &mut Vec<&LabeledSpan>) -> Result<(), AllocError>
+/// Sorts labels by offset, ties as given.
+pub(crate) fn sort(labels: &mut Vec<&LabeledSpan>) -> Result<(), AllocError>
     ensures { OnOk result (labels_in labels.new.items ≡ in_order (labels_in labels.old.items)) }
 {
     labels.sort_by_key(|label| label.offset())?;
@@ -129,12 +129,11 @@ fn push_marks<'a>(
     Ok(())
 }
 
-// Appends the marks of a group's labels, by offset.
+// Appends the marks of a group's labels.
 fn push_group<'a>(marks: &mut Vec<Mark<'a>>, group: Group<'_, 'a>) -> Result<(), AllocError>
     ensures { OnOk result (map mark_of marks.new.items ≡ map mark_of marks.old.items ++ marks_in (group_of group.entry)) }
 {
-    let Group { seen, mut labels } = group;
-    sort(&mut labels)?;
+    let Group { seen, labels } = group;
     push_marks(marks, seen, &labels)
 }
 

@@ -56,6 +56,10 @@ pub record Group : Type 0 where
   pub over : Option SeenSource
   pub labels : List Label
 
+-- by offset, ties as given
+abbrev pub group_over : Option SeenSource → List Label → Group
+group_over over labels = record { over = over; labels = in_order labels }
+
 -- sources before the first of which so many were read
 abbrev pub seen_further : List Bool → ℕ → List Section → List SeenSource
 seen_further faults n [] = []
@@ -64,21 +68,20 @@ seen_further faults n (s ∷ ss) = seen (first_fault faults) n s.source ∷ seen
 abbrev pub further_groups : List SeenSource → List Section → List Group
 further_groups [] ss = []
 further_groups (it ∷ its) [] = []
-further_groups (it ∷ its) (s ∷ ss) = record { over = Some it; labels = s.labels } ∷ further_groups its ss
+further_groups (it ∷ its) (s ∷ ss) = group_over (Some it) s.labels ∷ further_groups its ss
 
 -- those of a report over a source, or over none, and over its further ones
 abbrev pub groups_of : Option SeenSource → List SeenSource → Diagnosis → List Group
 groups_of over further m =
-    record { over = over; labels = given_labels m.labels } ∷ further_groups further m.snippets
+    group_over over (given_labels m.labels) ∷ further_groups further m.snippets
 
--- by offset, ties as given
 abbrev pub marks_from : Option SeenSource → List Label → List Mark
 marks_from over [] = []
 marks_from over (l ∷ ls) =
     if is_told (mark_over over l) then mark_over over l ∷ marks_from over ls else marks_from over ls
 
 abbrev pub marks_in : Group → List Mark
-marks_in g = marks_from g.over (in_order g.labels)
+marks_in g = marks_from g.over g.labels
 
 abbrev pub marks_of : List Group → List Mark
 marks_of [] = []
@@ -121,7 +124,7 @@ abbrev pub first_picked : Option Picked → Option Picked → Option Picked
 first_picked None otherwise = otherwise
 first_picked (Some found) otherwise = Some found
 
--- the first marked label, else the first label
+-- the first marked label in the order of sources, else the first label of the first source that has one
 abbrev pub primary_in : List Group → Option Picked
 primary_in groups = first_picked (pick (λ l. l.primary) groups) (pick (λ l. true) groups)
 

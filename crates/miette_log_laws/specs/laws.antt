@@ -1,0 +1,3 @@
+-- What holds of logs.
+pub mod Told
+pub mod Values

@@ -1,0 +1,4 @@
+//! What holds of SARIF logs.
+#![tactic(auto)]
+
+pub mod laws;
