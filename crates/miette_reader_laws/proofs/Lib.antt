@@ -1,0 +1,12 @@
+mod Apart
+mod GccTexts
+mod Holding
+mod LogTexts
+mod Made
+mod Offers
+mod Proposed
+mod Rows
+mod RustcTexts
+mod Shown
+mod Standing
+mod Steps
