@@ -1,12 +1,10 @@
 mod Apart
-mod GccTexts
-mod Holding
-mod LogTexts
-mod Made
-mod Offers
+pub mod Holding
+pub mod Made
+pub mod Offers
 mod Proposed
-mod Rows
-mod RustcTexts
+pub mod Rows
+pub mod RustcTexts
 mod Shown
-mod Standing
+pub mod Standing
 mod Steps

@@ -10,7 +10,6 @@ use Rattle.miette_readers.proofs.Kept.{report_keeps}
 use Rattle.miette_tree.specs.rules.Diagnosis.{Section}
 use Rattle.miette_tree.specs.rules.DiagnosticParts.{given_labels}
 use Rattle.miette_tree.specs.rules.Tree.{Tree, Trees, no_trees, more_trees, causes_of, cause_of, head, related_of}
-use Rattle.miette_tree.specs.rules.Tree.{trees}
 use Rattle.miette_reader_laws.specs.laws.Proposed.{AnyOf, HasEdit, IsAdvice, IsProposed}
 use Rattle.miette_reader_laws.specs.laws.Shown.{IsRowIn}
 use Rattle.miette_reader_laws.specs.laws.Standing.{IsFixOf, IsMessageOf, Stands}

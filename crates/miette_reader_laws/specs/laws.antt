@@ -1,8 +1,6 @@
 -- What holds of the rules.
 pub mod Apart
-pub mod GccTexts
 pub mod Lists
-pub mod LogTexts
 pub mod Proposed
 pub mod RustcTexts
 pub mod Shown

@@ -1,18 +1,14 @@
 //! What holds of the reports of all messages, of any tool: where their labels, their texts and what they propose stand.
 //! Each law is the contract of a function that does nothing; a caller cites it by calling it.
 
-ghost use Rattle.std.specs.Prelude.{◌≡◌, ℕ, List, [], Option, Some, None, unwrap_or};
+ghost use Rattle.std.specs.Prelude.{◌≡◌, ℕ, List, Option, Some, None};
 ghost use Rattle.std.specs.List.{AllByRecursion, Contains};
 ghost use Rattle.serde_json.specs.Data.{Data};
-ghost use Rattle.miette_gcc.specs.rules.Gcc as gcc;
-ghost use Rattle.miette_gcc.specs.rules.GccReport.{diagnostic_tree};
 ghost use Rattle.miette_protocol.specs.rules.Reading.{Source};
 ghost use Rattle.miette_reader_laws.specs.laws.Apart.{IsApartList};
-ghost use Rattle.miette_reader_laws.specs.laws.GccTexts as gcc_texts;
 ghost use Rattle.miette_reader_laws.specs.laws.Lists.{lists_of};
-ghost use Rattle.miette_reader_laws.specs.laws.LogTexts as log_texts;
 ghost use Rattle.miette_reader_laws.specs.laws.Proposed.{IsOfFile, IsProposed};
-ghost use Rattle.miette_reader_laws.specs.laws.RustcTexts as rustc_texts;
+ghost use Rattle.miette_reader_laws.specs.laws.RustcTexts.{texts_of};
 ghost use Rattle.miette_reader_laws.specs.laws.Shown.{IsShown};
 ghost use Rattle.miette_reader_laws.specs.laws.Standing.{IsSaidBy, Stands};
 ghost use Rattle.miette_readers.specs.rules.Places.{Place, Stretch, Told, joined, place_text};
@@ -21,8 +17,6 @@ ghost use Rattle.miette_readers.specs.rules.Reports.{Said, report_tree};
 ghost use Rattle.miette_readers.specs.rules.Rustc.{message_of};
 ghost use Rattle.miette_readers.specs.rules.RustcReport.{message_tree};
 ghost use Rattle.miette_readers.specs.rules.Settling.{found_place, settled};
-ghost use Rattle.miette_sarif_reader.specs.rules.Logs.{result_tree};
-ghost use Rattle.miette_sarif_reader.specs.rules.Results as results;
 ghost use Rattle.miette_tree.specs.rules.Tree.{causes_of, cause_of, head};
 
 /// Labels of one list never clash: no byte is covered by two of them that are each on one line. So no mark is pushed
@@ -73,23 +67,5 @@ pub fn rustc_texts_stand()
     ensures message { (files : List ℕ → Option Source) (d : Data)
         → (head (message_tree files d)).message ≡ message_of d }
     ensures texts { (files : List ℕ → Option Source) (d : Data)
-        → AllByRecursion (Stands (message_tree files d)) (rustc_texts.texts_of d) }
-{}
-
-/// The message of a diagnostic of GCC is its report's (`message`), and the texts of its locations, of the events of its
-/// path, of its notes and of their locations stand in the report (`texts`).
-pub fn gcc_texts_stand()
-    ensures message { (files : List ℕ → Option Source) (d : Data)
-        → (head (diagnostic_tree files d)).message ≡ gcc.message_of d }
-    ensures texts { (files : List ℕ → Option Source) (d : Data)
-        → AllByRecursion (Stands (diagnostic_tree files d)) (gcc_texts.texts_of d) }
-{}
-
-/// The message of a result of a SARIF log is its report's (`message`), and the texts of its locations, of the related
-/// ones and of its proposals stand in the report (`texts`), but of a proposal that replaces nothing.
-pub fn log_texts_stand()
-    ensures message { (g : results.Ground) (r : Data)
-        → (head (result_tree g r)).message ≡ unwrap_or (results.message_in r) [] }
-    ensures texts { (g : results.Ground) (r : Data)
-        → AllByRecursion (Stands (result_tree g r)) (log_texts.texts_of g r) }
+        → AllByRecursion (Stands (message_tree files d)) (texts_of d) }
 {}

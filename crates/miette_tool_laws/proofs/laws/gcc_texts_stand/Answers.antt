@@ -1,9 +1,9 @@
 use Rattle.miette_gcc.specs.rules.Gcc.{told_of}
 use Rattle.miette_gcc.specs.rules.GccReport.{ground_of, offers_of, said_of}
 use Rattle.miette_readers.specs.rules.Settling.{settled}
-use Rattle.miette_reader_laws.proofs.GccTexts.{gcc_stand}
+use Rattle.miette_tool_laws.proofs.GccTexts.{gcc_stand}
 use Rattle.miette_reader_laws.proofs.Made.{report_says}
-use Rattle.miette_reader_laws.proofs.laws.gcc_texts_stand.Goals as goal
+use Rattle.miette_tool_laws.proofs.laws.gcc_texts_stand.Goals as goal
 
 pub returns-clause-message : goal.returns-clause-message
 returns-clause-message c = λ files d.

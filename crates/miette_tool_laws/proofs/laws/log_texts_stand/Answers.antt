@@ -1,7 +1,7 @@
 use Rattle.miette_readers.specs.rules.Settling.{settled}
-use Rattle.miette_reader_laws.proofs.LogTexts.{log_stand}
+use Rattle.miette_tool_laws.proofs.LogTexts.{log_stand}
 use Rattle.miette_reader_laws.proofs.Made.{report_says}
-use Rattle.miette_reader_laws.proofs.laws.log_texts_stand.Goals as goal
+use Rattle.miette_tool_laws.proofs.laws.log_texts_stand.Goals as goal
 use Rattle.miette_sarif_reader.specs.rules.Proposals.{drafts_of, help_of, offers_of}
 use Rattle.miette_sarif_reader.specs.rules.Results.{said_of, told_of}
 

@@ -20,7 +20,7 @@ use Rattle.miette_sarif_reader.specs.rules.Proposals.{offers_of, with_help}
 use Rattle.miette_sarif_reader.specs.rules.Results.{Ground, location_told, message_in, own_told, region_of, said_of}
 use Rattle.miette_sarif_reader.specs.rules.Results.{told_at, told_of, uri_of}
 use Rattle.miette_sarif_reader.specs.rules.Uris.{name_of}
-use Rattle.miette_reader_laws.specs.laws.LogTexts.{described_by, fix_texts, location_texts, texts_of}
+use Rattle.miette_tool_laws.specs.laws.LogTexts.{described_by, fix_texts, location_texts, texts_of}
 use Rattle.miette_reader_laws.specs.laws.Proposed.{IsOfFile}
 use Rattle.miette_reader_laws.specs.laws.Standing.{Stands}
 use Rattle.miette_reader_laws.proofs.Holding.{Has, Is, all_each, all_flat, all_more, has_behind, has_made, has_map}
