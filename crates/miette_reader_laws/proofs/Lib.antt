@@ -1,0 +1,10 @@
+mod Apart
+pub mod Holding
+pub mod Made
+pub mod Offers
+mod Proposed
+pub mod Rows
+pub mod RustcTexts
+mod Shown
+pub mod Standing
+mod Steps

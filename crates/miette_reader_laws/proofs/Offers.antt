@@ -1,0 +1,45 @@
+-- Proposals whose places are all found: they have an edit, and the files of their edits are those that are found.
+use Rattle.std.proofs.Common.{◌≡◌, ℕ, List, ◌∷◌, Option, Some, None, option_map, Bool, true, false, IfSome, refl}
+use Rattle.std.proofs.Common.{inl}
+use Rattle.std.specs.Prelude.{if◌then◌else◌, is_some}
+use Rattle.std.specs.List.{AllByRecursion, cons_option, filter_map, list_all}
+use Rattle.std.proofs.lemmas.Bool.{and_parts}
+use Rattle.miette_protocol.specs.rules.Reading.{Source}
+use Rattle.miette_readers.specs.rules.Places.{Place, Stretch}
+use Rattle.miette_readers.specs.rules.Proposing.{FileEdit, edit_found}
+use Rattle.miette_readers.specs.rules.Settling.{found_place}
+use Rattle.miette_reader_laws.specs.laws.Proposed.{IsOfFile}
+use Rattle.miette_reader_laws.proofs.Holding.{Has, Is, all_made}
+use Rattle.miette_reader_laws.proofs.Steps.{place_is}
+
+module _ (files : List ℕ → Option Source) where
+  edit_by : (name text : List ℕ) (o : Option (Source × Stretch)) → IfSome o (λ it. files name ≡ Some it.0)
+      → IfSome (option_map (edit_found name text) o) (IsOfFile files)
+  edit_by name text None h = tt
+  edit_by name text (Some it) h = h
+
+  pub edit_is : (p : Place) (text : List ℕ)
+      → IfSome (option_map (edit_found p.name text) (found_place files p)) (IsOfFile files)
+  edit_is p text = edit_by p.name text (found_place files p) (place_is files p)
+
+  abbrev pub AreSound : List FileEdit → Type 0
+  AreSound es = AllByRecursion (IsOfFile files) es × ((e : FileEdit) × Has (Is e) es)
+
+  module _ {X : Type 0} (edit : X → Option FileEdit) (each : (x : X) → IfSome (edit x) (IsOfFile files)) where
+    first_by : (o : Option FileEdit) (es : List FileEdit) → is_some o ≡ true
+        → (e : FileEdit) × Has (Is e) (cons_option o es)
+    first_by None es h = cc
+    first_by (Some e) es h = (e, inl refl)
+
+    sound_by : (x : X) (xs : List X) (b : Bool) → list_all (λ y. is_some (edit y)) (x ∷ xs) ≡ b
+        → IfSome (if b then Some (filter_map edit (x ∷ xs)) else None) AreSound
+    sound_by x xs false e = tt
+    sound_by x xs true e = (
+      all_made (IsOfFile files) edit each (x ∷ xs),
+      first_by (edit x) (filter_map edit xs) (and_parts _ _ e).0,
+    )
+
+    -- of these edits, where each one is found, and there is one
+    pub all_sound : (x : X) (xs : List X)
+        → IfSome (if list_all (λ y. is_some (edit y)) (x ∷ xs) then Some (filter_map edit (x ∷ xs)) else None) AreSound
+    all_sound x xs = sound_by x xs (list_all (λ y. is_some (edit y)) (x ∷ xs)) refl

@@ -1,0 +1,244 @@
+-- The texts of a message of rustc stand in its report.
+use Rattle.std.proofs.Common.{◌≡◌, ◌⊎◌, ℕ, List, [], ◌∷◌, ◌++◌, Option, Some, None, option_map, Bool, true, false}
+use Rattle.std.proofs.Common.{IfSome}
+use Rattle.std.proofs.Common.{codes, filter, map, not, refl, sym, ap, subst, inl, inr}
+use Rattle.std.specs.Prelude.{⊤, ◌&&◌, if◌then◌else◌, is_none, option_and_then}
+use Rattle.std.specs.List.{AllByRecursion, filter_map, flat_map}
+use Rattle.std.proofs.lemmas.Bool.{and_from, or_right}
+use Rattle.serde_json.specs.Data.{Data}
+use Rattle.miette_protocol.specs.rules.Reading.{Source}
+use Rattle.miette_readers.specs.rules.Kept.{IsPart}
+use Rattle.miette_readers.specs.rules.Members.{objects_at, text_at}
+use Rattle.miette_readers.specs.rules.Places.{Told}
+use Rattle.miette_readers.specs.rules.Proposing.{FileEdit, Offer, edit_found}
+use Rattle.miette_readers.specs.rules.Rustc.{child_told, edits_of, file_name, is_empty, is_help, is_primary, label_rows}
+use Rattle.miette_readers.specs.rules.Rustc.{is_secondary, leading, macro_told, message_of, note_message, note_told}
+use Rattle.miette_readers.specs.rules.Rustc.{own_told, place_of, primary_first, spans_of, tells, text_told}
+use Rattle.miette_readers.specs.rules.Rustc.{told_of}
+use Rattle.miette_readers.specs.rules.RustcReport.{all_found, edit_at, help_rows, helps, message_tree}
+use Rattle.miette_readers.specs.rules.RustcReport.{offer_by, offer_of, offer_with, offers_of, said_of}
+use Rattle.miette_readers.specs.rules.Settling.{found_place, has_no_rows}
+use Rattle.miette_reader_laws.specs.laws.Proposed.{IsOfFile}
+use Rattle.miette_reader_laws.specs.laws.RustcTexts.{child_texts, span_texts, texts_of}
+use Rattle.miette_reader_laws.specs.laws.Shown.{IsRowIn}
+use Rattle.miette_reader_laws.specs.laws.Standing.{Stands}
+use Rattle.miette_reader_laws.proofs.Holding.{Has, Is, all_each, all_flat, all_more, all_there, has_behind, has_each}
+use Rattle.miette_reader_laws.proofs.Holding.{has_flat, has_kept, has_made, has_map, has_more, has_split}
+use Rattle.miette_reader_laws.proofs.Offers.{AreSound, all_sound, edit_is}
+use Rattle.miette_reader_laws.proofs.Rows.{part_behind, part_self, row_joined, rows_there}
+use Rattle.miette_reader_laws.proofs.Standing.{IsOffered, Says, help_stands, offered_stands, told_stands}
+
+-- ---- labels of spans
+
+abbrev pub HasLabel : List ℕ → Data → Type 0
+HasLabel text d = Has (IsPart text) (label_rows d)
+
+rows_have : (rows : List (List ℕ)) → AllByRecursion (λ text. Has (IsPart text) rows) rows
+rows_have rows =
+    all_each (λ text. Has (Is text) rows) (λ text. Has (IsPart text) rows)
+    (λ text. has_each (Is text) (IsPart text)
+    (λ row is. subst (λ (k : List ℕ). IsPart text k) (sym is) (part_self text)) rows) rows (all_there rows)
+
+pub labels_have : (ds : List Data) → AllByRecursion (λ text. Has (HasLabel text) ds) (flat_map label_rows ds)
+labels_have ds = all_flat HasLabel label_rows (λ d. rows_have (label_rows d)) ds
+
+-- those that are primary, and the others
+either_kept : (P : Data → Type 0) (b : Bool) (d : Data) (xs ys : List Data)
+    → (P d ⊎ Has P (xs ++ ys)) → Has P ((if b then d ∷ xs else xs) ++ (if not b then d ∷ ys else ys))
+either_kept P true d xs ys h = h
+either_kept P false d xs ys (inl p) = has_behind P xs (d ∷ ys) (inl p)
+either_kept P false d [] ys (inr h) = inr h
+either_kept P false d (x ∷ xs) ys (inr (inl p)) = inl p
+either_kept P false d (x ∷ xs) ys (inr (inr h)) = inr (either_kept P false d xs ys (inr h))
+
+has_primary : (P : Data → Type 0) (ds : List Data) → Has P ds → Has P (primary_first ds)
+has_primary P [] h = absurd h
+has_primary P (d ∷ ds) (inl p) =
+    either_kept P (is_primary d) d (filter is_primary ds) (filter is_secondary ds) (inl p)
+has_primary P (d ∷ ds) (inr h) =
+    either_kept P (is_primary d) d (filter is_primary ds) (filter is_secondary ds) (inr (has_primary P ds h))
+
+-- a span with a label tells something
+some_rows : (text : List ℕ) (rows : List (List ℕ)) → Has (IsPart text) rows → not (has_no_rows rows) ≡ true
+some_rows text [] h = absurd h
+some_rows text (r ∷ rs) h = refl
+
+label_tells : (text : List ℕ) (d : Data) → HasLabel text d → tells d ≡ true
+label_tells text d h = or_right _ _ (some_rows text (label_rows d) h)
+
+module _ (files : List ℕ → Option Source) where
+  leading_says : (text : List ℕ) (rows : List (List ℕ)) (ds : List Data) → Has (HasLabel text) ds
+      → Says (leading files rows ds) text
+  leading_says text rows [] h = absurd h
+  leading_says text rows (d ∷ ds) (inl h) = inl (has_behind (IsPart text) rows (label_rows d) h)
+  leading_says text rows (d ∷ ds) (inr h) =
+      inr (has_map (HasLabel text) (λ (t : Told). Has (IsPart text) t.rows) (note_told files []) (λ d h. h) ds h)
+
+  child_by : (text : List ℕ) (rows : List (List ℕ)) (more : List Told) (a : Bool) (ds : List Data)
+      → Has (HasLabel text) ds
+      → Says (if not a then leading files [] (filter tells ds)
+      else if not (is_empty ds) then leading files rows ds else more) text
+  child_by text rows more a [] h = absurd h
+  child_by text rows more true (d ∷ ds) h = leading_says text rows (d ∷ ds) h
+  child_by text rows more false (d ∷ ds) h =
+      leading_says text [] (filter tells (d ∷ ds))
+      (has_kept (HasLabel text) tells (label_tells text) (d ∷ ds) h)
+
+  -- ---- where the texts of a note, a help or a proposal stand
+
+  abbrev IsHelped : List ℕ → Data → Type 0
+  IsHelped text c = (helps files c ≡ true) × (message_of c ≡ text)
+
+  abbrev IsOfferedBy : List ℕ → Data → Type 0
+  IsOfferedBy text c = (o : Offer) × (offer_of files c ≡ Some o) × (o.message ≡ text) × AreSound files o.edits
+
+  abbrev StandsBy : List ℕ → Data → Type 0
+  StandsBy text c = Says (child_told files c) text ⊎ (IsHelped text c ⊎ IsOfferedBy text c)
+
+  labels_stand : (c : Data) → AllByRecursion (λ text. StandsBy text c) (span_texts c)
+  labels_stand c =
+      all_each (λ text. Has (HasLabel text) (objects_at (codes "spans") c)) (λ text. StandsBy text c)
+      (λ text h. inl (child_by text (note_message c ∷ [])
+      (if is_help c then [] else text_told (message_of c) ∷ []) (is_empty (edits_of c)) (spans_of c)
+      (has_primary (HasLabel text) (objects_at (codes "spans") c) h))) (span_texts c)
+      (labels_have (objects_at (codes "spans") c))
+
+  -- ---- proposals
+
+  edit_by : (d : Data) (o : Option (List ℕ))
+      → IfSome (option_and_then (λ text. option_map (edit_found (file_name d) text)
+      (found_place files (place_of d))) o) (IsOfFile files)
+  edit_by d None = tt
+  edit_by d (Some text) = edit_is files (place_of d) text
+
+  edit_sound : (d : Data) → IfSome (edit_at files d) (IsOfFile files)
+  edit_sound d = edit_by d (text_at (codes "suggested_replacement") d)
+
+  abbrev IsOfferOf : Data → Offer → Type 0
+  IsOfferOf c o = (o.message ≡ message_of c) × AreSound files o.edits
+
+  offer_from : (c first : Data) (o : Option (List FileEdit)) → IfSome o (AreSound files)
+      → IfSome (option_map (offer_by c first) o) (IsOfferOf c)
+  offer_from c first None h = tt
+  offer_from c first (Some es) h = (refl, h)
+
+  offer_sound : (c : Data) (ds : List Data) → IfSome (offer_with files c ds) (IsOfferOf c)
+  offer_sound c [] = tt
+  offer_sound c (d ∷ ds) =
+      offer_from c d (all_found files (d ∷ ds)) (all_sound files (edit_at files) edit_sound d ds)
+
+  -- ---- messages of children
+
+  -- whether it is help, by whether it has no edits
+  abbrev HelpsBy : Data → Bool → Type 0
+  HelpsBy c b =
+      (if b then is_help c && is_empty (objects_at (codes "spans") c) else is_none (offer_of files c)) ≡ true
+
+  proposal_by : (c : Data) (o : Option Offer) → offer_of files c ≡ o → IfSome o (IsOfferOf c)
+      → is_empty (edits_of c) ≡ false → StandsBy (message_of c) c
+  proposal_by c None is h edits =
+      inr (inl (subst (HelpsBy c) (sym edits) (ap is_none is), refl))
+  proposal_by c (Some o) is h edits = inr (inr (o, is, h.0, h.1))
+
+  said_by : (message : List ℕ) (b : Bool) → IsPart message (if b then codes "help: " ++ message else message)
+  said_by message true = part_behind message (codes "help: ")
+  said_by message false = part_self message
+
+  is_said : (c : Data) → IsPart (message_of c) (note_message c)
+  is_said c = said_by (message_of c) (is_help c)
+
+  not_empty : (P : Data → Type 0) (ds : List Data) → Has P ds → is_empty ds ≡ true → ⊥
+  not_empty P [] h e = absurd h
+  not_empty P (d ∷ ds) h e = cc
+
+  -- without spans in their order there are none
+  no_spans : (ds : List Data) → is_empty (primary_first ds) ≡ true → is_empty ds ≡ true
+  no_spans [] e = refl
+  no_spans (d ∷ ds) e =
+      absurd (not_empty (λ x. ⊤) (primary_first (d ∷ ds)) (has_primary (λ x. ⊤) (d ∷ ds) (inl tt)) e)
+
+  message_by : (c : Data) (ss : List Data) (a b h : Bool) → is_empty (edits_of c) ≡ a → is_empty ss ≡ b
+      → is_help c ≡ h → a ≡ true → (b ≡ true → is_empty (objects_at (codes "spans") c) ≡ true)
+      → Says (if not a then leading files [] (filter tells ss)
+      else if not b then leading files (note_message c ∷ []) ss
+      else if h then [] else text_told (message_of c) ∷ []) (message_of c)
+      ⊎ (helps files c ≡ true)
+  message_by c ss false b h edits spans help e none = cc
+  message_by c [] true false h edits spans help e none = cc
+  message_by c (d ∷ ds) true false h edits spans help e none = inl (inl (inl (is_said c)))
+  message_by c ss true true false edits spans help e none = inl (inl (inl (part_self (message_of c))))
+  message_by c ss true true true edits spans help e none =
+      inr (subst (HelpsBy c) (sym edits) (and_from _ _ help (none refl)))
+
+  message_stands : (c : Data) (a : Bool) → is_empty (edits_of c) ≡ a → StandsBy (message_of c) c
+  message_stands c false e = proposal_by c (offer_of files c) refl (offer_sound c (edits_of c)) e
+  message_stands c true e =
+      elim (message_by c (spans_of c) (is_empty (edits_of c)) (is_empty (spans_of c)) (is_help c) refl refl refl e
+      (no_spans (objects_at (codes "spans") c))) [
+        | inl told ↦ inl told
+        | inr helped ↦ inr (inl (helped, refl))
+      ]
+
+  child_stands : (c : Data) → AllByRecursion (λ text. StandsBy text c) (child_texts c)
+  child_stands c = (message_stands c (is_empty (edits_of c)) refl, labels_stand c)
+
+  -- ---- all of them
+
+  module _ (d : Data) where
+    abbrev children : List Data
+    children = objects_at (codes "children") d
+
+    own_stands : (text : List ℕ) → Has (HasLabel text) (objects_at (codes "spans") d) → Says (told_of files d) text
+    own_stands text h =
+        has_more (λ (t : Told). Has (IsPart text) t.rows)
+        (map (own_told files) (spans_of d) ++ filter_map (macro_told files) (spans_of d))
+        (flat_map (child_told files) children)
+        (has_more (λ (t : Told). Has (IsPart text) t.rows) (map (own_told files) (spans_of d))
+        (filter_map (macro_told files) (spans_of d))
+        (has_map (HasLabel text) (λ (t : Told). Has (IsPart text) t.rows) (own_told files) (λ d h. h) (spans_of d)
+        (has_primary (HasLabel text) (objects_at (codes "spans") d) h)))
+
+    helped_stands : (text : List ℕ) → Has (IsHelped text) children → IsRowIn text (said_of files d).help
+    helped_stands text h =
+        row_joined text (help_rows files children)
+        (rows_there text [] (map message_of (filter (helps files) children))
+        (has_map (IsHelped text) (Is text) message_of (λ c it. it.1) (filter (helps files) children)
+        (has_kept (IsHelped text) (helps files) (λ c it. it.0) children h)))
+
+    told_stand : (text : List ℕ) → Has (λ c. Says (child_told files c) text) children → Says (told_of files d) text
+    told_stand text h =
+        has_behind (λ (t : Told). Has (IsPart text) t.rows)
+        (map (own_told files) (spans_of d) ++ filter_map (macro_told files) (spans_of d))
+        (flat_map (child_told files) children)
+        (has_flat (λ c. Says (child_told files c) text) (λ (t : Told). Has (IsPart text) t.rows) (child_told files)
+        (λ c it. it) children h)
+
+    offered_stand : (text : List ℕ) → Has (IsOfferedBy text) children
+        → Has (IsOffered files (said_of files d) (told_of files d) (offers_of files d) text) (offers_of files d)
+    offered_stand text h =
+        has_made (IsOfferedBy text)
+        (IsOffered files (said_of files d) (told_of files d) (offers_of files d) text) (offer_of files)
+        (λ c it. (it.0, it.1, (it.2, it.3))) children h
+
+    part_stands : (text : List ℕ) → Has (StandsBy text) children → Stands (message_tree files d) text
+    part_stands text h =
+        let said = said_of files d in
+        let told = told_of files d in
+        let offers = offers_of files d in
+        elim (has_split (λ c. Says (child_told files c) text) (λ c. IsHelped text c ⊎ IsOfferedBy text c) children h) [
+          | inl say ↦ told_stands files said told offers text (told_stand text say)
+          | inr more ↦
+              elim (has_split (IsHelped text) (IsOfferedBy text) children more) [
+                | inl help ↦ help_stands files said told offers text (helped_stands text help)
+                | inr offered ↦ offered_stands files said told offers text (offered_stand text offered)
+              ]
+        ]
+
+    pub rustc_stand : AllByRecursion (Stands (message_tree files d)) (texts_of d)
+    rustc_stand =
+        all_more (Stands (message_tree files d)) (span_texts d) (flat_map child_texts children)
+        (all_each (λ text. Has (HasLabel text) (objects_at (codes "spans") d)) (Stands (message_tree files d))
+        (λ text h. told_stands files (said_of files d) (told_of files d) (offers_of files d) text (own_stands text h))
+        (span_texts d) (labels_have (objects_at (codes "spans") d)))
+        (all_each (λ text. Has (StandsBy text) children) (Stands (message_tree files d)) part_stands
+        (flat_map child_texts children) (all_flat StandsBy child_texts child_stands children))

@@ -1,0 +1,7 @@
+-- What holds of the rules.
+pub mod Apart
+pub mod Lists
+pub mod Proposed
+pub mod RustcTexts
+pub mod Shown
+pub mod Standing

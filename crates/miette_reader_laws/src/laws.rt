@@ -1,0 +1,71 @@
+//! What holds of the reports of all messages, of any tool: where their labels, their texts and what they propose stand.
+//! Each law is the contract of a function that does nothing; a caller cites it by calling it.
+
+ghost use Rattle.std.specs.Prelude.{◌≡◌, ℕ, List, Option, Some, None};
+ghost use Rattle.std.specs.List.{AllByRecursion, Contains};
+ghost use Rattle.serde_json.specs.Data.{Data};
+ghost use Rattle.miette_protocol.specs.rules.Reading.{Source};
+ghost use Rattle.miette_reader_laws.specs.laws.Apart.{IsApartList};
+ghost use Rattle.miette_reader_laws.specs.laws.Lists.{lists_of};
+ghost use Rattle.miette_reader_laws.specs.laws.Proposed.{IsOfFile, IsProposed};
+ghost use Rattle.miette_reader_laws.specs.laws.RustcTexts.{texts_of};
+ghost use Rattle.miette_reader_laws.specs.laws.Shown.{IsShown};
+ghost use Rattle.miette_reader_laws.specs.laws.Standing.{IsSaidBy, Stands};
+ghost use Rattle.miette_readers.specs.rules.Places.{Place, Stretch, Told, joined, place_text};
+ghost use Rattle.miette_readers.specs.rules.Proposing.{FileEdit, Offer};
+ghost use Rattle.miette_readers.specs.rules.Reports.{Said, report_tree};
+ghost use Rattle.miette_readers.specs.rules.Rustc.{message_of};
+ghost use Rattle.miette_readers.specs.rules.RustcReport.{message_tree};
+ghost use Rattle.miette_readers.specs.rules.Settling.{found_place, settled};
+ghost use Rattle.miette_tree.specs.rules.Tree.{causes_of, cause_of, head};
+
+/// Labels of one list never clash: no byte is covered by two of them that are each on one line. So no mark is pushed
+/// aside by another one.
+pub fn labels_never_clash()
+    ensures { (files : List ℕ → Option Source) (said : Said) (told : List Told) (offers : List Offer)
+        → AllByRecursion IsApartList (lists_of (report_tree said (settled files told) offers)) }
+{}
+
+/// What a message says itself, its report says: its message, code, severity, help and URL.
+pub fn own_words_stay()
+    ensures { (files : List ℕ → Option Source) (said : Said) (told : List Told) (offers : List Offer)
+        → IsSaidBy said (head (report_tree said (settled files told) offers)) }
+{}
+
+/// What is told at a place that is in its file is shown in a list over that file: by a label over just these bytes,
+/// with each row of it, or, where it has no rows, by a label around them (`found`). What is told at any other place is
+/// a cause text, behind the place's name, line and column (`missed`), and what is told at no place is one of its own
+/// (`placeless`).
+pub fn places_are_shown()
+    ensures found { (files : List ℕ → Option Source) (said : Said) (told : List Told) (offers : List Offer)
+        (t : Told) (p : Place) (it : Source × Stretch)
+        → Contains told t → t.place ≡ Some p → found_place files p ≡ Some it
+        → IsShown it t (report_tree said (settled files told) offers) }
+    ensures missed { (files : List ℕ → Option Source) (said : Said) (told : List Told) (offers : List Offer)
+        (t : Told) (p : Place)
+        → Contains told t → t.place ≡ Some p → found_place files p ≡ None
+        → Contains (causes_of (cause_of (report_tree said (settled files told) offers))) (place_text p t.rows) }
+    ensures placeless { (files : List ℕ → Option Source) (said : Said) (told : List Told) (offers : List Offer)
+        (t : Told) (text : List ℕ)
+        → Contains told t → t.place ≡ None → joined t.rows ≡ Some text
+        → Contains (causes_of (cause_of (report_tree said (settled files told) offers))) text }
+{}
+
+/// Each edit that is proposed, where the files of its proposal are those that are found, stands in a fix of the report
+/// with the proposal's message, over the report's source, or in advice related to it, over the edit's file.
+pub fn edits_are_proposed()
+    ensures { (files : List ℕ → Option Source) (said : Said) (told : List Told) (offers : List Offer)
+        (offer : Offer) (e : FileEdit)
+        → Contains offers offer → AllByRecursion (IsOfFile files) offer.edits → Contains offer.edits e
+        → IsProposed offer e (report_tree said (settled files told) offers) }
+{}
+
+/// The message of a diagnostic of rustc is its report's (`message`), and the texts of its spans, of its notes, helps
+/// and proposals, and of their spans, stand in the report (`texts`). Of a proposal with a place that can't be found
+/// these are kept, but not what it writes, and where.
+pub fn rustc_texts_stand()
+    ensures message { (files : List ℕ → Option Source) (d : Data)
+        → (head (message_tree files d)).message ≡ message_of d }
+    ensures texts { (files : List ℕ → Option Source) (d : Data)
+        → AllByRecursion (Stands (message_tree files d)) (texts_of d) }
+{}

@@ -1,0 +1,4 @@
+//! What holds of the reports of all that compilers and linters write.
+#![tactic(auto)]
+
+pub mod laws;

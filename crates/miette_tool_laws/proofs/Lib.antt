@@ -1,0 +1,2 @@
+mod GccTexts
+mod LogTexts

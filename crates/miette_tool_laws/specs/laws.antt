@@ -1,0 +1,3 @@
+-- What holds of the rules.
+pub mod GccTexts
+pub mod LogTexts

@@ -1,0 +1,31 @@
+//! The texts of all that GCC writes, and of all SARIF logs, stand in their reports. Each law is the contract of a
+//! function that does nothing; a caller cites it by calling it.
+
+ghost use Rattle.std.specs.Prelude.{◌≡◌, ℕ, List, [], Option, unwrap_or};
+ghost use Rattle.std.specs.List.{AllByRecursion};
+ghost use Rattle.serde_json.specs.Data.{Data};
+ghost use Rattle.miette_gcc.specs.rules.Gcc.{message_of};
+ghost use Rattle.miette_gcc.specs.rules.GccReport.{diagnostic_tree};
+ghost use Rattle.miette_protocol.specs.rules.Reading.{Source};
+ghost use Rattle.miette_reader_laws.specs.laws.Standing.{Stands};
+ghost use Rattle.miette_sarif_reader.specs.rules.Logs.{result_tree};
+ghost use Rattle.miette_sarif_reader.specs.rules.Results.{Ground, message_in};
+ghost use Rattle.miette_tool_laws.specs.laws.GccTexts as gcc_texts;
+ghost use Rattle.miette_tool_laws.specs.laws.LogTexts as log_texts;
+ghost use Rattle.miette_tree.specs.rules.Tree.{head};
+
+/// The message of a diagnostic of GCC is its report's (`message`), and the texts of its locations, of the events of its
+/// path, of its notes and of their locations stand in the report (`texts`).
+pub fn gcc_texts_stand()
+    ensures message { (files : List ℕ → Option Source) (d : Data)
+        → (head (diagnostic_tree files d)).message ≡ message_of d }
+    ensures texts { (files : List ℕ → Option Source) (d : Data)
+        → AllByRecursion (Stands (diagnostic_tree files d)) (gcc_texts.texts_of d) }
+{}
+
+/// The message of a result of a SARIF log is its report's (`message`), and the texts of its locations, of the related
+/// ones and of its proposals stand in the report (`texts`), but of a proposal that replaces nothing.
+pub fn log_texts_stand()
+    ensures message { (g : Ground) (r : Data) → (head (result_tree g r)).message ≡ unwrap_or (message_in r) [] }
+    ensures texts { (g : Ground) (r : Data) → AllByRecursion (Stands (result_tree g r)) (log_texts.texts_of g r) }
+{}
