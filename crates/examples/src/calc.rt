@@ -6,12 +6,12 @@ use crate::calc::sums::{Fault, value_of};
 use miette::highlight::Highlighter;
 use miette::options::RgbColors;
 use miette::prelude::{
-    Host, IntoDiagnostic, LabeledSpan, MietteHandlerOpts, OwnedSource, Report, Result, WrapErr,
+    Host, IntoDiagnostic, MietteHandlerOpts, OwnedSource, Report, Result, WrapErr,
     print_report_with,
 };
 use miette::source::MietteSpanContents;
 use miette::style::{Color, Style};
-use miette_tree::diagnostic;
+use miette_tree::miette;
 use std::alloc::{AllocError, Global};
 use std::env::Args;
 use std::io::Print;
@@ -40,9 +40,9 @@ fn run<R: Print + AllocGlobal>(rt: &R, text: Option<&str>) -> Result<()> {
 
 /// The reason as a message, and a label where it lies.
 fn report_of(alloc: Global, text: &str, fault: Fault) -> Result<Report, AllocError> {
-    let label = LabeledSpan::at(alloc, (fault.start, fault.length), "here")?;
-    let diagnostic = diagnostic!(in alloc; "{}", fault.reason)?.with_label(alloc, label)?;
-    Ok(Report::new(diagnostic).with_owned_source(source_of(alloc, text)?))
+    let source = source_of(alloc, text)?;
+    let label = ((fault.start, fault.length), "here");
+    Ok(miette!(in alloc; label = label, "{}", fault.reason).with_owned_source(source))
 }
 
 /// The text with a line feed behind it, so that a label behind its last word is shown: one at the very end of a source

@@ -74,8 +74,8 @@ fn given_twice(
     elsewhere: Snippets,
 ) -> Result<Report> {
     let snippets = vec![in alloc; elsewhere]?;
-    let labels = label_on(alloc, Some(line), "given here")?;
-    Ok(miette!(in alloc; labels = labels, snippets = snippets, "two files give `{key}`"))
+    let label = (line, "given here");
+    Ok(miette!(in alloc; label = label, snippets = snippets, "two files give `{key}`"))
 }
 
 /// The port, or what is wrong with the settings.

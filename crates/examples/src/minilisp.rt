@@ -8,7 +8,7 @@ use crate::minilisp::syntax::{Slip, slips_of};
 use crate::minilisp::words::{Words, words_of};
 use miette::prelude::*;
 use miette_tree::miette;
-use std::alloc::{AllocError, Global};
+use std::alloc::Global;
 use std::env::Args;
 use std::fs::Files;
 use std::io::Input;
@@ -50,46 +50,32 @@ fn faults_in<R: Files + Input + AllocGlobal>(rt: &R, names: &[String]) -> Result
 fn push_slips(alloc: Global, file: &SourceText, faults: &mut Vec<Report>) -> Result<()> {
     let text = file.text();
     for slip in slips_of(alloc, text)?.iter() {
-        let report = report_of(alloc, *slip, text.len())?;
+        let report = report_of(alloc, *slip, text.len());
         faults.push(report.with_owned_source(file.source()?))?;
     }
     Ok(())
 }
 
 /// The report of a slip in a text of this length.
-fn report_of(alloc: Global, slip: Slip, end: usize) -> Result<Report> {
+fn report_of(alloc: Global, slip: Slip, end: usize) -> Report {
     match slip {
         Slip::Unclosed(at) => unclosed(alloc, at, end, "`(`", "a `)` is missing here"),
         Slip::UnclosedText(at) => unclosed(alloc, at, end, "text", "a `\"` is missing here"),
         Slip::Stray(at) => {
-            let labels = label_on(alloc, (at, 1), "nothing is open here")?;
-            Ok(miette!(in alloc; code = "minilisp::stray", labels = labels, "stray `)`"))
+            let label = ((at, 1), "nothing is open here");
+            miette!(in alloc; code = "minilisp::stray", label = label, "stray `)`")
         }
         Slip::Empty(at) => {
-            let labels = label_on(alloc, (at, 2), "nothing stands here")?;
-            Ok(miette!(
-                in alloc;
-                severity = Severity::Warning,
-                labels = labels,
-                "this list has no parts"
-            ))
+            let label = ((at, 2), "nothing stands here");
+            let warning = Severity::Warning;
+            miette!(in alloc; severity = warning, label = label, "this list has no parts")
         }
     }
 }
 
 /// The report of what begins and doesn't end, with labels where it begins and at the end of the text.
-fn unclosed(alloc: Global, at: usize, end: usize, what: &str, missing: &str) -> Result<Report> {
-    let mut labels = label_on(alloc, (at, 1), "this is never closed")?;
-    labels.push(LabeledSpan::at_offset(alloc, end, missing)?)?;
-    Ok(miette!(in alloc; code = "minilisp::unclosed", labels = labels, "unclosed {what}"))
-}
-
-/// A label on a piece of the text.
-fn label_on(
-    alloc: Global,
-    place: (usize, usize),
-    why: &str,
-) -> Result<Vec<LabeledSpan>, AllocError> {
-    let label = LabeledSpan::at(alloc, place, why)?;
-    Ok(vec![in alloc; label]?)
+fn unclosed(alloc: Global, at: usize, end: usize, what: &str, missing: &str) -> Report {
+    let start = ((at, 1), "this is never closed");
+    let end = (end, missing);
+    miette!(in alloc; code = "minilisp::unclosed", label = start, label = end, "unclosed {what}")
 }
