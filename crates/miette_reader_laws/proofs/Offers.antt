@@ -1,31 +1,40 @@
 -- Proposals whose places are all found: they have an edit, and the files of their edits are those that are found.
-use Rattle.std.proofs.Common.{◌≡◌, ℕ, List, ◌∷◌, Option, Some, None, option_map, Bool, true, false, IfSome, refl}
+use Rattle.std.proofs.Common.{arith, ◌≡◌, ℕ, List, ◌∷◌, Option, Some, None, option_map, Bool, true, false, IfSome, refl}
 use Rattle.std.proofs.Common.{inl}
-use Rattle.std.specs.Prelude.{if◌then◌else◌, is_some}
+use Rattle.std.specs.Prelude.{◌+◌, ◌-◌, ◌≤◌, if◌then◌else◌, is_some, length, nat_lt}
 use Rattle.std.specs.List.{AllByRecursion, cons_option, filter_map, list_all}
-use Rattle.std.proofs.lemmas.Bool.{and_parts}
+use Rattle.std.proofs.lemmas.Bool.{and_parts, le-ltb, leb-true}
 use Rattle.miette_protocol.specs.rules.Reading.{Source}
-use Rattle.miette_readers.specs.rules.Places.{Place, Stretch}
+use Rattle.miette_readers.specs.rules.Places.{Place, Stretch, is_within}
 use Rattle.miette_readers.specs.rules.Proposing.{FileEdit, edit_found}
 use Rattle.miette_readers.specs.rules.Settling.{found_place}
-use Rattle.miette_reader_laws.specs.laws.Proposed.{IsOfFile}
+use Rattle.miette_reader_laws.specs.laws.Applying.{IsFound}
 use Rattle.miette_reader_laws.proofs.Holding.{Has, Is, all_made}
-use Rattle.miette_reader_laws.proofs.Steps.{place_is}
+use Rattle.miette_reader_laws.proofs.Steps.{place_inside, place_is}
 
 module _ (files : List ℕ → Option Source) where
+  ends_within : (bytes : List ℕ) (s : Stretch) → is_within bytes s ≡ true
+      → nat_lt (length bytes) (s.start + (s.end - s.start)) ≡ false
+  ends_within bytes s h =
+      let parts = and_parts _ _ h in
+      let forth : s.start ≤ s.end = leb-true s.start s.end parts.0 in
+      let inside : s.end ≤ length bytes = leb-true s.end (length bytes) parts.1 in
+      let ends : s.start + (s.end - s.start) ≤ length bytes = omega (arith, forth, inside) in
+      le-ltb (length bytes) (s.start + (s.end - s.start)) ends
+
   edit_by : (name text : List ℕ) (o : Option (Source × Stretch)) → IfSome o (λ it. files name ≡ Some it.0)
-      → IfSome (option_map (edit_found name text) o) (IsOfFile files)
-  edit_by name text None h = tt
-  edit_by name text (Some it) h = h
+      → IfSome o (λ it. is_within it.0.bytes it.1 ≡ true) → IfSome (option_map (edit_found name text) o) (IsFound files)
+  edit_by name text None h k = tt
+  edit_by name text (Some it) h k = (h, ends_within it.0.bytes it.1 k)
 
   pub edit_is : (p : Place) (text : List ℕ)
-      → IfSome (option_map (edit_found p.name text) (found_place files p)) (IsOfFile files)
-  edit_is p text = edit_by p.name text (found_place files p) (place_is files p)
+      → IfSome (option_map (edit_found p.name text) (found_place files p)) (IsFound files)
+  edit_is p text = edit_by p.name text (found_place files p) (place_is files p) (place_inside files p)
 
   abbrev pub AreSound : List FileEdit → Type 0
-  AreSound es = AllByRecursion (IsOfFile files) es × ((e : FileEdit) × Has (Is e) es)
+  AreSound es = AllByRecursion (IsFound files) es × ((e : FileEdit) × Has (Is e) es)
 
-  module _ {X : Type 0} (edit : X → Option FileEdit) (each : (x : X) → IfSome (edit x) (IsOfFile files)) where
+  module _ {X : Type 0} (edit : X → Option FileEdit) (each : (x : X) → IfSome (edit x) (IsFound files)) where
     first_by : (o : Option FileEdit) (es : List FileEdit) → is_some o ≡ true
         → (e : FileEdit) × Has (Is e) (cons_option o es)
     first_by None es h = cc
@@ -35,7 +44,7 @@ module _ (files : List ℕ → Option Source) where
         → IfSome (if b then Some (filter_map edit (x ∷ xs)) else None) AreSound
     sound_by x xs false e = tt
     sound_by x xs true e = (
-      all_made (IsOfFile files) edit each (x ∷ xs),
+      all_made (IsFound files) edit each (x ∷ xs),
       first_by (edit x) (filter_map edit xs) (and_parts _ _ e).0,
     )
 

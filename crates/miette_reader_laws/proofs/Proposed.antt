@@ -212,7 +212,7 @@ advice_there files main offer e beside all of there =
 
 -- ---- the file of the first list
 
-abbrev Begins : List Mark → List Source → Type 0
+abbrev pub Begins : List Mark → List Source → Type 0
 Begins [] ss = ss ≡ []
 Begins (m ∷ ms) ss = m.list ≡ 0
 
@@ -229,7 +229,7 @@ begins_newly [] ss ts name source s t h =
     subst (λ (fs : List Source). first_open (is_open [] name source.bytes s t.own) 0 (length fs) ≡ 0) (sym h) refl
 begins_newly (m ∷ ms) ss ts name source s t h = h
 
-all_begin : (files : List ℕ → Option Source) (told : List Told)
+pub all_begin : (files : List ℕ → Option Source) (told : List Told)
     → Begins (settled files told).marks (settled files told).files
 all_begin files told =
     all_keep files (λ done. Begins done.marks done.files) (λ done text h. h)
@@ -237,8 +237,8 @@ all_begin files told =
     (λ done name source s t fits is h. begins_newly done.marks done.files done.texts name source s t h) told
     nothing_settled tt refl
 
-main_file : (files : List ℕ → Option Source) (ss : List Source) (ms : List Mark) (name : List ℕ) → AllFit files ss ms
-    → Begins ms ss → main_of ms ≡ Some name → files name ≡ nth ss 0
+pub main_file : (files : List ℕ → Option Source) (ss : List Source) (ms : List Mark) (name : List ℕ)
+    → AllFit files ss ms → Begins ms ss → main_of ms ≡ Some name → files name ≡ nth ss 0
 main_file files ss [] name fits h is = cc
 main_file files ss (m ∷ ms) name fits h is =
     let f = fits.0 in

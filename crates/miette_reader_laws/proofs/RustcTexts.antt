@@ -18,12 +18,12 @@ use Rattle.miette_readers.specs.rules.Rustc.{told_of}
 use Rattle.miette_readers.specs.rules.RustcReport.{all_found, edit_at, help_rows, helps, message_tree}
 use Rattle.miette_readers.specs.rules.RustcReport.{offer_by, offer_of, offer_with, offers_of, said_of}
 use Rattle.miette_readers.specs.rules.Settling.{found_place, has_no_rows}
-use Rattle.miette_reader_laws.specs.laws.Proposed.{IsOfFile}
+use Rattle.miette_reader_laws.specs.laws.Applying.{AreFound, IsFound}
 use Rattle.miette_reader_laws.specs.laws.RustcTexts.{child_texts, span_texts, texts_of}
 use Rattle.miette_reader_laws.specs.laws.Shown.{IsRowIn}
 use Rattle.miette_reader_laws.specs.laws.Standing.{Stands}
 use Rattle.miette_reader_laws.proofs.Holding.{Has, Is, all_each, all_flat, all_more, all_there, has_behind, has_each}
-use Rattle.miette_reader_laws.proofs.Holding.{has_flat, has_kept, has_made, has_map, has_more, has_split}
+use Rattle.miette_reader_laws.proofs.Holding.{all_made, has_flat, has_kept, has_made, has_map, has_more, has_split}
 use Rattle.miette_reader_laws.proofs.Offers.{AreSound, all_sound, edit_is}
 use Rattle.miette_reader_laws.proofs.Rows.{part_behind, part_self, row_joined, rows_there}
 use Rattle.miette_reader_laws.proofs.Standing.{IsOffered, Says, help_stands, offered_stands, told_stands}
@@ -107,11 +107,11 @@ module _ (files : List ℕ → Option Source) where
 
   edit_by : (d : Data) (o : Option (List ℕ))
       → IfSome (option_and_then (λ text. option_map (edit_found (file_name d) text)
-      (found_place files (place_of d))) o) (IsOfFile files)
+      (found_place files (place_of d))) o) (IsFound files)
   edit_by d None = tt
   edit_by d (Some text) = edit_is files (place_of d) text
 
-  edit_sound : (d : Data) → IfSome (edit_at files d) (IsOfFile files)
+  edit_sound : (d : Data) → IfSome (edit_at files d) (IsFound files)
   edit_sound d = edit_by d (text_at (codes "suggested_replacement") d)
 
   abbrev IsOfferOf : Data → Offer → Type 0
@@ -122,10 +122,19 @@ module _ (files : List ℕ → Option Source) where
   offer_from c first None h = tt
   offer_from c first (Some es) h = (refl, h)
 
+  found_from : (c : Data) (o : Option Offer) → IfSome o (IsOfferOf c) → IfSome o (AreFound files)
+  found_from c None h = tt
+  found_from c (Some o) h = h.1.0
+
   offer_sound : (c : Data) (ds : List Data) → IfSome (offer_with files c ds) (IsOfferOf c)
   offer_sound c [] = tt
   offer_sound c (d ∷ ds) =
       offer_from c d (all_found files (d ∷ ds)) (all_sound files (edit_at files) edit_sound d ds)
+
+  pub rustc_found : (d : Data) → AllByRecursion (AreFound files) (offers_of files d)
+  rustc_found d =
+      all_made (AreFound files) (offer_of files)
+      (λ c. found_from c (offer_of files c) (offer_sound c (edits_of c))) (objects_at (codes "children") d)
 
   -- ---- messages of children
 

@@ -10,10 +10,11 @@ use Rattle.miette_readers.proofs.Kept.{report_keeps}
 use Rattle.miette_tree.specs.rules.Diagnosis.{Section}
 use Rattle.miette_tree.specs.rules.DiagnosticParts.{given_labels}
 use Rattle.miette_tree.specs.rules.Tree.{Tree, Trees, no_trees, more_trees, causes_of, cause_of, head, related_of}
-use Rattle.miette_reader_laws.specs.laws.Proposed.{AnyOf, HasEdit, IsAdvice, IsProposed}
+use Rattle.miette_reader_laws.specs.laws.Applying.{IsFound}
+use Rattle.miette_reader_laws.specs.laws.Proposed.{AnyOf, HasEdit, IsAdvice, IsOfFile, IsProposed}
 use Rattle.miette_reader_laws.specs.laws.Shown.{IsRowIn}
 use Rattle.miette_reader_laws.specs.laws.Standing.{IsFixOf, IsMessageOf, Stands}
-use Rattle.miette_reader_laws.proofs.Holding.{Has, any_each, has_found, it_is_there}
+use Rattle.miette_reader_laws.proofs.Holding.{Has, all_each, any_each, has_found, it_is_there}
 use Rattle.miette_reader_laws.proofs.Made.{report_says}
 use Rattle.miette_reader_laws.proofs.Offers.{AreSound}
 use Rattle.miette_reader_laws.proofs.Proposed.{edit_proposed}
@@ -82,5 +83,6 @@ module _ (files : List ℕ → Option Source) (said : Said) (told : List Told) (
       let it = has_found IsOffered offers h in
       let edit = it.2.1.1 in
       proposed_stands it.0 edit.0 it.2.0
-      (edit_proposed files said told offers it.0 edit.0 it.1 it.2.1.0
+      (edit_proposed files said told offers it.0 edit.0 it.1
+      (all_each (IsFound files) (IsOfFile files) (λ e found. found.0) it.0.edits it.2.1.0)
       (it_is_there it.0.edits edit.0 edit.1))

@@ -28,6 +28,21 @@ pub place_is : (files : List ℕ → Option Source) (p : Place)
     → IfSome (found_place files p) (λ it. files p.name ≡ Some it.0)
 place_is files p = within_is (files p.name) p.stretch
 
+inside_by : (x : Source) (s : Stretch) (b : Bool) → is_within x.bytes s ≡ b
+    → IfSome {T = Source × Stretch} (if b then Some (x, s) else None) (λ it. is_within it.0.bytes it.1 ≡ true)
+inside_by x s true e = e
+inside_by x s false e = tt
+
+inside_is : (o : Option Source) (s : Option Stretch)
+    → IfSome (option_and_then (λ source. within_of source s) o) (λ it. is_within it.0.bytes it.1 ≡ true)
+inside_is None s = tt
+inside_is (Some x) None = tt
+inside_is (Some x) (Some s) = inside_by x s (is_within x.bytes s) refl
+
+pub place_inside : (files : List ℕ → Option Source) (p : Place)
+    → IfSome (found_place files p) (λ it. is_within it.0.bytes it.1 ≡ true)
+place_inside files p = inside_is (files p.name) p.stretch
+
 -- ---- what is kept when a text comes, when a label is told again, and when one is new
 
 abbrev pub retold : Told → Mark → Mark

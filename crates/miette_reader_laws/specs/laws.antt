@@ -1,5 +1,6 @@
 -- What holds of the rules.
 pub mod Apart
+pub mod Applying
 pub mod Lists
 pub mod Proposed
 pub mod RustcTexts

@@ -6,6 +6,7 @@ ghost use Rattle.std.specs.List.{AllByRecursion, Contains};
 ghost use Rattle.serde_json.specs.Data.{Data};
 ghost use Rattle.miette_protocol.specs.rules.Reading.{Source};
 ghost use Rattle.miette_reader_laws.specs.laws.Apart.{IsApartList};
+ghost use Rattle.miette_reader_laws.specs.laws.Applying.{AllFixesApply, AreFound};
 ghost use Rattle.miette_reader_laws.specs.laws.Lists.{lists_of};
 ghost use Rattle.miette_reader_laws.specs.laws.Proposed.{IsOfFile, IsProposed};
 ghost use Rattle.miette_reader_laws.specs.laws.RustcTexts.{texts_of};
@@ -58,6 +59,18 @@ pub fn edits_are_proposed()
         (offer : Offer) (e : FileEdit)
         → Contains offers offer → AllByRecursion (IsOfFile files) offer.edits → Contains offer.edits e
         → IsProposed offer e (report_tree said (settled files told) offers) }
+{}
+
+/// Each fix that is made of proposals whose edits are within files that are found can be applied: those of the report
+/// to its source, those of related advice to its own.
+pub fn fixes_can_be_applied()
+    ensures { (files : List ℕ → Option Source) (said : Said) (told : List Told) (offers : List Offer)
+        → AllByRecursion (AreFound files) offers → AllFixesApply (report_tree said (settled files told) offers) }
+{}
+
+/// Each fix of a message of rustc can be applied, and each of related advice.
+pub fn rustc_fixes_can_be_applied()
+    ensures { (files : List ℕ → Option Source) (d : Data) → AllFixesApply (message_tree files d) }
 {}
 
 /// The message of a diagnostic of rustc is its report's (`message`), and the texts of its spans, of its notes, helps

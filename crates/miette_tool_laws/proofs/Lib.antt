@@ -1,2 +1,3 @@
+mod GccFixes
 mod GccTexts
 mod LogTexts

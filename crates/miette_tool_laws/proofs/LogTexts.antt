@@ -21,10 +21,10 @@ use Rattle.miette_sarif_reader.specs.rules.Results.{Ground, location_told, messa
 use Rattle.miette_sarif_reader.specs.rules.Results.{told_at, told_of, uri_of}
 use Rattle.miette_sarif_reader.specs.rules.Uris.{name_of}
 use Rattle.miette_tool_laws.specs.laws.LogTexts.{described_by, fix_texts, location_texts, texts_of}
-use Rattle.miette_reader_laws.specs.laws.Proposed.{IsOfFile}
+use Rattle.miette_reader_laws.specs.laws.Applying.{AreFound, IsFound}
 use Rattle.miette_reader_laws.specs.laws.Standing.{Stands}
-use Rattle.miette_reader_laws.proofs.Holding.{Has, Is, all_each, all_flat, all_more, has_behind, has_made, has_map}
-use Rattle.miette_reader_laws.proofs.Holding.{has_more, has_split}
+use Rattle.miette_reader_laws.proofs.Holding.{Has, Is, all_each, all_flat, all_made, all_more, has_behind, has_made}
+use Rattle.miette_reader_laws.proofs.Holding.{has_map, has_more, has_split}
 use Rattle.miette_reader_laws.proofs.Offers.{AreSound, all_sound, edit_is}
 use Rattle.miette_reader_laws.proofs.Rows.{part_behind, part_self, part_within, row_joined, row_stays, row_there}
 use Rattle.miette_reader_laws.proofs.Standing.{IsOffered, Says, help_stands, offered_stands, told_stands}
@@ -65,7 +65,7 @@ module _ (g : Ground) where
 -- ---- proposals
 
 module _ (files : List ℕ → Option Source) where
-  edit_sound : (e : Place × List ℕ) → IfSome (edit_at files e) (IsOfFile files)
+  edit_sound : (e : Place × List ℕ) → IfSome (edit_at files e) (IsFound files)
   edit_sound e = edit_is files e.0 e.1
 
   abbrev IsOfferOf : List ℕ → Offer → Type 0
@@ -75,6 +75,19 @@ module _ (files : List ℕ → Option Source) where
       → IfSome (option_map (offer_by words) o) (IsOfferOf words)
   offer_from words None h = tt
   offer_from words (Some es) h = (refl, h)
+
+  found_from : (o : Option Offer) (words : List ℕ) → IfSome o (IsOfferOf words) → IfSome o (AreFound files)
+  found_from None words h = tt
+  found_from (Some o) words h = h.1.0
+
+  offer_sound : (words : List ℕ) (es : List (Place × List ℕ)) → IfSome (offer_with files words es) (AreFound files)
+  offer_sound words [] = tt
+  offer_sound words (e ∷ es) =
+      found_from (offer_with files words (e ∷ es)) words
+      (offer_from words (all_found files (e ∷ es)) (all_sound files (edit_at files) edit_sound e es))
+
+  pub log_found : (ds : List Draft) → AllByRecursion (AreFound files) (offers_of files ds)
+  log_found ds = all_made (AreFound files) (offer_of files) (λ d. offer_sound d.words d.edits) ds
 
   -- ---- those that can't be found
 

@@ -1,5 +1,5 @@
-//! The texts of all that GCC writes, and of all SARIF logs, stand in their reports. Each law is the contract of a
-//! function that does nothing; a caller cites it by calling it.
+//! The texts of all that GCC writes, and of all SARIF logs, stand in their reports, and their fixes can be applied.
+//! Each law is the contract of a function that does nothing; a caller cites it by calling it.
 
 ghost use Rattle.std.specs.Prelude.{◌≡◌, ℕ, List, [], Option, unwrap_or};
 ghost use Rattle.std.specs.List.{AllByRecursion};
@@ -7,12 +7,23 @@ ghost use Rattle.serde_json.specs.Data.{Data};
 ghost use Rattle.miette_gcc.specs.rules.Gcc.{message_of};
 ghost use Rattle.miette_gcc.specs.rules.GccReport.{diagnostic_tree};
 ghost use Rattle.miette_protocol.specs.rules.Reading.{Source};
+ghost use Rattle.miette_reader_laws.specs.laws.Applying.{AllFixesApply};
 ghost use Rattle.miette_reader_laws.specs.laws.Standing.{Stands};
 ghost use Rattle.miette_sarif_reader.specs.rules.Logs.{result_tree};
 ghost use Rattle.miette_sarif_reader.specs.rules.Results.{Ground, message_in};
 ghost use Rattle.miette_tool_laws.specs.laws.GccTexts as gcc_texts;
 ghost use Rattle.miette_tool_laws.specs.laws.LogTexts as log_texts;
 ghost use Rattle.miette_tree.specs.rules.Tree.{head};
+
+/// Each fix of a diagnostic of GCC can be applied, and each of related advice.
+pub fn gcc_fixes_can_be_applied()
+    ensures { (files : List ℕ → Option Source) (d : Data) → AllFixesApply (diagnostic_tree files d) }
+{}
+
+/// Each fix of a result of a SARIF log can be applied, and each of related advice.
+pub fn log_fixes_can_be_applied()
+    ensures { (g : Ground) (r : Data) → AllFixesApply (result_tree g r) }
+{}
 
 /// The message of a diagnostic of GCC is its report's (`message`), and the texts of its locations, of the events of its
 /// path, of its notes and of their locations stand in the report (`texts`).

@@ -1,0 +1,9 @@
+use Rattle.miette_readers.specs.rules.Rustc.{told_of}
+use Rattle.miette_readers.specs.rules.RustcReport.{offers_of, said_of}
+use Rattle.miette_reader_laws.proofs.Applying.{all_apply}
+use Rattle.miette_reader_laws.proofs.RustcTexts.{rustc_found}
+use Rattle.miette_reader_laws.proofs.laws.rustc_fixes_can_be_applied.Goals as goal
+
+pub returns : goal.returns
+returns c = λ files d.
+    all_apply files (said_of files d) (told_of files d) (offers_of files d) (rustc_found files d)

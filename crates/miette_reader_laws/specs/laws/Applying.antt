@@ -1,0 +1,32 @@
+-- Fixes that can be applied.
+use Rattle.std.specs.Prelude.{◌≡◌, ℕ, List, Option, Some, None, false, length, ⊤}
+use Rattle.std.specs.List.{AllByRecursion}
+use Rattle.miette_fixes.specs.rules.Applying.{refusal}
+use Rattle.miette_fixes.specs.rules.Edits.{Proposal, ends_behind}
+use Rattle.miette_protocol.specs.rules.Reading.{Source}
+use Rattle.miette_readers.specs.rules.Proposing.{FileEdit, Offer}
+use Rattle.miette_reader_laws.specs.laws.Proposed.{IsOfFile}
+use Rattle.miette_tree.specs.rules.Tree.{Tree, Trees, no_trees, more_trees, head, source_of, related_of}
+
+-- each of these reports
+abbrev pub AllOf : (Tree → Type 0) → Trees → Type 0
+AllOf holds no_trees = ⊤
+AllOf holds (more_trees t ts) = holds t × AllOf holds ts
+
+-- an edit of a file that is found, within it
+abbrev pub IsFound : (List ℕ → Option Source) → FileEdit → Type 0
+IsFound files e = IsOfFile files e × (ends_behind (length e.source.bytes) e.edit ≡ false)
+
+abbrev pub AreFound : (List ℕ → Option Source) → Offer → Type 0
+AreFound files offer = AllByRecursion (IsFound files) offer.edits
+
+-- a fix can be applied to the source of its report
+abbrev pub CanBeApplied : Tree → Proposal → Type 0
+CanBeApplied t fix = (s : Source) × (source_of t ≡ Some s) × (refusal (length s.bytes) fix.edits ≡ None)
+
+abbrev pub FixesApply : Tree → Type 0
+FixesApply t = AllByRecursion (CanBeApplied t) (head t).fixes
+
+-- and those of the reports that are related to it
+abbrev pub AllFixesApply : Tree → Type 0
+AllFixesApply t = FixesApply t × AllOf FixesApply (related_of t)
