@@ -34,20 +34,22 @@ fn half(alloc: Global, n: u32) -> Result<u32> {
     Ok(n / 2)
 }
 
-/// A diagnostic with a label, and with texts from all kinds of arguments. The other keys are in a row of `calls`.
+/// A diagnostic with three labels, and with texts from all kinds of arguments. The other keys are in a row of `calls`.
 fn sum_of(alloc: Global, x: u8, y: u8) -> Result<MietteDiagnostic, AllocError> {
     let sum = u32::from(x) + u32::from(y);
     let labels = vec![in alloc; LabeledSpan::new(None, 0, 1)]?;
-    diagnostic!(in alloc; labels = labels, "{x} + {} = {z}", y, z = sum)
+    let (more, main) = ((4, "more"), ((2, 1), "main"));
+    diagnostic!(in alloc; labels = labels, label = more, primary = main, "{x} + {} = {z}", y, z = sum)
 }
 
-/// The diagnostic says this sum, and has a label.
+/// The diagnostic says this sum, and of three labels the last is primary.
 fn tells_sum(rt: &impl Abort, it: &MietteDiagnostic) {
-    let count = match it.labels() {
-        Some(labels) => labels.len(),
-        None => 0,
+    let primary = match it.labels() {
+        Some([first, second, last]) => Some((first.primary(), second.primary(), last.primary())),
+        _ => None,
     };
-    same(rt, (it.message(), count), ("1 + 2 = 3", 1));
+    same(rt, it.message(), "1 + 2 = 3");
+    same(rt, primary, Some((false, false, true)));
 }
 
 #[test]

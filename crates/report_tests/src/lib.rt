@@ -15,6 +15,8 @@ mod by_macro;
 #[cfg(test)]
 mod comparing;
 #[cfg(test)]
+mod controls;
+#[cfg(test)]
 mod debug_forms;
 #[cfg(test)]
 mod drops;
