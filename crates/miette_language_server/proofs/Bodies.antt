@@ -6,9 +6,7 @@ use Rattle.std.specs.Option.{option_and_then}
 use Rattle.std.proofs.lemmas.Bool.Decides.{nat_tests}
 use lib.Seq.{take-append_seam, drop-append_seam}
 use Rattle.std.specs.declared.alloc.Global.{Global}
-use Rattle.std.specs.Io.KnownBytes.{Appends, Consumes, IsAtEnd}
-use Rattle.std.proofs.Common.{Result, Ok, Err, OnOk}
-use Rattle.std.proofs.KnownBytes.{Appends-trans}
+use Rattle.std.specs.Io.KnownBytes.{Consumes, IsAtEnd}
 use Rattle.miette_language_server.specs.rules.Frames.{Frame, cut}
 use Rattle.miette_language_server.specs.views.Answered.{IsCut, IsFirstFrame, IsHeader}
 
@@ -49,11 +47,3 @@ frame_read (Some xs) (Some ys) (Some zs) n (Some body) h c =
 pub frame_missing : (old new : Option (List ℕ)) → IsHeader old new None → IsFirstFrame old new None
 frame_missing None new h = tt
 frame_missing (Some xs) new h = ap (option_and_then cut_at) h
-
--- a header and a body are written, and then nothing more
-pub all_written : {E : Type 0} (r : Result (Unit {0}) E) (a b c d : Option (List ℕ)) (header body : List ℕ)
-    → Appends a b header → Appends b c body → OnOk r (Appends c d []) → OnOk r (Appends a d (header ++ body))
-all_written (Err e) a b c d header body p q h = tt
-all_written (Ok u) a b c d header body p q h =
-    subst (Appends a d) (append-nil (header ++ body))
-    (Appends-trans a c d (header ++ body) [] (Appends-trans a b c header body p q) h)

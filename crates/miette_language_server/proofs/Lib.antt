@@ -1,5 +1,8 @@
+pub mod Beginnings
+pub mod Begun
 pub mod Bodied
 pub mod Bodies
+pub mod Clients
 pub mod Floatless
 pub mod Headers
 pub mod Lists

@@ -36,10 +36,10 @@ served_none s (Some bytes) new w h = λ n lt. none n lt
 
 -- ---- a frame
 
-turn : (n : ℕ) (s t : State) (outcome : Outcome) (bytes body rest : List ℕ)
+pub turn_served : (n : ℕ) (s t : State) (outcome : Outcome) (bytes body rest : List ℕ)
     → first_frame bytes ≡ Some (record { body = body; rest = rest }) → IsStep (step s body) t outcome
     → served_from (suc n) s bytes ≡ served_with (outcome_of outcome) (served_from n t rest)
-turn n s t outcome bytes body rest h is = ap (framed_served n s) h
+turn_served n s t outcome bytes body rest h is = ap (framed_served n s) h
     ∙ ap (λ (e : Effect). served_with e (served_from n (step s body).state rest)) (sym is.1)
     ∙ ap (λ (u : State). served_with (outcome_of outcome) (served_from n u rest)) (sym is.0)
 
@@ -51,7 +51,7 @@ served_ended s t (Some bytes) (Some rest) w body status h is = λ n lt. ending n
   where
     ending : (n : ℕ) → length bytes < n → Gives w w status (served_from n s bytes)
     ending zero lt = absurd (omega (arith, lt))
-    ending (suc n) lt = subst (Gives w w status) (sym (turn n s t (Ended status) bytes body.items rest h is))
+    ending (suc n) lt = subst (Gives w w status) (sym (turn_served n s t (Ended status) bytes body.items rest h is))
         (Appends-nil w, refl)
 
 pub served_on : (s t : State) (old new w v : Option (List ℕ)) (body : Vec ℕ Global) (status : ℕ)
@@ -63,7 +63,7 @@ served_on s t (Some bytes) (Some rest) w v body status h is more = λ n lt. on n
   where
     on : (n : ℕ) → length bytes < n → Gives w v status (served_from n s bytes)
     on zero lt = absurd (omega (arith, lt))
-    on (suc n) lt = subst (Gives w v status) (sym (turn n s t Nothing bytes body.items rest h is))
+    on (suc n) lt = subst (Gives w v status) (sym (turn_served n s t Nothing bytes body.items rest h is))
         (more n (omega (arith, lt, shorter bytes (record { body = body.items; rest = rest }) h)))
 
 pub served_more : (s t : State) (old new w u v : Option (List ℕ)) (body : Vec ℕ Global) (value : Value) (status : ℕ)
@@ -79,7 +79,7 @@ served_more s t (Some bytes) (Some rest) w u v body value status h is put more =
         let rest_of : Gives u v status (served_from n t rest) =
         more n (omega (arith, lt, shorter bytes (record { body = body.items; rest = rest }) h))
         in
-        subst (Gives w v status) (sym (turn n s t (Written value) bytes body.items rest h is)) (
+        subst (Gives w v status) (sym (turn_served n s t (Written value) bytes body.items rest h is)) (
           Appends-trans w u v (framed (compact_text (view value))) (served_from n t rest).output put rest_of.0,
           rest_of.1,
         )

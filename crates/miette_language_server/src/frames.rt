@@ -1,13 +1,15 @@
 //! Messages in frames, read and written.
 
-ghost use Rattle.std.specs.Prelude.{◌≡◌, ◌++◌, ◌∷◌, [], IfOk, OnOk, string_bytes};
+ghost use Rattle.std.specs.Prelude.{◌≡◌, ◌↔◌, ◌⊎◌, ◌++◌, ◌∷◌, [], IfOk, IsTrue, OnErr, OnOk, false, string_bytes, true};
 ghost use Rattle.std.specs.Io.KnownBytes.{Appends};
+ghost use Rattle.miette_devices.specs.views.Device.{TakesBeginning};
 ghost use Rattle.miette_language_server.specs.rules.Frames.{framed, header_text};
 ghost use Rattle.miette_language_server.specs.views.Answered.{IsCut, IsFirstFrame, IsHeader, IsNext};
 
-use crate::fault::Fault;
+use crate::client::Client;
 use crate::fields::{is_empty_row, row_length};
 use itoa::Buffer;
+use miette_devices::fault::Fault;
 use std::alloc::{AllocError, Global};
 use std::io::{Read, Write};
 
@@ -15,14 +17,20 @@ use std::io::{Read, Write};
 const CHUNK: usize = 16384;
 
 // The next byte, if there is one.
-fn next_byte<R: Read>(reader: &mut R) -> Result<Option<u8>, Fault>
-    ensures { IfOk result (IsNext (R.remaining reader.old) (R.remaining reader.new)) }
+fn next_byte<R: Read, W>(client: &mut Client<R, W>) -> Result<Option<u8>, Fault>
+    requires sound { client.old.reader.failed ≡ false }
+    requires sent { client.old.writer.is_sent ≡ true }
+    ensures next { IfOk result
+        (IsNext (R.remaining client.old.reader.inner) (R.remaining client.new.reader.inner)) }
+    ensures failed { IsTrue client.new.reader.failed ↔ (result ≡ Err Fault.Read) }
+    ensures fault { OnErr result (result ≡ Err Fault.Read) }
+    ensures writer { client.new.writer ≡ client.old.writer }
 {
     let mut byte = [0u8; 1];
-    match reader.read(&mut byte) {
+    match client.read(&mut byte) {
         Ok(0) => Ok(None),
         Ok(_) => Ok(Some(byte[0])),
-        Err(_) => Err(Fault::Read),
+        Err(fault) => Err(fault),
     }
 }
 
@@ -35,13 +43,19 @@ fn push_byte(row: &mut Vec<u8>, byte: u8) -> Result<(), AllocError>
 }
 
 // Reads a header with the empty row behind it. The length that it states, if it does.
-fn read_header<R: Read>(alloc: Global, reader: &mut R) -> Result<Option<usize>, Fault>
-    ensures { IfOk result (IsHeader (R.remaining reader.old) (R.remaining reader.new)) }
+fn read_header<R: Read, W>(alloc: Global, client: &mut Client<R, W>) -> Result<Option<usize>, Fault>
+    requires sound { client.old.reader.failed ≡ false }
+    requires sent { client.old.writer.is_sent ≡ true }
+    ensures header { IfOk result
+        (IsHeader (R.remaining client.old.reader.inner) (R.remaining client.new.reader.inner)) }
+    ensures failed { IsTrue client.new.reader.failed ↔ (result ≡ Err Fault.Read) }
+    ensures others { OnErr result ((result ≡ Err Fault.Read) ⊎ (result ≡ Err Fault.Memory)) }
+    ensures writer { client.new.writer ≡ client.old.writer }
 {
     let mut row = Vec::new(alloc);
     let mut known = None;
     for _ in 0..u64::MAX {
-        let Some(byte) = next_byte(reader)? else {
+        let Some(byte) = next_byte(client)? else {
             return Ok(None);
         };
         if byte != b'\n' {
@@ -54,12 +68,22 @@ fn read_header<R: Read>(alloc: Global, reader: &mut R) -> Result<Option<usize>, 
         known = row_length(row.as_slice()).or(known);
         row.clear();
     }
-    Err(Fault::Read)
+    Err(Fault::Memory)
 }
 
 // Reads so many bytes, where they are there. Takes no more memory than twice what is there.
-fn read_body<R: Read>(alloc: Global, reader: &mut R, size: usize) -> Result<Option<Vec<u8>>, Fault>
-    ensures { IfOk result (IsCut (R.remaining reader.old) (R.remaining reader.new) size) }
+fn read_body<R: Read, W>(
+    alloc: Global,
+    client: &mut Client<R, W>,
+    size: usize,
+) -> Result<Option<Vec<u8>>, Fault>
+    requires sound { client.old.reader.failed ≡ false }
+    requires sent { client.old.writer.is_sent ≡ true }
+    ensures body { IfOk result
+        (IsCut (R.remaining client.old.reader.inner) (R.remaining client.new.reader.inner) size) }
+    ensures failed { IsTrue client.new.reader.failed ↔ (result ≡ Err Fault.Read) }
+    ensures others { OnErr result ((result ≡ Err Fault.Read) ⊎ (result ≡ Err Fault.Memory)) }
+    ensures writer { client.new.writer ≡ client.old.writer }
 {
     let mut body = Vec::new(alloc);
     let mut chunk = [0u8; CHUNK];
@@ -68,13 +92,13 @@ fn read_body<R: Read>(alloc: Global, reader: &mut R, size: usize) -> Result<Opti
         if room == 0 {
             return Ok(Some(body));
         }
-        match reader.read(&mut chunk[..room]) {
+        match client.read(&mut chunk[..room]) {
             Ok(0) => return Ok(None),
             Ok(n) => body.extend_from_slice(&chunk[..n])?,
-            Err(_) => return Err(Fault::Read),
+            Err(fault) => return Err(fault),
         }
     }
-    Err(Fault::Read)
+    Err(Fault::Memory)
 }
 
 /// Reads the body of the next frame. None where the frame states no length, or ends early; also where nothing is left.
@@ -82,12 +106,21 @@ fn read_body<R: Read>(alloc: Global, reader: &mut R, size: usize) -> Result<Opti
 /// However large the length is that the frame states, memory is taken for what is there alone.
 ///
 /// # Errors
-/// `Read` where a call of the reader fails, `Memory` where memory is refused.
-pub fn read_frame<R: Read>(alloc: Global, reader: &mut R) -> Result<Option<Vec<u8>>, Fault>
-    ensures { IfOk result (IsFirstFrame (R.remaining reader.old) (R.remaining reader.new)) }
+/// `Read` exactly where a call of the reader failed, and `Memory`.
+pub fn read_frame<R: Read, W>(
+    alloc: Global,
+    client: &mut Client<R, W>,
+) -> Result<Option<Vec<u8>>, Fault>
+    requires sound { client.old.reader.failed ≡ false }
+    requires sent { client.old.writer.is_sent ≡ true }
+    ensures frame { IfOk result
+        (IsFirstFrame (R.remaining client.old.reader.inner) (R.remaining client.new.reader.inner)) }
+    ensures failed { IsTrue client.new.reader.failed ↔ (result ≡ Err Fault.Read) }
+    ensures others { OnErr result ((result ≡ Err Fault.Read) ⊎ (result ≡ Err Fault.Memory)) }
+    ensures writer { client.new.writer ≡ client.old.writer }
 {
-    match read_header(alloc, reader)? {
-        Some(size) => read_body(alloc, reader, size),
+    match read_header(alloc, client)? {
+        Some(size) => read_body(alloc, client, size),
         None => Ok(None),
     }
 }
@@ -102,35 +135,26 @@ fn header_text(alloc: Global, size: usize) -> Result<String, AllocError>
     Ok(text)
 }
 
-// Hands all of the bytes to the writer.
-fn write_part<W: Write>(writer: &mut W, bytes: &[u8]) -> Result<(), Fault>
-    ensures { OnOk result (Appends (W.contents writer.old) (W.contents writer.new) bytes.now) }
-{
-    match writer.write_all(bytes) {
-        Ok(()) => Ok(()),
-        Err(_) => Err(Fault::Write),
-    }
-}
-
-// Sends what a writer holds back.
-fn flush<W: Write>(writer: &mut W) -> Result<(), Fault>
-    ensures { OnOk result (Appends (W.contents writer.old) (W.contents writer.new) []) }
-{
-    match writer.flush() {
-        Ok(()) => Ok(()),
-        Err(_) => Err(Fault::Write),
-    }
-}
-
 /// Writes a body in a frame, and sends what the writer holds back.
 ///
 /// # Errors
-/// `Write` where a call of the writer fails, or takes nothing, and `Memory`.
-pub fn write_frame<W: Write>(alloc: Global, writer: &mut W, body: &[u8]) -> Result<(), Fault>
-    ensures { OnOk result (Appends (W.contents writer.old) (W.contents writer.new) (framed body.now)) }
+/// `Write` exactly where a call of the writer failed, or took nothing, and `Memory`. A beginning of the frame was then
+/// taken.
+pub fn write_frame<R, W: Write>(
+    alloc: Global,
+    client: &mut Client<R, W>,
+    body: &[u8],
+) -> Result<(), Fault>
+    requires { client.old.writer.failed ≡ false }
+    ensures ok { OnOk result (Appends (W.contents client.old.writer.inner) (W.contents client.new.writer.inner)
+        (framed body.now)) }
+    ensures err { OnErr result (TakesBeginning (W.contents client.old.writer.inner)
+        (W.contents client.new.writer.inner) (framed body.now)) }
+    ensures failed { IsTrue client.new.writer.failed ↔ (result ≡ Err Fault.Write) }
+    ensures others { OnErr result ((result ≡ Err Fault.Write) ⊎ (result ≡ Err Fault.Memory)) }
+    ensures sent { OnOk result (client.new.writer.is_sent ≡ true) }
+    ensures reader { client.new.reader ≡ client.old.reader }
 {
     let header = header_text(alloc, body.len())?;
-    write_part(writer, header.as_bytes())?;
-    write_part(writer, body)?;
-    flush(writer)
+    client.send(header.as_bytes(), body)
 }

@@ -3,9 +3,9 @@
 
 mod actions;
 mod changes;
+pub mod client;
 mod diagnostics;
 pub mod documents;
-pub mod fault;
 mod fields;
 pub mod frames;
 pub mod laws;

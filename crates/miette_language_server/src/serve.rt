@@ -1,43 +1,64 @@
 //! The server over any reader and any writer.
 
-ghost use Rattle.std.specs.Prelude.{◌≡◌, ◌<◌, IfOk, IfSome, OnOk, false};
+ghost use Rattle.std.specs.Prelude.{◌≡◌, ◌↔◌, ◌⊎◌, ◌<◌, IfOk, IfSome, IsTrue, OnErr, OnOk, false, true};
 ghost use Rattle.std.specs.Io.KnownBytes.{Appends};
 ghost use Rattle.serde_json.specs.View.{view};
 ghost use Rattle.serde_json.specs.Written.{compact_text, has_float};
+ghost use Rattle.miette_devices.specs.views.Device.{TakesBeginning};
 ghost use Rattle.miette_language_server.specs.rules.Frames.{framed};
 ghost use Rattle.miette_language_server.specs.rules.Serving.{served};
-ghost use Rattle.miette_language_server.specs.views.Served.{IsTurn};
+ghost use Rattle.miette_language_server.specs.views.ClientState.{IsOpen};
+ghost use Rattle.miette_language_server.specs.views.Served.{IsBegun, IsTurn, moment};
 
-use crate::fault::Fault;
+use crate::client::Client;
 use crate::frames::{read_frame, write_frame};
 use crate::session::{Outcome, Session};
+use miette_devices::fault::Fault;
 use serde_json::Value;
 use std::alloc::Global;
 use std::io::{Read, Write};
 
 // Writes a message that has no fraction in a frame.
-fn write_message<W: Write>(alloc: Global, writer: &mut W, message: &Value) -> Result<(), Fault>
-    requires { has_float (view message.now) ≡ false }
-    ensures { OnOk result (Appends (W.contents writer.old) (W.contents writer.new)
+fn write_message<R, W: Write>(
+    alloc: Global,
+    client: &mut Client<R, W>,
+    message: &Value,
+) -> Result<(), Fault>
+    requires whole { has_float (view message.now) ≡ false }
+    requires sound { client.old.writer.failed ≡ false }
+    ensures ok { OnOk result (Appends (W.contents client.old.writer.inner) (W.contents client.new.writer.inner)
         (framed (compact_text (view message.now)))) }
+    ensures err { OnErr result (TakesBeginning (W.contents client.old.writer.inner)
+        (W.contents client.new.writer.inner) (framed (compact_text (view message.now)))) }
+    ensures failed { IsTrue client.new.writer.failed ↔ (result ≡ Err Fault.Write) }
+    ensures others { OnErr result ((result ≡ Err Fault.Write) ⊎ (result ≡ Err Fault.Memory)) }
+    ensures sent { OnOk result (client.new.writer.is_sent ≡ true) }
+    ensures reader { client.new.reader ≡ client.old.reader }
 {
     let text = message.to_string(alloc)?;
-    write_frame(alloc, writer, text.as_bytes())
+    write_frame(alloc, client, text.as_bytes())
 }
 
 // One frame: the status, where the server ends.
 fn turn<R: Read, W: Write>(
     alloc: Global,
     session: &mut Session,
-    reader: &mut R,
-    writer: &mut W,
+    client: &mut Client<R, W>,
 ) -> Result<Option<u8>, Fault>
+    requires { IsOpen client.old }
     ensures served { IfOk result (IsTurn
-        (record { state = session.old; input = R.remaining reader.old; output = W.contents writer.old })
-        (record { state = session.new; input = R.remaining reader.new; output = W.contents writer.new })) }
+        (moment session.old (R.remaining client.old.reader.inner) (W.contents client.old.writer.inner))
+        (moment session.new (R.remaining client.new.reader.inner) (W.contents client.new.writer.inner))) }
+    ensures begun { OnErr result (IsBegun session.old (R.remaining client.old.reader.inner)
+        (W.contents client.old.writer.inner) (W.contents client.new.writer.inner)) }
+    ensures read_failed { IsTrue client.new.reader.failed ↔ (result ≡ Err Fault.Read) }
+    ensures write_failed { IsTrue client.new.writer.failed ↔ (result ≡ Err Fault.Write) }
+    ensures others { OnErr result ((result ≡ Err Fault.Memory) ⊎ (result ≡ Err Fault.Read)
+        ⊎ (result ≡ Err Fault.Write)) }
+    ensures sent { OnOk result (client.new.writer.is_sent ≡ true) }
     ensures status { IfOk result (λ it. IfSome it (λ status. status < 3)) }
 {
-    let frame = read_frame(alloc, reader)?;
+    let frame = read_frame(alloc, client)?;
     let body = match frame {
         Some(body) => body,
         None => return Ok(Some(2)),
@@ -47,7 +68,7 @@ fn turn<R: Read, W: Write>(
         Outcome::Nothing => Ok(None),
         Outcome::Ended(status) => Ok(Some(status)),
         Outcome::Written(message) => {
-            write_message(alloc, writer, &message)?;
+            write_message(alloc, client, &message)?;
             Ok(None)
         }
     }
@@ -56,28 +77,38 @@ fn turn<R: Read, W: Write>(
 /// Serves a client, whose lines may have so many columns, until it ends the server or its frames end: the status, which
 /// is 0, 1 or 2.
 ///
-/// What is written for what the reader has is a function of its bytes: `served`.
+/// What is written for what the reader has is a function of its bytes: `served`. The reader is called only where all
+/// that was written was sent (`Client`).
 ///
 /// # Errors
-/// `Read` and `Write` where a call of the reader or the writer fails, `Memory` where memory is refused.
+/// `Read` and `Write` exactly where a call of the reader or the writer failed, and `Memory`. A beginning of `served`
+/// was written.
 pub fn serve<R: Read, W: Write>(
     alloc: Global,
     width: usize,
-    reader: &mut R,
-    writer: &mut W,
+    client: &mut Client<R, W>,
 ) -> Result<u8, Fault>
-    ensures served { IfOk result (λ status. IfSome (R.remaining reader.old) (λ bytes.
-        Appends (W.contents writer.old) (W.contents writer.new) (served width bytes).output
+    requires { IsOpen client.old }
+    ensures served { IfOk result (λ status. IfSome (R.remaining client.old.reader.inner) (λ bytes.
+        Appends (W.contents client.old.writer.inner) (W.contents client.new.writer.inner) (served width bytes).output
         × (status ≡ (served width bytes).status))) }
+    ensures begun { OnErr result (IfSome (R.remaining client.old.reader.inner) (λ bytes.
+        TakesBeginning (W.contents client.old.writer.inner) (W.contents client.new.writer.inner)
+        (served width bytes).output)) }
+    ensures read_failed { IsTrue client.new.reader.failed ↔ (result ≡ Err Fault.Read) }
+    ensures write_failed { IsTrue client.new.writer.failed ↔ (result ≡ Err Fault.Write) }
+    ensures others { OnErr result ((result ≡ Err Fault.Memory) ⊎ (result ≡ Err Fault.Read)
+        ⊎ (result ≡ Err Fault.Write)) }
+    ensures sent { OnOk result (client.new.writer.is_sent ≡ true) }
     ensures status { IfOk result (λ status. status < 3) }
 {
     let mut session = Session::new(alloc, width);
     for _ in 0..u64::MAX {
-        let told = turn(alloc, &mut session, reader, writer)?;
+        let told = turn(alloc, &mut session, client)?;
         match told {
             Some(status) => return Ok(status),
             None => {}
         }
     }
-    Err(Fault::Read)
+    Err(Fault::Memory)
 }

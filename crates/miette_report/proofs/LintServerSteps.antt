@@ -1,5 +1,6 @@
 -- Steps of `lint --lsp`.
-use Rattle.std.proofs.Common.{◌≡◌, ℕ, ◌<◌, ◌⊎◌, inl, inr, List, [], ◌∷◌, Option, Some, None, IfSome, ◌∙◌, ap, arith}
+use Rattle.std.proofs.Common.{◌≡◌, ℕ, ◌<◌, ◌⊎◌, ◌↔◌, inl, inr, List, [], ◌∷◌, Bool, IsTrue, Option, Some, None, IfSome}
+use Rattle.std.proofs.Common.{Result, Ok, Err, OnErr, ◌∙◌, ap, arith, subst, sym}
 use Rattle.std.specs.Prelude.{◌==◌, codes, if◌then◌else◌}
 use Rattle.std.specs.Io.Buffered.{reader_buffer, reader_capacity, reader_inner, reader_remaining}
 use Rattle.std.specs.Io.KnownBytes.{prepend_known}
@@ -9,11 +10,12 @@ use Rattle.std.proofs.KnownBytes.{prepend_known-nil}
 use Rattle.miette_language_server.specs.rules.Serving.{served}
 use Rattle.miette_devices.specs.declared.fault.Ending.{Ending}
 use Rattle.miette_devices.specs.declared.fault.Fault.{Fault}
+use Rattle.miette_devices.specs.declared.fault.Fault.TheVariants.{Memory, Read, Write}
 use Rattle.miette_devices.specs.declared.fault.Program.TheVariants.{Lint}
 use Rattle.miette_report.specs.rules.Words.{AreServerWords}
 use Rattle.miette_devices.specs.rules.Words.{IsReadAs}
 use Rattle.miette_devices.specs.views.Endings.{IsFailure}
-use Rattle.miette_report.specs.views.Service.{IsService}
+use Rattle.miette_report.specs.views.Service.{BeginsService, IsServerFault, IsService}
 
 pub server_words : (words : List (List ℕ)) (first width : List ℕ) (r : Option ℕ) → words ≡ first ∷ width ∷ []
     → first ≡ codes "--lsp" → IsReadAs width r → IfSome r (λ n. AreServerWords words n)
@@ -40,9 +42,38 @@ service_status width None old new status h = tt
 service_status width (Some bytes) old new status h = h.1
 
 -- a status below 2 is that of a service
-pub ended_status : (width : ℕ) (read old new was is : Option (List ℕ)) (ending : Ending) (quiet : Type 0)
-    → (IsService width read old new ending.status × quiet) ⊎ ((fault : Fault) × IsFailure Lint ending was is fault)
+pub ended_status : (width : ℕ) (read same old new was is : Option (List ℕ)) (ending : Ending) (ready quiet : Type 0)
+    (read_failed write_failed : Bool) → same ≡ read
+    → (IsService width same old new ending.status × ready × quiet)
+    ⊎ ((fault : Fault) × IsFailure Lint ending was is fault × IsServerFault read_failed write_failed fault
+    × BeginsService width same old new)
     → ending.status < 2 → IfSome read (λ bytes. ending.status ≡ (served width bytes).status)
-ended_status width read old new was is ending quiet (inl h) lt = service_status width read old new ending.status h.0
-ended_status width read old new was is ending quiet (inr h) lt =
+ended_status width read same old new was is ending ready quiet read_failed write_failed e (inl h) lt =
+    service_status width read old new ending.status
+    (subst (λ (r : Option (List ℕ)). IsService width r old new ending.status) e h.0)
+ended_status width read same old new was is ending ready quiet read_failed write_failed e (inr h) lt =
     let two : ending.status ≡ 2 = h.1.status in absurd (omega (arith, lt, two))
+
+-- ---- a server's fault
+
+same_fault : {T : Type 0} (r : Result T Fault) (f g : Fault) → r ≡ Err f → r ≡ Err g → f ≡ g
+same_fault r f g is e = let k : Err f ≡ Err g = sym is ∙ e in cc
+
+other_faults : {T : Type 0} (r : Result T Fault) (f : Fault) → r ≡ Err f
+    → OnErr r ((r ≡ Err Memory) ⊎ (r ≡ Err Read) ⊎ (r ≡ Err Write)) → (f ≡ Memory) ⊎ (f ≡ Read) ⊎ (f ≡ Write)
+other_faults (Ok x) f is h = cc
+other_faults (Err e) f is h =
+    elim h [
+      | inl p ↦ inl (same_fault (Err e) f Memory is p)
+      | inr (inl p) ↦ inr (inl (same_fault (Err e) f Read is p))
+      | inr (inr p) ↦ inr (inr (same_fault (Err e) f Write is p))
+    ]
+
+pub server_fault : {T : Type 0} (read write : Bool) (r : Result T Fault) (f : Fault) → r ≡ Err f
+    → (IsTrue read ↔ (r ≡ Err Read)) → (IsTrue write ↔ (r ≡ Err Write))
+    → OnErr r ((r ≡ Err Memory) ⊎ (r ≡ Err Read) ⊎ (r ≡ Err Write)) → IsServerFault read write f
+server_fault read write r f is reads writes others = record {
+  read = (λ t. same_fault r f Read is (reads.0 t), λ e. reads.1 (is ∙ ap Err e));
+  write = (λ t. same_fault r f Write is (writes.0 t), λ e. writes.1 (is ∙ ap Err e));
+  others = other_faults r f is others;
+}

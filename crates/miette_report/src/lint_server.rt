@@ -1,15 +1,16 @@
 //! `lint --lsp`: what `lint` finds, told to an editor as it writes.
 
-ghost use Rattle.std.specs.Prelude.{◌≡◌, ◌⊎◌, ◌<◌, Err, IfOk, IfSome, IsNone, OnErr, map, string_bytes};
+ghost use Rattle.std.specs.Prelude.{◌≡◌, ◌⊎◌, ◌<◌, IfOk, IfSome, IsNone, OnErr, map, string_bytes};
 ghost use Rattle.std.specs.Io.Buffered.{reader_remaining};
 ghost use Rattle.miette_language_server.specs.rules.Serving.{served};
+ghost use Rattle.miette_language_server.specs.views.ClientState.{IsOpen};
 ghost use Rattle.miette_report.specs.rules.Words.{AreServerWords, IsNoServerCall};
 ghost use Rattle.miette_devices.specs.views.Endings.{IsFailure};
-ghost use Rattle.miette_report.specs.views.Service.{IsService};
+ghost use Rattle.miette_report.specs.views.Service.{BeginsService, IsServerFault, IsService};
 
 use miette_devices::fault::{Ending, Fault, Program};
 use miette_devices::words::number;
-use miette_language_server::fault::Fault as ServerFault;
+use miette_language_server::client::Client;
 use miette_language_server::serve::serve;
 use std::alloc::Global;
 use std::io::{BufReader, Read, Write};
@@ -37,45 +38,27 @@ fn buffered<R: Read + Drop>(alloc: Global, reader: R) -> Result<BufReader<R>, Fa
     }
 }
 
-// Serves a client over a buffer in front of the reader: the status.
-fn serve_buffered<R: Read + Drop, W: Write>(
-    alloc: Global,
-    width: usize,
-    reader: R,
-    writer: &mut W,
-) -> Result<u8, Fault>
-    ensures service { IfOk result (λ status.
-        IsService width (R.remaining reader) (W.contents writer.old) (W.contents writer.new) status) }
-    ensures status { IfOk result (λ status. status < 3) }
-    ensures others { OnErr result ((result ≡ Err Fault.Memory) ⊎ (result ≡ Err Fault.Read)
-        ⊎ (result ≡ Err Fault.Write)) }
-{
-    let mut front = buffered(alloc, reader)?;
-    match serve(alloc, width, &mut front, writer) {
-        Ok(status) => Ok(status),
-        Err(ServerFault::Memory) => Err(Fault::Memory),
-        Err(ServerFault::Read) => Err(Fault::Read),
-        Err(ServerFault::Write) => Err(Fault::Write),
-    }
-}
-
-/// `serve_with` over a writer and a stream of faults of one's own. Beside the status, whether `faults` took the row that
+/// `serve_with` over a client and a stream of faults of one's own. Beside the status, whether `faults` took the row that
 /// says why the server failed.
-pub fn serve_on<R: Read + Drop, W: Write, F: Write>(
+pub fn serve_on<R: Read, W: Write, F: Write>(
     alloc: Global,
     width: usize,
-    reader: R,
-    writer: &mut W,
+    client: &mut Client<R, W>,
     faults: &mut F,
 ) -> Ending
+    requires { IsOpen client.old }
     ensures status { result.status < 3 }
-    // The writer took what a language server writes for all that was read, and nothing else, and `faults` took nothing;
-    // or memory, the reader or the writer failed, and `faults` is handed the row that says so.
-    ensures service { (IsService width (R.remaining reader) (W.contents writer.old) (W.contents writer.new) result.status
-        × (faults.new ≡ faults.old))
-        ⊎ ((fault : Fault) × IsFailure Program.Lint result (F.contents faults.old) (F.contents faults.new) fault) }
+    // The client was sent what a language server writes for all that was read, and nothing else, neither stream failed,
+    // and `faults` took nothing. Or the reader, the writer or memory failed, which is told exactly: the client took a
+    // beginning of that, and `faults` is handed the row that says so.
+    ensures service { (IsService width (R.remaining client.old.reader.inner) (W.contents client.old.writer.inner)
+        (W.contents client.new.writer.inner) result.status × IsOpen client.new × (faults.new ≡ faults.old))
+        ⊎ ((fault : Fault) × IsFailure Program.Lint result (F.contents faults.old) (F.contents faults.new) fault
+        × IsServerFault client.new.reader.failed client.new.writer.failed fault
+        × BeginsService width (R.remaining client.old.reader.inner) (W.contents client.old.writer.inner)
+        (W.contents client.new.writer.inner)) }
 {
-    match serve_buffered(alloc, width, reader, writer) {
+    match serve(alloc, width, client) {
         Ok(status) => Ending {
             status,
             told: Ok(()),
@@ -97,7 +80,12 @@ where
     ensures status { result < 3 }
     ensures ended { result < 2 → IfSome (R.remaining reader) (λ bytes. result ≡ (served width bytes).status) }
 {
-    let mut writer = writer;
     let mut faults = faults;
-    serve_on(alloc, width, reader, &mut writer, &mut faults).status
+    match buffered(alloc, reader) {
+        Ok(front) => {
+            let mut client = Client::new(front, writer);
+            serve_on(alloc, width, &mut client, &mut faults).status
+        }
+        Err(fault) => Program::Lint.fail(fault, &mut faults).status,
+    }
 }

@@ -1,14 +1,23 @@
-use Rattle.std.proofs.Common.{◌≡◌, length, subst, rules}
+use Rattle.std.proofs.Common.{◌≡◌, ◌++◌, OnErr, OnOk, length, subst, rules}
 use Rattle.std.specs.Io.KnownBytes.{Appends}
+use Rattle.miette_devices.specs.views.Device.{TakesBeginning}
 use Rattle.miette_language_server.specs.rules.Frames.{header_text}
-use Rattle.miette_language_server.proofs.Bodies.{all_written}
+use Rattle.miette_language_server.proofs.Beginnings.{on_err, takes_none}
 use Rattle.miette_language_server.proofs.frames.write_frame.Goals as goal
 
-pub returns : goal.returns
-returns g c =
+pub returns-clause-ok : goal.returns-clause-ok
+returns-clause-ok g c =
+    let old = g.W.Write.contents c.args.client.now.writer.inner in
+    let new = g.W.Write.contents c.send.new.self.writer.inner in
     let is : c.as_bytes.result.now ≡ header_text (length c.args.body.now) = search rules in
-    let header = subst (λ bs. Appends (g.W.Write.contents c.args.writer.now)
-    (g.W.Write.contents c.write_part.new.writer) bs) is c.in_ok-write_part.ensures
-    in
-    all_written c.flush.result _ _ _ _ (header_text (length c.args.body.now)) c.args.body.now header
-    c.in_ok-write_part-2.ensures c.flush.ensures
+    subst (λ bs. OnOk c.send.result (Appends old new (bs ++ c.args.body.now))) is c.send.ensures.ok
+
+pub returns-clause-err : goal.returns-clause-err
+returns-clause-err g c =
+    let old = g.W.Write.contents c.args.client.now.writer.inner in
+    let new = g.W.Write.contents c.send.new.self.writer.inner in
+    let is : c.as_bytes.result.now ≡ header_text (length c.args.body.now) = search rules in
+    subst (λ bs. OnErr c.send.result (TakesBeginning old new (bs ++ c.args.body.now))) is c.send.ensures.err
+
+pub returns-in_err-header-clause-err : goal.returns-in_err-header-clause-err
+returns-in_err-header-clause-err g c = on_err _ _ (takes_none _ _)

@@ -1,8 +1,17 @@
-use Rattle.std.proofs.Common.{◌≡◌, ℕ, List, Some, subst}
+use Rattle.std.proofs.Common.{◌≡◌, ℕ, List, Option, Some, subst, sym}
+use Rattle.std.specs.Io.KnownBytes.{Appends}
+use Rattle.serde_json.specs.View.{view}
+use Rattle.serde_json.specs.Written.{compact_text}
+use Rattle.miette_devices.specs.views.Device.{TakesBeginning}
 use Rattle.miette_language_server.specs.declared.session.Outcome.{Outcome}
 use Rattle.miette_language_server.specs.declared.session.Outcome.TheVariants.{Ended, Nothing, Written}
+use Rattle.miette_language_server.specs.rules.Frames.{framed}
 use Rattle.miette_language_server.specs.rules.Session.{State, step}
 use Rattle.miette_language_server.specs.views.Answered.{IsFirstFrame, IsStep}
+use Rattle.miette_language_server.specs.views.Served.{IsBegun, IsServed}
+use Rattle.miette_language_server.proofs.Beginnings.{on_err}
+use Rattle.miette_language_server.proofs.Begun.{begun_more, begun_none, begun_on, begun_part}
+use Rattle.miette_language_server.proofs.Clients.{held, left, still_sound}
 use Rattle.miette_language_server.proofs.Floatless.{ended_below, written_floatless}
 use Rattle.miette_language_server.proofs.Turns.{served_ended, served_more, served_none, served_on}
 use Rattle.miette_language_server.proofs.serve.turn.Goals as goal
@@ -13,59 +22,111 @@ step_done : (s t : State) (slice body : List ℕ) (outcome told : Outcome) → s
 step_done s t slice body outcome told same done is =
     subst (λ (o : Outcome). IsStep (step s body) t o) is (subst (λ bs. IsStep (step s bs) t outcome) same done)
 
+pub returns-in_err-frame-clause-begun : goal.returns-in_err-frame-clause-begun
+returns-in_err-frame-clause-begun g c =
+    on_err _ _ (begun_none c.args.session.now _ _ _ (held g.W.Write.contents _ _ c.read_frame.ensures.writer))
+
 pub returns-in-None-clause-served : goal.returns-in-None-clause-served
 returns-in-None-clause-served g c =
-    let old = g.R.Read.remaining c.args.reader.now in
-    let new = g.R.Read.remaining c.read_frame.new.reader in
-    served_none c.args.session.now old new (g.W.Write.contents c.args.writer.now)
-    (subst (IsFirstFrame old new) c.in-None.is c.in_ok-frame.ensures)
+    let old = g.R.Read.remaining c.args.client.now.reader.inner in
+    let new = g.R.Read.remaining c.read_frame.new.client.reader.inner in
+    let w = g.W.Write.contents c.args.client.now.writer.inner in
+    subst (λ (v : Option (List ℕ)). IsServed c.args.session.now old w v 2)
+    (sym (held g.W.Write.contents _ _ c.read_frame.ensures.writer))
+    (served_none c.args.session.now old new w (subst (IsFirstFrame old new) c.in-None.is c.in_ok-frame.ensures.frame))
+
+pub returns-in_err-outcome-clause-begun : goal.returns-in_err-outcome-clause-begun
+returns-in_err-outcome-clause-begun g c =
+    on_err _ _ (begun_none c.args.session.now _ _ _ (held g.W.Write.contents _ _ c.read_frame.ensures.writer))
 
 pub returns-in-Nothing-clause-served : goal.returns-in-Nothing-clause-served
 returns-in-Nothing-clause-served g c =
-    let old = g.R.Read.remaining c.args.reader.now in
-    let new = g.R.Read.remaining c.read_frame.new.reader in
+    let old = g.R.Read.remaining c.args.client.now.reader.inner in
+    let new = g.R.Read.remaining c.read_frame.new.client.reader.inner in
+    let w = g.W.Write.contents c.args.client.now.writer.inner in
+    let same = held g.W.Write.contents _ _ c.read_frame.ensures.writer in
     let s = c.args.session.now in
     let t = c.step.new.self in
     let body = c.in-Some.body in
-    let first : IsFirstFrame old new (Some body) = subst (IsFirstFrame old new) c.in-Some.is c.in_ok-frame.ensures in
+    let first : IsFirstFrame old new (Some body) =
+    subst (IsFirstFrame old new) c.in-Some.is c.in_ok-frame.ensures.frame in
     let is = step_done s t _ body.items _ Nothing c.as_slice.ensures.value c.in_ok-outcome.ensures c.in-Nothing.is in
-    λ v status h. served_on s t old new (g.W.Write.contents c.args.writer.now) v body status first is h
+    record {
+      served = λ v status h. served_on s t old new w v body status first is
+          (subst (λ (u : Option (List ℕ)). IsServed t new u v status) same h);
+      begun = λ v h. begun_on s t old new w v body first is
+          (subst (λ (u : Option (List ℕ)). IsBegun t new u v) same h);
+    }
 
 pub returns-in-Ended-clause-served : goal.returns-in-Ended-clause-served
 returns-in-Ended-clause-served g c =
-    let old = g.R.Read.remaining c.args.reader.now in
-    let new = g.R.Read.remaining c.read_frame.new.reader in
+    let old = g.R.Read.remaining c.args.client.now.reader.inner in
+    let new = g.R.Read.remaining c.read_frame.new.client.reader.inner in
+    let w = g.W.Write.contents c.args.client.now.writer.inner in
     let s = c.args.session.now in
     let t = c.step.new.self in
     let body = c.in-Some.body in
-    let first : IsFirstFrame old new (Some body) = subst (IsFirstFrame old new) c.in-Some.is c.in_ok-frame.ensures in
-    let is = step_done s t _ body.items _ (Ended c.in-Ended.status) c.as_slice.ensures.value c.in_ok-outcome.ensures
+    let status = c.in-Ended.status in
+    let first : IsFirstFrame old new (Some body) =
+    subst (IsFirstFrame old new) c.in-Some.is c.in_ok-frame.ensures.frame in
+    let is = step_done s t _ body.items _ (Ended status) c.as_slice.ensures.value c.in_ok-outcome.ensures
     c.in-Ended.is in
-    served_ended s t old new (g.W.Write.contents c.args.writer.now) body c.in-Ended.status first is
-
-pub write_message-requires : goal.write_message-requires
-write_message-requires g c =
-    let s = c.args.session.now in
-    let t = c.step.new.self in
-    written_floatless s t c.as_slice.result.now c.in_ok-outcome.outcome c.in-Written.message c.in_ok-outcome.ensures
-    c.in-Written.is
-
-pub returns-clause-served : goal.returns-clause-served
-returns-clause-served g c =
-    let old = g.R.Read.remaining c.args.reader.now in
-    let new = g.R.Read.remaining c.read_frame.new.reader in
-    let s = c.args.session.now in
-    let t = c.step.new.self in
-    let body = c.in-Some.body in
-    let first : IsFirstFrame old new (Some body) = subst (IsFirstFrame old new) c.in-Some.is c.in_ok-frame.ensures in
-    let is = step_done s t _ body.items _ (Written c.in-Written.message) c.as_slice.ensures.value
-    c.in_ok-outcome.ensures
-    c.in-Written.is in
-    λ v status h. served_more s t old new (g.W.Write.contents c.args.writer.now)
-    (g.W.Write.contents c.write_message.new.writer) v body c.in-Written.message status first is
-    c.in_ok-write_message-in-Written.ensures h
+    subst (λ (v : Option (List ℕ)). IsServed s old w v status)
+    (sym (held g.W.Write.contents _ _ c.read_frame.ensures.writer))
+    (served_ended s t old new w body status first is)
 
 pub returns-in-Ended-clause-status : goal.returns-in-Ended-clause-status
 returns-in-Ended-clause-status g c =
     ended_below c.args.session.now c.step.new.self c.as_slice.result.now c.in_ok-outcome.outcome c.in-Ended.status
     c.in_ok-outcome.ensures c.in-Ended.is
+
+pub write_message-requires-clause-whole : goal.write_message-requires-clause-whole
+write_message-requires-clause-whole g c =
+    let s = c.args.session.now in
+    let t = c.step.new.self in
+    written_floatless s t c.as_slice.result.now c.in_ok-outcome.outcome c.in-Written.message c.in_ok-outcome.ensures
+    c.in-Written.is
+
+pub write_message-requires-clause-sound : goal.write_message-requires-clause-sound
+write_message-requires-clause-sound g c = still_sound _ _ c.read_frame.ensures.writer c.requires.1
+
+pub returns-in_err-write_message-in-Written-clause-begun : goal.returns-in_err-write_message-in-Written-clause-begun
+returns-in_err-write_message-in-Written-clause-begun g c =
+    let old = g.R.Read.remaining c.args.client.now.reader.inner in
+    let new = g.R.Read.remaining c.read_frame.new.client.reader.inner in
+    let w = g.W.Write.contents c.args.client.now.writer.inner in
+    let u = g.W.Write.contents c.write_message.new.client.writer.inner in
+    let s = c.args.session.now in
+    let t = c.step.new.self in
+    let body = c.in-Some.body in
+    let message = c.in-Written.message in
+    let part = subst (λ (x : Option (List ℕ)). TakesBeginning x u (framed (compact_text (view message))))
+    (held g.W.Write.contents _ _ c.read_frame.ensures.writer) c.in_err-write_message-in-Written.ensures.err in
+    let first : IsFirstFrame old new (Some body) =
+    subst (IsFirstFrame old new) c.in-Some.is c.in_ok-frame.ensures.frame in
+    let is = step_done s t _ body.items _ (Written message) c.as_slice.ensures.value c.in_ok-outcome.ensures
+    c.in-Written.is in
+    on_err _ _ (begun_part s t old new w u body message first is part)
+
+pub returns-clause-served : goal.returns-clause-served
+returns-clause-served g c =
+    let old = g.R.Read.remaining c.args.client.now.reader.inner in
+    let new = g.R.Read.remaining c.write_message.new.client.reader.inner in
+    let w = g.W.Write.contents c.args.client.now.writer.inner in
+    let u = g.W.Write.contents c.write_message.new.client.writer.inner in
+    let s = c.args.session.now in
+    let t = c.step.new.self in
+    let body = c.in-Some.body in
+    let message = c.in-Written.message in
+    let put = subst (λ (x : Option (List ℕ)). Appends x u (framed (compact_text (view message))))
+    (held g.W.Write.contents _ _ c.read_frame.ensures.writer) c.in_ok-write_message-in-Written.ensures.ok in
+    let first : IsFirstFrame old new (Some body) =
+    subst (λ (x : Option (List ℕ)). IsFirstFrame old x (Some body))
+    (sym (left g.R.Read.remaining _ _ c.write_message.ensures.reader))
+    (subst (IsFirstFrame old _) c.in-Some.is c.in_ok-frame.ensures.frame) in
+    let is = step_done s t _ body.items _ (Written message) c.as_slice.ensures.value c.in_ok-outcome.ensures
+    c.in-Written.is in
+    record {
+      served = λ v status h. served_more s t old new w u v body message status first is put h;
+      begun = λ v h. begun_more s t old new w u v body message first is put h;
+    }
