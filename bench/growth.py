@@ -7,7 +7,8 @@ Of each series whose name has a NAME, or of all, five sizes are counted, each tw
 in instructions as by count.py. A row has the largest size, its count in millions, the bytes of its
 text, and of each doubling how often as much it takes and how often as long the text is. Behind a
 doubling that takes more than 2.2 times as much, and 1.15 times what the text grows by, stands `!`.
-FILE keeps all counts as JSON: what stands there isn't counted again.
+A series ends before a size that is refused: a description nests no deeper than 127. FILE keeps all
+counts as JSON: what stands there isn't counted again.
 """
 import argparse
 import os
@@ -280,9 +281,14 @@ def counted(words, report, asked):
 
 
 def rows_of(series, asked):
-    """Size, instructions and bytes of text of each size of a series."""
-    sizes = [series.first << i for i in range(SIZES)]
-    return [(it, *counted(series.words, series.make(it), asked)) for it in sizes]
+    """Size, instructions and bytes of text of each size of a series, up to one that is refused."""
+    rows = []
+    for size in (series.first << i for i in range(SIZES)):
+        try:
+            rows.append((size, *counted(series.words, series.make(size), asked)))
+        except count.Failed:
+            break
+    return rows
 
 
 def widths(asked):
@@ -309,9 +315,10 @@ def line_of(name, rows):
 def words():
     """What is asked for."""
     reader = argparse.ArgumentParser(description=__doc__.split("\n", maxsplit=1)[0])
-    reader.add_argument("--seconds", type=int, default=300, help="most seconds of the processor")
-    reader.add_argument("--keep", default="", help="a file for the counts")
     reader.add_argument("names", nargs="*", metavar="NAME", help="what the names have")
+    options = {"seconds": (300, "most seconds of the processor"), "keep": ("", "a file for the counts")}
+    for name, (usual, about) in options.items():
+        reader.add_argument(f"--{name}", type=type(usual), default=usual, help=about)
     return reader.parse_args()
 
 
