@@ -82,7 +82,7 @@ fn report_named(word: &str) -> Option<ReportAsked>
         "--json" => Some(ReportAsked::Json),
         "--debug" => Some(ReportAsked::Debug),
         "--brief" => Some(ReportAsked::Brief),
-        "--github" => Some(ReportAsked::Github),
+        "--github" | "--brief=github" => Some(ReportAsked::Github),
         "--narrated" => Some(ReportAsked::Narrated),
         "--graphical" => Some(ReportAsked::Graphical),
         _ => None,

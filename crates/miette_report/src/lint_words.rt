@@ -34,7 +34,7 @@ fn form_named(word: &str) -> Option<LintForm>
 {
     match word {
         "--brief" => Some(LintForm::Rows),
-        "--github" => Some(LintForm::Commands),
+        "--github" | "--brief=github" => Some(LintForm::Commands),
         _ => None,
     }
 }

@@ -1,5 +1,5 @@
 -- What the words of `job` and `bench` ask for: a table from words to the handler, its options and the terminal.
-use Rattle.std.specs.Prelude.{◌≡◌, ◌==◌, ℕ, Bool, true, false, ◌&&◌, List, [], ◌∷◌, length, Option, Some, None}
+use Rattle.std.specs.Prelude.{◌≡◌, ◌==◌, ℕ, Bool, true, false, ◌&&◌, ◌||◌, List, [], ◌∷◌, length, Option, Some, None}
 use Rattle.std.specs.Prelude.{if◌then◌else◌, nat_lt, ◌^◌, codes, bytes_eq, string_bytes}
 use Rattle.std.specs.Option.{option_map, option_map_or, option_and_then}
 use Rattle.std.specs.Str.{all_ascii_digits}
@@ -99,7 +99,7 @@ report_named word =
     if bytes_eq word (codes "--json") then Some report.Json
     else (if bytes_eq word (codes "--debug") then Some report.Debug
     else (if bytes_eq word (codes "--brief") then Some report.Brief
-    else (if bytes_eq word (codes "--github") then Some report.Github
+    else (if bytes_eq word (codes "--github") || bytes_eq word (codes "--brief=github") then Some report.Github
     else (if bytes_eq word (codes "--narrated") then Some report.Narrated
     else (if bytes_eq word (codes "--graphical") then Some report.Graphical else None)))))
 

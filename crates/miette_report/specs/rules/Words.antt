@@ -1,6 +1,6 @@
 -- The words that programs are called with.
 use Rattle.std.specs.Prelude.{◌≡◌, ℕ, List, [], ◌∷◌, ◌++◌, Option, Some, None}
-use Rattle.std.specs.Prelude.{bytes_eq, codes, if◌then◌else◌}
+use Rattle.std.specs.Prelude.{bytes_eq, codes, if◌then◌else◌, ◌||◌}
 use Rattle.miette_report.specs.declared.lint_words.LintForm.{LintForm}
 use Rattle.miette_report.specs.declared.lint_words.LintForm.TheVariants.{Picture, Rows, Commands}
 use Rattle.miette_devices.specs.rules.Words.{IsReadAs}
@@ -29,7 +29,7 @@ IsNoDrawCall words = (request : DrawRequest) → ¬ (AreDrawWords words request)
 abbrev pub form_named : List ℕ → Option LintForm
 form_named word =
     if bytes_eq word (codes "--brief") then Some Rows
-    else (if bytes_eq word (codes "--github") then Some Commands else None)
+    else (if bytes_eq word (codes "--github") || bytes_eq word (codes "--brief=github") then Some Commands else None)
 
 -- the words that ask for a form: none for a picture
 abbrev pub AskFor : LintForm → List (List ℕ) → Type 0
