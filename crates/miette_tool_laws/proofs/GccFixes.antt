@@ -1,11 +1,11 @@
 -- The edits that GCC proposes are within files that are found.
-use Rattle.std.proofs.Common.{ℕ, List, [], ◌∷◌, Option, Some, None, option_map, IfSome}
-use Rattle.std.specs.List.{AllByRecursion, filter_map}
+use Rattle.std.proofs.Common.{List, [], ◌∷◌, Option, Some, None, option_map, IfSome}
+use Rattle.std.specs.List.{AllByRecursion}
 use Rattle.serde_json.specs.Data.{Data}
 use Rattle.miette_gcc.specs.rules.Gcc.{Ground}
 use Rattle.miette_gcc.specs.rules.GccReport.{all_found, edit_at, fixit_place, fixits_of, new_text, offer_by, offer_of}
 use Rattle.miette_gcc.specs.rules.GccReport.{offer_with, offers_of, proposers}
-use Rattle.miette_readers.specs.rules.Proposing.{FileEdit, Offer}
+use Rattle.miette_readers.specs.rules.Proposing.{FileEdit}
 use Rattle.miette_reader_laws.specs.laws.Applying.{AreFound, IsFound}
 use Rattle.miette_reader_laws.proofs.Holding.{all_made}
 use Rattle.miette_reader_laws.proofs.Offers.{AreSound, all_sound, edit_is}

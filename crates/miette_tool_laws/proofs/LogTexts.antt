@@ -16,7 +16,7 @@ use Rattle.miette_readers.proofs.ReportsRead.{either}
 use Rattle.miette_sarif_reader.specs.rules.Logs.{result_tree}
 use Rattle.miette_sarif_reader.specs.rules.Proposals.{Draft, all_found, description, draft_by, draft_of, drafts_of}
 use Rattle.miette_sarif_reader.specs.rules.Proposals.{edit_at, edits_of, help_of, offer_by, offer_of}
-use Rattle.miette_sarif_reader.specs.rules.Proposals.{offers_of, with_help}
+use Rattle.miette_sarif_reader.specs.rules.Proposals.{offer_with, offers_of, with_help}
 use Rattle.miette_sarif_reader.specs.rules.Results.{Ground, location_told, message_in, own_told, region_of, said_of}
 use Rattle.miette_sarif_reader.specs.rules.Results.{told_at, told_of, uri_of}
 use Rattle.miette_sarif_reader.specs.rules.Uris.{name_of}
