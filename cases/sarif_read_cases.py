@@ -1,5 +1,5 @@
-"""sarif_read_cases.py: SARIF logs that show.py runs the program `show` on: one made by hand (`sarif_read/places.sarif`,
-over the files beside it), the same changed by chance, what `job --sarif` and `lint --sarif` write (`job-sarif.jsonl`,
+"""sarif_read_cases.py: SARIF logs that show.py runs the program `show` on: those made by hand (`sarif_read/*.sarif`,
+over the files beside them), the same changed by chance, what `job --sarif` and `lint --sarif` write (`job-sarif.jsonl`,
 `lint-sarif.jsonl`), and one worded as clang's."""
 import contextlib
 import json
@@ -8,7 +8,6 @@ import random
 import re
 from functools import partial
 
-from gcc_cases import formatted_runs
 from json_changes import changed
 from programs import HERE
 from sarif_model import uri_of_name
@@ -16,15 +15,17 @@ from sarif_reader_model import name_of
 
 FOLDER = os.path.join(HERE, "sarif_read")
 # the members of a run and of a result that are read
-READ = ("tool", "columnKind", "artifacts", "results")
+READ = ("tool", "columnKind", "artifacts", "originalUriBaseIds", "results")
+# the logs made by hand
+LOGS = ("places", "messages", "flows")
 URIS = ["wide.c", "line%20ends.txt", "file:wide.c", "file:///gone.c", "gone%2", "%e6%bc%a2", "short.c", "", "x://y", 7]
 BAD = [b'{"runs":{}}\n', b'{"version":"2.1.0"}\n', b'{"runs":[]\n', b'{"runs":[],}\n', b'{"runs":[]} x\n']
 OTHER = [b'{"runs":[]}\n', b'{"runs":[5,{"results":{}}]}\n', b' {"runs":[]}\n', b'{ "runs": []}\n', b"2 warnings.\n"]
 
 
-def log():
-    """The log made by hand."""
-    with open(os.path.join(FOLDER, "places.sarif"), encoding="utf-8") as file:
+def log(name):
+    """A log made by hand."""
+    with open(os.path.join(FOLDER, f"{name}.sarif"), encoding="utf-8") as file:
         return json.load(file)
 
 
@@ -123,17 +124,20 @@ def other_value(dice, key, old):
     whole = isinstance(old, int) and not isinstance(old, bool)
     near = [max(0, old - 2), old + 1, old + 30] if whole else []
     given = {
-        **dict.fromkeys(("startLine", "endLine", "startColumn", "endColumn", "index", "ruleIndex"),
+        **dict.fromkeys(("startLine", "endLine", "startColumn", "endColumn", "index", "ruleIndex", "charOffset",
+                         "charLength", "byteOffset", "byteLength"),
                         [0, 1, 2, 3, 5, 10**6, 2**63, 2**64 - 1, "7", -1, 1.5, None, *near]),
         "uri": URIS,
         "helpUri": ["", "https://x/y", 5],
         **dict.fromkeys(("id", "ruleId"), ["W1", "W2", "none", "", 5]),
-        "text": ["", "here", "two\nrows", None, 5],
+        "text": ["", "here", "two\nrows", "{{a}}}} {0} }{{{", "}}", "{1}[{0}](1){{", "\\\\[\\[a\\](b)[c](d e)](f)", None, 5],
+        "uriBaseId": ["ROOT", "SOURCES", "LOOP", "none", "", 5],
+        "arguments": [[], ["x"], ["{0}", "[a](b)"], [5, "y"], "z", None],
         "level": ["error", "warning", "note", "none", "loud", 3],
         "kind": ["fail", "pass", "open", "", 3],
         "columnKind": ["utf16CodeUnits", "unicodeCodePoints", "", 3],
         **dict.fromkeys(("locations", "relatedLocations", "rules", "artifacts", "results", "fixes", "artifactChanges",
-                         "replacements"), [[], None, "x", [5], [{}], {}]),
+                         "replacements", "codeFlows", "threadFlows"), [[], None, "x", [5], [{}], {}]),
     }
     return dice.choice(given.get(key, [None, 7, "s", [], {}]))
 
@@ -145,7 +149,7 @@ def is_read(path):
 
 def hostile(dice, count):
     """Logs of runs with one result, that are changed by chance."""
-    found = [{**run, "results": [it]} for run in log()["runs"] for it in run["results"]]
+    found = [{**run, "results": [it]} for name in LOGS for run in log(name)["runs"] for it in run["results"]]
     one = partial(changed, dice, is_read=is_read, other_value=other_value)
     logs = ([one(dice.choice(found)) for _ in range(dice.choice([1, 1, 2, 4]))] for _ in range(count))
     return b"".join(row_of({"runs": runs}) for runs in logs)
@@ -153,14 +157,14 @@ def hostile(dice, count):
 
 def inputs(folder):
     """What is read, with the folder of its files; in `folder` some are gone or shorter, and ours are written there."""
-    value = log()
-    yield "a log as made by hand", row_of(value), FOLDER
-    yield "the log cut at every 50th byte", cut(value), FOLDER
-    yield "the log over files that are gone or shorter", row_of(value), folder
+    for name in LOGS:
+        yield f"{name}.sarif", row_of(log(name)), FOLDER
+        yield f"{name}.sarif cut at every 50th byte", cut(log(name)), FOLDER
+        yield f"{name}.sarif over files that are gone or shorter", row_of(log(name)), folder
+    value = log("places")
     rows = spread(value) + row_of(value) + spread(value, b"\r\n")
     yield "the log over many rows", rows + b"[ 50%] Building\n{ a\n{\n" + rows, FOLDER
     yield "the log over many rows, cut at every 50th byte", spread_and_cut(value), FOLDER
-    yield from ((what, rows, FOLDER) for what, rows in formatted_runs("the log", value))
     yield "a log worded as clang's", of_clang(), FOLDER
     yield "rows of logs that can't be read", b"".join(OTHER + BAD), FOLDER
     yield "logs that are changed", hostile(random.Random(13), 600), FOLDER

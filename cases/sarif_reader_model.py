@@ -20,6 +20,17 @@ def first(*found):
     return next((it for it in found if it is not None), None)
 
 
+def full_uri(bases, location, most=16):
+    """The URI of a location, behind those of its bases, of which so many at most may stand on each other."""
+    uri = member(location, "uri", str) or ""
+    if re.match(r"/|[^/]*:", uri):
+        return uri
+    named = member(location, "uriBaseId", str)
+    base = None if named is None else member(bases, named, dict)
+    front = full_uri(bases, base, most - 1) if base is not None and most else ""
+    return re.sub(r"(?<=[^/])\Z", "/", front) + uri
+
+
 # ---- regions
 
 
@@ -44,9 +55,29 @@ def offset(data, line, columns, units):
     return columns_behind(data, starts[line - 1], [*(it.start() for it in ends), len(data)][line - 1], columns, units)
 
 
+def chars_behind(data, start, count, units):
+    """The byte behind so many code units of characters, inside one its start; none where there are too few."""
+    total = sum(units(it) for it in data[start:].decode(errors="surrogateescape"))
+    return None if count > total else columns_behind(data, start, len(data), count, units)
+
+
+def span_by_offsets(data, region, units):
+    """Where a region without lines begins and ends."""
+    at, count = member(region, "charOffset", int), member(region, "charLength", int) or 0
+    if at is not None:
+        begin = chars_behind(data, 0, at, units)
+        return begin, None if begin is None else chars_behind(data, begin, count, units)
+    begin, count = member(region, "byteOffset", int), member(region, "byteLength", int) or 0
+    return (None, None) if begin is None or begin + count > len(data) else (begin, begin + count)
+
+
 def span(name, region, units, files):
     """A region in rustc's form."""
     line, column = member(region, "startLine", int) or 0, first(member(region, "startColumn", int), 1)
+    if member(region, "startLine", int) is None:
+        begin, end = span_by_offsets(files[name], region, units) if name in files else (None, None)
+        found = {"byte_start": begin, "byte_end": end} if None not in (begin, end) else {}
+        return {"file_name": name, "line_start": line, "column_start": column, **found}
     it = {"file_name": name, "line_start": line, "column_start": column}
     if name in files:
         data, last = files[name], member(region, "endColumn", int)
@@ -64,6 +95,7 @@ class Run:
     def __init__(self, run, files):
         driver = member(member(run, "tool", dict) or {}, "driver", dict) or {}
         self.files, self.rules, self.artifacts = files, objects(driver, "rules"), objects(run, "artifacts")
+        self.bases = member(run, "originalUriBaseIds", dict) or {}
         wide = text(run, "columnKind") == "utf16CodeUnits"
         self.units = (lambda it: 1 + (ord(it) > 0xFFFF)) if wide else (lambda it: 1)
 
@@ -84,33 +116,51 @@ class Run:
         default = member(self.rule(result) or {}, "defaultConfiguration", dict) or {}
         return first(member(default, "level", str), "warning")
 
-    def uri(self, physical):
+    def strings(self, result):
+        """The message strings of a result's rule."""
+        return member(self.rule(result) or {}, "messageStrings", dict) or {}
+
+    def file(self, physical):
+        """The name of the file of an `artifactLocation`."""
         artifact = member(physical, "artifactLocation", dict)
         if artifact is None:
             return None
         index = member(artifact, "index", int)
         listed = self.artifacts[index] if index is not None and index < len(self.artifacts) else {}
-        return first(member(artifact, "uri", str), member(member(listed, "location", dict) or {}, "uri", str))
+        for it in (artifact, member(listed, "location", dict) or {}):
+            if member(it, "uri", str) is not None:
+                return name_of(full_uri(self.bases, it))
+        return None
 
-    def told(self, location, primary, own):
+    def told(self, location, rows, primary, own):
         physical = member(location, "physicalLocation", dict) or {}
-        said, uri, region = message(location) or "", self.uri(physical), member(physical, "region", dict) or {}
-        rows = [said] if said else []
-        if uri is None:
+        name, region = self.file(physical), member(physical, "region", dict) or {}
+        if name is None:
             return Told(rows, None, own=own)
-        if member(region, "startLine", int) is None:
-            return Told([": ".join([name_of(uri), *rows])], None, own=own)
-        return Told(rows, span(name_of(uri), region, self.units, self.files), primary, own)
+        found = span(name, region, self.units, self.files)
+        if member(region, "startLine", int) is None and "byte_start" not in found:
+            return Told([": ".join([name, *rows])], None, own=own)
+        return Told(rows, found, primary, own)
+
+    def steps(self, thread, strings):
+        """The steps of a thread, with their numbers."""
+        for number, it in enumerate(objects(thread, "locations"), 1):
+            location = member(it, "location", dict)
+            if location is not None:
+                said = message(location, strings)
+                yield self.told(location, [f"({number}) {said}" if said else f"({number})"], False, False)
 
     def all_told(self, result):
-        own = [self.told(it, number == 0, True) for number, it in enumerate(objects(result, "locations"))]
-        return own + [self.told(it, True, False) for it in objects(result, "relatedLocations")]
+        strings = self.strings(result)
+        own = [self.told(it, rows_of(it, strings), at == 0, True) for at, it in enumerate(objects(result, "locations"))]
+        related = [self.told(it, rows_of(it, strings), True, False) for it in objects(result, "relatedLocations")]
+        threads = [it for flow in objects(result, "codeFlows") for it in objects(flow, "threadFlows")]
+        return own + related + [step for it in threads for step in self.steps(it, strings)]
 
     def edits(self, fix):
         """The edits of a proposal, as spans and texts."""
         for change in objects(fix, "artifactChanges"):
-            uri = self.uri({"artifactLocation": member(change, "artifactLocation", dict)})
-            name = "" if uri is None else name_of(uri)
+            name = self.file({"artifactLocation": member(change, "artifactLocation", dict)}) or ""
             for it in objects(change, "replacements"):
                 region, new = member(it, "deletedRegion", dict), member(it, "insertedContent", dict) or {}
                 yield span(name, region or {}, self.units, self.files), text(new, "text")
@@ -119,7 +169,7 @@ class Run:
         """What is said of each proposal, and its edits."""
         for fix in objects(result, "fixes"):
             edits = list(self.edits(fix))
-            described = message({"message": member(fix, "description", dict)})
+            described = message({"message": member(fix, "description", dict)}, self.strings(result))
             yield described or words([new for _, new in edits]), edits
 
 
@@ -127,9 +177,39 @@ def rule_id(result):
     return first(member(result, "ruleId", str), member(member(result, "rule", dict) or {}, "id", str))
 
 
-def message(value):
+# what stands for something else in a text: a pair with a backslash, a link, two braces, the number of an argument
+DESTINATION = r"\([!-'*-Z\\^-~(]+\)"
+LINK = r"\[(?P<text>(?:\\[\s\S]|[^\[\]\\])*)\]" + DESTINATION
+PIECE = re.compile(rf"(?P<pair>\\[\[\]\\])|{LINK}|(?P<brace>[{{}}])(?P=brace)|\{{(?P<number>[0-9]+)\}}")
+
+
+def shown(text, arguments, in_link=False):
+    """What is shown of a text."""
+    def piece(found):
+        if found["pair"]:
+            return found["pair"][1:] if in_link else found["pair"]
+        if found["text"] is not None:
+            return shown(found["text"], arguments, True)
+        if found["brace"]:
+            return found["brace"]
+        number = int(found["number"])
+        given = arguments[number] if number < len(arguments) else None
+        return given if isinstance(given, str) else found[0]
+    return PIECE.sub(piece, text)
+
+
+def message(value, strings):
     said = member(value, "message", dict) or {}
-    return first(member(said, "text", str), member(said, "id", str))
+    named = member(said, "id", str)
+    string = member(strings, named, dict) if named is not None else None
+    text = first(member(said, "text", str), member(string or {}, "text", str))
+    return named if text is None else shown(text, member(said, "arguments", list) or [])
+
+
+def rows_of(value, strings):
+    """What the message of a location says, where it says something."""
+    said = message(value, strings)
+    return [said] if said else []
 
 
 def words(texts):
@@ -153,7 +233,7 @@ def report(run, result, files):
             settled.add(told)
     rule = run.rule(result) or {}
     code, url = first(rule_id(result), member(rule, "id", str)), member(rule, "helpUri", str)
-    made = {"message": message(result) or "", "severity": severity(run.level(result))}
+    made = {"message": message(result, run.strings(result)) or "", "severity": severity(run.level(result))}
     made.update({key: it for key, it in (("code", code), ("url", url)) if it is not None})
     if settled.lists:
         made.update(source=source(settled.lists[0], files), labels=labels(settled, 0))

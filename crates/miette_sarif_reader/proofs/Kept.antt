@@ -1,6 +1,6 @@
 -- One item more of a list of which those are kept that give something.
 use Rattle.std.proofs.Common.{◌≡◌, ℕ, zero, suc, ◌+◌, ◌<◌, List, [], ◌∷◌, ◌++◌, Bool, true, false, length, get_or, take}
-use Rattle.std.proofs.Common.{Option, Some, None, arith, refl, sym, ap, ap₂, ◌∙◌}
+use Rattle.std.proofs.Common.{Option, Some, arith, refl, sym, ap, ap₂, ◌∙◌}
 use Rattle.std.specs.Prelude.{◌&&◌}
 use Rattle.std.specs.List.{cons_option, filter_map, list_all}
 use Rattle.std.proofs.lemmas.List.Elements.{filter_map-append}

@@ -1,5 +1,11 @@
+pub mod BaseSteps
 pub mod Finding
+pub mod FlowSteps
 pub mod Kept
 pub mod LogsHold
 pub mod NameSteps
+pub mod PieceSteps
+pub mod Returned
 pub mod Steps
+pub mod UnitSteps
+pub mod WalkSteps

@@ -1,5 +1,5 @@
 -- The reports of a log always read, over files that do, their labels are accepted, and what is told is kept.
-use Rattle.std.proofs.Common.{◌≡◌, ℕ, List, [], ◌∷◌, ◌++◌, Option, Some, None, All, IfSome, true, map, codes}
+use Rattle.std.proofs.Common.{◌≡◌, ℕ, List, [], ◌∷◌, Option, Some, None, All, IfSome, true, map, codes}
 use Rattle.std.proofs.Common.{option_map}
 use Rattle.std.specs.List.{Contains, filter_map, flat_map, list_all}
 use Rattle.std.proofs.lemmas.List.Elements.{All-nil, All-cons, All-append}
@@ -19,7 +19,7 @@ use Rattle.miette_readers.proofs.ReportsRead.{more_offers, place_reads, report_r
 use Rattle.miette_sarif_reader.specs.rules.Logs.{ground_of, has_runs, result_tree, run_trees, sarif_trees}
 use Rattle.miette_sarif_reader.specs.rules.Proposals.{Draft, all_found, drafts_of, edit_at, help_of, is_found, offer_by}
 use Rattle.miette_sarif_reader.specs.rules.Proposals.{offer_of, offer_with, offers_of}
-use Rattle.miette_sarif_reader.specs.rules.Results.{Ground, said_of, told_of}
+use Rattle.miette_sarif_reader.specs.rules.Results.{Ground, ground_for, said_of, told_of}
 
 -- ---- proposals
 
@@ -73,7 +73,7 @@ pub sarif_reads : (files : List ℕ → Option Source) → FilesRead files → (
     → IfSome (sarif_trees files d) (All AlwaysReads)
 sarif_reads files h =
     log_holds AlwaysReads files
-    (λ run r. (let g = ground_of files run in
+    (λ run r. (let g = ground_for (ground_of files run) r in
     let drafts = drafts_of g r in
     report_reads files h (said_of g (help_of files drafts) r) (told_of g r) (offers_of files drafts)
     (offers_read files h drafts)))
@@ -82,12 +82,13 @@ pub sarif_accepts : (files : List ℕ → Option Source) → FilesRead files →
     → IfSome (sarif_trees files d) (All (λ tree. report_accepted tree ≡ true))
 sarif_accepts files h =
     log_holds (λ tree. report_accepted tree ≡ true) files
-    (λ run r. (let g = ground_of files run in
+    (λ run r. (let g = ground_for (ground_of files run) r in
     let drafts = drafts_of g r in
     report_accepts files h (said_of g (help_of files drafts) r) (told_of g r) (offers_of files drafts)))
 
-pub sarif_keeps : (g : Ground) (r : Data) (t : Told) (row : List ℕ) → Contains (told_of g r) t
+pub sarif_keeps : (g : Ground) (r : Data) (t : Told) (row : List ℕ) → Contains (told_of (ground_for g r) r) t
     → Contains t.rows row → IsKept (result_tree g r) row
-sarif_keeps g r t row =
+sarif_keeps ground r t row =
+    let g = ground_for ground r in
     let drafts = drafts_of g r in
     report_keeps g.files (said_of g (help_of g.files drafts) r) (told_of g r) (offers_of g.files drafts) t row

@@ -1,5 +1,7 @@
 -- What users rely on, in the words of docs/RULES.md.
+pub mod Messages
 pub mod Uris
+pub mod Bases
 pub mod Regions
 pub mod Results
 pub mod Proposals

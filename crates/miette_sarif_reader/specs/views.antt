@@ -1,2 +1,3 @@
 -- What values mean.
 pub mod Grounds
+pub mod Pieces

@@ -2,7 +2,6 @@
 
 ghost use Rattle.std.specs.Prelude.{◌≡◌, ◌++◌, IfOk, OnOk, map, option_map, string_bytes, unwrap_or};
 ghost use Rattle.std.specs.List.{flat_map};
-ghost use Rattle.std.specs.Option.{option_copied};
 ghost use Rattle.serde_json.specs.View.{view};
 ghost use Rattle.miette_readers.specs.views.Values.{seen};
 ghost use Rattle.miette_sarif_reader.specs.rules.Proposals.{change_edits, change_name, description, draft_of};
@@ -10,10 +9,10 @@ ghost use Rattle.miette_sarif_reader.specs.rules.Proposals.{drafts_of, edits_of,
 ghost use Rattle.miette_sarif_reader.specs.rules.Proposals.{replaced_in, words_by};
 ghost use Rattle.miette_sarif_reader.specs.views.Grounds.{ground_in};
 
+use crate::bases::file_name;
 use crate::ground::Ground;
 use crate::locations::Located;
-use crate::saying::message_text;
-use crate::uris::name_of;
+use crate::saying::{message_text, said};
 use miette_readers::files::Files;
 use miette_readers::lists::push_item;
 use miette_readers::members::{object_at, objects_at, text_at};
@@ -79,25 +78,21 @@ fn words_by(alloc: Global, edits: &[Replaced<'_>]) -> Result<String, AllocError>
 }
 
 /// What a proposal says, where it says something.
-fn description(proposal: &Value) -> Option<&str>
-    ensures { option_copied result ≡ description (view proposal.now) }
+fn description(
+    alloc: Global,
+    strings: Option<&Value>,
+    proposal: &Value,
+) -> Result<Option<String>, AllocError>
+    ensures { IfOk result (λ o. option_map string_bytes o
+        ≡ description (option_map (λ v. view v.now) strings.entry) (view proposal.now)) }
 {
-    let text = message_text(object_at(proposal, "description")?)?;
-    if text.is_empty() { None } else { Some(text) }
-}
-
-/// The words of a proposal of these edits.
-fn words_of(alloc: Global, proposal: &Value, edits: &[Replaced<'_>]) -> Result<String, AllocError>
-    ensures { IfOk result (λ words. string_bytes words
-        ≡ unwrap_or (description (view proposal.now)) (words_by edits.now)) }
-{
-    match description(proposal) {
-        Some(text) => String::from_str(alloc, text),
-        None => words_by(alloc, edits),
+    match object_at(proposal, "description") {
+        Some(message) => Ok(said(message_text(alloc, strings, message)?)),
+        None => Ok(None),
     }
 }
 
-impl<'f, 'v, F: Files> Ground<'f, 'v, F> {
+impl<'f, 'l, 'v, F: Files> Ground<'f, 'l, 'v, F> {
     /// A region in the file of this name; where none is told, a place that is never found.
     fn place_by(&self, name: String, region: Option<&Value>) -> Located
         ensures { result ≡ place_by (ground_in F.found self.now) (string_bytes name)
@@ -136,8 +131,8 @@ impl<'f, 'v, F: Files> Ground<'f, 'v, F> {
         ensures { IfOk result (λ name. string_bytes name
             ≡ change_name (ground_in F.found self.now) (view change.now)) }
     {
-        match self.uri_at(change) {
-            Some(uri) => name_of(alloc, uri),
+        match self.file_at(change) {
+            Some(file) => file_name(alloc, self.bases, file),
             None => Ok(String::new(alloc)),
         }
     }
@@ -174,12 +169,28 @@ impl<'f, 'v, F: Files> Ground<'f, 'v, F> {
         Ok(list)
     }
 
+    /// The words of a proposal of these edits.
+    fn words_of(
+        &self,
+        alloc: Global,
+        proposal: &Value,
+        edits: &[Replaced<'_>],
+    ) -> Result<String, AllocError>
+        ensures { IfOk result (λ words. string_bytes words
+            ≡ unwrap_or (description (ground_in F.found self.now).strings (view proposal.now)) (words_by edits.now)) }
+    {
+        match description(alloc, self.strings, proposal)? {
+            Some(text) => Ok(text),
+            None => words_by(alloc, edits),
+        }
+    }
+
     /// A proposal.
     fn draft_of(&self, alloc: Global, proposal: &'v Value) -> Result<Draft<'v>, AllocError>
         ensures { IfOk result (λ it. it ≡ draft_of (ground_in F.found self.now) (view proposal.now)) }
     {
         let edits = self.edits_of(alloc, proposal)?;
-        let words = words_of(alloc, proposal, edits.as_slice())?;
+        let words = self.words_of(alloc, proposal, edits.as_slice())?;
         Ok(Draft { words, edits })
     }
 

@@ -1,14 +1,17 @@
 //! By what a run's results are read, and their rules.
 
-ghost use Rattle.std.specs.Prelude.{◌≡◌, IfOk, find, option_map, slice_get};
+ghost use Rattle.std.specs.Prelude.{◌≡◌, IfOk, codes, find, option_map, slice_get};
 ghost use Rattle.std.specs.Option.{option_copied};
 ghost use Rattle.serde_json.specs.View.{view};
+ghost use Rattle.miette_readers.specs.rules.Members.{objects_at};
 ghost use Rattle.miette_readers.specs.views.Values.{seen};
 ghost use Rattle.miette_sarif_reader.specs.rules.Logs.{driver_of, ground_of, rules_by};
-ghost use Rattle.miette_sarif_reader.specs.rules.Results.{has_id, index_told, is_extended, item_at, rule_id};
-ghost use Rattle.miette_sarif_reader.specs.rules.Results.{rule_index, rule_named, rule_of, rule_told};
+ghost use Rattle.miette_sarif_reader.specs.rules.Results.{ground_for, has_id, index_told, is_extended, item_at};
+ghost use Rattle.miette_sarif_reader.specs.rules.Results.{rule_id, rule_index, rule_named, rule_of};
+ghost use Rattle.miette_sarif_reader.specs.rules.Results.{rule_told, strings_of};
 ghost use Rattle.miette_sarif_reader.specs.views.Grounds.{ground_in};
 
+use crate::bases::bases_of;
 use crate::regions::encoding_of;
 use miette_positions::place::PositionEncoding;
 use miette_readers::files::Files;
@@ -16,13 +19,22 @@ use miette_readers::members::{object_at, objects_at, text_at, whole_at};
 use serde_json::Value;
 use std::alloc::{AllocError, Global};
 
-/// By what a run's results are read: the files, how columns are counted, the rules of its tool, its artifacts.
+/// The rules of the tool that made a run, and its artifacts.
 #[derive(Drop)]
-pub(crate) struct Ground<'f, 'v, F> {
-    pub(crate) files: &'f F,
-    pub(crate) encoding: PositionEncoding,
+pub(crate) struct Lists<'v> {
     pub(crate) rules: Vec<&'v Value>,
     pub(crate) artifacts: Vec<&'v Value>,
+}
+
+/// By what a run's results are read: the files, how columns are counted, the lists of the run, its bases, and the
+/// message strings of a result's rule.
+#[derive(Drop)]
+pub(crate) struct Ground<'f, 'l, 'v, F> {
+    pub(crate) files: &'f F,
+    pub(crate) encoding: PositionEncoding,
+    pub(crate) lists: &'l Lists<'v>,
+    pub(crate) bases: Option<&'v Value>,
+    pub(crate) strings: Option<&'v Value>,
 }
 
 /// The tool that made a run.
@@ -42,22 +54,33 @@ fn rules_of<'v>(alloc: Global, run: &'v Value) -> Result<Vec<&'v Value>, AllocEr
     }
 }
 
-/// By what the results of a run are read.
-pub(crate) fn ground_of<'f, 'v, F: Files>(
-    alloc: Global,
-    files: &'f F,
-    run: &'v Value,
-) -> Result<Ground<'f, 'v, F>, AllocError>
-    ensures { IfOk result (λ it. ground_in F.found it ≡ ground_of (F.found files.now) (view run.now)) }
+/// The lists of a run.
+pub(crate) fn lists_of<'v>(alloc: Global, run: &'v Value) -> Result<Lists<'v>, AllocError>
+    ensures rules { IfOk result (λ it. seen it.rules.items ≡ rules_by (driver_of (view run.now))) }
+    ensures artifacts { IfOk result (λ it. seen it.artifacts.items ≡ objects_at (codes "artifacts") (view run.now)) }
 {
     let rules = rules_of(alloc, run)?;
     let artifacts = objects_at(alloc, run, "artifacts")?;
-    Ok(Ground {
+    Ok(Lists { rules, artifacts })
+}
+
+/// By what the results of a run are read.
+pub(crate) fn ground_of<'f, 'l, 'v, F: Files>(
+    files: &'f F,
+    lists: &'l Lists<'v>,
+    run: &'v Value,
+) -> Ground<'f, 'l, 'v, F>
+    requires rules { seen lists.now.rules.items ≡ rules_by (driver_of (view run.now)) }
+    requires artifacts { seen lists.now.artifacts.items ≡ objects_at (codes "artifacts") (view run.now) }
+    ensures { ground_in F.found result ≡ ground_of (F.found files.now) (view run.now) }
+{
+    Ground {
         files,
         encoding: encoding_of(run),
-        rules,
-        artifacts,
-    })
+        lists,
+        bases: bases_of(run),
+        strings: None,
+    }
 }
 
 /// The item of an index.
@@ -158,14 +181,34 @@ fn rule_named<'v>(rules: &[&'v Value], id: Option<&str>) -> Option<&'v Value>
     }
 }
 
-impl<'f, 'v, F: Files> Ground<'f, 'v, F> {
+impl<'f, 'l, 'v, F: Files> Ground<'f, 'l, 'v, F> {
     /// A result's rule: by its index, else the first one of its id.
     pub(crate) fn rule_of(&self, finding: &Value) -> Option<&'v Value>
         ensures { option_map (λ v. view v.now) result ≡ rule_of (ground_in F.found self.now) (view finding.now) }
     {
-        match item_at(self.rules.as_slice(), rule_index(finding)) {
+        match item_at(self.lists.rules.as_slice(), rule_index(finding)) {
             Some(rule) => Some(rule),
-            None => rule_named(self.rules.as_slice(), rule_id(finding)),
+            None => rule_named(self.lists.rules.as_slice(), rule_id(finding)),
+        }
+    }
+
+    /// The message strings of a result's rule.
+    fn strings_of(&self, finding: &Value) -> Option<&'v Value>
+        ensures { option_map (λ v. view v.now) result ≡ strings_of (ground_in F.found self.now) (view finding.now) }
+    {
+        object_at(self.rule_of(finding)?, "messageStrings")
+    }
+
+    /// By what a result is read.
+    pub(crate) fn ground_for(&self, finding: &Value) -> Ground<'f, 'l, 'v, F>
+        ensures { ground_in F.found result ≡ ground_for (ground_in F.found self.now) (view finding.now) }
+    {
+        Ground {
+            files: self.files,
+            encoding: self.encoding,
+            lists: self.lists,
+            bases: self.bases,
+            strings: self.strings_of(finding),
         }
     }
 }

@@ -9,7 +9,7 @@ ghost use Rattle.miette_tree.specs.rules.Reads.{AlwaysReads, report_accepted};
 ghost use Rattle.miette_readers.specs.rules.Kept.{IsKept};
 ghost use Rattle.miette_readers.specs.rules.Places.{Told};
 ghost use Rattle.miette_sarif_reader.specs.rules.Logs.{result_tree, sarif_trees};
-ghost use Rattle.miette_sarif_reader.specs.rules.Results.{Ground, told_of};
+ghost use Rattle.miette_sarif_reader.specs.rules.Results.{Ground, ground_for, told_of};
 
 /// The sources of the reports always read, where the files that are found do.
 pub fn reports_always_read()
@@ -26,9 +26,9 @@ pub fn labels_are_accepted()
         → IfSome (sarif_trees files d) (All (λ tree. report_accepted tree ≡ true)) }
 {}
 
-/// Nothing is lost of what a result tells at places, whatever files are found: each row of its locations and of the
-/// related ones is a part of a label's text or of a cause text of its report.
+/// Nothing is lost of what a result tells at places, whatever files are found: each row of its locations, of the
+/// related ones and of the steps of its flows is a part of a label's text or of a cause text of its report.
 pub fn rows_are_kept()
     ensures { (g : Ground) (r : Data) (t : Told) (row : List ℕ)
-        → Contains (told_of g r) t → Contains t.rows row → IsKept (result_tree g r) row }
+        → Contains (told_of (ground_for g r) r) t → Contains t.rows row → IsKept (result_tree g r) row }
 {}

@@ -1,10 +1,12 @@
 //! Reports from SARIF 2.1.0 logs.
 #![tactic(auto)]
 
+mod bases;
 mod drafts;
 mod ground;
 pub mod laws;
 mod locations;
+mod messages;
 pub mod names;
 mod proposals;
 mod regions;

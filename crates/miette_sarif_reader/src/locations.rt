@@ -1,15 +1,15 @@
 //! Locations of results, with the names of their files.
 
 ghost use Rattle.std.specs.Prelude.{◌≡◌, IfOk, map, option_map, string_bytes};
-ghost use Rattle.std.specs.Option.{option_copied};
 ghost use Rattle.serde_json.specs.View.{view};
 ghost use Rattle.miette_readers.specs.rules.Rustc.{maybe_row};
-ghost use Rattle.miette_sarif_reader.specs.rules.Results.{artifact_uri, physical, place_in, region_of, uri_by, uri_of};
-ghost use Rattle.miette_sarif_reader.specs.rules.Results.{uri_at, with_line};
+ghost use Rattle.miette_sarif_reader.specs.rules.Results.{file_at, file_by, file_of, location_of, physical, place_in};
+ghost use Rattle.miette_sarif_reader.specs.rules.Results.{region_of, with_begin, with_uri};
+ghost use Rattle.miette_sarif_reader.specs.rules.Regions.{start_column, start_line};
 ghost use Rattle.miette_sarif_reader.specs.views.Grounds.{ground_in};
 
 use crate::ground::{Ground, item_at};
-use crate::regions::{start_column, start_line, stretch_in};
+use crate::regions::{is_told, start_column, start_line, stretch_in};
 use miette_readers::files::Files;
 use miette_readers::members::{object_at, text_at, whole_at};
 use miette_readers::place::{Place, Stretch, Told};
@@ -109,11 +109,22 @@ impl Spot {
     }
 }
 
-/// The URI of an artifact.
-fn artifact_uri(artifact: &Value) -> Option<&str>
-    ensures { option_copied result ≡ artifact_uri (view artifact.now) }
+/// A location that says a URI.
+fn with_uri(location: &Value) -> Option<&Value>
+    ensures { option_map (λ v. view v.now) result ≡ with_uri (view location.now) }
 {
-    text_at(object_at(artifact, "location")?, "uri")
+    if text_at(location, "uri").is_some() {
+        Some(location)
+    } else {
+        None
+    }
+}
+
+/// The location of an artifact.
+fn location_of(artifact: &Value) -> Option<&Value>
+    ensures { option_map (λ v. view v.now) result ≡ location_of (view artifact.now) }
+{
+    with_uri(object_at(artifact, "location")?)
 }
 
 /// Where a location is in files.
@@ -123,62 +134,80 @@ fn physical(location: &Value) -> Option<&Value>
     object_at(location, "physicalLocation")
 }
 
-/// A region that begins on a line.
-fn with_line(region: &Value) -> Option<&Value>
-    ensures { option_map (λ v. view v.now) result ≡ with_line (view region.now) }
+/// A region that says where it begins.
+fn with_begin(region: &Value) -> Option<&Value>
+    ensures { option_map (λ v. view v.now) result ≡ with_begin (view region.now) }
 {
-    if whole_at(region, "startLine").is_some() {
-        Some(region)
-    } else {
-        None
-    }
+    if is_told(region) { Some(region) } else { None }
 }
 
 /// The region of a location.
 pub(crate) fn region_of(location: &Value) -> Option<&Value>
     ensures { option_map (λ v. view v.now) result ≡ region_of (view location.now) }
 {
-    with_line(object_at(physical(location)?, "region")?)
+    with_begin(object_at(physical(location)?, "region")?)
 }
 
-impl<'f, 'v, F: Files> Ground<'f, 'v, F> {
-    /// The URI that an artifact's location says, else that of the artifact whose index it says.
-    fn uri_by(&self, artifact: &'v Value) -> Option<&'v str>
-        ensures { option_copied result ≡ uri_by (ground_in F.found self.now) (view artifact.now) }
+/// A region of these bytes, in the file of this name.
+pub(crate) fn located_at(name: String, stretch: Option<Stretch>, region: &Value) -> Located
+    ensures { result ≡ record {
+      name = string_bytes name;
+      stretch = stretch;
+      line = start_line (view region.now);
+      column = start_column (view region.now);
+    } }
+{
+    Located {
+        name,
+        stretch,
+        line: start_line(region),
+        column: start_column(region),
+    }
+}
+
+impl<'f, 'l, 'v, F: Files> Ground<'f, 'l, 'v, F> {
+    /// The location itself, where it says a URI, else that of the artifact whose index it says.
+    fn file_by(&self, location: &'v Value) -> Option<&'v Value>
+        ensures { option_map (λ v. view v.now) result ≡ file_by (ground_in F.found self.now) (view location.now) }
     {
-        match text_at(artifact, "uri") {
-            Some(uri) => Some(uri),
-            None => artifact_uri(item_at(self.artifacts.as_slice(), whole_at(artifact, "index"))?),
+        match with_uri(location) {
+            Some(location) => Some(location),
+            None => location_of(item_at(
+                self.lists.artifacts.as_slice(),
+                whole_at(location, "index"),
+            )?),
         }
     }
 
-    /// The URI of the file that a place or a change is in.
-    pub(crate) fn uri_at(&self, value: &'v Value) -> Option<&'v str>
-        ensures { option_copied result ≡ uri_at (ground_in F.found self.now) (view value.now) }
+    /// The location of the file that a place or a change is in.
+    pub(crate) fn file_at(&self, value: &'v Value) -> Option<&'v Value>
+        ensures { option_map (λ v. view v.now) result ≡ file_at (ground_in F.found self.now) (view value.now) }
     {
-        self.uri_by(object_at(value, "artifactLocation")?)
+        self.file_by(object_at(value, "artifactLocation")?)
     }
 
-    /// The URI of a location's file.
-    pub(crate) fn uri_of(&self, location: &'v Value) -> Option<&'v str>
-        ensures { option_copied result ≡ uri_of (ground_in F.found self.now) (view location.now) }
+    /// That of a location's file.
+    pub(crate) fn file_of(&self, location: &'v Value) -> Option<&'v Value>
+        ensures { option_map (λ v. view v.now) result ≡ file_of (ground_in F.found self.now) (view location.now) }
     {
-        self.uri_at(physical(location)?)
+        self.file_at(physical(location)?)
+    }
+
+    /// The bytes of a region in the file of this name, where they are found.
+    pub(crate) fn stretch_at(&self, name: &str, region: &Value) -> Option<Stretch>
+        ensures { result ≡ (place_in (ground_in F.found self.now) name.now (view region.now)).stretch }
+    {
+        match self.files.find(name) {
+            Some(file) => stretch_in(self.encoding, file.indexed(), region),
+            None => None,
+        }
     }
 
     /// A region in the file of this name.
     pub(crate) fn place_in(&self, name: String, region: &Value) -> Located
         ensures { result ≡ place_in (ground_in F.found self.now) (string_bytes name) (view region.now) }
     {
-        let stretch = match self.files.find(name.as_str()) {
-            Some(file) => stretch_in(self.encoding, file.indexed(), region),
-            None => None,
-        };
-        Located {
-            name,
-            stretch,
-            line: start_line(region),
-            column: start_column(region),
-        }
+        let stretch = self.stretch_at(name.as_str(), region);
+        located_at(name, stretch, region)
     }
 }

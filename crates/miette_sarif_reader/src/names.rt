@@ -1,42 +1,51 @@
 //! The names of the files that a log speaks of.
 
-ghost use Rattle.std.specs.Prelude.{◌≡◌, ◌++◌, IfOk, OnOk, map, string_bytes};
+ghost use Rattle.std.specs.Prelude.{◌≡◌, ◌++◌, IfOk, OnOk, map, option_map, string_bytes};
 ghost use Rattle.serde_json.specs.View.{items_view, members_view, view};
-ghost use Rattle.miette_sarif_reader.specs.rules.Names.{named_by, names_among, names_in, names_of};
+ghost use Rattle.miette_sarif_reader.specs.rules.Names.{names_among, names_in, names_of, names_within, own_names};
+ghost use Rattle.miette_sarif_reader.specs.rules.Names.{run_names};
 
-use crate::uris::name_of;
+use crate::bases::{bases_of, file_name};
 use miette_readers::lists::push_item;
+use miette_readers::members::{objects_at, text_at};
 use serde_json::{Map, Value};
 use std::alloc::{AllocError, Global};
 
-/// Appends the name that a member stands for, if it is a URI.
-fn push_name(
+/// Appends the name that a location with a URI stands for.
+fn push_own(
     list: &mut Vec<String>,
     alloc: Global,
-    key: &str,
-    member: &Value,
+    bases: Option<&Value>,
+    value: &Value,
 ) -> Result<(), AllocError>
     ensures { OnOk result (map string_bytes list.new.items
-        ≡ map string_bytes list.old.items ++ named_by key.now (view member.now)) }
+        ≡ map string_bytes list.old.items ++ own_names (option_map (λ v. view v.now) bases.entry) (view value.now)) }
 {
-    if key == "uri" {
-        if let Some(uri) = member.as_str() {
-            let name = name_of(alloc, uri)?;
-            return push_item(list, name);
-        }
+    if text_at(value, "uri").is_none() {
+        return Ok(());
     }
-    Ok(())
+    let name = file_name(alloc, bases, value)?;
+    push_item(list, name)
 }
 
 /// Appends the names in a value.
 #[cycle(push_names)]
-fn push_names(list: &mut Vec<String>, alloc: Global, value: &Value) -> Result<(), AllocError>
+fn push_names(
+    list: &mut Vec<String>,
+    alloc: Global,
+    bases: Option<&Value>,
+    value: &Value,
+) -> Result<(), AllocError>
     ensures { OnOk result (map string_bytes list.new.items
-        ≡ map string_bytes list.old.items ++ names_of (view value.now)) }
+        ≡ map string_bytes list.old.items
+        ++ names_within (option_map (λ v. view v.now) bases.entry) (view value.now)) }
 {
     match value {
-        Value::Array(items) => push_names_in(list, alloc, items),
-        Value::Object(members) => push_names_among(list, alloc, members),
+        Value::Array(items) => push_names_in(list, alloc, bases, items),
+        Value::Object(members) => {
+            push_own(list, alloc, bases, value)?;
+            push_names_among(list, alloc, bases, members)
+        }
         _ => Ok(()),
     }
 }
@@ -45,13 +54,15 @@ fn push_names(list: &mut Vec<String>, alloc: Global, value: &Value) -> Result<()
 fn push_names_in(
     list: &mut Vec<String>,
     alloc: Global,
+    bases: Option<&Value>,
     items: &Vec<Value>,
 ) -> Result<(), AllocError>
     ensures { OnOk result (map string_bytes list.new.items
-        ≡ map string_bytes list.old.items ++ names_in (items_view items.now.items)) }
+        ≡ map string_bytes list.old.items
+        ++ names_in (option_map (λ v. view v.now) bases.entry) (items_view items.now.items)) }
 {
     for item in items {
-        push_names(list, alloc, item)?;
+        push_names(list, alloc, bases, item)?;
     }
     Ok(())
 }
@@ -60,19 +71,28 @@ fn push_names_in(
 fn push_names_among(
     list: &mut Vec<String>,
     alloc: Global,
+    bases: Option<&Value>,
     members: &Map<String, Value>,
 ) -> Result<(), AllocError>
     ensures { OnOk result (map string_bytes list.new.items
-        ≡ map string_bytes list.old.items ++ names_among (members_view members.now.entries)) }
+        ≡ map string_bytes list.old.items
+        ++ names_among (option_map (λ v. view v.now) bases.entry) (members_view members.now.entries)) }
 {
-    for (key, member) in members.iter() {
-        push_name(list, alloc, key.as_str(), member)?;
-        push_names(list, alloc, member)?;
+    for (_, member) in members.iter() {
+        push_names(list, alloc, bases, member)?;
     }
     Ok(())
 }
 
-/// The names of the files that a log speaks of: what the texts stand for that are members `uri` of its objects, at any
+/// Appends the names of the files that a run speaks of.
+fn push_run(list: &mut Vec<String>, alloc: Global, run: &Value) -> Result<(), AllocError>
+    ensures { OnOk result (map string_bytes list.new.items
+        ≡ map string_bytes list.old.items ++ run_names (view run.now)) }
+{
+    push_names(list, alloc, bases_of(run), run)
+}
+
+/// The names of the files that a log speaks of: of each run what its objects stand for that have a text `uri`, at any
 /// depth, each as often as it is there.
 ///
 /// # Errors
@@ -80,7 +100,10 @@ fn push_names_among(
 pub fn file_names(alloc: Global, value: &Value) -> Result<Vec<String>, AllocError>
     ensures { IfOk result (λ list. map string_bytes list.items ≡ names_of (view value.now)) }
 {
+    let runs = objects_at(alloc, value, "runs")?;
     let mut list = Vec::new(alloc);
-    push_names(&mut list, alloc, value)?;
+    for run in runs.as_slice() {
+        push_run(&mut list, alloc, *run)?;
+    }
     Ok(list)
 }

@@ -1,10 +1,14 @@
-//! The bytes of SARIF's regions, by lines and columns.
+//! The bytes of SARIF's regions, by lines and columns, or by offsets.
 
-ghost use Rattle.std.specs.Prelude.{◌≡◌, ◌≤◌, length};
+ghost use Rattle.std.specs.Prelude.{◌≡◌, ◌≤◌, IfSome, drop, length};
 ghost use Rattle.serde_json.specs.View.{view};
-ghost use Rattle.miette_sarif_reader.specs.rules.Regions.{column_at, encoding_of, end_columns, end_line};
-ghost use Rattle.miette_sarif_reader.specs.rules.Regions.{offset_at, start_column, start_line, stretch_in};
+ghost use Rattle.miette_positions.specs.rules.Stops.{units};
+ghost use Rattle.miette_sarif_reader.specs.rules.Regions.{byte_stretch, char_stretch, column_at, count_at, encoding_of};
+ghost use Rattle.miette_sarif_reader.specs.rules.Regions.{end_columns, end_line, has_chars, has_line, is_told};
+ghost use Rattle.miette_sarif_reader.specs.rules.Regions.{line_stretch, offset_at, start_column, start_line};
+ghost use Rattle.miette_sarif_reader.specs.rules.Regions.{stretch_by_bytes, stretch_by_chars, stretch_in, units_behind};
 
+use miette_cells::cells::first_character;
 use miette_positions::place::{Position, PositionEncoding};
 use miette_positions::spans::clamped_offset;
 use miette_protocol::source::IndexedSource;
@@ -90,7 +94,142 @@ fn end_columns(bytes: &[u8], column: Option<u64>) -> usize
     }
 }
 
-/// The bytes of a region, up to but without its end column.
+/// Up to but without its end column.
+fn line_stretch(
+    encoding: PositionEncoding,
+    source: &IndexedSource,
+    region: &Value,
+) -> Option<Stretch>
+    ensures { result ≡ line_stretch encoding source.now (view region.now) }
+{
+    let columns = start_column(region).saturating_sub(1) as usize;
+    let start = offset_at(encoding, source, start_line(region), columns)?;
+    let columns = end_columns(source.bytes(), whole_at(region, "endColumn"));
+    let end = offset_at(encoding, source, end_line(region), columns)?;
+    Some(Stretch { start, end })
+}
+
+// ---- by offsets
+
+/// How many code units a character of so many bytes has.
+fn units(encoding: PositionEncoding, code: char, bytes: usize) -> usize
+    ensures { result ≡ units encoding (record { code = code; bytes = bytes }) }
+{
+    match encoding {
+        PositionEncoding::Utf8 => bytes,
+        PositionEncoding::Utf16 => { if u32::from(code) < 0x10000 { 1 } else { 2 } }
+        PositionEncoding::Utf32 => 1,
+    }
+}
+
+/// The bytes from an offset on.
+fn rest_from(bytes: &[u8], at: usize) -> &[u8]
+    requires { at ≤ length bytes.now }
+    ensures { result.now ≡ drop at bytes.now }
+{
+    &bytes[at..]
+}
+
+/// So many code units behind an offset: inside a character its start, behind the last one nowhere.
+fn units_behind(
+    encoding: PositionEncoding,
+    bytes: &[u8],
+    from: usize,
+    count: usize,
+) -> Option<usize>
+    requires { from ≤ length bytes.now }
+    ensures value { result ≡ units_behind encoding bytes.now from count }
+    ensures within { IfSome result (λ at. at ≤ length bytes.now) }
+{
+    let mut at = from;
+    let mut left = count;
+    while at < bytes.len() {
+        let rest = rest_from(bytes, at);
+        let (code, size) = first_character(rest);
+        let wide = units(encoding, code, size);
+        if left < wide {
+            return Some(at);
+        }
+        left -= wide;
+        at += size;
+    }
+    if left == 0 { Some(at) } else { None }
+}
+
+/// So many characters from an offset in characters on.
+fn char_stretch(
+    encoding: PositionEncoding,
+    bytes: &[u8],
+    from: usize,
+    count: usize,
+) -> Option<Stretch>
+    ensures { result ≡ char_stretch encoding bytes.now from count }
+{
+    let start = units_behind(encoding, bytes, 0, from)?;
+    let end = units_behind(encoding, bytes, start, count)?;
+    Some(Stretch { start, end })
+}
+
+/// So many bytes from an offset on.
+fn byte_stretch(bytes: &[u8], from: usize, count: usize) -> Option<Stretch>
+    ensures { result ≡ byte_stretch bytes.now from count }
+{
+    if from > bytes.len() || count > bytes.len() - from {
+        return None;
+    }
+    Some(Stretch {
+        start: from,
+        end: from + count,
+    })
+}
+
+/// The number at a key; 0 where it isn't said.
+fn count_at(region: &Value, key: &str) -> usize
+    ensures { result ≡ count_at key.now (view region.now) }
+{
+    whole_at(region, key).unwrap_or(0) as usize
+}
+
+/// A region by its characters.
+fn stretch_by_chars(encoding: PositionEncoding, bytes: &[u8], region: &Value) -> Option<Stretch>
+    ensures { result ≡ stretch_by_chars encoding bytes.now (view region.now) }
+{
+    let from = whole_at(region, "charOffset")? as usize;
+    char_stretch(encoding, bytes, from, count_at(region, "charLength"))
+}
+
+/// A region by its bytes.
+fn stretch_by_bytes(bytes: &[u8], region: &Value) -> Option<Stretch>
+    ensures { result ≡ stretch_by_bytes bytes.now (view region.now) }
+{
+    let from = whole_at(region, "byteOffset")? as usize;
+    byte_stretch(bytes, from, count_at(region, "byteLength"))
+}
+
+// ---- all of it
+
+/// Whether a region begins on a line.
+pub(crate) fn has_line(region: &Value) -> bool
+    ensures { result ≡ has_line (view region.now) }
+{
+    whole_at(region, "startLine").is_some()
+}
+
+/// Whether it begins with a character.
+fn has_chars(region: &Value) -> bool
+    ensures { result ≡ has_chars (view region.now) }
+{
+    whole_at(region, "charOffset").is_some()
+}
+
+/// Whether it is said where it begins.
+pub(crate) fn is_told(region: &Value) -> bool
+    ensures { result ≡ is_told (view region.now) }
+{
+    has_line(region) || (has_chars(region) || whole_at(region, "byteOffset").is_some())
+}
+
+/// The bytes of a region: by its lines, else by its characters, else by its bytes.
 pub(crate) fn stretch_in(
     encoding: PositionEncoding,
     source: &IndexedSource,
@@ -98,9 +237,11 @@ pub(crate) fn stretch_in(
 ) -> Option<Stretch>
     ensures { result ≡ stretch_in encoding source.now (view region.now) }
 {
-    let columns = start_column(region).saturating_sub(1) as usize;
-    let start = offset_at(encoding, source, start_line(region), columns)?;
-    let columns = end_columns(source.bytes(), whole_at(region, "endColumn"));
-    let end = offset_at(encoding, source, end_line(region), columns)?;
-    Some(Stretch { start, end })
+    if has_line(region) {
+        line_stretch(encoding, source, region)
+    } else if has_chars(region) {
+        stretch_by_chars(encoding, source.bytes(), region)
+    } else {
+        stretch_by_bytes(source.bytes(), region)
+    }
 }

@@ -6,10 +6,11 @@ ghost use Rattle.serde_json.specs.View.{view};
 ghost use Rattle.miette_readers.specs.rules.Members.{objects_at};
 ghost use Rattle.miette_readers.specs.views.Values.{seen};
 ghost use Rattle.miette_tree.specs.views.Report.{tree_of};
-ghost use Rattle.miette_sarif_reader.specs.rules.Logs.{has_runs, result_tree, run_trees, sarif_trees};
+ghost use Rattle.miette_sarif_reader.specs.rules.Logs.{has_runs, result_in, result_tree, run_trees};
+ghost use Rattle.miette_sarif_reader.specs.rules.Logs.{sarif_trees};
 ghost use Rattle.miette_sarif_reader.specs.views.Grounds.{ground_in};
 
-use crate::ground::{Ground, ground_of};
+use crate::ground::{Ground, ground_of, lists_of};
 use crate::proposals::{help_of, offers_of};
 use crate::telling::lent;
 use miette_protocol::protocol::Diagnostic;
@@ -36,11 +37,11 @@ pub fn has_runs(value: &Value) -> bool
 /// The report of a result.
 fn result_report<'f, D: Diagnostic, F: Files>(
     alloc: Global,
-    ground: &Ground<'f, '_, F>,
+    ground: &Ground<'f, '_, '_, F>,
     finding: &Value,
 ) -> Result<Report<D, LentFile<'f>>, AllocError>
     ensures { IfOk result (λ r. tree_of D.meaning ⟦<LentFile<'f> as SourceCode>⟧.source r
-        ≡ result_tree (ground_in F.found ground.now) (view finding.now)) }
+        ≡ result_in (ground_in F.found ground.now) (view finding.now)) }
 {
     let spots = ground.told_of(alloc, finding)?;
     let told = lent(alloc, spots.as_slice())?;
@@ -61,7 +62,7 @@ fn result_report<'f, D: Diagnostic, F: Files>(
 fn push_reports<'f, D: Diagnostic, F: Files>(
     list: &mut Vec<Report<D, LentFile<'f>>>,
     alloc: Global,
-    ground: &Ground<'f, '_, F>,
+    ground: &Ground<'f, '_, '_, F>,
     findings: &[&Value],
 ) -> Result<(), AllocError>
     ensures { OnOk result (map (tree_of D.meaning ⟦<LentFile<'f> as SourceCode>⟧.source) list.new.items
@@ -69,7 +70,7 @@ fn push_reports<'f, D: Diagnostic, F: Files>(
         ++ map (result_tree (ground_in F.found ground.now)) (seen findings.now)) }
 {
     for finding in findings {
-        let report = result_report(alloc, ground, *finding)?;
+        let report = result_report(alloc, &ground.ground_for(*finding), *finding)?;
         push_item(list, report)?;
     }
     Ok(())
@@ -86,7 +87,8 @@ fn push_run<'f, D: Diagnostic, F: Files>(
         ≡ map (tree_of D.meaning ⟦<LentFile<'f> as SourceCode>⟧.source) list.old.items
         ++ run_trees (F.found files.now) (view run.now)) }
 {
-    let ground = ground_of(alloc, files, run)?;
+    let lists = lists_of(alloc, run)?;
+    let ground = ground_of(files, &lists, run);
     let findings = objects_at(alloc, run, "results")?;
     push_reports(list, alloc, &ground, findings.as_slice())
 }

@@ -1,36 +1,108 @@
 //! What a result says itself.
 
-ghost use Rattle.std.specs.Prelude.{◌≡◌, IfOk, option_and_then, option_map, string_bytes};
+ghost use Rattle.std.specs.Prelude.{◌≡◌, [], IfOk, codes, option_and_then, option_map, string_bytes, unwrap_or};
 ghost use Rattle.std.specs.Option.{option_copied};
+ghost use Rattle.serde_json.specs.Find.{as_array};
 ghost use Rattle.serde_json.specs.View.{view};
+ghost use Rattle.miette_readers.specs.rules.Members.{items_at, items_in, said};
+ghost use Rattle.miette_readers.specs.views.Values.{viewed};
 ghost use Rattle.miette_sarif_reader.specs.rules.Results.{code_of, default_level, has_failed, level_by, level_of};
 ghost use Rattle.miette_sarif_reader.specs.rules.Results.{message_in, message_text, rule_of, said_of, severity_by};
-ghost use Rattle.miette_sarif_reader.specs.rules.Results.{url_of};
+ghost use Rattle.miette_sarif_reader.specs.rules.Results.{string_named, string_of, url_of};
 ghost use Rattle.miette_sarif_reader.specs.views.Grounds.{ground_in};
 
 use crate::ground::{Ground, rule_id};
+use crate::messages::shown;
 use miette_protocol::protocol::Severity;
 use miette_readers::files::Files;
-use miette_readers::members::{object_at, text_at};
+use miette_readers::members::{found_at, object_at, text_at};
 use miette_readers::reports::Said;
 use serde_json::Value;
 use std::alloc::{AllocError, Global};
 
-/// What a message says; the id of its text where there is none.
-pub(crate) fn message_text(message: &Value) -> Option<&str>
-    ensures { option_copied result ≡ message_text (view message.now) }
+/// The text of an id among message strings.
+fn string_named<'v>(strings: Option<&'v Value>, id: &str) -> Option<&'v str>
+    ensures { option_copied result ≡ string_named (option_map (λ v. view v.now) strings.entry) id.now }
+{
+    text_at(object_at(strings?, id)?, "text")
+}
+
+/// A message's own text, else that of its id.
+fn string_of<'v>(strings: Option<&'v Value>, message: &'v Value) -> Option<&'v str>
+    ensures { option_copied result ≡ string_of (option_map (λ v. view v.now) strings.entry) (view message.now) }
 {
     match text_at(message, "text") {
         Some(text) => Some(text),
-        None => text_at(message, "id"),
+        None => string_named(strings, text_at(message, "id")?),
+    }
+}
+
+/// The items of a list; what is no list has none.
+fn items_in(value: &Value) -> &[Value]
+    ensures { viewed result.now ≡ items_in (as_array (view value.now)) }
+{
+    match value.as_array() {
+        Some(list) => list.as_slice(),
+        None => &[],
+    }
+}
+
+/// The arguments of a message.
+fn arguments_of(message: &Value) -> &[Value]
+    ensures { viewed result.now ≡ items_at (codes "arguments") (view message.now) }
+{
+    match found_at(message, "arguments") {
+        Some(found) => items_in(found),
+        None => &[],
+    }
+}
+
+/// What a message says; its id where that stands for no text.
+pub(crate) fn message_text(
+    alloc: Global,
+    strings: Option<&Value>,
+    message: &Value,
+) -> Result<Option<String>, AllocError>
+    ensures { IfOk result (λ o. option_map string_bytes o
+        ≡ message_text (option_map (λ v. view v.now) strings.entry) (view message.now)) }
+{
+    match string_of(strings, message) {
+        Some(text) => Ok(Some(shown(alloc, arguments_of(message), text)?)),
+        None => copy_of(alloc, text_at(message, "id")),
     }
 }
 
 /// What the message of a result or a location says.
-pub(crate) fn message_in(value: &Value) -> Option<&str>
-    ensures { option_copied result ≡ message_in (view value.now) }
+pub(crate) fn message_in(
+    alloc: Global,
+    strings: Option<&Value>,
+    value: &Value,
+) -> Result<Option<String>, AllocError>
+    ensures { IfOk result (λ o. option_map string_bytes o
+        ≡ message_in (option_map (λ v. view v.now) strings.entry) (view value.now)) }
 {
-    message_text(object_at(value, "message")?)
+    match object_at(value, "message") {
+        Some(message) => message_text(alloc, strings, message),
+        None => Ok(None),
+    }
+}
+
+/// A text that says something.
+pub(crate) fn said(text: Option<String>) -> Option<String>
+    ensures { option_map string_bytes result ≡ said (option_map string_bytes text) }
+{
+    let text = text?;
+    if text.is_empty() { None } else { Some(text) }
+}
+
+/// A text, or an empty one.
+fn or_empty(alloc: Global, text: Option<String>) -> String
+    ensures { string_bytes result ≡ unwrap_or (option_map string_bytes text) [] }
+{
+    match text {
+        Some(text) => text,
+        None => String::new(alloc),
+    }
 }
 
 /// Whether a result is one of a rule that failed.
@@ -68,7 +140,7 @@ pub(crate) fn copy_of(alloc: Global, text: Option<&str>) -> Result<Option<String
     }
 }
 
-impl<'f, 'v, F: Files> Ground<'f, 'v, F> {
+impl<'f, 'l, 'v, F: Files> Ground<'f, 'l, 'v, F> {
     /// The code of a result: the id of its rule.
     fn code_of(&self, finding: &'v Value) -> Option<&'v str>
         ensures { option_copied result ≡ code_of (ground_in F.found self.now) (view finding.now) }
@@ -125,7 +197,7 @@ impl<'f, 'v, F: Files> Ground<'f, 'v, F> {
         ensures { IfOk result (λ it. it ≡ said_of (ground_in F.found self.now)
             (option_map string_bytes help) (view finding.now)) }
     {
-        let message = String::from_str(alloc, message_in(finding).unwrap_or(""))?;
+        let message = or_empty(alloc, message_in(alloc, self.strings, finding)?);
         let code = copy_of(alloc, self.code_of(finding))?;
         let url = copy_of(alloc, self.url_of(finding))?;
         Ok(Said {

@@ -9,9 +9,10 @@ use Rattle.miette_readers.specs.rules.Members.{object_at, objects_at}
 use Rattle.miette_readers.specs.rules.Reports.{report_tree}
 use Rattle.miette_readers.specs.rules.Settling.{settled}
 use Rattle.miette_tree.specs.rules.Tree.{Tree}
+use Rattle.miette_sarif_reader.specs.rules.Bases.{bases_of}
 use Rattle.miette_sarif_reader.specs.rules.Proposals.{drafts_of, help_of, offers_of}
 use Rattle.miette_sarif_reader.specs.rules.Regions.{encoding_of}
-use Rattle.miette_sarif_reader.specs.rules.Results.{Ground, said_of, told_of}
+use Rattle.miette_sarif_reader.specs.rules.Results.{Ground, ground_for, said_of, told_of}
 
 -- the tool that made a run
 abbrev pub driver_of : Data → Option Data
@@ -27,12 +28,17 @@ ground_of files run = record {
   encoding = encoding_of run;
   rules = rules_by (driver_of run);
   artifacts = objects_at (codes "artifacts") run;
+  bases = bases_of run;
+  strings = None;
 }
 
-abbrev pub result_tree : Ground → Data → Tree
-result_tree g r =
+abbrev pub result_in : Ground → Data → Tree
+result_in g r =
     report_tree (said_of g (help_of g.files (drafts_of g r)) r) (settled g.files (told_of g r))
     (offers_of g.files (drafts_of g r))
+
+abbrev pub result_tree : Ground → Data → Tree
+result_tree g r = result_in (ground_for g r) r
 
 -- a report of each result of a run
 abbrev pub run_trees : (List ℕ → Option Source) → Data → List Tree

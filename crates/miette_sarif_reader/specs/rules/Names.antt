@@ -1,31 +1,36 @@
 -- The names of the files that a log speaks of.
-use Rattle.std.specs.Prelude.{ℕ, List, [], ◌∷◌, ◌++◌, Option, Some, None, if◌then◌else◌, bytes_eq, codes}
+use Rattle.std.specs.Prelude.{ℕ, List, [], ◌∷◌, ◌++◌, Option, if◌then◌else◌, codes, is_some}
+use Rattle.std.specs.List.{flat_map}
 use Rattle.serde_json.specs.Data.{Data, null, boolean, number, string, array, object, Items, no_items, item}
 use Rattle.serde_json.specs.Data.{Members, no_members, member}
-use Rattle.serde_json.specs.Find.{as_str}
-use Rattle.miette_sarif_reader.specs.rules.Uris.{name_of}
+use Rattle.miette_readers.specs.rules.Members.{objects_at, text_at}
+use Rattle.miette_sarif_reader.specs.rules.Bases.{bases_of, file_name}
 
-abbrev pub maybe_name : Option (List ℕ) → List (List ℕ)
-maybe_name None = []
-maybe_name (Some uri) = name_of uri ∷ []
+-- the name that a location with a URI stands for
+abbrev pub own_names : Option Data → Data → List (List ℕ)
+own_names bases d = if is_some (text_at (codes "uri") d) then file_name bases d ∷ [] else []
 
-abbrev pub named_by : List ℕ → Data → List (List ℕ)
-named_by key d = if bytes_eq key (codes "uri") then maybe_name (as_str d) else []
-
--- what the texts name that are members `uri` of its objects, at any depth
+-- what the objects of a value stand for that have a text `uri`, at any depth
 abbrev mutual
-  pub names_of : Data → List (List ℕ)
-  names_of null = []
-  names_of (boolean b) = []
-  names_of (number n) = []
-  names_of (string s) = []
-  names_of (array ds) = names_in ds
-  names_of (object ms) = names_among ms
+  pub names_within : Option Data → Data → List (List ℕ)
+  names_within bases null = []
+  names_within bases (boolean b) = []
+  names_within bases (number n) = []
+  names_within bases (string s) = []
+  names_within bases (array ds) = names_in bases ds
+  names_within bases (object ms) = own_names bases (object ms) ++ names_among bases ms
 
-  pub names_in : Items → List (List ℕ)
-  names_in no_items = []
-  names_in (item d ds) = names_of d ++ names_in ds
+  pub names_in : Option Data → Items → List (List ℕ)
+  names_in bases no_items = []
+  names_in bases (item d ds) = names_within bases d ++ names_in bases ds
 
-  pub names_among : Members → List (List ℕ)
-  names_among no_members = []
-  names_among (member key d ms) = named_by key d ++ (names_of d ++ names_among ms)
+  pub names_among : Option Data → Members → List (List ℕ)
+  names_among bases no_members = []
+  names_among bases (member key d ms) = names_within bases d ++ names_among bases ms
+
+abbrev pub run_names : Data → List (List ℕ)
+run_names run = names_within (bases_of run) run
+
+-- of each run what its locations stand for
+abbrev pub names_of : Data → List (List ℕ)
+names_of d = flat_map run_names (objects_at (codes "runs") d)

@@ -10,8 +10,8 @@ use Rattle.miette_readers.specs.rules.Places.{Place, joined}
 use Rattle.miette_readers.specs.rules.Proposing.{FileEdit, Offer, edit_found}
 use Rattle.miette_readers.specs.rules.Settling.{found_place, with_row}
 use Rattle.miette_readers.specs.rules.Wording.{edit_words}
-use Rattle.miette_sarif_reader.specs.rules.Results.{Ground, message_text, place_in, uri_at}
-use Rattle.miette_sarif_reader.specs.rules.Uris.{name_of}
+use Rattle.miette_sarif_reader.specs.rules.Results.{Ground, file_at, message_text, place_in}
+use Rattle.miette_sarif_reader.specs.rules.Bases.{file_name}
 
 -- A proposal: its words, and what is to be written at which places.
 pub record Draft : Type 0 where
@@ -32,13 +32,13 @@ place_by g name (Some region) = place_in g name region
 abbrev pub replaced_in : Ground → List ℕ → Data → Place × List ℕ
 replaced_in g name x = (place_by g name (object_at (codes "deletedRegion") x), new_text x)
 
-abbrev pub named : Option (List ℕ) → List ℕ
-named None = []
-named (Some uri) = name_of uri
+abbrev pub named : Option Data → Option Data → List ℕ
+named bases None = []
+named bases (Some file) = file_name bases file
 
 -- the name of the file that a change is of
 abbrev pub change_name : Ground → Data → List ℕ
-change_name g c = named (uri_at g c)
+change_name g c = named g.bases (file_at g c)
 
 abbrev pub change_edits : Ground → Data → List (Place × List ℕ)
 change_edits g c = map (replaced_in g (change_name g c)) (objects_at (codes "replacements") c)
@@ -54,14 +54,14 @@ words_by [] = []
 words_by (e ∷ []) = edit_words e.1
 words_by (e ∷ (f ∷ es)) = codes "make these changes"
 
-abbrev pub description : Data → Option (List ℕ)
-description f = said (option_and_then message_text (object_at (codes "description") f))
+abbrev pub description : Option Data → Data → Option (List ℕ)
+description strings f = said (option_and_then (message_text strings) (object_at (codes "description") f))
 
 abbrev pub draft_by : Option (List ℕ) → List (Place × List ℕ) → Draft
 draft_by described edits = record { words = unwrap_or described (words_by edits); edits = edits }
 
 abbrev pub draft_of : Ground → Data → Draft
-draft_of g f = draft_by (description f) (edits_of g f)
+draft_of g f = draft_by (description g.strings f) (edits_of g f)
 
 abbrev pub drafts_of : Ground → Data → List Draft
 drafts_of g r = map (draft_of g) (objects_at (codes "fixes") r)

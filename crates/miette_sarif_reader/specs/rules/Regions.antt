@@ -1,10 +1,12 @@
--- The bytes of SARIF's regions, by lines and columns.
-use Rattle.std.specs.Prelude.{ℕ, zero, suc, ◌+◌, ◌-◌, List, [], Option, Some, None, if◌then◌else◌, length, min, drop}
-use Rattle.std.specs.Prelude.{bytes_eq, codes, nat_le, unwrap_or}
+-- The bytes of SARIF's regions, by lines and columns, or by offsets.
+use Rattle.std.specs.Prelude.{ℕ, zero, suc, ◌+◌, ◌-◌, List, [], ◌∷◌, Option, Some, None, Bool, ◌||◌, ◌==◌, length, min}
+use Rattle.std.specs.Prelude.{if◌then◌else◌, bytes_eq, codes, drop, is_some, nat_le, nat_lt, option_and_then, unwrap_or}
 use Rattle.serde_json.specs.Data.{Data}
+use Rattle.miette_cells.specs.rules.Cells.{Character, characters}
 use Rattle.miette_positions.specs.declared.place.PositionEncoding.{PositionEncoding}
 use Rattle.miette_positions.specs.declared.place.PositionEncoding.TheVariants.{Utf16, Utf32}
 use Rattle.miette_positions.specs.rules.Regions.{stop_at}
+use Rattle.miette_positions.specs.rules.Stops.{units}
 use Rattle.miette_readers.specs.rules.LineStarts.{last_line}
 use Rattle.miette_readers.specs.rules.Members.{text_at, whole_at}
 use Rattle.miette_readers.specs.rules.Places.{Stretch}
@@ -43,8 +45,67 @@ abbrev pub end_columns : List ℕ → Option ℕ → ℕ
 end_columns bytes None = length bytes
 end_columns bytes (Some column) = column - 1
 
--- the bytes of a region, up to but without its end column
-abbrev pub stretch_in : PositionEncoding → List ℕ → Data → Option Stretch
-stretch_in e bytes r =
+-- up to but without its end column
+abbrev pub line_stretch : PositionEncoding → List ℕ → Data → Option Stretch
+line_stretch e bytes r =
     stretch_from (offset_at e bytes (start_line r) (start_column r - 1))
     (offset_at e bytes (end_line r) (end_columns bytes (whole_at (codes "endColumn") r)))
+
+-- ---- by offsets
+
+-- So many code units behind an offset, over the characters there: inside a character its start, behind the last one
+-- nowhere.
+abbrev pub units_on : PositionEncoding → ℕ → ℕ → List Character → Option ℕ
+units_on e at count [] = if count == 0 then Some at else None
+units_on e at count (c ∷ cs) =
+    if nat_lt count (units e c) then Some at else units_on e (at + c.bytes) (count - units e c) cs
+
+abbrev pub units_behind : PositionEncoding → List ℕ → ℕ → ℕ → Option ℕ
+units_behind e bytes at count = units_on e at count (characters (drop at bytes))
+
+abbrev pub stretch_behind : PositionEncoding → List ℕ → ℕ → Option ℕ → Option Stretch
+stretch_behind e bytes count None = None
+stretch_behind e bytes count (Some start) = stretch_from (Some start) (units_behind e bytes start count)
+
+-- so many characters from an offset in characters on
+abbrev pub char_stretch : PositionEncoding → List ℕ → ℕ → ℕ → Option Stretch
+char_stretch e bytes from count = stretch_behind e bytes count (units_behind e bytes 0 from)
+
+abbrev pub byte_stretch : List ℕ → ℕ → ℕ → Option Stretch
+byte_stretch bytes from count =
+    if nat_le (from + count) (length bytes) then Some (record { start = from; end = from + count }) else None
+
+-- 0 where it isn't said
+abbrev pub count_at : List ℕ → Data → ℕ
+count_at key r = unwrap_or (whole_at key r) 0
+
+abbrev pub stretch_by_chars : PositionEncoding → List ℕ → Data → Option Stretch
+stretch_by_chars e bytes r =
+    option_and_then (λ from. char_stretch e bytes from (count_at (codes "charLength") r))
+    (whole_at (codes "charOffset") r)
+
+abbrev pub stretch_by_bytes : List ℕ → Data → Option Stretch
+stretch_by_bytes bytes r =
+    option_and_then (λ from. byte_stretch bytes from (count_at (codes "byteLength") r))
+    (whole_at (codes "byteOffset") r)
+
+-- ---- all of it
+
+abbrev pub has_line : Data → Bool
+has_line r = is_some (whole_at (codes "startLine") r)
+
+abbrev pub has_chars : Data → Bool
+has_chars r = is_some (whole_at (codes "charOffset") r)
+
+abbrev pub has_bytes : Data → Bool
+has_bytes r = is_some (whole_at (codes "byteOffset") r)
+
+-- whether it is said where a region begins
+abbrev pub is_told : Data → Bool
+is_told r = has_line r || (has_chars r || has_bytes r)
+
+-- the bytes of a region: by its lines, else by its characters, else by its bytes
+abbrev pub stretch_in : PositionEncoding → List ℕ → Data → Option Stretch
+stretch_in e bytes r =
+    if has_line r then line_stretch e bytes r
+    else if has_chars r then stretch_by_chars e bytes r else stretch_by_bytes bytes r

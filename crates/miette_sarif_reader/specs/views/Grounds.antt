@@ -1,5 +1,6 @@
 -- By what a run's results are read, as its files are seen.
-use Rattle.std.specs.Prelude.{ℕ, List, Option}
+use Rattle.std.specs.Prelude.{ℕ, List, Option, option_map}
+use Rattle.serde_json.specs.View.{view}
 use Rattle.miette_protocol.specs.rules.Reading.{Source}
 use Rattle.miette_readers.specs.views.Values.{seen}
 use Rattle.miette_sarif_reader.specs.rules.Results as results
@@ -9,6 +10,8 @@ abbrev pub ground_in : {F : Type 0} → (F → List ℕ → Option Source) → G
 ground_in found it = record {
   files = found it.files.now;
   encoding = it.encoding;
-  rules = seen it.rules.items;
-  artifacts = seen it.artifacts.items;
+  rules = seen it.lists.now.rules.items;
+  artifacts = seen it.lists.now.artifacts.items;
+  bases = option_map (λ v. view v.now) it.bases;
+  strings = option_map (λ v. view v.now) it.strings;
 }

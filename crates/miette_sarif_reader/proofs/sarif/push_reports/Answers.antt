@@ -5,7 +5,7 @@ use Rattle.serde_json.specs.declared.value.Value.{Value}
 use Rattle.miette_protocol.specs.rules.Reading.{Source}
 use Rattle.miette_readers.specs.views.Values.{seen}
 use Rattle.miette_tree.specs.views.Report.{tree_of}
-use Rattle.miette_sarif_reader.specs.rules.Logs.{result_tree}
+use Rattle.miette_sarif_reader.specs.rules.Logs.{result_in, result_tree}
 use Rattle.miette_sarif_reader.specs.views.Grounds.{ground_in}
 use Rattle.miette_sarif_reader.proofs.Steps.{more}
 use Rattle.miette_sarif_reader.proofs.sarif.push_reports.Goals as goal
@@ -21,7 +21,8 @@ loop-finding-preserved g c =
     c.finding-item.is (map tree) (tree next ∷ []) (map-append tree (seen (take l.finding-index all)) (next ∷ []))
     (map value c.args.list.now.items) (map value l.list.items) (map value c.push_item.new.list.items)
     (ap (map value) c.in_ok-push_item.ensures ∙ map-append value l.list.items (c.in_ok-report.report ∷ [])
-    ∙ ap (λ t. map value l.list.items ++ t ∷ []) c.in_ok-report.ensures) l.invariant
+    ∙ ap (λ t. map value l.list.items ++ t ∷ [])
+    (c.in_ok-report.ensures ∙ ap (λ ground. result_in ground next) c.ground_for.ensures)) l.invariant
 
 pub returns : goal.returns
 returns g c =

@@ -1,0 +1,3 @@
+int piece(int *p) {
+    return *p; // é
+}

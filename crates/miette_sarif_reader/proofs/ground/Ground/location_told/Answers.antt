@@ -1,0 +1,15 @@
+use Rattle.std.proofs.Common.{ℕ, List, Option, ap}
+use Rattle.serde_json.specs.View.{view}
+use Rattle.miette_readers.specs.rules.Places.{Told}
+use Rattle.miette_sarif_reader.specs.rules.Results.{file_of, region_of, told_at}
+use Rattle.miette_sarif_reader.specs.views.Grounds.{ground_in}
+use Rattle.miette_sarif_reader.proofs.Returned.{returned}
+use Rattle.miette_sarif_reader.proofs.ground.Ground.location_told.Goals as goal
+
+pub returns : goal.returns
+returns g c =
+    let ground = ground_in g.F.Files.found c.args.self.now in
+    let l = view c.args.location.now in
+    returned c.told_at.result (λ (t : Told). t) _ _
+    (ap (λ (row : Option (List ℕ)). told_at ground row c.args.primary c.args.own (file_of ground l) (region_of l))
+    c.in_ok-row.ensures) c.told_at.ensures
