@@ -1,11 +1,11 @@
 #!/usr/bin/env python3
 """read_back.py: the SARIF logs that the built `job` writes, read back by the built `show`.
 
-Each description of job-sarif.jsonl, its texts without braces and its sources named apart, has its log by
-`job --sarif`. `show --from sarif --json`, over each of these sources in a file of its name, has to tell what is kept
-of the description, by this model: a report for each result, with its severity, its code and the URL of that code's
-rule; as its message the rows that the log has; its labels with their texts, each widened to whole characters; its
-fixes, as the log has them. What else becomes of them:
+Each description of job-sarif.jsonl, its sources named apart, has its log by `job --sarif`. `show --from sarif --json`,
+over each of these sources in a file of its name, has to tell what is kept of the description, by this model: a report
+for each result, with its severity, its code and the URL of that code's rule; as its message the rows that the log has;
+its labels with their texts, each widened to whole characters; its fixes, as the log has them. What else becomes of
+them:
 
 - labels over the same bytes of a source are one, and one without a text within another one of its source is left out;
   in which lists they stand readers_model.py says
@@ -31,22 +31,15 @@ from sarif_model import Artifacts, Edit, applies, found_in, groups_of, primary_o
 from sarif_reader_model import name_of
 
 SEVERITIES = {"advice": "advice", "warning": "warning"}
-# what stands beside braces in messages
-PLAIN = str.maketrans("{}", "()")
-TEXTS = ("message", "help", "label", "url", "causes")
 
 
 # ---- descriptions
 
 
 def descriptions():
-    """The descriptions, each with its texts without braces and its sources named apart."""
+    """The descriptions, each with its sources named apart."""
     with open(os.path.join(HERE, "job-sarif.jsonl"), encoding="utf-8") as file:
         return [named_apart(json.loads(row)["report"], []) for row in file]
-
-
-def without_braces(value):
-    return [it.translate(PLAIN) for it in value] if isinstance(value, list) else value and value.translate(PLAIN)
 
 
 def named_apart(value, named):
@@ -55,7 +48,7 @@ def named_apart(value, named):
         return [named_apart(it, named) for it in value]
     if not isinstance(value, dict):
         return value
-    made = {key: without_braces(it) if key in TEXTS else named_apart(it, named) for key, it in value.items()}
+    made = {key: named_apart(it, named) for key, it in value.items()}
     if made.get("source", {}).get("name"):
         named.append(f"{made['source']['name']}-{len(named) + 1}")
         made["source"] = {**made["source"], "name": named[-1]}
@@ -186,7 +179,7 @@ def kept(description, files):
     rules, made = rules_of(found), []
     for it in found:
         said = sarif_model.result(it, rules, artifacts)["message"]["text"]
-        made.append(Kept(it, files, artifacts).report(said, rules))
+        made.append(Kept(it, files, artifacts).report(said.replace("{{", "{").replace("}}", "}"), rules))
     return made
 
 

@@ -10,7 +10,7 @@ ghost use Rattle.miette_protocol.specs.rules.Reading.{Source};
 ghost use Rattle.miette_reader_laws.specs.laws.Applying.{AllFixesApply};
 ghost use Rattle.miette_reader_laws.specs.laws.Standing.{Stands};
 ghost use Rattle.miette_sarif_reader.specs.rules.Logs.{result_tree};
-ghost use Rattle.miette_sarif_reader.specs.rules.Results.{Ground, message_in};
+ghost use Rattle.miette_sarif_reader.specs.rules.Results.{Ground, ground_for, message_in, strings_of};
 ghost use Rattle.miette_tool_laws.specs.laws.GccTexts as gcc_texts;
 ghost use Rattle.miette_tool_laws.specs.laws.LogTexts as log_texts;
 ghost use Rattle.miette_tree.specs.rules.Tree.{head};
@@ -35,8 +35,11 @@ pub fn gcc_texts_stand()
 {}
 
 /// The message of a result of a SARIF log is its report's (`message`), and the texts of its locations, of the related
-/// ones and of its proposals stand in the report (`texts`), but of a proposal that replaces nothing.
+/// ones, of the steps of its flows that have a location, and of its proposals stand in the report (`texts`), but of a
+/// proposal that replaces nothing.
 pub fn log_texts_stand()
-    ensures message { (g : Ground) (r : Data) → (head (result_tree g r)).message ≡ unwrap_or (message_in r) [] }
-    ensures texts { (g : Ground) (r : Data) → AllByRecursion (Stands (result_tree g r)) (log_texts.texts_of g r) }
+    ensures message { (g : Ground) (r : Data)
+        → (head (result_tree g r)).message ≡ unwrap_or (message_in (strings_of g r) r) [] }
+    ensures texts { (g : Ground) (r : Data)
+        → AllByRecursion (Stands (result_tree g r)) (log_texts.texts_of (ground_for g r) r) }
 {}
