@@ -178,9 +178,8 @@ def rule_id(result):
 
 
 # what stands for something else in a text: a pair with a backslash, a link, two braces, the number of an argument
-DESTINATION = r"\([!-'*-Z\\^-~(]+\)"
-LINK = r"\[(?P<text>(?:\\[\s\S]|[^\[\]\\])*)\]" + DESTINATION
-PIECE = re.compile(rf"(?P<pair>\\[\[\]\\])|{LINK}|(?P<brace>[{{}}])(?P=brace)|\{{(?P<number>[0-9]+)\}}")
+LINK = r"\[(?P<text>(?:\\[\s\S]|[^\[\]\\])*)\]\([!-(*-Z\\^-~]+\)"
+PIECE = rf"(?P<pair>\\[\[\]\\])|{LINK}|(?P<brace>[{{}}])(?P=brace)|\{{0*(?P<number>%s)\}}"
 
 
 def shown(text, arguments, in_link=False):
@@ -190,12 +189,9 @@ def shown(text, arguments, in_link=False):
             return found["pair"][1:] if in_link else found["pair"]
         if found["text"] is not None:
             return shown(found["text"], arguments, True)
-        if found["brace"]:
-            return found["brace"]
-        number = int(found["number"])
-        given = arguments[number] if number < len(arguments) else None
-        return given if isinstance(given, str) else found[0]
-    return PIECE.sub(piece, text)
+        return found["brace"] or arguments[int(found["number"])]
+    numbers = "|".join(str(at) for at, it in enumerate(arguments) if isinstance(it, str))
+    return re.sub(PIECE % (numbers or "(?!)"), piece, text)
 
 
 def message(value, strings):
