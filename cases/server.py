@@ -7,7 +7,7 @@
 - Frames that are broken: without a length, with one that lies, cut off anywhere.
 - Bodies of many bytes, and lengths that no body has: how much memory that takes.
 - A writer and a reader that fail, and each growth of memory refused in turn: what was written before is whole frames.
-- Changes of a document of 1 MB: the time of each, by the processor's clock.
+- Changes of a document of 1 MB, 60 a second: each is answered; the time of each, by the processor's clock.
 - Debian's `nvim` without a screen, where it is there: it opens a file, is told what is found, and applies the quick fix
   of all of it; its text is then what `lint --fix` prints.
 
@@ -20,12 +20,14 @@ import shutil
 import subprocess
 import sys
 import tempfile
+import threading
+import time
 
 from programs import built, judged, library_in, program, refusals, run, run_refusing
 from server_model import frame, served
 
 SESSIONS = 400
-CHANGES, ROUND = 120, 10
+CHANGES, ROUND, A_SECOND = 120, 10, 60
 # how much processor time a change of 1 MB may take, and how much memory a body that isn't there, in bytes
 MOST_SECONDS, MOST_MEMORY = 0.05, 64_000_000
 PIECES = ["a", "be", " ", "\t", "  \t", "é", "漢字", "😀", "e\u0301", "\n", "\r\n", "\r", "\ufeff", "=1;", " \n", "x" * 30]
@@ -246,6 +248,16 @@ def read_frame(stream):
     return stream.read(size)
 
 
+def type_on(say, text):
+    """Tells so many changes of a document a second, whatever has been answered."""
+    begun = time.monotonic()
+    for version in range(1, CHANGES + 1):
+        document = {"uri": "file:///a", "version": version}
+        now = {"text": f"x{version} \n" + text}
+        say("textDocument/didChange", {"textDocument": document, "contentChanges": [now]})
+        time.sleep(max(0, begun + version / A_SECOND - time.monotonic()))
+
+
 def changes():
     """Changes of a document of 1 MB, each told as a whole: each one's diagnostics come with its version."""
     line = "    let value = combine(first, second);  // as it was\n"
@@ -263,16 +275,16 @@ def changes():
         say("textDocument/didOpen", {"textDocument": {"uri": "file:///a", "version": 0, "text": text}})
         read_frame(server.stdout)
         times, versions = [seconds_of(server.pid)], []
+        typing = threading.Thread(target=type_on, args=(say, text), daemon=True)
+        typing.start()
         for version in range(1, CHANGES + 1):
-            now = f"x{version} \n" + text
-            document = {"uri": "file:///a", "version": version}
-            say("textDocument/didChange", {"textDocument": document, "contentChanges": [{"text": now}]})
             told = json.loads(read_frame(server.stdout))["params"]
             versions.append((told["version"], len(told["diagnostics"])))
             if version % ROUND == 0:
                 times.append(seconds_of(server.pid))
         # beside other work a processor is slower, so the quickest round counts
         taken = min(after - before for before, after in zip(times, times[1:])) / ROUND
+        typing.join()
         say("shutdown", None, {"id": 1})
         read_frame(server.stdout)
         say("exit", None)
