@@ -26,10 +26,10 @@ each_lane : (v : List ℕ) → map (top 7) (map (λ x. hit x 10) v) ≡ map is_l
 each_lane [] = refl
 each_lane (x ∷ xs) = ap₂ (λ a b. a ∷ b) (top_of (eqb x 10)) (each_lane xs)
 
-pub feeds_mask : (v : List ℕ) → length v ≡ 32 → mask_l (map (top 7) (zip2 hit v (replicate 32 10))) % 2 ^ 64
+pub feeds_mask : (v : List ℕ) → length v ≡ 16 → mask_l (map (top 7) (zip2 hit v (replicate 16 10))) % 2 ^ 64
     ≡ mask_l (map is_line_feed v)
 feeds_mask v long =
-    ap (λ l. mask_l (map (top 7) l) % 2 ^ 64) (zip2_splat hit v 32 10 long) ∙ ap (λ l. mask_l l % 2 ^ 64) (each_lane v)
+    ap (λ l. mask_l (map (top 7) l) % 2 ^ 64) (zip2_splat hit v 16 10 long) ∙ ap (λ l. mask_l l % 2 ^ 64) (each_lane v)
     ∙ mask_l-mod (map is_line_feed v) 64 (omega (arith, length-map v is_line_feed, long))
 
 -- ---- what the mask of a block says of the bytes before the first line feed

@@ -2,20 +2,23 @@
 use Rattle.std.proofs.Common.{◌≡◌, ℕ, zero, suc, ◌+◌, ◌<◌, ◌≤◌, Bool, true, false, ◌&&◌, ◌==◌, List, [], ◌∷◌, ◌++◌}
 use Rattle.std.proofs.Common.{IsAscii, IsUtf8, length, take, drop, get_or, refl, sym, ap, ◌∙◌, arith, subst, eqb-true}
 use Rattle.std.proofs.Common.{if◌then◌else◌}
-use Rattle.std.specs.Prelude.{chars}
+use Rattle.std.specs.Prelude.{chars, encode_utf8}
+use Rattle.std.specs.Char.{is_whitespace}
 use Rattle.std.specs.List.{All}
 use Rattle.std.specs.Str.{IsCharBoundary}
 use Rattle.std.proofs.lemmas.Bool.{and_parts}
 use Rattle.std.proofs.lemmas.Bool.Decides.{nat_tests}
 use Rattle.std.proofs.lemmas.List.{drop_more, take-append-drop}
 use Rattle.std.proofs.lemmas.List.Elements.{All-cons, All-nil}
+use Rattle.std.proofs.Math.Bool.{and-false}
 use Rattle.std.proofs.lemmas.Str.{IsCharBoundary-from_take, IsUtf8-from_ascii, chars-IsAscii, chars-append}
+use Rattle.std.proofs.lemmas.Str.{chars_past_char, encode_ascii}
 use Rattle.std.proofs.lemmas.Str.Ascii.{IsAscii-cons, IsAscii-from_all, IsAscii-nil}
 use Rattle.miette_basics.specs.rules.Lists.{is_nil}
 use Rattle.miette_style.specs.rules.Escapes.{is_escape}
 use Rattle.miette_runs.specs.rules.Colours.{is_colour, is_colour_behind, is_colour_end}
-use Rattle.miette_runs.specs.rules.Sequences.{after_colour_escape_len, begins, colour_end_len, colour_len, is_parameter}
-use Rattle.miette_runs.specs.rules.Sequences.{one_more, tokens}
+use Rattle.miette_runs.specs.rules.Sequences.{after_colour_escape_len, after_escape_len, begins, colour_end_len}
+use Rattle.miette_runs.specs.rules.Sequences.{colour_len, is_parameter, one_more, tokens}
 use Rattle.miette_runs.proofs.Counting.{counted}
 use Rattle.miette_runs.proofs.Tokens.{colour-sequence, nil_of, tokens_character, tokens_sequence}
 use Rattle.miette_text.specs.steps.WholeText.{are_passed, front_len}
@@ -141,3 +144,19 @@ front_passed b bs n u p w e =
       boundary = IsCharBoundary-from_take bs n u w own;
       same = sym (ap (λ cs. are_passed b (tokens cs)) text ∙ none.passed rest);
     }
+
+-- ---- what is seen at the front
+
+visible : (c : ℕ) (b : Bool) (bs : List ℕ) → 33 ≤ c → c ≤ 126 → are_passed b (tokens (c ∷ bs)) ≡ false
+visible c b bs h k =
+    let own : is_escape c ≡ false = grind (arith, nat_tests) in
+    let ink : is_whitespace c ≡ false = grind (arith, nat_tests) in
+    ap (are_passed b) (tokens_character c bs (ap (λ (t : Bool). if t then one_more (after_escape_len bs) else 0) own))
+    ∙ ap (λ t. (b && t) && are_passed b (tokens bs)) ink ∙ ap (λ t. t && are_passed b (tokens bs)) (and-false b)
+
+pub seen_front : (bs rest : List ℕ) (c : ℕ) (b : Bool) → IsUtf8 bs → bs ≡ c ∷ rest → 33 ≤ c → c ≤ 126
+    → are_passed b (tokens (chars bs)) ≡ false
+seen_front bs rest c b u e h k =
+    let own : encode_utf8 c ≡ c ∷ [] = encode_ascii c (omega (arith, k)) in
+    ap (λ cs. are_passed b (tokens cs)) (chars_past_char bs rest c u (e ∙ ap (λ cs. cs ++ rest) (sym own)))
+    ∙ visible c b (chars rest) h k

@@ -9,7 +9,7 @@ ghost use Rattle.miette_text.specs.steps.WholeText.{is_in_row};
 use std::simd::prelude::*;
 
 /// How many bytes are looked at together.
-const BLOCK: usize = 32;
+const BLOCK: usize = 16;
 
 /// How many bytes stand before the first line feed, or at all.
 pub(crate) fn row_len(bytes: &[u8]) -> usize
@@ -17,7 +17,7 @@ pub(crate) fn row_len(bytes: &[u8]) -> usize
 {
     let mut len = 0;
     while bytes.len() - len >= BLOCK {
-        let feeds = feeds_in(u8x32::from_slice(&bytes[len..]));
+        let feeds = feeds_in(u8x16::from_slice(&bytes[len..]));
         if feeds != 0 {
             return len + feeds.trailing_zeros() as usize;
         }
@@ -31,10 +31,10 @@ pub(crate) fn row_len(bytes: &[u8]) -> usize
 
 /// A bit for each byte of a block, the lowest for its first: whether it is a line feed.
 #[inline(always)]
-fn feeds_in(block: u8x32) -> u64
+fn feeds_in(block: u8x16) -> u64
     ensures { result ≡ mask_l (map is_line_feed block) }
 {
-    block.simd_eq(u8x32::splat(b'\n')).to_bitmask()
+    block.simd_eq(u8x16::splat(b'\n')).to_bitmask()
 }
 
 fn is_feed(byte: u8) -> bool

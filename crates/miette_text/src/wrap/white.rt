@@ -1,6 +1,6 @@
 //! Lines in which nothing is seen.
 
-ghost use Rattle.std.specs.Prelude.{◌≡◌, ◌≤◌, ◌∷◌, ℕ, Bool, List, chars, length};
+ghost use Rattle.std.specs.Prelude.{◌≡◌, ◌≤◌, ◌∷◌, ℕ, Bool, List, chars, false, length, true};
 ghost use Rattle.miette_runs.specs.rules.Sequences.{colour_end_len, colour_len, is_parameter, tokens};
 ghost use Rattle.miette_text.specs.declared.wrap.white.Place.TheVariants.{Outside, Escape, Control, Command};
 ghost use Rattle.miette_text.specs.steps.WholeText.{are_passed, front_len, passed_from, passed_through};
@@ -63,6 +63,16 @@ fn behind_front(text: &str, blanks: bool) -> &str
             return rest;
         }
         rest = &rest[len..];
+    }
+}
+
+// Whether a text begins with a character from `!` to `~`, which is in no sequence and isn't white.
+fn begins_seen(text: &str) -> bool
+    ensures { result ≡ true → (blanks : Bool) → are_passed blanks (tokens (chars text.now)) ≡ false }
+{
+    match text.as_bytes() {
+        [byte, ..] => b'!' <= *byte && *byte <= b'~',
+        [] => false,
     }
 }
 
@@ -174,5 +184,6 @@ fn walk_passes(text: &str, blanks: bool) -> bool
 pub(crate) fn is_passed(text: &str, blanks: bool) -> bool
     ensures { result ≡ are_passed blanks (tokens (chars text.now)) }
 {
-    walk_passes(behind_front(text, blanks), blanks)
+    let rest = behind_front(text, blanks);
+    !begins_seen(rest) && walk_passes(rest, blanks)
 }

@@ -70,17 +70,23 @@ fn push_last<S: Sink>(out: &mut S, indent: RunsSlice<'_>, line: &str) -> Result<
     push_line(out, indent, line)
 }
 
-// A line under an indent that prints this.
+// From so many bytes on an indent is printed once for all their lines.
+const LONG: usize = 256;
+
+// A line under an indent, which prints this where that is known.
 fn push_printed<S: Sink>(
     out: &mut S,
     indent: RunsSlice<'_>,
-    printed: &str,
+    printed: Option<&str>,
     line: &str,
 ) -> Result<(), AllocError>
-    requires { chars printed.now ≡ spell (interleaving 0 indent.codes.now indent.tags.now) }
+    requires { IfSome printed (λ it. chars it.now ≡ spell (interleaving 0 indent.codes.now indent.tags.now)) }
     ensures { OnOk result (S.written out.new ≡ S.written out.old
         ++ line_under (interleaving 0 indent.entry.codes.now indent.entry.tags.now) (chars line.now)) }
 {
+    let Some(printed) = printed else {
+        return push_line(out, indent, line);
+    };
     if is_passed(line, true) {
         return push_line(out, indent, line);
     }
@@ -88,14 +94,14 @@ fn push_printed<S: Sink>(
     out.push_str(line)
 }
 
-// The lines of a text, each whole under an indent that prints this.
+// The lines of a text, each whole under an indent, which prints this where that is known.
 fn push_further<S: Sink>(
     out: &mut S,
     indent: RunsSlice<'_>,
-    printed: &str,
+    printed: Option<&str>,
     text: &str,
 ) -> Result<(), AllocError>
-    requires { chars printed.now ≡ spell (interleaving 0 indent.codes.now indent.tags.now) }
+    requires { IfSome printed (λ it. chars it.now ≡ spell (interleaving 0 indent.codes.now indent.tags.now)) }
     ensures { let under = interleaving 0 indent.entry.codes.now indent.entry.tags.now in
         OnOk result (S.written out.new ≡ S.written out.old
         ++ spell (whole_lines under under (text_lines (tokens (chars text.now))))) }
@@ -131,7 +137,10 @@ pub(crate) fn push_whole<S: Sink>(
     };
     push_line(out, first, line)?;
     out.push('\n')?;
+    if behind.len() < LONG {
+        return push_further(out, further, None, behind);
+    }
     let mut printed = String::with_capacity(alloc, further.codes.len())?;
     push_all(&mut printed, further)?;
-    push_further(out, further, printed.as_str(), behind)
+    push_further(out, further, Some(printed.as_str()), behind)
 }

@@ -17,14 +17,14 @@ returns-in_default g c =
     (option_copied c.first_line.result.1) (ap option_copied c.in_default.is) c.first_line.ensures.line))
     c.push_last.ensures
 
-pub push_further-requires : goal.push_further-requires
-push_further-requires g c =
+pub push_further-requires-2 : goal.push_further-requires-2
+push_further-requires-2 g c =
     let further = interleaving 0 c.args.further.codes.now c.args.further.tags.now in
     ap chars c.as_str.ensures.value ∙ c.in_ok-push_all.ensures
     ∙ ap (λ bs. chars bs ++ spell further) c.in_ok-printed.ensures.bytes ∙ ap (λ cs. cs ++ spell further) chars-nil
 
-pub returns : goal.returns
-returns g c =
+pub returns-then-behind-lt-LONG : goal.returns-then-behind-lt-LONG
+returns-then-behind-lt-LONG g c =
     let indent = interleaving 0 c.args.first.codes.now c.args.first.tags.now in
     let further = interleaving 0 c.args.further.codes.now c.args.further.tags.now in
     on_ok_weaker c.push_further.result (λ h. h
@@ -32,3 +32,13 @@ returns g c =
     (option_copied c.first_line.result.1) (g.S.Canvas.written c.args.out.now) (g.S.Canvas.written c.push_line.new.out)
     (g.S.Canvas.written c.push.new.self) (ap option_copied c.in-Some.is) c.first_line.ensures.line
     c.in_ok-push_line.ensures c.in_ok-push.ensures) c.push_further.ensures
+
+pub returns : goal.returns
+returns g c =
+    let indent = interleaving 0 c.args.first.codes.now c.args.first.tags.now in
+    let further = interleaving 0 c.args.further.codes.now c.args.further.tags.now in
+    on_ok_weaker c.push_further-2.result (λ h. h
+    ∙ line-printed indent further (chars c.args.text.now) (chars c.first_line.result.0.now) c.in-Some.behind.now
+    (option_copied c.first_line.result.1) (g.S.Canvas.written c.args.out.now) (g.S.Canvas.written c.push_line.new.out)
+    (g.S.Canvas.written c.push.new.self) (ap option_copied c.in-Some.is) c.first_line.ensures.line
+    c.in_ok-push_line.ensures c.in_ok-push.ensures) c.push_further-2.ensures
