@@ -113,25 +113,15 @@ fn push_escape(out: &mut String, byte: u8) -> Result<(), AllocError>
     ensures { OnOk result (string_bytes out.new ≡ string_bytes out.old ++ escape_byte byte) }
 {
     match byte {
-        b'"' => push_short(out, '"'),
-        b'\\' => push_short(out, '\\'),
-        b'\n' => push_short(out, 'n'),
-        b'\r' => push_short(out, 'r'),
-        b'\t' => push_short(out, 't'),
-        0x08 => push_short(out, 'b'),
-        0x0c => push_short(out, 'f'),
+        b'"' => out.push_str("\\\""),
+        b'\\' => out.push_str("\\\\"),
+        b'\n' => out.push_str("\\n"),
+        b'\r' => out.push_str("\\r"),
+        b'\t' => out.push_str("\\t"),
+        0x08 => out.push_str("\\b"),
+        0x0c => out.push_str("\\f"),
         _ => push_control(out, byte),
     }
-}
-
-/// `\n`
-#[inline(always)]
-fn push_short(out: &mut String, letter: char) -> Result<(), AllocError>
-    requires { letter < 128 }
-    ensures { OnOk result (string_bytes out.new ≡ string_bytes out.old ++ 92 ∷ letter ∷ []) }
-{
-    out.push('\\')?;
-    out.push(letter)
 }
 
 /// `\u001b`
