@@ -34,7 +34,7 @@ counted_as dots near p (c ∷ cs) =
     ∙ ap (λ n. cond (eqb c.from c.until) (shown_columns dots near p cs)
     (cond (near c) (min p dots + (w + shown_columns dots near 0 cs)) n)) (counted_as dots near (p + w) cs)
 
-none_counted : (dots : ℕ) (near : Cell → Bool) (cells : List Cell) →
+pub none_counted : (dots : ℕ) (near : Cell → Bool) (cells : List Cell) →
     whole_count dots near (record { shown = 0; passed = 0 }) cells
     ≡ text_columns dots (with_short dots (stretches near false cells))
 none_counted dots near cells =
@@ -60,10 +60,10 @@ cell_passed dots near count c rest none = rw none refl
 
 -- ---- cells of one column each, all near or none
 
-apart : (n : ℕ) → eqb n (n + 1) ≡ false
+pub apart : (n : ℕ) → eqb n (n + 1) ≡ false
 apart n = grind (arith, nat_tests)
 
-abbrev byte_cell : ℕ → ℕ → ℕ → Cell
+abbrev pub byte_cell : ℕ → ℕ → ℕ → Cell
 byte_cell b o c = record { code = b; start = o; after = o + 1; from = c; until = c + 1 }
 
 one_near : (dots : ℕ) (room : Room) (es : List ℕ) (p b o c : ℕ) (cells : List Cell)
@@ -239,12 +239,6 @@ line_counted dots near limit first walk left count next whole f counts inv =
     ap (whole_count dots near count) (sym f.cells_are) ∙ inv in
     subst (λ n. IsCounted limit next (whole_count dots near next left) n) same
     (counts f.bytes left f.printable f.many)
-
-pub line_first : (dots : ℕ) (near : Cell → Bool) (cells : List Cell) (limit : ℕ) (count : Count) (left : ℕ)
-    → IsCounted limit count left (whole_count dots near (record { shown = 0; passed = 0 }) cells)
-    → IsCounted limit count left (text_columns dots (with_short dots (stretches near false cells)))
-line_first dots near cells limit count left h =
-    subst (λ n. IsCounted limit count left n) (none_counted dots near cells) h
 
 -- more is shown than the limit
 pub line_over : (limit : ℕ) (count : Count) (left whole : ℕ) → limit < count.shown → IsCounted limit count left whole

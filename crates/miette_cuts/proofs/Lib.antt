@@ -14,3 +14,4 @@ pub mod RowWidth
 pub mod StopColumns
 pub mod TabbedText
 pub mod TextWithoutTabs
+pub mod WindowColumns

@@ -109,7 +109,7 @@ later_ends : (e : ℕ) (es : List ℕ) → IsNonDecreasing (e ∷ es) → IsNonD
 later_ends e es up = λ i j d le lt. up (suc i) (suc j) d (omega (arith, le)) (omega (arith, lt))
 
 -- ends behind one that a cell doesn't reach
-none_within : (reach : ℕ) (cell : Cell) (e : ℕ) (es : List ℕ) → cell.until + reach ≤ e → IsNonDecreasing (e ∷ es)
+pub none_within : (reach : ℕ) (cell : Cell) (e : ℕ) (es : List ℕ) → cell.until + reach ≤ e → IsNonDecreasing (e ∷ es)
     → list_any (is_within reach cell) es ≡ false
 none_within reach cell e [] far up = refl
 none_within reach cell e (x ∷ es) far up =

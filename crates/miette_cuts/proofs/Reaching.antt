@@ -16,9 +16,13 @@ use Rattle.miette_snippet_rules.specs.rules.CutLines.{reach_of, stretches, text_
 use Rattle.miette_snippet_rules.proofs.TextColumns.{largest_is}
 use Rattle.miette_cuts.specs.declared.nearness.Room.{Room}
 use Rattle.miette_cuts.specs.declared.stretch.Stretch.{Stretch as MadeStretch}
+use Rattle.miette_cuts.specs.declared.window.Window.{Window}
 use Rattle.miette_cuts.specs.views.Cuts.{measure}
 use Rattle.miette_cuts.specs.steps.Cut.{kept_made, made_with_short, onto_made}
+use Rattle.miette_cuts.specs.steps.Counting.{whole_count}
 use Rattle.miette_cuts.specs.steps.Nearness.{near_by}
+use Rattle.miette_cuts.specs.steps.Windows.{HoldsNear}
+use Rattle.miette_cuts.proofs.CountedColumns.{none_counted}
 use Rattle.miette_cuts.proofs.CutStretches.{measure-onto}
 use Rattle.miette_cuts.proofs.NearEnds.{any-moved}
 use Rattle.miette_cuts.proofs.RowWidth.{text_grows}
@@ -122,19 +126,26 @@ pub near_room : (room : Room) (es : List ℕ) (cells : List Cell) → 0 < length
 near_room room [] cells some = absurd (omega (arith, some))
 near_room room (e ∷ es) cells some = refl
 
+-- what is counted of a window tells whether there is room
+window_room : (room : Room) (es : List ℕ) (cells : List Cell) (w : Window) → HoldsNear room.limit es cells w
+    → room.reach ≤ room.limit → 0 < length es →
+    leb (whole_count room.dots (near_by room es) (record { shown = 0; passed = w.column }) w.walk) room.limit
+    ≡ leaves_room room.limit room.dots es cells room.reach
+window_room room es cells w h le some =
+    ap (λ n. leb n room.limit) (ap (λ n. 0 + n) (h.counts room le) ∙ none_counted room.dots (near_by room es) cells
+    ∙ ap (text_columns room.dots) (near_room room es cells some))
+
 -- the same, by what was found of one between them
-pub halved_by : (room : Room) (es : List ℕ) (cells read : List Cell) (low high next last : ℕ) (enough : Bool)
-    → low < high → room.reach ≡ high - (high - low) / 2 → 0 < length es → read ≡ cells → enough
-    ≡ leb (text_columns room.dots (with_short room.dots (stretches (near_by room es) false read))) room.limit →
+pub halved_by : (room : Room) (es : List ℕ) (cells : List Cell) (w : Window) (low high next last : ℕ) (enough : Bool)
+    → low < high → room.reach ≡ high - (high - low) / 2 → 0 < length es → HoldsNear room.limit es cells w → enough
+    ≡ leb (whole_count room.dots (near_by room es) (record { shown = 0; passed = w.column }) w.walk) room.limit →
     (enough ≡ true → (next ≡ room.reach) × (last ≡ high)) →
     (enough ≡ false → (next ≡ low) × (last ≡ room.reach - 1)) →
     IsBetween (leaves_room room.limit room.dots es cells) room.limit low high →
     IsBetween (leaves_room room.limit room.dots es cells) room.limit next last × (last - next < high - low)
-halved_by room es cells read low high next last enough lt r some same is on off h =
+halved_by room es cells w low high next last enough lt r some held is on off h =
     halved room.limit room.dots es cells low high room.reach next last enough lt r
-    (is ∙ ap (λ (cs : List Cell). leb (text_columns room.dots
-    (with_short room.dots (stretches (near_by room es) false cs))) room.limit) same
-    ∙ ap (λ cut. leb (text_columns room.dots cut) room.limit) (near_room room es cells some)) on off h
+    (is ∙ window_room room es cells w held (omega (arith, r, h.most)) some) on off h
 
 pub halving_ends : (limit many : ℕ) (es : List ℕ) (cells : List Cell) (low high : ℕ) → high ≤ low
     → IsBetween (leaves_room limit many es cells) limit low high → low ≡ reach_of limit many es cells

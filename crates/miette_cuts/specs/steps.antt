@@ -7,3 +7,4 @@ pub mod Moving
 pub mod Nearness
 pub mod Stops
 pub mod Tabs
+pub mod Windows

@@ -1,19 +1,20 @@
 //! Whether what is shown of a line has room in its row: its columns are counted up to the limit.
 
-ghost use Rattle.std.specs.Prelude.{◌≡◌, ◌∷◌, ◌++◌, ℕ, List, true, false, length, IfOk, nat_le};
+ghost use Rattle.std.specs.Prelude.{◌≡◌, ◌∷◌, ◌++◌, ◌&&◌, ℕ, List, true, length, IfOk, nat_le};
 ghost use Rattle.std.specs.List.{list_all};
 ghost use Rattle.std.specs.List.Sorted.{IsNonDecreasing};
 ghost use Rattle.miette_cells.specs.rules.Cells.{Cell as TextCell};
 ghost use Rattle.miette_cells.specs.views.Printable.{is_printable, plain_cells};
 ghost use Rattle.miette_cells.specs.views.Walking.{cell_of};
-ghost use Rattle.miette_snippet_rules.specs.rules.CutLines.{stretches, text_columns, with_short};
 ghost use Rattle.miette_cuts.specs.steps.Counting.{IsCounted, counted, whole_count};
 ghost use Rattle.miette_cuts.specs.steps.Nearness.{near_by};
+ghost use Rattle.miette_cuts.specs.steps.Windows.{NoneFrom, StandTogether};
 
 use crate::nearness::{Nearness, Room};
 use crate::plain_cut::even_stretch;
+use crate::window::Window;
 use miette_basics::sums::sum;
-use miette_cells::cells::{Cell, PlainCells, Walk};
+use miette_cells::cells::{Cell, PlainCells};
 use std::alloc::AllocError;
 
 // The columns of a row's text as far as its line was gone through: those of what is shown and of dots, and those of the
@@ -87,27 +88,40 @@ fn count_plain(
     Ok(count)
 }
 
-/// Whether what is shown in this room of a line with these ends, which ascend, has no more columns than the limit.
-/// `AllocError` where a column or a count is past the largest `usize`.
-pub(crate) fn fits(walk: Walk<'_>, room: &Room, ends: &[usize]) -> Result<bool, AllocError>
-    requires { IsNonDecreasing ends.now }
-    ensures { IfOk result (λ fits. fits ≡ nat_le (text_columns room.now.dots
-        (with_short room.now.dots (stretches (near_by room.now ends.now) false walk.entry))) room.now.limit) }
+// Whether no cell from this one on is near, behind as many columns that aren't as dots have: so these are all that follows.
+fn is_past(window: &Window<'_>, room: &Room, count: &Count, cell: &Cell) -> bool
+    ensures { result ≡ (nat_le window.now.stop cell.now.from && nat_le room.now.dots count.now.passed) }
 {
-    let mut walk = walk;
+    window.stop <= cell.from && room.dots <= count.passed
+}
+
+/// Whether what is shown in this room of a line with these ends, which ascend, has no more columns than the limit; the
+/// line's window holds what may be near. `AllocError` where a column or a count is past the largest `usize`.
+pub(crate) fn fits(window: &Window<'_>, room: &Room, ends: &[usize]) -> Result<bool, AllocError>
+    requires ascending { IsNonDecreasing ends.now }
+    requires stands { StandTogether window.now.walk }
+    requires past { NoneFrom window.now.stop (near_by room.now ends.now) }
+    ensures { IfOk result (λ fits. fits ≡ nat_le (whole_count room.now.dots (near_by room.now ends.now)
+        (record { shown = 0; passed = window.now.column }) window.now.walk) room.now.limit) }
+{
+    let mut walk = window.walk.copy();
     let mut nearness = Nearness::new(room, ends);
     let none = Count {
         shown: 0,
-        passed: 0,
+        passed: window.column,
     };
-    let plain = walk.pass_plain(usize::MAX)?;
+    let plain = walk.pass_plain(window.stop.saturating_sub(window.column))?;
     let mut count = count_plain(&none, &mut nearness, &plain, room)?;
     while let Some(cell) = walk.next()? {
         if count.shown > room.limit {
             return Ok(false);
         }
+        if is_past(window, room, &count, &cell) {
+            let all = sum(count.shown, room.dots)?;
+            return Ok(all <= room.limit);
+        }
         let next = count_cell(&count, &mut nearness, &cell, room.dots)?;
-        let plain = walk.pass_plain(usize::MAX)?;
+        let plain = walk.pass_plain(window.stop.saturating_sub(cell.until))?;
         count = count_plain(&next, &mut nearness, &plain, room)?;
     }
     let width = sum(count.shown, count.passed.min(room.dots))?;

@@ -18,3 +18,4 @@ mod reach;
 pub mod stretch;
 mod sweeping;
 mod tabs;
+mod window;

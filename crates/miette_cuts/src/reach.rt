@@ -6,11 +6,13 @@ ghost use Rattle.miette_snippet_rules.specs.rules.CutLines.{cut_to, reach_of, st
 ghost use Rattle.miette_cuts.specs.views.Cuts.{measure};
 ghost use Rattle.miette_cuts.specs.steps.Cut.{made_with_short};
 ghost use Rattle.miette_cuts.specs.steps.Nearness.{near_by};
+ghost use Rattle.miette_cuts.specs.steps.Windows.{StandFrom};
 
 use crate::counting::fits;
 use crate::nearness::Room;
 use crate::stretch::{Stretch, kept_stretch, put_stretch};
 use crate::sweeping::stretches_of;
+use crate::window::window_around;
 use miette_cells::cells::Walk;
 use std::alloc::{AllocError, Global};
 
@@ -62,16 +64,18 @@ fn narrowed(low: usize, high: usize, reach: usize, enough: bool) -> (usize, usiz
 // The reach of a line with some ends, which ascend: the largest number of columns up to the limit by which its row has
 // room. What is shown grows with the reach, so it is found by halving.
 fn reach_in(walk: &Walk<'_>, limit: usize, dots: usize, ends: &[usize]) -> Result<usize, AllocError>
+    requires stands { StandFrom 0 walk.now }
     requires ascending { IsNonDecreasing ends.now }
     requires some { 0 < length ends.now }
     ensures { IfOk result (λ reach. reach ≡ reach_of limit dots ends.now walk.now) }
 {
+    let window = window_around(walk, limit, ends)?;
     let mut low: usize = 0;
     let mut high = limit;
     while low < high {
         let reach = high - (high - low) / 2;
         let room = Room { limit, dots, reach };
-        let enough = fits(walk.copy(), &room, ends)?;
+        let enough = fits(&window, &room, ends)?;
         let (from, to) = narrowed(low, high, reach, enough);
         low = from;
         high = to;
@@ -81,7 +85,8 @@ fn reach_in(walk: &Walk<'_>, limit: usize, dots: usize, ends: &[usize]) -> Resul
 
 // The room of a line with these ends, which ascend, and this limit.
 fn room_for(walk: &Walk<'_>, limit: usize, dots: usize, ends: &[usize]) -> Result<Room, AllocError>
-    requires { IsNonDecreasing ends.now }
+    requires stands { StandFrom 0 walk.now }
+    requires ascending { IsNonDecreasing ends.now }
     ensures limit { IfOk result (λ room. room.limit ≡ limit) }
     ensures dots { IfOk result (λ room. room.dots ≡ dots) }
     ensures reach { IfOk result (λ room. 0 < length ends.now → room.reach ≡ reach_of limit dots ends.now walk.now) }
@@ -106,7 +111,8 @@ pub(crate) fn cut_around(
     dots: usize,
     ends: &[usize],
 ) -> Result<Vec<Stretch>, AllocError>
-    requires { IsNonDecreasing ends.now }
+    requires stands { StandFrom 0 walk }
+    requires ascending { IsNonDecreasing ends.now }
     ensures { IfOk result (λ made. made.items ≡ map measure (cut_to limit dots ends.now walk.entry)) }
 {
     let room = room_for(&walk, limit, dots, ends)?;

@@ -9,6 +9,7 @@ use Rattle.std.proofs.lemmas.Str.{length-encode, IsCharBoundary-past_char, chars
 use Rattle.miette_highlight.specs.rules.Pieces.{Piece, CutsLine}
 use Rattle.miette_style.specs.declared.style.Style.{Style}
 use Rattle.miette_highlight.specs.declared.rule.Rule.{Rule}
+use Rattle.miette_highlight.specs.declared.tokens.OpenPart.{OpenPart}
 use Rattle.miette_highlight.specs.rules.Characters.{AreCharacters}
 use Rattle.miette_highlight.specs.rules.Tokens.{AreTokens, token_at}
 
@@ -40,7 +41,8 @@ styles_char Goes rest after c n style more utf8 e w goes h =
     (w ∙ length-encode c, goes, h)
 
 -- the tokens of a text cut it
-pub tokens-cut : (rules : List Rule) (left_open : Option ℕ) (text : List ℕ) (pieces : List Piece) (after : Option ℕ)
+pub tokens-cut : (rules : List Rule) (left_open : Option OpenPart) (text : List ℕ) (pieces : List Piece)
+    (after : Option OpenPart)
     → AreTokens rules left_open text pieces after → CutsLine text pieces
 tokens-cut rules left_open text [] after h = h.0
 tokens-cut rules left_open text (p ∷ ps) after h =

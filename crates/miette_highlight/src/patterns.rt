@@ -7,6 +7,7 @@ ghost use Rattle.miette_highlight.specs.rules.Pieces.{CutsLine, plain_pieces};
 
 use crate::highlighter::Highlighter;
 pub use crate::rule::{Delimiters, Delimiters as Marks, Pattern, Rule};
+pub use crate::tokens::OpenPart;
 use crate::tokens::pieces_of;
 use miette_protocol::source::MietteSpanContents;
 use miette_style::style::Style;
@@ -19,8 +20,8 @@ use std::alloc::{AllocError, Global};
 pub struct PatternHighlighter {
     /// The rules, those that count first before others.
     pub rules: Vec<Rule>,
-    /// The rule whose part the line before left open.
-    pub left_open: Option<usize>,
+    /// The part that the line before left open.
+    pub left_open: Option<OpenPart>,
 }
 
 impl PatternHighlighter {

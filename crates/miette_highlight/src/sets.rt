@@ -2,7 +2,7 @@
 
 ghost use Rattle.std.specs.Prelude.{◌≡◌, ◌++◌, ◌∷◌, [], IfOk, OnOk, None, map};
 ghost use Rattle.miette_highlight.specs.rules.Languages.{beginning, of_words, pattern_text, prefixed, rule_texts};
-ghost use Rattle.miette_highlight.specs.rules.Languages.{values, json_rules, rust_rules, toml_rules};
+ghost use Rattle.miette_highlight.specs.rules.Languages.{raw_text, values, json_rules, rust_rules, toml_rules};
 ghost use Rattle.miette_highlight.specs.rules.Patterns.{AreDelimiters};
 ghost use Rattle.miette_highlight.specs.steps.LanguageParts.{escape_of, part_rule, part_text};
 ghost use Rattle.miette_style.specs.declared.style.Style.{Style};
@@ -37,7 +37,7 @@ impl PatternHighlighter {
         with_values(alloc, rules, &["true", "false", "inf", "nan"])
     }
 
-    /// The highlighter of Rust. A block comment ends at the first `*/`, and raw texts have at most three hashes.
+    /// The highlighter of Rust. A block comment ends at the first `*/`.
     ///
     /// # Errors
     /// Where no memory is found for its rules.
@@ -46,6 +46,9 @@ impl PatternHighlighter {
         ensures closed { IfOk result (λ it. it.left_open ≡ None) }
     {
         let mut rules = rules_of(alloc, &RUST_PARTS)?;
+        push_raw(&mut rules, alloc, "r")?;
+        push_raw(&mut rules, alloc, "br")?;
+        push_raw(&mut rules, alloc, "cr")?;
         push_prefixed(&mut rules, b'\'', Color::Magenta)?;
         push_words(&mut rules, alloc, &RUST_WORDS, Color::Magenta)?;
         with_values(alloc, rules, &["true", "false"])
@@ -118,8 +121,7 @@ const CHARACTER: DelimitedPart = DelimitedPart {
     ..TEXT
 };
 
-// Texts in which nothing is escaped have as many hashes behind as in front, at most three.
-static RUST_PARTS: [DelimitedPart; 19] = [
+static RUST_PARTS: [DelimitedPart; 7] = [
     DelimitedPart {
         opens: "//",
         closes: "\n",
@@ -155,75 +157,6 @@ static RUST_PARTS: [DelimitedPart; 19] = [
     DelimitedPart {
         opens: "c\"",
         escapes: true,
-        goes_on: true,
-        ..TEXT
-    },
-    DelimitedPart {
-        opens: "r\"",
-        goes_on: true,
-        ..TEXT
-    },
-    DelimitedPart {
-        opens: "r#\"",
-        closes: "\"#",
-        goes_on: true,
-        ..TEXT
-    },
-    DelimitedPart {
-        opens: "r##\"",
-        closes: "\"##",
-        goes_on: true,
-        ..TEXT
-    },
-    DelimitedPart {
-        opens: "r###\"",
-        closes: "\"###",
-        goes_on: true,
-        ..TEXT
-    },
-    DelimitedPart {
-        opens: "br\"",
-        goes_on: true,
-        ..TEXT
-    },
-    DelimitedPart {
-        opens: "br#\"",
-        closes: "\"#",
-        goes_on: true,
-        ..TEXT
-    },
-    DelimitedPart {
-        opens: "br##\"",
-        closes: "\"##",
-        goes_on: true,
-        ..TEXT
-    },
-    DelimitedPart {
-        opens: "br###\"",
-        closes: "\"###",
-        goes_on: true,
-        ..TEXT
-    },
-    DelimitedPart {
-        opens: "cr\"",
-        goes_on: true,
-        ..TEXT
-    },
-    DelimitedPart {
-        opens: "cr#\"",
-        closes: "\"#",
-        goes_on: true,
-        ..TEXT
-    },
-    DelimitedPart {
-        opens: "cr##\"",
-        closes: "\"##",
-        goes_on: true,
-        ..TEXT
-    },
-    DelimitedPart {
-        opens: "cr###\"",
-        closes: "\"###",
         goes_on: true,
         ..TEXT
     },
@@ -291,6 +224,16 @@ fn push_words(
 {
     let style = Style::new().color(color);
     let pattern = Pattern::words(alloc, words)?;
+    rules.push(Rule { pattern, style })?;
+    Ok(())
+}
+
+// Raw texts behind this prefix are green.
+fn push_raw(rules: &mut Vec<Rule>, alloc: Global, prefix: &str) -> Result<(), AllocError>
+    ensures { OnOk result (rule_texts rules.new.items ≡ rule_texts rules.old.items ++ raw_text prefix.now ∷ []) }
+{
+    let style = Style::new().color(Color::Green);
+    let pattern = Pattern::Raw(String::from_str(alloc, prefix)?);
     rules.push(Rule { pattern, style })?;
     Ok(())
 }

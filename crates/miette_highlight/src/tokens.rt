@@ -1,12 +1,12 @@
 //! What rules find at the start of a text, and the pieces that they cut a line into.
 
-ghost use Rattle.std.specs.Prelude.{◌≡◌, ◌+◌, ◌^◌, ◌<◌, ◌≤◌, ◌&&◌, not, nat_eq, IsTrue, IfOk, IfSome, false};
-ghost use Rattle.std.specs.Prelude.{length, drop, string_bytes};
+ghost use Rattle.std.specs.Prelude.{◌≡◌, ◌+◌, ◌^◌, ◌<◌, ◌≤◌, ◌&&◌, ◌==◌, not, nat_eq, nat_le, IsTrue, IfOk, IfSome};
+ghost use Rattle.std.specs.Prelude.{false, length, drop, string_bytes};
 ghost use Rattle.std.specs.List.{starts_with};
 ghost use Rattle.miette_highlight.specs.rules.Patterns.{are_continuations, begins_within, character_end, close_end};
 ghost use Rattle.miette_highlight.specs.rules.Patterns.{escapes_next, is_among, is_character, is_continuation};
-ghost use Rattle.miette_highlight.specs.rules.Patterns.{is_word_byte};
-ghost use Rattle.miette_highlight.specs.rules.Patterns.{inside, match_of, prefixed_word, word_end};
+ghost use Rattle.miette_highlight.specs.rules.Patterns.{hash_count, is_hash, is_word_byte, open_over, quoted, raw_end};
+ghost use Rattle.miette_highlight.specs.rules.Patterns.{inside, match_of, prefixed_word, raw_inside, raw_text, word_end};
 ghost use Rattle.miette_highlight.specs.rules.Tokens.{AreTokens, IsToken, first_match, running_token, token_at};
 ghost use Rattle.miette_highlight.specs.rules.Tokens.{token_of};
 ghost use Rattle.miette_highlight.specs.rules.Pieces.{CutsLine};
@@ -15,6 +15,18 @@ use crate::rule::{Delimiters, Pattern, Rule};
 use miette_style::style::Style;
 use std::alloc::{AllocError, Global};
 
+/// A part of a text that a line leaves open, so that it goes on in the next one.
+#[derive(Clone, Copy, Debug, Drop)]
+pub struct OpenPart {
+    /// The number of the rule that found it.
+    pub rule: usize,
+    /// How many hashes close it, behind its quote or its closing delimiter.
+    pub hashes: usize,
+}
+
+// What is found: how many bytes, and where it stays open, how many hashes close it.
+type Found = (usize, Option<usize>);
+
 /// What stands at the start of a text.
 #[derive(Clone, Copy)]
 pub struct Token {
@@ -22,8 +34,8 @@ pub struct Token {
     pub bytes: usize,
     /// Its style.
     pub style: Style,
-    /// The rule that it leaves open.
-    pub left_open: Option<usize>,
+    /// What it leaves open.
+    pub left_open: Option<OpenPart>,
 }
 
 // Whether it belongs to a word.
@@ -113,15 +125,94 @@ fn close_end(delimiters: &Delimiters, start: usize, text: &[u8]) -> Option<usize
     None
 }
 
-// Where what lies after an opening delimiter ends, the text beginning at a place, and whether it stays open.
-fn end_of(delimiters: &Delimiters, start: usize, text: &[u8]) -> (usize, bool)
+// What stays open of a part between delimiters that has no end on its line: no hash closes it.
+fn open_over(over_lines: bool) -> Option<usize>
+    ensures { result ≡ open_over over_lines }
+{
+    if over_lines { Some(0) } else { None }
+}
+
+// Where what lies after an opening delimiter ends, the text beginning at a place.
+fn end_of(delimiters: &Delimiters, start: usize, text: &[u8]) -> Found
     requires { start + length text.now < 2 ^ 64 }
     ensures { result ≡ inside delimiters.now start text.now }
 {
     match close_end(delimiters, start, text) {
-        Some(end) => (end, false),
-        None => (start + text.len(), delimiters.over_lines),
+        Some(end) => (end, None),
+        None => (start + text.len(), open_over(delimiters.over_lines)),
     }
+}
+
+// Whether a byte is a hash.
+fn is_hash(byte: u8) -> bool
+    ensures { result ≡ is_hash byte }
+{
+    byte == b'#'
+}
+
+// How many hashes a text begins with.
+fn hash_count(text: &[u8]) -> usize
+    ensures count { result ≡ hash_count text.now }
+    ensures within { result ≤ length text.now }
+{
+    text.iter().take_while(|b| is_hash(**b)).count()
+}
+
+// Whether a byte is a quote with so many hashes behind it.
+fn closes_raw(hashes: usize, byte: u8, behind: &[u8]) -> bool
+    ensures closes { result ≡ (byte == 34 && nat_le hashes (hash_count behind.now)) }
+    ensures bound { IsTrue result → hashes ≤ length behind.now }
+{
+    byte == b'"' && hashes <= hash_count(behind)
+}
+
+// Where the first quote with so many hashes behind it ends with these, the text beginning at a place.
+fn raw_end(hashes: usize, start: usize, text: &[u8]) -> Option<usize>
+    requires { start + length text.now < 2 ^ 64 }
+    ensures { result ≡ raw_end hashes start text.now }
+{
+    let mut at = start;
+    let mut rest = text;
+    while let Some((byte, tail)) = rest.split_first() {
+        if closes_raw(hashes, *byte, tail) {
+            return Some(at + 1 + hashes);
+        }
+        rest = tail;
+        at += 1;
+    }
+    None
+}
+
+// Where a raw text ends behind its first quote, the text beginning at a place.
+fn raw_inside(hashes: usize, start: usize, text: &[u8]) -> Found
+    requires { start + length text.now < 2 ^ 64 }
+    ensures { result ≡ raw_inside hashes start text.now }
+{
+    match raw_end(hashes, start, text) {
+        Some(end) => (end, None),
+        None => (start + text.len(), Some(hashes)),
+    }
+}
+
+// Where a raw text of so many hashes ends whose first quote a text begins with, at a place.
+fn quoted(hashes: usize, start: usize, text: &[u8]) -> Option<Found>
+    requires { start + length text.now < 2 ^ 64 }
+    ensures { result ≡ quoted hashes start text.now }
+{
+    let (first, rest) = text.split_first()?;
+    if *first == b'"' {
+        return Some(raw_inside(hashes, start + 1, rest));
+    }
+    None
+}
+
+// Where a raw text ends behind its prefix, which has so many bytes.
+fn raw_text(before: usize, text: &[u8]) -> Option<Found>
+    requires { before + length text.now < 2 ^ 64 }
+    ensures { result ≡ raw_text before text.now }
+{
+    let hashes = hash_count(text);
+    quoted(hashes, before + hashes, &text[hashes..])
 }
 
 // Whether a byte goes on with the character that began before it.
@@ -156,38 +247,38 @@ fn is_character(escape: Option<u8>, bytes: &[u8]) -> bool
 }
 
 // Where a character behind an opening delimiter ends with its closing one, the text beginning at a place.
-fn character_end(delimiters: &Delimiters, start: usize, text: &[u8]) -> Option<(usize, bool)>
+fn character_end(delimiters: &Delimiters, start: usize, text: &[u8]) -> Option<Found>
     requires { start + length text.now < 2 ^ 64 }
     ensures { result ≡ character_end delimiters.now start text.now }
 {
     let end = close_end(delimiters, start, text)?;
     let held = end - start - delimiters.closes.as_bytes().len();
     if is_character(delimiters.escape, &text[..held]) {
-        return Some((end, false));
+        return Some((end, None));
     }
     None
 }
 
 // How many bytes this one and the word behind it have, where a text begins with it and a word follows.
-fn prefixed_word(byte: u8, text: &[u8]) -> Option<(usize, bool)>
+fn prefixed_word(byte: u8, text: &[u8]) -> Option<Found>
     ensures { result ≡ prefixed_word byte text.now }
 {
     let (first, rest) = text.split_first()?;
     let word = word_end(rest);
     if *first == byte && 0 < word {
-        return Some((word + 1, false));
+        return Some((word + 1, None));
     }
     None
 }
 
-// How many bytes a pattern finds at the start of a text, and whether what it finds stays open.
-fn match_of(pattern: &Pattern, text: &[u8]) -> Option<(usize, bool)>
+// What a pattern finds at the start of a text.
+fn match_of(pattern: &Pattern, text: &[u8]) -> Option<Found>
     ensures { result ≡ match_of pattern.now text.now }
 {
     let word = word_end(text);
     match pattern {
-        Pattern::Words(words) if is_among(words, &text[..word]) => Some((word, false)),
-        Pattern::From(first, last) if begins_within(*first, *last, text) => Some((word, false)),
+        Pattern::Words(words) if is_among(words, &text[..word]) => Some((word, None)),
+        Pattern::From(first, last) if begins_within(*first, *last, text) => Some((word, None)),
         Pattern::Between(delimiters) if text.starts_with(delimiters.opens.as_bytes()) => {
             let start = delimiters.opens.as_bytes().len();
             Some(end_of(delimiters, start, &text[start..]))
@@ -197,18 +288,26 @@ fn match_of(pattern: &Pattern, text: &[u8]) -> Option<(usize, bool)>
             character_end(delimiters, start, &text[start..])
         }
         Pattern::Prefixed(byte) => prefixed_word(*byte, text),
+        Pattern::Raw(prefix) if text.starts_with(prefix.as_bytes()) => {
+            let start = prefix.as_bytes().len();
+            raw_text(start, &text[start..])
+        }
         _ => None,
     }
 }
 
 // What a rule found, as a token.
-fn token_of(rule: usize, style: Style, found: (usize, bool)) -> Token
+fn token_of(rule: usize, style: Style, found: Found) -> Token
     ensures { result ≡ token_of rule style found }
 {
+    let left_open = match found.1 {
+        Some(hashes) => Some(OpenPart { rule, hashes }),
+        None => None,
+    };
     Token {
         bytes: found.0,
         style,
-        left_open: if found.1 { Some(rule) } else { None },
+        left_open,
     }
 }
 
@@ -228,21 +327,23 @@ fn first_match(rules: &[Rule], text: &[u8]) -> Option<Token>
     None
 }
 
-// The rest of what the open rule found before.
-fn running_token(rules: &[Rule], left_open: Option<usize>, text: &[u8]) -> Option<Token>
+// The rest of what a rule found before.
+fn running_token(rules: &[Rule], left_open: Option<OpenPart>, text: &[u8]) -> Option<Token>
     ensures { result ≡ running_token rules.now left_open text.now }
 {
-    let at = left_open?;
-    let rule = rules.get(at)?;
-    match &rule.pattern {
-        Pattern::Between(delimiters) => Some(token_of(at, rule.style, end_of(delimiters, 0, text))),
-        _ => None,
-    }
+    let part = left_open?;
+    let rule = rules.get(part.rule)?;
+    let found = match &rule.pattern {
+        Pattern::Between(delimiters) => end_of(delimiters, 0, text),
+        Pattern::Raw(_) => raw_inside(part.hashes, 0, text),
+        _ => return None,
+    };
+    Some(token_of(part.rule, rule.style, found))
 }
 
 // What stands at the start of a text.
 #[tactic(auto, unfolding(crate::specs::rules::Tokens::token_at))]
-fn token_at(rules: &[Rule], left_open: Option<usize>, text: &[u8]) -> Token
+fn token_at(rules: &[Rule], left_open: Option<OpenPart>, text: &[u8]) -> Token
     ensures { result ≡ token_at rules.now left_open text.now }
 {
     if let Some(token) = running_token(rules, left_open, text) {
@@ -258,12 +359,12 @@ fn token_at(rules: &[Rule], left_open: Option<usize>, text: &[u8]) -> Token
     }
 }
 
-// The piece at the start of a text, the rule that it leaves open, and the text after it.
+// The piece at the start of a text, the part that it leaves open, and the text after it.
 fn step<'a>(
     rules: &[Rule],
-    left_open: Option<usize>,
+    left_open: Option<OpenPart>,
     text: &'a str,
-) -> ((usize, Style), Option<usize>, &'a str)
+) -> ((usize, Style), Option<OpenPart>, &'a str)
     requires { 0 < length text.now }
     ensures piece { IsToken (token_at rules.now left_open text.now) text.now result.0 }
     ensures left_open { result.1 ≡ (token_at rules.now left_open text.now).left_open }
@@ -276,13 +377,13 @@ fn step<'a>(
     ((length, found.style), found.left_open, rest)
 }
 
-/// The pieces of a line, and the rule that it leaves open. `AllocError` where memory is refused.
+/// The pieces of a line, and the part that it leaves open. `AllocError` where memory is refused.
 pub fn pieces_of(
     alloc: Global,
     rules: &[Rule],
-    left_open: Option<usize>,
+    left_open: Option<OpenPart>,
     line: &str,
-) -> Result<(Vec<(usize, Style)>, Option<usize>), AllocError>
+) -> Result<(Vec<(usize, Style)>, Option<OpenPart>), AllocError>
     ensures tokens { IfOk result (λ r. AreTokens rules.now left_open line.now r.0.items r.1) }
     ensures cuts { IfOk result (λ r. CutsLine line.now r.0.items) }
 {

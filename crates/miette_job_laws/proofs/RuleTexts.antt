@@ -11,14 +11,15 @@ use Rattle.miette_highlight.specs.rules.HighlighterCalls.{Call, asked, restarted
 use Rattle.miette_highlight.specs.rules.Languages.{pattern_text, rule_text, rule_texts}
 use Rattle.miette_highlight.specs.rules.Patterns.{begins_within, character_end, close_end, closed_at, closed_character}
 use Rattle.miette_highlight.specs.rules.Patterns.{escapes_next, inside, is_among, is_character, match_of, prefixed_word}
-use Rattle.miette_highlight.specs.rules.Patterns.{word_end}
+use Rattle.miette_highlight.specs.rules.Patterns.{open_over, raw_inside, raw_text, word_end}
 use Rattle.miette_highlight.specs.rules.Pieces.{Piece}
 use Rattle.miette_highlight.specs.rules.Tokens.{AreTokens, IsToken, first_match, found_or, plain_token, running_in}
 use Rattle.miette_highlight.specs.rules.Tokens.{running_rule, running_token, token_at, token_of}
 use Rattle.miette_highlight.specs.declared.rule.Delimiters.{Delimiters}
 use Rattle.miette_highlight.specs.declared.rule.Pattern.{Pattern}
-use Rattle.miette_highlight.specs.declared.rule.Pattern.TheVariants.{Words, From, Between, Character, Prefixed}
+use Rattle.miette_highlight.specs.declared.rule.Pattern.TheVariants.{Words, From, Between, Character, Prefixed, Raw}
 use Rattle.miette_highlight.specs.declared.rule.Rule.{Rule}
+use Rattle.miette_highlight.specs.declared.tokens.OpenPart.{OpenPart}
 
 -- ---- what patterns find
 
@@ -48,13 +49,13 @@ closes d f same escape escaped at (b ∷ bs) =
 insides : (d f : Delimiters) → string_bytes d.closes ≡ string_bytes f.closes → d.escape ≡ f.escape
     → d.over_lines ≡ f.over_lines → (at : ℕ) (text : List ℕ) → inside d at text ≡ inside f at text
 insides d f same escape over at text =
-    ap₂ (λ end lines. closed_at end (at + length text) lines) (closes d f same escape false at text) over
+    ap₂ (λ end lines. closed_at end (at + length text) (open_over lines)) (closes d f same escape false at text) over
 
 closed-alike : (d f : Delimiters) → string_bytes d.closes ≡ string_bytes f.closes → d.escape ≡ f.escape → (at : ℕ)
     (text : List ℕ) (end : Option ℕ) → closed_character d at text end ≡ closed_character f at text end
 closed-alike d f same escape at text None = refl
 closed-alike d f same escape at text (Some end) =
-    ap₂ (λ bytes it. if is_character it (take (end - at - length bytes) text) then Some (end, false) else None) same
+    ap₂ (λ bytes it. if is_character it (take (end - at - length bytes) text) then Some (end, None) else None) same
     escape
 
 characters : (d f : Delimiters) → string_bytes d.closes ≡ string_bytes f.closes → d.escape ≡ f.escape → (at : ℕ)
@@ -68,14 +69,14 @@ matches : (p q : Pattern) (style other : Style) (text : List ℕ) → pattern_te
 matches (Words words) (Words others) style other text e =
     let same : map (λ (w : String Global). string_bytes w) words.items
     ≡ map (λ (w : String Global). string_bytes w) others.items = cc in
-    ap (λ it. if it then Some (word_end 0 text, false) else None) (among words.items others.items _ same)
+    ap (λ it. if it then Some (word_end 0 text, None) else None) (among words.items others.items _ same)
 matches (Words words) (From first last) style other text e = absurd (cc)
 matches (Words words) (Between f) style other text e = absurd (cc)
 matches (From first last) (Words others) style other text e = absurd (cc)
 matches (From first last) (From from to) style other text e =
     let low : first ≡ from = cc in
     let high : last ≡ to = cc in
-    ap₂ (λ a b. if begins_within a b text then Some (word_end 0 text, false) else None) low high
+    ap₂ (λ a b. if begins_within a b text then Some (word_end 0 text, None) else None) low high
 matches (From first last) (Between f) style other text e = absurd (cc)
 matches (Between d) (Words others) style other text e = absurd (cc)
 matches (Between d) (From from to) style other text e = absurd (cc)
@@ -112,39 +113,66 @@ matches (Prefixed byte) (Words others) style other text e = absurd (cc)
 matches (Prefixed byte) (From from to) style other text e = absurd (cc)
 matches (Prefixed byte) (Between f) style other text e = absurd (cc)
 matches (Prefixed byte) (Character f) style other text e = absurd (cc)
+matches (Raw prefix) (Raw other_prefix) style other text e =
+    let same : string_bytes prefix ≡ string_bytes other_prefix = cc in
+    ap (λ bytes. if starts_with nat_eq text bytes
+    then raw_text (length bytes) (drop (length bytes) text) else None) same
+matches (Words words) (Raw other_prefix) style other text e = absurd (cc)
+matches (From first last) (Raw other_prefix) style other text e = absurd (cc)
+matches (Between d) (Raw other_prefix) style other text e = absurd (cc)
+matches (Character d) (Raw other_prefix) style other text e = absurd (cc)
+matches (Prefixed byte) (Raw other_prefix) style other text e = absurd (cc)
+matches (Raw prefix) (Words others) style other text e = absurd (cc)
+matches (Raw prefix) (From from to) style other text e = absurd (cc)
+matches (Raw prefix) (Between f) style other text e = absurd (cc)
+matches (Raw prefix) (Character f) style other text e = absurd (cc)
+matches (Raw prefix) (Prefixed b) style other text e = absurd (cc)
 
-goes-on : (at : ℕ) (p q : Pattern) (style other : Style) (text : List ℕ)
-    → pattern_text p style ≡ pattern_text q other → running_in at style p text ≡ running_in at other q text
-goes-on at (Words words) (Words others) style other text e = refl
-goes-on at (Words words) (From first last) style other text e = absurd (cc)
-goes-on at (Words words) (Between f) style other text e = absurd (cc)
-goes-on at (From first last) (Words others) style other text e = absurd (cc)
-goes-on at (From first last) (From from to) style other text e = refl
-goes-on at (From first last) (Between f) style other text e = absurd (cc)
-goes-on at (Between d) (Words others) style other text e = absurd (cc)
-goes-on at (Between d) (From from to) style other text e = absurd (cc)
-goes-on at (Between d) (Between f) style other text e =
+goes-on : (part : OpenPart) (p q : Pattern) (style other : Style) (text : List ℕ)
+    → pattern_text p style ≡ pattern_text q other → running_in part style p text ≡ running_in part other q text
+goes-on part (Words words) (Words others) style other text e = refl
+goes-on part (Words words) (From first last) style other text e = absurd (cc)
+goes-on part (Words words) (Between f) style other text e = absurd (cc)
+goes-on part (From first last) (Words others) style other text e = absurd (cc)
+goes-on part (From first last) (From from to) style other text e = refl
+goes-on part (From first last) (Between f) style other text e = absurd (cc)
+goes-on part (Between d) (Words others) style other text e = absurd (cc)
+goes-on part (Between d) (From from to) style other text e = absurd (cc)
+goes-on part (Between d) (Between f) style other text e =
     let same : string_bytes d.closes ≡ string_bytes f.closes = cc in
     let escape : d.escape ≡ f.escape = cc in
     let over : d.over_lines ≡ f.over_lines = cc in
     let styled : style ≡ other = cc in
-    ap₂ (λ it found. Some (token_of at it found)) styled (insides d f same escape over 0 text)
-goes-on at (Character d) (Character f) style other text e = refl
-goes-on at (Prefixed byte) (Prefixed b) style other text e = refl
-goes-on at (Words words) (Character f) style other text e = absurd (cc)
-goes-on at (Words words) (Prefixed b) style other text e = absurd (cc)
-goes-on at (From first last) (Character f) style other text e = absurd (cc)
-goes-on at (From first last) (Prefixed b) style other text e = absurd (cc)
-goes-on at (Between d) (Character f) style other text e = absurd (cc)
-goes-on at (Between d) (Prefixed b) style other text e = absurd (cc)
-goes-on at (Character d) (Words others) style other text e = absurd (cc)
-goes-on at (Character d) (From from to) style other text e = absurd (cc)
-goes-on at (Character d) (Between f) style other text e = absurd (cc)
-goes-on at (Character d) (Prefixed b) style other text e = absurd (cc)
-goes-on at (Prefixed byte) (Words others) style other text e = absurd (cc)
-goes-on at (Prefixed byte) (From from to) style other text e = absurd (cc)
-goes-on at (Prefixed byte) (Between f) style other text e = absurd (cc)
-goes-on at (Prefixed byte) (Character f) style other text e = absurd (cc)
+    ap₂ (λ it found. Some (token_of part.rule it found)) styled (insides d f same escape over 0 text)
+goes-on part (Character d) (Character f) style other text e = refl
+goes-on part (Prefixed byte) (Prefixed b) style other text e = refl
+goes-on part (Words words) (Character f) style other text e = absurd (cc)
+goes-on part (Words words) (Prefixed b) style other text e = absurd (cc)
+goes-on part (From first last) (Character f) style other text e = absurd (cc)
+goes-on part (From first last) (Prefixed b) style other text e = absurd (cc)
+goes-on part (Between d) (Character f) style other text e = absurd (cc)
+goes-on part (Between d) (Prefixed b) style other text e = absurd (cc)
+goes-on part (Character d) (Words others) style other text e = absurd (cc)
+goes-on part (Character d) (From from to) style other text e = absurd (cc)
+goes-on part (Character d) (Between f) style other text e = absurd (cc)
+goes-on part (Character d) (Prefixed b) style other text e = absurd (cc)
+goes-on part (Prefixed byte) (Words others) style other text e = absurd (cc)
+goes-on part (Prefixed byte) (From from to) style other text e = absurd (cc)
+goes-on part (Prefixed byte) (Between f) style other text e = absurd (cc)
+goes-on part (Prefixed byte) (Character f) style other text e = absurd (cc)
+goes-on part (Raw prefix) (Raw other_prefix) style other text e =
+    let styled : style ≡ other = cc in
+    ap (λ it. Some (token_of part.rule it (raw_inside part.hashes 0 text))) styled
+goes-on part (Words words) (Raw other_prefix) style other text e = absurd (cc)
+goes-on part (From first last) (Raw other_prefix) style other text e = absurd (cc)
+goes-on part (Between d) (Raw other_prefix) style other text e = absurd (cc)
+goes-on part (Character d) (Raw other_prefix) style other text e = absurd (cc)
+goes-on part (Prefixed byte) (Raw other_prefix) style other text e = absurd (cc)
+goes-on part (Raw prefix) (Words others) style other text e = absurd (cc)
+goes-on part (Raw prefix) (From from to) style other text e = absurd (cc)
+goes-on part (Raw prefix) (Between f) style other text e = absurd (cc)
+goes-on part (Raw prefix) (Character f) style other text e = absurd (cc)
+goes-on part (Raw prefix) (Prefixed b) style other text e = absurd (cc)
 
 styled-alike : (p q : Pattern) (style other : Style) → pattern_text p style ≡ pattern_text q other → style ≡ other
 styled-alike (Words words) (Words others) style other e = cc
@@ -172,6 +200,17 @@ styled-alike (Prefixed byte) (Words others) style other e = absurd (cc)
 styled-alike (Prefixed byte) (From from to) style other e = absurd (cc)
 styled-alike (Prefixed byte) (Between f) style other e = absurd (cc)
 styled-alike (Prefixed byte) (Character f) style other e = absurd (cc)
+styled-alike (Raw prefix) (Raw other_prefix) style other e = cc
+styled-alike (Words words) (Raw other_prefix) style other e = absurd (cc)
+styled-alike (From first last) (Raw other_prefix) style other e = absurd (cc)
+styled-alike (Between d) (Raw other_prefix) style other e = absurd (cc)
+styled-alike (Character d) (Raw other_prefix) style other e = absurd (cc)
+styled-alike (Prefixed byte) (Raw other_prefix) style other e = absurd (cc)
+styled-alike (Raw prefix) (Words others) style other e = absurd (cc)
+styled-alike (Raw prefix) (From from to) style other e = absurd (cc)
+styled-alike (Raw prefix) (Between f) style other e = absurd (cc)
+styled-alike (Raw prefix) (Character f) style other e = absurd (cc)
+styled-alike (Raw prefix) (Prefixed b) style other e = absurd (cc)
 
 -- ---- what rules find
 
@@ -188,22 +227,22 @@ firsts at (r ∷ rs) (u ∷ us) text e =
     ∙ ap (λ found. found_or at u.style found (first_match (at + 1) us text))
     (matches r.pattern u.pattern r.style u.style text first)
 
-runs : (at n : ℕ) (rs us : List Rule) (text : List ℕ) → rule_texts rs ≡ rule_texts us
-    → running_rule n (slice_get rs at) text ≡ running_rule n (slice_get us at) text
-runs at n [] [] text e = refl
-runs at n [] (u ∷ us) text e = absurd (cc)
-runs at n (r ∷ rs) [] text e = absurd (cc)
-runs zero n (r ∷ rs) (u ∷ us) text e =
-    let first : rule_text r ≡ rule_text u = cc in goes-on n r.pattern u.pattern r.style u.style text first
-runs (suc at) n (r ∷ rs) (u ∷ us) text e =
-    let others : rule_texts rs ≡ rule_texts us = cc in runs at n rs us text others
+runs : (at : ℕ) (part : OpenPart) (rs us : List Rule) (text : List ℕ) → rule_texts rs ≡ rule_texts us
+    → running_rule part (slice_get rs at) text ≡ running_rule part (slice_get us at) text
+runs at part [] [] text e = refl
+runs at part [] (u ∷ us) text e = absurd (cc)
+runs at part (r ∷ rs) [] text e = absurd (cc)
+runs zero part (r ∷ rs) (u ∷ us) text e =
+    let first : rule_text r ≡ rule_text u = cc in goes-on part r.pattern u.pattern r.style u.style text first
+runs (suc at) part (r ∷ rs) (u ∷ us) text e =
+    let others : rule_texts rs ≡ rule_texts us = cc in runs at part rs us text others
 
-running : (rs us : List Rule) (left_open : Option ℕ) (text : List ℕ) → rule_texts rs ≡ rule_texts us
+running : (rs us : List Rule) (left_open : Option OpenPart) (text : List ℕ) → rule_texts rs ≡ rule_texts us
     → running_token rs left_open text ≡ running_token us left_open text
 running rs us None text e = refl
-running rs us (Some at) text e = runs at at rs us text e
+running rs us (Some part) text e = runs part.rule part rs us text e
 
-at-start : (rs us : List Rule) (left_open : Option ℕ) (text : List ℕ) → rule_texts rs ≡ rule_texts us
+at-start : (rs us : List Rule) (left_open : Option OpenPart) (text : List ℕ) → rule_texts rs ≡ rule_texts us
     → token_at rs left_open text ≡ token_at us left_open text
 unfolding token_at
 at-start rs us left_open text e =
@@ -212,7 +251,8 @@ at-start rs us left_open text e =
 
 -- ---- tokens and calls
 
-tokens-by : (rs us : List Rule) (left_open : Option ℕ) (text : List ℕ) (ps : List Piece) (after : Option ℕ)
+tokens-by : (rs us : List Rule) (left_open : Option OpenPart) (text : List ℕ) (ps : List Piece)
+    (after : Option OpenPart)
     → rule_texts rs ≡ rule_texts us → AreTokens rs left_open text ps after → AreTokens us left_open text ps after
 tokens-by rs us left_open text [] after e h = h
 tokens-by rs us left_open text (p ∷ ps) after e h =
@@ -222,7 +262,7 @@ tokens-by rs us left_open text (p ∷ ps) after e h =
           (subst (λ token. AreTokens rs token.left_open (drop p.0 text) ps after) same h.1),
     )
 
-pub follow-by : (rs us : List Rule) (left_open : Option ℕ) (calls : List Call) → rule_texts rs ≡ rule_texts us
+pub follow-by : (rs us : List Rule) (left_open : Option OpenPart) (calls : List Call) → rule_texts rs ≡ rule_texts us
     → FollowTokens rs left_open calls → FollowTokens us left_open calls
 follow-by rs us left_open [] e h = tt
 follow-by rs us left_open (restarted read ∷ calls) e h = follow-by rs us None calls e h

@@ -20,7 +20,7 @@ use Rattle.miette_json.specs.rules.Denotes.{members_then, more_members_then, Str
 use Rattle.miette_json.specs.rules.Denotes.{IsStringPart, hex, part_text, part_value, AreStringParts, all_written}
 use Rattle.miette_json.specs.rules.Denotes.{all_meant, IsDigit, AreDigits, value_after, NoLeadingZero, NoDigitNext}
 use Rattle.miette_json.specs.rules.Denotes.{IsStructural, IsString, IsNumber, Begins, Next, AreTokens, HasTokensOf}
-use Rattle.miette_json.specs.steps.EscapedBytes.{is_escaped, control_text}
+use Rattle.miette_json.specs.steps.EscapedBytes.{begins_escaped, control_text, is_escaped}
 use Rattle.json.specs.Print.{escape_letter, escape_byte}
 
 -- ---- numbers
@@ -205,19 +205,34 @@ next_escape xs i e =
     let found = position-Some is_escaped xs i 0 (sym e) in
     record { inside = found.0; here = found.1; low = escaped_is_ascii (get_or xs i 0) found.1; before = found.2 }
 
--- what is written up to it and with it
-pub run_written : (start mid new xs goal : List ℕ) (i : ℕ) → NextEscape xs i → start ++ escaped_text xs ≡ goal
-    → mid ≡ start ++ take i xs → new ≡ mid ++ escape_byte (get_or xs i 0) → new ++ escaped_text (drop (i + 1) xs) ≡ goal
-run_written start mid new xs goal i n e f g =
-    let x = get_or xs i 0 in
-    let after = escaped_text (drop (i + 1) xs) in
-    let cut : escaped_text (drop i xs) ≡ escape_byte x ++ after =
-    ap escaped_text (drop-cons xs i 0 n.inside ∙ ap (λ k. x ∷ drop k xs) (sym (add-one i))) in
-    let split : escaped_text xs ≡ take i xs ++ (escape_byte x ++ after) =
-    escaped_run xs i (omega (arith, n.inside)) n.before ∙ ap (λ l. take i xs ++ l) cut in
-    ap (λ l. l ++ after) g ∙ (append_assoc mid (escape_byte x) after
-    ∙ (ap (λ l. l ++ (escape_byte x ++ after)) f ∙ (append_assoc start (take i xs) (escape_byte x ++ after)
-    ∙ (ap (λ l. start ++ l) (sym split) ∙ e))))
+-- what is written up to it
+pub plain_written : (start mid xs goal : List ℕ) (i : ℕ) → NextEscape xs i → start ++ escaped_text xs ≡ goal
+    → mid ≡ start ++ take i xs → mid ++ escaped_text (drop i xs) ≡ goal
+plain_written start mid xs goal i n e f =
+    let after = escaped_text (drop i xs) in
+    ap (λ l. l ++ after) f ∙ (append_assoc start (take i xs) after
+    ∙ (ap (λ l. start ++ l) (sym (escaped_run xs i (omega (arith, n.inside)) n.before)) ∙ e))
+
+-- the bytes behind it begin with it
+pub escape_begins : (xs : List ℕ) (i : ℕ) → NextEscape xs i → begins_escaped (drop i xs) ≡ true
+escape_begins xs i n = ap begins_escaped (drop-cons xs i 0 n.inside) ∙ n.here
+
+-- a byte at the front that may not stand for itself
+pub first_escaped : (xs : List ℕ) → begins_escaped xs ≡ true → NextEscape xs 0
+first_escaped [] h = cc
+first_escaped (x ∷ xs) h = record {
+  inside = omega arith;
+  here = h;
+  low = escaped_is_ascii x h;
+  before = λ k l. absurd (omega arith);
+}
+
+-- what is written with it
+pub escape_written : (start new xs goal : List ℕ) → begins_escaped xs ≡ true → start ++ escaped_text xs ≡ goal
+    → new ≡ start ++ escape_byte (get_or xs 0 0) → new ++ escaped_text (drop 1 xs) ≡ goal
+escape_written start new [] goal h e f = cc
+escape_written start new (x ∷ xs) goal h e f =
+    ap (λ l. l ++ escaped_text xs) f ∙ (append_assoc start (escape_byte x) (escaped_text xs) ∙ e)
 
 -- no byte is escaped where none is found
 one_plain : (x : ℕ) (xs : List ℕ) (b : Bool) → is_escaped x ≡ b → suc (length xs)

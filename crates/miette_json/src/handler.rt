@@ -59,6 +59,9 @@ impl TextHandler for JSONReportHandler {
     }
 }
 
+/// How many bytes there is room for at first: a small report's.
+const ROOM: usize = 128;
+
 /// The JSON text of a report.
 fn json_of<D: Diagnostic, S: SourceCode>(
     alloc: Global,
@@ -68,7 +71,7 @@ fn json_of<D: Diagnostic, S: SourceCode>(
 {
     laws::the_spelling_denotes_its_value();
     laws::a_text_denotes_one_value();
-    let mut text = String::new(alloc);
+    let mut text = String::with_capacity(alloc, ROOM)?;
     push_report(&mut text, report, None)?;
     Ok(text)
 }

@@ -1,11 +1,12 @@
 //! Strings as JSON, appended to a text.
 
-ghost use Rattle.std.specs.Prelude.{◌≡◌, ◌<◌, ◌++◌, ◌/◌, ◌∷◌, [], true, OnOk, map, position, string_bytes};
+ghost use Rattle.std.specs.Prelude.{◌≡◌, ◌<◌, ◌++◌, ◌/◌, ◌∷◌, [], true, IfOk, OnOk, length, map, position};
+ghost use Rattle.std.specs.Prelude.{string_bytes};
 ghost use Rattle.std.specs.Char.{digit_char};
 ghost use Rattle.std.specs.List.{prefix_len};
 ghost use Rattle.std.specs.Simd.Lanes.{mask_l};
 ghost use Rattle.miette_json.specs.rules.Json.{escaped_text, quoted_text};
-ghost use Rattle.miette_json.specs.steps.EscapedBytes.{is_escaped, is_plain, control_text};
+ghost use Rattle.miette_json.specs.steps.EscapedBytes.{begins_escaped, is_escaped, is_plain, control_text};
 ghost use Rattle.json.specs.Print.{escape_byte};
 
 use std::alloc::AllocError;
@@ -18,9 +19,9 @@ const BLOCK: usize = 16;
 pub fn push_quoted(out: &mut String, text: &str) -> Result<(), AllocError>
     ensures { OnOk result (string_bytes out.new ≡ string_bytes out.old ++ quoted_text text.now) }
 {
-    out.push_str("\"")?;
+    out.push('"')?;
     push_escaped(out, text)?;
-    out.push_str("\"")
+    out.push('"')
 }
 
 /// Appends a text with its escapes: what needs none is copied at once.
@@ -30,10 +31,36 @@ fn push_escaped(out: &mut String, text: &str) -> Result<(), AllocError>
     let mut rest = text;
     while let Some(at) = first_escape(rest) {
         out.push_str(&rest[..at])?;
-        push_escape(out, rest.as_bytes()[at])?;
-        rest = &rest[at + 1..];
+        rest = push_escapes(out, &rest[at..])?;
     }
     out.push_str(rest)
+}
+
+/// Appends what stands for the bytes up to the first one that may stand for itself, and gives the text from there on.
+fn push_escapes<'a>(out: &mut String, text: &'a str) -> Result<&'a str, AllocError>
+    requires { begins_escaped text.now ≡ true }
+    ensures text { IfOk result (λ rest. string_bytes out.new ++ escaped_text rest.now
+        ≡ string_bytes out.old ++ escaped_text text.now) }
+    ensures shorter { IfOk result (λ rest. length rest.now < length text.now) }
+{
+    let mut rest = text;
+    'rest: loop {
+        push_escape(out, rest.as_bytes()[0])?;
+        rest = &rest[1..];
+        if !begins_escaped(rest) {
+            return Ok(rest);
+        }
+    }
+}
+
+/// Whether a text begins with a byte that may not stand for itself.
+fn begins_escaped(text: &str) -> bool
+    ensures { result ≡ begins_escaped text.now }
+{
+    match text.as_bytes() {
+        [byte, ..] => needs_escape(*byte),
+        [] => false,
+    }
 }
 
 /// Where the first byte stands that may not stand for itself.

@@ -1,9 +1,12 @@
 -- Rules cut a line into its tokens in one way, and leave the same open.
 use Rattle.std.proofs.Common.{arith, ◌≡◌, ℕ, ◌+◌, ◌≤◌, ◌<◌, Bool, true, false, List, [], ◌∷◌, ◌++◌, length, drop, take}
 use Rattle.std.proofs.Common.{inl, inr, refl, sym, ap, ap₂, subst, ◌∙◌, Option, Some, None, max}
-use Rattle.std.proofs.lemmas.Bool.{and_parts, cases_order, cond_both}
+use Rattle.std.proofs.lemmas.Bool.{and_parts, cases_order, cond_both, leb-true}
 use Rattle.std.proofs.lemmas.List.{length-drop}
-use Rattle.std.specs.Prelude.{IfSome, nat_eq, nat_lt, not, ◌&&◌, ◌==◌, ◌-◌, string_bytes, unwrap_or, slice_get}
+use Rattle.std.proofs.lemmas.List.Folds.{length-prefix_len}
+use Rattle.std.proofs.lemmas.List.Sums.{prefix_len-le-length}
+use Rattle.std.specs.Prelude.{IfSome, nat_eq, nat_le, nat_lt, not, ◌&&◌, ◌==◌, ◌-◌, string_bytes, unwrap_or}
+use Rattle.std.specs.Prelude.{slice_get}
 use Rattle.std.specs.Cmp.Lexicographic.{pointwise}
 use Rattle.std.specs.List.{starts_with}
 use Rattle.miette_style.specs.declared.style.Style.{Style}
@@ -11,14 +14,16 @@ use Rattle.miette_highlight.specs.rules.FollowingCalls.{FollowTokens}
 use Rattle.miette_highlight.specs.rules.HighlighterCalls.{asked, listed_pieces, restarted}
 use Rattle.miette_highlight.specs.rules.Patterns.{begins_within, character_end, close_end, closed_at, closed_character}
 use Rattle.miette_highlight.specs.rules.Patterns.{escapes_next, inside, is_among, is_character, is_word_byte, match_of}
-use Rattle.miette_highlight.specs.rules.Patterns.{prefixed_word, word_end}
+use Rattle.miette_highlight.specs.rules.Patterns.{Found, hash_count, is_hash, open_over, prefixed_word, quoted, raw_end}
+use Rattle.miette_highlight.specs.rules.Patterns.{raw_inside, raw_text, word_end}
 use Rattle.miette_highlight.specs.rules.Pieces.{Piece}
 use Rattle.miette_highlight.specs.rules.Tokens.{AreTokens, EndsFrom, first_match, found_or, plain_token, running_in}
 use Rattle.miette_highlight.specs.rules.Tokens.{running_rule, running_token, token_at}
 use Rattle.miette_highlight.specs.declared.rule.Delimiters.{Delimiters}
 use Rattle.miette_highlight.specs.declared.rule.Pattern.{Pattern}
-use Rattle.miette_highlight.specs.declared.rule.Pattern.TheVariants.{Words, From, Between, Character, Prefixed}
+use Rattle.miette_highlight.specs.declared.rule.Pattern.TheVariants.{Words, From, Between, Character, Prefixed, Raw}
 use Rattle.miette_highlight.specs.declared.rule.Rule.{Rule}
+use Rattle.miette_highlight.specs.declared.tokens.OpenPart.{OpenPart}
 use Rattle.miette_highlight.specs.declared.tokens.Token.{Token}
 use Rattle.miette_picture_laws.specs.laws.Determined.{IsDetermined}
 
@@ -57,23 +62,51 @@ close-within d escaped at (b ∷ bs) =
     (λ n. if-less (close_end d (not escaped && escapes_next d.escape b) (at + 1) bs) ((at + 1) + length bs)
     (at + length (b ∷ bs)) (omega arith) (close-within d (not escaped && escapes_next d.escape b) (at + 1) bs))
 
-closed-within : (o : Option ℕ) (line_end : ℕ) (over_lines : Bool) → IfSome o (λ end. end ≤ line_end)
-    → (closed_at o line_end over_lines).0 ≤ line_end
-closed-within None line_end over_lines h = omega arith
-closed-within (Some end) line_end over_lines h = h
+closed-within : (o : Option ℕ) (line_end : ℕ) (goes_on : Option ℕ) → IfSome o (λ end. end ≤ line_end)
+    → (closed_at o line_end goes_on).0 ≤ line_end
+closed-within None line_end goes_on h = omega arith
+closed-within (Some end) line_end goes_on h = h
 
 inside-within : (d : Delimiters) (at : ℕ) (text : List ℕ) → (inside d at text).0 ≤ at + length text
 inside-within d at text =
-    closed-within (close_end d false at text) (at + length text) d.over_lines (close-within d false at text)
+    closed-within (close_end d false at text) (at + length text) (open_over d.over_lines) (close-within d false at text)
+
+hashes-within : (text : List ℕ) → hash_count text ≤ length text
+hashes-within text = omega (arith, length-prefix_len is_hash text, prefix_len-le-length is_hash text)
+
+raw_end-within : (hashes at : ℕ) (text : List ℕ) → IfSome (raw_end hashes at text) (λ end. end ≤ at + length text)
+raw_end-within hashes at [] = tt
+raw_end-within hashes at (b ∷ bs) =
+    cond_both (b == 34 && nat_le hashes (hash_count bs)) (Some (at + 1 + hashes)) (raw_end hashes (at + 1) bs)
+    (λ o. IfSome o (λ end. end ≤ at + length (b ∷ bs)))
+    (λ y. omega (
+      arith,
+      hashes-within bs,
+      leb-true hashes (hash_count bs)
+          (and_parts (b == 34) (nat_le hashes (hash_count bs)) y).1,
+    ))
+    (λ n. if-less (raw_end hashes (at + 1) bs) ((at + 1) + length bs) (at + length (b ∷ bs)) (omega arith)
+    (raw_end-within hashes (at + 1) bs))
+
+raw-within : (hashes at : ℕ) (text : List ℕ) → (raw_inside hashes at text).0 ≤ at + length text
+raw-within hashes at text =
+    closed-within (raw_end hashes at text) (at + length text) (Some hashes) (raw_end-within hashes at text)
+
+quoted-within : (hashes at : ℕ) (text : List ℕ) → IfSome (quoted hashes at text) (λ found. found.0 ≤ at + length text)
+quoted-within hashes at [] = tt
+quoted-within hashes at (b ∷ bs) =
+    cond_both (b == 34) (Some (raw_inside hashes (at + 1) bs)) None
+    (λ o. IfSome o (λ found. found.0 ≤ at + length (b ∷ bs)))
+    (λ y. omega (arith, raw-within hashes (at + 1) bs)) (λ n. tt)
 
 held-within : (d : Delimiters) (at : ℕ) (text : List ℕ) (o : Option ℕ) → IfSome o (λ end. end ≤ at + length text)
     → IfSome (closed_character d at text o) (λ found. found.0 ≤ at + length text)
 held-within d at text None h = tt
 held-within d at text (Some end) h =
-    cond_both (is_character d.escape (take (end - at - length (string_bytes d.closes)) text)) (Some (end, false)) None
+    cond_both (is_character d.escape (take (end - at - length (string_bytes d.closes)) text)) (Some (end, None)) None
     (λ o. IfSome o (λ found. found.0 ≤ at + length text)) (λ y. h) (λ n. tt)
 
-found-less : (o : Option (ℕ × Bool)) (m n : ℕ) → m ≤ n → IfSome o (λ found. found.0 ≤ m)
+found-less : (o : Option Found) (m n : ℕ) → m ≤ n → IfSome o (λ found. found.0 ≤ m)
     → IfSome o (λ found. found.0 ≤ n)
 found-less None m n h less = tt
 found-less (Some found) m n h less = omega arith
@@ -82,20 +115,28 @@ character-within : (d : Delimiters) (at : ℕ) (text : List ℕ)
     → IfSome (character_end d at text) (λ found. found.0 ≤ at + length text)
 character-within d at text = held-within d at text (close_end d false at text) (close-within d false at text)
 
+behind-within : (before : ℕ) (text : List ℕ)
+    → IfSome (raw_text before text) (λ found. found.0 ≤ before + length text)
+behind-within before text =
+    let hashes : ℕ = hash_count text in
+    found-less (raw_text before text) (before + hashes + length (drop hashes text)) (before + length text)
+    (omega (arith, hashes-within text, length-drop hashes text))
+    (quoted-within hashes (before + hashes) (drop hashes text))
+
 prefixed-within : (byte : ℕ) (text : List ℕ) → IfSome (prefixed_word byte text) (λ found. found.0 ≤ length text)
 prefixed-within byte [] = tt
 prefixed-within byte (b ∷ bs) =
-    cond_both (b == byte && nat_lt 0 (word_end 0 bs)) (Some (word_end 0 bs + 1, false)) None
+    cond_both (b == byte && nat_lt 0 (word_end 0 bs)) (Some (word_end 0 bs + 1, None)) None
     (λ o. IfSome o (λ found. found.0 ≤ length (b ∷ bs)))
     (λ y. let w : word_end 0 bs ≤ 0 + length bs = word-within 0 bs in omega arith) (λ n. tt)
 
 match-within : (p : Pattern) (text : List ℕ) → IfSome (match_of p text) (λ found. found.0 ≤ length text)
 match-within (Words words) text =
-    cond_both (is_among words.items (take (word_end 0 text) text)) (Some (word_end 0 text, false)) None
+    cond_both (is_among words.items (take (word_end 0 text) text)) (Some (word_end 0 text, None)) None
     (λ o. IfSome o (λ found. found.0 ≤ length text))
     (λ y. let w : word_end 0 text ≤ 0 + length text = word-within 0 text in omega arith) (λ n. tt)
 match-within (From first last) text =
-    cond_both (begins_within first last text) (Some (word_end 0 text, false)) None
+    cond_both (begins_within first last text) (Some (word_end 0 text, None)) None
     (λ o. IfSome o (λ found. found.0 ≤ length text))
     (λ y. let w : word_end 0 text ≤ 0 + length text = word-within 0 text in omega arith) (λ n. tt)
 match-within (Between d) text =
@@ -117,12 +158,21 @@ match-within (Character d) text =
     (character-within d (length opens) (drop (length opens) text)))
     (λ n. tt)
 match-within (Prefixed byte) text = prefixed-within byte text
+match-within (Raw prefix) text =
+    let front = string_bytes prefix in
+    cond_both (starts_with nat_eq text front) (raw_text (length front) (drop (length front) text)) None
+    (λ o. IfSome o (λ found. found.0 ≤ length text))
+    (λ y. let l : length front ≤ length text = begin-within front text y in
+    found-less (raw_text (length front) (drop (length front) text)) (length front + length (drop (length front) text))
+    (length text) (omega (arith, l, length-drop (length front) text))
+    (behind-within (length front) (drop (length front) text)))
+    (λ n. tt)
 
 -- a token, where there is one, has no more bytes than so many
 abbrev IsWithin : ℕ → Option Token → Type 0
 IsWithin n o = IfSome o (λ token. token.bytes ≤ n)
 
-found-within : (at : ℕ) (style : Style) (found : Option (ℕ × Bool)) (others : Option Token) (n : ℕ)
+found-within : (at : ℕ) (style : Style) (found : Option Found) (others : Option Token) (n : ℕ)
     → IfSome found (λ it. it.0 ≤ n) → IsWithin n others → IsWithin n (found_or at style found others)
 found-within at style None others n h k = k
 found-within at style (Some found) others n h k = h
@@ -133,30 +183,33 @@ first-within at (rule ∷ rules) text =
     found-within at rule.style (match_of rule.pattern text) (first_match (at + 1) rules text) (length text)
     (match-within rule.pattern text) (first-within (at + 1) rules text)
 
-open-within : (at : ℕ) (style : Style) (p : Pattern) (text : List ℕ)
-    → IsWithin (length text) (running_in at style p text)
-open-within at style (Words words) text = tt
-open-within at style (From first last) text = tt
-open-within at style (Character d) text = tt
-open-within at style (Prefixed byte) text = tt
-open-within at style (Between d) text =
+open-within : (part : OpenPart) (style : Style) (p : Pattern) (text : List ℕ)
+    → IsWithin (length text) (running_in part style p text)
+open-within part style (Words words) text = tt
+open-within part style (From first last) text = tt
+open-within part style (Character d) text = tt
+open-within part style (Prefixed byte) text = tt
+open-within part style (Between d) text =
     let i : (inside d 0 text).0 ≤ 0 + length text = inside-within d 0 text in omega arith
+open-within part style (Raw prefix) text =
+    let i : (raw_inside part.hashes 0 text).0 ≤ 0 + length text = raw-within part.hashes 0 text in omega arith
 
-rule-within : (at : ℕ) (rule : Option Rule) (text : List ℕ) → IsWithin (length text) (running_rule at rule text)
-rule-within at None text = tt
-rule-within at (Some rule) text = open-within at rule.style rule.pattern text
+rule-within : (part : OpenPart) (rule : Option Rule) (text : List ℕ)
+    → IsWithin (length text) (running_rule part rule text)
+rule-within part None text = tt
+rule-within part (Some rule) text = open-within part rule.style rule.pattern text
 
-running-within : (rules : List Rule) (left_open : Option ℕ) (text : List ℕ)
+running-within : (rules : List Rule) (left_open : Option OpenPart) (text : List ℕ)
     → IsWithin (length text) (running_token rules left_open text)
 running-within rules None text = tt
-running-within rules (Some at) text = rule-within at (slice_get rules at) text
+running-within rules (Some part) text = rule-within part (slice_get rules part.rule) text
 
 one-within : (n : ℕ) (o : Option Token) (token : Token) → IsWithin n o → token.bytes ≤ n
     → (unwrap_or o token).bytes ≤ n
 one-within n None token h k = k
 one-within n (Some it) token h k = h
 
-token-within : (rules : List Rule) (left_open : Option ℕ) (text : List ℕ)
+token-within : (rules : List Rule) (left_open : Option OpenPart) (text : List ℕ)
     → (token_at rules left_open text).bytes ≤ length text
 unfolding token_at
 token-within rules left_open text =
@@ -176,7 +229,8 @@ ends-alike text n j k within a b = elim (cases_order j k) [
   ]
 ]
 
-tokens-alike : (rules : List Rule) (left_open : Option ℕ) (text : List ℕ) (ps qs : List Piece) (x y : Option ℕ)
+tokens-alike : (rules : List Rule) (left_open : Option OpenPart) (text : List ℕ) (ps qs : List Piece)
+    (x y : Option OpenPart)
     → AreTokens rules left_open text ps x → AreTokens rules left_open text qs y → (ps ≡ qs) × (x ≡ y)
 tokens-alike rules left_open text [] [] x y h k = (refl, h.1 ∙ sym k.1)
 tokens-alike rules left_open text [] (q ∷ qs) x y h k =
@@ -198,7 +252,7 @@ tokens-alike rules left_open text (p ∷ ps) (q ∷ qs) x y h k =
 
 -- ---- calls
 
-pub tokens-determined : (rules : List Rule) (left_open : Option ℕ) → IsDetermined (FollowTokens rules left_open)
+pub tokens-determined : (rules : List Rule) (left_open : Option OpenPart) → IsDetermined (FollowTokens rules left_open)
 tokens-determined rules left_open [] line some others later after h k =
     h.3 ∙ ap listed_pieces (tokens-alike rules left_open line h.0 k.0 h.1 k.1 h.2 k.2).0 ∙ sym k.3
 tokens-determined rules left_open (restarted read ∷ earlier) line some others later after h k =

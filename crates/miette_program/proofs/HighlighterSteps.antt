@@ -12,6 +12,7 @@ use Rattle.miette_protocol.specs.views.Meaning.{Label}
 use Rattle.miette_highlight.specs.rules.FollowingCalls.{FollowTokens}
 use Rattle.miette_highlight.specs.rules.HighlighterCalls.{Call, asked, restarted}
 use Rattle.miette_highlight.specs.declared.rule.Rule.{Rule}
+use Rattle.miette_highlight.specs.declared.tokens.OpenPart.{OpenPart}
 use Rattle.miette_labels.specs.rules.Answers.{Highlight}
 use Rattle.miette_labels.specs.rules.Around.{group_context}
 use Rattle.miette_labels.specs.rules.Groups.{groups_of, in_order, refusal}
@@ -118,13 +119,13 @@ of_report s (tree m own c r) a =
 
 -- ---- what is open
 
-closed : (rules : List Rule) (left_open other : Option ℕ) (calls : List Call) → Restarts calls
+closed : (rules : List Rule) (left_open other : Option OpenPart) (calls : List Call) → Restarts calls
     → FollowTokens rules left_open calls → FollowTokens rules other calls
 closed rules left_open other [] begun follow = tt
 closed rules left_open other (restarted read ∷ calls) begun follow = follow
 closed rules left_open other (asked line pieces ∷ calls) begun follow = absurd begun
 
-behind : (rules : List Rule) (left_open other : Option ℕ) (earlier calls : List Call) → Restarts calls
+behind : (rules : List Rule) (left_open other : Option OpenPart) (earlier calls : List Call) → Restarts calls
     → FollowTokens rules left_open (earlier ++ calls) → FollowTokens rules other calls
 behind rules left_open other [] calls begun follow = closed rules left_open other calls begun follow
 behind rules left_open other (restarted read ∷ earlier) calls begun follow =

@@ -10,4 +10,4 @@ first_shown s = record { unicode = refl; ascii = refl; limit = refl }
 
 pub ends_shown : (s : SnippetSettings) → AreEndsShown s
 unfolding pieces_from
-ends_shown s = record { one = refl; ascii = refl; ends = refl; wide = refl; bare = refl; begin = refl }
+ends_shown s = record { one = refl; ascii = refl; ends = refl; wide = refl; bare = refl; begin = refl; end = refl }

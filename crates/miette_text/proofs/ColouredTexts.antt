@@ -44,7 +44,7 @@ colour_ends (c ∷ cs) k h =
           ] refl
     ] refl h
 
-record Begins (c : ℕ) (cs : List ℕ) (k : ℕ) : Type 0 where
+pub record Begins (c : ℕ) (cs : List ℕ) (k : ℕ) : Type 0 where
   pub sequence : sequence_len (c ∷ cs) ≡ suc k
   pub colour : is_colour (c ∷ take k cs) ≡ true
 
@@ -56,7 +56,7 @@ begins_colour c d cs j a b h = record {
       (let e = h.colour in grind (arith, nat_tests, e));
 }
 
-colour_begins : (c : ℕ) (cs : List ℕ) (k : ℕ) → is_escape c ≡ true → one_more (after_colour_escape_len cs) ≡ suc k
+pub colour_begins : (c : ℕ) (cs : List ℕ) (k : ℕ) → is_escape c ≡ true → one_more (after_colour_escape_len cs) ≡ suc k
     → Begins c cs k
 colour_begins c [] k a h = cc
 colour_begins c (d ∷ cs) k a h =

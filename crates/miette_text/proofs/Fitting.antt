@@ -162,7 +162,7 @@ line-high (b ∷ bs) h =
     ap₂ (λ x y. not x && y) (not-apart b (h 0 (omega arith))) (line-high bs (λ k l. h (suc k) (omega (arith, l))))
 
 -- a character past ASCII has no byte of ASCII
-high-byte : (c k : ℕ) → 128 ≤ c → k < length (encode_utf8 c) → 128 ≤ get_or (encode_utf8 c) k 0
+pub high-byte : (c k : ℕ) → 128 ≤ c → k < length (encode_utf8 c) → 128 ≤ get_or (encode_utf8 c) k 0
 high-byte c k h l = elim (nat_lt (get_or (encode_utf8 c) k 0) 128) as
     (λ b. nat_lt (get_or (encode_utf8 c) k 0) 128 ≡ b → 128 ≤ get_or (encode_utf8 c) k 0) [
       | true ↦ λ e. absurd (omega (

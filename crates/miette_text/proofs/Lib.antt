@@ -29,6 +29,8 @@ pub mod InterleavedRows
 pub mod BareRows
 pub mod Filling
 pub mod TrimmedIndents
+pub mod PassedFronts
+pub mod FeedBlocks
 pub mod PassedLines
 pub mod WholeLines
 pub mod SingleRows

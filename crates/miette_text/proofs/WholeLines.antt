@@ -1,15 +1,17 @@
 -- Lines that are not wrapped, each under its indent.
-use Rattle.std.proofs.Common.{◌≡◌, ℕ, ◌<◌, Bool, true, false, ◌&&◌, Option, Some, None, MatchOption, List, [], ◌∷◌}
-use Rattle.std.proofs.Common.{◌++◌, ◌==◌, length, refl, sym, ap, ap₂, subst, ◌∙◌, append_assoc, arith, if◌then◌else◌}
-use Rattle.std.proofs.Common.{Bor, get_or, length-append, lit<, not}
-use Rattle.std.specs.Prelude.{chars, encode_utf8, IsUtf8}
+use Rattle.std.proofs.Common.{◌≡◌, ℕ, suc, ◌+◌, ◌<◌, ◌≤◌, Bool, true, false, ◌&&◌, Option, Some, None, List, [], ◌∷◌}
+use Rattle.std.proofs.Common.{◌++◌, length, refl, sym, ap, ap₂, subst, ◌∙◌, append_assoc, arith, if◌then◌else◌}
+use Rattle.std.proofs.Common.{cond, drop, get_or, length-append, lit<, ltb-true, take, take-append-drop}
+use Rattle.std.specs.Prelude.{chars, encode_utf8, encode_utf8_all, nat_lt, IsUtf8}
 use Rattle.std.specs.Char.{is_whitespace}
-use Rattle.std.specs.Str.{NoCharPasses, NonePass}
+use Rattle.std.specs.List.{prefix_len}
+use Rattle.std.proofs.Math.Bool.{and-true, and_assoc}
 use Rattle.std.proofs.Math.Seq.{take-append_seam}
-use Rattle.std.proofs.lemmas.List.{drop_at, get_or-append-add}
-use Rattle.std.proofs.lemmas.Str.{chars-append, chars_from_encodes, chars_past_char, encode_ascii, IsUtf8-drop}
+use Rattle.std.proofs.lemmas.Bool.Decides.{nat_tests}
+use Rattle.std.proofs.lemmas.List.{drop_at, drop_more, get_or-append-add, take_all}
+use Rattle.std.proofs.lemmas.List.Sums.{prefix_len_stops}
+use Rattle.std.proofs.lemmas.Str.{chars-append, chars_past_char, encode_ascii, encodes-chars, IsUtf8-drop}
 use Rattle.std.proofs.lemmas.Str.{IsUtf8-take, IsCharBoundary-before_ascii}
-use Rattle.std.proofs.lemmas.Str.Pattern.{IsSplitOnceResult, split_parts}
 use Rattle.miette_basics.specs.rules.Lists.{is_nil}
 use Rattle.miette_runs.specs.rules.Sequences.{Token, Character, Sequence, spell, tokens}
 use Rattle.miette_runs.proofs.Appending.{spell-append}
@@ -17,8 +19,9 @@ use Rattle.miette_runs.proofs.Tokens.{spell-tokens}
 use Rattle.miette_text.specs.laws.FittingRows.{is_row}
 use Rattle.miette_text.specs.rules.Wrapping.{TextLine, all_white, indented_row, last_indented, line_feed, text_line_tokens}
 use Rattle.miette_text.specs.rules.Wrapping.{trimmed_row, whole_lines, with_tag}
-use Rattle.miette_text.specs.steps.WholeText.{IsFirstLine, are_passed, last_under, line_indent, line_under}
+use Rattle.miette_text.specs.steps.WholeText.{IsFirstLine, are_passed, is_in_row, last_under, line_indent, line_under}
 use Rattle.miette_text.proofs.Feeds.{lines, lines-fed}
+use Rattle.miette_text.proofs.Fitting.{high-byte}
 use Rattle.miette_text.proofs.FittingRows.{line-tokens, line_of, row-line, row_line}
 use Rattle.miette_text.proofs.LineWise.{pieces-some}
 
@@ -113,43 +116,91 @@ line-printed indent further text line rest behind o p q e told h k =
 
 -- ---- a text is parted at its first line feed
 
-row-passed : (cs : List ℕ) → NonePass (λ d. d == 10) cs → is_row cs ≡ true
-row-passed [] h = refl
-row-passed (c ∷ cs) h = ap₂ (λ x y. not x && y) h.0 (row-passed cs h.1)
+row-append : (xs ys : List ℕ) → is_row (xs ++ ys) ≡ (is_row xs && is_row ys)
+row-append [] ys = refl
+row-append (x ∷ xs) ys =
+    ap (λ b. is_in_row x && b) (row-append xs ys) ∙ sym (and_assoc (is_in_row x) (is_row xs) (is_row ys))
 
-front-row : (bytes : List ℕ) → IsUtf8 bytes → NoCharPasses (λ d. d == 10) bytes → is_row (chars bytes) ≡ true
-front-row bytes u h = ap is_row (sym (chars_from_encodes h.0 bytes u h.1)) ∙ row-passed h.0 h.2
+high-in-row : (b : ℕ) → 128 ≤ b → is_in_row b ≡ true
+high-in-row b h = grind (arith, nat_tests)
+
+row-high : (bs : List ℕ) → ((k : ℕ) → k < length bs → 128 ≤ get_or bs k 0) → is_row bs ≡ true
+row-high [] h = refl
+row-high (b ∷ bs) h =
+    ap₂ (λ x y. x && y) (high-in-row b (h 0 (omega arith))) (row-high bs (λ k l. h (suc k) (omega (arith, l))))
+
+row-character : (c : ℕ) → is_row (encode_utf8 c) ≡ is_in_row c
+row-character c = elim (nat_lt c 128) as (λ b. nat_lt c 128 ≡ b → is_row (encode_utf8 c) ≡ is_in_row c) [
+  | true ↦ λ e. ap is_row (encode_ascii c (ltb-true _ _ e)) ∙ and-true (is_in_row c)
+  | false ↦ λ e.
+      let h : 128 ≤ c = grind (arith, nat_tests) in
+      row-high (encode_utf8 c) (λ k l. high-byte c k h l) ∙ sym (high-in-row c h)
+] refl
+
+row-characters : (cs : List ℕ) → is_row (encode_utf8_all cs) ≡ is_row cs
+row-characters [] = refl
+row-characters (c ∷ cs) =
+    row-append (encode_utf8 c) (encode_utf8_all cs) ∙ ap₂ (λ x y. x && y) (row-character c) (row-characters cs)
+
+-- bytes without a line feed are characters without one
+row-text : (bs : List ℕ) → IsUtf8 bs → is_row bs ≡ is_row (chars bs)
+row-text bs u = ap is_row (sym (encodes-chars bs u)) ∙ row-characters (chars bs)
+
+in-row : (b : ℕ) (bs : List ℕ) (t : Bool) → is_in_row b ≡ t → is_row (take (prefix_len is_in_row bs) bs) ≡ true
+    → is_row (take (cond t (1 + prefix_len is_in_row bs) 0) (b ∷ bs)) ≡ true
+in-row b bs true e h =
+    let n : 1 + prefix_len is_in_row bs ≡ suc (prefix_len is_in_row bs) = omega arith in
+    ap (λ k. is_row (take k (b ∷ bs))) n ∙ ap₂ (λ x y. x && y) e h
+in-row b bs false e h = refl
+
+row-front : (bs : List ℕ) → is_row (take (prefix_len is_in_row bs) bs) ≡ true
+row-front [] = refl
+row-front (b ∷ bs) = in-row b bs (is_in_row b) refl (row-front bs)
+
+is_feed : (b : ℕ) → is_in_row b ≡ false → b ≡ 10
+is_feed b h = grind (arith, nat_tests)
+
+pub at-feed : (text : List ℕ) (n : ℕ) → n ≡ prefix_len is_in_row text → n < length text → get_or text n 0 ≡ 10
+at-feed text n e h = is_feed (get_or text n 0) (ap (λ k. is_in_row (get_or text k 0)) e
+    ∙ prefix_len_stops is_in_row text 0 (omega (arith, e, h)))
 
 module _ (a b : List ℕ) (u : IsUtf8 (a ++ 10 ∷ b)) where
-  at-feed : get_or (a ++ 10 ∷ b) (length a) 0 ≡ 10
-  at-feed = ap (λ k. get_or (a ++ 10 ∷ b) k 0) (omega arith) ∙ get_or-append-add a (10 ∷ b) 0 0
+  feed-here : get_or (a ++ 10 ∷ b) (length a) 0 ≡ 10
+  feed-here = ap (λ k. get_or (a ++ 10 ∷ b) k 0) (omega arith) ∙ get_or-append-add a (10 ∷ b) 0 0
 
   within : length a < length (a ++ 10 ∷ b)
   within = omega (arith, length-append a (10 ∷ b))
 
   front-utf8 : IsUtf8 a
   front-utf8 = subst IsUtf8 (take-append_seam a (10 ∷ b)) (IsUtf8-take (a ++ 10 ∷ b) (length a) u
-      (IsCharBoundary-before_ascii (a ++ 10 ∷ b) (length a) within (omega (arith, at-feed))))
+      (IsCharBoundary-before_ascii (a ++ 10 ∷ b) (length a) within (omega (arith, feed-here))))
 
   feed-utf8 : IsUtf8 (10 ∷ b)
   feed-utf8 = subst IsUtf8 (drop_at a (10 ∷ b) (length a) refl) (IsUtf8-drop (a ++ 10 ∷ b) (length a) u
-      (IsCharBoundary-before_ascii (a ++ 10 ∷ b) (length a) within (omega (arith, at-feed))))
+      (IsCharBoundary-before_ascii (a ++ 10 ∷ b) (length a) within (omega (arith, feed-here))))
 
   parted : chars (a ++ 10 ∷ b) ≡ chars a ++ 10 ∷ chars b
   parted = chars-append a (10 ∷ b) front-utf8 ∙ ap (λ cs. chars a ++ cs) (chars_past_char (10 ∷ b) b 10 feed-utf8
       (ap (λ bs. bs ++ b) (sym (encode_ascii 10 (lit< tt)))))
 
-pub first-line : (text : List ℕ) (r : Option (Bor (List ℕ) × Bor (List ℕ))) → IsUtf8 text → IsSplitOnceResult 10 text r
-    → MatchOption r (IsFirstLine (chars text) (chars text) None)
-    (λ x. IsFirstLine (chars text) (chars x.0.now) (Some x.1.now) × (length x.1.now < length text))
-first-line text None u h = (front-row text u h, refl)
-first-line text (Some x) u h =
-    let parts = split_parts 10 text (Some x) h (lit< tt) in
-    let whole : IsUtf8 (x.0.now ++ 10 ∷ x.1.now) = subst IsUtf8 parts.0 u in
-    let bare : NoCharPasses (λ d. d == 10) x.0.now = subst (NoCharPasses (λ d. d == 10)) (sym h.3) h.2.0 in (
-      (
-        front-row x.0.now (front-utf8 x.0.now x.1.now whole) bare,
-        ap chars parts.0 ∙ parted x.0.now x.1.now whole,
-      ),
-      omega (arith, length-append x.0.now (10 ∷ x.1.now), ap length parts.0),
+pub no-feed : (text : List ℕ) (n : ℕ) → IsUtf8 text → n ≡ prefix_len is_in_row text → n ≡ length text
+    → IsFirstLine (chars text) (chars text) None
+no-feed text n u e h =
+    let all : prefix_len is_in_row text ≡ length text = sym e ∙ h in
+    let whole : take (prefix_len is_in_row text) text ≡ text = ap (λ k. take k text) all ∙ take_all (length text) text
+    (omega arith) in
+    (sym (row-text text u) ∙ sym (ap is_row whole) ∙ row-front text, refl)
+
+pub first-feed : (text : List ℕ) (n : ℕ) → IsUtf8 text → n ≡ prefix_len is_in_row text → n < length text
+    → IsFirstLine (chars text) (chars (take n text)) (Some (drop (n + 1) text))
+first-feed text n u e h =
+    let front = take n text in
+    let rest = drop (n + 1) text in
+    let here = at-feed text n e h in
+    let parts : text ≡ front ++ 10 ∷ rest = sym (take-append-drop n text)
+    ∙ ap (λ l. front ++ l) (drop_more text n 0 h ∙ ap (λ x. x ∷ rest) here) in
+    let whole : IsUtf8 (front ++ 10 ∷ rest) = subst IsUtf8 parts u in
+    let row : is_row front ≡ true = ap (λ k. is_row (take k text)) e ∙ row-front text in (
+      sym (row-text front (front-utf8 front rest whole)) ∙ row,
+      ap chars parts ∙ parted front rest whole,
     )

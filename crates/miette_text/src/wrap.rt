@@ -30,6 +30,7 @@ ghost use Rattle.miette_text.specs.views.Plans.{cuts_hyphens, options_plan, prin
 
 mod breaks;
 mod ends;
+mod feeds;
 pub mod fitting;
 pub mod laws;
 mod lines;
@@ -146,7 +147,7 @@ fn push_wrapped<S: Sink>(
         ++ spell (wrapped_tokens (runs_plan plan.entry) (tokens (chars text.now)))) }
 {
     if !plan.wraps {
-        return push_whole(out, plan.first.parts(), plan.further.parts(), text);
+        return push_whole(alloc, out, plan.first.parts(), plan.further.parts(), text);
     }
     let read = read_text(alloc, text)?;
     push_filled_under(out, plan, &read)

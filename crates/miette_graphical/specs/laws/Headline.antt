@@ -55,8 +55,8 @@ group_settings s labels = settings_around (snippet_settings s) (in_order labels)
 -- The snippets show the lines in the context of some label, once and in order, each with its number: the rows are
 -- those of the maximal ranges of these lines, each line with its own cells, in whatever pieces, each range in a frame;
 -- and a group shows the lines of one range. Where labels are folded, just the lines of a range that lie in the context
--- of no label as it is folded are left out, and the row of a break stands in place of each stretch of them. Each line
--- that a label lies on is one of the lines in its context.
+-- of no label as it is folded, at least two of them side by side, are left out, and the row of a break stands in place
+-- of each stretch of them. Each line that a label lies on is one of the lines in its context.
 pub record ShowsRanges (s : Settings) (source : Source) (labels : List Label) : Type 0 where
   pub rows : (pieces : List (List (List Highlight))) →
       source_rows s (Some source) labels (pieces_listed pieces)

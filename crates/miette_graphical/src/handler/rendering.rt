@@ -126,8 +126,8 @@ impl<H: Highlighter> GraphicalReportHandler<H> {
         ensures lines { OnOk result (EachPrinted LinesAreShown self.old (tree_of D.meaning S.source report.now)) }
         // its marks have columns of their own,
         ensures marks { OnOk result (EachPrinted MarksAreApart self.old (tree_of D.meaning S.source report.now)) }
-        // each line with more columns than the limit is cut, and no other; it shows what is near its marks, in a
-        // bounded number of columns, and they stand under their own characters,
+        // each line with more columns than the limit is cut, and no other; it shows as much around its ends as has room
+        // within the limit, and its marks stand under their own characters,
         ensures cuts { OnOk result (EachPrinted CutsAreExact self.old (tree_of D.meaning S.source report.now)) }
         // and where no line of a snippet has more columns than the limit, its rows are those without one,
         ensures fits { OnOk result (EachPrinted LinesThatFitStay self.old (tree_of D.meaning S.source report.now)) }

@@ -1,7 +1,7 @@
 -- The rules of languages, those that count first before others.
-use Rattle.std.specs.Prelude.{ℕ, Bool, true, false, Option, Some, None, List, [], ◌∷◌, ◌++◌, map, codes, string_bytes}
+use Rattle.std.specs.Prelude.{ℕ, Bool, true, false, Option, Some, None, List, [], ◌∷◌, map, codes, string_bytes}
 use Rattle.miette_highlight.specs.declared.rule.Pattern.{Pattern}
-use Rattle.miette_highlight.specs.declared.rule.Pattern.TheVariants.{Words, From, Between, Character, Prefixed}
+use Rattle.miette_highlight.specs.declared.rule.Pattern.TheVariants.{Words, From, Between, Character, Prefixed, Raw}
 use Rattle.miette_highlight.specs.declared.rule.Rule.{Rule}
 use Rattle.miette_style.specs.declared.style.Color.TheVariants.{Green, Yellow, Cyan, Magenta}
 use Rattle.miette_style.specs.declared.style.Style.{Style}
@@ -9,13 +9,14 @@ use Rattle.miette_style.specs.rules.Styles.{coloured_style, plain}
 
 -- a rule by its texts: words; a word that begins with a byte from the first up to the last; what lies between
 -- delimiters, with the byte that escapes one and whether it goes on over lines; a character between them, with that
--- byte; or a word behind a byte
+-- byte; a word behind a byte; or a raw text behind a prefix
 pub data RuleText : Type 0 where
   of_words : List (List ℕ) → Style → RuleText
   beginning : ℕ → ℕ → Style → RuleText
   between : List ℕ → List ℕ → Option ℕ → Bool → Style → RuleText
   character : List ℕ → List ℕ → Option ℕ → Style → RuleText
   prefixed : ℕ → Style → RuleText
+  raw : List ℕ → Style → RuleText
 
 abbrev pub pattern_text : Pattern → Style → RuleText
 pattern_text (Words words) style = of_words (map (λ w. string_bytes w) words.items) style
@@ -24,6 +25,7 @@ pattern_text (Between d) style =
     between (string_bytes d.opens) (string_bytes d.closes) d.escape d.over_lines style
 pattern_text (Character d) style = character (string_bytes d.opens) (string_bytes d.closes) d.escape style
 pattern_text (Prefixed byte) style = prefixed byte style
+pattern_text (Raw prefix) style = raw (string_bytes prefix) style
 
 abbrev pub rule_text : Rule → RuleText
 rule_text rule = pattern_text rule.pattern rule.style
@@ -69,19 +71,9 @@ rust_words =
     ∷ codes "struct" ∷ codes "super" ∷ codes "trait" ∷ codes "type" ∷ codes "unsafe" ∷ codes "use" ∷ codes "where"
     ∷ codes "while" ∷ codes "yield" ∷ []
 
--- texts that go on over lines, and in which nothing is escaped
-abbrev pub raw_text : List ℕ → List ℕ → RuleText
-raw_text opens closes = text_between opens closes None true
-
--- they have as many hashes behind as in front, at most three
-abbrev pub rust_raw_texts : List RuleText
-rust_raw_texts =
-    raw_text (codes "r\"") (codes "\"") ∷ raw_text (codes "r#\"") (codes "\"#")
-    ∷ raw_text (codes "r##\"") (codes "\"##") ∷ raw_text (codes "r###\"") (codes "\"###")
-    ∷ raw_text (codes "br\"") (codes "\"") ∷ raw_text (codes "br#\"") (codes "\"#")
-    ∷ raw_text (codes "br##\"") (codes "\"##") ∷ raw_text (codes "br###\"") (codes "\"###")
-    ∷ raw_text (codes "cr\"") (codes "\"") ∷ raw_text (codes "cr#\"") (codes "\"#")
-    ∷ raw_text (codes "cr##\"") (codes "\"##") ∷ raw_text (codes "cr###\"") (codes "\"###") ∷ []
+-- texts that go on over lines, and in which nothing is escaped: they have as many hashes behind as in front
+abbrev pub raw_text : List ℕ → RuleText
+raw_text prefix = raw prefix (coloured_style Green)
 
 -- a character in quotes, green; so an apostrophe before a word that isn't one begins a lifetime, which is as a word of
 -- the language
@@ -94,5 +86,6 @@ rust_rules =
     ∷ text_between (codes "\"") (codes "\"") (Some 92) true
     ∷ text_between (codes "b\"") (codes "\"") (Some 92) true
     ∷ text_between (codes "c\"") (codes "\"") (Some 92) true
-    ∷ rust_raw_texts ++ prefixed 39 (coloured_style Magenta) ∷ of_words rust_words (coloured_style Magenta)
+    ∷ raw_text (codes "r") ∷ raw_text (codes "br") ∷ raw_text (codes "cr")
+    ∷ prefixed 39 (coloured_style Magenta) ∷ of_words rust_words (coloured_style Magenta)
     ∷ values (codes "true" ∷ codes "false" ∷ [])

@@ -1,14 +1,14 @@
 -- What a pattern finds at the start of a text, in bytes.
 use Rattle.std.specs.Prelude.{◌≡◌, ℕ, ◌+◌, ◌-◌, Bool, true, false, ◌&&◌, ◌||◌, not, ◌==◌, nat_le, nat_lt, nat_eq}
 use Rattle.std.specs.Prelude.{Option, Some, None, List, [], ◌∷◌, length, take, drop, map, string_bytes, String}
-use Rattle.std.specs.Prelude.{if◌then◌else◌}
+use Rattle.std.specs.Prelude.{if◌then◌else◌, take_while}
 use Rattle.std.specs.Char.{is_ascii_alphanumeric}
 use Rattle.std.specs.List.{starts_with}
 use Rattle.std.specs.Str.{bytes_eq}
 use Rattle.std.specs.declared.alloc.Global.{Global}
 use Rattle.miette_highlight.specs.declared.rule.Delimiters.{Delimiters}
 use Rattle.miette_highlight.specs.declared.rule.Pattern.{Pattern}
-use Rattle.miette_highlight.specs.declared.rule.Pattern.TheVariants.{Words, From, Between, Character, Prefixed}
+use Rattle.miette_highlight.specs.declared.rule.Pattern.TheVariants.{Words, From, Between, Character, Prefixed, Raw}
 
 -- a byte of a letter or a digit of ASCII, of `_`, or of a character beyond ASCII
 abbrev pub is_word_byte : ℕ → Bool
@@ -41,14 +41,49 @@ close_end delimiters escaped at (b ∷ bs) =
     then Some (at + length (string_bytes delimiters.closes))
     else close_end delimiters (not escaped && escapes_next delimiters.escape b) (at + 1) bs
 
--- up to the end that was found; else up to the line's end, and over it where delimiters may
-abbrev pub closed_at : Option ℕ → ℕ → Bool → ℕ × Bool
-closed_at (Some end) line_end over_lines = (end, false)
-closed_at None line_end over_lines = (line_end, over_lines)
+-- What is found has a number of bytes; where it stays open, so many hashes close it behind its delimiter.
+abbrev pub Found : Type 0
+Found = ℕ × Option ℕ
 
--- where what lies after an opening delimiter ends, the text beginning at a place, and whether it stays open
-abbrev pub inside : Delimiters → ℕ → List ℕ → ℕ × Bool
-inside delimiters at text = closed_at (close_end delimiters false at text) (at + length text) delimiters.over_lines
+-- up to the end that was found; else up to the line's end, and open where it may go on
+abbrev pub closed_at : Option ℕ → ℕ → Option ℕ → Found
+closed_at (Some end) line_end goes_on = (end, None)
+closed_at None line_end goes_on = (line_end, goes_on)
+
+-- no hash closes what lies between delimiters
+abbrev pub open_over : Bool → Option ℕ
+open_over over_lines = if over_lines then Some 0 else None
+
+-- where what lies after an opening delimiter ends, the text beginning at a place
+abbrev pub inside : Delimiters → ℕ → List ℕ → Found
+inside delimiters at text =
+    closed_at (close_end delimiters false at text) (at + length text) (open_over delimiters.over_lines)
+
+-- how many hashes a text begins with
+abbrev pub is_hash : ℕ → Bool
+is_hash b = b == 35
+
+abbrev pub hash_count : List ℕ → ℕ
+hash_count text = length (take_while is_hash text)
+
+-- where the first quote with so many hashes behind it ends with these, the text beginning at a place
+abbrev pub raw_end : ℕ → ℕ → List ℕ → Option ℕ
+raw_end hashes at [] = None
+raw_end hashes at (b ∷ bs) =
+    if b == 34 && nat_le hashes (hash_count bs) then Some (at + 1 + hashes) else raw_end hashes (at + 1) bs
+
+-- where a raw text ends behind its first quote, the text beginning at a place
+abbrev pub raw_inside : ℕ → ℕ → List ℕ → Found
+raw_inside hashes at text = closed_at (raw_end hashes at text) (at + length text) (Some hashes)
+
+-- where one of so many hashes ends whose first quote a text begins with, at a place
+abbrev pub quoted : ℕ → ℕ → List ℕ → Option Found
+quoted hashes at [] = None
+quoted hashes at (b ∷ bs) = if b == 34 then Some (raw_inside hashes (at + 1) bs) else None
+
+-- where one ends behind its prefix, which has so many bytes
+abbrev pub raw_text : ℕ → List ℕ → Option Found
+raw_text before text = quoted (hash_count text) (before + hash_count text) (drop (hash_count text) text)
 
 -- a byte that goes on with the character that began before it
 abbrev pub is_continuation : ℕ → Bool
@@ -64,26 +99,26 @@ is_character escape [] = false
 is_character escape (b ∷ bs) = escapes_next escape b || are_continuations bs
 
 -- a text between delimiters, beginning at a place, up to the end that was found, where it is a character
-abbrev pub closed_character : Delimiters → ℕ → List ℕ → Option ℕ → Option (ℕ × Bool)
+abbrev pub closed_character : Delimiters → ℕ → List ℕ → Option ℕ → Option Found
 closed_character delimiters at text None = None
 closed_character delimiters at text (Some end) =
     if is_character delimiters.escape (take (end - at - length (string_bytes delimiters.closes)) text)
-    then Some (end, false) else None
+    then Some (end, None) else None
 
-abbrev pub character_end : Delimiters → ℕ → List ℕ → Option (ℕ × Bool)
+abbrev pub character_end : Delimiters → ℕ → List ℕ → Option Found
 character_end delimiters at text = closed_character delimiters at text (close_end delimiters false at text)
 
 -- a byte and the word behind it, where a text begins with it and a word follows
-abbrev pub prefixed_word : ℕ → List ℕ → Option (ℕ × Bool)
+abbrev pub prefixed_word : ℕ → List ℕ → Option Found
 prefixed_word byte [] = None
 prefixed_word byte (b ∷ bs) =
-    if b == byte && nat_lt 0 (word_end 0 bs) then Some (word_end 0 bs + 1, false) else None
+    if b == byte && nat_lt 0 (word_end 0 bs) then Some (word_end 0 bs + 1, None) else None
 
--- how many bytes a pattern finds at the start of a text, and whether what it finds stays open
-abbrev pub match_of : Pattern → List ℕ → Option (ℕ × Bool)
+-- what a pattern finds at the start of a text
+abbrev pub match_of : Pattern → List ℕ → Option Found
 match_of (Words words) text =
-    if is_among words.items (take (word_end 0 text) text) then Some (word_end 0 text, false) else None
-match_of (From first last) text = if begins_within first last text then Some (word_end 0 text, false) else None
+    if is_among words.items (take (word_end 0 text) text) then Some (word_end 0 text, None) else None
+match_of (From first last) text = if begins_within first last text then Some (word_end 0 text, None) else None
 match_of (Between delimiters) text =
     if starts_with nat_eq text (string_bytes delimiters.opens)
     then Some (inside delimiters (length (string_bytes delimiters.opens))
@@ -95,6 +130,10 @@ match_of (Character delimiters) text =
     (drop (length (string_bytes delimiters.opens)) text)
     else None
 match_of (Prefixed byte) text = prefixed_word byte text
+match_of (Raw prefix) text =
+    if starts_with nat_eq text (string_bytes prefix)
+    then raw_text (length (string_bytes prefix)) (drop (length (string_bytes prefix)) text)
+    else None
 
 -- the pattern is that of these words
 abbrev pub IsWords : List (List ℕ) → Pattern → Type 0
@@ -103,6 +142,7 @@ IsWords texts (From first last) = ⊥
 IsWords texts (Between delimiters) = ⊥
 IsWords texts (Character delimiters) = ⊥
 IsWords texts (Prefixed byte) = ⊥
+IsWords texts (Raw prefix) = ⊥
 
 -- the delimiters, their escape, and whether what lies between them goes on over lines
 abbrev pub AreDelimiters : List ℕ → List ℕ → Option ℕ → Bool → Delimiters → Type 0

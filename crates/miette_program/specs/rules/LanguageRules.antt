@@ -1,7 +1,8 @@
 -- The rules of the languages that have a highlighter, and what a highlighter of a language is.
-use Rattle.std.specs.Prelude.{ℕ, List, Option, None}
+use Rattle.std.specs.Prelude.{List, Option, None}
 use Rattle.miette_highlight.specs.rules.FollowingCalls.{FollowTokens}
 use Rattle.miette_highlight.specs.rules.HighlighterCalls.{Call}
+use Rattle.miette_highlight.specs.declared.tokens.OpenPart.{OpenPart}
 use Rattle.miette_highlight.specs.rules.Languages.{RuleText, json_rules, rule_texts, rust_rules, toml_rules}
 use Rattle.miette_program.specs.declared.language.Language.{Language}
 use Rattle.miette_program.specs.declared.language.Language.TheVariants.{Toml, Json, Rust}
@@ -12,11 +13,11 @@ language_rules Toml = toml_rules
 language_rules Json = json_rules
 language_rules Rust = rust_rules
 
--- of which language, by which rules, and which of these was left open
+-- of which language, by which rules, and what was left open
 pub record Highlighting : Type 0 where
   pub language : Language
   pub rules : List RuleText
-  pub left_open : Option ℕ
+  pub left_open : Option OpenPart
 
 abbrev pub highlighting_of : LanguageHighlighter → Highlighting
 highlighting_of it = record {

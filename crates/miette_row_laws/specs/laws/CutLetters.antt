@@ -24,6 +24,13 @@ letters = codes "abcdefghijklmnopqrstuvwxyz\n"
 abbrev pub letters_line : Line
 letters_line = record { start = 0; text_end = 26; end = 27 }
 
+-- the letters behind a first line of one character
+abbrev pub lower_letters : List ℕ
+lower_letters = codes "a\nabcdefghijklmnopqrstuvwxyz\n"
+
+abbrev pub lower_line : Line
+lower_line = record { start = 2; text_end = 28; end = 29 }
+
 -- a label from one offset up to another, with these parts of a text
 abbrev pub label_over : ℕ → ℕ → List (List ℕ) → DrawnLabel
 label_over start after parts = record { start = start; after = after; style = plain; parts = parts; behind = false }
@@ -33,6 +40,11 @@ abbrev pub letters_shown : SnippetSettings → List DrawnLabel → List ℕ
 letters_shown s labels =
     map (λ g. g.code) (glyphs_of (text_of_line s labels letters_line (cells_of s letters letters_line) []))
 
+-- and of those behind a first line
+abbrev pub lower_shown : SnippetSettings → List DrawnLabel → List ℕ
+lower_shown s labels =
+    map (λ g. g.code) (glyphs_of (text_of_line s labels lower_line (cells_of s lower_letters lower_line) []))
+
 -- without a label, in Unicode and in ASCII; at a limit below 8
 pub record AreFirstShown (s : SnippetSettings) : Type 0 where
   pub unicode : letters_shown (cut_to_columns unicode_characters 8 s) [] ≡ codes "abcdefg…"
@@ -40,7 +52,7 @@ pub record AreFirstShown (s : SnippetSettings) : Type 0 where
   pub limit : letters_shown (cut_to_columns unicode_characters 1 s) [] ≡ codes "abcdefg…"
 
 -- around the 14th letter; around the 4th, 13th and 21st, at the ends and under the text of a label over those between,
--- and without its text; where a label of several lines begins
+-- and without its text; where a label of several lines begins, and where one ends
 pub record AreEndsShown (s : SnippetSettings) : Type 0 where
   pub one : letters_shown (cut_to_columns unicode_characters 8 s) (label_over 13 13 ([] ∷ []) ∷ []) ≡ codes "…lmnop…"
   pub ascii : letters_shown (cut_to_columns ascii_characters 8 s) (label_over 13 13 ([] ∷ []) ∷ []) ≡ codes "...n..."
@@ -49,3 +61,4 @@ pub record AreEndsShown (s : SnippetSettings) : Type 0 where
       ≡ codes "abcd...m...u..."
   pub bare : letters_shown (cut_to_columns unicode_characters 8 s) (label_over 3 21 [] ∷ []) ≡ codes "…d…u…"
   pub begin : letters_shown (cut_to_columns unicode_characters 12 s) (label_over 20 53 [] ∷ []) ≡ codes "…pqrstuvwxyz"
+  pub end : lower_shown (cut_to_columns unicode_characters 12 s) (label_over 0 17 [] ∷ []) ≡ codes "…klmnopqrs…"

@@ -1,15 +1,19 @@
 -- Text under indents that is not wrapped, in the steps of the code.
 use Rattle.std.specs.Prelude.{◌≡◌, ℕ, zero, suc, Bool, true, false, ◌&&◌, Option, None, Some, List, [], ◌∷◌, ◌++◌, chars}
-use Rattle.std.specs.Prelude.{if◌then◌else◌}
+use Rattle.std.specs.Prelude.{if◌then◌else◌, not}
 use Rattle.std.specs.Char.{is_whitespace}
-use Rattle.miette_runs.specs.rules.Sequences.{Token, Character, Sequence, after_escape_len, begins, command_len}
-use Rattle.miette_runs.specs.rules.Sequences.{control_len, spell, tokens, tokens_behind}
+use Rattle.miette_runs.specs.rules.Sequences.{Token, Character, Sequence, after_escape_len, begins, colour_len}
+use Rattle.miette_runs.specs.rules.Sequences.{command_len, control_len, is_line_feed, spell, tokens, tokens_behind}
 use Rattle.miette_text.specs.declared.wrap.white.Place.{Place}
 use Rattle.miette_text.specs.declared.wrap.white.Place.TheVariants.{Outside, Escape, Control, Command, CommandEscape}
 use Rattle.miette_text.specs.laws.FittingRows.{is_row}
 use Rattle.miette_text.specs.rules.Wrapping.{trimmed_row}
 
 -- ---- the first line of a text
+
+-- no line feed
+abbrev pub is_in_row : ℕ → Bool
+is_in_row c = not (is_line_feed c)
 
 -- its characters, and the bytes of what stands behind the line feed after it, if there is one
 abbrev pub IsFirstLine : List ℕ → List ℕ → Option (List ℕ) → Type 0
@@ -42,6 +46,10 @@ passed_from CommandEscape blanks cs =
 abbrev pub passed_through : Option Place → Bool → List ℕ → Bool
 passed_through None blanks cs = false
 passed_through (Some place) blanks cs = passed_from place blanks cs
+
+-- how many bytes are passed at the front of a text at once: a colour, or a space where white characters may stand there
+abbrev pub front_len : Bool → List ℕ → ℕ
+front_len blanks bytes = if blanks && begins 32 bytes then 1 else colour_len bytes
 
 -- ---- a line under its indent
 

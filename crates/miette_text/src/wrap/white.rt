@@ -1,9 +1,82 @@
 //! Lines in which nothing is seen.
 
-ghost use Rattle.std.specs.Prelude.{◌≡◌, ◌∷◌, ℕ, Bool, List, chars};
-ghost use Rattle.miette_runs.specs.rules.Sequences.{tokens};
+ghost use Rattle.std.specs.Prelude.{◌≡◌, ◌≤◌, ◌∷◌, ℕ, Bool, List, chars, false, length, true};
+ghost use Rattle.miette_runs.specs.rules.Sequences.{colour_end_len, colour_len, is_parameter, tokens};
 ghost use Rattle.miette_text.specs.declared.wrap.white.Place.TheVariants.{Outside, Escape, Control, Command};
-ghost use Rattle.miette_text.specs.steps.WholeText.{are_passed, passed_from, passed_through};
+ghost use Rattle.miette_text.specs.steps.WholeText.{are_passed, front_len, passed_from, passed_through};
+
+// ---- colours and spaces at the front, byte by byte
+
+fn is_parameter(byte: u8) -> bool
+    ensures { result ≡ is_parameter byte }
+{
+    (b'0' <= byte && byte <= b'9') || byte == b';'
+}
+
+// Behind `ESC [`: how many bytes there are up to the `m` of a colour, 0 where it isn't one.
+fn colour_end_len(bytes: &[u8]) -> usize
+    ensures value { result ≡ colour_end_len bytes.now }
+    ensures within { result ≤ length bytes.now }
+{
+    for (i, byte) in bytes.iter().enumerate() {
+        if *byte == b'm' {
+            return i + 1;
+        }
+        if !is_parameter(*byte) {
+            return 0;
+        }
+    }
+    0
+}
+
+// How many bytes the colour at the front has, 0 where there is none.
+fn colour_len(bytes: &[u8]) -> usize
+    ensures value { result ≡ colour_len bytes.now }
+    ensures within { result ≤ length bytes.now }
+{
+    if bytes.len() < 2 || bytes[0] != b'\x1B' || bytes[1] != b'[' {
+        return 0;
+    }
+    let end = colour_end_len(&bytes[2..]);
+    if end == 0 { 0 } else { end + 2 }
+}
+
+// How many bytes are passed at the front: a colour, or a space where white characters may stand there; 0 for others.
+fn front_len(bytes: &[u8], blanks: bool) -> usize
+    ensures value { result ≡ front_len blanks bytes.now }
+    ensures within { result ≤ length bytes.now }
+{
+    if blanks && !bytes.is_empty() && bytes[0] == b' ' {
+        return 1;
+    }
+    colour_len(bytes)
+}
+
+// A text behind the colours that it begins with, and behind the spaces where white characters may stand there.
+fn behind_front(text: &str, blanks: bool) -> &str
+    ensures { are_passed blanks (tokens (chars result.now)) ≡ are_passed blanks (tokens (chars text.now)) }
+{
+    let mut rest = text;
+    'rest: loop {
+        let len = front_len(rest.as_bytes(), blanks);
+        if len == 0 {
+            return rest;
+        }
+        rest = &rest[len..];
+    }
+}
+
+// Whether a text begins with a character from `!` to `~`, which is in no sequence and isn't white.
+fn begins_seen(text: &str) -> bool
+    ensures { result ≡ true → (blanks : Bool) → are_passed blanks (tokens (chars text.now)) ≡ false }
+{
+    match text.as_bytes() {
+        [byte, ..] => b'!' <= *byte && *byte <= b'~',
+        [] => false,
+    }
+}
+
+// ---- all that is passed, character by character
 
 // Where a walk over a line stands: between sequences, or behind what begins one.
 #[derive(Clone, Copy)]
@@ -91,9 +164,9 @@ fn next_place(place: Place, c: char, blanks: bool) -> Option<Place>
     }
 }
 
-/// Whether a text holds nothing but whole sequences, and white characters where these may stand in it too. It is left
-/// at the first other character.
-pub(crate) fn is_passed(text: &str, blanks: bool) -> bool
+// Whether a text holds nothing but whole sequences, and white characters where these may stand in it too: a walk that
+// is left at the first other character.
+fn walk_passes(text: &str, blanks: bool) -> bool
     ensures { result ≡ are_passed blanks (tokens (chars text.now)) }
 {
     let mut place = Place::Outside;
@@ -104,4 +177,13 @@ pub(crate) fn is_passed(text: &str, blanks: bool) -> bool
         place = next;
     }
     matches!(place, Place::Outside)
+}
+
+/// Whether a text holds nothing but whole sequences, and white characters where these may stand in it too. It is left
+/// at the first other character.
+pub(crate) fn is_passed(text: &str, blanks: bool) -> bool
+    ensures { result ≡ are_passed blanks (tokens (chars text.now)) }
+{
+    let rest = behind_front(text, blanks);
+    !begins_seen(rest) && walk_passes(rest, blanks)
 }

@@ -10,5 +10,5 @@ returns g c =
     let value = tree_of g.D.Diagnostic.meaning g.S.SourceCode.source c.args.report.now in
     is_json c.the_spelling_denotes_its_value.ensures.tokens c.a_text_denotes_one_value.ensures value _
     (IsUtf8-string_bytes c.push_report.new.out)
-    (subst (λ old. AppendsReport None value old (string_bytes c.push_report.new.out)) c.new-text.ensures.bytes
+    (subst (λ old. AppendsReport None value old (string_bytes c.push_report.new.out)) c.in_ok-text.ensures.bytes
     c.in_ok-push_report.ensures)

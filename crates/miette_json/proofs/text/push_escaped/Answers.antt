@@ -1,39 +1,32 @@
-use Rattle.std.proofs.Common.{◌≡◌, ap, ◌∙◌, ◌++◌, string_bytes, get_or, take, rules}
-use Rattle.std.proofs.lemmas.Str.{IsCharBoundary-before_ascii, IsCharBoundary-after_ascii}
+use Rattle.std.proofs.Common.{◌≡◌, ◌++◌, ◌∙◌, ap, string_bytes, take, rules}
+use Rattle.std.proofs.lemmas.Str.{IsCharBoundary-before_ascii}
 use Rattle.miette_json.specs.rules.Json.{escaped_text}
-use Rattle.miette_json.specs.steps.EscapedBytes.{is_escaped}
-use Rattle.miette_json.proofs.JsonSpelled.{next_escape, run_written, none_escaped}
+use Rattle.miette_json.specs.steps.EscapedBytes.{begins_escaped}
+use Rattle.miette_json.proofs.JsonSpelled.{escape_begins, next_escape, plain_written, none_escaped}
 use Rattle.miette_json.proofs.text.push_escaped.Goals as goal
-use Rattle.json.specs.Print.{escape_byte}
 
 pub range-requires-clause-end_boundary : goal.range-requires-clause-end_boundary
 range-requires-clause-end_boundary c =
     let next = next_escape c.loop-at.rest.now c.in-Some.at c.in-Some.ensures in
     IsCharBoundary-before_ascii _ _ next.inside next.low
 
-pub push_escape-requires : goal.push_escape-requires
-push_escape-requires c =
+pub range_from-requires : goal.range_from-requires
+range_from-requires c =
     let next = next_escape c.loop-at.rest.now c.in-Some.at c.in-Some.ensures in
-    ap (λ l. is_escaped (get_or l c.in-Some.at 0)) c.as_bytes.ensures.value ∙ next.here
+    λ _. IsCharBoundary-before_ascii _ _ next.inside next.low
 
-pub range_from-rest-requires : goal.range_from-rest-requires
-range_from-rest-requires c =
+pub push_escapes-requires : goal.push_escapes-requires
+push_escapes-requires c =
     let next = next_escape c.loop-at.rest.now c.in-Some.at c.in-Some.ensures in
-    λ _. IsCharBoundary-after_ascii _ _ c.loop-at.invariant.1 next.inside next.low
+    ap begins_escaped c.range_from.ensures.value ∙ escape_begins c.loop-at.rest.now c.in-Some.at next
 
 pub loop-at-preserved : goal.loop-at-preserved
 loop-at-preserved c =
     let rest = c.loop-at.rest.now in
     let at = c.in-Some.at in
     let run : string_bytes c.push_str.new.self ≡ string_bytes c.loop-at.out ++ take at rest = search rules in
-    let escape : string_bytes c.push_escape.new.out ≡ string_bytes c.push_str.new.self
-    ++ escape_byte (get_or rest at 0) =
-    c.in_ok-push_escape.ensures ∙ ap (λ l. string_bytes c.push_str.new.self ++ escape_byte (get_or l at 0))
-    c.as_bytes.ensures.value in
-    let written = run_written _ _ _ _ _ at (next_escape rest at c.in-Some.ensures) c.loop-at.invariant.0 run escape in (
-      ap (λ l. string_bytes c.push_escape.new.out ++ escaped_text l) c.range_from-rest.ensures.value ∙ written,
-      c.range_from-rest.utf8,
-    )
+    let written = plain_written _ _ _ _ at (next_escape rest at c.in-Some.ensures) c.loop-at.invariant.0 run in
+    search rules
 
 pub returns : goal.returns
 returns c =

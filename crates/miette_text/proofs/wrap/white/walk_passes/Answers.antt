@@ -3,7 +3,7 @@ use Rattle.std.proofs.lemmas.Iterator.{YieldsList-from_chars}
 use Rattle.std.proofs.lemmas.Iterator.Consumers.{YieldsList-turn, YieldsList-end}
 use Rattle.std.proofs.lemmas.List.{length_push}
 use Rattle.miette_text.proofs.PassedLines.{is_outside, passed-end, passed-next, not-outside}
-use Rattle.miette_text.proofs.wrap.white.is_passed.Goals as goal
+use Rattle.miette_text.proofs.wrap.white.walk_passes.Goals as goal
 
 pub returns-in_default : goal.returns-in_default
 returns-in_default c =
