@@ -286,14 +286,24 @@ def cut_stretches(line, limit, ends, wide):
     reach of an end: the most columns by which the row is no wider than the limit. Without ends it is the first cells."""
     if limit is None or line.width <= max(limit, LEAST):
         return None
-    limit = max(limit, LEAST)
+    return cut_by(line, limit, reach_of(line, limit, ends, wide), ends, wide)
+
+
+def cut_by(line, limit, reach, ends, wide):
+    """The stretches of a line that is cut so many columns around its ends."""
     if not ends:
-        return parted(line, wide, lambda cell: cell.next_column + wide <= limit)
+        return parted(line, wide, lambda cell: cell.next_column + wide <= max(limit, LEAST))
+    return parted(line, wide, lambda it: any(it.column - reach <= end < it.next_column + reach for end in ends))
+
+
+def reach_of(line, limit, ends, wide):
+    """How many columns around its ends a line is shown: the most, up to the limit, that have room."""
+    limit = max(limit, LEAST)
     for reach in range(limit, -1, -1):
-        parts = parted(line, wide, lambda it: any(it.column - reach <= end < it.next_column + reach for end in ends))
-        if row_columns(parts, wide) <= limit:
-            break
-    return parts
+        near = parted(line, wide, lambda it: any(it.column - reach <= end < it.next_column + reach for end in ends))
+        if row_columns(near, wide) <= limit:
+            return reach
+    return 0
 
 
 def places_of(line, parts, wide):
