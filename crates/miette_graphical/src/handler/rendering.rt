@@ -87,7 +87,7 @@ impl<H: Highlighter> GraphicalReportHandler<H> {
             ((calls : List Call) → follows_of H.may_follow self.old calls → AnsweredBy answer calls) →
             follows_of H.may_follow self.new [] → all_read (diagnostics_of self.old.settings tree) ≡ true →
             string_bytes out.new ≡ string_bytes out.old ++ encode_utf8_all (report_text whole_drawing self.old.settings
-            tree (answers_by answer self.old.settings.layout.context_lines tree))) }
+            tree (answers_by answer self.old.settings.layout tree))) }
         // where every source always reads, and no highlighter or a blank one is set, there is one such text
         ensures only { let tree = tree_of D.meaning S.source report.now in
             OnOk result (draws_plain H.is_blank self.old ≡ true →
