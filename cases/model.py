@@ -176,15 +176,16 @@ class Labels:
     """The labels of a report by offset, and their groups."""
 
     def __init__(self, source, given, settings):
-        self.source, self.context = source, settings.context
+        length = len(source.data)
+        asks = settings.end_labels and any(it["offset"] == length > 0 and it.get("context", 1) for it in given)
+        self.source, self.context = source, max(settings.context, 1) if asks else settings.context
         self.has_own = any("context" in it for it in given)
         common = max(self.context, 1) if self.has_own else self.context
         self.labels = [Label(it, source, common) for it in sorted(given, key=lambda it: it["offset"])]
-        length = len(source.data)
-        at_end = [it for it in self.labels if it.offset == length > 0]
-        if settings.end_labels and any(it.context for it in at_end):
-            for label in at_end:
-                label.move_to_end(length)
+        if asks:
+            for label in self.labels:
+                if label.offset == length:
+                    label.move_to_end(length)
 
     def groups(self):
         """Each group as the read that is shown, and the primary label of it."""

@@ -1,7 +1,7 @@
 //! Lines that are wider than the layout lets them be: into which stretches they are cut, and where their marks are in
 //! the row.
 
-ghost use Rattle.std.specs.Prelude.{◌≡◌, ◌+◌, ◌^◌, ◌<◌, List, Option, Some, map, length, IfOk};
+ghost use Rattle.std.specs.Prelude.{◌≡◌, ◌+◌, ◌^◌, ◌<◌, List, Option, Some, map, length, nat_lt, IfOk};
 ghost use Rattle.std.specs.Option.{option_map};
 ghost use Rattle.miette_snippet_rules.specs.rules.PrintedCells.{cells_width};
 ghost use Rattle.miette_snippet_rules.specs.rules.CutLines.{cut_line, cut_line_by, limit_of, reach_at, shown_marks};
@@ -81,6 +81,16 @@ pub fn cut_at_ends(
         return Ok(None);
     };
     cut_within(alloc, text, ends, limit, dots)
+}
+
+/// Whether a line's text has more columns than a row may have of at most so many; a limit below 8 counts as 8.
+/// `AllocError` where a column is past the largest `usize`.
+pub fn is_wide(text: &LineText, limit: usize) -> Result<bool, AllocError>
+    requires { text.now.start + length text.now.bytes.now < 2 ^ 64 }
+    ensures { IfOk result (λ wide. wide ≡ nat_lt (limit_of limit) (cells_width 0 (text_cells text.now))) }
+{
+    let width = columns_of_line(Walk::new(text.bytes, text.start, text.tab))?;
+    Ok(FEWEST.max(limit) < width)
 }
 
 /// How far around its ends a line's text is shown in a row of at most so many columns, with dots of so many: by as many

@@ -1,7 +1,7 @@
 -- The rows of a changed line.
 use Rattle.miette_page.specs.views.Printouts.{Printout, ◌⊕◌}
 use Rattle.std.proofs.Common.{ℕ, ◌≤◌, ◌≡◌, Bool, true, false, cond, List, [], ◌∷◌, ◌++◌, map, length, replicate}
-use Rattle.std.proofs.Common.{Option, Some, None, min, option_map, refl, sym, subst, ap, ◌∙◌, arith}
+use Rattle.std.proofs.Common.{Option, Some, None, ltb, min, option_map, refl, sym, subst, ap, ◌∙◌, arith}
 use Rattle.std.proofs.Common.{◌+◌, ◌<◌, ◌^◌, IfSome}
 use Rattle.std.specs.List.{filter, list_any}
 use Rattle.miette_style.specs.rules.Styles.{plain}
@@ -15,7 +15,7 @@ use Rattle.miette_snippet_rules.specs.rules.CutLines.{shown_marks, shown_runs}
 use Rattle.miette_snippet_rules.specs.rules.Drawing.{blank}
 use Rattle.miette_snippet_rules.specs.rules.Frames.{other_start}
 use Rattle.miette_snippet_rules.specs.rules.Marks.{Mark, marks}
-use Rattle.miette_snippet_rules.specs.rules.PrintedCells.{text_bytes}
+use Rattle.miette_snippet_rules.specs.rules.PrintedCells.{cells_width, text_bytes}
 use Rattle.miette_snippet_rules.specs.rules.Settings.{SnippetSettings}
 use Rattle.miette_snippet_rules.proofs.RowTokens.{then, told_as, blank_row, styled_row}
 use Rattle.miette_frames.proofs.TextRows.{parts_then, row_done, rows_then}
@@ -32,6 +32,11 @@ use Rattle.miette_fix_drawing.specs.steps.Ends.{line_cut}
 use Rattle.miette_fix_drawing.specs.views.ChangedLines.{AreBothNear, IsNear, IsReadable, changed_line_of}
 use Rattle.miette_fix_drawing.specs.declared.changed_line.ChangedLine.{ChangedLine as MadeChangedLine}
 use Rattle.miette_fix_drawing.specs.steps.Starts.{digits_row}
+
+-- a line that fits isn't cut
+pub narrow_uncut : (many limit reach : ℕ) (ends : List ℕ) (cells : List Cell)
+    → ltb (limit_of limit) (cells_width 0 cells) ≡ false → cut_line_by many limit reach ends cells ≡ None
+narrow_uncut many limit reach ends cells h = rw h refl
 
 pub sign_put : (s : SnippetSettings) (w : ℕ) (line : ChangedLine) (p d b g k n : Printout)
     → d ≡ p ⊕ row_tokens (digits_row s w line.number) → b ≡ d ⊕ styled_tokens plain (replicate 1 32)

@@ -21,7 +21,7 @@ use crate::marks_row::{edit_marks, push_marks_row};
 use crate::printable::{changed_pieces, push_changed_text};
 use crate::spans::spans_from;
 use crate::texts::text_of;
-use miette_cuts::cutting::{Room, cut_in_room, marks_shown, reach_of_ends};
+use miette_cuts::cutting::{Room, cut_in_room, is_wide, marks_shown, reach_of_ends};
 use miette_cuts::dots::dots_in;
 use miette_cuts::line_text::LineText;
 use miette_cuts::stretch::Cut;
@@ -93,8 +93,11 @@ fn cut_of(
     let Some(limit) = settings.layout.line_columns else {
         return Ok(None);
     };
-    let reach = reach_of_pair(settings, line, other, limit)?;
     let text = text_in(settings, line);
+    if !is_wide(&text, limit)? {
+        return Ok(None);
+    }
+    let reach = reach_of_pair(settings, line, other, limit)?;
     let ends = line_ends(settings, line)?;
     let room = Room {
         limit,

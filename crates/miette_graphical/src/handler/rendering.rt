@@ -133,8 +133,9 @@ impl<H: Highlighter> GraphicalReportHandler<H> {
         ensures fits { OnOk result (EachPrinted LinesThatFitStay self.old (tree_of D.meaning S.source report.now)) }
         // each text of a label on one line hangs from its own mark,
         ensures texts { OnOk result (EachPrinted TextsHang self.old (tree_of D.meaning S.source report.now)) }
-        // where labels at the end of its source are drawn, just these stand behind the text of the last line, and
-        // their marks in the column after what is shown of it; where there is none, nothing changes,
+        // where labels at the end of its source are drawn, its last line is shown with whatever lines of context, just
+        // these stand behind its text, and their marks in the column after what is shown of it; where there is none,
+        // nothing changes,
         ensures ends { OnOk result (EachPrinted EndsAreDrawn self.old (tree_of D.meaning S.source report.now)) }
         // and where labels are folded, no label begins or ends on a line that is left out, none is left out alone, the
         // bars of a break are those of the labels that run through it, and short labels change nothing

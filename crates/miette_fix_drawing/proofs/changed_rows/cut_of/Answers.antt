@@ -1,11 +1,14 @@
-use Rattle.std.proofs.Common.{◌∙◌, ap, map, option_map, Option, Some, sym, ℕ}
+use Rattle.std.proofs.Common.{◌≡◌, ◌∙◌, ap, false, map, option_map, Option, Some, sym, ℕ}
+use Rattle.std.specs.Prelude.{nat_lt}
 use Rattle.std.proofs.lemmas.Result.{IfOk-weaker}
 use Rattle.miette_cuts.specs.views.Cuts.{measure}
-use Rattle.miette_snippet_rules.specs.rules.CutLines.{cut_line_by, dots_in}
+use Rattle.miette_snippet_rules.specs.rules.CutLines.{cut_line_by, dots_in, limit_of}
+use Rattle.miette_snippet_rules.specs.rules.PrintedCells.{cells_width}
 use Rattle.miette_snippet_rules.specs.views.SettingsView.{settings_of}
-use Rattle.miette_fix_rows.specs.rules.DiffRows.{cut_beside}
+use Rattle.miette_fix_rows.specs.rules.DiffRows.{cut_beside, pair_reach}
 use Rattle.miette_fix_rows.specs.rules.DiffTexts.{line_cells, line_ends}
 use Rattle.miette_fix_drawing.specs.views.ChangedLines.{changed_line_of}
+use Rattle.miette_fix_drawing.proofs.ChangedRows.{narrow_uncut}
 use Rattle.miette_fix_drawing.proofs.changed_rows.cut_of.Goals as goal
 
 pub returns-in_default : goal.returns-in_default
@@ -13,6 +16,20 @@ returns-in_default c =
     let s = settings_of c.args.settings.now in
     ap (λ (o : Option ℕ). option_map (map measure) (cut_beside s o (changed_line_of c.args.line.now)
     (option_map changed_line_of c.args.other.now))) (sym c.in_default.is)
+
+pub returns-then-is_wide : goal.returns-then-is_wide
+returns-then-is_wide c =
+    let s = settings_of c.args.settings.now in
+    let line = changed_line_of c.args.line.now in
+    let other = option_map changed_line_of c.args.other.now in
+    let limit : ℕ = c.in-Some.limit in
+    let cells = line_cells s line.start line.text in
+    let narrow : nat_lt (limit_of limit) (cells_width 0 cells) ≡ false =
+    ap (λ cs. nat_lt (limit_of limit) (cells_width 0 cs)) (sym c.text_in-text.ensures.text)
+    ∙ sym c.in_ok-is_wide.ensures ∙ c.if-is_wide.false in
+    sym (ap (option_map (map measure)) (narrow_uncut (dots_in s.theme.characters) limit (pair_reach s limit line other)
+    (line_ends s line.start line.text line.spans) cells narrow))
+    ∙ ap (λ (o : Option ℕ). option_map (map measure) (cut_beside s o line other)) (sym c.in-Some.is)
 
 pub returns : goal.returns
 returns c =
