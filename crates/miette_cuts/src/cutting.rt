@@ -114,8 +114,8 @@ pub fn reach_of_ends(
     Ok(room.reach)
 }
 
-/// The stretches of a line's text around its ends in a room, where it has more columns than the limit. `AllocError` where
-/// memory is refused, or a column or a count is past the largest `usize`.
+/// The stretches of a line's text around its ends in a room, where it has more columns than the limit. `AllocError`
+/// where memory is refused, or a column or a count is past the largest `usize`.
 pub fn cut_in_room(
     alloc: Global,
     text: &LineText,

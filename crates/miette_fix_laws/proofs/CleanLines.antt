@@ -206,7 +206,8 @@ all_added_clean n (c ∷ cs) h =
 changed_clean : (cs : List Change) → AllByRecursion IsCleanChange cs → AreCleanShown (changed_lines cs)
 changed_clean cs h =
     let all : ℕ = bytes_of (removed_lines cs) in
-    all_append IsCleanShown (removed_from 0 cs) (added_from all cs) (all_removed_clean 0 cs h) (all_added_clean all cs h)
+    all_append IsCleanShown (removed_from 0 cs) (added_from all cs) (all_removed_clean 0 cs h)
+    (all_added_clean all cs h)
 
 behind_clean : (context : ℕ) (behind : List (List ℕ)) (hunks : List Hunk) → AreClean behind
     → AllByRecursion IsCleanHunk hunks → AreCleanShown (behind_hunk context behind hunks)

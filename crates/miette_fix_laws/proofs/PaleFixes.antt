@@ -228,7 +228,8 @@ module _ (P : Type 0) where
 
     pale_changed : (w : ℕ) (line : ChangedLine) (other : Option ChangedLine) → IsCleanCode line.sign
         → (P → IsClean line.text) →
-        PaleRows P (changed_rows (faded hs s) w (in_plain line) (option_map in_plain other)) (changed_rows s w line other)
+        PaleRows P (changed_rows (faded hs s) w (in_plain line) (option_map in_plain other))
+        (changed_rows s w line other)
     pale_changed w line None h k = rows_cons P (pale_text w line None h k)
         (rows_if (look_alike s line.text None) (pale_marks w line None h))
     pale_changed w line (Some other) h k = rows_cons P (pale_text w line (Some other) h k)

@@ -5,8 +5,9 @@ use Rattle.std.proofs.lemmas.List.{map-append, take-append-drop}
 use Rattle.miette_fix_rows.specs.laws.Frames.{past_lines}
 use Rattle.miette_fix_rows.specs.rules.Blocks.{bytes_of}
 use Rattle.miette_fix_rows.specs.rules.Hunks.{Change, Hunk, added_lines, removed_lines}
-use Rattle.miette_fix_rows.specs.rules.DiffFrames.{DiffLine, Standing, added_from, added_with, changed_lines, kept_lines}
-use Rattle.miette_fix_rows.specs.rules.DiffFrames.{other_line, past_changes, past_hunk, past_kept, removed_from, removed_with}
+use Rattle.miette_fix_rows.specs.rules.DiffFrames.{DiffLine, Standing, added_from, added_with, changed_lines}
+use Rattle.miette_fix_rows.specs.rules.DiffFrames.{kept_lines, other_line, past_changes, past_hunk, past_kept}
+use Rattle.miette_fix_rows.specs.rules.DiffFrames.{removed_from, removed_with}
 use Rattle.miette_fix_rows.specs.rules.DiffRows.{past}
 use Rattle.miette_fix_rows.proofs.Texts.{bytes_of-append}
 

@@ -14,7 +14,8 @@ use Rattle.miette_snippet_rules.specs.rules.Settings as snippets
 use Rattle.miette_snippet_rules.specs.rules.Frames.{refused_row}
 use Rattle.miette_labels.specs.rules.Around.{group_context}
 use Rattle.miette_labels.specs.rules.Groups.{refusal, groups_of, in_order}
-use Rattle.miette_snippet_rules.specs.rules.Highlighting.{SnippetsHavePieces, calls_of_labels, group_calls, snippet_calls}
+use Rattle.miette_snippet_rules.specs.rules.Highlighting.{SnippetsHavePieces, calls_of_labels, group_calls}
+use Rattle.miette_snippet_rules.specs.rules.Highlighting.{snippet_calls}
 use Rattle.miette_snippet_rules.specs.rules.SnippetLayout.{snippet_rows, rows_unless, rows_of_groups, settings_around}
 use Rattle.miette_snippet_rules.specs.rules.SnippetLayout.{all_snippets, end_lines, end_settings, rows_of_labels}
 use Rattle.miette_snippet_rules.specs.declared.options.LayoutOptions.{LayoutOptions}

@@ -150,8 +150,8 @@ fn snippets_around<'b, S: SourceCode, H: Highlighter, O: Canvas + Drop>(
     }
 }
 
-// With how many lines of context labels over a source are drawn: where labels at its end are drawn, and there would be no
-// line, it is read to know whether one of these lies there.
+// With how many lines of context labels over a source are drawn: where labels at its end are drawn, and there would be
+// no line, it is read to know whether one of these lies there.
 fn end_lines<S: SourceCode>(layout: &LayoutOptions, source: &S, labels: &[LabeledSpan]) -> usize
     ensures { AreEndLines layout.now (S.source source.now) labels.now result }
 {

@@ -69,7 +69,8 @@ of_source layout (Some source) labels a =
     (group_calls (group_context context (in_order labels)) source groups a.pieces)
     (of_groups (group_context context (in_order labels)) source groups a.pieces)
 
-over : (layout : LayoutOptions) (sources : List LabelledSource) (a : SourceAnswers) → Restarts (calls_over layout sources a)
+over : (layout : LayoutOptions) (sources : List LabelledSource) (a : SourceAnswers)
+    → Restarts (calls_over layout sources a)
 over layout [] a = tt
 over layout (it ∷ more) a =
     both (source_calls layout it.source it.labels (first_source a)) (calls_over layout more (drop 1 a))

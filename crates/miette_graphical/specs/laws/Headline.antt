@@ -282,8 +282,8 @@ pub record EndsBehind (s : Settings) (source : Source) (labels : List Label) : T
 abbrev pub without_ends : Settings → Settings
 without_ends s = record s { layout = (with_ends false (snippet_settings s)).layout }
 
--- Where labels at the end are drawn, and a source that always reads and accepts its labels has one there, its last line is
--- shown, with whatever lines of context, and they are drawn behind that.
+-- Where labels at the end are drawn, and a source that always reads and accepts its labels has one there, its last line
+-- is shown, with whatever lines of context, and they are drawn behind that.
 abbrev pub EndIsShown : Settings → Source → List Label → Type 0
 EndIsShown s source labels =
     source.always_reads ≡ true → AreAccepted source.bytes labels →

@@ -214,8 +214,8 @@ rows_unless s source labels answers (Some row) = Some (row ∷ [])
 rows_unless s source labels answers None = rows_of_groups s source labels answers
     (groups_of s.layout.context_lines source answers.join_fails labels)
 
--- The rows of a diagnostic's snippets with the lines of context of these settings, or none where a group or the place of
--- one can't be read: labels by offset, and one row if one of them is refused.
+-- The rows of a diagnostic's snippets with the lines of context of these settings, or none where a group or the place
+-- of one can't be read: labels by offset, and one row if one of them is refused.
 abbrev pub snippet_rows : SnippetSettings → Source → List Label → Answers → Option (List Row)
 snippet_rows s source labels answers =
     rows_unless s source (in_order labels) answers
@@ -229,8 +229,8 @@ abbrev pub asks_for_end : ℕ → List Label → Bool
 asks_for_end n labels =
     some_shows_end 1 n labels && not (list_any (λ label. nat_lt n label.span.offset) labels)
 
--- With how many lines of context labels over a source are drawn: with at least one where labels at its end are drawn and
--- one of these asks for that. Where the read fails that tells where the source ends, none is known to lie there.
+-- With how many lines of context labels over a source are drawn: with at least one where labels at its end are drawn
+-- and one of these asks for that. Where the read fails that tells where the source ends, none is known to lie there.
 abbrev pub end_lines : LayoutOptions → Bool → Source → List Label → ℕ
 end_lines layout fails source labels =
     if layout.end_labels && (not fails && asks_for_end (length source.bytes) labels) then max 1 layout.context_lines

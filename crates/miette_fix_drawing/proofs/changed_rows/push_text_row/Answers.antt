@@ -11,7 +11,8 @@ pub returns : goal.returns
 returns g c =
     on_ok_weaker c.end_row.result (λ h.
     text_put (settings_of c.args.frame.now.settings) c.args.frame.now.number_width (changed_line_of c.args.line.now)
-    (option_map changed_line_of c.args.other.now) (text_cells c.text_in-text.result) (map highlight_of c.deref.result.now)
+    (option_map changed_line_of c.args.other.now) (text_cells c.text_in-text.result)
+    (map highlight_of c.deref.result.now)
     (option_map (λ made. made.items) c.args.cut.now) c.args.page.now c.push_sign_start.new.page
     c.push_changed_text.new.page c.end_row.new.self c.text_in-text.ensures.text
     (ap (map highlight_of) c.deref.ensures.value ∙ c.in_ok-pieces.ensures) c.requires.cut
