@@ -27,7 +27,7 @@ use Rattle.miette_snippet_rules.specs.declared.options.LayoutOptions.{LayoutOpti
 use Rattle.miette_snippet_rules.specs.rules.Frames.{refused_row}
 use Rattle.miette_snippet_rules.specs.rules.Settings.{SnippetSettings}
 use Rattle.miette_snippet_rules.specs.rules.SnippetLayout.{asks_for_end, end_lines, rows_unless}
-use Rattle.miette_snippet_rules.proofs.SourceEnd.{any_same, ends_there, lends, tells}
+use Rattle.miette_snippet_rules.proofs.SourceEnd.{any_same, tells}
 use Rattle.miette_layout.specs.views.Outcomes.{GivesAround, MayGive, Printing}
 use Rattle.miette_layout.specs.views.SourceEnds.{AreEndLines, AsksForEnd, TellsEnd, asks_at, last_offset}
 

@@ -1,5 +1,5 @@
 -- What drawing a diagnostic's snippets gives.
-use Rattle.std.specs.Prelude.{◌≡◌, true, false, Bool, List, [], Option, None, IfSome}
+use Rattle.std.specs.Prelude.{◌≡◌, true, Bool, List, [], Option, None, IfSome}
 use Rattle.std.specs.Option.{option_map}
 use Rattle.miette_protocol.specs.views.Meaning.{Label}
 use Rattle.miette_protocol.specs.rules.Reading.{Source}
