@@ -6,7 +6,7 @@ use Rattle.std.proofs.Common.{subst, arith}
 use Rattle.std.specs.Prelude.{unwrap_or}
 use Rattle.std.specs.List.{list_any}
 use Rattle.std.specs.Option.{option_map}
-use Rattle.std.proofs.lemmas.Bool.{eqb-true, eqb-false, eq-eqb, ne_eqb, lt-ltb, le-ltb, ltb-true, ltb-false, cases_lt}
+use Rattle.std.proofs.lemmas.Bool.{eqb-true, eqb-false, eq-eqb, ne_eqb, lt-ltb, le-ltb, cases_lt}
 use Rattle.std.proofs.lemmas.Bool.{and_left, and_right, or_from, or_left}
 use Rattle.std.proofs.lemmas.List.{at_drop_more}
 use Rattle.miette_basics.proofs.Cases.{by_cases}
@@ -160,50 +160,66 @@ under : (fails x y z : Bool) → (x && y) ≡ z → ((not fails && x) && y) ≡ 
 under true x y z e = refl
 under false x y z e = e
 
-pub asks_told : (source : Source) (labels : List Label) (ends asks : Bool) → TellsEnd source (last_offset labels) ends
-    → asks ≡ list_any (asks_at (last_offset labels)) labels → AsksForEnd source labels (ends && asks)
-asks_told source labels ends asks h is =
+both_told : (source : Source) (labels : List Label) (last : ℕ) (ends : Bool) → last ≡ last_offset labels
+    → TellsEnd source last ends → AsksForEnd source labels (ends && list_any (asks_at last) labels)
+both_told source labels last ends at h =
     let n : ℕ = length source.bytes in record {
       fails = h.fails;
       always = h.always;
-      is = ap₂ (λ x y. x && y) h.is is
-          ∙ under h.fails (ltb 0 n && eqb (last_offset labels) n) (list_any (asks_at (last_offset labels)) labels)
-          (asks_for_end n labels) (asked n labels);
+      is = ap (λ b. b && list_any (asks_at last) labels) h.is
+          ∙ under h.fails (ltb 0 n && eqb last n) (list_any (asks_at last) labels) (asks_for_end n labels)
+          (ap (λ k. (ltb 0 n && eqb k n) && list_any (asks_at k) labels) at ∙ asked n labels);
     }
+
+-- the source isn't known to end at the greatest offset
+pub none_told : (source : Source) (labels : List Label) (last : ℕ) (ends : Bool) → last ≡ last_offset labels
+    → TellsEnd source last ends → ends ≡ false → AsksForEnd source labels false
+none_told source labels last ends at h no =
+    subst (λ (b : Bool). AsksForEnd source labels b) (and_left ends (list_any (asks_at last) labels) no)
+    (both_told source labels last ends at h)
+
+-- it ends there
+pub asks_told : (source : Source) (labels : List Label) (last : ℕ) (ends asks : Bool) → last ≡ last_offset labels
+    → TellsEnd source last ends → ends ≡ true → asks ≡ list_any (asks_at last) labels → AsksForEnd source labels asks
+asks_told source labels last ends asks at h yes is =
+    subst (λ (b : Bool). AsksForEnd source labels b)
+    (ap (λ b. b && list_any (asks_at last) labels) yes ∙ sym is) (both_told source labels last ends at h)
 
 -- ---- the lines of context
 
-kept : (wanted asks : Bool) (context : ℕ) → (not wanted || ltb 0 context) ≡ true
-    → context ≡ cond (wanted && asks) (max 1 context) context
-kept false asks context h = refl
-kept true true context h = omega (arith, ltb-true 0 context h)
-kept true false context h = refl
-
-pub lines_kept : (layout : LayoutOptions) (source : Source) (labels : List Label)
-    → (not layout.end_labels || ltb 0 layout.context_lines) ≡ true
+pub lines_unwanted : (layout : LayoutOptions) (source : Source) (labels : List Label) → layout.end_labels ≡ false
     → AreEndLines layout source labels layout.context_lines
-lines_kept layout source labels h = record {
+lines_unwanted layout source labels no = record {
   fails = false;
   always = λ a. refl;
-  is = kept layout.end_labels (asks_for_end (length source.bytes) labels) layout.context_lines h;
+  is = sym (ap (λ b. cond b (max 1 layout.context_lines) layout.context_lines) (and_left layout.end_labels
+      (not false && asks_for_end (length source.bytes) labels) no));
 }
 
-one_more : (wanted found asks : Bool) (context : ℕ) → (not wanted || ltb 0 context) ≡ false → asks ≡ found
-    → cond asks 1 0 ≡ cond (wanted && found) (max 1 context) context
-one_more false found asks context h is = absurd (cc)
-one_more true found asks context h is =
-    let none : context ≡ 0 = omega (arith, ltb-false 0 context h) in
-    ap (λ b. cond b 1 0) is ∙ ap (λ k. cond found (max 1 k) k) (sym none)
+same_lines : (asks : Bool) (context : ℕ) → 0 < context → context ≡ cond asks (max 1 context) context
+same_lines true context some = omega (arith, some)
+same_lines false context some = refl
+
+pub lines_there : (layout : LayoutOptions) (source : Source) (labels : List Label) → 0 < layout.context_lines
+    → AreEndLines layout source labels layout.context_lines
+lines_there layout source labels some = record {
+  fails = false;
+  always = λ a. refl;
+  is = same_lines (layout.end_labels && (not false && asks_for_end (length source.bytes) labels)) layout.context_lines
+      some;
+}
 
 pub lines_asked : (layout : LayoutOptions) (source : Source) (labels : List Label) (asks : Bool)
-    → (not layout.end_labels || ltb 0 layout.context_lines) ≡ false → AsksForEnd source labels asks
+    → layout.end_labels ≡ true → layout.context_lines ≤ 0 → AsksForEnd source labels asks
     → AreEndLines layout source labels (cond asks 1 0)
-lines_asked layout source labels asks h told = record {
-  fails = told.fails;
-  always = told.always;
-  is = one_more layout.end_labels (not told.fails && asks_for_end (length source.bytes) labels) asks
-      layout.context_lines h told.is;
-}
+lines_asked layout source labels asks wanted none told =
+    let found : Bool = not told.fails && asks_for_end (length source.bytes) labels in
+    let zero : 0 ≡ layout.context_lines = omega (arith, none) in record {
+      fails = told.fails;
+      always = told.always;
+      is = ap (λ b. cond b 1 0) told.is ∙ ap (λ k. cond found (max 1 k) k) zero
+          ∙ ap (λ b. cond (b && found) (max 1 layout.context_lines) layout.context_lines) (sym wanted);
+    }
 
 -- ---- what is printed
 

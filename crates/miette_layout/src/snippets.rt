@@ -156,7 +156,10 @@ fn end_lines<S: SourceCode>(layout: &LayoutOptions, source: &S, labels: &[Labele
     ensures { AreEndLines layout.now (S.source source.now) labels.now result }
 {
     let lines = layout.context_lines;
-    if !layout.end_labels || lines > 0 {
+    if !layout.end_labels {
+        return lines;
+    }
+    if lines > 0 {
         return lines;
     }
     if asks_for_end(source, labels) {

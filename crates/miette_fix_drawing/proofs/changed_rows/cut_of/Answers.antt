@@ -26,7 +26,7 @@ returns-then-is_wide c =
     let cells = line_cells s line.start line.text in
     let narrow : nat_lt (limit_of limit) (cells_width 0 cells) ≡ false =
     ap (λ cs. nat_lt (limit_of limit) (cells_width 0 cs)) (sym c.text_in-text.ensures.text)
-    ∙ sym c.in_ok-is_wide.ensures ∙ c.if-is_wide.false in
+    ∙ sym c.in_ok-is_wide.ensures ∙ c.if-is_wide.true in
     sym (ap (option_map (map measure)) (narrow_uncut (dots_in s.theme.characters) limit (pair_reach s limit line other)
     (line_ends s line.start line.text line.spans) cells narrow))
     ∙ ap (λ (o : Option ℕ). option_map (map measure) (cut_beside s o line other)) (sym c.in-Some.is)
