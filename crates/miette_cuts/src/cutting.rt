@@ -89,8 +89,10 @@ pub fn is_wide(text: &LineText, limit: usize) -> Result<bool, AllocError>
     requires { text.now.start + length text.now.bytes.now < 2 ^ 64 }
     ensures { IfOk result (λ wide. wide ≡ nat_lt (limit_of limit) (cells_width 0 (text_cells text.now))) }
 {
-    let width = columns_of_line(Walk::new(text.bytes, text.start, text.tab))?;
-    Ok(FEWEST.max(limit) < width)
+    let walk = Walk::new(text.bytes, text.start, text.tab);
+    let width = columns_of_line(walk)?;
+    let most = FEWEST.max(limit);
+    Ok(most < width)
 }
 
 /// How far around its ends a line's text is shown in a row of at most so many columns, with dots of so many: by as many

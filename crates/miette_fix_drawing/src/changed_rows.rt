@@ -94,7 +94,8 @@ fn cut_of(
         return Ok(None);
     };
     let text = text_in(settings, line);
-    if !is_wide(&text, limit)? {
+    let wide = is_wide(&text, limit)?;
+    if !wide {
         return Ok(None);
     }
     let reach = reach_of_pair(settings, line, other, limit)?;

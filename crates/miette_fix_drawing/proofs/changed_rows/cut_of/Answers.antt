@@ -17,8 +17,8 @@ returns-in_default c =
     ap (λ (o : Option ℕ). option_map (map measure) (cut_beside s o (changed_line_of c.args.line.now)
     (option_map changed_line_of c.args.other.now))) (sym c.in_default.is)
 
-pub returns-then-is_wide : goal.returns-then-is_wide
-returns-then-is_wide c =
+pub returns-then-not-wide : goal.returns-then-not-wide
+returns-then-not-wide c =
     let s = settings_of c.args.settings.now in
     let line = changed_line_of c.args.line.now in
     let other = option_map changed_line_of c.args.other.now in
@@ -26,7 +26,7 @@ returns-then-is_wide c =
     let cells = line_cells s line.start line.text in
     let narrow : nat_lt (limit_of limit) (cells_width 0 cells) ≡ false =
     ap (λ cs. nat_lt (limit_of limit) (cells_width 0 cs)) (sym c.text_in-text.ensures.text)
-    ∙ sym c.in_ok-is_wide.ensures ∙ c.if-is_wide.true in
+    ∙ sym c.in_ok-wide.ensures ∙ c.if-not-wide.true in
     sym (ap (option_map (map measure)) (narrow_uncut (dots_in s.theme.characters) limit (pair_reach s limit line other)
     (line_ends s line.start line.text line.spans) cells narrow))
     ∙ ap (λ (o : Option ℕ). option_map (map measure) (cut_beside s o line other)) (sym c.in-Some.is)
