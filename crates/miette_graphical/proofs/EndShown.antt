@@ -88,7 +88,7 @@ none_fewer n context labels h =
     any_more (λ l. shows_end n (lines_around context labels l) l) (λ l. shows_end n (lines_around 1 labels l) l)
     (λ l. same_end n (lines_around context labels l) (lines_around 1 labels l) l
     (around_fewer context (has_own labels) l.context)) labels t in
-    let no : true ≡ false = sym one ∙ h in absurd (cc))
+    let no : true ≡ false = sym one ∙ h in cc)
     (λ f. f)
 
 -- ---- the last line is in the context of a label at the end

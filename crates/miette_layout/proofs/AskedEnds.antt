@@ -96,13 +96,16 @@ refused_there source offset span errors.OutOfBounds is h =
 
 -- ---- all labels
 
+past_max : (n a m : ℕ) → a ≤ n → ltb n m ≡ ltb n (max a m)
+past_max n a m le = elim (cases_lt n m) [
+  | inl less ↦ lt-ltb n m less ∙ sym (lt-ltb n (max a m) (omega (arith, less)))
+  | inr more ↦ le-ltb n m more ∙ sym (le-ltb n (max a m) (omega (arith, le, more)))
+]
+
 beyond_max : (n a m : ℕ) → (ltb n a || ltb n m) ≡ ltb n (max a m)
 beyond_max n a m = elim (cases_lt n a) [
   | inl lt ↦ or_left _ _ (lt-ltb n a lt) ∙ sym (lt-ltb n (max a m) (omega (arith, lt)))
-  | inr le ↦ ap (λ b. b || ltb n m) (le-ltb n a le) ∙ elim (cases_lt n m) [
-      | inl less ↦ lt-ltb n m less ∙ sym (lt-ltb n (max a m) (omega (arith, less)))
-      | inr more ↦ le-ltb n m more ∙ sym (le-ltb n (max a m) (omega (arith, le, more)))
-    ]
+  | inr le ↦ ap (λ b. b || ltb n m) (le-ltb n a le) ∙ past_max n a m le
 ]
 
 any_beyond : (n : ℕ) (labels : List Label) → list_any (λ l. ltb n l.span.offset) labels ≡ ltb n (last_offset labels)
