@@ -74,7 +74,7 @@ RUNS = [
     (["job", "--debug"], LABELLED, 0, LABELLED_DEBUG),
     (["bench", "2", "--narrated"], SMALL, 0, "33\n"),
     (["show", "--theme", "unicode_nocolor"], '{"message":"漢","level":"error"}', 1, "  × 漢\n\n"),
-    (["show", "--brief"], '{ "comments": [{"code": 2148, "message": "m"}]}', 0, "warning[SC2148]: m\nnote: caused by: :0:0\n\n"),
+    (["show", "--brief"], '{ "comments": [{"message": "m"}]}', 0, "warning: m\nnote: caused by: :0:0\n\n"),
 ]
 LINT_USAGE = "usage: lint [--brief | --github | --fix | --diff | --sarif [--tool TOOL]] NAME WIDTH | --lsp WIDTH\n"
 SHOW_USAGE = "usage: show [--from auto|rustc|gcc|sarif|shellcheck] [--root DIR] [--fix | OPTIONS]\n"

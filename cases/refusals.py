@@ -68,6 +68,9 @@ MESSAGE = {
         {"message": "o", "level": "help", "spans": [{**SPAN, "file_name": "gone"}]},
     ],
 }
+PLACE = {"line": 2, "column": 3, "endLine": 2, "endColumn": 7}
+CHANGES = [{**PLACE, "replacement": "there"}, {**PLACE, "column": 1, "endColumn": 1, "replacement": "\t"}]
+COMMENT = {"file": SPAN["file_name"], **PLACE, "code": 2086, "message": "m", "fix": {"replacements": CHANGES}}
 TERMINAL = ["--term-unicode", "yes", "--term-color", "rgb", "--rgb", "always", "--term-links", "yes", "--width", "20"]
 PLAIN = ["--term-unicode", "yes"]
 REPORTS = (LABELLED, LINKED, RELATED, MANY, APART, OWN, MENDED, REFUSED)
@@ -83,6 +86,7 @@ RUNS = [
     (["bench", "2", *PLAIN], json.dumps(LABELLED)),
     (["show", *PLAIN], json.dumps(MESSAGE)),
     (["show", "--brief"], json.dumps(MESSAGE)),
+    (["show", *PLAIN], json.dumps({"comments": [COMMENT, {**COMMENT, "file": "gone"}]})),
 ] + [
     (["job", *words], json.dumps(description))
     for description in REPORTS

@@ -11,7 +11,8 @@ from programs import HERE
 
 FOLDER = os.path.join(HERE, "shellcheck")
 NAMES = ["quotes", "broken", "wide", "old"]
-BAD = [b'{"comments":[{}]}\n', b'{"comments":[{"message":"m"},{"message":7}]}\n', b'{"comments":[]\n', b'{"comments":{}}\n']
+BAD = [b'{"comments":[{}]}\n', b'{"comments":[{"message":"m"},{"message":7}]}\n', b'{"comments":[]\n']
+BAD += [b'{"comments":{}}\n']
 OTHER = [b'{"comments":[]}\n', b'{"comments":[{"message":"m"}]}\n', b'{ "comments": []}\n', b"[ 50%] Testing\n"]
 NUMBERS = ("line", "column", "endLine", "endColumn")
 

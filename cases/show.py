@@ -4,8 +4,8 @@ on SARIF logs (`sarif_read/`), and compares it with the model of show_model.py, 
 
 The recorded rows are tried as they are, as cargo wraps them, cut at every 50th byte, with members removed or of other
 types, offsets, lines and columns that are off or behind the end, other files, files that are gone or shorter. Where
-rustc, gcc and shellcheck are installed, they are run anew. `--many` reads 100,000 messages, and looks at the memory. The last line
-is 'N passed, M failed', and the exit status is 0 only where nothing failed."""
+rustc, gcc and shellcheck are installed, they are run anew. `--many` reads 100,000 messages, and looks at the memory.
+The last line is 'N passed, M failed', and the exit status is 0 only where nothing failed."""
 import json
 import os
 import random
