@@ -38,9 +38,10 @@ use miette_protocol::diagnostic::MietteDiagnostic;
 use miette_protocol::protocol::Diagnostic;
 use miette_protocol::source::SourceCode;
 use miette_readers::files::{Files, LentFile};
+use miette_readers::lists::push_item;
 use miette_readers::rustc::ReadError;
 use miette_tree::report::Report;
-use std::alloc::Global;
+use std::alloc::{AllocError, Global};
 use std::io::{Read, Write};
 
 /// Parts that were read, and the format that they are read in.
@@ -66,7 +67,7 @@ fn all_parts<R: Read>(alloc: Global, rows: &mut RowReader<R>) -> Result<Vec<Vec<
         if part.is_empty() {
             return Ok(parts);
         }
-        parts.push(part)?;
+        push_item(&mut parts, part)?;
     }
     Err(Fault::Memory)
 }
@@ -135,6 +136,15 @@ fn part_reports<'f, F: Files>(
     }
 }
 
+/// Appends all of these.
+fn push_all<T: Drop>(list: &mut Vec<T>, more: Vec<T>) -> Result<(), AllocError>
+    ensures { OnOk result (list.new.items ≡ list.old.items ++ more.items) }
+{
+    let mut more = more;
+    list.append(&mut more)?;
+    Ok(())
+}
+
 /// The reports of all parts, in their order; what is none is passed on.
 fn all_reports<'f, F: Files, E: Write>(
     alloc: Global,
@@ -160,9 +170,9 @@ fn all_reports<'f, F: Files, E: Write>(
             from: held.from,
             bytes: part.as_slice(),
         };
-        let (kind, mut reports) = part_reports(alloc, files, row)?;
+        let (kind, reports) = part_reports(alloc, files, row)?;
         pass_on(alloc, faults, number, kind, row.bytes)?;
-        list.append(&mut reports)?;
+        push_all(&mut list, reports)?;
         verdict = verdict.with(kind);
         number = number.checked_add(ends_in(row.bytes)).ok_or(Fault::Memory)?;
     }
