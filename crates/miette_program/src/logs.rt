@@ -19,7 +19,7 @@ use std::alloc::Global;
 use std::marker::Model;
 
 /// Which log.
-#[derive(Clone, Copy, Debug, PartialEq, Eq)]
+#[derive(Clone, Copy)]
 pub enum LogForm {
     /// A SARIF log.
     Sarif,
@@ -111,10 +111,10 @@ impl<'w> Logging<'w> {
     {
         match words {
             [word] => Logging::of_tool(word.as_str(), program),
-            [word, key, tool] if key.as_str() == "--tool" => {
+            [key, tool, word] if key.as_str() == "--tool" => {
                 Logging::of_tool(word.as_str(), tool.as_str())
             }
-            [key, tool, word] if key.as_str() == "--tool" => {
+            [word, key, tool] if key.as_str() == "--tool" => {
                 Logging::of_tool(word.as_str(), tool.as_str())
             }
             _ => None,

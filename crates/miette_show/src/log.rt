@@ -1,25 +1,21 @@
 //! One log of all messages, over any reader, writers and files: what `show --sarif` and `show --lsp` write.
 
-ghost use Rattle.std.specs.Prelude.{◌≡◌, ◌↔◌, ◌⊎◌, ◌++◌, List, Err, IfOk, IfSome, IsTrue, IsUtf8, OnErr, OnOk, Some};
-ghost use Rattle.std.specs.Prelude.{false, map, string_bytes, true, ⊤};
+ghost use Rattle.std.specs.Prelude.{◌≡◌, ◌↔◌, ◌⊎◌, ◌+◌, ◌++◌, Err, IfOk, IfSome, IsTrue, OnErr, OnOk, false, map};
+ghost use Rattle.std.specs.Prelude.{⊤};
 ghost use Rattle.std.specs.List.{All, list_any};
 ghost use Rattle.std.specs.Io.KnownBytes.{Appends};
-ghost use Rattle.serde_json.specs.Data.{Data};
-ghost use Rattle.serde_json.specs.Read.{read};
 ghost use Rattle.miette_devices.specs.views.Device.{TakesBeginning};
 ghost use Rattle.miette_program.specs.rules.LogWords.{logged_text};
 ghost use Rattle.miette_tree.specs.rules.Reads.{AlwaysReads};
-ghost use Rattle.miette_tree.specs.rules.Tree.{Tree, trees};
+ghost use Rattle.miette_tree.specs.rules.Tree.{trees};
 ghost use Rattle.miette_tree.specs.views.Report.{tree_of};
-ghost use Rattle.miette_show.specs.rules.Logging.{IsRowTrees, Logs, LogsSome};
+ghost use Rattle.miette_show.specs.rules.Logging.{IsRowTrees, Logs, LogsFirst, LogsSome};
 ghost use Rattle.miette_show.specs.rules.Looking.{Goes, IsFoundBy};
-ghost use Rattle.miette_show.specs.rules.Parts.{parts_of};
-ghost use Rattle.miette_show.specs.rules.Rows.{begins_message};
-ghost use Rattle.miette_show.specs.rules.Shown.{all_names, tree_grave};
+ghost use Rattle.miette_show.specs.rules.Parts.{ends_in, parts_of};
+ghost use Rattle.miette_show.specs.rules.Shown.{tree_grave};
 ghost use Rattle.miette_show.specs.rules.Statuses.{status_of};
-ghost use Rattle.miette_show.specs.declared.verdict.RowKind.{RowKind};
 ghost use Rattle.miette_show.specs.declared.verdict.Verdict.{Verdict};
-ghost use Rattle.miette_show.specs.views.Logged.{AreKnown, AreLogged};
+ghost use Rattle.miette_show.specs.views.Logged.{AreKnown, AreLogged, AreLoggedFirst};
 ghost use Rattle.miette_show.specs.views.Reading.{left_of};
 
 use crate::loader::{Loader, load_all};
@@ -136,6 +132,14 @@ fn part_reports<'f, F: Files>(
     }
 }
 
+/// The number of the row behind a part whose first row has this number.
+fn number_behind(number: u64, part: &[u8]) -> Result<u64, Fault>
+    ensures value { IfOk result (λ following. following ≡ number + ends_in part.now) }
+    ensures others { OnErr result (result ≡ Err Fault.Memory) }
+{
+    number.checked_add(ends_in(part)).ok_or(Fault::Memory)
+}
+
 /// Appends all of these.
 fn push_all<T: Drop>(list: &mut Vec<T>, more: Vec<T>) -> Result<(), AllocError>
     ensures { OnOk result (list.new.items ≡ list.old.items ++ more.items) }
@@ -159,6 +163,10 @@ fn all_reports<'f, F: Files, E: Write>(
         (Appends (E.contents faults.old.inner) (E.contents faults.new.inner)) it.0) }
     ensures reads { IfOk result (λ it. All AlwaysReads
         (map (tree_of ⟦<MietteDiagnostic as Diagnostic>⟧.meaning ⟦<LentFile<'f> as SourceCode>⟧.source) it.1.items)) }
+    // After an error a beginning of what is passed on was taken.
+    ensures beginning { OnErr result (AreLoggedFirst held.now.from (F.found files.now)
+        (map (λ part. part.items) held.now.parts.items)
+        (TakesBeginning (E.contents faults.old.inner) (E.contents faults.new.inner))) }
     ensures failed { IsTrue faults.new.failed ↔ (result ≡ Err Fault.Write) }
     ensures others { OnErr result ((result ≡ Err Fault.Memory) ⊎ (result ≡ Err Fault.Write)) }
 {
@@ -174,7 +182,8 @@ fn all_reports<'f, F: Files, E: Write>(
         pass_on(alloc, faults, number, kind, row.bytes)?;
         push_all(&mut list, reports)?;
         verdict = verdict.with(kind);
-        number = number.checked_add(ends_in(row.bytes)).ok_or(Fault::Memory)?;
+        let following = number_behind(number, row.bytes)?;
+        number = following;
     }
     Ok((verdict, list))
 }
@@ -199,22 +208,26 @@ pub fn log_on<F: Loader, R: Read, W: Write, E: Write>(
         Appends (W.contents streams.old.writer.inner) (W.contents streams.new.writer.inner)
         (logged_text log.entry (trees ts))
         × Appends (E.contents streams.old.faults.inner) (E.contents streams.new.faults.inner) notes) verdict)) }
-    // After an error the writer took a beginning of the log, or nothing.
+    // After an error the writer took nothing, or a beginning of the log, behind all that is passed on.
     ensures beginning { OnErr result ((streams.new.writer ≡ streams.old.writer)
         ⊎ IfSome (left_of R.remaining streams.old.rows) (λ bytes.
-        LogsSome from (IsFoundBy F.found F.knows files.old) bytes (λ ts.
+        LogsSome from (IsFoundBy F.found F.knows files.old) bytes (λ ts notes.
         TakesBeginning (W.contents streams.old.writer.inner) (W.contents streams.new.writer.inner)
-        (logged_text log.entry (trees ts))))) }
-    ensures accepted { ¬ (result ≡ Err Fault.Refused) }
-    ensures called { ¬ (result ≡ Err Fault.Usage) }
+        (logged_text log.entry (trees ts))
+        × Appends (E.contents streams.old.faults.inner) (E.contents streams.new.faults.inner) notes))) }
+    ensures untouched { OnErr result ((result ≡ Err Fault.Write) ⊎ (streams.new.writer ≡ streams.old.writer)) }
+    // The other one took a beginning of what is passed on.
+    ensures noted { OnErr result (IfSome (left_of R.remaining streams.old.rows) (λ bytes.
+        LogsFirst from (IsFoundBy F.found F.knows files.old) bytes
+        (TakesBeginning (E.contents streams.old.faults.inner) (E.contents streams.new.faults.inner)))) }
+    ensures others { OnErr result ((result ≡ Err Fault.Memory) ⊎ (result ≡ Err Fault.Read)
+        ⊎ (result ≡ Err Fault.Write)) }
     ensures read_failed { IsTrue streams.new.rows.failed ↔ (result ≡ Err Fault.Read) }
     ensures write_failed { (IsTrue streams.new.writer.failed ⊎ IsTrue streams.new.faults.failed)
         ↔ (result ≡ Err Fault.Write) }
 {
-    let held = Held {
-        from,
-        parts: all_parts(alloc, &mut streams.rows)?,
-    };
+    let parts = all_parts(alloc, &mut streams.rows)?;
+    let held = Held { from, parts };
     load_parts(alloc, files, &held)?;
     let (verdict, reports) = all_reports(alloc, files, &mut streams.faults, &held)?;
     let text = log.text(alloc, reports.as_slice())?;

@@ -1,5 +1,5 @@
 -- The words that ask for one log of all reports, and its text.
-use Rattle.std.specs.Prelude.{ℕ, ◌&&◌, List, [], ◌∷◌, Option, Some, None, bytes_eq, codes, if◌then◌else◌, option_map}
+use Rattle.std.specs.Prelude.{ℕ, List, [], ◌∷◌, Option, Some, None, bytes_eq, codes, if◌then◌else◌, option_map}
 use Rattle.miette.specs.Tree.{Trees}
 use Rattle.miette_lsp.specs.rules.LspText.{lsp_text}
 use Rattle.miette_sarif.specs.rules.Log.{ToolName}
@@ -27,8 +27,8 @@ logging_of program [] = None
 logging_of program (word ∷ []) = of_tool word program
 logging_of program (first ∷ second ∷ []) = None
 logging_of program (first ∷ second ∷ third ∷ []) =
-    if bytes_eq second (codes "--tool") then of_tool first third
-    else if bytes_eq first (codes "--tool") then of_tool third second else None
+    if bytes_eq first (codes "--tool") then of_tool third second
+    else if bytes_eq second (codes "--tool") then of_tool first third else None
 logging_of program (first ∷ second ∷ third ∷ fourth ∷ words) = None
 
 -- a tool of which a log says its name alone

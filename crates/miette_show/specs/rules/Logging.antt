@@ -56,7 +56,14 @@ Logs from found bytes holds verdict = (files : List ℕ → Option Source) × (l
     × (map (λ s. s.row) logged ≡ parts_of bytes) × All (IsLogged from found files) logged
     × holds (trees_of logged) (log_notes 1 logged) × (verdict ≡ verdict_of logged)
 
--- So it is with some reports.
-abbrev pub LogsSome : Format → ((List ℕ → Option Source) → List (List ℕ) → Type 0) → List ℕ → (List Tree → Type 0)
+-- So it is, whatever the verdict.
+abbrev pub LogsSome : Format → ((List ℕ → Option Source) → List (List ℕ) → Type 0) → List ℕ
+    → (List Tree → List ℕ → Type 0) → Type 0
+LogsSome from found bytes holds = (verdict : Verdict) × Logs from found bytes holds verdict
+
+-- The first parts of these bytes have reports over the same files, and this holds of what is passed on of them.
+abbrev pub LogsFirst : Format → ((List ℕ → Option Source) → List (List ℕ) → Type 0) → List ℕ → (List ℕ → Type 0)
     → Type 0
-LogsSome from found bytes holds = (verdict : Verdict) × Logs from found bytes (λ ts notes. holds ts) verdict
+LogsFirst from found bytes holds = (files : List ℕ → Option Source) × (logged : List Logged)
+    × (others : List (List ℕ)) × (parts_of bytes ≡ map (λ s. s.row) logged ++ others)
+    × All (IsLogged from found files) logged × holds (log_notes 1 logged)

@@ -1,5 +1,5 @@
 -- Parts on the way to one log.
-use Rattle.std.specs.Prelude.{◌≡◌, ℕ, List, Option, Some, true, IsUtf8, map}
+use Rattle.std.specs.Prelude.{◌≡◌, ℕ, List, ◌++◌, Option, Some, true, IsUtf8, map}
 use Rattle.std.specs.List.{All}
 use Rattle.serde_json.specs.Data.{Data}
 use Rattle.serde_json.specs.Read.{read}
@@ -22,3 +22,9 @@ abbrev pub AreLogged : Format → (List ℕ → Option Source) → List (List �
 AreLogged from files parts ts holds verdict = (logged : List Logged) × (map (λ s. s.row) logged ≡ parts)
     × All (λ s. IsRowTrees from files s.row s.kind s.trees) logged × (ts ≡ trees_of logged)
     × holds (log_notes 1 logged) × (verdict ≡ verdict_of logged)
+
+-- The first of these parts have reports over files, and this holds of what is passed on of them.
+abbrev pub AreLoggedFirst : Format → (List ℕ → Option Source) → List (List ℕ) → (List ℕ → Type 0) → Type 0
+AreLoggedFirst from files parts holds = (logged : List Logged) × (others : List (List ℕ))
+    × (parts ≡ map (λ s. s.row) logged ++ others) × All (λ s. IsRowTrees from files s.row s.kind s.trees) logged
+    × holds (log_notes 1 logged)

@@ -1,4 +1,4 @@
-use Rattle.std.proofs.Common.{◌≤◌, ℕ, List, All, length, map, subst, take, arith}
+use Rattle.std.proofs.Common.{◌≤◌, ◌∙◌, ℕ, List, All, length, map, subst, take, arith}
 use Rattle.std.specs.Prelude.{Vec}
 use Rattle.std.specs.declared.alloc.Global.{Global}
 use Rattle.std.proofs.lemmas.List.{take_all}
@@ -27,7 +27,16 @@ loop-part-preserved g c =
           l.invariant.known)
           (subst (AreKnown from (g.F.Loader.knows c.load_part.new.files)) c.as_slice.ensures.value
           c.in_ok-load_part.ensures.known);
-      goes = goes_on (g.F.Files.found c.args.files.now) (g.F.Files.found l.files) (g.F.Files.found c.load_part.new.files)
-          (g.F.Loader.knows c.args.files.now) (g.F.Loader.knows l.files) (g.F.Loader.knows c.load_part.new.files)
+      goes = goes_on (g.F.Files.found c.args.files.now) (g.F.Files.found l.files)
+          (g.F.Files.found c.load_part.new.files) (g.F.Loader.knows c.args.files.now) (g.F.Loader.knows l.files)
+          (g.F.Loader.knows c.load_part.new.files)
           l.invariant.goes c.load_part.ensures.goes;
     }
+
+pub returns-clause-known : goal.returns-clause-known
+returns-clause-known g c =
+    let l = c.loop-part in
+    let parts = c.as_slice-part-items.result.now in
+    let end : length parts ≤ l.part-index = omega (arith, c.loop-part-test.false) in
+    subst (λ (ps : List (Vec ℕ Global)). All (AreKnown c.args.held.now.from (g.F.Loader.knows l.files))
+    (map items_of ps)) (take_all l.part-index parts end ∙ c.as_slice-part-items.ensures.value) l.invariant.known

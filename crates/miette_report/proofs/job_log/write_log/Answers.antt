@@ -3,13 +3,13 @@ use Rattle.std.proofs.lemmas.Result.{on_err_weaker, on_ok_weaker}
 use Rattle.std.specs.Io.KnownBytes.{Appends}
 use Rattle.miette_devices.specs.declared.fault.Fault.TheVariants.{Description, Refused, Usage, Write}
 use Rattle.miette_devices.specs.views.Device.{TakesBeginning}
-use Rattle.miette_report.proofs.EditorSteps.{list_written}
+use Rattle.miette_report.proofs.LogSteps.{log_written}
 use Rattle.miette_devices.proofs.WriteResults.{no-other, of-error, read-failed, write-failed}
-use Rattle.miette_report.proofs.lsp.write_list.Goals as goal
+use Rattle.miette_report.proofs.job_log.write_log.Goals as goal
 
 pub returns-clause-ok : goal.returns-clause-ok
 returns-clause-ok g c =
-    on_ok_weaker c.write_whole.result (λ took. list_written c.args.tool.now _ _ _ _ _
+    on_ok_weaker c.write_whole.result (λ took. log_written c.args.log _ _ _ _ _
     (Appends (g.W.Write.contents c.args.writer.now.inner) (g.W.Write.contents c.write_whole.new.writer.inner))
     c.in_ok-bytes.ensures.bytes c.as_slice.ensures.value c.in_ok-text.ensures.ok c.as_bytes.ensures.value took)
     c.write_whole.ensures.ok
@@ -34,7 +34,7 @@ returns-clause-write_failed g c =
 
 pub returns-clause-beginning : goal.returns-clause-beginning
 returns-clause-beginning g c = λ fault.
-    list_written c.args.tool.now _ _ _ _ _
+    log_written c.args.log _ _ _ _ _
     (TakesBeginning (g.W.Write.contents c.args.writer.now.inner) (g.W.Write.contents c.write_whole.new.writer.inner))
     c.in_ok-bytes.ensures.bytes c.as_slice.ensures.value c.in_ok-text.ensures.ok c.as_bytes.ensures.value
     (of-error c.write_whole.result Write _ c.write_whole.ensures.err fault)

@@ -1,8 +1,8 @@
 use Rattle.std.proofs.Common.{string_bytes}
 use Rattle.miette_sarif.specs.views.Handled.{tool_in}
-use Rattle.miette_report.specs.rules.Logs.{tool_called}
-use Rattle.miette_report.proofs.LogSteps.{logged}
-use Rattle.miette_report.proofs.sarif.log_of.Goals as goal
+use Rattle.miette_program.specs.rules.LogWords.{tool_called}
+use Rattle.miette_program.proofs.LogSteps.{logged}
+use Rattle.miette_program.proofs.logs.log_of.Goals as goal
 
 pub returns-in-Ok-clause-ok : goal.returns-in-Ok-clause-ok
 returns-in-Ok-clause-ok g c =
