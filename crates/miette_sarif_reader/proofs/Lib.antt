@@ -4,6 +4,7 @@ pub mod FlowSteps
 pub mod Kept
 pub mod LogsHold
 pub mod NameSteps
+pub mod NewlineSteps
 pub mod PieceSteps
 pub mod Returned
 pub mod Steps

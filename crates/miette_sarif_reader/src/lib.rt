@@ -8,6 +8,7 @@ pub mod laws;
 mod locations;
 mod messages;
 pub mod names;
+mod newlines;
 mod proposals;
 mod regions;
 pub mod sarif;
