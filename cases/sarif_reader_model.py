@@ -240,10 +240,10 @@ def report(run, result, files):
     made["snippets"] = [{"source": source(name, files), "labels": labels(settled, at)} for at, name in further]
     offers, lost = [], []
     for said, edits in run.proposals(result):
-        if not all(settled.found(it) for it, _ in edits):
-            lost += [said] if said not in lost else []
-        elif edits:
+        if edits and all(settled.found(it) for it, _ in edits):
             offers.append((said, None, [(*settled.found(it), new) for it, new in edits]))
+        elif said and said not in lost:
+            lost.append(said)
     main = settled.lists[0] if settled.lists else None
     made["fixes"] = [fix for it in offers if main is not None for fix in fixes(it, main, it[0])]
     made["related"] = [more for it in offers for more in advice(it, main, files)]

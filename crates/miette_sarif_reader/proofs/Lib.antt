@@ -1,6 +1,7 @@
 pub mod BaseSteps
 pub mod Finding
 pub mod FlowSteps
+pub mod HelpSteps
 pub mod Kept
 pub mod LogsHold
 pub mod NameSteps
