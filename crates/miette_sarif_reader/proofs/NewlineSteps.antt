@@ -54,7 +54,10 @@ module _ (newlines : List (List ℕ)) where
       → text_size newlines (drop at bytes) ≡ text_size newlines (drop (at + 1) bytes) + 1
   text_goes_on [] at h none = absurd (omega (arith, h))
   text_goes_on (b ∷ bs) zero h none =
-      ap (λ n. one_more n (text_size newlines bs)) none ∙ omega arith
+      let more : suc (text_size newlines bs) ≡ text_size newlines bs + 1 = omega arith in
+      let on : 1 ≡ 0 + 1 = omega arith in
+      ap (λ n. one_more n (text_size newlines bs)) none ∙ more
+      ∙ ap (λ k. text_size newlines (drop k (b ∷ bs)) + 1) on
   text_goes_on (b ∷ bs) (suc i) h none =
       let on : suc (i + 1) ≡ suc i + 1 = omega arith in
       text_goes_on bs i (omega (arith, h)) none ∙ ap (λ k. text_size newlines (drop k (b ∷ bs)) + 1) on

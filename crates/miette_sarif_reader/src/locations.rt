@@ -200,7 +200,7 @@ impl<'f, 'l, 'v, F: Files> Ground<'f, 'l, 'v, F> {
         match self.files.find(name) {
             Some(file) => {
                 let newlines = self.lists.newlines.as_slice();
-                stretch_in(self.encoding, newlines, file.indexed().bytes(), region)
+                stretch_in(self.encoding, newlines, file.bytes(), region)
             }
             None => None,
         }
