@@ -136,3 +136,12 @@ returns-in_err-verdict-clause-write_failed g c =
       (λ e. inr (let k : Err c.in_err-verdict.field-0.0 ≡ Err Write = sym is ∙ e in
           let same : c.in_err-verdict.field-0.0 ≡ Write = cc in c.in_err-verdict.ensures.failed.1 (ap Err same))),
     )
+
+pub returns-in_err-write_whole-clause-write_failed : goal.returns-in_err-write_whole-clause-write_failed
+returns-in_err-write_whole-clause-write_failed g c =
+    let is : c.from_residual-in_err-write_whole.result ≡ Err c.in_err-write_whole.field-0.0 = search rules in
+    let k : Err c.in_err-write_whole.field-0.0 ≡ Err Write = c.in_err-write_whole.ensures.fault in
+    let same : c.in_err-write_whole.field-0.0 ≡ Write = cc in (
+      (λ failed. is ∙ ap Err same),
+      (λ e. inl (c.in_err-write_whole.ensures.failed.1 refl)),
+    )
