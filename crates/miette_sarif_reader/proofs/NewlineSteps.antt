@@ -8,8 +8,8 @@ use Rattle.std.proofs.lemmas.List.{map-append, nil_from_length}
 use Rattle.std.proofs.lemmas.List.Elements.{filter_map-append}
 use Rattle.miette_readers.proofs.Steps.{next_taken}
 use Rattle.miette_readers.specs.views.Values.{texts}
-use Rattle.miette_sarif_reader.specs.rules.Newlines.{end_size, line_behind, line_size, one_more, or_usual, text_size}
-use Rattle.miette_sarif_reader.specs.rules.Newlines.{usual_newlines}
+use Rattle.miette_sarif_reader.specs.rules.Newlines.{end_size, ended_by, line_behind, line_size, one_more}
+use Rattle.miette_sarif_reader.specs.rules.Newlines.{or_usual, text_size, usual_newlines}
 
 -- ---- the sequences
 
@@ -76,3 +76,12 @@ module _ (newlines : List (List ℕ)) where
       → line_behind newlines bytes at left ≡ None
   no_line bytes at zero some is = absurd (omega (arith, some))
   no_line bytes at (suc k) some is = ap (option_and_then (λ s. line_behind newlines bytes (at + s) k)) (sym is)
+
+-- ---- the end of a line
+
+pub not_ended : (text end : ℕ) → end ≡ 0 → None ≡ ended_by text end
+not_ended text end none = sym (ap (ended_by text) none)
+
+pub ends_with : (text end : ℕ) → 0 < end → Some (text + end) ≡ ended_by text end
+ends_with text zero some = absurd (omega (arith, some))
+ends_with text (suc end) some = refl

@@ -1,9 +1,10 @@
 //! The bytes of SARIF's regions, by lines and columns, or by offsets.
 
-ghost use Rattle.std.specs.Prelude.{◌≡◌, ◌≤◌, IfSome, drop, length};
+ghost use Rattle.std.specs.Prelude.{◌≡◌, ◌≤◌, ◌+◌, IfSome, drop, length, take};
 ghost use Rattle.serde_json.specs.View.{view};
 ghost use Rattle.miette_positions.specs.rules.Stops.{units};
 ghost use Rattle.miette_readers.specs.views.Values.{texts};
+ghost use Rattle.miette_sarif_reader.specs.rules.Newlines.{text_size};
 ghost use Rattle.miette_sarif_reader.specs.rules.Regions.{byte_stretch, char_stretch, column_at, count_at, encoding_of};
 ghost use Rattle.miette_sarif_reader.specs.rules.Regions.{end_columns, end_line, has_chars, has_line, is_told};
 ghost use Rattle.miette_sarif_reader.specs.rules.Regions.{line_stretch, offset_at, start_column, start_line};
@@ -27,6 +28,24 @@ pub(crate) fn encoding_of(run: &Value) -> PositionEncoding
     }
 }
 
+/// Where the text of the line ends that begins here.
+fn text_end(newlines: &[&str], bytes: &[u8], start: usize) -> usize
+    requires { start ≤ length bytes.now }
+    ensures value { result ≡ start + text_size (texts newlines.now) (drop start bytes.now) }
+    ensures order { start ≤ result }
+    ensures within { result ≤ length bytes.now }
+{
+    start + text_size(newlines, rest_from(bytes, start))
+}
+
+/// The bytes up to an offset.
+fn front_to(bytes: &[u8], stop: usize) -> &[u8]
+    requires { stop ≤ length bytes.now }
+    ensures { result.now ≡ take stop bytes.now }
+{
+    &bytes[..stop]
+}
+
 /// So many columns behind the beginning of a line: behind the line's text its end, inside a character its start.
 fn column_at(
     encoding: PositionEncoding,
@@ -38,8 +57,8 @@ fn column_at(
     requires { start ≤ length bytes.now }
     ensures { result ≡ column_at encoding (texts newlines.now) bytes.now start columns }
 {
-    let stop = start + text_size(newlines, rest_from(bytes, start));
-    units_behind(encoding, &bytes[..stop], start, columns).unwrap_or(stop)
+    let stop = text_end(newlines, bytes, start);
+    units_behind(encoding, front_to(bytes, stop), start, columns).unwrap_or(stop)
 }
 
 /// The offset of so many columns on a line, the first with 1.
