@@ -1,12 +1,11 @@
 //! One log of all reports: the words that ask for it, and its text.
 
-ghost use Rattle.std.specs.Prelude.{◌≡◌, IfOk, OnErr, map, option_map, string_bytes};
+ghost use Rattle.std.specs.Prelude.{◌≡◌, IfOk, OnErr, map, string_bytes};
 ghost use Rattle.miette_lsp.specs.rules.LspText.{lsp_text};
 ghost use Rattle.miette_sarif.specs.rules.LogText.{log_text};
 ghost use Rattle.miette_tree.specs.rules.Reads.{AllAlwaysRead};
 ghost use Rattle.miette_tree.specs.rules.Tree.{trees};
 ghost use Rattle.miette_tree.specs.views.Report.{tree_of};
-ghost use Rattle.miette_program.specs.rules.LogWords as words;
 ghost use Rattle.miette_program.specs.rules.LogWords.{form_named, logged_text, logging_of, of_tool, tool_called};
 
 use miette::protocol::Diagnostic;
