@@ -1,4 +1,5 @@
 pub mod BaseSteps
+pub mod BeginSteps
 pub mod Finding
 pub mod FlowSteps
 pub mod HelpSteps

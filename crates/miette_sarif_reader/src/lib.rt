@@ -2,6 +2,7 @@
 #![tactic(auto)]
 
 mod bases;
+mod begins;
 mod drafts;
 mod ground;
 pub mod laws;

@@ -9,6 +9,7 @@ ghost use Rattle.miette_readers.specs.views.Values.{texts, viewed};
 ghost use Rattle.miette_sarif_reader.specs.rules.Newlines.{end_size, line_behind, line_size, newlines_of, sequence_in};
 ghost use Rattle.miette_sarif_reader.specs.rules.Newlines.{stands_in, text_size, usual_newlines};
 
+use crate::begins::next_begin;
 use crate::regions::rest_from;
 use crate::saying::items_in;
 use miette_readers::lists::push_item;
@@ -122,11 +123,15 @@ pub(crate) fn text_size(newlines: &[&str], bytes: &[u8]) -> usize
 {
     let mut at: usize = 0;
     while at < bytes.len() {
-        let end = end_size(newlines, rest_from(bytes, at));
+        let next = next_begin(newlines, bytes, at);
+        if next >= bytes.len() {
+            return next;
+        }
+        let end = end_size(newlines, rest_from(bytes, next));
         if end == 0 {
-            at += 1;
+            at = next + 1;
         } else {
-            return at;
+            return next;
         }
     }
     at
