@@ -1,6 +1,6 @@
 -- Bytes that begin no sequence.
-use Rattle.std.proofs.Common.{◌≡◌, ℕ, zero, suc, ◌+◌, ◌<◌, ◌≤◌, Bool, true, false, List, [], ◌∷◌, None, Some, drop, find}
-use Rattle.std.proofs.Common.{get_or, length, map, take, eqb-true, arith, refl, sym, ap, ap₂, ◌∙◌}
+use Rattle.std.proofs.Common.{◌≡◌, ℕ, zero, suc, ◌+◌, ◌<◌, ◌≤◌, Bool, true, false, List, [], ◌∷◌, None, Some, find}
+use Rattle.std.proofs.Common.{drop, get_or, length, map, take, eqb-true, arith, refl, sym, ap, ap₂, ◌∙◌}
 use Rattle.std.specs.Prelude.{◌&&◌, if◌then◌else◌, nat_eq, slice_index}
 use Rattle.std.specs.List.{list_all}
 use Rattle.std.proofs.lemmas.Bool.{and_parts, false_from_ne_true}
@@ -37,7 +37,8 @@ module _ (test : ℕ → Bool) where
   differ x b false rest e yes no = refl
   differ x b true rest e yes no = let same : test x ≡ test b = ap test (eqb-true x b e) in cc
 
-  not_here : (s : List ℕ) (b : ℕ) (bs : List ℕ) → begins_by test s ≡ true → test b ≡ false → stands_in (b ∷ bs) s ≡ false
+  not_here : (s : List ℕ) (b : ℕ) (bs : List ℕ) → begins_by test s ≡ true → test b ≡ false
+      → stands_in (b ∷ bs) s ≡ false
   not_here [] b bs yes no = cc
   not_here (x ∷ xs) b bs yes no = differ x b (nat_eq x b) _ refl yes no
 
