@@ -38,7 +38,7 @@ fn string_of<'v>(strings: Option<&'v Value>, message: &'v Value) -> Option<&'v s
 }
 
 /// The items of a list; what is no list has none.
-fn items_in(value: &Value) -> &[Value]
+pub(crate) fn items_in(value: &Value) -> &[Value]
     ensures { viewed result.now ≡ items_in (as_array (view value.now)) }
 {
     match value.as_array() {
