@@ -36,10 +36,10 @@ each_lane : (v : List ℕ) → map (top 7) (map (λ x. bit_or (hit x 10) (hit x 
 each_lane [] = refl
 each_lane (x ∷ xs) = ap₂ (λ a b. a ∷ b) (any_of (eqb x 10) (eqb x 13)) (each_lane xs)
 
-pub breaks_mask : (v : List ℕ) → length v ≡ 32 → mask_l (map (top 7) (zip2 bit_or
-    (zip2 hit v (replicate 32 10)) (zip2 hit v (replicate 32 13)))) % 2 ^ 64 ≡ mask_l (map is_break v)
+pub breaks_mask : (v : List ℕ) → length v ≡ 64 → mask_l (map (top 7) (zip2 bit_or
+    (zip2 hit v (replicate 64 10)) (zip2 hit v (replicate 64 13)))) % 2 ^ 64 ≡ mask_l (map is_break v)
 breaks_mask v long =
-    let lanes = zip2_of_maps bit_or _ _ v (zip2_splat hit v 32 10 long) (zip2_splat hit v 32 13 long) in
+    let lanes = zip2_of_maps bit_or _ _ v (zip2_splat hit v 64 10 long) (zip2_splat hit v 64 13 long) in
     ap (λ l. mask_l (map (top 7) l) % 2 ^ 64) lanes ∙ ap (λ l. mask_l l % 2 ^ 64) (each_lane v)
     ∙ mask_l-mod (map is_break v) 64 (omega (arith, length-map v is_break, long))
 

@@ -8,7 +8,7 @@ ghost use Rattle.memchr.specs.Find.{IsFirstByte, is_byte2};
 use std::simd::prelude::*;
 
 /// How many bytes are looked at together.
-const BLOCK: usize = 32;
+const BLOCK: usize = 64;
 
 /// Where the first LF or CR stands.
 pub(crate) fn first_newline(bytes: &[u8]) -> Option<usize>
@@ -24,7 +24,7 @@ fn text_len(bytes: &[u8]) -> usize
 {
     let mut len = 0;
     while bytes.len() - len >= BLOCK {
-        let found = newlines_in(u8x32::from_slice(&bytes[len..]));
+        let found = newlines_in(u8x64::from_slice(&bytes[len..]));
         if found != 0 {
             return len + found.trailing_zeros() as usize;
         }
@@ -38,10 +38,10 @@ fn text_len(bytes: &[u8]) -> usize
 
 /// A bit for each byte of a block, the lowest for its first: whether it is LF or CR.
 #[inline(always)]
-fn newlines_in(block: u8x32) -> u64
+fn newlines_in(block: u8x64) -> u64
     ensures { result ≡ mask_l (map (is_byte2 10 13) block) }
 {
-    (block.simd_eq(u8x32::splat(b'\n')) | block.simd_eq(u8x32::splat(b'\r'))).to_bitmask()
+    (block.simd_eq(u8x64::splat(b'\n')) | block.simd_eq(u8x64::splat(b'\r'))).to_bitmask()
 }
 
 fn is_newline(byte: u8) -> bool
