@@ -28,7 +28,7 @@ pub struct Near<'a> {
     ghost place: { IsKnown bytes.now known },
 }
 
-impl Model for Near<'_> {
+impl<'a> Model for Near<'a> {
     ghost use Rattle.std.specs.Prelude.{ℕ, List};
 
     ghost Value = { List ℕ };
