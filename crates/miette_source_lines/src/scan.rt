@@ -53,26 +53,36 @@ fn ends_in_block(bytes: &[u8], from: usize) -> u8
     ends
 }
 
+/// How many terminators end between two offsets.
+#[tactic(auto, using(crate::proofs::Places::scan_steps))]
+pub(crate) fn ends_between(bytes: &[u8], from: usize, to: usize) -> usize
+    requires order { from ≤ to }
+    requires within { to ≤ length bytes.now }
+    ensures { line_of bytes.now from + result ≡ line_of bytes.now to }
+{
+    let mut ends = 0;
+    let mut at = from;
+    while to - at > BLOCK {
+        ends += usize::from(ends_in_block(bytes, at));
+        at += BLOCK;
+    }
+    for i in at..to {
+        if ends_line(bytes, i) {
+            ends += 1;
+        }
+    }
+    ends
+}
+
 /// The number of an offset's line, from the number of the line of an offset before it.
 #[tactic(auto, using(crate::proofs::Places::scan_steps))]
-fn line_from(bytes: &[u8], from: usize, line: usize, offset: usize) -> usize
+pub(crate) fn line_from(bytes: &[u8], from: usize, line: usize, offset: usize) -> usize
     requires order { from ≤ offset }
     requires within { offset ≤ length bytes.now }
     requires line { line ≡ line_of bytes.now from }
     ensures { result ≡ line_of bytes.now offset }
 {
-    let mut line = line;
-    let mut from = from;
-    while offset - from > BLOCK {
-        line += usize::from(ends_in_block(bytes, from));
-        from += BLOCK;
-    }
-    for at in from..offset {
-        if ends_line(bytes, at) {
-            line += 1;
-        }
-    }
-    line
+    line + ends_between(bytes, from, offset)
 }
 
 /// Where the first LF or CR at or after an offset stands. No terminator ends between the offset and it.
@@ -124,7 +134,7 @@ pub fn start_before(bytes: &[u8], offset: usize, lines: usize) -> (usize, usize)
 
 /// Where the line ends that stands `lines` after an offset's line, and the number of that end's line.
 #[tactic(auto, using(crate::proofs::Places::scan_steps))]
-fn end_after(bytes: &[u8], offset: usize, line: usize, lines: usize) -> (usize, usize)
+pub(crate) fn end_after(bytes: &[u8], offset: usize, line: usize, lines: usize) -> (usize, usize)
     requires within { offset ≤ length bytes.now }
     requires line { line ≡ line_of bytes.now offset }
     ensures end { result.0 ≡ line_end bytes.now (line + lines) }

@@ -3,9 +3,10 @@ ghost use Rattle.std.specs.Prelude.{◌≡◌, Some, IfOk};
 ghost use Rattle.std.specs.Option.{option_copied};
 ghost use Rattle.miette_protocol.specs.rules.Reading.{plain_source, named_source};
 ghost use Rattle.miette_protocol.specs.rules.Outcome.{Answers};
+ghost use Rattle.miette_source_lines.specs.views.Known.{IsKnown};
 
 use miette_protocol::protocol::SourceSpan;
-use miette_protocol::source::{IndexedSource, NamedSource, ReadResult, SourceCode};
+use miette_protocol::source::{IndexedSource, KnownLine, NamedSource, ReadResult, SourceCode};
 use std::alloc::{AllocError, Global};
 use std::rc::Rc;
 
@@ -85,6 +86,19 @@ impl SourceCode for OwnedSource {
             Bytes::Named(source) => source.read_span(span, before, after),
         }
     }
+
+    fn read_span_near(
+        &self,
+        known: KnownLine,
+        span: &SourceSpan,
+        before: usize,
+        after: usize,
+    ) -> ReadResult<'_> {
+        match &*self.bytes {
+            Bytes::Plain(source) => source.read_span_near(known, span, before, after),
+            Bytes::Named(source) => source.read_span_near(known, span, before, after),
+        }
+    }
 }
 
 /// The source of a report: one that was given in a box, or an owned one.
@@ -122,6 +136,23 @@ impl<'a, S: SourceCode> SourceRef<'a, S> {
             OwnSource::Owned(source) => source.read_span(span, before, after),
         }
     }
+
+    /// The same, where the line of an offset is known.
+    pub fn read_span_near(
+        self,
+        known: KnownLine,
+        span: &SourceSpan,
+        before: usize,
+        after: usize,
+    ) -> ReadResult<'a>
+        requires { IsKnown (shown_source S.source self.entry).bytes known }
+        ensures { Answers (shown_source S.source self.entry) span.now before after result }
+    {
+        match self.place {
+            OwnSource::Boxed(source) => source.read_span_near(known, span, before, after),
+            OwnSource::Owned(source) => source.read_span_near(known, span, before, after),
+        }
+    }
 }
 
 /// A lent source reads as the source that it shows.
@@ -132,5 +163,15 @@ impl<'a, S: SourceCode> SourceCode for SourceRef<'a, S> {
 
     fn read_span(&self, span: &SourceSpan, before: usize, after: usize) -> ReadResult<'_> {
         SourceRef::read_span(*self, span, before, after)
+    }
+
+    fn read_span_near(
+        &self,
+        known: KnownLine,
+        span: &SourceSpan,
+        before: usize,
+        after: usize,
+    ) -> ReadResult<'_> {
+        SourceRef::read_span_near(*self, known, span, before, after)
     }
 }

@@ -1,0 +1,81 @@
+//! Lines of bytes, found from an offset whose line is known.
+
+ghost use Rattle.std.specs.Prelude.{◌≡◌, ◌≤◌, length};
+ghost use Rattle.miette_source_lines.specs.rules.Lines.{line_of};
+ghost use Rattle.miette_source_lines.specs.views.Known.{IsKnown};
+
+use crate::find::FindLines;
+use crate::scan::{end_after, ends_between, line_from, start_before};
+use std::marker::Model;
+
+/// An offset of a source, and the zero-based number of its line.
+#[derive(Clone, Copy, Debug, PartialEq, Eq)]
+pub struct KnownLine {
+    /// The offset, in bytes.
+    pub offset: usize,
+    /// The number of its line.
+    pub line: usize,
+}
+
+/// Where a source begins.
+pub const START: KnownLine = KnownLine { offset: 0, line: 0 };
+
+/// Bytes, whose lines are found by scans from an offset whose line is known.
+#[derive(Drop)]
+pub struct Near<'a> {
+    bytes: &'a [u8],
+    known: KnownLine,
+    ghost place: { IsKnown bytes.now known },
+}
+
+impl<'a> Model for Near<'a> {
+    ghost use Rattle.std.specs.Prelude.{ℕ, List};
+
+    ghost Value = { List ℕ };
+
+    ghost view = { λ it. it.bytes.now };
+}
+
+/// The number of an offset's line, counted from the offset whose line is known, or from the start where that is nearer.
+#[tactic(auto, using(crate::proofs::Places::scan_steps))]
+fn line_near(bytes: &[u8], known: KnownLine, offset: usize) -> usize
+    requires known { IsKnown bytes.now known }
+    requires within { offset ≤ length bytes.now }
+    ensures { result ≡ line_of bytes.now offset }
+{
+    if known.offset <= offset {
+        return line_from(bytes, known.offset, known.line, offset);
+    }
+    if offset < known.offset - offset {
+        return line_from(bytes, 0, 0, offset);
+    }
+    known.line - ends_between(bytes, offset, known.offset)
+}
+
+impl<'a> Near<'a> {
+    /// These bytes, with an offset whose line is known.
+    pub fn new(bytes: &'a [u8], known: KnownLine) -> Self
+        requires { IsKnown bytes.now known }
+        ensures { result ≡ bytes.now }
+    {
+        Near { bytes, known }
+    }
+}
+
+impl FindLines for Near<'_> {
+    ghost text = { λ it. it };
+
+    fn line_from(&self, from: usize, line: usize, offset: usize) -> usize {
+        line_from(self.bytes, from, line, offset)
+    }
+
+    #[tactic(auto, using(crate::proofs::Places::scan_steps))]
+    fn start_before(&self, offset: usize, lines: usize) -> (usize, usize) {
+        let (start, passed) = start_before(self.bytes, offset, lines);
+        (start, line_near(self.bytes, self.known, start) + passed)
+    }
+
+    fn end_after(&self, offset: usize, line: usize, lines: usize) -> (usize, usize) {
+        end_after(self.bytes, offset, line, lines)
+    }
+}
