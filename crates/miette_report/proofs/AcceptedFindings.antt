@@ -1,27 +1,10 @@
--- A report of what is found in a source is never refused.
-use Rattle.std.proofs.Common.{◌≡◌, ℕ, false, true, List, refl, sym, ap, ◌∙◌, subst}
-use Rattle.std.proofs.lemmas.Bool.{and_from, or_right}
-use Rattle.miette_basics.specs.rules.Lists.{is_nil}
+-- The labels of what is found in a source are accepted.
+use Rattle.std.proofs.Common.{◌≡◌, ℕ, List, sym, subst}
 use Rattle.miette_labels.specs.rules.Groups.{AreAccepted}
 use Rattle.miette_protocol.specs.views.Meaning.{Label, Meaning}
 use Rattle.miette_tree.specs.rules.DiagnosticParts.{given_labels}
-use Rattle.miette_tree.specs.rules.Reads.{report_accepted}
-use Rattle.miette_tree.specs.rules.Tree.{Tree}
-use Rattle.miette_report.specs.views.DrawReports.{over_input}
 use Rattle.miette_report.specs.views.LintReports.{warning}
-use Rattle.miette_program.proofs.AlwaysRead.{accept_all}
 
 pub warned_accepted : (m : Meaning) (found : List Label) (input : List ℕ) → m ≡ warning found
     → AreAccepted input found → AreAccepted input (given_labels m.labels)
 warned_accepted m found input is h = subst (λ (v : Meaning). AreAccepted input (given_labels v.labels)) (sym is) h
-
-over_accepted : (name : List ℕ) (m : Meaning) (input : List ℕ) → AreAccepted input (given_labels m.labels)
-    → report_accepted (over_input name m input) ≡ true
-over_accepted name m input h =
-    and_from _ _ (and_from _ _ (and_from _ _ (accept_all input (given_labels m.labels) h)
-    (or_right (is_nil (given_labels m.labels)) true refl)) refl) refl
-
-pub never_refused : (t : Tree) (name : List ℕ) (m : Meaning) (input : List ℕ) → t ≡ over_input name m input
-    → report_accepted t ≡ false → AreAccepted input (given_labels m.labels) → ⊥
-never_refused t name m input same refused h =
-    let no : true ≡ false = sym (ap report_accepted same ∙ over_accepted name m input h) ∙ refused in cc

@@ -1,6 +1,6 @@
 pub mod FixSteps
 pub mod JobEnds
-pub mod PictureSteps
+pub mod DrawSteps
 pub mod AcceptedFindings
 pub mod LintDiffSteps
 pub mod LintFixSteps

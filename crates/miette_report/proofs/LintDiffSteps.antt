@@ -9,8 +9,8 @@ use Rattle.miette_graphical.specs.rules.PrintedDiagnostics.{all_read, diagnostic
 use Rattle.miette_lint.specs.rules.Findings.{findings_of}
 use Rattle.miette_lint.specs.rules.Joint.{joint_proposal}
 use Rattle.miette_program.proofs.AlwaysRead.{printed-reads}
-use Rattle.miette_report.specs.steps.PictureReads.{IsReadWhole}
-use Rattle.miette_report.specs.views.DrawReports.{draw_settings, over_input, IsPicture}
+use Rattle.miette_outputs.specs.rules.Pictures.{IsReadWhole}
+use Rattle.miette_outputs.specs.rules.Pictures.{draw_settings, over_input, IsPicture}
 use Rattle.miette_report.specs.views.LintReports.{warning, IsClean, IsDiffed, LintDiffs, LintDiffsText}
 
 -- ---- the report

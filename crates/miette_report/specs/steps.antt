@@ -1,3 +1,2 @@
 -- The code's own steps, which no rule names.
-pub mod PictureReads
 pub mod FixLists

@@ -6,23 +6,24 @@ ghost use Rattle.std.specs.Io.KnownBytes.{Appends};
 ghost use Rattle.miette.specs.Diagnostic.{meaning_of};
 ghost use Rattle.miette.specs.Report.{tree_of};
 ghost use Rattle.miette_devices.specs.views.Device.{TakesBeginning};
-ghost use Rattle.miette_report.specs.views.DrawReports.{CallPictures, IsPicture, Pictures};
+ghost use Rattle.miette_report.specs.views.DrawReports.{CallPictures, Pictures};
+ghost use Rattle.miette_outputs.specs.rules.Pictures.{IsPicture};
 ghost use Rattle.miette_report.specs.views.DrawReports.{draw_request, drawn_label, drawn_meaning, drawn_tree};
 ghost use Rattle.miette_devices.specs.rules.Faults.{status_of};
 ghost use Rattle.miette_report.specs.rules.Words.{AreDrawWords, IsNoDrawCall};
 
 use miette_devices::device::Device;
-/// An earlier name of `Fault`.
-use crate::picture::draw;
 use miette::diagnostic::MietteDiagnostic;
 use miette::error::RenderError;
 use miette::protocol::{Diagnostic, LabeledSpan};
 use miette::report::Report;
 use miette::source::{NamedSource, SourceCode};
+/// An earlier name of `Fault`.
 pub use miette_devices::fault::Fault as DrawError;
 use miette_devices::fault::{Fault, Program};
 use miette_devices::whole::{read_whole, write_whole};
 use miette_devices::words::number;
+use miette_outputs::picture::draw;
 use std::alloc::{AllocError, Global};
 use std::io::{Read, Write};
 

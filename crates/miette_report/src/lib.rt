@@ -15,7 +15,6 @@ mod lint_reports;
 pub mod lint_sarif;
 pub mod lint_server;
 mod lint_words;
-mod picture;
 mod pipeline;
 
 pub use miette_description::laws as description_laws;

@@ -17,7 +17,6 @@ ghost use Rattle.miette_report.specs.rules.Words.{IsNoLintCall};
 
 use crate::lint_reports::commands_over;
 pub use crate::lint_words::{LintForm, LintWords};
-use crate::picture::{picture_over, rows_over};
 use itoa::Buffer;
 use miette::diagnostic::MietteDiagnostic;
 use miette::error::RenderError;
@@ -28,6 +27,7 @@ use miette_devices::whole::{read_whole, write_whole};
 use miette_lint::coded::coded_findings;
 pub use miette_lint::findings::findings;
 use miette_lint::laws::coded_laws;
+use miette_outputs::picture::{picture_over, rows_over};
 use std::alloc::{AllocError, Global};
 use std::io::{Read, Write};
 

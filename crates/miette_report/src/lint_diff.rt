@@ -8,14 +8,13 @@ ghost use Rattle.miette_tree.specs.rules.Tree.{with_fix};
 ghost use Rattle.miette_lint.specs.rules.Findings.{findings_of};
 ghost use Rattle.miette_lint.specs.rules.Joint.{joint_proposal};
 ghost use Rattle.miette_report.specs.rules.Words.{AreDiffWords, IsNoDiffCall};
-ghost use Rattle.miette_report.specs.steps.PictureReads.{IsReadWhole};
+ghost use Rattle.miette_outputs.specs.rules.Pictures.{IsReadWhole};
 ghost use Rattle.miette_devices.specs.views.Device.{TakesBeginning};
-ghost use Rattle.miette_report.specs.views.DrawReports.{over_input};
+ghost use Rattle.miette_outputs.specs.rules.Pictures.{over_input};
 ghost use Rattle.miette_devices.specs.views.Endings.{IsFailure, IsFound};
 ghost use Rattle.miette_report.specs.views.LintReports.{warning, IsClean, IsDiffed, LintDiffs, LintDiffsText};
 
 use crate::lint::{LintForm, LintWords, diagnostic, is_clean};
-use crate::picture::{draw, report};
 use miette::error::RenderError;
 use miette::protocol::{Diagnostic, LabeledSpan};
 use miette::report::Report;
@@ -25,6 +24,7 @@ use miette_devices::fault::{Ending, Fault, Program};
 use miette_devices::whole::{read_whole, write_whole};
 use miette_lint::findings::findings;
 use miette_lint::joint::joint_proposal;
+use miette_outputs::picture::{draw, report};
 use std::alloc::{AllocError, Global};
 use std::io::{Read, Write};
 

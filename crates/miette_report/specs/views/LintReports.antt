@@ -6,7 +6,7 @@ use Rattle.miette_brief.specs.declared.form.Form.TheVariants.{Github}
 use Rattle.miette_brief.specs.rules.Report as rows
 use Rattle.miette.specs.Meaning.{Label, Meaning}
 use Rattle.miette_protocol.specs.declared.protocol.Severity.TheVariants.{Warning}
-use Rattle.miette_report.specs.views.DrawReports.{over_input, IsPicture}
+use Rattle.miette_outputs.specs.rules.Pictures.{over_input, IsPicture}
 use Rattle.miette_lint.specs.rules.Coded.{Coded, coded_findings}
 use Rattle.miette_lint.specs.rules.Findings.{findings_of}
 use Rattle.miette_lint.specs.rules.Fixes.{fixed_text}

@@ -1,5 +1,5 @@
 use Rattle.std.proofs.Common.{None}
-use Rattle.miette_report.proofs.PictureSteps.{IfOk-same, reads-over}
+use Rattle.miette_outputs.proofs.PictureSteps.{IfOk-same, reads-over}
 use Rattle.miette_report.proofs.draw.picture.Goals as goal
 
 pub draw-requires : goal.draw-requires

@@ -4,7 +4,7 @@ use Rattle.std.specs.Io.KnownBytes.{Appends}
 use Rattle.miette_devices.specs.views.Device.{TakesBeginning}
 use Rattle.miette_report.specs.views.DrawReports.{draw_request}
 use Rattle.miette_devices.proofs.FaultStatuses.{never-usage}
-use Rattle.miette_report.proofs.PictureSteps.{call_pictured, draw_called}
+use Rattle.miette_report.proofs.DrawSteps.{call_pictured, draw_called}
 use Rattle.miette_report.proofs.draw.run_asked.Goals as goal
 
 pub returns-in_default-clause-usage : goal.returns-in_default-clause-usage

@@ -1,6 +1,6 @@
 use Rattle.std.proofs.Common.{inl, inr}
 use Rattle.std.proofs.lemmas.Result.{on_err_weaker, on_ok_weaker}
-use Rattle.miette_report.proofs.PictureSteps.{told}
+use Rattle.miette_report.proofs.DrawSteps.{told}
 use Rattle.miette_devices.proofs.WriteResults.{of-error, read-failed, write-failed}
 use Rattle.miette_devices.specs.views.Device.{TakesBeginning}
 use Rattle.std.specs.Io.KnownBytes.{Appends}

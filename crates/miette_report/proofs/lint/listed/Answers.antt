@@ -2,7 +2,7 @@ use Rattle.std.proofs.Common.{ap, ◌∙◌, List, ℕ}
 use Rattle.std.proofs.lemmas.Result.{IfOk-weaker}
 use Rattle.miette_protocol.specs.views.Meaning.{Meaning}
 use Rattle.miette_brief.specs.rules.Report as rows
-use Rattle.miette_report.specs.views.DrawReports.{over_input}
+use Rattle.miette_outputs.specs.rules.Pictures.{over_input}
 use Rattle.miette_report.proofs.AcceptedFindings.{warned_accepted}
 use Rattle.miette_report.proofs.lint.listed.Goals as goal
 

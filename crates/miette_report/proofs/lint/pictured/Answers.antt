@@ -1,5 +1,5 @@
 use Rattle.std.proofs.Common.{Some}
-use Rattle.miette_report.proofs.PictureSteps.{over-same}
+use Rattle.miette_outputs.proofs.PictureSteps.{over-same}
 use Rattle.miette_report.proofs.lint.pictured.Goals as goal
 
 pub returns-clause-shown : goal.returns-clause-shown

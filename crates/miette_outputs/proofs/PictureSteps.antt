@@ -1,6 +1,6 @@
--- Steps of making a picture and of writing it.
-use Rattle.std.proofs.Common.{◌≡◌, ℕ, Bool, List, [], ◌++◌, Option, Some, None, ◌↔◌, Result, true, false, IfOk}
-use Rattle.std.proofs.Common.{IfSome, refl, sym, ◌∙◌, ap, ap₂, subst, encode_utf8_all, string_bytes, String}
+-- Steps of making a picture.
+use Rattle.std.proofs.Common.{◌≡◌, ℕ, Bool, List, [], ◌++◌, Option, Result, true, false, IfOk}
+use Rattle.std.proofs.Common.{refl, sym, ◌∙◌, ap, ap₂, subst, encode_utf8_all, string_bytes, String}
 use Rattle.miette_protocol.specs.views.Meaning.{Meaning}
 use Rattle.miette_tree.specs.rules.Tree.{Tree}
 use Rattle.miette_tree.specs.rules.Reads.{AlwaysReads}
@@ -15,10 +15,7 @@ use Rattle.miette_graphical.specs.rules.Snippets.{whole_drawing}
 use Rattle.miette_graphical.specs.rules.Text.{report_text}
 use Rattle.miette_brief.specs.rules.Report as rows
 use Rattle.miette_program.proofs.AlwaysRead.{printed-reads}
-use Rattle.miette_report.specs.views.DrawReports.{draw_settings, drawn_tree, over_input, settings_in, IsPicture}
-use Rattle.miette_report.specs.views.DrawReports.{CallPictures, Pictures}
-use Rattle.miette_report.specs.rules.Words.{AreDrawWords, DrawRequest, IsNoDrawCall}
-use Rattle.miette_report.specs.steps.PictureReads.{IsReadWhole}
+use Rattle.miette_outputs.specs.rules.Pictures.{draw_settings, over_input, settings_in, IsPicture, IsReadWhole}
 
 -- what the handler is made with
 pub plain-settings : {H : Type 0} (limit : Option ℕ) (theme : GraphicalTheme) (made : Handling H) → theme_of theme
@@ -62,25 +59,6 @@ over-same limit r name m n input same is = subst (λ v. IfOk r
 pub IfOk-same : {E Z : Type 0} (limit : Option ℕ) (r : Result (String Z) E) (t u : Tree) → t ≡ u
     → IfOk r (λ text. IsPicture limit t (string_bytes text)) → IfOk r (λ text. IsPicture limit u (string_bytes text))
 IfOk-same limit r t u same is = subst (λ v. IfOk r (λ text. IsPicture limit v (string_bytes text))) same is
-
--- what was written of the picture, for what the reader tells
-pub told : (request : DrawRequest) (input : List ℕ) (all : Option (List ℕ)) (text bytes : List ℕ) (P : List ℕ → Type 0)
-    → IfSome all (λ bs. input ≡ bs) → IsPicture None (drawn_tree request input) text → bytes ≡ text → P bytes
-    → IfSome all (λ bs. Pictures request bs P)
-told request input None text bytes P read is same p = tt
-told request input (Some bs) text bytes P read is same p =
-    (text, subst (λ i. IsPicture None (drawn_tree request i) text) read is, subst P same p)
-
--- ---- the words as the program is called with them
-
-pub call_pictured : (words : List (List ℕ)) (request : DrawRequest) (all : Option (List ℕ)) (P : List ℕ → Type 0)
-    → AreDrawWords words request → IfSome all (λ bs. Pictures request bs P) → IfSome all (λ bs. CallPictures words bs P)
-call_pictured words request None P are h = tt
-call_pictured words request (Some bs) P are h = (request, are, h)
-
-pub draw_called : (Q : Type 0) (words : List (List ℕ)) (request : DrawRequest) → AreDrawWords words request → (Q → ⊥)
-    → Q ↔ IsNoDrawCall words
-draw_called Q words request are called = (λ q. absurd (called q), λ none. absurd (none request are))
 
 -- ---- brief rows
 

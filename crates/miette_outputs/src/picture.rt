@@ -9,8 +9,8 @@ ghost use Rattle.miette_brief.specs.rules.Report.{brief, unlisted};
 ghost use Rattle.miette_brief.specs.rules.Report.{default_settings as brief_settings};
 ghost use Rattle.miette_graphical.specs.views.Handling.{without_highlighter};
 ghost use Rattle.miette_style.specs.rules.Themes.{theme_of};
-ghost use Rattle.miette_report.specs.views.DrawReports.{over_input, settings_in, IsPicture};
-ghost use Rattle.miette_report.specs.steps.PictureReads.{IsReadWhole};
+ghost use Rattle.miette_outputs.specs.rules.Pictures.{over_input, settings_in, IsPicture};
+ghost use Rattle.miette_outputs.specs.rules.Pictures.{IsReadWhole};
 
 use miette::diagnostic::MietteDiagnostic;
 use miette::error::RenderError;
@@ -25,7 +25,7 @@ use std::alloc::{AllocError, Global};
 const WIDTH: usize = 80;
 
 /// The report of a diagnostic over the input under its name, with an index of the lines.
-pub(crate) fn report<D: Diagnostic, S: SourceCode>(
+pub fn report<D: Diagnostic, S: SourceCode>(
     alloc: Global,
     name: &str,
     diagnostic: MietteDiagnostic,
@@ -50,7 +50,7 @@ fn drawing(theme: GraphicalTheme, limit: Option<usize>) -> GraphicalReportHandle
 }
 
 /// The picture of a report, in plain characters, with lines cut at a limit, if there is one.
-pub(crate) fn draw<D: Diagnostic, S: SourceCode>(
+pub fn draw<D: Diagnostic, S: SourceCode>(
     alloc: Global,
     report: &Report<D, S>,
     limit: Option<usize>,
@@ -74,7 +74,7 @@ pub(crate) fn draw<D: Diagnostic, S: SourceCode>(
 ///
 /// # Errors
 /// Where no memory is found. The source always reads, so nothing else is refused.
-pub(crate) fn picture_over(
+pub fn picture_over(
     alloc: Global,
     name: &str,
     diagnostic: MietteDiagnostic,
@@ -96,7 +96,7 @@ pub(crate) fn picture_over(
 ///
 /// # Errors
 /// Where no memory is found, and where a label isn't accepted.
-pub(crate) fn rows_over(
+pub fn rows_over(
     alloc: Global,
     name: &str,
     diagnostic: MietteDiagnostic,

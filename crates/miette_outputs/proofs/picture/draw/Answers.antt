@@ -1,7 +1,7 @@
 use Rattle.std.proofs.Common.{rules}
 use Rattle.miette_tree.specs.views.Report.{tree_of}
-use Rattle.miette_report.proofs.PictureSteps.{pictured, plain-settings, unrefused}
-use Rattle.miette_report.proofs.picture.draw.Goals as goal
+use Rattle.miette_outputs.proofs.PictureSteps.{pictured, plain-settings, unrefused}
+use Rattle.miette_outputs.proofs.picture.draw.Goals as goal
 
 pub returns-clause-ok : goal.returns-clause-ok
 returns-clause-ok g c =

@@ -1,5 +1,5 @@
-use Rattle.miette_report.proofs.PictureSteps.{IfOk-same, reads-over}
-use Rattle.miette_report.proofs.picture.picture_over.Goals as goal
+use Rattle.miette_outputs.proofs.PictureSteps.{IfOk-same, reads-over}
+use Rattle.miette_outputs.proofs.picture.picture_over.Goals as goal
 
 pub draw-requires : goal.draw-requires
 draw-requires c = record { reads = reads-over c.args.limit _ _ _ _ c.in-Ok.ensures }

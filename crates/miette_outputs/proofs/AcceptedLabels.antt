@@ -1,0 +1,22 @@
+-- A report over an input whose labels are accepted is never refused.
+use Rattle.std.proofs.Common.{◌≡◌, ℕ, false, true, List, refl, sym, ap, ◌∙◌}
+use Rattle.std.proofs.lemmas.Bool.{and_from, or_right}
+use Rattle.miette_basics.specs.rules.Lists.{is_nil}
+use Rattle.miette_labels.specs.rules.Groups.{AreAccepted}
+use Rattle.miette_protocol.specs.views.Meaning.{Meaning}
+use Rattle.miette_tree.specs.rules.DiagnosticParts.{given_labels}
+use Rattle.miette_tree.specs.rules.Reads.{report_accepted}
+use Rattle.miette_tree.specs.rules.Tree.{Tree}
+use Rattle.miette_outputs.specs.rules.Pictures.{over_input}
+use Rattle.miette_program.proofs.AlwaysRead.{accept_all}
+
+over_accepted : (name : List ℕ) (m : Meaning) (input : List ℕ) → AreAccepted input (given_labels m.labels)
+    → report_accepted (over_input name m input) ≡ true
+over_accepted name m input h =
+    and_from _ _ (and_from _ _ (and_from _ _ (accept_all input (given_labels m.labels) h)
+    (or_right (is_nil (given_labels m.labels)) true refl)) refl) refl
+
+pub never_refused : (t : Tree) (name : List ℕ) (m : Meaning) (input : List ℕ) → t ≡ over_input name m input
+    → report_accepted t ≡ false → AreAccepted input (given_labels m.labels) → ⊥
+never_refused t name m input same refused h =
+    let no : true ≡ false = sym (ap report_accepted same ∙ over_accepted name m input h) ∙ refused in cc

@@ -1,0 +1,2 @@
+pub mod AcceptedLabels
+pub mod PictureSteps
