@@ -2,12 +2,12 @@
 //! SARIF log of it, or tells it to an editor as a language server.
 #![tactic(auto)]
 
-use miette_report::lint::{lint_with, refuse_words};
-use miette_report::lint_diff::{diff_with, diffing};
-use miette_report::lint_fix::{fix_with, fixing};
-use miette_report::lint_sarif::{log_with, logging};
-use miette_report::lint_server::{serve_with, serving};
-use miette_report::words::program_words;
+use miette_lint_program::lint::{lint_with, refuse_words};
+use miette_lint_program::lint_diff::{diff_with, diffing};
+use miette_lint_program::lint_fix::{fix_with, fixing};
+use miette_lint_program::lint_sarif::{log_with, logging};
+use miette_lint_program::lint_server::{serve_with, serving};
+use miette_lint_program::words::program_words;
 use std::process::ExitCode;
 
 // What the words ask for: the status.

@@ -1,12 +1,6 @@
 pub mod FixSteps
 pub mod JobEnds
 pub mod DrawSteps
-pub mod AcceptedFindings
-pub mod LintDiffSteps
-pub mod LintFixSteps
-pub mod LintServerSteps
-pub mod LintSteps
-pub mod CommandSteps
 pub mod LogSteps
 pub mod WholeTexts
 pub mod JobSteps

@@ -1,4 +1,4 @@
-//! The work of the programs: from the description of a report to its written text.
+//! The work of `draw`, `job` and `bench`: from the description of a report to its written text.
 #![tactic(auto)]
 
 pub mod bench;
@@ -8,13 +8,6 @@ mod fixing;
 pub mod job;
 pub mod job_log;
 pub mod laws;
-pub mod lint;
-pub mod lint_diff;
-pub mod lint_fix;
-mod lint_reports;
-pub mod lint_sarif;
-pub mod lint_server;
-mod lint_words;
 mod pipeline;
 
 pub use miette_description::laws as description_laws;

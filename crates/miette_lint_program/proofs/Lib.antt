@@ -1,0 +1,7 @@
+pub mod AcceptedFindings
+pub mod CommandSteps
+pub mod LintDiffSteps
+pub mod LintFixSteps
+pub mod LintServerSteps
+pub mod LintSteps
+pub mod LogSteps

@@ -1,0 +1,11 @@
+use Rattle.miette_lint_program.proofs.LintFixSteps.{never_called}
+use Rattle.miette_lint_program.proofs.LintSteps.{found_fault}
+use Rattle.miette_lint_program.proofs.lint_fix.fix_on.Goals as goal
+
+pub returns-in-Err-clause-failed : goal.returns-in-Err-clause-failed
+returns-in-Err-clause-failed g c = λ two. (
+  c.in-Err.fault,
+  record { status = c.fail.ensures.status; row = c.fail.ensures.row },
+  found_fault _ _ _ c.write_fixed.result c.in-Err.fault c.in-Err.is (never_called _ c.write_fixed.ensures.called)
+      c.write_fixed.ensures.read_failed c.write_fixed.ensures.write_failed,
+)

@@ -1,0 +1,22 @@
+use Rattle.std.specs.Io.KnownBytes.{Appends}
+use Rattle.miette_devices.specs.views.Device.{TakesBeginning}
+use Rattle.miette_lint_program.proofs.LogSteps.{clean_read, lint_written}
+use Rattle.miette_lint_program.proofs.lint_sarif.write_log.Goals as goal
+
+pub returns-clause-clean : goal.returns-clause-clean
+returns-clause-clean g c =
+    clean_read c.args.words.now.width _ _ _ c.in_ok-input.ensures.bytes c.in_ok-clean.ensures.clean
+
+pub returns-clause-ok : goal.returns-clause-ok
+returns-clause-ok g c =
+    let words = c.args.words.now in
+    lint_written words.tool.now words.name.now words.width _ _ _ _
+    (Appends (g.W.Write.contents c.args.writer.now.inner) (g.W.Write.contents c.write_whole.new.writer.inner))
+    c.in_ok-input.ensures.bytes c.in_ok-clean.ensures.log c.as_bytes.ensures.value c.in_ok-write_whole.ensures.ok
+
+pub returns-in_err-write_whole-clause-beginning : goal.returns-in_err-write_whole-clause-beginning
+returns-in_err-write_whole-clause-beginning g c =
+    let words = c.args.words.now in
+    λ fault. lint_written words.tool.now words.name.now words.width _ _ _ _
+    (TakesBeginning (g.W.Write.contents c.args.writer.now.inner) (g.W.Write.contents c.write_whole.new.writer.inner))
+    c.in_ok-input.ensures.bytes c.in_ok-clean.ensures.log c.as_bytes.ensures.value c.in_err-write_whole.ensures.err

@@ -1,0 +1,3 @@
+-- What users rely on, in the words of docs/RULES.md.
+pub mod Words
+pub mod Logs

@@ -1,0 +1,91 @@
+//! `lint --lsp`: what `lint` finds, told to an editor as it writes.
+
+ghost use Rattle.std.specs.Prelude.{◌≡◌, ◌⊎◌, ◌<◌, IfOk, IfSome, IsNone, OnErr, map, string_bytes};
+ghost use Rattle.std.specs.Io.Buffered.{reader_remaining};
+ghost use Rattle.miette_language_server.specs.rules.Serving.{served};
+ghost use Rattle.miette_language_server.specs.views.ClientState.{IsOpen};
+ghost use Rattle.miette_lint_program.specs.rules.Words.{AreServerWords, IsNoServerCall};
+ghost use Rattle.miette_devices.specs.views.Endings.{IsFailure};
+ghost use Rattle.miette_lint_program.specs.views.Service.{BeginsService, IsServerFault, IsService};
+
+use miette_devices::fault::{Ending, Fault, Program};
+use miette_devices::words::number;
+use miette_language_server::client::Client;
+use miette_language_server::serve::serve;
+use std::alloc::Global;
+use std::io::{BufReader, Read, Write};
+
+/// What the words after the program's name ask for where the first of two is `--lsp`: how many columns a line may have.
+/// Nothing, where they are others, or where the last is no number.
+pub fn serving(words: &[String]) -> Option<usize>
+    ensures some { IfSome result (λ width. AreServerWords (map string_bytes words.now) width) }
+    ensures none { IsNone result → IsNoServerCall (map string_bytes words.now) }
+{
+    match words {
+        [word, width] if word.as_str() == "--lsp" => number(width.as_str()),
+        _ => None,
+    }
+}
+
+// A buffer in front of a reader: nothing of it is read yet.
+fn buffered<R: Read + Drop>(alloc: Global, reader: R) -> Result<BufReader<R>, Fault>
+    ensures whole { IfOk result (λ it. reader_remaining R.remaining it ≡ R.remaining reader) }
+    ensures others { OnErr result (result ≡ Err Fault.Memory) }
+{
+    match BufReader::new(alloc, reader) {
+        Ok(made) => Ok(made),
+        Err(_) => Err(Fault::Memory),
+    }
+}
+
+/// `serve_with` over a client and a stream of faults of one's own. Beside the status, whether `faults` took the row that
+/// says why the server failed.
+pub fn serve_on<R: Read, W: Write, F: Write>(
+    alloc: Global,
+    width: usize,
+    client: &mut Client<R, W>,
+    faults: &mut F,
+) -> Ending
+    requires { IsOpen client.old }
+    ensures status { result.status < 3 }
+    // The client was sent what a language server writes for all that was read, and nothing else, neither stream failed,
+    // and `faults` took nothing. Or the reader, the writer or memory failed, which is told exactly: the client took a
+    // beginning of that, and `faults` is handed the row that says so.
+    ensures service { (IsService width (R.remaining client.old.reader.inner) (W.contents client.old.writer.inner)
+        (W.contents client.new.writer.inner) result.status × IsOpen client.new × (faults.new ≡ faults.old))
+        ⊎ ((fault : Fault) × IsFailure Program.Lint result (F.contents faults.old) (F.contents faults.new) fault
+        × IsServerFault client.new.reader.failed client.new.writer.failed fault
+        × BeginsService width (R.remaining client.old.reader.inner) (W.contents client.old.writer.inner)
+        (W.contents client.new.writer.inner)) }
+{
+    match serve(alloc, width, client) {
+        Ok(status) => Ending {
+            status,
+            told: Ok(()),
+        },
+        Err(fault) => Program::Lint.fail(fault, faults),
+    }
+}
+
+/// The program `lint --lsp`: serves an editor over the Language Server Protocol, until it ends the server.
+///
+/// The status is 0 where the editor ends the server behind `shutdown`, and 1 where it ends it before; 2 where the frames
+/// end or one is broken, and where memory, the reader or the writer failed: then the fault's text and a line feed go to
+/// `faults`, whose own faults are ignored.
+pub fn serve_with<R, W, F>(alloc: Global, width: usize, reader: R, writer: W, faults: F) -> u8
+where
+    R: Read + Drop,
+    W: Write + Drop,
+    F: Write + Drop,
+    ensures status { result < 3 }
+    ensures ended { result < 2 → IfSome (R.remaining reader) (λ bytes. result ≡ (served width bytes).status) }
+{
+    let mut faults = faults;
+    match buffered(alloc, reader) {
+        Ok(front) => {
+            let mut client = Client::new(front, writer);
+            serve_on(alloc, width, &mut client, &mut faults).status
+        }
+        Err(fault) => Program::Lint.fail(fault, &mut faults).status,
+    }
+}
