@@ -15,9 +15,9 @@ use Rattle.miette_program.specs.declared.option_words.Choice.{Choice}
 use Rattle.miette_show.specs.rules.ShowCalls.{CallShows, CallShowsFirst}
 use Rattle.miette_show.specs.rules.ShowWords.{ShowRequest}
 use Rattle.miette_show.specs.rules.Shown.{Shows, ShowsFirst}
-use Rattle.miette_show.specs.rules.Statuses.{status_of}
-use Rattle.miette_show.specs.declared.verdict.Verdict.{Verdict}
-use Rattle.miette_show.proofs.Going.{first_by, shows_by}
+use Rattle.miette_tool_rows.specs.rules.Statuses.{status_of}
+use Rattle.miette_tool_rows.specs.declared.verdict.Verdict.{Verdict}
+use Rattle.miette_show.proofs.Showing.{first_by, shows_by}
 
 module _ (is_blank : LanguageHighlighter → Bool) (request : ShowRequest) (c : Choice) (o : Options LanguageHighlighter)
     (l : Terminal) (h : JobHandler LanguageHighlighter) (are : AreWanted request.options c o l)

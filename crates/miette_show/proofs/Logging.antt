@@ -19,17 +19,17 @@ use Rattle.miette_tree.specs.rules.Tree.{Tree, trees}
 use Rattle.miette_devices.specs.views.Device.{TakesBeginning}
 use Rattle.miette_show.specs.rules.Logging.{IsLogged, IsRowTrees, Logged, Logs, LogsFirst, LogsSome, log_notes}
 use Rattle.miette_show.specs.rules.Logging.{trees_of, verdict_of}
-use Rattle.miette_show.specs.rules.Looking.{Goes, IsFoundBy}
-use Rattle.miette_show.specs.rules.Parts.{ends_in, parts_of}
-use Rattle.miette_show.specs.rules.Rows.{begins_message}
-use Rattle.miette_show.specs.rules.Shown.{all_names, kind_grave, kind_unread, passed_on}
-use Rattle.miette_show.specs.rules.Statuses.{status_of}
+use Rattle.miette_tool_rows.specs.rules.Looking.{Goes, IsFoundBy, all_names}
+use Rattle.miette_tool_rows.specs.rules.Parts.{ends_in, parts_of}
+use Rattle.miette_show.specs.rules.Shown.{begins_message, passed_on}
+use Rattle.miette_tool_rows.specs.rules.Notes.{kind_grave, kind_unread}
+use Rattle.miette_tool_rows.specs.rules.Statuses.{status_of}
 use Rattle.miette_show.specs.views.Logged.{AreKnown, AreLogged, AreLoggedFirst}
-use Rattle.miette_show.specs.declared.verdict.RowKind.{RowKind}
-use Rattle.miette_show.specs.declared.verdict.Verdict.{Verdict}
+use Rattle.miette_tool_rows.specs.declared.verdict.RowKind.{RowKind}
+use Rattle.miette_tool_rows.specs.declared.verdict.Verdict.{Verdict}
 use Rattle.miette_show.specs.declared.words.Format.{Format}
-use Rattle.miette_show.proofs.Beginnings.{all_taken, taken_then}
-use Rattle.miette_show.proofs.Going.{all_stay}
+use Rattle.miette_tool_rows.proofs.Beginnings.{all_taken, taken_then}
+use Rattle.miette_tool_rows.proofs.Going.{all_stay}
 
 -- ---- names that are known
 

@@ -12,16 +12,16 @@ use Rattle.std.proofs.lemmas.List.Folds.{list_any-append}
 use Rattle.miette_protocol.specs.rules.Reading.{Source}
 use Rattle.miette_devices.specs.views.Device.{TakesBeginning}
 use Rattle.miette_tree.specs.rules.Tree.{Tree}
-use Rattle.miette_show.specs.rules.Parts.{ends_in, parts_of}
-use Rattle.miette_show.specs.rules.Shown.{ShowsFirst}
-use Rattle.miette_show.specs.rules.Shown.{IsShown, Shown, Shows, is_error, is_unread, kind_grave, kind_unread}
+use Rattle.miette_tool_rows.specs.rules.Parts.{ends_in, parts_of}
+use Rattle.miette_show.specs.rules.Shown.{ShowsFirst, IsShown, Shown, Shows, is_error, is_unread}
+use Rattle.miette_tool_rows.specs.rules.Notes.{kind_grave, kind_unread}
 use Rattle.miette_show.specs.rules.Shown.{notes_from, passed_on, text_of, verdict_of}
-use Rattle.miette_show.specs.views.Reading.{IsNextPart}
-use Rattle.miette_show.specs.declared.verdict.RowKind.{RowKind}
-use Rattle.miette_show.specs.declared.verdict.Verdict.{Verdict}
+use Rattle.miette_tool_rows.specs.views.Reading.{IsNextPart}
+use Rattle.miette_tool_rows.specs.declared.verdict.RowKind.{RowKind}
+use Rattle.miette_tool_rows.specs.declared.verdict.Verdict.{Verdict}
 use Rattle.miette_show.specs.declared.words.Format.{Format}
-use Rattle.miette_show.proofs.Beginnings.{all_taken, taken_then}
-use Rattle.miette_show.proofs.PartSteps.{PartsLeft, first_parts, parts_begin, parts_end, parts_more}
+use Rattle.miette_tool_rows.proofs.Beginnings.{all_taken, taken_then}
+use Rattle.miette_tool_rows.proofs.PartSteps.{PartsLeft, first_parts, parts_begin, parts_end, parts_more}
 
 abbrev row_of : Shown → List ℕ
 row_of s = s.row

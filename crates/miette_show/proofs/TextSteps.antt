@@ -16,11 +16,12 @@ use Rattle.miette_devices.specs.declared.fault.Fault.TheVariants.{Memory, Refuse
 use Rattle.miette_program.specs.declared.job_handler.JobHandler.{JobHandler}
 use Rattle.miette_program.specs.declared.job_handler.JobHandler.TheVariants as chosen
 use Rattle.miette_program.specs.steps.JobHandler.{MayRefuse}
-use Rattle.miette_show.specs.rules.Rows.{begins_message}
-use Rattle.miette_show.specs.rules.Shown.{AreDrawn, IsRowText, all_names, IsShown, row_trees, tree_grave, value_trees}
+use Rattle.miette_show.specs.rules.Shown.{begins_message}
+use Rattle.miette_show.specs.rules.Shown.{AreDrawn, IsRowText, IsShown, row_trees, tree_grave, value_trees}
+use Rattle.miette_tool_rows.specs.rules.Looking.{all_names}
 use Rattle.miette_show.specs.views.Texts.{AreTexts, IsPushed, IsValueText}
-use Rattle.miette_show.specs.declared.verdict.RowKind.{RowKind}
-use Rattle.miette_show.specs.declared.verdict.RowKind.TheVariants.{Passed, Unread, Messages}
+use Rattle.miette_tool_rows.specs.declared.verdict.RowKind.{RowKind}
+use Rattle.miette_tool_rows.specs.declared.verdict.RowKind.TheVariants.{Passed, Unread, Messages}
 use Rattle.miette_show.specs.declared.words.Format.{Format}
 
 abbrev Given : Type 1

@@ -1,7 +1,6 @@
 //! One log of all messages, over any reader, writers and files: what `show --sarif` and `show --lsp` write.
 
-ghost use Rattle.std.specs.Prelude.{◌≡◌, ◌↔◌, ◌⊎◌, ◌+◌, ◌++◌, Err, IfOk, IfSome, IsTrue, OnErr, OnOk, false, map};
-ghost use Rattle.std.specs.Prelude.{⊤};
+ghost use Rattle.std.specs.Prelude.{◌≡◌, ◌↔◌, ◌⊎◌, ◌+◌, ◌++◌, Err, IfOk, IfSome, IsTrue, OnErr, OnOk, false, map, ⊤};
 ghost use Rattle.std.specs.List.{All, list_any};
 ghost use Rattle.std.specs.Io.KnownBytes.{Appends};
 ghost use Rattle.miette_devices.specs.views.Device.{TakesBeginning};
@@ -10,21 +9,17 @@ ghost use Rattle.miette_tree.specs.rules.Reads.{AlwaysReads};
 ghost use Rattle.miette_tree.specs.rules.Tree.{trees};
 ghost use Rattle.miette_tree.specs.views.Report.{tree_of};
 ghost use Rattle.miette_show.specs.rules.Logging.{IsRowTrees, Logs, LogsFirst, LogsSome};
-ghost use Rattle.miette_show.specs.rules.Looking.{Goes, IsFoundBy};
-ghost use Rattle.miette_show.specs.rules.Parts.{ends_in, parts_of};
+ghost use Rattle.miette_tool_rows.specs.rules.Looking.{Goes, IsFoundBy};
+ghost use Rattle.miette_tool_rows.specs.rules.Parts.{ends_in, parts_of};
 ghost use Rattle.miette_show.specs.rules.Shown.{tree_grave};
-ghost use Rattle.miette_show.specs.rules.Statuses.{status_of};
-ghost use Rattle.miette_show.specs.declared.verdict.Verdict.{Verdict};
+ghost use Rattle.miette_tool_rows.specs.rules.Statuses.{status_of};
+ghost use Rattle.miette_tool_rows.specs.declared.verdict.Verdict.{Verdict};
 ghost use Rattle.miette_show.specs.views.Logged.{AreKnown, AreLogged, AreLoggedFirst};
-ghost use Rattle.miette_show.specs.views.Reading.{left_of};
+ghost use Rattle.miette_tool_rows.specs.views.Reading.{left_of};
 
-use crate::loader::{Loader, load_all};
-use crate::message::{Row, begins_message, is_error, value_in};
-use crate::parts::ends_in;
+use crate::message::{Row, begins_message, is_error};
 use crate::reports::reports_of;
-use crate::row_reader::RowReader;
 use crate::show::{Streams, pass_on};
-use crate::verdict::{RowKind, Verdict};
 use crate::words::Format;
 use miette_devices::device::Device;
 use miette_devices::fault::{Fault, Program};
@@ -36,6 +31,11 @@ use miette_protocol::source::SourceCode;
 use miette_readers::files::{Files, LentFile};
 use miette_readers::lists::push_item;
 use miette_readers::rustc::ReadError;
+use miette_tool_rows::loader::{Loader, load_all};
+use miette_tool_rows::parts::ends_in;
+use miette_tool_rows::row_reader::RowReader;
+use miette_tool_rows::value::value_in;
+use miette_tool_rows::verdict::{RowKind, Verdict};
 use miette_tree::report::Report;
 use std::alloc::{AllocError, Global};
 use std::io::{Read, Write};

@@ -1,22 +1,17 @@
 //! What is shown of a row.
 
-ghost use Rattle.std.specs.Prelude.{◌≡◌, ◌||◌, IfOk, IfSome, IsUtf8, None, OnErr, OnOk, Some, map, string_bytes};
-ghost use Rattle.std.specs.Prelude.{true};
+ghost use Rattle.std.specs.Prelude.{◌≡◌, ◌||◌, IfOk, None, OnErr, OnOk, Some, map, string_bytes, true};
 ghost use Rattle.std.specs.List.{All};
-ghost use Rattle.serde_json.specs.Read.{read};
 ghost use Rattle.serde_json.specs.View.{view};
 ghost use Rattle.miette_tree.specs.rules.Reads.{AlwaysReads, report_accepted};
 ghost use Rattle.miette_tree.specs.views.Report.{tree_of};
 ghost use Rattle.miette_program.specs.steps.JobHandler.{IsGiven, IsLed, Stays};
-ghost use Rattle.miette_show.specs.rules.Looking.{Goes, IsFoundBy};
-ghost use Rattle.miette_show.specs.rules.Rows.{begins_array, begins_message, begins_object};
-ghost use Rattle.miette_show.specs.rules.Shown.{IsShown, is_grave, value_trees};
+ghost use Rattle.miette_tool_rows.specs.rules.Looking.{Goes, IsFoundBy};
+ghost use Rattle.miette_tool_rows.specs.rules.Rows.{begins_array, begins_object};
+ghost use Rattle.miette_show.specs.rules.Shown.{begins_message, IsShown, is_grave, value_trees};
 ghost use Rattle.miette_show.specs.views.Texts.{AreTexts, IsPushed, IsValueText};
 
-use crate::loader::{Loader, load_all};
-use crate::parts::begins_with;
 use crate::reports::reports_of;
-use crate::verdict::RowKind;
 use crate::words::Format;
 use miette_devices::fault::Fault;
 use miette_highlight::highlight::Highlighter;
@@ -25,6 +20,9 @@ use miette_protocol::protocol::{Diagnostic, Severity};
 use miette_protocol::source::SourceCode;
 use miette_readers::files::Files;
 use miette_readers::rustc::ReadError;
+use miette_tool_rows::loader::{Loader, load_all};
+use miette_tool_rows::value::{begins_array, begins_object, value_in};
+use miette_tool_rows::verdict::RowKind;
 use miette_tree::report::Report;
 use serde_json::Value;
 use std::alloc::Global;
@@ -38,20 +36,6 @@ pub(crate) struct Row<'r> {
     pub bytes: &'r [u8],
 }
 
-/// Whether a part begins as each message of rustc and cargo does, each SARIF log, and what ShellCheck writes.
-pub(crate) fn begins_object(row: &[u8]) -> bool
-    ensures { result ≡ begins_object row.now }
-{
-    begins_with(b'{', row)
-}
-
-/// Whether a part begins as each array of GCC does.
-fn begins_array(row: &[u8]) -> bool
-    ensures { result ≡ begins_array row.now }
-{
-    begins_with(b'[', row)
-}
-
 /// Whether a row begins as messages do.
 pub(crate) fn begins_message(from: Format, row: &[u8]) -> bool
     ensures { result ≡ begins_message from row.now }
@@ -60,22 +44,6 @@ pub(crate) fn begins_message(from: Format, row: &[u8]) -> bool
         Format::Auto => begins_object(row) || begins_array(row),
         Format::Rustc | Format::Sarif | Format::ShellCheck => begins_object(row),
         Format::Gcc => begins_array(row),
-    }
-}
-
-/// The value that a row is, if it is one.
-pub(crate) fn value_in(alloc: Global, row: &[u8]) -> Result<Option<Value>, Fault>
-    ensures some { IfOk result (λ o. IfSome o (λ v. IsUtf8 row.now × (read row.now ≡ Some (view v)))) }
-    ensures none { (result ≡ Ok None) → IsUtf8 row.now → read row.now ≡ None }
-    ensures others { OnErr result (result ≡ Err Fault.Memory) }
-{
-    let Ok(text) = str::from_utf8(row) else {
-        return Ok(None);
-    };
-    match Value::from_str(alloc, text) {
-        Ok(value) => Ok(Some(value)),
-        Err(error) if error.is_memory() => Err(Fault::Memory),
-        Err(_) => Ok(None),
     }
 }
 
@@ -149,7 +117,7 @@ fn texts_of<H: Highlighter, D: Diagnostic, S: SourceCode>(
 }
 
 /// What a value says over files that were looked for, and the text that is shown of it.
-#[tactic(auto, using(crate::proofs::Going::led_still))]
+#[tactic(auto, using(crate::proofs::Showing::led_still))]
 fn value_text<H: Highlighter, F: Files>(
     alloc: Global,
     handler: &mut JobHandler<H>,
@@ -183,7 +151,7 @@ pub(crate) fn is_error(severity: Option<Severity>) -> bool
 }
 
 /// What a row is, and the text that is shown of it.
-#[tactic(auto, using(crate::proofs::Going::led_still))]
+#[tactic(auto, using(crate::proofs::Showing::led_still))]
 pub(crate) fn row_text<H: Highlighter, F: Loader>(
     alloc: Global,
     handler: &mut JobHandler<H>,

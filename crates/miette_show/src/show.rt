@@ -1,24 +1,19 @@
 //! The program `show`, over any reader, writers and files.
 
-ghost use Rattle.std.specs.Prelude.{◌≡◌, ◌↔◌, ◌⊎◌, ◌<◌, ℕ, List, IfOk, IfSome, IsTrue, None, OnErr, OnOk};
-ghost use Rattle.std.specs.Prelude.{[], false, string_bytes, ⊤};
+ghost use Rattle.std.specs.Prelude.{◌≡◌, ◌↔◌, ◌⊎◌, ◌<◌, ℕ, List, IfOk, IfSome, IsTrue, None, OnErr, OnOk, false, ⊤};
 ghost use Rattle.std.specs.Io.KnownBytes.{Appends};
 ghost use Rattle.miette_program.specs.rules.OptionWords.{asked_by};
 ghost use Rattle.miette_program.specs.steps.JobHandler.{IsGiven, IsLed, Stays};
 ghost use Rattle.miette_devices.specs.views.Device.{TakesBeginning};
-ghost use Rattle.miette_show.specs.rules.Looking.{Goes, IsFoundBy};
+ghost use Rattle.miette_tool_rows.specs.rules.Looking.{Goes, IsFoundBy};
 ghost use Rattle.miette_show.specs.rules.ShowCalls.{CallShows, CallShowsFirst};
-ghost use Rattle.miette_show.specs.rules.Shown.{IsShown, Shows, ShowsFirst, kind_unread, note_of, note_row};
-ghost use Rattle.miette_show.specs.rules.Shown.{passed_on};
-ghost use Rattle.miette_show.specs.rules.Statuses.{status_of};
-ghost use Rattle.miette_show.specs.declared.verdict.Verdict.{Verdict};
+ghost use Rattle.miette_show.specs.rules.Shown.{IsShown, Shows, ShowsFirst, passed_on};
+ghost use Rattle.miette_tool_rows.specs.rules.Statuses.{status_of};
+ghost use Rattle.miette_tool_rows.specs.declared.verdict.Verdict.{Verdict};
 ghost use Rattle.miette_show.specs.views.Asked.{request_of, words_of};
-ghost use Rattle.miette_show.specs.views.Reading.{left_of};
+ghost use Rattle.miette_tool_rows.specs.views.Reading.{left_of};
 
-use crate::loader::Loader;
 use crate::message::{Row, row_text};
-use crate::row_reader::RowReader;
-use crate::verdict::{RowKind, Verdict};
 use crate::words::{Format, ShowWords};
 use miette_devices::device::Device;
 use miette_devices::fault::{Fault, Program};
@@ -27,34 +22,13 @@ use miette_highlight::highlight::Highlighter;
 use miette_program::arguments::Arguments;
 use miette_program::job_handler::JobHandler;
 use miette_program::language::LanguageHighlighter;
-use std::alloc::{AllocError, Global};
+use miette_tool_rows::loader::Loader;
+use miette_tool_rows::row_reader::RowReader;
+use miette_tool_rows::streams::note;
+pub use miette_tool_rows::streams::Streams;
+use miette_tool_rows::verdict::{RowKind, Verdict};
+use std::alloc::Global;
 use std::io::{Read, Write};
-
-/// What the program reads, where it writes what is shown, and where it passes on what is no message.
-#[derive(Drop)]
-pub struct Streams<R, W, E> {
-    /// The rows of what is read.
-    pub rows: RowReader<R>,
-    /// What is shown.
-    pub writer: Device<W>,
-    /// What is no message, what can't be read, and why the program fails.
-    pub faults: Device<E>,
-}
-
-impl<R, W, E> Streams<R, W, E> {
-    /// Over these, of which no call has failed.
-    pub fn new(alloc: Global, reader: R, writer: W, faults: E) -> Streams<R, W, E>
-        ensures rows { result.rows ≡ record { inner = reader; failed = false; pending = [] } }
-        ensures writer { result.writer ≡ record { inner = writer; failed = false } }
-        ensures faults { result.faults ≡ record { inner = faults; failed = false } }
-    {
-        Streams {
-            rows: RowReader::new(alloc, reader),
-            writer: Device::new(writer),
-            faults: Device::new(faults),
-        }
-    }
-}
 
 /// Writes what is shown of a row; what the row is.
 fn show_row<H: Highlighter, F: Loader, W: Write>(
@@ -84,36 +58,6 @@ fn show_row<H: Highlighter, F: Loader, W: Write>(
     let (kind, text) = row_text(alloc, handler, files, row)?;
     write_whole(writer, text.as_bytes())?;
     Ok(kind)
-}
-
-/// What is said of a row that can't be read.
-fn note_text(alloc: Global, number: u64) -> Result<String, AllocError>
-    ensures { IfOk result (λ text. string_bytes text ≡ note_row number) }
-{
-    format!(in alloc; "show: row {number}: no message that can be read\n")
-}
-
-/// Says that a row can't be read, where it can't.
-pub(crate) fn note<E: Write>(
-    alloc: Global,
-    faults: &mut Device<E>,
-    number: u64,
-    kind: RowKind,
-) -> Result<(), Fault>
-    requires sound { faults.old.failed ≡ false }
-    ensures noted { OnOk result (Appends (E.contents faults.old.inner) (E.contents faults.new.inner)
-        (note_of number (kind_unread kind))) }
-    ensures beginning { (result ≡ Err Fault.Write) → TakesBeginning (E.contents faults.old.inner)
-        (E.contents faults.new.inner) (note_of number (kind_unread kind)) }
-    ensures untouched { OnErr result ((result ≡ Err Fault.Write) ⊎ (faults.new ≡ faults.old)) }
-    ensures failed { IsTrue faults.new.failed ↔ (result ≡ Err Fault.Write) }
-    ensures others { OnErr result ((result ≡ Err Fault.Memory) ⊎ (result ≡ Err Fault.Write)) }
-{
-    if !kind.is_unread() {
-        return Ok(());
-    }
-    let note = note_text(alloc, number)?;
-    write_whole(faults, note.as_bytes())
 }
 
 /// Passes on a row that isn't shown, behind a note where it can't be read.

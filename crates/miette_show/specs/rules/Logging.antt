@@ -5,12 +5,13 @@ use Rattle.serde_json.specs.Data.{Data}
 use Rattle.serde_json.specs.Read.{read}
 use Rattle.miette_protocol.specs.rules.Reading.{Source}
 use Rattle.miette_tree.specs.rules.Tree.{Tree}
-use Rattle.miette_show.specs.rules.Parts.{ends_in, parts_of}
-use Rattle.miette_show.specs.rules.Rows.{begins_message}
-use Rattle.miette_show.specs.rules.Shown.{all_names, kind_grave, kind_unread, passed_on, row_trees, tree_grave}
-use Rattle.miette_show.specs.declared.verdict.RowKind.{RowKind}
-use Rattle.miette_show.specs.declared.verdict.RowKind.TheVariants.{Passed, Unread, Messages}
-use Rattle.miette_show.specs.declared.verdict.Verdict.{Verdict}
+use Rattle.miette_tool_rows.specs.rules.Parts.{ends_in, parts_of}
+use Rattle.miette_show.specs.rules.Shown.{begins_message, passed_on, row_trees, tree_grave}
+use Rattle.miette_tool_rows.specs.rules.Notes.{kind_grave, kind_unread}
+use Rattle.miette_tool_rows.specs.rules.Looking.{all_names}
+use Rattle.miette_tool_rows.specs.declared.verdict.RowKind.{RowKind}
+use Rattle.miette_tool_rows.specs.declared.verdict.RowKind.TheVariants.{Passed, Unread, Messages}
+use Rattle.miette_tool_rows.specs.declared.verdict.Verdict.{Verdict}
 use Rattle.miette_show.specs.declared.words.Format.{Format}
 
 -- the reports of a part, by what it is: none of one that begins as no message does, or can't be read

@@ -6,7 +6,7 @@ use Rattle.miette_program.specs.rules.OptionWords.{ForAsked}
 use Rattle.miette_program.specs.declared.language.LanguageHighlighter.{LanguageHighlighter}
 use Rattle.miette_show.specs.rules.Shown.{Shows, ShowsFirst}
 use Rattle.miette_show.specs.rules.ShowWords.{ShowRequest}
-use Rattle.miette_show.specs.declared.verdict.Verdict.{Verdict}
+use Rattle.miette_tool_rows.specs.declared.verdict.Verdict.{Verdict}
 
 -- The rows of these bytes are shown in the format and by the handler that are asked for, and this holds of text and
 -- notes.

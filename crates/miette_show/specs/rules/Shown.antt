@@ -1,6 +1,6 @@
 -- What is shown of rows.
 use Rattle.std.specs.Prelude.{◌≡◌, ℕ, ◌+◌, List, [], ◌∷◌, ◌++◌, Option, Some, None, Bool, true, false, IsUtf8}
-use Rattle.std.specs.Prelude.{option_and_then, option_map, is_some, if◌then◌else◌, codes, decimal, map}
+use Rattle.std.specs.Prelude.{option_and_then, option_map, is_some, if◌then◌else◌, map}
 use Rattle.std.specs.List.{All, flat_map, list_any}
 use Rattle.serde_json.specs.Data.{Data}
 use Rattle.serde_json.specs.Find.{as_array}
@@ -9,21 +9,29 @@ use Rattle.miette_protocol.specs.declared.protocol.Severity.{Severity}
 use Rattle.miette_protocol.specs.declared.protocol.Severity.TheVariants.{Advice, Warning, Error}
 use Rattle.miette_protocol.specs.rules.Reading.{Source}
 use Rattle.miette_tree.specs.rules.Tree.{Tree, head}
-use Rattle.miette_readers.specs.rules.Names.{names_of}
 use Rattle.miette_readers.specs.rules.RustcReport.{rustc_tree}
 use Rattle.miette_gcc.specs.rules.GccReport.{gcc_trees}
 use Rattle.miette_sarif_reader.specs.rules.Logs.{has_runs, sarif_trees}
-use Rattle.miette_sarif_reader.specs.rules.Names as log
 use Rattle.miette_shellcheck.specs.rules.Comments.{has_comments, shellcheck_trees}
-use Rattle.miette_show.specs.rules.Parts.{ends_in, parts_of}
-use Rattle.miette_show.specs.rules.Rows.{begins_message}
-use Rattle.miette_show.specs.declared.verdict.RowKind.{RowKind}
+use Rattle.miette_tool_rows.specs.rules.Parts.{ends_in, parts_of}
+use Rattle.miette_tool_rows.specs.rules.Rows.{begins_array, begins_object}
+use Rattle.miette_tool_rows.specs.rules.Looking.{all_names}
+use Rattle.miette_tool_rows.specs.rules.Notes.{kind_grave, kind_unread, note_row}
+use Rattle.miette_tool_rows.specs.declared.verdict.RowKind.{RowKind}
 use Rattle.miette_show.specs.declared.words.Format.{Format}
 use Rattle.miette_show.specs.declared.words.Format.TheVariants.{Auto, Rustc, Gcc, Sarif, ShellCheck}
-use Rattle.miette_show.specs.declared.verdict.RowKind.TheVariants.{Passed, Unread, Messages}
-use Rattle.miette_show.specs.declared.verdict.Verdict.{Verdict}
+use Rattle.miette_tool_rows.specs.declared.verdict.RowKind.TheVariants.{Passed, Unread, Messages}
+use Rattle.miette_tool_rows.specs.declared.verdict.Verdict.{Verdict}
 
 -- ---- one row
+
+-- a row begins so that may say something, in a format
+abbrev pub begins_message : Format → List ℕ → Bool
+begins_message Auto row = begins_object row || begins_array row
+begins_message Rustc row = begins_object row
+begins_message Gcc row = begins_array row
+begins_message Sarif row = begins_object row
+begins_message ShellCheck row = begins_object row
 
 abbrev pub maybe_tree : Option Tree → List Tree
 maybe_tree None = []
@@ -63,10 +71,6 @@ value_trees from files d =
     if is_gcc from d then gcc_trees files d
     else if is_sarif from d then sarif_trees files d
     else if is_shellcheck from d then shellcheck_trees files d else rustc_trees files d
-
--- the names of the files that a value speaks of: those of compilers and ShellCheck, and those that the URIs of a log stand for
-abbrev pub all_names : Data → List (List ℕ)
-all_names d = names_of d ++ log.names_of d
 
 abbrev pub row_trees : Format → (List ℕ → Option Source) → List ℕ → Option (List Tree)
 row_trees from files row = option_and_then (value_trees from files) (read row)
@@ -112,29 +116,11 @@ IsShown from gives found s = (files : List ℕ → Option Source)
 
 -- ---- all rows
 
-abbrev pub kind_unread : RowKind → Bool
-kind_unread Passed = false
-kind_unread Unread = true
-kind_unread (Messages grave) = false
-
-abbrev pub kind_grave : RowKind → Bool
-kind_grave Passed = false
-kind_grave Unread = false
-kind_grave (Messages grave) = grave
-
 abbrev pub is_unread : Shown → Bool
 is_unread s = kind_unread s.kind
 
 abbrev pub is_error : Shown → Bool
 is_error s = kind_grave s.kind
-
--- what is said of a row that can't be read
-abbrev pub note_row : ℕ → List ℕ
-note_row n = codes "show: row " ++ (decimal n ++ codes ": no message that can be read\n")
-
-abbrev pub note_of : ℕ → Bool → List ℕ
-note_of n true = note_row n
-note_of n false = []
 
 -- A row that isn't shown is passed on beside what is: as it is, behind a note where it can't be read.
 abbrev pub passed_on : ℕ → RowKind → List ℕ → List ℕ

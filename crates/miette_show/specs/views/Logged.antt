@@ -6,9 +6,9 @@ use Rattle.serde_json.specs.Read.{read}
 use Rattle.miette_protocol.specs.rules.Reading.{Source}
 use Rattle.miette_tree.specs.rules.Tree.{Tree}
 use Rattle.miette_show.specs.rules.Logging.{IsRowTrees, Logged, log_notes, trees_of, verdict_of}
-use Rattle.miette_show.specs.rules.Rows.{begins_message}
-use Rattle.miette_show.specs.rules.Shown.{all_names}
-use Rattle.miette_show.specs.declared.verdict.Verdict.{Verdict}
+use Rattle.miette_show.specs.rules.Shown.{begins_message}
+use Rattle.miette_tool_rows.specs.rules.Looking.{all_names}
+use Rattle.miette_tool_rows.specs.declared.verdict.Verdict.{Verdict}
 use Rattle.miette_show.specs.declared.words.Format.{Format}
 
 -- all that a part names is known

@@ -3,8 +3,8 @@ use Rattle.std.specs.Prelude.{◌≡◌, ℕ, List, [], ◌∷◌, ◌++◌, Boo
 use Rattle.std.specs.List.{list_any}
 use Rattle.miette_tree.specs.rules.Tree.{Tree}
 use Rattle.miette_show.specs.rules.Shown.{AreDrawn, tree_grave}
-use Rattle.miette_show.specs.declared.verdict.RowKind.{RowKind}
-use Rattle.miette_show.specs.declared.verdict.RowKind.TheVariants.{Passed, Unread, Messages}
+use Rattle.miette_tool_rows.specs.declared.verdict.RowKind.{RowKind}
+use Rattle.miette_tool_rows.specs.declared.verdict.RowKind.TheVariants.{Passed, Unread, Messages}
 
 -- the texts of these reports, and whether an error is among them
 abbrev pub AreTexts : (Tree → List ℕ → Type 0) → List Tree → Bool → List ℕ → Type 0

@@ -3,9 +3,9 @@ use Rattle.std.specs.Prelude.{Vec}
 use Rattle.std.specs.declared.alloc.Global.{Global}
 use Rattle.std.proofs.lemmas.List.{map-append, nil_from_length}
 use Rattle.miette_devices.specs.declared.fault.Fault.TheVariants.{Read}
-use Rattle.miette_show.specs.views.Reading.{left_of}
-use Rattle.miette_show.proofs.NoteEnds.{not_failed}
-use Rattle.miette_show.proofs.PartSteps.{PartsLeft, parts_begin, parts_end, parts_more}
+use Rattle.miette_tool_rows.specs.views.Reading.{left_of}
+use Rattle.miette_tool_rows.proofs.NoteEnds.{not_failed}
+use Rattle.miette_tool_rows.proofs.PartSteps.{PartsLeft, parts_begin, parts_end, parts_more}
 use Rattle.miette_show.proofs.log.all_parts.Goals as goal
 
 abbrev items_of : Vec ℕ Global → List ℕ

@@ -1,6 +1,6 @@
 use Rattle.std.proofs.Common.{◌≡◌, false, map}
-use Rattle.miette_show.specs.views.Reading.{left_of}
-use Rattle.miette_show.proofs.PartSteps.{PartsLeft}
+use Rattle.miette_tool_rows.specs.views.Reading.{left_of}
+use Rattle.miette_tool_rows.proofs.PartSteps.{PartsLeft}
 use Rattle.miette_show.proofs.log.all_parts.Given as goal
 
 -- no call failed, and these are the parts that were read

@@ -12,12 +12,12 @@ use Rattle.miette_protocol.specs.views.Diagnostic.{meaning_of}
 use Rattle.miette_tree.specs.rules.Reads.{AlwaysReads}
 use Rattle.miette_tree.specs.views.Report.{tree_of}
 use Rattle.miette_show.specs.rules.Logging.{IsRowTrees}
-use Rattle.miette_show.specs.rules.Parts.{ends_in}
+use Rattle.miette_tool_rows.specs.rules.Parts.{ends_in}
 use Rattle.miette_show.specs.rules.Shown.{passed_on}
-use Rattle.miette_show.proofs.Beginnings.{all_taken, none_taken}
+use Rattle.miette_tool_rows.proofs.Beginnings.{all_taken, none_taken}
 use Rattle.miette_show.proofs.Logging as logging
 use Rattle.miette_show.proofs.Logging.{Gathering, one_more_taken, parted_at, parted_behind}
-use Rattle.miette_show.proofs.NoteEnds.{not_failed, on_err_of}
+use Rattle.miette_tool_rows.proofs.NoteEnds.{not_failed, on_err_of}
 use Rattle.miette_show.proofs.log.all_reports.Goals as goal
 
 abbrev items_of : Vec ℕ Global → List ℕ

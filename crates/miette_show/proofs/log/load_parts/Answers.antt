@@ -4,7 +4,7 @@ use Rattle.std.specs.declared.alloc.Global.{Global}
 use Rattle.std.proofs.lemmas.List.{take_all}
 use Rattle.std.proofs.lemmas.List.Elements.{All-nil}
 use Rattle.miette_show.specs.views.Logged.{AreKnown}
-use Rattle.miette_show.proofs.Going.{goes_on, goes_still}
+use Rattle.miette_tool_rows.proofs.Going.{goes_on, goes_still}
 use Rattle.miette_show.proofs.Logging.{known_stay, one_more_known}
 use Rattle.miette_show.proofs.log.load_parts.Goals as goal
 

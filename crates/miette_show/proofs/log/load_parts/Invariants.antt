@@ -1,5 +1,5 @@
 use Rattle.std.proofs.Common.{All, map, take}
-use Rattle.miette_show.specs.rules.Looking.{Goes}
+use Rattle.miette_tool_rows.specs.rules.Looking.{Goes}
 use Rattle.miette_show.specs.views.Logged.{AreKnown}
 use Rattle.miette_show.proofs.log.load_parts.Given as goal
 

@@ -1,7 +1,7 @@
 use Rattle.std.proofs.Common.{◌≡◌, ◌∙◌, IfSome, Some, IsUtf8, None, ap, false, subst, true, rules}
 use Rattle.serde_json.specs.Read.{read}
 use Rattle.serde_json.specs.View.{view}
-use Rattle.miette_show.specs.rules.Rows.{begins_message}
+use Rattle.miette_show.specs.rules.Shown.{begins_message}
 use Rattle.miette_show.proofs.TextSteps.{none_said, says_of}
 use Rattle.miette_show.proofs.log.part_reports.Goals as goal
 

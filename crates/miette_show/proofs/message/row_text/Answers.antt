@@ -2,8 +2,8 @@ use Rattle.std.proofs.Common.{◌≡◌, IfSome, Some, IsUtf8, true, false, refl
 use Rattle.serde_json.specs.Read.{read}
 use Rattle.serde_json.specs.View.{view}
 use Rattle.miette_program.specs.steps.JobHandler.{IsGiven}
-use Rattle.miette_show.specs.rules.Looking.{IsFoundBy}
-use Rattle.miette_show.specs.rules.Rows.{begins_message}
+use Rattle.miette_tool_rows.specs.rules.Looking.{IsFoundBy}
+use Rattle.miette_show.specs.rules.Shown.{begins_message}
 use Rattle.miette_show.proofs.TextSteps.{passed, told_ok, unread}
 use Rattle.miette_show.proofs.message.row_text.Goals as goal
 

@@ -3,9 +3,10 @@ use Rattle.std.specs.Io.KnownBytes.{Appends}
 use Rattle.miette_devices.proofs.WriteResults.{of-error}
 use Rattle.miette_devices.specs.declared.fault.Fault.TheVariants.{Write}
 use Rattle.miette_devices.specs.views.Device.{TakesBeginning}
-use Rattle.miette_show.specs.rules.Shown.{kind_unread, note_of, note_row, passed_on}
-use Rattle.miette_show.specs.declared.verdict.RowKind.{RowKind}
-use Rattle.miette_show.proofs.Beginnings.{taken_in, taken_then}
+use Rattle.miette_show.specs.rules.Shown.{passed_on}
+use Rattle.miette_tool_rows.specs.rules.Notes.{kind_unread, note_of, note_row}
+use Rattle.miette_tool_rows.specs.declared.verdict.RowKind.{RowKind}
+use Rattle.miette_tool_rows.proofs.Beginnings.{taken_in, taken_then}
 use Rattle.miette_show.proofs.show.pass_on.Goals as goal
 
 pub returns-in_err-note-in-Unread-clause-beginning : goal.returns-in_err-note-in-Unread-clause-beginning

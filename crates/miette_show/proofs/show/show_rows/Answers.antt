@@ -6,12 +6,13 @@ use Rattle.miette_program.proofs.JobHandlerSteps.{stays-itself, stays-on}
 use Rattle.miette_devices.specs.declared.fault.Fault.TheVariants.{Read, Refused, Usage, Write}
 use Rattle.miette_program.specs.steps.JobHandler.{IsGiven}
 use Rattle.miette_devices.specs.views.Device.{TakesBeginning}
-use Rattle.miette_show.specs.rules.Looking.{IsFoundBy}
+use Rattle.miette_tool_rows.specs.rules.Looking.{IsFoundBy}
 use Rattle.miette_show.specs.rules.Shown.{ShowsFirst, passed_on}
-use Rattle.miette_show.specs.views.Reading.{left_of}
-use Rattle.miette_show.proofs.Beginnings.{all_taken, none_taken}
-use Rattle.miette_show.proofs.Going.{goes_on, goes_still, shown_before}
-use Rattle.miette_show.proofs.NoteEnds.{no_other, not_failed, on_err_of}
+use Rattle.miette_tool_rows.specs.views.Reading.{left_of}
+use Rattle.miette_tool_rows.proofs.Beginnings.{all_taken, none_taken}
+use Rattle.miette_tool_rows.proofs.Going.{goes_on, goes_still}
+use Rattle.miette_show.proofs.Showing.{shown_before}
+use Rattle.miette_tool_rows.proofs.NoteEnds.{no_other, not_failed, on_err_of}
 use Rattle.miette_show.proofs.Progress as progress
 use Rattle.miette_show.proofs.show.show_rows.Goals as goal
 

@@ -1,7 +1,7 @@
 use Rattle.std.proofs.Common.{◌≡◌, false}
 use Rattle.miette_program.specs.steps.JobHandler.{IsGiven, IsLed, Stays}
-use Rattle.miette_show.specs.rules.Looking.{Goes, IsFoundBy}
-use Rattle.miette_show.specs.views.Reading.{left_of}
+use Rattle.miette_tool_rows.specs.rules.Looking.{Goes, IsFoundBy}
+use Rattle.miette_tool_rows.specs.views.Reading.{left_of}
 use Rattle.miette_show.proofs.Progress.{Progress}
 use Rattle.miette_show.proofs.show.show_rows.Given as goal
 

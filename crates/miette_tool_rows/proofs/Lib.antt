@@ -1,0 +1,12 @@
+pub mod Beginnings
+pub mod ChangeSteps
+pub mod FolderSteps
+pub mod Going
+pub mod MendEnds
+pub mod MendSteps
+pub mod NameSteps
+pub mod NoteEnds
+pub mod PartSteps
+pub mod RowEnds
+pub mod RowReading
+pub mod RowSteps

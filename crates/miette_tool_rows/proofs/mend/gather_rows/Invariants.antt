@@ -1,0 +1,19 @@
+use Rattle.std.proofs.Common.{◌≡◌, false}
+use Rattle.miette_mending.specs.views.Holding.{Adds}
+use Rattle.miette_tool_rows.specs.rules.Looking.{Goes, IsFoundBy}
+use Rattle.miette_tool_rows.specs.views.Reading.{left_of}
+use Rattle.miette_tool_rows.proofs.MendSteps.{Passing}
+use Rattle.miette_tool_rows.proofs.mend.gather_rows.Given as goal
+
+-- no call failed, what is known stays, and the parts before this number gave fixes
+abbrev pub invariant-loop : goal.invariant-loop
+invariant-loop g l = record {
+  rows_sound : l.rows.failed ≡ false;
+  faults_sound : l.faults.failed ≡ false;
+  goes : Goes (g.F.Files.found l.initial.files) (g.F.Loader.knows l.initial.files) (g.F.Files.found l.files)
+      (g.F.Loader.knows l.files);
+  passing : Passing (Adds l.initial.gathered l.gathered)
+      (IsFoundBy g.F.Files.found g.F.Loader.knows l.initial.files) (left_of g.R.Read.remaining l.initial.rows)
+      (left_of g.R.Read.remaining l.rows) (g.E.Write.contents l.initial.faults.inner)
+      (g.E.Write.contents l.faults.inner) l.number l.verdict;
+}

@@ -1,0 +1,7 @@
+-- What users rely on, in the words of docs/RULES.md.
+pub mod Looking
+pub mod Rows
+pub mod Parts
+pub mod Notes
+pub mod Statuses
+pub mod Mends

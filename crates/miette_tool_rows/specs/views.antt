@@ -1,0 +1,4 @@
+pub mod Folder
+pub mod RowState
+pub mod Reading
+pub mod Writing
