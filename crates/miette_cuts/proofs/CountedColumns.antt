@@ -14,11 +14,11 @@ use Rattle.miette_snippet_rules.specs.rules.CutLines.{stretches, text_columns, w
 use Rattle.miette_snippet_rules.proofs.TextColumns.{shown_columns, text_columns_are}
 use Rattle.miette_cuts.specs.declared.counting.Count.{Count}
 use Rattle.miette_cuts.specs.declared.nearness.Room.{Room}
-use Rattle.miette_cuts.specs.declared.stretch.Stretch.{Stretch as MadeStretch}
+use Rattle.miette_snippet_rules.specs.declared.stretch.Stretch.{Stretch as MadeStretch}
 use Rattle.miette_cuts.specs.steps.Counting.{IsCounted, columns_from, counted, whole_count}
 use Rattle.miette_cuts.specs.steps.Cut.{cell_at}
 use Rattle.miette_cuts.specs.steps.Nearness.{LineEnds, near_by}
-use Rattle.miette_cuts.proofs.CutPlain.{IsEven, near_column}
+use Rattle.miette_cuts.proofs.PlainStretches.{IsEven, near_column}
 
 -- ---- the definition's columns
 

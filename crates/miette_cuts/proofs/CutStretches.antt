@@ -14,9 +14,9 @@ use Rattle.miette_snippet_rules.specs.rules.PrintedCells.{text_bytes}
 use Rattle.miette_snippet_rules.specs.rules.CutLines.{Stretch, agree, bytes_in, columns_in, onto_stretches}
 use Rattle.miette_snippet_rules.specs.rules.CutLines.{passes_after, row_column, row_mark, shown_marks, stretches}
 use Rattle.miette_snippet_rules.proofs.CutColumns.{columns_in-append, shown_anchored}
-use Rattle.miette_cuts.specs.declared.stretch.Stretch.{Stretch as MadeStretch}
+use Rattle.miette_snippet_rules.specs.declared.stretch.Stretch.{Stretch as MadeStretch}
 use Rattle.miette_snippet_rules.specs.declared.marks.Mark.{Mark as MadeMark}
-use Rattle.miette_cuts.specs.views.Cuts.{measure}
+use Rattle.miette_snippet_rules.specs.views.Cuts.{measure}
 use Rattle.miette_cuts.specs.steps.Cut.{lone, grown_stretch, onto_made, made_columns, made_column, made_mark}
 use Rattle.miette_snippet_rules.specs.views.MadeMarks.{mark_of, IsAnchored}
 

@@ -4,7 +4,7 @@ use Rattle.std.proofs.Common.{take, drop, get_or, cond, ltb, sym, ap, subst, ◌
 use Rattle.std.proofs.lemmas.Bool.{ltb-true, ltb-false}
 use Rattle.std.proofs.lemmas.List.{at_drop_all, map-append, take_more}
 use Rattle.miette_snippet_rules.specs.declared.marks.Mark.{Mark}
-use Rattle.miette_cuts.specs.declared.stretch.Stretch.{Stretch}
+use Rattle.miette_snippet_rules.specs.declared.stretch.Stretch.{Stretch}
 use Rattle.miette_cuts.specs.declared.moving.Place.{Place}
 use Rattle.miette_cuts.specs.steps.Cut.{made_columns, made_column, made_mark}
 use Rattle.miette_cuts.specs.steps.Moving.{IsPlace}

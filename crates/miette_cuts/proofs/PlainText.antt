@@ -1,9 +1,9 @@
 -- Texts of printable ASCII characters.
 use Rattle.std.proofs.Common.{ℕ, ◌+◌, ◌-◌, ◌<◌, ◌≤◌, ◌≡◌, true, false, leb, ltb, List, [], ◌∷◌, ◌++◌, length, refl, sym}
-use Rattle.std.proofs.Common.{ap, ap₂, ◌∙◌, append-nil, arith, take, drop}
+use Rattle.std.proofs.Common.{ap, ap₂, ◌∙◌, arith, take, drop}
 use Rattle.std.specs.List.{list_all, prefix_len}
 use Rattle.std.proofs.lemmas.Bool.{leb-true, ltb-true, le-ltb, lt-leb, ltb-false, leb-false}
-use Rattle.std.proofs.lemmas.List.{take_all, drop_all, length-take-le}
+use Rattle.std.proofs.lemmas.List.{take_all, length-take-le}
 use Rattle.miette_snippet_rules.specs.rules.PrintedCells.{first_column, last_column, cells_width}
 use Rattle.miette_cells.specs.rules.Cells.{Cell, cells_from, characters}
 use Rattle.miette_cells.specs.rules.Widths.{width_of}
@@ -11,22 +11,8 @@ use Rattle.miette_snippet_rules.specs.rules.SnippetLayout.{text_of_cells}
 use Rattle.miette_snippet_rules.specs.rules.Marks.{Text}
 use Rattle.miette_cells.specs.views.Printable.{is_printable, plain_cells}
 use Rattle.miette_basics.proofs.Cases.{by_cases}
-use Rattle.miette_cells.proofs.Stepping.{cells_end}
 use Rattle.miette_cells.proofs.Plaining.{printable_then}
 use Rattle.miette_cells.proofs.Prefixes.{prefix_taken}
-
--- their cells
-pub printable_cells : (tab offset column : ℕ) (bs : List ℕ) → list_all is_printable bs ≡ true
-    → cells_from width_of tab false offset column (characters bs) ≡ plain_cells offset column bs
-printable_cells tab offset column bs h =
-    let all : take (length bs) bs ≡ bs = take_all (length bs) bs (omega arith) in
-    let none : drop (length bs) bs ≡ [] = drop_all (length bs) bs (omega arith) in
-    printable_then tab offset column (length bs) bs (omega arith) (ap (list_all is_printable) all ∙ h)
-    ∙ ap₂ (λ xs ys. plain_cells offset column xs
-    ++ cells_from width_of tab false (offset + length bs) (column + length bs) (characters ys)) all none
-    ∙ ap (λ cs. plain_cells offset column bs ++ cs)
-    (cells_end width_of tab false (offset + length bs) (column + length bs) [] refl)
-    ∙ append-nil (plain_cells offset column bs)
 
 -- columns in them
 pub plain_first : (offset column : ℕ) (bs : List ℕ) (cs : List Cell) (e w o : ℕ) → o - offset < length bs → column

@@ -16,9 +16,9 @@ use Rattle.miette_snippet_rules.specs.rules.CutLines.{passes_after}
 use Rattle.miette_snippet_rules.specs.rules.CutLines.{reach_of, stretches, text_columns, with_short}
 use Rattle.miette_snippet_rules.proofs.TextColumns.{largest_is}
 use Rattle.miette_cuts.specs.declared.nearness.Room.{Room}
-use Rattle.miette_cuts.specs.declared.stretch.Stretch.{Stretch as MadeStretch}
+use Rattle.miette_snippet_rules.specs.declared.stretch.Stretch.{Stretch as MadeStretch}
 use Rattle.miette_cuts.specs.declared.window.Window.{Window}
-use Rattle.miette_cuts.specs.views.Cuts.{measure}
+use Rattle.miette_snippet_rules.specs.views.Cuts.{measure}
 use Rattle.miette_cuts.specs.steps.Cut.{kept_made, made_with_short, onto_made}
 use Rattle.miette_cuts.specs.steps.Counting.{whole_count}
 use Rattle.miette_cuts.specs.steps.Nearness.{near_by}

@@ -1,2 +1,1 @@
-pub mod views
 pub mod steps

@@ -1,10 +1,8 @@
 -- The code's own steps, which no rule names.
-pub mod CellTokens
 pub mod Counting
 pub mod Cut
 pub mod Ends
 pub mod Moving
 pub mod Nearness
 pub mod Stops
-pub mod Tabs
 pub mod Windows

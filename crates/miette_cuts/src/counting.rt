@@ -11,7 +11,7 @@ ghost use Rattle.miette_cuts.specs.steps.Nearness.{near_by};
 ghost use Rattle.miette_cuts.specs.steps.Windows.{NoneFrom, StandTogether};
 
 use crate::nearness::{Nearness, Room};
-use crate::plain_cut::even_stretch;
+use crate::plain_stretches::even_stretch;
 use crate::window::Window;
 use miette_basics::sums::sum;
 use miette_cells::cells::{Cell, PlainCells};

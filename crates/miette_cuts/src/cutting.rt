@@ -6,18 +6,18 @@ ghost use Rattle.std.specs.Option.{option_map};
 ghost use Rattle.miette_snippet_rules.specs.rules.PrintedCells.{cells_width};
 ghost use Rattle.miette_snippet_rules.specs.rules.CutLines.{cut_line, cut_line_by, limit_of, reach_at, shown_marks};
 ghost use Rattle.miette_snippet_rules.specs.rules.CutLines.{Stretch as RuledStretch};
-ghost use Rattle.miette_cuts.specs.views.Cuts.{measure};
+ghost use Rattle.miette_snippet_rules.specs.views.Cuts.{measure};
 ghost use Rattle.miette_snippet_rules.specs.views.MadeMarks.{mark_of};
-ghost use Rattle.miette_cuts.specs.views.LineTexts.{text_cells};
+ghost use Rattle.miette_snippet_rules.specs.views.LineTexts.{text_cells};
 
-use crate::line_text::LineText;
 use crate::moving::row_marks;
 pub use crate::nearness::Room;
 use crate::passing::{Passage, pass_cells, pass_plain};
 use crate::reach::{cut_around, cut_in, room_for};
-use crate::stretch::Cut;
 use miette_cells::cells::Walk;
+use miette_snippet_rules::line_text::LineText;
 use miette_snippet_rules::marks::Mark;
+use miette_snippet_rules::stretch::Cut;
 use std::alloc::{AllocError, Global};
 
 // A smaller limit counts as so many columns: a shorter row says nothing.

@@ -8,12 +8,12 @@ ghost use Rattle.miette_labels.specs.views.GivenLabels.{drawn_of};
 ghost use Rattle.miette_snippet_rules.specs.rules.CutEnds.{hung_at, mark_ends, spread_ends};
 ghost use Rattle.miette_snippet_rules.specs.rules.SnippetLayout.{text_of_cells};
 ghost use Rattle.miette_snippet_rules.specs.views.MadeMarks.{mark_of};
-ghost use Rattle.miette_cuts.specs.views.LineTexts.{text_cells};
+ghost use Rattle.miette_snippet_rules.specs.views.LineTexts.{text_cells};
 ghost use Rattle.miette_cuts.specs.steps.Ends.{has_end, spread_end};
 
-use crate::line_text::LineText;
 use crate::marks::Columns;
 use miette_labels::sweep::PlacedLabel;
+use miette_snippet_rules::line_text::LineText;
 use miette_snippet_rules::marks::Mark;
 use miette_source_lines::lines::LineOfText;
 use std::alloc::{AllocError, Global};

@@ -1,21 +1,15 @@
-//! The text of a line: where the marks of its labels stand, into which stretches it is cut, and what is printed of it.
+//! The text of a line: where the marks of its labels stand, and into which stretches it is cut.
 #![tactic(auto)]
 
-mod cells;
 mod counting;
-mod cut_text;
 pub mod cutting;
-pub mod dots;
 pub mod ends;
-pub mod line_text;
 pub mod marks;
 mod moving;
 mod nearness;
 mod passing;
-mod plain_cut;
-pub mod printing;
+mod plain_stretches;
 mod reach;
-pub mod stretch;
+mod stretch;
 mod sweeping;
-mod tabs;
 mod window;

@@ -4,9 +4,10 @@ ghost use Rattle.std.specs.Prelude.{◌≡◌, ◌<◌, ◌≤◌, map, if◌the
 ghost use Rattle.miette_cuts.specs.steps.Cut.{made_column, made_mark};
 ghost use Rattle.miette_cuts.specs.steps.Moving.{IsPlace};
 
-use crate::stretch::{Stretch, shown_columns};
+use crate::stretch::shown_columns;
 use miette_basics::sums::sum;
 use miette_snippet_rules::marks::Mark;
+use miette_snippet_rules::stretch::Stretch;
 use std::alloc::{AllocError, Global};
 
 // A place between the stretches of a line: how many are passed, their columns, and those that they have in the row.

@@ -3,17 +3,18 @@
 ghost use Rattle.std.specs.Prelude.{◌≡◌, ◌-◌, ◌<◌, map, length, true, false, IfOk};
 ghost use Rattle.std.specs.List.Sorted.{IsNonDecreasing};
 ghost use Rattle.miette_snippet_rules.specs.rules.CutLines.{cut_to, reach_at, reach_of, stretches, with_short};
-ghost use Rattle.miette_cuts.specs.views.Cuts.{measure};
+ghost use Rattle.miette_snippet_rules.specs.views.Cuts.{measure};
 ghost use Rattle.miette_cuts.specs.steps.Cut.{made_with_short};
 ghost use Rattle.miette_cuts.specs.steps.Nearness.{near_by};
 ghost use Rattle.miette_cuts.specs.steps.Windows.{StandFrom};
 
 use crate::counting::fits;
 use crate::nearness::Room;
-use crate::stretch::{Stretch, kept_stretch, put_stretch};
+use crate::stretch::{kept_stretch, put_stretch};
 use crate::sweeping::stretches_of;
 use crate::window::window_around;
 use miette_cells::cells::Walk;
+use miette_snippet_rules::stretch::Stretch;
 use std::alloc::{AllocError, Global};
 
 // Stretches, of which the short ones are shown too, with dots of so many columns; those that are shown side by side are

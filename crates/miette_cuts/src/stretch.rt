@@ -1,27 +1,11 @@
-//! The stretches of a line that is cut: counts of cells, columns and bytes.
+//! How stretches of a line are joined, kept and counted.
 
 ghost use Rattle.std.specs.Prelude.{◌≡◌, ◌++◌, List, IfOk, OnOk};
 ghost use Rattle.miette_cuts.specs.steps.Cut.{grown_stretch, kept_made, made_columns, onto_made};
 
 use miette_basics::sums::sum;
+use miette_snippet_rules::stretch::Stretch;
 use std::alloc::AllocError;
-
-/// A line's stretches; none where it isn't cut.
-pub type Cut = Option<Vec<Stretch>>;
-
-/// Cells one after the other that are all shown, or of which none is: how many, and how many columns and bytes they
-/// have.
-#[derive(Clone, Copy, Debug, PartialEq, Eq, Drop)]
-pub struct Stretch {
-    /// Whether the cells are shown.
-    pub shown: bool,
-    /// How many they are.
-    pub cells: usize,
-    /// Their columns.
-    pub columns: usize,
-    /// The bytes that their characters have in a text.
-    pub bytes: usize,
-}
 
 // A stretch and the one behind it, shown as the first is.
 fn grown_stretch(first: &Stretch, next: &Stretch) -> Result<Stretch, AllocError>

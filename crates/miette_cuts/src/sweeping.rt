@@ -4,14 +4,15 @@ ghost use Rattle.std.specs.Prelude.{◌≡◌, map, false, IfOk};
 ghost use Rattle.std.specs.List.Sorted.{IsNonDecreasing};
 ghost use Rattle.miette_cells.specs.views.Walking.{cell_of};
 ghost use Rattle.miette_snippet_rules.specs.rules.CutLines.{passes_after, stretches};
-ghost use Rattle.miette_cuts.specs.views.Cuts.{measure};
+ghost use Rattle.miette_snippet_rules.specs.views.Cuts.{measure};
 ghost use Rattle.miette_cuts.specs.steps.Cut.{lone, onto_made};
 ghost use Rattle.miette_cuts.specs.steps.Nearness.{near_by};
 
 use crate::nearness::{Nearness, Room};
-use crate::plain_cut::put_plain;
-use crate::stretch::{Stretch, put_stretch};
+use crate::plain_stretches::put_plain;
+use crate::stretch::put_stretch;
 use miette_cells::cells::{Cell, Walk};
+use miette_snippet_rules::stretch::Stretch;
 use std::alloc::{AllocError, Global};
 
 // A stretch of one cell, where it's told whether the cell before it is near.

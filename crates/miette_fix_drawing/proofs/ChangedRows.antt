@@ -19,10 +19,10 @@ use Rattle.miette_snippet_rules.specs.rules.PrintedCells.{cells_width, text_byte
 use Rattle.miette_snippet_rules.specs.rules.Settings.{SnippetSettings}
 use Rattle.miette_snippet_rules.proofs.RowTokens.{then, told_as, blank_row, styled_row}
 use Rattle.miette_frames.proofs.TextRows.{parts_then, row_done, rows_then}
-use Rattle.miette_cuts.specs.declared.stretch.Stretch.{Stretch as MadeStretch}
+use Rattle.miette_snippet_rules.specs.declared.stretch.Stretch.{Stretch as MadeStretch}
 use Rattle.miette_cuts.specs.steps.Stops.{ComeFrom}
-use Rattle.miette_cuts.specs.views.Cuts.{made_runs, measure}
-use Rattle.miette_cuts.proofs.CutText.{shown_made_by}
+use Rattle.miette_snippet_rules.specs.views.Cuts.{made_runs, measure}
+use Rattle.miette_line_printing.proofs.CutText.{shown_made_by}
 use Rattle.miette_fix_rows.specs.rules.DiffRows.{ChangedLine, before_some, changed_rows, marks_row, row_if_some}
 use Rattle.miette_fix_rows.specs.rules.DiffRows.{changed_cut, cut_beside, line_reach, pair_reach, sign_start, text_row}
 use Rattle.miette_fix_rows.specs.rules.DiffTexts.{edit_marks, ends_of, holds_byte, is_on, line_cells, line_ends}

@@ -22,14 +22,14 @@ use Rattle.miette_cells.proofs.Plaining.{plain_byte, printable_taken}
 use Rattle.miette_snippet_rules.specs.rules.Highlighting.{highlight_of}
 use Rattle.miette_snippet_rules.specs.rules.PrintedCells.{cells_beyond, cells_within, line_runs, printed_cells}
 use Rattle.miette_snippet_rules.specs.rules.PrintedCells.{printed_glyphs, text_bytes}
-use Rattle.miette_cuts.specs.declared.line_text.LineText.{LineText}
+use Rattle.miette_snippet_rules.specs.declared.line_text.LineText.{LineText}
 use Rattle.miette_cuts.specs.steps.Stops.{ComeFrom}
-use Rattle.miette_cuts.specs.views.Cuts.{made_runs}
-use Rattle.miette_cuts.specs.declared.stretch.Stretch.{Stretch}
-use Rattle.miette_cuts.proofs.CellPrints.{within_none, beyond_none}
-use Rattle.miette_cuts.proofs.CutPlain.{dropped}
-use Rattle.miette_cuts.proofs.PlainText.{printable_cells}
-use Rattle.miette_cuts.proofs.TextWithoutTabs.{printed_code}
+use Rattle.miette_snippet_rules.specs.views.Cuts.{made_runs}
+use Rattle.miette_snippet_rules.specs.declared.stretch.Stretch.{Stretch}
+use Rattle.miette_line_printing.proofs.CellPrints.{within_none, beyond_none}
+use Rattle.miette_snippet_rules.proofs.PlainCells.{dropped}
+use Rattle.miette_snippet_rules.proofs.PlainCells.{printable_cells}
+use Rattle.miette_line_printing.proofs.TextWithoutTabs.{printed_code}
 use Rattle.miette_fix_rows.specs.rules.DiffTexts.{holds_byte, onto_painted, painted, Painted}
 use Rattle.miette_fix_drawing.specs.declared.paint.Painted.{Painted as MadePainted}
 use Rattle.miette_fix_drawing.specs.steps.Pieces.{onto}

@@ -7,9 +7,9 @@ use Rattle.miette_cells.specs.rules.Cells.{Cell}
 use Rattle.miette_snippet_rules.specs.rules.CutLines.{cut_line, dots, dots_in, shown_runs}
 use Rattle.miette_snippet_rules.specs.rules.Frames.{number_start}
 use Rattle.miette_snippet_rules.specs.rules.Settings.{SnippetSettings}
-use Rattle.miette_cuts.specs.declared.stretch.Stretch.{Stretch as MadeStretch}
-use Rattle.miette_cuts.specs.views.Cuts.{made_runs, measure}
-use Rattle.miette_cuts.proofs.CutText.{shown_made}
+use Rattle.miette_snippet_rules.specs.declared.stretch.Stretch.{Stretch as MadeStretch}
+use Rattle.miette_snippet_rules.specs.views.Cuts.{made_runs, measure}
+use Rattle.miette_line_printing.proofs.CutText.{shown_made}
 use Rattle.miette_frames.proofs.TextRows.{parts_then, row_done}
 use Rattle.miette_fix_rows.specs.rules.DiffFrames.{Standing}
 use Rattle.miette_fix_rows.specs.rules.DiffRows.{kept_row}

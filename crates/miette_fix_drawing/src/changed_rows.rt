@@ -5,7 +5,7 @@ ghost use Rattle.std.specs.Option.{option_map};
 ghost use Rattle.miette_page.specs.views.Printouts.{◌⊕◌};
 ghost use Rattle.miette_page.specs.views.Tokens.{row_tokens, rows_tokens};
 ghost use Rattle.miette_snippet_rules.specs.views.SettingsView.{settings_of};
-ghost use Rattle.miette_cuts.specs.views.LineTexts.{text_cells};
+ghost use Rattle.miette_snippet_rules.specs.views.LineTexts.{text_cells};
 ghost use Rattle.miette_fix_rows.specs.rules.DiffRows.{changed_rows, line_reach, marks_row, pair_reach, sign_start};
 ghost use Rattle.miette_fix_rows.specs.rules.DiffRows.{text_row};
 ghost use Rattle.miette_fix_rows.specs.rules.DiffTexts.{line_cells};
@@ -22,13 +22,13 @@ use crate::printable::{changed_pieces, push_changed_text};
 use crate::spans::spans_from;
 use crate::texts::text_of;
 use miette_cuts::cutting::{Room, cut_in_room, is_wide, marks_shown, reach_of_ends};
-use miette_cuts::dots::dots_in;
-use miette_cuts::line_text::LineText;
-use miette_cuts::stretch::Cut;
 use miette_frames::frame::Frame;
+use miette_line_printing::dots::dots_in;
 use miette_page::canvas::Canvas;
 use miette_page::page::Page;
+use miette_snippet_rules::line_text::LineText;
 use miette_snippet_rules::options::SnippetSettings;
+use miette_snippet_rules::stretch::Cut;
 use std::alloc::AllocError;
 
 // The text of a changed line.

@@ -12,12 +12,12 @@ use crate::standing::Standing;
 use crate::texts::text_of;
 use miette_basics::sums::sum;
 use miette_cuts::cutting::cut_at_ends;
-use miette_cuts::dots::dots_in;
-use miette_cuts::line_text::LineText;
-use miette_cuts::printing::push_shown_text;
 use miette_frames::frame::Frame;
+use miette_line_printing::dots::dots_in;
+use miette_line_printing::printing::push_shown_text;
 use miette_page::canvas::Canvas;
 use miette_page::page::Page;
+use miette_snippet_rules::line_text::LineText;
 
 /// The row of an unchanged line, with its number in the source: ` 12 │ text`. `AllocError` where memory is refused, or
 /// a number or a column is past the largest `usize`.

@@ -23,7 +23,6 @@ use miette_program::arguments::Arguments;
 use miette_program::job_handler::JobHandler;
 use miette_program::language::LanguageHighlighter;
 use miette_tool_rows::loader::Loader;
-use miette_tool_rows::row_reader::RowReader;
 use miette_tool_rows::streams::note;
 pub use miette_tool_rows::streams::Streams;
 use miette_tool_rows::verdict::{RowKind, Verdict};

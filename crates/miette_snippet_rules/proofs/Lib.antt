@@ -3,5 +3,6 @@ pub mod SourceEnd
 pub mod LabelEnds
 pub mod NeverHidden
 pub mod NoPieces
+pub mod PlainCells
 pub mod RowTokens
 pub mod TextColumns

@@ -1,3 +1,5 @@
 -- What the code's values stand for.
+pub mod Cuts
+pub mod LineTexts
 pub mod MadeMarks
 pub mod SettingsView

@@ -1,12 +1,9 @@
 -- How stretches grow, and where columns and marks stand in the row of a line's stretches.
-use Rattle.std.specs.Prelude.{ℕ, ◌+◌, ◌-◌, List, [], ◌∷◌, ◌++◌, take, drop, Bool, ◌||◌, if◌then◌else◌, nat_lt, nat_le}
-use Rattle.miette_page.specs.rules.Rows.{Run}
-use Rattle.miette_page.specs.views.Tokens.{Token, row_tokens, styled_tokens}
-use Rattle.miette_style.specs.rules.Styles.{plain}
+use Rattle.std.specs.Prelude.{ℕ, ◌+◌, ◌-◌, List, [], ◌∷◌, Bool, ◌||◌, if◌then◌else◌, nat_lt, nat_le}
 use Rattle.miette_cells.specs.rules.Cells.{Cell}
 use Rattle.miette_snippet_rules.specs.rules.PrintedCells.{text_bytes}
 use Rattle.miette_snippet_rules.specs.rules.CutLines.{agree}
-use Rattle.miette_cuts.specs.declared.stretch.Stretch.{Stretch as MadeStretch}
+use Rattle.miette_snippet_rules.specs.declared.stretch.Stretch.{Stretch as MadeStretch}
 use Rattle.miette_snippet_rules.specs.declared.marks.Mark.{Mark as MadeMark}
 
 abbrev pub lone : Bool → Cell → MadeStretch
@@ -65,12 +62,3 @@ made_mark many cut mark = record {
   anchor = made_column many cut mark.anchor;
   label = mark.label;
 }
-
--- what is printed of a stretch of printable ASCII, and of all of them, by its bytes, where this run stands for what is
--- left out
-abbrev pub plain_run : Run → MadeStretch → List ℕ → List Token
-plain_run run s bytes = if s.shown then styled_tokens plain (take s.cells bytes) else row_tokens (run ∷ [])
-
-abbrev pub plain_told : Run → List MadeStretch → List ℕ → List Token
-plain_told run [] bytes = []
-plain_told run (s ∷ later) bytes = plain_run run s bytes ++ plain_told run later (drop s.cells bytes)

@@ -1,6 +1,6 @@
 -- How far a program has gone through the stretches of a line.
 use Rattle.std.specs.Prelude.{ℕ, ◌≡◌, ◌+◌, ◌-◌, ◌≤◌, List, drop}
-use Rattle.miette_cuts.specs.declared.stretch.Stretch.{Stretch}
+use Rattle.miette_snippet_rules.specs.declared.stretch.Stretch.{Stretch}
 use Rattle.miette_cuts.specs.declared.moving.Place.{Place}
 use Rattle.miette_cuts.specs.steps.Cut.{made_column}
 

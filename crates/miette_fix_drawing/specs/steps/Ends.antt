@@ -6,8 +6,8 @@ use Rattle.miette_protocol.specs.rules.Reading.{Span}
 use Rattle.miette_snippet_rules.specs.rules.Marks.{Text, marks}
 use Rattle.miette_snippet_rules.specs.rules.PrintedCells.{first_column}
 use Rattle.miette_snippet_rules.specs.rules.Settings.{SnippetSettings}
-use Rattle.miette_cuts.specs.declared.stretch.Stretch.{Stretch as MadeStretch}
-use Rattle.miette_cuts.specs.views.Cuts.{measure}
+use Rattle.miette_snippet_rules.specs.declared.stretch.Stretch.{Stretch as MadeStretch}
+use Rattle.miette_snippet_rules.specs.views.Cuts.{measure}
 use Rattle.miette_fix_rows.specs.rules.DiffRows.{ChangedLine, changed_cut}
 use Rattle.miette_fix_rows.specs.rules.DiffTexts.{ends_at, has_bytes, part_in}
 

@@ -5,7 +5,7 @@ use Rattle.miette_labels.specs.rules.Answers.{Highlight}
 use Rattle.miette_page.specs.views.Tokens.{Token, styled_tokens}
 use Rattle.miette_cells.specs.rules.Cells.{Cell}
 use Rattle.miette_cells.specs.views.Printable.{plain_cells}
-use Rattle.miette_cuts.specs.declared.line_text.LineText.{LineText}
+use Rattle.miette_snippet_rules.specs.declared.line_text.LineText.{LineText}
 
 -- a cell of the byte at an offset
 abbrev pub byte_at : ℕ → Cell

@@ -3,7 +3,7 @@ use Rattle.miette_cuts.specs.steps.Counting.{whole_count}
 use Rattle.miette_cuts.specs.steps.Cut.{cell_at}
 use Rattle.miette_cuts.specs.steps.Nearness.{LineEnds, near_by}
 use Rattle.miette_cuts.proofs.CountedColumns.{plain_begun, plain_counted, plain_done}
-use Rattle.miette_cuts.proofs.CutPlain.{IsEven}
+use Rattle.miette_cuts.proofs.PlainStretches.{IsEven}
 use Rattle.miette_cuts.proofs.counting.count_plain.Goals as goal
 
 pub loop-column-init : goal.loop-column-init

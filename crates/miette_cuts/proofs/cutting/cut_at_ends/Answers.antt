@@ -1,7 +1,7 @@
 use Rattle.std.proofs.Common.{◌≡◌, ℕ, Option, map, option_map, sym, ap, subst, IfOk}
 use Rattle.miette_snippet_rules.specs.rules.CutLines.{cut_line}
-use Rattle.miette_cuts.specs.views.Cuts.{measure}
-use Rattle.miette_cuts.specs.views.LineTexts.{text_cells}
+use Rattle.miette_snippet_rules.specs.views.Cuts.{measure}
+use Rattle.miette_snippet_rules.specs.views.LineTexts.{text_cells}
 use Rattle.miette_cuts.proofs.cutting.cut_at_ends.Goals as goal
 
 pub returns : goal.returns

@@ -1,8 +1,8 @@
 use Rattle.std.proofs.Common.{◌∙◌, List, ℕ, ap, map}
 use Rattle.miette_snippet_rules.specs.rules.CutLines.{cut_by}
 use Rattle.miette_snippet_rules.specs.rules.PrintedCells.{cells_width}
-use Rattle.miette_cuts.specs.views.Cuts.{measure}
-use Rattle.miette_cuts.specs.views.LineTexts.{text_cells}
+use Rattle.miette_snippet_rules.specs.views.Cuts.{measure}
+use Rattle.miette_snippet_rules.specs.views.LineTexts.{text_cells}
 use Rattle.miette_cuts.proofs.NearEnds.{ends_ascend}
 use Rattle.miette_cuts.proofs.Reaching.{cut_by_is, cut_by_moved, cut_by_none, near_cut}
 use Rattle.miette_cuts.proofs.cutting.cut_in_room.Goals as goal

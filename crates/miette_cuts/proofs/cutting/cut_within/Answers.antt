@@ -4,8 +4,8 @@ use Rattle.miette_cells.specs.rules.Widths.{width_of}
 use Rattle.miette_snippet_rules.proofs.CutColumns.{columns_from as cells_stand}
 use Rattle.miette_snippet_rules.specs.rules.CutLines.{cut_to}
 use Rattle.miette_snippet_rules.specs.rules.PrintedCells.{cells_width}
-use Rattle.miette_cuts.specs.views.Cuts.{measure}
-use Rattle.miette_cuts.specs.views.LineTexts.{text_cells}
+use Rattle.miette_snippet_rules.specs.views.Cuts.{measure}
+use Rattle.miette_snippet_rules.specs.views.LineTexts.{text_cells}
 use Rattle.miette_cuts.specs.steps.Windows.{StandFrom}
 use Rattle.miette_cuts.proofs.NearEnds.{ends_ascend}
 use Rattle.miette_cuts.proofs.Reaching.{cut_is, cut_none, cut_to_moved}

@@ -4,7 +4,7 @@ use Rattle.miette_cells.specs.rules.Widths.{width_of}
 use Rattle.miette_snippet_rules.specs.rules.CutLines.{reach_at}
 use Rattle.miette_snippet_rules.proofs.CutColumns.{columns_from as cells_stand}
 use Rattle.miette_cuts.specs.steps.Windows.{StandFrom}
-use Rattle.miette_cuts.specs.views.LineTexts.{text_cells}
+use Rattle.miette_snippet_rules.specs.views.LineTexts.{text_cells}
 use Rattle.miette_cuts.proofs.NearEnds.{ends_ascend}
 use Rattle.miette_cuts.proofs.Reaching.{reach_at_moved}
 use Rattle.miette_cuts.proofs.WindowColumns.{stand_from}

@@ -1,6 +1,6 @@
 use Rattle.std.proofs.Common.{◌∙◌, ap, map}
 use Rattle.std.proofs.lemmas.Result.{IfOk-weaker}
-use Rattle.miette_cuts.specs.views.Cuts.{measure}
+use Rattle.miette_snippet_rules.specs.views.Cuts.{measure}
 use Rattle.miette_cuts.proofs.Reaching.{cut_by_room, reach_some}
 use Rattle.miette_cuts.proofs.reach.cut_around.Goals as goal
 

@@ -1,6 +1,6 @@
 use Rattle.std.proofs.Common.{◌≡◌, ◌∷◌, ◌++◌, ◌∙◌, ap, sym, arith, rules}
 use Rattle.std.proofs.lemmas.Grind.{common_steps}
-use Rattle.miette_cuts.specs.declared.stretch.Stretch.{Stretch}
+use Rattle.miette_snippet_rules.specs.declared.stretch.Stretch.{Stretch}
 use Rattle.miette_cuts.specs.steps.Cut.{made_with_short, onto_made}
 use Rattle.miette_cuts.proofs.Reaching.{short_end, short_more}
 use Rattle.miette_cuts.proofs.reach.join_short.Goals as goal

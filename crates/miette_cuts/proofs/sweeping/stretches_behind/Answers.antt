@@ -1,10 +1,10 @@
 use Rattle.std.proofs.Common.{◌≡◌, ◌∷◌, ◌++◌, ◌∙◌, [], map, ap, rules}
 use Rattle.miette_cells.specs.views.Walking.{cell_of}
 use Rattle.miette_snippet_rules.specs.rules.CutLines.{passes_after, stretches}
-use Rattle.miette_cuts.specs.views.Cuts.{measure}
+use Rattle.miette_snippet_rules.specs.views.Cuts.{measure}
 use Rattle.miette_cuts.specs.steps.Cut.{lone, onto_made}
 use Rattle.miette_cuts.specs.steps.Nearness.{LineEnds, near_by}
-use Rattle.miette_cuts.proofs.CutPlain.{plain_put, puts_plain}
+use Rattle.miette_cuts.proofs.PlainStretches.{plain_put, puts_plain}
 use Rattle.miette_cuts.proofs.CutStretches.{stretch_more, stretches_end}
 use Rattle.miette_cuts.proofs.sweeping.stretches_behind.Goals as goal
 

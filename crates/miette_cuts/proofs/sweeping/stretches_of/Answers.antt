@@ -2,7 +2,7 @@ use Rattle.std.proofs.Common.{◌≡◌, ◌∷◌, ◌∙◌, false, map, ap, r
 use Rattle.std.proofs.lemmas.Result.{IfOk-weaker}
 use Rattle.miette_cells.specs.views.Walking.{cell_of}
 use Rattle.miette_snippet_rules.specs.rules.CutLines.{passes_after, stretches}
-use Rattle.miette_cuts.specs.views.Cuts.{measure}
+use Rattle.miette_snippet_rules.specs.views.Cuts.{measure}
 use Rattle.miette_cuts.specs.steps.Cut.{lone, onto_made}
 use Rattle.miette_cuts.specs.steps.Nearness.{LineEnds, near_by}
 use Rattle.miette_cuts.proofs.CutStretches.{first_stretch}

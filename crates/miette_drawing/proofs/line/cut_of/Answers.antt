@@ -6,8 +6,8 @@ use Rattle.miette_snippet_rules.specs.rules.CutLines.{cut_line, dots_in}
 use Rattle.miette_snippet_rules.specs.rules.SnippetLayout.{text_of_cells}
 use Rattle.miette_snippet_rules.specs.views.MadeMarks.{mark_of}
 use Rattle.miette_source_lines.specs.views.Walking.{line_of_text}
-use Rattle.miette_cuts.specs.views.Cuts.{measure}
-use Rattle.miette_cuts.specs.views.LineTexts.{text_cells}
+use Rattle.miette_snippet_rules.specs.views.Cuts.{measure}
+use Rattle.miette_snippet_rules.specs.views.LineTexts.{text_cells}
 use Rattle.miette_frames.specs.views.LineContexts.{settings, multi_labels}
 use Rattle.miette_drawing.proofs.line.cut_of.Goals as goal
 

@@ -14,16 +14,16 @@ use Rattle.miette_snippet_rules.specs.rules.Gutters.{closing_rows}
 use Rattle.miette_snippet_rules.specs.rules.Frames.{other_start}
 use Rattle.miette_snippet_rules.specs.rules.Highlighting.{highlight_of}
 use Rattle.miette_snippet_rules.specs.rules.SnippetLayout.{before_each, cut_ends, line_cut, line_or_break_of, text_of_cells}
-use Rattle.miette_cuts.specs.declared.stretch.Stretch.{Stretch as MadeStretch}
+use Rattle.miette_snippet_rules.specs.declared.stretch.Stretch.{Stretch as MadeStretch}
 use Rattle.miette_frames.specs.declared.line_context.LineContext.{LineContext}
-use Rattle.miette_cuts.specs.views.Cuts.{made_runs, measure}
+use Rattle.miette_snippet_rules.specs.views.Cuts.{made_runs, measure}
 use Rattle.miette_snippet_rules.specs.views.MadeMarks.{mark_of}
 use Rattle.miette_frames.specs.views.LineContexts.{settings, multi_labels, before_marks}
 use Rattle.miette_drawing.specs.steps.ShownLines.{number_row, shown_cells}
 use Rattle.miette_drawing.specs.steps.ShownLines.{labels_alone}
 use Rattle.miette_source_lines.specs.views.Walking.{line_of_text}
 use Rattle.miette_cuts.proofs.CutStretches.{shown_made_anchored}
-use Rattle.miette_cuts.proofs.CutText.{shown_made}
+use Rattle.miette_line_printing.proofs.CutText.{shown_made}
 use Rattle.miette_drawing.proofs.LineRows.{line_put}
 use Rattle.miette_drawing.proofs.line.push_line_or_break.Goals as goal
 use Rattle.miette_snippet_rules.specs.rules.SnippetLayout.{line_in, line_shown}

@@ -1,6 +1,6 @@
 use Rattle.std.proofs.Common.{◌∙◌, ap, sym}
 use Rattle.std.proofs.lemmas.Result.{IfOk-weaker}
-use Rattle.miette_cuts.proofs.PlainText.{printable_cells}
+use Rattle.miette_snippet_rules.proofs.PlainCells.{printable_cells}
 use Rattle.miette_fix_rows.specs.rules.DiffTexts.{pieces}
 use Rattle.miette_fix_drawing.proofs.printable.changed_pieces.Goals as goal
 

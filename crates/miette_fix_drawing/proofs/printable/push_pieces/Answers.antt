@@ -3,7 +3,8 @@ use Rattle.std.specs.List.{list_all}
 use Rattle.std.proofs.lemmas.Result.{on_ok_weaker}
 use Rattle.miette_cells.specs.views.Printable.{is_printable}
 use Rattle.miette_cells.proofs.Plaining.{printable_taken}
-use Rattle.miette_cuts.proofs.CutPlain.{drop_least, dropped, take_least}
+use Rattle.miette_line_printing.proofs.CutPlain.{drop_least, take_least}
+use Rattle.miette_snippet_rules.proofs.PlainCells.{dropped}
 use Rattle.miette_fix_drawing.proofs.ChangedTexts.{piece_next, pieces_left}
 use Rattle.miette_fix_drawing.proofs.printable.push_pieces.Goals as goal
 

@@ -5,7 +5,7 @@ use Rattle.std.proofs.lemmas.Result.{on_ok_weaker}
 use Rattle.miette_page.specs.views.Printouts.{◌⊕◌}
 use Rattle.miette_page.specs.views.Tokens.{begins, text_tokens}
 use Rattle.miette_snippet_rules.proofs.RowTokens.{then}
-use Rattle.miette_cuts.proofs.CutPlain.{printable_ascii}
+use Rattle.miette_line_printing.proofs.CutPlain.{printable_ascii}
 use Rattle.miette_fix_drawing.proofs.printable.push_run.Goals as goal
 
 pub unreachable-requires : goal.unreachable-requires
