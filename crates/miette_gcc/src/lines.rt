@@ -4,8 +4,7 @@ ghost use Rattle.std.specs.Prelude.{◌≡◌, ◌≤◌, ◌+◌, length};
 ghost use Rattle.miette_gcc.specs.rules.Lines.{offset_at, text_end_from, within_line};
 
 use miette_protocol::source::IndexedSource;
-use miette_readers::line_starts::line_start;
-use miette_source_lines::find::FindLines;
+use miette_readers::line_starts::start_of;
 use miette_source_lines::lines::first_line;
 
 /// Where the text of the line ends that begins at an offset.
@@ -40,13 +39,6 @@ pub(crate) fn offset_at(
 ) -> Option<usize>
     ensures { result ≡ offset_at source.now line (before + further) }
 {
-    if line == 0 {
-        return None;
-    }
-    let line = (line - 1) as usize;
-    if source.line_of(source.bytes().len()).0 < line {
-        return None;
-    }
-    let start = line_start(source, line);
+    let start = start_of(source, line)?;
     Some(within_line(source.bytes(), start, before, further))
 }

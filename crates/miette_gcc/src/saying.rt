@@ -1,7 +1,6 @@
 //! What a diagnostic of GCC says itself.
 
 ghost use Rattle.std.specs.Prelude.{◌≡◌, IfOk, OnOk, map, option_map, string_bytes};
-ghost use Rattle.std.specs.Option.{option_copied};
 ghost use Rattle.serde_json.specs.View.{view};
 ghost use Rattle.miette_gcc.specs.rules.GccReport.{help_of, said_of, severity_by, with_help};
 ghost use Rattle.miette_gcc.specs.views.Grounds.{ground_in};
@@ -11,7 +10,7 @@ use crate::proposals::{edits_at, words_of};
 use crate::telling::message_of;
 use miette_protocol::protocol::Severity;
 use miette_readers::files::Files;
-use miette_readers::members::{objects_at, text_at};
+use miette_readers::members::{copy_of, objects_at, text_at};
 use miette_readers::place::joined;
 use miette_readers::reports::Said;
 use miette_readers::rows::push_row;
@@ -30,15 +29,6 @@ fn severity_by(kind: &str) -> Severity
         | "permerror" => Severity::Error,
         "warning" | "pedwarn" => Severity::Warning,
         _ => Severity::Advice,
-    }
-}
-
-fn copy_of(alloc: Global, text: Option<&str>) -> Result<Option<String>, AllocError>
-    ensures { IfOk result (λ o. option_map string_bytes o ≡ option_copied text.entry) }
-{
-    match text {
-        Some(text) => Ok(Some(String::from_str(alloc, text)?)),
-        None => Ok(None),
     }
 }
 

@@ -7,7 +7,7 @@ ghost use Rattle.miette_readers.specs.rules.RustcReport.{code_of, help_of, help_
 ghost use Rattle.miette_readers.specs.views.Values.{seen};
 
 use crate::files::Files;
-use crate::members::{found_at, objects_at, text_at};
+use crate::members::{copy_of, found_at, objects_at, text_at};
 use crate::place::joined;
 use crate::proposals::offer_of;
 use crate::reports::Said;
@@ -26,15 +26,6 @@ fn severity_of(message: &Value) -> Severity
         "error" | "error: internal compiler error" => Severity::Error,
         "warning" => Severity::Warning,
         _ => Severity::Advice,
-    }
-}
-
-fn copy_of(alloc: Global, text: Option<&str>) -> Result<Option<String>, AllocError>
-    ensures { IfOk result (λ o. option_map string_bytes o ≡ option_copied text.entry) }
-{
-    match text {
-        Some(text) => Ok(Some(String::from_str(alloc, text)?)),
-        None => Ok(None),
     }
 }
 

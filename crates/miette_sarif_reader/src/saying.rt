@@ -14,7 +14,7 @@ use crate::ground::{Ground, rule_id};
 use crate::messages::shown;
 use miette_protocol::protocol::Severity;
 use miette_readers::files::Files;
-use miette_readers::members::{items_at, object_at, text_at};
+use miette_readers::members::{copy_of, items_at, object_at, text_at};
 use miette_readers::reports::Said;
 use serde_json::Value;
 use std::alloc::{AllocError, Global};
@@ -113,16 +113,6 @@ fn severity_by(level: &str) -> Severity
         "error" => Severity::Error,
         "warning" => Severity::Warning,
         _ => Severity::Advice,
-    }
-}
-
-/// A copy of a text, where there is one.
-pub(crate) fn copy_of(alloc: Global, text: Option<&str>) -> Result<Option<String>, AllocError>
-    ensures { IfOk result (λ o. option_map string_bytes o ≡ option_copied text.entry) }
-{
-    match text {
-        Some(text) => Ok(Some(String::from_str(alloc, text)?)),
-        None => Ok(None),
     }
 }
 

@@ -2,17 +2,16 @@
 
 ghost use Rattle.std.specs.Prelude.{◌≡◌, ◌≤◌, length};
 ghost use Rattle.serde_json.specs.View.{view};
-ghost use Rattle.miette_shellcheck.specs.rules.Columns.{characters_behind, offset_at, offset_on};
+ghost use Rattle.miette_shellcheck.specs.rules.Columns.{characters_behind, offset_at};
 ghost use Rattle.miette_shellcheck.specs.rules.Comments.{count_at, file_of, place_in, stretch_in};
 
 use miette_positions::place::{Position, PositionEncoding};
 use miette_positions::spans::clamped_offset;
 use miette_protocol::source::IndexedSource;
 use miette_readers::files::Files;
-use miette_readers::line_starts::line_start;
+use miette_readers::line_starts::start_of;
 use miette_readers::members::{text_at, whole_at};
 use miette_readers::place::{Place, Stretch};
-use miette_source_lines::find::FindLines;
 use serde_json::Value;
 
 /// So many characters behind the beginning of a line: behind the line's text its end.
@@ -29,25 +28,15 @@ fn characters_behind(bytes: &[u8], start: usize, count: usize) -> usize
         .min(bytes.len())
 }
 
-/// The offset of so many characters on a line, the first with 0.
-fn offset_on(source: &IndexedSource, line: usize, count: usize) -> Option<usize>
-    ensures { result ≡ offset_on source.now line count }
-{
-    if source.line_of(source.bytes().len()).0 < line {
-        return None;
-    }
-    let start = line_start(source, line);
-    Some(characters_behind(source.bytes(), start, count))
-}
-
 /// The offset of a column of a line.
 fn offset_at(source: &IndexedSource, line: u64, column: u64) -> Option<usize>
     ensures { result ≡ offset_at source.now line column }
 {
-    if line == 0 || column == 0 {
+    if column == 0 {
         return None;
     }
-    offset_on(source, (line - 1) as usize, (column - 1) as usize)
+    let start = start_of(source, line)?;
+    Some(characters_behind(source.bytes(), start, (column - 1) as usize))
 }
 
 /// The number at a key; 0 where there is none.

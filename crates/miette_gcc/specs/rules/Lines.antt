@@ -1,7 +1,7 @@
 -- Lines and columns as GCC counts them. Lines end as those of pictures do.
-use Rattle.std.specs.Prelude.{ℕ, zero, suc, ◌+◌, List, [], ◌∷◌, Option, Some, None, if◌then◌else◌, min, drop, nat_le}
-use Rattle.miette_readers.specs.rules.LineStarts.{last_line}
-use Rattle.miette_source_lines.specs.rules.Lines.{Line, line_start, lines_from}
+use Rattle.std.specs.Prelude.{ℕ, ◌+◌, List, [], ◌∷◌, Option, min, drop, option_map}
+use Rattle.miette_readers.specs.rules.LineStarts.{start_of}
+use Rattle.miette_source_lines.specs.rules.Lines.{Line, lines_from}
 
 -- where the text of the first of these lines ends, which begin at an offset
 abbrev pub first_text_end : ℕ → List Line → ℕ
@@ -18,6 +18,4 @@ within_line bytes start before = min (start + before) (text_end_from bytes start
 
 -- the offset of what has so many bytes in front of it on a line, the first with 1
 abbrev pub offset_at : List ℕ → ℕ → ℕ → Option ℕ
-offset_at bytes zero before = None
-offset_at bytes (suc k) before =
-    if nat_le k (last_line bytes) then Some (within_line bytes (line_start bytes k) before) else None
+offset_at bytes line before = option_map (λ start. within_line bytes start before) (start_of bytes line)
