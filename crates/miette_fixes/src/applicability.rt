@@ -21,7 +21,20 @@ pub enum Applicability {
 }
 
 impl Applicability {
+    ghost use Rattle.miette_fixes.specs.rules.Edits.{is_sure};
     ghost use Rattle.miette_fixes.specs.rules.Texts.{applicability_name};
+
+    /// Whether a fix may be applied without a look.
+    pub fn is_sure(self) -> bool
+        ensures { result ≡ is_sure self }
+    {
+        match self {
+            Applicability::MachineApplicable => true,
+            Applicability::MaybeIncorrect
+            | Applicability::HasPlaceholders
+            | Applicability::Unspecified => false,
+        }
+    }
 
     /// Its name in descriptions and in JSON, as `machine-applicable`. Takes no memory.
     pub fn name(&self) -> &'static str

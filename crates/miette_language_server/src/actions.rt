@@ -6,15 +6,14 @@ ghost use Rattle.serde_json.specs.View.{view};
 ghost use Rattle.miette_lint.specs.views.Found.{coded_of};
 ghost use Rattle.miette_positions.specs.rules.Stops.{is_until};
 ghost use Rattle.miette_language_server.specs.rules.Actions.{action_value, actions, actions_at, actions_in};
-ghost use Rattle.miette_language_server.specs.rules.Actions.{changes_value, is_sure, joint_of, joint_value, touches};
-ghost use Rattle.miette_language_server.specs.rules.Actions.{with_joint};
+ghost use Rattle.miette_language_server.specs.rules.Actions.{changes_value, joint_of, joint_value, touches, with_joint};
 ghost use Rattle.miette_language_server.specs.rules.Values.{list_value};
 
 use crate::diagnostics::{diagnostic_value, placed};
 use crate::documents::Document;
 use crate::objects::{object_with, object_with_text, with_text, with_value};
 use crate::values::{edits_value, part};
-use miette_fixes::fix::{Applicability, Fix};
+use miette_fixes::fix::Fix;
 use miette_lint::coded::{CodedFinding, coded_findings};
 use miette_lint::joint::joint_proposal;
 use miette_positions::index::PositionIndex;
@@ -34,18 +33,6 @@ fn touches(part: Region, other: Region) -> bool
     ensures { result ≡ touches part other }
 {
     is_until(part.start, other.end) && is_until(other.start, part.end)
-}
-
-// Whether a fix may be applied without a look.
-fn is_sure(applicability: Applicability) -> bool
-    ensures { result ≡ is_sure applicability }
-{
-    match applicability {
-        Applicability::MachineApplicable => true,
-        Applicability::MaybeIncorrect
-        | Applicability::HasPlaceholders
-        | Applicability::Unspecified => false,
-    }
 }
 
 // The edits of one document.
@@ -82,7 +69,7 @@ fn action_value(
         alloc,
         it,
         "isPreferred",
-        Value::Bool(is_sure(fix.applicability())),
+        Value::Bool(fix.applicability().is_sure()),
     )?;
     let diagnostics = list_of_one(alloc, diagnostic)?;
     object_with(alloc, it, "diagnostics", diagnostics)

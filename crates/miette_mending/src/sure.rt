@@ -5,7 +5,7 @@ ghost use Rattle.std.specs.List.{flat_map};
 ghost use Rattle.serde_json.specs.View.{view};
 ghost use Rattle.miette_readers.specs.views.Values.{seen};
 ghost use Rattle.miette_mending.specs.rules.Sure.{FileFixes, agree, child_fixes, children_fixes, diagnostic_in};
-ghost use Rattle.miette_mending.specs.rules.Sure.{diagnostic_of, is_one_fix, is_sure, is_whole, joint, offer_fixes};
+ghost use Rattle.miette_mending.specs.rules.Sure.{diagnostic_of, is_one_fix, is_whole, joint, offer_fixes};
 ghost use Rattle.miette_mending.specs.rules.Sure.{sure_edits, sure_offer, value_fixes};
 ghost use Rattle.miette_mending.specs.views.Holding.{Adds};
 
@@ -22,18 +22,6 @@ use miette_readers::spans::edits_of;
 use serde_json::Value;
 use std::alloc::{AllocError, Global};
 
-/// Whether it is the word of a proposal that can be applied as it is.
-fn is_sure(applicability: Applicability) -> bool
-    ensures { result ≡ is_sure applicability }
-{
-    match applicability {
-        Applicability::MachineApplicable => true,
-        Applicability::MaybeIncorrect
-        | Applicability::HasPlaceholders
-        | Applicability::Unspecified => false,
-    }
-}
-
 /// What a note or a help proposes that is machine-applicable, where no file has changed since.
 fn sure_offer<'f, 'v, F: Files>(
     alloc: Global,
@@ -47,7 +35,7 @@ fn sure_offer<'f, 'v, F: Files>(
         return Ok(None);
     }
     match offer_of(alloc, files, child)? {
-        Some(offer) if is_sure(offer.applicability) => Ok(Some(offer)),
+        Some(offer) if offer.applicability.is_sure() => Ok(Some(offer)),
         Some(_) | None => Ok(None),
     }
 }

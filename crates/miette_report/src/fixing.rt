@@ -6,15 +6,15 @@ ghost use Rattle.std.specs.Option.{option_map};
 ghost use Rattle.miette_basics.specs.rules.Lists.{is_nil};
 ghost use Rattle.miette_fixes.specs.rules.ApplyingAll.{all_applied, lists_of, taken};
 ghost use Rattle.miette_report.specs.rules.Fixing.{asked_edits, asked_fixes, fixed_text, fixes_of_causes};
-ghost use Rattle.miette_report.specs.rules.Fixing.{fixes_of_related, fixes_over, inheriting, is_sure, some_left};
-ghost use Rattle.miette_report.specs.rules.Fixing.{whole_text};
+ghost use Rattle.miette_report.specs.rules.Fixing.{fixes_of_related, fixes_over, inheriting, some_left, whole_text};
+ghost use Rattle.miette_fixes.specs.rules.Edits.{is_sure};
 ghost use Rattle.miette_report.specs.steps.FixLists.{fixes_in};
 ghost use Rattle.miette_tree.specs.rules.Reads.{AlwaysReads};
 ghost use Rattle.miette_tree.specs.rules.Tree.{cause_of, head, related_of, source_of, trees};
 ghost use Rattle.miette_tree.specs.views.Owned.{shown_source};
 ghost use Rattle.miette_tree.specs.views.Report.{tree_of};
 
-use miette_fixes::fix::{Applicability, Edit, Fix, apply_all};
+use miette_fixes::fix::{Edit, Fix, apply_all};
 use miette_protocol::protocol::{Diagnostic, SourceSpan};
 use miette_protocol::source::SourceCode;
 use miette_tree::report::{Cause, Report, SourceRef};
@@ -123,22 +123,11 @@ fn sure_ones<'a>(alloc: Global, fixes: &[&'a Fix]) -> Result<Vec<&'a Fix>, Alloc
 {
     let mut found = Vec::new(alloc);
     for fix in fixes {
-        if is_sure(fix.applicability()) {
+        if fix.applicability().is_sure() {
             found.push(*fix)?;
         }
     }
     Ok(found)
-}
-
-fn is_sure(applicability: Applicability) -> bool
-    ensures { result ≡ is_sure applicability }
-{
-    match applicability {
-        Applicability::MachineApplicable => true,
-        Applicability::MaybeIncorrect => false,
-        Applicability::HasPlaceholders => false,
-        Applicability::Unspecified => false,
-    }
 }
 
 // All of them, or those that may be applied without a look.

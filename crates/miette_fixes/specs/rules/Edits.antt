@@ -1,8 +1,9 @@
 -- Edits and fixes as contracts see them, and which edits overlap.
-use Rattle.std.specs.Prelude.{ℕ, ◌+◌, List, [], ◌∷◌, Bool, false, ◌&&◌, ◌||◌, ◌==◌, nat_lt, if◌then◌else◌}
+use Rattle.std.specs.Prelude.{ℕ, ◌+◌, List, [], ◌∷◌, Bool, true, false, ◌&&◌, ◌||◌, ◌==◌, nat_lt, if◌then◌else◌}
 use Rattle.std.specs.List.{list_any}
 use Rattle.miette_protocol.specs.rules.Reading.{Span}
 use Rattle.miette_fixes.specs.declared.applicability.Applicability.{Applicability}
+use Rattle.miette_fixes.specs.declared.applicability.Applicability.TheVariants as how_sure
 
 -- an edit: a span, and the bytes of the text that takes its place
 pub record Replacement : Type 0 where
@@ -14,6 +15,13 @@ pub record Proposal : Type 0 where
   pub message : List ℕ
   pub applicability : Applicability
   pub edits : List Replacement
+
+-- whether a fix may be applied without a look
+abbrev pub is_sure : Applicability → Bool
+is_sure how_sure.MachineApplicable = true
+is_sure how_sure.MaybeIncorrect = false
+is_sure how_sure.HasPlaceholders = false
+is_sure how_sure.Unspecified = false
 
 -- where an edit ends
 abbrev pub end_of : Replacement → ℕ

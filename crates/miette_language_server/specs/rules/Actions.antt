@@ -1,11 +1,8 @@
 -- What a client may do at a place of a document: quick fixes, as code actions of the Language Server Protocol (3.17).
-use Rattle.std.specs.Prelude.{ℕ, List, [], ◌∷◌, ◌++◌, Bool, true, false, ◌&&◌, Option, Some, None, codes, flat_map}
+use Rattle.std.specs.Prelude.{ℕ, List, [], ◌∷◌, ◌++◌, Bool, ◌&&◌, Option, Some, None, codes, flat_map}
 use Rattle.std.specs.Prelude.{if◌then◌else◌, length, map}
 use Rattle.serde_json.specs.Data.{Data, boolean, member, no_members, object, string}
-use Rattle.miette_fixes.specs.declared.applicability.Applicability.{Applicability}
-use Rattle.miette_fixes.specs.declared.applicability.Applicability.TheVariants.{MachineApplicable, MaybeIncorrect}
-use Rattle.miette_fixes.specs.declared.applicability.Applicability.TheVariants.{HasPlaceholders, Unspecified}
-use Rattle.miette_fixes.specs.rules.Edits.{Proposal}
+use Rattle.miette_fixes.specs.rules.Edits.{Proposal, is_sure}
 use Rattle.miette_lint.specs.rules.Coded.{Coded, coded_findings}
 use Rattle.miette_lint.specs.rules.Joint.{joint_proposal}
 use Rattle.miette_positions.specs.declared.place.Region.{Region}
@@ -18,13 +15,6 @@ use Rattle.miette_language_server.specs.rules.Values.{edits_value, list_value, p
 -- whether two parts of a document share a position, an end of both among them
 abbrev pub touches : Region → Region → Bool
 touches a b = is_until a.start b.end && is_until b.start a.end
-
--- whether a fix may be applied without a look
-abbrev pub is_sure : Applicability → Bool
-is_sure MachineApplicable = true
-is_sure MaybeIncorrect = false
-is_sure HasPlaceholders = false
-is_sure Unspecified = false
 
 -- the edits of one document
 abbrev pub changes_value : List ℕ → Data → Data

@@ -1,12 +1,9 @@
 -- The proposals of a row of rustc that are applied without being asked about.
-use Rattle.std.specs.Prelude.{ℕ, List, [], Option, Some, None, Bool, true, false, if◌then◌else◌, map, codes}
+use Rattle.std.specs.Prelude.{ℕ, List, [], Option, Some, None, Bool, if◌then◌else◌, map, codes}
 use Rattle.std.specs.Prelude.{option_and_then, option_map, is_some, length, ◌==◌}
 use Rattle.std.specs.List.{flat_map, list_all}
 use Rattle.serde_json.specs.Data.{Data}
-use Rattle.miette_fixes.specs.declared.applicability.Applicability.{Applicability}
-use Rattle.miette_fixes.specs.declared.applicability.Applicability.TheVariants.{MachineApplicable, MaybeIncorrect}
-use Rattle.miette_fixes.specs.declared.applicability.Applicability.TheVariants.{HasPlaceholders, Unspecified}
-use Rattle.miette_fixes.specs.rules.Edits.{Proposal}
+use Rattle.miette_fixes.specs.rules.Edits.{Proposal, is_sure}
 use Rattle.miette_protocol.specs.rules.Reading.{Source}
 use Rattle.miette_readers.specs.rules.Members.{objects_at, text_at}
 use Rattle.miette_readers.specs.rules.Proposing.{FileEdit, Offer, fixes_in}
@@ -27,12 +24,6 @@ diagnostic_in d =
     if is_other_reason d then Some None else option_and_then diagnostic_of (held_in d (text_at (codes "reason") d))
 
 -- ---- what it proposes
-
-abbrev pub is_sure : Applicability → Bool
-is_sure MachineApplicable = true
-is_sure MaybeIncorrect = false
-is_sure HasPlaceholders = false
-is_sure Unspecified = false
 
 abbrev pub sure_alone : Offer → Option Offer
 sure_alone offer = if is_sure offer.applicability then Some offer else None

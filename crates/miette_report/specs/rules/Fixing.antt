@@ -4,10 +4,8 @@ use Rattle.std.specs.Prelude.{IfSome, IsUtf8, bytes_eq, codes, if◌then◌else�
 use Rattle.std.specs.List.{filter, list_any}
 use Rattle.miette_basics.specs.rules.Lists.{is_nil}
 use Rattle.miette_description.specs.rules.Description.{tree_for}
-use Rattle.miette_fixes.specs.declared.applicability.Applicability.{Applicability}
-use Rattle.miette_fixes.specs.declared.applicability.Applicability.TheVariants as how_sure
 use Rattle.miette_fixes.specs.rules.ApplyingAll.{all_applied, taken}
-use Rattle.miette_fixes.specs.rules.Edits.{Proposal, Replacement}
+use Rattle.miette_fixes.specs.rules.Edits.{Proposal, Replacement, is_sure}
 use Rattle.miette_protocol.specs.rules.Reading.{Source, contents_of}
 use Rattle.miette_report.specs.rules.Job.{IsNoDescription}
 use Rattle.miette_tree.specs.rules.Tree.{Tree, tree, Cause, diagnostic, texts, Trees, no_trees, more_trees, source_of}
@@ -31,13 +29,6 @@ abbrev mutual
   pub fixes_of_related : Trees → List Proposal
   fixes_of_related no_trees = []
   fixes_of_related (more_trees t ts) = inheriting (source_of t) (fixes_over t) ++ fixes_of_related ts
-
--- whether a fix may be applied without a look
-abbrev pub is_sure : Applicability → Bool
-is_sure how_sure.MachineApplicable = true
-is_sure how_sure.MaybeIncorrect = false
-is_sure how_sure.HasPlaceholders = false
-is_sure how_sure.Unspecified = false
 
 -- all fixes, or those that may be applied without a look
 abbrev pub asked_fixes : Bool → List Proposal → List Proposal

@@ -1,6 +1,6 @@
 use Rattle.std.proofs.Common.{◌≡◌, ◌++◌, drop}
 use Rattle.std.specs.List.{filter}
-use Rattle.miette_report.specs.rules.Fixing.{is_sure}
+use Rattle.miette_fixes.specs.rules.Edits.{is_sure}
 use Rattle.miette_report.specs.steps.FixLists.{fixes_in}
 use Rattle.miette_report.proofs.fixing.sure_ones.Given as goal
 
