@@ -10,17 +10,17 @@ use Rattle.miette_tree.specs.rules.Tree.{Tree}
 use Rattle.miette_style.specs.rules.Themes.{Styles, theme_of, ansi_styles, no_styles}
 use Rattle.miette_style.specs.rules.Themes.{unicode_characters}
 use Rattle.miette_style.specs.declared.theme.GraphicalTheme.{GraphicalTheme}
-use Rattle.miette_graphical.specs.rules.Answers.{unlisted}
-use Rattle.miette_graphical.specs.rules.PossibleAnswers.{Appends, IsTextOf}
-use Rattle.miette_graphical.specs.laws.Clean.{AreCleanSettings, IsCleanTree}
-use Rattle.miette_graphical.specs.laws.Colourless.{ArePlain, restyled}
-use Rattle.miette_graphical.specs.laws.Headline.{LinesAreShown, MarksAreApart, TextsHang}
-use Rattle.miette_graphical.specs.laws.CharacterSets.{AreNarrow}
-use Rattle.miette_graphical.specs.rules.PrintedDiagnostics.{HoldsOfPrinted, all_read, diagnostics_of}
-use Rattle.miette_graphical.specs.rules.Settings.{Settings, default_settings}
-use Rattle.miette_graphical.specs.rules.Snippets.{whole_drawing}
-use Rattle.miette_graphical.specs.rules.Text.{report_text}
-use Rattle.miette_graphical.specs.views.Handling.{Handling, draws_plain, without_highlighter}
+use Rattle.miette_picture_rules.specs.rules.Answers.{unlisted}
+use Rattle.miette_picture_rules.specs.rules.PossibleAnswers.{Appends, IsTextOf}
+use Rattle.miette_picture_rules.specs.laws.Clean.{AreCleanSettings, IsCleanTree}
+use Rattle.miette_picture_rules.specs.laws.Colourless.{ArePlain, restyled}
+use Rattle.miette_picture_rules.specs.laws.Headline.{LinesAreShown, MarksAreApart, TextsHang}
+use Rattle.miette_picture_rules.specs.laws.CharacterSets.{AreNarrow}
+use Rattle.miette_picture_rules.specs.rules.PrintedDiagnostics.{HoldsOfPrinted, all_read, diagnostics_of}
+use Rattle.miette_picture_rules.specs.rules.Settings.{Settings, default_settings}
+use Rattle.miette_picture_rules.specs.rules.Snippets.{whole_drawing}
+use Rattle.miette_picture_rules.specs.rules.Text.{report_text}
+use Rattle.miette_picture_rules.specs.views.Handling.{Handling, draws_plain, without_highlighter}
 use Rattle.miette_runs.specs.rules.Sequences.{erase}
 use Rattle.miette_text.specs.rules.ColouredTexts.{AppendsErasing}
 use Rattle.callers.specs.Known.{HasOwnMark, ShowsBothLines, TextHangs, in_colours, plain, warning_tree}

@@ -10,18 +10,18 @@ use Rattle.miette_highlight.specs.rules.Pieces.{Piece, plain_pieces}
 use Rattle.miette_snippet_rules.specs.rules.Highlighting.{AreCallsOn, follows}
 use Rattle.miette_runs.specs.rules.Sequences.{erase}
 use Rattle.miette_text.specs.rules.ColouredTexts.{AppendsErasing}
-use Rattle.miette_graphical.specs.laws.Clean.{AreCleanSettings, IsCleanTree}
-use Rattle.miette_graphical.specs.laws.Colourless.{IsColouredText, IsRestyledText, colourless}
-use Rattle.miette_graphical.specs.laws.Colourless.{unhighlighted_answers}
-use Rattle.miette_graphical.specs.rules.Answers.{unlisted}
-use Rattle.miette_graphical.specs.rules.ByLine.{answers_by}
-use Rattle.miette_graphical.specs.rules.Calls.{report_calls}
-use Rattle.miette_graphical.specs.rules.PossibleAnswers.{Appends, IsAskedText, IsTextOf}
-use Rattle.miette_graphical.specs.rules.PrintedDiagnostics.{all_read, diagnostics_of}
-use Rattle.miette_graphical.specs.rules.Settings.{Settings, default_settings}
-use Rattle.miette_graphical.specs.rules.Snippets.{whole_drawing}
-use Rattle.miette_graphical.specs.rules.Text.{report_text}
-use Rattle.miette_graphical.specs.views.Handling.{Handling, follows_of, without_highlighter}
+use Rattle.miette_picture_rules.specs.laws.Clean.{AreCleanSettings, IsCleanTree}
+use Rattle.miette_picture_rules.specs.laws.Colourless.{IsColouredText, IsRestyledText, colourless}
+use Rattle.miette_picture_rules.specs.laws.Colourless.{unhighlighted_answers}
+use Rattle.miette_picture_rules.specs.rules.Answers.{unlisted}
+use Rattle.miette_picture_rules.specs.rules.ByLine.{answers_by}
+use Rattle.miette_picture_rules.specs.rules.Calls.{report_calls}
+use Rattle.miette_picture_rules.specs.rules.PossibleAnswers.{Appends, IsAskedText, IsTextOf}
+use Rattle.miette_picture_rules.specs.rules.PrintedDiagnostics.{all_read, diagnostics_of}
+use Rattle.miette_picture_rules.specs.rules.Settings.{Settings, default_settings}
+use Rattle.miette_picture_rules.specs.rules.Snippets.{whole_drawing}
+use Rattle.miette_picture_rules.specs.rules.Text.{report_text}
+use Rattle.miette_picture_rules.specs.views.Handling.{Handling, follows_of, without_highlighter}
 use Rattle.callers.specs.Known.{IsAskedPlainly, in_colours, plain, warning_tree}
 use Rattle.callers.proofs.ClauseSteps.{clean}
 

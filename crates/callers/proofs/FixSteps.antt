@@ -4,14 +4,14 @@ use Rattle.std.proofs.Common.{encode_utf8_all, Some}
 use Rattle.std.specs.List.{AllByRecursion}
 use Rattle.miette_tree.specs.rules.Tree.{Tree}
 use Rattle.miette_tree.specs.views.Handler.{AppendsOne}
-use Rattle.miette_graphical.proofs.Rows.{bytes-stand}
-use Rattle.miette_graphical.specs.laws.FixPictures.{FixesAreTold, TellsChanges}
-use Rattle.miette_graphical.specs.laws.Holding.{IsHoldingText, StandsIn}
-use Rattle.miette_graphical.specs.rules.DiagnosticText.{fixes_text}
-use Rattle.miette_graphical.specs.rules.PrintedDiagnostics.{diagnostics_of}
-use Rattle.miette_graphical.specs.rules.Snippets.{drawn_fix, whole_drawing}
-use Rattle.miette_graphical.specs.rules.Text.{report_text}
-use Rattle.miette_graphical.specs.views.Handling.{Handling, draws_plain, without_highlighter}
+use Rattle.miette_printed_laws.proofs.Rows.{bytes-stand}
+use Rattle.miette_picture_rules.specs.laws.FixPictures.{FixesAreTold, TellsChanges}
+use Rattle.miette_picture_rules.specs.laws.Holding.{IsHoldingText, StandsIn}
+use Rattle.miette_picture_rules.specs.rules.DiagnosticText.{fixes_text}
+use Rattle.miette_picture_rules.specs.rules.PrintedDiagnostics.{diagnostics_of}
+use Rattle.miette_picture_rules.specs.rules.Snippets.{drawn_fix, whole_drawing}
+use Rattle.miette_picture_rules.specs.rules.Text.{report_text}
+use Rattle.miette_picture_rules.specs.views.Handling.{Handling, draws_plain, without_highlighter}
 use Rattle.callers.specs.Known.{plain}
 use Rattle.callers.specs.Mended.{FixStands, TellsColon, code_file, colon, colon_tree}
 

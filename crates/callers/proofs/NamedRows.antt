@@ -12,11 +12,11 @@ use Rattle.miette_runs.specs.rules.Runs.{Fragment, print}
 use Rattle.miette_runs.specs.rules.Sequences.{tokens}
 use Rattle.miette_source_lines.specs.rules.Lines.{column_of, ends_line, line_end, line_of, line_start, terminators_in}
 use Rattle.miette_tree.specs.rules.Tree.{head}
-use Rattle.miette_graphical.specs.laws.Holding.{StandsIn}
-use Rattle.miette_graphical.specs.rules.Answers.{nothing_listed}
-use Rattle.miette_graphical.specs.rules.DiagnosticText.{line_feed}
-use Rattle.miette_graphical.specs.rules.Indents.{spaces}
-use Rattle.miette_graphical.specs.rules.Snippets.{drawn_rows}
+use Rattle.miette_picture_rules.specs.laws.Holding.{StandsIn}
+use Rattle.miette_picture_rules.specs.rules.Answers.{nothing_listed}
+use Rattle.miette_picture_rules.specs.rules.DiagnosticText.{line_feed}
+use Rattle.miette_picture_rules.specs.rules.Indents.{spaces}
+use Rattle.miette_picture_rules.specs.rules.Snippets.{drawn_rows}
 use Rattle.miette_picture_laws.specs.laws.FittingRows.{FitsRow, indented_rows}
 use Rattle.miette_picture_laws.specs.laws.Levels.{AreAmong, IsShownRow}
 use Rattle.callers.specs.Sums.{CauseStands, NamesRows, RowsStand, cause_arrow, cause_text, narrow, sum_file, sum_tree}

@@ -17,14 +17,14 @@ use Rattle.miette_snippet_rules.specs.rules.Snippets.{is_kept}
 use Rattle.miette_source_lines.specs.rules.Lines.{Line, ends_line, line_of, lines_of}
 use Rattle.miette_tree.specs.rules.Tree.{Tree}
 use Rattle.miette_tree.specs.views.Handler.{AppendsOne}
-use Rattle.miette_graphical.specs.laws.Headline.{group_settings, shown_lines}
-use Rattle.miette_graphical.specs.laws.Holding.{IsHoldingText, StandsIn}
-use Rattle.miette_graphical.specs.rules.Answers.{Answers, first_source, own_answer, pieces_listed, source_unlisted}
-use Rattle.miette_graphical.specs.rules.DiagnosticText.{line_feed}
-use Rattle.miette_graphical.specs.rules.PossibleAnswers.{AreAnswers}
-use Rattle.miette_graphical.specs.rules.Snippets.{runs_of_row, source_rows, whole_drawing}
-use Rattle.miette_graphical.specs.views.Handling.{Handling, draws_plain, without_highlighter}
-use Rattle.miette_graphical.specs.rules.Indents.{spaces}
+use Rattle.miette_picture_rules.specs.laws.Headline.{group_settings, shown_lines}
+use Rattle.miette_picture_rules.specs.laws.Holding.{IsHoldingText, StandsIn}
+use Rattle.miette_picture_rules.specs.rules.Answers.{Answers, first_source, own_answer, pieces_listed, source_unlisted}
+use Rattle.miette_picture_rules.specs.rules.DiagnosticText.{line_feed}
+use Rattle.miette_picture_rules.specs.rules.PossibleAnswers.{AreAnswers}
+use Rattle.miette_picture_rules.specs.rules.Snippets.{runs_of_row, source_rows, whole_drawing}
+use Rattle.miette_picture_rules.specs.views.Handling.{Handling, draws_plain, without_highlighter}
+use Rattle.miette_picture_rules.specs.rules.Indents.{spaces}
 use Rattle.miette_picture_laws.specs.laws.NumberRows.{IsPlainLine, PrintsItself, PrintsNumber, line_bytes, numbered}
 use Rattle.miette_picture_laws.specs.laws.NumberRows.{padded, printed_line}
 use Rattle.miette_picture_laws.specs.laws.ShownLines.{PlaceIn, ShownLinesStand, StandAmong, range_context}

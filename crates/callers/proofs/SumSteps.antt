@@ -10,25 +10,25 @@ use Rattle.miette_labels.specs.rules.Groups.{AreAccepted}
 use Rattle.miette_snippet_rules.specs.rules.PrintedCells.{cells_width}
 use Rattle.miette_tree.specs.rules.Tree.{Tree}
 use Rattle.miette_tree.specs.views.Handler.{AppendsOne}
-use Rattle.miette_graphical.specs.laws.Headline.{CutsAreExact, EndsAreDrawn, LabelsAreFolded, LinesThatFitStay}
-use Rattle.miette_graphical.specs.laws.Headline.{cells_under}
+use Rattle.miette_picture_rules.specs.laws.Headline.{CutsAreExact, EndsAreDrawn, LabelsAreFolded, LinesThatFitStay}
+use Rattle.miette_picture_rules.specs.laws.Headline.{cells_under}
 use Rattle.miette_picture_laws.specs.laws.FittingRows.{FitsRow, fed_rows, indented_rows}
-use Rattle.miette_graphical.specs.laws.Holding.{Arrow, HoldsSnippets, IsHoldingText, StandsIn}
+use Rattle.miette_picture_rules.specs.laws.Holding.{Arrow, HoldsSnippets, IsHoldingText, StandsIn}
 use Rattle.miette_picture_laws.specs.laws.Levels.{AreAmong, HaveRoom, HoldsLevels, IsShownRow, StandBehindBars}
 use Rattle.miette_picture_laws.specs.laws.Levels.{settings_under}
-use Rattle.miette_graphical.specs.laws.Paths.{to_cause}
-use Rattle.miette_graphical.specs.rules.Answers.{Answers, SourceAnswer, cause_answers, first_source, own_answer}
-use Rattle.miette_graphical.specs.rules.Answers.{pieces_listed, source_unlisted}
-use Rattle.miette_graphical.specs.rules.DiagnosticText.{line_feed}
-use Rattle.miette_graphical.specs.rules.Indents.{spaces}
-use Rattle.miette_graphical.specs.rules.PossibleAnswers.{AreAnswers}
-use Rattle.miette_graphical.specs.rules.PrintedDiagnostics.{HoldsOfPrinted, diagnostics_of}
-use Rattle.miette_graphical.specs.rules.Settings.{Settings}
-use Rattle.miette_graphical.specs.rules.Snippets.{whole_drawing, source_rows}
-use Rattle.miette_graphical.specs.rules.Sources.{LabelledSource}
-use Rattle.miette_graphical.specs.rules.Text.{report_text}
+use Rattle.miette_picture_rules.specs.laws.Paths.{to_cause}
+use Rattle.miette_picture_rules.specs.rules.Answers.{Answers, SourceAnswer, cause_answers, first_source, own_answer}
+use Rattle.miette_picture_rules.specs.rules.Answers.{pieces_listed, source_unlisted}
+use Rattle.miette_picture_rules.specs.rules.DiagnosticText.{line_feed}
+use Rattle.miette_picture_rules.specs.rules.Indents.{spaces}
+use Rattle.miette_picture_rules.specs.rules.PossibleAnswers.{AreAnswers}
+use Rattle.miette_picture_rules.specs.rules.PrintedDiagnostics.{HoldsOfPrinted, diagnostics_of}
+use Rattle.miette_picture_rules.specs.rules.Settings.{Settings}
+use Rattle.miette_picture_rules.specs.rules.Snippets.{whole_drawing, source_rows}
+use Rattle.miette_picture_rules.specs.rules.Sources.{LabelledSource}
+use Rattle.miette_picture_rules.specs.rules.Text.{report_text}
 use Rattle.miette_text.specs.laws.Tame.{IsTame}
-use Rattle.miette_graphical.specs.views.Handling.{Handling, draws_plain, without_highlighter}
+use Rattle.miette_picture_rules.specs.views.Handling.{Handling, draws_plain, without_highlighter}
 use Rattle.callers.specs.Sums.{CauseStands, CauseStays, EndStandsBehind, IsCut, IsLeftOut, RowsStand, narrow, sum_file}
 use Rattle.callers.specs.Sums.{sum_labels}
 use Rattle.callers.specs.Sums.{cause_arrow, depth_file, depth_labels, sum_tree}

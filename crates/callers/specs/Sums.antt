@@ -10,16 +10,16 @@ use Rattle.miette_protocol.specs.rules.Reading.{Source, named_source, plain_sour
 use Rattle.miette_runs.specs.rules.Runs.{Fragment, print}
 use Rattle.miette_tree.specs.rules.Diagnosis.{plain_diagnosis}
 use Rattle.miette_tree.specs.rules.Tree.{Tree, alone, diagnostic, head, with_cause, with_source}
-use Rattle.miette_graphical.specs.rules.Answers.{nothing_listed, pieces_listed}
-use Rattle.miette_graphical.specs.rules.DiagnosticText.{line_feed}
-use Rattle.miette_graphical.specs.rules.Settings.{Settings}
-use Rattle.miette_graphical.specs.rules.Snippets.{drawn_rows, source_rows}
-use Rattle.miette_graphical.specs.rules.PrintedDiagnostics.{PrintedDiagnostic, over}
-use Rattle.miette_graphical.specs.laws.Headline.{EndsBehind, cut_under, drawn_labels, is_kept_at, line_of}
-use Rattle.miette_graphical.specs.laws.Holding.{Arrow, StandsIn}
+use Rattle.miette_picture_rules.specs.rules.Answers.{nothing_listed, pieces_listed}
+use Rattle.miette_picture_rules.specs.rules.DiagnosticText.{line_feed}
+use Rattle.miette_picture_rules.specs.rules.Settings.{Settings}
+use Rattle.miette_picture_rules.specs.rules.Snippets.{drawn_rows, source_rows}
+use Rattle.miette_picture_rules.specs.rules.PrintedDiagnostics.{PrintedDiagnostic, over}
+use Rattle.miette_picture_rules.specs.laws.Headline.{EndsBehind, cut_under, drawn_labels, is_kept_at, line_of}
+use Rattle.miette_picture_rules.specs.laws.Holding.{Arrow, StandsIn}
 use Rattle.miette_picture_laws.specs.laws.FittingRows.{FitsRow, fed_rows, indented_rows}
 use Rattle.miette_picture_laws.specs.laws.Levels.{AreAmong, IsShownRow, settings_under}
-use Rattle.miette_graphical.specs.rules.Indents.{spaces}
+use Rattle.miette_picture_rules.specs.rules.Indents.{spaces}
 use Rattle.miette_range_laws.specs.laws.Folding.{IsInside}
 use Rattle.callers.specs.Known.{plain}
 

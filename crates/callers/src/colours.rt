@@ -1,12 +1,12 @@
 //! What the clauses of a picture on colours and highlighters give a caller.
 
 ghost use Rattle.std.specs.Prelude.{◌≡◌, IfOk, true, encode_utf8_all, string_bytes};
-ghost use Rattle.miette_graphical.specs.laws.Colourless.{colourless};
-ghost use Rattle.miette_graphical.specs.rules.Answers.{unlisted};
-ghost use Rattle.miette_graphical.specs.rules.ByLine.{answers_by};
-ghost use Rattle.miette_graphical.specs.rules.PossibleAnswers.{IsTextOf};
-ghost use Rattle.miette_graphical.specs.rules.Snippets.{whole_drawing};
-ghost use Rattle.miette_graphical.specs.rules.Text.{report_text};
+ghost use Rattle.miette_picture_rules.specs.laws.Colourless.{colourless};
+ghost use Rattle.miette_picture_rules.specs.rules.Answers.{unlisted};
+ghost use Rattle.miette_picture_rules.specs.rules.ByLine.{answers_by};
+ghost use Rattle.miette_picture_rules.specs.rules.PossibleAnswers.{IsTextOf};
+ghost use Rattle.miette_picture_rules.specs.rules.Snippets.{whole_drawing};
+ghost use Rattle.miette_picture_rules.specs.rules.Text.{report_text};
 ghost use Rattle.miette_highlight.specs.rules.Pieces.{plain_pieces};
 ghost use Rattle.miette_runs.specs.rules.Sequences.{erase};
 ghost use Rattle.miette_tree.specs.views.Report.{tree_of};

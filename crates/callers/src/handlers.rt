@@ -1,10 +1,10 @@
 //! What a caller knows of the pictures of a report, by the clauses of the call that draws them.
 
 ghost use Rattle.std.specs.Prelude.{◌≡◌, IfOk, string_bytes, encode_utf8_all};
-ghost use Rattle.miette_graphical.specs.laws.Holding.{StandsIn};
-ghost use Rattle.miette_graphical.specs.rules.Answers.{unlisted};
-ghost use Rattle.miette_graphical.specs.rules.Snippets.{whole_drawing};
-ghost use Rattle.miette_graphical.specs.rules.Text.{report_text};
+ghost use Rattle.miette_picture_rules.specs.laws.Holding.{StandsIn};
+ghost use Rattle.miette_picture_rules.specs.rules.Answers.{unlisted};
+ghost use Rattle.miette_picture_rules.specs.rules.Snippets.{whole_drawing};
+ghost use Rattle.miette_picture_rules.specs.rules.Text.{report_text};
 ghost use Rattle.miette_runs.specs.rules.Sequences.{erase};
 ghost use Rattle.miette_tree.specs.views.Report.{tree_of};
 ghost use Rattle.callers.specs.Known.{HasOwnMark, ShowsBothLines, TextHangs, host_row, plain};

@@ -3,13 +3,13 @@
 
 ghost use Rattle.std.specs.Prelude.{◌≡◌, ◌++◌, ℕ, List, IfOk, Some, false, true, string_bytes};
 ghost use Rattle.std.specs.List.{Contains};
-ghost use Rattle.miette_graphical.specs.laws.Alike.{AreDrawnAlike};
-ghost use Rattle.miette_graphical.specs.laws.Paths.{HasPath};
-ghost use Rattle.miette_graphical.specs.rules.Answers.{Answers};
-ghost use Rattle.miette_graphical.specs.rules.DiagnosticText.{Drawing};
-ghost use Rattle.miette_graphical.specs.rules.PrintedDiagnostics.{diagnostics_of};
-ghost use Rattle.miette_graphical.specs.rules.Text.{report_text};
-ghost use Rattle.miette_graphical.specs.views.Handling.{draws_plain, without_highlighter};
+ghost use Rattle.miette_picture_rules.specs.laws.Alike.{AreDrawnAlike};
+ghost use Rattle.miette_picture_rules.specs.laws.Paths.{HasPath};
+ghost use Rattle.miette_picture_rules.specs.rules.Answers.{Answers};
+ghost use Rattle.miette_picture_rules.specs.rules.DiagnosticText.{Drawing};
+ghost use Rattle.miette_picture_rules.specs.rules.PrintedDiagnostics.{diagnostics_of};
+ghost use Rattle.miette_picture_rules.specs.rules.Text.{report_text};
+ghost use Rattle.miette_picture_rules.specs.views.Handling.{draws_plain, without_highlighter};
 ghost use Rattle.miette_tree.specs.views.Report.{tree_of};
 ghost use Rattle.callers.specs.Sums.{CauseStands, CauseStays, EndStandsBehind, IsCut, IsLeftOut, RowsStand};
 ghost use Rattle.callers.specs.Sums.{NamesRows, depth_tree, narrow};

@@ -1,22 +1,22 @@
 -- What is known of the bytes that a handler appended for a tree.
 use Rattle.std.proofs.Common.{◌≡◌, ◌∙◌, ap, subst, ℕ, Bool, true, List, ◌++◌, Result, Ok, Err, OnOk, encode_utf8_all}
 use Rattle.miette_highlight.specs.rules.HighlighterCalls.{Call}
-use Rattle.miette_graphical.specs.rules.PossibleAnswers.{Appends, IsAskedText, IsTextOf}
-use Rattle.miette_graphical.specs.rules.Answers.{unlisted}
-use Rattle.miette_graphical.specs.rules.PrintedDiagnostics.{all_read, diagnostics_of}
-use Rattle.miette_graphical.specs.rules.Settings.{Settings}
-use Rattle.miette_graphical.specs.rules.Snippets.{whole_drawing}
-use Rattle.miette_graphical.specs.rules.Text.{report_text}
-use Rattle.miette_graphical.specs.laws.Clean.{AreCleanSettings, IsCleanTree}
-use Rattle.miette_graphical.specs.laws.Colourless.{IsColouredText, IsRestyledText, colourless, restyled}
+use Rattle.miette_picture_rules.specs.rules.PossibleAnswers.{Appends, IsAskedText, IsTextOf}
+use Rattle.miette_picture_rules.specs.rules.Answers.{unlisted}
+use Rattle.miette_picture_rules.specs.rules.PrintedDiagnostics.{all_read, diagnostics_of}
+use Rattle.miette_picture_rules.specs.rules.Settings.{Settings}
+use Rattle.miette_picture_rules.specs.rules.Snippets.{whole_drawing}
+use Rattle.miette_picture_rules.specs.rules.Text.{report_text}
+use Rattle.miette_picture_rules.specs.laws.Clean.{AreCleanSettings, IsCleanTree}
+use Rattle.miette_picture_rules.specs.laws.Colourless.{IsColouredText, IsRestyledText, colourless, restyled}
 use Rattle.miette_row_laws.specs.laws.Fading.{ArePlain}
 use Rattle.miette_style.specs.rules.Themes.{Styles}
-use Rattle.miette_graphical.specs.laws.Holding.{IsHoldingText}
+use Rattle.miette_picture_rules.specs.laws.Holding.{IsHoldingText}
 use Rattle.miette_runs.specs.rules.Sequences.{erase}
 use Rattle.miette_text.specs.rules.ColouredTexts.{AppendsErasing}
 use Rattle.miette_tree.specs.rules.Tree.{Tree}
 use Rattle.miette_tree.specs.views.Handler.{AppendsOne}
-use Rattle.miette_graphical.proofs.Only.{only-text}
+use Rattle.miette_picture_rules.proofs.Only.{only-text}
 
 -- by whatever calls
 pub unasked : (s : Settings) (blank : Bool) (happen : List Call → Type 0) (t : Tree) (old new : List ℕ)

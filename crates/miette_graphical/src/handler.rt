@@ -1,15 +1,15 @@
 //! The graphical handler and its settings.
 
 ghost use Rattle.std.specs.Prelude.{◌≡◌, ◌≤◌, Some, IfOk, false, true, chars, string_bytes};
-ghost use Rattle.miette_graphical.specs.views.Handling.{laid_out, without_highlighter, wrapped_by};
-ghost use Rattle.miette_graphical.specs.views.SettingsView.{handler_settings};
-ghost use Rattle.miette_graphical.specs.rules.Settings.{default_settings, links_shown, urls_shown};
+ghost use Rattle.miette_picture_rules.specs.views.Handling.{laid_out, without_highlighter, wrapped_by};
+ghost use Rattle.miette_picture_rules.specs.views.SettingsView.{handler_settings};
+ghost use Rattle.miette_picture_rules.specs.rules.Settings.{default_settings, links_shown, urls_shown};
 ghost use Rattle.miette_style.specs.rules.Themes.{terminal_theme, theme_of};
 
 mod rendering;
 
-use crate::settings::{Settings, UrlMode};
 use miette_highlight::highlight::Highlighter;
+use miette_picture_rules::settings::{Settings, UrlMode};
 use miette_style::theme::{GraphicalTheme, Terminal};
 use miette_text::wrap::{WordSeparator, WordSplitter};
 use std::alloc::{AllocError, Global};
@@ -28,8 +28,8 @@ pub struct GraphicalReportHandler<H = Box<dyn Highlighter>> {
 
 impl<H> Model for GraphicalReportHandler<H> {
     ghost use Rattle.std.specs.Prelude.{◌≤◌};
-    ghost use Rattle.miette_graphical.specs.views.Handling.{Handling};
-    ghost use Rattle.miette_graphical.specs.views.SettingsView.{handler_settings};
+    ghost use Rattle.miette_picture_rules.specs.views.Handling.{Handling};
+    ghost use Rattle.miette_picture_rules.specs.views.SettingsView.{handler_settings};
 
     ghost Value = { Handling H };
 

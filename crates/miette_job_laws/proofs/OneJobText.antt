@@ -18,10 +18,10 @@ use Rattle.miette_brief.specs.rules.Report as brief
 use Rattle.miette_narrated.specs.rules.Report as narrated
 use Rattle.miette_description.specs.rules.Description.{described_tree, tree_for}
 use Rattle.miette_description.proofs.Sources.{described_reads}
-use Rattle.miette_graphical.specs.rules.Calls.{report_calls}
-use Rattle.miette_graphical.specs.rules.PossibleAnswers.{IsAskedText}
-use Rattle.miette_graphical.specs.rules.Settings.{Settings}
-use Rattle.miette_graphical.specs.rules.Snippets.{whole_drawing}
+use Rattle.miette_picture_rules.specs.rules.Calls.{report_calls}
+use Rattle.miette_picture_rules.specs.rules.PossibleAnswers.{IsAskedText}
+use Rattle.miette_picture_rules.specs.rules.Settings.{Settings}
+use Rattle.miette_picture_rules.specs.rules.Snippets.{whole_drawing}
 use Rattle.miette_highlight.specs.rules.FollowingCalls.{FollowTokens}
 use Rattle.miette_picture_laws.proofs.Determined.{one-followed}
 use Rattle.miette_picture_laws.proofs.DeterminedTokens.{tokens-determined}

@@ -5,7 +5,7 @@ use Rattle.miette_protocol.specs.views.Meaning.{Label, Meaning}
 use Rattle.miette_fixes.specs.rules.Edits.{Proposal}
 use Rattle.miette_tree.specs.rules.Tree.{Tree, with_fix}
 use Rattle.miette_tree.proofs.Readings.{none_further}
-use Rattle.miette_graphical.specs.rules.PrintedDiagnostics.{all_read, diagnostics_of}
+use Rattle.miette_picture_rules.specs.rules.PrintedDiagnostics.{all_read, diagnostics_of}
 use Rattle.miette_lint.specs.rules.Findings.{findings_of}
 use Rattle.miette_lint.specs.rules.Joint.{joint_proposal}
 use Rattle.miette_program.proofs.AlwaysRead.{printed-reads}

@@ -7,12 +7,12 @@ use Rattle.miette_tree.specs.rules.Reads.{AlwaysReads}
 use Rattle.miette_tree.proofs.Readings.{none_further}
 use Rattle.miette_style.specs.rules.Themes.{no_styles, theme_of, unicode_characters}
 use Rattle.miette_style.specs.declared.theme.GraphicalTheme.{GraphicalTheme}
-use Rattle.miette_graphical.specs.rules.Answers.{unlisted}
-use Rattle.miette_graphical.specs.rules.PrintedDiagnostics.{all_read, diagnostics_of, labels_read}
-use Rattle.miette_graphical.proofs.Lists.{labels_of_all}
-use Rattle.miette_graphical.specs.views.Handling.{Handling, draws_plain, without_highlighter}
-use Rattle.miette_graphical.specs.rules.Snippets.{whole_drawing}
-use Rattle.miette_graphical.specs.rules.Text.{report_text}
+use Rattle.miette_picture_rules.specs.rules.Answers.{unlisted}
+use Rattle.miette_picture_rules.specs.rules.PrintedDiagnostics.{all_read, diagnostics_of, labels_read}
+use Rattle.miette_picture_rules.proofs.Lists.{labels_of_all}
+use Rattle.miette_picture_rules.specs.views.Handling.{Handling, draws_plain, without_highlighter}
+use Rattle.miette_picture_rules.specs.rules.Snippets.{whole_drawing}
+use Rattle.miette_picture_rules.specs.rules.Text.{report_text}
 use Rattle.miette_brief.specs.rules.Report as rows
 use Rattle.miette_program.proofs.AlwaysRead.{printed-reads}
 use Rattle.miette_outputs.specs.rules.Pictures.{draw_settings, over_input, settings_in, IsPicture, IsReadWhole}

@@ -7,7 +7,7 @@ ghost use Rattle.miette_tree.specs.rules.DiagnosticParts.{given_labels};
 ghost use Rattle.miette_labels.specs.rules.Groups.{AreAccepted};
 ghost use Rattle.miette_brief.specs.rules.Report.{brief, unlisted};
 ghost use Rattle.miette_brief.specs.rules.Report.{default_settings as brief_settings};
-ghost use Rattle.miette_graphical.specs.views.Handling.{without_highlighter};
+ghost use Rattle.miette_picture_rules.specs.views.Handling.{without_highlighter};
 ghost use Rattle.miette_style.specs.rules.Themes.{theme_of};
 ghost use Rattle.miette_outputs.specs.rules.Pictures.{over_input, settings_in, IsPicture};
 ghost use Rattle.miette_outputs.specs.rules.Pictures.{IsReadWhole};

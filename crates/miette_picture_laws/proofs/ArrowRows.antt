@@ -6,12 +6,12 @@ use Rattle.miette_runs.specs.rules.Cutting.{only_feeds}
 use Rattle.miette_runs.specs.rules.Sequences.{Token, Character, Sequence, is_line_feed, tokens}
 use Rattle.miette_picture_laws.specs.laws.Arrows.{DrawnRowsStand, rows_under}
 use Rattle.miette_picture_laws.specs.laws.FittingRows.{fed_rows}
-use Rattle.miette_graphical.specs.laws.Holding.{Arrow, EndsRow, HoldsUnder, StandsIn, cut_text}
-use Rattle.miette_graphical.specs.rules.DiagnosticText.{line_feed, under_arrow}
-use Rattle.miette_graphical.specs.rules.Settings.{Settings}
+use Rattle.miette_picture_rules.specs.laws.Holding.{Arrow, EndsRow, HoldsUnder, StandsIn, cut_text}
+use Rattle.miette_picture_rules.specs.rules.DiagnosticText.{line_feed, under_arrow}
+use Rattle.miette_picture_rules.specs.rules.Settings.{Settings}
 use Rattle.miette_picture_laws.proofs.Arrows.{inner-stand}
 use Rattle.miette_text.proofs.Feeds.{seen-behind, tokens-fed}
-use Rattle.miette_graphical.proofs.Rows.{IsEnded, ended-rows, within-stands}
+use Rattle.miette_printed_laws.proofs.Rows.{IsEnded, ended-rows, within-stands}
 
 -- ---- rows one after the other
 

@@ -10,11 +10,11 @@ use Rattle.miette_text.specs.rules.Wrapping.{Plan}
 use Rattle.miette_text.specs.views.Plans.{cuts_hyphens}
 use Rattle.miette_text.proofs.Feeds.{leading-kept, seen-behind, trailing-kept}
 use Rattle.miette_text.proofs.FittingRows.{first-wrapped, rows-wrapped}
-use Rattle.miette_graphical.specs.rules.DiagnosticText.{line_feed, rows_text}
-use Rattle.miette_graphical.specs.rules.Indents.{arrow_indent, stem_indent}
-use Rattle.miette_graphical.specs.rules.Settings.{Settings}
+use Rattle.miette_picture_rules.specs.rules.DiagnosticText.{line_feed, rows_text}
+use Rattle.miette_picture_rules.specs.rules.Indents.{arrow_indent, stem_indent}
+use Rattle.miette_picture_rules.specs.rules.Settings.{Settings}
 use Rattle.miette_picture_laws.specs.laws.Arrows.{FirstStands, InnerRowsStand, RowsStand, rows_under}
-use Rattle.miette_graphical.specs.laws.Holding.{Arrow, cut_text}
+use Rattle.miette_picture_rules.specs.laws.Holding.{Arrow, cut_text}
 
 -- how what stands under an arrow is wrapped
 abbrev pub arrow_plan : Settings → Option Severity → Bool → Plan (List ℕ)

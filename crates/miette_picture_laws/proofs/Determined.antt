@@ -29,28 +29,28 @@ use Rattle.miette_snippet_rules.specs.rules.SnippetLayout.{SnippetContext, snipp
 use Rattle.miette_snippet_rules.specs.rules.SnippetLayout.{left_out, rows_of_lines, rows_unless, settings_around}
 use Rattle.miette_tree.specs.rules.Tree.{Tree, tree, Cause, diagnostic, texts, Trees, no_trees, more_trees, effective}
 use Rattle.miette_tree.specs.rules.Reads.{always_reads}
-use Rattle.miette_graphical.specs.rules.PossibleAnswers.{IsAskedText, AreAnswers, AreCauseAnswers, AreRelatedAnswers}
-use Rattle.miette_graphical.specs.rules.PossibleAnswers.{AreAnswersOver, IsAnswer}
-use Rattle.miette_graphical.specs.rules.Answers.{Answer, Answers, RelatedAnswers, SourceAnswer, SourceAnswers}
-use Rattle.miette_graphical.specs.rules.Answers.{first_source, pieces_listed, own_answer}
-use Rattle.miette_graphical.specs.rules.Answers.{cause_answers, related_answers, first_answers, later_answers}
-use Rattle.miette_graphical.specs.rules.Calls.{calls_over, cause_calls, own_calls, related_calls, report_calls}
-use Rattle.miette_graphical.specs.rules.Calls.{source_calls}
-use Rattle.miette_graphical.specs.rules.Indents.{narrow_settings}
-use Rattle.miette_graphical.specs.rules.DiagnosticText.{fixes_text, help_text, rows_text, title_text, under_arrow}
-use Rattle.miette_graphical.specs.rules.PrintedDiagnostics.{all_read, diagnostics_of, over, printed_causes}
-use Rattle.miette_graphical.specs.rules.PrintedDiagnostics.{printed_related, reads_all}
-use Rattle.miette_graphical.specs.rules.Settings.{Settings}
-use Rattle.miette_graphical.specs.rules.Snippets.{drawn_fix, rows_over, snippet_settings, shown_rows, source_rows}
-use Rattle.miette_graphical.specs.rules.Snippets.{whole_drawing}
-use Rattle.miette_graphical.specs.rules.Sources.{LabelledSource, after_labels, drawn_with, snippets_after}
-use Rattle.miette_graphical.specs.rules.Sources.{reads_for, snippets_with, sources_of, sources_read}
-use Rattle.miette_graphical.specs.rules.Text.{are_last, body_over, causes_text, drawn_text, ends_there, inner_over}
-use Rattle.miette_graphical.specs.rules.Text.{only_if, related_text, report_text}
-use Rattle.miette_graphical.proofs.DrawnRows.{groups_given, none_listed}
-use Rattle.miette_graphical.proofs.Lists.{both_read}
-use Rattle.miette_graphical.proofs.Outermost.{report_over}
-use Rattle.miette_graphical.specs.steps.PrintedParts.{printed_inner, printed_sibling}
+use Rattle.miette_picture_rules.specs.rules.PossibleAnswers.{IsAskedText, AreAnswers, AreCauseAnswers, AreRelatedAnswers}
+use Rattle.miette_picture_rules.specs.rules.PossibleAnswers.{AreAnswersOver, IsAnswer}
+use Rattle.miette_picture_rules.specs.rules.Answers.{Answer, Answers, RelatedAnswers, SourceAnswer, SourceAnswers}
+use Rattle.miette_picture_rules.specs.rules.Answers.{first_source, pieces_listed, own_answer}
+use Rattle.miette_picture_rules.specs.rules.Answers.{cause_answers, related_answers, first_answers, later_answers}
+use Rattle.miette_picture_rules.specs.rules.Calls.{calls_over, cause_calls, own_calls, related_calls, report_calls}
+use Rattle.miette_picture_rules.specs.rules.Calls.{source_calls}
+use Rattle.miette_picture_rules.specs.rules.Indents.{narrow_settings}
+use Rattle.miette_picture_rules.specs.rules.DiagnosticText.{fixes_text, help_text, rows_text, title_text, under_arrow}
+use Rattle.miette_picture_rules.specs.rules.PrintedDiagnostics.{all_read, diagnostics_of, over, printed_causes}
+use Rattle.miette_picture_rules.specs.rules.PrintedDiagnostics.{printed_related, reads_all}
+use Rattle.miette_picture_rules.specs.rules.Settings.{Settings}
+use Rattle.miette_picture_rules.specs.rules.Snippets.{drawn_fix, rows_over, snippet_settings, shown_rows, source_rows}
+use Rattle.miette_picture_rules.specs.rules.Snippets.{whole_drawing}
+use Rattle.miette_picture_rules.specs.rules.Sources.{LabelledSource, after_labels, drawn_with, snippets_after}
+use Rattle.miette_picture_rules.specs.rules.Sources.{reads_for, snippets_with, sources_of, sources_read}
+use Rattle.miette_picture_rules.specs.rules.Text.{are_last, body_over, causes_text, drawn_text, ends_there, inner_over}
+use Rattle.miette_picture_rules.specs.rules.Text.{only_if, related_text, report_text}
+use Rattle.miette_picture_rules.proofs.GroupRows.{groups_given, none_listed}
+use Rattle.miette_picture_rules.proofs.Lists.{both_read}
+use Rattle.miette_picture_rules.proofs.Outermost.{report_over}
+use Rattle.miette_picture_rules.specs.steps.PrintedParts.{printed_inner, printed_sibling}
 use Rattle.miette_picture_laws.specs.laws.Determined.{IsDetermined}
 
 -- Calls by two answers: where both may follow the same earlier ones, they are the same, and this holds.

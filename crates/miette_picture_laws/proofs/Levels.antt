@@ -13,22 +13,22 @@ use Rattle.miette_style.specs.declared.style.Style.{Style}
 use Rattle.miette_style.specs.rules.Codes.{colour_start, colour_stop, style_codes}
 use Rattle.miette_runs.specs.rules.Runs.{Styled, printed_run}
 use Rattle.miette_tree.specs.rules.Tree.{Tree}
-use Rattle.miette_graphical.specs.rules.Answers.{Answers}
-use Rattle.miette_graphical.specs.rules.DiagnosticText.{Drawing, line_feed, under_arrow}
-use Rattle.miette_graphical.specs.rules.Indents.{arrow_indent, narrow_settings, stem_indent}
-use Rattle.miette_graphical.specs.rules.Settings.{Settings}
-use Rattle.miette_graphical.specs.laws.Alike.{answer_at}
+use Rattle.miette_picture_rules.specs.rules.Answers.{Answers}
+use Rattle.miette_picture_rules.specs.rules.DiagnosticText.{Drawing, line_feed, under_arrow}
+use Rattle.miette_picture_rules.specs.rules.Indents.{arrow_indent, narrow_settings, stem_indent}
+use Rattle.miette_picture_rules.specs.rules.Settings.{Settings}
+use Rattle.miette_picture_rules.specs.laws.Alike.{answer_at}
 use Rattle.miette_picture_laws.specs.laws.Arrows.{FitUnder, rows_under}
 use Rattle.miette_picture_laws.specs.laws.FittingRows.{bare_row, fed_rows, indented_rows}
-use Rattle.miette_graphical.specs.laws.Holding.{Arrow, HoldsSnippets, HoldsUnder, StandsIn, arrows_at, cut_text}
-use Rattle.miette_graphical.specs.laws.Holding.{rows_at, text_at}
+use Rattle.miette_picture_rules.specs.laws.Holding.{Arrow, HoldsSnippets, HoldsUnder, StandsIn, arrows_at, cut_text}
+use Rattle.miette_picture_rules.specs.laws.Holding.{rows_at, text_at}
 use Rattle.miette_picture_laws.specs.laws.Levels.{AreAmong, FitLevels, HoldsLevels, LevelRowsStand, barred, barred_rows}
 use Rattle.miette_picture_laws.specs.laws.Levels.{ends_related, settings_under}
 use Rattle.miette_picture_laws.proofs.ArrowRows.{IsSeen, fed-append, fed-ends, grouped, seen-above, seen-before}
 use Rattle.miette_picture_laws.proofs.ArrowRows.{seen-below}
 use Rattle.miette_picture_laws.proofs.Arrows.{arrow_plan, left-by, printed-rows}
 use Rattle.miette_text.proofs.FittingRows.{IsBehind, rows-wrapped}
-use Rattle.miette_graphical.proofs.Rows.{bytes-stand, within-stands}
+use Rattle.miette_printed_laws.proofs.Rows.{bytes-stand, within-stands}
 
 -- ---- indents are to be seen, whatever stands behind them
 

@@ -5,11 +5,11 @@ use Rattle.std.specs.List.{Contains}
 use Rattle.std.proofs.lemmas.List.Elements.{Contains-append_cases}
 use Rattle.miette_protocol.specs.rules.Reading.{Source}
 use Rattle.miette_tree.specs.rules.Tree.{effective, Tree, tree, Cause, diagnostic, texts, Trees, no_trees, more_trees}
-use Rattle.miette_graphical.specs.rules.Settings.{Settings}
-use Rattle.miette_graphical.specs.rules.PrintedDiagnostics.{PrintedDiagnostic, over, diagnostics_of, printed_causes}
-use Rattle.miette_graphical.specs.rules.PrintedDiagnostics.{printed_related}
-use Rattle.miette_graphical.specs.laws.Paths.{Step, to_cause, to_related, at_cause, at_related, HasPath}
-use Rattle.miette_graphical.proofs.Paths.{first_or_later, none}
+use Rattle.miette_picture_rules.specs.rules.Settings.{Settings}
+use Rattle.miette_picture_rules.specs.rules.PrintedDiagnostics.{PrintedDiagnostic, over, diagnostics_of, printed_causes}
+use Rattle.miette_picture_rules.specs.rules.PrintedDiagnostics.{printed_related}
+use Rattle.miette_picture_rules.specs.laws.Paths.{Step, to_cause, to_related, at_cause, at_related, HasPath}
+use Rattle.miette_picture_rules.proofs.Paths.{first_or_later, none}
 
 abbrev IsAt : (List Step → Option PrintedDiagnostic) → PrintedDiagnostic → Type 0
 IsAt at p = (path : List Step) × (at path ≡ Some p)

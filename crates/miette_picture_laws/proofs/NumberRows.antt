@@ -25,9 +25,9 @@ use Rattle.miette_style.specs.rules.Styles.{plain}
 use Rattle.miette_picture_laws.specs.laws.NumberRows.{IsPlainLine, PrintsItself, PrintsNumber, line_bytes, numbered}
 use Rattle.miette_picture_laws.specs.laws.NumberRows.{padded}
 use Rattle.miette_picture_laws.specs.laws.NumberRows.{printed_line}
-use Rattle.miette_graphical.specs.rules.Indents.{spaces}
-use Rattle.miette_graphical.specs.rules.Snippets.{runs_of_row}
-use Rattle.miette_graphical.proofs.SnippetsFading.{codes_of, plain_row}
+use Rattle.miette_picture_rules.specs.rules.Indents.{spaces}
+use Rattle.miette_picture_rules.specs.rules.Snippets.{runs_of_row}
+use Rattle.miette_picture_rules.proofs.SnippetsFading.{codes_of, plain_row}
 
 -- ---- what is printed
 

@@ -3,18 +3,18 @@ use Rattle.std.proofs.Common.{◌≡◌, true, List, [], ◌∷◌, drop, map, r
 use Rattle.std.proofs.Common.{subst}
 use Rattle.miette_tree.specs.rules.Tree.{Tree}
 use Rattle.miette_row_laws.specs.laws.Fading.{unhighlighted_answer}
-use Rattle.miette_graphical.specs.rules.Settings.{Settings}
-use Rattle.miette_graphical.specs.rules.Snippets.{whole_drawing, snippet_settings}
-use Rattle.miette_graphical.specs.rules.Sources.{LabelledSource, snippets_after, snippets_with, sources_of}
-use Rattle.miette_graphical.specs.rules.Answers.{Answers, SourceAnswers}
-use Rattle.miette_graphical.specs.rules.Answers.{first_source}
-use Rattle.miette_graphical.specs.rules.PossibleAnswers.{AreAnswers, AreAnswersOver}
-use Rattle.miette_graphical.specs.rules.Text.{report_text}
-use Rattle.miette_graphical.specs.laws.Alike.{answer_at}
-use Rattle.miette_graphical.specs.laws.Colourless.{unhighlighted_answers}
-use Rattle.miette_graphical.proofs.PrintedAnswers.{Agree, AgreeAlong, AgreeOver, agreed_alike, answer_there}
+use Rattle.miette_picture_rules.specs.rules.Settings.{Settings}
+use Rattle.miette_picture_rules.specs.rules.Snippets.{whole_drawing, snippet_settings}
+use Rattle.miette_picture_rules.specs.rules.Sources.{LabelledSource, snippets_after, snippets_with, sources_of}
+use Rattle.miette_picture_rules.specs.rules.Answers.{Answers, SourceAnswers}
+use Rattle.miette_picture_rules.specs.rules.Answers.{first_source}
+use Rattle.miette_picture_rules.specs.rules.PossibleAnswers.{AreAnswers, AreAnswersOver}
+use Rattle.miette_picture_rules.specs.rules.Text.{report_text}
+use Rattle.miette_picture_rules.specs.laws.Alike.{answer_at}
+use Rattle.miette_picture_rules.specs.laws.Colourless.{unhighlighted_answers}
+use Rattle.miette_picture_rules.proofs.PrintedAnswers.{Agree, AgreeAlong, AgreeOver, agreed_alike, answer_there}
 use Rattle.miette_snippet_rules.specs.rules.Settings as snippets
-use Rattle.miette_graphical.proofs.Bare.{bare_at, first-bare-source, later-bare-sources}
+use Rattle.miette_picture_rules.proofs.Bare.{bare_at, first-bare-source, later-bare-sources}
 
 -- where lines are left plain, there are no pieces
 plain_over : (l : snippets.SnippetSettings) (sources : List LabelledSource) (a : SourceAnswers)

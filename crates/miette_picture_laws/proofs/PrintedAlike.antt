@@ -1,15 +1,15 @@
 -- Drawings and answers that are the same for each printed diagnostic.
 use Rattle.std.proofs.Common.{inl, inr, List, [], ◌∷◌, subst, ◌≡◌, ap}
 use Rattle.std.specs.List.{AllByRecursion, Contains}
-use Rattle.miette_graphical.specs.rules.PrintedDiagnostics.{PrintedDiagnostic}
-use Rattle.miette_graphical.proofs.Paths.{first_or_later, none}
+use Rattle.miette_picture_rules.specs.rules.PrintedDiagnostics.{PrintedDiagnostic}
+use Rattle.miette_picture_rules.proofs.Paths.{first_or_later, none}
 use Rattle.miette_tree.specs.rules.Tree.{Tree}
-use Rattle.miette_graphical.specs.rules.Answers.{Answers}
-use Rattle.miette_graphical.specs.rules.DiagnosticText.{Drawing}
-use Rattle.miette_graphical.specs.rules.Settings.{Settings}
-use Rattle.miette_graphical.specs.rules.Text.{report_text}
-use Rattle.miette_graphical.specs.laws.Alike.{AreAnsweredAlike}
-use Rattle.miette_graphical.proofs.Alike.{report_alike}
+use Rattle.miette_picture_rules.specs.rules.Answers.{Answers}
+use Rattle.miette_picture_rules.specs.rules.DiagnosticText.{Drawing}
+use Rattle.miette_picture_rules.specs.rules.Settings.{Settings}
+use Rattle.miette_picture_rules.specs.rules.Text.{report_text}
+use Rattle.miette_picture_rules.specs.laws.Alike.{AreAnsweredAlike}
+use Rattle.miette_picture_rules.proofs.Alike.{report_alike}
 
 -- what holds of each of a list holds of one that is in it
 pub holds_there : (P : PrintedDiagnostic → Type 0) (ps : List PrintedDiagnostic) (p : PrintedDiagnostic)

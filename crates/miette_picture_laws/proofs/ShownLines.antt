@@ -26,14 +26,14 @@ use Rattle.miette_snippet_rules.specs.rules.ShownLines.{framed_rows, line_at, nu
 use Rattle.miette_snippet_rules.specs.rules.ShownLines.{rows_of_ranges}
 use Rattle.miette_snippet_rules.specs.rules.SnippetLayout.{SnippetContext, line_or_break, line_rows, place_of}
 use Rattle.miette_snippet_rules.specs.rules.Snippets.{is_kept, shown_numbers, snippets}
-use Rattle.miette_graphical.specs.rules.Answers.{SourceAnswers, first_source}
-use Rattle.miette_graphical.specs.rules.Settings.{Settings}
-use Rattle.miette_graphical.specs.rules.Snippets.{rows_over, runs_of_row, source_rows}
-use Rattle.miette_graphical.specs.rules.Sources.{LabelledSource, after_labels}
-use Rattle.miette_graphical.specs.laws.CharacterSets.{AreNarrow}
-use Rattle.miette_graphical.specs.laws.Headline.{ShowsRanges, context_of, drawn_labels, group_settings, groups_of}
-use Rattle.miette_graphical.specs.laws.Headline.{line_of}
-use Rattle.miette_graphical.proofs.NarrowCharacters.{is_narrow}
+use Rattle.miette_picture_rules.specs.rules.Answers.{SourceAnswers, first_source}
+use Rattle.miette_picture_rules.specs.rules.Settings.{Settings}
+use Rattle.miette_picture_rules.specs.rules.Snippets.{rows_over, runs_of_row, source_rows}
+use Rattle.miette_picture_rules.specs.rules.Sources.{LabelledSource, after_labels}
+use Rattle.miette_picture_rules.specs.laws.CharacterSets.{AreNarrow}
+use Rattle.miette_picture_rules.specs.laws.Headline.{ShowsRanges, context_of, drawn_labels, group_settings, groups_of}
+use Rattle.miette_picture_rules.specs.laws.Headline.{line_of}
+use Rattle.miette_printed_laws.proofs.NarrowCharacters.{is_narrow}
 use Rattle.miette_picture_laws.specs.laws.ShownLines.{ShownLinesShow, ShownLinesStand, SourcesStand}
 use Rattle.miette_picture_laws.specs.laws.ShownLines.{StandAmong, pieces_at, range_at, range_context, rows_at}
 

@@ -9,9 +9,9 @@ use Rattle.miette_style.specs.rules.Themes.{Characters, Theme, ansi_styles, asci
 use Rattle.miette_style.specs.rules.Themes.{no_styles, refuses_colours, terminal_theme, unicode_characters}
 use Rattle.miette_cells.specs.rules.Widths.{width_of}
 use Rattle.miette_row_laws.specs.laws.Clean.{IsClean}
-use Rattle.miette_graphical.specs.laws.Clean.{AreCleanCharacters, AreCleanSettings}
-use Rattle.miette_graphical.specs.laws.CharacterSets.{AreNarrow, AreShipped}
-use Rattle.miette_graphical.specs.rules.Settings.{default_settings}
+use Rattle.miette_picture_rules.specs.laws.Clean.{AreCleanCharacters, AreCleanSettings}
+use Rattle.miette_picture_rules.specs.laws.CharacterSets.{AreNarrow, AreShipped}
+use Rattle.miette_picture_rules.specs.rules.Settings.{default_settings}
 
 -- what each table has, the shipped characters have
 pub shipped : {X : Type 0} (c : Characters) → AreShipped c → (f : Characters → X) (x : X) → f unicode_characters ≡ x

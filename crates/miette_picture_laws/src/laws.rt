@@ -2,17 +2,17 @@
 //! printed, how their rows stand under arrows, and what the shipped themes keep.
 
 ghost use Rattle.std.specs.Prelude.{◌≡◌, ℕ, Bool, List, [], ◌∷◌, Option, Some, encode_utf8_all, false, map, true};
-ghost use Rattle.miette_graphical.specs.rules.PossibleAnswers.{IsAskedText, IsTextOf};
-ghost use Rattle.miette_graphical.specs.rules.Answers.{Answer, Answers, unlisted};
-ghost use Rattle.miette_graphical.specs.laws.Clean.{AreCleanCharacters, AreCleanSettings, IsCleanTree};
-ghost use Rattle.miette_graphical.specs.laws.Alike.{AreAnsweredAlike, AreDrawnAlike};
-ghost use Rattle.miette_graphical.specs.laws.Colourless.{AreDrawings};
-ghost use Rattle.miette_graphical.specs.laws.Colourless.{ArePlain, unhighlighted_answers};
+ghost use Rattle.miette_picture_rules.specs.rules.PossibleAnswers.{IsAskedText, IsTextOf};
+ghost use Rattle.miette_picture_rules.specs.rules.Answers.{Answer, Answers, unlisted};
+ghost use Rattle.miette_picture_rules.specs.laws.Clean.{AreCleanCharacters, AreCleanSettings, IsCleanTree};
+ghost use Rattle.miette_picture_rules.specs.laws.Alike.{AreAnsweredAlike, AreDrawnAlike};
+ghost use Rattle.miette_picture_rules.specs.laws.Colourless.{AreDrawings};
+ghost use Rattle.miette_picture_rules.specs.laws.Colourless.{ArePlain, unhighlighted_answers};
 ghost use Rattle.std.specs.List.{AllByRecursion, Contains};
-ghost use Rattle.miette_graphical.specs.rules.DiagnosticText.{Drawing, rows_text};
-ghost use Rattle.miette_graphical.specs.laws.Headline.{ShowsRanges};
-ghost use Rattle.miette_graphical.specs.laws.Paths.{HasPath, Step, printed_at};
-ghost use Rattle.miette_graphical.specs.laws.Holding.{Arrow, HoldsSnippets, HoldsUnder};
+ghost use Rattle.miette_picture_rules.specs.rules.DiagnosticText.{Drawing, rows_text};
+ghost use Rattle.miette_picture_rules.specs.laws.Headline.{ShowsRanges};
+ghost use Rattle.miette_picture_rules.specs.laws.Paths.{HasPath, Step, printed_at};
+ghost use Rattle.miette_picture_rules.specs.laws.Holding.{Arrow, HoldsSnippets, HoldsUnder};
 ghost use Rattle.miette_picture_laws.specs.laws.Arrows.{DrawnRowsStand, FirstStands, InnerRowsStand, RowsStand};
 ghost use Rattle.miette_picture_laws.specs.laws.FittingRows.{fed_rows};
 ghost use Rattle.miette_picture_laws.specs.laws.Levels.{HasPlainBars, HaveRoom, HoldsLevels, LevelRowsStand};
@@ -20,7 +20,7 @@ ghost use Rattle.miette_picture_laws.specs.laws.Levels.{StandBehindBars};
 ghost use Rattle.miette_picture_laws.specs.laws.NumberRows.{IsPlainLine, PrintsItself, PrintsNumber};
 ghost use Rattle.miette_picture_laws.specs.laws.ShownLines.{ShownLinesShow, ShownLinesStand, SourcesStand};
 ghost use Rattle.miette_picture_laws.specs.laws.Determined.{IsDetermined};
-ghost use Rattle.miette_graphical.specs.views.Handling.{AreCallsOf, Handling, draws_plain, follows_of};
+ghost use Rattle.miette_picture_rules.specs.views.Handling.{AreCallsOf, Handling, draws_plain, follows_of};
 ghost use Rattle.miette_highlight.specs.rules.FollowingCalls.{FollowTokens};
 ghost use Rattle.miette_highlight.specs.declared.rule.Rule.{Rule};
 ghost use Rattle.miette_protocol.specs.views.Meaning.{Label};
@@ -30,25 +30,25 @@ ghost use Rattle.miette_snippet_rules.specs.rules.SnippetLayout.{SnippetContext}
 ghost use Rattle.miette_source_lines.specs.rules.Lines.{Line};
 ghost use Rattle.miette_runs.specs.rules.Runs.{Fragment, print};
 ghost use Rattle.miette_protocol.specs.declared.protocol.Severity.{Severity};
-ghost use Rattle.miette_graphical.specs.laws.CharacterSets.{AreNarrow, AreShipped};
-ghost use Rattle.miette_graphical.specs.rules.PrintedDiagnostics.{PrintedDiagnostic, all_read};
-ghost use Rattle.miette_graphical.specs.rules.PrintedDiagnostics.{diagnostics_of};
-ghost use Rattle.miette_graphical.specs.rules.Settings.{Settings, default_settings};
-ghost use Rattle.miette_graphical.specs.rules.Answers.{SourceAnswer, sources_listed};
-ghost use Rattle.miette_graphical.specs.rules.Snippets.{drawn_rows, drawn_without_fixes, own_rows, source_rows};
-ghost use Rattle.miette_graphical.specs.rules.Snippets.{whole_drawing};
-ghost use Rattle.miette_graphical.specs.rules.Sources.{LabelledSource, drawn_with, some_further, sources_of};
+ghost use Rattle.miette_picture_rules.specs.laws.CharacterSets.{AreNarrow, AreShipped};
+ghost use Rattle.miette_picture_rules.specs.rules.PrintedDiagnostics.{PrintedDiagnostic, all_read};
+ghost use Rattle.miette_picture_rules.specs.rules.PrintedDiagnostics.{diagnostics_of};
+ghost use Rattle.miette_picture_rules.specs.rules.Settings.{Settings, default_settings};
+ghost use Rattle.miette_picture_rules.specs.rules.Answers.{SourceAnswer, sources_listed};
+ghost use Rattle.miette_picture_rules.specs.rules.Snippets.{drawn_rows, drawn_without_fixes, own_rows, source_rows};
+ghost use Rattle.miette_picture_rules.specs.rules.Snippets.{whole_drawing};
+ghost use Rattle.miette_picture_rules.specs.rules.Sources.{LabelledSource, drawn_with, some_further, sources_of};
 ghost use Rattle.miette_tree.specs.rules.Diagnosis.{Diagnosis};
 ghost use Rattle.miette_tree.specs.rules.DiagnosticParts.{given_labels};
-ghost use Rattle.miette_graphical.specs.rules.Text.{report_text};
+ghost use Rattle.miette_picture_rules.specs.rules.Text.{report_text};
 ghost use Rattle.miette_tree.specs.rules.Tree.{Tree};
 ghost use Rattle.miette_style.specs.declared.theme.Terminal.{Terminal};
 ghost use Rattle.miette_style.specs.rules.Themes.{Characters, no_styles, terminal_theme, Theme};
 ghost use Rattle.miette_runs.specs.rules.Sequences.{erase};
 ghost use Rattle.miette_cells.specs.rules.Widths.{width_of};
 
-use miette_graphical::laws::{colours_law, drawn_rows_law};
 use miette_highlight::highlight::Highlighter;
+use miette_printed_laws::laws::{colours_law, drawn_rows_law};
 use miette_text::wrap::laws::encoding_law;
 
 /// A text in plain styles is its own without colours: by the definition, where no line has a highlighter's pieces

@@ -11,16 +11,16 @@ use Rattle.miette_labels.specs.rules.Groups.{in_order, AreAccepted}
 use Rattle.miette_basics.specs.rules.Lists.{is_nil}
 use Rattle.miette_tree.specs.rules.Tree.{Tree, tree, Cause, diagnostic, texts, Trees, no_trees, more_trees, effective}
 use Rattle.miette_tree.specs.rules.DiagnosticParts.{given_labels}
-use Rattle.miette_graphical.specs.rules.PrintedDiagnostics.{PrintedDiagnostic, over, diagnostics_of, printed_causes}
-use Rattle.miette_graphical.specs.rules.PrintedDiagnostics.{printed_related, all_read, reads_all}
+use Rattle.miette_picture_rules.specs.rules.PrintedDiagnostics.{PrintedDiagnostic, over, diagnostics_of, printed_causes}
+use Rattle.miette_picture_rules.specs.rules.PrintedDiagnostics.{printed_related, all_read, reads_all}
 use Rattle.miette_tree.specs.rules.Reads.{AlwaysReads, CauseAlwaysReads, AllAlwaysRead, holds_of}
 use Rattle.miette_fixes.specs.rules.Edits.{Proposal}
 use Rattle.miette_tree.specs.rules.Diagnosis.{Diagnosis, Section}
 use Rattle.miette_tree.specs.rules.Reads.{holds_of_all, accepts, report_accepted, holds_further}
 use Rattle.miette_tree.proofs.Nesting.{Reads, effective_reads}
 use Rattle.miette_tree.proofs.Readings.{source_reads}
-use Rattle.miette_graphical.specs.rules.Settings.{Settings}
-use Rattle.miette_graphical.specs.rules.Sources.{further_sources, has_edits, reads_for, sources_of, sources_read}
+use Rattle.miette_picture_rules.specs.rules.Settings.{Settings}
+use Rattle.miette_picture_rules.specs.rules.Sources.{further_sources, has_edits, reads_for, sources_of, sources_read}
 use Rattle.miette_brief.specs.rules.PossibleAnswers as briefly
 use Rattle.miette_brief.specs.rules.Report as brief
 use Rattle.miette_narrated.specs.rules.PossibleAnswers as told

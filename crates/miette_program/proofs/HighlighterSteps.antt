@@ -4,9 +4,9 @@ use Rattle.std.proofs.Common.{◌≡◌, ◌∙◌, ap, append-nil, append_assoc
 use Rattle.std.proofs.Common.{IfOk, OnErr, OnOk}
 use Rattle.miette.specs.declared.options.handler.MietteHandler.TheVariants as handler
 use Rattle.miette_tree.specs.views.Handler.{AppendsOne}
-use Rattle.miette_graphical.specs.rules.PossibleAnswers.{IsAskedText}
-use Rattle.miette_graphical.specs.rules.Snippets.{whole_drawing}
-use Rattle.miette_graphical.specs.views.Handling.{AreCallsOf, Handling}
+use Rattle.miette_picture_rules.specs.rules.PossibleAnswers.{IsAskedText}
+use Rattle.miette_picture_rules.specs.rules.Snippets.{whole_drawing}
+use Rattle.miette_picture_rules.specs.views.Handling.{AreCallsOf, Handling}
 use Rattle.miette_protocol.specs.rules.Reading.{Source, Span}
 use Rattle.miette_protocol.specs.views.Meaning.{Label}
 use Rattle.miette_highlight.specs.rules.FollowingCalls.{FollowTokens}
@@ -21,13 +21,13 @@ use Rattle.miette_snippet_rules.specs.rules.Highlighting.{follows, group_calls}
 use Rattle.miette_snippet_rules.specs.rules.SnippetLayout.{end_lines}
 use Rattle.miette_tree.specs.rules.Diagnosis.{Diagnosis}
 use Rattle.miette_tree.specs.rules.Tree.{Tree, tree, Cause, diagnostic, texts, Trees, no_trees, more_trees, effective}
-use Rattle.miette_graphical.specs.rules.Answers.{Answer, Answers, RelatedAnswers, SourceAnswer, SourceAnswers}
-use Rattle.miette_graphical.specs.rules.Answers.{cause_answers, first_answers, first_source, later_answers, own_answer}
-use Rattle.miette_graphical.specs.rules.Answers.{related_answers}
-use Rattle.miette_graphical.specs.rules.Calls.{calls_over, cause_calls, own_calls, related_calls, report_calls}
-use Rattle.miette_graphical.specs.rules.Calls.{source_calls}
-use Rattle.miette_graphical.specs.rules.Settings.{Settings}
-use Rattle.miette_graphical.specs.rules.Sources.{LabelledSource, layout_with, sources_of}
+use Rattle.miette_picture_rules.specs.rules.Answers.{Answer, Answers, RelatedAnswers, SourceAnswer, SourceAnswers}
+use Rattle.miette_picture_rules.specs.rules.Answers.{cause_answers, first_answers, first_source, later_answers, own_answer}
+use Rattle.miette_picture_rules.specs.rules.Answers.{related_answers}
+use Rattle.miette_picture_rules.specs.rules.Calls.{calls_over, cause_calls, own_calls, related_calls, report_calls}
+use Rattle.miette_picture_rules.specs.rules.Calls.{source_calls}
+use Rattle.miette_picture_rules.specs.rules.Settings.{Settings}
+use Rattle.miette_picture_rules.specs.rules.Sources.{LabelledSource, layout_with, sources_of}
 use Rattle.miette_program.specs.declared.language.LanguageHighlighter.{LanguageHighlighter}
 use Rattle.miette_program.specs.rules.LanguageRules.{TokensFollow}
 use Rattle.miette_program.specs.steps.JobHandler.{HappenLater, IsLed, highlighter_of}

@@ -2,7 +2,7 @@
 use Rattle.std.proofs.Common.{◌≡◌, ℕ, Bool, List, [], ◌++◌, ◌∙◌, ap, Result, Ok}
 use Rattle.std.proofs.Common.{Err, IfOk, OnOk, OnErr, String, string_bytes, true, false, encode_utf8_all, refl}
 use Rattle.std.proofs.Common.{sym, subst, not, ◌&&◌}
-use Rattle.miette_graphical.proofs.Only as one_text
+use Rattle.miette_picture_rules.proofs.Only as one_text
 use Rattle.miette.specs.rules.Choice.{is_graphical}
 use Rattle.miette.specs.rules.Options.{Options}
 use Rattle.miette.specs.declared.options.handler.MietteHandler.{MietteHandler}
@@ -13,23 +13,23 @@ use Rattle.miette_brief.specs.rules.PossibleAnswers as briefly
 use Rattle.miette_brief.specs.rules.Report as brief
 use Rattle.miette_narrated.specs.rules.Report as narrated
 use Rattle.miette_narrated.specs.rules.PossibleAnswers.{IsNarrated, fixes_read}
-use Rattle.miette_graphical.specs.rules.Answers.{unlisted}
+use Rattle.miette_picture_rules.specs.rules.Answers.{unlisted}
 use Rattle.miette_tree.specs.views.Handler.{AppendsOne}
 use Rattle.miette_tree.specs.rules.Reads.{AlwaysReads, report_accepted, report_reads}
 use Rattle.miette_tree.proofs.Readings.{told_reads}
 use Rattle.miette_debug.specs.rules.DebugText.{IsDebugText}
-use Rattle.miette_graphical.specs.rules.PrintedDiagnostics.{diagnostics_of, labels_read}
-use Rattle.miette_graphical.proofs.Lists.{labels_of_all}
+use Rattle.miette_picture_rules.specs.rules.PrintedDiagnostics.{diagnostics_of, labels_read}
+use Rattle.miette_picture_rules.proofs.Lists.{labels_of_all}
 use Rattle.miette_json.specs.rules.Json.{json_text}
 use Rattle.miette_json.specs.rules.JsonReport.{value_of}
 use Rattle.miette_json.specs.rules.JsonText.{IsJsonOf}
-use Rattle.miette_graphical.specs.rules.PossibleAnswers as drawn
-use Rattle.miette_graphical.specs.rules.Calls.{report_calls}
-use Rattle.miette_graphical.specs.views.Handling.{AreCallsOf, Handling, draws_plain}
+use Rattle.miette_picture_rules.specs.rules.PossibleAnswers as drawn
+use Rattle.miette_picture_rules.specs.rules.Calls.{report_calls}
+use Rattle.miette_picture_rules.specs.views.Handling.{AreCallsOf, Handling, draws_plain}
 use Rattle.miette_highlight.specs.rules.HighlighterCalls.{Call}
 use Rattle.miette_snippet_rules.specs.rules.Highlighting.{follows}
-use Rattle.miette_graphical.specs.rules.Snippets.{whole_drawing}
-use Rattle.miette_graphical.specs.rules.Text.{report_text}
+use Rattle.miette_picture_rules.specs.rules.Snippets.{whole_drawing}
+use Rattle.miette_picture_rules.specs.rules.Text.{report_text}
 use Rattle.miette_program.specs.steps.JobHandler.{HappenLater, IsAsked, IsGiven, IsLed, MayRefuse, Stays}
 use Rattle.miette_program.specs.rules.JobText.{IsBuiltText, IsJobText, IsTelling}
 use Rattle.miette_program.specs.declared.job_handler.JobHandler.{JobHandler}

@@ -8,9 +8,9 @@ use Rattle.miette_style.specs.rules.Themes.{rgb_styles, unicode_characters}
 use Rattle.miette_style.specs.declared.theme.Terminal.{Terminal}
 use Rattle.miette_brief.specs.rules.Report.{BriefSettings}
 use Rattle.miette_narrated.specs.rules.Report as narrated
-use Rattle.miette_graphical.specs.views.Handling.{Handling}
-use Rattle.miette_graphical.specs.rules.Settings.{Settings, default_settings, links_shown}
-use Rattle.miette_graphical.specs.declared.settings.UrlMode.{UrlMode}
+use Rattle.miette_picture_rules.specs.views.Handling.{Handling}
+use Rattle.miette_picture_rules.specs.rules.Settings.{Settings, default_settings, links_shown}
+use Rattle.miette_picture_rules.specs.declared.settings.UrlMode.{UrlMode}
 use Rattle.miette.specs.rules.Options.{Options}
 use Rattle.miette.specs.declared.options.builder.RgbColors.{RgbColors}
 use Rattle.miette.specs.declared.options.builder.RgbColors.TheVariants.{Always, Preferred, Never}

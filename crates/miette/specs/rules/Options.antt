@@ -7,8 +7,8 @@ use Rattle.miette_brief.specs.declared.form.Form.TheVariants.{Gcc}
 use Rattle.miette_snippet_rules.specs.rules.Defaults.{default_layout}
 use Rattle.miette_snippet_rules.specs.declared.options.LayoutOptions.{LayoutOptions}
 use Rattle.miette_style.specs.rules.Themes.{Theme}
-use Rattle.miette_graphical.specs.rules.Settings.{default_wrapping}
-use Rattle.miette_graphical.specs.declared.settings.Wrapping.{Wrapping}
+use Rattle.miette_picture_rules.specs.rules.Settings.{default_wrapping}
+use Rattle.miette_picture_rules.specs.declared.settings.Wrapping.{Wrapping}
 use Rattle.miette.specs.declared.options.builder.RgbColors.{RgbColors}
 use Rattle.miette.specs.declared.options.builder.RgbColors.TheVariants.{Never}
 

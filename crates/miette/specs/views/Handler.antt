@@ -4,11 +4,11 @@ use Rattle.miette_tree.specs.rules.Tree.{Tree}
 use Rattle.miette_tree.specs.rules.Reads.{report_accepted}
 use Rattle.miette_brief.specs.rules.PossibleAnswers as brief
 use Rattle.miette_narrated.specs.rules.PossibleAnswers.{IsNarrated}
-use Rattle.miette_graphical.specs.rules.PossibleAnswers.{IsAskedText, IsTextOf}
-use Rattle.miette_graphical.specs.views.Handling.{AreCallsOf, draws_plain}
+use Rattle.miette_picture_rules.specs.rules.PossibleAnswers.{IsAskedText, IsTextOf}
+use Rattle.miette_picture_rules.specs.views.Handling.{AreCallsOf, draws_plain}
 use Rattle.miette_highlight.specs.rules.HighlighterCalls.{Call}
-use Rattle.miette_graphical.specs.rules.PrintedDiagnostics.{labels_read, diagnostics_of}
-use Rattle.miette_graphical.specs.rules.Snippets.{whole_drawing}
+use Rattle.miette_picture_rules.specs.rules.PrintedDiagnostics.{labels_read, diagnostics_of}
+use Rattle.miette_picture_rules.specs.rules.Snippets.{whole_drawing}
 use Rattle.miette.specs.declared.options.handler.MietteHandler.{MietteHandler}
 use Rattle.miette.specs.declared.options.handler.MietteHandler.TheVariants.{Graphical, Narrated, Brief}
 

@@ -5,11 +5,11 @@ use Rattle.miette.specs.Reading.{named_source, plain_source}
 use Rattle.miette.specs.Tree.{Tree, alone, with_source}
 use Rattle.miette_tree.specs.rules.Diagnosis.{plain_diagnosis}
 use Rattle.miette_style.specs.rules.Themes.{Theme, no_styles, unicode_characters}
-use Rattle.miette_graphical.specs.rules.Answers.{unlisted}
-use Rattle.miette_graphical.specs.rules.Settings.{Settings, default_settings}
-use Rattle.miette_graphical.specs.rules.Snippets.{whole_drawing}
-use Rattle.miette_graphical.specs.rules.Text.{report_text}
-use Rattle.miette_graphical.specs.rules.PrintedDiagnostics.{all_read, diagnostics_of}
+use Rattle.miette_picture_rules.specs.rules.Answers.{unlisted}
+use Rattle.miette_picture_rules.specs.rules.Settings.{Settings, default_settings}
+use Rattle.miette_picture_rules.specs.rules.Snippets.{whole_drawing}
+use Rattle.miette_picture_rules.specs.rules.Text.{report_text}
+use Rattle.miette_picture_rules.specs.rules.PrintedDiagnostics.{all_read, diagnostics_of}
 
 -- a diagnostic alone, over the input under a name
 abbrev pub over_input : List ℕ → Meaning → List ℕ → Tree

@@ -7,10 +7,10 @@ use Rattle.miette_runs.specs.rules.Runs.{Fragment, print}
 use Rattle.miette_runs.specs.rules.Sequences.{tokens}
 use Rattle.miette_protocol.specs.declared.protocol.Severity.{Severity}
 use Rattle.miette_picture_laws.specs.laws.FittingRows.{FitsRow, bare_row, fed_rows, indented_rows}
-use Rattle.miette_graphical.specs.rules.DiagnosticText.{line_feed, under_arrow}
-use Rattle.miette_graphical.specs.rules.Indents.{arrow_indent, narrow_settings, stem_indent}
-use Rattle.miette_graphical.specs.rules.Settings.{Settings}
-use Rattle.miette_graphical.specs.laws.Holding.{Arrow, StandsIn, cut_text}
+use Rattle.miette_picture_rules.specs.rules.DiagnosticText.{line_feed, under_arrow}
+use Rattle.miette_picture_rules.specs.rules.Indents.{arrow_indent, narrow_settings, stem_indent}
+use Rattle.miette_picture_rules.specs.rules.Settings.{Settings}
+use Rattle.miette_picture_rules.specs.laws.Holding.{Arrow, StandsIn, cut_text}
 
 -- the columns that an indent leaves under an arrow
 abbrev pub room_behind : Settings → List Fragment → ℕ

@@ -8,16 +8,16 @@ use Rattle.miette_runs.specs.rules.Sequences.{tokens}
 use Rattle.miette_text.specs.laws.Tame.{IsTame}
 use Rattle.miette_text.specs.rules.Wrapping.{only_spaces}
 use Rattle.miette_tree.specs.rules.Tree.{Tree}
-use Rattle.miette_graphical.specs.rules.Answers.{Answers}
-use Rattle.miette_graphical.specs.rules.DiagnosticText.{Drawing}
-use Rattle.miette_graphical.specs.rules.Indents.{narrow_settings, stem_indent}
-use Rattle.miette_graphical.specs.rules.PrintedDiagnostics.{PrintedDiagnostic}
-use Rattle.miette_graphical.specs.rules.Settings.{Settings}
-use Rattle.miette_graphical.specs.laws.Alike.{answer_at}
+use Rattle.miette_picture_rules.specs.rules.Answers.{Answers}
+use Rattle.miette_picture_rules.specs.rules.DiagnosticText.{Drawing}
+use Rattle.miette_picture_rules.specs.rules.Indents.{narrow_settings, stem_indent}
+use Rattle.miette_picture_rules.specs.rules.PrintedDiagnostics.{PrintedDiagnostic}
+use Rattle.miette_picture_rules.specs.rules.Settings.{Settings}
+use Rattle.miette_picture_rules.specs.laws.Alike.{answer_at}
 use Rattle.miette_picture_laws.specs.laws.Arrows.{FitUnder}
 use Rattle.miette_picture_laws.specs.laws.FittingRows.{FitsRow, bare_row, fed_rows, indented_rows, is_row}
-use Rattle.miette_graphical.specs.laws.Holding.{Arrow, StandsIn, arrows_at, rows_at}
-use Rattle.miette_graphical.specs.laws.Paths.{Step, printed_at}
+use Rattle.miette_picture_rules.specs.laws.Holding.{Arrow, StandsIn, arrows_at, rows_at}
+use Rattle.miette_picture_rules.specs.laws.Paths.{Step, printed_at}
 
 -- ---- what stands on a level
 

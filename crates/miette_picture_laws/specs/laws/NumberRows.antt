@@ -12,8 +12,8 @@ use Rattle.miette_snippet_rules.specs.rules.Settings.{SnippetSettings}
 use Rattle.miette_snippet_rules.specs.rules.SnippetLayout.{SnippetContext, cells_of, line_cut, line_rows}
 use Rattle.miette_source_lines.specs.rules.Lines.{Line}
 use Rattle.miette_style.specs.rules.Styles.{plain}
-use Rattle.miette_graphical.specs.rules.Indents.{spaces}
-use Rattle.miette_graphical.specs.rules.Snippets.{runs_of_row}
+use Rattle.miette_picture_rules.specs.rules.Indents.{spaces}
+use Rattle.miette_picture_rules.specs.rules.Snippets.{runs_of_row}
 
 -- a line's text as it is printed: tabs as spaces
 abbrev pub printed_line : List Cell → List ℕ

@@ -11,11 +11,11 @@ use Rattle.miette_snippet_rules.specs.rules.Numbers.{ranges}
 use Rattle.miette_snippet_rules.specs.rules.ShownLines.{range_width}
 use Rattle.miette_snippet_rules.specs.rules.SnippetLayout.{SnippetContext, cells_of, line_rows, snippet_context}
 use Rattle.miette_snippet_rules.specs.rules.Snippets.{is_kept}
-use Rattle.miette_graphical.specs.rules.Answers.{SourceAnswers, first_source, pieces_listed}
-use Rattle.miette_graphical.specs.rules.Settings.{Settings}
-use Rattle.miette_graphical.specs.rules.Snippets.{runs_of_row, source_rows}
-use Rattle.miette_graphical.specs.rules.Sources.{LabelledSource, after_labels}
-use Rattle.miette_graphical.specs.laws.Headline.{context_of, drawn_labels, group_settings, line_of, shown_lines}
+use Rattle.miette_picture_rules.specs.rules.Answers.{SourceAnswers, first_source, pieces_listed}
+use Rattle.miette_picture_rules.specs.rules.Settings.{Settings}
+use Rattle.miette_picture_rules.specs.rules.Snippets.{runs_of_row, source_rows}
+use Rattle.miette_picture_rules.specs.rules.Sources.{LabelledSource, after_labels}
+use Rattle.miette_picture_rules.specs.laws.Headline.{context_of, drawn_labels, group_settings, line_of, shown_lines}
 
 -- some rows stand among others, one after the other
 pub record StandAmong {A : Type 0} (rows all : List A) : Type 0 where

@@ -9,14 +9,14 @@ use Rattle.miette_tree.specs.rules.Tree.{Tree}
 use Rattle.miette_brief.specs.rules.Report as brief
 use Rattle.miette_tree.specs.rules.Reads.{report_accepted}
 use Rattle.miette_narrated.specs.rules.Report as narrated
-use Rattle.miette_graphical.specs.rules.PossibleAnswers.{IsAskedText}
-use Rattle.miette_graphical.specs.rules.Answers.{unlisted}
-use Rattle.miette_graphical.specs.views.Handling.{draws_plain}
+use Rattle.miette_picture_rules.specs.rules.PossibleAnswers.{IsAskedText}
+use Rattle.miette_picture_rules.specs.rules.Answers.{unlisted}
+use Rattle.miette_picture_rules.specs.views.Handling.{draws_plain}
 use Rattle.miette_highlight.specs.rules.HighlighterCalls.{Call}
 use Rattle.miette_json.specs.rules.Json.{json_text}
 use Rattle.miette_json.specs.rules.JsonReport.{value_of}
-use Rattle.miette_graphical.specs.rules.Snippets.{whole_drawing}
-use Rattle.miette_graphical.specs.rules.Text.{report_text}
+use Rattle.miette_picture_rules.specs.rules.Snippets.{whole_drawing}
+use Rattle.miette_picture_rules.specs.rules.Text.{report_text}
 use Rattle.miette_debug.specs.rules.DebugText.{IsDebugText}
 use Rattle.miette_snippet_rules.specs.rules.Highlighting.{follows}
 use Rattle.miette_program.specs.declared.language.LanguageHighlighter.{LanguageHighlighter}

@@ -1,6 +1,6 @@
 use Rattle.miette_picture_laws.proofs.Determined.{one-text}
 use Rattle.miette_picture_laws.proofs.DeterminedTokens.{tokens-determined}
-use Rattle.miette_graphical.specs.views.Handling.{draws_plain, follows_of}
+use Rattle.miette_picture_rules.specs.views.Handling.{draws_plain, follows_of}
 use Rattle.miette_picture_laws.proofs.laws.determined_law.Goals as goal
 
 pub returns-clause-text : goal.returns-clause-text

@@ -1,8 +1,8 @@
 use Rattle.std.proofs.Common.{ap, ◌∙◌, encode_utf8_all, sym}
 use Rattle.miette_runs.specs.rules.Sequences.{erase}
 use Rattle.miette_row_laws.proofs.PlainStyles.{none_are_plain}
-use Rattle.miette_graphical.specs.rules.Snippets.{whole_drawing}
-use Rattle.miette_graphical.specs.rules.Text.{report_text}
+use Rattle.miette_picture_rules.specs.rules.Snippets.{whole_drawing}
+use Rattle.miette_picture_rules.specs.rules.Text.{report_text}
 use Rattle.miette_picture_laws.proofs.PlainLines.{plain-report}
 use Rattle.miette_picture_laws.proofs.laws.plain_law.Goals as goal
 

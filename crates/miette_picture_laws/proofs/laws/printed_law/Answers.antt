@@ -5,17 +5,17 @@ use Rattle.miette_protocol.specs.views.Meaning.{Label}
 use Rattle.miette_protocol.specs.rules.Reading.{Source}
 use Rattle.miette_tree.specs.rules.Diagnosis.{Diagnosis, Section}
 use Rattle.miette_tree.specs.rules.DiagnosticParts.{given_labels}
-use Rattle.miette_graphical.specs.rules.Answers.{Answer, SourceAnswer, SourceAnswers, first_source, sources_listed}
-use Rattle.miette_graphical.specs.rules.Settings.{Settings}
-use Rattle.miette_graphical.specs.rules.Snippets.{drawn_fix, drawn_rows, drawn_without_fixes, own_rows, rows_over}
-use Rattle.miette_graphical.specs.rules.Snippets.{source_rows, whole_drawing}
-use Rattle.miette_graphical.specs.rules.Sources.{after_labels, further_sources, is_labelled, some_further, sources_of}
-use Rattle.miette_graphical.specs.laws.Alike.{answer_at}
-use Rattle.miette_graphical.specs.laws.Alike.{AreDrawnAlike}
-use Rattle.miette_graphical.specs.rules.PrintedDiagnostics.{diagnostics_of}
-use Rattle.miette_graphical.proofs.Paths.{printed_there}
+use Rattle.miette_picture_rules.specs.rules.Answers.{Answer, SourceAnswer, SourceAnswers, first_source, sources_listed}
+use Rattle.miette_picture_rules.specs.rules.Settings.{Settings}
+use Rattle.miette_picture_rules.specs.rules.Snippets.{drawn_fix, drawn_rows, drawn_without_fixes, own_rows, rows_over}
+use Rattle.miette_picture_rules.specs.rules.Snippets.{source_rows, whole_drawing}
+use Rattle.miette_picture_rules.specs.rules.Sources.{after_labels, further_sources, is_labelled, some_further, sources_of}
+use Rattle.miette_picture_rules.specs.laws.Alike.{answer_at}
+use Rattle.miette_picture_rules.specs.laws.Alike.{AreDrawnAlike}
+use Rattle.miette_picture_rules.specs.rules.PrintedDiagnostics.{diagnostics_of}
+use Rattle.miette_picture_rules.proofs.Paths.{printed_there}
 use Rattle.miette_picture_laws.proofs.PrintedAlike.{answered_alike}
-use Rattle.miette_graphical.proofs.Alike.{report_alike}
+use Rattle.miette_picture_rules.proofs.Alike.{report_alike}
 use Rattle.miette_picture_laws.proofs.PrintedAlike.{holds_there}
 use Rattle.miette_picture_laws.proofs.laws.printed_law.Goals as goal
 

@@ -1,5 +1,5 @@
-use Rattle.miette_graphical.specs.rules.Snippets.{drawn_rows}
-use Rattle.miette_graphical.specs.rules.Sources.{drawn_with, sources_of}
+use Rattle.miette_picture_rules.specs.rules.Snippets.{drawn_rows}
+use Rattle.miette_picture_rules.specs.rules.Sources.{drawn_with, sources_of}
 use Rattle.miette_picture_laws.proofs.ShownLines.{lines_show, lines_stand, sources_stand, stand_whole}
 use Rattle.miette_picture_laws.proofs.laws.shown_lines_law.Goals as goal
 

@@ -1,5 +1,0 @@
--- The code's own steps, which no rule names.
-pub mod PartTexts
-pub mod PrintedParts
-pub mod TextKinds
-pub mod FixSources

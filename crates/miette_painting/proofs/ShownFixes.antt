@@ -1,0 +1,93 @@
+-- Fixes behind a text: each as its message and its rows.
+use Rattle.std.proofs.Common.{◌≡◌, Bool, true, false, List, [], ◌∷◌, ◌++◌, ℕ, map, Option, Some, None, refl, sym, ap}
+use Rattle.std.proofs.Common.{ap₂, ◌∙◌}
+use Rattle.std.proofs.Common.{append-nil, arith, chars, length, nat_eq}
+use Rattle.std.specs.Prelude.{not}
+use Rattle.std.specs.List.{list_any}
+use Rattle.std.proofs.lemmas.Bool.{or_parts}
+use Rattle.std.proofs.lemmas.Bool.Decides.{nat_tests}
+use Rattle.miette_basics.specs.rules.Lists.{is_nil}
+use Rattle.miette_fixes.specs.rules.Edits.{Proposal, Replacement}
+use Rattle.miette_page.specs.rules.Rows.{Row}
+use Rattle.miette_page.specs.views.Printouts.{Printout, ended_text, printout_of, ◌⊕◌}
+use Rattle.miette_page.specs.views.Tokens.{rows_tokens}
+use Rattle.miette_protocol.specs.rules.Reading.{Source}
+use Rattle.miette_picture_rules.specs.rules.DiagnosticText.{fix_text, fixes_text, line_feed, rows_text}
+use Rattle.miette_picture_rules.specs.rules.Indents.{fix_indent, further_fix_indent, wrapped_under}
+use Rattle.miette_picture_rules.specs.rules.Settings.{Settings}
+use Rattle.miette_picture_rules.specs.rules.Snippets.{drawn_fix, rows_of_fix, runs_of_row}
+use Rattle.miette_picture_rules.specs.rules.Sources.{has_edits}
+use Rattle.miette_painting.specs.steps.PartTexts.{AppendsFixes}
+use Rattle.miette_picture_rules.proofs.PrintedRows.{rows_printed}
+use Rattle.miette_painting.proofs.Steps.{behind}
+
+-- rows that a page printed behind a text
+pub rows_behind : (before : List ℕ) (rows : List Row) (over page : Printout) (out : List ℕ) → over ≡ printout_of before
+    → page ≡ over ⊕ rows_tokens rows → out ≡ ended_text page → out ≡ before ++ rows_text (map runs_of_row rows)
+rows_behind before rows over page out o p e =
+    e ∙ ap ended_text (p ∙ ap (λ x. x ⊕ rows_tokens rows) o) ∙ rows_printed before rows
+
+-- a fix's message, wrapped
+abbrev pub message_of : Settings → Proposal → List ℕ
+message_of s fix = wrapped_under s (fix_indent s) further_fix_indent (chars fix.message) ++ line_feed
+
+-- without a source
+pub fix_alone : (s : Settings) (source : Option Source) (fails : Bool) (fix : Proposal) (old new : List ℕ)
+    → source ≡ None → new ≡ old ++ message_of s fix → new ≡ old ++ fix_text s (drawn_fix s source fails fix)
+fix_alone s source fails fix old new none e =
+    e ∙ ap (λ t. old ++ t) (sym (append-nil (message_of s fix)))
+    ∙ ap (λ o. old ++ fix_text s (drawn_fix s o fails fix)) (sym none)
+
+-- over a source
+pub fix_behind : (s : Settings) (source : Option Source) (fails : Bool) (fix : Proposal) (old told new : List ℕ)
+    → told ≡ old ++ message_of s fix → new ≡ told ++ rows_text (rows_of_fix s source fails fix.edits)
+    → new ≡ old ++ fix_text s (drawn_fix s source fails fix)
+fix_behind s source fails fix old told new e h =
+    behind old told new (message_of s fix) (rows_text (rows_of_fix s source fails fix.edits)) e h
+
+-- ---- fixes without edits need no source
+
+-- a message without rows is the same over any source
+nowhere_same : (s : Settings) (source : Source) (edits : List Replacement) → not (is_nil edits) ≡ false
+    → rows_of_fix s None false edits ≡ rows_of_fix s (Some source) false edits
+nowhere_same s source [] h = refl
+nowhere_same s source (edit ∷ edits) h = absurd (cc)
+
+pub messages_same : (s : Settings) (source : Source) (fixes : List Proposal) → list_any has_edits fixes ≡ false
+    → map (drawn_fix s None false) fixes ≡ map (drawn_fix s (Some source) false) fixes
+messages_same s source [] h = refl
+messages_same s source (fix ∷ fixes) h =
+    let both = or_parts (has_edits fix) (list_any has_edits fixes) h in
+    ap₂ (λ rows more. record { message = fix.message; rows = rows } ∷ more) (nowhere_same s source fix.edits both.0)
+    (messages_same s source fixes both.1)
+
+-- of no fixes nothing is appended
+pub over_nothing : (s : Settings) (source : Option Source) (fixes : List Proposal) (out : List ℕ)
+    → nat_eq (length fixes) 0 ≡ true → AppendsFixes s source fixes out out
+over_nothing s source [] out h = record { fails = false; possible = λ h. refl; appended = sym (append-nil out) }
+over_nothing s source (fix ∷ fixes) out h = absurd (let e = h in grind (arith, nat_tests))
+
+pub over_unneeded : (s : Settings) (source : Option Source) (it : Source) (fixes : List Proposal) (old new : List ℕ)
+    → source ≡ Some it → list_any has_edits fixes ≡ false
+    → new ≡ old ++ fixes_text s (map (drawn_fix s None false) fixes) → AppendsFixes s source fixes old new
+over_unneeded s source it fixes old new is none e = record {
+  fails = false;
+  possible = λ h. refl;
+  appended = e ∙ ap (λ fs. old ++ fixes_text s fs) (messages_same s it fixes none)
+      ∙ ap (λ o. old ++ fixes_text s (map (drawn_fix s o false) fixes)) (sym is);
+}
+
+pub over_read : (s : Settings) (source : Option Source) (fixes : List Proposal) (old new : List ℕ)
+    → new ≡ old ++ fixes_text s (map (drawn_fix s source false) fixes) → AppendsFixes s source fixes old new
+over_read s source fixes old new e = record { fails = false; possible = λ h. refl; appended = e }
+
+-- ---- rows below a message, in whatever settings they were drawn
+
+pub moved_rows : (s u : Settings) (source : Option Source) (whole : Source) (fails b : Bool) (edits : List Replacement)
+    (before new : List ℕ) → u ≡ s → source ≡ Some whole → fails ≡ b
+    → new ≡ before ++ rows_text (rows_of_fix u (Some whole) b edits)
+    → new ≡ before ++ rows_text (rows_of_fix s source fails edits)
+moved_rows s u source whole fails b edits before new e is f h =
+    h ∙ ap (λ v. before ++ rows_text (rows_of_fix v (Some whole) b edits)) e
+    ∙ ap (λ o. before ++ rows_text (rows_of_fix s o b edits)) (sym is)
+    ∙ ap (λ v. before ++ rows_text (rows_of_fix s source v edits)) (sym f)

@@ -1,0 +1,16 @@
+use Rattle.std.proofs.Common.{◌≡◌, false, rules}
+use Rattle.miette_fix_rows.specs.rules.DiffRows.{fix_rows}
+use Rattle.miette_page.specs.views.Printouts.{printout_of}
+use Rattle.miette_picture_rules.specs.rules.Snippets.{snippet_settings}
+use Rattle.miette_painting.specs.views.Painting.{settings_of}
+use Rattle.miette_painting.proofs.ShownFixes.{rows_behind}
+use Rattle.miette_painting.proofs.fixes.push_changes.Goals as goal
+
+pub returns-clause-text : goal.returns-clause-text
+returns-clause-text g c = λ whole bytes name.
+    let before = c.args.painter.now.out in
+    let over : c.over-page.result ≡ printout_of before = search rules in
+    rows_behind before
+    (fix_rows (snippet_settings (settings_of c.args.painter.now)) whole false c.args.fix.now.edits)
+    c.over-page.result c.push_fix_rows.new.page _ over (c.in_ok-push_fix_rows.ensures whole bytes name)
+    c.in_ok-painter.ensures

@@ -1,0 +1,20 @@
+use Rattle.std.proofs.Common.{[], Some}
+use Rattle.miette_snippet_rules.specs.rules.Highlighting.{follows}
+use Rattle.miette_tree.specs.views.Owned.{shown_source}
+use Rattle.miette_picture_rules.specs.rules.Sources.{labelled}
+use Rattle.miette_painting.specs.steps.PartTexts.{IsSourceDrawn}
+use Rattle.miette_painting.specs.views.Painting.{printing_of, settings_of, settings_with}
+use Rattle.miette_painting.proofs.DrawnRows.{drawn_unlabelled, empty_list}
+use Rattle.miette_painting.proofs.Steps.{nothing_behind}
+use Rattle.miette_painting.proofs.sources.push_shown.Goals as goal
+
+pub returns-in-empty-clause-ok : goal.returns-in-empty-clause-ok
+returns-in-empty-clause-ok g c =
+    let old = c.args.painter.now in
+    let by = printing_of g.H.Highlighter.is_blank g.H.Highlighter.may_follow old old in
+    let s = settings_with (settings_of old) c.args.look.now in
+    let source = shown_source g.S.SourceCode.source c.args.source in
+    let labels = c.args.labels.now in
+    nothing_behind (IsSourceDrawn s (labelled (Some source) labels) by) old.out
+    (drawn_unlabelled by.settings s by.blank (follows g.H.Highlighter.may_follow old.highlighter) source labels
+    (empty_list labels c.in-empty.len_below))

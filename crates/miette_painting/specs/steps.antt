@@ -1,0 +1,4 @@
+-- The code's own steps, which no rule names.
+pub mod PartTexts
+pub mod TextKinds
+pub mod FixSources

@@ -1,0 +1,57 @@
+-- What a painter prints, and what of it stays.
+use Rattle.std.specs.Prelude.{◌≡◌, ℕ, Bool, List, Option, option_map}
+use Rattle.miette_protocol.specs.rules.Reading.{Source}
+use Rattle.miette_highlight.specs.rules.HighlighterCalls.{Call, Leads}
+use Rattle.miette_snippet_rules.specs.rules.Highlighting.{follows, leaves_plain}
+use Rattle.miette_tree.specs.views.Handler.{AppendsOne}
+use Rattle.miette_tree.specs.views.Owned.{shown_source}
+use Rattle.miette_tree.specs.declared.owned.SourceRef.{SourceRef}
+use Rattle.miette_picture_rules.specs.rules.Settings.{Settings}
+use Rattle.miette_picture_rules.specs.views.SettingsView.{handler_settings}
+use Rattle.miette_painting.specs.declared.painter.Painter.{Painter}
+use Rattle.miette_painting.specs.declared.sources.Look.{Look}
+use Rattle.miette_style.specs.rules.Themes.{theme_of}
+
+-- the handler's settings, with the painter's width
+abbrev pub settings_of : {H : Type 0} → Painter H → Settings
+settings_of painter = record (handler_settings painter.settings.now) { width = painter.width }
+
+-- the source that a report is printed over, where there is one
+abbrev pub source_shown : {S : Type 0} → (S → Source) → Option (SourceRef S) → Option Source
+source_shown is = option_map (shown_source is)
+
+-- the same with a theme and a layout of their own
+abbrev pub settings_with : Settings → Look → Settings
+settings_with s look = record s { theme = theme_of look.theme.now; layout = look.layout.now }
+
+-- By what a part of a report is printed: by these settings, with plain lines of sources or not, while these calls on
+-- the highlighter happen.
+pub record Printing : Type 1 where
+  pub settings : Settings
+  pub blank : Bool
+  pub happen : List Call → Type 0
+
+-- the calls bring a highlighter from one state to another, each told by what may follow
+abbrev pub printing : Settings → Bool → (List Call → Type 0) → (List Call → Type 0) → Printing
+printing s blank begun now = record { settings = s; blank = blank; happen = λ calls. Leads begun calls now }
+
+-- what a painter prints on the way from one state to another
+abbrev pub printing_of : {H : Type 0} → (H → Bool) → (H → List Call → Type 0) → Painter H → Painter H → Printing
+printing_of is_blank may_follow old new =
+    printing (settings_of old) (leaves_plain is_blank old.highlighter) (follows may_follow old.highlighter)
+    (follows may_follow new.highlighter)
+
+-- a painter appends one of these texts to what it printed
+abbrev pub Paints : {H : Type 0} → (H → Bool) → (H → List Call → Type 0) → (Printing → List ℕ → Type 0) → Painter H →
+    Painter H → Type 0
+Paints is_blank may_follow what old new = AppendsOne (what (printing_of is_blank may_follow old new)) old.out new.out
+
+-- Settings and width stay, a blank highlighter stays blank, and one that isn't blank doesn't become so.
+abbrev pub Keeps : {H : Type 0} → (H → Bool) → Painter H → Painter H → Type 0
+Keeps is_blank old new =
+    (settings_of new ≡ settings_of old)
+    × (leaves_plain is_blank new.highlighter ≡ leaves_plain is_blank old.highlighter)
+
+-- only what was printed is another text
+abbrev pub PrintsOnly : {H : Type 0} → Painter H → Painter H → Type 0
+PrintsOnly old new = (settings_of new ≡ settings_of old) × (new.highlighter ≡ old.highlighter)

@@ -1,0 +1,181 @@
+//! The fixes of a diagnostic: each as its message, and what it changes.
+
+ghost use Rattle.std.specs.Prelude.{◌≡◌, ◌++◌, Bool, false, true, map, OnOk, Option, Some};
+ghost use Rattle.std.specs.List.{list_any};
+ghost use Rattle.std.specs.Option.{option_copied};
+ghost use Rattle.miette_picture_rules.specs.rules.DiagnosticText.{fix_text, fixes_text, rows_text};
+ghost use Rattle.miette_picture_rules.specs.rules.Snippets.{drawn_fix, rows_of_fix};
+ghost use Rattle.miette_picture_rules.specs.rules.Sources.{has_edits};
+ghost use Rattle.miette_painting.specs.steps.FixSources.{AsksItself, IsGivenOver};
+ghost use Rattle.miette_painting.specs.steps.PartTexts.{AppendsFixes};
+ghost use Rattle.miette_painting.specs.views.Painting.{PrintsOnly, settings_of, source_shown};
+ghost use Rattle.miette_protocol.specs.rules.Reading.{Source};
+
+use crate::indents::{TextKind, push_text};
+use crate::painter::Painter;
+use miette_fix_drawing::fix::{WholeSource, push_fix_rows, push_unread_fix};
+use miette_fixes::fix::Fix;
+use miette_layout::options::SnippetSettings;
+use miette_page::page::Page;
+use miette_protocol::protocol::{SourceOffset, SourceSpan};
+use miette_protocol::source::SourceCode;
+use miette_text::runs::output::Output;
+use miette_tree::report::SourceRef;
+use std::alloc::AllocError;
+use std::mem;
+
+/// What fixes are drawn over: no source, one that could not be read, or one that was read as a whole.
+#[derive_where(Clone, Copy)]
+pub(crate) enum FixSource<'a, S> {
+    Nowhere,
+    Unread,
+    Whole(WholeSource<'a, S>),
+}
+
+// Appends the rows below a fix's message, over a source that was read as a whole.
+fn push_changes<S: SourceCode, H>(
+    painter: &mut Painter<'_, H>,
+    source: &WholeSource<'_, S>,
+    fix: &Fix,
+) -> Result<(), AllocError>
+    requires { (S.source source.now.asked.now).bytes ≡ source.now.bytes.now }
+    ensures text { OnOk result ((whole : Source) → whole.bytes ≡ source.now.bytes.now →
+        whole.name ≡ option_copied source.now.name → painter.new.out ≡ painter.old.out
+        ++ rows_text (rows_of_fix (settings_of painter.old) (Some whole) false fix.now.edits)) }
+    ensures stays { PrintsOnly painter.old painter.new }
+{
+    let settings = painter.settings;
+    let drawn_with = SnippetSettings {
+        alloc: painter.alloc,
+        theme: &settings.theme,
+        layout: &settings.layout,
+    };
+    let mut page = Page::over(mem::replace(&mut painter.out, Output::for_text(painter.alloc)));
+    push_fix_rows(&mut page, &drawn_with, source, fix)?;
+    painter.out = page.into_output()?;
+    Ok(())
+}
+
+// Appends the row below a fix's message, where its source could not be read.
+fn push_unread<H>(painter: &mut Painter<'_, H>, fix: &Fix) -> Result<(), AllocError>
+    ensures text { OnOk result ((whole : Source) → painter.new.out ≡ painter.old.out
+        ++ rows_text (rows_of_fix (settings_of painter.old) (Some whole) true fix.now.edits)) }
+    ensures stays { PrintsOnly painter.old painter.new }
+{
+    let settings = painter.settings;
+    let drawn_with = SnippetSettings {
+        alloc: painter.alloc,
+        theme: &settings.theme,
+        layout: &settings.layout,
+    };
+    let mut page = Page::over(mem::replace(&mut painter.out, Output::for_text(painter.alloc)));
+    push_unread_fix(&mut page, &drawn_with, fix)?;
+    painter.out = page.into_output()?;
+    Ok(())
+}
+
+// Appends a fix: its message, and the rows below it.
+fn push_fix<S: SourceCode, H>(
+    painter: &mut Painter<'_, H>,
+    over: &FixSource<'_, S>,
+    fix: &Fix,
+) -> Result<(), AllocError>
+    requires { AsksItself S.source over.now }
+    ensures text { OnOk result ((source : Option Source) (fails : Bool) → IsGivenOver over.now source fails →
+        painter.new.out ≡ painter.old.out
+        ++ fix_text (settings_of painter.old) (drawn_fix (settings_of painter.old) source fails fix.now)) }
+    ensures stays { PrintsOnly painter.old painter.new }
+{
+    push_text(painter, TextKind::Fix, fix.message())?;
+    match over {
+        FixSource::Nowhere => Ok(()),
+        FixSource::Unread => push_unread(painter, fix),
+        FixSource::Whole(source) => push_changes(painter, source, fix),
+    }
+}
+
+// Appends fixes, in the order given.
+fn push_each<S: SourceCode, H>(
+    painter: &mut Painter<'_, H>,
+    over: &FixSource<'_, S>,
+    fixes: &[Fix],
+) -> Result<(), AllocError>
+    requires { AsksItself S.source over.now }
+    ensures text { OnOk result ((source : Option Source) (fails : Bool) → IsGivenOver over.now source fails →
+        painter.new.out ≡ painter.old.out ++ fixes_text (settings_of painter.old)
+        (map (drawn_fix (settings_of painter.old) source fails) fixes.now)) }
+    ensures stays { PrintsOnly painter.old painter.new }
+{
+    let mut rest = fixes;
+    while let [fix, more @ ..] = rest {
+        push_fix(painter, over, fix)?;
+        rest = more;
+    }
+    Ok(())
+}
+
+// Whether a fix has edits.
+fn has_edits(fix: &Fix) -> bool
+    ensures { result ≡ has_edits fix.now }
+{
+    !fix.edits().is_empty()
+}
+
+// Whether one of these fixes has edits.
+fn some_edits(fixes: &[Fix]) -> bool
+    ensures { result ≡ list_any has_edits fixes.now }
+{
+    fixes.iter().any(|fix| has_edits(fix))
+}
+
+// Appends fixes over the effective source of their diagnostic. Where one of them has edits, that is read once for all
+// of them, as a whole.
+#[inline(never)]
+fn push_some<S: SourceCode, H>(
+    painter: &mut Painter<'_, H>,
+    source: Option<SourceRef<'_, S>>,
+    fixes: &[Fix],
+) -> Result<(), AllocError>
+    ensures ok { OnOk result (AppendsFixes (settings_of painter.old) (source_shown S.source source.entry) fixes.now
+        painter.old.out painter.new.out) }
+    ensures stays { PrintsOnly painter.old painter.new }
+{
+    let nowhere: FixSource<'_, SourceRef<'_, S>> = FixSource::Nowhere;
+    let Some(source) = source else {
+        return push_each(painter, &nowhere, fixes);
+    };
+    if !some_edits(fixes) {
+        return push_each(painter, &nowhere, fixes);
+    }
+    let begin = SourceSpan::new(SourceOffset::from(0), 0);
+    match source.read_span(&begin, 1, usize::MAX) {
+        Ok(lent) => {
+            let whole = WholeSource {
+                bytes: lent.data(),
+                name: lent.name(),
+                asked: &source,
+            };
+            push_each(painter, &FixSource::Whole(whole), fixes)
+        }
+        Err(_) => {
+            let unread: FixSource<'_, SourceRef<'_, S>> = FixSource::Unread;
+            push_each(painter, &unread, fixes)
+        }
+    }
+}
+
+/// Appends a diagnostic's fixes over its effective source.
+pub(crate) fn push_fixes<S: SourceCode, H>(
+    painter: &mut Painter<'_, H>,
+    source: Option<SourceRef<'_, S>>,
+    fixes: &[Fix],
+) -> Result<(), AllocError>
+    ensures ok { OnOk result (AppendsFixes (settings_of painter.old) (source_shown S.source source.entry) fixes.now
+        painter.old.out painter.new.out) }
+    ensures stays { PrintsOnly painter.old painter.new }
+{
+    if fixes.is_empty() {
+        return Ok(());
+    }
+    push_some(painter, source, fixes)
+}

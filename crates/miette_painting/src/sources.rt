@@ -1,0 +1,211 @@
+//! The snippets of a diagnostic, over each of its sources.
+
+ghost use Rattle.std.specs.Prelude.{◌≡◌, Some, IfOk, OnOk, false, map};
+ghost use Rattle.std.specs.List.{list_any};
+ghost use Rattle.miette_picture_rules.specs.rules.Sources.{further_sources, is_labelled, labelled, layout_with, sources_of};
+ghost use Rattle.miette_picture_rules.specs.rules.Sources.{after_labels, sources_read, theme_after, turned};
+ghost use Rattle.miette_painting.specs.steps.PartTexts.{AreDrawn, AreRowsDrawn, AreSourcesDrawn, IsSourceDrawn};
+ghost use Rattle.miette_painting.specs.views.Painting.{Keeps, Paints, settings_of, settings_with, source_shown};
+ghost use Rattle.miette_tree.specs.rules.Reads.{always_reads};
+ghost use Rattle.miette_tree.specs.rules.Tree.{head};
+ghost use Rattle.miette_tree.specs.views.Attached.{section_of};
+ghost use Rattle.miette_tree.specs.views.Owned.{shown_source};
+ghost use Rattle.miette_tree.specs.views.Report.{tree_of};
+ghost use Rattle.miette_style.specs.rules.Themes.{theme_of};
+
+use crate::painter::Painter;
+use miette_highlight::highlight::Highlighter;
+use miette_layout::options::{LayoutOptions, SnippetSettings};
+use miette_layout::snippets::snippets;
+use miette_page::page::Page;
+use miette_protocol::error::RenderError;
+use miette_protocol::protocol::{Diagnostic, LabeledSpan};
+use miette_protocol::source::SourceCode;
+use miette_style::style::Style;
+use miette_style::theme::GraphicalTheme;
+use miette_text::runs::output::Output;
+use miette_tree::parts::labels_of;
+use miette_tree::report::{Report, Snippets, SourceRef};
+use std::alloc::{AllocError, Global};
+use std::mem;
+
+/// What the labels over one source are drawn with.
+#[derive(Clone, Copy)]
+pub(crate) struct Look<'a> {
+    pub(crate) theme: &'a GraphicalTheme,
+    pub(crate) layout: &'a LayoutOptions,
+}
+
+// Whether a further source has a label.
+fn is_labelled<S: SourceCode>(section: &Snippets<S>) -> bool
+    ensures { result ≡ is_labelled (section_of S.source section.now) }
+{
+    match section.labels() {
+        [] => false,
+        [_, ..] => true,
+    }
+}
+
+// Whether one of them does.
+fn some_further<S: SourceCode>(sections: &[Snippets<S>]) -> bool
+    ensures { result ≡ list_any (λ it. is_labelled (section_of S.source it)) sections.now }
+{
+    sections.iter().any(|section| is_labelled(section))
+}
+
+// The layout in which a diagnostic's labels are drawn, which has these further sources.
+fn layout_with<S: SourceCode>(layout: &LayoutOptions, sections: &[Snippets<S>]) -> LayoutOptions
+    ensures { result ≡ layout_with (map (section_of S.source) sections.now) layout.now }
+{
+    if some_further(sections) {
+        return LayoutOptions {
+            one_line_start: true,
+            ..*layout
+        };
+    }
+    *layout
+}
+
+// The styles from the one on that comes after so many labels.
+fn turned(alloc: Global, n: usize, styles: &[Style]) -> Result<Vec<Style>, AllocError>
+    ensures { IfOk result (λ v. v.items ≡ turned n styles.now) }
+{
+    let mut list = Vec::with_capacity(alloc, styles.len())?;
+    if !styles.is_empty() {
+        let at = n % styles.len();
+        list.extend_from_slice(&styles[at..])?;
+        list.extend_from_slice(&styles[..at])?;
+    }
+    Ok(list)
+}
+
+// A theme whose next label has the highlight after those of so many labels.
+fn theme_after(alloc: Global, n: usize, theme: GraphicalTheme) -> Result<GraphicalTheme, AllocError>
+    ensures { IfOk result (λ it. theme_of it ≡ theme_after n (theme_of theme)) }
+{
+    let mut theme = theme;
+    theme.styles.highlights = turned(alloc, n, &theme.styles.highlights)?;
+    Ok(theme)
+}
+
+// Appends the text of the rows of some labels' snippets, over a source.
+fn push_drawn<S: SourceCode, H: Highlighter>(
+    painter: &mut Painter<'_, H>,
+    look: &Look<'_>,
+    source: SourceRef<'_, S>,
+    labels: &[LabeledSpan],
+) -> Result<(), RenderError>
+    ensures ok { OnOk result (Paints H.is_blank H.may_follow (AreDrawn
+        (settings_with (settings_of painter.old) look.now)
+        (shown_source S.source source.entry) labels.now) painter.old painter.new) }
+    ensures refused { (result ≡ Err RenderError.Refused) → (shown_source S.source source.entry).always_reads ≡ false }
+    ensures keeps { Keeps H.is_blank painter.old painter.new }
+{
+    let drawn_with = SnippetSettings {
+        alloc: painter.alloc,
+        theme: look.theme,
+        layout: look.layout,
+    };
+    let page = Page::over(mem::replace(&mut painter.out, Output::for_text(painter.alloc)));
+    let page = snippets(&mut painter.highlighter, &drawn_with, &source, labels, page)?;
+    painter.out = page.into_output()?;
+    Ok(())
+}
+
+// Appends the text of the rows of some labels' snippets, over a source that is there.
+fn push_shown<S: SourceCode, H: Highlighter>(
+    painter: &mut Painter<'_, H>,
+    look: &Look<'_>,
+    source: SourceRef<'_, S>,
+    labels: &[LabeledSpan],
+) -> Result<(), RenderError>
+    ensures ok { OnOk result (Paints H.is_blank H.may_follow
+        (IsSourceDrawn (settings_with (settings_of painter.old) look.now)
+        (labelled (Some (shown_source S.source source.entry)) labels.now)) painter.old painter.new) }
+    ensures refused { (result ≡ Err RenderError.Refused) →
+        always_reads (Some (shown_source S.source source.entry)) labels.now ≡ false }
+    ensures keeps { Keeps H.is_blank painter.old painter.new }
+{
+    match labels {
+        [] => Ok(()),
+        [_, ..] => push_drawn(painter, look, source, labels),
+    }
+}
+
+// Appends the text of the rows of some labels' snippets, over a source where there is one.
+fn push_source<S: SourceCode, H: Highlighter>(
+    painter: &mut Painter<'_, H>,
+    look: &Look<'_>,
+    source: Option<SourceRef<'_, S>>,
+    labels: &[LabeledSpan],
+) -> Result<(), RenderError>
+    ensures ok { OnOk result (Paints H.is_blank H.may_follow
+        (IsSourceDrawn (settings_with (settings_of painter.old) look.now)
+        (labelled (source_shown S.source source.entry) labels.now)) painter.old painter.new) }
+    ensures refused { (result ≡ Err RenderError.Refused) →
+        always_reads (source_shown S.source source.entry) labels.now ≡ false }
+    ensures keeps { Keeps H.is_blank painter.old painter.new }
+{
+    match source {
+        None => Ok(()),
+        Some(source) => push_shown(painter, look, source, labels),
+    }
+}
+
+// Appends the text of the rows over further sources, the first of which come after so many labels.
+fn push_further<S: SourceCode, H: Highlighter>(
+    painter: &mut Painter<'_, H>,
+    layout: &LayoutOptions,
+    before: usize,
+    sections: &[Snippets<S>],
+) -> Result<(), RenderError>
+    ensures ok { OnOk result (Paints H.is_blank H.may_follow
+        (AreSourcesDrawn (after_labels before (record (settings_of painter.old) { layout = layout.now }))
+        (further_sources (map (section_of S.source) sections.now))) painter.old painter.new) }
+    ensures refused { (result ≡ Err RenderError.Refused) →
+        sources_read (further_sources (map (section_of S.source) sections.now)) ≡ false }
+    ensures keeps { Keeps H.is_blank painter.old painter.new }
+{
+    let alloc = painter.alloc;
+    if sections.is_empty() {
+        return Ok(());
+    }
+    let mut theme = theme_after(alloc, before, painter.settings.theme.clone()?)?;
+    let mut rest = sections;
+    while let [section, more @ ..] = rest {
+        let labels = section.labels();
+        let look = Look {
+            theme: &theme,
+            layout,
+        };
+        push_source(painter, &look, Some(section.source()), labels)?;
+        theme = theme_after(alloc, labels.len(), theme)?;
+        rest = more;
+    }
+    Ok(())
+}
+
+/// Appends the text of the rows of a diagnostic's snippets: over its effective source, and then over each further one.
+/// Where one of these has a label, frames of one line show their place too.
+pub(crate) fn push_rows<D: Diagnostic, S: SourceCode, H: Highlighter>(
+    painter: &mut Painter<'_, H>,
+    source: Option<SourceRef<'_, S>>,
+    report: &Report<D, S>,
+) -> Result<(), RenderError>
+    ensures ok { OnOk result (Paints H.is_blank H.may_follow (AreRowsDrawn (source_shown S.source source.entry)
+        (head (tree_of D.meaning S.source report.now))) painter.old painter.new) }
+    ensures refused { (result ≡ Err RenderError.Refused) → sources_read (sources_of
+        (source_shown S.source source.entry) (head (tree_of D.meaning S.source report.now))) ≡ false }
+    ensures keeps { Keeps H.is_blank painter.old painter.new }
+{
+    let sections = report.further_snippets();
+    let settings = painter.settings;
+    let layout = layout_with(&settings.layout, sections);
+    let look = Look {
+        theme: &settings.theme,
+        layout: &layout,
+    };
+    let labels = labels_of(report);
+    push_source(painter, &look, source, labels)?;
+    push_further(painter, &layout, labels.len(), sections)
+}

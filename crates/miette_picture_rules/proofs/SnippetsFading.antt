@@ -1,0 +1,304 @@
+-- The rows of snippets fade, and hold no escape: from what the layer of snippets promises of them.
+use Rattle.std.proofs.Common.{◌≡◌, ℕ, zero, suc, ◌+◌, ◌-◌, ◌*◌, ◌/◌, ◌%◌, ◌<◌, ◌≤◌, List, [], ◌∷◌, ◌++◌, map, refl, sym}
+use Rattle.std.proofs.Common.{ap, ap₂, ◌∙◌, arith, encode_utf8_all, Option, Some, None, IfSome, option_map, unwrap_or}
+use Rattle.std.proofs.Common.{le-ltb, lt-ltb, ⊎_elim, append_assoc, drop, length, take}
+use Rattle.std.specs.Char.{encode_utf8}
+use Rattle.std.specs.Str.{chars, chars_after, continuation_len, lead_bits}
+use Rattle.std.specs.List.{AllByRecursion}
+use Rattle.std.proofs.lemmas.Bool.{cases_lt}
+use Rattle.std.proofs.lemmas.List.{map-append}
+use Rattle.std.proofs.lemmas.Str.{chars-nil}
+use Rattle.miette_protocol.specs.views.Meaning.{Label}
+use Rattle.miette_protocol.specs.rules.Reading.{Source}
+use Rattle.miette_runs.specs.rules.Runs.{HaveNoEscape, print, printed_run, plain_run}
+use Rattle.miette_style.specs.rules.Styles.{plain}
+use Rattle.miette_style.specs.rules.Escapes.{no_escape}
+use Rattle.miette_labels.specs.rules.Answers as snippet_answers
+use Rattle.miette_row_laws.specs.laws.Clean.{IsCleanLabel, IsCleanRow, IsCleanSource, AreCleanDrawings}
+use Rattle.miette_row_laws.specs.laws.Fading as fading
+use Rattle.miette_row_laws.specs.laws.Fading.{AreAllPlain, ArePlain, IsPlainRow, unhighlighted_answer}
+use Rattle.miette_row_laws.proofs.Paling.{all_append}
+use Rattle.miette_style.specs.declared.style.Style.{Style}
+use Rattle.miette_tree.specs.rules.Diagnosis.{Diagnosis, Section}
+use Rattle.miette_tree.specs.rules.DiagnosticParts.{given_labels}
+use Rattle.miette_style.specs.rules.Themes.{Styles}
+use Rattle.miette_snippet_rules.specs.rules.Settings as snippets
+use Rattle.miette_snippet_rules.specs.rules.SnippetLayout.{end_settings, snippet_rows}
+use Rattle.miette_page.specs.rules.Rows.{Glyph, Row, Run, glyphs_of}
+use Rattle.miette_picture_rules.specs.rules.Answers.{Answer, SourceAnswer, SourceAnswers, first_source}
+use Rattle.miette_picture_rules.specs.laws.Clean.{AreCleanLabels, AreCleanSettings, HaveNoEscapes, IsCleanMeaning}
+use Rattle.miette_picture_rules.specs.laws.Clean.{IsCleanSection}
+use Rattle.miette_picture_rules.specs.laws.Colourless.{AreSnippets, restyled, unhighlighted}
+use Rattle.miette_picture_rules.specs.rules.DiagnosticText.{line_feed, rows_text}
+use Rattle.miette_picture_rules.specs.rules.Settings.{Settings}
+use Rattle.miette_picture_rules.specs.rules.Snippets.{drawn_rows, rows_over, snippet_settings, run_text, runs_of_row}
+use Rattle.miette_picture_rules.specs.rules.Snippets.{shown_rows, source_rows}
+use Rattle.miette_picture_rules.specs.rules.Sources.{LabelledSource, after_labels, drawn_with, further_sources}
+use Rattle.miette_picture_rules.specs.rules.Sources.{sources_of, styles_after, turned}
+use Rattle.miette_picture_rules.proofs.Bare.{first-bare-source, later-bare-sources}
+use Rattle.miette_runs.specs.rules.Runs.{Fragment}
+
+-- the clauses of the laws of that layer
+pub record LayoutLaws : Type 0 where
+  pub same : (s : snippets.SnippetSettings) (styles : Styles) (source : Source) (labels : List Label)
+      (answers : snippet_answers.Answers) → ArePlain styles →
+      option_map (map glyphs_of) (snippet_rows (fading.restyled s styles) source labels
+      (fading.unhighlighted_answer answers)) ≡ option_map (map glyphs_of) (snippet_rows s source labels answers)
+  pub plain : (s : snippets.SnippetSettings) (styles : Styles) (source : Source) (labels : List Label)
+      (answers : snippet_answers.Answers) → ArePlain styles →
+      IfSome (snippet_rows (fading.restyled s styles) source labels (fading.unhighlighted_answer answers))
+      (AllByRecursion IsPlainRow)
+  pub clean : (s : snippets.SnippetSettings) (source : Source) (labels : List Label) (answers : snippet_answers.Answers)
+      →
+      AreCleanDrawings s.theme.characters → IsCleanSource source → AllByRecursion IsCleanLabel labels
+      → IfSome (snippet_rows s source labels answers) (AllByRecursion IsCleanRow)
+
+-- ---- the bytes of any codes read as these codes
+
+whole : (c : ℕ) (bs : List ℕ) → chars_after zero c bs ≡ c ∷ chars bs
+unfolding chars
+whole c [] = refl
+whole c (b ∷ bs) = refl
+
+led : (a n v : ℕ) (bs : List ℕ) → continuation_len a ≡ n → lead_bits a ≡ v → chars (a ∷ bs) ≡ chars_after n v bs
+unfolding chars
+led a n v bs p q = ap₂ (λ k x. chars_after k x bs) p q
+
+one_byte : (c : ℕ) (rest : List ℕ) → c < 128 → chars (encode_utf8 c ++ rest) ≡ c ∷ chars rest
+unfolding encode_utf8
+one_byte c rest h = rw (lt-ltb c 128 h) (led c zero c rest (grind arith) (grind arith) ∙ whole c rest)
+
+two_bytes : (c : ℕ) (rest : List ℕ) → 128 ≤ c → c < 2048 → chars (encode_utf8 c ++ rest) ≡ c ∷ chars rest
+unfolding encode_utf8
+two_bytes c rest l h =
+    let a = 192 + c / 64 in
+    let is : (a - 192) * 64 + ((128 + c % 64) - 128) ≡ c = omega arith in
+    let low : a < 224 = omega arith in
+    rw (le-ltb c 128 l, lt-ltb c 2048 h) (led a (suc zero) (a - 192) ((128 + c % 64) ∷ rest) (grind arith) (grind arith)
+    ∙ whole ((a - 192) * 64 + ((128 + c % 64) - 128)) rest ∙ ap (λ x. x ∷ chars rest) is)
+
+three_bytes : (c : ℕ) (rest : List ℕ) → 2048 ≤ c → c < 65536 → chars (encode_utf8 c ++ rest) ≡ c ∷ chars rest
+unfolding encode_utf8
+three_bytes c rest l h =
+    let a = 224 + c / 4096 in
+    let b = 128 + (c / 64) % 64 in
+    let d = 128 + c % 64 in
+    let is : ((a - 224) * 64 + (b - 128)) * 64 + (d - 128) ≡ c = omega arith in
+    let low : a < 240 = omega arith in
+    rw (le-ltb c 128 (omega arith), le-ltb c 2048 l, lt-ltb c 65536 h)
+    (led a (suc (suc zero)) (a - 224) (b ∷ d ∷ rest) (grind arith) (grind arith)
+    ∙ whole (((a - 224) * 64 + (b - 128)) * 64 + (d - 128)) rest ∙ ap (λ x. x ∷ chars rest) is)
+
+four_bytes : (c : ℕ) (rest : List ℕ) → 65536 ≤ c → chars (encode_utf8 c ++ rest) ≡ c ∷ chars rest
+unfolding encode_utf8
+four_bytes c rest l =
+    let a = 240 + c / 262144 in
+    let b = 128 + (c / 4096) % 64 in
+    let d = 128 + (c / 64) % 64 in
+    let e = 128 + c % 64 in
+    let is : (((a - 240) * 64 + (b - 128)) * 64 + (d - 128)) * 64 + (e - 128) ≡ c = omega arith in
+    rw (le-ltb c 128 (omega arith), le-ltb c 2048 (omega arith), le-ltb c 65536 l)
+    (led a (suc (suc (suc zero))) (a - 240) (b ∷ d ∷ e ∷ rest) (grind arith) (grind arith)
+    ∙ whole ((((a - 240) * 64 + (b - 128)) * 64 + (d - 128)) * 64 + (e - 128)) rest ∙ ap (λ x. x ∷ chars rest) is)
+
+reads : (c : ℕ) (rest : List ℕ) → chars (encode_utf8 c ++ rest) ≡ c ∷ chars rest
+reads c rest = ⊎_elim (one_byte c rest) (λ l. ⊎_elim (two_bytes c rest l)
+    (λ m. ⊎_elim (three_bytes c rest m) (four_bytes c rest) (cases_lt c 65536)) (cases_lt c 2048)) (cases_lt c 128)
+
+encoded : (cs : List ℕ) → chars (encode_utf8_all cs) ≡ cs
+encoded [] = chars-nil
+encoded (c ∷ cs) = reads c (encode_utf8_all cs) ∙ ap (λ xs. c ∷ xs) (encoded cs)
+
+-- ---- what plain rows print
+
+abbrev pub codes_of : List Glyph → List ℕ
+codes_of pieces = map (λ p. p.code) pieces
+
+pub run_codes : (run : Run) → run_text run ≡ codes_of run.glyphs
+run_codes run = encoded (codes_of run.glyphs)
+
+plain_print : (text : List ℕ) → printed_run plain text ≡ text
+plain_print [] = refl
+plain_print (c ∷ text) = refl
+
+-- in plain, a row prints its characters
+bare_row : (row : Row) → print (map plain_run (runs_of_row row)) ≡ codes_of (glyphs_of row)
+bare_row [] = refl
+bare_row (run ∷ row) = ap₂ (λ x y. x ++ y) (plain_print (run_text run) ∙ run_codes run) (bare_row row)
+    ∙ sym (map-append (λ p. p.code) run.glyphs (glyphs_of row))
+
+pub plain_row : (row : Row) → IsPlainRow row → print (runs_of_row row) ≡ codes_of (glyphs_of row)
+plain_row [] h = refl
+plain_row (run ∷ row) h =
+    ap₂ (λ x y. x ++ y) (ap (λ style. printed_run style (run_text run)) h.0 ∙ plain_print (run_text run)
+    ∙ run_codes run) (plain_row row h.1)
+    ∙ sym (map-append (λ p. p.code) run.glyphs (glyphs_of row))
+
+-- rows by their characters
+abbrev pub text_of : List (List Glyph) → List ℕ
+text_of [] = []
+text_of (pieces ∷ more) = codes_of pieces ++ line_feed ++ text_of more
+
+pub bare_rows : (rows : List Row) → rows_text (map (map plain_run) (map runs_of_row rows)) ≡ text_of
+    (map glyphs_of rows)
+bare_rows [] = refl
+bare_rows (row ∷ rows) = ap₂ (λ x y. x ++ line_feed ++ y) (bare_row row) (bare_rows rows)
+
+pub plain_rows : (rows : List Row) → AllByRecursion IsPlainRow rows → rows_text (map runs_of_row rows)
+    ≡ text_of (map glyphs_of rows)
+plain_rows [] h = refl
+plain_rows (row ∷ rows) h = ap₂ (λ x y. x ++ line_feed ++ y) (plain_row row h.0) (plain_rows rows h.1)
+
+abbrev shown_text : Option (List (List Glyph)) → List ℕ
+shown_text rows = text_of (unwrap_or rows [])
+
+bare_shown : (rows : Option (List Row)) → rows_text (map (map plain_run) (shown_rows rows))
+    ≡ shown_text (option_map (map glyphs_of) rows)
+bare_shown None = refl
+bare_shown (Some rows) = bare_rows rows
+
+plain_shown : (rows : Option (List Row)) → IfSome rows (AllByRecursion IsPlainRow) → rows_text (shown_rows rows)
+    ≡ shown_text (option_map (map glyphs_of) rows)
+plain_shown None h = refl
+plain_shown (Some rows) h = plain_rows rows h
+
+-- ---- rows without an escape
+
+clean_row : (row : Row) → IsCleanRow row → HaveNoEscape (runs_of_row row)
+clean_row [] h = tt
+clean_row (run ∷ row) h = (ap no_escape (run_codes run) ∙ h.0, clean_row row h.1)
+
+pub clean_rows : (rows : List Row) → AllByRecursion IsCleanRow rows → HaveNoEscapes (map runs_of_row rows)
+clean_rows [] h = tt
+clean_rows (row ∷ rows) h = (clean_row row h.0, clean_rows rows h.1)
+
+clean_shown : (rows : Option (List Row)) → IfSome rows (AllByRecursion IsCleanRow) → HaveNoEscapes (shown_rows rows)
+clean_shown None h = tt
+clean_shown (Some rows) h = clean_rows rows h
+
+-- ---- plain styles, whatever highlight comes next
+
+dropped-plain : (k : ℕ) (styles : List Style) → AreAllPlain styles → AreAllPlain (drop k styles)
+dropped-plain zero styles h = h
+dropped-plain (suc k) [] h = tt
+dropped-plain (suc k) (style ∷ styles) h = dropped-plain k styles h.1
+
+taken-plain : (k : ℕ) (styles : List Style) → AreAllPlain styles → AreAllPlain (take k styles)
+taken-plain zero styles h = tt
+taken-plain (suc k) [] h = tt
+taken-plain (suc k) (style ∷ styles) h = (h.0, taken-plain k styles h.1)
+
+turned-plain : (n : ℕ) (styles : List Style) → AreAllPlain styles → AreAllPlain (turned n styles)
+turned-plain n [] h = tt
+turned-plain n (style ∷ styles) h =
+    let k = n % length (style ∷ styles) in
+    all_append (λ it. it ≡ plain) (drop k (style ∷ styles)) (take k (style ∷ styles))
+    (dropped-plain k (style ∷ styles) h) (taken-plain k (style ∷ styles) h)
+
+plain_after : (n : ℕ) (styles : Styles) → ArePlain styles → ArePlain (styles_after n styles)
+plain_after n styles h = record {
+  error = h.error;
+  warning = h.warning;
+  advice = h.advice;
+  help = h.help;
+  link = h.link;
+  linum = h.linum;
+  highlights = turned-plain n styles.highlights h.highlights;
+}
+
+-- ---- sources without an escape
+
+abbrev IsCleanOver : LabelledSource → Type 0
+IsCleanOver it = IfSome it.source IsCleanSource × AllByRecursion IsCleanLabel it.labels
+
+further-clean : (sections : List Section) → AllByRecursion IsCleanSection sections
+    → AllByRecursion IsCleanOver (further_sources sections)
+further-clean [] h = tt
+further-clean (section ∷ more) h = (h.0, further-clean more h.1)
+
+pub labels-clean : (labels : Option (List Label)) → AreCleanLabels labels
+    → AllByRecursion IsCleanLabel (given_labels labels)
+labels-clean None h = tt
+labels-clean (Some ls) h = h
+
+clean_over : LayoutLaws → (s : Settings) (source : Option Source) (labels : List Label) (a : SourceAnswer) →
+    AreCleanSettings s → IfSome source IsCleanSource → AllByRecursion IsCleanLabel labels
+    → HaveNoEscapes (source_rows s source labels a)
+clean_over laws s None labels a h k j = tt
+clean_over laws s (Some source) labels a h k j =
+    let l = end_settings (snippet_settings s) a.end_fails source labels in
+    clean_shown (snippet_rows l source labels a) (laws.clean l source labels a h.0.drawings k j)
+
+-- ---- rows one after the other
+
+pub rows-appended : (xs ys : List (List Fragment)) → rows_text (xs ++ ys) ≡ rows_text xs ++ rows_text ys
+rows-appended [] ys = refl
+rows-appended (x ∷ xs) ys =
+    ap (λ t. print x ++ line_feed ++ t) (rows-appended xs ys)
+    ∙ sym (append_assoc (print x ++ line_feed) (rows_text xs) (rows_text ys))
+
+escapes-appended : (xs ys : List (List Fragment)) → HaveNoEscapes xs → HaveNoEscapes ys → HaveNoEscapes (xs ++ ys)
+escapes-appended [] ys h k = k
+escapes-appended (x ∷ xs) ys h k = (h.0, escapes-appended xs ys h.1 k)
+
+-- ---- the rows over one source, and over several
+
+source_fade : LayoutLaws → (s : Settings) (styles : Styles) (source : Option Source) (labels : List Label)
+    (a : SourceAnswer) → ArePlain styles
+    → rows_text (source_rows (restyled s styles) source labels (unhighlighted_answer a))
+    ≡ rows_text (map (map plain_run) (source_rows s source labels a))
+source_fade laws s styles None labels a bare = refl
+source_fade laws s styles (Some source) labels a bare =
+    let l = end_settings (snippet_settings s) a.end_fails source labels in
+    plain_shown (snippet_rows (fading.restyled l styles) source labels (fading.unhighlighted_answer a))
+    (laws.plain l styles source labels a bare)
+    ∙ ap shown_text (laws.same l styles source labels a bare) ∙ sym (bare_shown (snippet_rows l source labels a))
+
+source_clean : LayoutLaws → (s : Settings) (it : LabelledSource) (a : SourceAnswer) → AreCleanSettings s
+    → IsCleanOver it → HaveNoEscapes (source_rows s it.source it.labels a)
+source_clean laws s it a h k = clean_over laws s it.source it.labels a h k.0 k.1
+
+over_fade : LayoutLaws → (s : Settings) (styles : Styles) (sources : List LabelledSource) (a : SourceAnswers)
+    → ArePlain styles → rows_text (rows_over (restyled s styles) sources (map unhighlighted_answer a))
+    ≡ rows_text (map (map plain_run) (rows_over s sources a))
+over_fade laws s styles [] a bare = refl
+over_fade laws s styles (it ∷ more) a bare =
+    let n = length it.labels in
+    let own = source_rows s it.source it.labels (first_source a) in
+    let rest = rows_over (after_labels n s) more (drop 1 a) in
+    rows-appended (source_rows (restyled s styles) it.source it.labels (first_source (map unhighlighted_answer a)))
+    (rows_over (restyled (after_labels n s) (styles_after n styles)) more (drop 1 (map unhighlighted_answer a)))
+    ∙ ap₂ (λ x y. x ++ y)
+    (ap (λ b. rows_text (source_rows (restyled s styles) it.source it.labels b)) (sym (first-bare-source a))
+    ∙ source_fade laws s styles it.source it.labels (first_source a) bare)
+    (ap (λ b. rows_text (rows_over (restyled (after_labels n s) (styles_after n styles)) more b))
+    (sym (later-bare-sources a))
+    ∙ over_fade laws (after_labels n s) (styles_after n styles) more (drop 1 a) (plain_after n styles bare))
+    ∙ sym (rows-appended (map (map plain_run) own) (map (map plain_run) rest))
+    ∙ ap rows_text (sym (map-append (map plain_run) own rest))
+
+over_clean : LayoutLaws → (s : Settings) (sources : List LabelledSource) (a : SourceAnswers) → AreCleanSettings s
+    → AllByRecursion IsCleanOver sources → HaveNoEscapes (rows_over s sources a)
+over_clean laws s [] a h k = tt
+over_clean laws s (it ∷ more) a h k =
+    escapes-appended (source_rows s it.source it.labels (first_source a))
+    (rows_over (after_labels (length it.labels) s) more (drop 1 a))
+    (source_clean laws s it (first_source a) h k.0)
+    (over_clean laws (after_labels (length it.labels) s) more (drop 1 a) h k.1)
+
+-- ---- a diagnostic's
+
+drawn_fade : LayoutLaws → (s : Settings) (styles : Styles) (source : Option Source) (m : Diagnosis) (a : Answer)
+    → ArePlain styles → rows_text (drawn_rows (restyled s styles) source m (unhighlighted a))
+    ≡ rows_text (map (map plain_run) (drawn_rows s source m a))
+drawn_fade laws s styles source m a bare = over_fade laws (drawn_with m.snippets s) styles (sources_of source m)
+    a.sources
+    bare
+
+drawn_clean : LayoutLaws → (s : Settings) (source : Option Source) (m : Diagnosis) (a : Answer) →
+    AreCleanSettings s → IfSome source IsCleanSource → IsCleanMeaning m → HaveNoEscapes (drawn_rows s source m a)
+drawn_clean laws s source m a h k j = over_clean laws (drawn_with m.snippets s) (sources_of source m) a.sources h
+    ((k, labels-clean m.labels j.labels), further-clean m.snippets j.snippets)
+
+pub drawn_snippets : LayoutLaws → AreSnippets drawn_rows
+drawn_snippets laws = record { fade = drawn_fade laws; clean = drawn_clean laws }

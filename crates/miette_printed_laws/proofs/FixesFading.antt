@@ -1,0 +1,80 @@
+-- The rows of fixes fade, and hold no escape: from what is known of the rows of a fix.
+use Rattle.std.proofs.Common.{◌≡◌, Bool, List, [], ◌∷◌, map, refl, sym, ap, ◌∙◌, Option, Some, None, IfSome}
+use Rattle.std.specs.List.{AllByRecursion}
+use Rattle.miette_fix_rows.specs.rules.DiffRows.{fix_rows}
+use Rattle.miette_fixes.specs.rules.Edits.{Proposal, Replacement}
+use Rattle.miette_page.specs.rules.Rows.{glyphs_of}
+use Rattle.miette_protocol.specs.rules.Reading.{Source}
+use Rattle.miette_row_laws.specs.laws.Clean.{AreCleanDrawings, IsClean, IsCleanRow, IsCleanSource}
+use Rattle.miette_row_laws.specs.laws.Fading as fading
+use Rattle.miette_row_laws.specs.laws.Fading.{ArePlain, IsPlainRow}
+use Rattle.miette_runs.specs.rules.Runs.{plain_run}
+use Rattle.miette_snippet_rules.specs.rules.Settings as snippets
+use Rattle.miette_style.specs.rules.Themes.{Styles}
+use Rattle.miette_tree.specs.rules.Diagnosis.{Diagnosis}
+use Rattle.miette_picture_rules.specs.laws.Clean.{AreCleanSettings, HaveNoEscapes, IsCleanFix, IsCleanMeaning}
+use Rattle.miette_picture_rules.specs.laws.Colourless.{AreFaded, IsCleanShown, restyled, unhighlighted}
+use Rattle.miette_picture_rules.specs.rules.Answers.{Answer}
+use Rattle.miette_picture_rules.specs.rules.DiagnosticText.{rows_text}
+use Rattle.miette_picture_rules.specs.rules.Settings.{Settings}
+use Rattle.miette_picture_rules.specs.rules.Snippets.{drawn_fix, drawn_fixes, rows_of_fix, snippet_settings}
+use Rattle.miette_picture_rules.proofs.SnippetsFading.{bare_rows, clean_rows, plain_rows, text_of}
+
+-- the clauses of those laws
+pub record FixLaws : Type 0 where
+  pub same : (s : snippets.SnippetSettings) (styles : Styles) (source : Source) (fails : Bool)
+      (edits : List Replacement) → ArePlain styles →
+      map glyphs_of (fix_rows (fading.restyled s styles) source fails edits) ≡ map glyphs_of (fix_rows s source fails
+      edits)
+  pub plain : (s : snippets.SnippetSettings) (styles : Styles) (source : Source) (fails : Bool)
+      (edits : List Replacement) → ArePlain styles →
+      AllByRecursion IsPlainRow (fix_rows (fading.restyled s styles) source fails edits)
+  pub clean : (s : snippets.SnippetSettings) (source : Source) (fails : Bool) (edits : List Replacement) →
+      AreCleanDrawings s.theme.characters → IsCleanSource source →
+      AllByRecursion (λ (edit : Replacement). IsClean edit.text) edits
+      → AllByRecursion IsCleanRow (fix_rows s source fails edits)
+
+module _ (laws : FixLaws) where
+  fix_fade : (s : Settings) (styles : Styles) (source : Option Source) (fails : Bool) (edits : List Replacement)
+      → ArePlain styles → rows_text (rows_of_fix (restyled s styles) source fails edits)
+      ≡ rows_text (map (map plain_run) (rows_of_fix s source fails edits))
+  fix_fade s styles None fails edits bare = refl
+  fix_fade s styles (Some source) fails edits bare =
+      let l = snippet_settings s in
+      plain_rows (fix_rows (fading.restyled l styles) source fails edits) (laws.plain l styles source fails edits bare)
+      ∙ ap text_of (laws.same l styles source fails edits bare) ∙ sym (bare_rows (fix_rows l source fails edits))
+
+  fixes_fade : (s : Settings) (styles : Styles) (source : Option Source) (fails : Bool) (fixes : List Proposal)
+      → ArePlain styles
+      → AreFaded (map (drawn_fix (restyled s styles) source fails) fixes) (map (drawn_fix s source fails) fixes)
+  fixes_fade s styles source fails [] bare = tt
+  fixes_fade s styles source fails (fix ∷ fixes) bare = (
+    record { message = refl; rows = fix_fade s styles source fails fix.edits bare },
+    fixes_fade s styles source fails fixes bare,
+  )
+
+  pub drawn_fixes_fade : (s : Settings) (styles : Styles) (source : Option Source) (m : Diagnosis) (a : Answer)
+      → ArePlain styles
+      → AreFaded (drawn_fixes (restyled s styles) source m (unhighlighted a)) (drawn_fixes s source m a)
+  drawn_fixes_fade s styles source m a bare = fixes_fade s styles source a.fixes_fail m.fixes bare
+
+  fix_clean : (s : Settings) (source : Option Source) (fails : Bool) (edits : List Replacement) → AreCleanSettings s
+      → IfSome source IsCleanSource → AllByRecursion (λ (edit : Replacement). IsClean edit.text) edits
+      → HaveNoEscapes (rows_of_fix s source fails edits)
+  fix_clean s None fails edits h k j = tt
+  fix_clean s (Some source) fails edits h k j =
+      clean_rows (fix_rows (snippet_settings s) source fails edits)
+      (laws.clean (snippet_settings s) source fails edits h.0.drawings k j)
+
+  fixes_clean : (s : Settings) (source : Option Source) (fails : Bool) (fixes : List Proposal) → AreCleanSettings s
+      → IfSome source IsCleanSource → AllByRecursion IsCleanFix fixes
+      → AllByRecursion IsCleanShown (map (drawn_fix s source fails) fixes)
+  fixes_clean s source fails [] h k j = tt
+  fixes_clean s source fails (fix ∷ fixes) h k j = (
+    record { message = j.0.message; rows = fix_clean s source fails fix.edits h k j.0.texts },
+    fixes_clean s source fails fixes h k j.1,
+  )
+
+  pub drawn_fixes_clean : (s : Settings) (source : Option Source) (m : Diagnosis) (a : Answer) → AreCleanSettings s
+      → IfSome source IsCleanSource → IsCleanMeaning m → AllByRecursion IsCleanShown (drawn_fixes s source m a)
+  drawn_fixes_clean s source m a h k j = fixes_clean s source a.fixes_fail m.fixes h k j.fixes

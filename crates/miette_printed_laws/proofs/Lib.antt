@@ -1,0 +1,12 @@
+pub mod EndShown
+pub mod Fading
+pub mod FixPictures
+pub mod FixesFading
+pub mod Holding
+pub mod LabelLines
+pub mod NarrowCharacters
+pub mod PartFading
+pub mod Possible
+pub mod ReportFading
+pub mod Rows
+pub mod TextLaws
