@@ -3,6 +3,5 @@
 
 mod blocks;
 pub mod changes;
-pub mod laws;
 mod line_lists;
 pub mod worked;

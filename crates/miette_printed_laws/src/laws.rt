@@ -25,7 +25,7 @@ ghost use Rattle.miette_runs.specs.rules.Sequences.{erase};
 ghost use Rattle.miette_text.specs.laws.Tame.{IsTame};
 
 use miette_fix_laws::laws::{fix_rows_fade, fix_rows_hold_no_escape, frames_show_the_context};
-use miette_fix_rows::laws::{
+use miette_diff_laws::laws::{
     a_diff_has_the_applied_text, a_diff_has_the_source, changes_are_trimmed, frames_stand_in_a_diff,
 };
 use miette_layout::laws::{

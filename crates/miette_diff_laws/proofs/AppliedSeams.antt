@@ -18,8 +18,8 @@ use Rattle.miette_source_lines.proofs.Parts.{part_length}
 use Rattle.miette_fixes.specs.views.Ordered.{FitFrom}
 use Rattle.miette_fix_rows.specs.rules.Blocks.{block_from, block_to, joins_terminator, text_between, touched_from}
 use Rattle.miette_fix_rows.specs.rules.Blocks.{touched_to}
-use Rattle.miette_fix_rows.proofs.Applied.{text_over}
-use Rattle.miette_fix_rows.proofs.AppliedBlocks.{far_next, flat}
+use Rattle.miette_diff_laws.proofs.Applied.{text_over}
+use Rattle.miette_diff_laws.proofs.AppliedBlocks.{far_next, flat}
 use Rattle.miette_fix_rows.proofs.Chains.{Chain, block_fits, block_order, block_within}
 use Rattle.miette_fix_rows.proofs.Chains.{last_end, last_within, to_line}
 use Rattle.miette_fix_rows.proofs.PartsOfParts.{drop_front, slice_at}

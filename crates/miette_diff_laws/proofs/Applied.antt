@@ -19,7 +19,7 @@ use Rattle.miette_fix_rows.specs.steps.Parting.{new_until, old_until, staying}
 use Rattle.miette_fix_rows.proofs.Commons.{common_within, common_within_other}
 use Rattle.miette_fix_rows.proofs.Parting.{staying_new, staying_old}
 use Rattle.miette_fix_rows.proofs.PartsOfParts.{drop_front, drop_join, slice_front, slice_join}
-use Rattle.miette_fix_rows.proofs.Trimmed.{behind_is}
+use Rattle.miette_diff_laws.proofs.Trimmed.{behind_is}
 
 -- ---- bytes of lines
 

@@ -14,10 +14,10 @@ use Rattle.miette_fix_rows.specs.rules.Blocks.{text_between}
 use Rattle.miette_fix_rows.specs.rules.Hunks.{Change, change_of, changes_of, diff, diff_from, is_nil, lines_after}
 use Rattle.miette_fix_rows.specs.rules.Hunks.{onto_changes}
 use Rattle.miette_fix_rows.specs.steps.Parting.{new_until, old_until, staying}
-use Rattle.miette_fix_rows.proofs.Applied.{Far, ending_same, front_same, text_over, text_split, three}
-use Rattle.miette_fix_rows.proofs.AppliedBlocks.{far_block, far_more, far_next, flat, flat_blocks, still_text}
-use Rattle.miette_fix_rows.proofs.AppliedSeams.{EndsBefore, ends_slice, last_is_end, meet_behind, meet_none, meet_part}
-use Rattle.miette_fix_rows.proofs.AppliedSeams.{new_ending, seam_head}
+use Rattle.miette_diff_laws.proofs.Applied.{Far, ending_same, front_same, text_over, text_split, three}
+use Rattle.miette_diff_laws.proofs.AppliedBlocks.{far_block, far_more, far_next, flat, flat_blocks, still_text}
+use Rattle.miette_diff_laws.proofs.AppliedSeams.{EndsBefore, ends_slice, last_is_end, meet_behind, meet_none, meet_part}
+use Rattle.miette_diff_laws.proofs.AppliedSeams.{new_ending, seam_head}
 use Rattle.miette_fix_rows.proofs.Chains.{Chain, block_fits, block_order, block_within, chain, from_ended, last_end}
 use Rattle.miette_fix_rows.proofs.Chains.{to_ended}
 use Rattle.miette_fix_rows.proofs.Parting.{staying_new, staying_old}

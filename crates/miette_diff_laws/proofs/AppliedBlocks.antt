@@ -14,7 +14,7 @@ use Rattle.miette_fix_rows.specs.rules.Blocks.{block_from, block_to, blocks, byt
 use Rattle.miette_fix_rows.specs.rules.Blocks.{onto_blocks, text_between}
 use Rattle.miette_fix_rows.specs.rules.Hunks.{Change, change_of, is_nil}
 use Rattle.miette_fix_rows.specs.steps.Parting.{old_until, staying}
-use Rattle.miette_fix_rows.proofs.Applied.{Far, new_text, text_over, text_split}
+use Rattle.miette_diff_laws.proofs.Applied.{Far, new_text, text_over, text_split}
 use Rattle.miette_fix_rows.proofs.Chains.{Chain, block_fits, block_order, block_within, first_at_or_behind}
 use Rattle.miette_fix_rows.proofs.Chains.{next_behind}
 use Rattle.miette_fix_rows.proofs.Parting.{staying_old}

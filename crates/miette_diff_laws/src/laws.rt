@@ -13,7 +13,7 @@ ghost use Rattle.miette_fix_rows.specs.rules.Hunks.{Diff, changes, diff, lines_a
 
 /// The removed and the added lines of a change have no line in common at their ends. Texts of lines are those of the
 /// source's lines, with their terminators.
-#[tactic(auto, using(crate::proofs::Seams::texts_are_lines, crate::proofs::Trimmed::all_trimmed))]
+#[tactic(auto, using(miette_fix_rows::proofs::Seams::texts_are_lines, crate::proofs::Trimmed::all_trimmed))]
 pub fn changes_are_trimmed()
     ensures trimmed { (source : List ℕ) → (edits : List Replacement) →
         AllByRecursion IsTrimmed (changes source edits) }
@@ -22,7 +22,7 @@ pub fn changes_are_trimmed()
 {}
 
 /// The removed and the unchanged lines of a diff, one after the other, are exactly the source's lines.
-#[tactic(auto, using(crate::proofs::Sources::source_lines))]
+#[tactic(auto, using(miette_fix_rows::proofs::Sources::source_lines))]
 pub fn a_diff_has_the_source()
     ensures source { (source : List ℕ) → (edits : List Replacement) → refusal (length source) edits ≡ None →
         lines_before (diff source edits) ≡ line_texts source }
