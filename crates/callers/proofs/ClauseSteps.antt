@@ -12,10 +12,10 @@ use Rattle.miette_style.specs.rules.Themes.{unicode_characters}
 use Rattle.miette_style.specs.declared.theme.GraphicalTheme.{GraphicalTheme}
 use Rattle.miette_picture_rules.specs.rules.Answers.{unlisted}
 use Rattle.miette_picture_rules.specs.rules.PossibleAnswers.{Appends, IsTextOf}
-use Rattle.miette_picture_rules.specs.laws.Clean.{AreCleanSettings, IsCleanTree}
-use Rattle.miette_picture_rules.specs.laws.Colourless.{ArePlain, restyled}
-use Rattle.miette_picture_rules.specs.laws.Headline.{LinesAreShown, MarksAreApart, TextsHang}
-use Rattle.miette_picture_rules.specs.laws.CharacterSets.{AreNarrow}
+use Rattle.miette_printed_laws.specs.laws.Clean.{AreCleanSettings, IsCleanTree}
+use Rattle.miette_printed_laws.specs.laws.Colourless.{ArePlain, restyled}
+use Rattle.miette_printed_laws.specs.laws.Headline.{LinesAreShown, MarksAreApart, TextsHang}
+use Rattle.miette_printed_laws.specs.laws.CharacterSets.{AreNarrow}
 use Rattle.miette_picture_rules.specs.rules.PrintedDiagnostics.{HoldsOfPrinted, all_read, diagnostics_of}
 use Rattle.miette_picture_rules.specs.rules.Settings.{Settings, default_settings}
 use Rattle.miette_picture_rules.specs.rules.Snippets.{whole_drawing}

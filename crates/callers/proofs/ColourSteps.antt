@@ -10,9 +10,9 @@ use Rattle.miette_highlight.specs.rules.Pieces.{Piece, plain_pieces}
 use Rattle.miette_snippet_rules.specs.rules.Highlighting.{AreCallsOn, follows}
 use Rattle.miette_runs.specs.rules.Sequences.{erase}
 use Rattle.miette_text.specs.rules.ColouredTexts.{AppendsErasing}
-use Rattle.miette_picture_rules.specs.laws.Clean.{AreCleanSettings, IsCleanTree}
-use Rattle.miette_picture_rules.specs.laws.Colourless.{IsColouredText, IsRestyledText, colourless}
-use Rattle.miette_picture_rules.specs.laws.Colourless.{unhighlighted_answers}
+use Rattle.miette_printed_laws.specs.laws.Clean.{AreCleanSettings, IsCleanTree}
+use Rattle.miette_printed_laws.specs.laws.Colourless.{IsColouredText, IsRestyledText, colourless}
+use Rattle.miette_printed_laws.specs.laws.Colourless.{unhighlighted_answers}
 use Rattle.miette_picture_rules.specs.rules.Answers.{unlisted}
 use Rattle.miette_picture_rules.specs.rules.ByLine.{answers_by}
 use Rattle.miette_picture_rules.specs.rules.Calls.{report_calls}

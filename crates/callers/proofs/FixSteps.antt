@@ -5,8 +5,8 @@ use Rattle.std.specs.List.{AllByRecursion}
 use Rattle.miette_tree.specs.rules.Tree.{Tree}
 use Rattle.miette_tree.specs.views.Handler.{AppendsOne}
 use Rattle.miette_printed_laws.proofs.Rows.{bytes-stand}
-use Rattle.miette_picture_rules.specs.laws.FixPictures.{FixesAreTold, TellsChanges}
-use Rattle.miette_picture_rules.specs.laws.Holding.{IsHoldingText, StandsIn}
+use Rattle.miette_printed_laws.specs.laws.FixPictures.{FixesAreTold, TellsChanges}
+use Rattle.miette_printed_laws.specs.laws.Holding.{IsHoldingText, StandsIn}
 use Rattle.miette_picture_rules.specs.rules.DiagnosticText.{fixes_text}
 use Rattle.miette_picture_rules.specs.rules.PrintedDiagnostics.{diagnostics_of}
 use Rattle.miette_picture_rules.specs.rules.Snippets.{drawn_fix, whole_drawing}

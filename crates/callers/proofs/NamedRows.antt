@@ -12,7 +12,7 @@ use Rattle.miette_runs.specs.rules.Runs.{Fragment, print}
 use Rattle.miette_runs.specs.rules.Sequences.{tokens}
 use Rattle.miette_source_lines.specs.rules.Lines.{column_of, ends_line, line_end, line_of, line_start, terminators_in}
 use Rattle.miette_tree.specs.rules.Tree.{head}
-use Rattle.miette_picture_rules.specs.laws.Holding.{StandsIn}
+use Rattle.miette_printed_laws.specs.laws.Holding.{StandsIn}
 use Rattle.miette_picture_rules.specs.rules.Answers.{nothing_listed}
 use Rattle.miette_picture_rules.specs.rules.DiagnosticText.{line_feed}
 use Rattle.miette_picture_rules.specs.rules.Indents.{spaces}

@@ -17,8 +17,8 @@ use Rattle.miette_snippet_rules.specs.rules.Snippets.{is_kept}
 use Rattle.miette_source_lines.specs.rules.Lines.{Line, ends_line, line_of, lines_of}
 use Rattle.miette_tree.specs.rules.Tree.{Tree}
 use Rattle.miette_tree.specs.views.Handler.{AppendsOne}
-use Rattle.miette_picture_rules.specs.laws.Headline.{group_settings, shown_lines}
-use Rattle.miette_picture_rules.specs.laws.Holding.{IsHoldingText, StandsIn}
+use Rattle.miette_printed_laws.specs.laws.Headline.{group_settings, shown_lines}
+use Rattle.miette_printed_laws.specs.laws.Holding.{IsHoldingText, StandsIn}
 use Rattle.miette_picture_rules.specs.rules.Answers.{Answers, first_source, own_answer, pieces_listed, source_unlisted}
 use Rattle.miette_picture_rules.specs.rules.DiagnosticText.{line_feed}
 use Rattle.miette_picture_rules.specs.rules.PossibleAnswers.{AreAnswers}

@@ -10,13 +10,13 @@ use Rattle.miette_labels.specs.rules.Groups.{AreAccepted}
 use Rattle.miette_snippet_rules.specs.rules.PrintedCells.{cells_width}
 use Rattle.miette_tree.specs.rules.Tree.{Tree}
 use Rattle.miette_tree.specs.views.Handler.{AppendsOne}
-use Rattle.miette_picture_rules.specs.laws.Headline.{CutsAreExact, EndsAreDrawn, LabelsAreFolded, LinesThatFitStay}
-use Rattle.miette_picture_rules.specs.laws.Headline.{cells_under}
+use Rattle.miette_printed_laws.specs.laws.Headline.{CutsAreExact, EndsAreDrawn, LabelsAreFolded, LinesThatFitStay}
+use Rattle.miette_printed_laws.specs.laws.Headline.{cells_under}
 use Rattle.miette_picture_laws.specs.laws.FittingRows.{FitsRow, fed_rows, indented_rows}
-use Rattle.miette_picture_rules.specs.laws.Holding.{Arrow, HoldsSnippets, IsHoldingText, StandsIn}
+use Rattle.miette_printed_laws.specs.laws.Holding.{Arrow, HoldsSnippets, IsHoldingText, StandsIn}
 use Rattle.miette_picture_laws.specs.laws.Levels.{AreAmong, HaveRoom, HoldsLevels, IsShownRow, StandBehindBars}
 use Rattle.miette_picture_laws.specs.laws.Levels.{settings_under}
-use Rattle.miette_picture_rules.specs.laws.Paths.{to_cause}
+use Rattle.miette_printed_laws.specs.laws.Paths.{to_cause}
 use Rattle.miette_picture_rules.specs.rules.Answers.{Answers, SourceAnswer, cause_answers, first_source, own_answer}
 use Rattle.miette_picture_rules.specs.rules.Answers.{pieces_listed, source_unlisted}
 use Rattle.miette_picture_rules.specs.rules.DiagnosticText.{line_feed}

@@ -15,8 +15,8 @@ use Rattle.miette_picture_rules.specs.rules.Calls.{report_calls}
 use Rattle.miette_picture_rules.specs.rules.Settings.{Settings, default_settings}
 use Rattle.miette_picture_rules.specs.rules.Snippets.{whole_drawing}
 use Rattle.miette_picture_rules.specs.rules.Text.{report_text}
-use Rattle.miette_picture_rules.specs.laws.Headline.{AreOwnMarks, ShowsRanges, SnippetHangs, groups_of, marks_under}
-use Rattle.miette_picture_rules.specs.laws.Headline.{shown_lines}
+use Rattle.miette_printed_laws.specs.laws.Headline.{AreOwnMarks, ShowsRanges, SnippetHangs, groups_of, marks_under}
+use Rattle.miette_printed_laws.specs.laws.Headline.{shown_lines}
 use Rattle.std.specs.List.{AllByRecursion}
 
 -- ---- the report: a label on the one letter of a name, in the second of two lines

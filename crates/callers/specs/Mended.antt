@@ -11,7 +11,7 @@ use Rattle.miette_protocol.specs.rules.Reading.{Source, named_source, plain_sour
 use Rattle.miette_protocol.specs.views.Diagnostic.{message_alone}
 use Rattle.miette_tree.specs.rules.Diagnosis.{plain_diagnosis}
 use Rattle.miette_tree.specs.rules.Tree.{Tree, alone, with_fix, with_source}
-use Rattle.miette_picture_rules.specs.laws.Holding.{StandsIn}
+use Rattle.miette_printed_laws.specs.laws.Holding.{StandsIn}
 use Rattle.miette_picture_rules.specs.rules.DiagnosticText.{fixes_text}
 use Rattle.miette_picture_rules.specs.rules.Snippets.{drawn_fix, rows_of_fix, runs_of_row, snippet_settings}
 use Rattle.callers.specs.Known.{plain}

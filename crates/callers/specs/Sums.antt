@@ -15,8 +15,8 @@ use Rattle.miette_picture_rules.specs.rules.DiagnosticText.{line_feed}
 use Rattle.miette_picture_rules.specs.rules.Settings.{Settings}
 use Rattle.miette_picture_rules.specs.rules.Snippets.{drawn_rows, source_rows}
 use Rattle.miette_picture_rules.specs.rules.PrintedDiagnostics.{PrintedDiagnostic, over}
-use Rattle.miette_picture_rules.specs.laws.Headline.{EndsBehind, cut_under, drawn_labels, is_kept_at, line_of}
-use Rattle.miette_picture_rules.specs.laws.Holding.{Arrow, StandsIn}
+use Rattle.miette_printed_laws.specs.laws.Headline.{EndsBehind, cut_under, drawn_labels, is_kept_at, line_of}
+use Rattle.miette_printed_laws.specs.laws.Holding.{Arrow, StandsIn}
 use Rattle.miette_picture_laws.specs.laws.FittingRows.{FitsRow, fed_rows, indented_rows}
 use Rattle.miette_picture_laws.specs.laws.Levels.{AreAmong, IsShownRow, settings_under}
 use Rattle.miette_picture_rules.specs.rules.Indents.{spaces}

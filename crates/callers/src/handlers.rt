@@ -1,7 +1,7 @@
 //! What a caller knows of the pictures of a report, by the clauses of the call that draws them.
 
 ghost use Rattle.std.specs.Prelude.{◌≡◌, IfOk, string_bytes, encode_utf8_all};
-ghost use Rattle.miette_picture_rules.specs.laws.Holding.{StandsIn};
+ghost use Rattle.miette_printed_laws.specs.laws.Holding.{StandsIn};
 ghost use Rattle.miette_picture_rules.specs.rules.Answers.{unlisted};
 ghost use Rattle.miette_picture_rules.specs.rules.Snippets.{whole_drawing};
 ghost use Rattle.miette_picture_rules.specs.rules.Text.{report_text};

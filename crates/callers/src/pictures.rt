@@ -3,8 +3,8 @@
 
 ghost use Rattle.std.specs.Prelude.{◌≡◌, ◌++◌, ℕ, List, IfOk, Some, false, true, string_bytes};
 ghost use Rattle.std.specs.List.{Contains};
-ghost use Rattle.miette_picture_rules.specs.laws.Alike.{AreDrawnAlike};
-ghost use Rattle.miette_picture_rules.specs.laws.Paths.{HasPath};
+ghost use Rattle.miette_printed_laws.specs.laws.Alike.{AreDrawnAlike};
+ghost use Rattle.miette_printed_laws.specs.laws.Paths.{HasPath};
 ghost use Rattle.miette_picture_rules.specs.rules.Answers.{Answers};
 ghost use Rattle.miette_picture_rules.specs.rules.DiagnosticText.{Drawing};
 ghost use Rattle.miette_picture_rules.specs.rules.PrintedDiagnostics.{diagnostics_of};

@@ -7,16 +7,16 @@ use Rattle.miette_picture_rules.specs.rules.PrintedDiagnostics.{all_read, diagno
 use Rattle.miette_picture_rules.specs.rules.Settings.{Settings}
 use Rattle.miette_picture_rules.specs.rules.Snippets.{whole_drawing}
 use Rattle.miette_picture_rules.specs.rules.Text.{report_text}
-use Rattle.miette_picture_rules.specs.laws.Clean.{AreCleanSettings, IsCleanTree}
-use Rattle.miette_picture_rules.specs.laws.Colourless.{IsColouredText, IsRestyledText, colourless, restyled}
+use Rattle.miette_printed_laws.specs.laws.Clean.{AreCleanSettings, IsCleanTree}
+use Rattle.miette_printed_laws.specs.laws.Colourless.{IsColouredText, IsRestyledText, colourless, restyled}
 use Rattle.miette_row_laws.specs.laws.Fading.{ArePlain}
 use Rattle.miette_style.specs.rules.Themes.{Styles}
-use Rattle.miette_picture_rules.specs.laws.Holding.{IsHoldingText}
+use Rattle.miette_printed_laws.specs.laws.Holding.{IsHoldingText}
 use Rattle.miette_runs.specs.rules.Sequences.{erase}
 use Rattle.miette_text.specs.rules.ColouredTexts.{AppendsErasing}
 use Rattle.miette_tree.specs.rules.Tree.{Tree}
 use Rattle.miette_tree.specs.views.Handler.{AppendsOne}
-use Rattle.miette_picture_rules.proofs.Only.{only-text}
+use Rattle.miette_printed_laws.proofs.Only.{only-text}
 
 -- by whatever calls
 pub unasked : (s : Settings) (blank : Bool) (happen : List Call → Type 0) (t : Tree) (old new : List ℕ)

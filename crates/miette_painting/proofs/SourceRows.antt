@@ -21,7 +21,7 @@ use Rattle.miette_painting.specs.steps.PartTexts.{AreSourcesDrawn, IsSourceDrawn
 use Rattle.miette_painting.specs.views.Painting.{Keeps, Paints, settings_of}
 use Rattle.miette_painting.proofs.Painted.{paints_after}
 use Rattle.miette_painting.proofs.Remaining.{Chain, Left, all_printed, one_printed}
-use Rattle.miette_picture_rules.proofs.SnippetsFading.{rows-appended}
+use Rattle.miette_picture_rules.proofs.RowTexts.{rows-appended}
 use Rattle.miette_painting.proofs.Steps.{behind, leads_none, leads_on, nothing_behind}
 
 -- sources that are left, and the settings in which the labels over the first of them are drawn

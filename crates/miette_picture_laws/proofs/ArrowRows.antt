@@ -6,7 +6,7 @@ use Rattle.miette_runs.specs.rules.Cutting.{only_feeds}
 use Rattle.miette_runs.specs.rules.Sequences.{Token, Character, Sequence, is_line_feed, tokens}
 use Rattle.miette_picture_laws.specs.laws.Arrows.{DrawnRowsStand, rows_under}
 use Rattle.miette_picture_laws.specs.laws.FittingRows.{fed_rows}
-use Rattle.miette_picture_rules.specs.laws.Holding.{Arrow, EndsRow, HoldsUnder, StandsIn, cut_text}
+use Rattle.miette_printed_laws.specs.laws.Holding.{Arrow, EndsRow, HoldsUnder, StandsIn, cut_text}
 use Rattle.miette_picture_rules.specs.rules.DiagnosticText.{line_feed, under_arrow}
 use Rattle.miette_picture_rules.specs.rules.Settings.{Settings}
 use Rattle.miette_picture_laws.proofs.Arrows.{inner-stand}

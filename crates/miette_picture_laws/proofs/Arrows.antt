@@ -14,7 +14,7 @@ use Rattle.miette_picture_rules.specs.rules.DiagnosticText.{line_feed, rows_text
 use Rattle.miette_picture_rules.specs.rules.Indents.{arrow_indent, stem_indent}
 use Rattle.miette_picture_rules.specs.rules.Settings.{Settings}
 use Rattle.miette_picture_laws.specs.laws.Arrows.{FirstStands, InnerRowsStand, RowsStand, rows_under}
-use Rattle.miette_picture_rules.specs.laws.Holding.{Arrow, cut_text}
+use Rattle.miette_printed_laws.specs.laws.Holding.{Arrow, cut_text}
 
 -- how what stands under an arrow is wrapped
 abbrev pub arrow_plan : Settings → Option Severity → Bool → Plan (List ℕ)

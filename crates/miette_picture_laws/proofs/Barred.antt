@@ -21,11 +21,11 @@ use Rattle.miette_text.proofs.Erasing.{append-tame, tokens-append}
 use Rattle.miette_text.proofs.Parsing.{tokens-spell}
 use Rattle.miette_text.proofs.Printing.{print-tame}
 use Rattle.miette_text.proofs.TameResults.{alive, run-trimmed}
-use Rattle.miette_picture_rules.specs.laws.CharacterSets.{AreShipped}
+use Rattle.miette_printed_laws.specs.laws.CharacterSets.{AreShipped}
 use Rattle.miette_picture_rules.specs.rules.Indents.{stem_indent}
 use Rattle.miette_picture_rules.specs.rules.Settings.{Settings, severity_style}
 use Rattle.miette_picture_laws.specs.laws.FittingRows.{FitsRow, bare_row, fed_rows, is_row}
-use Rattle.miette_picture_rules.specs.laws.Holding.{Arrow}
+use Rattle.miette_printed_laws.specs.laws.Holding.{Arrow}
 use Rattle.miette_picture_laws.specs.laws.Levels.{FitLevels, HasPlainBars, HaveRoom, IsShownRow, StandBehindBars, bar}
 use Rattle.miette_picture_laws.specs.laws.Levels.{barred, barred_rows, bars, settings_behind, settings_under}
 use Rattle.miette_picture_laws.proofs.Levels.{barred-fed}

@@ -17,11 +17,11 @@ use Rattle.miette_picture_rules.specs.rules.Answers.{Answers}
 use Rattle.miette_picture_rules.specs.rules.DiagnosticText.{Drawing, line_feed, under_arrow}
 use Rattle.miette_picture_rules.specs.rules.Indents.{arrow_indent, narrow_settings, stem_indent}
 use Rattle.miette_picture_rules.specs.rules.Settings.{Settings}
-use Rattle.miette_picture_rules.specs.laws.Alike.{answer_at}
+use Rattle.miette_printed_laws.specs.laws.Alike.{answer_at}
 use Rattle.miette_picture_laws.specs.laws.Arrows.{FitUnder, rows_under}
 use Rattle.miette_picture_laws.specs.laws.FittingRows.{bare_row, fed_rows, indented_rows}
-use Rattle.miette_picture_rules.specs.laws.Holding.{Arrow, HoldsSnippets, HoldsUnder, StandsIn, arrows_at, cut_text}
-use Rattle.miette_picture_rules.specs.laws.Holding.{rows_at, text_at}
+use Rattle.miette_printed_laws.specs.laws.Holding.{Arrow, HoldsSnippets, HoldsUnder, StandsIn, arrows_at, cut_text}
+use Rattle.miette_printed_laws.specs.laws.Holding.{rows_at, text_at}
 use Rattle.miette_picture_laws.specs.laws.Levels.{AreAmong, FitLevels, HoldsLevels, LevelRowsStand, barred, barred_rows}
 use Rattle.miette_picture_laws.specs.laws.Levels.{ends_related, settings_under}
 use Rattle.miette_picture_laws.proofs.ArrowRows.{IsSeen, fed-append, fed-ends, grouped, seen-above, seen-before}

@@ -8,8 +8,8 @@ use Rattle.miette_tree.specs.rules.Tree.{effective, Tree, tree, Cause, diagnosti
 use Rattle.miette_picture_rules.specs.rules.Settings.{Settings}
 use Rattle.miette_picture_rules.specs.rules.PrintedDiagnostics.{PrintedDiagnostic, over, diagnostics_of, printed_causes}
 use Rattle.miette_picture_rules.specs.rules.PrintedDiagnostics.{printed_related}
-use Rattle.miette_picture_rules.specs.laws.Paths.{Step, to_cause, to_related, at_cause, at_related, HasPath}
-use Rattle.miette_picture_rules.proofs.Paths.{first_or_later, none}
+use Rattle.miette_printed_laws.specs.laws.Paths.{Step, to_cause, to_related, at_cause, at_related, HasPath}
+use Rattle.miette_printed_laws.proofs.Paths.{first_or_later, none}
 
 abbrev IsAt : (List Step → Option PrintedDiagnostic) → PrintedDiagnostic → Type 0
 IsAt at p = (path : List Step) × (at path ≡ Some p)

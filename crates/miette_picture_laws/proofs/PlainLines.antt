@@ -10,11 +10,11 @@ use Rattle.miette_picture_rules.specs.rules.Answers.{Answers, SourceAnswers}
 use Rattle.miette_picture_rules.specs.rules.Answers.{first_source}
 use Rattle.miette_picture_rules.specs.rules.PossibleAnswers.{AreAnswers, AreAnswersOver}
 use Rattle.miette_picture_rules.specs.rules.Text.{report_text}
-use Rattle.miette_picture_rules.specs.laws.Alike.{answer_at}
-use Rattle.miette_picture_rules.specs.laws.Colourless.{unhighlighted_answers}
-use Rattle.miette_picture_rules.proofs.PrintedAnswers.{Agree, AgreeAlong, AgreeOver, agreed_alike, answer_there}
+use Rattle.miette_printed_laws.specs.laws.Alike.{answer_at}
+use Rattle.miette_printed_laws.specs.laws.Colourless.{unhighlighted_answers}
+use Rattle.miette_printed_laws.proofs.PrintedAnswers.{Agree, AgreeAlong, AgreeOver, agreed_alike, answer_there}
 use Rattle.miette_snippet_rules.specs.rules.Settings as snippets
-use Rattle.miette_picture_rules.proofs.Bare.{bare_at, first-bare-source, later-bare-sources}
+use Rattle.miette_printed_laws.proofs.Bare.{bare_at, first-bare-source, later-bare-sources}
 
 -- where lines are left plain, there are no pieces
 plain_over : (l : snippets.SnippetSettings) (sources : List LabelledSource) (a : SourceAnswers)

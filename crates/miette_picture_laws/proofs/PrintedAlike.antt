@@ -2,14 +2,14 @@
 use Rattle.std.proofs.Common.{inl, inr, List, [], ◌∷◌, subst, ◌≡◌, ap}
 use Rattle.std.specs.List.{AllByRecursion, Contains}
 use Rattle.miette_picture_rules.specs.rules.PrintedDiagnostics.{PrintedDiagnostic}
-use Rattle.miette_picture_rules.proofs.Paths.{first_or_later, none}
+use Rattle.miette_printed_laws.proofs.Paths.{first_or_later, none}
 use Rattle.miette_tree.specs.rules.Tree.{Tree}
 use Rattle.miette_picture_rules.specs.rules.Answers.{Answers}
 use Rattle.miette_picture_rules.specs.rules.DiagnosticText.{Drawing}
 use Rattle.miette_picture_rules.specs.rules.Settings.{Settings}
 use Rattle.miette_picture_rules.specs.rules.Text.{report_text}
-use Rattle.miette_picture_rules.specs.laws.Alike.{AreAnsweredAlike}
-use Rattle.miette_picture_rules.proofs.Alike.{report_alike}
+use Rattle.miette_printed_laws.specs.laws.Alike.{AreAnsweredAlike}
+use Rattle.miette_printed_laws.proofs.Alike.{report_alike}
 
 -- what holds of each of a list holds of one that is in it
 pub holds_there : (P : PrintedDiagnostic → Type 0) (ps : List PrintedDiagnostic) (p : PrintedDiagnostic)

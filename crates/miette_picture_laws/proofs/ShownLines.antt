@@ -30,9 +30,9 @@ use Rattle.miette_picture_rules.specs.rules.Answers.{SourceAnswers, first_source
 use Rattle.miette_picture_rules.specs.rules.Settings.{Settings}
 use Rattle.miette_picture_rules.specs.rules.Snippets.{rows_over, runs_of_row, source_rows}
 use Rattle.miette_picture_rules.specs.rules.Sources.{LabelledSource, after_labels}
-use Rattle.miette_picture_rules.specs.laws.CharacterSets.{AreNarrow}
-use Rattle.miette_picture_rules.specs.laws.Headline.{ShowsRanges, context_of, drawn_labels, group_settings, groups_of}
-use Rattle.miette_picture_rules.specs.laws.Headline.{line_of}
+use Rattle.miette_printed_laws.specs.laws.CharacterSets.{AreNarrow}
+use Rattle.miette_printed_laws.specs.laws.Headline.{ShowsRanges, context_of, drawn_labels, group_settings, groups_of}
+use Rattle.miette_printed_laws.specs.laws.Headline.{line_of}
 use Rattle.miette_printed_laws.proofs.NarrowCharacters.{is_narrow}
 use Rattle.miette_picture_laws.specs.laws.ShownLines.{ShownLinesShow, ShownLinesStand, SourcesStand}
 use Rattle.miette_picture_laws.specs.laws.ShownLines.{StandAmong, pieces_at, range_at, range_context, rows_at}

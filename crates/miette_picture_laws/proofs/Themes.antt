@@ -9,8 +9,8 @@ use Rattle.miette_style.specs.rules.Themes.{Characters, Theme, ansi_styles, asci
 use Rattle.miette_style.specs.rules.Themes.{no_styles, refuses_colours, terminal_theme, unicode_characters}
 use Rattle.miette_cells.specs.rules.Widths.{width_of}
 use Rattle.miette_row_laws.specs.laws.Clean.{IsClean}
-use Rattle.miette_picture_rules.specs.laws.Clean.{AreCleanCharacters, AreCleanSettings}
-use Rattle.miette_picture_rules.specs.laws.CharacterSets.{AreNarrow, AreShipped}
+use Rattle.miette_printed_laws.specs.laws.Clean.{AreCleanCharacters, AreCleanSettings}
+use Rattle.miette_printed_laws.specs.laws.CharacterSets.{AreNarrow, AreShipped}
 use Rattle.miette_picture_rules.specs.rules.Settings.{default_settings}
 
 -- what each table has, the shipped characters have

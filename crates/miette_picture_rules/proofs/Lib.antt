@@ -1,10 +1,5 @@
-pub mod Alike
-pub mod Bare
 pub mod GroupRows
 pub mod Lists
-pub mod Only
 pub mod Outermost
-pub mod Paths
-pub mod PrintedAnswers
 pub mod PrintedRows
-pub mod SnippetsFading
+pub mod RowTexts

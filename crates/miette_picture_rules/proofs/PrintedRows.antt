@@ -8,7 +8,7 @@ use Rattle.miette_page.specs.views.Printouts.{Printout, printout_of, start_of, s
 use Rattle.miette_page.specs.views.Tokens.{begins, row_end, row_tokens, run_tokens, rows_tokens, styled_tokens}
 use Rattle.miette_page.proofs.Paging.{put_append, text_put}
 use Rattle.miette_picture_rules.specs.rules.DiagnosticText.{rows_text}
-use Rattle.miette_picture_rules.proofs.SnippetsFading.{run_codes}
+use Rattle.miette_picture_rules.proofs.RowTexts.{run_codes}
 use Rattle.miette_picture_rules.specs.rules.Snippets.{run_text, runs_of_row}
 
 grouped : (a b c d : List ℕ) → ((a ++ b) ++ c) ++ d ≡ a ++ ((b ++ c) ++ d)

@@ -1,4 +1,3 @@
 pub mod rules
 pub mod views
-pub mod laws
 pub mod steps

@@ -24,7 +24,7 @@ use Rattle.miette_row_laws.specs.laws.Ends.{asks_ends, draws_ends}
 use Rattle.miette_row_laws.proofs.EndLabels.{shows_ordered}
 use Rattle.miette_picture_rules.specs.rules.Settings.{Settings}
 use Rattle.miette_picture_rules.specs.rules.Snippets.{snippet_settings}
-use Rattle.miette_picture_rules.specs.laws.Headline.{EndIsShown, EndsBehind, context_of, group_settings}
+use Rattle.miette_printed_laws.specs.laws.Headline.{EndIsShown, EndsBehind, context_of, group_settings}
 
 -- ---- one label, with more lines or fewer
 

@@ -11,8 +11,8 @@ use Rattle.miette_runs.specs.rules.Cells.{columns_of}
 use Rattle.miette_printed_laws.proofs.TextLaws.{TextLaws, plain-tame, plain-erase}
 use Rattle.miette_picture_rules.specs.rules.Settings.{Settings}
 use Rattle.miette_row_laws.specs.laws.Clean.{IsClean}
-use Rattle.miette_picture_rules.specs.laws.Clean.{HaveNoEscapes}
-use Rattle.miette_picture_rules.specs.laws.Colourless.{restyled}
+use Rattle.miette_printed_laws.specs.laws.Clean.{HaveNoEscapes}
+use Rattle.miette_printed_laws.specs.laws.Colourless.{restyled}
 use Rattle.miette_style.specs.rules.Themes.{Styles}
 use Rattle.miette_picture_rules.specs.rules.Indents.{wrapped_under}
 use Rattle.miette_picture_rules.specs.rules.DiagnosticText.{rows_text, line_feed}

@@ -12,7 +12,7 @@ use Rattle.miette_fix_rows.specs.rules.Hunks.{Diff, changes, diff, lines_after, 
 use Rattle.miette_fixes.specs.rules.Applying.{applied, by_offset, refusal}
 use Rattle.miette_fixes.specs.rules.Edits.{Proposal, Replacement}
 use Rattle.miette_protocol.specs.rules.Reading.{Source}
-use Rattle.miette_picture_rules.specs.laws.FixPictures.{FixesAreTold, TellsChanges}
+use Rattle.miette_printed_laws.specs.laws.FixPictures.{FixesAreTold, TellsChanges}
 use Rattle.miette_picture_rules.specs.rules.PrintedDiagnostics.{PrintedDiagnostic}
 use Rattle.miette_picture_rules.specs.rules.Settings.{Settings}
 use Rattle.miette_picture_rules.specs.rules.Snippets.{rows_of_fix, runs_of_row, snippet_settings}

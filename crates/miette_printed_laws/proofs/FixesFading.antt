@@ -12,13 +12,13 @@ use Rattle.miette_runs.specs.rules.Runs.{plain_run}
 use Rattle.miette_snippet_rules.specs.rules.Settings as snippets
 use Rattle.miette_style.specs.rules.Themes.{Styles}
 use Rattle.miette_tree.specs.rules.Diagnosis.{Diagnosis}
-use Rattle.miette_picture_rules.specs.laws.Clean.{AreCleanSettings, HaveNoEscapes, IsCleanFix, IsCleanMeaning}
-use Rattle.miette_picture_rules.specs.laws.Colourless.{AreFaded, IsCleanShown, restyled, unhighlighted}
+use Rattle.miette_printed_laws.specs.laws.Clean.{AreCleanSettings, HaveNoEscapes, IsCleanFix, IsCleanMeaning}
+use Rattle.miette_printed_laws.specs.laws.Colourless.{AreFaded, IsCleanShown, restyled, unhighlighted}
 use Rattle.miette_picture_rules.specs.rules.Answers.{Answer}
 use Rattle.miette_picture_rules.specs.rules.DiagnosticText.{rows_text}
 use Rattle.miette_picture_rules.specs.rules.Settings.{Settings}
 use Rattle.miette_picture_rules.specs.rules.Snippets.{drawn_fix, drawn_fixes, rows_of_fix, snippet_settings}
-use Rattle.miette_picture_rules.proofs.SnippetsFading.{bare_rows, clean_rows, plain_rows, text_of}
+use Rattle.miette_printed_laws.proofs.SnippetsFading.{bare_rows, clean_rows, plain_rows, text_of}
 
 -- the clauses of those laws
 pub record FixLaws : Type 0 where

@@ -19,12 +19,12 @@ use Rattle.miette_picture_rules.specs.rules.PrintedDiagnostics.{PrintedDiagnosti
 use Rattle.miette_picture_rules.specs.rules.Settings.{Settings}
 use Rattle.miette_picture_rules.specs.rules.Text.{are_last, body_over, causes_text, drawn_text, ends_there}
 use Rattle.miette_picture_rules.specs.rules.Text.{only_if, related_text, report_text}
-use Rattle.miette_picture_rules.specs.laws.Alike.{answer_at, numbered_answers}
-use Rattle.miette_picture_rules.specs.laws.Holding.{Arrow, EndsRow, HoldsRows, HoldsSnippets, HoldsUnder, IsHoldingText}
-use Rattle.miette_picture_rules.specs.laws.Holding.{HoldsFixRows, HoldsFixes, StandsIn, arrows_at, cause_arrows, cut_text}
-use Rattle.miette_picture_rules.specs.laws.Holding.{fixes_at}
-use Rattle.miette_picture_rules.specs.laws.Holding.{related_arrows, rows_at, text_at}
-use Rattle.miette_picture_rules.specs.laws.Paths.{Step, to_cause, to_related, at_cause, at_related, printed_at}
+use Rattle.miette_printed_laws.specs.laws.Alike.{answer_at, numbered_answers}
+use Rattle.miette_printed_laws.specs.laws.Holding.{Arrow, EndsRow, HoldsRows, HoldsSnippets, HoldsUnder, IsHoldingText}
+use Rattle.miette_printed_laws.specs.laws.Holding.{HoldsFixRows, HoldsFixes, StandsIn, arrows_at, cause_arrows, cut_text}
+use Rattle.miette_printed_laws.specs.laws.Holding.{fixes_at}
+use Rattle.miette_printed_laws.specs.laws.Holding.{related_arrows, rows_at, text_at}
+use Rattle.miette_printed_laws.specs.laws.Paths.{Step, to_cause, to_related, at_cause, at_related, printed_at}
 use Rattle.miette_printed_laws.proofs.Rows.{IsEnded, above-ended, ahead-stands, arrow-ended, behind-stands, body-ended}
 use Rattle.miette_printed_laws.proofs.Rows.{body-grouped, bytes-stand, drawn-ended, drawn-rows, ended-rows, fixes-rows}
 use Rattle.miette_printed_laws.proofs.Rows.{help-rows, here-stands, row-stands, rows-behind, texts-rows, whole-stands}

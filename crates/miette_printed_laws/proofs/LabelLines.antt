@@ -8,7 +8,7 @@ use Rattle.miette_protocol.specs.views.Meaning.{Label}
 use Rattle.miette_source_lines.specs.rules.Lines.{line_of, lines_of}
 use Rattle.miette_labels.specs.rules.Around.{lines_around}
 use Rattle.miette_snippet_rules.specs.rules.Snippets.{is_in_context, is_shown, shown_numbers}
-use Rattle.miette_picture_rules.specs.laws.LabelLines.{HasItsLines}
+use Rattle.miette_printed_laws.specs.laws.LabelLines.{HasItsLines}
 
 behind : (b : Bool) (a : ℕ) (xs : List ℕ) (k : ℕ) → Contains xs k → Contains (cond b (a ∷ xs) xs) k
 behind true a xs k c = (suc c.0, omega (arith, c.1), c.2)

@@ -1,3 +1,5 @@
+pub mod Alike
+pub mod Bare
 pub mod EndShown
 pub mod Fading
 pub mod FixPictures
@@ -5,8 +7,12 @@ pub mod FixesFading
 pub mod Holding
 pub mod LabelLines
 pub mod NarrowCharacters
+pub mod Only
 pub mod PartFading
+pub mod Paths
 pub mod Possible
+pub mod PrintedAnswers
 pub mod ReportFading
 pub mod Rows
+pub mod SnippetsFading
 pub mod TextLaws

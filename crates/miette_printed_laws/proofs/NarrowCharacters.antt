@@ -6,7 +6,7 @@ use Rattle.unicode_width.specs.Width.{char_width}
 use Rattle.miette_style.specs.rules.Themes.{Characters}
 use Rattle.miette_cells.specs.rules.Widths.{width_of}
 use Rattle.miette_snippet_rules.specs.rules.Drawing.{IsNarrow}
-use Rattle.miette_picture_rules.specs.laws.CharacterSets.{AreNarrow}
+use Rattle.miette_printed_laws.specs.laws.CharacterSets.{AreNarrow}
 
 digit_narrow : (d : ℕ) → 48 ≤ d → d < 58 → width_of d ≡ 1
 unfolding char_width

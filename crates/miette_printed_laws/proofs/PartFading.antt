@@ -30,9 +30,9 @@ use Rattle.miette_row_laws.specs.laws.Clean.{IsClean, IsCleanText, IsCleanSource
 use Rattle.miette_row_laws.specs.laws.Fading.{AreAllPlain}
 use Rattle.miette_row_laws.proofs.PlainStyles.{faded_are_plain, faded_styles}
 use Rattle.miette_row_laws.proofs.CleanTexts.{clean_cons, clean_append}
-use Rattle.miette_picture_rules.specs.laws.Clean.{AreCleanCharacters, AreCleanSettings, IsCleanMeaning}
-use Rattle.miette_picture_rules.specs.laws.Colourless.{AreDrawings, AreFaded, IsCleanShown, IsFaded, restyled}
-use Rattle.miette_picture_rules.specs.laws.Colourless.{unhighlighted}
+use Rattle.miette_printed_laws.specs.laws.Clean.{AreCleanCharacters, AreCleanSettings, IsCleanMeaning}
+use Rattle.miette_printed_laws.specs.laws.Colourless.{AreDrawings, AreFaded, IsCleanShown, IsFaded, restyled}
+use Rattle.miette_printed_laws.specs.laws.Colourless.{unhighlighted}
 use Rattle.miette_printed_laws.proofs.Fading.{Fades, Pales, fades-to, fades-append, fades-clean, fades-print}
 use Rattle.miette_printed_laws.proofs.Fading.{fades-leading, fades-under, fades-feed, fades-rows, columns-pale}
 

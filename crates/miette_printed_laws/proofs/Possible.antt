@@ -27,9 +27,9 @@ use Rattle.miette_picture_rules.specs.rules.Answers.{own_answer, cause_answers, 
 use Rattle.miette_picture_rules.specs.rules.PossibleAnswers.{AreAnswers, AreCauseAnswers, AreRelatedAnswers, HasPieces}
 use Rattle.miette_picture_rules.specs.rules.PossibleAnswers.{AreAnswersOver, HasRows, IsAnswer, IsAnswerOf}
 use Rattle.miette_tree.specs.rules.Reads.{always_reads}
-use Rattle.miette_picture_rules.specs.laws.Colourless.{colourless, unhighlighted_answers, unhighlighted_related_answers}
-use Rattle.miette_picture_rules.proofs.Bare.{first-bare-source, later-bare-sources, own-bare, cause-bare, related-bare}
-use Rattle.miette_picture_rules.proofs.Bare.{first-bare, later-bare}
+use Rattle.miette_printed_laws.specs.laws.Colourless.{colourless, unhighlighted_answers, unhighlighted_related_answers}
+use Rattle.miette_printed_laws.proofs.Bare.{first-bare-source, later-bare-sources, own-bare, cause-bare, related-bare}
+use Rattle.miette_printed_laws.proofs.Bare.{first-bare, later-bare}
 
 -- in plain styles the rows have the same characters, which the layer of snippets promises
 abbrev pub AreRowsKept : Type 0

@@ -22,12 +22,12 @@ use Rattle.miette_row_laws.specs.laws.Fading.{AreAllPlain, ArePlain}
 use Rattle.miette_row_laws.proofs.PlainStyles.{are_faded}
 use Rattle.miette_style.specs.declared.style.Style.{Style}
 use Rattle.miette_style.specs.rules.Themes.{Styles}
-use Rattle.miette_picture_rules.specs.laws.Clean.{AreCleanSettings, IsCleanMeaning, IsCleanTree, IsCleanCause}
-use Rattle.miette_picture_rules.specs.laws.Clean.{AreCleanTrees}
-use Rattle.miette_picture_rules.specs.laws.Colourless.{restyled, unhighlighted, unhighlighted_answers}
-use Rattle.miette_picture_rules.specs.laws.Colourless.{unhighlighted_related_answers}
-use Rattle.miette_picture_rules.specs.laws.Colourless.{AreDrawings}
-use Rattle.miette_picture_rules.proofs.Bare.{own-bare, cause-bare, related-bare, first-bare, later-bare}
+use Rattle.miette_printed_laws.specs.laws.Clean.{AreCleanSettings, IsCleanMeaning, IsCleanTree, IsCleanCause}
+use Rattle.miette_printed_laws.specs.laws.Clean.{AreCleanTrees}
+use Rattle.miette_printed_laws.specs.laws.Colourless.{restyled, unhighlighted, unhighlighted_answers}
+use Rattle.miette_printed_laws.specs.laws.Colourless.{unhighlighted_related_answers}
+use Rattle.miette_printed_laws.specs.laws.Colourless.{AreDrawings}
+use Rattle.miette_printed_laws.proofs.Bare.{own-bare, cause-bare, related-bare, first-bare, later-bare}
 use Rattle.miette_printed_laws.proofs.Fading.{Fades, fades-to, fades-append, fades-trailing, fades-if, fades-only_if}
 use Rattle.miette_printed_laws.proofs.Fading.{fades-clean}
 use Rattle.miette_printed_laws.proofs.PartFading.{faded, narrowed-faded, fades-header, fades-title, fades-footer}

@@ -14,8 +14,8 @@ use Rattle.miette_picture_rules.specs.rules.Indents.{icon_indent, stem_indent, w
 use Rattle.miette_picture_rules.specs.rules.Settings.{Settings}
 use Rattle.miette_picture_rules.specs.rules.Text.{body_over, cause_texts}
 use Rattle.miette_basics.specs.rules.Lists.{is_nil}
-use Rattle.miette_picture_rules.specs.laws.Holding.{EndsRow, StandsIn}
-use Rattle.miette_picture_rules.proofs.Paths.{first_or_later, none}
+use Rattle.miette_printed_laws.specs.laws.Holding.{EndsRow, StandsIn}
+use Rattle.miette_printed_laws.proofs.Paths.{first_or_later, none}
 
 -- ---- whole rows
 

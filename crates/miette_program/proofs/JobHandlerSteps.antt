@@ -2,7 +2,7 @@
 use Rattle.std.proofs.Common.{◌≡◌, ℕ, Bool, List, [], ◌++◌, ◌∙◌, ap, Result, Ok}
 use Rattle.std.proofs.Common.{Err, IfOk, OnOk, OnErr, String, string_bytes, true, false, encode_utf8_all, refl}
 use Rattle.std.proofs.Common.{sym, subst, not, ◌&&◌}
-use Rattle.miette_picture_rules.proofs.Only as one_text
+use Rattle.miette_printed_laws.proofs.Only as one_text
 use Rattle.miette.specs.rules.Choice.{is_graphical}
 use Rattle.miette.specs.rules.Options.{Options}
 use Rattle.miette.specs.declared.options.handler.MietteHandler.{MietteHandler}

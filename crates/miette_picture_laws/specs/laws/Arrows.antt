@@ -10,7 +10,7 @@ use Rattle.miette_picture_laws.specs.laws.FittingRows.{FitsRow, bare_row, fed_ro
 use Rattle.miette_picture_rules.specs.rules.DiagnosticText.{line_feed, under_arrow}
 use Rattle.miette_picture_rules.specs.rules.Indents.{arrow_indent, narrow_settings, stem_indent}
 use Rattle.miette_picture_rules.specs.rules.Settings.{Settings}
-use Rattle.miette_picture_rules.specs.laws.Holding.{Arrow, StandsIn, cut_text}
+use Rattle.miette_printed_laws.specs.laws.Holding.{Arrow, StandsIn, cut_text}
 
 -- the columns that an indent leaves under an arrow
 abbrev pub room_behind : Settings → List Fragment → ℕ

@@ -13,11 +13,11 @@ use Rattle.miette_picture_rules.specs.rules.DiagnosticText.{Drawing}
 use Rattle.miette_picture_rules.specs.rules.Indents.{narrow_settings, stem_indent}
 use Rattle.miette_picture_rules.specs.rules.PrintedDiagnostics.{PrintedDiagnostic}
 use Rattle.miette_picture_rules.specs.rules.Settings.{Settings}
-use Rattle.miette_picture_rules.specs.laws.Alike.{answer_at}
+use Rattle.miette_printed_laws.specs.laws.Alike.{answer_at}
 use Rattle.miette_picture_laws.specs.laws.Arrows.{FitUnder}
 use Rattle.miette_picture_laws.specs.laws.FittingRows.{FitsRow, bare_row, fed_rows, indented_rows, is_row}
-use Rattle.miette_picture_rules.specs.laws.Holding.{Arrow, StandsIn, arrows_at, rows_at}
-use Rattle.miette_picture_rules.specs.laws.Paths.{Step, printed_at}
+use Rattle.miette_printed_laws.specs.laws.Holding.{Arrow, StandsIn, arrows_at, rows_at}
+use Rattle.miette_printed_laws.specs.laws.Paths.{Step, printed_at}
 
 -- ---- what stands on a level
 

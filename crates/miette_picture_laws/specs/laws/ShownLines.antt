@@ -15,7 +15,7 @@ use Rattle.miette_picture_rules.specs.rules.Answers.{SourceAnswers, first_source
 use Rattle.miette_picture_rules.specs.rules.Settings.{Settings}
 use Rattle.miette_picture_rules.specs.rules.Snippets.{runs_of_row, source_rows}
 use Rattle.miette_picture_rules.specs.rules.Sources.{LabelledSource, after_labels}
-use Rattle.miette_picture_rules.specs.laws.Headline.{context_of, drawn_labels, group_settings, line_of, shown_lines}
+use Rattle.miette_printed_laws.specs.laws.Headline.{context_of, drawn_labels, group_settings, line_of, shown_lines}
 
 -- some rows stand among others, one after the other
 pub record StandAmong {A : Type 0} (rows all : List A) : Type 0 where

@@ -1,4 +1,4 @@
-use Rattle.miette_picture_rules.proofs.Only.{only-text}
+use Rattle.miette_printed_laws.proofs.Only.{only-text}
 use Rattle.miette_picture_laws.proofs.laws.only_law.Goals as goal
 
 pub returns : goal.returns

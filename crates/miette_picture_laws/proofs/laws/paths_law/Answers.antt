@@ -1,4 +1,4 @@
-use Rattle.miette_picture_rules.proofs.Paths.{printed_there}
+use Rattle.miette_printed_laws.proofs.Paths.{printed_there}
 use Rattle.miette_picture_laws.proofs.NamedPaths.{named}
 use Rattle.miette_picture_laws.proofs.laws.paths_law.Goals as goal
 

@@ -10,12 +10,12 @@ use Rattle.miette_picture_rules.specs.rules.Settings.{Settings}
 use Rattle.miette_picture_rules.specs.rules.Snippets.{drawn_fix, drawn_rows, drawn_without_fixes, own_rows, rows_over}
 use Rattle.miette_picture_rules.specs.rules.Snippets.{source_rows, whole_drawing}
 use Rattle.miette_picture_rules.specs.rules.Sources.{after_labels, further_sources, is_labelled, some_further, sources_of}
-use Rattle.miette_picture_rules.specs.laws.Alike.{answer_at}
-use Rattle.miette_picture_rules.specs.laws.Alike.{AreDrawnAlike}
+use Rattle.miette_printed_laws.specs.laws.Alike.{answer_at}
+use Rattle.miette_printed_laws.specs.laws.Alike.{AreDrawnAlike}
 use Rattle.miette_picture_rules.specs.rules.PrintedDiagnostics.{diagnostics_of}
-use Rattle.miette_picture_rules.proofs.Paths.{printed_there}
+use Rattle.miette_printed_laws.proofs.Paths.{printed_there}
 use Rattle.miette_picture_laws.proofs.PrintedAlike.{answered_alike}
-use Rattle.miette_picture_rules.proofs.Alike.{report_alike}
+use Rattle.miette_printed_laws.proofs.Alike.{report_alike}
 use Rattle.miette_picture_laws.proofs.PrintedAlike.{holds_there}
 use Rattle.miette_picture_laws.proofs.laws.printed_law.Goals as goal
 

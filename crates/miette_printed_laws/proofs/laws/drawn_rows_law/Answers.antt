@@ -1,5 +1,5 @@
 use Rattle.miette_printed_laws.proofs.FixesFading.{FixLaws, drawn_fixes_clean, drawn_fixes_fade}
-use Rattle.miette_picture_rules.proofs.SnippetsFading.{drawn_snippets}
+use Rattle.miette_printed_laws.proofs.SnippetsFading.{drawn_snippets}
 use Rattle.miette_printed_laws.proofs.laws.drawn_rows_law.Goals as goal
 
 pub returns : goal.returns

@@ -1,10 +1,10 @@
 use Rattle.std.proofs.Common.{refl, ap, ◌∙◌, encode_utf8_all, sym}
 use Rattle.miette_runs.specs.rules.Sequences.{erase}
-use Rattle.miette_picture_rules.specs.laws.Colourless.{colourless, restyled, unhighlighted_answers}
+use Rattle.miette_printed_laws.specs.laws.Colourless.{colourless, restyled, unhighlighted_answers}
 use Rattle.miette_picture_rules.specs.rules.PrintedDiagnostics.{all_read}
 use Rattle.miette_picture_rules.specs.rules.Snippets.{whole_drawing}
 use Rattle.miette_picture_rules.specs.rules.Text.{report_text}
-use Rattle.miette_picture_rules.proofs.Bare.{bare-report, restyled-printed}
+use Rattle.miette_printed_laws.proofs.Bare.{bare-report, restyled-printed}
 use Rattle.miette_row_laws.proofs.PlainStyles.{none_are_plain}
 use Rattle.miette_style.specs.rules.Themes.{no_styles}
 use Rattle.miette_printed_laws.proofs.Possible.{answers_possible}

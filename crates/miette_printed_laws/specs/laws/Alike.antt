@@ -6,7 +6,7 @@ use Rattle.miette_picture_rules.specs.rules.Answers.{Answer, Answers, RelatedAns
 use Rattle.miette_picture_rules.specs.rules.Answers.{related_answers, first_answers, later_answers}
 use Rattle.miette_picture_rules.specs.rules.DiagnosticText.{Drawing}
 use Rattle.miette_picture_rules.specs.rules.PrintedDiagnostics.{PrintedDiagnostic}
-use Rattle.miette_picture_rules.specs.laws.Paths.{Step, to_cause, to_related, printed_at}
+use Rattle.miette_printed_laws.specs.laws.Paths.{Step, to_cause, to_related, printed_at}
 
 -- over the diagnostic's source and by its labels, in every settings and under every answer
 pub record AreDrawnAlike (drawing other : Drawing) (p : PrintedDiagnostic) : Type 0 where

@@ -10,7 +10,7 @@ use Rattle.miette_tree.specs.rules.Tree.{effective, Tree, tree, Cause, diagnosti
 use Rattle.miette_picture_rules.specs.rules.Settings.{Settings}
 use Rattle.miette_picture_rules.specs.rules.PrintedDiagnostics.{PrintedDiagnostic, over, diagnostics_of, printed_causes}
 use Rattle.miette_picture_rules.specs.rules.PrintedDiagnostics.{printed_related}
-use Rattle.miette_picture_rules.specs.laws.Paths.{Step, to_cause, to_related, at_cause, at_related, printed_at}
+use Rattle.miette_printed_laws.specs.laws.Paths.{Step, to_cause, to_related, at_cause, at_related, printed_at}
 
 -- ---- lists
 

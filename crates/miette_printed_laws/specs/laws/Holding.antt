@@ -15,8 +15,8 @@ use Rattle.miette_picture_rules.specs.rules.PossibleAnswers.{AreAnswers}
 use Rattle.miette_picture_rules.specs.rules.PrintedDiagnostics.{PrintedDiagnostic}
 use Rattle.miette_picture_rules.specs.rules.Settings.{Settings}
 use Rattle.miette_picture_rules.specs.rules.Text.{are_last, ends_there, report_text}
-use Rattle.miette_picture_rules.specs.laws.Alike.{answer_at}
-use Rattle.miette_picture_rules.specs.laws.Paths.{Step, to_cause, to_related, printed_at}
+use Rattle.miette_printed_laws.specs.laws.Alike.{answer_at}
+use Rattle.miette_printed_laws.specs.laws.Paths.{Step, to_cause, to_related, printed_at}
 
 -- ---- the arrows on a path
 

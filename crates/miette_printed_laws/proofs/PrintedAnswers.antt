@@ -18,10 +18,10 @@ use Rattle.miette_picture_rules.specs.rules.PrintedDiagnostics.{reads_all}
 use Rattle.miette_picture_rules.specs.rules.Settings.{Settings}
 use Rattle.miette_picture_rules.specs.rules.Snippets.{drawn_fix, rows_over, snippet_settings, source_rows, whole_drawing}
 use Rattle.miette_picture_rules.specs.rules.Text.{report_text}
-use Rattle.miette_picture_rules.specs.laws.Alike.{answer_at, numbered_answers}
-use Rattle.miette_picture_rules.specs.laws.Paths.{Step, to_cause, to_related, at_cause, at_related, printed_at}
-use Rattle.miette_picture_rules.proofs.Alike.{report_alike}
-use Rattle.miette_picture_rules.proofs.Paths.{first_or_later, none, printed_there}
+use Rattle.miette_printed_laws.specs.laws.Alike.{answer_at, numbered_answers}
+use Rattle.miette_printed_laws.specs.laws.Paths.{Step, to_cause, to_related, at_cause, at_related, printed_at}
+use Rattle.miette_printed_laws.proofs.Alike.{report_alike}
+use Rattle.miette_printed_laws.proofs.Paths.{first_or_later, none, printed_there}
 
 -- ---- answers that agree on each source
 

@@ -34,8 +34,8 @@ use Rattle.miette_snippet_rules.specs.rules.Snippets.{is_shown, shown_numbers, s
 use Rattle.miette_picture_rules.specs.rules.Answers.{pieces_listed}
 use Rattle.miette_picture_rules.specs.rules.Sources.{LabelledSource}
 use Rattle.miette_picture_rules.specs.rules.Settings.{Settings}
-use Rattle.miette_picture_rules.specs.laws.CharacterSets.{AreNarrow}
-use Rattle.miette_picture_rules.specs.laws.LabelLines.{HasItsLines}
+use Rattle.miette_printed_laws.specs.laws.CharacterSets.{AreNarrow}
+use Rattle.miette_printed_laws.specs.laws.LabelLines.{HasItsLines}
 use Rattle.miette_picture_rules.specs.rules.Snippets.{snippet_settings, shown_rows, source_rows}
 
 -- ---- the lines of the snippets

@@ -16,7 +16,7 @@ use Rattle.miette_tree.specs.rules.Tree.{Tree}
 use Rattle.miette_row_laws.specs.laws.Fading.{unhighlighted_answer}
 pub use Rattle.miette_row_laws.specs.laws.Fading.{ArePlain}
 use Rattle.miette_row_laws.specs.laws.Clean.{IsCleanSource, IsCleanText}
-use Rattle.miette_picture_rules.specs.laws.Clean.{AreCleanSettings, HaveNoEscapes, IsCleanMeaning}
+use Rattle.miette_printed_laws.specs.laws.Clean.{AreCleanSettings, HaveNoEscapes, IsCleanMeaning}
 
 -- the same settings in other styles
 abbrev pub restyled : Settings → Styles → Settings

@@ -15,10 +15,10 @@ use Rattle.miette_snippet_rules.specs.rules.Settings as snippets
 use Rattle.miette_tree.specs.rules.Reads.{always_reads}
 use Rattle.std.proofs.lemmas.Bool.{and_parts}
 use Rattle.miette_picture_rules.specs.rules.Text.{report_text}
-use Rattle.miette_picture_rules.specs.laws.Alike.{answer_at, numbered_answers}
-use Rattle.miette_picture_rules.specs.laws.Paths.{Step, to_cause, to_related}
-use Rattle.miette_picture_rules.proofs.PrintedAnswers.{Agree, AgreeAlong, AgreeOver, agreed_alike, answer_there}
-use Rattle.miette_picture_rules.proofs.PrintedAnswers.{reads_there}
+use Rattle.miette_printed_laws.specs.laws.Alike.{answer_at, numbered_answers}
+use Rattle.miette_printed_laws.specs.laws.Paths.{Step, to_cause, to_related}
+use Rattle.miette_printed_laws.proofs.PrintedAnswers.{Agree, AgreeAlong, AgreeOver, agreed_alike, answer_there}
+use Rattle.miette_printed_laws.proofs.PrintedAnswers.{reads_there}
 
 numbered_none : (k : ℕ) → numbered_answers no_more k ≡ unlisted
 numbered_none zero = refl

@@ -19,13 +19,13 @@ use Rattle.miette_picture_rules.specs.rules.Answers.{first_answers, later_answer
 use Rattle.miette_picture_rules.specs.rules.PossibleAnswers.{AreAnswers, AreAnswersOver}
 use Rattle.miette_picture_rules.specs.rules.PrintedDiagnostics.{all_read, diagnostics_of, reads_labels}
 use Rattle.miette_picture_rules.specs.rules.Text.{report_text}
-use Rattle.miette_picture_rules.specs.laws.Alike.{answer_at, numbered_answers}
-use Rattle.miette_picture_rules.specs.laws.Colourless.{restyled, unhighlighted, unhighlighted_answers}
-use Rattle.miette_picture_rules.specs.laws.Colourless.{unhighlighted_related_answers}
-use Rattle.miette_picture_rules.specs.laws.Paths.{Step, to_cause, to_related, printed_at}
-use Rattle.miette_picture_rules.proofs.Only.{nothing_at}
-use Rattle.miette_picture_rules.proofs.PrintedAnswers.{Agree, AgreeAlong, AgreeOver, agreed_alike, answer_there}
-use Rattle.miette_picture_rules.proofs.PrintedAnswers.{reads_there}
+use Rattle.miette_printed_laws.specs.laws.Alike.{answer_at, numbered_answers}
+use Rattle.miette_printed_laws.specs.laws.Colourless.{restyled, unhighlighted, unhighlighted_answers}
+use Rattle.miette_printed_laws.specs.laws.Colourless.{unhighlighted_related_answers}
+use Rattle.miette_printed_laws.specs.laws.Paths.{Step, to_cause, to_related, printed_at}
+use Rattle.miette_printed_laws.proofs.Only.{nothing_at}
+use Rattle.miette_printed_laws.proofs.PrintedAnswers.{Agree, AgreeAlong, AgreeOver, agreed_alike, answer_there}
+use Rattle.miette_printed_laws.proofs.PrintedAnswers.{reads_there}
 
 -- ---- the parts of such answers
 

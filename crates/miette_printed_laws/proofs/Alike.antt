@@ -15,8 +15,8 @@ use Rattle.miette_picture_rules.specs.rules.PrintedDiagnostics.{PrintedDiagnosti
 use Rattle.miette_picture_rules.specs.rules.Settings.{Settings}
 use Rattle.miette_picture_rules.specs.rules.Text.{are_last, body_over, causes_text, drawn_text, ends_there, inner_over}
 use Rattle.miette_picture_rules.specs.rules.Text.{only_if, related_text, report_text}
-use Rattle.miette_picture_rules.specs.laws.Alike.{answer_at, numbered_answers}
-use Rattle.miette_picture_rules.specs.laws.Paths.{Step, to_cause, to_related, at_cause, at_related, printed_at}
+use Rattle.miette_printed_laws.specs.laws.Alike.{answer_at, numbered_answers}
+use Rattle.miette_printed_laws.specs.laws.Paths.{Step, to_cause, to_related, at_cause, at_related, printed_at}
 use Rattle.miette_picture_rules.proofs.Outermost.{if_same, report_over}
 
 module _ (drawing other : Drawing) where
