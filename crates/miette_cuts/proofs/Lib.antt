@@ -1,12 +1,8 @@
 pub mod CountedColumns
 pub mod CutStretches
-pub mod EndColumns
 pub mod NearEnds
-pub mod OffsetColumns
 pub mod PassedStretches
 pub mod PlainStretches
-pub mod PlainText
 pub mod Reaching
 pub mod RowWidth
-pub mod StopColumns
 pub mod WindowColumns

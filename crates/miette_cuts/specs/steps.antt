@@ -1,8 +1,6 @@
 -- The code's own steps, which no rule names.
 pub mod Counting
 pub mod Cut
-pub mod Ends
 pub mod Moving
 pub mod Nearness
-pub mod Stops
 pub mod Windows

@@ -12,9 +12,9 @@ ghost use Rattle.miette_snippet_rules.specs.views.LineTexts.{text_cells};
 
 use crate::moving::row_marks;
 pub use crate::nearness::Room;
-use crate::passing::{Passage, pass_cells, pass_plain};
 use crate::reach::{cut_around, cut_in, room_for};
 use miette_cells::cells::Walk;
+use miette_line_columns::passing::{Passage, pass_cells, pass_plain};
 use miette_snippet_rules::line_text::LineText;
 use miette_snippet_rules::marks::Mark;
 use miette_snippet_rules::stretch::Cut;

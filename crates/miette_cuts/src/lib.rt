@@ -1,13 +1,10 @@
-//! The text of a line: where the marks of its labels stand, and into which stretches it is cut.
+//! Into which stretches the text of a line is cut, and where its marks stand in them.
 #![tactic(auto)]
 
 mod counting;
 pub mod cutting;
-pub mod ends;
-pub mod marks;
 mod moving;
 mod nearness;
-mod passing;
 mod plain_stretches;
 mod reach;
 mod stretch;

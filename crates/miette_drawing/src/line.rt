@@ -22,8 +22,6 @@ ghost use Rattle.miette_source_lines.specs.views.Walking.{line_of_text};
 
 use crate::shown_line::ShownLine;
 use miette_cuts::cutting::{cut_at_ends, marks_shown};
-use miette_cuts::ends::ends_of;
-use miette_cuts::marks::marks_on;
 use miette_frames::closings::push_closings;
 use miette_frames::gutters::{GutterEnd, push_break_gutter, push_gutter};
 use miette_frames::line_context::LineContext;
@@ -31,6 +29,8 @@ use miette_frames::strokes::push_marks;
 use miette_frames::texts::{push_before_marks, push_texts};
 use miette_line_printing::dots::dots_in;
 use miette_line_printing::printing::push_shown_text;
+use miette_marks::ends::ends_of;
+use miette_marks::marks::marks_on;
 use miette_page::canvas::Canvas;
 use miette_page::page::{PLAIN, Page};
 use miette_snippet_rules::line_text::LineText;

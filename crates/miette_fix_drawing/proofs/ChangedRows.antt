@@ -20,7 +20,7 @@ use Rattle.miette_snippet_rules.specs.rules.Settings.{SnippetSettings}
 use Rattle.miette_snippet_rules.proofs.RowTokens.{then, told_as, blank_row, styled_row}
 use Rattle.miette_frames.proofs.TextRows.{parts_then, row_done, rows_then}
 use Rattle.miette_snippet_rules.specs.declared.stretch.Stretch.{Stretch as MadeStretch}
-use Rattle.miette_cuts.specs.steps.Stops.{ComeFrom}
+use Rattle.miette_line_columns.specs.views.Passing.{ComeFrom}
 use Rattle.miette_snippet_rules.specs.views.Cuts.{made_runs, measure}
 use Rattle.miette_line_printing.proofs.CutText.{shown_made_by}
 use Rattle.miette_fix_rows.specs.rules.DiffRows.{ChangedLine, before_some, changed_rows, marks_row, row_if_some}

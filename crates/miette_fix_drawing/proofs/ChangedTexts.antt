@@ -23,7 +23,7 @@ use Rattle.miette_snippet_rules.specs.rules.Highlighting.{highlight_of}
 use Rattle.miette_snippet_rules.specs.rules.PrintedCells.{cells_beyond, cells_within, line_runs, printed_cells}
 use Rattle.miette_snippet_rules.specs.rules.PrintedCells.{printed_glyphs, text_bytes}
 use Rattle.miette_snippet_rules.specs.declared.line_text.LineText.{LineText}
-use Rattle.miette_cuts.specs.steps.Stops.{ComeFrom}
+use Rattle.miette_line_columns.specs.views.Passing.{ComeFrom}
 use Rattle.miette_snippet_rules.specs.views.Cuts.{made_runs}
 use Rattle.miette_snippet_rules.specs.declared.stretch.Stretch.{Stretch}
 use Rattle.miette_line_printing.proofs.CellPrints.{within_none, beyond_none}

@@ -8,7 +8,7 @@ use Rattle.miette_protocol.specs.rules.Reading.{Span}
 use Rattle.miette_cells.specs.rules.Cells.{Cell}
 use Rattle.miette_snippet_rules.specs.rules.Highlighting.{highlight_of}
 use Rattle.miette_snippet_rules.specs.rules.PrintedCells.{text_bytes}
-use Rattle.miette_cuts.specs.steps.Stops.{ComeFrom}
+use Rattle.miette_line_columns.specs.views.Passing.{ComeFrom}
 use Rattle.miette_fix_rows.specs.rules.DiffTexts.{holds_byte, onto_painted, painted}
 use Rattle.miette_fix_drawing.specs.declared.paint.Painted.{Painted as MadePainted}
 use Rattle.miette_fix_drawing.specs.steps.Pieces.{onto, piece, told}

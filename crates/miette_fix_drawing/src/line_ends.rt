@@ -11,7 +11,7 @@ use crate::changed_line::ChangedLine;
 use crate::digits::Outcome;
 use crate::marks_row::part_in;
 use crate::texts::text_of;
-use miette_cuts::marks::Columns;
+use miette_marks::marks::Columns;
 use miette_protocol::protocol::SourceSpan;
 use miette_snippet_rules::options::SnippetSettings;
 use miette_source_lines::lines::LineOfText;

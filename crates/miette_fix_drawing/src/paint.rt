@@ -5,7 +5,7 @@ ghost use Rattle.std.specs.List.{list_any};
 ghost use Rattle.miette_cells.specs.views.Walking.{cell_of};
 ghost use Rattle.miette_snippet_rules.specs.rules.Highlighting.{highlight_of};
 ghost use Rattle.miette_snippet_rules.specs.rules.PrintedCells.{text_bytes};
-ghost use Rattle.miette_cuts.specs.steps.Stops.{ComeFrom};
+ghost use Rattle.miette_line_columns.specs.views.Passing.{ComeFrom};
 ghost use Rattle.miette_snippet_rules.specs.views.LineTexts.{text_cells};
 ghost use Rattle.miette_fix_rows.specs.rules.DiffTexts.{Painted as RuledPainted, holds_byte, painted, pieces};
 ghost use Rattle.miette_fix_drawing.specs.steps.Pieces.{onto, piece, told};

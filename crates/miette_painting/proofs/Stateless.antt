@@ -30,7 +30,8 @@ use Rattle.miette_snippet_rules.specs.rules.SnippetLayout.{end_settings, setting
 use Rattle.miette_tree.specs.rules.Tree.{Tree, tree, Cause, diagnostic, texts, Trees, no_trees, more_trees, effective}
 use Rattle.miette_tree.specs.rules.Reads.{always_reads}
 use Rattle.miette_tree.specs.views.Handler.{AppendsOne}
-use Rattle.miette_picture_rules.specs.rules.PossibleAnswers.{IsAskedText, AreAnswers, AreCauseAnswers, AreRelatedAnswers}
+use Rattle.miette_picture_rules.specs.rules.PossibleAnswers.{IsAskedText, AreAnswers, AreCauseAnswers}
+use Rattle.miette_picture_rules.specs.rules.PossibleAnswers.{AreRelatedAnswers}
 use Rattle.miette_picture_rules.specs.rules.PossibleAnswers.{AreAnswersOver, IsAnswer}
 use Rattle.miette_picture_rules.specs.rules.Answers.{Answer, Answers, RelatedAnswers, SourceAnswer, SourceAnswers}
 use Rattle.miette_picture_rules.specs.rules.Answers.{first_source}

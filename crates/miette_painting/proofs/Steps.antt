@@ -37,7 +37,8 @@ use Rattle.miette_picture_rules.specs.rules.Calls.{own_calls, cause_calls, relat
 use Rattle.miette_painting.specs.steps.PartTexts.{AppendsFixes, AreRowsDrawn, IsDrawn}
 use Rattle.miette_painting.specs.steps.PartTexts.{AreCauses, AreRelated, IsInner, IsSibling, IsOneCause}
 use Rattle.miette_painting.specs.steps.PartTexts.{IsNested, IsOneRelated, AreRootCauses, IsBelow, IsOutermost}
-use Rattle.miette_picture_rules.specs.steps.PrintedParts.{printed_inner, printed_sibling, printed_one, printed_root_causes}
+use Rattle.miette_picture_rules.specs.steps.PrintedParts.{printed_inner, printed_sibling, printed_one}
+use Rattle.miette_picture_rules.specs.steps.PrintedParts.{printed_root_causes}
 use Rattle.miette_highlight.specs.rules.HighlighterCalls.{Call, Leads}
 
 pub not_last : {R : Type 0} (value : R → Tree) (rs : List R) → 1 ≤ length rs → false ≡ are_last (trees (map value rs))

@@ -2,7 +2,8 @@
 
 ghost use Rattle.std.specs.Prelude.{◌≡◌, Some, IfOk, OnOk, false, map};
 ghost use Rattle.std.specs.List.{list_any};
-ghost use Rattle.miette_picture_rules.specs.rules.Sources.{further_sources, is_labelled, labelled, layout_with, sources_of};
+ghost use Rattle.miette_picture_rules.specs.rules.Sources.{further_sources, is_labelled, labelled, layout_with};
+ghost use Rattle.miette_picture_rules.specs.rules.Sources.{sources_of};
 ghost use Rattle.miette_picture_rules.specs.rules.Sources.{after_labels, sources_read, theme_after, turned};
 ghost use Rattle.miette_painting.specs.steps.PartTexts.{AreDrawn, AreRowsDrawn, AreSourcesDrawn, IsSourceDrawn};
 ghost use Rattle.miette_painting.specs.views.Painting.{Keeps, Paints, settings_of, settings_with, source_shown};

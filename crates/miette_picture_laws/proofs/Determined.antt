@@ -29,7 +29,8 @@ use Rattle.miette_snippet_rules.specs.rules.SnippetLayout.{SnippetContext, snipp
 use Rattle.miette_snippet_rules.specs.rules.SnippetLayout.{left_out, rows_of_lines, rows_unless, settings_around}
 use Rattle.miette_tree.specs.rules.Tree.{Tree, tree, Cause, diagnostic, texts, Trees, no_trees, more_trees, effective}
 use Rattle.miette_tree.specs.rules.Reads.{always_reads}
-use Rattle.miette_picture_rules.specs.rules.PossibleAnswers.{IsAskedText, AreAnswers, AreCauseAnswers, AreRelatedAnswers}
+use Rattle.miette_picture_rules.specs.rules.PossibleAnswers.{IsAskedText, AreAnswers, AreCauseAnswers}
+use Rattle.miette_picture_rules.specs.rules.PossibleAnswers.{AreRelatedAnswers}
 use Rattle.miette_picture_rules.specs.rules.PossibleAnswers.{AreAnswersOver, IsAnswer}
 use Rattle.miette_picture_rules.specs.rules.Answers.{Answer, Answers, RelatedAnswers, SourceAnswer, SourceAnswers}
 use Rattle.miette_picture_rules.specs.rules.Answers.{first_source, pieces_listed, own_answer}

@@ -10,7 +10,8 @@ use Rattle.miette_tree.specs.rules.Tree.{effective, Tree, tree, Cause, diagnosti
 use Rattle.miette_tree.specs.rules.Tree.{source_of}
 use Rattle.miette_picture_rules.specs.rules.Answers.{Answer, Answers, RelatedAnswers, own_answer, cause_answers}
 use Rattle.miette_picture_rules.specs.rules.Answers.{related_answers, first_answers, later_answers}
-use Rattle.miette_picture_rules.specs.rules.DiagnosticText.{Drawing, fix_text, fixes_text, footer_text, header, help_text}
+use Rattle.miette_picture_rules.specs.rules.DiagnosticText.{Drawing, fix_text, fixes_text, footer_text, header}
+use Rattle.miette_picture_rules.specs.rules.DiagnosticText.{help_text}
 use Rattle.miette_picture_rules.specs.rules.DiagnosticText.{line_feed}
 use Rattle.miette_picture_rules.specs.rules.DiagnosticText.{message_text, rows_text, title_text, under_arrow}
 use Rattle.miette_picture_rules.specs.rules.Indents.{narrow_settings}
@@ -21,7 +22,8 @@ use Rattle.miette_picture_rules.specs.rules.Text.{are_last, body_over, causes_te
 use Rattle.miette_picture_rules.specs.rules.Text.{only_if, related_text, report_text}
 use Rattle.miette_printed_laws.specs.laws.Alike.{answer_at, numbered_answers}
 use Rattle.miette_printed_laws.specs.laws.Holding.{Arrow, EndsRow, HoldsRows, HoldsSnippets, HoldsUnder, IsHoldingText}
-use Rattle.miette_printed_laws.specs.laws.Holding.{HoldsFixRows, HoldsFixes, StandsIn, arrows_at, cause_arrows, cut_text}
+use Rattle.miette_printed_laws.specs.laws.Holding.{HoldsFixRows, HoldsFixes, StandsIn, arrows_at, cause_arrows}
+use Rattle.miette_printed_laws.specs.laws.Holding.{cut_text}
 use Rattle.miette_printed_laws.specs.laws.Holding.{fixes_at}
 use Rattle.miette_printed_laws.specs.laws.Holding.{related_arrows, rows_at, text_at}
 use Rattle.miette_printed_laws.specs.laws.Paths.{Step, to_cause, to_related, at_cause, at_related, printed_at}

@@ -16,11 +16,14 @@ use Rattle.miette_style.specs.rules.Themes.{Characters}
 use Rattle.miette_style.specs.declared.style.Style.{Style}
 use Rattle.miette_printed_laws.proofs.TextLaws.{TextLaws}
 use Rattle.miette_picture_rules.specs.rules.Answers.{Answer}
-use Rattle.miette_picture_rules.specs.rules.Indents.{bare_text, spaces, wrapped_under, icon_indent, bar_indent, arrow_text}
-use Rattle.miette_picture_rules.specs.rules.Indents.{stem_text, arrow_indent, stem_indent, help_indent, further_help_indent}
+use Rattle.miette_picture_rules.specs.rules.Indents.{bare_text, spaces, wrapped_under, icon_indent, bar_indent}
+use Rattle.miette_picture_rules.specs.rules.Indents.{arrow_text}
+use Rattle.miette_picture_rules.specs.rules.Indents.{stem_text, arrow_indent, stem_indent, help_indent}
+use Rattle.miette_picture_rules.specs.rules.Indents.{further_help_indent}
 use Rattle.miette_picture_rules.specs.rules.Indents.{fix_indent, footer_indent, further_fix_indent, narrow_settings}
 use Rattle.miette_picture_rules.specs.rules.DiagnosticText.{footer_of, line_feed, header, header_by, message_text}
-use Rattle.miette_picture_rules.specs.rules.DiagnosticText.{help_text, footer_text, under_arrow, header_or_end, title_text}
+use Rattle.miette_picture_rules.specs.rules.DiagnosticText.{help_text, footer_text, under_arrow, header_or_end}
+use Rattle.miette_picture_rules.specs.rules.DiagnosticText.{title_text}
 use Rattle.miette_picture_rules.specs.rules.DiagnosticText.{Drawing, ShownFix, fix_text, fixes_text, rows_text}
 use Rattle.miette_tree.specs.rules.DiagnosticParts.{severity_title}
 use Rattle.miette_picture_rules.specs.rules.Text.{cause_texts, inner_text, body_over, drawn_text}

@@ -21,7 +21,8 @@ use Rattle.miette_snippet_rules.proofs.NoPieces.{none_have}
 use Rattle.miette_page.specs.rules.Rows.{Row, glyphs_of}
 use Rattle.miette_picture_rules.specs.rules.Settings.{Settings}
 use Rattle.miette_picture_rules.specs.rules.Snippets.{snippet_settings}
-use Rattle.miette_picture_rules.specs.rules.Answers.{Answers, RelatedAnswers, SourceAnswer, SourceAnswers, first_answers}
+use Rattle.miette_picture_rules.specs.rules.Answers.{Answers, RelatedAnswers, SourceAnswer, SourceAnswers}
+use Rattle.miette_picture_rules.specs.rules.Answers.{first_answers}
 use Rattle.miette_picture_rules.specs.rules.Answers.{first_source, later_answers}
 use Rattle.miette_picture_rules.specs.rules.Answers.{own_answer, cause_answers, related_answers}
 use Rattle.miette_picture_rules.specs.rules.PossibleAnswers.{AreAnswers, AreCauseAnswers, AreRelatedAnswers, HasPieces}

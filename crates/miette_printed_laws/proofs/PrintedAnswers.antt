@@ -16,7 +16,8 @@ use Rattle.miette_picture_rules.specs.rules.PossibleAnswers.{AreAnswers, AreCaus
 use Rattle.miette_picture_rules.specs.rules.PrintedDiagnostics.{PrintedDiagnostic, all_read, diagnostics_of, over}
 use Rattle.miette_picture_rules.specs.rules.PrintedDiagnostics.{reads_all}
 use Rattle.miette_picture_rules.specs.rules.Settings.{Settings}
-use Rattle.miette_picture_rules.specs.rules.Snippets.{drawn_fix, rows_over, snippet_settings, source_rows, whole_drawing}
+use Rattle.miette_picture_rules.specs.rules.Snippets.{drawn_fix, rows_over, snippet_settings, source_rows}
+use Rattle.miette_picture_rules.specs.rules.Snippets.{whole_drawing}
 use Rattle.miette_picture_rules.specs.rules.Text.{report_text}
 use Rattle.miette_printed_laws.specs.laws.Alike.{answer_at, numbered_answers}
 use Rattle.miette_printed_laws.specs.laws.Paths.{Step, to_cause, to_related, at_cause, at_related, printed_at}

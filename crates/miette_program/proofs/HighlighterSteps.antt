@@ -22,7 +22,8 @@ use Rattle.miette_snippet_rules.specs.rules.SnippetLayout.{end_lines}
 use Rattle.miette_tree.specs.rules.Diagnosis.{Diagnosis}
 use Rattle.miette_tree.specs.rules.Tree.{Tree, tree, Cause, diagnostic, texts, Trees, no_trees, more_trees, effective}
 use Rattle.miette_picture_rules.specs.rules.Answers.{Answer, Answers, RelatedAnswers, SourceAnswer, SourceAnswers}
-use Rattle.miette_picture_rules.specs.rules.Answers.{cause_answers, first_answers, first_source, later_answers, own_answer}
+use Rattle.miette_picture_rules.specs.rules.Answers.{cause_answers, first_answers, first_source, later_answers}
+use Rattle.miette_picture_rules.specs.rules.Answers.{own_answer}
 use Rattle.miette_picture_rules.specs.rules.Answers.{related_answers}
 use Rattle.miette_picture_rules.specs.rules.Calls.{calls_over, cause_calls, own_calls, related_calls, report_calls}
 use Rattle.miette_picture_rules.specs.rules.Calls.{source_calls}

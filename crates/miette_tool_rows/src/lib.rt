@@ -1,5 +1,5 @@
-//! What compilers write, read row by row, the files that it speaks of, and the fixes that are written into them: the work
-//! of `show --fix`.
+//! What compilers write, read row by row, the files that it speaks of, and the fixes that are written into them: the
+//! work of `show --fix`.
 #![tactic(auto)]
 
 pub mod folder;

@@ -14,9 +14,11 @@ use Rattle.miette_tree.specs.rules.Reads.{always_reads}
 use Rattle.miette_picture_rules.specs.rules.Settings.{Settings}
 use Rattle.miette_picture_rules.specs.rules.Sources.{LabelledSource, drawn_with, reads_for, sources_of}
 use Rattle.miette_snippet_rules.specs.rules.Highlighting.{calls_of_labels}
-use Rattle.miette_picture_rules.specs.rules.Snippets.{drawn_fix, rows_over, snippet_settings, source_rows, whole_drawing}
+use Rattle.miette_picture_rules.specs.rules.Snippets.{drawn_fix, rows_over, snippet_settings, source_rows}
+use Rattle.miette_picture_rules.specs.rules.Snippets.{whole_drawing}
 use Rattle.miette_picture_rules.specs.rules.Calls.{own_calls, calls_over, source_calls, cause_calls, related_calls}
-use Rattle.miette_picture_rules.specs.rules.Text.{ends_there, inner_text, causes_text, related_text, body_over, drawn_text}
+use Rattle.miette_picture_rules.specs.rules.Text.{ends_there, inner_text, causes_text, related_text, body_over}
+use Rattle.miette_picture_rules.specs.rules.Text.{drawn_text}
 use Rattle.miette_picture_rules.specs.rules.PossibleAnswers.{IsAnswerOf, IsAnswer, AreAnswersOver, AreCauseAnswers}
 use Rattle.miette_picture_rules.specs.rules.PossibleAnswers.{AreRelatedAnswers, IsAskedReport}
 use Rattle.miette_painting.specs.views.Painting.{Printing}

@@ -11,7 +11,8 @@ use Rattle.miette_picture_rules.specs.rules.Answers.{Answer, Answers, RelatedAns
 use Rattle.miette_picture_rules.specs.rules.Answers.{first_source, pieces_listed, own_answer}
 use Rattle.miette_picture_rules.specs.rules.Answers.{cause_answers, related_answers, first_answers, later_answers}
 use Rattle.miette_picture_rules.specs.rules.DiagnosticText.{Drawing}
-use Rattle.miette_picture_rules.specs.rules.Sources.{LabelledSource, reads_for, snippets_after, snippets_with, sources_of}
+use Rattle.miette_picture_rules.specs.rules.Sources.{LabelledSource, reads_for, snippets_after, snippets_with}
+use Rattle.miette_picture_rules.specs.rules.Sources.{sources_of}
 use Rattle.miette_snippet_rules.specs.rules.Settings as snippets
 use Rattle.miette_labels.specs.rules.Around.{group_context}
 use Rattle.miette_labels.specs.rules.Groups.{in_order, groups_of}

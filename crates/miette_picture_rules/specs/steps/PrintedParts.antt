@@ -2,7 +2,8 @@
 use Rattle.std.specs.Prelude.{Bool, if◌then◌else◌, List, [], ◌∷◌, ◌++◌, Option}
 use Rattle.miette_protocol.specs.rules.Reading.{Source}
 use Rattle.miette_tree.specs.rules.Tree.{Tree, tree}
-use Rattle.miette_picture_rules.specs.rules.PrintedDiagnostics.{PrintedDiagnostic, over, printed_causes, printed_related}
+use Rattle.miette_picture_rules.specs.rules.PrintedDiagnostics.{PrintedDiagnostic, over, printed_causes}
+use Rattle.miette_picture_rules.specs.rules.PrintedDiagnostics.{printed_related}
 
 -- a report that stands in another one, which shows no causes, over its effective source; and one that stands beside
 -- others

@@ -8,7 +8,8 @@ use Rattle.miette_tree.specs.rules.Diagnosis.{Diagnosis}
 use Rattle.miette_protocol.specs.rules.Reading.{Source}
 use Rattle.miette_picture_rules.specs.rules.Settings.{Settings}
 use Rattle.miette_style.specs.rules.Themes.{Styles, no_styles}
-use Rattle.miette_picture_rules.specs.rules.Answers.{Answer, Answers, unlisted, listed, RelatedAnswers, no_more, and_more}
+use Rattle.miette_picture_rules.specs.rules.Answers.{Answer, Answers, unlisted, listed, RelatedAnswers, no_more}
+use Rattle.miette_picture_rules.specs.rules.Answers.{and_more}
 use Rattle.miette_picture_rules.specs.rules.PossibleAnswers.{AreAnswers, IsTextOf}
 use Rattle.miette_picture_rules.specs.rules.DiagnosticText.{Drawing, ShownFix, SnippetRows, rows_text}
 use Rattle.miette_picture_rules.specs.rules.Text.{report_text}

@@ -13,7 +13,8 @@ use Rattle.miette_snippet_rules.specs.rules.Drawing.{marked_rows}
 use Rattle.miette_snippet_rules.specs.rules.Gutters.{closing_rows}
 use Rattle.miette_snippet_rules.specs.rules.Frames.{other_start}
 use Rattle.miette_snippet_rules.specs.rules.Highlighting.{highlight_of}
-use Rattle.miette_snippet_rules.specs.rules.SnippetLayout.{before_each, cut_ends, line_cut, line_or_break_of, text_of_cells}
+use Rattle.miette_snippet_rules.specs.rules.SnippetLayout.{before_each, cut_ends, line_cut, line_or_break_of}
+use Rattle.miette_snippet_rules.specs.rules.SnippetLayout.{text_of_cells}
 use Rattle.miette_snippet_rules.specs.declared.stretch.Stretch.{Stretch as MadeStretch}
 use Rattle.miette_frames.specs.declared.line_context.LineContext.{LineContext}
 use Rattle.miette_snippet_rules.specs.views.Cuts.{made_runs, measure}

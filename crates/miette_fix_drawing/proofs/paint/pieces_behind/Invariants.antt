@@ -1,6 +1,6 @@
 use Rattle.std.proofs.Common.{◌≡◌, ◌++◌, map, length}
 use Rattle.miette_snippet_rules.specs.rules.Highlighting.{highlight_of}
-use Rattle.miette_cuts.specs.steps.Stops.{ComeFrom}
+use Rattle.miette_line_columns.specs.views.Passing.{ComeFrom}
 use Rattle.miette_fix_rows.specs.rules.DiffTexts.{painted}
 use Rattle.miette_fix_drawing.specs.steps.Pieces.{onto, told}
 use Rattle.miette_fix_drawing.specs.steps.Spans.{AreApart}

@@ -3,7 +3,7 @@ use Rattle.std.proofs.lemmas.Result.{IfOk-weaker}
 use Rattle.miette_cells.specs.rules.Widths.{width_of}
 use Rattle.miette_cells.specs.views.Walking.{cell_of}
 use Rattle.miette_snippet_rules.specs.views.LineTexts.{text_cells}
-use Rattle.miette_cuts.proofs.StopColumns.{cells_come}
+use Rattle.miette_line_columns.proofs.PassedCells.{cells_come}
 use Rattle.miette_fix_drawing.specs.steps.Pieces.{told}
 use Rattle.miette_fix_drawing.proofs.PaintedCells.{come_next, painted_next}
 use Rattle.miette_fix_drawing.proofs.paint.pieces_of.Goals as goal

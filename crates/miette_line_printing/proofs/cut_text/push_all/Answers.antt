@@ -1,6 +1,7 @@
 use Rattle.std.proofs.Common.{◌≡◌, ◌<◌, ◌∷◌, [], ◌+◌, ◌-◌, ◌∙◌, take, drop, ap, sym, arith, rules}
 use Rattle.miette_cells.specs.views.Walking.{cell_of}
-use Rattle.miette_line_printing.proofs.CutText.{take_cell, drop_cell, take_none, drop_none, take_zero, drop_zero, told_stop}
+use Rattle.miette_line_printing.proofs.CutText.{take_cell, drop_cell, take_none, drop_none, take_zero, drop_zero}
+use Rattle.miette_line_printing.proofs.CutText.{told_stop}
 use Rattle.miette_line_printing.proofs.CellPrints.{cells_more}
 use Rattle.miette_line_printing.proofs.cut_text.push_all.Goals as goal
 

@@ -1,6 +1,7 @@
 use Rattle.std.proofs.Common.{◌≡◌, ◌∷◌, [], ◌-◌, ◌<◌, ◌∙◌, take, ap, sym, arith, rules}
 use Rattle.miette_cells.specs.views.Walking.{cell_of}
-use Rattle.miette_line_printing.proofs.CutText.{take_cell, drop_cell, take_none, drop_none, take_zero, drop_zero, within_stop}
+use Rattle.miette_line_printing.proofs.CutText.{take_cell, drop_cell, take_none, drop_none, take_zero, drop_zero}
+use Rattle.miette_line_printing.proofs.CutText.{within_stop}
 use Rattle.miette_line_printing.proofs.CutText.{beyond_stop}
 use Rattle.miette_line_printing.proofs.CellPrints.{within_more, beyond_more, within_end, beyond_end}
 use Rattle.miette_line_printing.proofs.cut_text.push_some.Goals as goal

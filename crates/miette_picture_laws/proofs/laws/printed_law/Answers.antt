@@ -9,7 +9,8 @@ use Rattle.miette_picture_rules.specs.rules.Answers.{Answer, SourceAnswer, Sourc
 use Rattle.miette_picture_rules.specs.rules.Settings.{Settings}
 use Rattle.miette_picture_rules.specs.rules.Snippets.{drawn_fix, drawn_rows, drawn_without_fixes, own_rows, rows_over}
 use Rattle.miette_picture_rules.specs.rules.Snippets.{source_rows, whole_drawing}
-use Rattle.miette_picture_rules.specs.rules.Sources.{after_labels, further_sources, is_labelled, some_further, sources_of}
+use Rattle.miette_picture_rules.specs.rules.Sources.{after_labels, further_sources, is_labelled, some_further}
+use Rattle.miette_picture_rules.specs.rules.Sources.{sources_of}
 use Rattle.miette_printed_laws.specs.laws.Alike.{answer_at}
 use Rattle.miette_printed_laws.specs.laws.Alike.{AreDrawnAlike}
 use Rattle.miette_picture_rules.specs.rules.PrintedDiagnostics.{diagnostics_of}

@@ -14,12 +14,15 @@ use Rattle.miette_snippet_rules.specs.rules.PrintedCells.{cells_width}
 use Rattle.miette_row_laws.specs.laws.Cuts.{Fits}
 use Rattle.miette_picture_rules.specs.rules.Answers.{pieces_listed}
 use Rattle.miette_picture_rules.specs.rules.Settings.{Settings}
-use Rattle.miette_printed_laws.specs.laws.Headline.{EndsAreDrawn, LabelsAreFolded, LinesAreShown, MarksAreApart, TextsHang}
+use Rattle.miette_printed_laws.specs.laws.Headline.{EndsAreDrawn, LabelsAreFolded, LinesAreShown, MarksAreApart}
+use Rattle.miette_printed_laws.specs.laws.Headline.{TextsHang}
 use Rattle.miette_printed_laws.specs.laws.Headline.{EndsBehind, SnippetHangs, context_of, drawn_labels, groups_of}
 use Rattle.miette_printed_laws.specs.laws.Headline.{group_settings, label_settings}
-use Rattle.miette_printed_laws.specs.laws.Headline.{shown_lines, CutsAreExact, LinesThatFitStay, SnippetStays, cells_under}
+use Rattle.miette_printed_laws.specs.laws.Headline.{shown_lines, CutsAreExact, LinesThatFitStay, SnippetStays}
+use Rattle.miette_printed_laws.specs.laws.Headline.{cells_under}
 use Rattle.miette_printed_laws.specs.laws.Headline.{ends_under, line_of}
-use Rattle.miette_picture_rules.specs.rules.Sources.{HoldsOfSources, LabelledSource, after_labels, drawn_with, sources_of}
+use Rattle.miette_picture_rules.specs.rules.Sources.{HoldsOfSources, LabelledSource, after_labels, drawn_with}
+use Rattle.miette_picture_rules.specs.rules.Sources.{sources_of}
 use Rattle.miette_picture_rules.specs.rules.PrintedDiagnostics.{HoldsOfPrinted, PrintedDiagnostic, diagnostics_of}
 use Rattle.miette_picture_rules.specs.rules.Snippets.{snippet_settings, shown_rows, source_rows}
 use Rattle.miette_labels.specs.rules.Answers.{Answers}

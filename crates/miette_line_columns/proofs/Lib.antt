@@ -1,0 +1,2 @@
+pub mod PassedCells
+pub mod PlainText

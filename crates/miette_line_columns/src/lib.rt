@@ -1,0 +1,4 @@
+//! How the text of a line is gone through, and which columns its offsets have.
+#![tactic(auto)]
+
+pub mod passing;

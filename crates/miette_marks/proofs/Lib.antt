@@ -1,0 +1,3 @@
+pub mod EndColumns
+pub mod OffsetColumns
+pub mod StopColumns

@@ -1,0 +1,3 @@
+-- The code's own steps, which no rule names.
+pub mod Ends
+pub mod Stops
