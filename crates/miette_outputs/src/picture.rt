@@ -25,6 +25,9 @@ use std::alloc::{AllocError, Global};
 const WIDTH: usize = 80;
 
 /// The report of a diagnostic over the input under its name, with an index of the lines.
+///
+/// # Errors
+/// `AllocError` where memory is refused.
 pub fn report<D: Diagnostic, S: SourceCode>(
     alloc: Global,
     name: &str,
@@ -50,6 +53,9 @@ fn drawing(theme: GraphicalTheme, limit: Option<usize>) -> GraphicalReportHandle
 }
 
 /// The picture of a report, in plain characters, with lines cut at a limit, if there is one.
+///
+/// # Errors
+/// `Memory` where memory is refused; where its labels are read whole, nothing else is.
 pub fn draw<D: Diagnostic, S: SourceCode>(
     alloc: Global,
     report: &Report<D, S>,

@@ -100,6 +100,9 @@ pub fn objects_at<'v>(
 }
 
 /// A copy of a text, where there is one.
+///
+/// # Errors
+/// `AllocError` where memory is refused.
 pub fn copy_of(alloc: Global, text: Option<&str>) -> Result<Option<String>, AllocError>
     ensures { IfOk result (λ o. option_map string_bytes o ≡ option_copied text.entry) }
 {

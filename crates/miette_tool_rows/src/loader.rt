@@ -57,6 +57,9 @@ pub(crate) fn load_held<F: Loader>(
 }
 
 /// Looks for all files that a row speaks of.
+///
+/// # Errors
+/// `AllocError` where memory is refused.
 pub fn load_all<F: Loader>(
     alloc: Global,
     files: &mut F,

@@ -47,6 +47,9 @@ fn note_text(alloc: Global, number: u64) -> Result<String, AllocError>
 }
 
 /// Says that a row can't be read, where it can't.
+///
+/// # Errors
+/// `Write` exactly where a call of the writer failed, or took nothing; `Memory` where memory is refused.
 pub fn note<E: Write>(
     alloc: Global,
     faults: &mut Device<E>,

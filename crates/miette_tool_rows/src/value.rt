@@ -25,6 +25,9 @@ pub fn begins_array(row: &[u8]) -> bool
 }
 
 /// The value that a row is, if it is one.
+///
+/// # Errors
+/// `Memory` where memory is refused.
 pub fn value_in(alloc: Global, row: &[u8]) -> Result<Option<Value>, Fault>
     ensures some { IfOk result (λ o. IfSome o (λ v. IsUtf8 row.now × (read row.now ≡ Some (view v)))) }
     ensures none { (result ≡ Ok None) → IsUtf8 row.now → read row.now ≡ None }
