@@ -31,7 +31,7 @@ use Rattle.miette_picture_rules.specs.rules.Sources.{sources_of}
 use Rattle.miette_picture_rules.specs.rules.Settings.{Settings}
 use Rattle.miette_picture_rules.specs.rules.Snippets.{snippet_settings, shown_rows, source_rows}
 use Rattle.miette_picture_rules.proofs.PrintedRows.{rows_printed}
-use Rattle.miette_painting.specs.steps.PartTexts.{AreDrawn, IsSourceDrawn}
+use Rattle.miette_painting.specs.views.PartTexts.{AreDrawn, IsSourceDrawn}
 use Rattle.miette_painting.specs.views.Painting.{printing}
 use Rattle.miette_labels.proofs.NoFailures.{grouped_none}
 use Rattle.miette_picture_rules.proofs.GroupRows.{groups_given, none_listed, refusal_none}

@@ -16,7 +16,7 @@ use Rattle.miette_picture_rules.specs.rules.PrintedDiagnostics.{printed_related}
 use Rattle.miette_picture_rules.specs.rules.Settings.{Settings}
 use Rattle.miette_picture_rules.specs.rules.Snippets.{whole_drawing, snippet_settings}
 use Rattle.miette_picture_rules.specs.rules.Text.{are_last, causes_text, related_text}
-use Rattle.miette_painting.specs.steps.PartTexts.{IsOneCause, IsOneRelated}
+use Rattle.miette_painting.specs.views.PartTexts.{IsOneCause, IsOneRelated}
 use Rattle.miette_painting.specs.views.Painting.{Keeps, Paints, PrintsOnly, settings_of}
 use Rattle.miette_painting.specs.declared.painter.Painter.{Painter}
 use Rattle.miette_painting.proofs.Painted.{keeps_on, paints_after}

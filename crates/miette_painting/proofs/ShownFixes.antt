@@ -17,7 +17,7 @@ use Rattle.miette_picture_rules.specs.rules.Indents.{fix_indent, further_fix_ind
 use Rattle.miette_picture_rules.specs.rules.Settings.{Settings}
 use Rattle.miette_picture_rules.specs.rules.Snippets.{drawn_fix, rows_of_fix, runs_of_row}
 use Rattle.miette_picture_rules.specs.rules.Sources.{has_edits}
-use Rattle.miette_painting.specs.steps.PartTexts.{AppendsFixes}
+use Rattle.miette_painting.specs.views.PartTexts.{AppendsFixes}
 use Rattle.miette_picture_rules.proofs.PrintedRows.{rows_printed}
 use Rattle.miette_painting.proofs.Steps.{behind}
 

@@ -17,7 +17,7 @@ use Rattle.miette_picture_rules.specs.rules.Settings.{Settings}
 use Rattle.miette_picture_rules.specs.rules.Snippets.{rows_over, snippet_settings, source_rows}
 use Rattle.miette_picture_rules.specs.rules.Sources.{LabelledSource, after_labels, further_sources, is_labelled}
 use Rattle.miette_picture_rules.specs.rules.Sources.{labelled, some_further, sources_read}
-use Rattle.miette_painting.specs.steps.PartTexts.{AreSourcesDrawn, IsSourceDrawn}
+use Rattle.miette_painting.specs.views.PartTexts.{AreSourcesDrawn, IsSourceDrawn}
 use Rattle.miette_painting.specs.views.Painting.{Keeps, Paints, settings_of}
 use Rattle.miette_painting.proofs.Painted.{paints_after}
 use Rattle.miette_painting.proofs.Remaining.{Chain, Left, all_printed, one_printed}

@@ -34,9 +34,9 @@ use Rattle.miette_painting.specs.declared.painter.Painter.{Painter}
 use Rattle.miette_snippet_rules.specs.rules.Highlighting.{follows, leaves_plain}
 use Rattle.miette_painting.proofs.Painted.{keeps_on, only_kept, paints_after, paints_before}
 use Rattle.miette_picture_rules.specs.rules.Calls.{own_calls, cause_calls, related_calls}
-use Rattle.miette_painting.specs.steps.PartTexts.{AppendsFixes, AreRowsDrawn, IsDrawn}
-use Rattle.miette_painting.specs.steps.PartTexts.{AreCauses, AreRelated, IsInner, IsSibling, IsOneCause}
-use Rattle.miette_painting.specs.steps.PartTexts.{IsNested, IsOneRelated, AreRootCauses, IsBelow, IsOutermost}
+use Rattle.miette_painting.specs.views.PartTexts.{AppendsFixes, AreRowsDrawn, IsDrawn}
+use Rattle.miette_painting.specs.views.PartTexts.{AreCauses, AreRelated, IsInner, IsSibling, IsOneCause}
+use Rattle.miette_painting.specs.views.PartTexts.{IsNested, IsOneRelated, AreRootCauses, IsBelow, IsOutermost}
 use Rattle.miette_picture_rules.specs.steps.PrintedParts.{printed_inner, printed_sibling, printed_one}
 use Rattle.miette_picture_rules.specs.steps.PrintedParts.{printed_root_causes}
 use Rattle.miette_highlight.specs.rules.HighlighterCalls.{Call, Leads}

@@ -1,4 +1,3 @@
 -- The code's own steps, which no rule names.
-pub mod PartTexts
 pub mod TextKinds
 pub mod FixSources

@@ -7,7 +7,7 @@ ghost use Rattle.miette_picture_rules.specs.rules.DiagnosticText.{fix_text, fixe
 ghost use Rattle.miette_picture_rules.specs.rules.Snippets.{drawn_fix, rows_of_fix};
 ghost use Rattle.miette_picture_rules.specs.rules.Sources.{has_edits};
 ghost use Rattle.miette_painting.specs.steps.FixSources.{AsksItself, IsGivenOver};
-ghost use Rattle.miette_painting.specs.steps.PartTexts.{AppendsFixes};
+ghost use Rattle.miette_painting.specs.views.PartTexts.{AppendsFixes};
 ghost use Rattle.miette_painting.specs.views.Painting.{PrintsOnly, settings_of, source_shown};
 ghost use Rattle.miette_protocol.specs.rules.Reading.{Source};
 

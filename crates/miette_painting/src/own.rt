@@ -2,7 +2,7 @@
 
 ghost use Rattle.std.specs.Prelude.{◌≡◌, OnOk, false};
 ghost use Rattle.miette_picture_rules.specs.rules.Sources.{sources_of, sources_read};
-ghost use Rattle.miette_painting.specs.steps.PartTexts.{IsDrawn};
+ghost use Rattle.miette_painting.specs.views.PartTexts.{IsDrawn};
 ghost use Rattle.miette_painting.specs.views.Painting.{Keeps, Paints, source_shown};
 ghost use Rattle.miette_tree.specs.rules.Tree.{head};
 ghost use Rattle.miette_tree.specs.views.Report.{tree_of};

@@ -1,8 +1,8 @@
 //! The causes of a report, what stands below them, and its related reports.
 
 ghost use Rattle.std.specs.Prelude.{◌≡◌, [], IfOk, OnOk, false, map};
-ghost use Rattle.miette_painting.specs.steps.PartTexts.{AreCauses, AreRelated, IsBelow, IsInner};
-ghost use Rattle.miette_painting.specs.steps.PartTexts.{IsNested, IsOneCause, IsOneRelated, IsSibling, narrowed};
+ghost use Rattle.miette_painting.specs.views.PartTexts.{AreCauses, AreRelated, IsBelow, IsInner};
+ghost use Rattle.miette_painting.specs.views.PartTexts.{IsNested, IsOneCause, IsOneRelated, IsSibling, narrowed};
 ghost use Rattle.miette_painting.specs.views.Painting.{Keeps, Paints, printing_of, settings_of, source_shown};
 ghost use Rattle.miette_picture_rules.specs.rules.PrintedDiagnostics.{labels_read, printed_causes};
 ghost use Rattle.miette_picture_rules.specs.steps.PrintedParts.{printed_inner, printed_one, printed_sibling};

@@ -5,7 +5,7 @@ ghost use Rattle.std.specs.List.{list_any};
 ghost use Rattle.miette_picture_rules.specs.rules.Sources.{further_sources, is_labelled, labelled, layout_with};
 ghost use Rattle.miette_picture_rules.specs.rules.Sources.{sources_of};
 ghost use Rattle.miette_picture_rules.specs.rules.Sources.{after_labels, sources_read, theme_after, turned};
-ghost use Rattle.miette_painting.specs.steps.PartTexts.{AreDrawn, AreRowsDrawn, AreSourcesDrawn, IsSourceDrawn};
+ghost use Rattle.miette_painting.specs.views.PartTexts.{AreDrawn, AreRowsDrawn, AreSourcesDrawn, IsSourceDrawn};
 ghost use Rattle.miette_painting.specs.views.Painting.{Keeps, Paints, settings_of, settings_with, source_shown};
 ghost use Rattle.miette_tree.specs.rules.Reads.{always_reads};
 ghost use Rattle.miette_tree.specs.rules.Tree.{head};

@@ -2,7 +2,7 @@ use Rattle.std.proofs.Common.{◌≡◌, ◌++◌, subst}
 use Rattle.miette_tree.specs.rules.Tree.{head}
 use Rattle.miette_tree.specs.views.Report.{tree_of}
 use Rattle.miette_picture_rules.specs.rules.DiagnosticText.{help_text}
-use Rattle.miette_painting.specs.steps.PartTexts.{AppendsFixes}
+use Rattle.miette_painting.specs.views.PartTexts.{AppendsFixes}
 use Rattle.miette_painting.specs.views.Painting.{settings_of, source_shown}
 use Rattle.miette_painting.proofs.Steps.{own_behind}
 use Rattle.miette_painting.proofs.own.push_own.Goals as goal

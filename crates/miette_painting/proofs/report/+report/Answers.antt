@@ -8,8 +8,8 @@ use Rattle.miette_tree.specs.rules.Tree.{effective, head, texts, trees, cause_of
 use Rattle.miette_tree.specs.views.Report.{tree_of}
 use Rattle.miette_highlight.specs.rules.HighlighterCalls.{Call}
 use Rattle.miette_snippet_rules.specs.rules.Highlighting.{follows, leaves_plain}
-use Rattle.miette_painting.specs.steps.PartTexts.{IsBelow, AreCauses, AreRelated, IsInner, IsOneCause, IsOneRelated}
-use Rattle.miette_painting.specs.steps.PartTexts.{IsNested, narrowed}
+use Rattle.miette_painting.specs.views.PartTexts.{IsBelow, AreCauses, AreRelated, IsInner, IsOneCause, IsOneRelated}
+use Rattle.miette_painting.specs.views.PartTexts.{IsNested, narrowed}
 use Rattle.miette_tree.specs.views.Handler.{AppendsOne}
 use Rattle.miette_tree.proofs.Nesting.{texts_shown}
 use Rattle.miette_picture_rules.specs.rules.PrintedDiagnostics.{labels_read, printed_causes, printed_related}

@@ -1,7 +1,7 @@
 use Rattle.miette_protocol.specs.declared.error.RenderError.TheVariants as errors
 use Rattle.miette_page.specs.views.Printouts.{printout_of}
 use Rattle.miette_tree.specs.views.Handler.{AppendsOne}
-use Rattle.miette_painting.specs.steps.PartTexts.{AreDrawn}
+use Rattle.miette_painting.specs.views.PartTexts.{AreDrawn}
 use Rattle.std.proofs.Common.{rules, ◌≡◌, Some, subst, sym}
 use Rattle.miette_tree.specs.views.Owned.{shown_source}
 use Rattle.miette_layout.specs.views.Outcomes.{MayGive, RefusesWith}

@@ -4,7 +4,7 @@ use Rattle.miette_tree.specs.rules.Reads.{always_reads}
 use Rattle.miette_tree.specs.views.Attached.{section_of}
 use Rattle.miette_tree.specs.views.Owned.{shown_source}
 use Rattle.miette_picture_rules.specs.rules.Sources.{after_labels, further_sources, labelled, sources_read, theme_after}
-use Rattle.miette_painting.specs.steps.PartTexts.{IsSourceDrawn}
+use Rattle.miette_painting.specs.views.PartTexts.{IsSourceDrawn}
 use Rattle.miette_painting.specs.views.Painting.{Paints, settings_of}
 use Rattle.miette_painting.proofs.Remaining.{Left}
 use Rattle.miette_painting.proofs.SourceRows.{first_fails, further_parts, left_in, no_further, source_printed}

@@ -5,7 +5,7 @@ use Rattle.miette_tree.specs.rules.Tree.{head}
 use Rattle.miette_tree.specs.views.Attached.{section_of}
 use Rattle.miette_tree.specs.views.Report.{tree_of}
 use Rattle.miette_picture_rules.specs.rules.Sources.{after_labels, drawn_with, further_sources, labelled, layout_with}
-use Rattle.miette_painting.specs.steps.PartTexts.{AreSourcesDrawn, IsSourceDrawn}
+use Rattle.miette_painting.specs.views.PartTexts.{AreSourcesDrawn, IsSourceDrawn}
 use Rattle.miette_painting.specs.views.Painting.{Paints, settings_of, source_shown}
 use Rattle.miette_painting.proofs.SourceRows.{own_and_further}
 use Rattle.miette_painting.proofs.sources.push_rows.Goals as goal

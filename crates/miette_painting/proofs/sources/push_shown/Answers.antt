@@ -2,7 +2,7 @@ use Rattle.std.proofs.Common.{[], Some}
 use Rattle.miette_snippet_rules.specs.rules.Highlighting.{follows}
 use Rattle.miette_tree.specs.views.Owned.{shown_source}
 use Rattle.miette_picture_rules.specs.rules.Sources.{labelled}
-use Rattle.miette_painting.specs.steps.PartTexts.{IsSourceDrawn}
+use Rattle.miette_painting.specs.views.PartTexts.{IsSourceDrawn}
 use Rattle.miette_painting.specs.views.Painting.{printing_of, settings_of, settings_with}
 use Rattle.miette_painting.proofs.DrawnRows.{drawn_unlabelled, empty_list}
 use Rattle.miette_painting.proofs.Steps.{nothing_behind}

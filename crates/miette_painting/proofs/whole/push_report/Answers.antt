@@ -1,6 +1,6 @@
 use Rattle.std.proofs.Common.{◌≡◌, ◌∙◌, subst, false, rules}
 use Rattle.miette_tree.specs.views.Report.{tree_of}
-use Rattle.miette_painting.specs.steps.PartTexts.{IsBelow, IsOutermost}
+use Rattle.miette_painting.specs.views.PartTexts.{IsBelow, IsOutermost}
 use Rattle.miette_picture_rules.specs.steps.PrintedParts.{printed_inner, printed_root_causes}
 use Rattle.miette_tree.specs.views.Handler.{AppendsOne}
 use Rattle.miette_picture_rules.specs.rules.PrintedDiagnostics.{labels_read}

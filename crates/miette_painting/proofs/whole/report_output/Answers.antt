@@ -2,7 +2,7 @@ use Rattle.std.proofs.Common.{[], subst, sym}
 use Rattle.miette_snippet_rules.specs.rules.Highlighting.{follows, leaves_plain}
 use Rattle.miette_tree.specs.views.Handler.{AppendsOne}
 use Rattle.miette_tree.specs.views.Report.{tree_of}
-use Rattle.miette_painting.specs.steps.PartTexts.{IsOutermost}
+use Rattle.miette_painting.specs.views.PartTexts.{IsOutermost}
 use Rattle.miette_painting.specs.views.Painting.{printing}
 use Rattle.miette_picture_rules.specs.views.SettingsView.{handler_settings}
 use Rattle.miette_painting.proofs.whole.report_output.Goals as goal
